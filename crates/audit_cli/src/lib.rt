@@ -1,0 +1,4 @@
+//! The commands: what the words ask for, what the texts come to, and what is kept and printed.
+#![tactic(auto)]
+
+mod listing;

@@ -1,0 +1,9 @@
+pub mod Items
+pub mod Effect
+pub mod Listing
+pub mod Layout
+pub mod Machine
+pub mod Flow
+pub mod Same
+pub mod Rewrite
+pub mod Rewritten

@@ -1,0 +1,119 @@
+-- Rewriting a listing's lines by a table.
+use Rattle.std.specs.Prelude.{◌≡◌, ℕ, zero, suc, ◌+◌, ◌-◌, ◌<◌, ◌≤◌, ◌==◌, ◌&&◌, nat_lt, Bool, true, false, List, [], ◌∷◌, ◌++◌, length, map, Option, Some, None, slice_get, if◌then◌else◌}
+use Rattle.thumb_instr.specs.declared.instr.Instr.{Instr}
+use Rattle.thumb_model.specs.Listing.{Name, Statement, Nothing, Runs, Words, Aligns, Line, places_in, code_of}
+use Rattle.thumb_model.specs.Layout.{Layable}
+use Rattle.thumb_model.specs.Rewrite.{Low, Rule, AreSound, Applies, renamed}
+
+-- what rewriting is given: the table, the base, and the bytes of an instruction's own line
+pub record Setting : Type 0 where
+  pub table : List Rule
+  pub base : ℕ
+  pub write : Instr → List ℕ
+
+-- an entry was used at a place, under this map
+pub record Replacement : Type 0 where
+  pub place : ℕ
+  pub entry : ℕ
+  pub registers : List Low
+
+-- ---- lines ----
+
+abbrev pub is_op : Statement → Bool
+is_op Nothing = false
+is_op (Runs i mention) = true
+is_op (Words vs) = false
+is_op (Aligns size most) = false
+
+abbrev pub is_align : Statement → Bool
+is_align Nothing = false
+is_align (Runs i mention) = false
+is_align (Words vs) = false
+is_align (Aligns size most) = true
+
+-- the lines without their first n instructions
+abbrev pub without : ℕ → List Line → List Line
+without n [] = []
+without zero (l ∷ ls) = l ∷ ls
+without (suc n) (l ∷ ls) = if is_op l.statement then without n ls else l ∷ without (suc n) ls
+
+-- what stays of a line whose instruction goes: its labels
+abbrev pub labels_kept : Line → List Name → List Line
+labels_kept l [] = []
+labels_kept l (n ∷ ns) = record { names = n ∷ ns; statement = Nothing; text = l.front; front = l.front } ∷ []
+
+-- the line of a new instruction
+abbrev pub new_line : (Instr → List ℕ) → Instr → Line
+new_line write i = record { names = []; statement = Runs i None; text = write i; front = [] }
+
+-- the lines with these instructions in place of `count` from place p on: all other lines stay byte for byte
+abbrev pub replaced_lines : (Instr → List ℕ) → ℕ → ℕ → List Instr → List Line → List Line
+replaced_lines write p count is [] = []
+replaced_lines write p count is (l ∷ ls) =
+    if is_op l.statement && (p == 0) then labels_kept l l.names ++ (map (new_line write) is ++ without (count - 1) ls)
+    else l ∷ replaced_lines write (p - length (places_in l.statement)) count is ls
+
+-- no alignment line stands between the next n instructions
+abbrev pub are_joined : ℕ → List Line → Bool
+are_joined zero ls = true
+are_joined (suc n) [] = true
+are_joined (suc n) (l ∷ ls) = if is_op l.statement then are_joined n ls else (if is_align l.statement then false else are_joined (suc n) ls)
+
+-- no alignment line stands between the `count` instructions from place p on
+abbrev pub are_joined_from : ℕ → ℕ → List Line → Bool
+are_joined_from p count [] = true
+are_joined_from p count (l ∷ ls) =
+    if is_op l.statement && (p == 0) then are_joined (count - 1) ls
+    else are_joined_from (p - length (places_in l.statement)) count ls
+
+-- ---- rewriting ----
+
+abbrev pub lines_after_rule : Setting → Option Rule → Replacement → List Line → List Line
+lines_after_rule s None r ls = ls
+lines_after_rule s (Some rule) r ls = replaced_lines s.write r.place (length rule.left) (map (renamed r.registers) rule.right) ls
+
+-- the lines after a replacement by the table
+abbrev pub lines_after : Setting → Replacement → List Line → List Line
+lines_after s r ls = lines_after_rule s (slice_get s.table r.entry) r ls
+
+-- this entry of the table applies there, under this map, and the lines that it leaves can be laid out
+pub record AppliesIn (s : Setting) (r : Replacement) (ls : List Line) : Type 0 where
+  pub rule : Rule
+  pub is_rule : slice_get s.table r.entry ≡ Some rule
+  pub applies : Applies rule r.registers (code_of ls) r.place
+  pub joined : are_joined_from r.place (length rule.left) ls ≡ true
+  pub layable : Layable s.base (lines_after_rule s (Some rule) r ls)
+
+abbrev pub left_length_of : Option Rule → ℕ
+left_length_of None = 0
+left_length_of (Some rule) = length rule.left
+
+abbrev pub left_length : List Rule → ℕ → ℕ
+left_length table entry = left_length_of (slice_get table entry)
+
+-- no other choice comes before: at a lesser place, with a longer left side, or a lower entry
+pub record IsFirst (s : Setting) (r : Replacement) (ls : List Line) : Type 0 where
+  pub applies : AppliesIn s r ls
+  pub least_place : (o : Replacement) → AppliesIn s o ls → r.place ≤ o.place
+  pub longest : (o : Replacement) → AppliesIn s o ls → o.place ≡ r.place → left_length s.table o.entry ≤ left_length s.table r.entry
+  pub lowest : (o : Replacement) → AppliesIn s o ls → o.place ≡ r.place → left_length s.table o.entry ≡ left_length s.table r.entry → r.entry ≤ o.entry
+
+-- no entry applies any more
+abbrev pub NoneApplies : Setting → List Line → Type 0
+NoneApplies s ls = (o : Replacement) → AppliesIn s o ls → ⊥
+
+-- these replacements, each the first that can be made, lead to lines in which none can
+abbrev pub AreRewritten : Setting → List Line → List Replacement → List Line → Type 0
+AreRewritten s ls [] new = NoneApplies s ls × (new ≡ ls)
+AreRewritten s ls (r ∷ rs) new = IsFirst s r ls × AreRewritten s (lines_after s r ls) rs new
+
+-- each replacement could be made in the lines as they then were
+abbrev pub AllApplied : Setting → List Line → List Replacement → Type 0
+AllApplied s ls [] = Unit {0}
+AllApplied s ls (r ∷ rs) = AppliesIn s r ls × AllApplied s (lines_after s r ls) rs
+
+-- the replacements and the lines are determined
+abbrev pub IsDetermined : Type 0
+IsDetermined =
+    (s : Setting) (ls : List Line) → AreSound s.table →
+    (rs ss : List Replacement) (new other : List Line) → AreRewritten s ls rs new → AreRewritten s ls ss other → (rs ≡ ss) × (new ≡ other)

@@ -1,0 +1,30 @@
+-- Two listings that run the same.
+use Rattle.std.specs.Prelude.{◌≡◌, ℕ, ◌≤◌, Bool, true, false, List, Option, Some, None, IsSome}
+use Rattle.thumb_model.specs.Listing.{Name, Code, place_of}
+use Rattle.thumb_model.specs.Machine.{Naming, Fits, World, IsWorld, State, At, Here, Ended, Event, step, times}
+
+abbrev pub has_ended : At → Bool
+has_ended (Here p) = false
+has_ended Ended = true
+
+-- what can be seen of two states is the same
+pub record Alike (s t : State) : Type 0 where
+  pub events : s.events ≡ t.events
+  pub memory : s.world.memory ≡ t.world.memory
+  pub answers : s.world.answers ≡ t.world.answers
+  pub ended : has_ended s.at ≡ has_ended t.at
+
+abbrev pub here_or_ended : Option ℕ → At
+here_or_ended None = Ended
+here_or_ended (Some p) = Here p
+
+-- a run begun at a label
+abbrev pub begun : Code → Name → World → List Event → State
+begun code label w es = record { world = w; at = here_or_ended (place_of code label); events = es }
+
+-- the same runs, under every naming that fits, from every code label, state and list of answers, and in the second listing in no more steps
+pub record Same (a b : Code) : Type 0 where
+  pub sooner : (names : Naming) → Fits names a → (label : Name) → IsSome (place_of a label) → (w : World) → IsWorld w → (es : List Event) →
+      (n : ℕ) → (m : ℕ) × (m ≤ n) × Alike (times (step names a) n (begun a label w es)) (times (step names b) m (begun b label w es))
+  pub reached : (names : Naming) → Fits names a → (label : Name) → IsSome (place_of a label) → (w : World) → IsWorld w → (es : List Event) →
+      (m : ℕ) → (n : ℕ) × (m ≤ n) × Alike (times (step names a) n (begun a label w es)) (times (step names b) m (begun b label w es))

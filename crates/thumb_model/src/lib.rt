@@ -1,0 +1,2 @@
+//! What listings, their runs and their rewriting mean: definitions, and the laws that hold of them.
+#![tactic(auto)]
