@@ -1,0 +1,16 @@
+-- Texts by name as a list of pairs, of which the first with a name counts.
+use Rattle.std.specs.Prelude.{ℕ, Bool, List, Option, string_bytes, String, Vec, find, option_map}
+use Rattle.std.specs.Str.{bytes_eq}
+use Rattle.std.specs.declared.alloc.Global.{Global}
+
+-- a name and its text
+abbrev pub Entry : Type 0
+Entry = String Global × Vec ℕ Global
+
+-- a pair has this name
+abbrev pub is_named : List ℕ → Entry → Bool
+is_named n e = bytes_eq (string_bytes e.0) n
+
+-- the text under a name
+abbrev pub text_in : List Entry → List ℕ → Option (List ℕ)
+text_in es n = option_map (λ e. e.1.items) (find (is_named n) es)

@@ -1,0 +1,84 @@
+//! The outside of the program: stores of texts by name, and sinks of bytes.
+//!
+//! A store and a sink tell contracts what they hold, or do not tell it; either way they count what went
+//! wrong, so that an answer other than `Ok` has its cause.
+#![tactic(auto)]
+
+ghost use Rattle.std.specs.Prelude.{◌≡◌, ℕ, List, Result};
+ghost use Rattle.std.specs.Result.{result_map_both};
+ghost use Rattle.outer_store.specs.Outside.{Seen, Grows, SameHeld, OthersStay, Fetches, Keeps, Sunk, SinkGrows, Puts};
+
+mod calls;
+mod mem_sink;
+mod mem_store;
+mod real_sink;
+mod real_store;
+mod transfer;
+
+pub use mem_sink::MemSink;
+pub use mem_store::MemStore;
+pub use real_sink::RealSink;
+pub use real_store::RealStore;
+use std::alloc::Global;
+use thiserror::Error;
+
+/// The most bytes that are fetched.
+pub const TEXT_LIMIT: usize = 67_108_864;
+
+/// Why a store did not do what was asked.
+#[derive(Clone, Copy, Debug, PartialEq, Eq, Error)]
+pub enum StoreError {
+    /// The store is at fault.
+    #[error("the store failed")]
+    Failed,
+    /// Of a fetch alone: nothing is held under the name.
+    #[error("no such name")]
+    Missing,
+    /// Of a fetch alone: the text under the name is over the limit.
+    #[error("the text is too big")]
+    TooBig,
+    /// Memory was refused.
+    #[error("out of memory")]
+    Memory,
+}
+
+/// Why a sink did not take what was put.
+#[derive(Clone, Copy, Debug, PartialEq, Eq, Error)]
+pub enum SinkError {
+    /// The sink is at fault, and took a prefix of the bytes.
+    #[error("the sink failed")]
+    Failed,
+    /// Memory was refused, and nothing was taken.
+    #[error("out of memory")]
+    Memory,
+}
+
+/// Texts by name.
+pub trait Store {
+    ghost seen: { Self → Seen };
+
+    /// The text under a name, of at most `TEXT_LIMIT` bytes.
+    fn fetch(&mut self, alloc: Global, name: &str) -> Result<Vec<u8>, StoreError>
+        ensures fetches { Fetches (seen self.old) (seen self.new) name.now (result_map_both (λ v. v.items) (λ e. e) result) }
+        ensures held { SameHeld (seen self.old).held (seen self.new).held }
+        ensures grows { Grows (seen self.old) (seen self.new) };
+
+    /// Puts the bytes under a name. After `Failed` nothing is told of that name.
+    fn keep(&mut self, name: &str, bytes: &[u8]) -> Result<(), StoreError>
+        ensures keeps { Keeps (seen self.old) (seen self.new) name.now bytes.now result }
+        ensures others { OthersStay name.now (seen self.old).held (seen self.new).held }
+        ensures grows { Grows (seen self.old) (seen self.new) };
+}
+
+/// A place for what is printed.
+pub trait Sink {
+    ghost sunk: { Self → Sunk };
+
+    /// Writes the bytes behind what was written before.
+    fn put(&mut self, bytes: &[u8]) -> Result<(), SinkError>
+        ensures puts { Puts (sunk self.old) (sunk self.new) bytes.now result }
+        ensures grows { SinkGrows (sunk self.old) (sunk self.new) };
+}
+
+#[cfg(test)]
+mod tests;

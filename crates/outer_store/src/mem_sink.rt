@@ -1,0 +1,62 @@
+//! A sink in memory.
+ghost use Rattle.std.specs.Prelude.{◌≡◌, ◌↔◌, [], IsErrOf, OnErr, true};
+ghost use Rattle.outer_store.specs.Outside.{SinkGrows, Puts};
+ghost use Rattle.outer_store.specs.Scripts.{Bytes, IsCalled, FailsNext, seen_bytes};
+
+use crate::calls::Calls;
+use crate::{Sink, SinkError};
+use std::alloc::Global;
+use std::marker::Model;
+
+/// The bytes written, which are told, and the numbers of the calls that fail.
+#[derive(Drop)]
+pub struct MemSink {
+    written: Vec<u8>,
+    calls: Calls,
+}
+
+impl Model for MemSink {
+    ghost Value = { Bytes };
+
+    ghost view = { λ s. record { written = s.written.items; script = record { failing = s.calls.failing.items; calls = s.calls.made; faults = s.calls.faults } } };
+}
+
+impl MemSink {
+    /// Nothing written yet. `failing` has the numbers, from 1, of the calls of `put` that fail.
+    pub fn new(alloc: Global, failing: Vec<u64>) -> MemSink
+        ensures { result ≡ record { written = []; script = record { failing = failing.items; calls = 0; faults = 0 } } }
+    {
+        MemSink {
+            written: Vec::new(alloc),
+            calls: Calls::new(failing),
+        }
+    }
+
+    /// The bytes written so far.
+    pub fn written(&self) -> &[u8]
+        ensures { result.now ≡ self.now.written }
+    {
+        &self.written
+    }
+}
+
+impl Sink for MemSink {
+    ghost sunk = { seen_bytes };
+
+    fn put(&mut self, bytes: &[u8]) -> Result<(), SinkError>
+        ensures puts { Puts (seen_bytes self.old) (seen_bytes self.new) bytes.now result }
+        ensures grows { SinkGrows (seen_bytes self.old) (seen_bytes self.new) }
+
+        ensures called { IsCalled self.old.script self.new.script }
+        ensures failed { IsErrOf result SinkError.Failed ↔ FailsNext self.old.script }
+        ensures unchanged { OnErr result (self.new.written ≡ self.old.written) }
+    {
+        if self.calls.fails_next() {
+            return Err(SinkError::Failed);
+        }
+        match self.written.extend_from_slice(bytes) {
+            Ok(()) => Ok(()),
+            Err(_) => Err(SinkError::Memory),
+        }
+    }
+}

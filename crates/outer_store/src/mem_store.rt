@@ -1,0 +1,152 @@
+//! A store in memory.
+ghost use Rattle.std.specs.Prelude.{◌≡◌, ◌↔◌, ℕ, List, Some, find, slice_get, if◌then◌else◌, OnOk, OnErr, IsErrOf, true};
+ghost use Rattle.std.specs.List.{position};
+ghost use Rattle.std.specs.Option.{option_copied};
+ghost use Rattle.std.specs.Result.{result_map_both};
+ghost use Rattle.std.specs.Str.{bytes_eq};
+ghost use Rattle.outer_store.specs.Entries.{is_named, text_in};
+ghost use Rattle.outer_store.specs.Outside.{Grows, SameHeld, OthersStay, Fetches, Keeps};
+ghost use Rattle.outer_store.specs.Scripts.{Texts, IsCalled, FailsNext, seen_texts};
+
+use crate::calls::Calls;
+use crate::{Store, StoreError, TEXT_LIMIT};
+use std::alloc::{AllocError, Global};
+use std::marker::Model;
+
+/// Texts in memory, which are told, and the numbers of the calls that fail. Of two texts under one name the
+/// first counts.
+#[derive(Drop)]
+pub struct MemStore {
+    alloc: Global,
+    held: Vec<(String, Vec<u8>)>,
+    calls: Calls,
+    missing: u64,
+    oversize: u64,
+}
+
+impl Model for MemStore {
+    ghost Value = { Texts };
+
+    ghost view = { λ s. record { entries = s.held.items; script = record { failing = s.calls.failing.items; calls = s.calls.made; faults = s.calls.faults }; missing = s.missing; oversize = s.oversize } };
+}
+
+impl MemStore {
+    /// Holds the texts given. `failing` has the numbers, from 1, of the calls of `fetch` and `keep` that fail.
+    pub fn new(alloc: Global, held: Vec<(String, Vec<u8>)>, failing: Vec<u64>) -> MemStore
+        ensures { result ≡ record { entries = held.items; script = record { failing = failing.items; calls = 0; faults = 0 }; missing = 0; oversize = 0 } }
+    {
+        MemStore {
+            alloc,
+            held,
+            calls: Calls::new(failing),
+            missing: 0,
+            oversize: 0,
+        }
+    }
+
+    /// The text under a name.
+    pub fn held(&self, name: &str) -> Option<&[u8]>
+        ensures { option_copied result ≡ text_in self.now.entries name.now }
+    {
+        text_of(&self.held, name)
+    }
+}
+
+/// The place of the first pair with a name.
+fn place_of(held: &[(String, Vec<u8>)], name: &str) -> Option<usize>
+    ensures { result ≡ position (is_named name.now) held.now }
+{
+    held.iter().position(|entry| entry.0.as_str() == name)
+}
+
+/// The first pair with a name.
+fn entry_of<'a>(held: &'a [(String, Vec<u8>)], name: &str) -> Option<&'a (String, Vec<u8>)>
+    ensures { option_copied result ≡ find (is_named name.now) held.now }
+{
+    held.iter().find(|entry| entry.0.as_str() == name)
+}
+
+/// The text under a name.
+fn text_of<'a>(held: &'a [(String, Vec<u8>)], name: &str) -> Option<&'a [u8]>
+    ensures { option_copied result ≡ text_in held.now name.now }
+{
+    match entry_of(held, name) {
+        None => None,
+        Some(entry) => Some(entry.1.as_slice()),
+    }
+}
+
+/// Puts a text under a name, in place of the one there.
+fn put_text(
+    alloc: Global,
+    held: &mut Vec<(String, Vec<u8>)>,
+    name: &str,
+    bytes: &[u8],
+) -> Result<(), AllocError>
+    ensures ok { OnOk result ((n : List ℕ) → text_in held.new.items n ≡ (if bytes_eq name.now n then Some bytes.now else text_in held.old.items n)) }
+    ensures err { OnErr result (held.new.items ≡ held.old.items) }
+{
+    let text = bytes.to_vec(alloc)?;
+    match place_of(held, name) {
+        Some(i) => {
+            held[i].1 = text;
+            Ok(())
+        }
+        None => {
+            let name = String::from_str(alloc, name)?;
+            held.push((name, text))?;
+            Ok(())
+        }
+    }
+}
+
+impl Store for MemStore {
+    ghost seen = { seen_texts };
+
+    fn fetch(&mut self, alloc: Global, name: &str) -> Result<Vec<u8>, StoreError>
+        ensures fetches { Fetches (seen_texts self.old) (seen_texts self.new) name.now (result_map_both (λ v. v.items) (λ e. e) result) }
+        ensures held { SameHeld (text_in self.old.entries) (text_in self.new.entries) }
+        ensures grows { Grows (seen_texts self.old) (seen_texts self.new) }
+
+        ensures called { IsCalled self.old.script self.new.script }
+        ensures failed { IsErrOf result StoreError.Failed ↔ FailsNext self.old.script }
+    {
+        if self.calls.fails_next() {
+            return Err(StoreError::Failed);
+        }
+        match text_of(&self.held, name) {
+            None => {
+                self.missing = self.missing.saturating_add(1);
+                Err(StoreError::Missing)
+            }
+            Some(text) => {
+                if text.len() > TEXT_LIMIT {
+                    self.oversize = self.oversize.saturating_add(1);
+                    return Err(StoreError::TooBig);
+                }
+                match text.to_vec(alloc) {
+                    Ok(copy) => Ok(copy),
+                    Err(_) => Err(StoreError::Memory),
+                }
+            }
+        }
+    }
+
+    fn keep(&mut self, name: &str, bytes: &[u8]) -> Result<(), StoreError>
+        ensures keeps { Keeps (seen_texts self.old) (seen_texts self.new) name.now bytes.now result }
+        ensures others { OthersStay name.now (text_in self.old.entries) (text_in self.new.entries) }
+        ensures grows { Grows (seen_texts self.old) (seen_texts self.new) }
+
+        ensures called { IsCalled self.old.script self.new.script }
+        ensures failed { IsErrOf result StoreError.Failed ↔ FailsNext self.old.script }
+        ensures unchanged { OnErr result (self.new.entries ≡ self.old.entries) }
+    {
+        if self.calls.fails_next() {
+            return Err(StoreError::Failed);
+        }
+        match put_text(self.alloc, &mut self.held, name, bytes) {
+            Ok(()) => Ok(()),
+            Err(_) => Err(StoreError::Memory),
+        }
+    }
+}

@@ -1,0 +1,74 @@
+//! Files by name.
+ghost use Rattle.std.specs.Prelude.{◌≡◌};
+ghost use Rattle.outer_store.specs.Scripts.{Counts, seen_files};
+
+use crate::transfer::{read_all, write_all};
+use crate::{Store, StoreError};
+use std::alloc::Global;
+use std::fs;
+use std::marker::Model;
+use std::rt::Files;
+
+/// The files of the runtime, of which nothing is told. A file that cannot be opened for a fetch is a name
+/// not found.
+#[derive(Drop)]
+pub struct RealStore<R: Files> {
+    rt: R,
+    faults: u64,
+    missing: u64,
+    oversize: u64,
+}
+
+impl<R: Files> Model for RealStore<R> {
+    ghost Value = { Counts };
+
+    ghost view = { λ s. record { faults = s.faults; missing = s.missing; oversize = s.oversize } };
+}
+
+impl<R: Files> RealStore<R> {
+    /// The files that the runtime reaches, with every count 0.
+    pub fn new(rt: R) -> RealStore<R>
+        ensures { result ≡ record { faults = 0; missing = 0; oversize = 0 } }
+    {
+        RealStore {
+            rt,
+            faults: 0,
+            missing: 0,
+            oversize: 0,
+        }
+    }
+}
+
+impl<R: Files> Store for RealStore<R> {
+    ghost seen = { seen_files };
+
+    fn fetch(&mut self, alloc: Global, name: &str) -> Result<Vec<u8>, StoreError> {
+        let Ok(mut file) = fs::open(&self.rt, name) else {
+            self.missing = self.missing.saturating_add(1);
+            return Err(StoreError::Missing);
+        };
+        match read_all(alloc, &mut file) {
+            Err(StoreError::Failed) => {
+                self.faults = self.faults.saturating_add(1);
+                Err(StoreError::Failed)
+            }
+            Err(StoreError::TooBig) => {
+                self.oversize = self.oversize.saturating_add(1);
+                Err(StoreError::TooBig)
+            }
+            other => other,
+        }
+    }
+
+    fn keep(&mut self, name: &str, bytes: &[u8]) -> Result<(), StoreError> {
+        let written = match fs::create(&self.rt, name) {
+            Ok(mut file) => write_all(&mut file, bytes),
+            Err(_) => false,
+        };
+        if written {
+            return Ok(());
+        }
+        self.faults = self.faults.saturating_add(1);
+        Err(StoreError::Failed)
+    }
+}
