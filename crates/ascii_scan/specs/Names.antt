@@ -1,0 +1,41 @@
+-- Names: a letter, `_`, `.` or `$`, then these and digits, and no register's name.
+use Rattle.std.specs.Prelude.{ℕ, ◌&&◌, ◌||◌, ◌==◌, not, Bool, List, [], ◌∷◌, length, map, codes, Option, Some, None, if◌then◌else◌, nat_le}
+use Rattle.std.specs.List.{list_any}
+use Rattle.std.specs.Str.{bytes_eq}
+use Rattle.std.specs.Char.{to_ascii_lowercase}
+use Rattle.ascii_scan.specs.Tokens.{front}
+
+abbrev pub is_digit : ℕ → Bool
+is_digit b = nat_le 48 b && nat_le b 57
+
+abbrev pub is_letter : ℕ → Bool
+is_letter b = (nat_le 65 b && nat_le b 90) || (nat_le 97 b && nat_le b 122)
+
+-- a byte that may begin a name
+abbrev pub is_opening : ℕ → Bool
+is_opening b = is_letter b || (b == 95 || (b == 46 || b == 36))
+
+-- a byte of a name
+abbrev pub is_name_byte : ℕ → Bool
+is_name_byte b = is_opening b || is_digit b
+
+-- the names of registers, which are written in either case
+unfoldable pub registers : List (List ℕ)
+registers =
+    codes "r0" ∷ codes "r1" ∷ codes "r2" ∷ codes "r3" ∷ codes "r4" ∷ codes "r5" ∷ codes "r6" ∷ codes "r7"
+    ∷ codes "r8" ∷ codes "r9" ∷ codes "r10" ∷ codes "r11" ∷ codes "r12" ∷ codes "r13" ∷ codes "r14"
+    ∷ codes "sp" ∷ codes "lr" ∷ codes "pc" ∷ codes "ip" ∷ codes "fp" ∷ codes "sl" ∷ codes "sb" ∷ []
+
+-- the two are the same but for the case of letters
+abbrev pub is_spelled : List ℕ → List ℕ → Bool
+is_spelled word name = bytes_eq (map to_ascii_lowercase word) (map to_ascii_lowercase name)
+
+abbrev pub is_register : List ℕ → Bool
+is_register word = list_any (is_spelled word) registers
+
+-- the length of the name at the front, which is as long as it can be
+abbrev pub name_length : List ℕ → Option ℕ
+name_length [] = None
+name_length (b ∷ bs) =
+    if is_opening b && not (is_register (front is_name_byte (b ∷ bs)))
+    then Some (length (front is_name_byte (b ∷ bs))) else None

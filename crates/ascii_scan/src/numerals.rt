@@ -1,0 +1,40 @@
+ghost use Rattle.std.specs.Prelude.{◌≡◌, ◌≤◌};
+ghost use Rattle.std.specs.List.{list_all};
+ghost use Rattle.std.specs.Char.{is_digit};
+ghost use Rattle.ascii_scan.specs.Numeral.{in_base, numeral};
+
+fn all_digits(bytes: &[u8], radix: u32) -> bool
+    requires low { 2 ≤ radix }
+    requires high { radix ≤ 16 }
+    ensures { result ≡ list_all (λ d. is_digit d radix) bytes.now }
+{
+    bytes.iter().all(|b| char::from(*b).is_digit(radix))
+}
+
+/// The number of the digits, in base 10 or 16.
+fn digits(bytes: &[u8], radix: u32) -> Option<u32>
+    requires low { 2 ≤ radix }
+    requires high { radix ≤ 16 }
+    ensures { result ≡ in_base radix bytes.now }
+{
+    if all_digits(bytes, radix) {
+        match str::from_utf8(bytes) {
+            Ok(text) => u32::from_str_radix(text, radix).ok(),
+            Err(_) => None,
+        }
+    } else {
+        None
+    }
+}
+
+/// The number that the bytes are: decimal digits without a leading zero, or `0x` and hexadecimal digits of either case, below 2^32.
+/// None where they are no such numeral.
+pub fn number(bytes: &[u8]) -> Option<u32>
+    ensures { result ≡ numeral bytes.now }
+{
+    match bytes {
+        [b'0', b'x', digits_after @ ..] => digits(digits_after, 16),
+        [b'0', _, ..] => None,
+        _ => digits(bytes, 10),
+    }
+}
