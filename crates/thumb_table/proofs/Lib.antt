@@ -1,0 +1,4 @@
+pub mod Rows
+pub mod Apart
+pub mod Fields
+pub mod Codes
