@@ -7,3 +7,4 @@ pub mod Flow
 pub mod Same
 pub mod Rewrite
 pub mod Rewritten
+pub mod Image
