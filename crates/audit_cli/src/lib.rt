@@ -1,4 +1,5 @@
 //! The commands: what the words ask for, what the texts come to, and what is kept and printed.
 #![tactic(auto)]
 
+mod assembling;
 mod listing;
