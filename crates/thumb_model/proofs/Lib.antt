@@ -1,2 +1,4 @@
 pub mod Lists
 pub mod Small
+pub mod Simulation
+pub mod Tied
