@@ -2,3 +2,4 @@ pub mod Lists
 pub mod Small
 pub mod Simulation
 pub mod Tied
+pub mod Law
