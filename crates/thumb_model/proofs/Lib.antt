@@ -3,3 +3,4 @@ pub mod Small
 pub mod Simulation
 pub mod Tied
 pub mod Law
+pub mod Moved
