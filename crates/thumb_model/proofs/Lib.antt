@@ -4,3 +4,4 @@ pub mod Simulation
 pub mod Tied
 pub mod Law
 pub mod Moved
+pub mod Points
