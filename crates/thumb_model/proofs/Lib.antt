@@ -5,3 +5,4 @@ pub mod Tied
 pub mod Law
 pub mod Moved
 pub mod Points
+pub mod Window

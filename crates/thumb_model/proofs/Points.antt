@@ -1,11 +1,11 @@
 -- A place that a word or a name leads to is a code point, and a label's place is a label's.
-use Rattle.std.proofs.Common.{◌≡◌, ℕ, suc, ◌+◌, ◌<◌, ◌≤◌, ◌==◌, ◌||◌, ◌&&◌, eq-eqb, eqb-true, true, false, List, [], ◌∷◌, ◌++◌, map, Option, Some, None, refl, sym, ap, ◌∙◌, subst, inl, inr, arith, min, if◌then◌else◌}
+use Rattle.std.proofs.Common.{◌≡◌, Bool, not, ℕ, suc, ◌+◌, ◌<◌, ◌≤◌, ◌==◌, ◌||◌, ◌&&◌, eq-eqb, eqb-true, true, false, List, [], ◌∷◌, ◌++◌, map, Option, Some, None, refl, sym, ap, ◌∙◌, subst, inl, inr, arith, min, if◌then◌else◌}
 use Rattle.std.specs.Prelude.{slice_get}
 use Rattle.std.specs.Str.{bytes_eq}
 use Rattle.std.proofs.lemmas.Bool.{cases_lt}
 use Rattle.thumb_model.specs.Items.{one_of}
 use Rattle.thumb_model.specs.Listing.{Name, Place, Label, Code, is_code, place_among, is_call, label_places, return_places, IsPoint}
-use Rattle.thumb_model.specs.Machine.{Naming, returns_from, point_among, least_or, points_of, points}
+use Rattle.thumb_model.specs.Machine.{Naming, Landing, Goes, Leaves, Strays, landing, is_odd, is_in_range, returns_from, point_among, least_or, points_of, points}
 use Rattle.thumb_model.proofs.Moved.{one_of_back}
 
 some_same : (a b : ℕ) → (let x : Option ℕ = Some a in x) ≡ Some b → b ≡ a
@@ -90,3 +90,18 @@ label_of_place places (l ∷ ls) q e =
       ] refl f
       | false ↦ λ f. label_later l ls q (label_of_place places ls q f)
     ] e
+
+-- a word that lands at a place is a code point's
+pub landing_is : (names : Naming) (code : Code) (word q : ℕ) → landing names word (point_among word (points names code)) ≡ Goes q → IsPoint code q
+landing_is names code word q e = go (point_among word (points names code)) refl e
+  where
+    outside : (b : Bool) → (if b then Leaves else Strays) ≡ Goes q → ⊥
+    outside true f = absurd (cc)
+    outside false f = absurd (cc)
+
+    go : (o : Option ℕ) → point_among word (points names code) ≡ o → landing names word o ≡ Goes q → IsPoint code q
+    go (Some p) s f = point_is names code word q (s ∙ ap Some (goes_same p q f))
+      where
+        goes_same : (a b : ℕ) → Goes a ≡ Goes b → a ≡ b
+        goes_same a b g = cc
+    go None s f = absurd (outside (is_odd word && not (is_in_range names word)) f)
