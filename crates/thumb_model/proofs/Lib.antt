@@ -6,3 +6,4 @@ pub mod Law
 pub mod Moved
 pub mod Points
 pub mod Window
+pub mod Follow
