@@ -7,3 +7,4 @@ pub mod Moved
 pub mod Points
 pub mod Window
 pub mod Follow
+pub mod Table
