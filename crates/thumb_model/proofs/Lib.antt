@@ -8,3 +8,5 @@ pub mod Points
 pub mod Window
 pub mod Follow
 pub mod Table
+pub mod LinesReplaced
+pub mod LinesKept
