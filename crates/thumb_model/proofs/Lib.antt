@@ -10,3 +10,4 @@ pub mod Follow
 pub mod Table
 pub mod LinesReplaced
 pub mod LinesKept
+pub mod Unique

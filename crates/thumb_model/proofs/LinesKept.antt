@@ -8,7 +8,7 @@ use Rattle.thumb_model.specs.Same.{Same}
 use Rattle.thumb_model.specs.Rewrite.{Rule, AreSound, Applies, renamed, replaced}
 use Rattle.thumb_model.specs.Rewritten.{Setting, Replacement, replaced_lines, lines_after_rule, lines_after, AppliesIn, NoneApplies, AreRewritten, AllApplied}
 use Rattle.thumb_model.proofs.Lists.{length_map}
-use Rattle.thumb_model.proofs.LinesReplaced.{AreOps, AllOutside, code_replaced}
+use Rattle.thumb_model.proofs.LinesReplaced.{AreOps, AllOutside, code_replaced, lines_fewer}
 use Rattle.thumb_model.proofs.Table.{window_length, one_keeps, fewer_places}
 use Rattle.thumb_model.proofs.Follow.{Keeps, keeps_refl, keeps_trans}
 
@@ -28,20 +28,47 @@ before : (n : ℕ) → 0 < n → (m : ℕ) × (n ≡ suc m)
 before zero h = absurd (omega arith)
 before (suc m) h = (m, refl)
 
+-- a rule applies to lines whose instructions from the place on it takes, and whose labels stand outside
+pub record IsLineWindow (rule : Rule) (r : Replacement) (ls : List Line) : Type 0 where
+  pub last : ℕ
+  pub as_many : length rule.left ≡ suc last
+  pub ops : AreOps (suc last) (drop r.place (places_of ls))
+  pub outside : AllOutside r.place (suc last) (labels_from 0 ls)
+
+line_window : (rule : Rule) (r : Replacement) (ls : List Line) → Applies rule r.registers (code_of ls) r.place → IsLineWindow rule r ls
+line_window rule r ls a =
+    let shorter = a.shorter in
+    let n = before (length rule.left) (omega arith) in
+    let e : length rule.left ≡ suc n.0 = n.1 in
+    let k : length a.window ≡ length rule.left = window_length rule r.registers (code_of ls) r.place a in
+    record {
+      last = n.0;
+      as_many = e;
+      ops = ops_of a.window (suc n.0) _ (omega arith) (ap (λ c. take c (drop r.place (places_of ls))) (sym e) ∙ a.stands);
+      outside = outside_of r.place (suc n.0) (labels_from 0 ls) (subst (λ c. (k : ℕ) (l : Label) → slice_get (labels_from 0 ls) k ≡ Some l → (l.place ≤ r.place) ⊎ (r.place + c ≤ l.place)) e a.unlabelled);
+    }
+
 -- where an entry applies, replacing the lines replaces their places and labels
 pub code_of_replaced : (s : Setting) (rule : Rule) (r : Replacement) (ls : List Line) → Applies rule r.registers (code_of ls) r.place → code_of (lines_after_rule s (Some rule) r ls) ≡ replaced (code_of ls) r.place (length rule.left) (map (renamed r.registers) rule.right)
 code_of_replaced s rule r ls a =
     let is : List Instr = map (renamed r.registers) rule.right in
     let m = length_map (renamed r.registers) rule.right in
     let shorter = a.shorter in
-    let n = before (length rule.left) (omega arith) in
-    let e : length rule.left ≡ suc n.0 = n.1 in
-    let k : length a.window ≡ length rule.left = window_length rule r.registers (code_of ls) r.place a in
-    let ops : AreOps (suc n.0) (drop r.place (places_of ls)) = ops_of a.window (suc n.0) _ (omega arith) (ap (λ c. take c (drop r.place (places_of ls))) (sym e) ∙ a.stands) in
-    let out : AllOutside r.place (suc n.0) (labels_from 0 ls) = outside_of r.place (suc n.0) (labels_from 0 ls) (subst (λ c. (k : ℕ) (l : Label) → slice_get (labels_from 0 ls) k ≡ Some l → (l.place ≤ r.place) ⊎ (r.place + c ≤ l.place)) e a.unlabelled) in
+    let w = line_window rule r ls a in
+    let e = w.as_many in
     ap (λ c. code_of (replaced_lines s.write r.place c is ls)) e
-    ∙ code_replaced s.write r.place n.0 is ls (omega arith) ops out
+    ∙ code_replaced s.write r.place w.last is ls (omega arith) w.ops w.outside
     ∙ ap (λ c. replaced (code_of ls) r.place c is) (sym e)
+
+-- and leaves no more lines
+fewer_lines_by : (s : Setting) (rule : Rule) (r : Replacement) (ls : List Line) → Applies rule r.registers (code_of ls) r.place → length (lines_after_rule s (Some rule) r ls) ≤ length ls
+fewer_lines_by s rule r ls a =
+    let is : List Instr = map (renamed r.registers) rule.right in
+    let m = length_map (renamed r.registers) rule.right in
+    let shorter = a.shorter in
+    let w = line_window rule r ls a in
+    let e = w.as_many in
+    subst (λ c. length (replaced_lines s.write r.place c is ls) ≤ length ls) (sym e) (lines_fewer s.write w.last is ls r.place (omega arith) w.ops)
 
 -- the code after a replacement
 pub code_of_after : (s : Setting) (r : Replacement) (ls : List Line) (a : AppliesIn s r ls) → code_of (lines_after s r ls) ≡ replaced (code_of ls) r.place (length a.rule.left) (map (renamed r.registers) a.rule.right)
@@ -91,4 +118,16 @@ places_gone s ls [] new h = let e : length (places_of new) ≡ length (places_of
 places_gone s ls (r ∷ rs) new h =
     let one = fewer_after s r ls h.0.applies in
     let rest = places_gone s (lines_after s r ls) rs new h.1 in
+    omega arith
+
+-- a replacement leaves no more lines
+pub fewer_lines : (s : Setting) (r : Replacement) (ls : List Line) → AppliesIn s r ls → length (lines_after s r ls) ≤ length ls
+fewer_lines s r ls a = subst (λ (o : Option Rule). length (lines_after_rule s o r ls) ≤ length ls) (sym a.is_rule) (fewer_lines_by s a.rule r ls a.applies)
+
+-- rewriting leaves no more lines
+pub no_more_lines : (s : Setting) (ls : List Line) (rs : List Replacement) (new : List Line) → AreRewritten s ls rs new → length new ≤ length ls
+no_more_lines s ls [] new h = let e : length new ≡ length ls = ap (λ (l : List Line). length l) h.1 in omega arith
+no_more_lines s ls (r ∷ rs) new h =
+    let one = fewer_lines s r ls h.0.applies in
+    let rest = no_more_lines s (lines_after s r ls) rs new h.1 in
     omega arith

@@ -1,7 +1,8 @@
 -- Replacing lines replaces places and labels.
-use Rattle.std.proofs.Common.{◌≡◌, ℕ, zero, suc, ◌+◌, ◌-◌, ◌<◌, ◌≤◌, ◌==◌, ◌&&◌, List, [], ◌∷◌, ◌++◌, length, take, drop, map, refl, sym, ap, ◌∙◌, subst, ◌⊎◌, inl, inr, arith, append_assoc, ne_eqb, if◌then◌else◌}
+use Rattle.std.proofs.Common.{◌≡◌, ℕ, zero, suc, ◌+◌, ◌-◌, ◌<◌, ◌≤◌, ◌==◌, ◌&&◌, List, [], ◌∷◌, ◌++◌, length, length-append, take, drop, map, refl, sym, ap, ◌∙◌, subst, ◌⊎◌, inl, inr, arith, append_assoc, ne_eqb, if◌then◌else◌}
 use Rattle.thumb_instr.specs.declared.instr.Instr.{Instr}
 use Rattle.thumb_model.specs.Listing.{Name, Value, Statement, Nothing, Runs, Words, Aligns, Line, Place, Op, Word, plain, Label, Code, places_in, places_of, labels_at, labels_from, code_of}
+use Rattle.thumb_model.proofs.Lists.{length_map}
 use Rattle.thumb_model.specs.Rewrite.{moved, move_label, replaced}
 use Rattle.thumb_model.specs.Rewritten.{is_op, without, labels_kept, new_line, replaced_lines}
 
@@ -135,10 +136,6 @@ behind_moved p gone q r (l ∷ ls) h e =
     ∙ ap (λ x. map (move_label p gone) (labels_at r l.names) ++ x) (behind_moved p gone (q + len) (r + len) ls (omega arith) (omega arith))
     ∙ sym (map_append (move_label p gone) (labels_at r l.names) (labels_from (r + len) ls))
 
-abbrev NoNames : List Name → Type 0
-NoNames [] = Unit {0}
-NoNames (n ∷ ns) = ⊥
-
 no_names : (p count r : ℕ) (ns : List Name) (rest : List Label) → p < r → r < p + count → AllOutside p count (labels_at r ns ++ rest) → ns ≡ []
 no_names p count r [] rest h k a = refl
 no_names p count r (n ∷ ns) rest h k a = absurd (elim (a.0) [ inl x ↦ omega arith | inr x ↦ omega arith ])
@@ -237,3 +234,58 @@ code_replaced write p n is ls short ops out =
   where
     same_code : (ps qs : List Place) (ls ms : List Label) → ps ≡ qs → ls ≡ ms → (let c : Code = record { places = ps; labels = ls } in c) ≡ record { places = qs; labels = ms }
     same_code ps qs ls ms e f = cc
+
+-- ---- how many lines ----
+
+-- each instruction that goes is a line
+lines_step : (n : ℕ) (l : Line) (s : Statement) (ls : List Line) → (AreOps n (places_of ls) → n + length (without n ls) ≡ length ls) → (AreOps (suc n) (places_of ls) → suc n + length (without (suc n) ls) ≡ length ls) → AreOps (suc n) (places_in s ++ places_of ls) → suc n + length (if is_op s then without n ls else l ∷ without (suc n) ls) ≡ suc (length ls)
+lines_step n l (Runs i mention) ls f g h = let e = f h in omega arith
+lines_step n l Nothing ls f g h = let e = g h in omega arith
+lines_step n l (Aligns size most) ls f g h = let e = g h in omega arith
+lines_step n l (Words []) ls f g h = let e = g h in omega arith
+lines_step n l (Words (w ∷ ws)) ls f g h = absurd h
+
+lines_without : (n : ℕ) (ls : List Line) → AreOps n (places_of ls) → n + length (without n ls) ≡ length ls
+lines_without zero [] h = refl
+lines_without (suc n) [] h = absurd h
+lines_without zero (l ∷ ls) h = omega arith
+lines_without (suc n) (l ∷ ls) h = lines_step n l l.statement ls (lines_without n ls) (lines_without (suc n) ls) h
+
+kept_few : (l : Line) (ns : List Name) → length (labels_kept l ns) ≤ 1
+kept_few l [] = omega arith
+kept_few l (n ∷ ns) = omega arith
+
+LinesRec : (Instr → List ℕ) → ℕ → List Instr → List Line → Type 0
+LinesRec write n is ls = (q : ℕ) → AreOps (suc n) (drop q (places_of ls)) → length (replaced_lines write q (suc n) is ls) ≤ length ls
+
+fewer_behind : (write : Instr → List ℕ) (n p m : ℕ) (is : List Instr) (l : Line) (s : Statement) (ls : List Line) → LinesRec write n is ls → p ≡ length (places_in s) + m → AreOps (suc n) (drop p (places_in s ++ places_of ls)) → length (l ∷ replaced_lines write (p - length (places_in s)) (suc n) is ls) ≤ suc (length ls)
+unfolding LinesRec
+fewer_behind write n p m is l s ls rec g h =
+    let r = rec m (subst (AreOps (suc n)) (drop_back (places_in s) (places_of ls) p m g) h) in
+    let e : length (replaced_lines write (p - length (places_in s)) (suc n) is ls) ≡ length (replaced_lines write m (suc n) is ls) = ap (λ q. length (replaced_lines write q (suc n) is ls)) (let z : p - length (places_in s) ≡ m = omega arith in z) in
+    omega arith
+
+fewer_step : (write : Instr → List ℕ) (n p : ℕ) (is : List Instr) (l : Line) (s : Statement) (ls : List Line) → length is < suc n → LinesRec write n is ls → AreOps (suc n) (drop p (places_in s ++ places_of ls)) → length (if is_op s && (p == 0) then labels_kept l l.names ++ (map (new_line write) is ++ without (suc n - 1) ls) else l ∷ replaced_lines write (p - length (places_in s)) (suc n) is ls) ≤ suc (length ls)
+fewer_step write n p is l Nothing ls short rec h = fewer_behind write n p p is l Nothing ls rec (omega arith) h
+fewer_step write n p is l (Aligns size most) ls short rec h = fewer_behind write n p p is l (Aligns size most) ls rec (omega arith) h
+fewer_step write n p is l (Words ws) ls short rec h =
+    let w = past_words ws (places_of ls) p n h in
+    let x = words_length ws in
+    fewer_behind write n p (p - length ws) is l (Words ws) ls rec (omega arith) h
+fewer_step write n zero is l (Runs i mention) ls short rec h =
+    let e : length (without (suc n - 1) ls) ≡ length (without n ls) = ap (λ m. length (without m ls)) (let z : suc n - 1 ≡ n = omega arith in z) in
+    let f = lines_without n ls h in
+    let k = kept_few l l.names in
+    let a = length-append (labels_kept l l.names) (map (new_line write) is ++ without (suc n - 1) ls) in
+    let b = length-append (map (new_line write) is) (without (suc n - 1) ls) in
+    let c = length_map (new_line write) is in
+    omega arith
+fewer_step write n (suc p) is l (Runs i mention) ls short rec h =
+    subst (λ b. length (if b then labels_kept l l.names ++ (map (new_line write) is ++ without (suc n - 1) ls) else l ∷ replaced_lines write (suc p - 1) (suc n) is ls) ≤ suc (length ls)) (sym (ne_eqb (suc p) 0 (λ z. absurd (omega arith))))
+    (fewer_behind write n (suc p) p is l (Runs i mention) ls rec (omega arith) h)
+
+-- there are no more lines afterwards
+pub lines_fewer : (write : Instr → List ℕ) (n : ℕ) (is : List Instr) (ls : List Line) (p : ℕ) → length is < suc n → AreOps (suc n) (drop p (places_of ls)) → length (replaced_lines write p (suc n) is ls) ≤ length ls
+unfolding LinesRec
+lines_fewer write n is [] p short h = omega arith
+lines_fewer write n is (l ∷ ls) p short h = fewer_step write n p is l l.statement ls short (λ q h. lines_fewer write n is ls q short h) h

@@ -158,10 +158,10 @@ abbrev pub IsCanonical : ℕ → ℕ → Type 0
 IsCanonical k x = (x < k) ⊎ ((15 ≤ x) × (x < 19))
 
 -- the number of a renamed register
-low_number : (registers : List Low) (d : Low) → (low_under registers d).number ≡ item_under registers d.number
+pub low_number : (registers : List Low) (d : Low) → (low_under registers d).number ≡ item_under registers d.number
 low_number registers d = elim (slice_get registers d.number) as (λ o. (unwrap_or o d).number ≡ number_or o d.number) [ None ↦ refl | Some r ↦ refl ]
 
-reg_number : (registers : List Low) (d : Reg) → (reg_under registers d).number ≡ item_under registers d.number
+pub reg_number : (registers : List Low) (d : Reg) → (reg_under registers d).number ≡ item_under registers d.number
 reg_number registers d = elim (slice_get registers d.number) as (λ o. (wide_or o d).number ≡ number_or o d.number) [ None ↦ refl | Some r ↦ widened_number r ]
 
 -- a word goes as it is into a low register
