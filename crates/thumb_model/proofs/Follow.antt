@@ -14,6 +14,7 @@ use Rattle.thumb_model.specs.Rewrite.{moved, replaced}
 use Rattle.thumb_model.proofs.Simulation.{times_add, Advance, sooner, reached}
 use Rattle.thumb_model.proofs.Tied.{TargetTied, LandingTied, NextTied, ActTied, AroundTied, looks_tied, act_tied}
 use Rattle.thumb_model.proofs.Law.{IsSafe, AreAroundWords, AreHeld, held_of, act_safe, world_after}
+use Rattle.thumb_model.proofs.Worlds.{around_words}
 use Rattle.thumb_model.proofs.Moved.{IsReplacement, IsOutside, fetch_window, fetch_outside, point_at_moved, count_stays, place_moved, fits_stays, return_outside, one_of_append}
 use Rattle.thumb_model.proofs.Points.{IsLabelsPlace, label_of_name, label_of_place, landing_is, point_is}
 use Rattle.thumb_model.proofs.Window.{StandsAt, AreStraight, went, straight_run, straight_part, GoesTo, Flows, flows, flows_on, held_after}
@@ -130,10 +131,6 @@ module _ (names : Naming) (small : AreSmall names) (code : Code) (p : ℕ) (left
   arrive q Over Stay u v t ne out h = absurd t
   arrive q Over (To s) u v t ne out h = absurd t
 
-  literal_small : (mention : Option Mention) → word_of_mention names mention < 2 ^ 32
-  literal_small None = omega arith
-  literal_small (Some m) = omega arith
-
   on_both : (q : ℕ) (u v : World) (es fs : List Event) (o : Option Place) → slice_get code.places q ≡ o → q ≢ p → Related (state u (Here q) es) (state v (Here (to q)) fs) → Related (step_on names code q o (state u (Here q) es)) (step_on names new (to q) o (state v (Here (to q)) fs))
   on_both q u v es fs None e ne r = record { events = ap (λ l. l ++ (Fell ∷ [])) r.events; memory = r.memory; answers = r.answers; both = tt; words = r.words }
   on_both q u v es fs (Some (Word w)) e ne r = record { events = ap (λ l. l ++ (Fell ∷ [])) r.events; memory = r.memory; answers = r.answers; both = tt; words = r.words }
@@ -145,7 +142,7 @@ module _ (names : Naming) (small : AreSmall names) (code : Code) (p : ℕ) (left
       let b : Act = act there i v in
       let tie : ActTied CameTo (act here i v) b = act_tied CameTo here there i v (looks_tied CameTo here there (around_tied q mention r.both.0.1) i v) in
       let tied : ActTied CameTo a b = subst (λ (c : Act). ActTied CameTo c b) (sym f.same) tie in
-      let safe : IsSafe b = act_safe there i v (record { literal = literal_small mention; link = small (call_count (take (to q) new.places)) }) r.words in
+      let safe : IsSafe b = act_safe there i v (around_words names small new (to q) mention) r.words in
       let agree : (x s : ℕ) → GoesTo q a.next s → Reads code x s → assigned a.outputs u.values x ≡ assigned b.outputs v.values x =
       λ x s g rd. f.agree s x g rd ∙ ap (λ (c : Act). assigned c.outputs v.values x) (sym f.same) ∙ ap (λ (os : List (ℕ × ℕ)). assigned os v.values x) tied.outputs in
       record {

@@ -3,6 +3,7 @@ pub mod Small
 pub mod Simulation
 pub mod Tied
 pub mod Law
+pub mod Worlds
 pub mod Moved
 pub mod Points
 pub mod Window
