@@ -1,22 +1,22 @@
 -- The listing in which a window was replaced follows the one before.
-use Rattle.std.proofs.Common.{◌≡◌, ◌≢◌, ℕ, zero, suc, ◌+◌, ◌-◌, ◌<◌, ◌≤◌, ◌^◌, ◌&&◌, not, true, false, if◌then◌else◌, List, [], ◌∷◌, ◌++◌, length, take, map, Option, Some, None, IsSome, refl, sym, ap, ◌∙◌, subst, ◌⊎◌, inl, inr, arith}
+use Rattle.std.proofs.Common.{◌≡◌, ◌≢◌, ℕ, suc, ◌+◌, ◌-◌, ◌<◌, ◌≤◌, ◌^◌, ◌&&◌, not, true, false, if◌then◌else◌, List, [], ◌∷◌, ◌++◌, length, map, Option, Some, None, IsSome, refl, sym, ap, ◌∙◌, subst, ◌⊎◌, inl, inr, arith}
 use Rattle.std.specs.Prelude.{slice_get}
 use Rattle.std.specs.Option.{option_map}
 use Rattle.std.proofs.lemmas.Bool.{cases_eq}
 use Rattle.thumb_instr.specs.declared.instr.Instr.{Instr}
 use Rattle.thumb_model.specs.Items.{Values, AreWords, assigned}
 use Rattle.thumb_model.specs.Effect.{after_all}
-use Rattle.thumb_model.specs.Listing.{Name, Mention, Place, Op, Word, plain, Label, Code, place_of, call_count, label_places, return_places, IsPoint}
-use Rattle.thumb_model.specs.Machine.{Naming, Fits, World, IsWorld, Around, Act, Event, Fell, Target, Inside, External, Landing, Goes, Leaves, Strays, is_odd, is_in_range, Next, On, Stay, To, Over, At, Here, Ended, State, act, arrives, does, around_of, aim_of, target_at, landing, point_among, points, word_of_mention, step_on, step_at, step, times}
+use Rattle.thumb_model.specs.Listing.{Name, Mention, Place, Op, Word, plain, Code, place_of, label_places, return_places, IsPoint}
+use Rattle.thumb_model.specs.Machine.{Naming, Fits, World, IsWorld, Around, Act, Event, Fell, Leaves, Strays, is_odd, is_in_range, Next, On, Stay, To, Over, At, Here, Ended, State, act, arrives, around_of, aim_of, target_at, landing, point_among, points, step_on, step, times}
 use Rattle.thumb_model.specs.Flow.{Reads}
 use Rattle.thumb_model.specs.Same.{has_ended, Alike, here_or_ended, begun, Same}
 use Rattle.thumb_model.specs.Rewrite.{moved, replaced}
 use Rattle.thumb_model.proofs.Simulation.{times_add, Advance, sooner, reached}
 use Rattle.thumb_model.proofs.Tied.{TargetTied, LandingTied, NextTied, ActTied, AroundTied, looks_tied, act_tied}
-use Rattle.thumb_model.proofs.Law.{IsSafe, AreAroundWords, AreHeld, held_of, act_safe, world_after}
+use Rattle.thumb_model.proofs.Law.{IsSafe, held_of, act_safe, world_after}
 use Rattle.thumb_model.proofs.Worlds.{around_words}
 use Rattle.thumb_model.proofs.Moved.{IsReplacement, IsOutside, fetch_window, fetch_outside, point_at_moved, count_stays, place_moved, fits_stays, return_outside, one_of_append}
-use Rattle.thumb_model.proofs.Points.{IsLabelsPlace, label_of_name, label_of_place, landing_is, point_is}
+use Rattle.thumb_model.proofs.Points.{IsLabelsPlace, label_of_name, label_of_place, point_is}
 use Rattle.thumb_model.proofs.Window.{StandsAt, AreStraight, went, straight_run, straight_part, GoesTo, Flows, flows, flows_on, held_after}
 
 pub stands_from : (places : List Place) (p : ℕ) (is : List Instr) → ((j : ℕ) → j < length is → slice_get places (p + j) ≡ slice_get (map plain is) j) → StandsAt places p is

@@ -1,10 +1,9 @@
 -- What a step depends on, row by row, and what it leaves in the items.
-use Rattle.std.proofs.Common.{◌≡◌, ℕ, ◌+◌, ◌*◌, ◌/◌, ◌%◌, ◌^◌, ◌<◌, ◌≤◌, ◌==◌, ◌||◌, Bool, true, false, List, [], ◌∷◌, Option, Some, None, refl, sym, ap, ◌∙◌, subst, arith, map, if◌then◌else◌}
+use Rattle.std.proofs.Common.{◌≡◌, ℕ, ◌*◌, ◌/◌, ◌%◌, ◌^◌, ◌<◌, ◌≤◌, ◌==◌, ◌||◌, Bool, true, false, List, [], ◌∷◌, Option, Some, None, refl, sym, ap, ◌∙◌, subst, arith, map, if◌then◌else◌}
 use Rattle.std.specs.Prelude.{slice_get}
-use Rattle.std.specs.Int.{bit_at, from_bool}
+use Rattle.std.specs.Int.{from_bool}
 use Rattle.std.proofs.lemmas.Nat.Bits.{bit_at-lt}
 use Rattle.word_bits.specs.declared.Sum.{Sum as WordSum}
-use Rattle.word_bits.specs.Word.{sum_of}
 use Rattle.thumb_instr.specs.declared.instr.Instr.{Instr}
 use Rattle.thumb_instr.specs.declared.instr.Instr.TheVariants.{Mov, Three, Two, Bx}
 use Rattle.thumb_instr.specs.declared.instr.Sum.{Sum}
@@ -14,7 +13,7 @@ use Rattle.thumb_instr.specs.declared.instr.Operation.TheVariants.{Mul}
 use Rattle.thumb_instr.specs.declared.within.Within.{Within}
 use Rattle.thumb_model.specs.Items.{Values, AreWords, assigned, one_of, sp, written_to, n_flag, z_flag, c_flag, v_flag}
 use Rattle.thumb_model.specs.Effect.{outputs, result_flags, sum_flags, three_sum, product, two_reads, two_outputs, two_writes}
-use Rattle.thumb_model.specs.Machine.{World, IsWorld, Answer, AreAnswers, Target, Inside, External, Landing, Goes, Leaves, Strays, Around, Act, Event, Left, Astray, Next, On, Stay, To, Over, act, puts, ends, branches, registers_left}
+use Rattle.thumb_model.specs.Machine.{World, IsWorld, AreAnswers, Target, Inside, External, Landing, Goes, Leaves, Strays, Around, Act, Event, Left, Astray, Next, On, Stay, To, Over, act, puts, ends, branches, registers_left}
 use Rattle.thumb_model.specs.Flow.{Way, way, ways_of, Leads, Onward, ToPlace, AnyPoint, Out}
 
 -- the items that get a value

@@ -1,12 +1,12 @@
 -- Places, labels and code points of a listing in which a window was replaced.
-use Rattle.std.proofs.Common.{◌≡◌, ◌≢◌, ℕ, zero, suc, ◌+◌, ◌-◌, ◌<◌, ◌≤◌, ◌==◌, ◌&&◌, ◌||◌, eqb-true, Bool, true, false, min, List, [], ◌∷◌, ◌++◌, length, take, drop, map, Option, Some, None, refl, sym, ap, ◌∙◌, subst, ◌⊎◌, unwrap_or, inl, inr, arith, if◌then◌else◌}
+use Rattle.std.proofs.Common.{◌≡◌, ◌≢◌, ℕ, zero, suc, ◌+◌, ◌-◌, ◌<◌, ◌≤◌, ◌==◌, ◌&&◌, ◌||◌, eqb-true, Bool, true, false, min, List, [], ◌∷◌, ◌++◌, length, take, drop, map, Option, Some, None, refl, sym, ap, ◌∙◌, ◌⊎◌, unwrap_or, inl, inr, arith, if◌then◌else◌}
 use Rattle.std.specs.Prelude.{slice_get}
 use Rattle.std.specs.Str.{bytes_eq}
 use Rattle.std.proofs.lemmas.Bool.{cases_lt}
 use Rattle.std.specs.Option.{option_map}
 use Rattle.thumb_instr.specs.declared.instr.Instr.{Instr}
 use Rattle.thumb_model.specs.Items.{one_of}
-use Rattle.thumb_model.specs.Listing.{Name, Mention, Value, Place, Op, Word, plain, Label, Code, is_op_place, is_code, place_among, place_of, has_label, place_mentions, is_mentioned, is_call, call_count, label_places, return_places}
+use Rattle.thumb_model.specs.Listing.{Name, Place, plain, Label, Code, is_op_place, is_code, place_among, place_of, has_label, place_mentions, is_mentioned, is_call, call_count, return_places}
 use Rattle.thumb_model.specs.Machine.{Naming, Fits, points_of, points, least_or, point_among, returns_from}
 use Rattle.thumb_model.specs.Rewrite.{moved, move_label, replaced}
 use Rattle.thumb_model.proofs.Lists.{get_drop, get_take, get_front, get_back, length_map, take_all, length_drop}

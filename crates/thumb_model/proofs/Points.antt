@@ -1,11 +1,11 @@
 -- A place that a word or a name leads to is a code point, and a label's place is a label's.
-use Rattle.std.proofs.Common.{◌≡◌, Bool, not, ℕ, suc, ◌+◌, ◌<◌, ◌≤◌, ◌==◌, ◌||◌, ◌&&◌, eq-eqb, eqb-true, true, false, List, [], ◌∷◌, ◌++◌, map, Option, Some, None, refl, sym, ap, ◌∙◌, subst, inl, inr, arith, min, if◌then◌else◌}
+use Rattle.std.proofs.Common.{◌≡◌, Bool, not, ℕ, suc, ◌+◌, ◌==◌, ◌||◌, ◌&&◌, eq-eqb, eqb-true, true, false, List, [], ◌∷◌, ◌++◌, map, Option, Some, None, refl, sym, ap, ◌∙◌, subst, inl, inr, arith, min, if◌then◌else◌}
 use Rattle.std.specs.Prelude.{slice_get}
 use Rattle.std.specs.Str.{bytes_eq}
 use Rattle.std.proofs.lemmas.Bool.{cases_lt}
 use Rattle.thumb_model.specs.Items.{one_of}
 use Rattle.thumb_model.specs.Listing.{Name, Place, Label, Code, is_code, place_among, is_call, label_places, return_places, IsPoint}
-use Rattle.thumb_model.specs.Machine.{Naming, Landing, Goes, Leaves, Strays, landing, is_odd, is_in_range, returns_from, point_among, least_or, points_of, points}
+use Rattle.thumb_model.specs.Machine.{Naming, Goes, Leaves, Strays, landing, is_odd, is_in_range, returns_from, point_among, least_or, points_of, points}
 use Rattle.thumb_model.proofs.Moved.{one_of_back}
 
 some_same : (a b : ℕ) → (let x : Option ℕ = Some a in x) ≡ Some b → b ≡ a

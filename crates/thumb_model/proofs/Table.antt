@@ -1,14 +1,14 @@
 -- An entry whose sides are equal keeps the runs where it applies.
-use Rattle.std.proofs.Common.{◌≡◌, ℕ, suc, ◌+◌, ◌-◌, ◌<◌, ◌≤◌, ◌&&◌, nat_lt, true, false, List, [], ◌∷◌, ◌++◌, length, length-append, take, drop, map, Option, Some, None, refl, sym, ap, ◌∙◌, subst, ◌⊎◌, arith, ltb-true}
+use Rattle.std.proofs.Common.{◌≡◌, ℕ, suc, ◌+◌, ◌-◌, ◌<◌, ◌≤◌, nat_lt, true, false, List, [], ◌∷◌, ◌++◌, length, length-append, take, drop, map, Some, None, refl, sym, ap, ◌∙◌, subst, ◌⊎◌, arith}
 use Rattle.std.specs.Prelude.{slice_get}
 use Rattle.std.proofs.lemmas.Bool.{and_parts, and_from, lt-ltb}
 use Rattle.thumb_instr.specs.declared.instr.Instr.{Instr}
 use Rattle.thumb_instr.specs.declared.instr.Instr.TheVariants.{Mov, Three, Two, Bx}
 use Rattle.thumb_instr.specs.Window.{is_in_window}
-use Rattle.thumb_instr.proofs.Registers.{widened, widened_number}
-use Rattle.thumb_model.specs.Items.{Values, AreWords, n_flag, z_flag, c_flag, v_flag}
+use Rattle.thumb_instr.proofs.Registers.{widened_number}
+use Rattle.thumb_model.specs.Items.{Values, n_flag, z_flag, c_flag, v_flag}
 use Rattle.thumb_model.specs.Effect.{after_all, two_reads, two_writes}
-use Rattle.thumb_model.specs.Listing.{Place, plain, Label, Code, is_op_place, is_code, is_call_instr}
+use Rattle.thumb_model.specs.Listing.{Place, plain, Code, is_op_place, is_code, is_call_instr}
 use Rattle.thumb_model.specs.Flow.{way, Onward, Reads, LiveAfter}
 use Rattle.thumb_model.specs.Rewrite.{Low, Reg, Rule, IsSoundRule, renamed, wide_or, reg_under, AreOver, normalised, replaced, move_label, Applies}
 use Rattle.thumb_model.proofs.Lists.{get_drop, get_take, length_map, take_all, take_short, length_drop}

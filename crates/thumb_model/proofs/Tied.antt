@@ -2,7 +2,7 @@
 use Rattle.std.proofs.Common.{◌≡◌, ℕ, List, refl}
 use Rattle.thumb_instr.specs.declared.instr.Instr.{Instr}
 use Rattle.thumb_instr.specs.declared.instr.Instr.TheVariants.{Mov, Three, Two, Bx}
-use Rattle.thumb_model.specs.Machine.{World, Around, Act, Target, Inside, External, Landing, Goes, Leaves, Strays, Next, On, Stay, To, Over, Event, puts, ends, branches, act}
+use Rattle.thumb_model.specs.Machine.{World, Around, Act, Target, Inside, External, Landing, Goes, Leaves, Strays, Next, On, Stay, To, Over, puts, branches, act}
 
 -- targets, landings and ways on at tied places; all else about them is equal
 abbrev pub TargetTied : (ℕ → ℕ → Type 0) → Target → Target → Type 0

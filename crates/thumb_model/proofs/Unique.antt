@@ -1,14 +1,14 @@
 -- What rewriting leaves is determined.
-use Rattle.std.proofs.Common.{◌≡◌, ℕ, zero, suc, ◌<◌, ◌==◌, ◌||◌, true, false, List, [], ◌∷◌, length, take, drop, map, Option, Some, refl, sym, ap, ◌∙◌, subst, arith, eqb-true}
+use Rattle.std.proofs.Common.{◌≡◌, ℕ, zero, suc, ◌<◌, ◌==◌, ◌||◌, true, false, List, [], ◌∷◌, length, map, Option, Some, refl, sym, ap, ◌∙◌, subst, arith, eqb-true}
 use Rattle.std.specs.Prelude.{slice_get}
 use Rattle.thumb_instr.specs.declared.instr.Instr.{Instr}
 use Rattle.thumb_instr.specs.declared.instr.Instr.TheVariants.{Mov, Three, Two, Bx}
 use Rattle.thumb_instr.specs.Window.{is_in_window}
 use Rattle.thumb_instr.proofs.Registers.{low_is}
 use Rattle.thumb_model.specs.Items.{one_of}
-use Rattle.thumb_model.specs.Listing.{Place, plain, Line, Code, code_of}
+use Rattle.thumb_model.specs.Listing.{plain, Line, Code, code_of}
 use Rattle.thumb_model.specs.Rewrite.{Low, Reg, Rule, IsSoundRule, AreSound, AreOver, named, renamed, low_under, reg_under, number_or, item_under, is_named, normalised, Applies}
-use Rattle.thumb_model.specs.Rewritten.{Setting, Replacement, AppliesIn, IsFirst, lines_after, AreRewritten, IsDetermined}
+use Rattle.thumb_model.specs.Rewritten.{Setting, Replacement, IsFirst, lines_after, AreRewritten, IsDetermined}
 use Rattle.thumb_model.proofs.Window.{low_number, reg_number}
 
 -- two maps give each of these items the same

@@ -1,15 +1,14 @@
 -- Straight code: what a window does, in a run and under a renaming.
-use Rattle.std.proofs.Common.{◌≡◌, ◌≢◌, ℕ, zero, suc, ◌+◌, ◌*◌, ◌/◌, ◌<◌, ◌≤◌, ◌==◌, ◌||◌, ◌&&◌, nat_lt, true, false, List, [], ◌∷◌, ◌++◌, length, map, Option, Some, None, refl, sym, ap, ◌∙◌, subst, ◌⊎◌, inl, inr, arith, if◌then◌else◌, eq-eqb, eqb-true, ne_eqb, ltb-true, ◌^◌}
+use Rattle.std.proofs.Common.{◌≡◌, ◌≢◌, ℕ, zero, suc, ◌+◌, ◌*◌, ◌/◌, ◌<◌, ◌≤◌, ◌==◌, ◌||◌, true, false, List, [], ◌∷◌, ◌++◌, length, map, Option, Some, None, refl, sym, ap, ◌∙◌, subst, ◌⊎◌, inl, inr, arith, if◌then◌else◌, eq-eqb, eqb-true, ne_eqb, ◌^◌}
 use Rattle.std.specs.Prelude.{slice_get, unwrap_or}
 use Rattle.std.proofs.lemmas.Option.{slice_get_past}
 use Rattle.word_bits.specs.declared.Sum.{Sum as WordSum}
-use Rattle.thumb_instr.specs.declared.within.Within.{Within}
 use Rattle.thumb_instr.specs.declared.instr.Instr.{Instr}
 use Rattle.thumb_instr.specs.declared.instr.Instr.TheVariants.{Mov, Three, Two, Bx}
 use Rattle.thumb_instr.specs.declared.instr.Operation.{Operation}
 use Rattle.thumb_instr.specs.declared.instr.Operation.TheVariants.{Mul}
 use Rattle.thumb_instr.specs.Window.{is_in_window}
-use Rattle.thumb_instr.proofs.Registers.{widened, widened_number}
+use Rattle.thumb_instr.proofs.Registers.{widened_number}
 use Rattle.thumb_model.specs.Items.{Values, AreWords, assigned, one_of, sp, written_to, n_flag, z_flag, c_flag, v_flag}
 use Rattle.thumb_model.specs.Effect.{outputs, result_flags, sum_flags, three_sum, product, two_outputs, after, after_all}
 use Rattle.thumb_model.specs.Listing.{Mention, Place, Op, plain, Code, IsPoint}
@@ -17,7 +16,7 @@ use Rattle.thumb_model.specs.Machine.{Naming, World, Landing, Goes, Around, Act,
 use Rattle.thumb_model.specs.Flow.{ways_on, ways_of, ways, Leads, Onward, ToPlace, AnyPoint, Out, Follows, Reads, now, later}
 use Rattle.thumb_model.specs.Rewrite.{Low, Reg, named, renamed, low_under, wide_or, reg_under, number_or, item_under, IsOneToOne, AreBelow, AreOver, Equal, normalised}
 use Rattle.thumb_model.proofs.Law.{keys, AgreeOn, assigned_agree, assigned_other, inside_of, Matches, Taken, AlikeBut, law, values_of, are_held, AreHeld}
-use Rattle.thumb_model.proofs.Points.{point_is, landing_is}
+use Rattle.thumb_model.proofs.Points.{landing_is}
 
 -- ---- a run through straight code ----
 

@@ -1,9 +1,8 @@
 -- A step leaves each number in its range.
-use Rattle.std.proofs.Common.{◌≡◌, ℕ, ◌+◌, ◌<◌, ◌%◌, ◌^◌, take, Option, Some, None, arith}
+use Rattle.std.proofs.Common.{ℕ, ◌<◌, ◌^◌, take, Option, Some, None, arith}
 use Rattle.std.specs.Prelude.{slice_get}
-use Rattle.thumb_instr.specs.declared.instr.Instr.{Instr}
 use Rattle.thumb_model.specs.Listing.{Mention, Place, Op, Word, Code, call_count}
-use Rattle.thumb_model.specs.Machine.{Naming, World, IsWorld, Around, At, Here, Ended, State, act, around_of, word_of_mention, step_on, step_at, step}
+use Rattle.thumb_model.specs.Machine.{Naming, IsWorld, Around, At, Here, Ended, State, act, around_of, word_of_mention, step_on, step_at, step}
 use Rattle.thumb_model.proofs.Law.{AreAroundWords, held_of, act_safe, world_after}
 
 literal_small : (names : Naming) (mention : Option Mention) → word_of_mention names mention < 2 ^ 32

@@ -1,5 +1,5 @@
 -- What holds of runs, of live items and of rewriting.
-use Rattle.std.specs.Prelude.{◌≡◌, ℕ, ◌+◌, ◌<◌, ◌≤◌, List, length}
+use Rattle.std.specs.Prelude.{ℕ, ◌+◌, ◌<◌, ◌≤◌, List, length}
 use Rattle.thumb_model.specs.Listing.{Line, Code, places_of, code_of}
 use Rattle.thumb_model.specs.Layout.{Layable}
 use Rattle.thumb_model.specs.Machine.{Naming, Fits, State, IsWorld, step}
