@@ -19,6 +19,7 @@ use Rattle.thumb_model.proofs.Moved.{IsReplacement, IsOutside, fetch_window, fet
 use Rattle.thumb_model.proofs.Points.{IsLabelsPlace, label_of_name, label_of_place, point_is}
 use Rattle.thumb_model.proofs.Window.{StandsAt, AreStraight, went, straight_run, straight_part, GoesTo, Flows, flows, flows_on, held_after}
 
+-- instructions stand where each place has its own
 pub stands_from : (places : List Place) (p : ℕ) (is : List Instr) → ((j : ℕ) → j < length is → slice_get places (p + j) ≡ slice_get (map plain is) j) → StandsAt places p is
 stands_from places p [] h = tt
 stands_from places p (i ∷ is) h = (
@@ -36,9 +37,11 @@ pub record IsSound (code : Code) (p : ℕ) (left right : List Instr) : Type 0 wh
   pub right_straight : AreStraight right
   pub agree : (t : Values) → AreWords t → (x : ℕ) → Reads code x (p + length left) → after_all left t x ≡ after_all right t x
 
+-- a state, by its parts
 abbrev pub state : World → At → List Event → State
 state w a es = record { world = w; at = a; events = es }
 
+-- the return points' words are words
 abbrev pub AreSmall : Naming → Type 0
 AreSmall names = (k : ℕ) → names.return_word k < 2 ^ 32
 
@@ -60,6 +63,7 @@ module _ (names : Naming) (small : AreSmall names) (code : Code) (p : ℕ) (left
   AtBoth Ended (Here r) u v = ⊥
   AtBoth (Here q) Ended u v = ⊥
 
+  -- the two runs show the same, and are at the same place
   pub record Related (s t : State) : Type 0 where
     pub events : s.events ≡ t.events
     pub memory : s.world.memory ≡ t.world.memory
@@ -264,9 +268,11 @@ module _ (names : Naming) (small : AreSmall names) (code : Code) (p : ℕ) (left
   advance : (s t : State) → Related s t → ((step names code s ≡ s) × (step names new t ≡ t)) ⊎ Go s t
   advance s t r = advance_at s.at t.at s.world t.world s.events t.events r
 
+  -- what the old listing shows, the new one shows in no more steps
   pub runs_sooner : (n : ℕ) (s t : State) → Related s t → (m : ℕ) × (m ≤ n) × Alike (times (step names code) n s) (times (step names new) m t)
   runs_sooner n s t r = sooner State State (step names code) (step names new) Alike Related alike_of advance n n s t (omega arith) r
 
+  -- what the new listing shows, the old one shows
   pub runs_reached : (m : ℕ) (s t : State) → Related s t → (n : ℕ) × (m ≤ n) × Alike (times (step names code) n s) (times (step names new) m t)
   runs_reached m s t r = reached State State (step names code) (step names new) Alike Related alike_of advance m m s t (omega arith) r
 
@@ -275,6 +281,7 @@ module _ (names : Naming) (small : AreSmall names) (code : Code) (p : ℕ) (left
   both_at None o' e out u = subst (λ (x : Option ℕ). AtBoth Ended (here_or_ended x) u u) (sym e) tt
   both_at (Some r) o' e out u = subst (λ (x : Option ℕ). AtBoth (Here r) (here_or_ended x) u u) (sym e) ((refl, out r refl), λ x rd. refl)
 
+  -- runs begun at one label are related
   pub begun_related : (label : Name) (w : World) (es : List Event) → IsWorld w → Related (begun code label w es) (begun new label w es)
   begun_related label w es h =
       record {
@@ -315,6 +322,7 @@ alike_here s = record { events = refl; memory = refl; answers = refl; ended = re
 alike_on : (s t w : State) → Alike s t → Alike t w → Alike s w
 alike_on s t w a b = record { events = a.events ∙ b.events; memory = a.memory ∙ b.memory; answers = a.answers ∙ b.answers; ended = a.ended ∙ b.ended }
 
+-- a listing keeps its own runs
 pub keeps_refl : (a : Code) → Keeps a a
 keeps_refl a =
     record {
@@ -326,6 +334,7 @@ keeps_refl a =
       entry = λ label h. h;
     }
 
+-- and from one to the next
 pub keeps_trans : (a b c : Code) → Keeps a b → Keeps b c → Keeps a c
 keeps_trans a b c h k =
     record {

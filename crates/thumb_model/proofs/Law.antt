@@ -26,6 +26,7 @@ abbrev pub AgreeOn : List ℕ → Values → Values → Type 0
 AgreeOn [] u v = Unit {0}
 AgreeOn (x ∷ xs) u v = (u x ≡ v x) × AgreeOn xs u v
 
+-- where old values agree, but on items that get a value, the values afterwards agree
 pub assigned_agree : (os : List (ℕ × ℕ)) (u v : Values) (x : ℕ) → (one_of x (keys os) ≡ false → u x ≡ v x) → assigned os u x ≡ assigned os v x
 assigned_agree [] u v x h = h refl
 assigned_agree (o ∷ os) u v x h =
@@ -34,6 +35,7 @@ assigned_agree (o ∷ os) u v x h =
       | false ↦ λ h. assigned_agree os u v x h
     ] h
 
+-- an item that gets no value keeps its own
 pub assigned_other : (os : List (ℕ × ℕ)) (v : Values) (x : ℕ) → one_of x (keys os) ≡ false → assigned os v x ≡ v x
 assigned_other [] v x h = refl
 assigned_other (o ∷ os) v x h =
@@ -60,6 +62,7 @@ Matches lands On Out ks ws = ⊥
 Matches lands (To p) Onward ks ws = ⊥
 Matches lands (To p) Out ks ws = ⊥
 
+-- the act goes by the way
 abbrev pub Takes : (ℕ → Landing) → Act → Way → Type 0
 Takes lands a w = Matches lands a.next w.leads (keys a.outputs) w.writes
 
@@ -71,6 +74,7 @@ pub record Taken (around : Around) (i : Instr) (u w : World) : Type 0 where
   pub same : AgreeOn taken.reads u.values w.values → act around i u ≡ act around i w
   pub takes : Takes around.lands (act around i u) taken
 
+-- two worlds that are the same but for their items
 abbrev pub AlikeBut : World → World → Type 0
 AlikeBut u w = (u.memory ≡ w.memory) × (u.answers ≡ w.answers)
 
@@ -174,6 +178,7 @@ pub record AreHeld (v : Values) : Type 0 where
 abbrev pub IsValueOf : ℕ × ℕ → Type 0
 IsValueOf o = (o.0 < 15 → o.1 < 2 ^ 32) × (15 ≤ o.0 → o.1 < 2) × (o.0 ≡ sp → o.1 % 4 ≡ 0)
 
+-- each of the new values is one for its item
 abbrev pub AreValues : List (ℕ × ℕ) → Type 0
 AreValues [] = Unit {0}
 AreValues (o ∷ os) = IsValueOf o × AreValues os
@@ -190,6 +195,7 @@ value_at (o ∷ os) v h a x =
       | false ↦ λ e. value_at os v h.1 a x
     ] refl
 
+-- items that get such values hold such values
 pub are_held : (os : List (ℕ × ℕ)) (v : Values) → AreValues os → AreHeld v → AreHeld (assigned os v)
 are_held os v h a = record {
   words = record { register = λ x l. (value_at os v h a x).0 l; flag = λ x l. (value_at os v h a x).1 l };
@@ -216,9 +222,11 @@ bool_small false = omega arith
 pub flag_value : (f x : ℕ) → 15 ≤ f → x < 2 → IsValueOf (f, x)
 flag_value f x l h = (λ m. absurd (omega arith), λ m. h, λ e. absurd (omega arith))
 
+-- flags of a result are bits
 pub result_flag_values : (x : ℕ) → AreValues (result_flags x)
 result_flag_values x = (flag_value n_flag _ (omega arith) (bit_at-lt x 31), (flag_value z_flag _ (omega arith) (bool_small (x == 0)), tt))
 
+-- flags of a sum are bits
 pub sum_flag_values : (s : WordSum) → AreValues (sum_flags s)
 sum_flag_values s =
     (flag_value n_flag _ (omega arith) (bit_at-lt s.value 31), (flag_value z_flag _ (omega arith) (bool_small (s.value == 0)), (flag_value c_flag _ (omega arith) (bool_small s.c), (flag_value v_flag _ (omega arith) (bool_small s.v), tt))))
@@ -240,6 +248,7 @@ values_of (Bx m) v a = tt
 
 -- ---- an act leaves a world ----
 
+-- what the act leaves is in its range
 pub record IsSafe (a : Act) : Type 0 where
   pub values : AreValues a.outputs
   pub memory : (x : ℕ) → a.memory x < 256
@@ -250,6 +259,7 @@ pub record AreAroundWords (around : Around) : Type 0 where
   pub literal : around.literal < 2 ^ 32
   pub link : around.link < 2 ^ 32
 
+-- a world's items are in their ranges
 pub held_of : (w : World) → IsWorld w → AreHeld w.values
 held_of w h = record { words = h.values; stack = h.stack }
 

@@ -100,6 +100,7 @@ replace_step write n k (suc p) is l (Runs i mention) ls f rec e h =
     ap (λ b. places_of (if b then labels_kept l l.names ++ (map (new_line write) is ++ without (suc n - 1) ls) else l ∷ replaced_lines write (suc p - 1) (suc n) is ls)) (ne_eqb (suc p) 0 (λ z. absurd (omega arith)))
     ∙ behind write n k (suc p) p is l (Runs i mention) ls f rec e (omega arith) h
 
+-- places, where lines are replaced
 pub places_replaced : (write : Instr → List ℕ) (n : ℕ) (is : List Instr) (ls : List Line) (p k : ℕ) → k ≡ p + suc n → AreOps (suc n) (drop p (places_of ls)) → places_of (replaced_lines write p (suc n) is ls) ≡ Result p k is (places_of ls)
 unfolding Rec
 places_replaced write n is [] zero k e h = absurd h
@@ -108,6 +109,7 @@ places_replaced write n is (l ∷ ls) p k e h = replace_step write n k p is l l.
 
 -- ---- labels ----
 
+-- no label stands within the window
 abbrev pub AllOutside : ℕ → ℕ → List Label → Type 0
 AllOutside p count [] = Unit {0}
 AllOutside p count (l ∷ ls) = ((l.place ≤ p) ⊎ (p + count ≤ l.place)) × AllOutside p count ls
@@ -221,6 +223,7 @@ labels_step write at n q (suc p) is l (Runs i mention) ls short f rec e out h =
     ap (λ b. labels_from q (if b then labels_kept l l.names ++ (map (new_line write) is ++ without (suc n - 1) ls) else l ∷ replaced_lines write (suc p - 1) (suc n) is ls)) (ne_eqb (suc p) 0 (λ z. absurd (omega arith)))
     ∙ labels_behind write at n q (suc p) p is l (Runs i mention) ls f rec e (omega arith) out h
 
+-- labels, where lines are replaced
 pub labels_replaced : (write : Instr → List ℕ) (at n : ℕ) (is : List Instr) (ls : List Line) (q p : ℕ) → length is < suc n → at ≡ q + p → AllOutside at (suc n) (labels_from q ls) → AreOps (suc n) (drop p (places_of ls)) → labels_from q (replaced_lines write p (suc n) is ls) ≡ map (move_label at (suc n - length is)) (labels_from q ls)
 unfolding LabelsRec
 labels_replaced write at n is [] q p short e out h = refl

@@ -13,6 +13,7 @@ use Rattle.thumb_model.proofs.Lists.{get_drop, get_take, get_front, get_back, le
 
 -- ---- calls ----
 
+-- no call is among the places
 abbrev pub AreNoCalls : List Place → Type 0
 AreNoCalls [] = Unit {0}
 AreNoCalls (x ∷ xs) = (is_call x ≡ false) × AreNoCalls xs
@@ -83,10 +84,12 @@ take_back [] ys n m e = ap (λ j. take j ys) (let f : n ≡ m = omega arith in f
 take_back (x ∷ xs) ys zero m e = absurd (omega arith)
 take_back (x ∷ xs) ys (suc n) m e = ap (λ l. x ∷ l) (take_back xs ys n m (omega arith))
 
+-- an item of the second list is one of both
 pub one_of_back : (x : ℕ) (xs ys : List ℕ) → one_of x ys ≡ true → one_of x (xs ++ ys) ≡ true
 one_of_back x [] ys h = h
 one_of_back x (y ∷ xs) ys h = elim (x == y) as (λ b. (b || one_of x (xs ++ ys)) ≡ true) [ true ↦ refl | false ↦ one_of_back x xs ys h ]
 
+-- an item of both is one of the first or of the second
 pub one_of_append : (x : ℕ) (xs ys : List ℕ) → one_of x (xs ++ ys) ≡ true → (one_of x xs ≡ true) ⊎ (one_of x ys ≡ true)
 one_of_append x [] ys h = inr h
 one_of_append x (y ∷ xs) ys h = elim (x == y) as (λ b. (b || one_of x (xs ++ ys)) ≡ true → ((b || one_of x xs) ≡ true) ⊎ (one_of x ys ≡ true)) [ true ↦ λ g. inl refl | false ↦ λ g. one_of_append x xs ys g ] h
@@ -147,7 +150,7 @@ pub record IsReplacement (code : Code) (p count : ℕ) (is : List Instr) : Type 
   pub shorter : length is < count
   pub first : is_op_place (slice_get code.places p) ≡ true
   pub no_call : AreNoCalls (take count (drop p code.places))
-  pub no_call' : AreNoCalls (map plain is)
+  pub no_new_call : AreNoCalls (map plain is)
   pub unlabelled : (k : ℕ) (l : Label) → slice_get code.labels k ≡ Some l → (l.place ≤ p) ⊎ (p + count ≤ l.place)
   pub labels_stay : (k : ℕ) (l : Label) → slice_get code.labels k ≡ Some l → is_code code.places l ≡ true → is_code (replaced code p count is).places (move_label p (count - length is) l) ≡ true
 
@@ -179,17 +182,20 @@ module _ (code : Code) (p count : ℕ) (is : List Instr) where
   to = moved p (count - length is)
 
   module _ (r : IsReplacement code p count is) where
+    -- a place before the window
     pub fetch_before : (q : ℕ) → q < p → slice_get places' q ≡ slice_get code.places q
     fetch_before q h =
         let n : length (take p code.places) ≡ p = take_all p code.places (omega (arith, r.within)) in
         get_front (take p code.places) _ q (omega arith) ∙ get_take p code.places q h
 
+    -- a place of the new instructions
     pub fetch_window : (j : ℕ) → j < length is → slice_get places' (p + j) ≡ slice_get (map plain is) j
     fetch_window j h =
         let n : length (take p code.places) ≡ p = take_all p code.places (omega (arith, r.within)) in
         let m : length (map plain is) ≡ length is = length_map plain is in
         get_back (take p code.places) _ j (p + j) (omega arith) ∙ get_front (map plain is) _ j (omega arith)
 
+    -- a place behind the window
     pub fetch_after : (q : ℕ) → p + count ≤ q → slice_get places' (to q) ≡ slice_get code.places q
     fetch_after q h =
         let n : length (take p code.places) ≡ p = take_all p code.places (omega (arith, r.within)) in
@@ -260,11 +266,11 @@ module _ (code : Code) (p count : ℕ) (is : List Instr) where
 
     returns_split' : (names : Naming) → returns_from names 0 0 places' ≡ returns_from names 0 0 front ++ returns_from names (call_count front) (p + length is) back
     returns_split' names =
-        let n = count_none (map plain is) r.no_call' in
+        let n = count_none (map plain is) r.no_new_call in
         let fl = front_length in
         let wl = length_map plain is in
         returns_append names 0 0 (call_count front) p front (map plain is ++ back) (omega arith) (omega arith)
-        ∙ ap (λ l. returns_from names 0 0 front ++ l) (returns_append names (call_count front) p (call_count front) (p + length is) (map plain is) back (omega arith) (omega arith) ∙ ap (λ l. l ++ returns_from names (call_count front) (p + length is) back) (returns_none names _ _ (map plain is) r.no_call'))
+        ∙ ap (λ l. returns_from names 0 0 front ++ l) (returns_append names (call_count front) p (call_count front) (p + length is) (map plain is) back (omega arith) (omega arith) ∙ ap (λ l. l ++ returns_from names (call_count front) (p + length is) back) (returns_none names _ _ (map plain is) r.no_new_call))
 
     returns_stay : (names : Naming) → returns_from names 0 0 places' ≡ map move_point (returns_from names 0 0 code.places)
     returns_stay names =
@@ -278,6 +284,7 @@ module _ (code : Code) (p count : ℕ) (is : List Instr) where
         ∙ sym (map_append move_point (returns_from names 0 0 front) (returns_from names (call_count front) (p + count) back))
         ∙ ap (map move_point) (sym (returns_split names))
 
+    -- the code points keep their words, at places that move
     pub points_moved : (names : Naming) → points names (replaced code p count is) ≡ map move_point (points names code)
     points_moved names =
         ap (λ l. l ++ returns_from names 0 0 places') (points_of_moved names code.labels code_stays)
@@ -288,6 +295,7 @@ module _ (code : Code) (p count : ℕ) (is : List Instr) where
     least_moved a None = refl
     least_moved a (Some b) = ap Some (moved_min p (count - length is) a b)
 
+    -- so the least place of a word moves
     pub point_moved : (word : ℕ) (ps : List (ℕ × ℕ)) → point_among word (map move_point ps) ≡ option_map to (point_among word ps)
     point_moved word [] = refl
     point_moved word (a ∷ ps) =
@@ -296,6 +304,7 @@ module _ (code : Code) (p count : ℕ) (is : List Instr) where
           | false ↦ point_moved word ps
         ]
 
+    -- where a word leads to moves
     pub point_at_moved : (names : Naming) (word : ℕ) → point_among word (points names (replaced code p count is)) ≡ option_map to (point_among word (points names code))
     point_at_moved names word = ap (point_among word) (points_moved names) ∙ point_moved word (points names code)
 
@@ -311,6 +320,7 @@ module _ (code : Code) (p count : ℕ) (is : List Instr) where
     place_among_moved name (l ∷ ls) h =
         chosen (bytes_eq name l.name) _ _ (h 0 l refl) l.place _ _ (place_among_moved name ls (λ k m e. h (suc k) m e))
 
+    -- where a name leads to moves
     pub place_moved : (name : Name) → place_of (replaced code p count is) name ≡ option_map to (place_of code name)
     place_moved name = place_among_moved name code.labels code_stays
 
@@ -324,7 +334,7 @@ module _ (code : Code) (p count : ℕ) (is : List Instr) where
         let wl = window_length in
         let il = length_map plain is in
         let s = r.shorter in
-        let n = count_none (map plain is) r.no_call' in
+        let n = count_none (map plain is) r.no_new_call in
         let m = count_none window r.no_call in
         let a : call_count (take (to q) places') ≡ call_count front + call_count (take (to q - p - length is) back) =
         ap call_count (take_back front (map plain is ++ back) (to q) (to q - p) (omega arith)) ∙ count_append front _ ∙ ap (λ c. call_count front + c) (ap call_count (take_back (map plain is) back (to q - p) (to q - p - length is) (omega arith)) ∙ count_append (map plain is) _ ∙ ap (λ c. c + call_count (take (to q - p - length is) back)) n ∙ (let z : 0 + call_count (take (to q - p - length is) back) ≡ call_count (take (to q - p - length is) back) = omega arith in z)) in
@@ -333,6 +343,7 @@ module _ (code : Code) (p count : ℕ) (is : List Instr) where
         let same : to q - p - length is ≡ q - p - count = omega arith in
         a ∙ ap (λ c. call_count front + call_count (take c back)) same ∙ sym b ∙ ap (λ l. call_count (take q l)) (sym split)
 
+    -- a place outside the window has as many calls before it
     pub count_stays : (q : ℕ) → IsOutside p count q → call_count (take (to q) places') ≡ call_count (take q code.places)
     count_stays q (inl h) = ap (λ x. call_count (take x places')) (let e : to q ≡ q = omega arith in e) ∙ count_before q h
     count_stays q (inr h) = count_after q h
@@ -354,6 +365,7 @@ module _ (code : Code) (p count : ℕ) (is : List Instr) where
     labels_kept n [] = refl
     labels_kept n (l ∷ ls) = ap (λ b. bytes_eq n l.name || b) (labels_kept n ls)
 
+    -- a naming that fits the old listing fits the new one
     pub fits_stays : (names : Naming) → Fits names code → Fits names (replaced code p count is)
     fits_stays names f =
         record {

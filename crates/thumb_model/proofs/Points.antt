@@ -71,6 +71,7 @@ IsLabelsPlace ls q = (k : ℕ) × (l : Label) × (slice_get ls k ≡ Some l) × 
 label_later : (l : Label) (ls : List Label) (q : ℕ) → IsLabelsPlace ls q → IsLabelsPlace (l ∷ ls) q
 label_later l ls q f = (suc f.0, f.1, f.2, f.3)
 
+-- the place that a name leads to is a label's
 pub label_of_name : (name : Name) (places : List Place) (ls : List Label) (q : ℕ) → place_among name places ls ≡ Some q → IsLabelsPlace ls q
 label_of_name name places [] q e = absurd (cc)
 label_of_name name places (l ∷ ls) q e =

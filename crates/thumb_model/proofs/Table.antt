@@ -98,7 +98,7 @@ applies_sound rule registers code p eq a =
         shorter = omega arith;
         first = first_is l (omega arith) stands;
         no_call = subst AreNoCalls (sym a.stands) (no_calls l straight_l);
-        no_call' = no_calls r straight_r;
+        no_new_call = no_calls r straight_r;
         unlabelled = a.unlabelled;
         labels_stay = λ j b e t. subst (λ c. is_code (replaced code p (length rule.left) r).places (move_label p (length rule.left - c) b) ≡ true) (sym m) (a.labels_stay j b e t);
       });

@@ -4,13 +4,14 @@ use Rattle.thumb_instr.specs.declared.instr.Instr.{Instr}
 use Rattle.thumb_instr.specs.declared.instr.Instr.TheVariants.{Mov, Three, Two, Bx}
 use Rattle.thumb_model.specs.Machine.{World, Around, Act, Target, Inside, External, Landing, Goes, Leaves, Strays, Next, On, Stay, To, Over, puts, branches, act}
 
--- targets, landings and ways on at tied places; all else about them is equal
+-- targets at tied places, or the same outside
 abbrev pub TargetTied : (ℕ → ℕ → Type 0) → Target → Target → Type 0
 TargetTied R (Inside p) (Inside q) = R p q
 TargetTied R (External v) (External w) = v ≡ w
 TargetTied R (Inside p) (External w) = ⊥
 TargetTied R (External v) (Inside q) = ⊥
 
+-- landings at tied places
 abbrev pub LandingTied : (ℕ → ℕ → Type 0) → Landing → Landing → Type 0
 LandingTied R (Goes p) (Goes q) = R p q
 LandingTied R Leaves Leaves = Unit {0}
@@ -22,6 +23,7 @@ LandingTied R Leaves Strays = ⊥
 LandingTied R Strays (Goes q) = ⊥
 LandingTied R Strays Leaves = ⊥
 
+-- ways on to tied places
 abbrev pub NextTied : (ℕ → ℕ → Type 0) → Next → Next → Type 0
 NextTied R On On = Unit {0}
 NextTied R Stay Stay = Unit {0}
@@ -40,6 +42,7 @@ NextTied R Over On = ⊥
 NextTied R Over Stay = ⊥
 NextTied R Over (To q) = ⊥
 
+-- acts that do the same, and go on to tied places
 pub record ActTied (R : ℕ → ℕ → Type 0) (a b : Act) : Type 0 where
   pub outputs : a.outputs ≡ b.outputs
   pub memory : a.memory ≡ b.memory

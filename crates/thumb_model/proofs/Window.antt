@@ -45,9 +45,11 @@ append_nothing [] = refl
 append_nothing (x ∷ xs) = ap (λ l. x ∷ l) (append_nothing xs)
 
 module _ (names : Naming) (code : Code) (s : State) where
+  -- one instruction of straight code
   pub straight_step : (p : ℕ) (v : Values) (i : Instr) → slice_get code.places p ≡ Some (plain i) → is_in_window i ≡ true → step names code (went s p v) ≡ went s (p + 1) (after i v)
   straight_step p v i e h = rw (e, straight_act (around_of names code p None) i (went s p v).world h, append_nothing s.events) refl
 
+  -- straight code to its end
   pub straight_run : (is : List Instr) (p : ℕ) (v : Values) → StandsAt code.places p is → AreStraight is → times (step names code) (length is) (went s p v) ≡ went s (p + length is) (after_all is v)
   straight_run [] p v h a = ap (λ q. went s q v) (let e : p ≡ p + 0 = omega arith in e)
   straight_run (i ∷ is) p v h a =
@@ -103,6 +105,7 @@ pub record Flows (names : Naming) (code : Code) (p : ℕ) (i : Instr) (mention :
   pub same : act (around_of names code p mention) i u ≡ act (around_of names code p mention) i w
   pub agree : (q x : ℕ) → GoesTo p (act (around_of names code p mention) i u).next q → Reads code x q → assigned (act (around_of names code p mention) i u).outputs u.values x ≡ assigned (act (around_of names code p mention) i w).outputs w.values x
 
+-- values that agree on what is read from a place on agree so after its step
 pub flows : (names : Naming) (code : Code) (p : ℕ) (i : Instr) (mention : Option Mention) (u w : World) → slice_get code.places p ≡ Some (Op i mention) → AlikeBut u w → ((x : ℕ) → Reads code x p → u.values x ≡ w.values x) → Flows names code p i mention u w
 flows names code p i mention u w e a h =
     let around : Around = around_of names code p mention in
@@ -134,6 +137,7 @@ flows_on names code (i ∷ is) p u w h a agree x r =
     λ y r'. sym (ap (λ (b : Act). assigned b.outputs u y) eu) ∙ f.agree (p + 1) y next r' ∙ ap (λ (b : Act). assigned b.outputs w y) ew in
     flows_on names code is (p + 1) (after i u) (after i w) h.1 a.1 agree' x (subst (Reads code x) (let e : p + length (i ∷ is) ≡ p + 1 + length is = omega arith in e) r)
 
+-- straight code leaves values in their ranges
 pub held_after : (is : List Instr) (v : Values) → AreHeld v → AreHeld (after_all is v)
 held_after [] v h = h
 held_after (i ∷ is) v h = held_after is (after i v) (are_held (outputs i v) v (values_of i v h) h)
@@ -146,6 +150,7 @@ normal_outputs i v = refl
 pub normal_in_window : (i : Instr) → is_in_window (normalised i) ≡ is_in_window i
 normal_in_window i = refl
 
+-- normal forms do the same
 pub normal_after : (is : List Instr) (v : Values) → after_all (map normalised is) v ≡ after_all is v
 normal_after [] v = refl
 normal_after (i ∷ is) v = ap (λ os. after_all (map normalised is) (assigned os v)) (normal_outputs i v) ∙ normal_after is (after i v)
@@ -160,6 +165,7 @@ IsCanonical k x = (x < k) ⊎ ((15 ≤ x) × (x < 19))
 pub low_number : (registers : List Low) (d : Low) → (low_under registers d).number ≡ item_under registers d.number
 low_number registers d = elim (slice_get registers d.number) as (λ o. (unwrap_or o d).number ≡ number_or o d.number) [ None ↦ refl | Some r ↦ refl ]
 
+-- the number of a renamed register
 pub reg_number : (registers : List Low) (d : Reg) → (reg_under registers d).number ≡ item_under registers d.number
 reg_number registers d = elim (slice_get registers d.number) as (λ o. (wide_or o d).number ≡ number_or o d.number) [ None ↦ refl | Some r ↦ widened_number r ]
 
@@ -285,6 +291,7 @@ module _ (registers : List Low) (few : length registers ≤ 4) (one : IsOneToOne
   after_under i s w b c x h =
       ap (λ os. assigned os s (under x)) (outputs_renamed i s w b c) ∙ assigned_under (outputs i w) s w (outputs_canonical i w b) c x h
 
+  -- values that correspond do so after renamed code
   pub after_all_under : (is : List Instr) (s w : Values) → AreOver (length registers) is → Corresponds s w → Corresponds (after_all (map (renamed registers) is) s) (after_all is w)
   after_all_under [] s w o c = c
   after_all_under (i ∷ is) s w o c = after_all_under is _ _ o.2 (after_under i s w o.1 c)
