@@ -1,5 +1,5 @@
 -- Which instructions may stand in a window.
-use Rattle.std.specs.Prelude.{ℕ, ◌&&◌, nat_lt, Bool, true, false}
+use Rattle.std.specs.Prelude.{◌&&◌, nat_lt, Bool, true, false}
 use Rattle.thumb_instr.specs.declared.instr.Instr.{Instr}
 use Rattle.thumb_instr.specs.declared.instr.Instr.TheVariants.{Mov, Three, Two, Bx}
 

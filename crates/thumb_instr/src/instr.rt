@@ -21,7 +21,10 @@ pub enum Operation {
 #[derive(Clone, Copy, Debug, PartialEq, Eq)]
 pub enum Instr {
     /// `mov target, source` (MOV register, encoding T1)
-    Mov { target: Reg, source: Reg },
+    Mov {
+        target: Reg,
+        source: Reg,
+    },
     /// `adds target, left, right` (ADD register, encoding T1)
     Three {
         sum: Sum,
@@ -36,7 +39,9 @@ pub enum Instr {
         other: Low,
     },
     /// `bx source` (BX, encoding T1)
-    Bx { source: General },
+    Bx {
+        source: General,
+    },
 }
 
 /// Whether the instruction may stand in a window: it goes on to the next place, touches no memory, and names low registers alone.

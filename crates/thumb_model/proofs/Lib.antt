@@ -1,0 +1,14 @@
+pub mod Lists
+pub mod Small
+pub mod Simulation
+pub mod Tied
+pub mod Law
+pub mod Worlds
+pub mod Moved
+pub mod Points
+pub mod Window
+pub mod Follow
+pub mod Table
+pub mod LinesReplaced
+pub mod LinesKept
+pub mod Unique

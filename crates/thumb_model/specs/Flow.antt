@@ -1,10 +1,10 @@
 -- Ways through a listing, and the items that are live.
-use Rattle.std.specs.Prelude.{◌≡◌, ℕ, ◌+◌, Bool, true, false, List, [], ◌∷◌, Option, Some, None, slice_get}
+use Rattle.std.specs.Prelude.{◌≡◌, ℕ, ◌+◌, true, false, List, [], ◌∷◌, Option, Some, None, slice_get}
 use Rattle.thumb_instr.specs.declared.instr.Instr.{Instr}
 use Rattle.thumb_instr.specs.declared.instr.Instr.TheVariants.{Mov, Three, Two, Bx}
 use Rattle.thumb_model.specs.Items.{one_of, n_flag, z_flag, c_flag, v_flag}
 use Rattle.thumb_model.specs.Effect.{two_reads, two_writes}
-use Rattle.thumb_model.specs.Listing.{Mention, Place, Op, Word, Code, IsPoint}
+use Rattle.thumb_model.specs.Listing.{Place, Op, Word, Code, IsPoint}
 use Rattle.thumb_model.specs.Machine.{registers_left, aim_of}
 
 -- where a way leads: to the next place, to a place, to any code point, or out

@@ -1,8 +1,8 @@
 -- Where lines lie: addresses as sums of sizes and paddings, and the first line that cannot be laid out.
-use Rattle.std.specs.Prelude.{◌≡◌, ℕ, ◌+◌, ◌-◌, ◌*◌, ◌%◌, nat_le, Bool, List, [], ◌∷◌, length, Option, Some, None, ℤ, if◌then◌else◌}
+use Rattle.std.specs.Prelude.{◌≡◌, ℕ, ◌+◌, ◌-◌, ◌*◌, ◌%◌, nat_le, List, [], ◌∷◌, length, Option, Some, None, ℤ, if◌then◌else◌}
 use Rattle.thumb_instr.specs.declared.instr.Instr.{Instr}
 use Rattle.thumb_instr.specs.declared.instr.Instr.TheVariants.{Mov, Three, Two, Bx}
-use Rattle.thumb_model.specs.Listing.{Name, Mention, Statement, Nothing, Runs, Words, Aligns, Line}
+use Rattle.thumb_model.specs.Listing.{Mention, Statement, Nothing, Runs, Words, Aligns, Line}
 
 -- how many bytes an instruction has
 abbrev pub instr_size : Instr → ℕ

@@ -8,3 +8,4 @@ pub mod Same
 pub mod Rewrite
 pub mod Rewritten
 pub mod Image
+pub mod Laws

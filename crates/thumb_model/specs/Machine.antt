@@ -2,9 +2,9 @@
 use Rattle.std.specs.Prelude.{◌≡◌, ◌≢◌, ℕ, zero, suc, ◌+◌, ◌*◌, ◌/◌, ◌%◌, ◌^◌, ◌<◌, ◌==◌, ◌&&◌, not, Bool, true, false, nat_lt, nat_le, min, List, [], ◌∷◌, ◌++◌, Option, Some, None, slice_get, map, take, if◌then◌else◌}
 use Rattle.thumb_instr.specs.declared.instr.Instr.{Instr}
 use Rattle.thumb_instr.specs.declared.instr.Instr.TheVariants.{Mov, Three, Two, Bx}
-use Rattle.thumb_model.specs.Items.{Values, AreWords, assigned, lr, sp}
+use Rattle.thumb_model.specs.Items.{Values, AreWords, assigned, sp}
 use Rattle.thumb_model.specs.Effect.{outputs}
-use Rattle.thumb_model.specs.Listing.{Name, Mention, Value, Number, OfName, Place, Op, Word, Label, Code, is_code, place_of, has_label, is_mentioned, is_call, call_count}
+use Rattle.thumb_model.specs.Listing.{Name, Mention, Place, Op, Word, Label, Code, is_code, place_of, has_label, is_mentioned, is_call, call_count}
 
 -- ---- namings ----
 

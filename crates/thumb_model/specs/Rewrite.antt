@@ -1,12 +1,12 @@
 -- Entries, where they apply, and the places that they leave.
-use Rattle.std.specs.Prelude.{◌≡◌, ℕ, zero, suc, ◌+◌, ◌-◌, ◌<◌, ◌≤◌, ◌||◌, Bool, true, false, min, max, List, [], ◌∷◌, ◌++◌, length, take, drop, map, Option, Some, None, slice_get, unwrap_or, ◌⊎◌}
+use Rattle.std.specs.Prelude.{◌≡◌, ℕ, ◌+◌, ◌-◌, ◌<◌, ◌≤◌, ◌||◌, Bool, true, false, min, max, List, [], ◌∷◌, ◌++◌, length, take, drop, map, Option, Some, None, slice_get, unwrap_or, ◌⊎◌}
 use Rattle.thumb_instr.specs.declared.instr.Instr.{Instr}
 use Rattle.thumb_instr.specs.declared.instr.Instr.TheVariants.{Mov, Three, Two, Bx}
 use Rattle.thumb_instr.specs.declared.within.Within.{Within}
 use Rattle.thumb_instr.specs.Window.{is_in_window}
 use Rattle.thumb_model.specs.Items.{Values, AreWords, one_of}
 use Rattle.thumb_model.specs.Effect.{after_all}
-use Rattle.thumb_model.specs.Listing.{Place, plain, Label, Code, is_code}
+use Rattle.thumb_model.specs.Listing.{plain, Label, Code, is_code}
 use Rattle.thumb_model.specs.Flow.{LiveAfter}
 use Rattle.thumb_instr.proofs.Registers.{widened}
 

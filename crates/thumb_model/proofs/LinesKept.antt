@@ -1,0 +1,133 @@
+-- Rewriting lines: the runs stay, no entry applies any more, each replacement applied, and the lines can still be laid out.
+use Rattle.std.proofs.Common.{◌≡◌, ℕ, zero, suc, ◌+◌, ◌<◌, ◌≤◌, List, [], ◌∷◌, length, take, drop, map, Option, Some, refl, sym, ap, ◌∙◌, subst, ◌⊎◌, arith}
+use Rattle.std.specs.Prelude.{slice_get}
+use Rattle.thumb_instr.specs.declared.instr.Instr.{Instr}
+use Rattle.thumb_model.specs.Listing.{Place, Op, Word, plain, Label, Line, Code, places_of, labels_from, code_of}
+use Rattle.thumb_model.specs.Layout.{Layable}
+use Rattle.thumb_model.specs.Same.{Same}
+use Rattle.thumb_model.specs.Rewrite.{Rule, AreSound, Applies, renamed, replaced}
+use Rattle.thumb_model.specs.Rewritten.{Setting, Replacement, replaced_lines, lines_after_rule, lines_after, AppliesIn, NoneApplies, AreRewritten, AllApplied}
+use Rattle.thumb_model.proofs.Lists.{length_map}
+use Rattle.thumb_model.proofs.LinesReplaced.{AreOps, AllOutside, code_replaced, lines_fewer}
+use Rattle.thumb_model.proofs.Table.{window_length, one_keeps, fewer_places}
+use Rattle.thumb_model.proofs.Follow.{Keeps, keeps_refl, keeps_trans}
+
+ops_of : (is : List Instr) (n : ℕ) (ps : List Place) → n ≡ length is → take n ps ≡ map plain is → AreOps n ps
+ops_of [] zero ps e h = tt
+ops_of (i ∷ is) zero ps e h = absurd (omega arith)
+ops_of [] (suc n) ps e h = absurd (omega arith)
+ops_of (i ∷ is) (suc n) [] e h = absurd (cc)
+ops_of (i ∷ is) (suc n) (Op j mention ∷ ps) e h = ops_of is n ps (omega arith) (cc)
+ops_of (i ∷ is) (suc n) (Word w ∷ ps) e h = absurd (cc)
+
+outside_of : (p count : ℕ) (ls : List Label) → ((k : ℕ) (l : Label) → slice_get ls k ≡ Some l → (l.place ≤ p) ⊎ (p + count ≤ l.place)) → AllOutside p count ls
+outside_of p count [] h = tt
+outside_of p count (l ∷ ls) h = (h 0 l refl, outside_of p count ls (λ k m e. h (suc k) m e))
+
+before : (n : ℕ) → 0 < n → (m : ℕ) × (n ≡ suc m)
+before zero h = absurd (omega arith)
+before (suc m) h = (m, refl)
+
+-- a rule applies to lines whose instructions from the place on it takes, and whose labels stand outside
+pub record IsLineWindow (rule : Rule) (r : Replacement) (ls : List Line) : Type 0 where
+  pub last : ℕ
+  pub as_many : length rule.left ≡ suc last
+  pub ops : AreOps (suc last) (drop r.place (places_of ls))
+  pub outside : AllOutside r.place (suc last) (labels_from 0 ls)
+
+line_window : (rule : Rule) (r : Replacement) (ls : List Line) → Applies rule r.registers (code_of ls) r.place → IsLineWindow rule r ls
+line_window rule r ls a =
+    let shorter = a.shorter in
+    let n = before (length rule.left) (omega arith) in
+    let e : length rule.left ≡ suc n.0 = n.1 in
+    let k : length a.window ≡ length rule.left = window_length rule r.registers (code_of ls) r.place a in
+    record {
+      last = n.0;
+      as_many = e;
+      ops = ops_of a.window (suc n.0) _ (omega arith) (ap (λ c. take c (drop r.place (places_of ls))) (sym e) ∙ a.stands);
+      outside = outside_of r.place (suc n.0) (labels_from 0 ls) (subst (λ c. (k : ℕ) (l : Label) → slice_get (labels_from 0 ls) k ≡ Some l → (l.place ≤ r.place) ⊎ (r.place + c ≤ l.place)) e a.unlabelled);
+    }
+
+-- where an entry applies, replacing the lines replaces their places and labels
+pub code_of_replaced : (s : Setting) (rule : Rule) (r : Replacement) (ls : List Line) → Applies rule r.registers (code_of ls) r.place → code_of (lines_after_rule s (Some rule) r ls) ≡ replaced (code_of ls) r.place (length rule.left) (map (renamed r.registers) rule.right)
+code_of_replaced s rule r ls a =
+    let is : List Instr = map (renamed r.registers) rule.right in
+    let m = length_map (renamed r.registers) rule.right in
+    let shorter = a.shorter in
+    let w = line_window rule r ls a in
+    let e = w.as_many in
+    ap (λ c. code_of (replaced_lines s.write r.place c is ls)) e
+    ∙ code_replaced s.write r.place w.last is ls (omega arith) w.ops w.outside
+    ∙ ap (λ c. replaced (code_of ls) r.place c is) (sym e)
+
+-- and leaves no more lines
+fewer_lines_by : (s : Setting) (rule : Rule) (r : Replacement) (ls : List Line) → Applies rule r.registers (code_of ls) r.place → length (lines_after_rule s (Some rule) r ls) ≤ length ls
+fewer_lines_by s rule r ls a =
+    let is : List Instr = map (renamed r.registers) rule.right in
+    let m = length_map (renamed r.registers) rule.right in
+    let shorter = a.shorter in
+    let w = line_window rule r ls a in
+    let e = w.as_many in
+    subst (λ c. length (replaced_lines s.write r.place c is ls) ≤ length ls) (sym e) (lines_fewer s.write w.last is ls r.place (omega arith) w.ops)
+
+-- the code after a replacement
+pub code_of_after : (s : Setting) (r : Replacement) (ls : List Line) (a : AppliesIn s r ls) → code_of (lines_after s r ls) ≡ replaced (code_of ls) r.place (length a.rule.left) (map (renamed r.registers) a.rule.right)
+code_of_after s r ls a = ap (λ o. code_of (lines_after_rule s o r ls)) a.is_rule ∙ code_of_replaced s a.rule r ls a.applies
+
+-- one replacement keeps the runs
+pub one_line_keeps : (s : Setting) (r : Replacement) (ls : List Line) → AreSound s.table → AppliesIn s r ls → Keeps (code_of ls) (code_of (lines_after s r ls))
+one_line_keeps s r ls sound a = subst (Keeps (code_of ls)) (sym (code_of_after s r ls a)) (one_keeps a.rule r.registers (code_of ls) r.place (sound r.entry a.rule a.is_rule) a.applies)
+
+-- so do all
+pub lines_keep : (s : Setting) (ls : List Line) (rs : List Replacement) (new : List Line) → AreSound s.table → AreRewritten s ls rs new → Keeps (code_of ls) (code_of new)
+lines_keep s ls [] new sound h = subst (λ (l : List Line). Keeps (code_of ls) (code_of l)) (sym h.1) (keeps_refl (code_of ls))
+lines_keep s ls (r ∷ rs) new sound h =
+    keeps_trans (code_of ls) (code_of (lines_after s r ls)) (code_of new) (one_line_keeps s r ls sound h.0.applies) (lines_keep s (lines_after s r ls) rs new sound h.1)
+
+-- the lines that are left run the same
+pub lines_same : (s : Setting) (ls : List Line) (rs : List Replacement) (new : List Line) → AreSound s.table → AreRewritten s ls rs new → Same (code_of ls) (code_of new)
+lines_same s ls rs new sound h = (lines_keep s ls rs new sound h).same
+
+-- no entry applies any more
+pub none_left : (s : Setting) (ls : List Line) (rs : List Replacement) (new : List Line) → AreRewritten s ls rs new → NoneApplies s new
+none_left s ls [] new h = subst (NoneApplies s) (sym h.1) h.0
+none_left s ls (r ∷ rs) new h = none_left s (lines_after s r ls) rs new h.1
+
+-- each replacement applied in the lines as they then were
+pub all_applied : (s : Setting) (ls : List Line) (rs : List Replacement) (new : List Line) → AreRewritten s ls rs new → AllApplied s ls rs
+all_applied s ls [] new h = tt
+all_applied s ls (r ∷ rs) new h = (h.0.applies, all_applied s (lines_after s r ls) rs new h.1)
+
+-- the lines that are left can be laid out, where the given lines can
+pub still_layable : (s : Setting) (ls : List Line) (rs : List Replacement) (new : List Line) → Layable s.base ls → AreRewritten s ls rs new → Layable s.base new
+still_layable s ls [] new l h = subst (Layable s.base) (sym h.1) l
+still_layable s ls (r ∷ rs) new l h =
+    let a = h.0.applies in
+    still_layable s (lines_after s r ls) rs new (subst (λ (o : Option Rule). Layable s.base (lines_after_rule s o r ls)) (sym a.is_rule) a.layable) h.1
+
+-- each replacement leaves at least one place less
+pub fewer_after : (s : Setting) (r : Replacement) (ls : List Line) → AppliesIn s r ls → length (places_of (lines_after s r ls)) < length (places_of ls)
+fewer_after s r ls a =
+    let e = ap (λ (c : Code). length c.places) (code_of_after s r ls a) in
+    let f = fewer_places a.rule r.registers (code_of ls) r.place a.applies in
+    subst (λ n. n < length (places_of ls)) (sym e) f
+
+-- so there are no more replacements than places that went
+pub places_gone : (s : Setting) (ls : List Line) (rs : List Replacement) (new : List Line) → AreRewritten s ls rs new → length (places_of new) + length rs ≤ length (places_of ls)
+places_gone s ls [] new h = let e : length (places_of new) ≡ length (places_of ls) = ap (λ (l : List Line). length (places_of l)) h.1 in omega arith
+places_gone s ls (r ∷ rs) new h =
+    let one = fewer_after s r ls h.0.applies in
+    let rest = places_gone s (lines_after s r ls) rs new h.1 in
+    omega arith
+
+-- a replacement leaves no more lines
+pub fewer_lines : (s : Setting) (r : Replacement) (ls : List Line) → AppliesIn s r ls → length (lines_after s r ls) ≤ length ls
+fewer_lines s r ls a = subst (λ (o : Option Rule). length (lines_after_rule s o r ls) ≤ length ls) (sym a.is_rule) (fewer_lines_by s a.rule r ls a.applies)
+
+-- rewriting leaves no more lines
+pub no_more_lines : (s : Setting) (ls : List Line) (rs : List Replacement) (new : List Line) → AreRewritten s ls rs new → length new ≤ length ls
+no_more_lines s ls [] new h = let e : length new ≡ length ls = ap (λ (l : List Line). length l) h.1 in omega arith
+no_more_lines s ls (r ∷ rs) new h =
+    let one = fewer_lines s r ls h.0.applies in
+    let rest = no_more_lines s (lines_after s r ls) rs new h.1 in
+    omega arith

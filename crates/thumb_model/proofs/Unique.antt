@@ -1,0 +1,129 @@
+-- What rewriting leaves is determined.
+use Rattle.std.proofs.Common.{◌≡◌, ℕ, zero, suc, ◌<◌, ◌==◌, ◌||◌, true, false, List, [], ◌∷◌, length, map, Option, Some, refl, sym, ap, ◌∙◌, subst, arith, eqb-true}
+use Rattle.std.specs.Prelude.{slice_get}
+use Rattle.thumb_instr.specs.declared.instr.Instr.{Instr}
+use Rattle.thumb_instr.specs.declared.instr.Instr.TheVariants.{Mov, Three, Two, Bx}
+use Rattle.thumb_instr.specs.Window.{is_in_window}
+use Rattle.thumb_instr.proofs.Registers.{low_is}
+use Rattle.thumb_model.specs.Items.{one_of}
+use Rattle.thumb_model.specs.Listing.{plain, Line, Code, code_of}
+use Rattle.thumb_model.specs.Rewrite.{Low, Reg, Rule, IsSoundRule, AreSound, AreOver, named, renamed, low_under, reg_under, number_or, item_under, is_named, normalised, Applies}
+use Rattle.thumb_model.specs.Rewritten.{Setting, Replacement, IsFirst, lines_after, AreRewritten, IsDetermined}
+use Rattle.thumb_model.proofs.Window.{low_number, reg_number}
+
+-- two maps give each of these items the same
+abbrev AgreeOnAll : List Low → List Low → List ℕ → Type 0
+AgreeOnAll f g [] = Unit {0}
+AgreeOnAll f g (x ∷ xs) = (item_under f x ≡ item_under g x) × AgreeOnAll f g xs
+
+agree_in : (f g : List Low) (xs : List ℕ) (x : ℕ) → AgreeOnAll f g xs → one_of x xs ≡ true → item_under f x ≡ item_under g x
+agree_in f g [] x a h = absurd (cc)
+agree_in f g (y ∷ xs) x a h =
+    elim (x == y) as (λ t. (x == y) ≡ t → (t || one_of x xs) ≡ true → item_under f x ≡ item_under g x) [
+      | true ↦ λ e _. subst (λ z. item_under f z ≡ item_under g z) (sym (eqb-true x y e)) a.0
+      | false ↦ λ e k. agree_in f g xs x a.1 k
+    ] refl h
+
+low_tells : (f g : List Low) (d : Low) → low_under f d ≡ low_under g d → item_under f d.number ≡ item_under g d.number
+low_tells f g d e = sym (low_number f d) ∙ ap (λ (r : Low). r.number) e ∙ low_number g d
+
+reg_tells : (f g : List Low) (d : Reg) → reg_under f d ≡ reg_under g d → item_under f d.number ≡ item_under g d.number
+reg_tells f g d e = sym (reg_number f d) ∙ ap (λ (r : Reg). r.number) e ∙ reg_number g d
+
+-- a row: a renamed instruction tells what its registers became
+renamed_tells : (f g : List Low) (i : Instr) → is_in_window i ≡ true → renamed f i ≡ renamed g i → AgreeOnAll f g (named i)
+renamed_tells f g (Mov d m) w e = (reg_tells f g d (cc), (reg_tells f g m (cc), tt))
+renamed_tells f g (Three s d n m) w e = (low_tells f g d (cc), (low_tells f g n (cc), (low_tells f g m (cc), tt)))
+renamed_tells f g (Two o d m) w e = (low_tells f g d (cc), (low_tells f g m (cc), tt))
+renamed_tells f g (Bx m) w e = absurd (cc)
+
+all_tell : (f g : List Low) (k : ℕ) (is : List Instr) (x : ℕ) → AreOver k is → map (renamed f) is ≡ map (renamed g) is → is_named x is ≡ true → item_under f x ≡ item_under g x
+all_tell f g k [] x o e h = absurd (cc)
+all_tell f g k (i ∷ is) x o e h =
+    let here : renamed f i ≡ renamed g i = cc in
+    let there : map (renamed f) is ≡ map (renamed g) is = cc in
+    elim (one_of x (named i)) as (λ t. one_of x (named i) ≡ t → (t || is_named x is) ≡ true → item_under f x ≡ item_under g x) [
+      | true ↦ λ s _. agree_in f g (named i) x (renamed_tells f g i o.0 here) s
+      | false ↦ λ s j. all_tell f g k is x o.2 there j
+    ] refl h
+
+some_at : (xs : List Low) (k : ℕ) → k < length xs → (x : Low) × (slice_get xs k ≡ Some x)
+some_at [] k h = absurd (omega arith)
+some_at (x ∷ xs) zero h = (x, refl)
+some_at (x ∷ xs) (suc k) h = some_at xs k (omega arith)
+
+same_list : (xs ys : List Low) → length xs ≡ length ys → ((k : ℕ) → k < length xs → slice_get xs k ≡ slice_get ys k) → xs ≡ ys
+same_list [] [] e h = refl
+same_list [] (y ∷ ys) e h = absurd (omega arith)
+same_list (x ∷ xs) [] e h = absurd (omega arith)
+same_list (x ∷ xs) (y ∷ ys) e h =
+    let head : x ≡ y = some_same x y (h 0 (omega arith)) in
+    cons_same x y xs ys head (same_list xs ys (omega arith) (λ k l. h (suc k) (omega arith)))
+  where
+    some_same : (a b : Low) → (let o : Option Low = Some a in o) ≡ Some b → a ≡ b
+    some_same a b e = cc
+
+    cons_same : (a b : Low) (l m : List Low) → a ≡ b → l ≡ m → (let n : List Low = a ∷ l in n) ≡ b ∷ m
+    cons_same a b l m e f = cc
+
+plain_same : (is js : List Instr) → map plain is ≡ map plain js → is ≡ js
+plain_same [] [] e = refl
+plain_same [] (j ∷ js) e = absurd (cc)
+plain_same (i ∷ is) [] e = absurd (cc)
+plain_same (i ∷ is) (j ∷ js) e =
+    let here : i ≡ j = cc in
+    let there : map plain is ≡ map plain js = cc in
+    cons_same i j is js here (plain_same is js there)
+  where
+    cons_same : (a b : Instr) (l m : List Instr) → a ≡ b → l ≡ m → (let n : List Instr = a ∷ l in n) ≡ b ∷ m
+    cons_same a b l m e f = cc
+
+-- an entry applies at a place under one map at most
+pub same_registers : (rule : Rule) (xs ys : List Low) (code : Code) (p : ℕ) → IsSoundRule rule → Applies rule xs code p → Applies rule ys code p → xs ≡ ys
+same_registers rule xs ys code p s a b =
+    let m = a.as_many in
+    let n = b.as_many in
+    let window : a.window ≡ b.window = plain_same a.window b.window (sym a.stands ∙ b.stands) in
+    let sides : map (renamed xs) rule.left ≡ map (renamed ys) rule.left = sym a.matches ∙ ap (map normalised) window ∙ b.matches in
+    same_list xs ys (omega arith) (λ k l.
+    let t = all_tell xs ys rule.count rule.left k s.left sides (s.all_named k (omega arith)) in
+    let x = some_at xs k l in
+    let y = some_at ys k (omega arith) in
+    let ex : item_under xs k ≡ x.0.number = ap (λ o. number_or o k) x.1 in
+    let ey : item_under ys k ≡ y.0.number = ap (λ o. number_or o k) y.1 in
+    x.1 ∙ ap Some (low_is x.0 y.0 (sym ex ∙ t ∙ ey)) ∙ sym y.1)
+
+-- one replacement comes first at most
+pub first_same : (s : Setting) (ls : List Line) (r o : Replacement) → AreSound s.table → IsFirst s r ls → IsFirst s o ls → r ≡ o
+first_same s ls r o sound f g =
+    let p1 = f.least_place o g.applies in
+    let p2 = g.least_place r f.applies in
+    let place : r.place ≡ o.place = omega arith in
+    let l1 = f.longest o g.applies (sym place) in
+    let l2 = g.longest r f.applies place in
+    let e1 = f.lowest o g.applies (sym place) (omega arith) in
+    let e2 = g.lowest r f.applies place (omega arith) in
+    let entry : r.entry ≡ o.entry = omega arith in
+    let rule : f.applies.rule ≡ g.applies.rule = some_rule _ _ (sym f.applies.is_rule ∙ ap (slice_get s.table) entry ∙ g.applies.is_rule) in
+    let here : Applies f.applies.rule o.registers (code_of ls) r.place = subst (λ n. Applies f.applies.rule o.registers (code_of ls) n) (sym place) (subst (λ (k : Rule). Applies k o.registers (code_of ls) o.place) (sym rule) g.applies.applies) in
+    let registers = same_registers f.applies.rule r.registers o.registers (code_of ls) r.place (sound r.entry f.applies.rule f.applies.is_rule) f.applies.applies here in
+    same r o place entry registers
+  where
+    some_rule : (a b : Rule) → (let x : Option Rule = Some a in x) ≡ Some b → a ≡ b
+    some_rule a b e = cc
+
+    same : (r s : Replacement) → r.place ≡ s.place → r.entry ≡ s.entry → r.registers ≡ s.registers → r ≡ s
+    same r s a b c = λ i. record { place = a i; entry = b i; registers = c i }
+
+-- the replacements and the lines are determined
+pub is_determined : IsDetermined
+is_determined s ls sound [] [] new other a b = (refl, a.1 ∙ sym b.1)
+is_determined s ls sound [] (o ∷ os) new other a b = absurd (a.0 o b.0.applies)
+is_determined s ls sound (r ∷ rs) [] new other a b = absurd (b.0 r a.0.applies)
+is_determined s ls sound (r ∷ rs) (o ∷ os) new other a b =
+    let here : r ≡ o = first_same s ls r o sound a.0 b.0 in
+    let rest = is_determined s (lines_after s r ls) sound rs os new other a.1 (subst (λ t. AreRewritten s (lines_after s t ls) os other) (sym here) b.1) in
+    (cons_same r o rs os here rest.0, rest.1)
+  where
+    cons_same : (a b : Replacement) (l m : List Replacement) → a ≡ b → l ≡ m → (let n : List Replacement = a ∷ l in n) ≡ b ∷ m
+    cons_same a b l m e f = cc

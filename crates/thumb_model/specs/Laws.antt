@@ -1,0 +1,37 @@
+-- What holds of runs, of live items and of rewriting.
+use Rattle.std.specs.Prelude.{ℕ, ◌+◌, ◌<◌, ◌≤◌, List, length}
+use Rattle.thumb_model.specs.Listing.{Line, Code, places_of, code_of}
+use Rattle.thumb_model.specs.Layout.{Layable}
+use Rattle.thumb_model.specs.Machine.{Naming, Fits, State, IsWorld, step}
+use Rattle.thumb_model.specs.Flow.{LiveAfter}
+use Rattle.thumb_model.specs.Same.{Same}
+use Rattle.thumb_model.specs.Rewrite.{AreSound}
+use Rattle.thumb_model.specs.Rewritten.{Setting, Replacement, lines_after, AppliesIn, NoneApplies, AreRewritten, AllApplied}
+
+-- a step leaves each number in its range
+abbrev pub StepsKeepWorlds : Type 0
+StepsKeepWorlds = (names : Naming) (code : Code) → Fits names code → (s : State) → IsWorld s.world → IsWorld (step names code s).world
+
+-- only the nineteen items are live
+abbrev pub OnlyItemsAreLive : Type 0
+OnlyItemsAreLive = (code : Code) (p x : ℕ) → LiveAfter code p x → x < 19
+
+-- one replacement by a sound table keeps the runs
+abbrev pub ReplacingKeepsRuns : Type 0
+ReplacingKeepsRuns = (s : Setting) (r : Replacement) (ls : List Line) → AreSound s.table → AppliesIn s r ls → Same (code_of ls) (code_of (lines_after s r ls))
+
+-- so does rewriting
+abbrev pub RewritingKeepsRuns : Type 0
+RewritingKeepsRuns = (s : Setting) (ls : List Line) (rs : List Replacement) (new : List Line) → AreSound s.table → AreRewritten s ls rs new → Same (code_of ls) (code_of new)
+
+-- each replacement applied in the lines as they then were, and none applies in those that are left
+abbrev pub RewritingIsComplete : Type 0
+RewritingIsComplete = (s : Setting) (ls : List Line) (rs : List Replacement) (new : List Line) → AreRewritten s ls rs new → AllApplied s ls rs × NoneApplies s new
+
+-- lines that can be laid out stay so
+abbrev pub RewritingStaysLayable : Type 0
+RewritingStaysLayable = (s : Setting) (ls : List Line) (rs : List Replacement) (new : List Line) → Layable s.base ls → AreRewritten s ls rs new → Layable s.base new
+
+-- each replacement takes a place away, and there are no more lines
+abbrev pub RewritingShortens : Type 0
+RewritingShortens = (s : Setting) (ls : List Line) (rs : List Replacement) (new : List Line) → AreRewritten s ls rs new → (length (places_of new) + length rs ≤ length (places_of ls)) × (length new ≤ length ls)

@@ -1,0 +1,44 @@
+//! The laws of runs and of rewriting. Each is the contract of a function that does nothing.
+
+ghost use Rattle.thumb_model.specs.Laws.{StepsKeepWorlds, OnlyItemsAreLive, ReplacingKeepsRuns, RewritingKeepsRuns, RewritingIsComplete, RewritingStaysLayable, RewritingShortens};
+ghost use Rattle.thumb_model.specs.Rewritten.{IsDetermined};
+
+/// A step leaves each number in its range, under a naming that fits.
+pub fn steps_keep_worlds()
+    ensures { StepsKeepWorlds }
+{}
+
+/// Only the nineteen items are live.
+pub fn only_items_are_live()
+    ensures { OnlyItemsAreLive }
+{}
+
+/// One replacement by a table of entries with equal sides keeps the runs.
+pub fn replacing_keeps_runs()
+    ensures { ReplacingKeepsRuns }
+{}
+
+/// Rewriting by a table of entries with equal sides keeps the runs.
+pub fn rewriting_keeps_runs()
+    ensures { RewritingKeepsRuns }
+{}
+
+/// Each replacement applied in the lines as they then were, and none applies in those that are left.
+pub fn rewriting_is_complete()
+    ensures { RewritingIsComplete }
+{}
+
+/// The replacements and the lines that are left are determined.
+pub fn rewriting_is_determined()
+    ensures { IsDetermined }
+{}
+
+/// Lines that can be laid out stay so.
+pub fn rewriting_stays_layable()
+    ensures { RewritingStaysLayable }
+{}
+
+/// Each replacement takes a place away, and there are no more lines.
+pub fn rewriting_shortens()
+    ensures { RewritingShortens }
+{}
