@@ -1,1 +1,4 @@
 pub mod Assembled
+pub mod MovesLines
+pub mod MovesRule
+pub mod MovesPass

@@ -3,3 +3,4 @@
 
 mod assembling;
 mod listing;
+mod moves;

@@ -1,0 +1,97 @@
+ghost use Rattle.std.specs.Prelude.{◌≡◌, List, ℕ, length, map, IfOk, IfSome, IfNone};
+ghost use Rattle.thumb_instr.specs.declared.instr.Instr.{Instr};
+ghost use Rattle.thumb_model.specs.Listing.{places_of};
+ghost use Rattle.thumb_model.specs.Rewrite.{Low};
+ghost use Rattle.thumb_model.specs.Rewritten.{AreRewritten};
+ghost use Rattle.audit_cli.specs.Moves.{self_move, first_setting, used_view};
+ghost use Rattle.audit_cli.specs.Views.{line_view};
+
+use crate::listing::{Content, Line};
+use std::alloc::{AllocError, Global};
+use thumb_instr::{Instr, Low};
+
+/// An entry was used at a place, with one register in place of its own.
+#[derive(Clone, Copy, Debug)]
+pub struct Used {
+    /// The place, counted in instructions from 0.
+    pub place: usize,
+    /// The entry, counted from 0.
+    pub entry: usize,
+    /// What the entry's one register stands for.
+    pub register: Low,
+}
+
+/// Rewritten lines, and each use of an entry, in order.
+#[derive(Drop)]
+pub struct Rewritten {
+    pub lines: Vec<Line>,
+    pub used: Vec<Used>,
+}
+
+/// Rewrites straight lines by a table of so many entries that each drop a move of a register to itself, in one pass.
+///
+/// # Errors
+///
+/// Only where memory runs out.
+pub fn drop_moves(alloc: Global, entries: usize, lines: Vec<Line>) -> Result<Rewritten, AllocError>
+    ensures { IfOk result (λ new. (write : Instr → List ℕ) → AreRewritten (first_setting write entries) (map line_view lines.items) (map used_view new.used.items) (map line_view new.lines.items)) }
+{
+    let mut used = Vec::new(alloc);
+    if entries == 0 {
+        return Ok(Rewritten { lines, used });
+    }
+    // the instructions in the lines that were not looked at yet
+    let mut following = count_instructions(&lines);
+    let mut kept = Vec::new(alloc);
+    // the instructions that were kept, and whether a label stands behind them
+    let mut place = 0;
+    let mut is_labelled = false;
+    for line in lines {
+        match line.content {
+            Content::Empty => {}
+            Content::Label(_) => is_labelled = true,
+            Content::Runs(instr) => {
+                following -= 1;
+                if let Some(register) = moved_register(&instr) {
+                    // a label that stands here needs an instruction
+                    if following > 0 || !is_labelled {
+                        used.push(Used {
+                            place,
+                            entry: 0,
+                            register,
+                        })?;
+                        continue;
+                    }
+                }
+                place += 1;
+                is_labelled = false;
+            }
+        }
+        kept.push(line)?;
+    }
+    Ok(Rewritten { lines: kept, used })
+}
+
+/// How many lines hold an instruction.
+fn count_instructions(lines: &[Line]) -> usize
+    ensures { result ≡ length (places_of (map line_view lines.now)) }
+{
+    let mut count = 0;
+    for line in lines {
+        if let Content::Runs(_) = line.content {
+            count += 1;
+        }
+    }
+    count
+}
+
+/// The low register that an instruction moves to itself, if it is such a move.
+fn moved_register(instr: &Instr) -> Option<Low>
+    ensures some { IfSome result (λ d. instr.now ≡ self_move d) }
+    ensures none { IfNone result ((d : Low) → instr.now ≡ self_move d → ⊥) }
+{
+    match *instr {
+        Instr::Mov { target, source } if target.number == source.number => Low::new(target.number),
+        _ => None,
+    }
+}
