@@ -82,46 +82,46 @@ droppable_in_front ks ls i text q d h f =
 -- ---- replacements ----
 
 -- an entry of the table applies where a move can go
-droppable_where_applies : (write : Instr → List ℕ) (entries : ℕ) (o : Replacement) (ls : List ListingLine) → AreInstructions (places_of ls) → AppliesIn (first_setting write entries) o ls → (d : Low) × IsDroppable (code_of ls) o.place d
-droppable_where_applies write entries o ls a f =
+droppable_where_applies : (write : Instr → List ℕ) (base : ℕ) (entries : ℕ) (o : Replacement) (ls : List ListingLine) → AreInstructions (places_of ls) → AppliesIn (first_setting write base entries) o ls → (d : Low) × IsDroppable (code_of ls) o.place d
+droppable_where_applies write base entries o ls a f =
     IsDroppable-from_applies (code_of ls) o.place o.registers a
     (subst (λ (r : Rule). Applies r o.registers (code_of ls) o.place) (moves_only entries o.entry f.rule f.is_rule) f.applies)
 
-left_length_there : (write : Instr → List ℕ) (entries : ℕ) (o : Replacement) (ls : List ListingLine) → AppliesIn (first_setting write entries) o ls → left_length (moves_table entries) o.entry ≡ 1
-left_length_there write entries o ls f = ap left_length_of f.is_rule ∙ ap (λ (r : Rule). length r.left) (moves_only entries o.entry f.rule f.is_rule)
+left_length_there : (write : Instr → List ℕ) (base : ℕ) (entries : ℕ) (o : Replacement) (ls : List ListingLine) → AppliesIn (first_setting write base entries) o ls → left_length (moves_table entries) o.entry ≡ 1
+left_length_there write base entries o ls f = ap left_length_of f.is_rule ∙ ap (λ (r : Rule). length r.left) (moves_only entries o.entry f.rule f.is_rule)
 
 abbrev drop_at : ℕ → Low → Replacement
 drop_at p d = record { place = p; entry = 0; registers = d ∷ [] }
 
-first_there : (write : Instr → List ℕ) (entries p : ℕ) (d : Low) (ls : List ListingLine) → 0 < entries → AreInstructions (places_of ls) → IsDroppable (code_of ls) p d → ((q : ℕ) (e : Low) → q < p → IsDroppable (code_of ls) q e → ⊥) → IsFirst (first_setting write entries) (drop_at p d) ls
-first_there write entries p d ls some a f settled =
-    let applies : AppliesIn (first_setting write entries) (drop_at p d) ls = record {
+first_there : (write : Instr → List ℕ) (base : ℕ) (entries p : ℕ) (d : Low) (ls : List ListingLine) → 0 < entries → AreInstructions (places_of ls) → IsDroppable (code_of ls) p d → ((q : ℕ) (e : Low) → q < p → IsDroppable (code_of ls) q e → ⊥) → IsFirst (first_setting write base entries) (drop_at p d) ls
+first_there write base entries p d ls some a f settled =
+    let applies : AppliesIn (first_setting write base entries) (drop_at p d) ls = record {
       rule = move_rule;
       is_rule = first_move entries some;
       applies = Applies-from_droppable (code_of ls) p d a f;
       joined = joined_alone p ls;
-      layable = laid_out 0 (lines_after_rule (first_setting write entries) (Some move_rule) (drop_at p d) ls);
+      layable = laid_out base (lines_after_rule (first_setting write base entries) (Some move_rule) (drop_at p d) ls);
     } in
     record {
       applies = applies;
       least_place = λ o g.
-          let there = droppable_where_applies write entries o ls a g in
+          let there = droppable_where_applies write base entries o ls a g in
           elim (cases_lt o.place p) [
             | inl l ↦ absurd (settled o.place there.0 l there.1)
             | inr g ↦ g
           ];
-      longest = λ o g e. let x = left_length_there write entries o ls g in let y = left_length_there write entries (drop_at p d) ls applies in omega arith;
+      longest = λ o g e. let x = left_length_there write base entries o ls g in let y = left_length_there write base entries (drop_at p d) ls applies in omega arith;
       lowest = λ o g e x. omega arith;
     }
 
-lines_after_drop : (write : Instr → List ℕ) (entries : ℕ) (d : Low) (ks ls : List ListingLine) (i : Instr) (text : List ℕ) → 0 < entries → lines_after (first_setting write entries) (drop_at (length (places_of ks)) d) (ks ++ alone i text ∷ ls) ≡ ks ++ ls
-lines_after_drop write entries d ks ls i text some =
-    ap (λ o. lines_after_rule (first_setting write entries) o (drop_at (length (places_of ks)) d) (ks ++ alone i text ∷ ls)) (first_move entries some)
+lines_after_drop : (write : Instr → List ℕ) (base : ℕ) (entries : ℕ) (d : Low) (ks ls : List ListingLine) (i : Instr) (text : List ℕ) → 0 < entries → lines_after (first_setting write base entries) (drop_at (length (places_of ks)) d) (ks ++ alone i text ∷ ls) ≡ ks ++ ls
+lines_after_drop write base entries d ks ls i text some =
+    ap (λ o. lines_after_rule (first_setting write base entries) o (drop_at (length (places_of ks)) d) (ks ++ alone i text ∷ ls)) (first_move entries some)
     ∙ replaced_alone write ks i text ls
 
 -- a table without entries
-pub nothing_applies : (write : Instr → List ℕ) (ls : List ListingLine) → AreRewritten (first_setting write 0) ls [] ls
-nothing_applies write ls = ((λ o f. let e = f.is_rule in absurd (cc)), refl)
+pub nothing_applies : (write : Instr → List ℕ) (base : ℕ) (ls : List ListingLine) → AreRewritten (first_setting write base 0) ls [] ls
+nothing_applies write base ls = ((λ o f. let e = f.is_rule in absurd (cc)), refl)
 
 -- ---- the pass ----
 
@@ -149,8 +149,8 @@ pub record IsPassing (kept rest : List Line) (place following : ℕ) (labelled :
 -- what completes the replacements from here completes them from the start
 abbrev pub Completes : ℕ → List Line → List Used → List Line → Type 0
 Completes entries start used lines =
-    (write : Instr → List ℕ) (rs : List Replacement) (new : List ListingLine) →
-    AreRewritten (first_setting write entries) (map line_view lines) rs new → AreRewritten (first_setting write entries) (map line_view start) (map used_view used ++ rs) new
+    (write : Instr → List ℕ) (base : ℕ) (rs : List Replacement) (new : List ListingLine) →
+    AreRewritten (first_setting write base entries) (map line_view lines) rs new → AreRewritten (first_setting write base entries) (map line_view start) (map used_view used ++ rs) new
 
 places_few : (ls : List Line) → length (places_viewed ls) ≤ length ls
 places_few [] = omega arith
@@ -260,29 +260,29 @@ passing_drop kept rest l i place following following' labelled e less p =
     }
 
 Completes-drop : (entries : ℕ) (start kept rest : List Line) (l : Line) (used : List Used) (d : Low) (place following following' : ℕ) (labelled : Bool) → 0 < entries → l.content ≡ Runs (self_move d) → following' ≡ following - 1 → (0 < following') ⊎ (labelled ≡ false) → IsPassing kept (l ∷ rest) place following labelled → Completes entries start used (kept ++ l ∷ rest) → Completes entries start (used ++ record { place = place; entry = 0; register = d } ∷ []) (kept ++ rest)
-Completes-drop entries start kept rest l used d place following following' labelled some e less either p completes write rs new c =
+Completes-drop entries start kept rest l used d place following following' labelled some e less either p completes write base rs new c =
     let ks = map line_view kept in
     let u : Used = record { place = place; entry = 0; register = d } in
-    let s = first_setting write entries in
+    let s = first_setting write base entries in
     let p' = passing_drop kept rest l (self_move d) place following following' labelled e less p in
     let before : map line_view (kept ++ l ∷ rest) ≡ ks ++ alone (self_move d) l.text.items ∷ map line_view rest = map-append line_view kept (l ∷ rest) ∙ ap (λ c. ks ++ line_with c l.text.items ∷ map line_view rest) e in
     let droppable : IsDroppable (code_of (ks ++ alone (self_move d) l.text.items ∷ map line_view rest)) (length (places_viewed kept)) d = droppable_there ks (map line_view rest) d l.text.items (elim either [ inl h ↦ inr (let g = p'.following_is in omega arith) | inr h ↦ inl (sym p.labelled_is ∙ h) ]) in
-    let first : IsFirst s (drop_at (length (places_viewed kept)) d) (map line_view (kept ++ l ∷ rest)) = first_there write entries (length (places_viewed kept)) d (map line_view (kept ++ l ∷ rest)) some (viewed_instructions (kept ++ l ∷ rest)) (subst (λ x. IsDroppable (code_of x) (length (places_viewed kept)) d) (sym before) droppable) (λ q f h g. p.settled q f h g) in
-    let after : lines_after s (drop_at (length (places_viewed kept)) d) (map line_view (kept ++ l ∷ rest)) ≡ map line_view (kept ++ rest) = ap (lines_after s (drop_at (length (places_viewed kept)) d)) before ∙ lines_after_drop write entries d ks (map line_view rest) (self_move d) l.text.items some ∙ sym (map-append line_view kept rest) in
+    let first : IsFirst s (drop_at (length (places_viewed kept)) d) (map line_view (kept ++ l ∷ rest)) = first_there write base entries (length (places_viewed kept)) d (map line_view (kept ++ l ∷ rest)) some (viewed_instructions (kept ++ l ∷ rest)) (subst (λ x. IsDroppable (code_of x) (length (places_viewed kept)) d) (sym before) droppable) (λ q f h g. p.settled q f h g) in
+    let after : lines_after s (drop_at (length (places_viewed kept)) d) (map line_view (kept ++ l ∷ rest)) ≡ map line_view (kept ++ rest) = ap (lines_after s (drop_at (length (places_viewed kept)) d)) before ∙ lines_after_drop write base entries d ks (map line_view rest) (self_move d) l.text.items some ∙ sym (map-append line_view kept rest) in
     let here : AreRewritten s (map line_view (kept ++ l ∷ rest)) (drop_at (length (places_viewed kept)) d ∷ rs) new = (first, subst (λ x. AreRewritten s x rs new) (sym after) c) in
     let there : AreRewritten s (map line_view (kept ++ l ∷ rest)) (used_view u ∷ rs) new = subst (λ n. AreRewritten s (map line_view (kept ++ l ∷ rest)) (drop_at n d ∷ rs) new) (sym p.place_is) here in
     let list : map used_view (used ++ u ∷ []) ++ rs ≡ map used_view used ++ used_view u ∷ rs = ap (λ x. x ++ rs) (map-append used_view used (u ∷ [])) ∙ append_assoc (map used_view used) (used_view u ∷ []) rs in
-    subst (λ x. AreRewritten s (map line_view start) x new) (sym list) (completes write (used_view u ∷ rs) new there)
+    subst (λ x. AreRewritten s (map line_view start) x new) (sym list) (completes write base (used_view u ∷ rs) new there)
 
 -- behind the last line
-rewritten_at_end : (entries : ℕ) (start kept : List Line) (used : List Used) (place following : ℕ) (labelled : Bool) → IsPassing kept [] place following labelled → Completes entries start used (kept ++ []) → (write : Instr → List ℕ) → AreRewritten (first_setting write entries) (map line_view start) (map used_view used) (map line_view kept)
-rewritten_at_end entries start kept used place following labelled p completes write =
-    let s = first_setting write entries in
+rewritten_at_end : (entries : ℕ) (start kept : List Line) (used : List Used) (place following : ℕ) (labelled : Bool) → IsPassing kept [] place following labelled → Completes entries start used (kept ++ []) → (write : Instr → List ℕ) (base : ℕ) → AreRewritten (first_setting write base entries) (map line_view start) (map used_view used) (map line_view kept)
+rewritten_at_end entries start kept used place following labelled p completes write base =
+    let s = first_setting write base entries in
     let none : NoneApplies s (map line_view (kept ++ [])) = (λ o a.
-    let there = droppable_where_applies write entries o (map line_view (kept ++ [])) (viewed_instructions (kept ++ [])) a in
+    let there = droppable_where_applies write base entries o (map line_view (kept ++ [])) (viewed_instructions (kept ++ [])) a in
     let within : o.place < length (places_viewed (kept ++ [])) = slice_get_within (places_viewed (kept ++ [])) o.place (plain (self_move there.0)) there.1.stands in
     p.settled o.place there.0 (subst (λ x. o.place < length (places_viewed x)) (append-nil kept) within) there.1) in
-    let end : AreRewritten s (map line_view start) (map used_view used ++ []) (map line_view kept) = completes write [] (map line_view kept) (none, ap (map line_view) (sym (append-nil kept))) in
+    let end : AreRewritten s (map line_view start) (map used_view used ++ []) (map line_view kept) = completes write base [] (map line_view kept) (none, ap (map line_view) (sym (append-nil kept))) in
     subst (λ x. AreRewritten s (map line_view start) x (map line_view kept)) (append-nil (map used_view used)) end
 
 -- ---- as the code goes on ----
@@ -300,7 +300,7 @@ underway_first entries following start items kept used same unkept unused counte
     (subst (λ x. IsUnderway entries start start [] x 0 following false) (sym unused) record {
       passing = passing_begins start following counted;
       fits = (let few = places_few start in omega arith);
-      completes = λ write rs new h. h;
+      completes = λ write base rs new h. h;
     }))
 
 kept_on : {entries place following : ℕ} {start items kept : List Line} {used : List Used} {labelled : Bool} → IsUnderway entries start items kept used place following labelled → (line : Line) (rest kept' : List Line) (place' following' : ℕ) (labelled' : Bool) → items ≡ line ∷ rest → kept' ≡ kept ++ line ∷ [] → place' + following' ≤ place + following → (IsPassing kept (line ∷ rest) place following labelled → IsPassing (kept ++ line ∷ []) rest place' following' labelled') → IsUnderway entries start rest kept' used place' following' labelled'
@@ -340,6 +340,6 @@ underway_drop {entries} {place} {following} {start} {items} {kept} {used} {label
       completes = Completes-drop entries start kept rest line used d place following following' labelled some content l either passing completes;
     }
 
-pub underway_last : {entries place following : ℕ} {start items kept : List Line} {used : List Used} {labelled : Bool} → IsUnderway entries start items kept used place following labelled → items ≡ [] → (write : Instr → List ℕ) → AreRewritten (first_setting write entries) (map line_view start) (map used_view used) (map line_view kept)
+pub underway_last : {entries place following : ℕ} {start items kept : List Line} {used : List Used} {labelled : Bool} → IsUnderway entries start items kept used place following labelled → items ≡ [] → (write : Instr → List ℕ) (base : ℕ) → AreRewritten (first_setting write base entries) (map line_view start) (map used_view used) (map line_view kept)
 underway_last {entries} {place} {following} {start} {items} {kept} {used} {labelled} u none =
     rewritten_at_end entries start kept used place following labelled (subst (λ x. IsPassing kept x place following labelled) none u.passing) (subst (λ x. Completes entries start used (kept ++ x)) none u.completes)

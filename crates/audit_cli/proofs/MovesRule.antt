@@ -85,8 +85,8 @@ pub moves_are_sound : (entries : ℕ) → AreSound (moves_table entries)
 moves_are_sound entries k rule e = subst IsSoundRule (sym (moves_only entries k rule e)) move_is_sound
 
 -- rewriting by such a table keeps the runs
-pub moves_keep_runs : (write : Instr → List ℕ) (entries : ℕ) (ls : List Line) (rs : List Replacement) (new : List Line) → AreRewritten (first_setting write entries) ls rs new → Same (code_of ls) (code_of new)
-moves_keep_runs write entries ls rs new h = lines_same (first_setting write entries) ls rs new (moves_are_sound entries) h
+pub moves_keep_runs : (write : Instr → List ℕ) (base : ℕ) (entries : ℕ) (ls : List Line) (rs : List Replacement) (new : List Line) → AreRewritten (first_setting write base entries) ls rs new → Same (code_of ls) (code_of new)
+moves_keep_runs write base entries ls rs new h = lines_same (first_setting write base entries) ls rs new (moves_are_sound entries) h
 
 pub first_move : (entries : ℕ) → 0 < entries → slice_get (moves_table entries) 0 ≡ Some move_rule
 first_move zero h = absurd (omega arith)

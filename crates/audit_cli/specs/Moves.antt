@@ -25,9 +25,9 @@ abbrev pub moves_table : ℕ → List Rule
 moves_table zero = []
 moves_table (suc k) = move_rule ∷ moves_table k
 
--- rewriting by such a table, from address 0, where an instruction's line has these bytes
-abbrev pub first_setting : (Instr → List ℕ) → ℕ → Setting
-first_setting write entries = record { table = moves_table entries; base = 0; write = write }
+-- rewriting by such a table at a base, where an instruction's line has these bytes
+abbrev pub first_setting : (Instr → List ℕ) → ℕ → ℕ → Setting
+first_setting write base entries = record { table = moves_table entries; base = base; write = write }
 
 -- a replacement as the code records it: the entry names one register
 abbrev pub used_view : Used → Replacement

@@ -34,7 +34,7 @@ pub struct Rewritten {
 ///
 /// Only where memory runs out.
 pub fn drop_moves(alloc: Global, entries: usize, lines: Vec<Line>) -> Result<Rewritten, AllocError>
-    ensures { IfOk result (λ new. (write : Instr → List ℕ) → AreRewritten (first_setting write entries) (map line_view lines.items) (map used_view new.used.items) (map line_view new.lines.items)) }
+    ensures { IfOk result (λ new. (write : Instr → List ℕ) (base : ℕ) → AreRewritten (first_setting write base entries) (map line_view lines.items) (map used_view new.used.items) (map line_view new.lines.items)) }
 {
     let mut used = Vec::new(alloc);
     if entries == 0 {
