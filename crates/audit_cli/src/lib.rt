@@ -4,3 +4,8 @@
 mod assembling;
 mod listing;
 mod moves;
+mod outcome;
+mod stages;
+mod status;
+
+pub use status::Status;
