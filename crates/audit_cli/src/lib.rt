@@ -2,3 +2,6 @@
 #![tactic(auto)]
 
 mod listing;
+mod read_error;
+mod read_instr;
+mod read_listing;
