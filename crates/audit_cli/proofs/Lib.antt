@@ -5,3 +5,5 @@ pub mod MovesPass
 pub mod StageLemmas
 pub mod RunLemmas
 pub mod Deeds
+pub mod TextLemmas
+pub mod ListingLemmas

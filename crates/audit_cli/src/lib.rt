@@ -9,3 +9,6 @@ mod stages;
 mod status;
 
 pub use status::Status;
+mod read_error;
+mod read_instr;
+mod read_listing;
