@@ -2,6 +2,7 @@
 #![tactic(auto)]
 
 mod listing;
+mod printing;
 mod read_error;
 mod read_instr;
 mod read_listing;
