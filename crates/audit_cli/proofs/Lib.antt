@@ -7,3 +7,4 @@ pub mod RunLemmas
 pub mod Deeds
 pub mod TextLemmas
 pub mod ListingLemmas
+pub mod PrintLemmas

@@ -9,6 +9,7 @@ mod stages;
 mod status;
 
 pub use status::Status;
+mod printing;
 mod read_error;
 mod read_instr;
 mod read_listing;
