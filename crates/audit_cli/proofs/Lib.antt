@@ -8,3 +8,4 @@ pub mod Deeds
 pub mod TextLemmas
 pub mod ListingLemmas
 pub mod PrintLemmas
+pub mod RewritingLemmas

@@ -27,3 +27,7 @@ refused_table_line line = printed (codes "refused table" ++ and_number line)
 -- `refused listing LINE 1`
 abbrev pub refused_listing_line : ℕ → List ℕ
 refused_listing_line line = printed (codes "refused listing" ++ and_number line ++ and_number 1)
+
+-- `image BYTES`
+abbrev pub image_line : ℕ → List ℕ
+image_line bytes = printed (codes "image" ++ and_number bytes)

@@ -5,11 +5,12 @@ mod assembling;
 mod listing;
 mod moves;
 mod outcome;
-mod stages;
-mod status;
-
-pub use status::Status;
 mod printing;
 mod read_error;
 mod read_instr;
 mod read_listing;
+mod rewriting;
+mod stages;
+mod status;
+
+pub use status::Status;

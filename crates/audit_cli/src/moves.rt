@@ -73,7 +73,7 @@ pub fn drop_moves(alloc: Global, entries: usize, lines: Vec<Line>) -> Result<Rew
 }
 
 /// How many lines hold an instruction.
-fn count_instructions(lines: &[Line]) -> usize
+pub fn count_instructions(lines: &[Line]) -> usize
     ensures { result ≡ length (places_of (map line_view lines.now)) }
 {
     let mut count = 0;

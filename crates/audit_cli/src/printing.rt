@@ -1,6 +1,6 @@
 ghost use Rattle.std.specs.Prelude.{◌≡◌, IfOk, map};
 ghost use Rattle.audit_cli.specs.Views.{line_view};
-ghost use Rattle.audit_cli.specs.Printed.{text_of_lines, report_of, refused_table_line, refused_listing_line};
+ghost use Rattle.audit_cli.specs.Printed.{text_of_lines, report_of, refused_table_line, refused_listing_line, image_line};
 
 use crate::listing::Line;
 use std::alloc::{AllocError, Global};
@@ -37,5 +37,13 @@ pub fn refused_listing(alloc: Global, line: u64) -> Result<Vec<u8>, AllocError>
     ensures { IfOk result (λ v. v.items ≡ refused_listing_line line) }
 {
     let text = format!(in alloc; "refused listing {line} 1\n")?;
+    Ok(text.into_bytes())
+}
+
+/// What is printed of an image of so many bytes.
+pub fn image_report(alloc: Global, bytes: u64) -> Result<Vec<u8>, AllocError>
+    ensures { IfOk result (λ v. v.items ≡ image_line bytes) }
+{
+    let text = format!(in alloc; "image {bytes}\n")?;
     Ok(text.into_bytes())
 }
