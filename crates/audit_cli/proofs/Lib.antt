@@ -9,3 +9,5 @@ pub mod TextLemmas
 pub mod ListingLemmas
 pub mod PrintLemmas
 pub mod RewritingLemmas
+pub mod PeepLemmas
+pub mod TableLemmas

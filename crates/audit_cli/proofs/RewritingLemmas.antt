@@ -7,9 +7,11 @@ use Rattle.thumb_model.specs.Rewrite.{Rule}
 use Rattle.thumb_model.specs.Rewritten.{Replacement, AreRewritten}
 use Rattle.thumb_model.proofs.LinesKept.{lines_same, none_left, all_applied}
 use Rattle.audit_cli.specs.Moves.{move_rule, moves_table}
-use Rattle.audit_cli.specs.Plans.{Keep, Outcome, Does}
-use Rattle.audit_cli.specs.Printed.{text_of_lines, report_of, image_line}
-use Rattle.audit_cli.specs.Rewriting.{Destination, Counts, AreImage, IsKept, alone, pair, IsKeptIn, setting, AreShortest, IsRewriting}
+use Rattle.audit_cli.specs.FirstListing.{AreStraight, IsFirstBad}
+use Rattle.audit_cli.specs.FirstTable.{IsTable, IsBadTableLine}
+use Rattle.audit_cli.specs.Plans.{Keep, Outcome, Refuses, Does}
+use Rattle.audit_cli.specs.Printed.{text_of_lines, report_of, refused_table_line, refused_listing_line, image_line}
+use Rattle.audit_cli.specs.Rewriting.{Destination, Counts, AreImage, IsKept, alone, pair, IsKeptIn, setting, AreShortest, IsRewriting, ListingComes, bad_listing, rewrites, Comes, bad_table, goes_on}
 use Rattle.audit_cli.proofs.MovesRule.{moves_only, moves_are_sound}
 
 -- the listing alone
@@ -50,3 +52,17 @@ is_rewriting to entries given lines replacements c o r e k =
       shortest = moves_are_shortest entries;
       kept = subst (λ (x : Counts). IsKeptIn to lines x o) e k;
     }
+
+-- ---- what the texts come to ----
+
+pub listing_refused : (to : Destination) (entries : ℕ) (listing : List ℕ) (n : ℕ) (line : List ℕ) (o : Outcome) → IsFirstBad listing n → line ≡ refused_listing_line n → o ≡ Refuses line → ListingComes to entries listing o
+listing_refused to entries listing n line o bad l e = subst (ListingComes to entries listing) (sym (e ∙ ap Refuses l)) (bad_listing n bad)
+
+pub listing_rewritten : (to : Destination) (entries : ℕ) (listing : List ℕ) (given : List Line) (o : Outcome) → AreStraight listing given → IsRewriting to entries given o → ListingComes to entries listing o
+listing_rewritten to entries listing given o straight r = rewrites given straight o r
+
+pub table_refused : (to : Destination) (table listing : List ℕ) (n : ℕ) (line : List ℕ) (o : Outcome) → IsBadTableLine table n → line ≡ refused_table_line n → o ≡ Refuses line → Comes to table listing o
+table_refused to table listing n line o bad l e = subst (Comes to table listing) (sym (e ∙ ap Refuses l)) (bad_table n bad)
+
+pub table_goes_on : (to : Destination) (table listing : List ℕ) (entries : ℕ) (o : Outcome) → IsTable table entries → ListingComes to entries listing o → Comes to table listing o
+table_goes_on to table listing entries o is l = goes_on entries is o l

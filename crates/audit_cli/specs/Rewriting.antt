@@ -71,11 +71,15 @@ pub record IsRewriting (to : Destination) (entries : ℕ) (given : List Line) (o
   -- the listing is kept, and its image; each place of a straight listing is an instruction
   pub kept : IsKeptIn to lines (record { replaced = length replacements; before = length (places_of given); after = length (places_of lines) }) o
 
--- what the texts of a table and a listing come to: the table is refused, or else the listing, at its first bad line, or it is rewritten
+-- what the text of a listing comes to: it is refused at its first bad line, or rewritten
+pub data ListingComes (to : Destination) (entries : ℕ) (listing : List ℕ) : Outcome → Type 0 where
+  bad_listing : (n : ℕ) → IsFirstBad listing n → ListingComes to entries listing (Refuses (refused_listing_line n))
+  rewrites : (given : List Line) → AreStraight listing given → (o : Outcome) → IsRewriting to entries given o → ListingComes to entries listing o
+
+-- what the texts of a table and a listing come to: the table is refused at its first bad line, or else the listing goes by it
 pub data Comes (to : Destination) (table listing : List ℕ) : Outcome → Type 0 where
   bad_table : (n : ℕ) → IsBadTableLine table n → Comes to table listing (Refuses (refused_table_line n))
-  bad_listing : (entries : ℕ) → IsTable table entries → (n : ℕ) → IsFirstBad listing n → Comes to table listing (Refuses (refused_listing_line n))
-  rewrites : (entries : ℕ) → IsTable table entries → (given : List Line) → AreStraight listing given → (o : Outcome) → IsRewriting to entries given o → Comes to table listing o
+  goes_on : (entries : ℕ) → IsTable table entries → (o : Outcome) → ListingComes to entries listing o → Comes to table listing o
 
 -- `rewrite` fetches two texts, and is given no other number of them
 abbrev pub RewriteComesTo : Destination → List (List ℕ) → Outcome → Type 0

@@ -9,8 +9,12 @@ mod printing;
 mod read_error;
 mod read_instr;
 mod read_listing;
+mod read_table;
 mod rewriting;
 mod stages;
 mod status;
+mod top;
 
+pub use command_line::{Command, Memory, usage_of};
+pub use top::peep;
 pub use status::Status;

@@ -2,16 +2,22 @@
 ghost use Rattle.std.specs.Prelude.{◌≡◌, ◌++◌, ◌∷◌, [], ◌↔◌, ℕ, List, length, map, codes, IfOk, IsTrue};
 ghost use Rattle.audit_cli.specs.Views.{line_view};
 ghost use Rattle.audit_cli.specs.Outcomes.{deed_view, outcome_view};
-ghost use Rattle.audit_cli.specs.Plans.{Does};
+ghost use Rattle.audit_cli.specs.Plans.{Refuses, Does};
 ghost use Rattle.audit_cli.specs.Printed.{report_of, image_line};
-ghost use Rattle.audit_cli.specs.Rewriting.{IsKeptIn, IsRewriting};
+ghost use Rattle.audit_cli.specs.Rewriting.{IsKeptIn, IsRewriting, ListingComes, Comes};
+ghost use Rattle.audit_cli.specs.Destinations.{destination_of};
 
 use crate::assembling::assemble;
 use crate::listing::Line;
 use crate::moves::{count_instructions, drop_moves};
 use crate::outcome::{Deed, Outcome};
-use crate::printing::{image_report, print, report};
+use crate::printing::{image_report, print, refused_listing, refused_table, report};
+use crate::read_error::ReadError;
+use crate::read_listing::read_listing;
+use crate::read_table::read_table;
+use crate::stages;
 use std::alloc::{AllocError, Global};
+use step_ledger::{Ledger, Steps};
 
 /// Whether IMAGE names no image.
 fn is_no_image(image: &str) -> bool
@@ -111,4 +117,87 @@ fn rewritten(
     let replaced = new.used.len() as u64;
     let outcome = kept_listing(alloc, out, image, &new.lines, replaced, before, after)?;
     Ok(outcome)
+}
+
+/// The command `rewrite`, with the names that it keeps and the base of its image.
+#[derive(Drop)]
+pub(crate) struct Rewrite<'a> {
+    pub(crate) out: &'a str,
+    pub(crate) image: &'a str,
+    pub(crate) base: u32,
+}
+
+/// Nothing is kept, and the line is printed.
+fn refuses(line: Vec<u8>) -> Outcome
+    ensures { outcome_view result ≡ Refuses line.items }
+{
+    Outcome::Refuses(line)
+}
+
+#[tactic(auto, using(crate::proofs::RewritingLemmas::listing_refused))]
+/// What the text of a listing comes to, by a table of so many entries.
+fn listing_outcome(
+    alloc: Global,
+    to: &Rewrite<'_>,
+    entries: usize,
+    listing: &[u8],
+) -> Result<Outcome, AllocError>
+    ensures { IfOk result (λ o. ListingComes (destination_of to.now) entries listing.now (outcome_view o)) }
+{
+    match read_listing(alloc, listing) {
+        Err(ReadError::Memory) => return Err(AllocError),
+        Err(ReadError::Line(number)) => {
+            let line = refused_listing(alloc, number)?;
+            return Ok(refuses(line));
+        }
+        Ok(lines) => {
+            let outcome = rewritten(alloc, entries, lines, to.out, to.image)?;
+            return Ok(outcome);
+        }
+    }
+}
+
+#[tactic(auto, using(crate::proofs::RewritingLemmas::table_refused, crate::proofs::RewritingLemmas::table_goes_on))]
+/// What the texts of a table and a listing come to.
+fn outcome(
+    alloc: Global,
+    to: &Rewrite<'_>,
+    table: &[u8],
+    listing: &[u8],
+) -> Result<Outcome, AllocError>
+    ensures { IfOk result (λ o. Comes (destination_of to.now) table.now listing.now (outcome_view o)) }
+{
+    match read_table(table) {
+        Err(ReadError::Memory) => return Err(AllocError),
+        Err(ReadError::Line(number)) => {
+            let line = refused_table(alloc, number)?;
+            return Ok(refuses(line));
+        }
+        Ok(read) => {
+            let outcome = listing_outcome(alloc, to, read.entries as usize, listing)?;
+            return Ok(outcome);
+        }
+    }
+}
+
+impl stages::Command for Rewrite<'_> {
+    ghost use Rattle.audit_cli.specs.Rewriting.{RewriteComesTo};
+    ghost use Rattle.audit_cli.specs.Destinations.{destination_of};
+
+    ghost comes = { λ s texts o. RewriteComesTo (destination_of s) texts o };
+
+    fn compute<L: Ledger>(
+        &self,
+        alloc: Global,
+        texts: &[Vec<u8>],
+        _steps: &mut Steps<L>,
+    ) -> Result<Outcome, AllocError> {
+        match texts {
+            [table, listing] => {
+                let outcome = outcome(alloc, self, table, listing)?;
+                Ok(outcome)
+            }
+            _ => Ok(Outcome::Refuses(Vec::new(alloc))),
+        }
+    }
 }
