@@ -8,4 +8,5 @@ pub mod Deeds
 pub mod TextLemmas
 pub mod ListingLemmas
 pub mod PrintLemmas
+pub mod TableLemmas
 pub mod RewritingLemmas

@@ -9,6 +9,7 @@ mod printing;
 mod read_error;
 mod read_instr;
 mod read_listing;
+mod read_table;
 mod rewriting;
 mod stages;
 mod status;
