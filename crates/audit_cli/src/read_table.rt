@@ -97,8 +97,12 @@ fn step(next: Next, text: &[u8]) -> Option<Next>
                 (text == b"end".as_slice()).then_some(Next::Nothing(entries))
             }
         }
-        Next::Left(entries) => (text == b"left mov r0, r0".as_slice()).then_some(Next::Mask(entries)),
-        Next::Mask(entries) => (text == b"mask r0 n z c v".as_slice()).then_some(Next::Proof(entries)),
+        Next::Left(entries) => (text == b"left mov r0, r0".as_slice()).then_some(Next::Mask(
+            entries,
+        )),
+        Next::Mask(entries) => (text == b"mask r0 n z c v".as_slice()).then_some(Next::Proof(
+            entries,
+        )),
         Next::Proof(entries) => (text == b"proof".as_slice()).then_some(Next::Any(entries + 1)),
         Next::Nothing(_) => None,
     }
@@ -132,5 +136,72 @@ pub fn read_table(text: &[u8]) -> Result<FirstTable, ReadError>
     match next {
         Next::Nothing(entries) => Ok(FirstTable { entries }),
         _ => Err(ReadError::Line(number)),
+    }
+}
+
+#[cfg(test)]
+mod tests {
+    use super::*;
+    use std::alloc::{AllocError, Global};
+    use std::test::Fail;
+
+    /// A table of one state and two entries, in 16 lines.
+    const TABLE: &str =
+        "peep 1\nregs 2\nleft 2\nseed 42\nbudget 1\npool 24 255\nstate a15c02b7 0000000f ffffffff 01234567 d\nentry\nleft mov r0, r0\nmask r0 n z c v\nproof\nentry\nleft mov r0, r0\nmask r0 n z c v\nproof\nend\n";
+
+    /// The table with one part of it replaced.
+    fn changed(alloc: Global, old: &str, new: &str) -> Result<String, AllocError> {
+        match TABLE.split_once(old) {
+            None => String::from_str(alloc, TABLE),
+            Some((before, after)) => format!(in alloc; "{before}{new}{after}"),
+        }
+    }
+
+    /// The line at which the text is refused.
+    fn refused_at(text: &[u8]) -> Option<u64> {
+        match read_table(text) {
+            Ok(_) => None,
+            Err(ReadError::Line(line)) => Some(line),
+            Err(ReadError::Memory) => Some(0),
+        }
+    }
+
+    #[test]
+    fn reads(rt: HostRuntime) -> Result<(), Fail> {
+        let table = read_table(TABLE.as_bytes())?;
+        assert_eq!(rt; table.entries, 2);
+        let bare = read_table(b"peep 1\nregs 2\nleft 2\nseed 42\nbudget 1\npool 24 255\nend\n")?;
+        assert_eq!(rt; bare.entries, 0);
+        Ok(())
+    }
+
+    #[test]
+    fn refuses(rt: HostRuntime) -> Result<(), Fail> {
+        for (old, new, line) in [
+            ("regs 2", "regs 5", 2),
+            ("regs 2", "regs 2 ", 2),
+            ("a15c02b7", "a15c02B7", 7),
+            ("a15c02b7", "a15c02b", 7),
+            ("01234567 d\n", "01234567 d\nstate 0 0 0 0 0\n", 8),
+            (
+                "proof\nentry\n",
+                "proof\nstate a15c02b7 0000000f ffffffff 01234567 d\nentry\n",
+                12,
+            ),
+            ("mask r0 n z c v\n", "mask n z c v\n", 10),
+            ("proof\nend\n", "proof\n", 16),
+            ("proof\nend\n", "proof\nend", 16),
+            ("end\n", "end\nend\n", 17),
+            ("end\n", "end\n\n", 17),
+            ("end\n", "end\nx", 17),
+            ("peep 1", "pee", 1),
+        ] {
+            let text = changed(rt.alloc(), old, new)?;
+            assert_eq!(rt; refused_at(text.as_bytes()), Some(line));
+        }
+        assert_eq!(rt; refused_at(b""), Some(1));
+        assert_eq!(rt; refused_at(b"pee"), Some(1));
+        assert_eq!(rt; refused_at(b"peep 1\nreg"), Some(2));
+        Ok(())
     }
 }
