@@ -167,3 +167,24 @@ flat_map-concat f (x ∷ xs) = ap (λ ys. f x ++ ys) (flat_map-concat f xs)
 
 pub lines_join_whole : LinesJoinToText
 lines_join_whole bytes = (lines_join bytes, flat_map-concat whole (lines_in bytes) ∙ ap concat (map-whole bytes 1 0) ∙ lines_join bytes)
+
+-- ---- how many lines there are ----
+
+length-placed_from : (n start : ℕ) (ls : List (List ℕ)) → length (placed_from n start ls) ≡ length ls
+length-placed_from n start [] = refl
+length-placed_from n start (l ∷ ls) = ap suc (length-placed_from (n + 1) (start + length l) ls)
+
+length-onto_first : (b : ℕ) (ls : List (List ℕ)) → length (onto_first b ls) ≤ suc (length ls)
+length-onto_first b [] = omega arith
+length-onto_first b (l ∷ ls) = omega arith
+
+length-lines_of : (bytes : List ℕ) → length (lines_of bytes) ≤ length bytes
+length-lines_of [] = omega (arith, ap length lines_nil)
+length-lines_of (b ∷ bs) = elim (either (b == 10)) [
+  | inl e ↦ omega (arith, ap length (lines_newline b bs e), length-lines_of bs)
+  | inr e ↦ omega (arith, ap length (lines_other b bs e), length-onto_first b (lines_of bs), length-lines_of bs)
+]
+
+-- no text has more lines than bytes
+pub length-lines_in : (bytes : List ℕ) → length (lines_in bytes) ≤ length bytes
+length-lines_in bytes = omega (arith, length-placed_from 1 0 (lines_of bytes), length-lines_of bytes)

@@ -8,6 +8,7 @@ pub mod Deeds
 pub mod TextLemmas
 pub mod ListingLemmas
 pub mod PrintLemmas
+pub mod TableLemmas
 pub mod RewritingLemmas
 pub mod PeepLemmas
 pub mod TableLemmas

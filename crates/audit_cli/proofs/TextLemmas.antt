@@ -26,7 +26,6 @@ adds_is d n m dh nh mh = rw (low_is d dh, low_is n nh, low_is m mh) refl
 pub muls_is : (d m : ℕ) → d < 8 → m < 8 → codes "muls " ++ register d ++ and_register m ++ and_register d ≡ muls_text d m
 muls_is d m dh mh = rw (low_is d dh, low_is m mh) refl
 
-
 pub both : (a b : Bool) → (a && b) ≡ true → (a ≡ true) × (b ≡ true)
 both true b e = (refl, e)
 both false b e = absurd cc

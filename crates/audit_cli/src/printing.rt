@@ -47,3 +47,26 @@ pub fn image_report(alloc: Global, bytes: u64) -> Result<Vec<u8>, AllocError>
     let text = format!(in alloc; "image {bytes}\n")?;
     Ok(text.into_bytes())
 }
+
+#[cfg(test)]
+mod tests {
+    use super::*;
+    use std::test::Fail;
+
+    #[test]
+    fn prints(rt: HostRuntime) -> Result<(), Fail> {
+        assert_eq!(rt;
+            report(rt.alloc(), 2, 4, 2)?.as_slice(),
+            b"replaced 2\ninstructions 4 2\n".as_slice()
+        );
+        assert_eq!(rt;
+            refused_table(rt.alloc(), 72)?.as_slice(),
+            b"refused table 72\n".as_slice()
+        );
+        assert_eq!(rt;
+            refused_listing(rt.alloc(), 65537)?.as_slice(),
+            b"refused listing 65537 1\n".as_slice()
+        );
+        Ok(())
+    }
+}

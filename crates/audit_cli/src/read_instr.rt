@@ -23,7 +23,18 @@ fn mov(bytes: &[u8]) -> Option<(Low, Low)>
     ensures none { (d m : ℕ) → d < 8 → m < 8 → bytes.now ≡ mov_text d m → IsSome result }
 {
     match bytes {
-        [b'm', b'o', b'v', b' ', b'r', target, b',', b' ', b'r', source] => {
+        [
+            b'm',
+            b'o',
+            b'v',
+            b' ',
+            b'r',
+            target,
+            b',',
+            b' ',
+            b'r',
+            source,
+        ] => {
             match (low(*target), low(*source)) {
                 (Some(target), Some(source)) => Some((target, source)),
                 _ => None,
@@ -39,7 +50,23 @@ fn adds(bytes: &[u8]) -> Option<(Low, Low, Low)>
     ensures none { (d n m : ℕ) → d < 8 → n < 8 → m < 8 → bytes.now ≡ adds_text d n m → IsSome result }
 {
     match bytes {
-        [b'a', b'd', b'd', b's', b' ', b'r', target, b',', b' ', b'r', left, b',', b' ', b'r', right] => {
+        [
+            b'a',
+            b'd',
+            b'd',
+            b's',
+            b' ',
+            b'r',
+            target,
+            b',',
+            b' ',
+            b'r',
+            left,
+            b',',
+            b' ',
+            b'r',
+            right,
+        ] => {
             match (low(*target), low(*left), low(*right)) {
                 (Some(target), Some(left), Some(right)) => Some((target, left, right)),
                 _ => None,
@@ -55,7 +82,23 @@ fn muls(bytes: &[u8]) -> Option<(Low, Low)>
     ensures none { (d m : ℕ) → d < 8 → m < 8 → bytes.now ≡ muls_text d m → IsSome result }
 {
     match bytes {
-        [b'm', b'u', b'l', b's', b' ', b'r', target, b',', b' ', b'r', other, b',', b' ', b'r', again] if target == again => {
+        [
+            b'm',
+            b'u',
+            b'l',
+            b's',
+            b' ',
+            b'r',
+            target,
+            b',',
+            b' ',
+            b'r',
+            other,
+            b',',
+            b' ',
+            b'r',
+            again,
+        ] if target == again => {
             match (low(*target), low(*other)) {
                 (Some(target), Some(other)) => Some((target, other)),
                 _ => None,

@@ -113,3 +113,60 @@ pub fn read_listing(alloc: Global, text: &[u8]) -> Result<Vec<Line>, ReadError>
     }
     Ok(lines)
 }
+
+#[cfg(test)]
+mod tests {
+    use super::*;
+    use crate::printing::print;
+    use std::test::Fail;
+
+    /// The line at which the text is refused.
+    fn refused_at(alloc: Global, text: &[u8]) -> Option<u64> {
+        match read_listing(alloc, text) {
+            Err(ReadError::Line(line)) => Some(line),
+            _ => None,
+        }
+    }
+
+    #[test]
+    fn reads(rt: HostRuntime) -> Result<(), Fail> {
+        let text = b"f:\nmov r3, r3\nadds r0, r0, r1\n\nmuls r7, r2, r7\nbx lr".as_slice();
+        let lines = read_listing(rt.alloc(), text)?;
+        assert_eq!(rt; lines.len(), 6);
+        assert_eq!(rt; print(rt.alloc(), &lines)?.as_slice(), text);
+        assert_eq!(rt; read_listing(rt.alloc(), b"")?.len(), 0);
+        Ok(())
+    }
+
+    #[test]
+    fn refuses(rt: HostRuntime) {
+        for (text, line) in [
+            (b"f:\nf:\nmov r0, r0\n".as_slice(), 2),
+            (b"mov r8, r0\n".as_slice(), 1),
+            (b"bx lr\nbx r0\n".as_slice(), 2),
+            (b"\nMov r0, r0\n".as_slice(), 2),
+            (b"\n\nmuls r0, r1, r1\n".as_slice(), 3),
+            (b"adds r0, r0, r1 \n".as_slice(), 1),
+            (b"mov r0, r0\r\n".as_slice(), 1),
+            (b"r0:\n".as_slice(), 1),
+            (b"f: bx lr\n".as_slice(), 1),
+            (b"movs r0, r0\n".as_slice(), 1),
+        ] {
+            assert_eq!(rt; refused_at(rt.alloc(), text), Some(line));
+        }
+    }
+
+    #[test]
+    fn limits(rt: HostRuntime) -> Result<(), Fail> {
+        let mut many = vec![in rt.alloc(); b'\n'; 65536]?;
+        assert_eq!(rt; read_listing(rt.alloc(), &many)?.len(), 65536);
+        many.push(b'\n')?;
+        assert_eq!(rt; refused_at(rt.alloc(), &many), Some(65537));
+        let mut long = vec![in rt.alloc(); b'a'; 1023]?;
+        long.push(b':')?;
+        assert_eq!(rt; read_listing(rt.alloc(), &long)?.len(), 1);
+        long.insert(0, b'a')?;
+        assert_eq!(rt; refused_at(rt.alloc(), &long), Some(1));
+        Ok(())
+    }
+}
