@@ -11,4 +11,3 @@ pub mod PrintLemmas
 pub mod TableLemmas
 pub mod RewritingLemmas
 pub mod PeepLemmas
-pub mod TableLemmas

@@ -16,5 +16,5 @@ mod status;
 mod top;
 
 pub use command_line::{Command, Memory, usage_of};
-pub use top::peep;
 pub use status::Status;
+pub use top::peep;

@@ -66,3 +66,6 @@ pub fn peep<S: Store, O: Sink, L: Ledger>(
         Ok(Some(command)) => return run_command(alloc, &command, store, out, steps),
     }
 }
+
+#[cfg(test)]
+mod tests;
