@@ -1,5 +1,5 @@
 -- Straight listings are determined.
-use Rattle.std.proofs.Common.{◌≡◌, ◌∙◌, ℕ, List, [], ◌∷◌, ◌++◌, refl, sym, ap, map}
+use Rattle.std.proofs.Common.{List, [], ◌∷◌, ◌++◌, map}
 use Rattle.std.specs.List.{AllZip}
 
 -- two lists that are alike, seen by f and g, and one more element of each

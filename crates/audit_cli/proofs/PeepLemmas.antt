@@ -1,5 +1,5 @@
 -- A run of a command is the call's.
-use Rattle.std.proofs.Common.{ℕ, List, refl, inl, inr}
+use Rattle.std.proofs.Common.{ℕ, List, refl, inr}
 use Rattle.command_line.specs.CommandLine.{Request, AskFor}
 use Rattle.outer_store.specs.Outside.{Seen, Sunk}
 use Rattle.audit_cli.specs.declared.status.Status.{Status}

@@ -1,15 +1,13 @@
 -- What is kept of a rewritten listing, and why it is the headline's.
-use Rattle.std.proofs.Common.{◌≡◌, ◌∙◌, ◌↔◌, ◌<◌, ℕ, List, [], ◌∷◌, ◌++◌, length, map, codes, Some, IsTrue, sym, refl, ap, subst, arith}
-use Rattle.std.specs.Prelude.{slice_get}
-use Rattle.thumb_instr.specs.declared.instr.Instr.{Instr}
-use Rattle.thumb_model.specs.Listing.{Line, places_of, code_of}
+use Rattle.std.proofs.Common.{◌≡◌, ◌∙◌, ℕ, List, [], ◌∷◌, ◌++◌, length, codes, sym, ap, subst, arith}
+use Rattle.thumb_model.specs.Listing.{Line, places_of}
 use Rattle.thumb_model.specs.Rewrite.{Rule}
 use Rattle.thumb_model.specs.Rewritten.{Replacement, AreRewritten}
 use Rattle.thumb_model.proofs.LinesKept.{lines_same, none_left, all_applied}
-use Rattle.audit_cli.specs.Moves.{move_rule, moves_table}
+use Rattle.audit_cli.specs.Moves.{moves_table}
 use Rattle.audit_cli.specs.FirstListing.{AreStraight, IsFirstBad}
 use Rattle.audit_cli.specs.FirstTable.{IsTable, IsBadTableLine}
-use Rattle.audit_cli.specs.Plans.{Keep, Outcome, Refuses, Does}
+use Rattle.audit_cli.specs.Plans.{Outcome, Refuses, Does}
 use Rattle.audit_cli.specs.Printed.{text_of_lines, report_of, refused_table_line, refused_listing_line, image_line}
 use Rattle.audit_cli.specs.Rewriting.{Destination, Counts, AreImage, IsKept, alone, pair, IsKeptIn, setting, AreShortest, IsRewriting, ListingComes, bad_listing, rewrites, Comes, bad_table, goes_on}
 use Rattle.audit_cli.proofs.MovesRule.{moves_only, moves_are_sound}

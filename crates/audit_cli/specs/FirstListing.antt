@@ -1,12 +1,10 @@
 -- Straight listings: lines that are empty or hold one of four instructions in its canonical text, and a label alone on the first.
-use Rattle.std.specs.Prelude.{◌≡◌, ℕ, ◌+◌, ◌<◌, ◌≤◌, ◌==◌, ◌&&◌, nat_lt, Bool, true, false, List, [], ◌∷◌, ◌++◌, length, codes, Option, Some, None, Result, Ok, Err, if◌then◌else◌}
+use Rattle.std.specs.Prelude.{◌≡◌, ℕ, ◌≤◌, ◌==◌, ◌&&◌, nat_lt, Bool, true, List, [], ◌∷◌, ◌++◌, length, codes, Some, None, if◌then◌else◌}
 use Rattle.std.specs.List.{AllZip}
 use Rattle.std.specs.Fmt.{decimal}
 use Rattle.thumb_instr.specs.declared.instr.Instr.{Instr}
 use Rattle.thumb_instr.specs.declared.instr.Instr.TheVariants.{Mov, Three, Two, Bx}
-use Rattle.thumb_instr.specs.declared.instr.Sum.{Sum}
 use Rattle.thumb_instr.specs.declared.instr.Sum.TheVariants.{Add}
-use Rattle.thumb_instr.specs.declared.instr.Operation.{Operation}
 use Rattle.thumb_instr.specs.declared.instr.Operation.TheVariants.{Mul}
 use Rattle.thumb_model.specs.Listing.{Name, Line, Nothing, Runs}
 use Rattle.ascii_scan.specs.Lines.{Placed, lines_in, whole}

@@ -1,14 +1,16 @@
 //! The program: hands the process's words to the top call, and ends with its status.
 #![tactic(auto)]
 
+ghost use Rattle.std.specs.Prelude.{◌≡◌, ◌<◌};
+
 use audit_cli::{Status, peep};
-use outer_store::{RealSink, RealStore};
+use outer_store::{RealSink, RealStore, Sink, Store};
 use std::alloc::{AllocError, Global};
 use std::env::{self, Args};
 use std::io::ErrorKind;
 use std::marker::Brand;
 use std::process::ExitCode;
-use std::sync::ledger::Blank;
+use std::sync::ledger::{Blank, Ledger as Name};
 use step_ledger::{Free, Steps};
 
 /// The words after the program's name.
@@ -33,6 +35,22 @@ fn word_for(status: Status) -> Option<&'static str> {
     }
 }
 
+/// Runs the words with steps that are counted in contracts alone.
+fn run<N: Name, S: Store, O: Sink>(
+    alloc: Global,
+    words: &[String],
+    store: &mut S,
+    sink: &mut O,
+    blank: Blank,
+) -> Status
+    requires name { blank.name ≡ N.name }
+    requires parts { blank.parts ≡ N.parts }
+    requires some { 0 < blank.parts }
+{
+    let mut steps = Steps::new(Free::<N>::new(blank));
+    peep(alloc, words, store, sink, &mut steps)
+}
+
 fn main(rt: HostRuntime) -> ExitCode {
     let status = match env::args(&rt) {
         Err(error) if error.kind() == ErrorKind::OutOfMemory => Status::Memory,
@@ -42,8 +60,13 @@ fn main(rt: HostRuntime) -> ExitCode {
             Ok(words) => {
                 let mut store = RealStore::new(rt);
                 let mut sink = RealSink::new(rt);
-                let mut steps = Steps::new(Free::<Brand>::new(Blank::new(1)));
-                peep(rt.alloc(), &words, &mut store, &mut sink, &mut steps)
+                run::<Brand, RealStore<HostRuntime>, RealSink<HostRuntime>>(
+                    rt.alloc(),
+                    &words,
+                    &mut store,
+                    &mut sink,
+                    Blank::new(1),
+                )
             }
         },
     };

@@ -1,10 +1,9 @@
-use Rattle.std.proofs.Common.{◌≡◌, ◌∙◌, ◌++◌, ◌<◌, ℕ, List, sym, ap, true, false, nat_lt, eqb-true, ltb-true}
+use Rattle.std.proofs.Common.{◌∙◌, ◌++◌, sym, ap, nat_lt, eqb-true, ltb-true}
 use Rattle.std.specs.Prelude.{codes, is_some}
-use Rattle.thumb_instr.specs.declared.instr.Instr.{Instr}
 use Rattle.thumb_instr.specs.declared.instr.Instr.TheVariants.{Mov, Three, Two, Bx}
 use Rattle.thumb_instr.specs.declared.instr.Sum.TheVariants.{Add}
 use Rattle.thumb_instr.specs.declared.instr.Operation.TheVariants.{Mul}
-use Rattle.audit_cli.specs.FirstListing.{register, is_straight_instr, text_of}
+use Rattle.audit_cli.specs.FirstListing.{register}
 use Rattle.audit_cli.proofs.TextLemmas.{both, mov_is, adds_is, muls_is, lr_is}
 use Rattle.audit_cli.proofs.read_instr.read_instr.Goals as goal
 

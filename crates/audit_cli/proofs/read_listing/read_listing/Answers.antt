@@ -1,5 +1,4 @@
-use Rattle.std.proofs.Common.{◌≡◌, ◌∙◌, ◌++◌, ◌∷◌, [], List, ap, sym, map, append_assoc}
-use Rattle.std.specs.Option.{MatchOption}
+use Rattle.std.proofs.Common.{◌∙◌, ◌++◌, ◌∷◌, [], ap, sym, map, append_assoc}
 use Rattle.std.proofs.lemmas.List.{map-append}
 use Rattle.ascii_scan.specs.Source.{lines_left, line_view as source_view}
 use Rattle.audit_cli.specs.Views.{line_view}

@@ -1,4 +1,4 @@
-use Rattle.std.proofs.Common.{◌≡◌, ◌∙◌, ◌++◌, ◌∷◌, [], ◌+◌, ◌<◌, ◌≤◌, arith, sym, ap, length, length-append, None, Some}
+use Rattle.std.proofs.Common.{◌≡◌, ◌∙◌, ◌∷◌, [], arith, sym, ap, length-append, Some}
 use Rattle.ascii_scan.specs.Source.{lines_left, line_view}
 use Rattle.audit_cli.specs.FirstTable.{shown}
 use Rattle.audit_cli.specs.TableSteps.{step_line}

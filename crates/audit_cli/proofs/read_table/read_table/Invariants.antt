@@ -1,4 +1,4 @@
-use Rattle.std.proofs.Common.{◌≡◌, ◌≤◌, ◌+◌, ◌++◌, map, length}
+use Rattle.std.proofs.Common.{◌≡◌, ◌≤◌, ◌+◌, map, length}
 use Rattle.ascii_scan.specs.Source.{lines_left, line_view}
 use Rattle.audit_cli.specs.TableSteps.{entries_of}
 use Rattle.audit_cli.proofs.TableLemmas.{Halfway, texts_of}

@@ -1,4 +1,4 @@
-use Rattle.std.proofs.Common.{◌≡◌, ◌∙◌, ◌++◌, ℕ, map, length, codes, true, false, ap, arith}
+use Rattle.std.proofs.Common.{◌≡◌, ◌∙◌, ◌++◌, map, length, codes, true, false, ap, arith}
 use Rattle.audit_cli.specs.Views.{line_view}
 use Rattle.audit_cli.specs.Outcomes.{outcome_view}
 use Rattle.audit_cli.specs.Printed.{report_of, image_line}

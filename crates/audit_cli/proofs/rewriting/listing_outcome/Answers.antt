@@ -1,5 +1,4 @@
-use Rattle.std.proofs.Common.{map, ap, subst, sym}
-use Rattle.std.specs.Prelude.{Result, Ok}
+use Rattle.std.proofs.Common.{map}
 use Rattle.audit_cli.specs.Views.{line_view}
 use Rattle.audit_cli.specs.Outcomes.{outcome_view}
 use Rattle.audit_cli.specs.Destinations.{destination_of}

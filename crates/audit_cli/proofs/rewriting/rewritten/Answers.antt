@@ -5,7 +5,7 @@ use Rattle.audit_cli.specs.declared.listing.Line.{Line}
 use Rattle.audit_cli.specs.Views.{line_view}
 use Rattle.audit_cli.specs.Moves.{used_view}
 use Rattle.audit_cli.specs.Outcomes.{outcome_view}
-use Rattle.audit_cli.specs.Rewriting.{Counts, own_line, IsKeptIn}
+use Rattle.audit_cli.specs.Rewriting.{own_line, IsKeptIn}
 use Rattle.audit_cli.proofs.RewritingLemmas.{is_rewriting}
 use Rattle.audit_cli.proofs.rewriting.rewritten.Goals as goal
 
