@@ -1,13 +1,13 @@
 -- The stages of a run make the whole of it.
-use Rattle.std.proofs.Common.{◌≡◌, ◌≢◌, ◌∙◌, inl, inr, ℕ, suc, List, [], ◌∷◌, take, length, Some, refl, sym, ap, subst, arith, Err}
+use Rattle.std.proofs.Common.{◌≡◌, ◌≢◌, ◌∙◌, ◌≤◌, inl, inr, ℕ, suc, List, [], ◌∷◌, take, length, Some, None, true, refl, sym, ap, subst, arith, Err}
 use Rattle.std.specs.Prelude.{if◌then◌else◌, All}
 use Rattle.std.specs.Str.{bytes_eq}
 use Rattle.std.proofs.lemmas.Bool.{cases_Bool}
 use Rattle.std.proofs.lemmas.Slice.Eq.{bytes_eq-Decides}
 use Rattle.audit_cli.specs.declared.status.Status.{Status}
 use Rattle.audit_cli.specs.declared.status.Status.TheVariants as status
-use Rattle.outer_store.specs.Outside.{Sunk, Seen, Held, SameHeld, Grows}
-use Rattle.audit_cli.specs.Plans.{Keep, Outcome, Refuses, Does, Plan, keeps_of, AreTexts, with_text, kept, Kept, FailsAfter, ShortAfter, ComesTo, Runs}
+use Rattle.outer_store.specs.Outside.{Sunk, Seen, Held, SameHeld, Grows, Rose, MissedAt, TooBigAt, IsTooBig, limit}
+use Rattle.audit_cli.specs.Plans.{Keep, Outcome, Refuses, Does, Plan, keeps_of, AreTexts, StopsAt, with_text, kept, Kept, FailsAfter, ShortAfter, ComesTo, Runs}
 use Rattle.audit_cli.specs.Stages.{Gathers, Stores, Prints, Finishes}
 use Rattle.audit_cli.proofs.StageLemmas.{rose_before, same_again}
 
@@ -114,3 +114,46 @@ kept_elsewhere (k ∷ ks) held n a = kept_elsewhere ks (with_text held k) n (λ 
   | inl e ↦ absurd (a 0 k (omega arith) ((bytes_eq-Decides n k.0).0 e))
   | inr e ↦ rw e refl
 ]
+
+-- ---- completeness ----
+
+-- each name is held, with a text within the limit
+pub AreHeld : Seen → List (List ℕ) → Type 0
+AreHeld old [] = Unit {0}
+AreHeld old (n ∷ ns) = ((t : List ℕ) × (old.held n ≡ Some t) × (length t ≤ limit)) × AreHeld old ns
+
+-- the statuses that need no fault, and no name that cannot be fetched
+pub IsFaultless : Status → Type 0
+IsFaultless status.Done = Unit {0}
+IsFaultless status.Refused = Unit {0}
+IsFaultless status.Memory = Unit {0}
+IsFaultless status.Usage = ⊥
+IsFaultless status.StoreFault = ⊥
+IsFaultless status.SinkFault = ⊥
+IsFaultless status.TooBig = ⊥
+IsFaultless status.Missing = ⊥
+
+none_missed : (old new : Seen) (ns : List (List ℕ)) → old.tells ≡ true → AreHeld old ns → StopsAt (λ n. MissedAt old new n) old ns → ⊥
+unfolding AreHeld
+none_missed old new [] t h s = s
+none_missed old new (n ∷ ns) t h (inl m) = let k : old.held n ≡ None = rw t at m in let bad : Some h.0.0 ≡ None = sym h.0.1 ∙ k in cc
+none_missed old new (n ∷ ns) t h (inr s) = none_missed old new ns t h.1 s.1
+
+none_too_big : (old new : Seen) (ns : List (List ℕ)) → old.tells ≡ true → AreHeld old ns → StopsAt (λ n. TooBigAt old new n) old ns → ⊥
+unfolding AreHeld
+none_too_big old new [] t h s = s
+none_too_big old new (n ∷ ns) t h (inl m) = let k : IsTooBig (old.held n) = rw t at m in let more : IsTooBig (Some h.0.0) = subst IsTooBig h.0.1 k in let most = h.0.2 in omega arith
+none_too_big old new (n ∷ ns) t h (inr s) = none_too_big old new ns t h.1 s.1
+
+-- where the store tells and holds the names, and no count of faults rises, the run is done, refused or short of memory
+pub complete : (plan : Plan) (old new : Seen) (before after : Sunk) (s : Status) → old.tells ≡ true → AreHeld old plan.names → (Rose old.faults new.faults → ⊥) → (Rose before.faults after.faults → ⊥)
+    → Runs plan old new before after s → IsFaultless s
+unfolding IsFaultless
+complete plan old new before after status.Done t h f g r = tt
+complete plan old new before after status.Refused t h f g r = tt
+complete plan old new before after status.Memory t h f g r = tt
+complete plan old new before after status.Usage t h f g r = r
+complete plan old new before after status.StoreFault t h f g r = f r.rose
+complete plan old new before after status.SinkFault t h f g r = g r.rose
+complete plan old new before after status.TooBig t h f g r = none_too_big old new plan.names t h r.stops
+complete plan old new before after status.Missing t h f g r = none_missed old new plan.names t h r.stops
