@@ -9,5 +9,6 @@ pub mod TextLemmas
 pub mod ListingLemmas
 pub mod PrintLemmas
 pub mod TableLemmas
+pub mod TableLaws
 pub mod RewritingLemmas
 pub mod PeepLemmas

@@ -3,7 +3,7 @@ use Rattle.std.proofs.Common.{◌≡◌, ℕ, ◌<◌, ◌==◌, ◌&&◌, Bool,
 use Rattle.std.specs.Prelude.{codes}
 use Rattle.std.proofs.lemmas.Fmt.{decimal_digit}
 use Rattle.audit_cli.specs.FirstListing.{register, and_register}
-use Rattle.audit_cli.specs.Texts.{low, mov_text, adds_text, muls_text}
+use Rattle.audit_cli.specs.Texts.{low, mov_text, adds_text, muls_text, bx_text}
 
 low_is : (n : ℕ) → n < 8 → register n ≡ low n
 unfolding register
@@ -28,3 +28,6 @@ muls_is d m dh mh = rw (low_is d dh, low_is m mh) refl
 pub both : (a b : Bool) → (a && b) ≡ true → (a ≡ true) × (b ≡ true)
 both true b e = (refl, e)
 both false b e = absurd cc
+
+pub bx_is : (m : ℕ) → m ≡ 14 → codes "bx " ++ register m ≡ bx_text
+bx_is m e = ap (λ w. codes "bx " ++ w) (ap register e ∙ lr_is)

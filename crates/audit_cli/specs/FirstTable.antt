@@ -69,3 +69,9 @@ pub record IsBadTableLine (bytes : List ℕ) (n : ℕ) : Type 0 where
   pub count : n ≡ length texts + 1
   pub begins : Begins texts
   pub stops : Stops texts rest
+
+-- a text is a table of so many entries, or has a least number of lines that begin none, not both, and they are determined
+pub record TablesAreDetermined : Type 0 where
+  pub same_entries : (bytes : List ℕ) (n m : ℕ) → IsTable bytes n → IsTable bytes m → n ≡ m
+  pub same_number : (bytes : List ℕ) (n m : ℕ) → IsBadTableLine bytes n → IsBadTableLine bytes m → n ≡ m
+  pub not_both : (bytes : List ℕ) (n m : ℕ) → IsTable bytes n → IsBadTableLine bytes m → ⊥

@@ -4,7 +4,7 @@ ghost use Rattle.ascii_scan.specs.Names.{name_length};
 ghost use Rattle.ascii_scan.specs.Lines.{whole};
 ghost use Rattle.ascii_scan.specs.Source.{line_view as source_view};
 ghost use Rattle.audit_cli.specs.Views.{line_view};
-ghost use Rattle.audit_cli.specs.FirstListing.{Form, IsAllowed, IsStraight, form_of, text_of_form};
+ghost use Rattle.audit_cli.specs.FirstListing.{AreDetermined, Form, IsAllowed, IsStraight, form_of, text_of_form};
 ghost use Rattle.audit_cli.specs.Reads.{ReadsListing};
 
 use crate::listing::{Content, Line};
@@ -113,6 +113,11 @@ pub fn read_listing(alloc: Global, text: &[u8]) -> Result<Vec<Line>, ReadError>
     }
     Ok(lines)
 }
+
+/// A text is a straight listing of lines that it determines, or has one first line that may not stand there, and not both.
+pub fn listings_are_determined()
+    ensures { AreDetermined }
+{}
 
 #[cfg(test)]
 mod tests {

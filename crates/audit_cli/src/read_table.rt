@@ -1,6 +1,6 @@
 ghost use Rattle.std.specs.Prelude.{◌≡◌, ◌+◌, ◌<◌, ◌^◌};
 ghost use Rattle.std.specs.List.{list_all, zip};
-ghost use Rattle.audit_cli.specs.FirstTable.{is_hex, is_state, may_stand, shown};
+ghost use Rattle.audit_cli.specs.FirstTable.{TablesAreDetermined, is_hex, is_state, may_stand, shown};
 ghost use Rattle.audit_cli.specs.TableSteps.{entries_of, step, step_line};
 ghost use Rattle.ascii_scan.specs.Source.{line_view};
 ghost use Rattle.audit_cli.specs.Reads.{ReadsTable};
@@ -138,6 +138,11 @@ pub fn read_table(text: &[u8]) -> Result<FirstTable, ReadError>
         _ => Err(ReadError::Line(number)),
     }
 }
+
+/// A text is a table of so many entries, or has a least number of lines that begin none, not both, and they are determined.
+pub fn tables_are_determined()
+    ensures { TablesAreDetermined }
+{}
 
 #[cfg(test)]
 mod tests {
