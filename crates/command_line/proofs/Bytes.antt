@@ -1,15 +1,12 @@
 -- Words as bytes: how an option is spelled, and how clap takes a word apart.
-use Rattle.std.proofs.Common.{◌≡◌, ◌∙◌, ◌⊎◌, inl, inr, ◌+◌, ◌++◌, ◌&&◌, ◌||◌, ◌==◌, ℕ, suc, Bool, true, false, not, List, [], ◌∷◌, take, drop, Option, Some, None, refl, sym, ap, ap₂, arith, codes, cond, subst, true≢false, eqb-true, append_assoc}
-use Rattle.std.specs.List.{list_all, list_any, before_first, after_first, position_or_len, prefix_len}
+use Rattle.std.proofs.Common.{◌≡◌, ◌∙◌, inl, inr, ◌+◌, ◌++◌, ◌==◌, ℕ, suc, Bool, true, false, [], ◌∷◌, Option, Some, None, refl, sym, ap, ap₂, arith, codes, true≢false, eqb-true, append_assoc}
+use Rattle.std.specs.List.{before_first, after_first, position_or_len}
 use Rattle.std.specs.Str.{bytes_eq}
 use Rattle.std.proofs.lemmas.Slice.Eq.{bytes_eq-Decides}
 use Rattle.clap.specs.Lexer.{has_byte, long_of, long_of_rest, name_and_value, short_of}
-use Rattle.command_line.specs.CommandLine.{Text, is_dashed, is_one_of}
-use Rattle.command_line.proofs.Reading.{Word, dashes, joined, apart, plain, stray, word_by, word_of}
-
-pub either : (b : Bool) → (b ≡ true) ⊎ (b ≡ false)
-either true = inl refl
-either false = inr refl
+use Rattle.command_line.specs.CommandLine.{Text, is_dashed}
+use Rattle.command_line.proofs.Reading.{joined, apart, plain, word_by, word_of}
+use Rattle.command_line.proofs.BoolLemmas.{either}
 
 pub same_text : (a b : Text) → bytes_eq a b ≡ true → a ≡ b
 same_text a b e = (bytes_eq-Decides a b).0 e

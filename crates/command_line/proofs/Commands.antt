@@ -1,5 +1,5 @@
 -- At each command clap takes the words, and finds the values, exactly where they are that command.
-use Rattle.std.proofs.Common.{◌≡◌, ◌∙◌, ◌+◌, ◌<◌, ◌++◌, ◌&&◌, ℕ, Bool, true, false, List, [], ◌∷◌, length, map, Option, Some, None, refl, sym, ap, true≢false}
+use Rattle.std.proofs.Common.{◌≡◌, ◌∙◌, ◌<◌, true, List, [], ◌∷◌, length, map, Some, refl, sym, ap, true≢false}
 use Rattle.std.specs.List.{list_all}
 use Rattle.clap.specs.Words.{fault_of, subcommand_of}
 use Rattle.clap.specs.Kinds.{Kinds}

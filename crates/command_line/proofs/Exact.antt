@@ -1,14 +1,13 @@
 -- A command's words and options are read exactly: what the reading takes is a command, and each command is taken.
-use Rattle.std.proofs.Common.{◌≡◌, ◌∙◌, ◌⊎◌, inl, inr, ◌+◌, ◌<◌, ◌≤◌, ◌++◌, ◌&&◌, ◌==◌, ℕ, zero, suc, Bool, true, false, not, List, [], ◌∷◌, length, map, Option, Some, None, refl, sym, ap, ap₂, arith, cond, subst, true≢false, eq-eqb, eqb-true}
-use Rattle.std.specs.Prelude.{slice_get, unwrap_or}
-use Rattle.std.specs.List.{flat_map, list_all}
-use Rattle.std.specs.Option.{option_map_or}
-use Rattle.command_line.specs.CommandLine.{Text, Given, Item, IsCommand, are_distinct, ending, is_allowed, is_one_of, options_in, spelled, value_of, words_in}
-use Rattle.command_line.proofs.Reading.{Mode, free, uses, once_after}
+use Rattle.std.proofs.Common.{◌≡◌, ◌∙◌, inl, inr, ◌+◌, ◌≤◌, ◌&&◌, ◌==◌, ℕ, zero, suc, Bool, true, false, not, List, [], ◌∷◌, length, map, Option, Some, None, refl, sym, ap, arith, true≢false, eq-eqb, eqb-true}
+use Rattle.std.specs.Prelude.{slice_get}
+use Rattle.std.specs.List.{list_all}
+use Rattle.command_line.specs.CommandLine.{Text, Given, IsCommand, are_distinct, is_one_of, value_of}
+use Rattle.command_line.proofs.Reading.{free, uses, once_after}
 use Rattle.command_line.proofs.Law.{Each, verdict_by}
 use Rattle.command_line.proofs.Lookup.{at_from, lacks}
-use Rattle.command_line.proofs.Bytes.{either}
-use Rattle.command_line.proofs.Items.{Itemised, is_name, item_uses, line_of, line_uses, sound}
+use Rattle.command_line.proofs.BoolLemmas.{either}
+use Rattle.command_line.proofs.Items.{is_name, item_uses, line_of, line_uses, sound}
 use Rattle.command_line.proofs.NamedValues.{are_apart, distinct_uses, full_has_none, has_none, item_values, lacks_values, once_distinct, option_values, options_of, padded, padded_full, padded_length, uses_fit, values, words_fit, words_of}
 
 other_place : (k j : ℕ) → (k == k + suc j) ≡ false

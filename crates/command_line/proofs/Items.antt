@@ -1,13 +1,14 @@
 -- The reading of the words finds the items that spell them.
-use Rattle.std.proofs.Common.{◌≡◌, ◌∙◌, ◌⊎◌, inl, inr, ◌+◌, ◌++◌, ◌&&◌, ◌==◌, ℕ, zero, suc, Bool, true, false, not, List, [], ◌∷◌, Option, Some, None, refl, sym, ap, ap₂, arith, cond, subst, true≢false, append_assoc, codes}
-use Rattle.std.specs.Prelude.{slice_get, unwrap_or}
-use Rattle.std.specs.List.{flat_map, list_all, list_any}
+use Rattle.std.proofs.Common.{◌≡◌, ◌∙◌, ◌⊎◌, inl, inr, ◌+◌, ◌++◌, ◌&&◌, ℕ, suc, Bool, true, false, not, List, [], ◌∷◌, Option, Some, None, refl, sym, ap, ap₂, arith, subst, true≢false, append_assoc, codes}
+use Rattle.std.specs.Prelude.{slice_get}
+use Rattle.std.specs.List.{flat_map, list_all}
 use Rattle.std.specs.Str.{bytes_eq}
-use Rattle.clap.specs.Lexer.{has_byte, long_of, short_of}
+use Rattle.clap.specs.Lexer.{has_byte}
 use Rattle.command_line.specs.CommandLine.{Text, Given, Item, word, joined, apart, spelled, is_allowed, is_dashed, is_one_of, ending}
-use Rattle.command_line.proofs.Reading.{Mode, free, opened, tail, dashes, joined as joined_kind, apart as apart_kind, plain, stray, word_of, use_word, uses, more, to_positional, at_end}
-use Rattle.command_line.proofs.Law.{Is, is_dashes, is_joined, is_apart, is_unknown, is_short, is_plain, Each}
-use Rattle.command_line.proofs.Bytes.{either, same_text, joined_text, joined_word, apart_word, plain_word, joined_is, apart_is, dashes_is, plain_is}
+use Rattle.command_line.proofs.Reading.{Mode, free, opened, tail, plain, word_of, use_word, uses, more, to_positional, at_end}
+use Rattle.command_line.proofs.Law.{is_dashes, is_joined, is_apart, is_unknown, is_short, is_plain, Each}
+use Rattle.command_line.proofs.Bytes.{same_text, joined_text, joined_word, apart_word, plain_word, joined_is, apart_is, dashes_is, plain_is}
+use Rattle.command_line.proofs.BoolLemmas.{both, either, not_true}
 
 -- each of these words goes to the next name
 abbrev pub tail_uses : List Text → List Text → Option (List Given)
@@ -30,14 +31,6 @@ item_uses ids (apart n v ∷ is) rest = more (n, v) (item_uses ids is rest)
 -- a name that can be an option's: some bytes, none of them `=` (61)
 abbrev pub is_name : Text → Bool
 is_name n = not (bytes_eq n []) && not (has_byte 61 n)
-
-both : (a b : Bool) → (a && b) ≡ true → (a ≡ true) × (b ≡ true)
-both true b e = (refl, e)
-both false b e = absurd (true≢false (sym e))
-
-not_true : (a : Bool) → not a ≡ true → a ≡ false
-not_true true e = absurd (true≢false (sym e))
-not_true false e = refl
 
 name_of : (opts : List Text) → list_all is_name opts ≡ true → (n : Text) → is_one_of opts n ≡ true → (bytes_eq n [] ≡ false) × (has_byte 61 n ≡ false)
 name_of [] names n e = absurd (true≢false (sym e))

@@ -1,19 +1,18 @@
 -- clap's walk over the words of a command is the reading of its uses.
-use Rattle.std.proofs.Common.{◌≡◌, ◌∙◌, ◌⊎◌, inl, inr, ◌+◌, ◌++◌, ◌&&◌, ◌||◌, ℕ, Bool, true, false, not, List, [], ◌∷◌, map, Option, Some, None, refl, sym, ap, ap₂, codes, cond, append_assoc, append-nil, subst, option_map, is_some, true≢false, eq-eqb}
+use Rattle.std.proofs.Common.{◌≡◌, ◌∙◌, ◌⊎◌, inl, inr, ◌+◌, ◌++◌, ◌&&◌, ◌||◌, ℕ, Bool, true, false, not, List, [], ◌∷◌, map, Option, Some, None, refl, sym, ap, ap₂, cond, append_assoc, append-nil, subst, option_map, true≢false, eq-eqb}
 use Rattle.std.proofs.lemmas.List.{map-append}
-use Rattle.std.specs.Prelude.{fold, find, min, nat_lt, nat_eq, slice_get, option_and_then}
-use Rattle.std.specs.List.{list_any}
+use Rattle.std.specs.Prelude.{fold, min, nat_lt, slice_get}
 use Rattle.std.specs.Option.{option_map_or}
 use Rattle.std.specs.Str.{bytes_eq, chars}
 use Rattle.clap.specs.Lexer.{long_of, short_of, usize_max}
-use Rattle.clap.specs.Words.{Rule, Row, Shape}
+use Rattle.clap.specs.Words.{Rule, Row}
 use Rattle.clap.specs.Walk.{Walk, Held, Waiting, idle, option, walked, arg_by_index, arg_by_long, arg_by_short, arg_by_id, finished, settled, used, has_row, at_row, more_values, most_values, pending_count, reading_by, with_default}
 use Rattle.clap.specs.Faults.{walk_fault, turn_fault, settle_fault, defaults_fault, check_fault, use_fault, flags_fault}
 use Rattle.clap.specs.Kinds.{Kinds, or_else}
 use Rattle.clap.specs.declared.error.kind.ErrorKind.TheVariants as kind
 use Rattle.clap.specs.declared.parser.matches.ValueSource.TheVariants.{CommandLine}
 use Rattle.command_line.specs.CommandLine.{Text, Given, is_named}
-use Rattle.command_line.proofs.Reading.{Mode, free, opened, tail, Word, dashes, joined, apart, plain, stray, uses, use_word, word_of, word_by, at_end, more, to_positional, once_after}
+use Rattle.command_line.proofs.Reading.{Mode, free, opened, tail, Word, dashes, joined, apart, plain, stray, uses, use_word, word_of, at_end, more, to_positional, once_after}
 use Rattle.command_line.proofs.Level.{word_rule, option_rule, leaf, or_else_nil, or_else_assoc, held, between, fresh}
 
 abbrev pub clean : Kinds → Bool

@@ -1,12 +1,12 @@
 -- One level of clap's walk: a command with positional words and options, as clap builds it.
-use Rattle.std.proofs.Common.{◌≡◌, ◌∙◌, ◌++◌, ◌||◌, ℕ, Bool, true, false, List, [], ◌∷◌, Option, Some, None, refl, ap, cond, true≢false}
+use Rattle.std.proofs.Common.{◌≡◌, ◌++◌, ◌||◌, ℕ, Bool, true, false, List, [], ◌∷◌, Option, Some, None, refl, ap, cond, true≢false}
 use Rattle.std.specs.Str.{bytes_eq}
-use Rattle.clap.specs.Words.{Rule, Text, Row, Shape}
+use Rattle.clap.specs.Words.{Rule, Text, Row, Shape, new_app}
 use Rattle.clap.specs.Walk.{Held, Waiting, Walk, at_row, has_row}
 use Rattle.clap.specs.Kinds.{Kinds, or_else}
 use Rattle.clap.specs.declared.builder.ArgAction.TheVariants.{Set}
 use Rattle.clap.specs.declared.builder.value_parser.ValueParser.TheVariants as vp
-use Rattle.command_line.specs.App.{positional, option as option_arg, rewrite_app}
+use Rattle.command_line.specs.App.{positional, option as option_arg}
 
 -- an argument as clap builds it
 abbrev pub word_rule : ℕ → Text → Rule
@@ -17,7 +17,7 @@ option_rule id = record (option_arg id) { action = Some Set; range = Some (recor
 
 -- a built command without subcommands
 abbrev pub leaf : Text → List Rule → Shape
-leaf name rules = record rewrite_app.top { name = name; rules = rules; is_built = true; no_binary_name = true; disable_help_flag = true; disable_help_subcommand = true }
+leaf name rules = record (new_app name).top { rules = rules; is_built = true; no_binary_name = true; disable_help_flag = true; disable_help_subcommand = true }
 
 pub or_else_nil : (k : Kinds) → or_else k [] ≡ k
 or_else_nil [] = refl

@@ -1,3 +1,4 @@
+pub mod BoolLemmas
 pub mod Reading
 pub mod Level
 pub mod Law

@@ -1,23 +1,24 @@
 -- The look-ups of a command with these words and options.
-use Rattle.std.proofs.Common.{◌≡◌, ◌∙◌, ◌⊎◌, inl, inr, ◌+◌, ◌<◌, ◌≤◌, ◌++◌, ◌&&◌, ◌||◌, ◌==◌, ℕ, zero, suc, Bool, true, false, not, List, [], ◌∷◌, map, length, Option, Some, None, refl, sym, ap, subst, arith, cond, option_map, is_some, true≢false, eqb-true, eq-eqb}
+use Rattle.std.proofs.Common.{◌≡◌, ◌∙◌, inl, inr, ◌+◌, ◌<◌, ◌++◌, ◌&&◌, ◌||◌, ◌==◌, ℕ, Bool, true, false, not, List, [], ◌∷◌, map, length, Option, Some, None, refl, sym, ap, subst, arith, cond, option_map, true≢false, eqb-true}
 use Rattle.std.specs.Prelude.{find, min}
-use Rattle.std.specs.List.{list_any, list_all}
+use Rattle.std.specs.List.{list_any}
 use Rattle.std.specs.Option.{option_map_or}
 use Rattle.std.specs.Str.{bytes_eq}
-use Rattle.std.proofs.lemmas.Slice.Eq.{bytes_eq-Decides}
 use Rattle.clap.specs.Words.{Rule}
 use Rattle.clap.specs.Lexer.{usize_max}
 use Rattle.clap.specs.Walk.{arg_by_index, arg_by_long, arg_by_short, arg_by_id}
 use Rattle.clap.specs.Walk.{Row, rows_after, with_default, has_row, idle, nothing_held}
 use Rattle.clap.specs.Takes.{is_given}
-use Rattle.clap.specs.Faults.{level_fault, defaults_fault, check_fault, default_fault}
-use Rattle.clap.specs.Kinds.{Kinds, or_else, check_kinds}
+use Rattle.clap.specs.Faults.{level_fault, defaults_fault, check_fault}
+use Rattle.clap.specs.Kinds.{or_else}
 use Rattle.clap.specs.declared.error.kind.ErrorKind.TheVariants as kind
 use Rattle.std.specs.Prelude.{fold}
 use Rattle.command_line.specs.CommandLine.{Text, Given, is_named, is_one_of}
 use Rattle.command_line.proofs.Reading.{once_after, uses, free}
-use Rattle.command_line.proofs.Level.{word_rule, option_rule, leaf, held, between}
-use Rattle.command_line.proofs.Law.{Acts, word_acts, option_acts, rows, row, clean, Each, reads, reads_rows, verdict_by, outcome}
+use Rattle.command_line.proofs.Level.{word_rule, option_rule, leaf, between}
+use Rattle.command_line.proofs.Law.{Acts, word_acts, option_acts, rows, clean, Each, reads, reads_rows, verdict_by, outcome}
+use Rattle.command_line.proofs.BoolLemmas.{either}
+use Rattle.command_line.proofs.Bytes.{same_text, text_self}
 
 abbrev pub options : List Text → List Rule
 options = map option_rule
@@ -34,10 +35,6 @@ no_index : (opts : List Text) (i : ℕ) → find (λ (a : Rule). option_map_or (
 no_index [] i = refl
 no_index (o ∷ os) i = no_index os i
 
-either : (b : Bool) → (b ≡ true) ⊎ (b ≡ false)
-either true = inl refl
-either false = inr refl
-
 pub by_index : (k : ℕ) (ids opts : List Text) (i : ℕ) → arg_by_index (words_from k ids (options opts)) i ≡ option_map (word_rule i) (at_from k ids i)
 by_index k [] opts i = no_index opts i
 by_index k (id ∷ ids) opts i = elim (either (k == i)) [
@@ -45,13 +42,10 @@ by_index k (id ∷ ids) opts i = elim (either (k == i)) [
   | inr other ↦ rw other (by_index (k + 1) ids opts i)
 ]
 
-text_same : (a b : Text) → bytes_eq a b ≡ true → a ≡ b
-text_same a b e = (bytes_eq-Decides a b).0 e
-
 long_option : (opts : List Text) (n : Text) → arg_by_long (options opts) n ≡ cond (is_one_of opts n) (Some (option_rule n)) None
 long_option [] n = refl
 long_option (o ∷ os) n = elim (either (bytes_eq o n)) [
-  | inl same ↦ rw same (ap (λ (m : Text). Some (option_rule m)) (text_same o n same))
+  | inl same ↦ rw same (ap (λ (m : Text). Some (option_rule m)) (same_text o n same))
   | inr other ↦ rw other (long_option os n)
 ]
 
@@ -69,14 +63,14 @@ by_short k (id ∷ ids) opts x = by_short (k + 1) ids opts x
 found_option : (opts : List Text) (id : Text) → is_one_of opts id ≡ true → (a : Rule) × (arg_by_id (options opts) id ≡ Some a) × Acts a id
 found_option [] id e = absurd (true≢false (sym e))
 found_option (o ∷ os) id e = elim (either (bytes_eq o id)) [
-  | inl same ↦ (option_rule o, rw same refl, subst (λ (n : Text). Acts (option_rule o) n) (text_same o id same) (option_acts o))
+  | inl same ↦ (option_rule o, rw same refl, subst (λ (n : Text). Acts (option_rule o) n) (same_text o id same) (option_acts o))
   | inr other ↦ let next = found_option os id (rw other at e) in (next.0, rw other next.1, next.2)
 ]
 
 pub by_id : (k : ℕ) (ids opts : List Text) (id : Text) → is_one_of (ids ++ opts) id ≡ true → (a : Rule) × (arg_by_id (words_from k ids (options opts)) id ≡ Some a) × Acts a id
 by_id k [] opts id e = found_option opts id e
 by_id k (i ∷ ids) opts id e = elim (either (bytes_eq i id)) [
-  | inl same ↦ (word_rule k i, rw same refl, subst (λ (n : Text). Acts (word_rule k i) n) (text_same i id same) (word_acts k i))
+  | inl same ↦ (word_rule k i, rw same refl, subst (λ (n : Text). Acts (word_rule k i) n) (same_text i id same) (word_acts k i))
   | inr other ↦ let next = by_id (k + 1) ids opts id (rw other at e) in (next.0, rw other next.1, next.2)
 ]
 
@@ -125,13 +119,10 @@ any_append : (xs ys : List Text) (n : Text) → is_one_of ys n ≡ true → is_o
 any_append [] ys n e = e
 any_append (x ∷ xs) ys n e = rw (any_append xs ys n e) (or_true (bytes_eq x n))
 
-self : (bs : List ℕ) → bytes_eq bs bs ≡ true
-self bs = (bytes_eq-Decides bs bs).1 refl
-
 at_one : (k : ℕ) (ids opts : List Text) (i : ℕ) (id : Text) → at_from k ids i ≡ Some id → is_one_of (ids ++ opts) id ≡ true
 at_one k [] opts i id e = absurd (let bad : None ≡ Some id = e in cc)
 at_one k (x ∷ xs) opts i id e = elim (either (k == i)) [
-  | inl same ↦ let here : Some x ≡ Some id = rw same at e in let one : x ≡ id = cc in rw (ap (λ (n : Text). bytes_eq x n) (sym one) ∙ self x) refl
+  | inl same ↦ let here : Some x ≡ Some id = rw same at e in let one : x ≡ id = cc in rw (ap (λ (n : Text). bytes_eq x n) (sym one) ∙ text_self x) refl
   | inr other ↦ rw (at_one (k + 1) xs opts i id (rw other at e)) (or_true (bytes_eq x id))
 ]
 

@@ -1,6 +1,6 @@
 -- What the uses of items say of each name: the positional words in order, and the options.
-use Rattle.std.proofs.Common.{◌≡◌, ◌∙◌, ◌⊎◌, inl, inr, ◌+◌, ◌≤◌, ◌++◌, ◌&&◌, ◌||◌, ◌==◌, ℕ, zero, suc, Bool, true, false, not, List, [], ◌∷◌, length, map, Option, Some, None, refl, sym, ap, ap₂, arith, cond, subst, true≢false, is_some, option_map}
-use Rattle.std.specs.Prelude.{find, slice_get, unwrap_or}
+use Rattle.std.proofs.Common.{◌≡◌, ◌∙◌, inl, inr, ◌≤◌, ◌++◌, ◌&&◌, ◌||◌, Bool, true, false, not, List, [], ◌∷◌, length, map, Option, Some, None, refl, sym, ap, ap₂, arith, cond, true≢false, is_some, option_map}
+use Rattle.std.specs.Prelude.{find, unwrap_or}
 use Rattle.std.specs.List.{flat_map, list_all, list_any}
 use Rattle.std.specs.Str.{bytes_eq}
 use Rattle.std.proofs.lemmas.List.Folds.{list_any-append}
@@ -9,25 +9,14 @@ use Rattle.command_line.specs.CommandLine.{Text, Given, Item, word, joined, apar
 use Rattle.command_line.proofs.Reading.{more, once_after}
 use Rattle.command_line.proofs.Law.{rows}
 use Rattle.command_line.proofs.Lookup.{lacks}
-use Rattle.command_line.proofs.Bytes.{either, same_text, text_self, text_sym}
-use Rattle.command_line.proofs.Items.{item_uses, ending_uses, tail_uses}
+use Rattle.command_line.proofs.Bytes.{same_text, text_self, text_sym}
+use Rattle.command_line.proofs.Items.{item_uses, tail_uses}
+use Rattle.command_line.proofs.BoolLemmas.{both, either, neither, not_true}
 
 -- the names of the positional words, each another than the later ones and than every option
 abbrev pub are_apart : List Text → List Text → Bool
 are_apart [] opts = true
 are_apart (id ∷ ids) opts = not (is_one_of (ids ++ opts) id) && are_apart ids opts
-
-both : (a b : Bool) → (a && b) ≡ true → (a ≡ true) × (b ≡ true)
-both true b e = (refl, e)
-both false b e = absurd (true≢false (sym e))
-
-not_true : (a : Bool) → not a ≡ true → a ≡ false
-not_true true e = absurd (true≢false (sym e))
-not_true false e = refl
-
-neither : (a b : Bool) → (a || b) ≡ false → (a ≡ false) × (b ≡ false)
-neither true b e = absurd (true≢false e)
-neither false b e = (refl, e)
 
 pub first_row : (id : Text) (us : List Given) → first_of id (rows us) ≡ value_of id us
 first_row id [] = refl

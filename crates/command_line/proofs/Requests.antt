@@ -1,14 +1,15 @@
 -- Every command line: what clap takes is asked for, what is asked for is taken, and words ask for one thing.
-use Rattle.std.proofs.Common.{◌≡◌, ◌∙◌, ◌⊎◌, inl, inr, ◌++◌, ℕ, true, false, List, [], ◌∷◌, Option, Some, None, sym, ap, codes, subst, true≢false}
+use Rattle.std.proofs.Common.{◌≡◌, ◌∙◌, inl, inr, false, List, [], ◌∷◌, Some, sym, ap, codes, subst, true≢false}
 use Rattle.std.specs.Str.{bytes_eq}
 use Rattle.clap.specs.Words.{fault_of}
 use Rattle.command_line.specs.App.{peep_app}
 use Rattle.command_line.specs.CommandLine.{AskFor, Request, Text, rewrite}
 use Rattle.command_line.proofs.Law.{clean}
 use Rattle.command_line.proofs.Views.{AreTexts, word_is}
-use Rattle.command_line.proofs.Bytes.{either, same_text}
+use Rattle.command_line.proofs.Bytes.{same_text}
 use Rattle.command_line.proofs.Top.{nothing_fault, other_first}
 use Rattle.command_line.proofs.Rewrite.{meaning, rewrite_complete, rewrite_one, rewrite_sound}
+use Rattle.command_line.proofs.BoolLemmas.{either}
 
 pub sound : (ws : List Text) → AreTexts ws → fault_of peep_app ws ≡ [] → (r : Request) → meaning ws ≡ Some r → AskFor ws r
 sound [] texts fine r e = absurd (true≢false (sym (ap clean fine) ∙ nothing_fault))

@@ -1,7 +1,6 @@
 -- The words and options of `rewrite`, and what they ask for.
-use Rattle.std.proofs.Common.{◌≡◌, ◌∙◌, ◌⊎◌, inl, inr, ◌+◌, ◌<◌, ◌++◌, ◌&&◌, ℕ, Bool, true, false, List, [], ◌∷◌, length, map, Option, Some, None, refl, sym, ap, ap₂, arith, codes, cond, subst, true≢false, option_map}
+use Rattle.std.proofs.Common.{◌≡◌, ◌∙◌, ℕ, List, [], ◌∷◌, map, Option, Some, None, refl, sym, ap, arith, codes, subst, option_map}
 use Rattle.std.specs.Prelude.{option_and_then}
-use Rattle.std.specs.Str.{bytes_eq}
 use Rattle.clap.specs.Words.{fault_of, first_of, subcommand_of}
 use Rattle.command_line.specs.App.{asked, peep_app, rewrite_asked, rewrite_words}
 use Rattle.command_line.specs.CommandLine.{AskFor, Given, IsCommand, Request, Text, base_of, rewrite, rewrite_options, value_of}

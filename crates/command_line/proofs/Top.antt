@@ -1,10 +1,10 @@
 -- clap at the first word: it names a command, or is refused.
-use Rattle.std.proofs.Common.{◌≡◌, ◌∙◌, ◌⊎◌, inl, inr, ◌+◌, ◌++◌, ◌&&◌, ℕ, Bool, true, false, not, List, [], ◌∷◌, Option, Some, None, refl, sym, ap, ap₂, codes, cond, append_assoc, append-nil, is_some, true≢false}
-use Rattle.std.specs.Prelude.{fold, find, slice_get}
+use Rattle.std.proofs.Common.{◌≡◌, ◌∙◌, ◌++◌, ℕ, false, List, [], ◌∷◌, Option, Some, None, refl, sym, ap, ap₂, codes, append_assoc, append-nil, is_some, true≢false}
+use Rattle.std.specs.Prelude.{fold, slice_get}
 use Rattle.std.specs.Str.{bytes_eq, chars}
 use Rattle.clap.specs.Lexer.{long_of, short_of}
 use Rattle.clap.specs.Simple.{entered}
-use Rattle.clap.specs.Words.{App, Rule, Row, Shape, Text, built, fault_of, subcommand_of}
+use Rattle.clap.specs.Words.{Rule, Shape, Text, built, fault_of, subcommand_of}
 use Rattle.clap.specs.Walk.{Names, Walk, finished, nothing_held, rows_after, settled, walk_from, walked}
 use Rattle.clap.specs.Faults.{check_fault, defaults_fault, entered_fault, level_fault, settle_fault, turn_fault, walk_fault}
 use Rattle.clap.specs.Kinds.{Kinds, or_else}
@@ -15,7 +15,7 @@ use Rattle.command_line.specs.CommandLine.{rewrite_options}
 use Rattle.command_line.proofs.Level.{leaf, or_else_nil}
 use Rattle.command_line.proofs.Law.{Is, is_dashes, is_joined, is_apart, is_unknown, is_short, is_plain, clean}
 use Rattle.command_line.proofs.Lookup.{options, words_from}
-use Rattle.command_line.proofs.Bytes.{either, same_text}
+use Rattle.command_line.proofs.Bytes.{same_text}
 
 -- once a command was met, the words go to it
 stopped_walk : (c : List Rule) (names : Names) (w : Walk) (name : Text) (rest words : List Text)

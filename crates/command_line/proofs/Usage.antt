@@ -1,5 +1,5 @@
 -- From what clap promises to what the words ask for.
-use Rattle.std.proofs.Common.{◌≡◌, ◌≢◌, ◌∙◌, ◌<◌, ℕ, zero, suc, List, [], ◌∷◌, length, map, Option, Some, None, refl, sym, ap, ap₂, arith, Bor, codes, option_map, subst}
+use Rattle.std.proofs.Common.{◌≡◌, ◌≢◌, ◌∙◌, suc, List, [], ◌∷◌, map, Option, Some, None, refl, sym, ap, ap₂, arith, Bor, codes, option_map, subst}
 use Rattle.std.specs.Prelude.{All, MatchOption, option_and_then}
 use Rattle.std.specs.Box.{box_value}
 use Rattle.std.specs.Str.{IsUtf8}

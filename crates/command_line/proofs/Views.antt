@@ -1,16 +1,13 @@
 -- What a word is, for words in UTF-8.
-use Rattle.std.proofs.Common.{◌≡◌, ◌∙◌, ◌⊎◌, inl, inr, ◌+◌, ◌<◌, ◌++◌, ◌&&◌, ◌==◌, ℕ, Bool, true, false, not, List, [], ◌∷◌, map, length, Option, Some, None, refl, sym, ap, arith, cond, codes, true≢false, eqb-true, subst}
-use Rattle.std.specs.Prelude.{slice_get, find}
+use Rattle.std.proofs.Common.{◌≡◌, ◌∙◌, inl, inr, ◌==◌, ℕ, Bool, true, false, List, [], ◌∷◌, Option, Some, None, refl, sym, ap, eqb-true, subst}
+use Rattle.std.specs.Prelude.{slice_get}
 use Rattle.std.specs.Char.{encode_utf8}
 use Rattle.std.specs.Str.{IsUtf8, bytes_eq, chars, encode_utf8_all}
 use Rattle.std.proofs.lemmas.Str.{encodes-chars}
-use Rattle.clap.specs.Lexer.{long_of, short_of, name_and_value}
+use Rattle.clap.specs.Lexer.{long_of, name_and_value}
 use Rattle.command_line.specs.CommandLine.{Text}
 use Rattle.command_line.proofs.Law.{Is, is_dashes, is_joined, is_apart, is_unknown, is_short, is_plain, Each}
-
-either : (b : Bool) → (b ≡ true) ⊎ (b ≡ false)
-either true = inl refl
-either false = inr refl
+use Rattle.command_line.proofs.BoolLemmas.{either}
 
 chars_step : (b : ℕ) (cs : List ℕ) → chars (45 ∷ b ∷ cs) ≡ 45 ∷ chars (b ∷ cs)
 unfolding chars

@@ -1,5 +1,5 @@
 -- The program and its commands, as clap's definitions see them.
-use Rattle.std.specs.Prelude.{ℕ, true, List, [], ◌∷◌, Option, Some, None, codes, fold, option_map, option_and_then, if◌then◌else◌}
+use Rattle.std.specs.Prelude.{true, List, [], ◌∷◌, Option, Some, None, codes, fold, option_map, option_and_then, if◌then◌else◌}
 use Rattle.std.specs.Str.{bytes_eq}
 use Rattle.clap.specs.Words.{App, Row, first_of, Rule, Text, new_app, new_rule, with_rule, with_subcommand}
 use Rattle.command_line.specs.CommandLine.{Request, rewrite, rewrite_options, base_of}

@@ -1,4 +1,10 @@
 //! The command line: what the words after the program's name ask for.
+//!
+//! `specs/CommandLine.antt` says what a command line is, in words of its own. The words are read by clap (`app`), numerals and their
+//! limits by us (`values`), and `usage_of` promises that both together are that definition.
+//!
+//! A further command is a variant of `Command`, its words and options in `specs/App.antt`, what it asks for in `specs/CommandLine.antt`
+//! and `specs/Request.antt`, a function in `app` and one in `values`, and in the proofs a copy of `Rewrite.antt`'s lemmas at its lists.
 #![tactic(auto)]
 
 ghost use Rattle.std.specs.Prelude.{◌≡◌, ◌≢◌, [], All, IfOk, MatchOption, map, string_bytes};
@@ -48,7 +54,7 @@ fn matches_of<'a>(alloc: Global, words: &'a [&'a str]) -> Result<Option<ArgMatch
     }
 }
 
-/// The command that the words after the program's name are, or None where they are none.
+/// The command that the words after the program's name are, or None where they are none. The one error is want of memory.
 pub fn usage_of(alloc: Global, words: &[String]) -> Result<Option<Command>, Memory>
     ensures exact { IfOk result (λ o. MatchOption o
         ((r : Request) → AskFor (map string_bytes words.now) r → ⊥)
