@@ -1,0 +1,5 @@
+pub mod Literals
+pub mod Building
+pub mod Values
+pub mod Order
+pub mod Chosen

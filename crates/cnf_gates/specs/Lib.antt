@@ -1,0 +1,3 @@
+pub mod Cnf
+pub mod Gates
+pub mod Meaning

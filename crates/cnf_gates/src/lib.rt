@@ -1,0 +1,15 @@
+// Gates over bits, written as clauses in conjunctive normal form (the transformation of Tseitin),
+// with constants folded and one gate for each key.
+#![tactic(auto)]
+
+mod bit;
+mod builder;
+mod clauses;
+mod errors;
+mod formula;
+pub mod laws;
+
+pub use bit::{Bit, Gate, LIMIT, Literal, Variable};
+pub use builder::Builder;
+pub use errors::{GateError, Memory};
+pub use formula::Formula;
