@@ -1,5 +1,5 @@
 -- Lemmas on the literals of clauses.
-use Rattle.std.proofs.Common.{◌≡◌, ℕ, zero, suc, ◌+◌, ◌<◌, List, [], ◌∷◌, ◌++◌, Bool, true, false, length, map, slice_index_or, ℤ, All, arith, drop, get_or, drop-cons, ap, sym, ◌∙◌}
+use Rattle.std.proofs.Common.{◌≡◌, ℕ, zero, suc, ◌+◌, ◌<◌, ◌≤◌, List, [], ◌∷◌, ◌++◌, Bool, true, false, length, map, slice_index_or, ℤ, All, arith, drop, get_or, drop-cons, ap, sym, ◌∙◌}
 use Rattle.std.proofs.lemmas.Int.{ints}
 use Rattle.cnf_gates.specs.Cnf.{IsLiteralOf, AreLiteralsOf, AreClausesOf}
 use Rattle.cnf_gates.specs.declared.bit.Literal.{Literal}
@@ -42,3 +42,15 @@ AreClausesOf-push n cs c h k = AreClausesOf-append n cs (c ∷ []) h (k, tt)
 -- the numbers of the literals from a place on
 pub numbers_from : (ls : List Literal) (i : ℕ) (l : Literal) → i < length ls → l ≡ get_or ls i l → map number (drop i ls) ≡ number l ∷ map number (drop (i + 1) ls)
 numbers_from ls i l h e = ap (map number) (drop-cons ls i l h) ∙ ap (λ x. number x ∷ map number (drop (suc i) ls)) (sym e) ∙ ap (λ k. number l ∷ map number (drop k ls)) (let one : suc i ≡ i + 1 = omega arith in one)
+
+-- room for more variables
+pub IsLiteralOf-more : (n k : ℕ) (z : ℤ) → n ≤ k → IsLiteralOf n z → IsLiteralOf k z
+IsLiteralOf-more n k z h l = (l.0, omega (arith, ints), omega (arith, ints))
+
+pub AreLiteralsOf-more : (n k : ℕ) (zs : List ℤ) → n ≤ k → AreLiteralsOf n zs → AreLiteralsOf k zs
+AreLiteralsOf-more n k [] h l = tt
+AreLiteralsOf-more n k (z ∷ zs) h l = (IsLiteralOf-more n k z h l.0, AreLiteralsOf-more n k zs h l.1)
+
+pub AreClausesOf-more : (n k : ℕ) (cs : List (List ℤ)) → n ≤ k → AreClausesOf n cs → AreClausesOf k cs
+AreClausesOf-more n k [] h l = tt
+AreClausesOf-more n k (c ∷ cs) h l = (AreLiteralsOf-more n k c h l.0, AreClausesOf-more n k cs h l.1)

@@ -1,3 +1,4 @@
 pub mod Cnf
 pub mod Gates
+pub mod Growth
 pub mod Meaning
