@@ -6,3 +6,4 @@ pub mod Order
 pub mod Giving
 pub mod Chosen
 pub mod Consequences
+pub mod Text
