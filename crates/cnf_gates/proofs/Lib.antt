@@ -4,6 +4,7 @@ pub mod Tables
 pub mod Values
 pub mod Order
 pub mod Giving
+pub mod Distinct
 pub mod Chosen
 pub mod Consequences
 pub mod Text

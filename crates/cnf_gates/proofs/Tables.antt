@@ -152,3 +152,21 @@ ite_clauses false false true true = refl
 ite_clauses false false true false = refl
 ite_clauses false false false true = refl
 ite_clauses false false false false = refl
+
+pub or_assoc : (a b c : Bool) → (a || (b || c)) ≡ ((a || b) || c)
+or_assoc true b c = refl
+or_assoc false b c = refl
+
+pub or_swap : (a b c : Bool) → (a || (b || c)) ≡ (b || (a || c))
+or_swap true true c = refl
+or_swap true false c = refl
+or_swap false b c = refl
+
+pub or_false : (a : Bool) → (a || false) ≡ a
+or_false true = refl
+or_false false = refl
+
+pub and_one : (a b : Bool) → (a && (b && true)) ≡ (a && b)
+and_one true true = refl
+and_one true false = refl
+and_one false b = refl

@@ -16,5 +16,6 @@ clause_line literals = flat_map literal_text literals ++ 48 ∷ 10 ∷ []
 abbrev pub header_line : ℕ → ℕ → List ℕ
 header_line variables clauses = codes "p cnf " ++ decimal variables ++ 32 ∷ decimal clauses ++ 10 ∷ []
 
+-- the whole text
 abbrev pub dimacs : Cnf → List ℕ
 dimacs f = header_line f.variables (length f.clauses) ++ flat_map clause_line f.clauses

@@ -1,5 +1,5 @@
 -- Bits, gates and their clauses.
-use Rattle.std.specs.Prelude.{◌≡◌, ℕ, suc, Bool, true, false, not, ◌&&◌, ◌==◌, nat_lt, if◌then◌else◌, ℤ, pos, negsuc, List, [], ◌∷◌, ◌++◌, map, Option, Some, None}
+use Rattle.std.specs.Prelude.{◌≡◌, ℕ, suc, Bool, true, false, not, ◌&&◌, ◌==◌, nat_lt, if◌then◌else◌, ℤ, pos, negsuc, List, [], ◌∷◌, ◌++◌, map, filter, Option, Some, None}
 use mathlib.Core.Bool.{beq, ◌||◌}
 use Rattle.std.specs.Map.{lookup}
 use Rattle.cnf_gates.specs.Cnf.{Cnf}
@@ -27,7 +27,7 @@ number_of v true = negsuc v
 abbrev pub number : Literal → ℤ
 number l = number_of l.variable l.negative
 
--- literals are ordered by variable, positive first
+-- whether two literals are equal, and whether one is the lesser: they are ordered by variable, positive first
 abbrev pub literal_eq : Literal → Literal → Bool
 literal_eq a b = (a.variable == b.variable) && beq a.negative b.negative
 
@@ -36,6 +36,7 @@ literal_lt a b = if a.variable == b.variable then (not a.negative && b.negative)
 
 -- ---- gates
 
+-- whether two keys are equal
 abbrev pub gate_eq : Gate → Gate → Bool
 gate_eq (And a b) (And c d) = literal_eq a c && literal_eq b d
 gate_eq (And a b) (Xor x y) = false
@@ -69,12 +70,13 @@ clauses_of (Ite c t e) g =
 
 -- ---- building
 
--- what was built: how many variables, the clauses in order, and each gate with its variable in order
+-- what was built: how many variables, the clauses in order, and each gate with its variable, in the order of making
 pub record Built : Type 0 where
   pub variables : ℕ
   pub clauses : List (List ℤ)
   pub gates : List (Gate × ℕ)
 
+-- the start
 abbrev pub nothing_built : Built
 nothing_built = record { variables = 0; clauses = []; gates = [] }
 
@@ -94,6 +96,7 @@ abbrev pub found_or : Option ℕ → Built → Gate → Built × Bit
 found_or (Some v) b gate = (b, Signed (positive v))
 found_or None b gate = with_gate b gate
 
+-- the bit of a gate
 abbrev pub gate_of : Built → Gate → Built × Bit
 gate_of b gate = found_or (lookup (gate_eq gate) b.gates) b gate
 
@@ -151,6 +154,7 @@ choice_of b c (Signed t) (Signed e) =
     else if c.negative then gate_of b (Ite c.variable e t)
     else gate_of b (Ite c.variable t e)
 
+-- whether two bits are equal
 abbrev pub bit_eq : Bit → Bit → Bool
 bit_eq (Constant a) (Constant b) = beq a b
 bit_eq (Constant a) (Signed y) = false
@@ -194,17 +198,19 @@ abbrev pub has_pair : List Literal → Bool
 has_pair [] = false
 has_pair (l ∷ ls) = among (contrary l) ls || has_pair ls
 
+-- such a clause is always true
 abbrev pub always_true : List Bit → Bool
 always_true bits = has_true bits || has_pair (literals bits)
 
 -- each literal once, in the order of their first places
-abbrev pub distinct_onto : List Literal → List Literal → List Literal
-distinct_onto kept [] = kept
-distinct_onto kept (l ∷ ls) = if among l kept then distinct_onto kept ls else distinct_onto (kept ++ l ∷ []) ls
+abbrev pub distinct : List Literal → List Literal
+distinct [] = []
+distinct (l ∷ ls) = l ∷ filter (λ k. not (literal_eq l k)) (distinct ls)
 
--- or_clause(bits)
+-- or_clause(bits): the clause that one of the bits is true, unless it always is
 abbrev pub or_clause_of : Built → List Bit → Built
-or_clause_of b bits = if always_true bits then b else record b { clauses = b.clauses ++ map number (distinct_onto [] (literals bits)) ∷ [] }
+or_clause_of b bits = if always_true bits then b else record b { clauses = b.clauses ++ map number (distinct (literals bits)) ∷ [] }
 
+-- the formula of what was built
 abbrev pub formula_of : Built → Cnf
 formula_of b = record { variables = b.variables; clauses = b.clauses }

@@ -14,6 +14,7 @@ abbrev pub BitBelow : ℕ → Bit → Type 0
 BitBelow v (Constant c) = Unit {0}
 BitBelow v (Signed l) = l.variable < v
 
+-- each of the bits is
 abbrev pub AllBelow : ℕ → List Bit → Type 0
 AllBelow v [] = Unit {0}
 AllBelow v (x ∷ xs) = BitBelow v x × AllBelow v xs

@@ -2,7 +2,7 @@ ghost use Rattle.std.specs.Prelude.{◌≡◌, ◌<◌, ℕ};
 
 use std::marker::Model;
 
-/// How many variables there may be.
+/// How many variables a builder or a formula may have.
 pub const LIMIT: u32 = 200_000;
 
 /// A variable by its place, from 0 on.
@@ -22,6 +22,7 @@ impl Model for Variable {
 }
 
 impl Variable {
+    /// The variable at a place.
     pub fn new(place: u32) -> Variable
         requires { place < 200000 }
         ensures { result ≡ place }
@@ -29,6 +30,7 @@ impl Variable {
         Variable { place }
     }
 
+    /// Its place, from 0 on.
     pub fn place(self) -> u32
         ensures place { result ≡ self }
         ensures within { result < 200000 }
@@ -44,14 +46,15 @@ pub struct Literal {
     pub negative: bool,
 }
 
-/// A constant or a literal.
+/// A constant or a literal: what a builder's operations take and give.
 #[derive(Clone, Copy, Debug, PartialEq, Eq, Hash)]
 pub enum Bit {
     Constant(bool),
     Signed(Literal),
 }
 
-/// What a gate computes.
+/// What a gate computes: the key under which it is kept. The lesser literal or variable stands
+/// first; a choice is by a positive condition.
 #[derive(Clone, Copy, Debug, PartialEq, Eq, Hash)]
 pub enum Gate {
     And(Literal, Literal),

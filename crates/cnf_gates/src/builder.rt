@@ -9,6 +9,12 @@ use std::alloc::Global;
 use std::marker::Model;
 
 /// Builds clauses gate by gate, with one gate for each key.
+///
+/// Variables are numbered from 1 as they are made, and clauses stand in the order in which they
+/// were added. A bit that is handed in is a constant or a literal of one of the builder's
+/// variables; what an operation means is said of such bits alone. An operation that answers an
+/// error leaves the builder as it was: `Limit` comes exactly where a new variable is needed and
+/// `LIMIT` of them exist.
 #[derive(Drop)]
 pub struct Builder {
     alloc: Global,
@@ -66,7 +72,7 @@ impl Builder {
         Ok(Bit::Signed(positive(output)))
     }
 
-    /// The conjunction of two bits.
+    /// The conjunction of two bits: a constant, one of them, or a gate's bit.
     pub fn and(&mut self, a: Bit, b: Bit) -> Result<Bit, GateError>
         ensures ok { IfOk result (λ bit. (self.new, bit) ≡ and_of self.old a b) }
         ensures limit { (result ≡ Err GateError.Limit) ↔ IsPast self.old (and_of self.old a b) }
@@ -100,7 +106,7 @@ impl Builder {
         Ok(both.not())
     }
 
-    /// Whether two bits differ.
+    /// Whether two bits differ: the gate is that of their variables, negated where the signs differ.
     pub fn xor(&mut self, a: Bit, b: Bit) -> Result<Bit, GateError>
         ensures ok { IfOk result (λ bit. (self.new, bit) ≡ xor_of self.old a b) }
         ensures limit { (result ≡ Err GateError.Limit) ↔ IsPast self.old (xor_of self.old a b) }
@@ -146,7 +152,8 @@ impl Builder {
         }
     }
 
-    /// `t` where `c` holds, and else `e`.
+    /// `t` where `c` holds, and else `e`. Where that is a conjunction, a disjunction or a
+    /// difference, it is made as one.
     pub fn ite(&mut self, c: Bit, t: Bit, e: Bit) -> Result<Bit, GateError>
         ensures ok { IfOk result (λ bit. (self.new, bit) ≡ ite_of self.old c t e) }
         ensures limit { (result ≡ Err GateError.Limit) ↔ IsPast self.old (ite_of self.old c t e) }
@@ -178,7 +185,8 @@ impl Builder {
         Ok(Bit::Signed(positive(input)))
     }
 
-    /// Adds the clause that one of the bits is true, without false ones and repeats; nothing where it always is.
+    /// Adds the clause that one of the bits is true, without False and repeats. Where True or a
+    /// contrary pair is among them, nothing is added.
     pub fn or_clause(&mut self, bits: &[Bit]) -> Result<(), Memory>
         ensures ok { OnOk result (self.new ≡ or_clause_of self.old bits.now) }
         ensures err { OnErr result (self.new ≡ self.old) }
@@ -189,7 +197,7 @@ impl Builder {
         Ok(())
     }
 
-    /// The clauses built.
+    /// The formula of all clauses built.
     pub fn finish(self) -> Formula
         ensures { result ≡ formula_of self }
     {

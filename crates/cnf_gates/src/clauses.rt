@@ -1,6 +1,6 @@
 ghost use Rattle.std.specs.Prelude.{◌≡◌, IfOk, IfNone, IfSome, map, [], true, false};
 ghost use Rattle.cnf_gates.specs.Cnf.{AreLiterals, AreClauses};
-ghost use Rattle.cnf_gates.specs.Gates.{positive, clauses_of, among, has_true, has_pair, always_true, literals, distinct_onto, number};
+ghost use Rattle.cnf_gates.specs.Gates.{positive, clauses_of, among, has_true, has_pair, always_true, literals, distinct, number};
 
 use crate::bit::{Bit, Gate, Literal, Variable};
 use std::alloc::{AllocError, Global};
@@ -99,7 +99,7 @@ fn has_pair(literals: &[Literal]) -> bool
 
 /// Each literal once, in the order of their first places.
 fn distinct(alloc: Global, literals: &[Literal]) -> Result<Vec<Literal>, AllocError>
-    ensures { IfOk result (λ v. v.items ≡ distinct_onto [] literals.now) }
+    ensures { IfOk result (λ v. v.items ≡ distinct literals.now) }
 {
     let mut kept = Vec::new(alloc);
     for literal in literals {
@@ -125,7 +125,7 @@ fn numbers(alloc: Global, literals: &[Literal]) -> Result<Vec<i32>, AllocError>
 /// The clause that one of the bits is true, each literal once; None where it is always true.
 pub fn clause_of(alloc: Global, bits: &[Bit]) -> Result<Option<Vec<i32>>, AllocError>
     ensures always { IfOk result (λ o. IfNone o (always_true bits.now ≡ true)) }
-    ensures numbers { IfOk result (λ o. IfSome o (λ v. (always_true bits.now ≡ false) × (v.items ≡ map number (distinct_onto [] (literals bits.now))))) }
+    ensures numbers { IfOk result (λ o. IfSome o (λ v. (always_true bits.now ≡ false) × (v.items ≡ map number (distinct (literals bits.now))))) }
     ensures literals { IfOk result (λ o. IfSome o (λ v. AreLiterals v.items)) }
 {
     if has_true(bits) {

@@ -24,6 +24,7 @@ pub enum GateError {
     /// A new variable is needed, and there are as many as there may be.
     #[error("no variable is left")]
     Limit,
+    /// Want of memory.
     #[error("out of memory")]
     Memory,
 }

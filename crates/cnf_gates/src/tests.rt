@@ -24,14 +24,14 @@ fn pairs_fold(rt: HostRuntime) -> Result<(), Fail> {
     let (yes, no) = (&Bit::Constant(true), &Bit::Constant(false));
     let x = &builder.input()?;
     let z = &x.not();
-    for (a, b, and, or, xor) in [
-        (no, x, no, x, x),
-        (x, no, no, x, x),
-        (yes, x, x, yes, z),
-        (x, yes, x, yes, z),
-        (x, x, x, x, no),
-        (x, z, no, yes, yes),
-        (z, x, no, yes, yes),
+    for [a, b, and, or, xor] in &[
+        [*no, *x, *no, *x, *x],
+        [*x, *no, *no, *x, *x],
+        [*yes, *x, *x, *yes, *z],
+        [*x, *yes, *x, *yes, *z],
+        [*x, *x, *x, *x, *no],
+        [*x, *z, *no, *yes, *yes],
+        [*z, *x, *no, *yes, *yes],
     ] {
         assert_eq!(rt; builder.and(*a, *b)?, *and);
         assert_eq!(rt; builder.or(*a, *b)?, *or);
@@ -48,13 +48,13 @@ fn choices_fold(rt: HostRuntime) -> Result<(), Fail> {
     let x = &builder.input()?;
     let y = &builder.input()?;
     let z = &x.not();
-    for (c, t, e, choice) in [
-        (yes, x, y, x),
-        (no, x, y, y),
-        (x, y, y, y),
-        (x, yes, no, x),
-        (x, no, yes, z),
-        (x, x, no, x),
+    for [c, t, e, choice] in &[
+        [*yes, *x, *y, *x],
+        [*no, *x, *y, *y],
+        [*x, *y, *y, *y],
+        [*x, *yes, *no, *x],
+        [*x, *no, *yes, *z],
+        [*x, *x, *no, *x],
     ] {
         assert_eq!(rt; builder.ite(*c, *t, *e)?, *choice);
     }
