@@ -1,0 +1,10 @@
+pub mod Literals
+pub mod Building
+pub mod Tables
+pub mod Values
+pub mod Order
+pub mod Giving
+pub mod Distinct
+pub mod Chosen
+pub mod Consequences
+pub mod Text

@@ -1,0 +1,16 @@
+use Rattle.cnf_gates.specs.Gates.{and_of, or_of, xor_of, ite_of}
+use Rattle.cnf_gates.proofs.Giving.{and_gives, or_gives, xor_gives, ite_gives}
+use Rattle.cnf_gates.proofs.Consequences.{again_at_once}
+use Rattle.cnf_gates.proofs.laws.operations_find_their_gates.Goals as goal
+
+pub returns-clause-and : goal.returns-clause-and
+returns-clause-and c = λ low b x y h p q. again_at_once 1 b (λ d. and_of d x y) _ (and_gives low b x y h p q)
+
+pub returns-clause-or : goal.returns-clause-or
+returns-clause-or c = λ low b x y h p q. again_at_once 1 b (λ d. or_of d x y) _ (or_gives low b x y h p q)
+
+pub returns-clause-xor : goal.returns-clause-xor
+returns-clause-xor c = λ low b x y h p q. again_at_once 1 b (λ d. xor_of d x y) _ (xor_gives low b x y h p q)
+
+pub returns-clause-ite : goal.returns-clause-ite
+returns-clause-ite c = λ low b k t e h p q r. again_at_once 1 b (λ d. ite_of d k t e) _ (ite_gives low b k t e h p q r)

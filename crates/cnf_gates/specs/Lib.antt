@@ -1,0 +1,5 @@
+pub mod Cnf
+pub mod Dimacs
+pub mod Gates
+pub mod Growth
+pub mod Meaning

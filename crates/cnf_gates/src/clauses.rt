@@ -1,0 +1,140 @@
+ghost use Rattle.std.specs.Prelude.{◌≡◌, IfOk, IfNone, IfSome, map, [], true, false};
+ghost use Rattle.cnf_gates.specs.Cnf.{AreLiterals, AreClauses};
+ghost use Rattle.cnf_gates.specs.Gates.{positive, clauses_of, among, has_true, has_pair, always_true, literals, distinct, number};
+
+use crate::bit::{Bit, Gate, Literal, Variable};
+use std::alloc::{AllocError, Global};
+
+/// The variable as a literal.
+pub fn positive(variable: Variable) -> Literal
+    ensures { result ≡ positive variable }
+{
+    Literal {
+        variable,
+        negative: false,
+    }
+}
+
+/// The clauses that make `output` the value of the gate.
+pub fn clauses_of(alloc: Global, gate: &Gate, output: Variable) -> Result<Vec<Vec<i32>>, AllocError>
+    ensures clauses { IfOk result (λ v. map (λ c. c.items) v.items ≡ clauses_of gate.now output) }
+    ensures literals { IfOk result (λ v. AreClauses (map (λ c. c.items) v.items)) }
+{
+    let yes = &positive(output);
+    let no = &yes.contrary();
+    match gate {
+        Gate::And(a, b) => {
+            let first = numbers(alloc, &[*no, *a])?;
+            let second = numbers(alloc, &[*no, *b])?;
+            let third = numbers(alloc, &[*yes, a.contrary(), b.contrary()])?;
+            Ok(vec![in alloc; first, second, third]?)
+        }
+        Gate::Xor(x, y) => {
+            let (x, y) = (&positive(*x), &positive(*y));
+            let first = numbers(alloc, &[*no, *x, *y])?;
+            let second = numbers(alloc, &[*no, x.contrary(), y.contrary()])?;
+            let third = numbers(alloc, &[*yes, x.contrary(), *y])?;
+            let fourth = numbers(alloc, &[*yes, *x, y.contrary()])?;
+            Ok(vec![in alloc; first, second, third, fourth]?)
+        }
+        Gate::Ite(c, t, e) => {
+            let c = &positive(*c);
+            let first = numbers(alloc, &[*no, c.contrary(), *t])?;
+            let second = numbers(alloc, &[*no, *c, *e])?;
+            let third = numbers(alloc, &[*yes, c.contrary(), t.contrary()])?;
+            let fourth = numbers(alloc, &[*yes, *c, e.contrary()])?;
+            Ok(vec![in alloc; first, second, third, fourth]?)
+        }
+    }
+}
+
+/// The literals of the bits, in order.
+fn literals(alloc: Global, bits: &[Bit]) -> Result<Vec<Literal>, AllocError>
+    ensures { IfOk result (λ v. v.items ≡ literals bits.now) }
+{
+    let mut found = Vec::new(alloc);
+    for bit in bits {
+        if let Bit::Signed(literal) = bit {
+            found.push(*literal)?;
+        }
+    }
+    Ok(found)
+}
+
+/// Whether one of the bits is True.
+fn has_true(bits: &[Bit]) -> bool
+    ensures { result ≡ has_true bits.now }
+{
+    for bit in bits {
+        if let Bit::Constant(true) = bit {
+            return true;
+        }
+    }
+    false
+}
+
+/// Whether a literal is among them.
+fn among(literal: &Literal, literals: &[Literal]) -> bool
+    ensures { result ≡ among literal.now literals.now }
+{
+    for other in literals {
+        if *other == *literal {
+            return true;
+        }
+    }
+    false
+}
+
+/// Whether a literal stands before its contrary.
+fn has_pair(literals: &[Literal]) -> bool
+    ensures { result ≡ has_pair literals.now }
+{
+    for (i, literal) in literals.iter().enumerate() {
+        if among(&literal.contrary(), &literals[i + 1..]) {
+            return true;
+        }
+    }
+    false
+}
+
+/// Each literal once, in the order of their first places.
+fn distinct(alloc: Global, literals: &[Literal]) -> Result<Vec<Literal>, AllocError>
+    ensures { IfOk result (λ v. v.items ≡ distinct literals.now) }
+{
+    let mut kept = Vec::new(alloc);
+    for literal in literals {
+        if !among(literal, &kept) {
+            kept.push(*literal)?;
+        }
+    }
+    Ok(kept)
+}
+
+/// The numbers of the literals.
+fn numbers(alloc: Global, literals: &[Literal]) -> Result<Vec<i32>, AllocError>
+    ensures numbers { IfOk result (λ v. v.items ≡ map number literals.now) }
+    ensures literals { IfOk result (λ v. AreLiterals v.items) }
+{
+    let mut numbers = Vec::with_capacity(alloc, literals.len())?;
+    for literal in literals {
+        numbers.push(literal.number())?;
+    }
+    Ok(numbers)
+}
+
+/// The clause that one of the bits is true, each literal once; None where it is always true.
+pub fn clause_of(alloc: Global, bits: &[Bit]) -> Result<Option<Vec<i32>>, AllocError>
+    ensures always { IfOk result (λ o. IfNone o (always_true bits.now ≡ true)) }
+    ensures numbers { IfOk result (λ o. IfSome o (λ v. (always_true bits.now ≡ false) × (v.items ≡ map number (distinct (literals bits.now))))) }
+    ensures literals { IfOk result (λ o. IfSome o (λ v. AreLiterals v.items)) }
+{
+    if has_true(bits) {
+        return Ok(None);
+    }
+    let found = literals(alloc, bits)?;
+    if has_pair(&found) {
+        return Ok(None);
+    }
+    let kept = distinct(alloc, &found)?;
+    Ok(Some(numbers(alloc, &kept)?))
+}
