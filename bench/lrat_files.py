@@ -1,0 +1,148 @@
+"""Builds, outside the repository, a program that runs `lrat_check` on files.
+
+The program reads `formula.cnf` and `lines.txt` in the folder that it is run in and prints a word
+for each line: `ok`, the fault, or `unread`. At the end it tells, on standard error, the
+milliseconds that reading the lines and checking them took, and whether the formula is refuted.
+"""
+
+import pathlib
+import shutil
+import subprocess
+
+REPOSITORY = pathlib.Path(__file__).resolve().parent.parent
+CRATES = {
+    "cnf_gates": "indexmap thiserror",
+    "step_ledger": "",
+    "clause_model": "",
+    "lrat_check": "clause_model cnf_gates step_ledger itoa",
+    "lrat_files": "lrat_check cnf_gates step_ledger anyhow",
+}
+
+MAIN = r"""//! Checks the lines of a file over the formula of another.
+#![tactic(auto)]
+
+ghost use Rattle.std.specs.Prelude.{IfOk, IfSome};
+ghost use Rattle.cnf_gates.specs.Cnf.{IsLiteral, AreLiterals};
+
+use anyhow::Context;
+use cnf_gates::Formula;
+use lrat_check::{Checker, Line, read_line};
+use std::alloc::{AllocError, Global};
+use std::io::{self, BufWriter, Write};
+use std::time::Instant;
+use step_ledger::{Counted, Steps};
+
+fn literal(word: &str) -> Option<i32>
+    ensures { IfSome result IsLiteral }
+{
+    match word.parse::<i32>() {
+        Ok(number) if number != 0 && -200_000 <= number && number <= 200_000 => Some(number),
+        _ => None,
+    }
+}
+
+fn clause(alloc: Global, line: &str) -> Result<Vec<i32>, AllocError>
+    ensures { IfOk result (λ clause. AreLiterals clause.items) }
+{
+    let mut clause = Vec::new(alloc);
+    for word in line.split_whitespace() {
+        if let Some(number) = literal(word) {
+            clause.push(number)?;
+        }
+    }
+    Ok(clause)
+}
+
+fn formula(alloc: Global, text: &str) -> anyhow::Result<Formula> {
+    let mut formula = Formula::new(alloc, 200_000);
+    for line in text.lines() {
+        if !line.starts_with('p') && !line.starts_with('c') && !line.is_empty() {
+            formula.push_clause(clause(alloc, line)?)?;
+        }
+    }
+    Ok(formula)
+}
+
+fn lines(alloc: Global, text: &str) -> anyhow::Result<Vec<Option<Line>>> {
+    let mut lines = Vec::new(alloc);
+    for line in text.lines() {
+        lines.push(read_line(alloc, line.as_bytes())?)?;
+    }
+    Ok(lines)
+}
+
+fn check<W: Write>(checker: &mut Checker, lines: &[Option<Line>], out: &mut W) -> anyhow::Result<()> {
+    let mut steps = Steps::new(Counted::new());
+    for line in lines {
+        match line {
+            None => writeln!(out, "unread")?,
+            Some(line) => match checker.add(line, &mut steps) {
+                Ok(()) => writeln!(out, "ok")?,
+                Err(fault) => writeln!(out, "{fault:?}")?,
+            },
+        }
+    }
+    Ok(())
+}
+
+fn main(rt: HostRuntime) -> anyhow::Result<()> {
+    let alloc = rt.alloc();
+    let text = std::fs::read_to_string(&rt, "formula.cnf").context("formula.cnf")?;
+    let formula = formula(alloc, text.as_str())?;
+    let text = std::fs::read_to_string(&rt, "lines.txt").context("lines.txt")?;
+    let start = Instant::now(&rt)?;
+    let lines = lines(alloc, text.as_str())?;
+    let read = start.elapsed(&rt)?.as_millis();
+    let mut out = BufWriter::new(alloc, io::writer(&rt))?;
+    let start = Instant::now(&rt)?;
+    let mut checker = Checker::new(alloc, &formula)?;
+    check(&mut checker, &lines, &mut out)?;
+    let checked = start.elapsed(&rt)?.as_millis();
+    out.flush()?;
+    eprintln!(rt; "read {read} checked {checked} refuted {}", checker.refuted())?;
+    Ok(())
+}
+"""
+
+INVARIANTS = r"""use Rattle.cnf_gates.specs.Cnf.{AreLiterals}
+use Rattle.lrat_files.proofs.clause.Given as goal
+
+abbrev pub invariant-loop-word : goal.invariant-loop-word
+invariant-loop-word l = AreLiterals l.clause.items
+"""
+
+
+def build(folder):
+    """The program, built in a folder outside the repository."""
+    folder = pathlib.Path(folder)
+    crates = folder / "crates"
+    crates.mkdir(parents=True, exist_ok=True)
+    for name in CRATES:
+        if name != "lrat_files":
+            shutil.copytree(REPOSITORY / "crates" / name, crates / name, dirs_exist_ok=True)
+    program = crates / "lrat_files"
+    (program / "src").mkdir(parents=True, exist_ok=True)
+    (program / "src" / "main.rt").write_text(MAIN)
+    (program / "proofs" / "clause").mkdir(parents=True, exist_ok=True)
+    (program / "proofs" / "clause" / "Invariants.antt").write_text(INVARIANTS)
+    (folder / "crates.txt").write_text("".join(f"{name}: {uses}\n" for name, uses in CRATES.items()))
+    work = folder / "work"
+    work.mkdir(exist_ok=True)
+    (work / "formula.cnf").write_text("p cnf 1 1\n1 0\n")
+    (work / "lines.txt").write_text("")
+    subprocess.run(["rt", "run"], cwd=program, check=False)
+    binary = program / "out" / "lrat_files"
+    if not binary.exists():
+        raise SystemExit("the program was not built")
+    return binary
+
+
+def run(binary, folder, clauses, lines):
+    """What the program says of each line, and its report."""
+    folder = pathlib.Path(folder)
+    folder.mkdir(parents=True, exist_ok=True)
+    text = "".join(" ".join(map(str, [*clause, 0])) + "\n" for clause in clauses)
+    (folder / "formula.cnf").write_text(f"p cnf 200000 {len(clauses)}\n{text}")
+    (folder / "lines.txt").write_text("".join(line + "\n" for line in lines))
+    done = subprocess.run([binary], cwd=folder, capture_output=True, text=True, check=True)
+    return done.stdout.split("\n")[:-1], done.stderr.strip()

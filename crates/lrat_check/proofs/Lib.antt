@@ -1,0 +1,10 @@
+pub mod Accepted
+pub mod Deletions
+pub mod Distinct
+pub mod Models
+pub mod Numerals
+pub mod Outcomes
+pub mod Starts
+pub mod Texts
+pub mod Views
+pub mod Words

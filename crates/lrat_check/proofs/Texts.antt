@@ -1,0 +1,199 @@
+-- Words with one blank between two, and what they are read as.
+use Rattle.std.proofs.Common.{◌≡◌, ℕ, ℤ, pos, negsuc, ◌+◌, ◌<◌, ◌≤◌, ◌&&◌, List, [], ◌∷◌, ◌++◌, length, get_or, map, refl, sym, ◌∙◌, ap, subst, arith, suc, Bool, true, false, true≢false, w64, append_assoc, decimal}
+use Rattle.std.specs.Prelude.{All, FitsSigned}
+use Rattle.std.specs.Fmt.{signed_decimal}
+use Rattle.std.specs.Char.{is_ascii_digit}
+use Rattle.std.specs.List.{join_with_byte, slice_split}
+use Rattle.std.specs.Str.{all_ascii_digits}
+use Rattle.std.specs.Str.Parse.{digits_value}
+use Rattle.std.proofs.Math.Dec.{eqb}
+use Rattle.std.proofs.lemmas.List.Elements.{All-push, All-head, All-tail, All-nil, All-cons, All-map, All-append, All-weaker}
+use Rattle.std.proofs.lemmas.List.Splits.{slice_split_none, slice_split_at}
+use Rattle.std.proofs.lemmas.Str.Parse.{IsNumeralModel, numerals_by_value, tells_all_ascii_digits}
+use Rattle.std.proofs.lemmas.Fmt.{digits_decimal, decimal_digit, decimal_injective}
+use Rattle.clause_model.specs.Literals.{number_of, code_of}
+use Rattle.clause_model.proofs.LiteralLaws.{code_of-number_of, number_of_differs}
+use Rattle.lrat_check.specs.Numbers.{IsId, IsHint, AllWithin}
+use Rattle.lrat_check.specs.Content.{Content, addition, deletion}
+use Rattle.lrat_check.specs.Text.{text_of, words_of, middle_of, id_of, spaced, literal_text, end_word, deletion_word, HasGoodParts, IsLine}
+use Rattle.std.proofs.Common.{Bor}
+use Rattle.std.proofs.Common.{take, drop, ◌-◌}
+use Rattle.std.proofs.lemmas.List.{map-append, get_or-map, take-append-drop, take_all, take_more, drop_more, length-drop, length-map}
+use Rattle.lrat_check.specs.Reading.{all_now}
+use Rattle.lrat_check.proofs.Numerals.{same_number, id_fits, hint_fits, literal_fits}
+
+-- ---- blanks
+
+pub join-push : (words : List (List ℕ)) (w : List ℕ) → join_with_byte 32 (words ++ w ∷ []) ≡ spaced words ++ w
+join-push [] w = refl
+join-push (x ∷ []) w = sym (rw (append_assoc x (32 ∷ []) []) (append_assoc x (32 ∷ []) w))
+join-push (x ∷ y ∷ words) w = rw (join-push (y ∷ words) w) (sym (append_assoc (x ++ 32 ∷ []) (spaced (y ∷ words)) w ∙ append_assoc x (32 ∷ []) (spaced (y ∷ words) ++ w)))
+
+abbrev pub HasNoBlank : List ℕ → Type 0
+HasNoBlank word = All (λ b. eqb b 32 ≡ false) word
+
+pub split-join : (x : List ℕ) (words : List (List ℕ)) → All HasNoBlank (x ∷ words) → slice_split (λ b. eqb b 32) (join_with_byte 32 (x ∷ words)) ≡ x ∷ words
+split-join x [] h = slice_split_none (λ b. eqb b 32) x (All-head HasNoBlank x [] h)
+split-join x (y ∷ words) h =
+    slice_split_at (λ b. eqb b 32) x 32 (join_with_byte 32 (y ∷ words)) (All-head HasNoBlank x (y ∷ words) h) refl ∙ ap (λ (ws : List (List ℕ)). x ∷ ws) (split-join y words (All-tail HasNoBlank x (y ∷ words) h))
+
+-- ---- numerals
+
+own : IsNumeralModel (λ ds. all_ascii_digits ds ≡ true) (digits_value 10)
+own = numerals_by_value (λ ds. all_ascii_digits ds ≡ true) tells_all_ascii_digits
+
+both : (a b : Bool) → (a && b) ≡ true → (a ≡ true) × (b ≡ true)
+both true b e = (refl, e)
+both false b e = absurd (true≢false (sym e))
+
+digit_no_blank : (d : ℕ) → is_ascii_digit d ≡ true → eqb d 32 ≡ false
+digit_no_blank d e = grind arith
+
+digits_no_blank : (ds : List ℕ) → all_ascii_digits ds ≡ true → HasNoBlank ds
+digits_no_blank [] e = All-nil (λ b. eqb b 32 ≡ false)
+digits_no_blank (d ∷ ds) e = let b = both (is_ascii_digit d) (all_ascii_digits ds) e in All-cons (λ b. eqb b 32 ≡ false) d ds (digit_no_blank d b.0) (digits_no_blank ds b.1)
+
+numeral_no_blank : (z : ℤ) → FitsSigned w64 z → HasNoBlank (signed_decimal z)
+numeral_no_blank (pos n) f = digits_no_blank (decimal n) (digits_decimal own n (omega (arith, f)))
+numeral_no_blank (negsuc n) f = All-cons (λ b. eqb b 32 ≡ false) 45 (decimal (suc n)) refl (digits_no_blank (decimal (suc n)) (digits_decimal own (suc n) (omega (arith, f))))
+
+numeral_differs : (z : ℤ) → FitsSigned w64 z → signed_decimal z ≡ deletion_word → ⊥
+numeral_differs (pos n) f e = let d : all_ascii_digits (decimal n) ≡ true = digits_decimal own n (omega (arith, f)) in let g : all_ascii_digits deletion_word ≡ true = subst (λ (w : List ℕ). all_ascii_digits w ≡ true) e d in true≢false (sym g)
+numeral_differs (negsuc n) f e = let d : get_or (45 ∷ decimal (suc n)) 0 0 ≡ get_or deletion_word 0 0 = ap (λ (w : List ℕ). get_or w 0 0) e in omega (arith, d)
+
+end_is_zero : signed_decimal (pos 0) ≡ end_word
+end_is_zero = decimal_digit 0 (omega arith)
+
+pub literal_not_end : (l : ℕ) → l < 400000 → literal_text l ≡ end_word → ⊥
+literal_not_end l b e = number_of_differs l (same_number (number_of l) (pos 0) end_word (literal_fits l b) (omega arith) e end_is_zero)
+
+-- where texts tell the parts, lists of texts tell the lists
+pub map-injective : {X : Type 0} (P : X → Type 0) (f : X → List ℕ) → ((x y : X) → P x → P y → f x ≡ f y → x ≡ y) → (xs ys : List X) → All P xs → All P ys → map f xs ≡ map f ys → xs ≡ ys
+map-injective P f inj [] [] h k e = refl
+map-injective P f inj [] (y ∷ ys) h k e = cc
+map-injective P f inj (x ∷ xs) [] h k e = cc
+map-injective P f inj (x ∷ xs) (y ∷ ys) h k e =
+    let head : f x ≡ f y = cc in
+    let tail : map f xs ≡ map f ys = cc in
+    let same : x ≡ y = inj x y (All-head P x xs h) (All-head P y ys k) head in
+    let rest : xs ≡ ys = map-injective P f inj xs ys (All-tail P x xs h) (All-tail P y ys k) tail in
+    rw (same, rest) refl
+
+pub id_injective : (x y : ℕ) → IsId x → IsId y → decimal x ≡ decimal y → x ≡ y
+id_injective x y h k e = decimal_injective x y (omega (arith, h.1)) (omega (arith, k.1)) e
+
+pub ids_injective : (xs ys : List ℕ) → All IsId xs → All IsId ys → map decimal xs ≡ map decimal ys → xs ≡ ys
+ids_injective = map-injective IsId decimal (λ x y h k e. id_injective x y h k e)
+
+pub hints_injective : (xs ys : List ℤ) → All IsHint xs → All IsHint ys → map signed_decimal xs ≡ map signed_decimal ys → xs ≡ ys
+hints_injective = map-injective IsHint signed_decimal (λ x y h k e. same_number x y (signed_decimal y) (hint_fits x h) (hint_fits y k) e refl)
+
+pub literals_injective : (xs ys : List ℕ) → AllWithin xs → AllWithin ys → map literal_text xs ≡ map literal_text ys → xs ≡ ys
+literals_injective = map-injective (λ l. l < 400000) literal_text (λ x y h k e.
+    sym (code_of-number_of x) ∙ ap code_of (same_number (number_of x) (number_of y) (literal_text y) (literal_fits x h) (literal_fits y k) e refl) ∙ code_of-number_of y)
+
+-- ---- words
+
+-- the words of a line have no blank
+pub words_no_blank : (content : Content) → IsLine content → All HasNoBlank (words_of content)
+words_no_blank content h =
+    All-cons HasNoBlank (decimal (id_of content)) (middle_of content ++ end_word ∷ []) (numeral_no_blank (pos (id_of content)) (id_fits (id_of content) h.0))
+    (All-append HasNoBlank (middle_of content) (end_word ∷ []) (middle content h.1) (All-cons HasNoBlank end_word [] end_no_blank (All-nil HasNoBlank)))
+  where
+    end_no_blank : HasNoBlank end_word
+    end_no_blank = digits_no_blank end_word refl
+
+    middle : (content : Content) → HasGoodParts content → All HasNoBlank (middle_of content)
+    middle (addition id literals hints) g =
+        All-append HasNoBlank (map literal_text literals) (end_word ∷ map signed_decimal hints)
+        (All-map HasNoBlank literal_text literals (All-weaker (λ l. l < 400000) (λ l. HasNoBlank (literal_text l)) (λ l b. numeral_no_blank (number_of l) (literal_fits l b)) literals g.0))
+        (All-cons HasNoBlank end_word (map signed_decimal hints) end_no_blank (All-map HasNoBlank signed_decimal hints (All-weaker IsHint (λ z. HasNoBlank (signed_decimal z)) (λ z b. numeral_no_blank z (hint_fits z b)) hints g.2)))
+    middle (deletion id ids) g =
+        All-cons HasNoBlank deletion_word (map decimal ids) (All-cons (λ b. eqb b 32 ≡ false) 100 [] refl (All-nil (λ b. eqb b 32 ≡ false)))
+        (All-map HasNoBlank decimal ids (All-weaker IsId (λ n. HasNoBlank (decimal n)) (λ n b. numeral_no_blank (pos n) (id_fits n b)) ids g))
+
+pub split-text : (content : Content) → IsLine content → slice_split (λ b. eqb b 32) (text_of content) ≡ words_of content
+split-text content h = split-join (decimal (id_of content)) (middle_of content ++ end_word ∷ []) (words_no_blank content h)
+
+-- where a word first stands is told by the words before it
+pub split_unique : (e : List ℕ) (xs ys us vs : List (List ℕ)) → All (λ w. w ≡ e → ⊥) xs → All (λ w. w ≡ e → ⊥) ys → xs ++ e ∷ us ≡ ys ++ e ∷ vs → (xs ≡ ys) × (us ≡ vs)
+split_unique e [] [] us vs h k q = (refl, cc)
+split_unique e [] (y ∷ ys) us vs h k q = let same : y ≡ e = cc in absurd (All-head (λ w. w ≡ e → ⊥) y ys k same)
+split_unique e (x ∷ xs) [] us vs h k q = let same : x ≡ e = cc in absurd (All-head (λ w. w ≡ e → ⊥) x xs h same)
+split_unique e (x ∷ xs) (y ∷ ys) us vs h k q =
+    let head : x ≡ y = cc in
+    let tail : xs ++ e ∷ us ≡ ys ++ e ∷ vs = cc in
+    let rest = split_unique e xs ys us vs (All-tail (λ w. w ≡ e → ⊥) x xs h) (All-tail (λ w. w ≡ e → ⊥) y ys k) tail in
+    (rw (head, rest.0) refl, rest.1)
+
+pub All-middle : (P : List ℕ → Type 0) (xs : List (List ℕ)) (y : List ℕ) (ys : List (List ℕ)) → All P (xs ++ y ∷ ys) → P y
+All-middle P [] y ys h = All-head P y ys h
+All-middle P (x ∷ xs) y ys h = All-middle P xs y ys (All-tail P x (xs ++ y ∷ ys) h)
+
+pub literals_not_end : (literals : List ℕ) → AllWithin literals → All (λ w. w ≡ end_word → ⊥) (map literal_text literals)
+literals_not_end literals h = All-map (λ w. w ≡ end_word → ⊥) literal_text literals (All-weaker (λ l. l < 400000) (λ l. literal_text l ≡ end_word → ⊥) (λ l b. literal_not_end l b) literals h)
+
+-- the middle of an addition doesn't begin as that of a deletion
+pub addition_differs : (id : ℕ) (literals : List ℕ) (hints : List ℤ) (first : List ℕ) (rest : List (List ℕ)) → HasGoodParts (addition id literals hints) → middle_of (addition id literals hints) ≡ first ∷ rest → first ≡ deletion_word → ⊥
+addition_differs id [] hints first rest g e f = let d : end_word ≡ deletion_word = cc in let n : get_or end_word 0 0 ≡ get_or deletion_word 0 0 = ap (λ (w : List ℕ). get_or w 0 0) d in omega (arith, n)
+addition_differs id (l ∷ ls) hints first rest g e f =
+    let d : literal_text l ≡ deletion_word = cc in
+    numeral_differs (number_of l) (literal_fits l (All-head (λ l. l < 400000) l ls g.0)) d
+
+-- the last of two equal lists
+pub push_same : (xs ys : List (List ℕ)) (x y : List ℕ) → xs ++ x ∷ [] ≡ ys ++ y ∷ [] → (xs ≡ ys) × (x ≡ y)
+push_same [] [] x y e = (refl, cc)
+push_same [] (b ∷ []) x y e = let f : [] ≡ y ∷ [] = cc in cc
+push_same [] (b ∷ c ∷ ys) x y e = let f : [] ≡ c ∷ (ys ++ y ∷ []) = cc in cc
+push_same (a ∷ []) [] x y e = let f : x ∷ [] ≡ [] = cc in cc
+push_same (a ∷ c ∷ xs) [] x y e = let f : c ∷ (xs ++ x ∷ []) ≡ [] = cc in cc
+push_same (a ∷ xs) (b ∷ ys) x y e =
+    let head : a ≡ b = cc in
+    let tail : xs ++ x ∷ [] ≡ ys ++ y ∷ [] = cc in
+    let rest = push_same xs ys x y tail in
+    (rw (head, rest.0) refl, rest.1)
+
+-- ---- the parts of words
+
+now_length : (words : List (Bor (List ℕ))) (first : List ℕ) (rest : List (List ℕ)) → length words ≡ 0 → all_now words ≡ first ∷ rest → ⊥
+now_length [] first rest n e = cc
+now_length (w ∷ ws) first rest n e = omega arith
+
+pub none_first : (words : List (Bor (List ℕ))) → length words ≡ 0 → (first : List ℕ) (rest : List (List ℕ)) → all_now words ≡ first ∷ rest → ⊥
+none_first words n first rest e = now_length words first rest n e
+
+pub none_last : (words : List (Bor (List ℕ))) (id : Bor (List ℕ)) (rest : List (Bor (List ℕ))) → words ≡ id ∷ rest → length rest ≡ 0 → (first : List ℕ) (middle : List (List ℕ)) → all_now words ≡ first ∷ (middle ++ end_word ∷ []) → ⊥
+none_last words id rest w n first [] e = let f : all_now rest ≡ end_word ∷ [] = (let g : id.now ∷ all_now rest ≡ first ∷ (end_word ∷ []) = sym (ap all_now w) ∙ e in cc) in now_length rest end_word [] n f
+none_last words id rest w n first (m ∷ ms) e = let f : all_now rest ≡ m ∷ (ms ++ end_word ∷ []) = (let g : id.now ∷ all_now rest ≡ first ∷ (m ∷ (ms ++ end_word ∷ [])) = sym (ap all_now w) ∙ e in cc) in now_length rest m (ms ++ end_word ∷ []) n f
+
+module _ (words : List (Bor (List ℕ))) (id : Bor (List ℕ)) (rest middle : List (Bor (List ℕ))) (end : Bor (List ℕ)) (w : words ≡ id ∷ rest) (r : rest ≡ middle ++ end ∷ []) where
+  now_parts : all_now words ≡ id.now ∷ (all_now middle ++ end.now ∷ [])
+  now_parts = ap all_now (w ∙ ap (λ (x : List (Bor (List ℕ))). id ∷ x) r) ∙ ap (λ (x : List (List ℕ)). id.now ∷ x) (map-append (λ (b : Bor (List ℕ)). b.now) middle (end ∷ []))
+
+  pub parts_found : end.now ≡ end_word → all_now words ≡ id.now ∷ (all_now middle ++ end_word ∷ [])
+  parts_found e = now_parts ∙ ap (λ (x : List ℕ). id.now ∷ (all_now middle ++ x ∷ [])) e
+
+  pub parts_missing : (end.now ≡ end_word → ⊥) → (first : List ℕ) (between : List (List ℕ)) → all_now words ≡ first ∷ (between ++ end_word ∷ []) → ⊥
+  parts_missing n first between e =
+      let f : id.now ∷ (all_now middle ++ end.now ∷ []) ≡ first ∷ (between ++ end_word ∷ []) = sym now_parts ∙ e in
+      let g : all_now middle ++ end.now ∷ [] ≡ between ++ end_word ∷ [] = cc in
+      n (push_same (all_now middle) between end.now end_word g).1
+
+-- the words round a place
+module _ (words : List (Bor (List ℕ))) (i : ℕ) (d : Bor (List ℕ)) (b : i < length words) where
+  pub now_at : get_or (all_now words) i d.now ≡ (get_or words i d).now
+  now_at = get_or-map (λ (w : Bor (List ℕ)). w.now) words i d d.now b
+
+  pub cut_at : (get_or words i d).now ≡ end_word → all_now words ≡ all_now (take i words) ++ end_word ∷ all_now (take (length words - (i + 1)) (drop (i + 1) words))
+  cut_at e =
+      let rest : List (Bor (List ℕ)) = drop (i + 1) words in
+      let n : length rest ≤ length words - (i + 1) = omega (arith, length-drop (i + 1) words) in
+      let whole : take (length words - (i + 1)) rest ≡ rest = take_all (length words - (i + 1)) rest n in
+      let cut : words ≡ take i words ++ get_or words i d ∷ rest = sym (take-append-drop i words) ∙ ap (λ (x : List (Bor (List ℕ))). take i words ++ x) (drop_more words i d b) in
+      ap all_now cut ∙ map-append (λ (w : Bor (List ℕ)). w.now) (take i words) (get_or words i d ∷ rest) ∙ ap (λ (x : List ℕ). all_now (take i words) ++ x ∷ all_now rest) e
+      ∙ ap (λ (x : List (Bor (List ℕ))). all_now (take i words) ++ end_word ∷ all_now x) (sym whole)
+
+  pub not_end_more : ((get_or words i d).now ≡ end_word → ⊥) → All (λ w. w ≡ end_word → ⊥) (take i (all_now words)) → All (λ w. w ≡ end_word → ⊥) (take (i + 1) (all_now words))
+  not_end_more n h =
+      let m : i < length (all_now words) = rw length-map b in
+      rw (take_more (all_now words) i d.now m) (All-push (λ w. w ≡ end_word → ⊥) (take i (all_now words)) (get_or (all_now words) i d.now) h (λ e. n (sym now_at ∙ e)))

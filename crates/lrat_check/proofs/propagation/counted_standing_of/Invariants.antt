@@ -1,0 +1,6 @@
+use Rattle.std.proofs.Common.{take, ◌+◌, ◌≤◌}
+use Rattle.clause_model.specs.Standings.{StandsAs}
+use Rattle.lrat_check.proofs.propagation.counted_standing_of.Given as goal
+
+abbrev pub invariant-loop-literal : goal.invariant-loop-literal
+invariant-loop-literal g l = StandsAs l.assignment (take l.literal-index l.clause) l.standing × (l.steps ≤ l.initial.steps + l.literal-index)

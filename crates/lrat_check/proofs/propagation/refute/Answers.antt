@@ -1,0 +1,64 @@
+use Rattle.std.proofs.Common.{◌+◌, refl, inr, map, arith}
+use Rattle.std.specs.Prelude.{unsigned_abs}
+use Rattle.clause_model.proofs.Runs.{Continues-dead, Continues-open, Continues-conflict, Continues-unit, hint_lengths-step}
+use Rattle.lrat_check.proofs.Views.{hint_within, hint_some, hint_none}
+use Rattle.clause_model.specs.Propagation.{dead, unfit}
+use Rattle.lrat_check.specs.Live.{clause_at}
+use Rattle.lrat_check.proofs.propagation.refute.Goals as goal
+
+pub returns-in-None-clause-err : goal.returns-in-None-clause-err
+returns-in-None-clause-err g c =
+    let b = c.loop-hint-test.true in
+    let is = c.hint-item.is in
+    let e = c.id.ensures in
+    inr (dead (c.loop-hint.place + 1), rw c.loop-hint.invariant.0 (Continues-dead _ _ _ _ _ (hint_within _ _ _ _ b is e) c.loop-hint.invariant.1 (hint_none _ _ _ _ b is e c.args.live.now c.in-None.ensures.value)), refl)
+
+pub returns-in-Conflict-clause-ok : goal.returns-in-Conflict-clause-ok
+returns-in-Conflict-clause-ok g c =
+    let b = c.loop-hint-test.true in
+    let is = c.hint-item.is in
+    let e = c.id.ensures in
+    Continues-conflict _ _ _ _ _ (hint_within _ _ _ _ b is e) c.loop-hint.invariant.1 _ (hint_some _ _ _ _ b is e c.args.live.now c.in-Some.clause.now c.deref.result.now c.in-Some.ensures.value c.deref.ensures.value) c.in-Conflict.ensures.standing
+
+pub returns-in-Open-clause-err : goal.returns-in-Open-clause-err
+returns-in-Open-clause-err g c =
+    let b = c.loop-hint-test.true in
+    let is = c.hint-item.is in
+    let e = c.id.ensures in
+    inr (unfit (c.loop-hint.place + 1), rw c.loop-hint.invariant.0 (Continues-open _ _ _ _ _ (hint_within _ _ _ _ b is e) c.loop-hint.invariant.1 _ (hint_some _ _ _ _ b is e c.args.live.now c.in-Some.clause.now c.deref.result.now c.in-Some.ensures.value c.deref.ensures.value) c.in-Open.ensures.standing), refl)
+
+pub loop-hint-preserved : goal.loop-hint-preserved
+loop-hint-preserved g c =
+    let b = c.loop-hint-test.true in
+    let is = c.hint-item.is in
+    let e = c.id.ensures in
+    let some = hint_some _ _ _ _ b is e c.args.live.now c.in-Some.clause.now c.deref.result.now c.in-Some.ensures.value c.deref.ensures.value in
+    let step = hint_lengths-step (clause_at c.args.live.now) (map unsigned_abs c.args.hints.now) c.loop-hint.hint-index c.deref.result.now (hint_within _ _ _ _ b is e) some in (
+      rw c.loop-hint.invariant.0 refl,
+      rw c.in_ok-set-in-Unit.ensures.ok (Continues-unit _ _ _ _ _ (hint_within _ _ _ _ b is e) c.loop-hint.invariant.1 _ _ some c.in-Unit.ensures.standing),
+      omega (arith, c.counted_standing_of.ensures.cost, c.loop-hint.invariant.2, step),
+    )
+
+pub returns-in-Conflict-clause-cost : goal.returns-in-Conflict-clause-cost
+returns-in-Conflict-clause-cost g c =
+    let b = c.loop-hint-test.true in
+    let is = c.hint-item.is in
+    let e = c.id.ensures in
+    let step = hint_lengths-step (clause_at c.args.live.now) (map unsigned_abs c.args.hints.now) c.loop-hint.hint-index c.deref.result.now (hint_within _ _ _ _ b is e) (hint_some _ _ _ _ b is e c.args.live.now c.in-Some.clause.now c.deref.result.now c.in-Some.ensures.value c.deref.ensures.value) in
+    omega (arith, c.counted_standing_of.ensures.cost, c.loop-hint.invariant.2, step)
+
+pub returns-in_err-set-in-Unit-clause-cost : goal.returns-in_err-set-in-Unit-clause-cost
+returns-in_err-set-in-Unit-clause-cost g c =
+    let b = c.loop-hint-test.true in
+    let is = c.hint-item.is in
+    let e = c.id.ensures in
+    let step = hint_lengths-step (clause_at c.args.live.now) (map unsigned_abs c.args.hints.now) c.loop-hint.hint-index c.deref.result.now (hint_within _ _ _ _ b is e) (hint_some _ _ _ _ b is e c.args.live.now c.in-Some.clause.now c.deref.result.now c.in-Some.ensures.value c.deref.ensures.value) in
+    omega (arith, c.counted_standing_of.ensures.cost, c.loop-hint.invariant.2, step)
+
+pub returns-in-Open-clause-cost : goal.returns-in-Open-clause-cost
+returns-in-Open-clause-cost g c =
+    let b = c.loop-hint-test.true in
+    let is = c.hint-item.is in
+    let e = c.id.ensures in
+    let step = hint_lengths-step (clause_at c.args.live.now) (map unsigned_abs c.args.hints.now) c.loop-hint.hint-index c.deref.result.now (hint_within _ _ _ _ b is e) (hint_some _ _ _ _ b is e c.args.live.now c.in-Some.clause.now c.deref.result.now c.in-Some.ensures.value c.deref.ensures.value) in
+    omega (arith, c.counted_standing_of.ensures.cost, c.loop-hint.invariant.2, step)

@@ -1,0 +1,9 @@
+pub mod Numbers
+pub mod Reading
+pub mod Text
+pub mod Content
+pub mod Costs
+pub mod Checking
+pub mod Faults
+pub mod Live
+pub mod Deleting

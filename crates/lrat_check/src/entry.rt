@@ -1,0 +1,161 @@
+ghost use Rattle.std.specs.Prelude.{◌≡◌, ◌<◌, ℕ, ℤ, List, [], ◌∷◌, ◌++◌, map, decimal, All, MatchOption, OnOk, IfOk, IsTrue, ◌↔◌, FitsSigned};
+ghost use Rattle.std.specs.Int.{w64};
+ghost use Rattle.std.specs.Fmt.{signed_decimal};
+ghost use Rattle.lrat_check.specs.Text.{spaced};
+ghost use Rattle.clause_model.specs.Literals.{number_of};
+
+use crate::line::{Hint, Id, VARIABLES};
+use clause_model::Literal;
+use itoa::Buffer;
+use std::alloc::{AllocError, Global};
+
+/// A word of a line that is a number: an id, a hint or a literal.
+pub trait Entry: Copy {
+    ghost text: { Self → List ℕ };
+
+    ghost can_stand: { Self → Type 0 };
+
+    ghost can_write: { Self → Type 0 };
+
+    /// What the word says, if it is one that can stand in a line.
+    fn read(word: &[u8]) -> Option<Self>
+        ensures { MatchOption result ((x : Self) → can_stand x → text x ≡ word.now → ⊥) (λ x. can_stand x × (text x ≡ word.now)) };
+
+    /// Writes the word.
+    fn write(self, out: &mut Vec<u8>) -> Result<(), AllocError>
+        requires { can_write self }
+        ensures { OnOk result (out.new.items ≡ out.old.items ++ text self) };
+}
+
+/// The number whose decimal numeral the word is, with no sign but a minus and no leading zero.
+fn number(word: &[u8]) -> Option<i64>
+    ensures { MatchOption result ((z : ℤ) → FitsSigned w64 z → signed_decimal z ≡ word.now → ⊥) (λ z. FitsSigned w64 z × (signed_decimal z ≡ word.now)) }
+{
+    let Ok(text) = str::from_utf8(word) else {
+        return None;
+    };
+    let Ok(number) = text.parse() else {
+        return None;
+    };
+    if is_numeral_of(number, word) {
+        Some(number)
+    } else {
+        None
+    }
+}
+
+fn is_numeral_of(number: i64, word: &[u8]) -> bool
+    ensures { IsTrue result ↔ (signed_decimal number ≡ word.now) }
+{
+    Buffer::new().format(number).as_bytes() == word
+}
+
+fn write_number(number: i64, out: &mut Vec<u8>) -> Result<(), AllocError>
+    ensures { OnOk result (out.new.items ≡ out.old.items ++ signed_decimal number) }
+{
+    out.extend_from_slice(Buffer::new().format(number).as_bytes())
+}
+
+impl Entry for Id {
+    ghost use Rattle.lrat_check.specs.Numbers.{IsId};
+
+    ghost text = { decimal };
+
+    ghost can_stand = { IsId };
+
+    ghost can_write = { λ _. Unit {0} };
+
+    fn read(word: &[u8]) -> Option<Self> {
+        match number(word) {
+            None => None,
+            Some(number) => Id::from_number(number),
+        }
+    }
+
+    fn write(self, out: &mut Vec<u8>) -> Result<(), AllocError> {
+        write_number(i64::from(self.number()), out)
+    }
+}
+
+impl Entry for Hint {
+    ghost use Rattle.lrat_check.specs.Numbers.{IsHint};
+
+    ghost text = { signed_decimal };
+
+    ghost can_stand = { IsHint };
+
+    ghost can_write = { λ _. Unit {0} };
+
+    fn read(word: &[u8]) -> Option<Self> {
+        match number(word) {
+            None => None,
+            Some(number) => Hint::from_number(number),
+        }
+    }
+
+    fn write(self, out: &mut Vec<u8>) -> Result<(), AllocError> {
+        write_number(self.number(), out)
+    }
+}
+
+/// The literal that a number names, if it is by one of the variables that there may be.
+fn literal(number: i64) -> Option<Literal>
+    ensures { MatchOption result ((l : ℕ) → l < 400000 → number_of l ≡ number → ⊥) (λ l. (l < 400000) × (number_of l ≡ number)) }
+{
+    match i32::try_from(number) {
+        Ok(number) if number != 0 && number.unsigned_abs() <= VARIABLES => {
+            Some(Literal::from_number(number))
+        }
+        _ => None,
+    }
+}
+
+impl Entry for Literal {
+    ghost use Rattle.lrat_check.specs.Text.{literal_text};
+
+    ghost text = { literal_text };
+
+    ghost can_stand = { λ l. l < 400000 };
+
+    ghost can_write = { λ l. l < 400000 };
+
+    fn read(word: &[u8]) -> Option<Self> {
+        match number(word) {
+            None => None,
+            Some(number) => literal(number),
+        }
+    }
+
+    fn write(self, out: &mut Vec<u8>) -> Result<(), AllocError> {
+        write_number(i64::from(self.number()), out)
+    }
+}
+
+/// What the words say, if each can stand in a line.
+pub fn read_all<E: Entry + Drop>(
+    alloc: Global,
+    words: &[&[u8]],
+) -> Result<Option<Vec<E>>, AllocError>
+    ensures { IfOk result (λ r. MatchOption r ((xs : List E) → All E.can_stand xs → map E.text xs ≡ map (λ w. w.now) words.entry.now → ⊥) (λ xs. All E.can_stand xs.items × (map E.text xs.items ≡ map (λ w. w.now) words.entry.now))) }
+{
+    let mut entries = Vec::new(alloc);
+    for word in words {
+        match E::read(word) {
+            None => return Ok(None),
+            Some(entry) => entries.push(entry)?,
+        }
+    }
+    Ok(Some(entries))
+}
+
+/// Writes the words, and a blank after each.
+pub fn write_all<E: Entry>(entries: &[E], out: &mut Vec<u8>) -> Result<(), AllocError>
+    requires { All E.can_write entries.now }
+    ensures { OnOk result (out.new.items ≡ out.old.items ++ spaced (map E.text entries.now)) }
+{
+    for entry in entries {
+        entry.write(out)?;
+        out.push(b' ')?;
+    }
+    Ok(())
+}

@@ -1,0 +1,19 @@
+//! Proofs in the text format LRAT, and a checker that accepts only clauses that follow.
+#![tactic(auto)]
+
+mod checker;
+mod deletion;
+mod entry;
+mod fault;
+pub mod laws;
+mod line;
+mod propagation;
+mod text;
+
+pub use checker::Checker;
+pub use fault::LineFault;
+pub use line::{Addition, Deletion, Hint, Id, Line, VARIABLES};
+pub use text::{read_line, write_line};
+
+#[cfg(test)]
+mod tests;

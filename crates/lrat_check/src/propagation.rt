@@ -1,0 +1,89 @@
+ghost use Rattle.std.specs.Prelude.{◌≡◌, ℕ, ◌+◌, ◌≤◌, ◌⊎◌, map, unsigned_abs, OnOk, IfErr, [], length};
+ghost use Rattle.clause_model.specs.Literals.{negated, HasDistinctVariables};
+ghost use Rattle.clause_model.specs.Propagation.{Refutes, ReverseUnitPropagation, Stop, StopsAs, hint_lengths};
+ghost use Rattle.clause_model.specs.Standings.{StandsAs};
+ghost use Rattle.lrat_check.specs.Live.{clause_at};
+ghost use Rattle.lrat_check.specs.Faults.{fault_of};
+
+use crate::fault::LineFault;
+use crate::line::Hint;
+use clause_model::{Assignment, Literal, Standing, standing_with};
+use std::alloc::AllocError;
+use std::collections::HashMap;
+use step_ledger::{Ledger, Steps};
+
+/// How a clause stands, with a step for each literal that is looked at.
+fn counted_standing_of<L: Ledger>(
+    clause: &[Literal],
+    assignment: &Assignment,
+    steps: &mut Steps<L>,
+) -> Standing
+    ensures standing { StandsAs assignment.now clause.now result }
+    ensures cost { steps.new ≤ steps.old + length clause.now }
+{
+    let mut standing = Standing::Conflict;
+    for literal in clause {
+        steps.tick();
+        standing = standing_with(standing, *literal, assignment);
+        if let Standing::Open = standing {
+            return Standing::Open;
+        }
+    }
+    standing
+}
+
+/// Goes by the hints in order until a clause is false.
+fn refute<L: Ledger>(
+    live: &HashMap<u64, Vec<Literal>>,
+    hints: &[Hint],
+    assignment: &mut Assignment,
+    steps: &mut Steps<L>,
+) -> Result<(), LineFault>
+    ensures ok { OnOk result (Refutes (clause_at live.now) assignment.old (map unsigned_abs hints.now)) }
+    ensures err { IfErr result (λ e. (e ≡ LineFault.Memory) ⊎ ((stop : Stop) × StopsAs (clause_at live.now) assignment.old (map unsigned_abs hints.now) 1 stop × (e ≡ fault_of stop))) }
+    ensures cost { steps.new ≤ steps.old + hint_lengths (clause_at live.now) (map unsigned_abs hints.now) }
+{
+    let mut place = 0;
+    for hint in hints {
+        place += 1;
+        match live.get(&hint.id()) {
+            None => return Err(LineFault::Dead(place)),
+            Some(clause) => match counted_standing_of(clause, assignment, steps) {
+                Standing::Conflict => return Ok(()),
+                Standing::Unit(literal) => assignment.set(literal)?,
+                Standing::Open => return Err(LineFault::Hint(place)),
+            },
+        }
+    }
+    Err(LineFault::NoConflict)
+}
+
+/// Makes each literal of the clause false.
+fn assume_false(literals: &[Literal], assignment: &mut Assignment) -> Result<(), AllocError>
+    requires empty { assignment.old ≡ [] }
+    requires distinct { HasDistinctVariables literals.now }
+    ensures { OnOk result (assignment.new ≡ map negated literals.now) }
+{
+    for literal in literals {
+        assignment.set(literal.negated())?;
+    }
+    Ok(())
+}
+
+/// Whether the clause follows by its hints, begun with no literal true.
+pub fn check<L: Ledger>(
+    live: &HashMap<u64, Vec<Literal>>,
+    literals: &[Literal],
+    hints: &[Hint],
+    assignment: &mut Assignment,
+    steps: &mut Steps<L>,
+) -> Result<(), LineFault>
+    requires empty { assignment.old ≡ [] }
+    requires distinct { HasDistinctVariables literals.now }
+    ensures ok { OnOk result (ReverseUnitPropagation (clause_at live.now) literals.now (map unsigned_abs hints.now)) }
+    ensures err { IfErr result (λ e. (e ≡ LineFault.Memory) ⊎ ((stop : Stop) × StopsAs (clause_at live.now) (map negated literals.now) (map unsigned_abs hints.now) 1 stop × (e ≡ fault_of stop))) }
+    ensures cost { steps.new ≤ steps.old + hint_lengths (clause_at live.now) (map unsigned_abs hints.now) }
+{
+    assume_false(literals, assignment)?;
+    refute(live, hints, assignment, steps)
+}
