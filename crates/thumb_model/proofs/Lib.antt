@@ -14,3 +14,4 @@ pub mod Table
 pub mod LinesReplaced
 pub mod LinesKept
 pub mod Unique
+pub mod Examples

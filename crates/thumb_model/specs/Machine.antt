@@ -215,7 +215,7 @@ answers_with xs e w a rest = record { outputs = all_at xs a.values; memory = ass
 
 -- ---- memory ----
 
--- from here up there are devices
+-- from 0x40000000 up there are devices
 abbrev pub is_device : ℕ → Bool
 is_device address = nat_le 1073741824 address
 
@@ -378,7 +378,7 @@ calls_by (Goes p) word link w = puts ((lr, link) ∷ []) (To p) w
 calls_by Leaves word link w = calls_out word w
 calls_by Strays word link w = ends (Astray word) w
 
--- POP with pc: the registers' words, then a branch by one word more
+-- POP with pc: the registers' words, then a branch by one word more, of pc as 15
 abbrev pub with_pc : List ℕ → List ℕ
 with_pc xs = xs ++ (15 ∷ [])
 
