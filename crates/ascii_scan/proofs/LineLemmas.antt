@@ -1,10 +1,10 @@
 -- The first line of a text.
-use Rattle.std.proofs.Common.{◌≡◌, ◌∙◌, ◌⊎◌, inl, inr, ℕ, ◌+◌, ◌-◌, ◌<◌, ◌≤◌, ◌==◌, Bool, true, false, List, [], ◌∷◌, ◌++◌, length, take, drop, refl, sym, ap, arith, subst, append_assoc, length-append}
+use Rattle.std.proofs.Common.{◌≡◌, ◌∙◌, ◌⊎◌, inl, inr, ℕ, suc, ◌+◌, ◌-◌, ◌<◌, ◌≤◌, ◌==◌, Bool, true, false, List, [], ◌∷◌, ◌++◌, length, take, drop, cond, refl, sym, ap, arith, subst, append_assoc, length-append, map, eqb-true}
 use Rattle.std.proofs.lemmas.List.{drop_at}
 use Rattle.std.proofs.lemmas.List.Elements.{All-nil, All-cons}
-use Rattle.std.specs.List.{concat, All}
+use Rattle.std.specs.List.{concat, flat_map, All}
 use Rattle.ascii_scan.specs.Tokens.{front, rest}
-use Rattle.ascii_scan.specs.Lines.{lines_of, onto_first, content_of, is_ended, placed_from, Placed, LinesAreSlices}
+use Rattle.ascii_scan.specs.Lines.{lines_of, onto_first, content_of, is_ended, placed, placed_from, lines_in, whole, Placed, LinesAreSlices, LinesJoinToText}
 use Rattle.ascii_scan.specs.FirstLine.{is_inside, first_line, after_first}
 
 pub lines_nil : lines_of [] ≡ []
@@ -130,3 +130,61 @@ content_short (b ∷ bs) = elim (either (b == 10)) [
 ]
 
 pub ruleset firsts = (lines_at, lines_none, first_some, content_short, length_first)
+
+-- ---- lines with their newlines ----
+
+-- no byte of a line but its last is a newline
+whole_first : (b : ℕ) (l : List ℕ) (n start : ℕ) → (b == 10) ≡ false → whole (placed n start (b ∷ l)) ≡ b ∷ whole (placed n (suc start) l)
+whole_first b l n start e = rw e (elim (is_ended l) as (λ v. cond v (b ∷ content_of l ++ 10 ∷ []) (b ∷ content_of l) ≡ b ∷ cond v (content_of l ++ 10 ∷ []) (content_of l)) [ true ↦ refl | false ↦ refl ])
+
+same_parts : {X : Type 0} (x y : X) (xs ys : List X) → x ∷ xs ≡ y ∷ ys → (x ≡ y) × (xs ≡ ys)
+same_parts x y xs ys e = (cc, cc)
+
+AreWhole : List (List ℕ) → Type 0
+AreWhole ls = (n start : ℕ) → map whole (placed_from n start ls) ≡ ls
+
+wholes_first : (b : ℕ) (ls : List (List ℕ)) → (b == 10) ≡ false → AreWhole ls → AreWhole (onto_first b ls)
+unfolding AreWhole
+wholes_first b [] e all n start = rw e refl
+wholes_first b (l ∷ ls) e all n start =
+    let parts = same_parts (whole (placed n (suc start) l)) l (map whole (placed_from (n + 1) (suc start + length l) ls)) ls (all n (suc start)) in
+    let at : start + suc (length l) ≡ suc start + length l = omega arith in
+    rw (whole_first b l n start e, at, parts.0, parts.1) refl
+
+pub map-whole : (bytes : List ℕ) (n start : ℕ) → map whole (placed_from n start (lines_of bytes)) ≡ lines_of bytes
+unfolding AreWhole
+map-whole [] n start = ap (λ ls. map whole (placed_from n start ls)) lines_nil ∙ sym lines_nil
+map-whole (b ∷ bs) n start = elim (either (b == 10)) [
+  | inl e ↦ ap (λ ls. map whole (placed_from n start ls)) (lines_newline b bs e)
+    ∙ (let newline : b ≡ 10 = eqb-true b 10 e in rw (e, map-whole bs (n + 1) (start + 1)) (ap (λ x. (x ∷ []) ∷ lines_of bs) (sym newline)))
+    ∙ sym (lines_newline b bs e)
+  | inr e ↦ ap (λ ls. map whole (placed_from n start ls)) (lines_other b bs e) ∙ wholes_first b (lines_of bs) e (map-whole bs) n start ∙ sym (lines_other b bs e)
+]
+
+flat_map-concat : {X : Type 0} (f : X → List ℕ) (xs : List X) → flat_map f xs ≡ concat (map f xs)
+flat_map-concat f [] = refl
+flat_map-concat f (x ∷ xs) = ap (λ ys. f x ++ ys) (flat_map-concat f xs)
+
+pub lines_join_whole : LinesJoinToText
+lines_join_whole bytes = (lines_join bytes, flat_map-concat whole (lines_in bytes) ∙ ap concat (map-whole bytes 1 0) ∙ lines_join bytes)
+
+-- ---- how many lines there are ----
+
+length-placed_from : (n start : ℕ) (ls : List (List ℕ)) → length (placed_from n start ls) ≡ length ls
+length-placed_from n start [] = refl
+length-placed_from n start (l ∷ ls) = ap suc (length-placed_from (n + 1) (start + length l) ls)
+
+length-onto_first : (b : ℕ) (ls : List (List ℕ)) → length (onto_first b ls) ≤ suc (length ls)
+length-onto_first b [] = omega arith
+length-onto_first b (l ∷ ls) = omega arith
+
+length-lines_of : (bytes : List ℕ) → length (lines_of bytes) ≤ length bytes
+length-lines_of [] = omega (arith, ap length lines_nil)
+length-lines_of (b ∷ bs) = elim (either (b == 10)) [
+  | inl e ↦ omega (arith, ap length (lines_newline b bs e), length-lines_of bs)
+  | inr e ↦ omega (arith, ap length (lines_other b bs e), length-onto_first b (lines_of bs), length-lines_of bs)
+]
+
+-- no text has more lines than bytes
+pub length-lines_in : (bytes : List ℕ) → length (lines_in bytes) ≤ length bytes
+length-lines_in bytes = omega (arith, length-placed_from 1 0 (lines_of bytes), length-lines_of bytes)

@@ -1,6 +1,6 @@
 -- The lines of a text, each with its newline. The last may lack it. Joined they are the text.
-use Rattle.std.specs.Prelude.{◌≡◌, ℕ, ◌+◌, ◌-◌, ◌==◌, ◌||◌, Bool, false, List, [], ◌∷◌, length, take, drop, if◌then◌else◌}
-use Rattle.std.specs.List.{concat, All}
+use Rattle.std.specs.Prelude.{◌≡◌, ℕ, ◌+◌, ◌-◌, ◌==◌, ◌||◌, Bool, false, List, [], ◌∷◌, ◌++◌, length, take, drop, if◌then◌else◌}
+use Rattle.std.specs.List.{concat, flat_map, All}
 
 -- the byte goes onto the first line
 abbrev pub onto_first : ℕ → List (List ℕ) → List (List ℕ)
@@ -44,10 +44,18 @@ abbrev pub placed_from : ℕ → ℕ → List (List ℕ) → List Placed
 placed_from number start [] = []
 placed_from number start (line ∷ lines) = placed number start line ∷ placed_from (number + 1) (start + length line) lines
 
+-- the lines of a text
+abbrev pub lines_in : List ℕ → List Placed
+lines_in bytes = placed_from 1 0 (lines_of bytes)
+
+-- the bytes of a line with its newline
+abbrev pub whole : Placed → List ℕ
+whole l = if l.is_ended then l.text ++ 10 ∷ [] else l.text
+
 -- the lines of a text joined are the text
 abbrev pub LinesJoinToText : Type 0
-LinesJoinToText = (bytes : List ℕ) → concat (lines_of bytes) ≡ bytes
+LinesJoinToText = (bytes : List ℕ) → (concat (lines_of bytes) ≡ bytes) × (flat_map whole (lines_in bytes) ≡ bytes)
 
 -- each line's bytes are those of the text between its ends
 abbrev pub LinesAreSlices : Type 0
-LinesAreSlices = (bytes : List ℕ) → All (λ l. l.text ≡ take (l.end - l.start) (drop l.start bytes)) (placed_from 1 0 (lines_of bytes))
+LinesAreSlices = (bytes : List ℕ) → All (λ l. l.text ≡ take (l.end - l.start) (drop l.start bytes)) (lines_in bytes)

@@ -118,7 +118,6 @@ impl<'a> Lines<'a> {
 }
 
 /// The lines of a text, joined, are the text.
-#[tactic(auto, using(crate::proofs::LineLemmas::lines_join))]
 pub fn lines_join_to_the_text()
     ensures { LinesJoinToText }
 {}

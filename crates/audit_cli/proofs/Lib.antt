@@ -2,3 +2,12 @@ pub mod Assembled
 pub mod MovesLines
 pub mod MovesRule
 pub mod MovesPass
+pub mod StageLemmas
+pub mod RunLemmas
+pub mod Deeds
+pub mod TextLemmas
+pub mod ListingLemmas
+pub mod PrintLemmas
+pub mod TableLemmas
+pub mod RewritingLemmas
+pub mod PeepLemmas

@@ -11,6 +11,7 @@ use Rattle.thumb_model.specs.Rewritten.{is_op, without, replaced_lines, are_join
 
 -- ---- places ----
 
+-- places of lines and of later ones
 pub places_of-append : (ks ls : List Line) → places_of (ks ++ ls) ≡ places_of ks ++ places_of ls
 places_of-append [] ls = refl
 places_of-append (k ∷ ks) ls = ap (λ x. places_in k.statement ++ x) (places_of-append ks ls) ∙ sym (append_assoc (places_in k.statement) (places_of ks) (places_of ls))
@@ -21,6 +22,7 @@ places_of-append (k ∷ ks) ls = ap (λ x. places_in k.statement ++ x) (places_o
 abbrev pub is_labelled : ℕ → List Label → Bool
 is_labelled p labels = list_any (λ l. l.place == p) labels
 
+-- labels of lines and of later ones, which begin behind their places
 pub labels_from-append : (p : ℕ) (ks ls : List Line) → labels_from p (ks ++ ls) ≡ labels_from p ks ++ labels_from (p + length (places_of ks)) ls
 labels_from-append p [] ls = ap (λ q. labels_from q ls) (let e : p ≡ p + 0 = omega arith in e)
 labels_from-append p (k ∷ ks) ls =
@@ -69,6 +71,7 @@ labelled_from_get (m ∷ ms) q (suc k) l e f = ap (λ b. (m.place == q) || b) (l
     or_true true = refl
     or_true false = refl
 
+-- the label that stands at a place
 pub get_from_labelled : (labels : List Label) (q : ℕ) → is_labelled q labels ≡ true → (k : ℕ) × (l : Label) × (slice_get labels k ≡ Some l) × (l.place ≡ q)
 get_from_labelled [] q h = absurd (cc)
 get_from_labelled (m ∷ ms) q h =

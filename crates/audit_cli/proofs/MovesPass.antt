@@ -119,10 +119,6 @@ lines_after_drop write base entries d ks ls i text some =
     ap (λ o. lines_after_rule (first_setting write base entries) o (drop_at (length (places_of ks)) d) (ks ++ alone i text ∷ ls)) (first_move entries some)
     ∙ replaced_alone write ks i text ls
 
--- a table without entries
-pub nothing_applies : (write : Instr → List ℕ) (base : ℕ) (ls : List ListingLine) → AreRewritten (first_setting write base 0) ls [] ls
-nothing_applies write base ls = ((λ o f. let e = f.is_rule in absurd (cc)), refl)
-
 -- ---- the pass ----
 
 abbrev pub places_viewed : List Line → List Place
@@ -287,12 +283,13 @@ rewritten_at_end entries start kept used place following labelled p completes wr
 
 -- ---- as the code goes on ----
 
--- the pass over these lines has come so far: what it kept and used, the lines that are following, and what it knows
+-- the pass over these lines has come so far: what it kept and used, the lines that are left, and what it knows
 pub record IsUnderway (entries : ℕ) (start items kept : List Line) (used : List Used) (place following : ℕ) (labelled : Bool) : Type 0 where
   pub passing : IsPassing kept items place following labelled
   pub fits : place + following ≤ length start
   pub completes : Completes entries start used (kept ++ items)
 
+-- before the first line
 pub underway_first : (entries following : ℕ) (start items kept : List Line) (used : List Used) → items ≡ start → kept ≡ [] → used ≡ [] → following ≡ length (places_viewed start) → IsUnderway entries start items kept used 0 following false
 underway_first entries following start items kept used same unkept unused counted =
     subst (λ x. IsUnderway entries start x kept used 0 following false) (sym same)
@@ -311,10 +308,12 @@ kept_on {entries} {place} {following} {start} {items} {kept} {used} {labelled} u
       completes = Completes-kept entries start kept rest line used (subst (λ x. Completes entries start used (kept ++ x)) next u.completes);
     }
 
+-- an empty line is kept
 pub underway_empty : {entries place following : ℕ} {start items kept : List Line} {used : List Used} {labelled : Bool} → IsUnderway entries start items kept used place following labelled → (line : Line) (rest kept' : List Line) (place' following' : ℕ) (labelled' : Bool) → items ≡ line ∷ rest → kept' ≡ kept ++ line ∷ [] → line.content ≡ Empty → place' ≡ place → following' ≡ following → labelled' ≡ labelled → IsUnderway entries start rest kept' used place' following' labelled'
 underway_empty {place = place} {following = following} {kept = kept} {labelled = labelled} u line rest kept' place' following' labelled' next pushed content p l b =
     kept_on u line rest kept' place' following' labelled' next pushed (omega arith) (passing_empty kept rest line place following place' following' labelled labelled' content p l b)
 
+-- a label is kept, and stands behind what was kept
 pub underway_label : {entries place following : ℕ} {start items kept : List Line} {used : List Used} {labelled : Bool} → IsUnderway entries start items kept used place following labelled → (line : Line) (rest kept' : List Line) (place' following' : ℕ) (labelled' : Bool) (name : Vec ℕ Global) → items ≡ line ∷ rest → kept' ≡ kept ++ line ∷ [] → line.content ≡ Label name → place' ≡ place → following' ≡ following → labelled' ≡ true → IsUnderway entries start rest kept' used place' following' labelled'
 underway_label {place = place} {following = following} {kept = kept} {labelled = labelled} u line rest kept' place' following' labelled' name next pushed content p l b =
     kept_on u line rest kept' place' following' labelled' next pushed (omega arith) (passing_label kept rest line name place following place' following' labelled labelled' content p l b)
@@ -325,11 +324,13 @@ some_left u line rest i next content =
     let sum = length_runs line rest i content in
     omega arith
 
+-- an instruction is kept
 pub underway_runs : {entries place following : ℕ} {start items kept : List Line} {used : List Used} {labelled : Bool} → IsUnderway entries start items kept used place following labelled → (line : Line) (rest kept' : List Line) (place' following' : ℕ) (labelled' : Bool) (i : Instr) → items ≡ line ∷ rest → kept' ≡ kept ++ line ∷ [] → line.content ≡ Runs i → place' ≡ place + 1 → following' ≡ following - 1 → labelled' ≡ false → ((d : Low) → i ≡ self_move d → (following' ≡ 0) × (labelled ≡ true)) → IsUnderway entries start rest kept' used place' following' labelled'
 underway_runs {place = place} {following = following} {kept = kept} {labelled = labelled} u line rest kept' place' following' labelled' i next pushed content p l b stays =
     let some = some_left u line rest i next content in
     kept_on u line rest kept' place' following' labelled' next pushed (omega arith) (passing_runs kept rest line i place following place' following' labelled labelled' content p l b stays)
 
+-- a move goes, and is written down
 pub underway_drop : {entries place following : ℕ} {start items kept : List Line} {used : List Used} {labelled : Bool} → IsUnderway entries start items kept used place following labelled → 0 < entries → (line : Line) (rest : List Line) (used' : List Used) (following' : ℕ) (d : Low) → items ≡ line ∷ rest → used' ≡ used ++ record { place = place; entry = 0; register = d } ∷ [] → line.content ≡ Runs (self_move d) → following' ≡ following - 1 → (0 < following') ⊎ (labelled ≡ false) → IsUnderway entries start rest kept used' place following' labelled
 underway_drop {entries} {place} {following} {start} {items} {kept} {used} {labelled} u some line rest used' following' d next pushed content l either =
     let passing = subst (λ x. IsPassing kept x place following labelled) next u.passing in
@@ -340,6 +341,7 @@ underway_drop {entries} {place} {following} {start} {items} {kept} {used} {label
       completes = Completes-drop entries start kept rest line used d place following following' labelled some content l either passing completes;
     }
 
+-- no line is left
 pub underway_last : {entries place following : ℕ} {start items kept : List Line} {used : List Used} {labelled : Bool} → IsUnderway entries start items kept used place following labelled → items ≡ [] → (write : Instr → List ℕ) (base : ℕ) → AreRewritten (first_setting write base entries) (map line_view start) (map used_view used) (map line_view kept)
 underway_last {entries} {place} {following} {start} {items} {kept} {used} {labelled} u none =
     rewritten_at_end entries start kept used place following labelled (subst (λ x. IsPassing kept x place following labelled) none u.passing) (subst (λ x. Completes entries start used (kept ++ x)) none u.completes)

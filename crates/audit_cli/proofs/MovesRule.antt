@@ -6,14 +6,11 @@ use Rattle.std.proofs.lemmas.Option.{slice_get_within}
 use Rattle.thumb_instr.specs.declared.instr.Instr.{Instr}
 use Rattle.thumb_instr.specs.declared.instr.Instr.TheVariants.{Mov}
 use Rattle.thumb_model.specs.Items.{Values, one_of}
-use Rattle.thumb_model.specs.Listing.{Line, Place, plain, Code, code_of, is_code, is_op_place}
+use Rattle.thumb_model.specs.Listing.{Place, plain, Code, is_code, is_op_place}
 use Rattle.thumb_model.specs.Rewrite.{Low, Rule, IsSoundRule, AreSound, Applies, item_under, moved, renamed, normalised}
-use Rattle.thumb_model.specs.Rewritten.{Replacement, AreRewritten}
-use Rattle.thumb_model.specs.Same.{Same}
-use Rattle.thumb_model.proofs.LinesKept.{lines_same}
 use Rattle.thumb_model.proofs.Lists.{get_drop, get_take, take_all, length_drop}
 use Rattle.thumb_model.proofs.Small.{live_small}
-use Rattle.audit_cli.specs.Moves.{r0, self_move, move_rule, moves_table, first_setting}
+use Rattle.audit_cli.specs.Moves.{r0, self_move, move_rule, moves_table}
 use Rattle.audit_cli.proofs.MovesLines.{is_labelled, labelled_from_get, get_from_labelled}
 
 -- ---- soundness ----
@@ -84,10 +81,7 @@ moves_only (suc n) (suc k) rule e = moves_only n k rule e
 pub moves_are_sound : (entries : ℕ) → AreSound (moves_table entries)
 moves_are_sound entries k rule e = subst IsSoundRule (sym (moves_only entries k rule e)) move_is_sound
 
--- rewriting by such a table keeps the runs
-pub moves_keep_runs : (write : Instr → List ℕ) (base : ℕ) (entries : ℕ) (ls : List Line) (rs : List Replacement) (new : List Line) → AreRewritten (first_setting write base entries) ls rs new → Same (code_of ls) (code_of new)
-moves_keep_runs write base entries ls rs new h = lines_same (first_setting write base entries) ls rs new (moves_are_sound entries) h
-
+-- a table that isn't empty has the entry first
 pub first_move : (entries : ℕ) → 0 < entries → slice_get (moves_table entries) 0 ≡ Some move_rule
 first_move zero h = absurd (omega arith)
 first_move (suc n) h = refl
@@ -99,6 +93,7 @@ abbrev pub AreInstructions : List Place → Type 0
 AreInstructions [] = Unit {0}
 AreInstructions (x ∷ xs) = (is_op_place (Some x) ≡ true) × AreInstructions xs
 
+-- instructions and more instructions
 pub AreInstructions-append : (xs ys : List Place) → AreInstructions xs → AreInstructions ys → AreInstructions (xs ++ ys)
 AreInstructions-append [] ys a b = b
 AreInstructions-append (x ∷ xs) ys a b = (a.0, AreInstructions-append xs ys a.1 b)
@@ -174,6 +169,7 @@ code_stays places p q a h followed t =
       | inr ne ↦ omega arith
     ])
 
+-- where a move can go the entry applies
 pub Applies-from_droppable : (code : Code) (p : ℕ) (d : Low) → AreInstructions code.places → IsDroppable code p d → Applies move_rule (d ∷ []) code p
 unfolding without_place
 Applies-from_droppable code p d a f =
@@ -198,6 +194,7 @@ normalised_all : (is : List Instr) → map normalised is ≡ is
 normalised_all [] = refl
 normalised_all (i ∷ is) = ap (λ x. i ∷ x) (normalised_all is)
 
+-- where the entry applies a move can go
 pub IsDroppable-from_applies : (code : Code) (p : ℕ) (registers : List Low) → AreInstructions code.places → Applies move_rule registers code p → (d : Low) × IsDroppable code p d
 unfolding without_place
 IsDroppable-from_applies code p registers a f =

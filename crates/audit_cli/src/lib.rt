@@ -4,3 +4,17 @@
 mod assembling;
 mod listing;
 mod moves;
+mod outcome;
+mod printing;
+mod read_error;
+mod read_instr;
+mod read_listing;
+mod read_table;
+mod rewriting;
+mod stages;
+mod status;
+mod top;
+
+pub use command_line::{Command, Memory, usage_of};
+pub use status::Status;
+pub use top::peep;

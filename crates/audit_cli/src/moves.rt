@@ -73,7 +73,7 @@ pub fn drop_moves(alloc: Global, entries: usize, lines: Vec<Line>) -> Result<Rew
 }
 
 /// How many lines hold an instruction.
-fn count_instructions(lines: &[Line]) -> usize
+pub fn count_instructions(lines: &[Line]) -> usize
     ensures { result ≡ length (places_of (map line_view lines.now)) }
 {
     let mut count = 0;
@@ -93,5 +93,137 @@ fn moved_register(instr: &Instr) -> Option<Low>
     match *instr {
         Instr::Mov { target, source } if target.number == source.number => Low::new(target.number),
         _ => None,
+    }
+}
+
+#[cfg(test)]
+mod tests {
+    use super::*;
+    use std::test::Fail;
+    use thumb_instr::{Reg, Sum};
+
+    #[derive(Clone, Copy)]
+    enum Row {
+        /// `x:`
+        Label,
+        /// `mov` of a register to itself
+        Move(Reg),
+        /// `adds r0, r0, r0`
+        Adds,
+        /// nothing
+        Empty,
+    }
+
+    fn line_of(alloc: Global, row: Row) -> Result<Line, AllocError> {
+        let (content, text) = match row {
+            Row::Label => (
+                Content::Label(b"x".to_vec(alloc)?),
+                format!(in alloc; "x:\n")?,
+            ),
+            Row::Move(register) => {
+                let instr = Instr::Mov {
+                    target: register,
+                    source: register,
+                };
+                let number = register.number;
+                (
+                    Content::Runs(instr),
+                    format!(in alloc; "mov r{number}, r{number}\n")?,
+                )
+            }
+            Row::Adds => {
+                let register = Low::of(0);
+                let instr = Instr::Three {
+                    sum: Sum::Add,
+                    target: register,
+                    left: register,
+                    right: register,
+                };
+                (
+                    Content::Runs(instr),
+                    format!(in alloc; "adds r0, r0, r0\n")?,
+                )
+            }
+            Row::Empty => (Content::Empty, format!(in alloc; "\n")?),
+        };
+        Ok(Line {
+            content,
+            text: text.into_bytes(),
+        })
+    }
+
+    /// The bytes of the lines that are kept, and the place and register of each use.
+    fn rewritten(
+        alloc: Global,
+        entries: usize,
+        rows: &[Row],
+    ) -> Result<(Vec<u8>, Vec<(usize, u32)>), AllocError> {
+        let mut lines = Vec::new(alloc);
+        for row in rows {
+            lines.push(line_of(alloc, *row)?)?;
+        }
+        let rewritten = drop_moves(alloc, entries, lines)?;
+        let mut text = Vec::new(alloc);
+        for line in &rewritten.lines {
+            text.extend_from_slice(&line.text)?;
+        }
+        let mut used = Vec::new(alloc);
+        for used_there in &rewritten.used {
+            used.push((used_there.place, used_there.register.number))?;
+        }
+        Ok((text, used))
+    }
+
+    #[test]
+    fn moves_go(rt: HostRuntime) -> Result<(), Fail> {
+        let rows = [
+            Row::Label,
+            Row::Move(Reg::of(3)),
+            Row::Adds,
+            Row::Empty,
+            Row::Move(Reg::of(0)),
+            Row::Adds,
+        ];
+        let (text, used) = rewritten(rt.alloc(), 1, &rows)?;
+        assert_eq!(rt;
+            text.as_slice(),
+            b"x:\nadds r0, r0, r0\n\nadds r0, r0, r0\n".as_slice()
+        );
+        assert_eq!(rt; used.as_slice(), [(0, 3), (1, 0)].as_slice());
+        Ok(())
+    }
+
+    #[test]
+    fn the_last_move_goes_without_a_label(rt: HostRuntime) -> Result<(), Fail> {
+        let (text, used) = rewritten(rt.alloc(), 1, &[Row::Move(Reg::of(0))])?;
+        assert_eq!(rt; text.as_slice(), b"".as_slice());
+        assert_eq!(rt; used.as_slice(), [(0, 0)].as_slice());
+        Ok(())
+    }
+
+    #[test]
+    fn a_label_keeps_the_last_move(rt: HostRuntime) -> Result<(), Fail> {
+        let rows = [
+            Row::Label,
+            Row::Move(Reg::of(1)),
+            Row::Move(Reg::of(2)),
+            Row::Move(Reg::of(3)),
+        ];
+        let (text, used) = rewritten(rt.alloc(), 2, &rows)?;
+        assert_eq!(rt; text.as_slice(), b"x:\nmov r3, r3\n".as_slice());
+        assert_eq!(rt; used.as_slice(), [(0, 1), (0, 2)].as_slice());
+        Ok(())
+    }
+
+    #[test]
+    fn others_stay(rt: HostRuntime) -> Result<(), Fail> {
+        let alloc = rt.alloc();
+        let (text, used) = rewritten(alloc, 1, &[Row::Move(Reg::of(8))])?;
+        assert_eq!(rt; text.as_slice(), b"mov r8, r8\n".as_slice());
+        assert_eq!(rt; used.len(), 0);
+        let (text, used) = rewritten(alloc, 0, &[Row::Move(Reg::of(0))])?;
+        assert_eq!(rt; text.as_slice(), b"mov r0, r0\n".as_slice());
+        assert_eq!(rt; used.len(), 0);
+        Ok(())
     }
 }

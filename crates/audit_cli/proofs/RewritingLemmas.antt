@@ -1,0 +1,68 @@
+-- What is kept of a rewritten listing, and why it is the headline's.
+use Rattle.std.proofs.Common.{◌≡◌, ◌∙◌, ◌↔◌, ◌<◌, ℕ, List, [], ◌∷◌, ◌++◌, length, map, codes, Some, IsTrue, sym, refl, ap, subst, arith}
+use Rattle.std.specs.Prelude.{slice_get}
+use Rattle.thumb_instr.specs.declared.instr.Instr.{Instr}
+use Rattle.thumb_model.specs.Listing.{Line, places_of, code_of}
+use Rattle.thumb_model.specs.Rewrite.{Rule}
+use Rattle.thumb_model.specs.Rewritten.{Replacement, AreRewritten}
+use Rattle.thumb_model.proofs.LinesKept.{lines_same, none_left, all_applied}
+use Rattle.audit_cli.specs.Moves.{move_rule, moves_table}
+use Rattle.audit_cli.specs.FirstListing.{AreStraight, IsFirstBad}
+use Rattle.audit_cli.specs.FirstTable.{IsTable, IsBadTableLine}
+use Rattle.audit_cli.specs.Plans.{Keep, Outcome, Refuses, Does}
+use Rattle.audit_cli.specs.Printed.{text_of_lines, report_of, refused_table_line, refused_listing_line, image_line}
+use Rattle.audit_cli.specs.Rewriting.{Destination, Counts, AreImage, IsKept, alone, pair, IsKeptIn, setting, AreShortest, IsRewriting, ListingComes, bad_listing, rewrites, Comes, bad_table, goes_on}
+use Rattle.audit_cli.proofs.MovesRule.{moves_only, moves_are_sound}
+
+-- the listing alone
+pub kept_alone : (out image : List ℕ) (base : ℕ) (lines : List Line) (c : Counts) (text printed : List ℕ) (o : Outcome) → image ≡ codes "-" → text ≡ text_of_lines lines → printed ≡ report_of c.replaced c.before c.after → o ≡ Does ((out, text) ∷ []) printed → IsKeptIn (record { out = out; image = image; base = base }) lines c o
+kept_alone out image base lines c text printed o none t p e =
+    let to : Destination = record { out = out; image = image; base = base } in
+    subst (IsKeptIn to lines c) (sym e)
+    (subst (λ (x : List ℕ). IsKept to lines c ((out, x) ∷ []) printed) (sym t)
+    (subst (λ (x : List ℕ). IsKept to lines c ((out, text_of_lines lines) ∷ []) x) (sym p) (alone none)))
+
+-- the listing and its image
+pub kept_pair : (out image : List ℕ) (base : ℕ) (lines : List Line) (c : Counts) (text bytes printed : List ℕ) (o : Outcome) → (image ≡ codes "-" → ⊥) → text ≡ text_of_lines lines → AreImage base lines bytes → printed ≡ report_of c.replaced c.before c.after ++ image_line (length bytes)
+    → o ≡ Does ((out, text) ∷ (image, bytes) ∷ []) printed → IsKeptIn (record { out = out; image = image; base = base }) lines c o
+kept_pair out image base lines c text bytes printed o some t i p e =
+    let to : Destination = record { out = out; image = image; base = base } in
+    subst (IsKeptIn to lines c) (sym e)
+    (subst (λ (x : List ℕ). IsKept to lines c ((out, x) ∷ (image, bytes) ∷ []) printed) (sym t)
+    (subst (λ (x : List ℕ). IsKept to lines c ((out, text_of_lines lines) ∷ (image, bytes) ∷ []) x) (sym p) (pair some bytes i)))
+
+-- nothing is shorter than nothing
+moves_are_shortest : (entries : ℕ) → AreShortest (moves_table entries)
+moves_are_shortest entries k rule e shorter l equal =
+    let none : length rule.right ≡ 0 = ap (λ (r : Rule). length r.right) (moves_only entries k rule e) in
+    absurd (omega (arith, l, none))
+
+-- rewriting by the definition is the headline
+pub is_rewriting : (to : Destination) (entries : ℕ) (given lines : List Line) (replacements : List Replacement) (c : Counts) (o : Outcome) → AreRewritten (setting to.base entries) given replacements lines → c ≡ record { replaced = length replacements; before = length (places_of given); after = length (places_of lines) } → IsKeptIn to lines c o → IsRewriting to entries given o
+is_rewriting to entries given lines replacements c o r e k =
+    let s = setting to.base entries in
+    record {
+      replacements = replacements;
+      lines = lines;
+      rewritten = r;
+      same = lines_same s given replacements lines (moves_are_sound entries) r;
+      finished = none_left s given replacements lines r;
+      applied = all_applied s given replacements lines r;
+      sound = moves_are_sound entries;
+      shortest = moves_are_shortest entries;
+      kept = subst (λ (x : Counts). IsKeptIn to lines x o) e k;
+    }
+
+-- ---- what the texts come to ----
+
+pub listing_refused : (to : Destination) (entries : ℕ) (listing : List ℕ) (n : ℕ) (line : List ℕ) (o : Outcome) → IsFirstBad listing n → line ≡ refused_listing_line n → o ≡ Refuses line → ListingComes to entries listing o
+listing_refused to entries listing n line o bad l e = subst (ListingComes to entries listing) (sym (e ∙ ap Refuses l)) (bad_listing n bad)
+
+pub listing_rewritten : (to : Destination) (entries : ℕ) (listing : List ℕ) (given : List Line) (o : Outcome) → AreStraight listing given → IsRewriting to entries given o → ListingComes to entries listing o
+listing_rewritten to entries listing given o straight r = rewrites given straight o r
+
+pub table_refused : (to : Destination) (table listing : List ℕ) (n : ℕ) (line : List ℕ) (o : Outcome) → IsBadTableLine table n → line ≡ refused_table_line n → o ≡ Refuses line → Comes to table listing o
+table_refused to table listing n line o bad l e = subst (Comes to table listing) (sym (e ∙ ap Refuses l)) (bad_table n bad)
+
+pub table_goes_on : (to : Destination) (table listing : List ℕ) (entries : ℕ) (o : Outcome) → IsTable table entries → ListingComes to entries listing o → Comes to table listing o
+table_goes_on to table listing entries o is l = goes_on entries is o l

@@ -1,0 +1,32 @@
+-- The whole contract of the top call: what the words ask for, and what the run of it has done.
+use Rattle.std.specs.Prelude.{ℕ, ◌⊎◌, List, [], ◌∷◌}
+use Rattle.command_line.specs.CommandLine.{Request, rewrite, AskFor}
+use Rattle.outer_store.specs.Outside.{Seen, SameHeld, Sunk, WroteNone}
+use Rattle.audit_cli.specs.declared.status.Status.{Status}
+use Rattle.audit_cli.specs.declared.status.Status.TheVariants as status
+use Rattle.audit_cli.specs.Plans.{Plan, Runs}
+use Rattle.audit_cli.specs.Rewriting.{RewriteComesTo}
+
+-- what a request fetches, and what comes of it
+abbrev pub plan_of : Request → Plan
+plan_of (rewrite table listing out image base) = record { names = table ∷ listing ∷ []; comes = RewriteComesTo (record { out = out; image = image; base = base }) }
+
+-- nothing was kept or printed
+pub record IsUntouched (old new : Seen) (before after : Sunk) : Type 0 where
+  pub same : SameHeld old.held new.held
+  pub wrote : WroteNone before after
+
+-- the words ask for a command, and its plan was run
+abbrev pub Ran : List (List ℕ) → Seen → Seen → Sunk → Sunk → Status → Type 0
+Ran words old new before after s = (r : Request) × AskFor words r × Runs (plan_of r) old new before after s
+
+-- what a call with these words has done, by its status
+abbrev pub Peeps : List (List ℕ) → Seen → Seen → Sunk → Sunk → Status → Type 0
+Peeps words old new before after status.Usage = ((r : Request) → AskFor words r → ⊥) × IsUntouched old new before after
+Peeps words old new before after status.Memory = IsUntouched old new before after ⊎ Ran words old new before after status.Memory
+Peeps words old new before after status.Done = Ran words old new before after status.Done
+Peeps words old new before after status.Refused = Ran words old new before after status.Refused
+Peeps words old new before after status.StoreFault = Ran words old new before after status.StoreFault
+Peeps words old new before after status.SinkFault = Ran words old new before after status.SinkFault
+Peeps words old new before after status.TooBig = Ran words old new before after status.TooBig
+Peeps words old new before after status.Missing = Ran words old new before after status.Missing

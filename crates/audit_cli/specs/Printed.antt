@@ -1,0 +1,33 @@
+-- The bytes that are kept and printed.
+use Rattle.std.specs.Prelude.{ℕ, List, [], ◌∷◌, ◌++◌, codes}
+use Rattle.std.specs.Fmt.{decimal}
+use Rattle.thumb_model.specs.Listing.{Line}
+
+-- a listing's text: that of its lines, joined
+abbrev pub text_of_lines : List Line → List ℕ
+text_of_lines [] = []
+text_of_lines (l ∷ ls) = l.text ++ text_of_lines ls
+
+-- a line of words, with a newline
+abbrev pub printed : List ℕ → List ℕ
+printed words = words ++ 10 ∷ []
+
+-- ` ` and a number
+abbrev pub and_number : ℕ → List ℕ
+and_number n = 32 ∷ decimal n
+
+-- `replaced R` and `instructions BEFORE AFTER`
+abbrev pub report_of : ℕ → ℕ → ℕ → List ℕ
+report_of replaced before after = printed (codes "replaced" ++ and_number replaced) ++ printed (codes "instructions" ++ and_number before ++ and_number after)
+
+-- `refused table LINE`
+abbrev pub refused_table_line : ℕ → List ℕ
+refused_table_line line = printed (codes "refused table" ++ and_number line)
+
+-- `refused listing LINE 1`
+abbrev pub refused_listing_line : ℕ → List ℕ
+refused_listing_line line = printed (codes "refused listing" ++ and_number line ++ and_number 1)
+
+-- `image BYTES`
+abbrev pub image_line : ℕ → List ℕ
+image_line bytes = printed (codes "image" ++ and_number bytes)

@@ -1,0 +1,72 @@
+ghost use Rattle.std.specs.Prelude.{◌≡◌, IfOk, map};
+ghost use Rattle.audit_cli.specs.Views.{line_view};
+ghost use Rattle.audit_cli.specs.Printed.{text_of_lines, report_of, refused_table_line, refused_listing_line, image_line};
+
+use crate::listing::Line;
+use std::alloc::{AllocError, Global};
+
+/// The text of a listing: its lines' bytes, joined.
+pub fn print(alloc: Global, lines: &[Line]) -> Result<Vec<u8>, AllocError>
+    ensures { IfOk result (λ v. v.items ≡ text_of_lines (map line_view lines.now)) }
+{
+    let mut text = Vec::new(alloc);
+    for line in lines {
+        text.extend_from_slice(&line.text)?;
+    }
+    Ok(text)
+}
+
+/// What is printed of a rewritten listing: how many replacements were made, and how many instructions there were before and after.
+pub fn report(alloc: Global, replaced: u64, before: u64, after: u64) -> Result<Vec<u8>, AllocError>
+    ensures { IfOk result (λ v. v.items ≡ report_of replaced before after) }
+{
+    let text = format!(in alloc; "replaced {replaced}\ninstructions {before} {after}\n")?;
+    Ok(text.into_bytes())
+}
+
+/// What is printed of a table that is refused at this line.
+pub fn refused_table(alloc: Global, line: u64) -> Result<Vec<u8>, AllocError>
+    ensures { IfOk result (λ v. v.items ≡ refused_table_line line) }
+{
+    let text = format!(in alloc; "refused table {line}\n")?;
+    Ok(text.into_bytes())
+}
+
+/// What is printed of a listing that is refused at this line, which is none of a listing.
+pub fn refused_listing(alloc: Global, line: u64) -> Result<Vec<u8>, AllocError>
+    ensures { IfOk result (λ v. v.items ≡ refused_listing_line line) }
+{
+    let text = format!(in alloc; "refused listing {line} 1\n")?;
+    Ok(text.into_bytes())
+}
+
+/// What is printed of an image of so many bytes.
+pub fn image_report(alloc: Global, bytes: u64) -> Result<Vec<u8>, AllocError>
+    ensures { IfOk result (λ v. v.items ≡ image_line bytes) }
+{
+    let text = format!(in alloc; "image {bytes}\n")?;
+    Ok(text.into_bytes())
+}
+
+#[cfg(test)]
+mod tests {
+    use super::*;
+    use std::test::Fail;
+
+    #[test]
+    fn prints(rt: HostRuntime) -> Result<(), Fail> {
+        assert_eq!(rt;
+            report(rt.alloc(), 2, 4, 2)?.as_slice(),
+            b"replaced 2\ninstructions 4 2\n".as_slice()
+        );
+        assert_eq!(rt;
+            refused_table(rt.alloc(), 72)?.as_slice(),
+            b"refused table 72\n".as_slice()
+        );
+        assert_eq!(rt;
+            refused_listing(rt.alloc(), 65537)?.as_slice(),
+            b"refused listing 65537 1\n".as_slice()
+        );
+        Ok(())
+    }
+}

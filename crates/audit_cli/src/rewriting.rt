@@ -1,0 +1,203 @@
+//! The command `rewrite`: what the texts of a table and a listing come to.
+ghost use Rattle.std.specs.Prelude.{◌≡◌, ◌++◌, ◌∷◌, [], ◌↔◌, ℕ, List, length, map, codes, IfOk, IsTrue};
+ghost use Rattle.audit_cli.specs.Views.{line_view};
+ghost use Rattle.audit_cli.specs.Outcomes.{deed_view, outcome_view};
+ghost use Rattle.audit_cli.specs.Plans.{Refuses, Does};
+ghost use Rattle.audit_cli.specs.Printed.{report_of, image_line};
+ghost use Rattle.audit_cli.specs.Rewriting.{IsKeptIn, IsRewriting, ListingComes, Comes};
+ghost use Rattle.audit_cli.specs.Destinations.{destination_of};
+
+use crate::assembling::assemble;
+use crate::listing::Line;
+use crate::moves::{count_instructions, drop_moves};
+use crate::outcome::{Deed, Outcome};
+use crate::printing::{image_report, print, refused_listing, refused_table, report};
+use crate::read_error::ReadError;
+use crate::read_listing::read_listing;
+use crate::read_table::read_table;
+use crate::stages;
+use std::alloc::{AllocError, Global};
+use step_ledger::{Ledger, Steps};
+
+/// Whether IMAGE names no image.
+fn is_no_image(image: &str) -> bool
+    ensures { IsTrue result ↔ (image.now ≡ codes "-") }
+{
+    image == "-"
+}
+
+/// One text is kept.
+fn keeps_text(
+    alloc: Global,
+    out: &str,
+    text: Vec<u8>,
+    lines: Vec<u8>,
+) -> Result<Outcome, AllocError>
+    ensures { IfOk result (λ o. outcome_view o ≡ Does ((out.now, text.items) ∷ []) lines.items) }
+{
+    let deed = Deed::new(alloc, out, text)?;
+    let mut keeps = Vec::new(alloc);
+    keeps.push(deed)?;
+    Ok(Outcome::Does { keeps, lines })
+}
+
+/// A text is kept, and then an image.
+fn keeps_image(
+    alloc: Global,
+    out: &str,
+    text: Vec<u8>,
+    image: &str,
+    bytes: Vec<u8>,
+    lines: Vec<u8>,
+) -> Result<Outcome, AllocError>
+    ensures { IfOk result (λ o. outcome_view o ≡ Does ((out.now, text.items) ∷ (image.now, bytes.items) ∷ []) lines.items) }
+{
+    let deed = Deed::new(alloc, out, text)?;
+    let image_deed = Deed::new(alloc, image, bytes)?;
+    let mut keeps = Vec::new(alloc);
+    keeps.push(deed)?;
+    keeps.push(image_deed)?;
+    Ok(Outcome::Does { keeps, lines })
+}
+
+/// The report of a rewritten listing with that of its image.
+fn report_image(
+    alloc: Global,
+    replaced: u64,
+    before: u64,
+    after: u64,
+    bytes: u64,
+) -> Result<Vec<u8>, AllocError>
+    ensures { IfOk result (λ v. v.items ≡ report_of replaced before after ++ image_line bytes) }
+{
+    let mut lines = report(alloc, replaced, before, after)?;
+    let size = image_report(alloc, bytes)?;
+    lines.extend_from_slice(&size)?;
+    Ok(lines)
+}
+
+/// What is kept and printed of the lines that are left.
+#[tactic(auto, using(crate::proofs::RewritingLemmas::kept_alone, crate::proofs::RewritingLemmas::kept_pair))]
+fn kept_listing(
+    alloc: Global,
+    out: &str,
+    image: &str,
+    lines: &[Line],
+    replaced: u64,
+    before: u64,
+    after: u64,
+) -> Result<Outcome, AllocError>
+    ensures { (base : ℕ) → IfOk result (λ o. IsKeptIn (record { out = out.now; image = image.now; base = base }) (map line_view lines.now) (record { replaced = replaced; before = before; after = after }) (outcome_view o)) }
+{
+    let text = print(alloc, lines)?;
+    if is_no_image(image) {
+        let printed = report(alloc, replaced, before, after)?;
+        let outcome = keeps_text(alloc, out, text, printed)?;
+        return Ok(outcome);
+    }
+    let bytes = assemble(alloc, lines)?;
+    let printed = report_image(alloc, replaced, before, after, bytes.len() as u64)?;
+    let outcome = keeps_image(alloc, out, text, image, bytes, printed)?;
+    return Ok(outcome);
+}
+
+/// Rewrites lines by a table of so many entries.
+fn rewritten(
+    alloc: Global,
+    entries: usize,
+    lines: Vec<Line>,
+    out: &str,
+    image: &str,
+) -> Result<Outcome, AllocError>
+    ensures { (base : ℕ) → IfOk result (λ o. IsRewriting (record { out = out.now; image = image.now; base = base }) entries (map line_view lines.items) (outcome_view o)) }
+{
+    let before = count_instructions(&lines) as u64;
+    let new = drop_moves(alloc, entries, lines)?;
+    let after = count_instructions(&new.lines) as u64;
+    let replaced = new.used.len() as u64;
+    let outcome = kept_listing(alloc, out, image, &new.lines, replaced, before, after)?;
+    Ok(outcome)
+}
+
+/// The command `rewrite`, with the names that it keeps and the base of its image.
+#[derive(Drop)]
+pub(crate) struct Rewrite<'a> {
+    pub(crate) out: &'a str,
+    pub(crate) image: &'a str,
+    pub(crate) base: u32,
+}
+
+/// Nothing is kept, and the line is printed.
+fn refuses(line: Vec<u8>) -> Outcome
+    ensures { outcome_view result ≡ Refuses line.items }
+{
+    Outcome::Refuses(line)
+}
+
+#[tactic(auto, using(crate::proofs::RewritingLemmas::listing_refused))]
+/// What the text of a listing comes to, by a table of so many entries.
+fn listing_outcome(
+    alloc: Global,
+    to: &Rewrite<'_>,
+    entries: usize,
+    listing: &[u8],
+) -> Result<Outcome, AllocError>
+    ensures { IfOk result (λ o. ListingComes (destination_of to.now) entries listing.now (outcome_view o)) }
+{
+    match read_listing(alloc, listing) {
+        Err(ReadError::Memory) => return Err(AllocError),
+        Err(ReadError::Line(number)) => {
+            let line = refused_listing(alloc, number)?;
+            return Ok(refuses(line));
+        }
+        Ok(lines) => {
+            let outcome = rewritten(alloc, entries, lines, to.out, to.image)?;
+            return Ok(outcome);
+        }
+    }
+}
+
+#[tactic(auto, using(crate::proofs::RewritingLemmas::table_refused, crate::proofs::RewritingLemmas::table_goes_on))]
+/// What the texts of a table and a listing come to.
+fn outcome(
+    alloc: Global,
+    to: &Rewrite<'_>,
+    table: &[u8],
+    listing: &[u8],
+) -> Result<Outcome, AllocError>
+    ensures { IfOk result (λ o. Comes (destination_of to.now) table.now listing.now (outcome_view o)) }
+{
+    match read_table(table) {
+        Err(ReadError::Memory) => return Err(AllocError),
+        Err(ReadError::Line(number)) => {
+            let line = refused_table(alloc, number)?;
+            return Ok(refuses(line));
+        }
+        Ok(read) => {
+            let outcome = listing_outcome(alloc, to, read.entries as usize, listing)?;
+            return Ok(outcome);
+        }
+    }
+}
+
+impl stages::Command for Rewrite<'_> {
+    ghost use Rattle.audit_cli.specs.Rewriting.{RewriteComesTo};
+    ghost use Rattle.audit_cli.specs.Destinations.{destination_of};
+
+    ghost comes = { λ s texts o. RewriteComesTo (destination_of s) texts o };
+
+    fn compute<L: Ledger>(
+        &self,
+        alloc: Global,
+        texts: &[Vec<u8>],
+        _steps: &mut Steps<L>,
+    ) -> Result<Outcome, AllocError> {
+        match texts {
+            [table, listing] => {
+                let outcome = outcome(alloc, self, table, listing)?;
+                Ok(outcome)
+            }
+            _ => Ok(Outcome::Refuses(Vec::new(alloc))),
+        }
+    }
+}

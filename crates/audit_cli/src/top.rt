@@ -1,0 +1,71 @@
+//! The top call: all that the program does.
+ghost use Rattle.std.specs.Prelude.{◌≡◌, map, string_bytes};
+ghost use Rattle.outer_store.specs.Outside.{Grows, SinkGrows};
+ghost use Rattle.command_line.specs.Request.{request_of};
+ghost use Rattle.audit_cli.specs.Plans.{Runs};
+ghost use Rattle.audit_cli.specs.Peep.{plan_of, Peeps};
+
+use crate::rewriting::Rewrite;
+use crate::stages::run;
+use crate::status::Status;
+use command_line::{Command, usage_of};
+use outer_store::{Sink, Store};
+use std::alloc::Global;
+use step_ledger::{Ledger, Steps};
+
+/// Runs a command.
+fn run_command<S: Store, O: Sink, L: Ledger>(
+    alloc: Global,
+    command: &Command,
+    store: &mut S,
+    sink: &mut O,
+    steps: &mut Steps<L>,
+) -> Status
+    ensures runs { Runs (plan_of (request_of command.now)) (S.seen store.old) (S.seen store.new) (O.sunk sink.old) (O.sunk sink.new) result }
+    ensures grows { Grows (S.seen store.old) (S.seen store.new) }
+    ensures sink_grows { SinkGrows (O.sunk sink.old) (O.sunk sink.new) }
+{
+    match command {
+        Command::Rewrite {
+            table,
+            listing,
+            out,
+            image,
+            base,
+        } => {
+            let rewrite = Rewrite {
+                out: out.as_str(),
+                image: image.as_str(),
+                base: *base,
+            };
+            let names = [table.as_str(), listing.as_str()];
+            return run(alloc, &rewrite, &names, store, sink, steps);
+        }
+    }
+}
+
+/// Does what the words after the program's name ask for, over the texts of a store, and prints to a sink.
+///
+/// The status is `Usage` exactly where the words are no command line. Else the command fetches its texts, keeps what they come to and puts its lines as one piece; what each status leaves of the store and the sink is
+/// `Runs`, and what `rewrite` comes to is `IsRewriting`, the program's headline.
+#[tactic(auto, using(crate::proofs::PeepLemmas::ran, crate::proofs::PeepLemmas::untouched))]
+pub fn peep<S: Store, O: Sink, L: Ledger>(
+    alloc: Global,
+    words: &[String],
+    store: &mut S,
+    out: &mut O,
+    steps: &mut Steps<L>,
+) -> Status
+    ensures peeps { Peeps (map string_bytes words.now) (S.seen store.old) (S.seen store.new) (O.sunk out.old) (O.sunk out.new) result }
+    ensures grows { Grows (S.seen store.old) (S.seen store.new) }
+    ensures sink_grows { SinkGrows (O.sunk out.old) (O.sunk out.new) }
+{
+    match usage_of(alloc, words) {
+        Err(_) => return Status::Memory,
+        Ok(None) => return Status::Usage,
+        Ok(Some(command)) => return run_command(alloc, &command, store, out, steps),
+    }
+}
+
+#[cfg(test)]
+mod tests;

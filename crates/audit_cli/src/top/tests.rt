@@ -1,0 +1,241 @@
+use super::*;
+use outer_store::{MemSink, MemStore};
+use std::test::Fail;
+use step_ledger::Counted;
+
+const HEADER: &[u8] = b"peep 1\nregs 2\nleft 2\nseed 42\nbudget 1\npool 24 255\n";
+
+const STATE: &[u8] = b"state a15c02b7 7b47f409 ba1d3330 83d2f293 b\n";
+
+const MOVES: &[u8] = b"entry\nleft mov r0, r0\nmask r0 n z c v\nproof\n";
+
+/// A table with a state, and an entry that drops self-moves or none.
+fn table(alloc: Global, entry: &[u8]) -> Result<Vec<u8>, Fail> {
+    let mut text = HEADER.to_vec(alloc)?;
+    text.extend_from_slice(STATE)?;
+    text.extend_from_slice(entry)?;
+    text.extend_from_slice(b"end\n")?;
+    Ok(text)
+}
+
+/// A store that holds a table and a listing.
+fn store_of(alloc: Global, entry: &[u8], listing: &[u8], failing: u64) -> Result<MemStore, Fail> {
+    let mut held = Vec::new(alloc);
+    held.push((String::from_str(alloc, "t")?, table(alloc, entry)?))?;
+    held.push((String::from_str(alloc, "l")?, listing.to_vec(alloc)?))?;
+    let mut fails = Vec::new(alloc);
+    fails.push(failing)?;
+    Ok(MemStore::new(alloc, held, fails))
+}
+
+fn words_of(alloc: Global, words: &[&str]) -> Result<Vec<String>, Fail> {
+    let mut all = Vec::new(alloc);
+    for word in words {
+        all.push(String::from_str(alloc, word)?)?;
+    }
+    Ok(all)
+}
+
+/// Runs the words over the store, and gives what was printed.
+fn printed(
+    alloc: Global,
+    words: &[&str],
+    store: &mut MemStore,
+    want: Status,
+) -> Result<Vec<u8>, Fail> {
+    let words = words_of(alloc, words)?;
+    let mut sink = MemSink::new(alloc, Vec::new(alloc));
+    let mut steps = Steps::new(Counted::new());
+    let status = peep(alloc, &words, store, &mut sink, &mut steps);
+    let mut text = sink.written().to_vec(alloc)?;
+    if status != want {
+        text.extend_from_slice(b"?")?;
+    }
+    Ok(text)
+}
+
+const SUM: &[u8] = b"f:\nmov r3, r3\nadds r0, r0, r1\nmov r0, r0\nbx lr\n";
+
+#[test]
+fn rewrites(rt: HostRuntime) -> Result<(), Fail> {
+    let alloc = rt.alloc();
+    let cases: [(&[u8], &[u8], &[u8], &[u8]); 7] = [
+        (
+            MOVES,
+            SUM,
+            b"f:\nadds r0, r0, r1\nbx lr\n",
+            b"replaced 2\ninstructions 4 2\n",
+        ),
+        (MOVES, b"", b"", b"replaced 0\ninstructions 0 0\n"),
+        (b"", SUM, SUM, b"replaced 0\ninstructions 4 4\n"),
+        (
+            MOVES,
+            b"mov r0, r0\n",
+            b"",
+            b"replaced 1\ninstructions 1 0\n",
+        ),
+        (
+            MOVES,
+            b"x:\nmov r0, r0\n",
+            b"x:\nmov r0, r0\n",
+            b"replaced 0\ninstructions 1 1\n",
+        ),
+        (
+            MOVES,
+            b"mov r1, r0\nmov r2, r2",
+            b"mov r1, r0\n",
+            b"replaced 1\ninstructions 2 1\n",
+        ),
+        (
+            MOVES,
+            b"mov r1, r1\nbx lr",
+            b"bx lr",
+            b"replaced 1\ninstructions 2 1\n",
+        ),
+    ];
+    for (entry, listing, out, lines) in cases {
+        let mut store = store_of(alloc, entry, listing, 0)?;
+        let text = printed(
+            alloc,
+            &["rewrite", "t", "l", "o", "-"],
+            &mut store,
+            Status::Done,
+        )?;
+        assert!(rt; text.as_slice() == lines);
+        assert!(rt; store.held("o") == Some(out));
+        assert!(rt; store.held("-").is_none());
+    }
+    Ok(())
+}
+
+#[test]
+fn keeps_images(rt: HostRuntime) -> Result<(), Fail> {
+    let alloc = rt.alloc();
+    let mut store = store_of(alloc, b"", b"adds r0, r1, r2\nmuls r0, r1, r0\nbx lr\n", 0)?;
+    let text = printed(
+        alloc,
+        &["rewrite", "t", "l", "o", "i"],
+        &mut store,
+        Status::Done,
+    )?;
+    assert!(rt; text.as_slice() == b"replaced 0\ninstructions 3 3\nimage 6\n".as_slice());
+    assert!(rt; store.held("i") == Some(b"\x88\x18\x48\x43\x70\x47".as_slice()));
+    let text = printed(
+        alloc,
+        &["rewrite", "--base=0x100", "t", "l", "l", "l"],
+        &mut store,
+        Status::Done,
+    )?;
+    assert!(rt; text.as_slice() == b"replaced 0\ninstructions 3 3\nimage 6\n".as_slice());
+    assert!(rt; store.held("l") == Some(b"\x88\x18\x48\x43\x70\x47".as_slice()));
+    let mut store = store_of(alloc, b"", b"", 0)?;
+    let text = printed(
+        alloc,
+        &["rewrite", "t", "l", "o", "i"],
+        &mut store,
+        Status::Done,
+    )?;
+    assert!(rt; text.as_slice() == b"replaced 0\ninstructions 0 0\nimage 0\n".as_slice());
+    assert!(rt; store.held("o") == Some(b"".as_slice()));
+    assert!(rt; store.held("i") == Some(b"".as_slice()));
+    Ok(())
+}
+
+#[test]
+fn refuses(rt: HostRuntime) -> Result<(), Fail> {
+    let alloc = rt.alloc();
+    let other = b"entry\nleft lsls r0, r0, #24\n".as_slice();
+    let cases: [(&[u8], &[u8], &[u8]); 4] = [
+        (MOVES, b"f:\nf:\nmov r0, r0\n", b"refused listing 2 1\n"),
+        (MOVES, b"mov r0, r0\nmov r8, r0\n", b"refused listing 2 1\n"),
+        (other, SUM, b"refused table 9\n"),
+        (b"end\n", b"?", b"refused table 9\n"),
+    ];
+    for (entry, listing, line) in cases {
+        let mut store = store_of(alloc, entry, listing, 0)?;
+        let text = printed(
+            alloc,
+            &["rewrite", "t", "l", "o", "i"],
+            &mut store,
+            Status::Refused,
+        )?;
+        assert!(rt; text.as_slice() == line);
+        assert!(rt; store.held("o").is_none());
+    }
+    Ok(())
+}
+
+#[test]
+fn fails_by_cause(rt: HostRuntime) -> Result<(), Fail> {
+    let alloc = rt.alloc();
+    let words = ["rewrite", "t", "l", "o", "i"];
+    for failing in 1..5u64 {
+        let mut store = store_of(alloc, MOVES, SUM, failing)?;
+        let text = printed(alloc, &words, &mut store, Status::StoreFault)?;
+        assert!(rt; text.is_empty());
+        assert_eq!(rt; store.held("o").is_some(), failing > 3);
+    }
+    let mut store = store_of(alloc, MOVES, SUM, 0)?;
+    let mut sink = MemSink::new(alloc, [1u64].to_vec(alloc)?);
+    let mut steps = Steps::new(Counted::new());
+    let status = peep(
+        alloc,
+        &words_of(alloc, &words)?,
+        &mut store,
+        &mut sink,
+        &mut steps,
+    );
+    assert_eq!(rt; status, Status::SinkFault);
+    assert!(rt; store.held("o").is_some());
+    assert!(rt; store.held("i").is_some());
+    for absent in ["x", "t"] {
+        let mut store = store_of(alloc, MOVES, SUM, 0)?;
+        let text = printed(
+            alloc,
+            &["rewrite", absent, "y", "o", "-"],
+            &mut store,
+            Status::Missing,
+        )?;
+        assert!(rt; text.is_empty());
+    }
+    Ok(())
+}
+
+#[test]
+fn knows_its_words(rt: HostRuntime) -> Result<(), Fail> {
+    let alloc = rt.alloc();
+    let lines: [&[&str]; 6] = [
+        &[],
+        &["rewrite", "t", "l", "o"],
+        &["rewrite", "t", "l", "o", "-", "--base", "2"],
+        &["rewrite", "t", "l", "o", "-", "--base", "4", "--base", "4"],
+        &["rewrite", "t", "l", "o", "-", "--base="],
+        &["rewrite", "t", "l", "o", "-", "--fast"],
+    ];
+    for words in lines {
+        let mut store = store_of(alloc, MOVES, SUM, 0)?;
+        let text = printed(alloc, words, &mut store, Status::Usage)?;
+        assert!(rt; text.is_empty());
+        assert!(rt; store.held("o").is_none());
+    }
+    Ok(())
+}
+
+#[test]
+fn fetches_no_more_than_the_limit(rt: HostRuntime) -> Result<(), Fail> {
+    let alloc = rt.alloc();
+    let mut held = Vec::new(alloc);
+    held.push((
+        String::from_str(alloc, "t")?,
+        vec![in alloc; 10u8; 67_108_865]?,
+    ))?;
+    let mut store = MemStore::new(alloc, held, Vec::new(alloc));
+    let text = printed(
+        alloc,
+        &["rewrite", "t", "l", "o", "-"],
+        &mut store,
+        Status::TooBig,
+    )?;
+    assert!(rt; text.is_empty());
+    Ok(())
+}

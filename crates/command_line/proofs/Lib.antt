@@ -1,0 +1,14 @@
+pub mod Reading
+pub mod Level
+pub mod Law
+pub mod Lookup
+pub mod Views
+pub mod Bytes
+pub mod Items
+pub mod NamedValues
+pub mod Exact
+pub mod Top
+pub mod Commands
+pub mod Rewrite
+pub mod Requests
+pub mod Usage

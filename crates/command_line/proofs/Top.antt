@@ -1,0 +1,109 @@
+-- clap at the first word: it names a command, or is refused.
+use Rattle.std.proofs.Common.{◌≡◌, ◌∙◌, ◌⊎◌, inl, inr, ◌+◌, ◌++◌, ◌&&◌, ℕ, Bool, true, false, not, List, [], ◌∷◌, Option, Some, None, refl, sym, ap, ap₂, codes, cond, append_assoc, append-nil, is_some, true≢false}
+use Rattle.std.specs.Prelude.{fold, find, slice_get}
+use Rattle.std.specs.Str.{bytes_eq, chars}
+use Rattle.clap.specs.Lexer.{long_of, short_of}
+use Rattle.clap.specs.Simple.{entered}
+use Rattle.clap.specs.Words.{App, Rule, Row, Shape, Text, built, fault_of, subcommand_of}
+use Rattle.clap.specs.Walk.{Names, Walk, finished, nothing_held, rows_after, settled, walk_from, walked}
+use Rattle.clap.specs.Faults.{check_fault, defaults_fault, entered_fault, level_fault, settle_fault, turn_fault, walk_fault}
+use Rattle.clap.specs.Kinds.{Kinds, or_else}
+use Rattle.clap.specs.declared.error.kind.ErrorKind.TheVariants as kind
+use Rattle.clap.proofs.OnLiterals.{clap_on_literals}
+use Rattle.command_line.specs.App.{peep_app, rewrite_words}
+use Rattle.command_line.specs.CommandLine.{rewrite_options}
+use Rattle.command_line.proofs.Level.{leaf, or_else_nil}
+use Rattle.command_line.proofs.Law.{Is, is_dashes, is_joined, is_apart, is_unknown, is_short, is_plain, clean}
+use Rattle.command_line.proofs.Lookup.{options, words_from}
+use Rattle.command_line.proofs.Bytes.{either, same_text}
+
+-- once a command was met, the words go to it
+stopped_walk : (c : List Rule) (names : Names) (w : Walk) (name : Text) (rest words : List Text)
+    → fold (walked c names) (record w { stopped = Some (name, rest) }) words ≡ record w { stopped = Some (name, rest ++ words) }
+unfolding walked
+stopped_walk c names w name rest [] = ap (λ (ws : List Text). record w { stopped = Some (name, ws) }) (sym (append-nil rest))
+stopped_walk c names w name rest (x ∷ xs) = stopped_walk c names w name (rest ++ x ∷ []) xs ∙ ap (λ (ws : List Text). record w { stopped = Some (name, ws) }) (append_assoc rest (x ∷ []) xs)
+
+stopped_fault : (s : Shape) (names : Names) (w : Walk) (name : Text) (rest words : List Text)
+    → walk_fault s names (record w { stopped = Some (name, rest) }) words ≡ []
+unfolding walk_fault walked
+stopped_fault s names w name rest [] = refl
+stopped_fault s names w name rest (x ∷ xs) = stopped_fault s names w name (rest ++ x ∷ []) xs
+
+abbrev top_names : Names
+top_names = (codes "rewrite", []) ∷ []
+
+abbrev top : Shape
+top = (built peep_app).top
+
+abbrev start : Walk
+start = walk_from nothing_held
+
+-- the fault at the end of the first level
+abbrev whole : Walk → Kinds → Kinds
+whole end k = or_else k (or_else (entered_fault (built peep_app) end.stopped) (or_else (settle_fault [] false end.held) (or_else (defaults_fault (settled [] end.held).rows []) (check_fault top (finished [] end.held) (is_some (entered (built peep_app) end.stopped))))))
+
+fault_is : (w : Text) (ws : List Text) → fault_of peep_app (w ∷ ws)
+    ≡ whole (fold (walked [] top_names) (walked [] top_names start w) ws) (or_else (turn_fault top top_names start w) (walk_fault top top_names (walked [] top_names start w) ws))
+unfolding clap_on_literals
+fault_is w ws = refl
+
+-- ---- a word that names a command: its own words decide
+
+-- clap at this command is clap at its own level
+pub record Enters (name : Text) (words opts : List Text) : Type 0 where
+  pub fault : (ws : List Text) → fault_of peep_app (name ∷ ws) ≡ level_fault (leaf name (words_from 1 words (options opts))) [] nothing_held ws false []
+  pub found : (ws : List Text) → subcommand_of peep_app (name ∷ ws) ≡ Some (name, rows_after (words_from 1 words (options opts)) [] ws)
+
+stopped_at : (name : Text) (ws : List Text) → turn_fault top top_names start name ≡ [] → walked [] top_names start name ≡ record start { stopped = Some (name, []) }
+    → fault_of peep_app (name ∷ ws) ≡ whole (record start { stopped = Some (name, ws) }) []
+stopped_at name ws none stop = fault_is name ws
+    ∙ ap₂ (λ (k : Kinds) (w : Walk). whole (fold (walked [] top_names) w ws) (or_else k (walk_fault top top_names w ws))) none stop
+    ∙ ap₂ whole (stopped_walk [] top_names start name [] ws) (stopped_fault top top_names start name [] ws)
+
+pub enters_rewrite : Enters (codes "rewrite") rewrite_words rewrite_options
+unfolding clap_on_literals
+enters_rewrite = record {
+  fault = λ ws. stopped_at (codes "rewrite") ws refl refl ∙ or_else_nil _;
+  found = λ ws. ap (λ (w : Walk). entered (built peep_app) w.stopped) (stopped_walk [] top_names start (codes "rewrite") [] ws);
+}
+
+-- ---- no words, and words that begin with another
+
+pub nothing_fault : clean (fault_of peep_app []) ≡ false
+unfolding clap_on_literals
+nothing_fault = refl
+
+refused : (w : Text) (ws : List Text) (k : _) (ks : Kinds) → turn_fault top top_names start w ≡ k ∷ ks → clean (fault_of peep_app (w ∷ ws)) ≡ false
+refused w ws k ks e = ap clean (fault_is w ws)
+    ∙ ap (λ (t : Kinds). clean (whole (fold (walked [] top_names) (walked [] top_names start w) ws) (or_else t (walk_fault top top_names (walked [] top_names start w) ws)))) e
+
+dashes_first : (ws : List Text) → clean (fault_of peep_app (codes "--" ∷ ws)) ≡ false
+unfolding clap_on_literals
+dashes_first [] = refl
+dashes_first (x ∷ xs) = refl
+
+unknown_first : (w n : Text) (v : Option Text) → bytes_eq (codes "rewrite") w ≡ false → bytes_eq w (45 ∷ 45 ∷ []) ≡ false → long_of w ≡ Some (n, v) → turn_fault top top_names start w ≡ kind.UnknownArgument ∷ []
+unfolding clap_on_literals
+unknown_first w n v other dd long = rw (other, dd, long) refl
+
+short_first : (w : Text) (b b' : ℕ) (cs : List ℕ) → bytes_eq (codes "rewrite") w ≡ false → bytes_eq w (45 ∷ 45 ∷ []) ≡ false → long_of w ≡ None → short_of w ≡ Some (b ∷ cs)
+    → slice_get (chars (b ∷ cs)) 0 ≡ Some b' → turn_fault top top_names start w ≡ kind.UnknownArgument ∷ []
+unfolding clap_on_literals
+short_first w b b' cs other dd long short first = rw (other, dd, long, short, first) refl
+
+plain_first : (w : Text) → bytes_eq (codes "rewrite") w ≡ false → bytes_eq w (45 ∷ 45 ∷ []) ≡ false → long_of w ≡ None → short_of w ≡ None
+    → turn_fault top top_names start w ≡ kind.UnknownArgument ∷ kind.InvalidSubcommand ∷ []
+unfolding clap_on_literals
+plain_first w other dd long short = rw (other, dd, long, short) refl
+
+-- a first word that names no command is refused
+pub other_first : (w : Text) (ws : List Text) → bytes_eq (codes "rewrite") w ≡ false → Is (λ _. false) w → clean (fault_of peep_app (w ∷ ws)) ≡ false
+other_first w ws other is = elim is [
+  | is_dashes dd ↦ ap (λ (t : Text). clean (fault_of peep_app (t ∷ ws))) (same_text w (45 ∷ 45 ∷ []) dd) ∙ dashes_first ws
+  | is_joined n v dd long ours ↦ absurd (true≢false (sym ours))
+  | is_apart n dd long ours ↦ absurd (true≢false (sym ours))
+  | is_unknown n v dd long unknown ↦ refused w ws kind.UnknownArgument [] (unknown_first w n v other dd long)
+  | is_short b b' cs dd long short first ↦ refused w ws kind.UnknownArgument [] (short_first w b b' cs other dd long short first)
+  | is_plain dd long short ↦ refused w ws kind.UnknownArgument (kind.InvalidSubcommand ∷ []) (plain_first w other dd long short)
+]

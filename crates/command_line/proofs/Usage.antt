@@ -1,0 +1,66 @@
+-- From what clap promises to what the words ask for.
+use Rattle.std.proofs.Common.{◌≡◌, ◌≢◌, ◌∙◌, ◌<◌, ℕ, zero, suc, List, [], ◌∷◌, length, map, Option, Some, None, refl, sym, ap, ap₂, arith, Bor, codes, option_map, subst}
+use Rattle.std.specs.Prelude.{All, MatchOption, option_and_then}
+use Rattle.std.specs.Box.{box_value}
+use Rattle.std.specs.Str.{IsUtf8}
+use Rattle.clap.specs.Words.{Row, fault_of, first_of, first_value, found_of, rows_of, subcommand_name_of, subcommand_of, subcommand_rows_of}
+use Rattle.clap.specs.declared.parser.matches.ArgMatches.{ArgMatches}
+use Rattle.clap.specs.declared.parser.matches.ArgMatches.TheViews.{out-ArgMatches, out-SubCommand}
+use Rattle.clap.specs.declared.parser.matches.Found.{Found}
+use Rattle.clap.proofs.WalkLemmas.{first_value-rows}
+use Rattle.command_line.specs.App.{asked, peep_app, rewrite_asked}
+use Rattle.command_line.specs.CommandLine.{AskFor, Request, Text}
+use Rattle.command_line.specs.Request.{request_of}
+use Rattle.command_line.specs.declared.command.Command.{Command}
+use Rattle.command_line.proofs.Views.{AreTexts}
+use Rattle.command_line.proofs.Requests.{complete, sound}
+use Rattle.command_line.proofs.Rewrite.{meaning}
+
+pub are_texts : (xs : List (Bor Text)) → All (λ t. IsUtf8 t.now) xs → AreTexts (map (λ t. t.now) xs)
+are_texts [] all = tt
+are_texts (x ∷ xs) all = (all 0 x (omega arith), are_texts xs (λ k d lt. all (suc k) d (omega arith)))
+
+-- what clap refuses asks for nothing
+pub refused_asks : (texts slice : List (Bor Text)) (ws : List Text) → slice ≡ texts → map (λ t. t.now) texts ≡ ws → All (λ t. IsUtf8 t.now) texts
+    → fault_of peep_app (map (λ t. t.now) slice) ≢ [] → (r : Request) → AskFor ws r → ⊥
+refused_asks texts slice ws same are all fault r asks =
+    fault (rw (same, are) (complete ws (subst AreTexts are (are_texts texts all)) r asks).0)
+
+-- what clap takes asks for what its matches say, or for nothing
+pub taken_asks : (texts slice : List (Bor Text)) (ws : List Text) → slice ≡ texts → map (λ t. t.now) texts ≡ ws → All (λ t. IsUtf8 t.now) texts
+    → (m : ArgMatches) → (fault_of peep_app (map (λ t. t.now) slice) ≡ []) × (subcommand_rows_of m ≡ subcommand_of peep_app (map (λ t. t.now) slice))
+    → (o : Option Command) → option_map request_of o ≡ option_and_then asked (subcommand_rows_of m) → MatchOption o ((r : Request) → AskFor ws r → ⊥) (λ c. AskFor ws (request_of c))
+taken_asks texts slice ws same are all m (fine, found) o e =
+    go o (e ∙ ap (option_and_then asked) (found ∙ ap (subcommand_of peep_app) words)) where
+      words : map (λ t. t.now) slice ≡ ws
+      words = ap (map (λ (t : Bor Text). t.now)) same ∙ are
+
+      utf8 : AreTexts ws
+      utf8 = subst AreTexts are (are_texts texts all)
+
+      go : (o : Option Command) → option_map request_of o ≡ meaning ws → MatchOption o ((r : Request) → AskFor ws r → ⊥) (λ c. AskFor ws (request_of c))
+      go None e = λ r asks. let bad : None ≡ Some r = e ∙ (complete ws utf8 r asks).1 in absurd (cc)
+      go (Some c) e = sound ws utf8 (sym (ap (fault_of peep_app) words) ∙ fine) (request_of c) (sym e)
+
+-- what is asked for is told by the values alone
+same_asked : (f g : Text → Option Text) → ((id : Text) → f id ≡ g id) → rewrite_asked f ≡ rewrite_asked g
+same_asked f g e = rw (e (codes "table"), e (codes "listing"), e (codes "out"), e (codes "image"), e (codes "base")) refl
+
+pub found_asked : (f : Found) → rewrite_asked (first_value f) ≡ rewrite_asked (λ id. first_of id (rows_of f))
+found_asked f = same_asked (first_value f) (λ id. first_of id (rows_of f)) (first_value-rows f)
+
+-- a pair, from each of its parts
+paired : {X : Type 0} (o : Option X) (pair : X → Text × List Row) (n : Text) (rs : List Row) → option_map (λ x. (pair x).0) o ≡ Some n
+    → option_map (λ (p : Text × List Row). p.1) (option_map pair o) ≡ Some rs → option_map pair o ≡ Some (n, rs)
+paired None pair n rs en er = absurd (let bad : None ≡ Some n = en in cc)
+paired (Some x) pair n rs en er = let a : (pair x).0 ≡ n = cc in let b : (pair x).1 ≡ rs = cc in ap₂ (λ (t : Text) (l : List Row). Some (t, l)) a b
+
+-- the subcommand that was met, from its name and its rows
+pub met_is : (m : ArgMatches) (n : Text) (rs : List Row) → Some n ≡ subcommand_name_of m → Some rs ≡ option_map (λ p. p.1) (subcommand_rows_of m) → subcommand_rows_of m ≡ Some (n, rs)
+met_is m n rs en er = paired (out-ArgMatches m).subcommand (λ b. ((out-SubCommand (box_value b)).name.now, rows_of (found_of (out-SubCommand (box_value b)).matches))) n rs (sym en) (sym er)
+
+pub at_some : {X : Type 0} (o : Option X) (x : X) (P : Type 0) (Q : X → Type 0) → o ≡ Some x → MatchOption o P Q → Q x
+at_some {X} o x P Q e h = subst (λ (p : Option X). MatchOption p P Q) e h
+
+pub at_none : {X : Type 0} (o : Option X) (P : Type 0) (Q : X → Type 0) → o ≡ None → MatchOption o P Q → P
+at_none {X} o P Q e h = subst (λ (p : Option X). MatchOption p P Q) e h

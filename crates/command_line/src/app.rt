@@ -1,0 +1,62 @@
+//! The program and its commands, as clap takes them.
+
+ghost use Rattle.std.specs.Prelude.{◌≡◌, IfOk, false};
+ghost use Rattle.clap.specs.Words.{app_of, with_rule};
+ghost use Rattle.clap.specs.declared.builder.Command.TheViews.{out-Command as fields_of};
+ghost use Rattle.command_line.specs.App.{positional, option, rewrite_app, peep_app};
+
+use clap::{Arg, Command};
+use std::alloc::{AllocError, Global};
+
+/// The command with one more positional word.
+fn with_word<'a>(
+    alloc: Global,
+    command: Command<'a>,
+    id: &'a str,
+) -> Result<Command<'a>, AllocError>
+    requires { (fields_of command).has_globals ≡ false }
+    ensures app { IfOk result (λ c. app_of c ≡ with_rule (app_of command.entry) (positional id.entry.now)) }
+    ensures own { IfOk result (λ c. (fields_of c).has_globals ≡ false) }
+{
+    command.arg(Arg::new(alloc, id).required(true))
+}
+
+/// The command with one more option, `--id`.
+fn with_option<'a>(
+    alloc: Global,
+    command: Command<'a>,
+    id: &'a str,
+) -> Result<Command<'a>, AllocError>
+    requires { (fields_of command).has_globals ≡ false }
+    ensures app { IfOk result (λ c. app_of c ≡ with_rule (app_of command.entry) (option id.entry.now)) }
+    ensures own { IfOk result (λ c. (fields_of c).has_globals ≡ false) }
+{
+    command.arg(Arg::new(alloc, id).long(id))
+}
+
+/// `rewrite TABLE LISTING OUT IMAGE [--base N]`
+fn rewrite<'a>(alloc: Global) -> Result<Command<'a>, AllocError>
+    ensures app { IfOk result (λ c. app_of c ≡ rewrite_app) }
+    ensures own { IfOk result (λ c. (fields_of c).has_globals ≡ false) }
+{
+    let command = Command::new(alloc, "rewrite");
+    let command = with_word(alloc, command, "table")?;
+    let command = with_word(alloc, command, "listing")?;
+    let command = with_word(alloc, command, "out")?;
+    let command = with_word(alloc, command, "image")?;
+    with_option(alloc, command, "base")
+}
+
+/// The program: a command is required, and there is no help.
+pub fn peep<'a>(alloc: Global) -> Result<Command<'a>, AllocError>
+    ensures { IfOk result (λ c. app_of c ≡ peep_app) }
+{
+    let rewrite = rewrite(alloc)?;
+    let command = Command::new(alloc, "peep")
+        .no_binary_name(true)
+        .disable_help_flag(true)
+        .disable_help_subcommand(true)
+        .subcommand_required(true)
+        .subcommand(rewrite)?;
+    Ok(command)
+}

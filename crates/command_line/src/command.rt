@@ -1,0 +1,23 @@
+//! What a command line asks for.
+
+use std::alloc::AllocError;
+use thiserror::Error;
+
+/// A command, with the values of its words and options.
+#[derive(Debug, Drop, PartialEq, Eq)]
+pub enum Command {
+    /// Rewrite the listing by the table, keep the result as `out`, and its image, laid out from `base` on, as `image`.
+    Rewrite {
+        table: String,
+        listing: String,
+        out: String,
+        image: String,
+        /// An address: a multiple of 4 up to 268,435,456.
+        base: u32,
+    },
+}
+
+/// Memory was refused.
+#[derive(Debug, Drop, Error)]
+#[error("out of memory")]
+pub struct Memory(#[from(alloc)] AllocError);

@@ -1,0 +1,122 @@
+use super::{Command, usage_of};
+use std::alloc::{AllocError, Global};
+use std::process::Abort;
+use std::test::Fail;
+
+/// The words of a line, by its blanks.
+fn words_of(alloc: Global, line: &str) -> Result<Vec<String>, AllocError> {
+    let mut words = Vec::new(alloc);
+    for word in line.split_whitespace() {
+        words.push(String::from_str(alloc, word)?)?;
+    }
+    Ok(words)
+}
+
+fn assert_rewrite(
+    rt: &impl Abort,
+    alloc: Global,
+    line: &str,
+    names: [&str; 4],
+    at: u32,
+) -> Result<(), Fail> {
+    let words = words_of(alloc, line)?;
+    let Some(
+        Command::Rewrite {
+            table,
+            listing,
+            out,
+            image,
+            base,
+        },
+    ) = usage_of(alloc, words.as_slice())?
+    else {
+        return Err(Fail::from("no command"));
+    };
+    assert_eq!(rt; table.as_str(), names[0], "{line}");
+    assert_eq!(rt; listing.as_str(), names[1], "{line}");
+    assert_eq!(rt; out.as_str(), names[2], "{line}");
+    assert_eq!(rt; image.as_str(), names[3], "{line}");
+    assert_eq!(rt; base, at, "{line}");
+    Ok(())
+}
+
+#[test]
+fn these_are_no_command(rt: HostRuntime) -> Result<(), Fail> {
+    let lines = [
+        "",
+        "rewrite",
+        "rewrite a b c",
+        "rewrite a b c d e",
+        "rewrite a b c d --base 2",
+        "rewrite a b c d --base 4 --base 4",
+        "rewrite a b c d --base=4 --base 4",
+        "rewrite a b c d --base=",
+        "rewrite a b c d --base",
+        "rewrite a b c --base 4",
+        "rewrite a b c d --base -",
+        "rewrite a b c d --base -- 4",
+        "rewrite a b c d --base --base=4",
+        "rewrite a b c d --base 268435460",
+        "rewrite a b c d --base 010",
+        "rewrite a b c d --base 0X10",
+        "rewrite a b c d --base 0x",
+        "rewrite a b c d --base 4294967296",
+        "rewrite a b c d --base +4",
+        "rewrite a b c d --bas 4",
+        "rewrite a b c d --BASE 4",
+        "rewrite a b c d -b 4",
+        "rewrite a b c d --unknown",
+        "rewrite a b c -x",
+        "rewrite a b c d --help",
+        "rewrite a b c d --version",
+        "rewrite a b c -- d -- e",
+        "--help",
+        "--version",
+        "help",
+        "help rewrite",
+        "-h",
+        "-",
+        "--",
+        "-- rewrite a b c d",
+        "--base 4 rewrite a b c d",
+        "rewrit a b c d",
+        "Rewrite a b c d",
+    ];
+    for line in lines {
+        let words = words_of(rt.alloc(), line)?;
+        assert!(rt; usage_of(rt.alloc(), words.as_slice())?.is_none(), "{line}");
+    }
+    Ok(())
+}
+
+#[test]
+fn these_are_rewrite(rt: HostRuntime) -> Result<(), Fail> {
+    let rows = [
+        ("rewrite a b c d", ["a", "b", "c", "d"], 0),
+        ("rewrite a b c - --base 4", ["a", "b", "c", "-"], 4),
+        ("rewrite --base=0x10 a b c d", ["a", "b", "c", "d"], 16),
+        ("rewrite a b c -- -x", ["a", "b", "c", "-x"], 0),
+        ("rewrite a b --base 8 c d", ["a", "b", "c", "d"], 8),
+        ("rewrite - a b c", ["-", "a", "b", "c"], 0),
+        ("rewrite -- -- a --base -", ["--", "a", "--base", "-"], 0),
+        (
+            "rewrite --base 0xaBc a b -- c d",
+            ["a", "b", "c", "d"],
+            2748,
+        ),
+        (
+            "rewrite a b c d --base 268435456",
+            ["a", "b", "c", "d"],
+            268_435_456,
+        ),
+        (
+            "rewrite rewrite a=b = d --base=0",
+            ["rewrite", "a=b", "=", "d"],
+            0,
+        ),
+    ];
+    for (line, names, base) in rows {
+        assert_rewrite(&rt, rt.alloc(), line, names, base)?;
+    }
+    Ok(())
+}
