@@ -74,9 +74,8 @@ abbrev pub lies_at : Naming → Option ℕ → ℕ → ℕ
 lies_at names (Some a) word = a
 lies_at names None word = word / 2 * 2
 
-abbrev pub mention_lies : ℕ → Naming → List Line → Option Mention → ℕ
-mention_lies base names all None = 0
-mention_lies base names all (Some m) = lies_at names (label_address m.name base all) (names.word_of m.name) + m.plus
+abbrev pub mention_lies : ℕ → Naming → List Line → Mention → ℕ
+mention_lies base names all m = lies_at names (label_address m.name base all) (names.word_of m.name) + m.plus
 
 -- the bytes of data words
 abbrev pub words_bytes : Naming → List Value → List ℕ
@@ -93,10 +92,15 @@ pub record Laid : Type 0 where
   pub names : Naming
   pub lines : List Line
 
+-- the bytes of an instruction at an address: as it stands where it mentions nothing
+abbrev pub IsEncoded : Laid → ℕ → Instr → Option Mention → List ℕ → Type 0
+IsEncoded laid at i None bytes = IsInstrBytes i bytes
+IsEncoded laid at i (Some m) bytes = (j : Instr) × Aims at (mention_lies laid.base laid.names laid.lines m) i j × IsInstrBytes j bytes
+
 -- the bytes of a statement at an address
 abbrev pub IsStatementBytes : Laid → ℕ → Statement → List ℕ → Type 0
 IsStatementBytes laid at Nothing bytes = bytes ≡ []
-IsStatementBytes laid at (Runs i mention) bytes = (j : Instr) × Aims at (mention_lies laid.base laid.names laid.lines mention) i j × IsInstrBytes j bytes
+IsStatementBytes laid at (Runs i mention) bytes = IsEncoded laid at i mention bytes
 IsStatementBytes laid at (Words vs) bytes = bytes ≡ words_bytes laid.names vs
 IsStatementBytes laid at (Aligns size most) bytes = bytes ≡ nops (padding size most at)
 IsStatementBytes laid at (Sets name address) bytes = bytes ≡ []
