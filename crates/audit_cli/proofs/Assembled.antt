@@ -1,19 +1,17 @@
 -- The bytes of straight lines are their image.
-use Rattle.std.proofs.Common.{◌≡◌, ◌∙◌, ◌<◌, ℕ, ◌+◌, ◌*◌, ◌/◌, ◌%◌, List, [], ◌∷◌, ◌++◌, None, ◌≤◌, length, map, drop, get_or, sym, refl, ap, subst, arith, append_assoc, append-nil}
+use Rattle.std.proofs.Common.{◌≡◌, ◌∙◌, ◌<◌, ℕ, ◌+◌, ◌*◌, ◌/◌, ◌%◌, List, [], ◌∷◌, ◌++◌, Some, None, ◌≤◌, length, map, drop, get_or, sym, refl, ap, subst, arith, append_assoc, append-nil}
 use Rattle.std.proofs.lemmas.List.{drop_more}
 use Rattle.std.proofs.Math.ListN.{drop_of_length-le}
 use Rattle.audit_cli.specs.declared.listing.Line.{Line as CodeLine}
 use Rattle.audit_cli.specs.Views.{line_view}
 use Rattle.thumb_instr.specs.declared.instr.Instr.{Instr}
-use Rattle.thumb_instr.specs.declared.instr.Instr.TheVariants.{Mov, Three, Two, Bx}
-use Rattle.thumb_instr.specs.declared.instr.Sum.TheVariants.{Add}
-use Rattle.thumb_instr.specs.declared.instr.Operation.TheVariants.{Mul}
+use Rattle.thumb_instr.specs.declared.instr.Instr.TheVariants as instr
 use Rattle.thumb_table.specs.Rows.{width, packed}
 use Rattle.thumb_table.specs.Table.{pieces, form_of, values_of, whole, IsCode}
 use Rattle.thumb_table.specs.declared.row.Code.TheVariants as code
-use Rattle.thumb_model.specs.Listing.{Name, Statement, Nothing, Runs, Words, Aligns, Line}
+use Rattle.thumb_model.specs.Listing.{Name, Statement, Nothing, Runs, Words, Aligns, Sets, Line}
 use Rattle.thumb_model.specs.Layout.{size_at, instr_size}
-use Rattle.thumb_model.specs.Image.{aimed, IsInstrBytes, Laid, laid, mention_lies, IsStatementBytes, AreLineBytes, IsImage}
+use Rattle.thumb_model.specs.Image.{IsInstrBytes, Laid, laid, IsStatementBytes, AreLineBytes, IsImage}
 use Rattle.audit_cli.specs.Codes.{IsCodeOf, AreCodes, PushedCode}
 
 -- what completes the lines that are left completes all, behind these bytes
@@ -25,18 +23,13 @@ completes_more all left l old new c p = λ rest h.
     subst (λ (b : List ℕ). AreCodes all (b ++ rest)) (sym p.pushed)
     (subst (AreCodes all) (sym (append_assoc old p.here rest)) (c (p.here ++ rest) (p.here, rest, refl, p.is_code, h)))
 
--- a straight instruction is the same at each address
-aimed_stays : (at to : ℕ) (i : Instr) → aimed at to i ≡ i
-aimed_stays at to (Mov d m) = refl
-aimed_stays at to (Three s d n m) = refl
-aimed_stays at to (Two o d m) = refl
-aimed_stays at to (Bx m) = refl
-
 statement_lies : (l : Laid) (at : ℕ) (s : Statement) (bytes : List ℕ) → IsCodeOf s bytes → IsStatementBytes l at s bytes
 statement_lies l at Nothing bytes h = h
-statement_lies l at (Runs i mention) bytes h = subst (λ (j : Instr). IsInstrBytes j bytes) (sym (aimed_stays at (mention_lies l.base l.names l.lines mention) i)) h
+statement_lies l at (Runs i None) bytes h = h
+statement_lies l at (Runs i (Some m)) bytes h = absurd h
 statement_lies l at (Words vs) bytes h = absurd h
 statement_lies l at (Aligns size most) bytes h = absurd h
+statement_lies l at (Sets name address) bytes h = absurd h
 
 lines_lie : (l : Laid) (at : ℕ) (ls : List Line) (bytes : List ℕ) → AreCodes ls bytes → AreLineBytes l at ls bytes
 lines_lie l at [] bytes h = h
@@ -52,10 +45,41 @@ are_image all bytes c base set =
 -- an instruction has a byte for each eight bits of its row
 eight_bits : (i : Instr) → 8 * instr_size i ≡ width (pieces (form_of i))
 unfolding pieces
-eight_bits (Mov d m) = refl
-eight_bits (Three Add d n m) = refl
-eight_bits (Two Mul d m) = refl
-eight_bits (Bx m) = refl
+eight_bits (instr.Mov d m) = refl
+eight_bits (instr.Three s d n m) = refl
+eight_bits (instr.Two o d m) = refl
+eight_bits (instr.Bx m) = refl
+eight_bits (instr.Movs d m) = refl
+eight_bits (instr.ShiftLeft d m i) = refl
+eight_bits (instr.ShiftRight s d m i) = refl
+eight_bits (instr.ThreeNumber s d n i) = refl
+eight_bits (instr.TwoNumber o d i) = refl
+eight_bits (instr.Add r) = refl
+eight_bits (instr.Compare r) = refl
+eight_bits (instr.Blx m) = refl
+eight_bits (instr.Literal t d) = refl
+eight_bits (instr.Indexed a t n m) = refl
+eight_bits (instr.Offset a t n i) = refl
+eight_bits (instr.Stack a t i) = refl
+eight_bits (instr.Address d i) = refl
+eight_bits (instr.StackAddress d i) = refl
+eight_bits (instr.StackMove s i) = refl
+eight_bits (instr.Extend e d m) = refl
+eight_bits (instr.Reverse r d m) = refl
+eight_bits (instr.Push l) = refl
+eight_bits (instr.Pop l) = refl
+eight_bits (instr.StoreMany s) = refl
+eight_bits (instr.LoadMany n l) = refl
+eight_bits (instr.Breakpoint i) = refl
+eight_bits (instr.Service i) = refl
+eight_bits (instr.Hint k) = refl
+eight_bits (instr.ChangeState i) = refl
+eight_bits (instr.BranchIf c d) = refl
+eight_bits (instr.Branch d) = refl
+eight_bits (instr.Call d) = refl
+eight_bits (instr.Barrier b) = refl
+eight_bits (instr.ReadSpecial d s) = refl
+eight_bits (instr.WriteMask m) = refl
 
 upper_byte : (h : ℕ) → h < 65536 → h / 256 % 256 ≡ h / 256
 upper_byte h l = omega arith

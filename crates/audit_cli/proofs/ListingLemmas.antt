@@ -5,9 +5,9 @@ use Rattle.std.proofs.lemmas.List.{append_cancel_right}
 use mathlib.Core.HLevel.{is_prop→PathP}
 use native.Mathlib.Bridge.{le_prop}
 use Rattle.thumb_instr.specs.declared.instr.Instr.{Instr}
-use Rattle.thumb_instr.specs.declared.instr.Instr.TheVariants.{Mov, Three, Two, Bx}
-use Rattle.thumb_instr.specs.declared.instr.Sum.TheVariants.{Add}
-use Rattle.thumb_instr.specs.declared.instr.Operation.TheVariants.{Mul}
+use Rattle.thumb_instr.specs.declared.instr.Instr.TheVariants as instr
+use Rattle.thumb_instr.specs.declared.operation.Sum.TheVariants as sum
+use Rattle.thumb_instr.specs.declared.operation.Operation.TheVariants as operation
 use Rattle.thumb_instr.specs.declared.within.Within.{Within}
 use Rattle.thumb_instr.specs.declared.within.General.{General}
 use Rattle.thumb_model.specs.Listing.{Line}
@@ -40,52 +40,89 @@ same_general a b e = λ i. record {
   no_sp = is_prop→PathP (λ j. e j ≡ 13 → ⊥) (λ j. hlevel) a.no_sp b.no_sp i;
 }
 
--- the text of a straight instruction, byte by byte
-spelled : Instr → List ℕ
-spelled (Mov d m) = mov_text d.number m.number
-spelled (Three Add d n m) = adds_text d.number n.number m.number
-spelled (Two Mul d m) = muls_text d.number m.number
-spelled (Bx m) = bx_text
+-- the four instructions of straight listings
+data Straight : Type 0 where
+  Moves : (d m : Within 0 15) → Straight
+  Adds : (d n m : Within 0 8) → Straight
+  Muls : (d m : Within 0 8) → Straight
+  Returns : (m : General) → Straight
 
-text_is : (i : Instr) → is_straight_instr i ≡ true → text_of i ≡ spelled i
-unfolding spelled
-text_is (Mov d m) e = let low = both (nat_lt d.number 8) (nat_lt m.number 8) e in mov_is d.number m.number (ltb-true d.number 8 low.0) (ltb-true m.number 8 low.1)
-text_is (Three Add d n m) e = adds_is d.number n.number m.number d.below n.below m.below
-text_is (Two Mul d m) e = muls_is d.number m.number d.below m.below
-text_is (Bx m) e = bx_is m.number (eqb-true m.number 14 e)
+instr_of : Straight → Instr
+instr_of (Moves d m) = instr.Mov d m
+instr_of (Adds d n m) = instr.Three sum.Add d n m
+instr_of (Muls d m) = instr.Two operation.Mul d m
+instr_of (Returns m) = instr.Bx m
+
+straight_of : (i : Instr) → is_straight_instr i ≡ true → (s : Straight) × (i ≡ instr_of s)
+unfolding instr_of
+straight_of (instr.Mov d m) h = (Moves d m, refl)
+straight_of (instr.Three sum.Add d n m) h = (Adds d n m, refl)
+straight_of (instr.Two operation.Mul d m) h = (Muls d m, refl)
+straight_of (instr.Bx m) h = (Returns m, refl)
+straight_of i h = absurd (cc)
+
+-- the text of a straight instruction, byte by byte
+spelled : Straight → List ℕ
+spelled (Moves d m) = mov_text d.number m.number
+spelled (Adds d n m) = adds_text d.number n.number m.number
+spelled (Muls d m) = muls_text d.number m.number
+spelled (Returns m) = bx_text
+
+spelled_is : (s : Straight) → is_straight_instr (instr_of s) ≡ true → text_of (instr_of s) ≡ spelled s
+unfolding spelled instr_of
+spelled_is (Moves d m) e = let low = both (nat_lt d.number 8) (nat_lt m.number 8) e in mov_is d.number m.number (ltb-true d.number 8 low.0) (ltb-true m.number 8 low.1)
+spelled_is (Adds d n m) e = adds_is d.number n.number m.number d.below n.below m.below
+spelled_is (Muls d m) e = muls_is d.number m.number d.below m.below
+spelled_is (Returns m) e = bx_is m.number (eqb-true m.number 14 e)
+
+-- an instruction of a straight listing, and its text
+record Written (i : Instr) : Type 0 where
+  as_one : Straight
+  is : i ≡ instr_of as_one
+  straight : is_straight_instr (instr_of as_one) ≡ true
+  text : text_of i ≡ spelled as_one
+
+written : (i : Instr) → is_straight_instr i ≡ true → Written i
+written i h =
+    let s = straight_of i h in
+    let straight : is_straight_instr (instr_of s.0) ≡ true = ap is_straight_instr (sym s.1) ∙ h in
+    record { as_one = s.0; is = s.1; straight = straight; text = ap text_of s.1 ∙ spelled_is s.0 straight }
 
 -- the same byte stands at each place
 at : (k : ℕ) (v w : List ℕ) → v ≡ w → get_or v k 0 ≡ get_or w k 0
 at k v w e = ap (λ x. get_or x k 0) e
 
-same_spelled : (i j : Instr) → is_straight_instr i ≡ true → is_straight_instr j ≡ true → spelled i ≡ spelled j → i ≡ j
-unfolding spelled
-same_spelled (Mov d m) (Mov e n) h k s =
+same_spelled : (s t : Straight) → is_straight_instr (instr_of s) ≡ true → is_straight_instr (instr_of t) ≡ true → spelled s ≡ spelled t → s ≡ t
+unfolding spelled instr_of
+same_spelled (Moves d m) (Moves e n) h k s =
     let first = same_number d e (omega (arith, at 5 _ _ s)) in
     let second = same_number m n (omega (arith, at 9 _ _ s)) in
     cc
-same_spelled (Three Add d n m) (Three Add e o p) h k s =
+same_spelled (Adds d n m) (Adds e o p) h k s =
     let first = same_number d e (omega (arith, at 6 _ _ s)) in
     let second = same_number n o (omega (arith, at 10 _ _ s)) in
     let third = same_number m p (omega (arith, at 14 _ _ s)) in
     cc
-same_spelled (Two Mul d m) (Two Mul e n) h k s =
+same_spelled (Muls d m) (Muls e n) h k s =
     let first = same_number d e (omega (arith, at 6 _ _ s)) in
     let second = same_number m n (omega (arith, at 10 _ _ s)) in
     cc
-same_spelled (Bx m) (Bx n) h k s = let same = same_general m n (eqb-true m.number 14 h ∙ sym (eqb-true n.number 14 k)) in cc
-same_spelled (Mov d m) (Three Add e o p) h k s = absurd (omega (arith, at 0 _ _ s))
-same_spelled (Mov d m) (Two Mul e n) h k s = absurd (omega (arith, at 1 _ _ s))
-same_spelled (Mov d m) (Bx n) h k s = absurd (omega (arith, at 0 _ _ s))
-same_spelled (Three Add d n m) (Mov e o) h k s = absurd (omega (arith, at 0 _ _ s))
-same_spelled (Three Add d n m) (Two Mul e o) h k s = absurd (omega (arith, at 0 _ _ s))
-same_spelled (Three Add d n m) (Bx o) h k s = absurd (omega (arith, at 0 _ _ s))
-same_spelled (Two Mul d m) (Mov e n) h k s = absurd (omega (arith, at 1 _ _ s))
-same_spelled (Two Mul d m) (Three Add e o p) h k s = absurd (omega (arith, at 0 _ _ s))
-same_spelled (Two Mul d m) (Bx n) h k s = absurd (omega (arith, at 0 _ _ s))
-same_spelled (Bx m) (Mov e n) h k s = absurd (omega (arith, at 0 _ _ s))
-same_spelled (Bx m) (Three Add e o p) h k s = absurd (omega (arith, at 0 _ _ s))
-same_spelled (Bx m) (Two Mul e n) h k s = absurd (omega (arith, at 0 _ _ s))
+same_spelled (Returns m) (Returns n) h k s = let same = same_general m n (eqb-true m.number 14 h ∙ sym (eqb-true n.number 14 k)) in cc
+same_spelled (Moves d m) (Adds e o p) h k s = absurd (omega (arith, at 0 _ _ s))
+same_spelled (Moves d m) (Muls e n) h k s = absurd (omega (arith, at 1 _ _ s))
+same_spelled (Moves d m) (Returns n) h k s = absurd (omega (arith, at 0 _ _ s))
+same_spelled (Adds d n m) (Moves e o) h k s = absurd (omega (arith, at 0 _ _ s))
+same_spelled (Adds d n m) (Muls e o) h k s = absurd (omega (arith, at 0 _ _ s))
+same_spelled (Adds d n m) (Returns o) h k s = absurd (omega (arith, at 0 _ _ s))
+same_spelled (Muls d m) (Moves e n) h k s = absurd (omega (arith, at 1 _ _ s))
+same_spelled (Muls d m) (Adds e o p) h k s = absurd (omega (arith, at 0 _ _ s))
+same_spelled (Muls d m) (Returns n) h k s = absurd (omega (arith, at 0 _ _ s))
+same_spelled (Returns m) (Moves e n) h k s = absurd (omega (arith, at 0 _ _ s))
+same_spelled (Returns m) (Adds e o p) h k s = absurd (omega (arith, at 0 _ _ s))
+same_spelled (Returns m) (Muls e n) h k s = absurd (omega (arith, at 0 _ _ s))
+
+same_written : (i j : Instr) → Written i → Written j → text_of i ≡ text_of j → i ≡ j
+same_written i j w v e = w.is ∙ ap instr_of (same_spelled w.as_one v.as_one w.straight v.straight (sym w.text ∙ e ∙ v.text)) ∙ sym v.is
 
 -- ---- and a line by its bytes ----
 
@@ -101,32 +138,32 @@ last_of (y ∷ []) x = refl
 last_of (y ∷ z ∷ zs) x = last_of (z ∷ zs) x
 
 -- the text of an instruction is that of no label
-no_label : (i : Instr) (name : List ℕ) → is_straight_instr i ≡ true → spelled i ≡ name ++ 58 ∷ [] → ⊥
-unfolding spelled last_byte
-no_label (Mov d m) name h s =
+no_label : (i : Straight) (name : List ℕ) → is_straight_instr (instr_of i) ≡ true → spelled i ≡ name ++ 58 ∷ [] → ⊥
+unfolding spelled last_byte instr_of
+no_label (Moves d m) name h s =
     let low = both (nat_lt d.number 8) (nat_lt m.number 8) h in
     omega (arith, ap last_byte s ∙ last_of name 58, ltb-true m.number 8 low.1)
-no_label (Three Add d n m) name h s = omega (arith, ap last_byte s ∙ last_of name 58, m.below)
-no_label (Two Mul d m) name h s = omega (arith, ap last_byte s ∙ last_of name 58, d.below)
-no_label (Bx m) name h s = omega (arith, ap last_byte s ∙ last_of name 58)
+no_label (Adds d n m) name h s = omega (arith, ap last_byte s ∙ last_of name 58, m.below)
+no_label (Muls d m) name h s = omega (arith, ap last_byte s ∙ last_of name 58, d.below)
+no_label (Returns m) name h s = omega (arith, ap last_byte s ∙ last_of name 58)
 
-no_blank : (i : Instr) → spelled i ≡ [] → ⊥
+no_blank : (i : Straight) → spelled i ≡ [] → ⊥
 unfolding spelled
-no_blank (Mov d m) s = omega (arith, ap length s)
-no_blank (Three Add d n m) s = omega (arith, ap length s)
-no_blank (Two Mul d m) s = omega (arith, ap length s)
-no_blank (Bx m) s = omega (arith, ap length s)
+no_blank (Moves d m) s = omega (arith, ap length s)
+no_blank (Adds d n m) s = omega (arith, ap length s)
+no_blank (Muls d m) s = omega (arith, ap length s)
+no_blank (Returns m) s = omega (arith, ap length s)
 
 same_form : (n : ℕ) (f g : Form) → IsAllowed n f → IsAllowed n g → text_of_form f ≡ text_of_form g → f ≡ g
 same_form n Blank Blank a b e = refl
 same_form n Blank (Labels name) a b e = absurd (omega (arith, ap length e, length-append name (58 ∷ [])))
-same_form n Blank (Holds j) a b e = absurd (no_blank j (sym (text_is j b) ∙ sym e))
+same_form n Blank (Holds j) a b e = let w = written j b in absurd (no_blank w.as_one (sym w.text ∙ sym e))
 same_form n (Labels name) Blank a b e = absurd (omega (arith, ap length e, length-append name (58 ∷ [])))
 same_form n (Labels name) (Labels other) a b e = ap Labels (append_cancel_right name other (58 ∷ []) e)
-same_form n (Labels name) (Holds j) a b e = absurd (no_label j name b (sym (text_is j b) ∙ sym e))
-same_form n (Holds i) Blank a b e = absurd (no_blank i (sym (text_is i a) ∙ e))
-same_form n (Holds i) (Labels name) a b e = absurd (no_label i name a (sym (text_is i a) ∙ e))
-same_form n (Holds i) (Holds j) a b e = ap Holds (same_spelled i j a b (sym (text_is i a) ∙ e ∙ text_is j b))
+same_form n (Labels name) (Holds j) a b e = let w = written j b in absurd (no_label w.as_one name w.straight (sym w.text ∙ sym e))
+same_form n (Holds i) Blank a b e = let w = written i a in absurd (no_blank w.as_one (sym w.text ∙ e))
+same_form n (Holds i) (Labels name) a b e = let w = written i a in absurd (no_label w.as_one name w.straight (sym w.text ∙ e))
+same_form n (Holds i) (Holds j) a b e = ap Holds (same_written i j (written i a) (written j b) e)
 
 same_line : (p : Placed) (l m : Line) → IsStraight p l → IsStraight p m → l ≡ m
 same_line p l m a b = a.is ∙ ap (λ f. line_of_form f (whole p)) (same_form p.number a.form b.form a.allowed b.allowed (sym a.spelled ∙ b.spelled)) ∙ sym b.is

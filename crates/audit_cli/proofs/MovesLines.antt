@@ -4,9 +4,8 @@ use Rattle.std.specs.Prelude.{slice_get}
 use Rattle.std.specs.List.{list_any}
 use Rattle.std.proofs.lemmas.List.Folds.{list_any-append}
 use Rattle.thumb_instr.specs.declared.instr.Instr.{Instr}
-use Rattle.thumb_instr.specs.declared.instr.Instr.TheVariants.{Mov, Three, Two, Bx}
-use Rattle.thumb_model.specs.Listing.{Name, Mention, Statement, Nothing, Runs, Words, Aligns, Line, Place, places_in, places_of, Label, labels_at, labels_from}
-use Rattle.thumb_model.specs.Layout.{Layable, faults_from, fault_at, instr_fault, size_at, or_first}
+use Rattle.thumb_model.specs.Listing.{Name, Mention, Statement, Nothing, Runs, Words, Aligns, Sets, Line, Place, places_in, places_of, Label, labels_at, labels_from}
+use Rattle.thumb_model.specs.Layout.{Layable, lies_in, faults_from, fault_at, size_at, or_first}
 use Rattle.thumb_model.specs.Rewritten.{is_op, without, replaced_lines, are_joined, are_joined_from, labels_kept}
 
 -- ---- places ----
@@ -106,6 +105,7 @@ replaced_alone write (k ∷ ks) i text ls =
     not_there (Runs j mention) xs = ne_eqb (suc (length xs)) 0 (λ e. omega arith)
     not_there (Words vs) xs = refl
     not_there (Aligns size most) xs = refl
+    not_there (Sets name address) xs = refl
 
     past : (s : Statement) (xs : List Place) → length (places_in s ++ xs) - length (places_in s) ≡ length xs
     past s xs = simp length-append (omega arith)
@@ -121,23 +121,15 @@ joined_alone p (l ∷ ls) = either (is_op l.statement && (p == 0)) (joined_alone
 
 -- ---- layout ----
 
--- a row: no instruction has a distance
-no_fault : (at : ℕ) (i : Instr) (mention : Option Mention) → instr_fault at i mention ≡ None
-no_fault at (Mov d m) mention = refl
-no_fault at (Three s d n m) mention = refl
-no_fault at (Two o d m) mention = refl
-no_fault at (Bx m) mention = refl
+-- each line's statement has no fault, wherever it lies and whatever names stand for
+abbrev pub AreFaultless : List Line → Type 0
+AreFaultless [] = Unit {0}
+AreFaultless (l ∷ ls) = ((lies : Name → Option ℕ) (at : ℕ) → fault_at lies at l.statement ≡ None) × AreFaultless ls
 
-no_fault_at : (at : ℕ) (s : Statement) → fault_at at s ≡ None
-no_fault_at at Nothing = refl
-no_fault_at at (Runs i mention) = no_fault at i mention
-no_fault_at at (Words vs) = refl
-no_fault_at at (Aligns size most) = refl
+faults_none : (lies : Name → Option ℕ) (n at : ℕ) (ls : List Line) → AreFaultless ls → faults_from lies n at ls ≡ None
+faults_none lies n at [] h = refl
+faults_none lies n at (l ∷ ls) h = ap (λ f. or_first n f (faults_from lies (n + 1) (at + size_at l.statement at) ls)) (h.0 lies at) ∙ faults_none lies (n + 1) (at + size_at l.statement at) ls h.1
 
-faults_none : (n at : ℕ) (ls : List Line) → faults_from n at ls ≡ None
-faults_none n at [] = refl
-faults_none n at (l ∷ ls) = ap (λ f. or_first n f (faults_from (n + 1) (at + size_at l.statement at) ls)) (no_fault_at at l.statement) ∙ faults_none (n + 1) (at + size_at l.statement at) ls
-
--- lines can always be laid out
-pub laid_out : (base : ℕ) (ls : List Line) → Layable base ls
-laid_out base ls = faults_none 1 base ls
+-- lines whose statements have no fault can be laid out
+pub laid_out : (base : ℕ) (ls : List Line) → AreFaultless ls → Layable base ls
+laid_out base ls h = faults_none (lies_in base ls) 1 base ls h

@@ -1,5 +1,5 @@
 -- One pass over the lines makes every replacement, each the first that can be made.
-use Rattle.std.proofs.Common.{◌≡◌, ℕ, ◌+◌, ◌-◌, ◌<◌, ◌≤◌, ◌==◌, ◌||◌, Bool, true, false, List, [], ◌∷◌, ◌++◌, length, map, Option, Some, refl, sym, ap, ◌∙◌, subst, ◌⊎◌, inl, inr, arith, eq-eqb, append_assoc, length-append}
+use Rattle.std.proofs.Common.{◌≡◌, ℕ, ◌+◌, ◌-◌, ◌<◌, ◌≤◌, ◌==◌, ◌||◌, Bool, true, false, List, [], ◌∷◌, ◌++◌, length, map, Option, Some, None, refl, sym, ap, ◌∙◌, subst, ◌⊎◌, inl, inr, arith, eq-eqb, append_assoc, length-append}
 use Rattle.std.specs.Prelude.{slice_get}
 use Rattle.std.proofs.lemmas.Bool.{cases_lt}
 use Rattle.std.proofs.lemmas.List.{map-append, append-nil}
@@ -8,7 +8,8 @@ use Rattle.std.proofs.lemmas.Option.{slice_get_within}
 use Rattle.std.specs.declared.alloc.Global.{Global}
 use Rattle.std.specs.declared.vec.Vec.{Vec}
 use Rattle.thumb_instr.specs.declared.instr.Instr.{Instr}
-use Rattle.thumb_model.specs.Listing.{Line as ListingLine, Place, plain, places_in, places_of, labels_from, code_of}
+use Rattle.thumb_model.specs.Layout.{Layable, fault_at}
+use Rattle.thumb_model.specs.Listing.{Name, Line as ListingLine, Place, plain, places_in, places_of, labels_from, code_of}
 use Rattle.thumb_model.specs.Rewrite.{Low, Rule, Applies}
 use Rattle.thumb_model.specs.Rewritten.{Replacement, AppliesIn, IsFirst, NoneApplies, AreRewritten, lines_after, lines_after_rule, left_length, left_length_of}
 use Rattle.thumb_model.proofs.Lists.{get_front, get_back}
@@ -18,7 +19,7 @@ use Rattle.audit_cli.specs.declared.listing.Line.{Line}
 use Rattle.audit_cli.specs.declared.moves.Used.{Used}
 use Rattle.audit_cli.specs.Views.{line_view, line_with}
 use Rattle.audit_cli.specs.Moves.{self_move, move_rule, moves_table, first_setting, used_view}
-use Rattle.audit_cli.proofs.MovesLines.{places_of-append, labels_from-append, is_labelled, unlabelled_before, unlabelled_after, alone, replaced_alone, joined_alone, laid_out}
+use Rattle.audit_cli.proofs.MovesLines.{places_of-append, labels_from-append, is_labelled, unlabelled_before, unlabelled_after, alone, replaced_alone, joined_alone, AreFaultless, laid_out}
 use Rattle.audit_cli.proofs.MovesRule.{first_move, moves_only, AreInstructions, AreInstructions-append, IsDroppable, Applies-from_droppable, IsDroppable-from_applies}
 
 -- ---- at an instruction's line ----
@@ -93,14 +94,14 @@ left_length_there write base entries o ls f = ap left_length_of f.is_rule ∙ ap
 abbrev drop_at : ℕ → Low → Replacement
 drop_at p d = record { place = p; entry = 0; registers = d ∷ [] }
 
-first_there : (write : Instr → List ℕ) (base : ℕ) (entries p : ℕ) (d : Low) (ls : List ListingLine) → 0 < entries → AreInstructions (places_of ls) → IsDroppable (code_of ls) p d → ((q : ℕ) (e : Low) → q < p → IsDroppable (code_of ls) q e → ⊥) → IsFirst (first_setting write base entries) (drop_at p d) ls
-first_there write base entries p d ls some a f settled =
+first_there : (write : Instr → List ℕ) (base : ℕ) (entries p : ℕ) (d : Low) (ls : List ListingLine) → 0 < entries → AreInstructions (places_of ls) → Layable base (lines_after (first_setting write base entries) (drop_at p d) ls) → IsDroppable (code_of ls) p d → ((q : ℕ) (e : Low) → q < p → IsDroppable (code_of ls) q e → ⊥) → IsFirst (first_setting write base entries) (drop_at p d) ls
+first_there write base entries p d ls some a laid f settled =
     let applies : AppliesIn (first_setting write base entries) (drop_at p d) ls = record {
       rule = move_rule;
       is_rule = first_move entries some;
       applies = Applies-from_droppable (code_of ls) p d a f;
       joined = joined_alone p ls;
-      layable = laid_out base (lines_after_rule (first_setting write base entries) (Some move_rule) (drop_at p d) ls);
+      layable = subst (λ (o : Option Rule). Layable base (lines_after_rule (first_setting write base entries) o (drop_at p d) ls)) (first_move entries some) laid;
     } in
     record {
       applies = applies;
@@ -134,6 +135,15 @@ viewed_instructions [] = tt
 viewed_instructions (l ∷ ls) =
     subst AreInstructions (sym (places_of-append (line_view l ∷ []) (map line_view ls)))
     (AreInstructions-append (places_of (line_view l ∷ [])) (places_viewed ls) (line_instructions l.content l.text.items) (viewed_instructions ls))
+
+viewed_faultless : (ls : List Line) → AreFaultless (map line_view ls)
+viewed_faultless [] = tt
+viewed_faultless (l ∷ ls) = (λ lies at. statement_faultless lies at l.content l.text.items, viewed_faultless ls)
+  where
+    statement_faultless : (lies : Name → Option ℕ) (at : ℕ) (content : Content) (text : List ℕ) → fault_at lies at (line_with content text).statement ≡ None
+    statement_faultless lies at Empty text = refl
+    statement_faultless lies at (Label name) text = refl
+    statement_faultless lies at (Runs i) text = refl
 
 -- behind the lines that were kept, at this place, with so many instructions following: nothing can go in front of the place
 pub record IsPassing (kept rest : List Line) (place following : ℕ) (labelled : Bool) : Type 0 where
@@ -263,8 +273,8 @@ Completes-drop entries start kept rest l used d place following following' label
     let p' = passing_drop kept rest l (self_move d) place following following' labelled e less p in
     let before : map line_view (kept ++ l ∷ rest) ≡ ks ++ alone (self_move d) l.text.items ∷ map line_view rest = map-append line_view kept (l ∷ rest) ∙ ap (λ c. ks ++ line_with c l.text.items ∷ map line_view rest) e in
     let droppable : IsDroppable (code_of (ks ++ alone (self_move d) l.text.items ∷ map line_view rest)) (length (places_viewed kept)) d = droppable_there ks (map line_view rest) d l.text.items (elim either [ inl h ↦ inr (let g = p'.following_is in omega arith) | inr h ↦ inl (sym p.labelled_is ∙ h) ]) in
-    let first : IsFirst s (drop_at (length (places_viewed kept)) d) (map line_view (kept ++ l ∷ rest)) = first_there write base entries (length (places_viewed kept)) d (map line_view (kept ++ l ∷ rest)) some (viewed_instructions (kept ++ l ∷ rest)) (subst (λ x. IsDroppable (code_of x) (length (places_viewed kept)) d) (sym before) droppable) (λ q f h g. p.settled q f h g) in
     let after : lines_after s (drop_at (length (places_viewed kept)) d) (map line_view (kept ++ l ∷ rest)) ≡ map line_view (kept ++ rest) = ap (lines_after s (drop_at (length (places_viewed kept)) d)) before ∙ lines_after_drop write base entries d ks (map line_view rest) (self_move d) l.text.items some ∙ sym (map-append line_view kept rest) in
+    let first : IsFirst s (drop_at (length (places_viewed kept)) d) (map line_view (kept ++ l ∷ rest)) = first_there write base entries (length (places_viewed kept)) d (map line_view (kept ++ l ∷ rest)) some (viewed_instructions (kept ++ l ∷ rest)) (subst (Layable base) (sym after) (laid_out base (map line_view (kept ++ rest)) (viewed_faultless (kept ++ rest)))) (subst (λ x. IsDroppable (code_of x) (length (places_viewed kept)) d) (sym before) droppable) (λ q f h g. p.settled q f h g) in
     let here : AreRewritten s (map line_view (kept ++ l ∷ rest)) (drop_at (length (places_viewed kept)) d ∷ rs) new = (first, subst (λ x. AreRewritten s x rs new) (sym after) c) in
     let there : AreRewritten s (map line_view (kept ++ l ∷ rest)) (used_view u ∷ rs) new = subst (λ n. AreRewritten s (map line_view (kept ++ l ∷ rest)) (drop_at n d ∷ rs) new) (sym p.place_is) here in
     let list : map used_view (used ++ u ∷ []) ++ rs ≡ map used_view used ++ used_view u ∷ rs = ap (λ x. x ++ rs) (map-append used_view used (u ∷ [])) ∙ append_assoc (map used_view used) (used_view u ∷ []) rs in

@@ -4,7 +4,8 @@ use Rattle.std.specs.Prelude.{slice_get}
 use Rattle.std.proofs.lemmas.Bool.{cases_lt, cases_eq}
 use Rattle.std.proofs.lemmas.Option.{slice_get_within}
 use Rattle.thumb_instr.specs.declared.instr.Instr.{Instr}
-use Rattle.thumb_instr.specs.declared.instr.Instr.TheVariants.{Mov}
+use Rattle.thumb_instr.specs.declared.instr.Instr.TheVariants as instr
+use Rattle.thumb_instr.specs.Window.{byte_sum, byte_of}
 use Rattle.thumb_model.specs.Items.{Values, one_of}
 use Rattle.thumb_model.specs.Listing.{Place, plain, Code, is_code, is_op_place}
 use Rattle.thumb_model.specs.Rewrite.{Low, Rule, IsSoundRule, AreSound, Applies, item_under, moved, renamed, normalised}
@@ -186,20 +187,60 @@ Applies-from_droppable code p d a f =
       labels_stay = λ k l e t. code_stays code.places p l.place a within (λ same. f.followed (labelled_from_get code.labels p k l e same)) t;
     }
 
-only_register : (registers : List Low) → length registers ≡ 1 → (d : Low) × (renamed registers (Mov r0 r0) ≡ self_move d)
+only_register : (registers : List Low) → length registers ≡ 1 → (d : Low) × (renamed registers (instr.Mov r0 r0) ≡ self_move d)
 only_register [] e = absurd (omega arith)
 only_register (d ∷ ds) e = (d, refl)
 
-normalised_all : (is : List Instr) → map normalised is ≡ is
-normalised_all [] = refl
-normalised_all (i ∷ is) = ap (λ x. i ∷ x) (normalised_all is)
+-- a row: no other instruction stands for a move
+move_is : (i : Instr) (d : Low) → normalised i ≡ self_move d → i ≡ self_move d
+move_is (instr.Mov g m) d e = e
+move_is (instr.Three s g n m) d e = e
+move_is (instr.Two o g m) d e = e
+move_is (instr.Bx m) d e = e
+move_is (instr.Movs g m) d e = e
+move_is (instr.ShiftLeft g m i) d e = e
+move_is (instr.ShiftRight s g m i) d e = e
+move_is (instr.ThreeNumber k g n j) d e =
+    elim (g.number == n.number) as (λ b. (if b then instr.TwoNumber (byte_sum k) g (byte_of j) else instr.ThreeNumber k g n j) ≡ self_move d → instr.ThreeNumber k g n j ≡ self_move d) [ true ↦ λ f. absurd (cc) | false ↦ λ f. f ] e
+move_is (instr.TwoNumber o g i) d e = e
+move_is (instr.Add r) d e = e
+move_is (instr.Compare r) d e = e
+move_is (instr.Blx m) d e = e
+move_is (instr.Literal t g) d e = e
+move_is (instr.Indexed a t n m) d e = e
+move_is (instr.Offset a t n i) d e = e
+move_is (instr.Stack a t i) d e = e
+move_is (instr.Address g i) d e = e
+move_is (instr.StackAddress g i) d e = e
+move_is (instr.StackMove s i) d e = e
+move_is (instr.Extend k g m) d e = e
+move_is (instr.Reverse r g m) d e = e
+move_is (instr.Push l) d e = e
+move_is (instr.Pop l) d e = e
+move_is (instr.StoreMany s) d e = e
+move_is (instr.LoadMany n l) d e = e
+move_is (instr.Breakpoint i) d e = e
+move_is (instr.Service i) d e = e
+move_is (instr.Hint k) d e = e
+move_is (instr.ChangeState i) d e = e
+move_is (instr.BranchIf c g) d e = e
+move_is (instr.Branch g) d e = e
+move_is (instr.Call g) d e = e
+move_is (instr.Barrier b) d e = e
+move_is (instr.ReadSpecial g s) d e = e
+move_is (instr.WriteMask m) d e = e
+
+window_is : (is : List Instr) (d : Low) → map normalised is ≡ self_move d ∷ [] → is ≡ self_move d ∷ []
+window_is [] d e = absurd (cc)
+window_is (i ∷ []) d e = ap (λ x. x ∷ []) (move_is i d (let f : normalised i ≡ self_move d = cc in f))
+window_is (i ∷ j ∷ is) d e = absurd (cc)
 
 -- where the entry applies a move can go
 pub IsDroppable-from_applies : (code : Code) (p : ℕ) (registers : List Low) → AreInstructions code.places → Applies move_rule registers code p → (d : Low) × IsDroppable code p d
 unfolding without_place
 IsDroppable-from_applies code p registers a f =
     let one = only_register registers f.as_many in
-    let window : f.window ≡ self_move one.0 ∷ [] = sym (normalised_all f.window) ∙ f.matches ∙ ap (λ i. i ∷ []) one.1 in
+    let window : f.window ≡ self_move one.0 ∷ [] = window_is f.window one.0 (f.matches ∙ ap (λ i. i ∷ []) one.1) in
     let stands : take 1 (drop p code.places) ≡ plain (self_move one.0) ∷ [] = f.stands ∙ ap (map plain) window in
     let at : slice_get code.places p ≡ Some (plain (self_move one.0)) =
     sym (get_drop p code.places 0 p (omega arith)) ∙ sym (get_take 1 (drop p code.places) 0 (omega arith)) ∙ ap (λ (l : List Place). slice_get l 0) stands in

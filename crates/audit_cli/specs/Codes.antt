@@ -1,14 +1,17 @@
 -- The bytes of the instructions of straight lines, wherever they lie.
-use Rattle.std.specs.Prelude.{◌≡◌, ℕ, List, [], ◌∷◌, ◌++◌}
-use Rattle.thumb_model.specs.Listing.{Statement, Nothing, Runs, Words, Aligns, Line}
+use Rattle.std.specs.Prelude.{◌≡◌, ◌<◌, ℕ, List, [], ◌∷◌, ◌++◌, Some, None}
+use Rattle.thumb_instr.specs.declared.instr.Instr.{Instr}
+use Rattle.thumb_model.specs.Listing.{Statement, Nothing, Runs, Words, Aligns, Sets, Line}
 use Rattle.thumb_model.specs.Image.{IsInstrBytes}
 
--- one line's bytes: a straight line has no data and no alignment
+-- one line's bytes: a straight line has no data and no alignment, and its instruction mentions nothing
 abbrev pub IsCodeOf : Statement → List ℕ → Type 0
 IsCodeOf Nothing bytes = bytes ≡ []
-IsCodeOf (Runs i mention) bytes = IsInstrBytes i bytes
+IsCodeOf (Runs i None) bytes = IsInstrBytes i bytes
+IsCodeOf (Runs i (Some m)) bytes = ⊥
 IsCodeOf (Words vs) bytes = ⊥
 IsCodeOf (Aligns size most) bytes = ⊥
+IsCodeOf (Sets name address) bytes = ⊥
 
 -- the bytes of lines, one after the other
 abbrev pub AreCodes : List Line → List ℕ → Type 0

@@ -4,8 +4,8 @@ use Rattle.std.specs.List.{AllZip}
 use Rattle.std.specs.Fmt.{decimal}
 use Rattle.thumb_instr.specs.declared.instr.Instr.{Instr}
 use Rattle.thumb_instr.specs.declared.instr.Instr.TheVariants.{Mov, Three, Two, Bx}
-use Rattle.thumb_instr.specs.declared.instr.Sum.TheVariants.{Add}
-use Rattle.thumb_instr.specs.declared.instr.Operation.TheVariants.{Mul}
+use Rattle.thumb_instr.specs.declared.operation.Sum.TheVariants as sum
+use Rattle.thumb_instr.specs.declared.operation.Operation.TheVariants as operation
 use Rattle.thumb_model.specs.Listing.{Name, Line, Nothing, Runs}
 use Rattle.ascii_scan.specs.Lines.{Placed, lines_in, whole}
 use Rattle.ascii_scan.specs.Names.{name_length}
@@ -23,20 +23,23 @@ register n = if n == 13 then codes "sp" else if n == 14 then codes "lr" else 114
 abbrev pub and_register : ℕ → List ℕ
 and_register n = codes ", " ++ register n
 
+-- of the four instructions of straight listings
 abbrev pub text_of : Instr → List ℕ
 text_of (Mov d m) = codes "mov " ++ register d.number ++ and_register m.number
-text_of (Three Add d n m) = codes "adds " ++ register d.number ++ and_register n.number ++ and_register m.number
-text_of (Two Mul d m) = codes "muls " ++ register d.number ++ and_register m.number ++ and_register d.number
+text_of (Three sum.Add d n m) = codes "adds " ++ register d.number ++ and_register n.number ++ and_register m.number
+text_of (Two operation.Mul d m) = codes "muls " ++ register d.number ++ and_register m.number ++ and_register d.number
 text_of (Bx m) = codes "bx " ++ register m.number
+text_of i = []
 
 -- ---- lines ----
 
 -- `mov d, m`, `adds d, n, m` and `muls d, m, d` over low registers, and `bx lr`
 abbrev pub is_straight_instr : Instr → Bool
 is_straight_instr (Mov d m) = nat_lt d.number 8 && nat_lt m.number 8
-is_straight_instr (Three Add d n m) = true
-is_straight_instr (Two Mul d m) = true
+is_straight_instr (Three sum.Add d n m) = true
+is_straight_instr (Two operation.Mul d m) = true
 is_straight_instr (Bx m) = m.number == 14
+is_straight_instr i = false
 
 -- what a line may hold
 pub data Form : Type 0 where

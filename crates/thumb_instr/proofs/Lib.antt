@@ -1,1 +1,5 @@
+pub mod Bits
+pub mod Encodings
+pub mod Listed
 pub mod Registers
+pub mod Renaming

@@ -1,5 +1,5 @@
 -- The listing in which a window was replaced follows the one before.
-use Rattle.std.proofs.Common.{◌≡◌, ◌≢◌, ℕ, suc, ◌+◌, ◌-◌, ◌<◌, ◌≤◌, ◌^◌, ◌&&◌, not, true, false, if◌then◌else◌, List, [], ◌∷◌, ◌++◌, length, map, Option, Some, None, IsSome, refl, sym, ap, ◌∙◌, subst, ◌⊎◌, inl, inr, arith}
+use Rattle.std.proofs.Common.{◌≡◌, ◌≢◌, ℕ, suc, ◌+◌, ◌-◌, ◌<◌, ◌≤◌, ◌^◌, ◌/◌, ◌&&◌, not, true, false, if◌then◌else◌, List, [], ◌∷◌, ◌++◌, length, map, Option, Some, None, IsSome, refl, sym, ap, ◌∙◌, subst, ◌⊎◌, inl, inr, arith}
 use Rattle.std.specs.Prelude.{slice_get}
 use Rattle.std.specs.Option.{option_map}
 use Rattle.std.proofs.lemmas.Bool.{cases_eq}
@@ -7,15 +7,15 @@ use Rattle.thumb_instr.specs.declared.instr.Instr.{Instr}
 use Rattle.thumb_model.specs.Items.{Values, AreWords, assigned}
 use Rattle.thumb_model.specs.Effect.{after_all}
 use Rattle.thumb_model.specs.Listing.{Name, Mention, Place, Op, Word, plain, Code, place_of, label_places, return_places, IsPoint}
-use Rattle.thumb_model.specs.Machine.{Naming, Fits, World, IsWorld, Around, Act, Event, Fell, Leaves, Strays, is_odd, is_in_range, Next, On, Stay, To, Over, At, Here, Ended, State, act, arrives, around_of, aim_of, target_at, landing, point_among, points, step_on, step, times}
+use Rattle.thumb_model.specs.Machine.{Naming, Fits, HasLiterals, label_place, loads_literal, word_of_mention, word_of_place, word_behind, literal_word, literal_at, World, IsWorld, Around, Act, Event, Fell, Leaves, Strays, is_odd, is_in_range, Next, On, Stay, To, Over, At, Here, Ended, State, act, arrives, around_of, aim_of, target_at, landing, point_among, points, step_on, step, times}
 use Rattle.thumb_model.specs.Flow.{Reads}
 use Rattle.thumb_model.specs.Same.{has_ended, Alike, here_or_ended, begun, Same}
 use Rattle.thumb_model.specs.Rewrite.{moved, replaced}
 use Rattle.thumb_model.proofs.Simulation.{times_add, Advance, sooner, reached}
 use Rattle.thumb_model.proofs.Tied.{TargetTied, LandingTied, NextTied, ActTied, AroundTied, looks_tied, act_tied}
-use Rattle.thumb_model.proofs.Law.{IsSafe, held_of, act_safe, world_after}
+use Rattle.thumb_model.proofs.Held.{IsSafe, held_of, act_safe, world_after}
 use Rattle.thumb_model.proofs.Worlds.{around_words}
-use Rattle.thumb_model.proofs.Moved.{IsReplacement, IsOutside, fetch_window, fetch_outside, point_at_moved, count_stays, place_moved, fits_stays, return_outside, one_of_append}
+use Rattle.thumb_model.proofs.Moved.{IsReplacement, data_moved, label_place_moved, name_outside, IsOutside, fetch_window, fetch_outside, point_at_moved, count_stays, place_moved, fits_stays, return_outside, one_of_append}
 use Rattle.thumb_model.proofs.Points.{IsLabelsPlace, label_of_name, label_of_place, point_is}
 use Rattle.thumb_model.proofs.Window.{StandsAt, AreStraight, went, straight_run, straight_part, GoesTo, Flows, flows, flows_on, held_after}
 
@@ -45,7 +45,7 @@ state w a es = record { world = w; at = a; events = es }
 abbrev pub AreSmall : Naming → Type 0
 AreSmall names = (k : ℕ) → names.return_word k < 2 ^ 32
 
-module _ (names : Naming) (small : AreSmall names) (code : Code) (p : ℕ) (left right : List Instr) (sound : IsSound code p left right) where
+module _ (names : Naming) (small : AreSmall names) (code : Code) (literals : HasLiterals code) (p : ℕ) (left right : List Instr) (sound : IsSound code p left right) where
   abbrev new : Code
   new = replaced code p (length left) right
 
@@ -102,10 +102,27 @@ module _ (names : Naming) (small : AreSmall names) (code : Code) (p : ℕ) (left
   landing_tied word None o' e out = subst (λ (x : Option ℕ). LandingTied CameTo (landing names word None) (landing names word x)) (sym e) (same_landing word)
   landing_tied word (Some r) o' e out = subst (λ (x : Option ℕ). LandingTied CameTo (landing names word (Some r)) (landing names word x)) (sym e) (refl, out r refl)
 
-  around_tied : (q : ℕ) (mention : Option Mention) → IsOutside p (length left) q → AroundTied CameTo (around_of names code q mention) (around_of names new (to q) mention)
-  around_tied q mention out = record {
+  -- the word of a literal stays
+  behind_stays : (q : ℕ) (i : Instr) (m : Mention) → slice_get code.places q ≡ Some (Op i (Some m)) → loads_literal i ≡ true → (o : Option ℕ) → label_place m.name code.labels ≡ o → word_behind names code.places m.plus o ≡ word_behind names new.places m.plus (option_map to o)
+  behind_stays q i m e t None f = refl
+  behind_stays q i m e t (Some r) f = ap (word_of_place names) (sym (data_moved code p (length left) right sound.fits_in r (m.plus / 4) (name_outside code p (length left) right sound.fits_in m.name r f) (λ j l. literals q i m e t r f j l)))
+
+  word_stays : (q : ℕ) (i : Instr) (mention : Option Mention) → slice_get code.places q ≡ Some (Op i mention) → loads_literal i ≡ true → literal_word names code mention ≡ literal_word names new mention
+  word_stays q i None e t = refl
+  word_stays q i (Some m) e t =
+      behind_stays q i m e t (label_place m.name code.labels) refl ∙ ap (word_behind names new.places m.plus) (sym (label_place_moved code p (length left) right sound.fits_in m.name code.labels))
+
+  literal_stays : (q : ℕ) (i : Instr) (mention : Option Mention) → slice_get code.places q ≡ Some (Op i mention) → literal_at names code i mention ≡ literal_at names new i mention
+  literal_stays q i mention e =
+      elim (loads_literal i) as (λ b. loads_literal i ≡ b → (if b then literal_word names code mention else word_of_mention names mention) ≡ (if b then literal_word names new mention else word_of_mention names mention)) [
+        | true ↦ λ t. word_stays q i mention e t
+        | false ↦ λ t. refl
+      ] refl
+
+  around_tied : (q : ℕ) (i : Instr) (mention : Option Mention) → slice_get code.places q ≡ Some (Op i mention) → IsOutside p (length left) q → AroundTied CameTo (around_of names code q i mention) (around_of names new (to q) i mention)
+  around_tied q i mention e out = record {
     target = target_tied mention (aim_of code mention) (aim_of new mention) (aim_moved mention) (aim_outside mention);
-    literal = refl;
+    literal = literal_stays q i mention e;
     link = ap names.return_word (sym (count_stays code p (length left) right sound.fits_in q out));
     lands = λ word. landing_tied word (point_among word (points names code)) (point_among word (points names new)) (point_at_moved code p (length left) right sound.fits_in names word) (λ r f. outside_point r (point_is names code word r f));
   }
@@ -139,14 +156,14 @@ module _ (names : Naming) (small : AreSmall names) (code : Code) (p : ℕ) (left
   on_both q u v es fs None e ne r = record { events = ap (λ l. l ++ (Fell ∷ [])) r.events; memory = r.memory; answers = r.answers; both = tt; words = r.words }
   on_both q u v es fs (Some (Word w)) e ne r = record { events = ap (λ l. l ++ (Fell ∷ [])) r.events; memory = r.memory; answers = r.answers; both = tt; words = r.words }
   on_both q u v es fs (Some (Op i mention)) e ne r =
-      let here : Around = around_of names code q mention in
-      let there : Around = around_of names new (to q) mention in
+      let here : Around = around_of names code q i mention in
+      let there : Around = around_of names new (to q) i mention in
       let f : Flows names code q i mention u v = flows names code q i mention u v e (r.memory, r.answers) r.both.1 in
       let a : Act = act here i u in
       let b : Act = act there i v in
-      let tie : ActTied CameTo (act here i v) b = act_tied CameTo here there i v (looks_tied CameTo here there (around_tied q mention r.both.0.1) i v) in
+      let tie : ActTied CameTo (act here i v) b = act_tied CameTo here there i v (looks_tied CameTo here there (around_tied q i mention e r.both.0.1) i v) in
       let tied : ActTied CameTo a b = subst (λ (c : Act). ActTied CameTo c b) (sym f.same) tie in
-      let safe : IsSafe b = act_safe there i v (around_words names small new (to q) mention) r.words in
+      let safe : IsSafe b = act_safe there i v (around_words names small new (to q) i mention) r.words in
       let agree : (x s : ℕ) → GoesTo q a.next s → Reads code x s → assigned a.outputs u.values x ≡ assigned b.outputs v.values x =
       λ x s g rd. f.agree s x g rd ∙ ap (λ (c : Act). assigned c.outputs v.values x) (sym f.same) ∙ ap (λ (os : List (ℕ × ℕ)). assigned os v.values x) tied.outputs in
       record {
@@ -309,8 +326,8 @@ pub replaced_keeps : (code : Code) (p : ℕ) (left right : List Instr) → IsSou
 replaced_keeps code p left right sound =
     record {
       same = record {
-        sooner = λ names fits label some w words es n. runs_sooner names fits.return_words code p left right sound n _ _ (begun_related names fits.return_words code p left right sound label w es words);
-        reached = λ names fits label some w words es m. runs_reached names fits.return_words code p left right sound m _ _ (begun_related names fits.return_words code p left right sound label w es words);
+        sooner = λ names fits label some w words es n. runs_sooner names fits.return_words code fits.literals p left right sound n _ _ (begun_related names fits.return_words code fits.literals p left right sound label w es words);
+        reached = λ names fits label some w words es m. runs_reached names fits.return_words code fits.literals p left right sound m _ _ (begun_related names fits.return_words code fits.literals p left right sound label w es words);
       };
       fits = fits_stays code p (length left) right sound.fits_in;
       entry = λ label h. subst (λ (o : Option ℕ). IsSome o) (sym (place_moved code p (length left) right sound.fits_in label)) (is_some_moved _ _ h);

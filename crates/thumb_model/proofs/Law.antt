@@ -1,20 +1,28 @@
--- What a step depends on, row by row, and what it leaves in the items.
-use Rattle.std.proofs.Common.{◌≡◌, ℕ, ◌*◌, ◌/◌, ◌%◌, ◌^◌, ◌<◌, ◌≤◌, ◌==◌, ◌||◌, Bool, true, false, List, [], ◌∷◌, Option, Some, None, refl, sym, ap, ◌∙◌, subst, arith, map, if◌then◌else◌}
-use Rattle.std.specs.Prelude.{slice_get}
-use Rattle.std.specs.Int.{from_bool}
-use Rattle.std.proofs.lemmas.Nat.Bits.{bit_at-lt}
-use Rattle.word_bits.specs.declared.Sum.{Sum as WordSum}
+-- What a step depends on, row by row.
+use Rattle.std.proofs.Common.{◌≡◌, ℕ, ◌+◌, ◌*◌, ◌%◌, ◌==◌, ◌&&◌, ◌||◌, not, nat_le, Bool, true, false, List, [], ◌∷◌, ◌++◌, length, Option, Some, None, refl, sym, ap, ◌∙◌, subst, map, if◌then◌else◌}
+use Rattle.std.specs.Prelude.{slice_get, filter}
+use Rattle.word_bits.specs.declared.Shift.TheVariants as shift
+use Rattle.word_bits.specs.Word.{shift_of}
 use Rattle.thumb_instr.specs.declared.instr.Instr.{Instr}
-use Rattle.thumb_instr.specs.declared.instr.Instr.TheVariants.{Mov, Three, Two, Bx}
-use Rattle.thumb_instr.specs.declared.instr.Sum.{Sum}
-use Rattle.thumb_instr.specs.declared.instr.Sum.TheVariants.{Add}
-use Rattle.thumb_instr.specs.declared.instr.Operation.{Operation}
-use Rattle.thumb_instr.specs.declared.instr.Operation.TheVariants.{Mul}
+use Rattle.thumb_instr.specs.declared.instr.Instr.TheVariants as instr
+use Rattle.thumb_instr.specs.declared.operation.Sum.TheVariants as sum
+use Rattle.thumb_instr.specs.declared.operation.Operation.{Operation}
+use Rattle.thumb_instr.specs.declared.operation.Operation.TheVariants as operation
+use Rattle.thumb_instr.specs.declared.operation.ByteOperation.{ByteOperation}
+use Rattle.thumb_instr.specs.declared.operation.ByteOperation.TheVariants as byte
+use Rattle.thumb_instr.specs.declared.operation.Access.{Access}
+use Rattle.thumb_instr.specs.declared.operation.Access.TheVariants as access
+use Rattle.thumb_instr.specs.declared.operation.Condition.{Condition}
+use Rattle.thumb_instr.specs.declared.operation.Condition.TheVariants as condition
+use Rattle.thumb_instr.specs.declared.operation.Hint.{Hint}
+use Rattle.thumb_instr.specs.declared.operation.Hint.TheVariants as hint
 use Rattle.thumb_instr.specs.declared.within.Within.{Within}
-use Rattle.thumb_model.specs.Items.{Values, AreWords, assigned, one_of, sp, written_to, n_flag, z_flag, c_flag, v_flag}
-use Rattle.thumb_model.specs.Effect.{outputs, result_flags, sum_flags, three_sum, product, two_reads, two_outputs, two_writes}
-use Rattle.thumb_model.specs.Machine.{World, IsWorld, AreAnswers, Target, Inside, External, Landing, Goes, Leaves, Strays, Around, Act, Event, Left, Astray, Next, On, Stay, To, Over, act, puts, ends, branches, registers_left}
-use Rattle.thumb_model.specs.Flow.{Way, way, ways_of, Leads, Onward, ToPlace, AnyPoint, Out}
+use Rattle.thumb_instr.specs.Items.{has}
+use Rattle.thumb_instr.specs.Shape.{registers_in, pushed, two_uses, two_writes, byte_uses, byte_writes, access_uses, access_writes, offset_access, word_access, condition_uses, uses_of, writes_of}
+use Rattle.thumb_model.specs.Items.{Values, assigned, one_of, sp, lr, written_to, n_flag, z_flag, c_flag, v_flag}
+use Rattle.thumb_model.specs.Effect.{outputs, result_outputs, shift_outputs, sum_outputs, sum_flags, three_sum, right_shift, extension_of, reversal_of, two_outputs, byte_outputs}
+use Rattle.thumb_model.specs.Machine.{World, Answer, Target, Inside, External, Landing, Goes, Leaves, Strays, Around, Act, Event, Call, Sys, Left, Fault, Astray, Next, On, Stay, To, Over, act, puts, ends, branches, registers_left, tells, takes, aligned, handed, answered, served, answers_with, is_device, access_size, value_at, gets, loads, stores, accesses, behind, below, stores_many, words_from, left_at, next_word, device_words, enough, many_outputs, loads_many, jumps, calls_out, calls, calls_by, with_pc, popped_word, popping, pops_to, pops, holds, hints, interrupts_code, barrier_code, special_code, reads_special, offset}
+use Rattle.thumb_model.specs.Flow.{Way, way, ways_of, jump_way, call_way, left_but, Leads, Onward, ToPlace, AnyPoint, Out}
 
 -- the items that get a value
 abbrev pub keys : List (ℕ × ℕ) → List ℕ
@@ -131,156 +139,408 @@ bx_law around m u w a Strays e i acts ways =
       takes = subst (λ (x : Act). Takes around.lands x (way (m ∷ []) [] AnyPoint)) (sym eu) tt;
     }
 
+-- ---- rows ----
+
+-- a world's memory and answers alone
+abbrev bare : World → World
+bare v = record { values = λ x. 0; memory = v.memory; answers = v.answers }
+
+bare_same : (u w : World) → AlikeBut u w → bare u ≡ bare w
+bare_same u w h = cc (h.0, h.1)
+
+-- what looks at memory and answers alone is the same
+same_world : {A : Type 0} (f : World → A) → ((v : World) → f v ≡ f (bare v)) → (u w : World) → AlikeBut u w → f u ≡ f w
+same_world f e u w h = e u ∙ ap f (bare_same u w h) ∙ sym (e w)
+
+-- a function of two equals
+pub ap_two : {A B C : Type 0} (f : A → B → C) {a b : A} {x y : B} → a ≡ b → x ≡ y → f a x ≡ f b y
+ap_two f {a} {b} {x} {y} e g = ap (λ z. f z x) e ∙ ap (f b) g
+
+agree_back : (xs ys : List ℕ) (u v : Values) → AgreeOn (xs ++ ys) u v → AgreeOn ys u v
+agree_back [] ys u v h = h
+agree_back (x ∷ xs) ys u v h = agree_back xs ys u v h.1
+
+agree_front : (xs ys : List ℕ) (u v : Values) → AgreeOn (xs ++ ys) u v → AgreeOn xs u v
+agree_front [] ys u v h = tt
+agree_front (x ∷ xs) ys u v h = (h.0, agree_front xs ys u v h.1)
+
+-- an instruction with one way on
+straight : (around : Around) (i : Instr) (u w : World) → ways_of (inside_of around.target) i ≡ way (uses_of i) (writes_of i) Onward ∷ [] → (AgreeOn (uses_of i) u.values w.values → act around i u ≡ act around i w)
+    → Takes around.lands (act around i u) (way (uses_of i) (writes_of i) Onward) → Taken around i u w
+straight around i u w e same takes = record { number = 0; taken = way (uses_of i) (writes_of i) Onward; is_way = ap (λ ws. slice_get ws 0) e; same = same; takes = takes }
+
+-- one that looks at items alone
+puts_law : (around : Around) (i : Instr) (u w : World) → AlikeBut u w → ((v : World) → act around i v ≡ puts (outputs i v.values) On v) → ways_of (inside_of around.target) i ≡ way (uses_of i) (writes_of i) Onward ∷ []
+    → (AgreeOn (uses_of i) u.values w.values → outputs i u.values ≡ outputs i w.values) → keys (outputs i u.values) ≡ writes_of i → Taken around i u w
+puts_law around i u w a acts ways same writes =
+    straight around i u w ways (λ h. acts u ∙ puts_same _ _ On u w a (same h) ∙ sym (acts w)) (subst (λ (x : Act). Takes around.lands x (way (uses_of i) (writes_of i) Onward)) (sym (acts u)) writes)
+
 -- a row: what an operation does depends on what it reads
-two_same : (o : Operation) (d m : ℕ) (u w : Values) → AgreeOn (two_reads o d m) u w → two_outputs o d (u d) (u m) (u c_flag) ≡ two_outputs o d (w d) (w m) (w c_flag)
-two_same Mul d m u w h = cc (h.0, h.1.0)
+two_same : (o : Operation) (d m : ℕ) (u w : Values) → AgreeOn (two_uses o d m) u w → two_outputs o d (u d) (u m) (u c_flag) ≡ two_outputs o d (w d) (w m) (w c_flag)
+two_same operation.And d m u w h = ap_two (λ x y. two_outputs operation.And d x y 0) h.0 h.1.0
+two_same operation.Eor d m u w h = ap_two (λ x y. two_outputs operation.Eor d x y 0) h.0 h.1.0
+two_same operation.Lsl d m u w h = ap_two (λ x y. two_outputs operation.Lsl d x y (u c_flag)) h.0 h.1.0 ∙ ap (two_outputs operation.Lsl d (w d) (w m)) h.1.1.0
+two_same operation.Lsr d m u w h = ap_two (λ x y. two_outputs operation.Lsr d x y (u c_flag)) h.0 h.1.0 ∙ ap (two_outputs operation.Lsr d (w d) (w m)) h.1.1.0
+two_same operation.Asr d m u w h = ap_two (λ x y. two_outputs operation.Asr d x y (u c_flag)) h.0 h.1.0 ∙ ap (two_outputs operation.Asr d (w d) (w m)) h.1.1.0
+two_same operation.Adc d m u w h = ap_two (λ x y. two_outputs operation.Adc d x y (u c_flag)) h.0 h.1.0 ∙ ap (two_outputs operation.Adc d (w d) (w m)) h.1.1.0
+two_same operation.Sbc d m u w h = ap_two (λ x y. two_outputs operation.Sbc d x y (u c_flag)) h.0 h.1.0 ∙ ap (two_outputs operation.Sbc d (w d) (w m)) h.1.1.0
+two_same operation.Ror d m u w h = ap_two (λ x y. two_outputs operation.Ror d x y (u c_flag)) h.0 h.1.0 ∙ ap (two_outputs operation.Ror d (w d) (w m)) h.1.1.0
+two_same operation.Tst d m u w h = ap_two (λ x y. two_outputs operation.Tst d x y 0) h.0 h.1.0
+two_same operation.Rsb d m u w h = ap (λ y. two_outputs operation.Rsb d 0 y 0) h.0
+two_same operation.Cmp d m u w h = ap_two (λ x y. two_outputs operation.Cmp d x y 0) h.0 h.1.0
+two_same operation.Cmn d m u w h = ap_two (λ x y. two_outputs operation.Cmn d x y 0) h.0 h.1.0
+two_same operation.Orr d m u w h = ap_two (λ x y. two_outputs operation.Orr d x y 0) h.0 h.1.0
+two_same operation.Mul d m u w h = ap_two (λ x y. two_outputs operation.Mul d x y 0) h.0 h.1.0
+two_same operation.Bic d m u w h = ap_two (λ x y. two_outputs operation.Bic d x y 0) h.0 h.1.0
+two_same operation.Mvn d m u w h = ap (λ y. two_outputs operation.Mvn d 0 y 0) h.0
 
 -- a row: an operation writes what it says
 two_keys : (o : Operation) (d x y c : ℕ) → keys (two_outputs o d x y c) ≡ two_writes o d
-two_keys Mul d x y c = refl
+two_keys operation.And d x y c = refl
+two_keys operation.Eor d x y c = refl
+two_keys operation.Lsl d x y c = refl
+two_keys operation.Lsr d x y c = refl
+two_keys operation.Asr d x y c = refl
+two_keys operation.Adc d x y c = refl
+two_keys operation.Sbc d x y c = refl
+two_keys operation.Ror d x y c = refl
+two_keys operation.Tst d x y c = refl
+two_keys operation.Rsb d x y c = refl
+two_keys operation.Cmp d x y c = refl
+two_keys operation.Cmn d x y c = refl
+two_keys operation.Orr d x y c = refl
+two_keys operation.Mul d x y c = refl
+two_keys operation.Bic d x y c = refl
+two_keys operation.Mvn d x y c = refl
+
+byte_same : (o : ByteOperation) (d n : ℕ) (u w : Values) → AgreeOn (byte_uses o d) u w → byte_outputs o d (u d) n ≡ byte_outputs o d (w d) n
+byte_same byte.Mov d n u w h = refl
+byte_same byte.Cmp d n u w h = ap (λ x. byte_outputs byte.Cmp d x n) h.0
+byte_same byte.Add d n u w h = ap (λ x. byte_outputs byte.Add d x n) h.0
+byte_same byte.Sub d n u w h = ap (λ x. byte_outputs byte.Sub d x n) h.0
+
+byte_keys : (o : ByteOperation) (d x n : ℕ) → keys (byte_outputs o d x n) ≡ byte_writes o d
+byte_keys byte.Mov d x n = refl
+byte_keys byte.Cmp d x n = refl
+byte_keys byte.Add d x n = refl
+byte_keys byte.Sub d x n = refl
+
+-- ---- accesses ----
+
+module _ (lands : ℕ → Landing) (l : Leads) (ws : List ℕ) where
+  -- goes by a way that leads and writes so
+  abbrev Follows : Act → Type 0
+  Follows a = Matches lands a.next l (keys a.outputs) ws
+
+  aligned_takes : (address size : ℕ) (w : World) (a : Act) → Follows a → Follows (aligned address size w a)
+  aligned_takes address size w a h = elim ((address % size) == 0) as (λ t. Follows (if t then a else ends (Fault address) w)) [ true ↦ h | false ↦ tt ]
+
+  enough_takes : (address : ℕ) (xs : List ℕ) (w : World) (a : Act) → Follows a → Follows (enough address xs w a)
+  enough_takes address xs w a h = elim (nat_le (device_words address xs) (length w.answers)) as (λ t. Follows (if t then a else puts [] Stay w)) [ true ↦ h | false ↦ refl ]
+
+  takes_takes : (go : Answer → List Answer → Act) (w : World) (left : List Answer) → ((a : Answer) (rest : List Answer) → Follows (go a rest)) → Follows (takes go w left)
+  takes_takes go w [] h = refl
+  takes_takes go w (a ∷ rest) h = h a rest
+
+loads_takes : (lands : ℕ → Landing) (a : Access) (t address : ℕ) (w : World) → Follows lands Onward (t ∷ []) (loads a t address w)
+loads_takes lands a t address w =
+    aligned_takes lands Onward (t ∷ []) address (access_size a) w _ (elim (is_device address) as (λ b. Follows lands Onward (t ∷ [])
+    (if b then takes (λ answer rest. gets a t address (answer.values 0) w rest) w w.answers else gets a t address (value_at w.memory address (access_size a)) w w.answers)) [
+      | true ↦ takes_takes lands Onward (t ∷ []) _ w w.answers (λ answer rest. refl)
+      | false ↦ refl
+    ])
+
+stores_takes : (lands : ℕ → Landing) (a : Access) (address value : ℕ) (w : World) → Follows lands Onward [] (stores a address value w)
+stores_takes lands a address value w = aligned_takes lands Onward [] address (access_size a) w _ refl
+
+-- a row: an access writes what it says
+access_takes : (lands : ℕ → Landing) (a : Access) (t address value : ℕ) (w : World) → Follows lands Onward (access_writes a t) (accesses a t address value w)
+access_takes lands access.Str t address value w = stores_takes lands access.Str address value w
+access_takes lands access.Strh t address value w = stores_takes lands access.Strh address value w
+access_takes lands access.Strb t address value w = stores_takes lands access.Strb address value w
+access_takes lands access.Ldrsb t address value w = loads_takes lands access.Ldrsb t address w
+access_takes lands access.Ldr t address value w = loads_takes lands access.Ldr t address w
+access_takes lands access.Ldrh t address value w = loads_takes lands access.Ldrh t address w
+access_takes lands access.Ldrb t address value w = loads_takes lands access.Ldrb t address w
+access_takes lands access.Ldrsh t address value w = loads_takes lands access.Ldrsh t address w
+
+-- a row: what an access does depends on what it reads
+access_same : (a : Access) (t x y : ℕ) (u w : World) → AlikeBut u w → x ≡ y → AgreeOn (access_uses a t) u.values w.values → accesses a t x (u.values t) u ≡ accesses a t y (w.values t) w
+access_same access.Str t x y u w a e h = ap_two (λ p q. stores access.Str p q u) e h.0 ∙ same_world (λ v. stores access.Str y (w.values t) v) (λ v. refl) u w a
+access_same access.Strh t x y u w a e h = ap_two (λ p q. stores access.Strh p q u) e h.0 ∙ same_world (λ v. stores access.Strh y (w.values t) v) (λ v. refl) u w a
+access_same access.Strb t x y u w a e h = ap_two (λ p q. stores access.Strb p q u) e h.0 ∙ same_world (λ v. stores access.Strb y (w.values t) v) (λ v. refl) u w a
+access_same access.Ldrsb t x y u w a e h = ap (λ p. loads access.Ldrsb t p u) e ∙ same_world (λ v. loads access.Ldrsb t y v) (λ v. refl) u w a
+access_same access.Ldr t x y u w a e h = ap (λ p. loads access.Ldr t p u) e ∙ same_world (λ v. loads access.Ldr t y v) (λ v. refl) u w a
+access_same access.Ldrh t x y u w a e h = ap (λ p. loads access.Ldrh t p u) e ∙ same_world (λ v. loads access.Ldrh t y v) (λ v. refl) u w a
+access_same access.Ldrb t x y u w a e h = ap (λ p. loads access.Ldrb t p u) e ∙ same_world (λ v. loads access.Ldrb t y v) (λ v. refl) u w a
+access_same access.Ldrsh t x y u w a e h = ap (λ p. loads access.Ldrsh t p u) e ∙ same_world (λ v. loads access.Ldrsh t y v) (λ v. refl) u w a
+
+-- ---- lists ----
+
+keys_words : (memory : ℕ → ℕ) (answers : List Answer) (address : ℕ) (xs : List ℕ) → keys (words_from memory answers address xs) ≡ xs
+keys_words memory answers address [] = refl
+keys_words memory answers address (x ∷ xs) = ap (λ l. x ∷ l) (keys_words memory (left_at answers address) (next_word address) xs)
+
+keys_many : (base back address : ℕ) (xs : List ℕ) (w : World) → keys (many_outputs base back address xs w) ≡ base ∷ xs
+keys_many base back address xs w = ap (λ l. base ∷ l) (keys_words w.memory w.answers address xs)
+
+many_takes : (lands : ℕ → Landing) (base address : ℕ) (xs : List ℕ) (w : World) → Follows lands Onward (base ∷ xs) (loads_many base address xs w)
+many_takes lands base address xs w = aligned_takes lands Onward (base ∷ xs) address 4 w _ (enough_takes lands Onward (base ∷ xs) address xs w _ (keys_many base (behind xs address) address xs w))
+
+many_same : (base x y : ℕ) (xs : List ℕ) (u w : World) → AlikeBut u w → x ≡ y → loads_many base x xs u ≡ loads_many base y xs w
+many_same base x y xs u w a e = ap (λ p. loads_many base p xs u) e ∙ same_world (λ v. loads_many base y xs v) (λ v. refl) u w a
+
+stores_many_same : (base : ℕ) (back start : ℕ → ℕ) (x y : ℕ) (xs ys : List ℕ) (u w : World) → AlikeBut u w → x ≡ y → xs ≡ ys → stores_many base (back x) (start x) xs u ≡ stores_many base (back y) (start y) ys w
+stores_many_same base back start x y xs ys u w a e f =
+    ap_two (λ p l. stores_many base (back p) (start p) l u) e f ∙ same_world (λ v. stores_many base (back y) (start y) ys v) (λ v. refl) u w a
+
+stores_many_takes : (lands : ℕ → Landing) (base back address : ℕ) (words : List ℕ) (w : World) → Follows lands Onward (base ∷ []) (stores_many base back address words w)
+stores_many_takes lands base back address words w = aligned_takes lands Onward (base ∷ []) address 4 w _ refl
+
+-- ---- calls and branches ----
+
+out_same : (x y : ℕ) (u w : World) → AlikeBut u w → x ≡ y → AgreeOn handed u.values w.values → calls_out x u ≡ calls_out y w
+out_same x y u w a e h =
+    ap_two (λ p l. takes (answers_with answered (Call p l) u) u u.answers) e (map_agree handed u.values w.values h)
+    ∙ same_world (λ v. takes (answers_with answered (Call y (map w.values handed)) v) v v.answers) (λ v. refl) u w a
+
+out_takes : (lands : ℕ → Landing) (word : ℕ) (w : World) → Follows lands Onward answered (calls_out word w)
+out_takes lands word w = takes_takes lands Onward answered _ w w.answers (λ a rest. refl)
+
+served_same : (n : ℕ) (u w : World) → AlikeBut u w → AgreeOn (served ++ (sp ∷ [])) u.values w.values
+    → takes (answers_with served (Sys n (map u.values (served ++ (sp ∷ [])))) u) u u.answers ≡ takes (answers_with served (Sys n (map w.values (served ++ (sp ∷ [])))) w) w w.answers
+served_same n u w a h =
+    ap (λ l. takes (answers_with served (Sys n l) u) u u.answers) (map_agree (served ++ (sp ∷ [])) u.values w.values h)
+    ∙ same_world (λ v. takes (answers_with served (Sys n (map w.values (served ++ (sp ∷ [])))) v) v v.answers) (λ v. refl) u w a
+
+out_left_same : (word : ℕ) (u w : World) → AlikeBut u w → AgreeOn registers_left u.values w.values → jumps (External word) u ≡ jumps (External word) w
+out_left_same word u w a h =
+    ap (λ l. ends (Left word l) u) (map_agree registers_left u.values w.values h) ∙ same_world (λ v. ends (Left word (map w.values registers_left)) v) (λ v. refl) u w a
+
+jump_same : (t : Target) (reads : List ℕ) (u w : World) → AlikeBut u w → AgreeOn (jump_way reads (inside_of t)).reads u.values w.values → jumps t u ≡ jumps t w
+jump_same (Inside p) reads u w a h = same_world (λ v. jumps (Inside p) v) (λ v. refl) u w a
+jump_same (External word) reads u w a h = out_left_same word u w a (agree_back reads registers_left u.values w.values h)
+
+jump_takes : (lands : ℕ → Landing) (t : Target) (reads : List ℕ) (w : World) → Takes lands (jumps t w) (jump_way reads (inside_of t))
+jump_takes lands (Inside p) reads w = (refl, refl)
+jump_takes lands (External word) reads w = tt
+
+jump_reads : (t : Target) (reads : List ℕ) (u w : Values) → AgreeOn (jump_way reads (inside_of t)).reads u w → AgreeOn reads u w
+jump_reads (Inside p) reads u w h = h
+jump_reads (External word) reads u w h = agree_front reads registers_left u w h
+
+call_same : (t : Target) (link : ℕ) (u w : World) → AlikeBut u w → AgreeOn (call_way (inside_of t)).reads u.values w.values → calls t link u ≡ calls t link w
+call_same (Inside p) link u w a h = same_world (λ v. calls (Inside p) link v) (λ v. refl) u w a
+call_same (External word) link u w a h = out_same word word u w a refl h
+
+call_takes : (lands : ℕ → Landing) (t : Target) (link : ℕ) (w : World) → Takes lands (calls t link w) (call_way (inside_of t))
+call_takes lands (Inside p) link w = (refl, refl)
+call_takes lands (External word) link w = out_takes lands word w
+
+-- a row: a condition depends on its flags
+holds_same : (c : Condition) (u w : Values) → AgreeOn (condition_uses c) u w → holds c u ≡ holds c w
+holds_same condition.Eq u w h = ap (λ x. x == 1) h.0
+holds_same condition.Ne u w h = ap (λ x. not (x == 1)) h.0
+holds_same condition.Cs u w h = ap (λ x. x == 1) h.0
+holds_same condition.Cc u w h = ap (λ x. not (x == 1)) h.0
+holds_same condition.Mi u w h = ap (λ x. x == 1) h.0
+holds_same condition.Pl u w h = ap (λ x. not (x == 1)) h.0
+holds_same condition.Vs u w h = ap (λ x. x == 1) h.0
+holds_same condition.Vc u w h = ap (λ x. not (x == 1)) h.0
+holds_same condition.Hi u w h = ap_two (λ z c. (c == 1) && not (z == 1)) h.0 h.1.0
+holds_same condition.Ls u w h = ap_two (λ z c. not ((c == 1) && not (z == 1))) h.0 h.1.0
+holds_same condition.Ge u w h = ap_two (λ n v. n == v) h.0 h.1.0
+holds_same condition.Lt u w h = ap_two (λ n v. not (n == v)) h.0 h.1.0
+holds_same condition.Gt u w h = ap_two (λ n v. not (u z_flag == 1) && (n == v)) h.0 h.1.1.0 ∙ ap (λ z. not (z == 1) && (w n_flag == w v_flag)) h.1.0
+holds_same condition.Le u w h = ap_two (λ n v. not (not (u z_flag == 1) && (n == v))) h.0 h.1.1.0 ∙ ap (λ z. not (not (z == 1) && (w n_flag == w v_flag))) h.1.0
+
+if_law : (around : Around) (c : Condition) (i : Instr) (u w : World) → AlikeBut u w → ((v : World) → act around i v ≡ (if holds c v.values then jumps around.target v else puts [] On v))
+    → ways_of (inside_of around.target) i ≡ jump_way (condition_uses c) (inside_of around.target) ∷ way (condition_uses c) [] Onward ∷ [] → (b : Bool) → holds c u.values ≡ b → Taken around i u w
+if_law around c i u w a acts ways true e =
+    let eu : act around i u ≡ jumps around.target u = acts u ∙ ap (λ b. if b then jumps around.target u else puts [] On u) e in
+    record {
+      number = 0;
+      taken = jump_way (condition_uses c) (inside_of around.target);
+      is_way = ap (λ ws. slice_get ws 0) ways;
+      same = λ h.
+          let f : holds c w.values ≡ true = sym (holds_same c u.values w.values (jump_reads around.target (condition_uses c) u.values w.values h)) ∙ e in
+          eu ∙ jump_same around.target (condition_uses c) u w a h ∙ sym (acts w ∙ ap (λ b. if b then jumps around.target w else puts [] On w) f);
+      takes = subst (λ (x : Act). Takes around.lands x (jump_way (condition_uses c) (inside_of around.target))) (sym eu) (jump_takes around.lands around.target (condition_uses c) u);
+    }
+if_law around c i u w a acts ways false e =
+    let eu : act around i u ≡ puts [] On u = acts u ∙ ap (λ b. if b then jumps around.target u else puts [] On u) e in
+    record {
+      number = 1;
+      taken = way (condition_uses c) [] Onward;
+      is_way = ap (λ ws. slice_get ws 1) ways;
+      same = λ h.
+          let f : holds c w.values ≡ false = sym (holds_same c u.values w.values h) ∙ e in
+          eu ∙ puts_same [] [] On u w a refl ∙ sym (acts w ∙ ap (λ b. if b then jumps around.target w else puts [] On w) f);
+      takes = subst (λ (x : Act). Takes around.lands x (way (condition_uses c) [] Onward)) (sym eu) refl;
+    }
+
+blx_law : (around : Around) (m : ℕ) (u w : World) → AlikeBut u w → (l : Landing) → around.lands (u.values m) ≡ l → (i : Instr) → ((v : World) → act around i v ≡ calls_by (around.lands (v.values m)) (v.values m) around.link v) → ways_of (inside_of around.target) i ≡ way (m ∷ []) (lr ∷ []) AnyPoint ∷ way (m ∷ handed) answered Onward ∷ [] → Taken around i u w
+blx_law around m u w a (Goes p) e i acts ways =
+    let eu : act around i u ≡ puts ((lr, around.link) ∷ []) (To p) u = acts u ∙ ap (λ l. calls_by l (u.values m) around.link u) e in
+    record {
+      number = 0;
+      taken = way (m ∷ []) (lr ∷ []) AnyPoint;
+      is_way = ap (λ ws. slice_get ws 0) ways;
+      same = λ h.
+          let ew : act around i w ≡ puts ((lr, around.link) ∷ []) (To p) w = acts w ∙ ap (λ l. calls_by l (w.values m) around.link w) (lands_same around (u.values m) (w.values m) (Goes p) e (h.0)) in
+          eu ∙ puts_same _ _ (To p) u w a refl ∙ sym ew;
+      takes = subst (λ (x : Act). Takes around.lands x (way (m ∷ []) (lr ∷ []) AnyPoint)) (sym eu) (u.values m, e, refl);
+    }
+blx_law around m u w a Leaves e i acts ways =
+    let eu : act around i u ≡ calls_out (u.values m) u = acts u ∙ ap (λ l. calls_by l (u.values m) around.link u) e in
+    record {
+      number = 1;
+      taken = way (m ∷ handed) answered Onward;
+      is_way = ap (λ ws. slice_get ws 1) ways;
+      same = λ h.
+          let ew : act around i w ≡ calls_out (w.values m) w = acts w ∙ ap (λ l. calls_by l (w.values m) around.link w) (lands_same around (u.values m) (w.values m) Leaves e (h.0)) in
+          eu ∙ out_same (u.values m) (w.values m) u w a h.0 h.1 ∙ sym ew;
+      takes = subst (λ (x : Act). Takes around.lands x (way (m ∷ handed) answered Onward)) (sym eu) (out_takes around.lands (u.values m) u);
+    }
+blx_law around m u w a Strays e i acts ways =
+    let eu : act around i u ≡ ends (Astray (u.values m)) u = acts u ∙ ap (λ l. calls_by l (u.values m) around.link u) e in
+    record {
+      number = 0;
+      taken = way (m ∷ []) (lr ∷ []) AnyPoint;
+      is_way = ap (λ ws. slice_get ws 0) ways;
+      same = λ h.
+          let ew : act around i w ≡ ends (Astray (w.values m)) w = acts w ∙ ap (λ l. calls_by l (w.values m) around.link w) (lands_same around (u.values m) (w.values m) Strays e (h.0)) in
+          eu ∙ ends_same _ _ u w a (ap Astray (h.0)) ∙ sym ew;
+      takes = subst (λ (x : Act). Takes around.lands x (way (m ∷ []) (lr ∷ []) AnyPoint)) (sym eu) tt;
+    }
+
+-- ---- POP ----
+
+-- the items that get no value, and that agree, are all that is handed out
+left_agree : (os : List (ℕ × ℕ)) (base : ℕ) (ks : List ℕ) → keys os ≡ base ∷ ks → (u v : Values) (xs : List ℕ) → AgreeOn (filter (λ x. not (one_of x ks)) xs) u v → map (assigned os u) xs ≡ map (assigned os v) xs
+left_agree os base ks e u v [] h = refl
+left_agree os base ks e u v (x ∷ xs) h =
+    elim (one_of x ks) as (λ b. one_of x ks ≡ b → AgreeOn (if not b then x ∷ filter (λ x. not (one_of x ks)) xs else filter (λ x. not (one_of x ks)) xs) u v → map (assigned os u) (x ∷ xs) ≡ map (assigned os v) (x ∷ xs)) [
+      | true ↦ λ t g. ap_two (λ a (l : List ℕ). a ∷ l) (assigned_agree os u v x (λ none. absurd (let f : ((x == base) || one_of x ks) ≡ false = ap (one_of x) (sym e) ∙ none in or_not (x == base) (one_of x ks) t f))) (left_agree os base ks e u v xs g)
+      | false ↦ λ t g. ap_two (λ a (l : List ℕ). a ∷ l) (assigned_agree os u v x (λ none. g.0)) (left_agree os base ks e u v xs g.1)
+    ] refl h
+  where
+    or_not : (a b : Bool) → b ≡ true → (a || b) ≡ false → ⊥
+    or_not true b e f = absurd (cc)
+    or_not false b e f = absurd (cc)
+
+-- POP with pc that leaves with these registers
+abbrev leaving : ℕ → List ℕ → List ℕ → World → Act
+leaving address xs registers w = aligned address 4 w (enough address (with_pc xs) w (popping address xs Over (Left (popped_word address xs w) registers ∷ []) w))
+
+abbrev popped : ℕ → List ℕ → World → List (ℕ × ℕ)
+popped address xs w = many_outputs sp (behind (with_pc xs) address) address xs w
+
+pops_takes : (lands : ℕ → Landing) (l : Landing) (leads : Leads) (address : ℕ) (xs : List ℕ) (w : World) → Follows lands leads (sp ∷ xs) (pops_to l address xs w) → Follows lands leads (sp ∷ xs) (pops l address xs w)
+pops_takes lands l leads address xs w h = aligned_takes lands leads (sp ∷ xs) address 4 w _ (enough_takes lands leads (sp ∷ xs) address (with_pc xs) w _ h)
+
+popped_same : (xs : List ℕ) (x y : ℕ) (u w : World) → AlikeBut u w → x ≡ y → popped_word x xs u ≡ popped_word y xs w
+popped_same xs x y u w a e = ap (λ p. popped_word p xs u) e ∙ same_world (λ v. popped_word y xs v) (λ v. refl) u w a
+
+pops_law : (around : Around) (xs : List ℕ) (u w : World) → AlikeBut u w → (l : Landing) → around.lands (popped_word (u.values sp) xs u) ≡ l → (i : Instr) → ((v : World) → act around i v ≡ pops (around.lands (popped_word (v.values sp) xs v)) (v.values sp) xs v) → ways_of (inside_of around.target) i ≡ way (sp ∷ []) (sp ∷ xs) AnyPoint ∷ way (sp ∷ left_but xs) (sp ∷ xs) Out ∷ [] → Taken around i u w
+pops_law around xs u w a (Goes p) e i acts ways =
+    let eu : act around i u ≡ pops (Goes p) (u.values sp) xs u = acts u ∙ ap (λ l. pops l (u.values sp) xs u) e in
+    record {
+      number = 0;
+      taken = way (sp ∷ []) (sp ∷ xs) AnyPoint;
+      is_way = ap (λ ws. slice_get ws 0) ways;
+      same = λ h.
+          let ew : act around i w ≡ pops (Goes p) (w.values sp) xs w = acts w ∙ ap (λ l. pops l (w.values sp) xs w) (lands_same around _ _ (Goes p) e (popped_same xs (u.values sp) (w.values sp) u w a h.0)) in
+          eu ∙ ap (λ x. pops (Goes p) x xs u) h.0 ∙ same_world (λ v. pops (Goes p) (w.values sp) xs v) (λ v. refl) u w a ∙ sym ew;
+      takes = subst (λ (x : Act). Takes around.lands x (way (sp ∷ []) (sp ∷ xs) AnyPoint)) (sym eu) (pops_takes around.lands (Goes p) AnyPoint (u.values sp) xs u (popped_word (u.values sp) xs u, e, keys_many sp (behind (with_pc xs) (u.values sp)) (u.values sp) xs u));
+    }
+pops_law around xs u w a Leaves e i acts ways =
+    let eu : act around i u ≡ leaving (u.values sp) xs (map (assigned (popped (u.values sp) xs u) u.values) registers_left) u = acts u ∙ ap (λ l. pops l (u.values sp) xs u) e in
+    record {
+      number = 1;
+      taken = way (sp ∷ left_but xs) (sp ∷ xs) Out;
+      is_way = ap (λ ws. slice_get ws 1) ways;
+      same = λ h.
+          let ew : act around i w ≡ leaving (w.values sp) xs (map (assigned (popped (w.values sp) xs w) w.values) registers_left) w = acts w ∙ ap (λ l. pops l (w.values sp) xs w) (lands_same around _ _ Leaves e (popped_same xs (u.values sp) (w.values sp) u w a h.0)) in
+          let os : popped (u.values sp) xs u ≡ popped (w.values sp) xs w = ap (λ x. popped x xs u) h.0 ∙ same_world (λ v. popped (w.values sp) xs v) (λ v. refl) u w a in
+          let list : map (assigned (popped (u.values sp) xs u) u.values) registers_left ≡ map (assigned (popped (w.values sp) xs w) w.values) registers_left =
+          left_agree (popped (u.values sp) xs u) sp xs (keys_many sp (behind (with_pc xs) (u.values sp)) (u.values sp) xs u) u.values w.values registers_left h.1 ∙ ap (λ (o : List (ℕ × ℕ)). map (assigned o w.values) registers_left) os in
+          eu ∙ ap_two (λ x l. leaving x xs l u) h.0 list ∙ same_world (λ v. leaving (w.values sp) xs (map (assigned (popped (w.values sp) xs w) w.values) registers_left) v) (λ v. refl) u w a ∙ sym ew;
+      takes = subst (λ (x : Act). Takes around.lands x (way (sp ∷ left_but xs) (sp ∷ xs) Out)) (sym eu) (pops_takes around.lands Leaves Out (u.values sp) xs u tt);
+    }
+pops_law around xs u w a Strays e i acts ways =
+    let eu : act around i u ≡ pops Strays (u.values sp) xs u = acts u ∙ ap (λ l. pops l (u.values sp) xs u) e in
+    record {
+      number = 0;
+      taken = way (sp ∷ []) (sp ∷ xs) AnyPoint;
+      is_way = ap (λ ws. slice_get ws 0) ways;
+      same = λ h.
+          let ew : act around i w ≡ pops Strays (w.values sp) xs w = acts w ∙ ap (λ l. pops l (w.values sp) xs w) (lands_same around _ _ Strays e (popped_same xs (u.values sp) (w.values sp) u w a h.0)) in
+          eu ∙ ap (λ x. pops Strays x xs u) h.0 ∙ same_world (λ v. pops Strays (w.values sp) xs v) (λ v. refl) u w a ∙ sym ew;
+      takes = subst (λ (x : Act). Takes around.lands x (way (sp ∷ []) (sp ∷ xs) AnyPoint)) (sym eu) (pops_takes around.lands Strays AnyPoint (u.values sp) xs u tt);
+    }
+
+pop_law : (around : Around) (l : Within 1 512) (u w : World) → AlikeBut u w → (b : Bool) → has l.number 8 ≡ b → Taken around (instr.Pop l) u w
+pop_law around l u w a true e =
+    pops_law around (registers_in l.number) u w a (around.lands (popped_word (u.values sp) (registers_in l.number) u)) refl (instr.Pop l)
+    (λ v. ap (λ b. if b then pops (around.lands (popped_word (v.values sp) (registers_in l.number) v)) (v.values sp) (registers_in l.number) v else loads_many sp (v.values sp) (registers_in l.number) v) e)
+    (ap (λ b. if b then way (sp ∷ []) (sp ∷ registers_in l.number) AnyPoint ∷ way (sp ∷ left_but (registers_in l.number)) (sp ∷ registers_in l.number) Out ∷ [] else way (sp ∷ []) (sp ∷ registers_in l.number) Onward ∷ []) e)
+pop_law around l u w a false e =
+    let acts : (v : World) → act around (instr.Pop l) v ≡ loads_many sp (v.values sp) (registers_in l.number) v =
+    λ v. ap (λ b. if b then pops (around.lands (popped_word (v.values sp) (registers_in l.number) v)) (v.values sp) (registers_in l.number) v else loads_many sp (v.values sp) (registers_in l.number) v) e in
+    straight around (instr.Pop l) u w
+    (ap (λ b. if b then way (sp ∷ []) (sp ∷ registers_in l.number) AnyPoint ∷ way (sp ∷ left_but (registers_in l.number)) (sp ∷ registers_in l.number) Out ∷ [] else way (sp ∷ []) (sp ∷ registers_in l.number) Onward ∷ []) e)
+    (λ h. acts u ∙ many_same sp (u.values sp) (w.values sp) (registers_in l.number) u w a h.0 ∙ sym (acts w))
+    (subst (λ (x : Act). Takes around.lands x (way (sp ∷ []) (sp ∷ registers_in l.number) Onward)) (sym (acts u)) (many_takes around.lands sp (u.values sp) (registers_in l.number) u))
+
+hint_same : (k : Hint) (u w : World) → AlikeBut u w → hints k u ≡ hints k w
+hint_same hint.Nop u w a = same_world (λ v. hints hint.Nop v) (λ v. refl) u w a
+hint_same hint.Yield u w a = same_world (λ v. hints hint.Yield v) (λ v. refl) u w a
+hint_same hint.Wfe u w a = same_world (λ v. hints hint.Wfe v) (λ v. refl) u w a
+hint_same hint.Wfi u w a = same_world (λ v. hints hint.Wfi v) (λ v. refl) u w a
+hint_same hint.Sev u w a = same_world (λ v. hints hint.Sev v) (λ v. refl) u w a
+
+hint_takes : (lands : ℕ → Landing) (k : Hint) (w : World) → Follows lands Onward [] (hints k w)
+hint_takes lands hint.Nop w = refl
+hint_takes lands hint.Yield w = refl
+hint_takes lands hint.Wfe w = refl
+hint_takes lands hint.Wfi w = refl
+hint_takes lands hint.Sev w = refl
 
 -- a row: an instruction
 pub law : (around : Around) (i : Instr) (u w : World) → AlikeBut u w → Taken around i u w
-law around (Mov d m) u w a =
-    record {
-      number = 0;
-      taken = way (m.number ∷ []) (d.number ∷ []) Onward;
-      is_way = refl;
-      same = λ h. puts_same _ _ On u w a (cc (h.0));
-      takes = refl;
-    }
-law around (Three s d n m) u w a =
-    record {
-      number = 0;
-      taken = way (n.number ∷ m.number ∷ []) (d.number ∷ n_flag ∷ z_flag ∷ c_flag ∷ v_flag ∷ []) Onward;
-      is_way = refl;
-      same = λ h. puts_same _ _ On u w a (cc (h.0, h.1.0));
-      takes = refl;
-    }
-law around (Two o d m) u w a =
-    record {
-      number = 0;
-      taken = way (two_reads o d.number m.number) (two_writes o d.number) Onward;
-      is_way = refl;
-      same = λ h. puts_same _ _ On u w a (two_same o d.number m.number u.values w.values h);
-      takes = two_keys o d.number (u.values d.number) (u.values m.number) (u.values c_flag);
-    }
-law around (Bx m) u w a = bx_law around m.number u w a (around.lands (u.values m.number)) refl (Bx m) (λ v. refl) refl
-
--- ---- words stay words ----
-
--- the items hold words, and the stack pointer a multiple of 4
-pub record AreHeld (v : Values) : Type 0 where
-  pub words : AreWords v
-  pub stack : v sp % 4 ≡ 0
-
--- a word for a register, 0 or 1 for a flag, and a multiple of 4 for the stack pointer
-abbrev pub IsValueOf : ℕ × ℕ → Type 0
-IsValueOf o = (o.0 < 15 → o.1 < 2 ^ 32) × (15 ≤ o.0 → o.1 < 2) × (o.0 ≡ sp → o.1 % 4 ≡ 0)
-
--- each of the new values is one for its item
-abbrev pub AreValues : List (ℕ × ℕ) → Type 0
-AreValues [] = Unit {0}
-AreValues (o ∷ os) = IsValueOf o × AreValues os
-
--- what an item holds
-pub held_value : (v : Values) → AreHeld v → (x : ℕ) → IsValueOf (x, v x)
-held_value v a x = (λ l. a.words.register x l, λ l. a.words.flag x l, λ e. ap (λ y. v y % 4) e ∙ a.stack)
-
-value_at : (os : List (ℕ × ℕ)) (v : Values) → AreValues os → AreHeld v → (x : ℕ) → IsValueOf (x, assigned os v x)
-value_at [] v h a x = held_value v a x
-value_at (o ∷ os) v h a x =
-    elim (x == o.0) as (λ b. (x == o.0) ≡ b → IsValueOf (x, if b then o.1 else assigned os v x)) [
-      | true ↦ λ e. let same : x ≡ o.0 = grind arith in subst (λ (y : ℕ). IsValueOf (y, o.1)) (sym same) (h.0)
-      | false ↦ λ e. value_at os v h.1 a x
-    ] refl
-
--- items that get such values hold such values
-pub are_held : (os : List (ℕ × ℕ)) (v : Values) → AreValues os → AreHeld v → AreHeld (assigned os v)
-are_held os v h a = record {
-  words = record { register = λ x l. (value_at os v h a x).0 l; flag = λ x l. (value_at os v h a x).1 l };
-  stack = (value_at os v h a sp).2 refl;
-}
-
--- a word in a low register
-pub low_value : (d : Within 0 8) (x : ℕ) → x < 2 ^ 32 → IsValueOf (d.number, x)
-low_value d x h = (λ l. h, λ l. absurd (omega arith), λ e. absurd (omega arith))
-
--- a word in a register but pc, as it is written
-pub written_value : (d : Within 0 15) (x : ℕ) → x < 2 ^ 32 → IsValueOf (d.number, written_to d.number x)
-written_value d x h =
-    elim (d.number == sp) as (λ b. (d.number == sp) ≡ b → IsValueOf (d.number, if b then x / 4 * 4 else x)) [
-      | true ↦ λ e. (λ l. omega arith, λ l. absurd (omega arith), λ s. omega arith)
-      | false ↦ λ e. (λ l. h, λ l. absurd (omega arith), λ s. absurd (let t : (d.number == sp) ≡ true = grind arith in cc))
-    ] refl
-
-bool_small : (b : Bool) → from_bool b < 2
-bool_small true = omega arith
-bool_small false = omega arith
-
--- a flag
-pub flag_value : (f x : ℕ) → 15 ≤ f → x < 2 → IsValueOf (f, x)
-flag_value f x l h = (λ m. absurd (omega arith), λ m. h, λ e. absurd (omega arith))
-
--- flags of a result are bits
-pub result_flag_values : (x : ℕ) → AreValues (result_flags x)
-result_flag_values x = (flag_value n_flag _ (omega arith) (bit_at-lt x 31), (flag_value z_flag _ (omega arith) (bool_small (x == 0)), tt))
-
--- flags of a sum are bits
-pub sum_flag_values : (s : WordSum) → AreValues (sum_flags s)
-sum_flag_values s =
-    (flag_value n_flag _ (omega arith) (bit_at-lt s.value 31), (flag_value z_flag _ (omega arith) (bool_small (s.value == 0)), (flag_value c_flag _ (omega arith) (bool_small s.c), (flag_value v_flag _ (omega arith) (bool_small s.v), tt))))
-
--- a row: a sum is a word
-sum_small : (s : Sum) (x y : ℕ) → (three_sum s x y).value < 2 ^ 32
-sum_small Add x y = omega arith
-
--- a row: an operation puts words
-two_values : (o : Operation) (d : Within 0 8) (x y c : ℕ) → x < 2 ^ 32 → y < 2 ^ 32 → c < 2 → AreValues (two_outputs o d.number x y c)
-two_values Mul d x y c hx hy hc = (low_value d _ (omega arith), result_flag_values (product y x))
-
--- a row: an instruction puts words
-pub values_of : (i : Instr) (v : Values) → AreHeld v → AreValues (outputs i v)
-values_of (Mov d m) v a = (written_value d _ (a.words.register m.number (omega arith)), tt)
-values_of (Three s d n m) v a = (low_value d _ (sum_small s (v n.number) (v m.number)), sum_flag_values (three_sum s (v n.number) (v m.number)))
-values_of (Two o d m) v a = two_values o d _ _ _ (a.words.register d.number (omega arith)) (a.words.register m.number (omega arith)) (a.words.flag c_flag (omega arith))
-values_of (Bx m) v a = tt
-
--- ---- an act leaves a world ----
-
--- what the act leaves is in its range
-pub record IsSafe (a : Act) : Type 0 where
-  pub values : AreValues a.outputs
-  pub memory : (x : ℕ) → a.memory x < 256
-  pub answers : AreAnswers a.answers
-
--- what an instruction may put into a register from around it is a word
-pub record AreAroundWords (around : Around) : Type 0 where
-  pub literal : around.literal < 2 ^ 32
-  pub link : around.link < 2 ^ 32
-
--- a world's items are in their ranges
-pub held_of : (w : World) → IsWorld w → AreHeld w.values
-held_of w h = record { words = h.values; stack = h.stack }
-
-puts_safe : (os : List (ℕ × ℕ)) (n : Next) (w : World) → AreValues os → IsWorld w → IsSafe (puts os n w)
-puts_safe os n w v h = record { values = v; memory = h.memory; answers = h.answers }
-
-ends_safe : (e : Event) (w : World) → IsWorld w → IsSafe (ends e w)
-ends_safe e w h = record { values = tt; memory = h.memory; answers = h.answers }
-
-branch_safe : (l : Landing) (word : ℕ) (w : World) → IsWorld w → IsSafe (branches l word w)
-branch_safe (Goes p) word w h = puts_safe [] (To p) w tt h
-branch_safe Leaves word w h = ends_safe _ w h
-branch_safe Strays word w h = ends_safe _ w h
-
--- a row: an instruction puts words, and leaves bytes and answers
-pub act_safe : (around : Around) (i : Instr) (w : World) → AreAroundWords around → IsWorld w → IsSafe (act around i w)
-act_safe around (Mov d m) w l h = puts_safe _ On w (values_of (Mov d m) w.values (held_of w h)) h
-act_safe around (Three s d n m) w l h = puts_safe _ On w (values_of (Three s d n m) w.values (held_of w h)) h
-act_safe around (Two o d m) w l h = puts_safe _ On w (values_of (Two o d m) w.values (held_of w h)) h
-act_safe around (Bx m) w l h = branch_safe (around.lands (w.values m.number)) (w.values m.number) w h
-
--- what a safe act leaves is a world
-pub world_after : (a : Act) (v : Values) → IsSafe a → AreHeld v → IsWorld (record { values = assigned a.outputs v; memory = a.memory; answers = a.answers })
-world_after a v s h = let k = are_held a.outputs v s.values h in record { values = k.words; stack = k.stack; memory = s.memory; answers = s.answers }
+law around (instr.Mov d m) u w a = puts_law around (instr.Mov d m) u w a (λ v. refl) refl (λ h. ap (λ x. (d.number, written_to d.number x) ∷ []) h.0) refl
+law around (instr.Three s d n m) u w a = puts_law around (instr.Three s d n m) u w a (λ v. refl) refl (λ h. ap_two (λ x y. sum_outputs d.number (three_sum s x y)) h.0 h.1.0) refl
+law around (instr.Two o d m) u w a = puts_law around (instr.Two o d m) u w a (λ v. refl) refl (λ h. two_same o d.number m.number u.values w.values h) (two_keys o d.number (u.values d.number) (u.values m.number) (u.values c_flag))
+law around (instr.Bx m) u w a = bx_law around m.number u w a (around.lands (u.values m.number)) refl (instr.Bx m) (λ v. refl) refl
+law around (instr.Movs d m) u w a = puts_law around (instr.Movs d m) u w a (λ v. refl) refl (λ h. ap (result_outputs d.number) h.0) refl
+law around (instr.ShiftLeft d m i) u w a = puts_law around (instr.ShiftLeft d m i) u w a (λ v. refl) refl (λ h. ap (λ x. shift_outputs d.number (shift_of shift.Lsl x i.number false)) h.0) refl
+law around (instr.ShiftRight s d m i) u w a = puts_law around (instr.ShiftRight s d m i) u w a (λ v. refl) refl (λ h. ap (λ x. shift_outputs d.number (shift_of (right_shift s) x i.number false)) h.0) refl
+law around (instr.ThreeNumber s d n i) u w a = puts_law around (instr.ThreeNumber s d n i) u w a (λ v. refl) refl (λ h. ap (λ x. sum_outputs d.number (three_sum s x i.number)) h.0) refl
+law around (instr.TwoNumber o d i) u w a = puts_law around (instr.TwoNumber o d i) u w a (λ v. refl) refl (λ h. byte_same o d.number i.number u.values w.values h) (byte_keys o d.number (u.values d.number) i.number)
+law around (instr.Add r) u w a = puts_law around (instr.Add r) u w a (λ v. refl) refl (λ h. ap_two (λ x y. (r.target.number, written_to r.target.number (three_sum sum.Add x y).value) ∷ []) h.0 h.1.0) refl
+law around (instr.Compare r) u w a = puts_law around (instr.Compare r) u w a (λ v. refl) refl (λ h. ap_two (λ x y. sum_flags (three_sum sum.Sub x y)) h.0 h.1.0) refl
+law around (instr.Blx m) u w a = blx_law around m.number u w a (around.lands (u.values m.number)) refl (instr.Blx m) (λ v. refl) refl
+law around (instr.Literal t d) u w a = straight around (instr.Literal t d) u w refl (λ h. puts_same _ _ On u w a refl) refl
+law around (instr.Indexed x t n m) u w a = straight around (instr.Indexed x t n m) u w refl (λ h. access_same x t.number _ _ u w a (ap_two offset h.0 h.1.0) h.1.1) (access_takes around.lands x t.number _ _ u)
+law around (instr.Offset x t n i) u w a = straight around (instr.Offset x t n i) u w refl (λ h. access_same (offset_access x) t.number _ _ u w a (ap (λ b. offset b (access_size (offset_access x) * i.number)) h.0) h.1) (access_takes around.lands (offset_access x) t.number _ _ u)
+law around (instr.Stack x t i) u w a = straight around (instr.Stack x t i) u w refl (λ h. access_same (word_access x) t.number _ _ u w a (ap (λ b. offset b (4 * i.number)) h.0) h.1) (access_takes around.lands (word_access x) t.number _ _ u)
+law around (instr.Address d i) u w a = straight around (instr.Address d i) u w refl (λ h. puts_same _ _ On u w a refl) refl
+law around (instr.StackAddress d i) u w a = puts_law around (instr.StackAddress d i) u w a (λ v. refl) refl (λ h. ap (λ x. (d.number, (three_sum sum.Add x (4 * i.number)).value) ∷ []) h.0) refl
+law around (instr.StackMove s i) u w a = puts_law around (instr.StackMove s i) u w a (λ v. refl) refl (λ h. ap (λ x. (sp, written_to sp (three_sum s x (4 * i.number)).value) ∷ []) h.0) refl
+law around (instr.Extend e d m) u w a = puts_law around (instr.Extend e d m) u w a (λ v. refl) refl (λ h. ap (λ x. (d.number, extension_of e x) ∷ []) h.0) refl
+law around (instr.Reverse r d m) u w a = puts_law around (instr.Reverse r d m) u w a (λ v. refl) refl (λ h. ap (λ x. (d.number, reversal_of r x) ∷ []) h.0) refl
+law around (instr.Push l) u w a = straight around (instr.Push l) u w refl (λ h. stores_many_same sp (below (pushed l.number)) (below (pushed l.number)) (u.values sp) (w.values sp) _ _ u w a h.0 (map_agree (pushed l.number) u.values w.values h.1)) (stores_many_takes around.lands sp _ (below (pushed l.number) (u.values sp)) (map u.values (pushed l.number)) u)
+law around (instr.Pop l) u w a = pop_law around l u w a (has l.number 8) refl
+law around (instr.StoreMany s) u w a = straight around (instr.StoreMany s) u w refl (λ h. stores_many_same s.base.number (behind (registers_in s.list.number)) (λ x. x) (u.values s.base.number) (w.values s.base.number) _ _ u w a h.0 (map_agree (registers_in s.list.number) u.values w.values h.1)) (stores_many_takes around.lands s.base.number _ (u.values s.base.number) (map u.values (registers_in s.list.number)) u)
+law around (instr.LoadMany n l) u w a = straight around (instr.LoadMany n l) u w refl (λ h. many_same n.number (u.values n.number) (w.values n.number) (registers_in l.number) u w a h.0) (many_takes around.lands n.number (u.values n.number) (registers_in l.number) u)
+law around (instr.Breakpoint i) u w a = straight around (instr.Breakpoint i) u w refl (λ h. same_world (λ v. tells (Sys (256 + i.number) []) v) (λ v. refl) u w a) refl
+law around (instr.Service i) u w a = straight around (instr.Service i) u w refl (λ h. served_same i.number u w a h) (takes_takes around.lands Onward served _ u u.answers (λ x rest. refl))
+law around (instr.Hint k) u w a = straight around (instr.Hint k) u w refl (λ h. hint_same k u w a) (hint_takes around.lands k u)
+law around (instr.ChangeState i) u w a = straight around (instr.ChangeState i) u w refl (λ h. same_world (λ v. tells (Sys (interrupts_code i) []) v) (λ v. refl) u w a) refl
+law around (instr.BranchIf c d) u w a = if_law around c (instr.BranchIf c d) u w a (λ v. refl) refl (holds c u.values) refl
+law around (instr.Branch d) u w a = record { number = 0; taken = jump_way [] (inside_of around.target); is_way = refl; same = λ h. jump_same around.target [] u w a h; takes = jump_takes around.lands around.target [] u }
+law around (instr.Call d) u w a = record { number = 0; taken = call_way (inside_of around.target); is_way = refl; same = λ h. call_same around.target around.link u w a h; takes = call_takes around.lands around.target around.link u }
+law around (instr.Barrier b) u w a = straight around (instr.Barrier b) u w refl (λ h. same_world (λ v. tells (Sys (barrier_code b) []) v) (λ v. refl) u w a) refl
+law around (instr.ReadSpecial d s) u w a = straight around (instr.ReadSpecial d s) u w refl (λ h. same_world (λ v. takes (reads_special d.number (special_code s) v) v v.answers) (λ v. refl) u w a) (takes_takes around.lands Onward (d.number ∷ []) _ u u.answers (λ x rest. refl))
+law around (instr.WriteMask m) u w a = straight around (instr.WriteMask m) u w refl (λ h. ap (λ x. tells (Sys 523 (x ∷ [])) u) h.0 ∙ same_world (λ v. tells (Sys 523 (w.values m.number ∷ [])) v) (λ v. refl) u w a) refl

@@ -1,8 +1,10 @@
 pub mod Lists
-pub mod Small
-pub mod Simulation
 pub mod Tied
+pub mod Small
+pub mod Bounds
 pub mod Law
+pub mod Held
+pub mod Simulation
 pub mod Worlds
 pub mod Moved
 pub mod Points
@@ -12,3 +14,4 @@ pub mod Table
 pub mod LinesReplaced
 pub mod LinesKept
 pub mod Unique
+pub mod Examples

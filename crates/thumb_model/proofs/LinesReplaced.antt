@@ -1,7 +1,7 @@
 -- Replacing lines replaces places and labels.
 use Rattle.std.proofs.Common.{◌≡◌, ℕ, zero, suc, ◌+◌, ◌-◌, ◌<◌, ◌≤◌, ◌==◌, ◌&&◌, List, [], ◌∷◌, ◌++◌, length, length-append, take, drop, map, refl, sym, ap, ◌∙◌, subst, ◌⊎◌, inl, inr, arith, append_assoc, ne_eqb, if◌then◌else◌}
 use Rattle.thumb_instr.specs.declared.instr.Instr.{Instr}
-use Rattle.thumb_model.specs.Listing.{Name, Value, Statement, Nothing, Runs, Words, Aligns, Line, Place, Op, Word, plain, Label, Code, places_in, places_of, labels_at, labels_from, code_of}
+use Rattle.thumb_model.specs.Listing.{Name, Value, Statement, Nothing, Runs, Words, Aligns, Sets, Line, Place, Op, Word, plain, Label, Code, places_in, places_of, labels_at, labels_from, code_of}
 use Rattle.thumb_model.proofs.Lists.{length_map}
 use Rattle.thumb_model.specs.Rewrite.{moved, move_label, replaced}
 use Rattle.thumb_model.specs.Rewritten.{is_op, without, labels_kept, new_line, replaced_lines}
@@ -21,6 +21,7 @@ append xs ys = xs ++ ys
 places_step : (n : ℕ) (l : Line) (s : Statement) (ls : List Line) → l.statement ≡ s → (AreOps n (places_of ls) → places_of (without n ls) ≡ drop n (places_of ls)) → (AreOps (suc n) (places_of ls) → places_of (without (suc n) ls) ≡ drop (suc n) (places_of ls)) → AreOps (suc n) (places_in s ++ places_of ls) → places_of (if is_op s then without n ls else l ∷ without (suc n) ls) ≡ drop (suc n) (places_in s ++ places_of ls)
 places_step n l Nothing ls e f g h = ap (λ x. places_in x ++ places_of (without (suc n) ls)) e ∙ g h
 places_step n l (Aligns size most) ls e f g h = ap (λ x. places_in x ++ places_of (without (suc n) ls)) e ∙ g h
+places_step n l (Sets name address) ls e f g h = ap (λ x. places_in x ++ places_of (without (suc n) ls)) e ∙ g h
 places_step n l (Runs i mention) ls e f g h = f h
 places_step n l (Words []) ls e f g h = ap (λ x. places_in x ++ places_of (without (suc n) ls)) e ∙ g h
 places_step n l (Words (w ∷ ws)) ls e f g h = absurd h
@@ -85,6 +86,7 @@ behind write n k p m is l s ls f rec e g h =
 replace_step : (write : Instr → List ℕ) (n k p : ℕ) (is : List Instr) (l : Line) (s : Statement) (ls : List Line) → l.statement ≡ s → Rec write n is ls → k ≡ p + suc n → AreOps (suc n) (drop p (places_in s ++ places_of ls)) → places_of (if is_op s && (p == 0) then labels_kept l l.names ++ (map (new_line write) is ++ without (suc n - 1) ls) else l ∷ replaced_lines write (p - length (places_in s)) (suc n) is ls) ≡ Result p k is (places_in s ++ places_of ls)
 replace_step write n k p is l Nothing ls f rec e h = behind write n k p p is l Nothing ls f rec e (omega arith) h
 replace_step write n k p is l (Aligns size most) ls f rec e h = behind write n k p p is l (Aligns size most) ls f rec e (omega arith) h
+replace_step write n k p is l (Sets name address) ls f rec e h = behind write n k p p is l (Sets name address) ls f rec e (omega arith) h
 replace_step write n k p is l (Words ws) ls f rec e h =
     let w = past_words ws (places_of ls) p n h in
     let x = words_length ws in
@@ -165,6 +167,13 @@ without_step p count gone n l (Aligns size most) ls e f g q r a b c d out ops =
     ∙ ap (λ ns. labels_at q ns ++ labels_from (q + 0) (without (suc n) ls)) none
     ∙ g (q + 0) (r + 0) (omega arith) (omega arith) (omega arith) (omega arith) (all_back p count (labels_at r l.names) (labels_from (r + 0) ls) out) ops
     ∙ ap (λ ns. map (move_label p gone) (labels_at r ns ++ labels_from (r + 0) ls)) (sym none)
+without_step p count gone n l (Sets name address) ls e f g q r a b c d out ops =
+    let none = no_names p count r l.names (labels_from (r + 0) ls) a (omega arith) out in
+    let here : labels_from q (l ∷ without (suc n) ls) ≡ labels_at q l.names ++ labels_from (q + 0) (without (suc n) ls) = ap (λ x. labels_at q l.names ++ labels_from (q + length (places_in x)) (without (suc n) ls)) e in
+    here
+    ∙ ap (λ ns. labels_at q ns ++ labels_from (q + 0) (without (suc n) ls)) none
+    ∙ g (q + 0) (r + 0) (omega arith) (omega arith) (omega arith) (omega arith) (all_back p count (labels_at r l.names) (labels_from (r + 0) ls) out) ops
+    ∙ ap (λ ns. map (move_label p gone) (labels_at r ns ++ labels_from (r + 0) ls)) (sym none)
 without_step p count gone n l (Words []) ls e f g q r a b c d out ops =
     let none = no_names p count r l.names (labels_from (r + 0) ls) a (omega arith) out in
     let here : labels_from q (l ∷ without (suc n) ls) ≡ labels_at q l.names ++ labels_from (q + 0) (without (suc n) ls) = ap (λ x. labels_at q l.names ++ labels_from (q + length (places_in x)) (without (suc n) ls)) e in
@@ -207,6 +216,7 @@ labels_behind write at n q p m is l s ls f rec e g out h =
 labels_step : (write : Instr → List ℕ) (at n q p : ℕ) (is : List Instr) (l : Line) (s : Statement) (ls : List Line) → length is < suc n → l.statement ≡ s → LabelsRec write at n is ls → at ≡ q + p → AllOutside at (suc n) (labels_at q l.names ++ labels_from (q + length (places_in s)) ls) → AreOps (suc n) (drop p (places_in s ++ places_of ls)) → labels_from q (if is_op s && (p == 0) then labels_kept l l.names ++ (map (new_line write) is ++ without (suc n - 1) ls) else l ∷ replaced_lines write (p - length (places_in s)) (suc n) is ls) ≡ map (move_label at (suc n - length is)) (labels_at q l.names ++ labels_from (q + length (places_in s)) ls)
 labels_step write at n q p is l Nothing ls short f rec e out h = labels_behind write at n q p p is l Nothing ls f rec e (omega arith) out h
 labels_step write at n q p is l (Aligns size most) ls short f rec e out h = labels_behind write at n q p p is l (Aligns size most) ls f rec e (omega arith) out h
+labels_step write at n q p is l (Sets name address) ls short f rec e out h = labels_behind write at n q p p is l (Sets name address) ls f rec e (omega arith) out h
 labels_step write at n q p is l (Words ws) ls short f rec e out h =
     let w = past_words ws (places_of ls) p n h in
     let x = words_length ws in
@@ -245,6 +255,7 @@ lines_step : (n : ℕ) (l : Line) (s : Statement) (ls : List Line) → (AreOps n
 lines_step n l (Runs i mention) ls f g h = let e = f h in omega arith
 lines_step n l Nothing ls f g h = let e = g h in omega arith
 lines_step n l (Aligns size most) ls f g h = let e = g h in omega arith
+lines_step n l (Sets name address) ls f g h = let e = g h in omega arith
 lines_step n l (Words []) ls f g h = let e = g h in omega arith
 lines_step n l (Words (w ∷ ws)) ls f g h = absurd h
 
@@ -271,6 +282,7 @@ fewer_behind write n p m is l s ls rec g h =
 fewer_step : (write : Instr → List ℕ) (n p : ℕ) (is : List Instr) (l : Line) (s : Statement) (ls : List Line) → length is < suc n → LinesRec write n is ls → AreOps (suc n) (drop p (places_in s ++ places_of ls)) → length (if is_op s && (p == 0) then labels_kept l l.names ++ (map (new_line write) is ++ without (suc n - 1) ls) else l ∷ replaced_lines write (p - length (places_in s)) (suc n) is ls) ≤ suc (length ls)
 fewer_step write n p is l Nothing ls short rec h = fewer_behind write n p p is l Nothing ls rec (omega arith) h
 fewer_step write n p is l (Aligns size most) ls short rec h = fewer_behind write n p p is l (Aligns size most) ls rec (omega arith) h
+fewer_step write n p is l (Sets name address) ls short rec h = fewer_behind write n p p is l (Sets name address) ls rec (omega arith) h
 fewer_step write n p is l (Words ws) ls short rec h =
     let w = past_words ws (places_of ls) p n h in
     let x = words_length ws in

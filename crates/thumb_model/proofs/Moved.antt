@@ -1,13 +1,13 @@
 -- Places, labels and code points of a listing in which a window was replaced.
-use Rattle.std.proofs.Common.{◌≡◌, ◌≢◌, ℕ, zero, suc, ◌+◌, ◌-◌, ◌<◌, ◌≤◌, ◌==◌, ◌&&◌, ◌||◌, eqb-true, Bool, true, false, min, List, [], ◌∷◌, ◌++◌, length, take, drop, map, Option, Some, None, refl, sym, ap, ◌∙◌, ◌⊎◌, unwrap_or, inl, inr, arith, if◌then◌else◌}
+use Rattle.std.proofs.Common.{◌≡◌, ◌≢◌, ℕ, zero, suc, ◌+◌, ◌-◌, ◌<◌, ◌≤◌, ◌==◌, ◌&&◌, ◌||◌, eqb-true, Bool, true, false, min, List, [], ◌∷◌, ◌++◌, length, take, drop, map, Option, Some, None, refl, sym, ap, ◌∙◌, subst, ◌⊎◌, ◌/◌, unwrap_or, inl, inr, arith, if◌then◌else◌}
 use Rattle.std.specs.Prelude.{slice_get}
 use Rattle.std.specs.Str.{bytes_eq}
 use Rattle.std.proofs.lemmas.Bool.{cases_lt}
 use Rattle.std.specs.Option.{option_map}
 use Rattle.thumb_instr.specs.declared.instr.Instr.{Instr}
 use Rattle.thumb_model.specs.Items.{one_of}
-use Rattle.thumb_model.specs.Listing.{Name, Place, plain, Label, Code, is_op_place, is_code, place_among, place_of, has_label, place_mentions, is_mentioned, is_call, call_count, return_places}
-use Rattle.thumb_model.specs.Machine.{Naming, Fits, points_of, points, least_or, point_among, returns_from}
+use Rattle.thumb_model.specs.Listing.{Name, Mention, Place, Op, Word, plain, Label, Code, is_op_place, is_code, place_among, place_of, has_label, place_mentions, is_mentioned, is_call, call_count, return_places}
+use Rattle.thumb_model.specs.Machine.{Naming, Fits, HasLiterals, is_word_place, label_place, points_of, points, least_or, point_among, returns_from}
 use Rattle.thumb_model.specs.Rewrite.{moved, move_label, replaced}
 use Rattle.thumb_model.proofs.Lists.{get_drop, get_take, get_front, get_back, length_map, take_all, length_drop}
 
@@ -174,6 +174,25 @@ moved_min p gone a b =
       | inr h ↦ (let k = moved_keeps_order p gone b a h in let e : min a b ≡ b = omega arith in let f : min (moved p gone a) (moved p gone b) ≡ moved p gone b = min_right _ _ k in f ∙ ap (moved p gone) (sym e))
     ]
 
+-- no place is an instruction and data
+not_both : (o : Option Place) → is_op_place o ≡ true → is_word_place o ≡ true → ⊥
+not_both None h k = absurd (cc)
+not_both (Some (Op i mention)) h k = absurd (cc)
+not_both (Some (Word v)) h k = absurd (cc)
+
+-- an instruction of a window mentions no name
+plain_none : (is : List Instr) (j : ℕ) (i : Instr) (m : Mention) → slice_get (map plain is) j ≡ Some (Op i (Some m)) → ⊥
+plain_none [] j i m e = absurd (cc)
+plain_none (x ∷ is) zero i m e = absurd (cc)
+plain_none (x ∷ is) (suc j) i m e = plain_none is j i m e
+
+some_place : (a b : ℕ) → (let o : Option ℕ = Some a in o) ≡ Some b → a ≡ b
+some_place a b e = cc
+
+option_back : (f : ℕ → ℕ) (o : Option ℕ) (q : ℕ) → option_map f o ≡ Some q → (r : ℕ) × (o ≡ Some r) × (q ≡ f r)
+option_back f None q e = absurd (cc)
+option_back f (Some r) q e = (r, refl, sym (some_place (f r) q e))
+
 module _ (code : Code) (p count : ℕ) (is : List Instr) where
   abbrev places' : List Place
   places' = (replaced code p count is).places
@@ -211,6 +230,55 @@ module _ (code : Code) (p count : ℕ) (is : List Instr) where
     pub fetch_outside : (q : ℕ) → IsOutside p count q → q ≢ p → slice_get places' (to q) ≡ slice_get code.places q
     fetch_outside q (inl h) ne = ap (slice_get places') (let e : to q ≡ q = omega arith in e) ∙ fetch_before q (omega arith)
     fetch_outside q (inr h) ne = fetch_after q h
+
+    -- data behind a place outside the window moves with it
+    pub data_moved : (q k : ℕ) → IsOutside p count q → ((j : ℕ) → j ≤ k → is_word_place (slice_get code.places (q + j)) ≡ true) → slice_get places' (to q + k) ≡ slice_get code.places (q + k)
+    data_moved q k (inl h) w =
+        elim (cases_lt (q + k) p) [
+          | inl l ↦ ap (slice_get places') (let e : to q + k ≡ q + k = omega arith in e) ∙ fetch_before (q + k) l
+          | inr l ↦ absurd (not_both (slice_get code.places p) r.first (ap (λ n. is_word_place (slice_get code.places n)) (let e : p ≡ q + (p - q) = omega arith in e) ∙ w (p - q) (omega arith)))
+        ]
+    data_moved q k (inr h) w =
+        let s = r.shorter in
+        ap (slice_get places') (let e : to q + k ≡ to (q + k) = omega arith in e) ∙ fetch_after (q + k) (omega arith)
+
+    -- where a name's label stands moves
+    pub label_place_moved : (name : Name) (ls : List Label) → label_place name (map (move_label p (count - length is)) ls) ≡ option_map to (label_place name ls)
+    label_place_moved name [] = refl
+    label_place_moved name (l ∷ ls) =
+        elim (bytes_eq name l.name) as (λ b. (if b then Some (to l.place) else label_place name (map (move_label p (count - length is)) ls)) ≡ option_map to (if b then Some l.place else label_place name ls)) [
+          | true ↦ refl
+          | false ↦ label_place_moved name ls
+        ]
+
+    label_outside : (name : Name) (ls : List Label) → ((k : ℕ) (l : Label) → slice_get ls k ≡ Some l → IsOutside p count l.place) → (q : ℕ) → label_place name ls ≡ Some q → IsOutside p count q
+    label_outside name [] h q e = absurd (cc)
+    label_outside name (l ∷ ls) h q e =
+        elim (bytes_eq name l.name) as (λ b. (if b then Some l.place else label_place name ls) ≡ Some q → IsOutside p count q) [
+          | true ↦ λ f. subst (IsOutside p count) (some_place l.place q f) (h 0 l refl)
+          | false ↦ λ f. label_outside name ls (λ k m g. h (suc k) m g) q f
+        ] e
+
+    pub name_outside : (name : Name) (q : ℕ) → label_place name code.labels ≡ Some q → IsOutside p count q
+    name_outside name q e = label_outside name code.labels r.unlabelled q e
+
+    -- an instruction that mentions a name was there before
+    mention_back : (q : ℕ) (i : Instr) (m : Mention) → slice_get places' q ≡ Some (Op i (Some m)) → (k : ℕ) × (slice_get code.places k ≡ Some (Op i (Some m)))
+    mention_back q i m e =
+        elim (cases_lt q p) [
+          | inl l ↦ (q, sym (fetch_before q l) ∙ e)
+          | inr l ↦ elim (cases_lt q (p + length is)) [
+            | inl k ↦ absurd (plain_none is (q - p) i m (sym (fetch_window (q - p) (omega arith)) ∙ ap (slice_get places') (let f : p + (q - p) ≡ q = omega arith in f) ∙ e))
+            | inr k ↦ (let s = r.shorter in (q + (count - length is), sym (fetch_after (q + (count - length is)) (omega arith)) ∙ ap (slice_get places') (let f : to (q + (count - length is)) ≡ q = omega arith in f) ∙ e))
+          ]
+        ]
+
+    literals_stay : HasLiterals code → HasLiterals (replaced code p count is)
+    literals_stay f at i m e t q g j l =
+        let was = mention_back at i m e in
+        let from = option_back to (label_place m.name code.labels) q (sym (label_place_moved m.name code.labels) ∙ g) in
+        let words : (n : ℕ) → n ≤ m.plus / 4 → is_word_place (slice_get code.places (from.0 + n)) ≡ true = λ n k. f was.0 i m was.1 t from.0 from.1 n k in
+        ap (λ n. is_word_place (slice_get places' (n + j))) from.2 ∙ ap is_word_place (data_moved from.0 j (name_outside m.name from.0 from.1) (λ n k. words n (omega arith))) ∙ words j l
 
     -- a label is code afterwards exactly where it was before
     code_stays : (k : ℕ) (l : Label) → slice_get code.labels k ≡ Some l → is_code places' (move_label p (count - length is) l) ≡ is_code code.places l
@@ -373,6 +441,7 @@ module _ (code : Code) (p count : ℕ) (is : List Instr) where
           return_words = f.return_words;
           low_even = f.low_even;
           high_even = f.high_even;
+          literals = literals_stay f.literals;
           are_code = λ k w q e. let b = point_back (points names code) k w q (ap (λ (l : List (ℕ × ℕ)). slice_get l k) (sym (points_moved names)) ∙ e) in f.are_code k w b.0 b.1;
           distinct = λ j k v w q s e e' ne.
               let b = point_back (points names code) j v q (ap (λ (l : List (ℕ × ℕ)). slice_get l j) (sym (points_moved names)) ∙ e) in

@@ -3,14 +3,16 @@ use Rattle.std.proofs.Common.{◌≡◌, ℕ, suc, ◌+◌, ◌-◌, ◌<◌, �
 use Rattle.std.specs.Prelude.{slice_get}
 use Rattle.std.proofs.lemmas.Bool.{and_parts, and_from, lt-ltb}
 use Rattle.thumb_instr.specs.declared.instr.Instr.{Instr}
-use Rattle.thumb_instr.specs.declared.instr.Instr.TheVariants.{Mov, Three, Two, Bx}
+use Rattle.thumb_instr.specs.declared.instr.Instr.TheVariants as instr
+use Rattle.thumb_instr.specs.Shape.{uses_of, writes_of}
 use Rattle.thumb_instr.specs.Window.{is_in_window}
 use Rattle.thumb_instr.proofs.Registers.{widened_number}
-use Rattle.thumb_model.specs.Items.{Values, n_flag, z_flag, c_flag, v_flag}
-use Rattle.thumb_model.specs.Effect.{after_all, two_reads, two_writes}
+use Rattle.thumb_instr.proofs.Renaming.{wide_or, both_target, both_source}
+use Rattle.thumb_model.specs.Items.{Values}
+use Rattle.thumb_model.specs.Effect.{after_all}
 use Rattle.thumb_model.specs.Listing.{Place, plain, Code, is_op_place, is_code, is_call_instr}
 use Rattle.thumb_model.specs.Flow.{way, Onward, Reads, LiveAfter}
-use Rattle.thumb_model.specs.Rewrite.{Low, Reg, Rule, IsSoundRule, renamed, wide_or, reg_under, AreOver, normalised, replaced, move_label, Applies}
+use Rattle.thumb_model.specs.Rewrite.{Low, Reg, Rule, IsSoundRule, renamed, reg_under, both_under, AreOver, normalised, replaced, move_label, Applies}
 use Rattle.thumb_model.proofs.Lists.{get_drop, get_take, length_map, take_all, take_short, length_drop}
 use Rattle.thumb_model.proofs.Moved.{IsReplacement, AreNoCalls}
 use Rattle.thumb_model.proofs.Window.{StandsAt, AreStraight, sides_agree, normal_in_window, normal_after}
@@ -22,12 +24,49 @@ low_stays registers d h = elim (slice_get registers d.number) as (λ o. nat_lt (
 
 -- a row: a renamed instruction may stand in a window where it may itself
 straight_one : (registers : List Low) (i : Instr) → is_in_window i ≡ true → is_in_window (renamed registers i) ≡ true
-straight_one registers (Mov d m) h =
+straight_one registers (instr.Mov d m) h =
     let both = and_parts (nat_lt d.number 8) (nat_lt m.number 8) h in
     and_from (nat_lt (reg_under registers d).number 8) (nat_lt (reg_under registers m).number 8) (low_stays registers d both.0) (low_stays registers m both.1)
-straight_one registers (Three s d n m) h = refl
-straight_one registers (Two o d m) h = refl
-straight_one registers (Bx m) h = absurd (cc)
+straight_one registers (instr.Add r) h =
+    let both = and_parts (nat_lt r.target.number 8) (nat_lt r.source.number 8) h in
+    let first = slice_get registers r.target.number in
+    let second = slice_get registers r.source.number in
+    and_from (nat_lt (both_under registers r).target.number 8) (nat_lt (both_under registers r).source.number 8)
+    (ap (λ (x : Reg). nat_lt x.number 8) (both_target first second r) ∙ low_stays registers r.target both.0)
+    (ap (λ (x : Reg). nat_lt x.number 8) (both_source first second r) ∙ low_stays registers r.source both.1)
+straight_one registers (instr.Three s d n m) h = refl
+straight_one registers (instr.Two o d m) h = refl
+straight_one registers (instr.Bx m) h = absurd (cc)
+straight_one registers (instr.Movs d m) h = refl
+straight_one registers (instr.ShiftLeft d m i) h = refl
+straight_one registers (instr.ShiftRight s d m i) h = refl
+straight_one registers (instr.ThreeNumber s d n i) h = refl
+straight_one registers (instr.TwoNumber o d i) h = refl
+straight_one registers (instr.Compare r) h = absurd (cc)
+straight_one registers (instr.Blx m) h = absurd (cc)
+straight_one registers (instr.Literal t d) h = absurd (cc)
+straight_one registers (instr.Indexed a t n m) h = absurd (cc)
+straight_one registers (instr.Offset a t n i) h = absurd (cc)
+straight_one registers (instr.Stack a t i) h = absurd (cc)
+straight_one registers (instr.Address d i) h = absurd (cc)
+straight_one registers (instr.StackAddress d i) h = absurd (cc)
+straight_one registers (instr.StackMove s i) h = absurd (cc)
+straight_one registers (instr.Extend e d m) h = refl
+straight_one registers (instr.Reverse r d m) h = refl
+straight_one registers (instr.Push l) h = absurd (cc)
+straight_one registers (instr.Pop l) h = absurd (cc)
+straight_one registers (instr.StoreMany s) h = absurd (cc)
+straight_one registers (instr.LoadMany n l) h = absurd (cc)
+straight_one registers (instr.Breakpoint i) h = absurd (cc)
+straight_one registers (instr.Service i) h = absurd (cc)
+straight_one registers (instr.Hint k) h = absurd (cc)
+straight_one registers (instr.ChangeState i) h = absurd (cc)
+straight_one registers (instr.BranchIf c d) h = absurd (cc)
+straight_one registers (instr.Branch d) h = absurd (cc)
+straight_one registers (instr.Call d) h = absurd (cc)
+straight_one registers (instr.Barrier b) h = absurd (cc)
+straight_one registers (instr.ReadSpecial d s) h = absurd (cc)
+straight_one registers (instr.WriteMask m) h = absurd (cc)
 
 straight : (registers : List Low) (k : ℕ) (is : List Instr) → AreOver k is → AreStraight (map (renamed registers) is)
 straight registers k [] h = tt
@@ -44,10 +83,41 @@ straight_window (i ∷ is) (j ∷ js) e h =
 
 -- a row: what is read from the place after a straight instruction is live after it
 pub live_there : (code : Code) (p : ℕ) (i : Instr) → slice_get code.places p ≡ Some (plain i) → is_in_window i ≡ true → (x : ℕ) → Reads code x (p + 1) → LiveAfter code p x
-live_there code p (Mov d m) e h x r = (0, way (m.number ∷ []) (d.number ∷ []) Onward, p + 1, rw e refl, refl, r)
-live_there code p (Three s d n m) e h x r = (0, way (n.number ∷ m.number ∷ []) (d.number ∷ n_flag ∷ z_flag ∷ c_flag ∷ v_flag ∷ []) Onward, p + 1, rw e refl, refl, r)
-live_there code p (Two o d m) e h x r = (0, way (two_reads o d.number m.number) (two_writes o d.number) Onward, p + 1, rw e refl, refl, r)
-live_there code p (Bx m) e h x r = absurd (cc)
+live_there code p (instr.Mov d m) e h x r = (0, way (uses_of (instr.Mov d m)) (writes_of (instr.Mov d m)) Onward, p + 1, rw e refl, refl, r)
+live_there code p (instr.Three s d n m) e h x r = (0, way (uses_of (instr.Three s d n m)) (writes_of (instr.Three s d n m)) Onward, p + 1, rw e refl, refl, r)
+live_there code p (instr.Two o d m) e h x r = (0, way (uses_of (instr.Two o d m)) (writes_of (instr.Two o d m)) Onward, p + 1, rw e refl, refl, r)
+live_there code p (instr.Bx m) e h x r = absurd (cc)
+live_there code p (instr.Movs d m) e h x r = (0, way (uses_of (instr.Movs d m)) (writes_of (instr.Movs d m)) Onward, p + 1, rw e refl, refl, r)
+live_there code p (instr.ShiftLeft d m i) e h x r = (0, way (uses_of (instr.ShiftLeft d m i)) (writes_of (instr.ShiftLeft d m i)) Onward, p + 1, rw e refl, refl, r)
+live_there code p (instr.ShiftRight s d m i) e h x r = (0, way (uses_of (instr.ShiftRight s d m i)) (writes_of (instr.ShiftRight s d m i)) Onward, p + 1, rw e refl, refl, r)
+live_there code p (instr.ThreeNumber s d n i) e h x r = (0, way (uses_of (instr.ThreeNumber s d n i)) (writes_of (instr.ThreeNumber s d n i)) Onward, p + 1, rw e refl, refl, r)
+live_there code p (instr.TwoNumber o d i) e h x r = (0, way (uses_of (instr.TwoNumber o d i)) (writes_of (instr.TwoNumber o d i)) Onward, p + 1, rw e refl, refl, r)
+live_there code p (instr.Add k) e h x r = (0, way (uses_of (instr.Add k)) (writes_of (instr.Add k)) Onward, p + 1, rw e refl, refl, r)
+live_there code p (instr.Compare k) e h x r = absurd (cc)
+live_there code p (instr.Blx m) e h x r = absurd (cc)
+live_there code p (instr.Literal t d) e h x r = absurd (cc)
+live_there code p (instr.Indexed z t n m) e h x r = absurd (cc)
+live_there code p (instr.Offset z t n i) e h x r = absurd (cc)
+live_there code p (instr.Stack z t i) e h x r = absurd (cc)
+live_there code p (instr.Address d i) e h x r = absurd (cc)
+live_there code p (instr.StackAddress d i) e h x r = absurd (cc)
+live_there code p (instr.StackMove s i) e h x r = absurd (cc)
+live_there code p (instr.Extend k d m) e h x r = (0, way (uses_of (instr.Extend k d m)) (writes_of (instr.Extend k d m)) Onward, p + 1, rw e refl, refl, r)
+live_there code p (instr.Reverse k d m) e h x r = (0, way (uses_of (instr.Reverse k d m)) (writes_of (instr.Reverse k d m)) Onward, p + 1, rw e refl, refl, r)
+live_there code p (instr.Push l) e h x r = absurd (cc)
+live_there code p (instr.Pop l) e h x r = absurd (cc)
+live_there code p (instr.StoreMany s) e h x r = absurd (cc)
+live_there code p (instr.LoadMany n l) e h x r = absurd (cc)
+live_there code p (instr.Breakpoint i) e h x r = absurd (cc)
+live_there code p (instr.Service i) e h x r = absurd (cc)
+live_there code p (instr.Hint k) e h x r = absurd (cc)
+live_there code p (instr.ChangeState i) e h x r = absurd (cc)
+live_there code p (instr.BranchIf c d) e h x r = absurd (cc)
+live_there code p (instr.Branch d) e h x r = absurd (cc)
+live_there code p (instr.Call d) e h x r = absurd (cc)
+live_there code p (instr.Barrier b) e h x r = absurd (cc)
+live_there code p (instr.ReadSpecial d s) e h x r = absurd (cc)
+live_there code p (instr.WriteMask m) e h x r = absurd (cc)
 
 last_of : (is : List Instr) → 0 < length is → AreStraight is → (i : Instr) × (slice_get (map plain is) (length is - 1) ≡ Some (plain i)) × (is_in_window i ≡ true)
 last_of [] l s = absurd (omega arith)
@@ -58,10 +128,41 @@ last_of (i ∷ j ∷ is) l s =
 
 -- a row: what may stand in a window is no call
 no_call : (i : Instr) → is_in_window i ≡ true → is_call_instr i ≡ false
-no_call (Mov d m) h = refl
-no_call (Three s d n m) h = refl
-no_call (Two o d m) h = refl
-no_call (Bx m) h = refl
+no_call (instr.Mov d m) h = refl
+no_call (instr.Three s d n m) h = refl
+no_call (instr.Two o d m) h = refl
+no_call (instr.Bx m) h = refl
+no_call (instr.Movs d m) h = refl
+no_call (instr.ShiftLeft d m i) h = refl
+no_call (instr.ShiftRight s d m i) h = refl
+no_call (instr.ThreeNumber s d n i) h = refl
+no_call (instr.TwoNumber o d i) h = refl
+no_call (instr.Add r) h = refl
+no_call (instr.Compare r) h = refl
+no_call (instr.Blx m) h = absurd (cc)
+no_call (instr.Literal t d) h = refl
+no_call (instr.Indexed a t n m) h = refl
+no_call (instr.Offset a t n i) h = refl
+no_call (instr.Stack a t i) h = refl
+no_call (instr.Address d i) h = refl
+no_call (instr.StackAddress d i) h = refl
+no_call (instr.StackMove s i) h = refl
+no_call (instr.Extend e d m) h = refl
+no_call (instr.Reverse r d m) h = refl
+no_call (instr.Push l) h = refl
+no_call (instr.Pop l) h = refl
+no_call (instr.StoreMany s) h = refl
+no_call (instr.LoadMany n l) h = refl
+no_call (instr.Breakpoint i) h = refl
+no_call (instr.Service i) h = refl
+no_call (instr.Hint k) h = refl
+no_call (instr.ChangeState i) h = refl
+no_call (instr.BranchIf c d) h = refl
+no_call (instr.Branch d) h = refl
+no_call (instr.Call d) h = absurd (cc)
+no_call (instr.Barrier b) h = refl
+no_call (instr.ReadSpecial d s) h = refl
+no_call (instr.WriteMask m) h = refl
 
 no_calls : (is : List Instr) → AreStraight is → AreNoCalls (map plain is)
 no_calls [] h = tt

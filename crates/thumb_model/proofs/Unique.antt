@@ -2,12 +2,14 @@
 use Rattle.std.proofs.Common.{◌≡◌, ℕ, zero, suc, ◌<◌, ◌==◌, ◌||◌, true, false, List, [], ◌∷◌, length, map, Option, Some, refl, sym, ap, ◌∙◌, subst, arith, eqb-true}
 use Rattle.std.specs.Prelude.{slice_get}
 use Rattle.thumb_instr.specs.declared.instr.Instr.{Instr}
-use Rattle.thumb_instr.specs.declared.instr.Instr.TheVariants.{Mov, Three, Two, Bx}
+use Rattle.thumb_instr.specs.declared.instr.Instr.TheVariants as instr
+use Rattle.thumb_instr.specs.declared.within.NotBothSp.{NotBothSp}
 use Rattle.thumb_instr.specs.Window.{is_in_window}
 use Rattle.thumb_instr.proofs.Registers.{low_is}
+use Rattle.thumb_instr.proofs.Renaming.{both_target, both_source}
 use Rattle.thumb_model.specs.Items.{one_of}
 use Rattle.thumb_model.specs.Listing.{plain, Line, Code, code_of}
-use Rattle.thumb_model.specs.Rewrite.{Low, Reg, Rule, IsSoundRule, AreSound, AreOver, named, renamed, low_under, reg_under, number_or, item_under, is_named, normalised, Applies}
+use Rattle.thumb_model.specs.Rewrite.{Low, Reg, Rule, IsSoundRule, AreSound, AreOver, named, renamed, low_under, reg_under, both_under, number_or, item_under, is_named, normalised, Applies}
 use Rattle.thumb_model.specs.Rewritten.{Setting, Replacement, IsFirst, lines_after, AreRewritten, IsDetermined}
 use Rattle.thumb_model.proofs.Window.{low_number, reg_number}
 
@@ -30,12 +32,49 @@ low_tells f g d e = sym (low_number f d) ∙ ap (λ (r : Low). r.number) e ∙ l
 reg_tells : (f g : List Low) (d : Reg) → reg_under f d ≡ reg_under g d → item_under f d.number ≡ item_under g d.number
 reg_tells f g d e = sym (reg_number f d) ∙ ap (λ (r : Reg). r.number) e ∙ reg_number g d
 
+both_tells : (f g : List Low) (r : NotBothSp) → both_under f r ≡ both_under g r → (item_under f r.target.number ≡ item_under g r.target.number) × (item_under f r.source.number ≡ item_under g r.source.number)
+both_tells f g r e = (
+  reg_tells f g r.target (sym (both_target (slice_get f r.target.number) (slice_get f r.source.number) r) ∙ ap (λ (x : NotBothSp). x.target) e ∙ both_target (slice_get g r.target.number) (slice_get g r.source.number) r),
+  reg_tells f g r.source (sym (both_source (slice_get f r.target.number) (slice_get f r.source.number) r) ∙ ap (λ (x : NotBothSp). x.source) e ∙ both_source (slice_get g r.target.number) (slice_get g r.source.number) r),
+)
+
 -- a row: a renamed instruction tells what its registers became
 renamed_tells : (f g : List Low) (i : Instr) → is_in_window i ≡ true → renamed f i ≡ renamed g i → AgreeOnAll f g (named i)
-renamed_tells f g (Mov d m) w e = (reg_tells f g d (cc), (reg_tells f g m (cc), tt))
-renamed_tells f g (Three s d n m) w e = (low_tells f g d (cc), (low_tells f g n (cc), (low_tells f g m (cc), tt)))
-renamed_tells f g (Two o d m) w e = (low_tells f g d (cc), (low_tells f g m (cc), tt))
-renamed_tells f g (Bx m) w e = absurd (cc)
+renamed_tells f g (instr.Mov d m) w e = (reg_tells f g d (cc), (reg_tells f g m (cc), tt))
+renamed_tells f g (instr.Three s d n m) w e = (low_tells f g d (cc), (low_tells f g n (cc), (low_tells f g m (cc), tt)))
+renamed_tells f g (instr.Two o d m) w e = (low_tells f g d (cc), (low_tells f g m (cc), tt))
+renamed_tells f g (instr.Movs d m) w e = (low_tells f g d (cc), (low_tells f g m (cc), tt))
+renamed_tells f g (instr.ShiftLeft d m i) w e = (low_tells f g d (cc), (low_tells f g m (cc), tt))
+renamed_tells f g (instr.ShiftRight s d m i) w e = (low_tells f g d (cc), (low_tells f g m (cc), tt))
+renamed_tells f g (instr.ThreeNumber s d n i) w e = (low_tells f g d (cc), (low_tells f g n (cc), tt))
+renamed_tells f g (instr.TwoNumber o d i) w e = (low_tells f g d (cc), tt)
+renamed_tells f g (instr.Add r) w e = let b = both_tells f g r (cc) in (b.0, (b.1, tt))
+renamed_tells f g (instr.Extend k d m) w e = (low_tells f g d (cc), (low_tells f g m (cc), tt))
+renamed_tells f g (instr.Reverse k d m) w e = (low_tells f g d (cc), (low_tells f g m (cc), tt))
+renamed_tells f g (instr.Bx m) w e = absurd (cc)
+renamed_tells f g (instr.Compare r) w e = absurd (cc)
+renamed_tells f g (instr.Blx m) w e = absurd (cc)
+renamed_tells f g (instr.Literal t d) w e = absurd (cc)
+renamed_tells f g (instr.Indexed a t n m) w e = absurd (cc)
+renamed_tells f g (instr.Offset a t n i) w e = absurd (cc)
+renamed_tells f g (instr.Stack a t i) w e = absurd (cc)
+renamed_tells f g (instr.Address d i) w e = absurd (cc)
+renamed_tells f g (instr.StackAddress d i) w e = absurd (cc)
+renamed_tells f g (instr.StackMove s i) w e = absurd (cc)
+renamed_tells f g (instr.Push l) w e = absurd (cc)
+renamed_tells f g (instr.Pop l) w e = absurd (cc)
+renamed_tells f g (instr.StoreMany s) w e = absurd (cc)
+renamed_tells f g (instr.LoadMany n l) w e = absurd (cc)
+renamed_tells f g (instr.Breakpoint i) w e = absurd (cc)
+renamed_tells f g (instr.Service i) w e = absurd (cc)
+renamed_tells f g (instr.Hint k) w e = absurd (cc)
+renamed_tells f g (instr.ChangeState i) w e = absurd (cc)
+renamed_tells f g (instr.BranchIf c d) w e = absurd (cc)
+renamed_tells f g (instr.Branch d) w e = absurd (cc)
+renamed_tells f g (instr.Call d) w e = absurd (cc)
+renamed_tells f g (instr.Barrier b) w e = absurd (cc)
+renamed_tells f g (instr.ReadSpecial d s) w e = absurd (cc)
+renamed_tells f g (instr.WriteMask m) w e = absurd (cc)
 
 all_tell : (f g : List Low) (k : ℕ) (is : List Instr) (x : ℕ) → AreOver k is → map (renamed f) is ≡ map (renamed g) is → is_named x is ≡ true → item_under f x ≡ item_under g x
 all_tell f g k [] x o e h = absurd (cc)

@@ -1,21 +1,30 @@
 -- Straight code: what a window does, in a run and under a renaming.
-use Rattle.std.proofs.Common.{◌≡◌, ◌≢◌, ℕ, zero, suc, ◌+◌, ◌*◌, ◌/◌, ◌<◌, ◌≤◌, ◌==◌, ◌||◌, true, false, List, [], ◌∷◌, ◌++◌, length, map, Option, Some, None, refl, sym, ap, ◌∙◌, subst, ◌⊎◌, inl, inr, arith, if◌then◌else◌, eq-eqb, eqb-true, ne_eqb, ◌^◌}
-use Rattle.std.specs.Prelude.{slice_get, unwrap_or}
+use Rattle.std.proofs.Common.{◌≡◌, ◌≢◌, ℕ, zero, suc, ◌+◌, ◌*◌, ◌/◌, ◌<◌, ◌≤◌, ◌==◌, ◌||◌, true, false, List, [], ◌∷◌, ◌++◌, length, map, Option, Some, None, refl, sym, ap, ◌∙◌, subst, ◌⊎◌, inl, inr, arith, if◌then◌else◌, eq-eqb, eqb-true, ne_eqb, ◌^◌, ◌%◌, Bool}
+use Rattle.std.specs.Prelude.{slice_get, unwrap_or, bit_and, bit_or, bit_xor}
 use Rattle.std.proofs.lemmas.Option.{slice_get_past}
 use Rattle.word_bits.specs.declared.Sum.{Sum as WordSum}
+use Rattle.word_bits.specs.declared.Shift.TheVariants as shift
+use Rattle.word_bits.specs.Word.{sum_of, shift_of}
 use Rattle.thumb_instr.specs.declared.instr.Instr.{Instr}
-use Rattle.thumb_instr.specs.declared.instr.Instr.TheVariants.{Mov, Three, Two, Bx}
-use Rattle.thumb_instr.specs.declared.instr.Operation.{Operation}
-use Rattle.thumb_instr.specs.declared.instr.Operation.TheVariants.{Mul}
-use Rattle.thumb_instr.specs.Window.{is_in_window}
+use Rattle.thumb_instr.specs.declared.instr.Instr.TheVariants as instr
+use Rattle.thumb_instr.specs.declared.operation.Sum.{Sum}
+use Rattle.thumb_instr.specs.declared.operation.Sum.TheVariants as sum
+use Rattle.thumb_instr.specs.declared.operation.Operation.{Operation}
+use Rattle.thumb_instr.specs.declared.operation.Operation.TheVariants as operation
+use Rattle.thumb_instr.specs.declared.operation.ByteOperation.{ByteOperation}
+use Rattle.thumb_instr.specs.declared.operation.ByteOperation.TheVariants as byte
+use Rattle.thumb_instr.specs.declared.within.NotBothSp.{NotBothSp}
+use Rattle.thumb_instr.specs.Window.{is_in_window, byte_sum, byte_of}
 use Rattle.thumb_instr.proofs.Registers.{widened_number}
+use Rattle.thumb_instr.proofs.Renaming.{wide_or, both_target, both_source}
 use Rattle.thumb_model.specs.Items.{Values, AreWords, assigned, one_of, sp, written_to, n_flag, z_flag, c_flag, v_flag}
-use Rattle.thumb_model.specs.Effect.{outputs, result_flags, sum_flags, three_sum, product, two_outputs, after, after_all}
+use Rattle.thumb_model.specs.Effect.{outputs, complement, result_flags, sum_flags, result_outputs, shift_outputs, sum_outputs, three_sum, right_shift, product, extension_of, reversal_of, two_outputs, byte_outputs, after, after_all}
 use Rattle.thumb_model.specs.Listing.{Mention, Place, Op, plain, Code, IsPoint}
 use Rattle.thumb_model.specs.Machine.{Naming, World, Landing, Goes, Around, Act, Here, State, Next, On, Stay, To, Over, act, puts, around_of, aim_of, target_at, step, times}
 use Rattle.thumb_model.specs.Flow.{ways_on, ways_of, ways, Leads, Onward, ToPlace, AnyPoint, Out, Follows, Reads, now, later}
-use Rattle.thumb_model.specs.Rewrite.{Low, Reg, named, renamed, low_under, wide_or, reg_under, number_or, item_under, IsOneToOne, AreBelow, AreOver, Equal, normalised}
-use Rattle.thumb_model.proofs.Law.{keys, AgreeOn, assigned_agree, assigned_other, inside_of, Matches, Taken, AlikeBut, law, values_of, are_held, AreHeld}
+use Rattle.thumb_model.specs.Rewrite.{Low, Reg, named, renamed, low_under, reg_under, both_under, number_or, item_under, IsOneToOne, AreBelow, AreOver, Equal, normalised}
+use Rattle.thumb_model.proofs.Law.{keys, AgreeOn, assigned_agree, assigned_other, inside_of, Matches, Taken, AlikeBut, law, ap_two}
+use Rattle.thumb_model.proofs.Held.{values_of, are_held, AreHeld}
 use Rattle.thumb_model.proofs.Points.{landing_is}
 
 -- ---- a run through straight code ----
@@ -35,10 +44,41 @@ went s q v = record { world = record { values = v; memory = s.world.memory; answ
 
 -- a row: what may stand in a window goes on, and looks at nothing but the items
 pub straight_act : (around : Around) (i : Instr) (w : World) → is_in_window i ≡ true → act around i w ≡ puts (outputs i w.values) On w
-straight_act around (Mov d m) w h = refl
-straight_act around (Three s d n m) w h = refl
-straight_act around (Two o d m) w h = refl
-straight_act around (Bx m) w h = absurd (cc)
+straight_act around (instr.Mov d m) w h = refl
+straight_act around (instr.Three s d n m) w h = refl
+straight_act around (instr.Two o d m) w h = refl
+straight_act around (instr.Bx m) w h = absurd (cc)
+straight_act around (instr.Movs d m) w h = refl
+straight_act around (instr.ShiftLeft d m i) w h = refl
+straight_act around (instr.ShiftRight s d m i) w h = refl
+straight_act around (instr.ThreeNumber s d n i) w h = refl
+straight_act around (instr.TwoNumber o d i) w h = refl
+straight_act around (instr.Add r) w h = refl
+straight_act around (instr.Compare r) w h = refl
+straight_act around (instr.Blx m) w h = absurd (cc)
+straight_act around (instr.Literal t d) w h = absurd (cc)
+straight_act around (instr.Indexed x t n m) w h = absurd (cc)
+straight_act around (instr.Offset x t n i) w h = absurd (cc)
+straight_act around (instr.Stack x t i) w h = absurd (cc)
+straight_act around (instr.Address d i) w h = absurd (cc)
+straight_act around (instr.StackAddress d i) w h = refl
+straight_act around (instr.StackMove s i) w h = refl
+straight_act around (instr.Extend e d m) w h = refl
+straight_act around (instr.Reverse r d m) w h = refl
+straight_act around (instr.Push l) w h = absurd (cc)
+straight_act around (instr.Pop l) w h = absurd (cc)
+straight_act around (instr.StoreMany s) w h = absurd (cc)
+straight_act around (instr.LoadMany n l) w h = absurd (cc)
+straight_act around (instr.Breakpoint i) w h = absurd (cc)
+straight_act around (instr.Service i) w h = absurd (cc)
+straight_act around (instr.Hint k) w h = absurd (cc)
+straight_act around (instr.ChangeState i) w h = absurd (cc)
+straight_act around (instr.BranchIf c d) w h = absurd (cc)
+straight_act around (instr.Branch d) w h = absurd (cc)
+straight_act around (instr.Call d) w h = absurd (cc)
+straight_act around (instr.Barrier b) w h = absurd (cc)
+straight_act around (instr.ReadSpecial d s) w h = absurd (cc)
+straight_act around (instr.WriteMask m) w h = absurd (cc)
 
 append_nothing : {A : Type 0} (xs : List A) → xs ++ [] ≡ xs
 append_nothing [] = refl
@@ -47,7 +87,7 @@ append_nothing (x ∷ xs) = ap (λ l. x ∷ l) (append_nothing xs)
 module _ (names : Naming) (code : Code) (s : State) where
   -- one instruction of straight code
   pub straight_step : (p : ℕ) (v : Values) (i : Instr) → slice_get code.places p ≡ Some (plain i) → is_in_window i ≡ true → step names code (went s p v) ≡ went s (p + 1) (after i v)
-  straight_step p v i e h = rw (e, straight_act (around_of names code p None) i (went s p v).world h, append_nothing s.events) refl
+  straight_step p v i e h = rw (e, straight_act (around_of names code p i None) i (went s p v).world h, append_nothing s.events) refl
 
   -- straight code to its end
   pub straight_run : (is : List Instr) (p : ℕ) (v : Values) → StandsAt code.places p is → AreStraight is → times (step names code) (length is) (went s p v) ≡ went s (p + length is) (after_all is v)
@@ -102,13 +142,13 @@ aim_is names mention (Some p) = refl
 
 -- what the step at p does to two worlds that agree on what is read from p on
 pub record Flows (names : Naming) (code : Code) (p : ℕ) (i : Instr) (mention : Option Mention) (u w : World) : Type 0 where
-  pub same : act (around_of names code p mention) i u ≡ act (around_of names code p mention) i w
-  pub agree : (q x : ℕ) → GoesTo p (act (around_of names code p mention) i u).next q → Reads code x q → assigned (act (around_of names code p mention) i u).outputs u.values x ≡ assigned (act (around_of names code p mention) i w).outputs w.values x
+  pub same : act (around_of names code p i mention) i u ≡ act (around_of names code p i mention) i w
+  pub agree : (q x : ℕ) → GoesTo p (act (around_of names code p i mention) i u).next q → Reads code x q → assigned (act (around_of names code p i mention) i u).outputs u.values x ≡ assigned (act (around_of names code p i mention) i w).outputs w.values x
 
 -- values that agree on what is read from a place on agree so after its step
 pub flows : (names : Naming) (code : Code) (p : ℕ) (i : Instr) (mention : Option Mention) (u w : World) → slice_get code.places p ≡ Some (Op i mention) → AlikeBut u w → ((x : ℕ) → Reads code x p → u.values x ≡ w.values x) → Flows names code p i mention u w
 flows names code p i mention u w e a h =
-    let around : Around = around_of names code p mention in
+    let around : Around = around_of names code p i mention in
     let row : Taken around i u w = law around i u w a in
     let is_way : slice_get (ways code p) row.number ≡ Some row.taken =
     ap (λ (o : Option Place). slice_get (ways_on code o) row.number) e ∙ ap (λ (o : Option ℕ). slice_get (ways_of o i) row.number) (sym (aim_is names mention (aim_of code mention))) ∙ row.is_way in
@@ -127,7 +167,7 @@ flows names code p i mention u w e a h =
 pub flows_on : (names : Naming) (code : Code) (is : List Instr) (p : ℕ) (u w : Values) → StandsAt code.places p is → AreStraight is → ((x : ℕ) → Reads code x p → u x ≡ w x) → (x : ℕ) → Reads code x (p + length is) → after_all is u x ≡ after_all is w x
 flows_on names code [] p u w h a agree x r = agree x (subst (Reads code x) (let e : p + 0 ≡ p = omega arith in e) r)
 flows_on names code (i ∷ is) p u w h a agree x r =
-    let around : Around = around_of names code p None in
+    let around : Around = around_of names code p i None in
     let world : Values → World = λ v. record { values = v; memory = λ n. 0; answers = [] } in
     let f = flows names code p i None (world u) (world w) h.0 (refl, refl) agree in
     let eu : act around i (world u) ≡ puts (outputs i u) On (world u) = straight_act around i (world u) a.0 in
@@ -142,13 +182,90 @@ pub held_after : (is : List Instr) (v : Values) → AreHeld v → AreHeld (after
 held_after [] v h = h
 held_after (i ∷ is) v h = held_after is (after i v) (are_held (outputs i v) v (values_of i v h) h)
 
+-- ADDS and SUBS of a number to their own register: both encodings
+byte_sums : (k : Sum) (d n : Low) (i : Low) (v : Values) → d.number ≡ n.number → outputs (instr.TwoNumber (byte_sum k) d (byte_of i)) v ≡ outputs (instr.ThreeNumber k d n i) v
+byte_sums sum.Add d n i v e = ap (λ x. sum_outputs d.number (three_sum sum.Add (v x) i.number)) e
+byte_sums sum.Sub d n i v e = ap (λ x. sum_outputs d.number (three_sum sum.Sub (v x) i.number)) e
+
 -- a row: the instruction that stands for both encodings puts the same
 normal_outputs : (i : Instr) (v : Values) → outputs (normalised i) v ≡ outputs i v
-normal_outputs i v = refl
+normal_outputs (instr.Mov d m) v = refl
+normal_outputs (instr.Three s d n m) v = refl
+normal_outputs (instr.Two o d m) v = refl
+normal_outputs (instr.Bx m) v = refl
+normal_outputs (instr.Movs d m) v = refl
+normal_outputs (instr.ShiftLeft d m i) v = refl
+normal_outputs (instr.ShiftRight s d m i) v = refl
+normal_outputs (instr.ThreeNumber k d n i) v =
+    elim (d.number == n.number) as (λ b. (d.number == n.number) ≡ b → outputs (if b then instr.TwoNumber (byte_sum k) d (byte_of i) else instr.ThreeNumber k d n i) v ≡ outputs (instr.ThreeNumber k d n i) v) [
+      | true ↦ λ e. byte_sums k d n i v (eqb-true d.number n.number e)
+      | false ↦ λ e. refl
+    ] refl
+normal_outputs (instr.TwoNumber o d i) v = refl
+normal_outputs (instr.Add r) v = refl
+normal_outputs (instr.Compare r) v = refl
+normal_outputs (instr.Blx m) v = refl
+normal_outputs (instr.Literal t d) v = refl
+normal_outputs (instr.Indexed a t n m) v = refl
+normal_outputs (instr.Offset a t n i) v = refl
+normal_outputs (instr.Stack a t i) v = refl
+normal_outputs (instr.Address d i) v = refl
+normal_outputs (instr.StackAddress d i) v = refl
+normal_outputs (instr.StackMove s i) v = refl
+normal_outputs (instr.Extend e d m) v = refl
+normal_outputs (instr.Reverse r d m) v = refl
+normal_outputs (instr.Push l) v = refl
+normal_outputs (instr.Pop l) v = refl
+normal_outputs (instr.StoreMany s) v = refl
+normal_outputs (instr.LoadMany n l) v = refl
+normal_outputs (instr.Breakpoint i) v = refl
+normal_outputs (instr.Service i) v = refl
+normal_outputs (instr.Hint k) v = refl
+normal_outputs (instr.ChangeState i) v = refl
+normal_outputs (instr.BranchIf c d) v = refl
+normal_outputs (instr.Branch d) v = refl
+normal_outputs (instr.Call d) v = refl
+normal_outputs (instr.Barrier b) v = refl
+normal_outputs (instr.ReadSpecial d s) v = refl
+normal_outputs (instr.WriteMask m) v = refl
 
 -- a row: and it may stand in a window where the other may
 pub normal_in_window : (i : Instr) → is_in_window (normalised i) ≡ is_in_window i
-normal_in_window i = refl
+normal_in_window (instr.Mov d m) = refl
+normal_in_window (instr.Three s d n m) = refl
+normal_in_window (instr.Two o d m) = refl
+normal_in_window (instr.Bx m) = refl
+normal_in_window (instr.Movs d m) = refl
+normal_in_window (instr.ShiftLeft d m i) = refl
+normal_in_window (instr.ShiftRight s d m i) = refl
+normal_in_window (instr.ThreeNumber k d n i) = elim (d.number == n.number) as (λ b. is_in_window (if b then instr.TwoNumber (byte_sum k) d (byte_of i) else instr.ThreeNumber k d n i) ≡ true) [ true ↦ refl | false ↦ refl ]
+normal_in_window (instr.TwoNumber o d i) = refl
+normal_in_window (instr.Add r) = refl
+normal_in_window (instr.Compare r) = refl
+normal_in_window (instr.Blx m) = refl
+normal_in_window (instr.Literal t d) = refl
+normal_in_window (instr.Indexed a t n m) = refl
+normal_in_window (instr.Offset a t n i) = refl
+normal_in_window (instr.Stack a t i) = refl
+normal_in_window (instr.Address d i) = refl
+normal_in_window (instr.StackAddress d i) = refl
+normal_in_window (instr.StackMove s i) = refl
+normal_in_window (instr.Extend e d m) = refl
+normal_in_window (instr.Reverse r d m) = refl
+normal_in_window (instr.Push l) = refl
+normal_in_window (instr.Pop l) = refl
+normal_in_window (instr.StoreMany s) = refl
+normal_in_window (instr.LoadMany n l) = refl
+normal_in_window (instr.Breakpoint i) = refl
+normal_in_window (instr.Service i) = refl
+normal_in_window (instr.Hint k) = refl
+normal_in_window (instr.ChangeState i) = refl
+normal_in_window (instr.BranchIf c d) = refl
+normal_in_window (instr.Branch d) = refl
+normal_in_window (instr.Call d) = refl
+normal_in_window (instr.Barrier b) = refl
+normal_in_window (instr.ReadSpecial d s) = refl
+normal_in_window (instr.WriteMask m) = refl
 
 -- normal forms do the same
 pub normal_after : (is : List Instr) (v : Values) → after_all (map normalised is) v ≡ after_all is v
@@ -230,33 +347,182 @@ module _ (registers : List Low) (few : length registers ≤ 4) (one : IsOneToOne
   sum_flags_canonical : (s : WordSum) → AreCanonical (keys (sum_flags s))
   sum_flags_canonical s = (inr (omega arith, omega arith), (inr (omega arith, omega arith), (inr (omega arith, omega arith), (inr (omega arith, omega arith), tt))))
 
+  -- what a result, a shift and a sum put where
+  result_under : (d x : ℕ) → result_outputs (under d) x ≡ renamed_outputs (result_outputs d x)
+  result_under d x = ap (λ l. (under d, x) ∷ l) (result_flags_renamed x)
+
+  shift_under : (d : ℕ) (r : ℕ × Bool) → shift_outputs (under d) r ≡ renamed_outputs (shift_outputs d r)
+  shift_under d r = cc (flag_under n_flag (omega arith), flag_under z_flag (omega arith), flag_under c_flag (omega arith))
+
+  sum_under : (d : ℕ) (r : WordSum) → sum_outputs (under d) r ≡ renamed_outputs (sum_outputs d r)
+  sum_under d r = ap (λ l. (under d, r.value) ∷ l) (sum_flags_renamed r)
+
+  result_renamed : (d : Low) (x y : ℕ) → x ≡ y → result_outputs (low_under registers d).number x ≡ renamed_outputs (result_outputs d.number y)
+  result_renamed d x y e = ap_two result_outputs (low_number registers d) e ∙ result_under d.number y
+
+  shift_renamed : (d : Low) (x y : ℕ × Bool) → x ≡ y → shift_outputs (low_under registers d).number x ≡ renamed_outputs (shift_outputs d.number y)
+  shift_renamed d x y e = ap_two shift_outputs (low_number registers d) e ∙ shift_under d.number y
+
+  sum_renamed : (d : Low) (x y : WordSum) → x ≡ y → sum_outputs (low_under registers d).number x ≡ renamed_outputs (sum_outputs d.number y)
+  sum_renamed d x y e = ap_two sum_outputs (low_number registers d) e ∙ sum_under d.number y
+
+  one_renamed : (d : Low) (x y : ℕ) → x ≡ y → (let l : List (ℕ × ℕ) = ((low_under registers d).number, x) ∷ [] in l) ≡ renamed_outputs ((d.number, y) ∷ [])
+  one_renamed d x y e = pair_same _ _ _ _ [] [] (low_number registers d) e refl
+
+  result_canonical : (d x : ℕ) → d < length registers → AreCanonical (keys (result_outputs d x))
+  result_canonical d x h = (inl h, result_flags_canonical x)
+
+  shift_canonical : (d : ℕ) (r : ℕ × Bool) → d < length registers → AreCanonical (keys (shift_outputs d r))
+  shift_canonical d r h = (inl h, (inr (omega arith, omega arith), (inr (omega arith, omega arith), (inr (omega arith, omega arith), tt))))
+
+  sum_canonical : (d : ℕ) (r : WordSum) → d < length registers → AreCanonical (keys (sum_outputs d r))
+  sum_canonical d r h = (inl h, sum_flags_canonical r)
+
   -- a row: what a renamed operation puts where
   two_renamed : (o : Operation) (d x y c : ℕ) → two_outputs o (under d) x y c ≡ renamed_outputs (two_outputs o d x y c)
-  two_renamed Mul d x y c = pair_same _ _ _ _ _ _ refl refl (result_flags_renamed (product y x))
+  two_renamed operation.And d x y c = result_under d (bit_and x y)
+  two_renamed operation.Eor d x y c = result_under d (bit_xor x y)
+  two_renamed operation.Lsl d x y c = shift_under d (shift_of shift.Lsl x (y % 256) (c == 1))
+  two_renamed operation.Lsr d x y c = shift_under d (shift_of shift.Lsr x (y % 256) (c == 1))
+  two_renamed operation.Asr d x y c = shift_under d (shift_of shift.Asr x (y % 256) (c == 1))
+  two_renamed operation.Adc d x y c = sum_under d (sum_of x y (c == 1))
+  two_renamed operation.Sbc d x y c = sum_under d (sum_of x (complement y) (c == 1))
+  two_renamed operation.Ror d x y c = shift_under d (shift_of shift.Ror x (y % 256) (c == 1))
+  two_renamed operation.Tst d x y c = result_flags_renamed (bit_and x y)
+  two_renamed operation.Rsb d x y c = sum_under d (sum_of (complement y) 0 true)
+  two_renamed operation.Cmp d x y c = sum_flags_renamed (three_sum sum.Sub x y)
+  two_renamed operation.Cmn d x y c = sum_flags_renamed (three_sum sum.Add x y)
+  two_renamed operation.Orr d x y c = result_under d (bit_or x y)
+  two_renamed operation.Mul d x y c = result_under d (product y x)
+  two_renamed operation.Bic d x y c = result_under d (bit_and x (complement y))
+  two_renamed operation.Mvn d x y c = result_under d (complement y)
 
   -- a row: an operation writes canonical items alone
   two_canonical : (o : Operation) (d x y c : ℕ) → d < length registers → AreCanonical (keys (two_outputs o d x y c))
-  two_canonical Mul d x y c h = (inl h, result_flags_canonical (product y x))
+  two_canonical operation.And d x y c h = result_canonical d (bit_and x y) h
+  two_canonical operation.Eor d x y c h = result_canonical d (bit_xor x y) h
+  two_canonical operation.Lsl d x y c h = shift_canonical d (shift_of shift.Lsl x (y % 256) (c == 1)) h
+  two_canonical operation.Lsr d x y c h = shift_canonical d (shift_of shift.Lsr x (y % 256) (c == 1)) h
+  two_canonical operation.Asr d x y c h = shift_canonical d (shift_of shift.Asr x (y % 256) (c == 1)) h
+  two_canonical operation.Adc d x y c h = sum_canonical d (sum_of x y (c == 1)) h
+  two_canonical operation.Sbc d x y c h = sum_canonical d (sum_of x (complement y) (c == 1)) h
+  two_canonical operation.Ror d x y c h = shift_canonical d (shift_of shift.Ror x (y % 256) (c == 1)) h
+  two_canonical operation.Tst d x y c h = result_flags_canonical (bit_and x y)
+  two_canonical operation.Rsb d x y c h = sum_canonical d (sum_of (complement y) 0 true) h
+  two_canonical operation.Cmp d x y c h = sum_flags_canonical (three_sum sum.Sub x y)
+  two_canonical operation.Cmn d x y c h = sum_flags_canonical (three_sum sum.Add x y)
+  two_canonical operation.Orr d x y c h = result_canonical d (bit_or x y) h
+  two_canonical operation.Mul d x y c h = result_canonical d (product y x) h
+  two_canonical operation.Bic d x y c h = result_canonical d (bit_and x (complement y)) h
+  two_canonical operation.Mvn d x y c h = result_canonical d (complement y) h
+
+  byte_renamed : (o : ByteOperation) (d x n : ℕ) → byte_outputs o (under d) x n ≡ renamed_outputs (byte_outputs o d x n)
+  byte_renamed byte.Mov d x n = result_under d n
+  byte_renamed byte.Cmp d x n = sum_flags_renamed (three_sum sum.Sub x n)
+  byte_renamed byte.Add d x n = sum_under d (three_sum sum.Add x n)
+  byte_renamed byte.Sub d x n = sum_under d (three_sum sum.Sub x n)
+
+  byte_canonical : (o : ByteOperation) (d x n : ℕ) → d < length registers → AreCanonical (keys (byte_outputs o d x n))
+  byte_canonical byte.Mov d x n h = result_canonical d n h
+  byte_canonical byte.Cmp d x n h = sum_flags_canonical (three_sum sum.Sub x n)
+  byte_canonical byte.Add d x n h = sum_canonical d (three_sum sum.Add x n) h
+  byte_canonical byte.Sub d x n h = sum_canonical d (three_sum sum.Sub x n) h
+
+  -- the registers of a renamed sum of two
+  target_number : (r : NotBothSp) → (both_under registers r).target.number ≡ under r.target.number
+  target_number r = ap (λ (x : Reg). x.number) (both_target (slice_get registers r.target.number) (slice_get registers r.source.number) r) ∙ reg_number registers r.target
+
+  source_number : (r : NotBothSp) → (both_under registers r).source.number ≡ under r.source.number
+  source_number r = ap (λ (x : Reg). x.number) (both_source (slice_get registers r.target.number) (slice_get registers r.source.number) r) ∙ reg_number registers r.source
+
+  -- a word that is written to a register of the map
+  written_renamed : (z d x y : ℕ) → d < length registers → z ≡ under d → x ≡ y → (let l : List (ℕ × ℕ) = (z, written_to z x) ∷ [] in l) ≡ renamed_outputs ((d, written_to d y) ∷ [])
+  written_renamed z d x y h e f =
+      let low : under d < 8 = low_item d h in
+      pair_same _ _ _ _ [] [] e (ap (λ n. written_to n x) e ∙ low_written (under d) x low ∙ f ∙ sym (low_written d y (omega arith))) refl
 
   -- a row: what a renamed instruction puts where
-  outputs_renamed : (i : Instr) (s w : Values) → AreBelow (length registers) (named i) → Corresponds s w → outputs (renamed registers i) s ≡ renamed_outputs (outputs i w)
-  outputs_renamed (Mov d m) s w b c =
-      let low : under d.number < 8 = low_item d.number b.0 in
-      pair_same _ _ _ _ [] [] (reg_number registers d)
-      (ap (λ x. written_to x (s (reg_under registers m).number)) (reg_number registers d) ∙ low_written (under d.number) _ low ∙ read_wide m s w b.1.0 c ∙ sym (low_written d.number (w m.number) (omega (arith, b.0)))) refl
-  outputs_renamed (Three k d n m) s w b c =
-      let e : three_sum k (s (low_under registers n).number) (s (low_under registers m).number) ≡ three_sum k (w n.number) (w m.number) = cc (read_as n s w b.1.0 c, read_as m s w b.1.1.0 c) in
-      pair_same _ _ _ _ _ _ (low_number registers d) (ap (λ (z : WordSum). z.value) e) (ap sum_flags e ∙ sum_flags_renamed (three_sum k (w n.number) (w m.number)))
-  outputs_renamed (Two o d m) s w b c =
-      ap (λ x. two_outputs o x (s (low_under registers d).number) (s (low_under registers m).number) (s c_flag)) (low_number registers d) ∙ cc (read_as d s w b.0 c, read_as m s w b.1.0 c, flag_as c_flag s w (omega arith) (omega arith) c) ∙ two_renamed o d.number (w d.number) (w m.number) (w c_flag)
-  outputs_renamed (Bx m) s w b c = refl
+  outputs_renamed : (i : Instr) (s w : Values) → is_in_window i ≡ true → AreBelow (length registers) (named i) → Corresponds s w → outputs (renamed registers i) s ≡ renamed_outputs (outputs i w)
+  outputs_renamed (instr.Mov d m) s w t b c = written_renamed _ d.number _ (w m.number) b.0 (reg_number registers d) (read_wide m s w b.1.0 c)
+  outputs_renamed (instr.Three k d n m) s w t b c = sum_renamed d _ (three_sum k (w n.number) (w m.number)) (ap_two (three_sum k) (read_as n s w b.1.0 c) (read_as m s w b.1.1.0 c))
+  outputs_renamed (instr.Two o d m) s w t b c =
+      ap (λ x. two_outputs o x (s (low_under registers d).number) (s (low_under registers m).number) (s c_flag)) (low_number registers d)
+      ∙ ap_two (λ x y. two_outputs o (under d.number) x y (s c_flag)) (read_as d s w b.0 c) (read_as m s w b.1.0 c)
+      ∙ ap (two_outputs o (under d.number) (w d.number) (w m.number)) (flag_as c_flag s w (omega arith) (omega arith) c)
+      ∙ two_renamed o d.number (w d.number) (w m.number) (w c_flag)
+  outputs_renamed (instr.Movs d m) s w t b c = result_renamed d _ (w m.number) (read_as m s w b.1.0 c)
+  outputs_renamed (instr.ShiftLeft d m i) s w t b c = shift_renamed d _ (shift_of shift.Lsl (w m.number) i.number false) (ap (λ x. shift_of shift.Lsl x i.number false) (read_as m s w b.1.0 c))
+  outputs_renamed (instr.ShiftRight k d m i) s w t b c = shift_renamed d _ (shift_of (right_shift k) (w m.number) i.number false) (ap (λ x. shift_of (right_shift k) x i.number false) (read_as m s w b.1.0 c))
+  outputs_renamed (instr.ThreeNumber k d n i) s w t b c = sum_renamed d _ (three_sum k (w n.number) i.number) (ap (λ x. three_sum k x i.number) (read_as n s w b.1.0 c))
+  outputs_renamed (instr.TwoNumber o d i) s w t b c =
+      ap_two (λ x y. byte_outputs o x y i.number) (low_number registers d) (read_as d s w b.0 c) ∙ byte_renamed o d.number (w d.number) i.number
+  outputs_renamed (instr.Add r) s w t b c =
+      written_renamed _ r.target.number _ (three_sum sum.Add (w r.target.number) (w r.source.number)).value b.0 (target_number r)
+      (ap_two (λ x y. (three_sum sum.Add x y).value) (ap s (target_number r) ∙ c r.target.number (inl b.0)) (ap s (source_number r) ∙ c r.source.number (inl b.1.0)))
+  outputs_renamed (instr.Extend e d m) s w t b c = one_renamed d _ (extension_of e (w m.number)) (ap (extension_of e) (read_as m s w b.1.0 c))
+  outputs_renamed (instr.Reverse r d m) s w t b c = one_renamed d _ (reversal_of r (w m.number)) (ap (reversal_of r) (read_as m s w b.1.0 c))
+  outputs_renamed (instr.Bx m) s w t b c = absurd (cc)
+  outputs_renamed (instr.Compare r) s w t b c = absurd (cc)
+  outputs_renamed (instr.Blx m) s w t b c = absurd (cc)
+  outputs_renamed (instr.Literal q d) s w t b c = absurd (cc)
+  outputs_renamed (instr.Indexed a q n m) s w t b c = absurd (cc)
+  outputs_renamed (instr.Offset a q n i) s w t b c = absurd (cc)
+  outputs_renamed (instr.Stack a q i) s w t b c = absurd (cc)
+  outputs_renamed (instr.Address d i) s w t b c = absurd (cc)
+  outputs_renamed (instr.StackAddress d i) s w t b c = absurd (cc)
+  outputs_renamed (instr.StackMove k i) s w t b c = absurd (cc)
+  outputs_renamed (instr.Push l) s w t b c = absurd (cc)
+  outputs_renamed (instr.Pop l) s w t b c = absurd (cc)
+  outputs_renamed (instr.StoreMany k) s w t b c = absurd (cc)
+  outputs_renamed (instr.LoadMany n l) s w t b c = absurd (cc)
+  outputs_renamed (instr.Breakpoint i) s w t b c = absurd (cc)
+  outputs_renamed (instr.Service i) s w t b c = absurd (cc)
+  outputs_renamed (instr.Hint k) s w t b c = absurd (cc)
+  outputs_renamed (instr.ChangeState i) s w t b c = absurd (cc)
+  outputs_renamed (instr.BranchIf k d) s w t b c = absurd (cc)
+  outputs_renamed (instr.Branch d) s w t b c = absurd (cc)
+  outputs_renamed (instr.Call d) s w t b c = absurd (cc)
+  outputs_renamed (instr.Barrier k) s w t b c = absurd (cc)
+  outputs_renamed (instr.ReadSpecial d k) s w t b c = absurd (cc)
+  outputs_renamed (instr.WriteMask m) s w t b c = absurd (cc)
 
   -- a row: an instruction writes canonical items alone
-  outputs_canonical : (i : Instr) (w : Values) → AreBelow (length registers) (named i) → AreCanonical (keys (outputs i w))
-  outputs_canonical (Mov d m) w b = (inl b.0, tt)
-  outputs_canonical (Three k d n m) w b = (inl b.0, sum_flags_canonical (three_sum k (w n.number) (w m.number)))
-  outputs_canonical (Two o d m) w b = two_canonical o d.number _ _ _ b.0
-  outputs_canonical (Bx m) w b = tt
+  outputs_canonical : (i : Instr) (w : Values) → is_in_window i ≡ true → AreBelow (length registers) (named i) → AreCanonical (keys (outputs i w))
+  outputs_canonical (instr.Mov d m) w t b = (inl b.0, tt)
+  outputs_canonical (instr.Three k d n m) w t b = sum_canonical d.number (three_sum k (w n.number) (w m.number)) b.0
+  outputs_canonical (instr.Two o d m) w t b = two_canonical o d.number _ _ _ b.0
+  outputs_canonical (instr.Movs d m) w t b = result_canonical d.number (w m.number) b.0
+  outputs_canonical (instr.ShiftLeft d m i) w t b = shift_canonical d.number (shift_of shift.Lsl (w m.number) i.number false) b.0
+  outputs_canonical (instr.ShiftRight k d m i) w t b = shift_canonical d.number (shift_of (right_shift k) (w m.number) i.number false) b.0
+  outputs_canonical (instr.ThreeNumber k d n i) w t b = sum_canonical d.number (three_sum k (w n.number) i.number) b.0
+  outputs_canonical (instr.TwoNumber o d i) w t b = byte_canonical o d.number (w d.number) i.number b.0
+  outputs_canonical (instr.Add r) w t b = (inl b.0, tt)
+  outputs_canonical (instr.Extend e d m) w t b = (inl b.0, tt)
+  outputs_canonical (instr.Reverse r d m) w t b = (inl b.0, tt)
+  outputs_canonical (instr.Bx m) w t b = absurd (cc)
+  outputs_canonical (instr.Compare r) w t b = absurd (cc)
+  outputs_canonical (instr.Blx m) w t b = absurd (cc)
+  outputs_canonical (instr.Literal q d) w t b = absurd (cc)
+  outputs_canonical (instr.Indexed a q n m) w t b = absurd (cc)
+  outputs_canonical (instr.Offset a q n i) w t b = absurd (cc)
+  outputs_canonical (instr.Stack a q i) w t b = absurd (cc)
+  outputs_canonical (instr.Address d i) w t b = absurd (cc)
+  outputs_canonical (instr.StackAddress d i) w t b = absurd (cc)
+  outputs_canonical (instr.StackMove s i) w t b = absurd (cc)
+  outputs_canonical (instr.Push l) w t b = absurd (cc)
+  outputs_canonical (instr.Pop l) w t b = absurd (cc)
+  outputs_canonical (instr.StoreMany s) w t b = absurd (cc)
+  outputs_canonical (instr.LoadMany n l) w t b = absurd (cc)
+  outputs_canonical (instr.Breakpoint i) w t b = absurd (cc)
+  outputs_canonical (instr.Service i) w t b = absurd (cc)
+  outputs_canonical (instr.Hint k) w t b = absurd (cc)
+  outputs_canonical (instr.ChangeState i) w t b = absurd (cc)
+  outputs_canonical (instr.BranchIf c d) w t b = absurd (cc)
+  outputs_canonical (instr.Branch d) w t b = absurd (cc)
+  outputs_canonical (instr.Call d) w t b = absurd (cc)
+  outputs_canonical (instr.Barrier k) w t b = absurd (cc)
+  outputs_canonical (instr.ReadSpecial d s) w t b = absurd (cc)
+  outputs_canonical (instr.WriteMask m) w t b = absurd (cc)
 
   under_one : (x y : ℕ) → IsCanonical (length registers) x → IsCanonical (length registers) y → under x ≡ under y → x ≡ y
   under_one x y (inl h) (inl k) e =
@@ -287,14 +553,14 @@ module _ (registers : List Low) (few : length registers ≤ 4) (one : IsOneToOne
       ap (λ b. if b then o.1 else assigned (renamed_outputs os) s (under x)) (test_under x o.0 h a.0)
       ∙ ap (λ v. if x == o.0 then o.1 else v) (assigned_under os s w a.1 c x h)
 
-  after_under : (i : Instr) (s w : Values) → AreBelow (length registers) (named i) → Corresponds s w → Corresponds (after (renamed registers i) s) (after i w)
-  after_under i s w b c x h =
-      ap (λ os. assigned os s (under x)) (outputs_renamed i s w b c) ∙ assigned_under (outputs i w) s w (outputs_canonical i w b) c x h
+  after_under : (i : Instr) (s w : Values) → is_in_window i ≡ true → AreBelow (length registers) (named i) → Corresponds s w → Corresponds (after (renamed registers i) s) (after i w)
+  after_under i s w t b c x h =
+      ap (λ os. assigned os s (under x)) (outputs_renamed i s w t b c) ∙ assigned_under (outputs i w) s w (outputs_canonical i w t b) c x h
 
   -- values that correspond do so after renamed code
   pub after_all_under : (is : List Instr) (s w : Values) → AreOver (length registers) is → Corresponds s w → Corresponds (after_all (map (renamed registers) is) s) (after_all is w)
   after_all_under [] s w o c = c
-  after_all_under (i ∷ is) s w o c = after_all_under is _ _ o.2 (after_under i s w o.1 c)
+  after_all_under (i ∷ is) s w o c = after_all_under is _ _ o.2 (after_under i s w o.0 o.1 c)
 
   -- a register outside the map keeps its value
   apart : (os : List (ℕ × ℕ)) (x : ℕ) → AreCanonical (keys os) → ((y : ℕ) → IsCanonical (length registers) y → x ≢ under y) → one_of x (keys (renamed_outputs os)) ≡ false
@@ -304,9 +570,9 @@ module _ (registers : List Low) (few : length registers ≤ 4) (one : IsOneToOne
   outside_kept : (is : List Instr) (s w : Values) (x : ℕ) → AreOver (length registers) is → Corresponds s w → ((y : ℕ) → IsCanonical (length registers) y → x ≢ under y) → after_all (map (renamed registers) is) s x ≡ s x
   outside_kept [] s w x o c h = refl
   outside_kept (i ∷ is) s w x o c h =
-      outside_kept is (after (renamed registers i) s) (after i w) x o.2 (after_under i s w o.1 c) h
-      ∙ ap (λ os. assigned os s x) (outputs_renamed i s w o.1 c)
-      ∙ assigned_other (renamed_outputs (outputs i w)) s x (apart (outputs i w) x (outputs_canonical i w o.1) h)
+      outside_kept is (after (renamed registers i) s) (after i w) x o.2 (after_under i s w o.0 o.1 c) h
+      ∙ ap (λ os. assigned os s x) (outputs_renamed i s w o.0 o.1 c)
+      ∙ assigned_other (renamed_outputs (outputs i w)) s x (apart (outputs i w) x (outputs_canonical i w o.0 o.1) h)
 
   -- what an item of the machine is: that of a mask, or a register outside the map
   among_map : (xs : List ℕ) (x : ℕ) → one_of x (map under xs) ≡ true → (y : ℕ) × (one_of y xs ≡ true) × (x ≡ under y)

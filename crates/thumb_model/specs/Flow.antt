@@ -1,11 +1,12 @@
 -- Ways through a listing, and the items that are live.
-use Rattle.std.specs.Prelude.{◌≡◌, ℕ, ◌+◌, true, false, List, [], ◌∷◌, Option, Some, None, slice_get}
+use Rattle.std.specs.Prelude.{◌≡◌, ℕ, ◌+◌, not, true, false, List, [], ◌∷◌, ◌++◌, filter, Option, Some, None, slice_get, if◌then◌else◌}
 use Rattle.thumb_instr.specs.declared.instr.Instr.{Instr}
-use Rattle.thumb_instr.specs.declared.instr.Instr.TheVariants.{Mov, Three, Two, Bx}
-use Rattle.thumb_model.specs.Items.{one_of, n_flag, z_flag, c_flag, v_flag}
-use Rattle.thumb_model.specs.Effect.{two_reads, two_writes}
+use Rattle.thumb_instr.specs.declared.instr.Instr.TheVariants as instr
+use Rattle.thumb_instr.specs.Items.{has}
+use Rattle.thumb_instr.specs.Shape.{registers_in, uses_of, writes_of, condition_uses}
+use Rattle.thumb_model.specs.Items.{one_of, sp, lr}
 use Rattle.thumb_model.specs.Listing.{Place, Op, Word, Code, IsPoint}
-use Rattle.thumb_model.specs.Machine.{registers_left, aim_of}
+use Rattle.thumb_model.specs.Machine.{registers_left, handed, answered, aim_of}
 
 -- where a way leads: to the next place, to a place, to any code point, or out
 pub data Leads : Type 0 where
@@ -23,12 +24,31 @@ pub record Way : Type 0 where
 abbrev pub way : List ℕ → List ℕ → Leads → Way
 way reads writes leads = record { reads = reads; writes = writes; leads = leads }
 
+-- of a direct branch that reads these: to a place, or out
+abbrev pub jump_way : List ℕ → Option ℕ → Way
+jump_way reads (Some p) = way reads [] (ToPlace p)
+jump_way reads None = way (reads ++ registers_left) [] Out
+
+-- of a call: to a place, or out and back
+abbrev pub call_way : Option ℕ → Way
+call_way (Some p) = way [] (lr ∷ []) (ToPlace p)
+call_way None = way handed answered Onward
+
+-- those of r0 to r11, sp and lr that aren't in the list
+abbrev pub left_but : List ℕ → List ℕ
+left_but list = filter (λ x. not (one_of x list)) registers_left
+
 -- the ways of an instruction, given the place of the code label that it mentions
 abbrev pub ways_of : Option ℕ → Instr → List Way
-ways_of aim (Mov d m) = way (m.number ∷ []) (d.number ∷ []) Onward ∷ []
-ways_of aim (Three s d n m) = way (n.number ∷ m.number ∷ []) (d.number ∷ n_flag ∷ z_flag ∷ c_flag ∷ v_flag ∷ []) Onward ∷ []
-ways_of aim (Two o d m) = way (two_reads o d.number m.number) (two_writes o d.number) Onward ∷ []
-ways_of aim (Bx m) = way (m.number ∷ []) [] AnyPoint ∷ way (m.number ∷ registers_left) [] Out ∷ []
+ways_of aim (instr.Bx m) = way (m.number ∷ []) [] AnyPoint ∷ way (m.number ∷ registers_left) [] Out ∷ []
+ways_of aim (instr.Blx m) = way (m.number ∷ []) (lr ∷ []) AnyPoint ∷ way (m.number ∷ handed) answered Onward ∷ []
+ways_of aim (instr.Pop l) =
+    if has l.number 8 then way (sp ∷ []) (sp ∷ registers_in l.number) AnyPoint ∷ way (sp ∷ left_but (registers_in l.number)) (sp ∷ registers_in l.number) Out ∷ []
+    else way (sp ∷ []) (sp ∷ registers_in l.number) Onward ∷ []
+ways_of aim (instr.BranchIf c d) = jump_way (condition_uses c) aim ∷ way (condition_uses c) [] Onward ∷ []
+ways_of aim (instr.Branch d) = jump_way [] aim ∷ []
+ways_of aim (instr.Call d) = call_way aim ∷ []
+ways_of aim i = way (uses_of i) (writes_of i) Onward ∷ []
 
 -- the ways of a place: a data word and the end have none
 abbrev pub ways_on : Code → Option Place → List Way

@@ -1,24 +1,16 @@
 -- The image of a listing: its bytes from the base on.
-use Rattle.std.specs.Prelude.{◌≡◌, ℕ, zero, suc, ◌+◌, ◌*◌, ◌/◌, ◌%◌, ◌^◌, ◌<◌, ◌==◌, ◌||◌, Bool, true, false, List, [], ◌∷◌, ◌++◌, length, take, Option, Some, None, if◌then◌else◌}
-use Rattle.std.specs.Str.{bytes_eq}
+use Rattle.std.specs.Prelude.{◌≡◌, ℕ, zero, suc, ◌+◌, ◌*◌, ◌/◌, ◌%◌, ◌<◌, Bool, false, List, [], ◌∷◌, ◌++◌, take, Option, Some, None, if◌then◌else◌}
 use Rattle.thumb_instr.specs.declared.instr.Instr.{Instr}
-use Rattle.thumb_instr.specs.declared.instr.Instr.TheVariants.{Mov, Three, Two, Bx}
+use Rattle.thumb_instr.specs.declared.instr.Instr.TheVariants as instr
+use Rattle.thumb_instr.specs.declared.within.Within.{Within}
+use Rattle.thumb_instr.specs.declared.distance.Distance.{Distance}
+use Rattle.thumb_instr.specs.Distance.{bytes_of}
 use Rattle.thumb_table.specs.Table.{Encodes}
-use Rattle.thumb_model.specs.Listing.{Name, Mention, Value, Number, OfName, Statement, Nothing, Runs, Words, Aligns, Line, Place, Code, code_of, place_of, is_call_instr, is_call, places_of}
-use Rattle.thumb_model.specs.Layout.{instr_size, padding, size_at, end_of}
-use Rattle.thumb_model.specs.Machine.{Naming, word_of_mention}
+use Rattle.thumb_model.specs.Listing.{Name, Mention, Value, Statement, Nothing, Runs, Words, Aligns, Sets, Line, Place, code_of, place_of, is_call_instr, is_call, places_of}
+use Rattle.thumb_model.specs.Layout.{instr_size, padding, size_at, end_of, label_address, distance, literal_base}
+use Rattle.thumb_model.specs.Machine.{Naming, word_of_value}
 
 -- ---- where names lie ----
-
--- whether the name is among these
-abbrev pub is_among : Name → List Name → Bool
-is_among name [] = false
-is_among name (n ∷ ns) = bytes_eq name n || is_among name ns
-
--- a label's address is where it stands: before a padding of its own line
-abbrev pub label_address : Name → ℕ → List Line → Option ℕ
-label_address name at [] = None
-label_address name at (l ∷ ls) = if is_among name l.names then Some at else label_address name (at + size_at l.statement at) ls
 
 -- the word of a name: a code label's address with bit 0 set, another label's address, and of an external name what is set for it
 abbrev pub word_by : ℕ → Option ℕ → Option ℕ → ℕ
@@ -32,6 +24,7 @@ ends_in_call Nothing = false
 ends_in_call (Runs i mention) = is_call_instr i
 ends_in_call (Words vs) = false
 ends_in_call (Aligns size most) = false
+ends_in_call (Sets name address) = false
 
 abbrev pub return_address : ℕ → ℕ → List Line → ℕ
 return_address k at [] = 0
@@ -67,27 +60,24 @@ nops zero = []
 nops (suc zero) = []
 nops (suc (suc n)) = 0 ∷ 191 ∷ nops n
 
--- an instruction as it is encoded at an address, its distance being that to where what it mentions lies
-abbrev pub aimed : ℕ → ℕ → Instr → Instr
-aimed at to (Mov d m) = Mov d m
-aimed at to (Three s d n m) = Three s d n m
-aimed at to (Two o d m) = Two o d m
-aimed at to (Bx m) = Bx m
+-- an instruction as it is encoded at an address: its distance is that to where what it mentions lies
+abbrev pub Aims : ℕ → ℕ → Instr → Instr → Type 0
+Aims at to (instr.Literal t d) j = (e : Within 0 256) × (to ≡ literal_base at + 4 * e.number) × (j ≡ instr.Literal t e)
+Aims at to (instr.Address t d) j = (e : Within 0 256) × (to ≡ literal_base at + 4 * e.number) × (j ≡ instr.Address t e)
+Aims at to (instr.BranchIf c d) j = (e : Distance 128) × (distance at to ≡ bytes_of 128 e.field) × (j ≡ instr.BranchIf c e)
+Aims at to (instr.Branch d) j = (e : Distance 1024) × (distance at to ≡ bytes_of 1024 e.field) × (j ≡ instr.Branch e)
+Aims at to (instr.Call d) j = (e : Distance 8388608) × (distance at to ≡ bytes_of 8388608 e.field) × (j ≡ instr.Call e)
+Aims at to i j = j ≡ i
 
 -- where what is mentioned lies
 abbrev pub lies_at : Naming → Option ℕ → ℕ → ℕ
 lies_at names (Some a) word = a
 lies_at names None word = word / 2 * 2
 
-abbrev pub mention_lies : ℕ → Naming → List Line → Option Mention → ℕ
-mention_lies base names all None = 0
-mention_lies base names all (Some m) = lies_at names (label_address m.name base all) (names.word_of m.name) + m.plus
+abbrev pub mention_lies : ℕ → Naming → List Line → Mention → ℕ
+mention_lies base names all m = lies_at names (label_address m.name base all) (names.word_of m.name) + m.plus
 
--- a data word: a number, or a name's word with a number added
-abbrev pub word_of_value : Naming → Value → ℕ
-word_of_value names (Number n) = n % 2 ^ 32
-word_of_value names (OfName m) = (names.word_of m.name + m.plus) % 2 ^ 32
-
+-- the bytes of data words
 abbrev pub words_bytes : Naming → List Value → List ℕ
 words_bytes names [] = []
 words_bytes names (v ∷ vs) = word_bytes (word_of_value names v) ++ words_bytes names vs
@@ -102,12 +92,18 @@ pub record Laid : Type 0 where
   pub names : Naming
   pub lines : List Line
 
+-- the bytes of an instruction at an address: as it stands where it mentions nothing
+abbrev pub IsEncoded : Laid → ℕ → Instr → Option Mention → List ℕ → Type 0
+IsEncoded laid at i None bytes = IsInstrBytes i bytes
+IsEncoded laid at i (Some m) bytes = (j : Instr) × Aims at (mention_lies laid.base laid.names laid.lines m) i j × IsInstrBytes j bytes
+
 -- the bytes of a statement at an address
 abbrev pub IsStatementBytes : Laid → ℕ → Statement → List ℕ → Type 0
 IsStatementBytes laid at Nothing bytes = bytes ≡ []
-IsStatementBytes laid at (Runs i mention) bytes = IsInstrBytes (aimed at (mention_lies laid.base laid.names laid.lines mention) i) bytes
+IsStatementBytes laid at (Runs i mention) bytes = IsEncoded laid at i mention bytes
 IsStatementBytes laid at (Words vs) bytes = bytes ≡ words_bytes laid.names vs
 IsStatementBytes laid at (Aligns size most) bytes = bytes ≡ nops (padding size most at)
+IsStatementBytes laid at (Sets name address) bytes = bytes ≡ []
 
 -- the bytes of lines that lie from an address on
 abbrev pub AreLineBytes : Laid → ℕ → List Line → List ℕ → Type 0

@@ -1,23 +1,6 @@
 -- Items: the registers r0 to r12, sp, lr and the flags N, Z, C, V, by number, and what they hold.
-use Rattle.std.specs.Prelude.{ℕ, ◌<◌, ◌^◌, ◌/◌, ◌*◌, ◌≤◌, ◌==◌, ◌||◌, Bool, false, List, [], ◌∷◌, if◌then◌else◌}
-
-abbrev pub sp : ℕ
-sp = 13
-
-abbrev pub lr : ℕ
-lr = 14
-
-abbrev pub n_flag : ℕ
-n_flag = 15
-
-abbrev pub z_flag : ℕ
-z_flag = 16
-
-abbrev pub c_flag : ℕ
-c_flag = 17
-
-abbrev pub v_flag : ℕ
-v_flag = 18
+use Rattle.std.specs.Prelude.{ℕ, ◌<◌, ◌^◌, ◌/◌, ◌*◌, ◌≤◌, ◌==◌, List, [], ◌∷◌, if◌then◌else◌}
+pub use Rattle.thumb_instr.specs.Items.{sp, lr, n_flag, z_flag, c_flag, v_flag, one_of}
 
 -- what each item holds
 abbrev pub Values : Type 0
@@ -27,11 +10,6 @@ Values = ℕ → ℕ
 pub record AreWords (v : Values) : Type 0 where
   pub register : (x : ℕ) → x < 15 → v x < 2 ^ 32
   pub flag : (x : ℕ) → 15 ≤ x → v x < 2
-
--- whether x is in the list
-abbrev pub one_of : ℕ → List ℕ → Bool
-one_of x [] = false
-one_of x (y ∷ ys) = (x == y) || one_of x ys
 
 -- the values after new ones were given to some items, the first of which counts
 abbrev pub assigned : List (ℕ × ℕ) → Values → Values

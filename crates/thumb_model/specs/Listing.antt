@@ -2,7 +2,7 @@
 use Rattle.std.specs.Prelude.{◌≡◌, ℕ, ◌+◌, ◌&&◌, ◌||◌, Bool, true, false, List, [], ◌∷◌, ◌++◌, length, map, Option, Some, None, slice_get, if◌then◌else◌}
 use Rattle.std.specs.Str.{bytes_eq}
 use Rattle.thumb_instr.specs.declared.instr.Instr.{Instr}
-use Rattle.thumb_instr.specs.declared.instr.Instr.TheVariants.{Mov, Three, Two, Bx}
+use Rattle.thumb_instr.specs.declared.instr.Instr.TheVariants as instr
 use Rattle.thumb_model.specs.Items.{one_of}
 
 -- a name, as its bytes
@@ -19,12 +19,13 @@ pub data Value : Type 0 where
   Number : (n : ℕ) → Value
   OfName : (m : Mention) → Value
 
--- what a line says: nothing, an instruction with the name that it mentions, words of data, or an alignment that pads at most so many bytes
+-- what a line says: nothing, an instruction with the name that it mentions, words of data, an alignment that pads at most so many bytes, or the address of a name
 pub data Statement : Type 0 where
   Nothing : Statement
   Runs : (i : Instr) (mention : Option Mention) → Statement
   Words : (vs : List Value) → Statement
   Aligns : (size most : ℕ) → Statement
+  Sets : (name : Name) (address : ℕ) → Statement
 
 -- the names that a line labels, its statement, its bytes with its newline, and its bytes up to its last label's colon, with a newline
 pub record Line : Type 0 where
@@ -48,6 +49,7 @@ places_in Nothing = []
 places_in (Runs i mention) = Op i mention ∷ []
 places_in (Words vs) = map Word vs
 places_in (Aligns size most) = []
+places_in (Sets name address) = []
 
 abbrev pub places_of : List Line → List Place
 places_of [] = []
@@ -119,10 +121,9 @@ is_mentioned name (p ∷ ps) = place_mentions name p || is_mentioned name ps
 
 -- whether the instruction is a call, so that the next place is its return point
 abbrev pub is_call_instr : Instr → Bool
-is_call_instr (Mov d m) = false
-is_call_instr (Three s d n m) = false
-is_call_instr (Two o d m) = false
-is_call_instr (Bx m) = false
+is_call_instr (instr.Blx m) = true
+is_call_instr (instr.Call d) = true
+is_call_instr i = false
 
 abbrev pub is_call : Place → Bool
 is_call (Op i mention) = is_call_instr i

@@ -1,7 +1,7 @@
 -- Rewriting a listing's lines by a table.
 use Rattle.std.specs.Prelude.{◌≡◌, ℕ, zero, suc, ◌-◌, ◌≤◌, ◌==◌, ◌&&◌, Bool, true, false, List, [], ◌∷◌, ◌++◌, length, map, Option, Some, None, slice_get, if◌then◌else◌}
 use Rattle.thumb_instr.specs.declared.instr.Instr.{Instr}
-use Rattle.thumb_model.specs.Listing.{Name, Statement, Nothing, Runs, Words, Aligns, Line, places_in, code_of}
+use Rattle.thumb_model.specs.Listing.{Name, Statement, Nothing, Runs, Words, Aligns, Sets, Line, places_in, code_of}
 use Rattle.thumb_model.specs.Layout.{Layable}
 use Rattle.thumb_model.specs.Rewrite.{Low, Rule, AreSound, Applies, renamed}
 
@@ -24,12 +24,14 @@ is_op Nothing = false
 is_op (Runs i mention) = true
 is_op (Words vs) = false
 is_op (Aligns size most) = false
+is_op (Sets name address) = false
 
 abbrev pub is_align : Statement → Bool
 is_align Nothing = false
 is_align (Runs i mention) = false
 is_align (Words vs) = false
 is_align (Aligns size most) = true
+is_align (Sets name address) = false
 
 -- the lines without their first n instructions
 abbrev pub without : ℕ → List Line → List Line
