@@ -1,1 +1,4 @@
+pub mod Bits
+pub mod Encodings
+pub mod Listed
 pub mod Registers

@@ -1,1 +1,4 @@
+pub mod Distance
+pub mod Items
+pub mod Shape
 pub mod Window

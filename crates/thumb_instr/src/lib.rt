@@ -1,8 +1,25 @@
-//! Instructions of the Armv6-M Thumb set as plain data, with the registers and numbers that they hold.
+//! Instructions of the Armv6-M Thumb set as plain data, with the registers and numbers that they hold, and the items that they read and write.
 #![tactic(auto)]
 
+pub mod accesses;
+pub mod distance;
 pub mod instr;
+pub mod items;
+pub mod operation;
+pub mod seq;
+pub mod window;
 pub mod within;
 
-pub use instr::{Instr, Operation, Sum, in_window, normal};
-pub use within::{General, Low, Reg, Within};
+pub use accesses::shape;
+pub use distance::{Distance, Far, Farthest, Near};
+pub use instr::Instr;
+pub use items::{Items, Mask, Shape};
+pub use operation::{
+    Access, Barrier, ByteOperation, Condition, Extension, Hint, Interrupts, OffsetAccess,
+    Operation, Reversal, Right, Special, Sum, WordAccess,
+};
+pub use seq::Seq;
+pub use window::{in_window, normal};
+pub use within::{
+    Byte, General, Low, LowList, NotBothLow, NotBothSp, Reg, StackList, Stored, Within,
+};

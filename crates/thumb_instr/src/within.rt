@@ -1,4 +1,4 @@
-ghost use Rattle.std.specs.Prelude.{◌≡◌, ◌≢◌, ◌<◌, ◌≤◌, ◌↔◌, IsSome, IfSome};
+ghost use Rattle.std.specs.Prelude.{◌≡◌, ◌≢◌, ◌<◌, ◌≤◌, ◌/◌, ◌%◌, ◌^◌, ◌↔◌, IsSome, IfSome};
 
 /// A number from LEAST to below END.
 #[derive(Clone, Copy, Debug, PartialEq, Eq)]
@@ -55,6 +55,81 @@ impl General {
             Some(General { number })
         } else {
             None
+        }
+    }
+}
+
+/// A byte.
+pub type Byte = Within<0, 256>;
+
+/// Some of r0 to r7, as a bit of its number each: at least one.
+pub type LowList = Within<1, 256>;
+
+/// Some of r0 to r7, as a bit of its number each, and lr or pc as bit 8: at least one.
+pub type StackList = Within<1, 512>;
+
+/// Two registers, not both sp: a target and what is added to it.
+#[derive(Clone, Copy, Debug, PartialEq, Eq)]
+pub struct NotBothSp {
+    pub target: Reg,
+    pub source: Reg,
+    pub ghost one_other: { target.number ≡ 13 → source.number ≢ 13 },
+}
+
+impl NotBothSp {
+    /// The two registers, where they are not both sp.
+    pub fn new(target: Reg, source: Reg) -> Option<Self>
+        ensures valid { IsSome result ↔ (target.number ≡ 13 → source.number ≢ 13) }
+        ensures value { IfSome result (λ r. (r.target ≡ target) × (r.source ≡ source)) }
+    {
+        if target.number == 13 && source.number == 13 {
+            None
+        } else {
+            Some(NotBothSp { target, source })
+        }
+    }
+}
+
+/// Two registers that are compared, not both low.
+#[derive(Clone, Copy, Debug, PartialEq, Eq)]
+pub struct NotBothLow {
+    pub left: Reg,
+    pub right: Reg,
+    pub ghost one_high: { left.number < 8 → 8 ≤ right.number },
+}
+
+impl NotBothLow {
+    /// The two registers, where they are not both low.
+    pub fn new(left: Reg, right: Reg) -> Option<Self>
+        ensures valid { IsSome result ↔ (left.number < 8 → 8 ≤ right.number) }
+        ensures value { IfSome result (λ r. (r.left ≡ left) × (r.right ≡ right)) }
+    {
+        if left.number < 8 && right.number < 8 {
+            None
+        } else {
+            Some(NotBothLow { left, right })
+        }
+    }
+}
+
+/// A base and a list of registers to be stored there: the base is not in the list, or is its lowest.
+#[derive(Clone, Copy, Debug, PartialEq, Eq)]
+pub struct Stored {
+    pub base: Low,
+    pub list: LowList,
+    pub ghost base_first: { list.number / 2 ^ base.number % 2 ≡ 1 → list.number % 2 ^ base.number ≡ 0 },
+}
+
+impl Stored {
+    /// The base and the list, where the base is not in the list, or is its lowest.
+    pub fn new(base: Low, list: LowList) -> Option<Self>
+        ensures valid { IsSome result ↔ (list.number / 2 ^ base.number % 2 ≡ 1 → list.number % 2 ^ base.number ≡ 0) }
+        ensures value { IfSome result (λ r. (r.base ≡ base) × (r.list ≡ list)) }
+    {
+        if (list.number >> base.number) % 2 == 1 && list.number % (1 << base.number) != 0 {
+            None
+        } else {
+            Some(Stored { base, list })
         }
     }
 }
