@@ -1,4 +1,5 @@
-pub mod Rows
 pub mod Apart
-pub mod Fields
 pub mod Codes
+pub mod Fields
+pub mod Operations
+pub mod Rows

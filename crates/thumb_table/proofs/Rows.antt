@@ -2,7 +2,7 @@
 use Rattle.std.proofs.Common.{◌≡◌, ◌∙◌, inl, inr, ℕ, zero, suc, ◌+◌, ◌-◌, ◌*◌, ◌/◌, ◌%◌, ◌^◌, ◌<◌, ◌≤◌, ◌==◌, ◌&&◌, ◌||◌, Bool, true, false, List, [], ◌∷◌, ◌++◌, refl, sym, ap, subst, arith, true≢false, eqb-true}
 use Rattle.std.specs.Prelude.{if◌then◌else◌, nat_lt, nat_le}
 use Rattle.std.proofs.Math.Pow.{high, low, split, field, mod-mod-pow}
-use Rattle.std.proofs.Math.Nat.{mod-lt, div-one}
+use Rattle.std.proofs.Math.Nat.{mod-lt, div-one, div-mul-le_self, le-div_iff_mul-le}
 use Rattle.std.proofs.lemmas.Nat.{pow_pos, pow-add, shr-shr, mod-pow-add}
 use Rattle.std.proofs.lemmas.Bool.{and_parts, and_from, or_cases, leb-true, le-leb, ltb-true, cases_Bool}
 use Rattle.thumb_table.specs.declared.row.Piece.{Piece}
@@ -97,10 +97,10 @@ packed_fields (Field w l m ∷ ps) c h a =
 abbrev disjoint : Piece → Piece → Bool
 disjoint p q = nat_lt (most_of p) (least_of q) || nat_lt (most_of q) (least_of p)
 
--- the same row, with its first w bits as a piece of their own, where they are fixed
+-- a row that has the same numbers or more, with its first w bits as a piece of their own
 abbrev cut : ℕ → Piece → List Piece → List Piece
 cut w (Fixed v x) ps = Fixed w (x / 2 ^ (v - w)) ∷ Fixed (v - w) (x % 2 ^ (v - w)) ∷ ps
-cut w (Field v a b) ps = Field v a b ∷ ps
+cut w (Field v a b) ps = Field w (a / 2 ^ (v - w)) (b / 2 ^ (v - w)) ∷ Field (v - w) 0 (2 ^ (v - w) - 1) ∷ ps
 
 -- in at most n steps a place is found where the rows differ
 unfoldable pub clash : ℕ → List Piece → List Piece → Bool
@@ -112,13 +112,29 @@ clash (suc n) (p ∷ ps) (q ∷ qs) =
     else if nat_lt (width_of p) (width_of q) then clash n (p ∷ ps) (cut (width_of p) q qs)
     else clash n (cut (width_of q) p ps) (q ∷ qs)
 
+div_below : (a b k : ℕ) → 0 < k → a ≤ b → a / k ≤ b / k
+div_below a b k h l = let m : a / k * k ≤ a = div-mul-le_self a k in (le-div_iff_mul-le {k = k} {x = a / k} {y = b} h).1 (omega arith)
+
 cut_width : (w : ℕ) (p : Piece) (ps : List Piece) → w < width_of p → width (cut w p ps) ≡ width (p ∷ ps)
 cut_width w (Fixed v x) ps h = omega arith
-cut_width w (Field v a b) ps h = refl
+cut_width w (Field v a b) ps h = omega arith
 
 cut_agrees : (w : ℕ) (p : Piece) (ps : List Piece) (c : ℕ) → w < width_of p → agrees (p ∷ ps) c ≡ true → agrees (cut w p ps) c ≡ true
 unfolding agrees
-cut_agrees w (Field v l m) ps c h a = a
+cut_agrees w (Field v l m) ps c h a =
+    let parts = and_parts _ _ a in
+    let limit = and_parts _ _ parts.0 in
+    let low_end : l ≤ c / 2 ^ width ps = leb-true l (c / 2 ^ width ps) limit.0 in
+    let high_end : c / 2 ^ width ps ≤ m = leb-true (c / 2 ^ width ps) m limit.1 in
+    let j = v - w in
+    let first : c / 2 ^ (j + width ps) ≡ c / 2 ^ width ps / 2 ^ j = ap (λ (n : ℕ). c / 2 ^ n) (let e : j + width ps ≡ width ps + j = omega arith in e) ∙ sym (shr-shr c (width ps) j) in
+    let second : c % 2 ^ (j + width ps) / 2 ^ width ps ≡ c / 2 ^ width ps % 2 ^ j = field c j (width ps) in
+    let third : c % 2 ^ (j + width ps) % 2 ^ width ps ≡ c % 2 ^ width ps = mod-mod-pow c j (width ps) in
+    let least : l / 2 ^ j ≤ c / 2 ^ width ps / 2 ^ j = div_below l (c / 2 ^ width ps) (2 ^ j) (pow_pos j) low_end in
+    let most : c / 2 ^ width ps / 2 ^ j ≤ m / 2 ^ j = div_below (c / 2 ^ width ps) m (2 ^ j) (pow_pos j) high_end in
+    let below : c / 2 ^ width ps % 2 ^ j < 2 ^ j = mod-lt (c / 2 ^ width ps) (pow_pos j) in
+    and_from _ _ (both_at _ _ _ _ first least most)
+    (and_from _ _ (both_at _ _ _ _ second (omega arith) (omega arith)) (subst (λ (n : ℕ). agrees ps n ≡ true) (sym third) parts.1))
 cut_agrees w (Fixed v x) ps c h a =
     let parts = and_parts _ _ a in
     let limit = and_parts _ _ parts.0 in

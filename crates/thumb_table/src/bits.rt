@@ -9,12 +9,8 @@ fn width_of(piece: &Piece) -> u32
     ensures { result ≡ width_of piece.now }
 {
     match *piece {
-        Piece::Fixed { width, bits: _ } => width,
-        Piece::Field {
-            width,
-            least: _,
-            most: _,
-        } => width,
+        Piece::Fixed(width, _) => width,
+        Piece::Field(width, _, _) => width,
     }
 }
 
@@ -23,12 +19,8 @@ fn is_within(piece: &Piece, value: u64) -> bool
     ensures { result ≡ (nat_le (least_of piece.now) value && nat_le value (most_of piece.now)) }
 {
     match *piece {
-        Piece::Fixed { width: _, bits } => bits as u64 <= value && value <= bits as u64,
-        Piece::Field {
-            width: _,
-            least,
-            most,
-        } => least as u64 <= value && value <= most as u64,
+        Piece::Fixed(_, bits) => bits as u64 <= value && value <= bits as u64,
+        Piece::Field(_, least, most) => least as u64 <= value && value <= most as u64,
     }
 }
 
@@ -79,12 +71,8 @@ pub fn field(pieces: &[Piece], code: u32, k: u32) -> u32
         let value = rest >> left;
         rest %= 1 << left;
         match *piece {
-            Piece::Fixed { width: _, bits: _ } => continue,
-            Piece::Field {
-                width: _,
-                least: _,
-                most: _,
-            } => {
+            Piece::Fixed(_, _) => continue,
+            Piece::Field(_, _, _) => {
                 if skip == 0 {
                     return value as u32;
                 }
@@ -109,12 +97,8 @@ pub fn packed(pieces: &[Piece], values: &[u32]) -> u32
     for piece in pieces {
         left -= width_of(piece);
         match *piece {
-            Piece::Fixed { width: _, bits } => code += (bits as u64) << left,
-            Piece::Field {
-                width: _,
-                least: _,
-                most: _,
-            } => {
+            Piece::Fixed(_, bits) => code += (bits as u64) << left,
+            Piece::Field(_, _, _) => {
                 if let Some((value, more)) = rest.split_first() {
                     code += (*value as u64) << left;
                     rest = more;

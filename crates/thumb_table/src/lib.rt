@@ -4,6 +4,8 @@
 mod bits;
 mod code;
 mod laws;
+mod numbers;
+mod parts;
 mod row;
 mod table;
 

@@ -1,19 +1,50 @@
-use thumb_instr::{Operation, Sum};
-
 /// A piece of a row: bits that are fixed, or a field with its least and greatest value.
 #[derive(Clone, Copy, Debug)]
 pub enum Piece {
-    Fixed { width: u32, bits: u32 },
-    Field { width: u32, least: u32, most: u32 },
+    /// How many bits, and the number that they make.
+    Fixed(u32, u32),
+    /// How many bits, and the least and the greatest number that they make.
+    Field(u32, u32, u32),
 }
 
-/// A row of the table: an instruction without what its fields hold.
+/// A row of the table, by the instruction that it encodes.
 #[derive(Clone, Copy, Debug)]
 pub enum Form {
-    Three(Sum),
-    Two(Operation),
+    Movs,
+    ShiftLeft,
+    ShiftRight,
+    Three,
+    ThreeNumber,
+    TwoNumber,
+    Two,
+    Add,
+    Compare,
     Mov,
     Bx,
+    Blx,
+    Literal,
+    Indexed,
+    Offset,
+    Stack,
+    Address,
+    StackAddress,
+    StackMove,
+    Extend,
+    Reverse,
+    Push,
+    Pop,
+    Breakpoint,
+    Service,
+    Hint,
+    ChangeState,
+    StoreMany,
+    LoadMany,
+    BranchIf,
+    Branch,
+    Call,
+    Barrier,
+    ReadSpecial,
+    WriteMask,
 }
 
 /// A code: one or two halfwords, the first of which stands at the lower address.

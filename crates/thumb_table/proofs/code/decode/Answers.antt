@@ -4,7 +4,6 @@ use Rattle.std.proofs.lemmas.Option.{slice_get_within, get_or_from_slice_get}
 use Rattle.std.proofs.lemmas.Bool.{cases_lt}
 use Rattle.thumb_table.specs.declared.row.Form.{Form}
 use Rattle.thumb_table.specs.declared.row.Form.TheVariants as form
-use Rattle.thumb_instr.specs.declared.instr.Sum.TheVariants as sum
 use Rattle.thumb_table.specs.Table.{forms, IsNotOf}
 use Rattle.thumb_table.proofs.Codes.{none_encodes, one_instr}
 use Rattle.thumb_table.proofs.code.decode.Goals as goal
@@ -22,5 +21,5 @@ pub loop-form-preserved : goal.loop-form-preserved
 loop-form-preserved c = λ j f h e. elim (cases_lt j c.loop-form.form-index) [
   | inl l ↦ c.loop-form.invariant j f l e
   | inr l ↦ (let at : j ≡ c.loop-form.form-index = omega arith in let read : slice_get c.forms-form-items.result.now c.loop-form.form-index ≡ Some f = ap (λ (xs : List Form). slice_get xs c.loop-form.form-index) c.forms-form-items.ensures ∙ (ap (slice_get forms) (sym at) ∙ e) in
-      subst (λ (x : Form). IsNotOf x c.args.first c.args.second) (get_or_from_slice_get c.forms-form-items.result.now c.loop-form.form-index f (form.Three sum.Add) read) c.in_default.ensures.none)
+      subst (λ (x : Form). IsNotOf x c.args.first c.args.second) (get_or_from_slice_get c.forms-form-items.result.now c.loop-form.form-index f form.Movs read) c.in_default.ensures.none)
 ]
