@@ -5,7 +5,13 @@ ghost use Rattle.thumb_table.specs.Rows.{width, packed, fits, agrees, fields};
 ghost use Rattle.thumb_table.specs.Table.{pieces, whole, whole_of, halfwords, same, Makes, IsCode, Encodes, IsNoCode, IsNotOf};
 
 use crate::bits::{agrees, field, packed, width as width_of_row};
-use crate::numbers::{access_number, access_of, barrier_number, barrier_of, byte_number, byte_of, condition_number, condition_of, extension_number, extension_of, hint_number, hint_of, interrupts_number, interrupts_of, offset_number, offset_of, operation_number, operation_of, reversal_number, reversal_of, right_number, right_of, special_number, special_of, sum_number, sum_of, word_number, word_of};
+use crate::numbers::{
+    access_number, access_of, barrier_number, barrier_of, byte_number, byte_of, condition_number,
+    condition_of, extension_number, extension_of, hint_number, hint_of, interrupts_number,
+    interrupts_of, offset_number, offset_of, operation_number, operation_of, reversal_number,
+    reversal_of, right_number, right_of, special_number, special_of, sum_number, sum_of,
+    word_number, word_of,
+};
 use crate::parts::{compared_registers, general_of, register_of, stored_of, sum_registers};
 use crate::row::{Code, Form, Piece};
 use crate::table::{forms, pieces};
@@ -57,7 +63,12 @@ pub fn encode(instr: &Instr) -> Code
             amount,
         } => coded(
             Form::ShiftRight,
-            &[right_number(shift), amount.number % 32, source.number, target.number],
+            &[
+                right_number(shift),
+                amount.number % 32,
+                source.number,
+                target.number,
+            ],
         ),
         Instr::Three {
             sum,
@@ -115,7 +126,10 @@ pub fn encode(instr: &Instr) -> Code
         ),
         Instr::Bx { source } => coded(Form::Bx, &[source.number]),
         Instr::Blx { source } => coded(Form::Blx, &[source.number]),
-        Instr::Literal { target, distance } => coded(Form::Literal, &[target.number, distance.number]),
+        Instr::Literal { target, distance } => coded(
+            Form::Literal,
+            &[target.number, distance.number],
+        ),
         Instr::Indexed {
             access,
             target,
@@ -123,7 +137,12 @@ pub fn encode(instr: &Instr) -> Code
             index,
         } => coded(
             Form::Indexed,
-            &[access_number(access), index.number, base.number, target.number],
+            &[
+                access_number(access),
+                index.number,
+                base.number,
+                target.number,
+            ],
         ),
         Instr::Offset {
             access,
@@ -132,7 +151,12 @@ pub fn encode(instr: &Instr) -> Code
             offset,
         } => coded(
             Form::Offset,
-            &[offset_number(access), offset.number, base.number, target.number],
+            &[
+                offset_number(access),
+                offset.number,
+                base.number,
+                target.number,
+            ],
         ),
         Instr::Stack {
             access,
@@ -142,11 +166,17 @@ pub fn encode(instr: &Instr) -> Code
             Form::Stack,
             &[word_number(access), target.number, offset.number],
         ),
-        Instr::Address { target, distance } => coded(Form::Address, &[target.number, distance.number]),
+        Instr::Address { target, distance } => coded(
+            Form::Address,
+            &[target.number, distance.number],
+        ),
         Instr::StackAddress { target, offset } => {
             coded(Form::StackAddress, &[target.number, offset.number])
         }
-        Instr::StackMove { sum, offset } => coded(Form::StackMove, &[sum_number(sum), offset.number]),
+        Instr::StackMove { sum, offset } => coded(
+            Form::StackMove,
+            &[sum_number(sum), offset.number],
+        ),
         Instr::Extend {
             extension,
             target,
@@ -256,13 +286,21 @@ fn made(form: Form, code: u32) -> Option<Instr>
             other: Within::of(field(row, code, 1)),
         },
         Form::Add => {
-            match sum_registers(field(row, code, 0), field(row, code, 1), field(row, code, 2)) {
+            match sum_registers(
+                field(row, code, 0),
+                field(row, code, 1),
+                field(row, code, 2),
+            ) {
                 None => return None,
                 Some(registers) => Instr::Add { registers },
             }
         }
         Form::Compare => {
-            match compared_registers(field(row, code, 0), field(row, code, 1), field(row, code, 2)) {
+            match compared_registers(
+                field(row, code, 0),
+                field(row, code, 1),
+                field(row, code, 2),
+            ) {
                 None => return None,
                 Some(registers) => Instr::Compare { registers },
             }
@@ -429,3 +467,6 @@ pub fn decode(first: u16, second: u16) -> Option<Instr>
     }
     None
 }
+
+#[cfg(test)]
+mod tests;

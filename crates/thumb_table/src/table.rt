@@ -100,9 +100,28 @@ pub fn pieces(form: Form) -> &'static [Piece]
         Form::LoadMany => &[Fixed(5, 0b11001), LOW, Field(8, 1, 255)],
         Form::BranchIf => &[Fixed(4, 0b1101), Field(4, 0, 13), BYTE],
         Form::Branch => &[Fixed(5, 0b11100), Field(11, 0, 2047)],
-        Form::Call => &[Fixed(5, 0b11110), BIT, Field(10, 0, 1023), Fixed(2, 0b11), BIT, Fixed(1, 0b1), BIT, Field(11, 0, 2047)],
-        Form::Barrier => &[Fixed(16, 0xF3BF), Fixed(8, 0b10001111), Field(4, 4, 6), Fixed(4, 0b1111)],
-        Form::ReadSpecial => &[Fixed(16, 0xF3EF), Fixed(4, 0b1000), REGISTER, Field(8, 5, 16)],
+        Form::Call => &[
+            Fixed(5, 0b11110),
+            BIT,
+            Field(10, 0, 1023),
+            Fixed(2, 0b11),
+            BIT,
+            Fixed(1, 0b1),
+            BIT,
+            Field(11, 0, 2047),
+        ],
+        Form::Barrier => &[
+            Fixed(16, 0xF3BF),
+            Fixed(8, 0b10001111),
+            Field(4, 4, 6),
+            Fixed(4, 0b1111),
+        ],
+        Form::ReadSpecial => &[
+            Fixed(16, 0xF3EF),
+            Fixed(4, 0b1000),
+            REGISTER,
+            Field(8, 5, 16),
+        ],
         Form::WriteMask => &[Fixed(12, 0b111100111000), REGISTER, Fixed(16, 0x8810)],
     }
 }
