@@ -75,3 +75,62 @@ impl Seq {
         self.len() == 0
     }
 }
+
+#[cfg(test)]
+mod tests {
+    use super::*;
+    use crate::accesses::shape;
+    use crate::items::{C, LR, Mask, SP, Z};
+    use crate::operation::{ByteOperation, Sum};
+    use crate::window::{in_window, normal};
+    use crate::within::Within;
+    use std::test::Fail;
+
+    #[test]
+    fn sequences(rt: HostRuntime) -> Result<(), Fail> {
+        let nop = Instr::default();
+        let mut seq = Seq::from_slice(&[nop, nop]).ok_or("two")?;
+        seq.push(Instr::Push {
+            list: Within::of(0x110),
+        });
+        assert_eq!(rt; seq.len(), 3);
+        assert!(rt; Seq::from_slice(&[nop, nop, nop, nop, nop, nop]).is_none());
+        assert!(rt; Seq::new().is_empty());
+        Ok(())
+    }
+
+    #[test]
+    fn shapes(rt: HostRuntime) {
+        let push = shape(&Instr::Push {
+            list: Within::of(0x110),
+        });
+        assert_eq!(rt; push.uses.bits, (1 << 4) + (1 << SP) + (1 << LR));
+        assert_eq!(rt; push.writes.bits, 1 << SP);
+        assert_eq!(rt; Mask::of(push.uses).items.bits, 0);
+        let shift = shape(&Instr::Two {
+            operation: crate::operation::Operation::Lsl,
+            target: Within::of(0),
+            other: Within::of(1),
+        });
+        assert!(rt; shift.uses.has(C));
+        assert!(rt; !shift.uses.has(Z));
+    }
+
+    #[test]
+    fn windows(rt: HostRuntime) {
+        let short = Instr::ThreeNumber {
+            sum: Sum::Add,
+            target: Within::of(2),
+            source: Within::of(2),
+            number: Within::of(7),
+        };
+        let long = Instr::TwoNumber {
+            operation: ByteOperation::Add,
+            target: Within::of(2),
+            number: Within::of(7),
+        };
+        assert!(rt; normal(short) == long);
+        assert!(rt; in_window(&short));
+        assert!(rt; !in_window(&Instr::default()));
+    }
+}
