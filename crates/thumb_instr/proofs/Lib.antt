@@ -2,4 +2,3 @@ pub mod Bits
 pub mod Encodings
 pub mod Listed
 pub mod Registers
-pub mod Renaming

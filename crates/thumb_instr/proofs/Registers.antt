@@ -1,5 +1,5 @@
 -- Registers and numbers of a range: a low register as a register, and that those of one number are one.
-use Rattle.std.proofs.Common.{◌≡◌, ◌≢◌, ℕ, ◌<◌, ◌≤◌, ◌*◌, ◌%◌, ◌/◌, ◌^◌, refl, arith}
+use Rattle.std.proofs.Common.{refl, Option, Some, None, ◌≡◌, ◌≢◌, ℕ, ◌<◌, ◌≤◌, ◌*◌, ◌%◌, ◌/◌, ◌^◌, arith}
 use mathlib.Core.HLevel.{is_prop→PathP}
 use native.Mathlib.Bridge.{le_prop}
 use Rattle.std.proofs.Math.Nat.{ℕ_set}
@@ -18,15 +18,31 @@ pub widened_number : (r : Within 0 8) → (widened r).number ≡ r.number
 unfolding widened
 widened_number r = refl
 
+-- a register, or a low one in its place
+abbrev pub wide_or : Option (Within 0 8) → Within 0 15 → Within 0 15
+wide_or None x = x
+wide_or (Some r) x = widened r
+
+-- only sp itself gives sp
+pub sp_of : (o : Option (Within 0 8)) (x : Within 0 15) → (wide_or o x).number ≡ 13 → x.number ≡ 13
+sp_of None x e = e
+sp_of (Some r) x e = absurd (omega (arith, widened_number r, r.below))
+
+-- the registers of a sum with low ones in their place
+abbrev pub sum_under : (Within 0 15 → Option (Within 0 8)) → NotBothSp → NotBothSp
+sum_under f r = record {
+  target = wide_or (f r.target) r.target;
+  source = wide_or (f r.source) r.source;
+  one_other = λ e g. r.one_other (sp_of (f r.target) r.target e) (sp_of (f r.source) r.source g);
+}
+
+-- numbers of a range, registers, distances and pairs that hold the same are one
 pub same_number : {a b : ℕ} (x y : Within a b) → x.number ≡ y.number → x ≡ y
 same_number {a} {b} x y e = λ i. record {
   number = e i;
   least = is_prop→PathP (λ j. a ≤ e j) (λ j. le_prop) x.least y.least i;
   below = is_prop→PathP (λ j. e j < b) (λ j. le_prop) x.below y.below i;
 }
-
-pub low_is : (a b : Within 0 8) → a.number ≡ b.number → a ≡ b
-low_is a b e = same_number a b e
 
 pub same_general : (x y : General) → x.number ≡ y.number → x ≡ y
 same_general x y e = λ i. record {
@@ -61,3 +77,6 @@ same_stored x y e f = λ i. record {
   list = f i;
   base_first = is_prop→PathP (λ j. (f j).number / 2 ^ (e j).number % 2 ≡ 1 → (f j).number % 2 ^ (e j).number ≡ 0) (λ j. hlevel ℕ_set) x.base_first y.base_first i;
 }
+
+pub low_is : (a b : Within 0 8) → a.number ≡ b.number → a ≡ b
+low_is a b e = same_number a b e
