@@ -1,5 +1,5 @@
 -- Canonical texts over low registers, byte by byte.
-use Rattle.std.proofs.Common.{◌≡◌, ℕ, ◌<◌, ◌==◌, ◌&&◌, Bool, true, false, ◌++◌, refl, arith, ne_eqb}
+use Rattle.std.proofs.Common.{ap, ◌∙◌, ◌≡◌, ℕ, ◌<◌, ◌==◌, ◌&&◌, Bool, true, false, ◌++◌, refl, arith, ne_eqb}
 use Rattle.std.specs.Prelude.{codes}
 use Rattle.std.proofs.lemmas.Fmt.{decimal_digit}
 use Rattle.audit_cli.specs.FirstListing.{register, and_register}

@@ -7,7 +7,7 @@ use Rattle.thumb_instr.specs.declared.instr.Instr.TheVariants as instr
 use Rattle.thumb_instr.specs.Shape.{uses_of, writes_of}
 use Rattle.thumb_instr.specs.Window.{is_in_window}
 use Rattle.thumb_instr.proofs.Registers.{widened_number}
-use Rattle.thumb_instr.proofs.Renaming.{wide_or, both_target, both_source}
+use Rattle.thumb_instr.proofs.Registers.{wide_or}
 use Rattle.thumb_model.specs.Items.{Values}
 use Rattle.thumb_model.specs.Effect.{after_all}
 use Rattle.thumb_model.specs.Listing.{Place, plain, Code, is_op_place, is_code, is_call_instr}
@@ -29,11 +29,9 @@ straight_one registers (instr.Mov d m) h =
     and_from (nat_lt (reg_under registers d).number 8) (nat_lt (reg_under registers m).number 8) (low_stays registers d both.0) (low_stays registers m both.1)
 straight_one registers (instr.Add r) h =
     let both = and_parts (nat_lt r.target.number 8) (nat_lt r.source.number 8) h in
-    let first = slice_get registers r.target.number in
-    let second = slice_get registers r.source.number in
     and_from (nat_lt (both_under registers r).target.number 8) (nat_lt (both_under registers r).source.number 8)
-    (ap (λ (x : Reg). nat_lt x.number 8) (both_target first second r) ∙ low_stays registers r.target both.0)
-    (ap (λ (x : Reg). nat_lt x.number 8) (both_source first second r) ∙ low_stays registers r.source both.1)
+    (low_stays registers r.target both.0)
+    (low_stays registers r.source both.1)
 straight_one registers (instr.Three s d n m) h = refl
 straight_one registers (instr.Two o d m) h = refl
 straight_one registers (instr.Bx m) h = absurd (cc)

@@ -6,7 +6,6 @@ use Rattle.thumb_instr.specs.declared.instr.Instr.TheVariants as instr
 use Rattle.thumb_instr.specs.declared.within.NotBothSp.{NotBothSp}
 use Rattle.thumb_instr.specs.Window.{is_in_window}
 use Rattle.thumb_instr.proofs.Registers.{low_is}
-use Rattle.thumb_instr.proofs.Renaming.{both_target, both_source}
 use Rattle.thumb_model.specs.Items.{one_of}
 use Rattle.thumb_model.specs.Listing.{plain, Line, Code, code_of}
 use Rattle.thumb_model.specs.Rewrite.{Low, Reg, Rule, IsSoundRule, AreSound, AreOver, named, renamed, low_under, reg_under, both_under, number_or, item_under, is_named, normalised, Applies}
@@ -34,8 +33,8 @@ reg_tells f g d e = sym (reg_number f d) ∙ ap (λ (r : Reg). r.number) e ∙ r
 
 both_tells : (f g : List Low) (r : NotBothSp) → both_under f r ≡ both_under g r → (item_under f r.target.number ≡ item_under g r.target.number) × (item_under f r.source.number ≡ item_under g r.source.number)
 both_tells f g r e = (
-  reg_tells f g r.target (sym (both_target (slice_get f r.target.number) (slice_get f r.source.number) r) ∙ ap (λ (x : NotBothSp). x.target) e ∙ both_target (slice_get g r.target.number) (slice_get g r.source.number) r),
-  reg_tells f g r.source (sym (both_source (slice_get f r.target.number) (slice_get f r.source.number) r) ∙ ap (λ (x : NotBothSp). x.source) e ∙ both_source (slice_get g r.target.number) (slice_get g r.source.number) r),
+  reg_tells f g r.target (ap (λ (x : NotBothSp). x.target) e),
+  reg_tells f g r.source (ap (λ (x : NotBothSp). x.source) e),
 )
 
 -- a row: a renamed instruction tells what its registers became

@@ -16,7 +16,7 @@ use Rattle.thumb_instr.specs.declared.operation.ByteOperation.TheVariants as byt
 use Rattle.thumb_instr.specs.declared.within.NotBothSp.{NotBothSp}
 use Rattle.thumb_instr.specs.Window.{is_in_window, byte_sum, byte_of}
 use Rattle.thumb_instr.proofs.Registers.{widened_number}
-use Rattle.thumb_instr.proofs.Renaming.{wide_or, both_target, both_source}
+use Rattle.thumb_instr.proofs.Registers.{wide_or}
 use Rattle.thumb_model.specs.Items.{Values, AreWords, assigned, one_of, sp, written_to, n_flag, z_flag, c_flag, v_flag}
 use Rattle.thumb_model.specs.Effect.{outputs, complement, result_flags, sum_flags, result_outputs, shift_outputs, sum_outputs, three_sum, right_shift, product, extension_of, reversal_of, two_outputs, byte_outputs, after, after_all}
 use Rattle.thumb_model.specs.Listing.{Mention, Place, Op, plain, Code, IsPoint}
@@ -430,10 +430,10 @@ module _ (registers : List Low) (few : length registers ≤ 4) (one : IsOneToOne
 
   -- the registers of a renamed sum of two
   target_number : (r : NotBothSp) → (both_under registers r).target.number ≡ under r.target.number
-  target_number r = ap (λ (x : Reg). x.number) (both_target (slice_get registers r.target.number) (slice_get registers r.source.number) r) ∙ reg_number registers r.target
+  target_number r = reg_number registers r.target
 
   source_number : (r : NotBothSp) → (both_under registers r).source.number ≡ under r.source.number
-  source_number r = ap (λ (x : Reg). x.number) (both_source (slice_get registers r.target.number) (slice_get registers r.source.number) r) ∙ reg_number registers r.source
+  source_number r = reg_number registers r.source
 
   -- a word that is written to a register of the map
   written_renamed : (z d x y : ℕ) → d < length registers → z ≡ under d → x ≡ y → (let l : List (ℕ × ℕ) = (z, written_to z x) ∷ [] in l) ≡ renamed_outputs ((d, written_to d y) ∷ [])

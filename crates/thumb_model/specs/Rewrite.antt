@@ -9,7 +9,7 @@ use Rattle.thumb_model.specs.Effect.{after_all}
 use Rattle.thumb_model.specs.Listing.{plain, Label, Code, is_code}
 use Rattle.thumb_model.specs.Flow.{LiveAfter}
 use Rattle.thumb_instr.specs.declared.within.NotBothSp.{NotBothSp}
-use Rattle.thumb_instr.proofs.Renaming.{wide_or, both_or}
+use Rattle.thumb_instr.proofs.Registers.{wide_or, sum_under}
 
 -- a low register, and a register but pc
 abbrev pub Low : Type 0
@@ -54,7 +54,7 @@ abbrev pub reg_under : List Low → Reg → Reg
 reg_under registers x = wide_or (slice_get registers x.number) x
 
 abbrev pub both_under : List Low → NotBothSp → NotBothSp
-both_under registers r = both_or (slice_get registers r.target.number) (slice_get registers r.source.number) r
+both_under registers r = sum_under (λ x. slice_get registers x.number) r
 
 abbrev pub renamed : List Low → Instr → Instr
 renamed registers (instr.Mov d m) = instr.Mov (reg_under registers d) (reg_under registers m)
