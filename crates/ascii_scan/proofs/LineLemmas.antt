@@ -156,8 +156,8 @@ unfolding AreWhole
 map-whole [] n start = ap (λ ls. map whole (placed_from n start ls)) lines_nil ∙ sym lines_nil
 map-whole (b ∷ bs) n start = elim (either (b == 10)) [
   | inl e ↦ ap (λ ls. map whole (placed_from n start ls)) (lines_newline b bs e)
-    ∙ (let newline : b ≡ 10 = eqb-true b 10 e in rw (e, map-whole bs (n + 1) (start + 1)) (ap (λ x. (x ∷ []) ∷ lines_of bs) (sym newline)))
-    ∙ sym (lines_newline b bs e)
+      ∙ (let newline : b ≡ 10 = eqb-true b 10 e in rw (e, map-whole bs (n + 1) (start + 1)) (ap (λ x. (x ∷ []) ∷ lines_of bs) (sym newline)))
+      ∙ sym (lines_newline b bs e)
   | inr e ↦ ap (λ ls. map whole (placed_from n start ls)) (lines_other b bs e) ∙ wholes_first b (lines_of bs) e (map-whole bs) n start ∙ sym (lines_other b bs e)
 ]
 
