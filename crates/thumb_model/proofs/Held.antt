@@ -21,7 +21,7 @@ use Rattle.thumb_instr.specs.Items.{has}
 use Rattle.thumb_instr.specs.Shape.{registers_in, pushed, offset_access, word_access}
 use Rattle.thumb_model.specs.Items.{Values, AreWords, assigned, one_of, sp, lr, written_to, n_flag, z_flag, c_flag, v_flag}
 use Rattle.thumb_model.specs.Effect.{outputs, complement, result_flags, sum_flags, result_outputs, shift_outputs, sum_outputs, right_shift, product, two_outputs, byte_outputs}
-use Rattle.thumb_model.specs.Machine.{World, IsWorld, Answer, AreAnswers, AreBytes, Target, Inside, External, Landing, Goes, Leaves, Strays, Around, Act, Event, Fault, Next, On, Stay, To, Over, act, puts, ends, branches, tells, takes, aligned, answered, served, all_at, answers_with, is_device, access_size, value_at, with_value, stored, loaded, gets, loads, stores, accesses, next_word, behind, stored_words, stores_many, word_at, left_at, words_from, left_from, device_words, enough, many_outputs, loads_many, jumps, calls_out, calls, calls_by, with_pc, popping, pops_to, pops, holds, hints}
+use Rattle.thumb_model.specs.Machine.{with_bytes, World, IsWorld, Answer, AreAnswers, AreBytes, Target, Inside, External, Landing, Goes, Leaves, Strays, Around, Act, Event, Fault, Next, On, Stay, To, Over, act, puts, ends, branches, tells, takes, aligned, answered, served, all_at, answers_with, is_device, access_size, value_at, with_value, stored, loaded, gets, loads, stores, accesses, next_word, behind, stored_words, stores_many, word_at, left_at, words_from, left_from, device_words, enough, many_outputs, loads_many, jumps, calls_out, calls, calls_by, with_pc, popping, pops_to, pops, holds, hints}
 use Rattle.thumb_model.specs.Rewrite.{AreBelow}
 use Rattle.thumb_model.proofs.Small.{registers_low}
 use Rattle.thumb_model.proofs.Bounds.{sum_small, shift_small, sign_small_8, sign_small_16, extension_small, reversal_small, and_small, or_small, xor_small}
@@ -225,9 +225,9 @@ all_values (x ∷ xs) v a h =
     ] refl h
 
 -- bytes that are written over bytes
-bytes_small : (bs : List (ℕ × ℕ)) (memory : ℕ → ℕ) → AreBytes bs → ((x : ℕ) → memory x < 256) → (x : ℕ) → assigned bs memory x < 256
+bytes_small : (bs : List (ℕ × ℕ)) (memory : ℕ → ℕ) → AreBytes bs → ((x : ℕ) → memory x < 256) → (x : ℕ) → with_bytes bs memory x < 256
 bytes_small [] memory h k x = k x
-bytes_small (b ∷ bs) memory h k x = elim (x == b.0) as (λ t. (if t then b.1 else assigned bs memory x) < 256) [ true ↦ h.0 | false ↦ bytes_small bs memory h.1 k x ]
+bytes_small (b ∷ bs) memory h k x = bytes_small bs (assigned (b ∷ []) memory) h.1 (λ y. elim (y == b.0) as (λ t. (if t then b.1 else memory y) < 256) [ true ↦ h.0 | false ↦ k y ]) x
 
 answer_safe : (xs : List ℕ) (e : Event) (w : World) (a : Answer) (rest : List Answer) → one_of sp xs ≡ false → IsWorld w → AreWords a.values → AreBytes a.bytes → AreAnswers rest → IsSafe (answers_with xs e w a rest)
 answer_safe xs e w a rest none h k b r = record { values = all_values xs a.values k none; memory = bytes_small a.bytes w.memory b h.memory; answers = r }

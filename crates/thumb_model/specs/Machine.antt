@@ -209,9 +209,14 @@ abbrev pub all_at : List ℕ → Values → List (ℕ × ℕ)
 all_at [] v = []
 all_at (x ∷ xs) v = (x, v x) ∷ all_at xs v
 
+-- the memory after bytes were written by address, of which the later stands where two have one address
+abbrev pub with_bytes : List (ℕ × ℕ) → (ℕ → ℕ) → ℕ → ℕ
+with_bytes [] memory = memory
+with_bytes (b ∷ bs) memory = with_bytes bs (assigned (b ∷ []) memory)
+
 -- an answer's items and bytes, after an event
 abbrev pub answers_with : List ℕ → Event → World → Answer → List Answer → Act
-answers_with xs e w a rest = record { outputs = all_at xs a.values; memory = assigned a.bytes w.memory; answers = rest; events = e ∷ []; next = On }
+answers_with xs e w a rest = record { outputs = all_at xs a.values; memory = with_bytes a.bytes w.memory; answers = rest; events = e ∷ []; next = On }
 
 -- ---- memory ----
 
