@@ -21,7 +21,8 @@ CRATES = {
 MAIN = r"""//! Checks the lines of a file over the formula of another.
 #![tactic(auto)]
 
-ghost use Rattle.std.specs.Prelude.{IfOk, IfSome};
+ghost use Rattle.std.specs.Prelude.{IfOk, IfSome, FitsSigned};
+ghost use Rattle.std.specs.Int.{w32};
 ghost use Rattle.cnf_gates.specs.Cnf.{IsLiteral, AreLiterals};
 
 use anyhow::Context;
@@ -33,7 +34,7 @@ use std::time::Instant;
 use step_ledger::{Counted, Steps};
 
 fn literal(word: &str) -> Option<i32>
-    ensures { IfSome result IsLiteral }
+    ensures { IfSome result (λ z. IsLiteral z × FitsSigned w32 z) }
 {
     match word.parse::<i32>() {
         Ok(number) if number != 0 && -200_000 <= number && number <= 200_000 => Some(number),
@@ -111,6 +112,19 @@ abbrev pub invariant-loop-word : goal.invariant-loop-word
 invariant-loop-word l = AreLiterals l.clause.items
 """
 
+ANSWERS = r"""use Rattle.std.proofs.Common.{subst, List, ℤ, sym, ◌++◌, ◌∷◌, [], w32}
+use Rattle.std.proofs.lemmas.Int.{to_z-of_z}
+use Rattle.cnf_gates.specs.Cnf.{AreLiterals}
+use Rattle.cnf_gates.proofs.Literals.{AreLiteralsOf-push}
+use Rattle.lrat_files.proofs.clause.Goals as goal
+
+pub loop-word-preserved-in-Continue-1 : goal.loop-word-preserved-in-Continue-1
+loop-word-preserved-in-Continue-1 c =
+    let z : ℤ = c.in-Some-literal.number in
+    let more : AreLiterals (c.loop-word.clause.items ++ z ∷ []) = AreLiteralsOf-push 200000 c.loop-word.clause.items z c.loop-word.invariant c.in-Some-literal.ensures.0 in
+    subst AreLiterals (sym c.in_ok-push.ensures.items) (rw (to_z-of_z w32 z c.in-Some-literal.ensures.1) more)
+"""
+
 
 def build(folder):
     """The program, built in a folder outside the repository."""
@@ -119,12 +133,18 @@ def build(folder):
     crates.mkdir(parents=True, exist_ok=True)
     for name in CRATES:
         if name != "lrat_files":
-            shutil.copytree(REPOSITORY / "crates" / name, crates / name, dirs_exist_ok=True)
+            shutil.copytree(
+                REPOSITORY / "crates" / name,
+                crates / name,
+                ignore=shutil.ignore_patterns("out"),
+                dirs_exist_ok=True,
+            )
     program = crates / "lrat_files"
     (program / "src").mkdir(parents=True, exist_ok=True)
     (program / "src" / "main.rt").write_text(MAIN)
     (program / "proofs" / "clause").mkdir(parents=True, exist_ok=True)
     (program / "proofs" / "clause" / "Invariants.antt").write_text(INVARIANTS)
+    (program / "proofs" / "clause" / "Answers.antt").write_text(ANSWERS)
     (folder / "crates.txt").write_text("".join(f"{name}: {uses}\n" for name, uses in CRATES.items()))
     work = folder / "work"
     work.mkdir(exist_ok=True)

@@ -1,6 +1,7 @@
 pub mod Accepted
 pub mod Deletions
 pub mod Distinct
+pub mod Faulty
 pub mod Models
 pub mod Numerals
 pub mod Outcomes

@@ -153,32 +153,6 @@ push_same (a ∷ xs) (b ∷ ys) x y e =
     let rest = push_same xs ys x y tail in
     (rw (head, rest.0) refl, rest.1)
 
--- ---- the parts of words
-
-now_length : (words : List (Bor (List ℕ))) (first : List ℕ) (rest : List (List ℕ)) → length words ≡ 0 → all_now words ≡ first ∷ rest → ⊥
-now_length [] first rest n e = cc
-now_length (w ∷ ws) first rest n e = omega arith
-
-pub none_first : (words : List (Bor (List ℕ))) → length words ≡ 0 → (first : List ℕ) (rest : List (List ℕ)) → all_now words ≡ first ∷ rest → ⊥
-none_first words n first rest e = now_length words first rest n e
-
-pub none_last : (words : List (Bor (List ℕ))) (id : Bor (List ℕ)) (rest : List (Bor (List ℕ))) → words ≡ id ∷ rest → length rest ≡ 0 → (first : List ℕ) (middle : List (List ℕ)) → all_now words ≡ first ∷ (middle ++ end_word ∷ []) → ⊥
-none_last words id rest w n first [] e = let f : all_now rest ≡ end_word ∷ [] = (let g : id.now ∷ all_now rest ≡ first ∷ (end_word ∷ []) = sym (ap all_now w) ∙ e in cc) in now_length rest end_word [] n f
-none_last words id rest w n first (m ∷ ms) e = let f : all_now rest ≡ m ∷ (ms ++ end_word ∷ []) = (let g : id.now ∷ all_now rest ≡ first ∷ (m ∷ (ms ++ end_word ∷ [])) = sym (ap all_now w) ∙ e in cc) in now_length rest m (ms ++ end_word ∷ []) n f
-
-module _ (words : List (Bor (List ℕ))) (id : Bor (List ℕ)) (rest middle : List (Bor (List ℕ))) (end : Bor (List ℕ)) (w : words ≡ id ∷ rest) (r : rest ≡ middle ++ end ∷ []) where
-  now_parts : all_now words ≡ id.now ∷ (all_now middle ++ end.now ∷ [])
-  now_parts = ap all_now (w ∙ ap (λ (x : List (Bor (List ℕ))). id ∷ x) r) ∙ ap (λ (x : List (List ℕ)). id.now ∷ x) (map-append (λ (b : Bor (List ℕ)). b.now) middle (end ∷ []))
-
-  pub parts_found : end.now ≡ end_word → all_now words ≡ id.now ∷ (all_now middle ++ end_word ∷ [])
-  parts_found e = now_parts ∙ ap (λ (x : List ℕ). id.now ∷ (all_now middle ++ x ∷ [])) e
-
-  pub parts_missing : (end.now ≡ end_word → ⊥) → (first : List ℕ) (between : List (List ℕ)) → all_now words ≡ first ∷ (between ++ end_word ∷ []) → ⊥
-  parts_missing n first between e =
-      let f : id.now ∷ (all_now middle ++ end.now ∷ []) ≡ first ∷ (between ++ end_word ∷ []) = sym now_parts ∙ e in
-      let g : all_now middle ++ end.now ∷ [] ≡ between ++ end_word ∷ [] = cc in
-      n (push_same (all_now middle) between end.now end_word g).1
-
 -- the words round a place
 module _ (words : List (Bor (List ℕ))) (i : ℕ) (d : Bor (List ℕ)) (b : i < length words) where
   pub now_at : get_or (all_now words) i d.now ≡ (get_or words i d).now

@@ -4,12 +4,20 @@ ghost use Rattle.std.specs.Prelude.{◌≡◌, ℕ, ℤ, List, Bool, true};
 ghost use Rattle.cnf_gates.specs.Meaning.{all_true};
 ghost use Rattle.clause_model.specs.Literals.{codes_of};
 ghost use Rattle.lrat_check.specs.Content.{Content};
-ghost use Rattle.lrat_check.specs.Text.{text_of, IsLine};
-ghost use Rattle.lrat_check.specs.Checking.{State, Reached};
+ghost use Rattle.lrat_check.specs.Text.{text_of, HasGoodParts, IsLine};
+ghost use Rattle.lrat_check.specs.Checking.{State, Accepts, Reached};
+ghost use Rattle.lrat_check.specs.Faults.{IsFaultOf};
+ghost use Rattle.lrat_check.specs.declared.fault.LineFault.{LineFault};
 
 /// A formula from whose clauses a checker comes to be refuted has no model.
 pub fn refuted_formulas_have_no_model()
     ensures { (clauses : List (List ℤ)) (state : State) → Reached (codes_of clauses) state → state.refuted ≡ true → (v : ℕ → Bool) → all_true v clauses ≡ true → ⊥ }
+{}
+
+/// A line isn't both accepted and refused, and it is refused for one fault.
+pub fn lines_have_one_outcome()
+    ensures accepted { (old new : State) (content : Content) (fault : LineFault) → HasGoodParts content → Accepts old content new → IsFaultOf old content fault → ⊥ }
+    ensures refused { (old : State) (content : Content) (f g : LineFault) → HasGoodParts content → IsFaultOf old content f → IsFaultOf old content g → f ≡ g }
 {}
 
 /// Lines that say different things have different texts: what was written is read back.
