@@ -1,0 +1,9 @@
+-- Items of a list.
+use Rattle.std.proofs.Common.{◌≡◌, ℕ, true, List, ◌∷◌, Option, Some, refl}
+use Rattle.thumb_syntax.specs.Operands.{Operand}
+use Rattle.thumb_syntax.specs.Lists.{is_sign, added, items}
+
+-- an item and a comma
+pub items_more : (extra : Option ℕ) (list : ℕ) (os mids after : List Operand) (item s : Operand) (more : ℕ)
+    → os ≡ item ∷ mids → mids ≡ s ∷ after → Some more ≡ added extra list item → true ≡ is_sign 44 s → items extra list os ≡ items extra more after
+items_more extra list os mids after item s more e f a b = rw (e, f, ← a, ← b) refl

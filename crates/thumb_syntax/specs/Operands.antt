@@ -1,0 +1,67 @@
+-- What the words and marks of an instruction's operands stand for.
+use Rattle.std.specs.Prelude.{ℕ, ◌==◌, ◌||◌, not, Bool, false, List, [], ◌∷◌, length, Option, Some, None, if◌then◌else◌}
+use Rattle.ascii_scan.specs.Tokens.{Token, word, mark, front, rest}
+use Rattle.ascii_scan.specs.Numeral.{numeral}
+use Rattle.ascii_scan.specs.Names.{name_length}
+use Rattle.thumb_syntax.specs.Registers.{register_named}
+
+-- `r0`; `r0!`; `r4-r7`; `#5`; a mark; a name; a name and what is added, as `name+4`; anything else
+pub data Operand : Type 0 where
+  register : ℕ → Operand
+  base : ℕ → Operand
+  range : ℕ → ℕ → Operand
+  number : ℕ → Operand
+  sign : ℕ → Operand
+  name : List ℕ → Operand
+  sum : List ℕ → ℕ → Operand
+  stray : Operand
+
+-- no `!`, `+` or `-`
+abbrev pub is_plain : ℕ → Bool
+is_plain b = not (b == 33 || (b == 43 || b == 45))
+
+abbrev pub range_to : ℕ → Option ℕ → Operand
+range_to a None = stray
+range_to a (Some b) = range a b
+
+-- what a register's name is with the bytes after it
+abbrev pub after_register : ℕ → List ℕ → Operand
+after_register a [] = register a
+after_register a (b ∷ []) = if b == 33 then base a else stray
+after_register a (b ∷ c ∷ bs) = if b == 45 then range_to a (register_named (c ∷ bs)) else stray
+
+abbrev pub sum_of : List ℕ → Option ℕ → Operand
+sum_of w None = stray
+sum_of w (Some i) = sum w i
+
+abbrev pub after_name : List ℕ → List ℕ → Operand
+after_name w [] = name w
+after_name w (b ∷ bs) = if b == 43 then sum_of w (numeral bs) else stray
+
+abbrev pub or_stray : Option ℕ → Operand
+or_stray None = stray
+or_stray (Some n) = number n
+
+-- `#` and a numeral
+abbrev pub numbered : List ℕ → Operand
+numbered [] = stray
+numbered (b ∷ bs) = if b == 35 then or_stray (numeral bs) else stray
+
+abbrev pub is_some_of : Option ℕ → ℕ → Bool
+is_some_of None n = false
+is_some_of (Some m) n = m == n
+
+-- all its bytes are a name
+abbrev pub is_name : List ℕ → Bool
+is_name w = is_some_of (name_length w) (length w)
+
+abbrev pub plain : List ℕ → List ℕ → List ℕ → Operand
+plain w f after = if is_name f then after_name f after else numbered w
+
+abbrev pub of_word : Option ℕ → List ℕ → List ℕ → List ℕ → Operand
+of_word (Some r) w f after = after_register r after
+of_word None w f after = plain w f after
+
+unfoldable pub operand : Token → Operand
+operand (word w) = of_word (register_named (front is_plain w)) w (front is_plain w) (rest is_plain w)
+operand (mark m) = sign m

@@ -1,0 +1,9 @@
+-- What was read, without where the label lies in memory.
+use Rattle.std.specs.Prelude.{option_map}
+use Rattle.thumb_syntax.specs.declared.reading.Parsed.{Parsed}
+use Rattle.thumb_syntax.specs.FieldViews.{label_of}
+use Rattle.thumb_syntax.specs.Made.{made_of}
+use Rattle.thumb_syntax.specs.Rows.{Shown}
+
+abbrev pub shown : Parsed → Shown
+shown p = record { made = made_of p.instr; label = option_map label_of p.label }

@@ -1,0 +1,242 @@
+//! What the operands of a form hold.
+ghost use Rattle.std.specs.Prelude.{◌≡◌, map, option_map};
+ghost use Rattle.ascii_scan.specs.Tokens.{tokens};
+ghost use Rattle.thumb_syntax.specs.Operands.{operand};
+ghost use Rattle.thumb_syntax.specs.Views.{view};
+ghost use Rattle.thumb_syntax.specs.FieldViews.{held};
+ghost use Rattle.thumb_syntax.specs.Slots.{empty, at, put, named, is_in_list, kept_if, number_held, held_by, taken, filled};
+
+use crate::form::{Place, Slot};
+use crate::lists::listed;
+use crate::operands::{Operand, next_operand};
+use crate::registers::is_spelled;
+
+/// A label that an instruction names, and the number that is added to it.
+#[derive(Clone, Copy)]
+pub struct Label<'a> {
+    pub name: &'a [u8],
+    pub added: u32,
+}
+
+/// The registers and numbers of an instruction, and its label.
+#[derive(Clone, Copy)]
+pub struct Fields<'a> {
+    pub first: u32,
+    pub second: u32,
+    pub third: u32,
+    pub label: Option<Label<'a>>,
+}
+
+fn empty<'a>() -> Fields<'a>
+    ensures { held result ≡ empty }
+{
+    Fields {
+        first: 0,
+        second: 0,
+        third: 0,
+        label: None,
+    }
+}
+
+pub fn at(fields: &Fields<'_>, place: Place) -> u32
+    ensures { result ≡ at (held fields.now) place }
+{
+    match place {
+        Place::First => fields.first,
+        Place::Second => fields.second,
+        Place::Third => fields.third,
+    }
+}
+
+fn put<'a>(fields: Fields<'a>, place: Place, number: u32) -> Fields<'a>
+    ensures { held result ≡ put (held fields.entry) place number }
+{
+    match place {
+        Place::First => Fields {
+            first: number,
+            second: fields.second,
+            third: fields.third,
+            label: fields.label,
+        },
+        Place::Second => Fields {
+            first: fields.first,
+            second: number,
+            third: fields.third,
+            label: fields.label,
+        },
+        Place::Third => Fields {
+            first: fields.first,
+            second: fields.second,
+            third: number,
+            label: fields.label,
+        },
+    }
+}
+
+fn named<'a>(fields: Fields<'a>, name: &'a [u8], added: u32) -> Fields<'a>
+    ensures { held result ≡ named (held fields.entry) name.now added }
+{
+    Fields {
+        first: fields.first,
+        second: fields.second,
+        third: fields.third,
+        label: Some(Label { name, added }),
+    }
+}
+
+/// Whether the register is low and in the list.
+pub fn is_in_list(register: u32, list: u32) -> bool
+    ensures { result ≡ is_in_list register list }
+{
+    register < 8 && (list >> register) % 2 == 1
+}
+
+fn kept_if<'a>(holds: bool, fields: Fields<'a>) -> Option<Fields<'a>>
+    ensures { option_map held result ≡ kept_if holds (held fields.entry) }
+{
+    if holds { Some(fields) } else { None }
+}
+
+/// The fields with a number in units of `step`, where it is in the range and a multiple.
+fn number_held<'a>(
+    fields: Fields<'a>,
+    place: Place,
+    least: u32,
+    most: u32,
+    step: u32,
+    number: u32,
+) -> Option<Fields<'a>>
+    ensures { option_map held result ≡ number_held (held fields.entry) place least most step number }
+{
+    if step == 0 || number < least || most < number || number % step != 0 {
+        None
+    } else {
+        Some(put(fields, place, number / step))
+    }
+}
+
+/// The fields after an operand that the slot takes.
+fn held_by<'a>(slot: &Slot, fields: Fields<'a>, operand: Operand<'a>) -> Option<Fields<'a>>
+    ensures { option_map held result ≡ held_by slot.now (held fields.entry) (view operand.entry) }
+{
+    match *slot {
+        Slot::Register(place) => match operand {
+            Operand::Register(register) => Some(put(fields, place, register)),
+            _ => None,
+        },
+        Slot::Twice(one, other) => match operand {
+            Operand::Register(register) => Some(put(put(fields, one, register), other, register)),
+            _ => None,
+        },
+        Slot::Same(place) => match operand {
+            Operand::Register(register) => kept_if(at(&fields, place) == register, fields),
+            _ => None,
+        },
+        Slot::Sp => match operand {
+            Operand::Register(register) => kept_if(register == 13, fields),
+            _ => None,
+        },
+        Slot::Base(place) => match operand {
+            Operand::Base(register) => Some(put(fields, place, register)),
+            _ => None,
+        },
+        Slot::Number(place, least, most, step) => match operand {
+            Operand::Number(number) => number_held(fields, place, least, most, step, number),
+            _ => None,
+        },
+        Slot::Exactly(wanted) => match operand {
+            Operand::Number(number) => kept_if(number == wanted, fields),
+            _ => None,
+        },
+        Slot::Mark(mark) => match operand {
+            Operand::Sign(sign) => kept_if(mark == sign, fields),
+            _ => None,
+        },
+        Slot::Sy => match operand {
+            Operand::Name(name) => kept_if(name == b"sy".as_slice(), fields),
+            _ => None,
+        },
+        Slot::I => match operand {
+            Operand::Name(name) => kept_if(name == b"i".as_slice(), fields),
+            _ => None,
+        },
+        Slot::Primask => match operand {
+            Operand::Name(name) => kept_if(is_spelled(name, b"primask"), fields),
+            _ => None,
+        },
+        Slot::Ipsr => match operand {
+            Operand::Name(name) => kept_if(is_spelled(name, b"ipsr"), fields),
+            _ => None,
+        },
+        Slot::Label => match operand {
+            Operand::Name(name) => Some(named(fields, name, 0)),
+            _ => None,
+        },
+        Slot::LabelSum => match operand {
+            Operand::Name(name) => Some(named(fields, name, 0)),
+            Operand::Sum(name, added) => Some(named(fields, name, added)),
+            _ => None,
+        },
+        _ => None,
+    }
+}
+
+/// The fields after what the slot takes, and the bytes after that.
+fn taken<'a>(slot: &Slot, fields: Fields<'a>, bytes: &'a [u8]) -> Option<(Fields<'a>, &'a [u8])>
+    ensures { option_map (λ r. (held r.0, map operand (tokens r.1.now))) result ≡ taken slot.now (held fields.entry) (map operand (tokens bytes.now)) }
+{
+    match *slot {
+        Slot::LowList(place) => match listed(None, bytes) {
+            Some((list, after)) => Some((put(fields, place, list), after)),
+            None => None,
+        },
+        Slot::StackList(place, extra) => match listed(Some(extra), bytes) {
+            Some((list, after)) => Some((put(fields, place, list), after)),
+            None => None,
+        },
+        Slot::InList(register, list) => {
+            if is_in_list(at(&fields, register), at(&fields, list)) {
+                Some((fields, bytes))
+            } else {
+                None
+            }
+        }
+        Slot::NotInList(register, list) => {
+            if is_in_list(at(&fields, register), at(&fields, list)) {
+                None
+            } else {
+                Some((fields, bytes))
+            }
+        }
+        _ => match next_operand(bytes) {
+            Some((operand, after)) => match held_by(slot, fields, operand) {
+                Some(more) => Some((more, after)),
+                None => None,
+            },
+            None => None,
+        },
+    }
+}
+
+/// The fields after operands that fill the slots, with none left.
+fn filled_from<'a>(slots: &[Slot], fields: Fields<'a>, bytes: &'a [u8]) -> Option<Fields<'a>>
+    ensures { option_map held result ≡ filled slots.now (held fields.entry) (map operand (tokens bytes.now)) }
+{
+    match slots.split_first() {
+        None => match next_operand(bytes) {
+            None => Some(fields),
+            Some(_) => None,
+        },
+        Some((slot, rest)) => match taken(slot, fields, bytes) {
+            Some((more, after)) => filled_from(rest, more, after),
+            None => None,
+        },
+    }
+}
+
+/// The fields of operands that fill the slots, with none left.
+pub fn filled<'a>(slots: &[Slot], bytes: &'a [u8]) -> Option<Fields<'a>>
+    ensures { option_map held result ≡ filled slots.now empty (map operand (tokens bytes.now)) }
+{
+    filled_from(slots, empty(), bytes)
+}

@@ -1,0 +1,58 @@
+//! The forms of instructions' texts.
+use crate::kind::Kind;
+
+/// A register or number of an instruction, in the order of its canonical text.
+#[derive(Clone, Copy)]
+pub enum Place {
+    First,
+    Second,
+    Third,
+}
+
+/// What stands at a place of a form.
+#[derive(Clone, Copy)]
+pub enum Slot {
+    /// a register
+    Register(Place),
+    /// a register that stands for two
+    Twice(Place, Place),
+    /// the register of an earlier place once more
+    Same(Place),
+    /// sp
+    Sp,
+    /// a register and `!`
+    Base(Place),
+    /// a number from the second to the third and a multiple of the fourth, in units of which it is kept
+    Number(Place, u32, u32, u32),
+    /// one number
+    Exactly(u32),
+    /// a comma or a bracket
+    Mark(u8),
+    /// `sy` in lower case, the option of a barrier
+    Sy,
+    /// `i` in lower case, of CPS
+    I,
+    /// `primask` in either case
+    Primask,
+    /// `ipsr` in either case
+    Ipsr,
+    /// a label
+    Label,
+    /// a label, also with a number added
+    LabelSum,
+    /// a list of low registers
+    LowList(Place),
+    /// a list of low registers and one more
+    StackList(Place, u32),
+    /// nothing, where the register of the first place is in the list of the second
+    InList(Place, Place),
+    /// nothing, where it isn't
+    NotInList(Place, Place),
+}
+
+/// A form: a mnemonic, what follows it, and what instruction it is.
+pub struct Form {
+    pub mnemonic: &'static [u8],
+    pub slots: &'static [Slot],
+    pub kind: Kind,
+}

@@ -1,0 +1,45 @@
+//! Instructions without their registers and numbers.
+use thumb_instr::{
+    Access, Barrier, ByteOperation, Condition, Extension, Hint, Interrupts, OffsetAccess,
+    Operation, Reversal, Right, Special, Sum, WordAccess,
+};
+
+/// What an instruction is, without its registers and numbers: as the constructors of `Instr`, with the operation.
+#[derive(Clone, Copy)]
+pub enum Kind {
+    Mov,
+    Three(Sum),
+    Two(Operation),
+    Bx,
+    Movs,
+    ShiftLeft,
+    ShiftRight(Right),
+    ThreeNumber(Sum),
+    TwoNumber(ByteOperation),
+    Add,
+    Compare,
+    Blx,
+    Literal,
+    Indexed(Access),
+    Offset(OffsetAccess),
+    Stack(WordAccess),
+    Address,
+    StackAddress,
+    StackMove(Sum),
+    Extend(Extension),
+    Reverse(Reversal),
+    Push,
+    Pop,
+    StoreMany,
+    LoadMany,
+    Breakpoint,
+    Service,
+    Hint(Hint),
+    ChangeState(Interrupts),
+    BranchIf(Condition),
+    Branch,
+    Call,
+    Barrier(Barrier),
+    ReadSpecial(Special),
+    WriteMask,
+}

@@ -1,0 +1,120 @@
+//! Lists of registers.
+ghost use Rattle.std.specs.Prelude.{◌≡◌, ◌<◌, ◌≤◌, ◌+◌, ◌-◌, ◌^◌, map, option_map};
+ghost use Rattle.ascii_scan.specs.Tokens.{tokens};
+ghost use Rattle.thumb_syntax.specs.Operands.{operand};
+ghost use Rattle.thumb_syntax.specs.Views.{view};
+ghost use Rattle.thumb_syntax.specs.Lists.{is_sign, bits_of, joined, added, items, listed};
+
+use crate::operands::{Operand, next_operand};
+
+fn is_sign(mark: u8, operand: &Operand<'_>) -> bool
+    ensures { result ≡ is_sign mark (view operand.now) }
+{
+    match operand {
+        Operand::Sign(sign) => mark == *sign,
+        _ => false,
+    }
+}
+
+fn bit(register: u32) -> u32
+    requires { register ≤ 8 }
+    ensures { result ≡ 2 ^ register }
+{
+    1 << register
+}
+
+/// The bits from the least register to the greatest.
+#[tactic(auto, using(std::proofs::lemmas::Nat::pow_below))]
+fn range_bits(least: u32, most: u32) -> u32
+    requires order { least < most }
+    requires low { most < 8 }
+    ensures { result ≡ 2 ^ (most + 1) - 2 ^ least }
+{
+    bit(most + 1) - bit(least)
+}
+
+/// The bits of a register or a range of them: bit 8 for the register that the list may have beside r0 to r7.
+fn bits_of(extra: Option<u32>, item: &Operand<'_>) -> Option<u32>
+    ensures { result ≡ bits_of extra (view item.now) }
+{
+    match item {
+        Operand::Register(register) => {
+            if *register < 8 {
+                return Some(1 << *register);
+            }
+            match extra {
+                Some(other) => { if other == *register { Some(256) } else { None } }
+                None => None,
+            }
+        }
+        Operand::Range(least, most) => {
+            if *least < *most && *most < 8 {
+                Some(range_bits(*least, *most))
+            } else {
+                None
+            }
+        }
+        _ => None,
+    }
+}
+
+/// The list with more bits, where it has none of them.
+fn joined(list: u32, bits: u32) -> Option<u32>
+    ensures { result ≡ joined list bits }
+{
+    if list & bits == 0 {
+        Some(list | bits)
+    } else {
+        None
+    }
+}
+
+/// The list with one more item.
+fn added(extra: Option<u32>, list: u32, item: &Operand<'_>) -> Option<u32>
+    ensures { result ≡ added extra list (view item.now) }
+{
+    match bits_of(extra, item) {
+        Some(bits) => joined(list, bits),
+        None => None,
+    }
+}
+
+/// The list with the items up to the closing brace, and the bytes after it.
+fn items<'a>(extra: Option<u32>, list: u32, bytes: &'a [u8]) -> Option<(u32, &'a [u8])>
+    ensures { option_map (λ r. (r.0, map operand (tokens r.1.now))) result ≡ items extra list (map operand (tokens bytes.now)) }
+{
+    match next_operand(bytes) {
+        None => None,
+        Some((item, after_item)) => match next_operand(after_item) {
+            None => None,
+            Some((sign, after)) => match added(extra, list, &item) {
+                None => None,
+                Some(more) => {
+                    if is_sign(b',', &sign) {
+                        items(extra, more, after)
+                    } else if is_sign(b'}', &sign) {
+                        Some((more, after))
+                    } else {
+                        None
+                    }
+                }
+            },
+        },
+    }
+}
+
+/// A list in braces, which may have one register more than r0 to r7, and the bytes after it.
+pub fn listed<'a>(extra: Option<u32>, bytes: &'a [u8]) -> Option<(u32, &'a [u8])>
+    ensures { option_map (λ r. (r.0, map operand (tokens r.1.now))) result ≡ listed extra (map operand (tokens bytes.now)) }
+{
+    match next_operand(bytes) {
+        None => None,
+        Some((sign, after)) => {
+            if is_sign(b'{', &sign) {
+                items(extra, 0, after)
+            } else {
+                None
+            }
+        }
+    }
+}
