@@ -5,11 +5,21 @@ top=$(cd "$(dirname "$0")/.." && pwd)
 turns=${1:-5}
 work=$(mktemp -d)
 trap 'rm -rf "$work"' EXIT
-mkdir -p "$work/crates/window_steps/src"
+mkdir -p "$work/crates/window_steps/src" "$work/crates/window_steps/specs"
+cp "$top/HANDLES" "$work/"
 for crate in word_bits thumb_instr thumb_table thumb_model window_exec; do
     cp -r "$top/crates/$crate" "$work/crates/"
 done
 cp "$top/bench/window_steps/proved.rs" "$work/crates/window_steps/src/main.rt"
+echo "pub mod Ready" > "$work/crates/window_steps/specs/Lib.antt"
+cat > "$work/crates/window_steps/specs/Ready.antt" <<END
+-- A test of the registers that an instruction names.
+use Rattle.std.specs.Prelude.{ℕ, Bool, true, ◌&&◌, nat_lt, List, [], ◌∷◌}
+
+abbrev pub are_below : ℕ → List ℕ → Bool
+are_below k [] = true
+are_below k (x ∷ xs) = nat_lt x k && are_below k xs
+END
 cat > "$work/crates.txt" <<END
 word_bits:
 thumb_instr: arrayvec

@@ -1,9 +1,10 @@
-//! Times the proved `step` on random instructions. In Rattle; built by window_steps.sh alone.
+//! Times the proved `step` on random instructions. In Rattle; window_steps.sh builds it.
 #![tactic(auto)]
 
-ghost use Rattle.std.specs.Prelude.{◌≡◌, ◌<◌, true, IsTrue};
+ghost use Rattle.std.specs.Prelude.{◌≡◌, true, IsTrue};
 ghost use Rattle.thumb_instr.specs.Window.{is_in_window};
-ghost use Rattle.thumb_model.specs.Rewrite.{named, AreBelow};
+ghost use Rattle.thumb_model.specs.Rewrite.{named};
+ghost use Rattle.window_steps.specs.Ready.{are_below};
 
 use std::alloc::{AllocError, Global};
 use std::time::Instant;
@@ -16,11 +17,11 @@ use window_exec::{WState, step};
 struct Ready {
     instr: Instr,
     ghost window: { is_in_window instr ≡ true },
-    ghost registers: { AreBelow 4 (named instr) },
+    ghost registers: { are_below 4 (named instr) ≡ true },
 }
 
 fn names_first_four(instr: &Instr) -> bool
-    ensures { IsTrue result → AreBelow 4 (named instr.now) }
+    ensures { IsTrue result → are_below 4 (named instr.now) ≡ true }
 {
     match *instr {
         Instr::Mov { target, source } => target.number < 4 && source.number < 4,
@@ -43,7 +44,7 @@ fn names_first_four(instr: &Instr) -> bool
     }
 }
 
-fn ready(halfword: u16) -> Option<Ready> {
+fn window_instr(halfword: u16) -> Option<Ready> {
     let instr = decode(halfword, 0)?;
     if in_window(&instr) && names_first_four(&instr) {
         Some(Ready { instr })
@@ -63,7 +64,7 @@ fn random_instrs(alloc: Global) -> Result<Vec<Ready>, AllocError> {
     let mut random = 1;
     for _ in 0..65536_u32 {
         random = next(random);
-        if let Some(instr) = ready((random % 65536) as u16) {
+        if let Some(instr) = window_instr((random % 65536) as u16) {
             list.push(instr)?;
         }
     }
