@@ -189,6 +189,12 @@ pub enum Instr {
 }
 
 impl Default for Instr {
+    ghost use Rattle.std.specs.Prelude.{◌≡◌};
+    ghost use Rattle.thumb_instr.specs.declared.instr.Instr.TheVariants.{Hint};
+    ghost use Rattle.thumb_instr.specs.declared.operation.Hint.TheVariants.{Nop};
+
+    ghost is_default = { λ i. i ≡ Hint Nop };
+
     /// `nop`
     fn default() -> Self {
         Instr::Hint { hint: Hint::Nop }
