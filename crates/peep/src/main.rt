@@ -1,7 +1,10 @@
 //! The program: hands the process's words to the top call, and ends with its status.
 #![tactic(auto)]
 
-ghost use Rattle.std.specs.Prelude.{◌≡◌, ◌<◌};
+ghost use Rattle.std.specs.Prelude.{◌≡◌, ◌<◌, map, option_map, string_bytes};
+ghost use Rattle.outer_store.specs.Outside.{Grows, SinkGrows};
+ghost use Rattle.audit_cli.specs.Peep.{Peeps};
+ghost use Rattle.peep.specs.Words.{word_of};
 
 use audit_cli::{Status, peep};
 use outer_store::{RealSink, RealStore, Sink, Store};
@@ -23,7 +26,9 @@ fn words_of(alloc: Global, args: Args<Global>) -> Result<Vec<String>, AllocError
 }
 
 /// The word that standard error gets, if there is one for the status.
-fn word_for(status: Status) -> Option<&'static str> {
+fn word_for(status: Status) -> Option<&'static str>
+    ensures { option_map (λ s. s.now) result ≡ word_of status }
+{
     match status {
         Status::Done | Status::Refused => None,
         Status::Usage => Some("usage"),
@@ -46,6 +51,9 @@ fn run<N: Name, S: Store, O: Sink>(
     requires name { blank.name ≡ N.name }
     requires parts { blank.parts ≡ N.parts }
     requires some { 0 < blank.parts }
+    ensures peeps { Peeps (map string_bytes words.now) (S.seen store.old) (S.seen store.new) (O.sunk sink.old) (O.sunk sink.new) result }
+    ensures grows { Grows (S.seen store.old) (S.seen store.new) }
+    ensures sink_grows { SinkGrows (O.sunk sink.old) (O.sunk sink.new) }
 {
     let mut steps = Steps::new(Free::<N>::new(blank));
     peep(alloc, words, store, sink, &mut steps)
