@@ -1,1 +1,11 @@
 pub mod ListLemmas
+pub mod Steps
+pub mod Overlap
+pub mod RowRelation
+pub mod Words
+pub mod ListText
+pub mod SlotText
+pub mod WrittenRows
+pub mod Written
+pub mod RoundTrip
+pub mod ReadWhole

@@ -11,3 +11,5 @@ pub mod ParsedView
 pub mod ApartView
 pub mod Canonical
 pub mod Spelling
+pub mod RowLaws
+pub mod Whole

@@ -7,17 +7,21 @@ mod errors;
 mod fields;
 mod form;
 mod kind;
+mod laws;
 mod lists;
 mod making;
 mod operands;
 mod reading;
 mod registers;
 mod table;
+mod whole;
 mod writing;
 
 pub use errors::Memory;
 pub use fields::Label;
+pub use laws::{forms_agree, reading_is_whole, some_form_reads, writing_reads_back};
 pub use reading::{Parsed, read_instr};
+pub use whole::is_whole;
 pub use writing::write_instr;
 
 #[cfg(test)]
@@ -107,6 +111,39 @@ mod tests {
         Ok(())
     }
 
+    #[test]
+    fn labels_stand_where_they_are_named(rt: HostRuntime) -> Result<(), Fail> {
+        let branch = read_instr(b"beq .L4").ok_or("a branch")?;
+        let load = read_instr(b"ldr r0, .L4").ok_or("a load")?;
+        let label = Some(Label {
+            name: b"next",
+            added: 0,
+        });
+        let place = Some(Label {
+            name: b"next",
+            added: 8,
+        });
+        let register = Some(Label {
+            name: b"r4",
+            added: 0,
+        });
+        for (instr, label, whole) in [
+            (branch.instr, label, true),
+            (branch.instr, place, false),
+            (branch.instr, register, false),
+            (branch.instr, None, false),
+            (load.instr, label, true),
+            (load.instr, place, true),
+            (load.instr, register, false),
+            (load.instr, None, false),
+            (Instr::default(), None, true),
+            (Instr::default(), label, false),
+        ] {
+            assert_eq!(rt; is_whole(&Parsed { instr, label }), whole);
+        }
+        Ok(())
+    }
+
     /// Canonical texts, a line each, from an assembler's listing of them.
     const CANONICAL: &[u8] = b"\
 movs r3, r3\n\
@@ -190,12 +227,83 @@ adr r0, $d\n\
 adds r0, r0, #3\n\
 adds r0, #3\n\
 nop\n\
+add r0, r0\n\
+add r0, r9\n\
+add r9, r0\n\
+add r9, r9\n\
+add lr, sp\n\
+add r0, sp, #0\n\
+add sp, sp, #0\n\
+add sp, sp, #68\n\
+adds r0, #0\n\
+adds r0, r1, #0\n\
+subs r0, #0\n\
+subs r0, r1, #0\n\
+subs r0, r3, #7\n\
+bkpt #0\n\
+svc #0\n\
+blx r0\n\
+bx r8\n\
+cmp r10, r11\n\
+cmp r10, r0\n\
+cmp r0, #0\n\
+cmp r0, r8\n\
+cmp r3, sp\n\
+cmp sp, r6\n\
+cmp sp, sp\n\
+ldm r0!, {r2, r4, r7}\n\
+ldm r7, {r7}\n\
+stm r0!, {r0, r7}\n\
+ldr r0, [r0, r0]\n\
+ldr r7, [r0, #124]\n\
+ldrb r0, [r0]\n\
+ldrb r0, [r7, #31]\n\
+ldrh r0, [r0]\n\
+ldrh r0, [r7, #62]\n\
+str r0, [r0]\n\
+strb r0, [r0]\n\
+strh r0, [r0]\n\
+str r7, [sp, #1020]\n\
+mov lr, lr\n\
+mov sp, sp\n\
+mov r8, r1\n\
+mov r12, sp\n\
+mov r2, r10\n\
+movs r0, #0\n\
+mrs r11, ipsr\n\
+mrs r0, ipsr\n\
+mrs lr, primask\n\
+msr primask, r0\n\
+pop {r0}\n\
+pop {pc}\n\
+push {lr}\n\
+push {r0, r1, r2, r3, r4, r5, r6, r7, lr}\n\
+sub sp, sp, #0\n\
+sub sp, sp, #508\n\
+lsrs r0, r0, #32\n\
+asrs r7, r7, #32\n\
+bne f\n\
+bcs f\n\
+bcc f\n\
+bmi f\n\
+bpl f\n\
+bvs f\n\
+bvc f\n\
+bhi f\n\
+bls f\n\
+bge f\n\
+blt f\n\
+bgt f\n\
+ble .\n\
+b $a_1.x\n\
+adr r7, _start+4294967295\n\
 ";
 
     #[test]
     fn canonical_texts_are_written_as_read(rt: HostRuntime) -> Result<(), Fail> {
         for line in Lines::new(CANONICAL) {
             let parsed = read_instr(line.text).ok_or("an instruction")?;
+            assert!(rt; is_whole(&parsed));
             let text = write_instr(rt.alloc(), &parsed)?;
             assert_eq!(rt; text.as_slice(), line.text);
         }

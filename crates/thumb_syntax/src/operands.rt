@@ -50,7 +50,8 @@ fn split_plain(bytes: &[u8]) -> (&[u8], &[u8])
     bytes.split_at(plain_len(bytes))
 }
 
-fn is_name(word: &[u8]) -> bool
+/// Whether all the bytes are one name.
+pub fn is_name(word: &[u8]) -> bool
     ensures { result ≡ is_name word.now }
 {
     match name(word) {

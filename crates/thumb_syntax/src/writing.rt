@@ -201,7 +201,7 @@ fn write_operands(slots: &[Slot], fields: &Fields<'_>, out: &mut Vec<u8>) -> Res
 }
 
 /// The one canonical text of an instruction: lower case, one blank after the mnemonic and after each comma, decimal numbers, lists in ascending order,
-/// an offset and an added number of 0 left out. Fails only for want of memory.
+/// an offset and an added number of 0 left out. What `is_whole` takes is read as the same again (`writing_reads_back`). Fails only for want of memory.
 pub fn write_instr(alloc: Global, parsed: &Parsed<'_>) -> Result<Vec<u8>, Memory>
     ensures { IfOk result (λ text. text.items ≡ text_of (shown parsed.now)) }
 {
