@@ -1,0 +1,100 @@
+-- Steps and ends of the loops that make inputs and gather differences.
+use Rattle.std.proofs.Common.{◌≡◌, ℕ, suc, ◌+◌, ◌*◌, ◌<◌, min, Bool, true, false, cond, List, [], ◌∷◌, ◌++◌, length, take, drop, get_or, set, refl, sym, ap, ◌∙◌, arith, append_assoc}
+use Rattle.std.proofs.lemmas.List.{take_all, take_more_set, drop_more, get_or-take, length-take}
+use Rattle.cnf_gates.specs.declared.bit.Bit.{Bit}
+use Rattle.cnf_gates.specs.declared.bit.Bit.TheVariants.{Signed}
+use Rattle.cnf_gates.specs.Gates.{Built, positive, input_of}
+use Rattle.thumb_instr.specs.Items.{has, n_flag, z_flag, c_flag, v_flag}
+use Rattle.bit_blast.specs.declared.circuits.Connective.TheVariants.{Xor}
+use Rattle.bit_blast.specs.Circuits.{each_of, before_word}
+use Rattle.thumb_instr.specs.declared.instr.Instr.{Instr}
+use Rattle.bit_blast.specs.Forming.{Bits, formed_all}
+use Rattle.bit_blast.specs.Differences.{variables_from, words_from, input_word, register_differences, flag_difference, differences, start_bits, start_built, both_sides}
+use Rattle.bit_blast.proofs.Ends.{variables_from-more, words_from-more}
+
+-- ---- inputs
+
+abbrev with_variables : Built → ℕ → Built
+with_variables b n = record b { variables = n }
+
+pub input_built : (a b c : Built) (i : ℕ) (x : Bit) → b ≡ record a { variables = a.variables + i } → (c, x) ≡ input_of b → c ≡ record a { variables = a.variables + (i + 1) }
+input_built a b c i x e f =
+    ap (λ p. p.0) f ∙ ap (λ d. (input_of d).0) e ∙ ap (with_variables a) (let g : suc (a.variables + i) ≡ a.variables + (i + 1) = omega arith in g)
+
+pub input_bits_step : (a b c : Built) (i : ℕ) (word : List Bit) (x : Bit) → i < 32 → length word ≡ 32 → b ≡ record a { variables = a.variables + i } → take i word ≡ variables_from a.variables i → (c, x) ≡ input_of b
+    → take (i + 1) (set word i x) ≡ variables_from a.variables (i + 1)
+input_bits_step a b c i word x h wide e same f =
+    let bit : x ≡ Signed (positive (a.variables + i)) = ap (λ p. p.1) f ∙ ap (λ d. (input_of d).1) e in
+    take_more_set word i x (omega arith) ∙ ap (λ t. t ++ x ∷ []) same ∙ ap (λ y. variables_from a.variables i ++ y ∷ []) bit ∙ variables_from-more a.variables i
+
+pub input_bits_done : (v i : ℕ) (word : List Bit) → i ≡ 32 → length word ≡ 32 → take i word ≡ variables_from v i → word ≡ input_word v
+unfolding input_word
+input_bits_done v i word e wide same = sym (take_all i word (omega arith)) ∙ same ∙ ap (variables_from v) e
+
+pub inputs_built : (b c : Built) (i : ℕ) → b ≡ record { variables = 32 * i; clauses = []; gates = [] } → c ≡ record b { variables = b.variables + 32 } → c ≡ record { variables = 32 * (i + 1); clauses = []; gates = [] }
+inputs_built b c i e f =
+    f ∙ ap (λ d. with_variables d (d.variables + 32)) e ∙ ap (with_variables (record { variables = 0; clauses = []; gates = [] })) (let g : 32 * i + 32 ≡ 32 * (i + 1) = omega arith in g)
+
+pub inputs_words : (b : Built) (i : ℕ) (ws : List (List Bit)) (w : List Bit) → b ≡ record { variables = 32 * i; clauses = []; gates = [] } → ws ≡ words_from 0 i → w ≡ input_word b.variables → ws ++ w ∷ [] ≡ words_from 0 (i + 1)
+inputs_words b i ws w e same f =
+    ap (λ l. l ++ w ∷ []) same ∙ ap (λ x. words_from 0 i ++ x ∷ []) (f ∙ ap (λ d. input_word d.variables) e ∙ ap input_word (let g : 32 * i ≡ 0 + 32 * i = omega arith in g)) ∙ words_from-more 0 i
+
+-- ---- differences
+
+-- what is left of the first four
+first_of_four : (i : ℕ) (ws : List (List Bit)) (d x : List Bit) → i < min (length ws) 4 → get_or ws i d ≡ x → drop i (take 4 ws) ≡ x ∷ drop (i + 1) (take 4 ws)
+first_of_four i ws d x h e =
+    drop_more (take 4 ws) i d (omega (arith, length-take 4 ws)) ∙ ap (λ y. y ∷ drop (i + 1) (take 4 ws)) (get_or-take 4 ws i d (omega arith) ∙ e)
+
+register_at : (b : Built) (mask i : ℕ) (x y : List Bit) (xs ys : List (List Bit)) (found : List Bit) (r : Built × List Bit)
+    → before_word found (register_differences b mask i (x ∷ xs) (y ∷ ys)) ≡ r → (t : Bool) → has mask i ≡ t
+    → before_word found (cond t (let d = each_of Xor b x y in let s = register_differences d.0 mask (i + 1) xs ys in (s.0, d.1 ++ s.1)) (register_differences b mask (i + 1) xs ys)) ≡ r
+register_at b mask i x y xs ys found r e t h =
+    ap (λ u. before_word found (cond u (let d = each_of Xor b x y in let s = register_differences d.0 mask (i + 1) xs ys in (s.0, d.1 ++ s.1)) (register_differences b mask (i + 1) xs ys))) (sym h) ∙ e
+
+pub register_taken : (b c : Built) (mask i : ℕ) (x y : List Bit) (xs ys : List (List Bit)) (found more : List Bit) (r : Built × List Bit) → i < min (length xs) 4 → length xs ≡ length ys → get_or xs i x ≡ x → get_or ys i y ≡ y
+    → has mask i ≡ true → (c, more) ≡ before_word found (each_of Xor b x y) → before_word found (register_differences b mask i (drop i (take 4 xs)) (drop i (take 4 ys))) ≡ r
+    → before_word more (register_differences c mask (i + 1) (drop (i + 1) (take 4 xs)) (drop (i + 1) (take 4 ys))) ≡ r
+register_taken b c mask i x y xs ys found more r h same ex ey on e f =
+    let left = first_of_four i xs x x h ex in
+    let right = first_of_four i ys y y (omega arith) ey in
+    let xs4 = drop (i + 1) (take 4 xs) in
+    let ys4 = drop (i + 1) (take 4 ys) in
+    let d = each_of Xor b x y in
+    let s = register_differences d.0 mask (i + 1) xs4 ys4 in
+    ap (λ p. before_word p.1 (register_differences p.0 mask (i + 1) xs4 ys4)) e
+    ∙ ap (λ l. (s.0, l)) (append_assoc found d.1 s.1)
+    ∙ register_at b mask i x y xs4 ys4 found r (ap (λ l. before_word found (register_differences b mask i l (y ∷ ys4))) (sym left) ∙ ap (λ l. before_word found (register_differences b mask i (drop i (take 4 xs)) l)) (sym right) ∙ f) true on
+
+pub register_passed : (b : Built) (mask i : ℕ) (xs ys : List (List Bit)) (found : List Bit) (r : Built × List Bit) → i < min (length xs) 4 → length xs ≡ length ys
+    → has mask i ≡ false → before_word found (register_differences b mask i (drop i (take 4 xs)) (drop i (take 4 ys))) ≡ r
+    → before_word found (register_differences b mask (i + 1) (drop (i + 1) (take 4 xs)) (drop (i + 1) (take 4 ys))) ≡ r
+register_passed b mask i xs ys found r h same off f =
+    let x = get_or xs i [] in
+    let y = get_or ys i [] in
+    let left = first_of_four i xs [] x h refl in
+    let right = first_of_four i ys [] y (omega arith) refl in
+    let xs4 = drop (i + 1) (take 4 xs) in
+    let ys4 = drop (i + 1) (take 4 ys) in
+    register_at b mask i x y xs4 ys4 found r (ap (λ l. before_word found (register_differences b mask i l (y ∷ ys4))) (sym left) ∙ ap (λ l. before_word found (register_differences b mask i (drop i (take 4 xs)) l)) (sym right) ∙ f) false off
+
+pub all_gathered : (mask : ℕ) (x y : Bits) (b b0 b1 b2 b3 b4 : Built) (f0 f1 f2 f3 f4 : List Bit)
+    → (b0, f0) ≡ register_differences b mask 0 (take 4 x.r) (take 4 y.r)
+    → (b1, f1) ≡ before_word f0 (flag_difference b0 (has mask n_flag) x.n y.n)
+    → (b2, f2) ≡ before_word f1 (flag_difference b1 (has mask z_flag) x.z y.z)
+    → (b3, f3) ≡ before_word f2 (flag_difference b2 (has mask c_flag) x.c y.c)
+    → (b4, f4) ≡ before_word f3 (flag_difference b3 (has mask v_flag) x.v y.v)
+    → (b4, f4) ≡ differences b mask x y
+all_gathered mask x y b b0 b1 b2 b3 b4 f0 f1 f2 f3 f4 e0 e1 e2 e3 e4 =
+    let g1 = e1 ∙ ap (λ p. before_word p.1 (flag_difference p.0 (has mask n_flag) x.n y.n)) e0 in
+    let g2 = e2 ∙ ap (λ p. before_word p.1 (flag_difference p.0 (has mask z_flag) x.z y.z)) g1 in
+    let g3 = e3 ∙ ap (λ p. before_word p.1 (flag_difference p.0 (has mask c_flag) x.c y.c)) g2 in
+    e4 ∙ ap (λ p. before_word p.1 (flag_difference p.0 (has mask v_flag) x.v y.v)) g3
+
+-- both sides formed, one after the other
+pub both_done : (left right : List Instr) (mask k : ℕ) (b0 b1 b2 : Built) (s0 s1 l r : Bits) → b0 ≡ start_built k → s0 ≡ start_bits k → s1 ≡ s0 → (b1, l) ≡ formed_all b0 left s1 → (b2, r) ≡ formed_all b1 right s0
+    → differences b2 mask l r ≡ both_sides left right mask k
+both_done left right mask k b0 b1 b2 s0 s1 l r eb es et el er =
+    let p : (b1, l) ≡ formed_all (start_built k) left (start_bits k) = el ∙ ap (λ b. formed_all b left s1) eb ∙ ap (formed_all (start_built k) left) (et ∙ es) in
+    let q : (b2, r) ≡ formed_all b1 right (start_bits k) = er ∙ ap (formed_all b1 right) es in
+    ap (λ t. differences t.0 mask l t.1) q ∙ ap (λ t. let u = formed_all t.0 right (start_bits k) in differences u.0 mask t.1 u.1) p

@@ -1,0 +1,16 @@
+pub mod Steps
+pub mod Numbers
+pub mod Each
+pub mod Sums
+pub mod Ends
+pub mod Moves
+pub mod Inputs
+pub mod Barrel
+pub mod Products
+pub mod Outputs
+pub mod Formed
+pub mod Telling
+pub mod Frame
+pub mod Start
+pub mod Exact
+pub mod Read

@@ -1,0 +1,82 @@
+-- The formula of two sequences under a mask.
+use Rattle.std.specs.Prelude.{ℕ, zero, suc, ◌+◌, ◌*◌, Bool, true, false, List, [], ◌∷◌, ◌++◌, take, if◌then◌else◌}
+use Rattle.cnf_gates.specs.declared.bit.Bit.{Bit}
+use Rattle.cnf_gates.specs.declared.bit.Bit.TheVariants.{Signed}
+use Rattle.cnf_gates.specs.Cnf.{Cnf}
+use Rattle.cnf_gates.specs.Gates.{Built, positive, xor_of, or_clause_of, formula_of}
+use Rattle.thumb_instr.specs.declared.instr.Instr.{Instr}
+use Rattle.thumb_instr.specs.Items.{has, n_flag, z_flag, c_flag, v_flag}
+use Rattle.bit_blast.specs.declared.circuits.Connective.TheVariants.{Xor}
+use Rattle.bit_blast.specs.Circuits.{each_of}
+use Rattle.bit_blast.specs.Forming.{Bits, formed_all}
+
+-- ---- the start: variables count from 0 here, and from 1 in clauses
+
+-- n variables from v on
+abbrev pub variables_from : ℕ → ℕ → List Bit
+variables_from v zero = []
+variables_from v (suc n) = Signed (positive v) ∷ variables_from (suc v) n
+
+-- a word of variables from v on
+unfoldable pub input_word : ℕ → List Bit
+input_word v = variables_from v 32
+
+-- k words of variables from v on
+abbrev pub words_from : ℕ → ℕ → List (List Bit)
+words_from v zero = []
+words_from v (suc k) = input_word v ∷ words_from (v + 32) k
+
+-- bit b of register r is variable 32 r + b, and N, Z, C, V are the four after the registers
+abbrev pub start_bits : ℕ → Bits
+start_bits k = record {
+  r = words_from 0 k;
+  n = Signed (positive (32 * k));
+  z = Signed (positive (32 * k + 1));
+  c = Signed (positive (32 * k + 2));
+  v = Signed (positive (32 * k + 3));
+}
+
+abbrev pub start_built : ℕ → Built
+start_built k = record { variables = 32 * k + 4; clauses = []; gates = [] }
+
+-- ---- what differs
+
+-- what tells the registers of the mask, from number i on
+abbrev pub register_differences : Built → ℕ → ℕ → List (List Bit) → List (List Bit) → Built × List Bit
+register_differences b mask i [] ys = (b, [])
+register_differences b mask i (x ∷ xs) [] = (b, [])
+register_differences b mask i (x ∷ xs) (y ∷ ys) =
+    if has mask i then
+    (let r = each_of Xor b x y in
+    let s = register_differences r.0 mask (i + 1) xs ys in
+    (s.0, r.1 ++ s.1))
+    else register_differences b mask (i + 1) xs ys
+
+-- what tells a flag, where it is in the mask
+abbrev pub flag_difference : Built → Bool → Bit → Bit → Built × List Bit
+flag_difference b false x y = (b, [])
+flag_difference b true x y = let r = xor_of b x y in (r.0, r.1 ∷ [])
+
+-- the items in order r0 to r3, N, Z, C, V
+abbrev pub differences : Built → ℕ → Bits → Bits → Built × List Bit
+differences b mask x y =
+    let r = register_differences b mask 0 (take 4 x.r) (take 4 y.r) in
+    let n = flag_difference r.0 (has mask n_flag) x.n y.n in
+    let z = flag_difference n.0 (has mask z_flag) x.z y.z in
+    let c = flag_difference z.0 (has mask c_flag) x.c y.c in
+    let v = flag_difference c.0 (has mask v_flag) x.v y.v in
+    (v.0, (((r.1 ++ n.1) ++ z.1) ++ c.1) ++ v.1)
+
+-- both sides start from the same bits: the left one is formed first, then the right one, then what differs
+abbrev pub both_sides : List Instr → List Instr → ℕ → ℕ → Built × List Bit
+both_sides left right mask k =
+    let l = formed_all (start_built k) left (start_bits k) in
+    let r = formed_all l.0 right (start_bits k) in
+    differences r.0 mask l.1 r.1
+
+-- the clause that something differs comes last
+abbrev pub formula_built : List Instr → List Instr → ℕ → ℕ → Built
+formula_built left right mask k = let d = both_sides left right mask k in or_clause_of d.0 d.1
+
+abbrev pub sides_formula : List Instr → List Instr → ℕ → ℕ → Cnf
+sides_formula left right mask k = formula_of (formula_built left right mask k)

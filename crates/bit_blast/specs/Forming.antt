@@ -1,0 +1,154 @@
+-- The circuit of each instruction that may stand in a window.
+use Rattle.std.specs.Prelude.{ℕ, true, false, List, [], ◌∷◌, slice_index_or, slice_set}
+use Rattle.word_bits.specs.declared.Shift.{Shift}
+use Rattle.word_bits.specs.declared.Shift.TheVariants as shift
+use Rattle.thumb_instr.specs.declared.instr.Instr.{Instr}
+use Rattle.thumb_instr.specs.declared.instr.Instr.TheVariants as instr
+use Rattle.thumb_instr.specs.declared.operation.Sum.{Sum}
+use Rattle.thumb_instr.specs.declared.operation.Sum.TheVariants as sum
+use Rattle.thumb_instr.specs.declared.operation.Operation.{Operation}
+use Rattle.thumb_instr.specs.declared.operation.Operation.TheVariants as operation
+use Rattle.thumb_instr.specs.declared.operation.ByteOperation.{ByteOperation}
+use Rattle.thumb_instr.specs.declared.operation.ByteOperation.TheVariants as byte
+use Rattle.thumb_model.specs.Effect.{right_shift}
+use Rattle.cnf_gates.specs.declared.bit.Bit.{Bit}
+use Rattle.cnf_gates.specs.declared.bit.Bit.TheVariants.{Constant}
+use Rattle.cnf_gates.specs.Gates.{Built}
+use Rattle.bit_blast.specs.declared.circuits.Connective.{Connective}
+use Rattle.bit_blast.specs.declared.circuits.Connective.TheVariants.{And, Or, Xor}
+use Rattle.bit_blast.specs.Words.{bit_of, filled, constant, inverted, moved, moved_out, extended, turned}
+use Rattle.bit_blast.specs.Circuits.{each_of, none_of, add_of, product_from, shift_by, rotate_by}
+
+-- the bits of the registers and flags
+pub record Bits : Type 0 where
+  pub r : List (List Bit)
+  pub n : Bit
+  pub z : Bit
+  pub c : Bit
+  pub v : Bit
+
+-- what an instruction leaves: the bits of its target and the flags
+pub record Outcome : Type 0 where
+  pub value : List Bit
+  pub n : Bit
+  pub z : Bit
+  pub c : Bit
+  pub v : Bit
+
+-- a register's bits
+abbrev pub word : List (List Bit) → ℕ → List Bit
+word rs i = slice_index_or rs i []
+
+-- ---- what is common
+
+-- a result with its N and Z, and these C and V: N is its highest bit, and Z is formed after it
+abbrev pub result_of : Built → List Bit → Bit → Bit → Built × Outcome
+result_of b value c v =
+    let z = none_of b value (Constant true) in
+    (z.0, record { value = value; n = bit_of value 31; z = z.1; c = c; v = v })
+
+-- a sum with all its flags
+abbrev pub summed : Built → List Bit → List Bit → Bit → Built × Outcome
+summed b x y c =
+    let s = add_of b x y c in
+    result_of s.0 s.1.value s.1.carry s.1.overflow
+
+-- a gate of the bits of two words, a shift and a rotation by a register, and a product, each with its flags
+abbrev pub joined_of : Connective → Built → List Bit → List Bit → Bits → Built × Outcome
+joined_of gate b x y s = let r = each_of gate b x y in result_of r.0 r.1 s.c s.v
+
+abbrev pub shifted_of : Shift → Built → List Bit → List Bit → Bits → Built × Outcome
+shifted_of kind b x y s = let r = shift_by kind b y (record { value = x; carry = s.c }) in result_of r.0 r.1.value r.1.carry s.v
+
+abbrev pub rotated_of : Built → List Bit → List Bit → Bits → Built × Outcome
+rotated_of b x y s = let r = rotate_by b y (record { value = x; carry = s.c }) in result_of r.0 r.1.value r.1.carry s.v
+
+abbrev pub multiplied_of : Built → List Bit → List Bit → Bits → Built × Outcome
+multiplied_of b x y s = let r = product_from b 0 x y (filled (Constant false)) in result_of r.0 r.1 s.c s.v
+
+-- a word with the flags as they are
+abbrev pub unflagged : List Bit → Bits → Outcome
+unflagged value s = record { value = value; n = s.n; z = s.z; c = s.c; v = s.v }
+
+-- the flags alone: the target keeps its bits x
+abbrev pub flags_alone : List Bit → Built × Outcome → Built × Outcome
+flags_alone x r = (r.0, record r.1 { value = x })
+
+-- ---- by operation
+
+abbrev pub three_of : Sum → Built → List Bit → List Bit → Built × Outcome
+three_of sum.Add b x y = summed b x y (Constant false)
+three_of sum.Sub b x y = summed b x (inverted y) (Constant true)
+
+-- on the bits x of the target and y of the other register
+abbrev pub two_of : Operation → Built → List Bit → List Bit → Bits → Built × Outcome
+two_of operation.And b x y s = joined_of And b x y s
+two_of operation.Eor b x y s = joined_of Xor b x y s
+two_of operation.Lsl b x y s = shifted_of shift.Lsl b x y s
+two_of operation.Lsr b x y s = shifted_of shift.Lsr b x y s
+two_of operation.Asr b x y s = shifted_of shift.Asr b x y s
+two_of operation.Adc b x y s = summed b x y s.c
+two_of operation.Sbc b x y s = summed b x (inverted y) s.c
+two_of operation.Ror b x y s = rotated_of b x y s
+two_of operation.Tst b x y s = flags_alone x (joined_of And b x y s)
+two_of operation.Rsb b x y s = summed b (inverted y) (filled (Constant false)) (Constant true)
+two_of operation.Cmp b x y s = flags_alone x (three_of sum.Sub b x y)
+two_of operation.Cmn b x y s = flags_alone x (three_of sum.Add b x y)
+two_of operation.Orr b x y s = joined_of Or b x y s
+two_of operation.Mul b x y s = multiplied_of b x y s
+two_of operation.Bic b x y s = joined_of And b x (inverted y) s
+two_of operation.Mvn b x y s = result_of b (inverted y) s.c s.v
+
+-- on the bits x of the target and those of a number
+abbrev pub byte_of : ByteOperation → Built → List Bit → List Bit → Bits → Built × Outcome
+byte_of byte.Mov b x n s = result_of b n s.c s.v
+byte_of byte.Cmp b x n s = flags_alone x (three_of sum.Sub b x n)
+byte_of byte.Add b x n s = three_of sum.Add b x n
+byte_of byte.Sub b x n s = three_of sum.Sub b x n
+
+-- a shift by a number of places, which isn't 0
+abbrev pub number_shift : Shift → Built → List Bit → ℕ → Bits → Built × Outcome
+number_shift kind b x n s = result_of b (moved kind n x) (moved_out kind n x) s.v
+
+-- ---- by instruction
+
+-- the register that an instruction writes, or keeps
+abbrev pub target_of : Instr → ℕ
+target_of (instr.Mov d m) = d.number
+target_of (instr.Three s d n m) = d.number
+target_of (instr.Two o d m) = d.number
+target_of (instr.Movs d m) = d.number
+target_of (instr.ShiftLeft d m i) = d.number
+target_of (instr.ShiftRight s d m i) = d.number
+target_of (instr.ThreeNumber s d n i) = d.number
+target_of (instr.TwoNumber o d i) = d.number
+target_of (instr.Add r) = r.target.number
+target_of (instr.Extend e d m) = d.number
+target_of (instr.Reverse r d m) = d.number
+target_of i = 0
+
+abbrev pub outcome_of : Built → Instr → Bits → Built × Outcome
+outcome_of b (instr.Mov d m) s = (b, unflagged (word s.r m.number) s)
+outcome_of b (instr.Three o d n m) s = three_of o b (word s.r n.number) (word s.r m.number)
+outcome_of b (instr.Two o d m) s = two_of o b (word s.r d.number) (word s.r m.number) s
+outcome_of b (instr.Movs d m) s = result_of b (word s.r m.number) s.c s.v
+outcome_of b (instr.ShiftLeft d m i) s = number_shift shift.Lsl b (word s.r m.number) i.number s
+outcome_of b (instr.ShiftRight o d m i) s = number_shift (right_shift o) b (word s.r m.number) i.number s
+outcome_of b (instr.ThreeNumber o d n i) s = three_of o b (word s.r n.number) (constant i.number)
+outcome_of b (instr.TwoNumber o d i) s = byte_of o b (word s.r d.number) (constant i.number) s
+outcome_of b (instr.Add r) s = let a = add_of b (word s.r r.target.number) (word s.r r.source.number) (Constant false) in (a.0, unflagged a.1.value s)
+outcome_of b (instr.Extend e d m) s = (b, unflagged (extended e (word s.r m.number)) s)
+outcome_of b (instr.Reverse r d m) s = (b, unflagged (turned r (word s.r m.number)) s)
+outcome_of b i s = (b, unflagged (word s.r 0) s)
+
+-- the bits with an outcome written
+abbrev pub written : ℕ → Outcome → Bits → Bits
+written d o s = record { r = slice_set s.r d o.value; n = o.n; z = o.z; c = o.c; v = o.v }
+
+-- the bits after an instruction, and after several
+abbrev pub formed : Built → Instr → Bits → Built × Bits
+formed b i s = let o = outcome_of b i s in (o.0, written (target_of i) o.1 s)
+
+abbrev pub formed_all : Built → List Instr → Bits → Built × Bits
+formed_all b [] s = (b, s)
+formed_all b (i ∷ is) s = let r = formed b i s in formed_all r.0 is r.1

@@ -1,0 +1,6 @@
+pub mod Words
+pub mod Circuits
+pub mod Forming
+pub mod Differences
+pub mod Values
+pub mod Exactness

@@ -1,0 +1,245 @@
+ghost use Rattle.std.specs.Prelude.{◌≡◌, ◌<◌, ◌+◌, IfOk, length, true};
+ghost use Rattle.thumb_instr.specs.Window.{is_in_window};
+ghost use Rattle.thumb_model.specs.Rewrite.{named, AreBelow, AreOver};
+ghost use Rattle.bit_blast.specs.Forming.{Bits, word, target_of, outcome_of, written, formed, formed_all};
+ghost use Rattle.bit_blast.specs.Differences.{input_word, start_bits, start_built};
+ghost use Rattle.cnf_gates.specs.Gates.{nothing_built};
+
+use crate::circuits::{Total, add};
+use crate::forming::{Outcome, byte, number_shift, result, right, three, two, unflagged};
+use crate::words::{Word, constant, copied, extended, turned};
+use cnf_gates::{Bit, Builder, GateError};
+use std::alloc::Global;
+use std::marker::Model;
+use thumb_instr::{Instr, Seq};
+use word_bits::Shift;
+
+/// The registers and flags as bits.
+#[derive(Drop)]
+pub struct Bits {
+    pub registers: Vec<Word>,
+    pub n: Bit,
+    pub z: Bit,
+    pub c: Bit,
+    pub v: Bit,
+}
+
+impl Model for Bits {
+    ghost use Rattle.bit_blast.specs.Forming.{Bits};
+
+    ghost Value = { Bits };
+
+    ghost view = { λ s. record { r = s.registers.items; n = s.n; z = s.z; c = s.c; v = s.v } };
+}
+
+/// The register that an instruction writes, or keeps.
+fn target(instr: &Instr) -> u32
+    ensures { result ≡ target_of instr.now }
+{
+    match *instr {
+        Instr::Mov { target, .. } => target.number,
+        Instr::Three { target, .. } => target.number,
+        Instr::Two { target, .. } => target.number,
+        Instr::Movs { target, .. } => target.number,
+        Instr::ShiftLeft { target, .. } => target.number,
+        Instr::ShiftRight { target, .. } => target.number,
+        Instr::ThreeNumber { target, .. } => target.number,
+        Instr::TwoNumber { target, .. } => target.number,
+        Instr::Add { registers } => registers.target.number,
+        Instr::Extend { target, .. } => target.number,
+        Instr::Reverse { target, .. } => target.number,
+        _ => 0,
+    }
+}
+
+/// A word of inputs.
+fn input_bits(builder: &mut Builder) -> Result<Word, GateError>
+    ensures { IfOk result (λ w. (builder.new ≡ record builder.old { variables = builder.old.variables + 32 }) × (w ≡ input_word builder.old.variables)) }
+{
+    let mut word = [Bit::Constant(false); 32];
+    for i in 0..32 {
+        word[i] = builder.input()?;
+    }
+    Ok(word)
+}
+
+impl Bits {
+    /// The inputs: 32 bits of each of `k` registers, then N, Z, C and V.
+    pub fn inputs(alloc: Global, builder: &mut Builder, k: u8) -> Result<Bits, GateError>
+        requires { builder.old ≡ nothing_built }
+        ensures built { IfOk result (λ _. builder.new ≡ start_built k) }
+        ensures bits { IfOk result (λ s. s ≡ start_bits k) }
+    {
+        let mut registers = Vec::new(alloc);
+        for i in 0..k {
+            registers.push(input_bits(builder)?)?;
+        }
+        let n = builder.input()?;
+        let z = builder.input()?;
+        let c = builder.input()?;
+        let v = builder.input()?;
+        Ok(Bits {
+            registers,
+            n,
+            z,
+            c,
+            v,
+        })
+    }
+
+    /// The same bits once more.
+    pub fn copied(&self, alloc: Global) -> Result<Bits, GateError>
+        ensures { IfOk result (λ s. s ≡ self.now) }
+    {
+        Ok(Bits {
+            registers: Vec::from_slice(alloc, &self.registers)?,
+            n: self.n,
+            z: self.z,
+            c: self.c,
+            v: self.v,
+        })
+    }
+
+    /// The bits of a register.
+    fn word(&self, register: u32) -> &Word
+        requires { register < length self.now.r }
+        ensures { result.now ≡ word self.now.r register }
+    {
+        &self.registers[register as usize]
+    }
+
+    /// What an instruction leaves.
+    fn outcome(&self, builder: &mut Builder, instr: &Instr) -> Result<Outcome, GateError>
+        requires window { is_in_window instr.now ≡ true }
+        requires registers { AreBelow (length self.now.r) (named instr.now) }
+        ensures { IfOk result (λ o. (builder.new, o) ≡ outcome_of builder.old instr.now self.now) }
+    {
+        match *instr {
+            Instr::Mov { source, .. } => Ok(unflagged(copied(self.word(source.number)), self)),
+            Instr::Three {
+                sum,
+                left,
+                right,
+                ..
+            } => three(
+                builder,
+                sum,
+                self.word(left.number),
+                self.word(right.number),
+            ),
+            Instr::Two {
+                operation,
+                target,
+                other,
+            } => two(
+                builder,
+                operation,
+                self.word(target.number),
+                self.word(other.number),
+                self,
+            ),
+            Instr::Movs { source, .. } => {
+                result(builder, copied(self.word(source.number)), &self.c, &self.v)
+            }
+            Instr::ShiftLeft { source, amount, .. } => number_shift(
+                builder,
+                Shift::Lsl,
+                self.word(source.number),
+                amount.number,
+                self,
+            ),
+            Instr::ShiftRight {
+                shift,
+                source,
+                amount,
+                ..
+            } => number_shift(
+                builder,
+                right(shift),
+                self.word(source.number),
+                amount.number,
+                self,
+            ),
+            Instr::ThreeNumber {
+                sum,
+                source,
+                number,
+                ..
+            } => three(
+                builder,
+                sum,
+                self.word(source.number),
+                &constant(number.number),
+            ),
+            Instr::TwoNumber {
+                operation,
+                target,
+                number,
+            } => byte(
+                builder,
+                operation,
+                self.word(target.number),
+                &constant(number.number),
+                self,
+            ),
+            Instr::Add { registers } => {
+                let Total { value, .. } = add(
+                    builder,
+                    self.word(registers.target.number),
+                    self.word(registers.source.number),
+                    &Bit::Constant(false),
+                )?;
+                Ok(unflagged(value, self))
+            }
+            Instr::Extend {
+                extension,
+                source,
+                ..
+            } => Ok(unflagged(extended(extension, self.word(source.number)), self)),
+            Instr::Reverse {
+                reversal,
+                source,
+                ..
+            } => Ok(unflagged(turned(reversal, self.word(source.number)), self)),
+            _ => unreachable!(),
+        }
+    }
+
+    /// Writes what an instruction leaves.
+    fn write(&mut self, target: u32, outcome: Outcome)
+        requires { target < length self.old.r }
+        ensures count { length self.new.r ≡ length self.old.r }
+        ensures exact { self.new ≡ written target outcome self.old }
+    {
+        let Outcome { value, n, z, c, v } = outcome;
+        self.registers[target as usize] = value;
+        self.n = n;
+        self.z = z;
+        self.c = c;
+        self.v = v;
+    }
+
+    /// The registers and flags after an instruction.
+    fn form(&mut self, builder: &mut Builder, instr: &Instr) -> Result<(), GateError>
+        requires window { is_in_window instr.now ≡ true }
+        requires registers { AreBelow (length self.old.r) (named instr.now) }
+        ensures count { IfOk result (λ _. length self.new.r ≡ length self.old.r) }
+        ensures exact { IfOk result (λ _. (builder.new, self.new) ≡ formed builder.old instr.now self.old) }
+    {
+        let outcome = self.outcome(builder, instr)?;
+        self.write(target(instr), outcome);
+        Ok(())
+    }
+
+    /// The registers and flags after a sequence.
+    pub fn form_all(&mut self, builder: &mut Builder, seq: &Seq) -> Result<(), GateError>
+        requires { AreOver (length self.old.r) seq.now }
+        ensures count { IfOk result (λ _. length self.new.r ≡ length self.old.r) }
+        ensures exact { IfOk result (λ _. (builder.new, self.new) ≡ formed_all builder.old seq.now self.old) }
+    {
+        for instr in seq.as_slice() {
+            self.form(builder, instr)?;
+        }
+        Ok(())
+    }
+}

@@ -1,0 +1,227 @@
+ghost use Rattle.std.specs.Prelude.{◌≡◌, ◌<◌, ◌≤◌, IfOk};
+ghost use Rattle.thumb_model.specs.Effect.{right_shift};
+ghost use Rattle.bit_blast.specs.Forming.{result_of, summed, unflagged, joined_of, shifted_of, rotated_of, multiplied_of, three_of, two_of, byte_of, number_shift};
+
+use crate::bits::Bits;
+use crate::circuits::{Connective, Total, add, each, none, product};
+use crate::shifts::{Shifted, rotate_by, shift_by};
+use crate::words::{Word, copied, filled, inverted, moved, moved_out};
+use cnf_gates::{Bit, Builder, GateError};
+use std::marker::Model;
+use thumb_instr::{ByteOperation, Operation, Right, Sum};
+use word_bits::Shift;
+
+/// What an instruction leaves: the bits of its target and the flags.
+#[derive(Drop)]
+pub struct Outcome {
+    pub value: Word,
+    pub n: Bit,
+    pub z: Bit,
+    pub c: Bit,
+    pub v: Bit,
+}
+
+impl Model for Outcome {
+    ghost use Rattle.bit_blast.specs.Forming.{Outcome};
+
+    ghost Value = { Outcome };
+
+    ghost view = { λ o. record { value = o.value; n = o.n; z = o.z; c = o.c; v = o.v } };
+}
+
+/// A result with its N and Z, and these C and V.
+pub fn result(builder: &mut Builder, value: Word, c: &Bit, v: &Bit) -> Result<Outcome, GateError>
+    ensures { IfOk result (λ o. (builder.new, o) ≡ result_of builder.old value c.now v.now) }
+{
+    let z = none(builder, &value)?;
+    let n = value[31];
+    Ok(Outcome {
+        value,
+        n,
+        z,
+        c: *c,
+        v: *v,
+    })
+}
+
+/// A sum with all its flags.
+fn summed(builder: &mut Builder, x: &Word, y: &Word, c: &Bit) -> Result<Outcome, GateError>
+    ensures { IfOk result (λ o. (builder.new, o) ≡ summed builder.old x.now y.now c.now) }
+{
+    let Total {
+        value,
+        carry,
+        overflow,
+    } = add(builder, x, y, c)?;
+    result(builder, value, &carry, &overflow)
+}
+
+/// A word with the flags as they are.
+pub fn unflagged(value: Word, before: &Bits) -> Outcome
+    ensures { result ≡ unflagged value before.now }
+{
+    Outcome {
+        value,
+        n: before.n,
+        z: before.z,
+        c: before.c,
+        v: before.v,
+    }
+}
+
+/// The flags alone: the target keeps its bits.
+fn flags_alone(target: &Word, outcome: Outcome) -> Outcome
+    ensures { result ≡ record outcome { value = target.now } }
+{
+    let Outcome { n, z, c, v, .. } = outcome;
+    let value = copied(target);
+    Outcome { value, n, z, c, v }
+}
+
+/// A sum or a difference.
+pub fn three(builder: &mut Builder, sum: Sum, x: &Word, y: &Word) -> Result<Outcome, GateError>
+    ensures { IfOk result (λ o. (builder.new, o) ≡ three_of sum builder.old x.now y.now) }
+{
+    match sum {
+        Sum::Add => summed(builder, x, y, &Bit::Constant(false)),
+        Sum::Sub => summed(builder, x, &inverted(y), &Bit::Constant(true)),
+    }
+}
+
+/// A shift right as a kind of shift.
+pub fn right(shift: Right) -> Shift
+    ensures { result ≡ right_shift shift }
+{
+    match shift {
+        Right::Lsr => Shift::Lsr,
+        Right::Asr => Shift::Asr,
+    }
+}
+
+/// A shift by a number of places.
+pub fn number_shift(
+    builder: &mut Builder,
+    kind: Shift,
+    x: &Word,
+    n: u32,
+    before: &Bits,
+) -> Result<Outcome, GateError>
+    requires some { 0 < n }
+    requires within { n ≤ 32 }
+    ensures { IfOk result (λ o. (builder.new, o) ≡ number_shift kind builder.old x.now n before.now) }
+{
+    let value = moved(kind, n as usize, x);
+    let carry = moved_out(kind, n as usize, x);
+    result(builder, value, &carry, &before.v)
+}
+
+/// A gate of the bits of two words, with its N and Z.
+fn joined(
+    builder: &mut Builder,
+    gate: Connective,
+    x: &Word,
+    y: &Word,
+    before: &Bits,
+) -> Result<Outcome, GateError>
+    ensures { IfOk result (λ o. (builder.new, o) ≡ joined_of gate builder.old x.now y.now before.now) }
+{
+    let value = each(builder, gate, x, y)?;
+    result(builder, value, &before.c, &before.v)
+}
+
+/// A word and C, to be shifted.
+fn unshifted(x: &Word, before: &Bits) -> Shifted
+    ensures { result ≡ record { value = x.now; carry = before.now.c } }
+{
+    let value = copied(x);
+    Shifted {
+        value,
+        carry: before.c,
+    }
+}
+
+/// A shift by a register.
+fn shifted(
+    builder: &mut Builder,
+    kind: Shift,
+    x: &Word,
+    y: &Word,
+    before: &Bits,
+) -> Result<Outcome, GateError>
+    ensures { IfOk result (λ o. (builder.new, o) ≡ shifted_of kind builder.old x.now y.now before.now) }
+{
+    let Shifted { value, carry } = shift_by(builder, kind, y, unshifted(x, before))?;
+    result(builder, value, &carry, &before.v)
+}
+
+/// A rotation by a register.
+fn rotated(builder: &mut Builder, x: &Word, y: &Word, before: &Bits) -> Result<Outcome, GateError>
+    ensures { IfOk result (λ o. (builder.new, o) ≡ rotated_of builder.old x.now y.now before.now) }
+{
+    let Shifted { value, carry } = rotate_by(builder, y, &unshifted(x, before))?;
+    result(builder, value, &carry, &before.v)
+}
+
+/// A product.
+fn multiplied(
+    builder: &mut Builder,
+    x: &Word,
+    y: &Word,
+    before: &Bits,
+) -> Result<Outcome, GateError>
+    ensures { IfOk result (λ o. (builder.new, o) ≡ multiplied_of builder.old x.now y.now before.now) }
+{
+    let value = product(builder, x, y)?;
+    result(builder, value, &before.c, &before.v)
+}
+
+/// An operation on the bits `x` of its target and `y` of the other register.
+pub fn two(
+    builder: &mut Builder,
+    operation: Operation,
+    x: &Word,
+    y: &Word,
+    before: &Bits,
+) -> Result<Outcome, GateError>
+    ensures { IfOk result (λ o. (builder.new, o) ≡ two_of operation builder.old x.now y.now before.now) }
+{
+    match operation {
+        Operation::And => joined(builder, Connective::And, x, y, before),
+        Operation::Eor => joined(builder, Connective::Xor, x, y, before),
+        Operation::Lsl => shifted(builder, Shift::Lsl, x, y, before),
+        Operation::Lsr => shifted(builder, Shift::Lsr, x, y, before),
+        Operation::Asr => shifted(builder, Shift::Asr, x, y, before),
+        Operation::Adc => summed(builder, x, y, &before.c),
+        Operation::Sbc => summed(builder, x, &inverted(y), &before.c),
+        Operation::Ror => rotated(builder, x, y, before),
+        Operation::Tst => Ok(flags_alone(x, joined(builder, Connective::And, x, y, before)?)),
+        Operation::Rsb => {
+            let zero = filled(&Bit::Constant(false));
+            summed(builder, &inverted(y), &zero, &Bit::Constant(true))
+        }
+        Operation::Cmp => Ok(flags_alone(x, three(builder, Sum::Sub, x, y)?)),
+        Operation::Cmn => Ok(flags_alone(x, three(builder, Sum::Add, x, y)?)),
+        Operation::Orr => joined(builder, Connective::Or, x, y, before),
+        Operation::Mul => multiplied(builder, x, y, before),
+        Operation::Bic => joined(builder, Connective::And, x, &inverted(y), before),
+        Operation::Mvn => result(builder, inverted(y), &before.c, &before.v),
+    }
+}
+
+/// An operation on the bits `x` of its target and those of a number.
+pub fn byte(
+    builder: &mut Builder,
+    operation: ByteOperation,
+    x: &Word,
+    number: &Word,
+    before: &Bits,
+) -> Result<Outcome, GateError>
+    ensures { IfOk result (λ o. (builder.new, o) ≡ byte_of operation builder.old x.now number.now before.now) }
+{
+    match operation {
+        ByteOperation::Mov => result(builder, copied(number), &before.c, &before.v),
+        ByteOperation::Cmp => Ok(flags_alone(x, three(builder, Sum::Sub, x, number)?)),
+        ByteOperation::Add => three(builder, Sum::Add, x, number),
+        ByteOperation::Sub => three(builder, Sum::Sub, x, number),
+    }
+}

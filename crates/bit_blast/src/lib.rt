@@ -1,0 +1,17 @@
+//! The formula of two sequences of instructions: gates over the bits of registers and flags, whose models are exactly the states that tell
+//! the sequences apart under a mask.
+#![tactic(auto)]
+
+mod bits;
+mod circuits;
+mod forming;
+pub mod laws;
+mod shifts;
+mod sides;
+mod state;
+#[cfg(test)]
+mod tests;
+mod words;
+
+pub use sides::formula;
+pub use state::state_of;

@@ -1,0 +1,64 @@
+ghost use Rattle.std.specs.Prelude.{◌≡◌, ◌≤◌, ◌+◌};
+ghost use Rattle.std.specs.Int.{bit_at, from_bool};
+ghost use Rattle.cnf_gates.specs.Meaning.{assigned};
+ghost use Rattle.window_exec.specs.State.{values_of};
+ghost use Rattle.bit_blast.specs.Differences.{input_word};
+ghost use Rattle.bit_blast.specs.Values.{number_of, start_values};
+ghost use Rattle.bit_blast.specs.Exactness.{SameOver};
+
+use cnf_gates::Model;
+use window_exec::WState;
+
+/// The number of the 32 variables from a place on, the lowest bit first.
+fn number(model: &Model, first: u32) -> u32
+    requires { first ≤ 10000 }
+    ensures { result ≡ number_of (assigned model.now) (input_word first) }
+{
+    let mut number = 0;
+    for i in 0..32 {
+        number += u32::from(model.value(first + i)) << i;
+    }
+    number
+}
+
+/// The flags from a place on: N, Z, C and V.
+fn flags(model: &Model, first: u32) -> u8
+    requires { first ≤ 10000 }
+    ensures n { bit_at result 3 ≡ from_bool (assigned model.now first) }
+    ensures z { bit_at result 2 ≡ from_bool (assigned model.now (first + 1)) }
+    ensures c { bit_at result 1 ≡ from_bool (assigned model.now (first + 2)) }
+    ensures v { bit_at result 0 ≡ from_bool (assigned model.now (first + 3)) }
+{
+    let n = u8::from(model.value(first));
+    let z = u8::from(model.value(first + 1));
+    let c = u8::from(model.value(first + 2));
+    let v = u8::from(model.value(first + 3));
+    n << 3 | z << 2 | c << 1 | v
+}
+
+/// The value that a model of a formula over `k` registers gives a register: 0 from `k` on.
+fn register(model: &Model, k: u8, register: u8) -> u32
+    requires { register ≤ 3 }
+    ensures { result ≡ start_values (assigned model.now) k register }
+{
+    if register < k {
+        number(model, 32 * u32::from(register))
+    } else {
+        0
+    }
+}
+
+/// The state that a model of a formula over `k` registers gives: registers from `k` on are 0.
+pub fn state_of(model: &Model, k: u8) -> WState
+    ensures { SameOver 4 (values_of result) (start_values (assigned model.now) k) }
+{
+    WState {
+        r: [
+            register(model, k, 0),
+            register(model, k, 1),
+            register(model, k, 2),
+            register(model, k, 3),
+        ],
+        nzcv: flags(model, 32 * u32::from(k)),
+    }
+}
