@@ -1,0 +1,12 @@
+pub mod FrontLemmas
+pub mod ValueLemmas
+pub mod ReadingLemmas
+pub mod MapLemmas
+pub mod TwiceLemmas
+pub mod PrintLemmas
+pub mod FewLemmas
+pub mod TargetLemmas
+pub mod ParseLemmas
+pub mod ReplaceLemmas
+pub mod SpotLemmas
+pub mod LabelLemmas

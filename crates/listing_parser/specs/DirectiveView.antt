@@ -1,0 +1,7 @@
+-- A directive's row without where its name lies in memory.
+use Rattle.std.specs.Prelude.{ℕ, List}
+use Rattle.listing_parser.specs.declared.directive.Named.{Named}
+use Rattle.listing_parser.specs.declared.directive.Directive.{Directive}
+
+abbrev pub row_of : Named → List ℕ × Directive
+row_of n = (n.name.now, n.directive)

@@ -1,0 +1,11 @@
+pub mod Views
+pub mod TableWords
+pub mod Tables
+pub mod Grammar
+pub mod DirectiveView
+pub mod Bare
+pub mod ToldView
+pub mod Targets
+pub mod Parsing
+pub mod Replacing
+pub mod Results

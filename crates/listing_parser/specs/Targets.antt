@@ -1,0 +1,98 @@
+-- Names that instructions and data words mention, and what they must be there.
+use Rattle.std.specs.Prelude.{ℕ, ◌+◌, ◌-◌, ◌/◌, ◌%◌, ◌==◌, ◌&&◌, ◌||◌, not, nat_lt, nat_le, Bool, true, false, List, [], ◌∷◌, ◌++◌, length, Option, Some, None, is_some, if◌then◌else◌}
+use Rattle.thumb_instr.specs.declared.instr.Instr.{Instr}
+use Rattle.thumb_instr.specs.declared.instr.Instr.TheVariants as instr
+use Rattle.thumb_model.specs.Listing.{Name, Mention, Value, Number, OfName, Statement, Nothing, Runs, Words, Aligns, Sets, Line, labels_from, code_of, place_of, has_label}
+use Rattle.thumb_model.specs.Layout.{is_among}
+use Rattle.listing_parser.specs.Grammar.{Mark, Unmarked, NextMarked, NameMarked, Read}
+
+-- ---- marks of functions ----
+
+abbrev pub marked_by_name : Mark → List Name
+marked_by_name Unmarked = []
+marked_by_name NextMarked = []
+marked_by_name (NameMarked name) = name ∷ []
+
+abbrev pub is_next : Mark → Bool
+is_next Unmarked = false
+is_next NextMarked = true
+is_next (NameMarked name) = false
+
+-- the first label takes a mark that waits for it
+abbrev pub marked_first : Bool → List Name → List Name
+marked_first waits [] = []
+marked_first waits (n ∷ ns) = if waits then n ∷ [] else []
+
+abbrev pub still_waits : Bool → List Name → Bool
+still_waits waits [] = waits
+still_waits waits (n ∷ ns) = false
+
+-- the names that are marked as functions; at first whether a mark waits for its label
+abbrev pub functions : Bool → List Read → List Name
+functions waits [] = []
+functions waits (r ∷ rs) = (marked_first waits r.line.names ++ marked_by_name r.mark) ++ functions (still_waits waits r.line.names || is_next r.mark) rs
+
+-- ---- literals ----
+
+-- the lines from the name's first label on
+abbrev pub from_label : Name → List Line → List Line
+from_label name [] = []
+from_label name (l ∷ ls) = if is_among name l.names then l ∷ ls else from_label name ls
+
+-- whether the first n + 1 places are words of data, with no alignment line before the last of them
+abbrev pub onward : ℕ → Statement → (ℕ → Bool) → Bool
+onward n Nothing next = next n
+onward n (Runs i mention) next = false
+onward n (Words vs) next = if nat_lt n (length vs) then true else next (n - length vs)
+onward n (Aligns size most) next = false
+onward n (Sets name address) next = next n
+
+abbrev pub reaches : List Line → ℕ → Bool
+reaches [] n = false
+reaches (l ∷ ls) n = onward n l.statement (reaches ls)
+
+-- the word at a multiple of 4 up to 1020 from the label
+abbrev pub is_literal : List Line → Mention → Bool
+is_literal all m = (m.plus % 4 == 0) && (nat_le m.plus 1020 && reaches (from_label m.name all) (m.plus / 4))
+
+-- ---- branches and words ----
+
+abbrev pub is_code_label : List Line → Name → Bool
+is_code_label all name = is_some (place_of (code_of all) name)
+
+abbrev pub is_label : List Line → Name → Bool
+is_label all name = has_label name (labels_from 0 all)
+
+-- a conditional branch needs a code label, a branch or call a code label or no label, a load of a literal and an address words behind a label
+abbrev pub is_aimed : List Line → Instr → Mention → Bool
+is_aimed all (instr.BranchIf c d) m = is_code_label all m.name
+is_aimed all (instr.Branch d) m = is_code_label all m.name || not (is_label all m.name)
+is_aimed all (instr.Call d) m = is_code_label all m.name || not (is_label all m.name)
+is_aimed all (instr.Literal t d) m = is_literal all m
+is_aimed all (instr.Address t d) m = is_literal all m
+is_aimed all i m = true
+
+abbrev pub is_aimed_at : List Line → Instr → Option Mention → Bool
+is_aimed_at all i None = true
+is_aimed_at all i (Some m) = is_aimed all i m
+
+-- a word of a code label is that of a function, with nothing added
+abbrev pub is_word_of : List Line → List Name → Value → Bool
+is_word_of all marked (Number n) = true
+is_word_of all marked (OfName m) = not (is_code_label all m.name) || ((m.plus == 0) && is_among m.name marked)
+
+abbrev pub are_words_of : List Line → List Name → List Value → Bool
+are_words_of all marked [] = true
+are_words_of all marked (v ∷ vs) = is_word_of all marked v && are_words_of all marked vs
+
+abbrev pub is_on_target : List Line → List Name → Statement → Bool
+is_on_target all marked Nothing = true
+is_on_target all marked (Runs i mention) = is_aimed_at all i mention
+is_on_target all marked (Words vs) = are_words_of all marked vs
+is_on_target all marked (Aligns size most) = true
+is_on_target all marked (Sets name address) = true
+
+-- the first line, counted from n, that mentions a name which isn't what it needs
+abbrev pub first_target : List Line → List Name → ℕ → List Line → Option ℕ
+first_target all marked n [] = None
+first_target all marked n (l ∷ ls) = if is_on_target all marked l.statement then first_target all marked (n + 1) ls else Some n

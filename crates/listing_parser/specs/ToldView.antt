@@ -1,0 +1,19 @@
+-- What a statement of the code says.
+use Rattle.listing_parser.specs.declared.line.Mark.{Mark as Marks}
+use Rattle.listing_parser.specs.declared.line.Mark.TheVariants as mark
+use Rattle.listing_parser.specs.declared.line.Line.{Line as Lines}
+use Rattle.listing_parser.specs.declared.statement.Told.{Told as Tolds}
+use Rattle.listing_parser.specs.Grammar.{Mark, Unmarked, NextMarked, NameMarked, Told, Read}
+use Rattle.listing_parser.specs.Views.{statement_view, line_view}
+use Rattle.listing_parser.specs.Bare.{said_of, bare}
+
+abbrev pub mark_view : Marks → Mark
+mark_view mark.Nothing = Unmarked
+mark_view mark.Next = NextMarked
+mark_view (mark.Named name) = NameMarked name.items
+
+abbrev pub told_view : Tolds → Told
+told_view t = record { said = said_of (statement_view t.statement); mark = mark_view t.mark }
+
+abbrev pub read_view : Lines → Read
+read_view l = record { line = bare (line_view l); mark = mark_view l.mark }

@@ -1,0 +1,82 @@
+use std::alloc::{AllocError, AllocFailed};
+use thiserror::Error;
+
+/// Want of memory.
+#[derive(Clone, Copy, Debug, PartialEq, Eq, Error)]
+#[error("out of memory")]
+pub struct Memory;
+
+impl From<AllocError> for Memory {
+    fn from(_: AllocError) -> Memory {
+        Memory
+    }
+}
+
+impl<T: Drop> From<AllocFailed<T>> for Memory {
+    fn from(_: AllocFailed<T>) -> Memory {
+        Memory
+    }
+}
+
+impl From<thumb_syntax::Memory> for Memory {
+    fn from(_: thumb_syntax::Memory) -> Memory {
+        Memory
+    }
+}
+
+/// Why a line is refused. `as u8` gives the number by which it is told.
+#[derive(Clone, Copy, Debug, PartialEq, Eq)]
+pub enum Kind {
+    /// The line is outside the grammar.
+    Shape = 1,
+    /// The line defines a name that was defined before.
+    Twice = 2,
+    /// The line mentions a name that isn't what the statement needs there.
+    Target = 3,
+    /// The line is one too many, or too long.
+    Limit = 6,
+}
+
+/// Why a text is no listing.
+#[derive(Clone, Copy, Debug, PartialEq, Eq, Error)]
+pub enum ListingError {
+    /// The first line that is refused, by its number from 1, and why.
+    #[error("line {number}: {kind:?}")]
+    Line { number: u64, kind: Kind },
+    /// Want of memory.
+    #[error("out of memory")]
+    Memory,
+}
+
+impl From<Memory> for ListingError {
+    ghost use Rattle.std.specs.Prelude.{◌≡◌};
+    ghost use Rattle.listing_parser.specs.declared.errors.ListingError.TheVariants.{Memory as OfMemory};
+
+    ghost from_gives = { λ _ e. e ≡ OfMemory };
+
+    fn from(_: Memory) -> ListingError {
+        ListingError::Memory
+    }
+}
+
+impl From<AllocError> for ListingError {
+    ghost use Rattle.std.specs.Prelude.{◌≡◌};
+    ghost use Rattle.listing_parser.specs.declared.errors.ListingError.TheVariants.{Memory as OfMemory};
+
+    ghost from_gives = { λ _ e. e ≡ OfMemory };
+
+    fn from(_: AllocError) -> ListingError {
+        ListingError::Memory
+    }
+}
+
+impl<T: Drop> From<AllocFailed<T>> for ListingError {
+    ghost use Rattle.std.specs.Prelude.{◌≡◌};
+    ghost use Rattle.listing_parser.specs.declared.errors.ListingError.TheVariants.{Memory as OfMemory};
+
+    ghost from_gives = { λ _ e. e ≡ OfMemory };
+
+    fn from(_: AllocFailed<T>) -> ListingError {
+        ListingError::Memory
+    }
+}

@@ -1,0 +1,183 @@
+//! Tables by which places and names are found without a search.
+ghost use Rattle.std.specs.Prelude.{◌≡◌, ◌<◌, ◌^◌, ◌++◌, ℕ, Bool, List, None, Some, map, length, IfOk, OnOk, if◌then◌else◌};
+ghost use Rattle.std.specs.Map.{lookup};
+ghost use Rattle.std.specs.Str.{bytes_eq};
+ghost use Rattle.thumb_syntax.specs.Registers.{or_else};
+ghost use Rattle.thumb_model.specs.Listing.{places_in, places_of};
+ghost use Rattle.thumb_model.specs.Layout.{is_among, set_address, set_in};
+ghost use Rattle.listing_parser.specs.Views.{line_view, statement_view};
+ghost use Rattle.listing_parser.specs.TableWords.{is_key, label_line, passed_from, spots_at, spots_from};
+
+use crate::errors::Memory;
+use crate::line::{Line, Statement};
+use indexmap::IndexMap;
+use std::alloc::{AllocError, Global};
+
+/// Where a place stands.
+#[derive(Clone, Copy)]
+pub struct Spot {
+    /// The index of its line, from 0.
+    pub line: usize,
+    /// Which of the line's places it is, from 0.
+    pub item: usize,
+}
+
+/// What stands before a line.
+#[derive(Clone, Copy)]
+pub struct Passed {
+    /// How many places.
+    pub places: usize,
+}
+
+/// The tables of a listing's lines.
+#[derive(Drop)]
+pub struct Index {
+    /// Where each place stands.
+    pub spots: Vec<Spot>,
+    /// What stands before each line.
+    pub passed: Vec<Passed>,
+    /// The index of the first line that has a label of the name.
+    pub labels: IndexMap<Vec<u8>, usize>,
+    /// The first address that is set for a name.
+    pub addresses: IndexMap<Vec<u8>, u32>,
+}
+
+/// How many places a statement has.
+pub fn places_in(statement: &Statement) -> usize
+    ensures { result ≡ length (places_in (statement_view statement.now)) }
+{
+    match statement {
+        Statement::Runs { .. } => 1,
+        Statement::Words(values) => values.len(),
+        _ => 0,
+    }
+}
+
+/// Adds where the places of a line stand.
+fn add_spots(spots: &mut Vec<Spot>, line: usize, statement: &Statement) -> Result<(), AllocError>
+    ensures { OnOk result (spots.new.items ≡ spots.old.items ++ spots_at line 0 (places_in (statement_view statement.now))) }
+{
+    for item in 0..places_in(statement) {
+        spots.push(Spot { line, item })?;
+    }
+    Ok(())
+}
+
+/// Where each place stands.
+fn spots(alloc: Global, lines: &[Line]) -> Result<Vec<Spot>, AllocError>
+    ensures { IfOk result (λ v. v.items ≡ spots_from 0 (map line_view lines.now)) }
+{
+    let mut spots = Vec::new(alloc);
+    for (n, line) in lines.iter().enumerate() {
+        add_spots(&mut spots, n, &line.statement)?;
+    }
+    Ok(spots)
+}
+
+/// What stands before each line.
+fn counts_before(alloc: Global, lines: &[Line]) -> Result<Vec<Passed>, AllocError>
+    requires { length (places_of (map line_view lines.now)) < 2 ^ 32 }
+    ensures { IfOk result (λ v. v.items ≡ passed_from 0 (map line_view lines.now)) }
+{
+    let mut passed = Vec::with_capacity(alloc, lines.len())?;
+    let mut places = 0;
+    for line in lines {
+        passed.push(Passed { places })?;
+        places += places_in(&line.statement);
+    }
+    Ok(passed)
+}
+
+/// Adds a value under a name, where it has none.
+fn add<V: Drop>(
+    alloc: Global,
+    table: &mut IndexMap<Vec<u8>, V>,
+    name: &[u8],
+    value: V,
+) -> Result<(), Memory>
+    ensures { OnOk result ((q : List ℕ) → lookup (is_key q) table.new.entries ≡ or_else (lookup (is_key q) table.old.entries) (if bytes_eq q name.now then Some value else None)) }
+{
+    if table.contains_key(name) {
+        return Ok(());
+    }
+    let key = name.to_vec(alloc)?;
+    table.insert(key, value)?;
+    Ok(())
+}
+
+/// Adds the line under each of its names.
+fn add_labels(
+    alloc: Global,
+    labels: &mut IndexMap<Vec<u8>, usize>,
+    names: &[Vec<u8>],
+    line: usize,
+) -> Result<(), Memory>
+    ensures { OnOk result ((q : List ℕ) → lookup (is_key q) labels.new.entries ≡ or_else (lookup (is_key q) labels.old.entries) (if is_among q (map (λ n. n.items) names.now) then Some line else None)) }
+{
+    for name in names {
+        add(alloc, labels, name, line)?;
+    }
+    Ok(())
+}
+
+/// The first line of each label.
+fn labels(alloc: Global, lines: &[Line]) -> Result<IndexMap<Vec<u8>, usize>, Memory>
+    ensures { IfOk result (λ m. (q : List ℕ) → lookup (is_key q) m.entries ≡ label_line q 0 (map line_view lines.now)) }
+{
+    let mut labels = IndexMap::new(alloc);
+    for (n, line) in lines.iter().enumerate() {
+        add_labels(alloc, &mut labels, &line.names, n)?;
+    }
+    Ok(labels)
+}
+
+/// Adds the address that a statement sets.
+fn add_address(
+    alloc: Global,
+    addresses: &mut IndexMap<Vec<u8>, u32>,
+    statement: &Statement,
+) -> Result<(), Memory>
+    ensures { OnOk result ((q : List ℕ) → lookup (is_key q) addresses.new.entries ≡ or_else (lookup (is_key q) addresses.old.entries) (set_in q (statement_view statement.now) None)) }
+{
+    match statement {
+        Statement::Sets { name, address } => add(alloc, addresses, name, *address),
+        _ => Ok(()),
+    }
+}
+
+/// The first address that is set for each name.
+fn addresses(alloc: Global, lines: &[Line]) -> Result<IndexMap<Vec<u8>, u32>, Memory>
+    ensures { IfOk result (λ m. (q : List ℕ) → lookup (is_key q) m.entries ≡ set_address q (map line_view lines.now)) }
+{
+    let mut addresses = IndexMap::new(alloc);
+    for line in lines {
+        add_address(alloc, &mut addresses, &line.statement)?;
+    }
+    Ok(addresses)
+}
+
+impl Index {
+    ghost use Rattle.std.specs.Prelude.{◌≡◌, ◌<◌, ◌^◌, [], None, map, length, IfOk};
+    ghost use Rattle.thumb_model.specs.Listing.{places_of};
+    ghost use Rattle.listing_parser.specs.Views.{line_view};
+    ghost use Rattle.listing_parser.specs.TableWords.{first_twice};
+    ghost use Rattle.listing_parser.specs.Tables.{IsIndex};
+
+    /// The tables of lines that define no name twice.
+    pub fn of(alloc: Global, lines: &[Line]) -> Result<Index, Memory>
+        requires few { length (places_of (map line_view lines.now)) < 2 ^ 32 }
+        requires once { first_twice 1 [] (map line_view lines.now) ≡ None }
+        ensures { IfOk result (λ i. IsIndex (map line_view lines.now) i) }
+    {
+        let spots = spots(alloc, lines)?;
+        let passed = counts_before(alloc, lines)?;
+        let labels = labels(alloc, lines)?;
+        let addresses = addresses(alloc, lines)?;
+        Ok(Index {
+            spots,
+            passed,
+            labels,
+            addresses,
+        })
+    }
+}

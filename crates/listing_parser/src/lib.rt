@@ -1,0 +1,24 @@
+//! Listings as GNU assembler texts of Armv6-M Thumb code: read line by line, printed back byte for byte, and edited by replacing instructions.
+#![tactic(auto)]
+
+mod directive;
+mod errors;
+mod index;
+pub mod laws;
+mod line;
+mod listing;
+mod parsing;
+mod reading;
+mod replacing;
+mod splitting;
+mod statement;
+mod targets;
+#[cfg(test)]
+mod tests;
+mod twice;
+mod values;
+
+pub use errors::{Kind, ListingError, Memory};
+pub use line::{Line, Mark, Mention, Place, Statement, Value};
+pub use listing::Listing;
+pub use parsing::{parse, print};

@@ -1,0 +1,80 @@
+//! The lines of a listing.
+use thumb_instr::Instr;
+
+/// A name with a number added to what it stands for, modulo 2^32.
+#[derive(Drop)]
+pub struct Mention {
+    /// The name's bytes.
+    pub name: Vec<u8>,
+    /// What is added, in bytes.
+    pub plus: u32,
+}
+
+/// A word of data.
+#[derive(Drop)]
+pub enum Value {
+    /// A number.
+    Number(u32),
+    /// What a name with a number added stands for.
+    OfName(Mention),
+}
+
+/// What a line says.
+#[derive(Drop)]
+pub enum Statement {
+    /// Nothing that lies in memory or has a meaning of its own.
+    Nothing,
+    /// An instruction, and the name that it mentions. Its distance is then 0.
+    Runs {
+        instr: Instr,
+        mention: Option<Mention>,
+    },
+    /// `.word`: words of data, at least one.
+    Words(Vec<Value>),
+    /// `.align` or `.p2align`: padding to a multiple of `size` bytes, a power of two up to 256, where at most `most` bytes are needed.
+    Aligns {
+        size: u32,
+        most: u32,
+    },
+    /// `.set` or `.equ`: the address of a name.
+    Sets {
+        name: Vec<u8>,
+        address: u32,
+    },
+}
+
+/// What a line says of functions.
+#[derive(Drop)]
+pub enum Mark {
+    /// Nothing.
+    Nothing,
+    /// `.thumb_func`: the next label, on a later line, is a function.
+    Next,
+    /// `.type name, %function`: the name is a function.
+    Named(Vec<u8>),
+}
+
+/// A line of a listing.
+#[derive(Drop)]
+pub struct Line {
+    /// The names of its labels, in order.
+    pub names: Vec<Vec<u8>>,
+    pub statement: Statement,
+    pub mark: Mark,
+    /// Its bytes, with its newline where it has one.
+    pub text: Vec<u8>,
+    /// How many bytes it has up to and with its last label's colon; 0 where it has no label.
+    pub front: usize,
+}
+
+/// A place of a listing: an instruction or a data word.
+#[derive(Clone, Copy)]
+pub enum Place<'a> {
+    /// An instruction, and the name that it mentions.
+    Op {
+        instr: Instr,
+        mention: Option<&'a Mention>,
+    },
+    /// A word of data.
+    Word(&'a Value),
+}

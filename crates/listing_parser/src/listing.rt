@@ -1,0 +1,173 @@
+ghost use Rattle.std.specs.Prelude.{◌≡◌, option_map, slice_get};
+ghost use Rattle.thumb_model.specs.Listing.{places_in};
+ghost use Rattle.listing_parser.specs.Views.{line_view, place_view};
+
+use crate::errors::Memory;
+use crate::index::Index;
+use crate::line::{Line, Place, Statement};
+use crate::replacing::replaced_lines;
+use std::alloc::Global;
+use std::marker::Model;
+use thumb_instr::Instr;
+
+/// A listing: its lines, with tables by which places and names are found in constant time.
+///
+/// A place is an instruction or a data word. Places are numbered from 0 in the order of the lines, and so are lines.
+#[derive(Drop)]
+pub struct Listing {
+    lines: Vec<Line>,
+    index: Index,
+}
+
+impl Model for Listing {
+    ghost use Rattle.std.specs.Prelude.{map, List};
+    ghost use Rattle.thumb_model.specs.Listing.{Line as ListingLine};
+
+    ghost Value = { List ListingLine };
+
+    ghost use Rattle.listing_parser.specs.Views.{line_view};
+    ghost use Rattle.listing_parser.specs.Tables.{IsIndex};
+
+    ghost view = { λ l. map line_view l.lines.items };
+
+    ghost invariant = { λ l. IsIndex (map line_view l.lines.items) l.index };
+}
+
+/// The place of this number within a line.
+fn place_in(line: &Line, item: usize) -> Option<Place<'_>>
+    ensures { option_map place_view result ≡ slice_get (places_in (line_view line.now).statement) item }
+{
+    match &line.statement {
+        Statement::Runs { instr, mention } => {
+            if item == 0 {
+                Some(Place::Op {
+                    instr: *instr,
+                    mention: mention.as_ref(),
+                })
+            } else {
+                None
+            }
+        }
+        Statement::Words(values) => match values.get(item) {
+            Some(value) => Some(Place::Word(value)),
+            None => None,
+        },
+        _ => None,
+    }
+}
+
+impl Listing {
+    ghost use Rattle.std.specs.Prelude.{◌≡◌, ◌≤◌, ◌<◌, ◌+◌, ◌^◌, ℕ, true, [], None, IfOk, map, option_map, slice_get, length, take};
+    ghost use Rattle.thumb_model.specs.Listing.{code_of, place_of, places_of, labels_from, is_op_place};
+    ghost use Rattle.thumb_model.specs.Layout.{set_address};
+    ghost use Rattle.thumb_model.specs.Machine.{label_place};
+    ghost use Rattle.thumb_model.specs.Rewritten.{replaced_lines};
+    ghost use Rattle.std.specs.List.{list_all};
+    ghost use Rattle.listing_parser.specs.Replacing.{names_no_label, own_line};
+    ghost use Rattle.listing_parser.specs.Views.{line_view, place_view};
+    ghost use Rattle.listing_parser.specs.TableWords.{first_twice, label_line};
+
+    /// The listing of lines that define no name twice and have fewer than 2^32 places.
+    pub(crate) fn of(alloc: Global, lines: Vec<Line>) -> Result<Listing, Memory>
+        requires few { length (places_of (map line_view lines.items)) < 2 ^ 32 }
+        requires once { first_twice 1 [] (map line_view lines.items) ≡ None }
+        ensures { IfOk result (λ l. l ≡ map line_view lines.items) }
+    {
+        let index = Index::of(alloc, &lines)?;
+        Ok(Listing { lines, index })
+    }
+
+    /// The lines in order.
+    pub fn lines(&self) -> &[Line]
+        ensures { map line_view result.now ≡ self.now }
+    {
+        self.lines.as_slice()
+    }
+
+    /// How many places there are.
+    pub fn place_count(&self) -> u32
+        ensures { result ≡ length (places_of self.now) }
+    {
+        self.index.spots.len() as u32
+    }
+
+    /// The place of this number.
+    pub fn place(&self, place: u32) -> Option<Place<'_>>
+        ensures { option_map place_view result ≡ slice_get (places_of self.now) place }
+    {
+        match self.index.spots.get(place as usize) {
+            None => None,
+            Some(spot) => place_in(&self.lines[spot.line], spot.item),
+        }
+    }
+
+    /// The first line, by its index, that has a label of the name.
+    pub fn label_line(&self, name: &[u8]) -> Option<usize>
+        ensures { result ≡ label_line name.now 0 self.now }
+    {
+        self.index.labels.get(name).copied()
+    }
+
+    /// The place that the label of the name stands before, be it an instruction, a data word or the end.
+    pub fn label_place(&self, name: &[u8]) -> Option<u32>
+        ensures { result ≡ label_place name.now (labels_from 0 self.now) }
+    {
+        match self.label_line(name) {
+            None => None,
+            Some(line) => Some(self.index.passed[line].places as u32),
+        }
+    }
+
+    /// Whether an instruction stands at the place.
+    pub fn is_op(&self, place: u32) -> bool
+        ensures { result ≡ is_op_place (slice_get (places_of self.now) place) }
+    {
+        matches!(self.place(place), Some(Place::Op { .. }))
+    }
+
+    /// The place of the code label of the name: one that stands before an instruction.
+    pub fn place_of(&self, name: &[u8]) -> Option<u32>
+        ensures { result ≡ place_of (code_of self.now) name.now }
+    {
+        let _ = &self.lines;
+        match self.label_place(name) {
+            None => None,
+            Some(place) => { if self.is_op(place) { Some(place) } else { None } }
+        }
+    }
+
+    /// How many places stand before a line.
+    pub fn places_before(&self, line: usize) -> u32
+        requires { line < length self.now }
+        ensures { result ≡ length (places_of (take line self.now)) }
+    {
+        self.index.passed[line].places as u32
+    }
+
+    /// The address that is set for the name.
+    pub fn set_address(&self, name: &[u8]) -> Option<u32>
+        ensures { result ≡ set_address name.now self.now }
+    {
+        self.index.addresses.get(name).copied()
+    }
+
+    /// The listing with these instructions in place of `count` from a place on. The line of the first becomes its bytes up to and with its last
+    /// label's colon, where it has one, then a line for each new instruction: a tab, its canonical text and a newline. The lines of the other
+    /// instructions vanish, with their comments; all other lines stay byte for byte.
+    pub fn replaced(
+        &self,
+        alloc: Global,
+        place: u32,
+        count: u32,
+        instrs: &[Instr],
+    ) -> Result<Listing, Memory>
+        requires some { 1 ≤ count }
+        requires window { (k : ℕ) → k < count → is_op_place (slice_get (places_of self.now) (place + k)) ≡ true }
+        requires few { length instrs.now ≤ count }
+        requires plain { list_all names_no_label instrs.now ≡ true }
+        ensures { IfOk result (λ l. l ≡ replaced_lines own_line place count instrs.now self.now) }
+    {
+        let lines = replaced_lines(alloc, &self.lines, place as usize, count as usize, instrs)?;
+        Listing::of(alloc, lines)
+    }
+}

@@ -1,0 +1,47 @@
+//! Texts as listings.
+ghost use Rattle.std.specs.Prelude.{◌≡◌, IfOk};
+ghost use Rattle.listing_parser.specs.Parsing.{Parses, text_of_lines};
+
+use crate::errors::{Kind, ListingError, Memory};
+use crate::listing::Listing;
+use crate::reading::read_lines;
+use crate::targets::{first_target, functions};
+use crate::twice::first_twice;
+use std::alloc::Global;
+
+/// The listing that a text is, or the first line that is refused. A line that is one too many, too long or outside the grammar comes first; where
+/// there is none, the first line that defines a name again; where there is none of these, the first that mentions a name which isn't what it needs.
+pub fn parse(alloc: Global, text: &[u8]) -> Result<Listing, ListingError>
+    ensures { Parses text.now result }
+{
+    let lines = match read_lines(alloc, text) {
+        Ok(lines) => lines,
+        Err(error) => return Err(error),
+    };
+    if let Some(number) = first_twice(alloc, &lines)? {
+        return Err(ListingError::Line {
+            number,
+            kind: Kind::Twice,
+        });
+    }
+    let functions = functions(alloc, &lines)?;
+    let listing = Listing::of(alloc, lines)?;
+    match first_target(&listing, &functions) {
+        None => Ok(listing),
+        Some(number) => Err(ListingError::Line {
+            number,
+            kind: Kind::Target,
+        }),
+    }
+}
+
+/// The text of a listing: its lines' bytes, joined.
+pub fn print(alloc: Global, listing: &Listing) -> Result<Vec<u8>, Memory>
+    ensures { IfOk result (λ v. v.items ≡ text_of_lines listing.now) }
+{
+    let mut text = Vec::new(alloc);
+    for line in listing.lines() {
+        text.extend_from_slice(&line.text)?;
+    }
+    Ok(text)
+}
