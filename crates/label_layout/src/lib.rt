@@ -1,0 +1,15 @@
+//! Where the lines of a listing lie: addresses as sums of sizes and paddings, and the first line that cannot be laid out.
+#![tactic(auto)]
+
+mod addresses;
+mod errors;
+mod faults;
+mod laying;
+mod sizes;
+#[cfg(test)]
+mod tests;
+
+pub use addresses::Layout;
+pub use errors::{Kind, LayoutError};
+pub use laying::layout;
+pub use sizes::{CODE_END, instr_size};

@@ -1,0 +1,72 @@
+//! How many bytes a line takes (instructions take 2 or 4 by the manual's encodings).
+ghost use Rattle.std.specs.Prelude.{◌≡◌, ◌+◌, ◌*◌, ◌≤◌, ◌^◌};
+ghost use Rattle.thumb_model.specs.Layout.{instr_size as size_of_instr, padding as padding_at, size_at};
+ghost use Rattle.listing_parser.specs.Views.{statement_view};
+ghost use Rattle.label_layout.specs.Addresses.{in_code_region};
+
+use listing_parser::Statement;
+use thumb_instr::Instr;
+
+/// The end of the Code region of the system address map (ARM DDI 0419, B3.1).
+pub const CODE_END: u32 = 0x2000_0000;
+
+/// How many bytes an instruction has: 4 where its encoding has two halfwords (`bl`, `mrs`, `msr` and the barriers), and else 2.
+pub fn instr_size(instr: &Instr) -> u32
+    ensures { result ≡ size_of_instr instr.now }
+{
+    match instr {
+        Instr::Call { .. }
+        | Instr::Barrier { .. }
+        | Instr::ReadSpecial { .. }
+        | Instr::WriteMask { .. } => 4,
+        _ => 2,
+    }
+}
+
+/// What an alignment pads at an address.
+fn padding(size: u32, most: u32, at: u32) -> u32
+    ensures { result ≡ padding_at size most at }
+{
+    if size == 0 {
+        return 0;
+    }
+    let need = (size - at % size) % size;
+    if need <= most { need } else { 0 }
+}
+
+/// The address behind so many bytes, where it lies in the Code region.
+fn behind(at: u32, size: u32) -> Option<u32>
+    requires { at ≤ 2 ^ 29 }
+    ensures { result ≡ in_code_region (at + size) }
+{
+    if size <= CODE_END - at {
+        Some(at + size)
+    } else {
+        None
+    }
+}
+
+/// The address behind so many words, where it lies in the Code region.
+fn behind_words(at: u32, count: usize) -> Option<u32>
+    requires { at ≤ 2 ^ 29 }
+    ensures { result ≡ in_code_region (at + 4 * count) }
+{
+    if count <= ((CODE_END - at) / 4) as usize {
+        Some(at + 4 * count as u32)
+    } else {
+        None
+    }
+}
+
+/// The address behind a statement, where it lies in the Code region.
+pub fn next_address(statement: &Statement, at: u32) -> Option<u32>
+    requires { at ≤ 2 ^ 29 }
+    ensures { result ≡ in_code_region (at + size_at (statement_view statement.now) at) }
+{
+    match statement {
+        Statement::Nothing | Statement::Sets { .. } => Some(at),
+        Statement::Runs { instr, .. } => behind(at, instr_size(instr)),
+        Statement::Words(values) => behind_words(at, values.len()),
+        Statement::Aligns { size, most } => behind(at, padding(*size, *most, at)),
+    }
+}
