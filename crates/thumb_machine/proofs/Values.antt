@@ -1,0 +1,21 @@
+-- Numbers as bytes, the lowest first.
+use Rattle.std.proofs.Common.{◌≡◌, ℕ, zero, suc, ◌+◌, ◌*◌, ◌/◌, ◌%◌, ◌^◌, ◌<◌, ◌≤◌, [], ◌∷◌, refl, arith}
+use Rattle.std.proofs.Math.Nat.{pow-succ'}
+use Rattle.thumb_model.specs.Items.{assigned}
+use Rattle.thumb_model.specs.Machine.{with_value}
+
+-- the lowest byte is put over the others
+pub put_step : (m : ℕ → ℕ) (a n k v : ℕ) → n ≡ suc k → assigned ((a, v % 256) ∷ []) (with_value m (a + 1) k (v / 256)) ≡ with_value m a n v
+put_step m a n k v e = rw e refl
+
+-- a byte more
+pub value_step : (n k b v : ℕ) → n ≡ suc k → b < 256 → v < 256 ^ k → b + 256 * v < 256 ^ n
+value_step n k b v e low high = rw (e, pow-succ' 256 k) (omega arith)
+
+-- three bytes
+pub three_bytes : (k v : ℕ) → k ≤ 3 → v < 256 ^ k → v < 16777216
+three_bytes zero v h l = omega arith
+three_bytes (suc zero) v h l = omega arith
+three_bytes (suc (suc zero)) v h l = omega arith
+three_bytes (suc (suc (suc zero))) v h l = omega arith
+three_bytes (suc (suc (suc (suc k)))) v h l = absurd (omega arith)

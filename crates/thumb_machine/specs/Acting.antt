@@ -1,0 +1,96 @@
+-- What it means that a step of the machine does what the model's act says.
+use Rattle.std.specs.Prelude.{◌≡◌, ℕ, List, [], ◌∷◌, ◌++◌, Option, Some, None, Result, Ok, Err}
+use Rattle.thumb_machine.specs.declared.answers.Answer.{Answer}
+use Rattle.thumb_machine.specs.declared.world.World.{World}
+use Rattle.thumb_machine.specs.declared.world.Next.{Next}
+use Rattle.thumb_machine.specs.declared.world.Next.TheVariants as next
+use Rattle.thumb_machine.specs.declared.world.End.{End}
+use Rattle.thumb_machine.specs.declared.world.End.TheVariants as end
+use Rattle.thumb_machine.specs.declared.world.Target.{Target}
+use Rattle.thumb_machine.specs.declared.world.Target.TheVariants as target
+use Rattle.thumb_machine.specs.declared.world.Landing.{Landing}
+use Rattle.thumb_machine.specs.declared.world.Landing.TheVariants as landing
+use Rattle.thumb_machine.specs.declared.world.Around.{Around}
+use Rattle.thumb_machine.specs.Registers.{values_of}
+use Rattle.thumb_machine.specs.Memory.{memory_of}
+use Rattle.thumb_machine.specs.Outside.{events_of, answers_of}
+use Rattle.thumb_model.specs.Items.{assigned}
+use Rattle.thumb_model.specs.Machine.{Act}
+use Rattle.thumb_model.specs.Machine as model
+
+-- ---- what the machine's types stand for ----
+
+abbrev pub world_of : World → List Answer → model.World
+world_of w left = record { values = values_of w.registers; memory = memory_of w.memory; answers = answers_of left }
+
+abbrev pub next_of : Next → model.Next
+next_of next.On = model.On
+next_of next.Stay = model.Stay
+next_of (next.To p) = model.To p
+next_of (next.Over e) = model.Over
+
+abbrev pub target_of : Target → model.Target
+target_of (target.Inside p) = model.Inside p
+target_of (target.External word) = model.External word
+
+abbrev pub landing_of : Landing → model.Landing
+landing_of (landing.Goes p) = model.Goes p
+landing_of landing.Leaves = model.Leaves
+landing_of landing.Strays = model.Strays
+
+abbrev pub around_of : Around → (ℕ → model.Landing) → model.Around
+around_of a lands = record { target = target_of a.target; literal = a.literal; link = a.link; lands = lands }
+
+-- how an event ends a run
+abbrev pub end_of : model.Event → Option End
+end_of (model.Load address size) = None
+end_of (model.Store address size value) = None
+end_of (model.Call word arguments) = None
+end_of (model.Sys code values) = None
+end_of (model.Left word registers) = Some end.Left
+end_of (model.Fault address) = Some end.Fault
+end_of (model.Astray word) = Some end.Astray
+end_of model.Fell = Some end.Fell
+
+-- a run that is over ended by its last event
+abbrev pub EndsBy : Next → List model.Event → Type 0
+EndsBy next.On es = Unit {0}
+EndsBy next.Stay es = Unit {0}
+EndsBy (next.To p) es = Unit {0}
+EndsBy (next.Over e) es = (front : List model.Event) × (last : model.Event) × (es ≡ front ++ last ∷ []) × (end_of last ≡ Some e)
+
+-- ---- acts ----
+
+-- items got values, the memory is another, and events came
+pub record Changed (os : List (ℕ × ℕ)) (bytes : ℕ → ℕ) (es : List model.Event) (old new : World) : Type 0 where
+  pub registers : values_of new.registers ≡ assigned os (values_of old.registers)
+  pub memory : memory_of new.memory ≡ bytes
+  pub events : events_of new.events.items ≡ events_of old.events.items ++ es
+
+-- nothing changed
+pub record Kept (old new : World) : Type 0 where
+  pub registers : values_of new.registers ≡ values_of old.registers
+  pub memory : memory_of new.memory ≡ memory_of old.memory
+  pub events : events_of new.events.items ≡ events_of old.events.items
+
+-- the act was done, and these answers are left
+pub record Acted (act : Act) (old new : World) (left : List Answer) (n : Next) : Type 0 where
+  pub changed : Changed act.outputs act.memory act.events old new
+  pub answers : answers_of left ≡ act.answers
+  pub next : next_of n ≡ act.next
+  pub ends : EndsBy n act.events
+
+-- nothing changed and no answer was given
+pub record Refused (old new : World) (before left : List Answer) : Type 0 where
+  pub kept : Kept old new
+  pub answers : left ≡ before
+
+-- the change was made, or for want of memory nothing was
+abbrev pub Changes : {T E : Type 0} → List (ℕ × ℕ) → (ℕ → ℕ) → List model.Event → World → World → Result T E → Type 0
+Changes os bytes es old new (Ok t) = Changed os bytes es old new
+Changes os bytes es old new (Err e) = Kept old new
+
+-- what the model's act is of the world was done, or for want of memory nothing was
+abbrev pub Acts : {E : Type 0} → (model.World → Act) → World → List Answer → World → List Answer → Result Next E → Type 0
+Acts act old before new left (Ok n) = Acted (act (world_of old before)) old new left n
+Acts act old before new left (Err e) = Refused old new before left

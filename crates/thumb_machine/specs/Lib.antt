@@ -1,0 +1,12 @@
+pub mod Registers
+pub mod Memory
+pub mod Outside
+pub mod Acting
+pub mod Accesses
+pub mod Lists
+pub mod Landings
+pub mod Computes
+pub mod Running
+pub mod Naming
+pub mod Making
+pub mod Starting

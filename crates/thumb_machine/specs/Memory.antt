@@ -1,0 +1,12 @@
+-- What the bytes of a machine are, by address.
+use Rattle.std.specs.Prelude.{ℕ, nat_eq, unwrap_or}
+use Rattle.std.specs.HashMap.{get, spare}
+use Rattle.thumb_machine.specs.declared.memory.Memory.{Memory}
+
+-- the byte at each address: 0 where none was written
+abbrev pub memory_of : Memory → ℕ → ℕ
+memory_of m = λ a. unwrap_or (get nat_eq m.bytes a) 0
+
+-- how many bytes can be written at addresses that have none before memory has to be asked for
+abbrev pub room_of : Memory → ℕ
+room_of m = spare m.bytes

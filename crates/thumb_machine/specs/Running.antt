@@ -1,0 +1,118 @@
+-- What a machine over a listing holds, and what its step does.
+use Rattle.std.specs.Prelude.{◌≡◌, ℕ, List, [], ◌∷◌, ◌++◌, take, nat_eq, Option, Some, None, Result, Ok, Err, slice_get}
+use Rattle.std.specs.HashMap.{get}
+use Rattle.thumb_machine.specs.declared.answers.Answer.{Answer}
+use Rattle.thumb_machine.specs.declared.world.Next.{Next}
+use Rattle.thumb_machine.specs.declared.world.Next.TheVariants as next
+use Rattle.thumb_machine.specs.declared.world.End.{End}
+use Rattle.thumb_machine.specs.declared.world.End.TheVariants as end
+use Rattle.thumb_machine.specs.declared.program.Row.{Row}
+use Rattle.thumb_machine.specs.declared.program.Row.TheVariants as row
+use Rattle.thumb_machine.specs.declared.program.Program.{Program}
+use Rattle.thumb_machine.specs.declared.machine.At.{At}
+use Rattle.thumb_machine.specs.declared.machine.At.TheVariants as at
+use Rattle.thumb_machine.specs.declared.machine.Stage.{Stage}
+use Rattle.thumb_machine.specs.declared.machine.Stage.TheVariants as stage
+use Rattle.thumb_machine.specs.declared.machine.Machine.{Machine}
+use Rattle.thumb_machine.specs.Registers.{values_of}
+use Rattle.thumb_machine.specs.Memory.{memory_of}
+use Rattle.thumb_machine.specs.Outside.{answers_of, events_of}
+use Rattle.thumb_machine.specs.Acting.{end_of, target_of, world_of}
+use Rattle.thumb_model.specs.Listing.{Code, Place, Op, Word, call_count}
+use Rattle.thumb_model.specs.Machine.{Naming, State, Here, Ended, act, aim_of, around_of, is_in_range, is_odd, literal_at, point_among, points, step, target_at}
+use Rattle.thumb_model.specs.Machine as model
+
+-- ---- programs ----
+
+-- a row holds what a listing says at a place
+abbrev pub IsRow : Naming → Code → ℕ → Option Place → Option Row → Type 0
+IsRow names code p None None = Unit {0}
+IsRow names code p (Some (Word v)) (Some row.Data) = Unit {0}
+IsRow names code p (Some (Op i mention)) (Some (row.Runs j around)) =
+    (j ≡ i) × (target_of around.target ≡ target_at names mention (aim_of code mention)) × (around.literal ≡ literal_at names code i mention)
+    × (around.link ≡ names.return_word (call_count (take p code.places)))
+IsRow names code p None (Some r) = ⊥
+IsRow names code p (Some x) None = ⊥
+IsRow names code p (Some (Word v)) (Some (row.Runs j around)) = ⊥
+IsRow names code p (Some (Op i mention)) (Some row.Data) = ⊥
+
+-- the place that a word's code points have
+abbrev pub point_of : Program → ℕ → Option ℕ
+point_of program word = get nat_eq program.points word
+
+-- where a program says that a word lands
+abbrev pub lands_in : Program → ℕ → model.Landing
+lands_in program word = model.landing (record { word_of = λ name. 0; return_word = λ k. 0; low = program.low; high = program.high }) word (point_of program word)
+
+-- a program holds what a naming and a listing say
+pub record IsProgram (names : Naming) (code : Code) (program : Program) : Type 0 where
+  pub rows : (p : ℕ) → IsRow names code p (slice_get code.places p) (slice_get program.rows.items p)
+  pub points : (word : ℕ) → point_of program word ≡ point_among word (points names code)
+  pub low : program.low ≡ names.low
+  pub high : program.high ≡ names.high
+
+-- ---- states ----
+
+abbrev pub at_of : At → model.At
+at_of (at.Here p) = Here p
+at_of (at.Ended e) = Ended
+
+abbrev pub state_of : Machine → List Answer → State
+state_of m left = record { world = world_of m.world left; at = at_of m.at; events = events_of m.world.events.items }
+
+-- the machine and the answers that are left are in a state
+pub record Stands (s : State) (m : Machine) (left : List Answer) : Type 0 where
+  pub values : values_of m.world.registers ≡ s.world.values
+  pub memory : memory_of m.world.memory ≡ s.world.memory
+  pub answers : answers_of left ≡ s.world.answers
+  pub place : at_of m.at ≡ s.at
+  pub events : events_of m.world.events.items ≡ s.events
+
+-- ---- steps ----
+
+-- how the step from a state goes on
+abbrev pub next_on : Naming → Code → ℕ → Option Place → State → model.Next
+next_on names code p None s = model.Over
+next_on names code p (Some (Word v)) s = model.Over
+next_on names code p (Some (Op i mention)) s = (act (around_of names code p i mention) i s.world).next
+
+abbrev pub next_at : Naming → Code → model.At → State → model.Next
+next_at names code Ended s = model.Over
+next_at names code (Here p) s = next_on names code p (slice_get code.places p) s
+
+abbrev pub stage_of : End → Stage
+stage_of end.Left = stage.Left
+stage_of end.Fault = stage.Fault
+stage_of end.Astray = stage.Astray
+stage_of end.Fell = stage.Fell
+
+-- a step goes on, stays for want of answers, or leaves the run ended so
+abbrev pub IsStage : Stage → model.Next → At → Type 0
+IsStage s model.On here = s ≡ stage.Going
+IsStage s (model.To p) here = s ≡ stage.Going
+IsStage s model.Stay here = s ≡ stage.Wants
+IsStage s model.Over (at.Here p) = ⊥
+IsStage s model.Over (at.Ended e) = s ≡ stage_of e
+
+-- where a run is after an instruction that goes on so
+abbrev pub LeadsTo : Next → At → Type 0
+LeadsTo next.On here = Unit {0}
+LeadsTo next.Stay here = Unit {0}
+LeadsTo (next.To p) here = Unit {0}
+LeadsTo (next.Over e) here = here ≡ at.Ended e
+
+-- a run that ended just now ended by its last event
+abbrev pub EndedBy : At → At → List model.Event → Type 0
+EndedBy old (at.Here p) es = Unit {0}
+EndedBy (at.Ended d) (at.Ended e) es = d ≡ e
+EndedBy (at.Here p) (at.Ended e) es = (front : List model.Event) × (last : model.Event) × (es ≡ front ++ last ∷ []) × (end_of last ≡ Some e)
+
+pub record Stepped (names : Naming) (code : Code) (old : Machine) (before : List Answer) (new : Machine) (left : List Answer) (s : Stage) : Type 0 where
+  pub stands : Stands (step names code (state_of old before)) new left
+  pub stage : IsStage s (next_at names code (at_of old.at) (state_of old before)) new.at
+  pub ends : EndedBy old.at new.at (events_of new.world.events.items)
+
+-- a step by the definition, or nothing for want of memory
+abbrev pub Steps : {E : Type 0} → Naming → Code → Machine → List Answer → Machine → List Answer → Result Stage E → Type 0
+Steps names code old before new left (Ok s) = Stepped names code old before new left s
+Steps names code old before new left (Err e) = Stands (state_of old before) new left

@@ -1,0 +1,29 @@
+-- Where a run begins.
+use Rattle.std.specs.Prelude.{◌≡◌, ◌==◌, nat_lt, [], slice_index, if◌then◌else◌}
+use Rattle.std.specs.Int.{bit_at}
+use Rattle.thumb_machine.specs.declared.machine.State.{State}
+use Rattle.thumb_machine.specs.declared.machine.Machine.{Machine}
+use Rattle.thumb_machine.specs.declared.machine.At.TheVariants as at
+use Rattle.thumb_machine.specs.Registers.{values_of}
+use Rattle.thumb_machine.specs.Memory.{memory_of}
+use Rattle.thumb_model.specs.Items.{Values, sp, lr, n_flag, z_flag, c_flag, v_flag}
+use Rattle.thumb_model.specs.Machine.{with_bytes}
+
+-- what each item holds; every other number is 0
+abbrev pub start_values : State → Values
+start_values s = λ x.
+    if x == n_flag then bit_at s.nzcv 3
+    else if x == z_flag then bit_at s.nzcv 2
+    else if x == c_flag then bit_at s.nzcv 1
+    else if x == v_flag then bit_at s.nzcv 0
+    else if x == sp then s.sp
+    else if x == lr then s.lr
+    else if nat_lt x 13 then slice_index s.r x
+    else 0
+
+-- the machine is at the beginning: memory is 0 but for the bytes that were given
+pub record Starts (s : State) (m : Machine) : Type 0 where
+  pub values : values_of m.world.registers ≡ start_values s
+  pub memory : memory_of m.world.memory ≡ with_bytes s.bytes (λ a. 0)
+  pub events : m.world.events.items ≡ []
+  pub place : m.at ≡ at.Here s.place

@@ -1,0 +1,32 @@
+//! The machine: what each instruction does, by the ARMv6-M manual, over registers, memory and an outside that answers.
+#![tactic(auto)]
+
+mod accessing;
+mod acting;
+mod answers;
+mod computing;
+mod event;
+mod lists;
+mod machine;
+mod making;
+mod memory;
+mod naming;
+mod points;
+mod popping;
+mod program;
+mod registers;
+#[cfg(test)]
+mod run_tests;
+mod system;
+#[cfg(test)]
+mod tests;
+mod world;
+
+pub use answers::{Answer, Answers, Bytes};
+pub use event::Event;
+pub use machine::{At, Machine, Stage, State};
+pub use memory::Memory;
+pub use naming::Naming;
+pub use program::{Program, Row};
+pub use registers::Registers;
+pub use world::{Around, End, Landing, Lands, Next, Target, World};

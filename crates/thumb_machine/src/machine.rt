@@ -1,0 +1,212 @@
+ghost use Rattle.std.specs.Prelude.{◌≡◌, ◌<◌, ◌+◌, ◌-◌, ◌^◌, [], ◌∷◌, slice_get, Some, IfOk, OnErr};
+ghost use Rattle.thumb_model.specs.Listing.{Code, code_of};
+ghost use Rattle.thumb_model.specs.Machine.{Naming as Names, Fell, arrives};
+ghost use Rattle.thumb_machine.specs.Memory.{memory_of};
+ghost use Rattle.thumb_machine.specs.Acting.{Changes, next_of};
+ghost use Rattle.thumb_machine.specs.Registers.{values_of};
+ghost use Rattle.thumb_machine.specs.Naming.{naming_of};
+ghost use Rattle.thumb_machine.specs.Starting.{Starts, start_values};
+ghost use Rattle.thumb_machine.specs.Running.{IsProgram, IsStage, LeadsTo, Steps, at_of, stage_of};
+
+use crate::answers::{Answers, Bytes};
+use crate::event::Event;
+use crate::memory::Memory;
+use crate::naming::Naming;
+use crate::points::points_of;
+use crate::program::{Program, Row};
+use crate::registers::Registers;
+use crate::world::{End, Next, World};
+use listing_parser::Listing;
+use std::alloc::{AllocError, Global};
+
+/// Where a machine is.
+#[derive(Clone, Copy, Debug, PartialEq, Eq)]
+pub enum At {
+    /// At a place.
+    Here { place: u32 },
+    /// At the end of its run.
+    Ended { end: End },
+}
+
+/// What a step came to.
+#[derive(Clone, Copy, Debug, PartialEq, Eq)]
+pub enum Stage {
+    /// The run goes on.
+    Going,
+    /// The run left the listing.
+    Left,
+    /// The run ended by an unaligned access.
+    Fault,
+    /// The run ended by a branch that leads nowhere.
+    Astray,
+    /// The run ended where no instruction is.
+    Fell,
+    /// The step needs more answers than are left.
+    Wants,
+}
+
+/// A machine that runs a listing under a naming.
+#[derive(Drop)]
+pub struct Machine {
+    pub(crate) program: Program,
+    pub(crate) world: World,
+    pub(crate) at: At,
+}
+
+/// The stage of a run that ended so.
+fn stage_of(end: End) -> Stage
+    ensures { result ≡ stage_of end }
+{
+    match end {
+        End::Left => Stage::Left,
+        End::Fault => Stage::Fault,
+        End::Astray => Stage::Astray,
+        End::Fell => Stage::Fell,
+    }
+}
+
+/// How a run begins: r0 to r12, sp (a multiple of 4) and lr, the flags (N is 8, Z is 4, C is 2 and V is 1), bytes of the memory, and the place of a code
+/// label.
+#[derive(Debug, Drop)]
+pub struct State {
+    pub r: [u32; 13],
+    pub sp: u32,
+    pub lr: u32,
+    pub nzcv: u8,
+    pub bytes: Bytes,
+    pub place: u32,
+}
+
+/// The registers of a state.
+fn registers_of(state: &State) -> Registers
+    ensures { values_of result ≡ start_values state.now }
+{
+    let r = &state.r;
+    Registers {
+        r: [
+            r[0], r[1], r[2], r[3], r[4], r[5], r[6], r[7], r[8], r[9], r[10], r[11], r[12],
+            state.sp, state.lr,
+        ],
+        nzcv: state.nzcv,
+    }
+}
+
+/// The program of a listing under a naming.
+fn program_of(alloc: Global, listing: &Listing, naming: &Naming) -> Result<Program, AllocError>
+    ensures { IfOk result (IsProgram (naming_of naming.now) (code_of listing.now)) }
+{
+    let rows = naming.rows(alloc, listing)?;
+    let points = points_of(alloc, naming, listing)?;
+    Ok(Program {
+        rows,
+        points,
+        low: naming.low,
+        high: naming.high,
+    })
+}
+
+impl Machine {
+    /// A machine that runs a listing under a naming, which has a word for each of its names and calls, from a state on.
+    pub fn new(
+        alloc: Global,
+        listing: &Listing,
+        naming: &Naming,
+        state: &State,
+    ) -> Result<Machine, AllocError>
+        ensures program { IfOk result (λ m. IsProgram (naming_of naming.now) (code_of listing.now) m.program) }
+        ensures start { IfOk result (Starts state.now) }
+    {
+        let program = program_of(alloc, listing, naming)?;
+        let mut memory = Memory::new(alloc);
+        let bytes = state.bytes.as_slice();
+        memory.reserve(bytes.len())?;
+        memory.put_bytes(bytes);
+        Ok(Machine {
+            program,
+            world: World {
+                registers: registers_of(state),
+                memory,
+                events: Vec::new(alloc),
+            },
+            at: At::Here { place: state.place },
+        })
+    }
+
+    /// Takes a step. Where memory is refused, or more answers are needed than are left, nothing changes; an ended machine tells its end again.
+    pub fn step(&mut self, answers: &mut Answers) -> Result<Stage, AllocError>
+        ensures program { self.new.program ≡ self.old.program }
+        ensures step { (names : Names) (code : Code) → IsProgram names code self.old.program → Steps names code self.old answers.old self.new answers.new result }
+    {
+        let place = match self.at {
+            At::Here { place } => place,
+            At::Ended { end } => return Ok(stage_of(end)),
+        };
+        match self.program.rows.get(place as usize).copied() {
+            None => self.fall(),
+            Some(row) => self.run(answers, place, row),
+        }
+    }
+
+    /// Takes a step at a row of the program.
+    fn run(&mut self, answers: &mut Answers, place: u32, row: Row) -> Result<Stage, AllocError>
+        requires here { self.old.at ≡ At.Here place }
+        requires row { slice_get self.old.program.rows.items place ≡ Some row }
+        ensures program { self.new.program ≡ self.old.program }
+        ensures step { (names : Names) (code : Code) → IsProgram names code self.old.program → Steps names code self.old answers.old self.new answers.new result }
+    {
+        match row {
+            Row::Data => self.fall(),
+            Row::Runs { instr, around } => {
+                let program = &mut self.program;
+                let next = self.world.act(answers, &around, &*program, &instr)?;
+                Ok(self.arrive(place, next))
+            }
+        }
+    }
+
+    /// Ends the run where no instruction is.
+    fn fall(&mut self) -> Result<Stage, AllocError>
+        ensures program { self.new.program ≡ self.old.program }
+        ensures told { Changes [] (memory_of self.old.world.memory) (Fell ∷ []) self.old.world self.new.world result }
+        ensures ended { IfOk result (λ s. (s ≡ Stage.Fell) × (self.new.at ≡ At.Ended End.Fell)) }
+        ensures kept { OnErr result (self.new.at ≡ self.old.at) }
+    {
+        self.world.tell(Event::Fell)?;
+        self.at = At::Ended { end: End::Fell };
+        Ok(Stage::Fell)
+    }
+
+    /// Goes on after an instruction at a place.
+    fn arrive(&mut self, place: u32, next: Next) -> Stage
+        requires here { self.old.at ≡ At.Here place }
+        requires room { place < 2 ^ 32 - 1 }
+        ensures program { self.new.program ≡ self.old.program }
+        ensures world { self.new.world ≡ self.old.world }
+        ensures at { at_of self.new.at ≡ arrives place (place + 1) (next_of next) }
+        ensures stage { IsStage result (next_of next) self.new.at }
+        ensures ends { LeadsTo next self.new.at }
+    {
+        match next {
+            Next::On => {
+                self.at = At::Here { place: place + 1 };
+                Stage::Going
+            }
+            Next::Stay => Stage::Wants,
+            Next::To { at } => {
+                self.at = At::Here { place: at };
+                Stage::Going
+            }
+            Next::Over { end } => {
+                self.at = At::Ended { end };
+                stage_of(end)
+            }
+        }
+    }
+
+    /// The events of the run so far.
+    pub fn events(&self) -> &[Event]
+        ensures { result.now ≡ self.now.world.events.items }
+    {
+        self.world.events.as_slice()
+    }
+}

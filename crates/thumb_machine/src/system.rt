@@ -1,0 +1,206 @@
+ghost use Rattle.std.specs.Prelude.{◌≡◌, ◌<◌, ◌≤◌, [], ◌∷◌, ◌++◌, List, length, map};
+ghost use Rattle.thumb_model.specs.Items.{sp};
+ghost use Rattle.thumb_model.specs.Machine.{Sys, Call, answered, answers_with, calls, calls_by, calls_out, handed, hints, interrupts_code, barrier_code, reads_special, served, special_code, takes, tells};
+ghost use Rattle.thumb_machine.specs.declared.answers.Answer.{Answer};
+ghost use Rattle.thumb_machine.specs.Registers.{values_of};
+ghost use Rattle.thumb_machine.specs.Outside.{event_of};
+ghost use Rattle.thumb_machine.specs.Acting.{Acts, landing_of, target_of};
+
+use crate::answers::Answers;
+use crate::event::Event;
+use crate::world::{End, Landing, Next, Target, World};
+use arrayvec::ArrayVec;
+use std::alloc::AllocError;
+use thumb_instr::items::LR;
+use thumb_instr::{Barrier, Hint, Interrupts, Special};
+
+/// The event of a code and up to six values.
+pub(crate) fn sys(code: u32, values: &[u32]) -> Event
+    requires { length values.now ≤ 6 }
+    ensures { event_of result ≡ Sys code values.now }
+{
+    let mut list = ArrayVec::new();
+    for value in values {
+        list.push(*value);
+    }
+    Event::Sys { code, values: list }
+}
+
+/// The code of CPS.
+pub(crate) fn interrupts_code(interrupts: Interrupts) -> u32
+    ensures { result ≡ interrupts_code interrupts }
+{
+    match interrupts {
+        Interrupts::Enable => 516,
+        Interrupts::Disable => 517,
+    }
+}
+
+/// The code of a barrier.
+pub(crate) fn barrier_code(barrier: Barrier) -> u32
+    ensures { result ≡ barrier_code barrier }
+{
+    match barrier {
+        Barrier::Dsb => 518,
+        Barrier::Dmb => 519,
+        Barrier::Isb => 520,
+    }
+}
+
+/// The code of a read of a special register.
+pub(crate) fn special_code(special: Special) -> u32
+    ensures { result ≡ special_code special }
+{
+    match special {
+        Special::Primask => 521,
+        Special::Ipsr => 522,
+    }
+}
+
+impl World {
+    /// Adds the event of a code and up to six values, and goes on.
+    pub(crate) fn tell_sys(&mut self, code: u32, values: &[u32]) -> Result<Next, AllocError>
+        requires { length values.now ≤ 6 }
+        ensures { (left : List Answer) → Acts (tells (Sys code values.now)) self.old left self.new left result }
+    {
+        self.tell_on(sys(code, values))
+    }
+
+    /// The event of calling the outside by a word.
+    fn called_by(&self, word: u32) -> Event
+        ensures { event_of result ≡ Call word (map (values_of self.now.registers) handed) }
+    {
+        let r = &self.registers.r;
+        Event::Call {
+            word,
+            arguments: [r[0], r[1], r[2], r[3], r[13]],
+        }
+    }
+
+    /// The event of a service by its number.
+    fn served_by(&self, number: u32) -> Event
+        ensures { event_of result ≡ Sys number (map (values_of self.now.registers) (served ++ (sp ∷ []))) }
+    {
+        let r = &self.registers.r;
+        sys(number, &[r[0], r[1], r[2], r[3], r[12], r[13]])
+    }
+
+    /// Takes registers, flags and bytes from the next answer, after an event.
+    fn answered(&mut self, answers: &mut Answers, event: Event) -> Result<Next, AllocError>
+        ensures { Acts (λ w. takes (answers_with answered (event_of event) w) w w.answers) self.old answers.old self.new answers.new result }
+    {
+        let Some(answer) = answers.next() else {
+            return Ok(Next::Stay);
+        };
+        let bytes = answer.bytes.as_slice();
+        self.memory.reserve(bytes.len())?;
+        self.tell(event)?;
+        self.memory.put_bytes(bytes);
+        self.registers.answer(answer);
+        answers.pass();
+        Ok(Next::On)
+    }
+
+    /// Takes the registers of a service and bytes from the next answer, after an event.
+    fn served(&mut self, answers: &mut Answers, event: Event) -> Result<Next, AllocError>
+        ensures { Acts (λ w. takes (answers_with served (event_of event) w) w w.answers) self.old answers.old self.new answers.new result }
+    {
+        let Some(answer) = answers.next() else {
+            return Ok(Next::Stay);
+        };
+        let bytes = answer.bytes.as_slice();
+        self.memory.reserve(bytes.len())?;
+        self.tell(event)?;
+        self.memory.put_bytes(bytes);
+        self.registers.serve(answer);
+        answers.pass();
+        Ok(Next::On)
+    }
+
+    /// Calls the outside by a word.
+    fn call_out(&mut self, answers: &mut Answers, word: u32) -> Result<Next, AllocError>
+        ensures { Acts (calls_out word) self.old answers.old self.new answers.new result }
+    {
+        let event = self.called_by(word);
+        self.answered(answers, event)
+    }
+
+    /// Calls a target.
+    pub(crate) fn call(
+        &mut self,
+        answers: &mut Answers,
+        target: Target,
+        link: u32,
+    ) -> Result<Next, AllocError>
+        ensures { Acts (calls (target_of target) link) self.old answers.old self.new answers.new result }
+    {
+        match target {
+            Target::Inside { at } => {
+                self.registers.set(u32::from(LR), link);
+                Ok(Next::To { at })
+            }
+            Target::External { word } => self.call_out(answers, word),
+        }
+    }
+
+    /// Calls by a word that lands so.
+    pub(crate) fn call_by(
+        &mut self,
+        answers: &mut Answers,
+        landing: Landing,
+        word: u32,
+        link: u32,
+    ) -> Result<Next, AllocError>
+        ensures { Acts (calls_by (landing_of landing) word link) self.old answers.old self.new answers.new result }
+    {
+        match landing {
+            Landing::Goes { at } => {
+                self.registers.set(u32::from(LR), link);
+                Ok(Next::To { at })
+            }
+            Landing::Leaves => self.call_out(answers, word),
+            Landing::Strays => self.finish(Event::Astray { word }, End::Astray),
+        }
+    }
+
+    /// SVC
+    pub(crate) fn service(&mut self, answers: &mut Answers, number: u32) -> Result<Next, AllocError>
+        ensures { Acts (λ w. takes (answers_with served (Sys number (map w.values (served ++ (sp ∷ [])))) w) w w.answers) self.old answers.old self.new answers.new result }
+    {
+        let event = self.served_by(number);
+        self.served(answers, event)
+    }
+
+    /// MRS, of a special register by its code.
+    pub(crate) fn read_special(
+        &mut self,
+        answers: &mut Answers,
+        target: u32,
+        code: u32,
+    ) -> Result<Next, AllocError>
+        requires { target < 15 }
+        ensures { Acts (λ w. takes (reads_special target code w) w w.answers) self.old answers.old self.new answers.new result }
+    {
+        let Some(answer) = answers.next() else {
+            return Ok(Next::Stay);
+        };
+        let word = answer.words[0];
+        self.tell(sys(code, &[]))?;
+        self.registers.set(target, word);
+        answers.pass();
+        Ok(Next::On)
+    }
+
+    /// A hint.
+    pub(crate) fn hint(&mut self, hint: Hint) -> Result<Next, AllocError>
+        ensures { (left : List Answer) → Acts (hints hint) self.old left self.new left result }
+    {
+        match hint {
+            Hint::Nop => Ok(Next::On),
+            Hint::Yield => self.tell_sys(512, &[]),
+            Hint::Wfe => self.tell_sys(513, &[]),
+            Hint::Wfi => self.tell_sys(514, &[]),
+            Hint::Sev => self.tell_sys(515, &[]),
+        }
+    }
+}
