@@ -12,3 +12,10 @@ pub mod TableLemmas
 pub mod TableLaws
 pub mod RewritingLemmas
 pub mod PeepLemmas
+pub mod TraceLemmas
+pub mod StayLemmas
+pub mod RunningLemmas
+pub mod StartLemmas
+pub mod TracingLemmas
+pub mod WordLemmas
+pub mod ReturnLemmas

@@ -1,15 +1,17 @@
 -- The whole contract of the top call: what the words ask for, and what the run of it has done.
 use Rattle.std.specs.Prelude.{ℕ, ◌⊎◌, List, [], ◌∷◌}
-use Rattle.command_line.specs.CommandLine.{Request, rewrite, AskFor}
+use Rattle.command_line.specs.CommandLine.{Request, rewrite, trace, AskFor}
 use Rattle.outer_store.specs.Outside.{Seen, SameHeld, Sunk, WroteNone}
 use Rattle.audit_cli.specs.declared.status.Status.{Status}
 use Rattle.audit_cli.specs.declared.status.Status.TheVariants as status
 use Rattle.audit_cli.specs.Plans.{Plan, Runs}
 use Rattle.audit_cli.specs.Rewriting.{RewriteComesTo}
+use Rattle.audit_cli.specs.Tracing.{TraceComesTo}
 
 -- what a request fetches, and what comes of it
 abbrev pub plan_of : Request → Plan
 plan_of (rewrite table listing out image base) = record { names = table ∷ listing ∷ []; comes = RewriteComesTo (record { out = out; image = image; base = base }) }
+plan_of (trace listing label steps) = record { names = listing ∷ []; comes = TraceComesTo (record { label = label; most = steps }) }
 
 -- nothing was kept or printed
 pub record IsUntouched (old new : Seen) (before after : Sunk) : Type 0 where

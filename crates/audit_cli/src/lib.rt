@@ -4,6 +4,7 @@
 mod assembling;
 mod listing;
 mod moves;
+mod naming;
 mod outcome;
 mod printing;
 mod read_error;
@@ -11,9 +12,13 @@ mod read_instr;
 mod read_listing;
 mod read_table;
 mod rewriting;
+mod running;
 mod stages;
+mod start;
 mod status;
 mod top;
+mod trace_lines;
+mod tracing;
 
 pub use command_line::{Command, Memory, usage_of};
 pub use status::Status;

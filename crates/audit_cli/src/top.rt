@@ -8,6 +8,7 @@ ghost use Rattle.audit_cli.specs.Peep.{plan_of, Peeps};
 use crate::rewriting::Rewrite;
 use crate::stages::run;
 use crate::status::Status;
+use crate::tracing::Trace;
 use command_line::{Command, usage_of};
 use outer_store::{Sink, Store};
 use std::alloc::Global;
@@ -40,6 +41,18 @@ fn run_command<S: Store, O: Sink, L: Ledger>(
             };
             let names = [table.as_str(), listing.as_str()];
             return run(alloc, &rewrite, &names, store, sink, steps);
+        }
+        Command::Trace {
+            listing,
+            label,
+            steps: most,
+        } => {
+            let trace = Trace {
+                label: label.as_str(),
+                most: *most,
+            };
+            let names = [listing.as_str()];
+            return run(alloc, &trace, &names, store, sink, steps);
         }
     }
 }

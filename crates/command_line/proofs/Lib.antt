@@ -10,6 +10,6 @@ pub mod NamedValues
 pub mod Exact
 pub mod Top
 pub mod Commands
-pub mod Rewrite
+pub mod Forms
 pub mod Requests
 pub mod Usage

@@ -10,8 +10,8 @@ use Rattle.clap.specs.Faults.{check_fault, defaults_fault, entered_fault, level_
 use Rattle.clap.specs.Kinds.{Kinds, or_else}
 use Rattle.clap.specs.declared.error.kind.ErrorKind.TheVariants as kind
 use Rattle.clap.proofs.OnLiterals.{clap_on_literals}
-use Rattle.command_line.specs.App.{peep_app, rewrite_words}
-use Rattle.command_line.specs.CommandLine.{rewrite_options}
+use Rattle.command_line.specs.App.{peep_app, words_for}
+use Rattle.command_line.specs.CommandLine.{Form, rewrites, traces, name_of, options_of}
 use Rattle.command_line.proofs.Level.{leaf, or_else_nil}
 use Rattle.command_line.proofs.Law.{Is, is_dashes, is_joined, is_apart, is_unknown, is_short, is_plain, clean}
 use Rattle.command_line.proofs.Lookup.{options, words_from}
@@ -31,7 +31,7 @@ stopped_fault s names w name rest [] = refl
 stopped_fault s names w name rest (x ∷ xs) = stopped_fault s names w name (rest ++ x ∷ []) xs
 
 abbrev top_names : Names
-top_names = (codes "rewrite", []) ∷ []
+top_names = (codes "rewrite", []) ∷ (codes "trace", []) ∷ []
 
 abbrev top : Shape
 top = (built peep_app).top
@@ -61,11 +61,15 @@ stopped_at name ws none stop = fault_is name ws
     ∙ ap₂ (λ (k : Kinds) (w : Walk). whole (fold (walked [] top_names) w ws) (or_else k (walk_fault top top_names w ws))) none stop
     ∙ ap₂ whole (stopped_walk [] top_names start name [] ws) (stopped_fault top top_names start name [] ws)
 
-pub enters_rewrite : Enters (codes "rewrite") rewrite_words rewrite_options
+pub enters : (form : Form) → Enters (name_of form) (words_for form) (options_of form)
 unfolding clap_on_literals
-enters_rewrite = record {
+enters rewrites = record {
   fault = λ ws. stopped_at (codes "rewrite") ws refl refl ∙ or_else_nil _;
   found = λ ws. ap (λ (w : Walk). entered (built peep_app) w.stopped) (stopped_walk [] top_names start (codes "rewrite") [] ws);
+}
+enters traces = record {
+  fault = λ ws. stopped_at (codes "trace") ws refl refl ∙ or_else_nil _;
+  found = λ ws. ap (λ (w : Walk). entered (built peep_app) w.stopped) (stopped_walk [] top_names start (codes "trace") [] ws);
 }
 
 -- ---- no words, and words that begin with another
@@ -83,27 +87,27 @@ unfolding clap_on_literals
 dashes_first [] = refl
 dashes_first (x ∷ xs) = refl
 
-unknown_first : (w n : Text) (v : Option Text) → bytes_eq (codes "rewrite") w ≡ false → bytes_eq w (45 ∷ 45 ∷ []) ≡ false → long_of w ≡ Some (n, v) → turn_fault top top_names start w ≡ kind.UnknownArgument ∷ []
+unknown_first : (w n : Text) (v : Option Text) → bytes_eq (codes "rewrite") w ≡ false → bytes_eq (codes "trace") w ≡ false → bytes_eq w (45 ∷ 45 ∷ []) ≡ false → long_of w ≡ Some (n, v) → turn_fault top top_names start w ≡ kind.UnknownArgument ∷ []
 unfolding clap_on_literals
-unknown_first w n v other dd long = rw (other, dd, long) refl
+unknown_first w n v other another dd long = rw (other, another, dd, long) refl
 
-short_first : (w : Text) (b b' : ℕ) (cs : List ℕ) → bytes_eq (codes "rewrite") w ≡ false → bytes_eq w (45 ∷ 45 ∷ []) ≡ false → long_of w ≡ None → short_of w ≡ Some (b ∷ cs)
+short_first : (w : Text) (b b' : ℕ) (cs : List ℕ) → bytes_eq (codes "rewrite") w ≡ false → bytes_eq (codes "trace") w ≡ false → bytes_eq w (45 ∷ 45 ∷ []) ≡ false → long_of w ≡ None → short_of w ≡ Some (b ∷ cs)
     → slice_get (chars (b ∷ cs)) 0 ≡ Some b' → turn_fault top top_names start w ≡ kind.UnknownArgument ∷ []
 unfolding clap_on_literals
-short_first w b b' cs other dd long short first = rw (other, dd, long, short, first) refl
+short_first w b b' cs other another dd long short first = rw (other, another, dd, long, short, first) refl
 
-plain_first : (w : Text) → bytes_eq (codes "rewrite") w ≡ false → bytes_eq w (45 ∷ 45 ∷ []) ≡ false → long_of w ≡ None → short_of w ≡ None
+plain_first : (w : Text) → bytes_eq (codes "rewrite") w ≡ false → bytes_eq (codes "trace") w ≡ false → bytes_eq w (45 ∷ 45 ∷ []) ≡ false → long_of w ≡ None → short_of w ≡ None
     → turn_fault top top_names start w ≡ kind.UnknownArgument ∷ kind.InvalidSubcommand ∷ []
 unfolding clap_on_literals
-plain_first w other dd long short = rw (other, dd, long, short) refl
+plain_first w other another dd long short = rw (other, another, dd, long, short) refl
 
 -- a first word that names no command is refused
-pub other_first : (w : Text) (ws : List Text) → bytes_eq (codes "rewrite") w ≡ false → Is (λ _. false) w → clean (fault_of peep_app (w ∷ ws)) ≡ false
-other_first w ws other is = elim is [
+pub other_first : (w : Text) (ws : List Text) → bytes_eq (codes "rewrite") w ≡ false → bytes_eq (codes "trace") w ≡ false → Is (λ _. false) w → clean (fault_of peep_app (w ∷ ws)) ≡ false
+other_first w ws other another is = elim is [
   | is_dashes dd ↦ ap (λ (t : Text). clean (fault_of peep_app (t ∷ ws))) (same_text w (45 ∷ 45 ∷ []) dd) ∙ dashes_first ws
   | is_joined n v dd long ours ↦ absurd (true≢false (sym ours))
   | is_apart n dd long ours ↦ absurd (true≢false (sym ours))
-  | is_unknown n v dd long unknown ↦ refused w ws kind.UnknownArgument [] (unknown_first w n v other dd long)
-  | is_short b b' cs dd long short first ↦ refused w ws kind.UnknownArgument [] (short_first w b b' cs other dd long short first)
-  | is_plain dd long short ↦ refused w ws kind.UnknownArgument (kind.InvalidSubcommand ∷ []) (plain_first w other dd long short)
+  | is_unknown n v dd long unknown ↦ refused w ws kind.UnknownArgument [] (unknown_first w n v other another dd long)
+  | is_short b b' cs dd long short first ↦ refused w ws kind.UnknownArgument [] (short_first w b b' cs other another dd long short first)
+  | is_plain dd long short ↦ refused w ws kind.UnknownArgument (kind.InvalidSubcommand ∷ []) (plain_first w other another dd long short)
 ]

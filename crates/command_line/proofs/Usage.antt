@@ -1,5 +1,5 @@
 -- From what clap promises to what the words ask for.
-use Rattle.std.proofs.Common.{◌≡◌, ◌≢◌, ◌∙◌, suc, List, [], ◌∷◌, map, Option, Some, None, refl, sym, ap, ap₂, arith, Bor, codes, option_map, subst}
+use Rattle.std.proofs.Common.{◌≡◌, ◌≢◌, ◌∙◌, suc, List, [], ◌∷◌, map, Option, Some, None, refl, sym, ap, ap₂, arith, Bor, option_map, subst}
 use Rattle.std.specs.Prelude.{All, MatchOption, option_and_then}
 use Rattle.std.specs.Box.{box_value}
 use Rattle.std.specs.Str.{IsUtf8}
@@ -8,13 +8,13 @@ use Rattle.clap.specs.declared.parser.matches.ArgMatches.{ArgMatches}
 use Rattle.clap.specs.declared.parser.matches.ArgMatches.TheViews.{out-ArgMatches, out-SubCommand}
 use Rattle.clap.specs.declared.parser.matches.Found.{Found}
 use Rattle.clap.proofs.WalkLemmas.{first_value-rows}
-use Rattle.command_line.specs.App.{asked, peep_app, rewrite_asked}
-use Rattle.command_line.specs.CommandLine.{AskFor, Request, Text}
+use Rattle.command_line.specs.App.{asked, asked_by, peep_app}
+use Rattle.command_line.specs.CommandLine.{AskFor, Form, Request, Text}
 use Rattle.command_line.specs.Request.{request_of}
 use Rattle.command_line.specs.declared.command.Command.{Command}
 use Rattle.command_line.proofs.Views.{AreTexts}
 use Rattle.command_line.proofs.Requests.{complete, sound}
-use Rattle.command_line.proofs.Rewrite.{meaning}
+use Rattle.command_line.proofs.Forms.{meaning, same_asked}
 
 pub are_texts : (xs : List (Bor Text)) → All (λ t. IsUtf8 t.now) xs → AreTexts (map (λ t. t.now) xs)
 are_texts [] all = tt
@@ -42,12 +42,9 @@ taken_asks texts slice ws same are all m (fine, found) o e =
       go None e = λ r asks. let bad : None ≡ Some r = e ∙ (complete ws utf8 r asks).1 in absurd (cc)
       go (Some c) e = sound ws utf8 (sym (ap (fault_of peep_app) words) ∙ fine) (request_of c) (sym e)
 
--- what is asked for is told by the values alone
-same_asked : (f g : Text → Option Text) → ((id : Text) → f id ≡ g id) → rewrite_asked f ≡ rewrite_asked g
-same_asked f g e = rw (e (codes "table"), e (codes "listing"), e (codes "out"), e (codes "image"), e (codes "base")) refl
-
-pub found_asked : (f : Found) → rewrite_asked (first_value f) ≡ rewrite_asked (λ id. first_of id (rows_of f))
-found_asked f = same_asked (first_value f) (λ id. first_of id (rows_of f)) (first_value-rows f)
+-- what clap finds is told by its rows
+pub found_asked : (form : Form) (f : Found) → asked_by form (first_value f) ≡ asked_by form (λ id. first_of id (rows_of f))
+found_asked form f = same_asked form (first_value f) (λ id. first_of id (rows_of f)) (first_value-rows f)
 
 -- a pair, from each of its parts
 paired : {X : Type 0} (o : Option X) (pair : X → Text × List Row) (n : Text) (rs : List Row) → option_map (λ x. (pair x).0) o ≡ Some n

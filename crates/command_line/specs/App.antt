@@ -1,8 +1,8 @@
 -- The program and its commands, as clap's definitions see them.
-use Rattle.std.specs.Prelude.{true, List, [], ◌∷◌, Option, Some, None, codes, fold, option_map, option_and_then, if◌then◌else◌}
+use Rattle.std.specs.Prelude.{true, List, [], ◌∷◌, Option, Some, None, codes, fold, map, option_map, option_and_then, if◌then◌else◌}
 use Rattle.std.specs.Str.{bytes_eq}
 use Rattle.clap.specs.Words.{App, Row, first_of, Rule, Text, new_app, new_rule, with_rule, with_subcommand}
-use Rattle.command_line.specs.CommandLine.{Request, rewrite, rewrite_options, base_of}
+use Rattle.command_line.specs.CommandLine.{Request, Form, rewrites, traces, name_of, options_of, request_by}
 
 -- a positional word
 abbrev pub positional : Text → Rule
@@ -17,11 +17,13 @@ abbrev pub command_app : Text → List Text → List Text → App
 command_app name words options =
     fold (λ a id. with_rule a (option id)) (fold (λ a id. with_rule a (positional id)) (new_app name) words) options
 
-abbrev pub rewrite_words : List Text
-rewrite_words = codes "table" ∷ codes "listing" ∷ codes "out" ∷ codes "image" ∷ []
+-- the names of a command's positional words
+abbrev pub words_for : Form → List Text
+words_for rewrites = codes "table" ∷ codes "listing" ∷ codes "out" ∷ codes "image" ∷ []
+words_for traces = codes "listing" ∷ codes "label" ∷ codes "steps" ∷ []
 
-abbrev pub rewrite_app : App
-rewrite_app = command_app (codes "rewrite") rewrite_words rewrite_options
+abbrev pub app_for : Form → App
+app_for form = command_app (name_of form) (words_for form) (options_of form)
 
 abbrev pub bare_app : App
 bare_app = let a = new_app (codes "peep") in record a {
@@ -34,14 +36,21 @@ bare_app = let a = new_app (codes "peep") in record a {
 }
 
 abbrev pub peep_app : App
-peep_app = with_subcommand bare_app rewrite_app.top
+peep_app = with_subcommand (with_subcommand bare_app (app_for rewrites).top) (app_for traces).top
 
--- what `rewrite` asks for, by the values of its words and options
-abbrev pub rewrite_asked : (Text → Option Text) → Option Request
-rewrite_asked value = option_and_then (λ table. option_and_then (λ listing. option_and_then (λ out. option_and_then (λ image.
-    option_map (λ base. rewrite table listing out image base) (base_of (value (codes "base"))))
-    (value (codes "image"))) (value (codes "out"))) (value (codes "listing"))) (value (codes "table"))
+-- all of these values, or none where one of them is none
+abbrev pub all_given : List (Option Text) → Option (List Text)
+all_given [] = Some []
+all_given (v ∷ vs) = option_and_then (λ w. option_map (λ ws. w ∷ ws) (all_given vs)) v
+
+-- what a command asks for, by the values of its words and options
+abbrev pub asked_by : Form → (Text → Option Text) → Option Request
+asked_by form value = option_and_then (λ ws. request_by form ws value) (all_given (map value (words_for form)))
+
+-- the command of this name
+abbrev pub form_of : Text → Option Form
+form_of n = if bytes_eq n (codes "rewrite") then Some rewrites else if bytes_eq n (codes "trace") then Some traces else None
 
 -- what the command of this name, with these rows, asks for
 abbrev pub asked : Text × List Row → Option Request
-asked c = if bytes_eq c.0 (codes "rewrite") then rewrite_asked (λ id. first_of id c.1) else None
+asked c = option_and_then (λ form. asked_by form (λ id. first_of id c.1)) (form_of c.0)

@@ -86,16 +86,39 @@ abbrev pub base_of : Option Text → Option ℕ
 base_of None = Some 0
 base_of (Some v) = option_and_then (λ b. if is_base b then Some b else None) (numeral v)
 
+-- the most steps of a trace are 1,000,000
+abbrev pub steps_of : Text → Option ℕ
+steps_of v = option_and_then (λ n. if nat_le n 1000000 then Some n else None) (numeral v)
+
 -- what a command line asks for
 pub data Request : Type 0 where
   rewrite : (table listing out image : Text) → ℕ → Request
+  trace : (listing label : Text) → ℕ → Request
 
--- the options of `rewrite`
-abbrev pub rewrite_options : List Text
-rewrite_options = codes "base" ∷ []
+-- ---- the commands ----
 
--- the words ask for this
-abbrev pub AskFor : List Text → Request → Type 0
-AskFor ws (rewrite table listing out image base) = (given : List Given)
-    × IsCommand (codes "rewrite") rewrite_options ws (table ∷ listing ∷ out ∷ image ∷ []) given
-    × (base_of (value_of (codes "base") given) ≡ Some base)
+pub data Form : Type 0 where
+  rewrites : Form
+  traces : Form
+
+abbrev pub name_of : Form → Text
+name_of rewrites = codes "rewrite"
+name_of traces = codes "trace"
+
+abbrev pub options_of : Form → List Text
+options_of rewrites = codes "base" ∷ []
+options_of traces = []
+
+-- what a command asks for, by its positional words and the values of its options
+abbrev pub request_by : Form → List Text → (Text → Option Text) → Option Request
+request_by rewrites (table ∷ listing ∷ out ∷ image ∷ []) value = option_map (λ base. rewrite table listing out image base) (base_of (value (codes "base")))
+request_by traces (listing ∷ label ∷ count ∷ []) value = option_map (λ steps. trace listing label steps) (steps_of count)
+request_by form words value = None
+
+-- the words are a command that asks for this
+pub record AskFor (ws : List Text) (r : Request) : Type 0 where
+  pub form : Form
+  pub words : List Text
+  pub given : List Given
+  pub command : IsCommand (name_of form) (options_of form) ws words given
+  pub asks : request_by form words (λ n. value_of n given) ≡ Some r

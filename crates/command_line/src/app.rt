@@ -3,7 +3,8 @@
 ghost use Rattle.std.specs.Prelude.{◌≡◌, IfOk, false};
 ghost use Rattle.clap.specs.Words.{app_of, with_rule};
 ghost use Rattle.clap.specs.declared.builder.Command.TheViews.{out-Command as fields_of};
-ghost use Rattle.command_line.specs.App.{positional, option, rewrite_app, peep_app};
+ghost use Rattle.command_line.specs.App.{positional, option, app_for, peep_app};
+ghost use Rattle.command_line.specs.CommandLine.{rewrites, traces};
 
 use clap::{Arg, Command};
 use std::alloc::{AllocError, Global};
@@ -36,7 +37,7 @@ fn with_option<'a>(
 
 /// `rewrite TABLE LISTING OUT IMAGE [--base N]`
 fn rewrite<'a>(alloc: Global) -> Result<Command<'a>, AllocError>
-    ensures app { IfOk result (λ c. app_of c ≡ rewrite_app) }
+    ensures app { IfOk result (λ c. app_of c ≡ app_for rewrites) }
     ensures own { IfOk result (λ c. (fields_of c).has_globals ≡ false) }
 {
     let command = Command::new(alloc, "rewrite");
@@ -47,16 +48,29 @@ fn rewrite<'a>(alloc: Global) -> Result<Command<'a>, AllocError>
     with_option(alloc, command, "base")
 }
 
+/// `trace LISTING LABEL STEPS`
+fn trace<'a>(alloc: Global) -> Result<Command<'a>, AllocError>
+    ensures app { IfOk result (λ c. app_of c ≡ app_for traces) }
+    ensures own { IfOk result (λ c. (fields_of c).has_globals ≡ false) }
+{
+    let command = Command::new(alloc, "trace");
+    let command = with_word(alloc, command, "listing")?;
+    let command = with_word(alloc, command, "label")?;
+    with_word(alloc, command, "steps")
+}
+
 /// The program: a command is required, and there is no help.
 pub fn peep<'a>(alloc: Global) -> Result<Command<'a>, AllocError>
     ensures { IfOk result (λ c. app_of c ≡ peep_app) }
 {
     let rewrite = rewrite(alloc)?;
+    let trace = trace(alloc)?;
     let command = Command::new(alloc, "peep")
         .no_binary_name(true)
         .disable_help_flag(true)
         .disable_help_subcommand(true)
         .subcommand_required(true)
-        .subcommand(rewrite)?;
+        .subcommand(rewrite)?
+        .subcommand(trace)?;
     Ok(command)
 }

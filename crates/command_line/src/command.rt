@@ -15,6 +15,13 @@ pub enum Command {
         /// An address: a multiple of 4 up to 268,435,456.
         base: u32,
     },
+    /// Run the listing from a code label for at most so many steps, and print what is seen of the run.
+    Trace {
+        listing: String,
+        label: String,
+        /// Up to 1,000,000.
+        steps: u32,
+    },
 }
 
 /// Memory was refused.

@@ -3,8 +3,9 @@
 //! `specs/CommandLine.antt` says what a command line is, in words of its own. The words are read by clap (`app`), numerals and their
 //! limits by us (`values`), and `usage_of` promises that both together are that definition.
 //!
-//! A further command is a variant of `Command`, its words and options in `specs/App.antt`, what it asks for in `specs/CommandLine.antt`
-//! and `specs/Request.antt`, a function in `app` and one in `values`, and in the proofs a copy of `Rewrite.antt`'s lemmas at its lists.
+//! A further command is a variant of `Command`, a form with its name, options and request in `specs/CommandLine.antt`, the names of its
+//! words in `specs/App.antt`, a case in `specs/Request.antt`, a function in `app` and one in `values`, and in the proofs a line in each
+//! lemma by forms of `Forms.antt`, `Top.antt` and `Requests.antt`.
 #![tactic(auto)]
 
 ghost use Rattle.std.specs.Prelude.{◌≡◌, ◌≢◌, [], All, IfOk, MatchOption, map, string_bytes};

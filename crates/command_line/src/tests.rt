@@ -40,6 +40,30 @@ fn assert_rewrite(
     Ok(())
 }
 
+fn assert_trace(
+    rt: &impl Abort,
+    alloc: Global,
+    line: &str,
+    names: [&str; 2],
+    most: u32,
+) -> Result<(), Fail> {
+    let words = words_of(alloc, line)?;
+    let Some(
+        Command::Trace {
+            listing,
+            label,
+            steps,
+        },
+    ) = usage_of(alloc, words.as_slice())?
+    else {
+        return Err(Fail::from("no command"));
+    };
+    assert_eq!(rt; listing.as_str(), names[0], "{line}");
+    assert_eq!(rt; label.as_str(), names[1], "{line}");
+    assert_eq!(rt; steps, most, "{line}");
+    Ok(())
+}
+
 #[test]
 fn these_are_no_command(rt: HostRuntime) -> Result<(), Fail> {
     let lines = [
@@ -80,6 +104,24 @@ fn these_are_no_command(rt: HostRuntime) -> Result<(), Fail> {
         "-- rewrite a b c d",
         "--base 4 rewrite a b c d",
         "rewrit a b c d",
+        "trace",
+        "trace a b",
+        "trace a b 1 c",
+        "trace a b c",
+        "trace a b 1000001",
+        "trace a b 4294967296",
+        "trace a b 010",
+        "trace a b 0X10",
+        "trace a b -1",
+        "trace a b -- -1",
+        "trace a b +1",
+        "trace a b 1 --base 4",
+        "trace a b 1 --base=4",
+        "trace a b --steps 1",
+        "trace a -b 1",
+        "trace a b 1 --help",
+        "trace rewrite a b 1",
+        "Trace a b 1",
         "Rewrite a b c d",
     ];
     for line in lines {
@@ -117,6 +159,23 @@ fn these_are_rewrite(rt: HostRuntime) -> Result<(), Fail> {
     ];
     for (line, names, base) in rows {
         assert_rewrite(&rt, rt.alloc(), line, names, base)?;
+    }
+    Ok(())
+}
+
+#[test]
+fn these_are_trace(rt: HostRuntime) -> Result<(), Fail> {
+    let rows = [
+        ("trace a b 0", ["a", "b"], 0),
+        ("trace a b 1000000", ["a", "b"], 1_000_000),
+        ("trace a b 0xF4240", ["a", "b"], 1_000_000),
+        ("trace - .L2 0x14", ["-", ".L2"], 20),
+        ("trace a -- -b 7", ["a", "-b"], 7),
+        ("trace a -- -- 7", ["a", "--"], 7),
+        ("trace trace rewrite 1", ["trace", "rewrite"], 1),
+    ];
+    for (line, names, steps) in rows {
+        assert_trace(&rt, rt.alloc(), line, names, steps)?;
     }
     Ok(())
 }

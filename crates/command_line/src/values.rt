@@ -2,8 +2,8 @@
 
 ghost use Rattle.std.specs.Prelude.{◌≡◌, IfOk, option_map, option_and_then, string_bytes};
 ghost use Rattle.clap.specs.Words.{first_of, first_value, found_of, rows_of, subcommand_rows_of};
-ghost use Rattle.command_line.specs.App.{rewrite_asked, asked};
-ghost use Rattle.command_line.specs.CommandLine.{base_of, is_base};
+ghost use Rattle.command_line.specs.App.{asked_by, asked};
+ghost use Rattle.command_line.specs.CommandLine.{rewrites, traces, base_of, is_base, steps_of};
 ghost use Rattle.command_line.specs.Request.{request_of};
 
 use super::command::Command;
@@ -24,9 +24,19 @@ fn base(given: Option<&str>) -> Option<u32>
     }
 }
 
+/// The most steps of a trace.
+const STEPS_LIMIT: u32 = 1_000_000;
+
+/// The number of steps that the word is, or None where it is none.
+fn steps(word: &str) -> Option<u32>
+    ensures { result ≡ steps_of word.now }
+{
+    number(word.as_bytes()).filter(|steps| *steps <= STEPS_LIMIT)
+}
+
 /// The values of `rewrite`.
 fn rewrite(alloc: Global, given: &ArgMatches<'_>) -> Result<Option<Command>, AllocError>
-    ensures { IfOk result (λ o. option_map request_of o ≡ rewrite_asked (first_value (found_of given.now))) }
+    ensures { IfOk result (λ o. option_map request_of o ≡ asked_by rewrites (first_value (found_of given.now))) }
 {
     let (Some(table), Some(listing), Some(out), Some(image), Some(base)) = (
         given.get_str("table"),
@@ -46,12 +56,34 @@ fn rewrite(alloc: Global, given: &ArgMatches<'_>) -> Result<Option<Command>, All
     }))
 }
 
+/// The values of `trace`.
+fn trace(alloc: Global, given: &ArgMatches<'_>) -> Result<Option<Command>, AllocError>
+    ensures { IfOk result (λ o. option_map request_of o ≡ asked_by traces (first_value (found_of given.now))) }
+{
+    let (Some(listing), Some(label), Some(word)) = (
+        given.get_str("listing"),
+        given.get_str("label"),
+        given.get_str("steps"),
+    ) else {
+        return Ok(None);
+    };
+    let Some(steps) = steps(word) else {
+        return Ok(None);
+    };
+    Ok(Some(Command::Trace {
+        listing: String::from_str(alloc, listing)?,
+        label: String::from_str(alloc, label)?,
+        steps,
+    }))
+}
+
 /// The command that clap found, with its values.
 pub fn command_of(alloc: Global, matches: &ArgMatches<'_>) -> Result<Option<Command>, AllocError>
     ensures { IfOk result (λ o. option_map request_of o ≡ option_and_then asked (subcommand_rows_of matches.now)) }
 {
     match matches.subcommand() {
         Some(("rewrite", given)) => rewrite(alloc, given),
+        Some(("trace", given)) => trace(alloc, given),
         _ => Ok(None),
     }
 }

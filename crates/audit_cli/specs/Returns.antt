@@ -1,0 +1,13 @@
+-- The words of the return points of calls.
+use Rattle.std.specs.Prelude.{◌≡◌, ℕ, ◌+◌, ◌<◌, Bool, false, List, length, Option, Some, None, slice_index}
+use Rattle.thumb_model.specs.Listing.{Line, Place, is_call}
+use Rattle.thumb_model.specs.Image.{return_address}
+
+abbrev pub is_call_place : Option Place → Bool
+is_call_place None = false
+is_call_place (Some p) = is_call p
+
+-- these are the words of so many first calls
+pub record AreReturns (base : ℕ) (lines : List Line) (calls : ℕ) (list : List ℕ) : Type 0 where
+  pub count : length list ≡ calls
+  pub words : (k : ℕ) → k < calls → slice_index list k ≡ return_address k base lines + 1

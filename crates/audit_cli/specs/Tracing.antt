@@ -1,0 +1,39 @@
+-- What `trace` comes to.
+use Rattle.std.specs.Prelude.{◌≡◌, ℕ, List, [], ◌∷◌, ◌++◌, Option, Some, None}
+use Rattle.thumb_model.specs.Listing.{Name, Line, code_of, place_of}
+use Rattle.thumb_model.specs.Layout.{Fault, Layable}
+use Rattle.thumb_model.specs.Machine.{Naming, step, times}
+use Rattle.thumb_model.specs.Same.{begun}
+use Rattle.listing_parser.specs.declared.errors.Kind.{Kind}
+use Rattle.listing_parser.specs.Parsing.{IsListing, IsRefused}
+use Rattle.label_layout.specs.Refusals.{first_fault}
+use Rattle.thumb_machine.specs.declared.machine.Stage.{Stage}
+use Rattle.audit_cli.specs.Laid.{IsLaid}
+use Rattle.audit_cli.specs.Plans.{Outcome, Refuses, Does}
+use Rattle.audit_cli.specs.Running.{IsRun}
+use Rattle.audit_cli.specs.Start.{start_world}
+use Rattle.audit_cli.specs.TraceLines.{event_lines, steps_line, refused_line, refused_fault, refused_label}
+
+-- what is asked for: the label where the run begins, and the most steps
+pub record Journey : Type 0 where
+  pub label : Name
+  pub most : ℕ
+
+-- what lines come to: they are refused at the first that can't be laid out, or for want of the code label, or run from it under the naming that they are laid out with
+pub data LinesTrace (journey : Journey) (lines : List Line) : Outcome → Type 0 where
+  unlaid : (n : ℕ) (fault : Fault) → first_fault 0 lines ≡ Some (n, fault) → LinesTrace journey lines (Refuses (refused_fault n fault))
+  unlabelled : Layable 0 lines → place_of (code_of lines) journey.label ≡ None → LinesTrace journey lines (Refuses refused_label)
+  ran : Layable 0 lines → (p : ℕ) → place_of (code_of lines) journey.label ≡ Some p → (names : Naming) → IsLaid 0 lines names
+      → (n : ℕ) (s : Stage) → IsRun names (code_of lines) (begun (code_of lines) journey.label start_world []) journey.most n s
+      → LinesTrace journey lines (Does [] (event_lines (times (step names (code_of lines)) n (begun (code_of lines) journey.label start_world [])).events ++ steps_line n s))
+
+-- what a text comes to: it is refused at the first line that makes it no listing, or its lines are traced
+pub data Traces (journey : Journey) (text : List ℕ) : Outcome → Type 0 where
+  unread : (n : ℕ) (k : Kind) → IsRefused text n k → Traces journey text (Refuses (refused_line n k))
+  read : (lines : List Line) → IsListing text lines → (o : Outcome) → LinesTrace journey lines o → Traces journey text o
+
+-- `trace` fetches one text, and is given no other number of them
+abbrev pub TraceComesTo : Journey → List (List ℕ) → Outcome → Type 0
+TraceComesTo journey [] o = o ≡ Refuses []
+TraceComesTo journey (text ∷ []) o = Traces journey text o
+TraceComesTo journey (text ∷ other ∷ texts) o = o ≡ Refuses []

@@ -1,0 +1,126 @@
+-- The words and options of each command, and what they ask for.
+use Rattle.std.proofs.Common.{◌≡◌, ◌∙◌, ◌<◌, ℕ, true, List, [], ◌∷◌, length, map, Option, Some, None, refl, sym, ap, ap₂, arith, codes, subst, option_map}
+use Rattle.std.specs.Prelude.{option_and_then}
+use Rattle.std.specs.List.{list_all}
+use Rattle.clap.specs.Words.{Row, fault_of, first_of, subcommand_of}
+use Rattle.command_line.specs.App.{all_given, asked, asked_by, form_of, peep_app, words_for}
+use Rattle.command_line.specs.CommandLine.{AskFor, Form, rewrites, traces, Given, IsCommand, Request, rewrite, Text, base_of, is_one_of, name_of, options_of, request_by, value_of}
+use Rattle.command_line.proofs.Items.{is_name}
+use Rattle.command_line.proofs.Law.{rows}
+use Rattle.command_line.proofs.Views.{AreTexts}
+use Rattle.command_line.proofs.NamedValues.{are_apart, first_row, values}
+use Rattle.command_line.proofs.Exact.{command_agrees}
+use Rattle.command_line.proofs.Commands.{Finds, command_finds, finds_command}
+use Rattle.command_line.proofs.Top.{enters}
+
+-- what clap's matches ask for
+abbrev pub meaning : List Text → Option Request
+meaning ws = option_and_then asked (subcommand_of peep_app ws)
+
+-- ---- of each form ----
+
+few : (form : Form) → length (words_for form) < 1000
+few rewrites = omega arith
+few traces = omega arith
+
+names : (form : Form) → list_all is_name (options_of form) ≡ true
+names rewrites = refl
+names traces = refl
+
+apart : (form : Form) → are_apart (words_for form) (options_of form) ≡ true
+apart rewrites = refl
+apart traces = refl
+
+-- the name tells the form
+named : (form : Form) → form_of (name_of form) ≡ Some form
+named rewrites = refl
+named traces = refl
+
+-- only the values of the options are looked at
+pub same_options : (form : Form) (ps : List Text) (f g : Text → Option Text) → ((n : Text) → is_one_of (options_of form) n ≡ true → f n ≡ g n)
+    → request_by form ps f ≡ request_by form ps g
+same_options rewrites (t ∷ l ∷ o ∷ i ∷ []) f g e = ap (λ (v : Option Text). option_map (λ base. rewrite t l o i base) (base_of v)) (e (codes "base") refl)
+same_options rewrites ps f g e = refl
+same_options traces (l ∷ n ∷ s ∷ []) f g e = refl
+same_options traces ps f g e = refl
+
+-- a request has a word for each name
+counted : (form : Form) (ps : List Text) (value : Text → Option Text) (r : Request) → request_by form ps value ≡ Some r → length ps ≡ length (words_for form)
+counted rewrites (t ∷ l ∷ o ∷ i ∷ []) value r e = refl
+counted rewrites ps value r e = absurd (let bad : None ≡ Some r = e in cc)
+counted traces (l ∷ n ∷ s ∷ []) value r e = refl
+counted traces ps value r e = absurd (let bad : None ≡ Some r = e in cc)
+
+-- ---- of all ----
+
+all_some : (ps : List Text) → all_given (map (λ p. Some p) ps) ≡ Some ps
+all_some [] = refl
+all_some (p ∷ ps) = ap (option_map (λ (k : List Text). p ∷ k)) (all_some ps)
+
+row_values : (ids : List Text) (us : List Given) → map (λ id. first_of id (rows us)) ids ≡ values ids us
+row_values [] us = refl
+row_values (id ∷ ids) us = ap₂ (λ (v : Option Text) (vs : List (Option Text)). v ∷ vs) (first_row id us) (row_values ids us)
+
+-- what is asked for, by the uses that the words and options are
+asked_is : (form : Form) (us gs : List Given) (ps : List Text) → values (words_for form) us ≡ map (λ p. Some p) ps
+    → ((n : Text) → is_one_of (options_of form) n ≡ true → value_of n us ≡ value_of n gs) → asked_by form (λ id. first_of id (rows us)) ≡ request_by form ps (λ n. value_of n gs)
+asked_is form us gs ps words options =
+    ap (option_and_then (λ ws. request_by form ws (λ id. first_of id (rows us)))) (ap all_given (row_values (words_for form) us ∙ words) ∙ all_some ps)
+    ∙ same_options form ps (λ id. first_of id (rows us)) (λ n. value_of n gs) (λ n ours. first_row n us ∙ options n ours)
+
+asked_named : (form : Form) (rs : List Row) → asked (name_of form, rs) ≡ asked_by form (λ id. first_of id rs)
+asked_named form rs = ap (option_and_then (λ f. asked_by f (λ id. first_of id rs))) (named form)
+
+-- what clap takes and finds is asked for
+pub form_sound : (form : Form) (ws : List Text) → AreTexts ws → fault_of peep_app (name_of form ∷ ws) ≡ [] → (r : Request) → meaning (name_of form ∷ ws) ≡ Some r
+    → AskFor (name_of form ∷ ws) r
+form_sound form ws texts fine r e = go (finds_command (name_of form) (words_for form) (options_of form) (few form) (names form) (apart form) (enters form) ws texts fine) where
+  go : (us : List Given) × (ps : List Text) × (gs : List Given)
+      × Finds (name_of form) (words_for form) (options_of form) (few form) (names form) (apart form) (enters form) ws ps gs us
+      × IsCommand (name_of form) (options_of form) (name_of form ∷ ws) ps gs → AskFor (name_of form ∷ ws) r
+  go (us, ps, gs, f, c) = record {
+    form = form;
+    words = ps;
+    given = gs;
+    command = c;
+    asks = sym (asked_is form us gs ps f.in_order f.options) ∙ sym (asked_named form (rows us)) ∙ sym (ap (option_and_then asked) f.found) ∙ e;
+  }
+
+-- and what is asked for is taken and found
+pub form_complete : (form : Form) (ws : List Text) → AreTexts ws → (r : Request) (ps : List Text) (gs : List Given)
+    → IsCommand (name_of form) (options_of form) (name_of form ∷ ws) ps gs → request_by form ps (λ n. value_of n gs) ≡ Some r
+    → (fault_of peep_app (name_of form ∷ ws) ≡ []) × (meaning (name_of form ∷ ws) ≡ Some r)
+form_complete form ws texts r ps gs c e =
+    let f = command_finds (name_of form) (words_for form) (options_of form) (few form) (names form) (apart form) (enters form) ws texts ps gs c (counted form ps (λ n. value_of n gs) r e) in
+    (f.1.fine, ap (option_and_then asked) f.1.found ∙ asked_named form (rows f.0) ∙ asked_is form f.0 gs ps f.1.in_order f.1.options ∙ e)
+
+-- words ask for one thing of a form
+pub form_one : (form : Form) (ws : List Text) (r s : Request) (ps qs : List Text) (gs hs : List Given)
+    → IsCommand (name_of form) (options_of form) (name_of form ∷ ws) ps gs → request_by form ps (λ n. value_of n gs) ≡ Some r
+    → IsCommand (name_of form) (options_of form) (name_of form ∷ ws) qs hs → request_by form qs (λ n. value_of n hs) ≡ Some s → r ≡ s
+form_one form ws r s ps qs gs hs c e d h =
+    let f = command_agrees (name_of form) (words_for form) (options_of form) (names form) (apart form) ws ps gs c (counted form ps (λ n. value_of n gs) r e) in
+    let g = command_agrees (name_of form) (words_for form) (options_of form) (names form) (apart form) ws qs hs d (counted form qs (λ n. value_of n hs) s h) in
+    let us : List Given = f.0 in
+    let vs : List Given = g.0 in
+    let read : Some us ≡ Some vs = sym f.1.read ∙ g.1.read in
+    let same : us ≡ vs = cc in
+    let one = asked_is form us gs ps f.1.words f.1.options ∙ e in
+    let other = asked_is form vs hs qs g.1.words g.1.options ∙ h in
+    let both : Some r ≡ Some s = sym one ∙ ap (λ (k : List Given). asked_by form (λ id. first_of id (rows k))) same ∙ other in
+    cc
+
+-- two forms of one name are one
+pub same_form : (form other : Form) → name_of form ≡ name_of other → form ≡ other
+same_form form other e = let both : Some form ≡ Some other = sym (named form) ∙ ap form_of e ∙ named other in cc
+
+-- what is asked for is told by the values alone
+pub same_asked : (form : Form) (f g : Text → Option Text) → ((id : Text) → f id ≡ g id) → asked_by form f ≡ asked_by form g
+same_asked form f g e = ap (option_and_then (λ ws. request_by form ws f)) (ap all_given (mapped (words_for form))) ∙ go (all_given (map g (words_for form))) where
+  mapped : (ids : List Text) → map f ids ≡ map g ids
+  mapped [] = refl
+  mapped (id ∷ ids) = ap₂ (λ (v : Option Text) (vs : List (Option Text)). v ∷ vs) (e id) (mapped ids)
+
+  go : (o : Option (List Text)) → option_and_then (λ ws. request_by form ws f) o ≡ option_and_then (λ ws. request_by form ws g) o
+  go None = refl
+  go (Some ws) = same_options form ws f g (λ n ours. e n)
