@@ -10,3 +10,4 @@ pub mod ParseLemmas
 pub mod ReplaceLemmas
 pub mod SpotLemmas
 pub mod LabelLemmas
+pub mod CanonicalLines
