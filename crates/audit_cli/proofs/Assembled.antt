@@ -1,9 +1,5 @@
 -- The bytes of straight lines are their image.
-use Rattle.std.proofs.Common.{◌≡◌, ◌∙◌, ◌<◌, ℕ, ◌+◌, ◌*◌, ◌/◌, ◌%◌, List, [], ◌∷◌, ◌++◌, Some, None, ◌≤◌, length, map, drop, get_or, sym, refl, ap, subst, arith, append_assoc, append-nil}
-use Rattle.std.proofs.lemmas.List.{drop_more}
-use Rattle.std.proofs.Math.ListN.{drop_of_length-le}
-use Rattle.audit_cli.specs.declared.listing.Line.{Line as CodeLine}
-use Rattle.audit_cli.specs.Views.{line_view}
+use Rattle.std.proofs.Common.{◌≡◌, ◌∙◌, ◌<◌, ℕ, ◌+◌, ◌*◌, ◌/◌, ◌%◌, List, [], ◌∷◌, ◌++◌, Some, None, sym, refl, ap, subst, arith, append_assoc, append-nil}
 use Rattle.thumb_instr.specs.declared.instr.Instr.{Instr}
 use Rattle.thumb_instr.specs.declared.instr.Instr.TheVariants as instr
 use Rattle.thumb_table.specs.Rows.{width, packed}
@@ -35,7 +31,7 @@ lines_lie : (l : Laid) (at : ℕ) (ls : List Line) (bytes : List ℕ) → AreCod
 lines_lie l at [] bytes h = h
 lines_lie l at (x ∷ xs) bytes h = (h.0, h.1, h.2, statement_lies l at x.statement h.0 h.3, lines_lie l (at + size_at x.statement at) xs h.1 h.4)
 
-are_image : (all : List Line) (bytes : List ℕ) → Completes all [] bytes → (base : ℕ) (set : Name → ℕ) → IsImage base set all bytes
+pub are_image : (all : List Line) (bytes : List ℕ) → Completes all [] bytes → (base : ℕ) (set : Name → ℕ) → IsImage base set all bytes
 are_image all bytes c base set =
     let coded : AreCodes all bytes = subst (AreCodes all) (append-nil bytes) (c [] refl) in
     lines_lie (record { base = base; names = laid base set all; lines = all }) base all bytes coded
@@ -107,15 +103,3 @@ two_codes i first second old mid new l k c e f =
       is_code = (first, second, record { is = code_is }, l, k, rw (size, upper_byte first l, upper_byte second k) refl);
       pushed = f ∙ ap (λ (b : List ℕ). b ++ (second % 256 ∷ second / 256 ∷ [])) e ∙ append_assoc old (first % 256 ∷ first / 256 ∷ []) (second % 256 ∷ second / 256 ∷ []);
     }
-
--- ---- over the lines of the code ----
-
--- one line more
-pub line_completes : (lines : List CodeLine) (i : ℕ) (line : CodeLine) (old new : List ℕ) → i < length lines → line ≡ get_or lines i line → Completes (map line_view lines) (map line_view (drop i lines)) old → PushedCode (line_view line).statement old new → Completes (map line_view lines) (map line_view (drop (i + 1) lines)) new
-line_completes lines i line old new l is c p =
-    let cut : drop i lines ≡ line ∷ drop (i + 1) lines = drop_more lines i line l ∙ ap (λ (x : CodeLine). x ∷ drop (i + 1) lines) (sym is) in
-    completes_more (map line_view lines) (map line_view (drop (i + 1) lines)) (line_view line) old new (subst (λ (ls : List CodeLine). Completes (map line_view lines) (map line_view ls) old) cut c) p
-
--- no line is left
-pub lines_are_image : (lines : List CodeLine) (i : ℕ) (bytes : List ℕ) → length lines ≤ i → Completes (map line_view lines) (map line_view (drop i lines)) bytes → (base : ℕ) (set : Name → ℕ) → IsImage base set (map line_view lines) bytes
-lines_are_image lines i bytes h c = are_image (map line_view lines) bytes (subst (λ (ls : List CodeLine). Completes (map line_view lines) (map line_view ls) bytes) (drop_of_length-le lines h) c)

@@ -5,8 +5,8 @@ pub mod MovesPass
 pub mod StageLemmas
 pub mod RunLemmas
 pub mod Deeds
-pub mod TextLemmas
-pub mod ListingLemmas
+pub mod StraightLemmas
+pub mod StraightLines
 pub mod PrintLemmas
 pub mod TableLemmas
 pub mod TableLaws

@@ -5,10 +5,11 @@ use Rattle.thumb_model.specs.Rewrite.{Rule}
 use Rattle.thumb_model.specs.Rewritten.{Replacement, AreRewritten}
 use Rattle.thumb_model.proofs.LinesKept.{lines_same, none_left, all_applied}
 use Rattle.audit_cli.specs.Moves.{moves_table}
-use Rattle.audit_cli.specs.FirstListing.{AreStraight, IsFirstBad}
+use Rattle.listing_parser.specs.Parsing.{IsListing, text_of_lines}
+use Rattle.audit_cli.specs.Straight.{AreStraight, IsFirstBad}
 use Rattle.audit_cli.specs.FirstTable.{IsTable, IsBadTableLine}
 use Rattle.audit_cli.specs.Plans.{Outcome, Refuses, Does}
-use Rattle.audit_cli.specs.Printed.{text_of_lines, report_of, refused_table_line, refused_listing_line, image_line}
+use Rattle.audit_cli.specs.Printed.{report_of, refused_table_line, refused_listing_line, image_line}
 use Rattle.audit_cli.specs.Rewriting.{Destination, Counts, AreImage, IsKept, alone, pair, IsKeptIn, setting, AreShortest, IsRewriting, ListingComes, bad_listing, rewrites, Comes, bad_table, goes_on}
 use Rattle.audit_cli.proofs.MovesRule.{moves_only, moves_are_sound}
 
@@ -56,8 +57,8 @@ is_rewriting to entries given lines replacements c o r e k =
 pub listing_refused : (to : Destination) (entries : ℕ) (listing : List ℕ) (n : ℕ) (line : List ℕ) (o : Outcome) → IsFirstBad listing n → line ≡ refused_listing_line n → o ≡ Refuses line → ListingComes to entries listing o
 listing_refused to entries listing n line o bad l e = subst (ListingComes to entries listing) (sym (e ∙ ap Refuses l)) (bad_listing n bad)
 
-pub listing_rewritten : (to : Destination) (entries : ℕ) (listing : List ℕ) (given : List Line) (o : Outcome) → AreStraight listing given → IsRewriting to entries given o → ListingComes to entries listing o
-listing_rewritten to entries listing given o straight r = rewrites given straight o r
+pub listing_rewritten : (to : Destination) (entries : ℕ) (listing : List ℕ) (given : List Line) (o : Outcome) → AreStraight listing → IsListing listing given → IsRewriting to entries given o → ListingComes to entries listing o
+listing_rewritten to entries listing given o straight is r = rewrites straight given is o r
 
 pub table_refused : (to : Destination) (table listing : List ℕ) (n : ℕ) (line : List ℕ) (o : Outcome) → IsBadTableLine table n → line ≡ refused_table_line n → o ≡ Refuses line → Comes to table listing o
 table_refused to table listing n line o bad l e = subst (Comes to table listing) (sym (e ∙ ap Refuses l)) (bad_table n bad)

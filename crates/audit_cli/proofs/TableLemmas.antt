@@ -16,7 +16,7 @@ use Rattle.audit_cli.specs.declared.read_table.Next.{Next}
 use Rattle.audit_cli.specs.declared.read_table.Next.TheVariants.{Peep, Regs, Longest, Seed, Budget, Pool, Any, Left, Mask, Proof, Nothing}
 use Rattle.audit_cli.specs.FirstTable.{header, is_state, entry_lines, entries_lines, table_lines, shown, IsTable, Begins, Stops, IsBadTableLine}
 use Rattle.audit_cli.specs.TableSteps.{after, entries_of, step, step_line}
-use Rattle.audit_cli.proofs.TextLemmas.{both}
+use Rattle.std.proofs.lemmas.Bool.{and_parts}
 
 -- what may come next after more lines
 unfoldable pub run : Next → List (List ℕ) → Option Next
@@ -39,7 +39,7 @@ read_states : (states rest : List (List ℕ)) → list_all is_state states ≡ t
 unfolding run step
 read_states [] rest fine = refl
 read_states (t ∷ states) rest fine =
-    let parts = both (is_state t) (list_all is_state states) fine in
+    let parts = and_parts (is_state t) (list_all is_state states) fine in
     rw parts.0 (read_states states rest parts.1)
 
 entry_no_state : is_state (codes "entry") ≡ false

@@ -1,12 +1,6 @@
 -- The bytes that are kept and printed.
 use Rattle.std.specs.Prelude.{ℕ, List, [], ◌∷◌, ◌++◌, codes}
 use Rattle.std.specs.Fmt.{decimal}
-use Rattle.thumb_model.specs.Listing.{Line}
-
--- a listing's text: that of its lines, joined
-abbrev pub text_of_lines : List Line → List ℕ
-text_of_lines [] = []
-text_of_lines (l ∷ ls) = l.text ++ text_of_lines ls
 
 -- a line of words, with a newline
 abbrev pub printed : List ℕ → List ℕ

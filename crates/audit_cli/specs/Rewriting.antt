@@ -6,11 +6,13 @@ use Rattle.thumb_model.specs.Image.{IsImage}
 use Rattle.thumb_model.specs.Same.{Same}
 use Rattle.thumb_model.specs.Rewrite.{Rule, Equal, AreSound}
 use Rattle.thumb_model.specs.Rewritten.{Setting, Replacement, AreRewritten, AllApplied, NoneApplies}
-use Rattle.audit_cli.specs.FirstListing.{text_of, AreStraight, IsFirstBad}
+use Rattle.listing_parser.specs.Parsing.{IsListing, text_of_lines}
+use Rattle.listing_parser.specs.Replacing.{own_line}
+use Rattle.audit_cli.specs.Straight.{AreStraight, IsFirstBad}
 use Rattle.audit_cli.specs.FirstTable.{IsTable, IsBadTableLine}
 use Rattle.audit_cli.specs.Moves.{moves_table, first_setting}
 use Rattle.audit_cli.specs.Plans.{Keep, Outcome, Refuses, Does}
-use Rattle.audit_cli.specs.Printed.{text_of_lines, report_of, refused_table_line, refused_listing_line, image_line}
+use Rattle.audit_cli.specs.Printed.{report_of, refused_table_line, refused_listing_line, image_line}
 
 -- the names that a rewritten listing and its image are kept under, and where the image lies
 pub record Destination : Type 0 where
@@ -42,10 +44,7 @@ IsKeptIn to lines c (Does keeps printed) = IsKept to lines c keeps printed
 
 -- ---- the headline ----
 
--- a new instruction's own line: a tab, its canonical text, and a newline
-abbrev pub own_line : Instr → List ℕ
-own_line i = 9 ∷ (text_of i ++ 10 ∷ [])
-
+-- a new instruction has a line of its own: a tab, its canonical text, and a newline
 abbrev pub setting : ℕ → ℕ → Setting
 setting base entries = first_setting own_line base entries
 
@@ -71,10 +70,10 @@ pub record IsRewriting (to : Destination) (entries : ℕ) (given : List Line) (o
   -- the listing is kept, and its image; each place of a straight listing is an instruction
   pub kept : IsKeptIn to lines (record { replaced = length replacements; before = length (places_of given); after = length (places_of lines) }) o
 
--- what the text of a listing comes to: it is refused at its first bad line, or rewritten
+-- what the text of a listing comes to: it is refused at its first line that may not stand in a straight listing, or its lines are rewritten
 pub data ListingComes (to : Destination) (entries : ℕ) (listing : List ℕ) : Outcome → Type 0 where
   bad_listing : (n : ℕ) → IsFirstBad listing n → ListingComes to entries listing (Refuses (refused_listing_line n))
-  rewrites : (given : List Line) → AreStraight listing given → (o : Outcome) → IsRewriting to entries given o → ListingComes to entries listing o
+  rewrites : AreStraight listing → (given : List Line) → IsListing listing given → (o : Outcome) → IsRewriting to entries given o → ListingComes to entries listing o
 
 -- what the texts of a table and a listing come to: the table is refused at its first bad line, or else the listing goes by it
 pub data Comes (to : Destination) (table listing : List ℕ) : Outcome → Type 0 where

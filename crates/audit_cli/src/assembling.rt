@@ -2,10 +2,12 @@
 ghost use Rattle.std.specs.Prelude.{◌≡◌, ◌++◌, ◌∷◌, [], ◌%◌, ◌/◌, ℕ, List, map, IfOk, OnOk, None};
 ghost use Rattle.thumb_model.specs.Listing.{Name, Runs};
 ghost use Rattle.thumb_model.specs.Image.{IsImage};
-ghost use Rattle.audit_cli.specs.Views.{line_view};
+ghost use Rattle.listing_parser.specs.Views.{line_view};
 ghost use Rattle.audit_cli.specs.Codes.{PushedCode};
+ghost use Rattle.audit_cli.specs.Simple.{AreSimple, IsSimple};
 
-use crate::listing::{Content, Line};
+use crate::straight::instr_in;
+use listing_parser::Line;
 use std::alloc::{AllocError, Global};
 use thumb_instr::Instr;
 use thumb_table::{Code, encode};
@@ -40,21 +42,22 @@ fn push_code(bytes: &mut Vec<u8>, instr: &Instr) -> Result<(), AllocError>
 
 /// Puts the bytes of a line behind the others.
 fn push_line(bytes: &mut Vec<u8>, line: &Line) -> Result<(), AllocError>
+    requires { IsSimple (line_view line.now) }
     ensures { OnOk result (PushedCode (line_view line.now).statement bytes.old.items bytes.new.items) }
 {
-    match &line.content {
-        Content::Empty => Ok(()),
-        Content::Label(_) => Ok(()),
-        Content::Runs(instr) => {
-            push_code(bytes, instr)?;
+    match instr_in(line) {
+        None => Ok(()),
+        Some(instr) => {
+            push_code(bytes, &instr)?;
             Ok(())
         }
     }
 }
 
-/// The image of straight lines. It is the same at each base, and whatever names stand for.
-pub fn assemble(alloc: Global, lines: &[Line]) -> Result<Vec<u8>, AllocError>
-    ensures { IfOk result (λ v. (base : ℕ) (set : Name → ℕ) → IsImage base set (map line_view lines.now) v.items) }
+/// The image of the lines of a straight listing. It is the same at each base, and whatever names stand for.
+pub fn assemble(alloc: Global, lines: &[&Line]) -> Result<Vec<u8>, AllocError>
+    requires { AreSimple (map (λ l. line_view l.now) lines.now) }
+    ensures { IfOk result (λ v. (base : ℕ) (set : Name → ℕ) → IsImage base set (map (λ l. line_view l.now) lines.now) v.items) }
 {
     let mut bytes = Vec::new(alloc);
     for line in lines {

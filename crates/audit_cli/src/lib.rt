@@ -2,20 +2,18 @@
 #![tactic(auto)]
 
 mod assembling;
-mod listing;
 mod moves;
 mod naming;
 mod outcome;
 mod printing;
 mod read_error;
-mod read_instr;
-mod read_listing;
 mod read_table;
 mod rewriting;
 mod running;
 mod stages;
 mod start;
 mod status;
+mod straight;
 mod top;
 mod trace_lines;
 mod tracing;

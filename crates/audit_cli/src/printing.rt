@@ -1,13 +1,14 @@
 ghost use Rattle.std.specs.Prelude.{◌≡◌, IfOk, map};
-ghost use Rattle.audit_cli.specs.Views.{line_view};
-ghost use Rattle.audit_cli.specs.Printed.{text_of_lines, report_of, refused_table_line, refused_listing_line, image_line};
+ghost use Rattle.listing_parser.specs.Parsing.{text_of_lines};
+ghost use Rattle.listing_parser.specs.Views.{line_view};
+ghost use Rattle.audit_cli.specs.Printed.{report_of, refused_table_line, refused_listing_line, image_line};
 
-use crate::listing::Line;
+use listing_parser::Line;
 use std::alloc::{AllocError, Global};
 
-/// The text of a listing: its lines' bytes, joined.
-pub fn print(alloc: Global, lines: &[Line]) -> Result<Vec<u8>, AllocError>
-    ensures { IfOk result (λ v. v.items ≡ text_of_lines (map line_view lines.now)) }
+/// The text of lines: their bytes, joined.
+pub fn print(alloc: Global, lines: &[&Line]) -> Result<Vec<u8>, AllocError>
+    ensures { IfOk result (λ v. v.items ≡ text_of_lines (map (λ l. line_view l.now) lines.now)) }
 {
     let mut text = Vec::new(alloc);
     for line in lines {

@@ -1,21 +1,23 @@
 //! The command `rewrite`: what the texts of a table and a listing come to.
 ghost use Rattle.std.specs.Prelude.{◌≡◌, ◌++◌, ◌∷◌, [], ◌↔◌, ℕ, List, length, map, codes, IfOk, IsTrue};
-ghost use Rattle.audit_cli.specs.Views.{line_view};
+ghost use Rattle.listing_parser.specs.Views.{line_view};
 ghost use Rattle.audit_cli.specs.Outcomes.{deed_view, outcome_view};
 ghost use Rattle.audit_cli.specs.Plans.{Refuses, Does};
 ghost use Rattle.audit_cli.specs.Printed.{report_of, image_line};
 ghost use Rattle.audit_cli.specs.Rewriting.{IsKeptIn, IsRewriting, ListingComes, Comes};
 ghost use Rattle.audit_cli.specs.Destinations.{destination_of};
+ghost use Rattle.audit_cli.specs.Simple.{AreSimple};
+ghost use Rattle.audit_cli.specs.Straight.{AreStraight};
 
 use crate::assembling::assemble;
-use crate::listing::Line;
-use crate::moves::{count_instructions, drop_moves};
+use crate::moves::drop_moves;
 use crate::outcome::{Deed, Outcome};
 use crate::printing::{image_report, print, refused_listing, refused_table, report};
 use crate::read_error::ReadError;
-use crate::read_listing::read_listing;
 use crate::read_table::read_table;
 use crate::stages;
+use crate::straight::first_bad;
+use listing_parser::{Line, Listing, ListingError, parse};
 use std::alloc::{AllocError, Global};
 use step_ledger::{Ledger, Steps};
 
@@ -82,12 +84,13 @@ fn kept_listing(
     alloc: Global,
     out: &str,
     image: &str,
-    lines: &[Line],
+    lines: &[&Line],
     replaced: u64,
     before: u64,
     after: u64,
 ) -> Result<Outcome, AllocError>
-    ensures { (base : ℕ) → IfOk result (λ o. IsKeptIn (record { out = out.now; image = image.now; base = base }) (map line_view lines.now) (record { replaced = replaced; before = before; after = after }) (outcome_view o)) }
+    requires { AreSimple (map (λ l. line_view l.now) lines.now) }
+    ensures { (base : ℕ) → IfOk result (λ o. IsKeptIn (record { out = out.now; image = image.now; base = base }) (map (λ l. line_view l.now) lines.now) (record { replaced = replaced; before = before; after = after }) (outcome_view o)) }
 {
     let text = print(alloc, lines)?;
     if is_no_image(image) {
@@ -101,19 +104,20 @@ fn kept_listing(
     return Ok(outcome);
 }
 
-/// Rewrites lines by a table of so many entries.
+/// Rewrites a straight listing by a table of so many entries.
 fn rewritten(
     alloc: Global,
     entries: usize,
-    lines: Vec<Line>,
+    listing: &Listing,
     out: &str,
     image: &str,
 ) -> Result<Outcome, AllocError>
-    ensures { (base : ℕ) → IfOk result (λ o. IsRewriting (record { out = out.now; image = image.now; base = base }) entries (map line_view lines.items) (outcome_view o)) }
+    requires { AreSimple listing.now }
+    ensures { (base : ℕ) → IfOk result (λ o. IsRewriting (record { out = out.now; image = image.now; base = base }) entries listing.now (outcome_view o)) }
 {
-    let before = count_instructions(&lines) as u64;
-    let new = drop_moves(alloc, entries, lines)?;
-    let after = count_instructions(&new.lines) as u64;
+    let new = drop_moves(alloc, entries, listing)?;
+    let before = u64::from(listing.place_count());
+    let after = new.instructions as u64;
     let replaced = new.used.len() as u64;
     let outcome = kept_listing(alloc, out, image, &new.lines, replaced, before, after)?;
     Ok(outcome)
@@ -134,8 +138,29 @@ fn refuses(line: Vec<u8>) -> Outcome
     Outcome::Refuses(line)
 }
 
-#[tactic(auto, using(crate::proofs::RewritingLemmas::listing_refused))]
+/// What the text of a straight listing comes to, by a table of so many entries.
+fn straight_outcome(
+    alloc: Global,
+    to: &Rewrite<'_>,
+    entries: usize,
+    listing: &[u8],
+) -> Result<Outcome, AllocError>
+    requires { AreStraight listing.now }
+    ensures { IfOk result (λ o. ListingComes (destination_of to.now) entries listing.now (outcome_view o)) }
+{
+    match parse(alloc, listing) {
+        Err(ListingError::Memory) => return Err(AllocError),
+        // a straight listing is a listing
+        Err(ListingError::Line { .. }) => unreachable!(),
+        Ok(listing) => {
+            let outcome = rewritten(alloc, entries, &listing, to.out, to.image)?;
+            return Ok(outcome);
+        }
+    }
+}
+
 /// What the text of a listing comes to, by a table of so many entries.
+#[tactic(auto, using(crate::proofs::RewritingLemmas::listing_refused))]
 fn listing_outcome(
     alloc: Global,
     to: &Rewrite<'_>,
@@ -144,21 +169,17 @@ fn listing_outcome(
 ) -> Result<Outcome, AllocError>
     ensures { IfOk result (λ o. ListingComes (destination_of to.now) entries listing.now (outcome_view o)) }
 {
-    match read_listing(alloc, listing) {
-        Err(ReadError::Memory) => return Err(AllocError),
-        Err(ReadError::Line(number)) => {
+    match first_bad(alloc, listing)? {
+        None => straight_outcome(alloc, to, entries, listing),
+        Some(number) => {
             let line = refused_listing(alloc, number)?;
             return Ok(refuses(line));
-        }
-        Ok(lines) => {
-            let outcome = rewritten(alloc, entries, lines, to.out, to.image)?;
-            return Ok(outcome);
         }
     }
 }
 
-#[tactic(auto, using(crate::proofs::RewritingLemmas::table_refused, crate::proofs::RewritingLemmas::table_goes_on))]
 /// What the texts of a table and a listing come to.
+#[tactic(auto, using(crate::proofs::RewritingLemmas::table_refused, crate::proofs::RewritingLemmas::table_goes_on))]
 fn outcome(
     alloc: Global,
     to: &Rewrite<'_>,

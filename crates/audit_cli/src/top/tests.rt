@@ -59,7 +59,7 @@ const SUM: &[u8] = b"f:\nmov r3, r3\nadds r0, r0, r1\nmov r0, r0\nbx lr\n";
 #[test]
 fn rewrites(rt: HostRuntime) -> Result<(), Fail> {
     let alloc = rt.alloc();
-    let cases: [(&[u8], &[u8], &[u8], &[u8]); 7] = [
+    let cases: [(&[u8], &[u8], &[u8], &[u8]); 9] = [
         (
             MOVES,
             SUM,
@@ -91,6 +91,18 @@ fn rewrites(rt: HostRuntime) -> Result<(), Fail> {
             b"mov r1, r1\nbx lr",
             b"bx lr",
             b"replaced 1\ninstructions 2 1\n",
+        ),
+        (
+            MOVES,
+            b"x:\nmov r1, r1\nmov r2, r2\nmov r3, r3",
+            b"x:\nmov r3, r3",
+            b"replaced 2\ninstructions 3 1\n",
+        ),
+        (
+            MOVES,
+            b"x:\nmov r3, r3\nadds r0, r0, r0\n\nmov r0, r0\nmov r1, r0\n",
+            b"x:\nadds r0, r0, r0\n\nmov r1, r0\n",
+            b"replaced 2\ninstructions 4 2\n",
         ),
     ];
     for (entry, listing, out, lines) in cases {
@@ -145,9 +157,10 @@ fn keeps_images(rt: HostRuntime) -> Result<(), Fail> {
 fn refuses(rt: HostRuntime) -> Result<(), Fail> {
     let alloc = rt.alloc();
     let other = b"entry\nleft lsls r0, r0, #24\n".as_slice();
-    let cases: [(&[u8], &[u8], &[u8]); 4] = [
+    let cases: [(&[u8], &[u8], &[u8]); 5] = [
         (MOVES, b"f:\nf:\nmov r0, r0\n", b"refused listing 2 1\n"),
         (MOVES, b"mov r0, r0\nmov r8, r0\n", b"refused listing 2 1\n"),
+        (MOVES, b"nop\nf:\nf:\n", b"refused listing 1 1\n"),
         (other, SUM, b"refused table 9\n"),
         (b"end\n", b"?", b"refused table 9\n"),
     ];

@@ -1,54 +1,68 @@
-use Rattle.std.proofs.Common.{◌≡◌, List, length, ◌-◌, [], ◌∷◌, inl, inr, ap, ◌∙◌, refl, arith}
-use Rattle.audit_cli.specs.declared.listing.Content.TheVariants.{Runs}
-use Rattle.audit_cli.specs.declared.listing.Line.{Line}
-use Rattle.audit_cli.proofs.MovesPass.{underway_first, underway_empty, underway_label, underway_runs, underway_drop, underway_last, places_viewed}
+use Rattle.std.proofs.Common.{◌≡◌, ◌+◌, ◌-◌, ◌<◌, ◌≤◌, ◌||◌, ℕ, Bool, true, false, List, [], ◌∷◌, ◌++◌, length, map, drop, get_or, Option, Some, None, refl, inl, inr, ap, ◌∙◌, sym, subst, arith, Bor}
+use Rattle.std.proofs.lemmas.List.{drop_more, map-append}
+use Rattle.std.proofs.Math.ListN.{drop_of_length-le}
+use Rattle.listing_parser.specs.declared.line.Line.{Line as Lines}
+use Rattle.listing_parser.specs.Views.{line_view}
+use Rattle.thumb_model.specs.Listing.{Line}
+use Rattle.audit_cli.specs.declared.moves.Used.{Used}
+use Rattle.audit_cli.proofs.MovesPass.{IsUnderway, underway_other, underway_runs, underway_drop, underway_last}
 use Rattle.audit_cli.proofs.moves.drop_moves.Goals as goal
-use Rattle.audit_cli.proofs.moves.drop_moves.Goals.{in-Empty, in-Label, in-Runs, in-Some-moved_register+else-following-gt0+else-not-is_labelled, in_default, then-following-gt0-via-then-following-gt0, then-following-gt0-via-else-following-gt0+then-not-is_labelled}
+use Rattle.audit_cli.proofs.moves.drop_moves.Goals.{in-None+then-is_labelled, in-None+else-is_labelled, in-Some, in-Some-dropped_register+else-following-gt0+else-not-is_labelled, in_default, then-following-gt0-via-then-following-gt0, then-following-gt0-via-else-following-gt0+then-not-is_labelled}
 
-no_items : (xs : List Line) → length xs ≡ 0 → xs ≡ []
-no_items [] e = refl
-no_items (x ∷ xs) e = absurd (omega arith)
+-- the lines that are left, one after the other
+cut : (lines : List Lines) (i : ℕ) (line : Lines) → i < length lines → line ≡ get_or lines i line → map line_view (drop i lines) ≡ line_view line ∷ map line_view (drop (i + 1) lines)
+cut lines i line lt is = ap (map line_view) (drop_more lines i line lt ∙ ap (λ (x : Lines). x ∷ drop (i + 1) lines) (sym is))
 
-pub loop-line-init : goal.loop-line-init
-loop-line-init c = record {
-  can_next = tt;
-  is_finite = tt;
-  underway =
-      underway_first c.args.entries c.count_instructions-following.result c.args.lines.items _ _ _ c.into_iter-line-iterator.ensures.into_iter_gives.0 c.new-kept.ensures.items c.new-used.ensures.items
-      (c.count_instructions-following.ensures ∙ ap (λ x. length (places_viewed x)) c.deref.ensures.value);
-}
+none_left : (lines : List Lines) (i : ℕ) → length lines ≤ i → map line_view (drop i lines) ≡ []
+none_left lines i h = ap (map line_view) (drop_of_length-le lines h)
+
+-- one line more is kept
+more : (kept new : List (Bor Lines)) (line : Bor Lines) → new ≡ kept ++ line ∷ [] → map (λ (v : Bor Lines). line_view v.now) new ≡ map (λ (v : Bor Lines). line_view v.now) kept ++ line_view line.now ∷ []
+more kept new line e = ap (map (λ (v : Bor Lines). line_view v.now)) e ∙ map-append (λ (v : Bor Lines). line_view v.now) kept (line ∷ [])
+
+or_true : (a b : Bool) → a ≡ true → (a || b) ≡ true
+or_true a b e = ap (λ x. x || b) e
+
+or_false : (a b : Bool) → a ≡ false → (a || b) ≡ b
+or_false a b e = ap (λ x. x || b) e
 
 pub loop-line-preserved-then-following-gt0 : goal.loop-line-preserved-then-following-gt0
-loop-line-preserved-then-following-gt0 c = record {
-  can_next = tt;
-  is_finite = tt;
-  underway =
-      underway_drop c.loop-line.invariant.underway (omega arith) c.in-Some.line _ _ (c.loop-line.following - 1) c.in-Some-moved_register.register c.in-Some.ensures.steps.0 c.in_ok-push-in-Runs.ensures.items
-      (c.in-Runs.is ∙ ap Runs c.in-Some-moved_register.ensures.some) refl
-      (elim c.then-following-gt0.branch [ then-following-gt0-via-then-following-gt0 w ↦ inl w.if-following-gt0.true | then-following-gt0-via-else-following-gt0+then-not-is_labelled w ↦ inr w.if-not-is_labelled.true ]);
-}
+loop-line-preserved-then-following-gt0 c =
+    let lines = c.lines-line-items.result.now in
+    let kept = map (λ (v : Bor Lines). line_view v.now) c.loop-line.kept.items in
+    let here = cut lines c.loop-line.line-index c.line-item.result (omega arith) c.line-item.is in
+    let u = subst (λ (ls : List Line). IsUnderway c.args.entries c.args.listing.now ls kept c.loop-line.used.items c.loop-line.place c.loop-line.following c.loop-line.is_labelled) here c.loop-line.invariant in
+    subst (λ (us : List Used). IsUnderway c.args.entries c.args.listing.now (map line_view (drop (c.loop-line.line-index + 1) lines)) kept us c.loop-line.place (c.loop-line.following - 1) c.loop-line.is_labelled) (sym c.in_ok-push-in-Some.ensures.items)
+    (underway_drop (line_view c.line-item.result) c.in-Some-dropped_register.register (c.loop-line.following - 1) u
+        (sym c.instr_in.ensures ∙ c.in-Some.is ∙ ap Some c.in-Some-dropped_register.ensures.some.1)
+        c.in-Some-dropped_register.ensures.some.0 refl
+        (elim c.then-following-gt0.branch [ then-following-gt0-via-then-following-gt0 w ↦ inl w.if-following-gt0.true | then-following-gt0-via-else-following-gt0+then-not-is_labelled w ↦ inr w.if-not-is_labelled.true ]))
 
 pub loop-line-preserved : goal.loop-line-preserved
 loop-line-preserved c =
-    let u = c.loop-line.invariant.underway in
-    let pushed = c.in_ok-push.ensures.items in
-    elim c.match-line.branch [
-      | in-Empty w ↦ record { can_next = tt; is_finite = tt; underway = underway_empty u c.in-Some.line _ _ _ _ _ c.in-Some.ensures.steps.0 pushed w.in-Empty.is w.place-is w.following-is w.is_labelled-is }
-      | in-Label w ↦ record { can_next = tt; is_finite = tt; underway = underway_label u c.in-Some.line _ _ _ _ _ w.in-Label.field-0 c.in-Some.ensures.steps.0 pushed w.in-Label.is w.place-is w.following-is w.is_labelled-is }
-      | in-Runs w ↦
-          elim w.match-moved_register.branch [
-            | in-Some-moved_register+else-following-gt0+else-not-is_labelled w' ↦ record {
-              can_next = tt;
-              is_finite = tt;
-              underway = underway_runs u c.in-Some.line _ _ _ _ _ w.in-Runs.instr c.in-Some.ensures.steps.0 pushed w.in-Runs.is w.place-is w.following-is w.is_labelled-is (λ d e. (omega (arith, w.following-is, w'.if-following-gt0.false), w'.if-not-is_labelled.false));
-            }
-            | in_default w' ↦ record {
-              can_next = tt;
-              is_finite = tt;
-              underway = underway_runs u c.in-Some.line _ _ _ _ _ w.in-Runs.instr c.in-Some.ensures.steps.0 pushed w.in-Runs.is w.place-is w.following-is w.is_labelled-is (λ d e. absurd (w'.in_default.ensures.none d e));
-            }
+    let lines = c.lines-line-items.result.now in
+    let kept = map (λ (v : Bor Lines). line_view v.now) c.loop-line.kept.items in
+    let line = line_view c.line-item.result in
+    let here = cut lines c.loop-line.line-index c.line-item.result (omega arith) c.line-item.is in
+    let u = subst (λ (ls : List Line). IsUnderway c.args.entries c.args.listing.now ls kept c.loop-line.used.items c.loop-line.place c.loop-line.following c.loop-line.is_labelled) here c.loop-line.invariant in
+    let pushed = more c.loop-line.kept.items c.push-in-loop-line.new.self.items _ c.in_ok-push.ensures.items in
+    subst (λ (ls : List Line). IsUnderway c.args.entries c.args.listing.now (map line_view (drop (c.loop-line.line-index + 1) lines)) ls c.loop-line.used.items c.match-instr_in.place c.match-instr_in.following c.match-instr_in.is_labelled) (sym pushed)
+    (elim c.match-instr_in.branch [
+      | in-None+then-is_labelled w ↦ rw (w.place-is, w.following-is, w.is_labelled-is) (underway_other line _ u (sym c.instr_in.ensures ∙ w.in-None.is) (w.if-is_labelled.true ∙ sym (or_true _ _ w.if-is_labelled.true)))
+      | in-None+else-is_labelled w ↦ rw (w.place-is, w.following-is, w.is_labelled-is) (underway_other line _ u (sym c.instr_in.ensures ∙ w.in-None.is) (w.has_label-is_labelled.ensures ∙ sym (or_false _ _ w.if-is_labelled.false)))
+      | in-Some w ↦
+          elim w.match-dropped_register.branch [
+            | in-Some-dropped_register+else-following-gt0+else-not-is_labelled w' ↦
+                underway_runs line w.in-Some.instr _ _ _ u (sym c.instr_in.ensures ∙ w.in-Some.is) w.place-is w.following-is w.is_labelled-is
+                (λ some d e. (omega (arith, w.following-is, w'.if-following-gt0.false), w'.if-not-is_labelled.false))
+            | in_default w' ↦
+                underway_runs line w.in-Some.instr _ _ _ u (sym c.instr_in.ensures ∙ w.in-Some.is) w.place-is w.following-is w.is_labelled-is
+                (λ some d e. absurd (w'.in_default.ensures.none some d e))
           ]
-    ]
+    ])
 
-pub returns : goal.returns
-returns c = underway_last c.loop-line.invariant.underway (no_items _ (let ended = c.in-None.ensures.steps in let counted = c.loop-line.line-iterator.rest.ok in omega arith))
+pub returns-clause-rewritten : goal.returns-clause-rewritten
+returns-clause-rewritten c =
+    let kept = map (λ (v : Bor Lines). line_view v.now) c.loop-line.kept.items in
+    let none = none_left c.lines-line-items.result.now c.loop-line.line-index (omega arith) in
+    underway_last (subst (λ (ls : List Line). IsUnderway c.args.entries c.args.listing.now ls kept c.loop-line.used.items c.loop-line.place c.loop-line.following c.loop-line.is_labelled) none c.loop-line.invariant)

@@ -1,10 +1,7 @@
-use Rattle.std.specs.Vec.Iter.{into_iter_items}
+use Rattle.std.proofs.Common.{map, drop}
+use Rattle.listing_parser.specs.Views.{line_view}
 use Rattle.audit_cli.proofs.MovesPass.{IsUnderway}
 use Rattle.audit_cli.proofs.moves.drop_moves.Given as goal
 
 abbrev pub invariant-loop-line : goal.invariant-loop-line
-invariant-loop-line l = record {
-  can_next : (goal.iterator-loop-line).can_next l.line-iterator;
-  is_finite : (goal.iterator-loop-line).is_finite l.line-iterator;
-  underway : IsUnderway l.entries l.fn.lines.items (into_iter_items l.line-iterator) l.kept.items l.used.items l.place l.following l.is_labelled;
-}
+invariant-loop-line l = IsUnderway l.entries l.listing (map line_view (drop l.line-index l.line-items)) (map (λ v. line_view v.now) l.kept.items) l.used.items l.place l.following l.is_labelled

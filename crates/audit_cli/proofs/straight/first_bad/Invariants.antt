@@ -1,13 +1,12 @@
 use Rattle.std.proofs.Common.{◌≡◌, ◌++◌, map}
-use Rattle.std.specs.List.{AllZip}
+use Rattle.std.specs.List.{All}
 use Rattle.ascii_scan.specs.Lines.{lines_in}
 use Rattle.ascii_scan.specs.Source.{lines_left, line_view as source_view}
-use Rattle.audit_cli.specs.Views.{line_view}
-use Rattle.audit_cli.specs.FirstListing.{IsStraight}
-use Rattle.audit_cli.proofs.read_listing.read_listing.Given as goal
+use Rattle.audit_cli.specs.Straight.{IsStraight}
+use Rattle.audit_cli.proofs.straight.first_bad.Given as goal
 
 abbrev pub invariant-loop-source : goal.invariant-loop-source
 invariant-loop-source l = record {
   split : map source_view l.yielded ++ lines_left l.source-iterator ≡ lines_in l.text;
-  straight : AllZip IsStraight (map source_view l.yielded) (map line_view l.lines.items);
+  straight : All IsStraight (map source_view l.yielded);
 }
