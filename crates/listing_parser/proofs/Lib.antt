@@ -11,3 +11,8 @@ pub mod ReplaceLemmas
 pub mod SpotLemmas
 pub mod LabelLemmas
 pub mod CanonicalLines
+pub mod FrontLines
+pub mod JoinedLines
+pub mod OldLines
+pub mod ReplacedTargets
+pub mod ReplacedLines
