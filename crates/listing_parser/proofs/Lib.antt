@@ -16,3 +16,4 @@ pub mod JoinedLines
 pub mod OldLines
 pub mod ReplacedTargets
 pub mod ReplacedLines
+pub mod MadeLemmas
