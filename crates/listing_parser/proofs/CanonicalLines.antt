@@ -29,7 +29,7 @@ use Rattle.thumb_syntax.proofs.Written.{written}
 use Rattle.thumb_syntax.proofs.RoundTrip.{writing_reads_back}
 use Rattle.thumb_model.specs.Listing.{Name, Nothing}
 use Rattle.listing_parser.specs.Views.{front_of}
-use Rattle.listing_parser.specs.Grammar.{Mark, Unmarked, Plain, Instruction, Told, says, Read, instruction, said, statement, is_no_colon, is_no_at, begins_hash, is_some_byte, without_first, front_name, from_colon, begins_label, labels_at_front, without_return, body, code, with_labels, read_line, checked_line}
+use Rattle.listing_parser.specs.Grammar.{Unmarked, Plain, Instruction, Told, says, Read, instruction, said, statement, is_no_colon, is_no_at, begins_hash, is_some_byte, without_first, front_name, from_colon, begins_label, labels_at_front, without_return, body, code, with_labels, read_line, checked_line}
 use Rattle.listing_parser.specs.Bare.{shown_of}
 use Rattle.listing_parser.specs.Replacing.{names_no_label}
 use Rattle.listing_parser.proofs.ReadingLemmas.{last_other, labels_more, labels_none}
@@ -464,7 +464,7 @@ names_no_at : (w : List ℕ) → list_all is_name_byte w ≡ true → list_all i
 names_no_at [] all = refl
 names_no_at (b ∷ bs) all = let a = and_parts (is_name_byte b) (list_all is_name_byte bs) all in and_from (is_no_at b) (list_all is_no_at bs) (name_byte_else b a.0).3 (names_no_at bs a.1)
 
-and_both : (a b : Bool) → a ≡ true → b ≡ true → (a && b) ≡ true
+pub and_both : (a b : Bool) → a ≡ true → b ≡ true → (a && b) ≡ true
 and_both a b e f = rw e f
 
 label_begins : (w : List ℕ) → is_name w ≡ true → (front_name (w ++ 58 ∷ []) ≡ w) × (from_colon (w ++ 58 ∷ []) ≡ 58 ∷ [])

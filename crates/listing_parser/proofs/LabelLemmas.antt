@@ -23,7 +23,7 @@ or_false false b e = (refl, e)
 
 -- ---- the first label of a name ----
 
-label_at : (name : Name) (p : ℕ) (ns : List Name) (rest : List Label) → label_place name (labels_at p ns ++ rest) ≡ (if is_among name ns then Some p else label_place name rest)
+pub label_at : (name : Name) (p : ℕ) (ns : List Name) (rest : List Label) → label_place name (labels_at p ns ++ rest) ≡ (if is_among name ns then Some p else label_place name rest)
 label_at name p [] rest = refl
 label_at name p (n ∷ ns) rest = elim (cases_Bool (bytes_eq name n)) [
   | inl e ↦ rw e refl
@@ -76,7 +76,7 @@ among_append name (m ∷ ms) ns = elim (cases_Bool (bytes_eq name m)) [
   | inr e ↦ rw e (among_append name ms ns)
 ]
 
-among_front : (name : Name) (ms ns : List Name) → is_among name ms ≡ true → is_among name (ms ++ ns) ≡ true
+pub among_front : (name : Name) (ms ns : List Name) → is_among name ms ≡ true → is_among name (ms ++ ns) ≡ true
 among_front name ms ns e = among_append name ms ns ∙ rw e refl
 
 among_last : (name n : Name) (ms : List Name) → bytes_eq name n ≡ true → is_among name (ms ++ n ∷ []) ≡ true
@@ -85,7 +85,7 @@ among_last name n ms e = among_append name ms (n ∷ []) ∙ rw e (by (is_among 
   by true = refl
   by false = refl
 
-not_again : (name : Name) (known ns : List Name) → is_again known ns ≡ false → is_among name known ≡ true → is_among name ns ≡ false
+pub not_again : (name : Name) (known ns : List Name) → is_again known ns ≡ false → is_among name known ≡ true → is_among name ns ≡ false
 not_again name known [] e k = refl
 not_again name known (n ∷ ns) e k = elim (cases_Bool (bytes_eq name n)) [
   | inl h ↦
@@ -94,7 +94,7 @@ not_again name known (n ∷ ns) e k = elim (cases_Bool (bytes_eq name n)) [
   | inr h ↦ rw h (not_again name (known ++ n ∷ []) ns (or_false (is_among n known) _ e).1 (among_front name known (n ∷ []) k))
 ]
 
-again_front : (known ns ms : List Name) → is_again known (ns ++ ms) ≡ false → is_again known ns ≡ false
+pub again_front : (known ns ms : List Name) → is_again known (ns ++ ms) ≡ false → is_again known ns ≡ false
 again_front known [] ms e = refl
 again_front known (n ∷ ns) ms e = rw (or_false (is_among n known) _ e).0 (again_front (known ++ n ∷ []) ns ms (or_false (is_among n known) _ e).1)
 
@@ -168,7 +168,7 @@ pub label_within : (name : Name) (ls : List Line) (m : ℕ) → label_line name 
 label_within name ls m e = let l = labelled name 0 m 0 ls e in omega (arith, l.at, l.within)
 
 -- a name is a label where some line has it
-label_among : (name : Name) (p : ℕ) (ns : List Name) (rest : List Label) → has_label name (labels_at p ns ++ rest) ≡ (is_among name ns || has_label name rest)
+pub label_among : (name : Name) (p : ℕ) (ns : List Name) (rest : List Label) → has_label name (labels_at p ns ++ rest) ≡ (is_among name ns || has_label name rest)
 label_among name p [] rest = refl
 label_among name p (n ∷ ns) rest = elim (cases_Bool (bytes_eq name n)) [
   | inl e ↦ rw e refl

@@ -11,3 +11,9 @@ pub mod ReplaceLemmas
 pub mod SpotLemmas
 pub mod LabelLemmas
 pub mod CanonicalLines
+pub mod FrontLines
+pub mod JoinedLines
+pub mod OldLines
+pub mod ReplacedTargets
+pub mod ReplacedLines
+pub mod MadeLemmas

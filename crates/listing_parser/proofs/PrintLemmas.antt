@@ -18,6 +18,7 @@ pub record OfLine (l : Placed) (r : Read) : Type 0 where
   pub told : Told
   pub is_told : statement (labels_at_front (code (body l))).1 ≡ Some told
   pub said : r.line.said ≡ told.said
+  pub mark : r.mark ≡ told.mark
   pub text : r.line.text ≡ whole l
 
 labelled_by : (l : Placed) (n : ℕ) (labelled : List Name × List ℕ) (o : Option Told) (r : Read) → labelled ≡ labels_at_front (code (body l)) → statement labelled.1 ≡ o
@@ -32,14 +33,15 @@ labelled_by l n labelled (Some t) r same e f =
       told = t;
       is_told = ap (λ (x : List Name × List ℕ). statement x.1) (sym same) ∙ e;
       said = sym (ap (λ (x : Read). x.line.said) is);
+      mark = sym (ap (λ (x : Read). x.mark) is);
       text = sym (ap (λ (x : Read). x.line.text) is);
     }
 
-of_read : (l : Placed) (r : Read) → read_line l ≡ Some r → OfLine l r
+pub of_read : (l : Placed) (r : Read) → read_line l ≡ Some r → OfLine l r
 unfolding read_line
 of_read l r e = labelled_by l (length (code (body l))) (labels_at_front (code (body l))) (statement (labels_at_front (code (body l))).1) r refl refl e
 
-shaped_ok : (n : ℕ) (o : Option Read) (r : Read) → shaped n o ≡ Ok r → o ≡ Some r
+pub shaped_ok : (n : ℕ) (o : Option Read) (r : Read) → shaped n o ≡ Ok r → o ≡ Some r
 shaped_ok n None r e = absurd (let bad : Err (n, kind.Shape) ≡ Ok r = e in cc)
 shaped_ok n (Some x) r e = let same : Ok x ≡ Ok r = e in let is : x ≡ r = cc in ap (λ y. Some y) is
 

@@ -33,16 +33,16 @@ after_shorter bs e =
     let h = first_short (from_colon bs) (and_second (is_name (front_name bs)) (is_some_byte (from_colon bs)) e) in
     omega (arith, rest_short is_no_colon (rest is_blank bs), rest_short is_blank bs)
 
-within_zero : (bs : List ℕ) → labels_within zero bs ≡ ([], bs)
+pub within_zero : (bs : List ℕ) → labels_within zero bs ≡ ([], bs)
 unfolding labels_within
 within_zero bs = refl
 
-within_none : (n : ℕ) (bs : List ℕ) → begins_label bs ≡ false → labels_within n bs ≡ ([], bs)
+pub within_none : (n : ℕ) (bs : List ℕ) → begins_label bs ≡ false → labels_within n bs ≡ ([], bs)
 unfolding labels_within
 within_none zero bs e = refl
 within_none (suc n) bs e = rw e refl
 
-within_more : (n : ℕ) (bs : List ℕ) → begins_label bs ≡ true
+pub within_more : (n : ℕ) (bs : List ℕ) → begins_label bs ≡ true
     → labels_within (suc n) bs ≡ (front_name bs ∷ (labels_within n (without_first (from_colon bs))).0, (labels_within n (without_first (from_colon bs))).1)
 unfolding labels_within
 within_more n bs e = rw e refl
@@ -73,7 +73,7 @@ front_step (suc n) bs h e =
     let shorter = after_shorter bs e in
     within_more n bs e ∙ ap (λ (r : List Name × List ℕ). (front_name bs ∷ r.0, r.1)) (within_enough n (length (without_first (from_colon bs))) (without_first (from_colon bs)) (omega arith) (omega arith))
 
-all_at_front : (bs : List ℕ) → labels_at_front bs ≡ labels_within (length bs) bs
+pub all_at_front : (bs : List ℕ) → labels_at_front bs ≡ labels_within (length bs) bs
 unfolding labels_at_front
 all_at_front bs = refl
 

@@ -52,7 +52,7 @@ not_again_within other known (n ∷ ns) w e =
     rw new (not_again_within (other ++ n ∷ []) (known ++ n ∷ []) ns (within_same other known (n ∷ []) w) parts.1)
 
 -- the first line and the others
-once_parts : (n : ℕ) (known : List Name) (l : Line) (ls : List Line) → first_twice n known (l ∷ ls) ≡ None → (is_again known (defined_in l) ≡ false) × (first_twice (n + 1) (known ++ defined_in l) ls ≡ None)
+pub once_parts : (n : ℕ) (known : List Name) (l : Line) (ls : List Line) → first_twice n known (l ∷ ls) ≡ None → (is_again known (defined_in l) ≡ false) × (first_twice (n + 1) (known ++ defined_in l) ls ≡ None)
 once_parts n known l ls e = elim (cases_Bool (is_again known (defined_in l))) [
   | inl h ↦ absurd (let bad : Some n ≡ None = rw h at e in cc)
   | inr h ↦ (h, rw h at e)
@@ -132,7 +132,7 @@ still_once write p count is ls e = once_replaced write p count is 1 1 [] [] ls (
 
 -- ---- no more places ----
 
-are_ops : (n : ℕ) (ps : List Place) → ((k : ℕ) → k < n → is_op_place (slice_get ps k) ≡ true) → AreOps n ps
+pub are_ops : (n : ℕ) (ps : List Place) → ((k : ℕ) → k < n → is_op_place (slice_get ps k) ≡ true) → AreOps n ps
 are_ops zero ps h = tt
 are_ops (suc n) [] h = absurd (true≢false (sym (h 0 (omega arith))))
 are_ops (suc n) (Op i m ∷ ps) h = are_ops n ps (λ k l. h (suc k) (omega arith))

@@ -9,3 +9,4 @@ pub mod Targets
 pub mod Parsing
 pub mod Replacing
 pub mod Results
+pub mod ReadAgain

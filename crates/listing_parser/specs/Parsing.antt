@@ -45,3 +45,7 @@ text_of_lines (l ∷ ls) = l.text ++ text_of_lines ls
 -- a listing's lines, joined, are the text that was read
 abbrev pub PrintsBack : Type 0
 PrintsBack = (bytes : List ℕ) (lines : List Line) → IsListing bytes lines → text_of_lines lines ≡ bytes
+
+-- a text is the listing of at most one list of lines
+abbrev pub OneListing : Type 0
+OneListing = (bytes : List ℕ) (lines others : List Line) → IsListing bytes lines → IsListing bytes others → lines ≡ others

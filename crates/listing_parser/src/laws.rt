@@ -1,7 +1,19 @@
 //! What holds of every listing that is read.
-ghost use Rattle.listing_parser.specs.Parsing.{PrintsBack};
+ghost use Rattle.listing_parser.specs.Parsing.{OneListing, PrintsBack};
+ghost use Rattle.listing_parser.specs.ReadAgain.{ReplacedReadsAgain};
 
 /// A listing's lines, joined, are the text that was read, byte for byte.
 pub fn listings_print_back()
     ensures { PrintsBack }
+{}
+
+/// A text is the listing of no other lines: its instructions, names and numbers are determined.
+pub fn a_text_has_one_listing()
+    ensures { OneListing }
+{}
+
+/// The text of a listing after a replacement is read again as the lines that the replacement left: see `Listing::replaced`. No code label may be lost
+/// by it, as one that stood before an instruction that is gone, and there may be at most 65,536 lines.
+pub fn replaced_listings_read_again()
+    ensures { ReplacedReadsAgain }
 {}
