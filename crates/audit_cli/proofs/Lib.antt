@@ -10,6 +10,7 @@ pub mod StraightLines
 pub mod PrintLemmas
 pub mod TableLemmas
 pub mod TableLaws
+pub mod WellFormed
 pub mod RewritingLemmas
 pub mod PeepLemmas
 pub mod TraceLemmas

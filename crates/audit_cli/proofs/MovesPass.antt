@@ -218,10 +218,10 @@ passing_other entries kept rest v place following labelled labelled' simple none
     let names_only : labels_from (0 + length (places_of kept)) (v ∷ []) ≡ labels_at place v.names = ap (λ n. labels_at n v.names ++ []) (let e : 0 + length (places_of kept) ≡ place = omega arith in e) ∙ append-nil (labels_at place v.names) in
     keeps_line entries kept rest v place following place following labelled labelled' p (omega arith) (omega arith)
     (new ∙ sym (ap (is_labelled place) (labels_from-append 0 kept (v ∷ []))
-        ∙ list_any-append (λ l. l.place == place) (labels_from 0 kept) (labels_from (0 + length (places_of kept)) (v ∷ []))
-        ∙ ap (λ x. is_labelled place (labels_from 0 kept) || is_labelled place x) names_only
-        ∙ ap (λ b. is_labelled place (labels_from 0 kept) || b) (named_there place v.names)
-        ∙ ap (λ b. b || has_name v.names) (ap (λ n. is_labelled n (labels_from 0 kept)) at ∙ sym p.labelled_is)))
+    ∙ list_any-append (λ l. l.place == place) (labels_from 0 kept) (labels_from (0 + length (places_of kept)) (v ∷ []))
+    ∙ ap (λ x. is_labelled place (labels_from 0 kept) || is_labelled place x) names_only
+    ∙ ap (λ b. is_labelled place (labels_from 0 kept) || b) (named_there place v.names)
+    ∙ ap (λ b. b || has_name v.names) (ap (λ n. is_labelled n (labels_from 0 kept)) at ∙ sym p.labelled_is)))
     (λ some q d g h f. omega arith)
 
 length_alone : (i : Instr) (text : List ℕ) (rest : List Line) → length (places_of (alone i text ∷ rest)) ≡ 1 + length (places_of rest)

@@ -3,7 +3,7 @@ use Rattle.std.proofs.Common.{◌≡◌, ◌∙◌, ℕ, List, [], ◌∷◌, �
 use Rattle.thumb_model.specs.Listing.{Line, places_of}
 use Rattle.thumb_model.specs.Rewrite.{Rule}
 use Rattle.thumb_model.specs.Rewritten.{Replacement, AreRewritten}
-use Rattle.thumb_model.proofs.LinesKept.{lines_same, none_left, all_applied}
+use Rattle.thumb_model.proofs.LinesKept.{lines_same, none_left, all_applied, no_more_lines}
 use Rattle.audit_cli.specs.Moves.{moves_table}
 use Rattle.listing_parser.specs.Parsing.{IsListing, text_of_lines}
 use Rattle.audit_cli.specs.Straight.{AreStraight, IsFirstBad}
@@ -12,6 +12,7 @@ use Rattle.audit_cli.specs.Plans.{Outcome, Refuses, Does}
 use Rattle.audit_cli.specs.Printed.{report_of, refused_table_line, refused_listing_line, image_line}
 use Rattle.audit_cli.specs.Rewriting.{Destination, Counts, AreImage, IsKept, alone, pair, IsKeptIn, setting, AreShortest, IsRewriting, ListingComes, bad_listing, rewrites, Comes, bad_table, goes_on}
 use Rattle.audit_cli.proofs.MovesRule.{moves_only, moves_are_sound}
+use Rattle.audit_cli.proofs.WellFormed.{still_reads}
 
 -- the listing alone
 pub kept_alone : (out image : List ℕ) (base : ℕ) (lines : List Line) (c : Counts) (text printed : List ℕ) (o : Outcome) → image ≡ codes "-" → text ≡ text_of_lines lines → printed ≡ report_of c.replaced c.before c.after → o ≡ Does ((out, text) ∷ []) printed → IsKeptIn (record { out = out; image = image; base = base }) lines c o
@@ -37,13 +38,15 @@ moves_are_shortest entries k rule e shorter l equal =
     absurd (omega (arith, l, none))
 
 -- rewriting by the definition is the headline
-pub is_rewriting : (to : Destination) (entries : ℕ) (given lines : List Line) (replacements : List Replacement) (c : Counts) (o : Outcome) → AreRewritten (setting to.base entries) given replacements lines → c ≡ record { replaced = length replacements; before = length (places_of given); after = length (places_of lines) } → IsKeptIn to lines c o → IsRewriting to entries given o
-is_rewriting to entries given lines replacements c o r e k =
+pub is_rewriting : (to : Destination) (entries : ℕ) (given lines : List Line) (replacements : List Replacement) (c : Counts) (o : Outcome) → IsListing (text_of_lines given) given → AreRewritten (setting to.base entries) given replacements lines → c ≡ record { replaced = length replacements; before = length (places_of given); after = length (places_of lines) } → IsKeptIn to lines c o → IsRewriting to entries given o
+is_rewriting to entries given lines replacements c o is r e k =
     let s = setting to.base entries in
     record {
       replacements = replacements;
       lines = lines;
       rewritten = r;
+      listed = still_reads to.base entries (text_of_lines given) given replacements lines r is;
+      no_longer = no_more_lines s given replacements lines r;
       same = lines_same s given replacements lines (moves_are_sound entries) r;
       finished = none_left s given replacements lines r;
       applied = all_applied s given replacements lines r;

@@ -55,11 +55,11 @@ abbrev ReadsAs : Placed → Type 0
 ReadsAs p = (r : Read) × (checked_line p ≡ Ok r) × IsPlainRead p.number r
 
 form_reads : (p : Placed) (f : Form) → p.number ≤ 65536 → length p.text ≤ 1024 → IsAllowed p.number f → p.text ≡ text_of_form f → ReadsAs p
-form_reads p Blank early short allowed spelled = (unnamed (says Nothing) (whole p), empty_line_checked p spelled early, record { said = inl refl; named = inl refl; })
+form_reads p Blank early short allowed spelled = (unnamed (says Nothing) (whole p), empty_line_checked p spelled early, record { said = inl refl; named = inl refl })
 form_reads p (Labels name) early short allowed spelled =
     let fits : length name ≤ 1023 = omega (arith, short, ap (λ (w : List ℕ). length w) spelled, length-append name (58 ∷ [])) in
-    (labels_only (name ∷ []) (whole p) (name ++ 58 ∷ 10 ∷ []), label_line_checked name p (name_by_length name allowed.1) spelled fits early, record { said = inl refl; named = inr (allowed.0, name, refl); })
-form_reads p (Holds i) early short allowed spelled = (unnamed (told_of i) (whole p), canonical_line_checked i p (plain_straight i allowed) (inl spelled) early, record { said = inr (i, refl, refl, refl); named = inl refl; })
+    (labels_only (name ∷ []) (whole p) (name ++ 58 ∷ 10 ∷ []), label_line_checked name p (name_by_length name allowed.1) spelled fits early, record { said = inl refl; named = inr (allowed.0, name, refl) })
+form_reads p (Holds i) early short allowed spelled = (unnamed (told_of i) (whole p), canonical_line_checked i p (plain_straight i allowed) (inl spelled) early, record { said = inr (i, refl, refl, refl); named = inl refl })
 
 straight_reads : (p : Placed) → IsStraight p → ReadsAs p
 straight_reads p s = form_reads p s.stands.form s.early s.short s.stands.allowed s.stands.spelled

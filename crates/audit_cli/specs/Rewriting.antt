@@ -1,5 +1,5 @@
 -- What the command `rewrite` comes to: the program's headline, but for its store and sink.
-use Rattle.std.specs.Prelude.{◌≡◌, ◌<◌, ℕ, List, [], ◌∷◌, ◌++◌, length, codes, Some, slice_get}
+use Rattle.std.specs.Prelude.{◌≡◌, ◌<◌, ◌≤◌, ℕ, List, [], ◌∷◌, ◌++◌, length, codes, Some, slice_get}
 use Rattle.thumb_instr.specs.declared.instr.Instr.{Instr}
 use Rattle.thumb_model.specs.Listing.{Name, Line, places_of, code_of}
 use Rattle.thumb_model.specs.Image.{IsImage}
@@ -58,6 +58,9 @@ pub record IsRewriting (to : Destination) (entries : ℕ) (given : List Line) (o
   pub replacements : List Replacement
   pub lines : List Line
   pub rewritten : AreRewritten (setting to.base entries) given replacements lines
+  -- its text is read as these lines, and they are no more than before
+  pub listed : IsListing (text_of_lines lines) lines
+  pub no_longer : length lines ≤ length given
   -- the same runs from every state, in no more steps
   pub same : Same (code_of given) (code_of lines)
   -- no entry applies any more

@@ -104,4 +104,3 @@ fn moved_register(instr: &Instr) -> Option<Low>
         _ => None,
     }
 }
-

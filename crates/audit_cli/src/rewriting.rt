@@ -1,5 +1,6 @@
 //! The command `rewrite`: what the texts of a table and a listing come to.
 ghost use Rattle.std.specs.Prelude.{◌≡◌, ◌++◌, ◌∷◌, [], ◌↔◌, ℕ, List, length, map, codes, IfOk, IsTrue};
+ghost use Rattle.listing_parser.specs.Parsing.{IsListing, text_of_lines};
 ghost use Rattle.listing_parser.specs.Views.{line_view};
 ghost use Rattle.audit_cli.specs.Outcomes.{deed_view, outcome_view};
 ghost use Rattle.audit_cli.specs.Plans.{Refuses, Does};
@@ -112,7 +113,8 @@ fn rewritten(
     out: &str,
     image: &str,
 ) -> Result<Outcome, AllocError>
-    requires { AreSimple listing.now }
+    requires simple { AreSimple listing.now }
+    requires listed { IsListing (text_of_lines listing.now) listing.now }
     ensures { (base : ℕ) → IfOk result (λ o. IsRewriting (record { out = out.now; image = image.now; base = base }) entries listing.now (outcome_view o)) }
 {
     let new = drop_moves(alloc, entries, listing)?;

@@ -227,7 +227,7 @@ or_false : (a b : Bool) → (a || b) ≡ false → (a ≡ false) × (b ≡ false
 or_false true b e = absurd (true≢false e)
 or_false false b e = (refl, e)
 
-all_few : (n start : ℕ) (ts : List (List ℕ)) (rs : List Read) → read_lines (placed_from n start ts) ≡ Ok rs → n ≤ 65537 → (length rs + n ≤ 65537) × (counts rs ≤ 1025 * length rs)
+pub all_few : (n start : ℕ) (ts : List (List ℕ)) (rs : List Read) → read_lines (placed_from n start ts) ≡ Ok rs → n ≤ 65537 → (length rs + n ≤ 65537) × (counts rs ≤ 1025 * length rs)
 unfolding counts
 all_few n start [] rs e h =
     let none = none_read rs e in

@@ -34,9 +34,9 @@ loop-line-preserved-then-following-gt0 c =
     let u = subst (λ (ls : List Line). IsUnderway c.args.entries c.args.listing.now ls kept c.loop-line.used.items c.loop-line.place c.loop-line.following c.loop-line.is_labelled) here c.loop-line.invariant in
     subst (λ (us : List Used). IsUnderway c.args.entries c.args.listing.now (map line_view (drop (c.loop-line.line-index + 1) lines)) kept us c.loop-line.place (c.loop-line.following - 1) c.loop-line.is_labelled) (sym c.in_ok-push-in-Some.ensures.items)
     (underway_drop (line_view c.line-item.result) c.in-Some-dropped_register.register (c.loop-line.following - 1) u
-        (sym c.instr_in.ensures ∙ c.in-Some.is ∙ ap Some c.in-Some-dropped_register.ensures.some.1)
-        c.in-Some-dropped_register.ensures.some.0 refl
-        (elim c.then-following-gt0.branch [ then-following-gt0-via-then-following-gt0 w ↦ inl w.if-following-gt0.true | then-following-gt0-via-else-following-gt0+then-not-is_labelled w ↦ inr w.if-not-is_labelled.true ]))
+    (sym c.instr_in.ensures ∙ c.in-Some.is ∙ ap Some c.in-Some-dropped_register.ensures.some.1)
+    c.in-Some-dropped_register.ensures.some.0 refl
+    (elim c.then-following-gt0.branch [ then-following-gt0-via-then-following-gt0 w ↦ inl w.if-following-gt0.true | then-following-gt0-via-else-following-gt0+then-not-is_labelled w ↦ inr w.if-not-is_labelled.true ]))
 
 pub loop-line-preserved : goal.loop-line-preserved
 loop-line-preserved c =

@@ -18,7 +18,7 @@ returns c = λ base.
     let before : c.from-before.result ≡ length (places_of c.args.listing.now) = (let f = c.from-before.ensures in let p = c.place_count.ensures in omega arith) in
     let after : new.instructions ≡ length (places_of (map (λ (v : Bor Lines). line_view v.now) new.lines.items)) = c.in_ok-new.ensures.count in
     is_rewriting (record { out = c.args.out.now; image = c.args.image.now; base = base }) c.args.entries c.args.listing.now (map (λ (v : Bor Lines). line_view v.now) new.lines.items) (map used_view new.used.items)
-    (record { replaced = c.len-replaced.result; before = c.from-before.result; after = new.instructions }) (outcome_view c.in_ok-outcome.outcome)
+    (record { replaced = c.len-replaced.result; before = c.from-before.result; after = new.instructions }) (outcome_view c.in_ok-outcome.outcome) c.requires.listed
     (c.in_ok-new.ensures.rewritten own_line base)
     (λ i. record { replaced = replaced i; before = before i; after = after i })
     (subst (λ (ls : List (Bor Lines)). IsKeptIn (record { out = c.args.out.now; image = c.args.image.now; base = base }) (map (λ (v : Bor Lines). line_view v.now) ls) (record { replaced = c.len-replaced.result; before = c.from-before.result; after = new.instructions }) (outcome_view c.in_ok-outcome.outcome)) c.deref.ensures.value (c.in_ok-outcome.ensures base))

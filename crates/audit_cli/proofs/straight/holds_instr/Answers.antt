@@ -17,6 +17,7 @@ returns-then-not-is_straight_instr c =
 pub returns-in-Ok : goal.returns-in-Ok
 returns-in-Ok c =
     let reads = sym c.read_instr.ensures ∙ ap (option_map shown) c.in-Some.is in
-    let written = c.as_slice.ensures.value ∙ c.in-Ok.ensures in
-    (λ t. holds_written c.args.text.now c.in-Some.parsed.instr (shown c.in-Some.parsed) reads refl (sym c.is_straight_instr.ensures ∙ c.if-not-is_straight_instr.false) (same_text c.args.text.now c.as_slice.result.now (sym c.eq.ensures ∙ t) ∙ written),
-    λ h. c.eq.ensures ∙ ap (bytes_eq c.args.text.now) (sym (written_again c.args.text.now (shown c.in-Some.parsed) reads h ∙ sym written)) ∙ text_self c.args.text.now)
+    let written = c.as_slice.ensures.value ∙ c.in-Ok.ensures in (
+      λ t. holds_written c.args.text.now c.in-Some.parsed.instr (shown c.in-Some.parsed) reads refl (sym c.is_straight_instr.ensures ∙ c.if-not-is_straight_instr.false) (same_text c.args.text.now c.as_slice.result.now (sym c.eq.ensures ∙ t) ∙ written),
+      λ h. c.eq.ensures ∙ ap (bytes_eq c.args.text.now) (sym (written_again c.args.text.now (shown c.in-Some.parsed) reads h ∙ sym written)) ∙ text_self c.args.text.now,
+    )
