@@ -4,7 +4,6 @@
 mod assembling;
 mod listing;
 mod moves;
-mod naming;
 mod outcome;
 mod printing;
 mod read_error;
