@@ -18,5 +18,3 @@ pub mod StayLemmas
 pub mod RunningLemmas
 pub mod StartLemmas
 pub mod TracingLemmas
-pub mod WordLemmas
-pub mod ReturnLemmas

@@ -15,7 +15,7 @@ use Rattle.thumb_machine.specs.declared.machine.State.{State as Begins}
 use Rattle.thumb_machine.specs.Outside.{answers_of, events_of}
 use Rattle.thumb_machine.specs.Running.{at_of, state_of}
 use Rattle.thumb_machine.specs.Starting.{Starts, start_values as values_at}
-use Rattle.audit_cli.specs.Laid.{IsLaid}
+use Rattle.thumb_machine.specs.Laid.{IsLaid}
 use Rattle.audit_cli.specs.Running.{IsRun}
 use Rattle.audit_cli.specs.Start.{answers_from, start_values, start_world}
 use Rattle.audit_cli.specs.declared.outcome.Outcome.{Outcome as Outcomes}

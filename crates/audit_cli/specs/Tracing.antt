@@ -8,7 +8,7 @@ use Rattle.listing_parser.specs.declared.errors.Kind.{Kind}
 use Rattle.listing_parser.specs.Parsing.{IsListing, IsRefused}
 use Rattle.label_layout.specs.Refusals.{first_fault}
 use Rattle.thumb_machine.specs.declared.machine.Stage.{Stage}
-use Rattle.audit_cli.specs.Laid.{IsLaid}
+use Rattle.thumb_machine.specs.Laid.{IsLaid}
 use Rattle.audit_cli.specs.Plans.{Outcome, Refuses, Does}
 use Rattle.audit_cli.specs.Running.{IsRun}
 use Rattle.audit_cli.specs.Start.{start_world}

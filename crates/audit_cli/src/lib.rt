@@ -3,7 +3,6 @@
 
 mod assembling;
 mod moves;
-mod naming;
 mod outcome;
 mod printing;
 mod read_error;

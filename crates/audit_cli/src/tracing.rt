@@ -10,7 +10,6 @@ ghost use Rattle.audit_cli.specs.Plans.{Does};
 ghost use Rattle.audit_cli.specs.Journeys.{journey_of};
 ghost use Rattle.audit_cli.specs.Tracing.{Journey, LinesTrace, Traces};
 
-use crate::naming::laid_naming;
 use crate::outcome::Outcome;
 use crate::running::run;
 use crate::stages;
@@ -20,7 +19,7 @@ use label_layout::{Kind as LayoutKind, Layout, LayoutError, layout};
 use listing_parser::{Kind, Listing, ListingError, parse};
 use std::alloc::{AllocError, Global};
 use step_ledger::{Ledger, Steps};
-use thumb_machine::{Answers, Machine};
+use thumb_machine::{Answers, Machine, Naming};
 
 /// The command `trace`, with the label where its run begins and the most steps.
 #[derive(Drop)]
@@ -77,7 +76,7 @@ fn traced(
     requires label { place_of (code_of listing.now) trace.now.label.now ≡ Some place }
     ensures { IfOk result (λ o. LinesTrace (journey_of trace.now) listing.now (outcome_view o)) }
 {
-    let naming = laid_naming(alloc, listing, laid)?;
+    let naming = Naming::laid(alloc, listing, laid)?;
     let state = state(alloc, place);
     let mut machine = Machine::new(alloc, listing, &naming, &state)?;
     let list = answers(alloc)?;

@@ -6,3 +6,8 @@ pub mod Stepping
 pub mod Rows
 pub mod PointsMade
 pub mod Fifteen
+pub mod WordLemmas
+pub mod ReturnLemmas
+pub mod Walked
+pub mod RisingLemmas
+pub mod FitLemmas

@@ -13,7 +13,7 @@ merged_none (Some p) = refl
 some_here : {A : Type 0} (x y : A) → Some x ≡ Some y → x ≡ y
 some_here x y e = cc
 
-drop_at : {A : Type 0} (xs : List A) (p : ℕ) (x : A) → slice_get xs p ≡ Some x → drop p xs ≡ x ∷ drop (suc p) xs
+pub drop_at : {A : Type 0} (xs : List A) (p : ℕ) (x : A) → slice_get xs p ≡ Some x → drop p xs ≡ x ∷ drop (suc p) xs
 drop_at [] p x h = absurd (cc)
 drop_at (y ∷ ys) zero x h = ap (λ z. z ∷ ys) (some_here y x h)
 drop_at (y ∷ ys) (suc p) x h = drop_at ys p x h

@@ -10,3 +10,8 @@ pub mod Running
 pub mod Naming
 pub mod Making
 pub mod Starting
+pub mod Laid
+pub mod Words
+pub mod Returns
+pub mod Walking
+pub mod Fitting

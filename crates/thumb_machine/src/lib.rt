@@ -5,7 +5,12 @@ mod accessing;
 mod acting;
 mod answers;
 mod computing;
+mod distinct;
 mod event;
+#[cfg(test)]
+mod fit_tests;
+mod fitting;
+mod laying;
 mod lists;
 mod machine;
 mod making;
@@ -20,6 +25,7 @@ mod run_tests;
 mod system;
 #[cfg(test)]
 mod tests;
+mod walking;
 mod world;
 
 pub use answers::{Answer, Answers, Bytes};

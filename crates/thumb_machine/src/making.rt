@@ -22,7 +22,7 @@ fn set_bit(word: u32) -> u32
 }
 
 /// Whether an instruction is LDR (literal).
-fn loads_literal(instr: &Instr) -> bool
+pub(crate) fn loads_literal(instr: &Instr) -> bool
     ensures { result ≡ loads_literal instr.now }
 {
     match instr {

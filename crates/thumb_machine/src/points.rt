@@ -40,7 +40,7 @@ fn add_names(
 }
 
 /// How many places a statement has.
-fn places_in(statement: &Statement) -> usize
+pub(crate) fn places_in(statement: &Statement) -> usize
     ensures { result ≡ length (places_in (statement_view statement.now)) }
 {
     match statement {

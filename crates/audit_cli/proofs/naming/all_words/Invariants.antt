@@ -1,5 +1,0 @@
-use Rattle.audit_cli.proofs.WordLemmas.{SoManyOwn}
-use Rattle.audit_cli.proofs.naming.all_words.Given as goal
-
-abbrev pub invariant-loop-place : goal.invariant-loop-place
-invariant-loop-place l = SoManyOwn l.layout.base l.listing l.place l.count l.words.entries

@@ -1,0 +1,115 @@
+//! Tests of all code points of a listing, one after another in the order of its lines, without memory.
+ghost use Rattle.std.specs.Prelude.{◌≡◌, ◌&&◌, ◌++◌, ◌+◌, ◌<◌, ◌^◌, ℕ, List, map, length};
+ghost use Rattle.thumb_model.specs.Listing.{places_in, places_of};
+ghost use Rattle.thumb_model.specs.Image.{ends_in_call};
+ghost use Rattle.listing_parser.specs.Views.{line_view, statement_view};
+ghost use Rattle.thumb_machine.specs.Naming.{naming_of};
+ghost use Rattle.thumb_machine.specs.Walking.{all_pass, label_points, name_points, next_call, points_from, return_points};
+
+use crate::laying::is_call;
+use crate::naming::Naming;
+use crate::points::places_in;
+use listing_parser::{Line, Listing, Statement};
+
+/// A test of code points that come one after another.
+pub(crate) trait PointTest {
+    ghost use Rattle.std.specs.Prelude.{◌≡◌, ℕ, Bool};
+
+    ghost passes: { Self → ℕ → ℕ → Bool };
+
+    ghost after: { Self → ℕ → ℕ → Self };
+
+    /// Whether the code point of that word and place passes, which is then the last that came.
+    fn test(&mut self, word: u32, place: u32) -> bool
+        ensures result { result ≡ passes self.old word place }
+        ensures after { self.new ≡ after self.old word place };
+}
+
+/// Whether a statement ends in a call.
+fn ends_in_call(statement: &Statement) -> bool
+    ensures { result ≡ ends_in_call (statement_view statement.now) }
+{
+    match statement {
+        Statement::Runs { instr, .. } => is_call(instr),
+        _ => false,
+    }
+}
+
+/// The number of the next call behind a line.
+fn next_call(line: &Line, call: usize) -> usize
+    requires { call < 2 ^ 32 }
+    ensures { result ≡ next_call call (line_view line.now) }
+{
+    if ends_in_call(&line.statement) {
+        call + 1
+    } else {
+        call
+    }
+}
+
+impl Naming {
+    /// Whether names at a place pass.
+    fn names_pass<T: PointTest>(&self, test: &mut T, names: &[Vec<u8>], place: u32) -> bool
+        ensures { (rest : List (ℕ × ℕ)) → all_pass T.passes T.after test.old (name_points (naming_of self.now) place (map (λ name. name.items) names.now) ++ rest) ≡ (result && all_pass T.passes T.after test.new rest) }
+    {
+        for name in names {
+            if !test.test(self.word(name.as_slice()), place) {
+                return false;
+            }
+        }
+        true
+    }
+
+    /// Whether a line's labels pass, where they are code.
+    fn labels_pass<T: PointTest>(
+        &self,
+        test: &mut T,
+        listing: &Listing,
+        names: &[Vec<u8>],
+        place: u32,
+    ) -> bool
+        ensures { (rest : List (ℕ × ℕ)) → all_pass T.passes T.after test.old (label_points (naming_of self.now) (places_of listing.now) place (map (λ name. name.items) names.now) ++ rest) ≡ (result && all_pass T.passes T.after test.new rest) }
+    {
+        if !listing.is_op(place) {
+            return true;
+        }
+        self.names_pass(test, names, place)
+    }
+
+    /// Whether the return point of a line passes, where it is call number `call`.
+    fn return_passes<T: PointTest>(
+        &self,
+        test: &mut T,
+        line: &Line,
+        call: usize,
+        place: u32,
+    ) -> bool
+        requires { place + length (places_in (line_view line.now).statement) < 2 ^ 32 }
+        ensures { (rest : List (ℕ × ℕ)) → all_pass T.passes T.after test.old (return_points (naming_of self.now) call place (line_view line.now) ++ rest) ≡ (result && all_pass T.passes T.after test.new rest) }
+    {
+        if !ends_in_call(&line.statement) {
+            return true;
+        }
+        test.test(self.return_word(call), place + 1)
+    }
+
+    /// Whether all code points pass.
+    pub(crate) fn points_pass<T: PointTest>(&self, test: &mut T, listing: &Listing) -> bool
+        ensures { result ≡ all_pass T.passes T.after test.old (points_from (naming_of self.now) (places_of listing.now) 0 0 listing.now) }
+    {
+        let _count = listing.place_count();
+        let mut place = 0usize;
+        let mut call = 0usize;
+        for line in listing.lines() {
+            if !self.labels_pass(test, listing, line.names.as_slice(), place as u32) {
+                return false;
+            }
+            if !self.return_passes(test, line, call, place as u32) {
+                return false;
+            }
+            call = next_call(line, call);
+            place += places_in(&line.statement);
+        }
+        true
+    }
+}
