@@ -1,29 +1,9 @@
 #!/usr/bin/env bash
 # Measures reading and printing back a listing with the proved crates, beside a plain Rust program that splits the same text into lines and joins them.
 # Use: bench/listing_lines.sh LISTING [TURNS], or bench/listing_lines.sh --each FOLDER, which tries that each file of a folder is read and printed back byte for byte.
-set -eu
-top=$(cd "$(dirname "$0")/.." && pwd)
-work=$(mktemp -d)
-trap 'rm -rf "$work"' EXIT
-mkdir -p "$work/crates/listing_lines/src"
-cp "$top/HANDLES" "$work/"
-for crate in word_bits thumb_instr thumb_table thumb_model ascii_scan thumb_syntax listing_parser; do
-    cp -r "$top/crates/$crate" "$work/crates/"
-done
-cp "$top/bench/listing_lines/proved.rs" "$work/crates/listing_lines/src/main.rt"
-cat > "$work/crates.txt" <<END
-word_bits:
-thumb_instr: arrayvec
-thumb_table: thumb_instr
-thumb_model: word_bits thumb_instr thumb_table
-ascii_scan:
-thumb_syntax: ascii_scan thumb_instr itoa thiserror
-listing_parser: thumb_syntax ascii_scan thumb_instr thumb_model indexmap thiserror
-listing_lines: listing_parser anyhow
-END
-(cd "$work/crates/listing_lines" && rt run < /dev/null) > "$work/build.log" 2>&1 || true
-proved="$work/crates/listing_lines/out/listing_lines"
-[ -x "$proved" ] || { cat "$work/build.log"; exit 1; }
+. "$(dirname "$0")/common.sh"
+take_crates listing_parser
+proved=$(build_proved listing_lines "$top/bench/listing_lines/proved.rs" listing_parser anyhow)
 if [ "${1:-}" = --each ]; then
     same=0 other=0 lines=0
     for file in "$2"/*; do
@@ -37,14 +17,12 @@ if [ "${1:-}" = --each ]; then
     echo "$same files of $lines lines are read and printed back, $other not"
     exit 0
 fi
+listing=$1
 turns=${2:-5}
-rustc -O "$top/bench/listing_lines/plain.rs" -o "$work/plain" 2> /dev/null
-# the least of the microseconds of some runs, whose text goes to a file
-least() {
-    for _ in $(seq "$turns"); do "$1" < "$3" 2>&1 > "$2" | cut -d' ' -f1; done | sort -n | head -n 1
-}
-plain=$(least "$work/plain" "$work/plain.txt" "$1")
-proved=$(least "$proved" "$work/proved.txt" "$1")
-cmp "$work/proved.txt" "$1"
-cmp "$work/plain.txt" "$1"
-echo "$(wc -l < "$1") lines, $(wc -c < "$1") bytes: proved $proved us, plain Rust that only splits $plain us, ratio $(awk "BEGIN { printf \"%.1f\", $proved / $plain }")"
+plain=$(build_plain "$top/bench/listing_lines/plain.rs")
+reading() { "$1" < "$listing"; }
+plain_time=$(least "$turns" "$work/plain.txt" reading "$plain")
+proved_time=$(least "$turns" "$work/proved.txt" reading "$proved")
+cmp "$work/proved.txt" "$listing"
+cmp "$work/plain.txt" "$listing"
+print_times "$(wc -l < "$listing") lines, $(wc -c < "$listing") bytes" us "$proved_time" "$plain_time" "plain Rust that only splits"

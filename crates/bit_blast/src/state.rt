@@ -1,4 +1,4 @@
-ghost use Rattle.std.specs.Prelude.{◌≡◌, ◌≤◌, ◌+◌};
+ghost use Rattle.std.specs.Prelude.{◌≡◌, ◌<◌, ◌≤◌, ◌+◌};
 ghost use Rattle.std.specs.Int.{bit_at, from_bool};
 ghost use Rattle.cnf_gates.specs.Meaning.{assigned};
 ghost use Rattle.window_exec.specs.State.{values_of};
@@ -28,6 +28,7 @@ fn flags(model: &Model, first: u32) -> u8
     ensures z { bit_at result 2 ≡ from_bool (assigned model.now (first + 1)) }
     ensures c { bit_at result 1 ≡ from_bool (assigned model.now (first + 2)) }
     ensures v { bit_at result 0 ≡ from_bool (assigned model.now (first + 3)) }
+    ensures few { result < 16 }
 {
     let n = u8::from(model.value(first));
     let z = u8::from(model.value(first + 1));
@@ -48,9 +49,10 @@ fn register(model: &Model, k: u8, register: u8) -> u32
     }
 }
 
-/// The state that a model of a formula over `k` registers gives: registers from `k` on are 0.
+/// The state that a model of a formula over `k` registers gives: registers from `k` on are 0, and so are the bits above the flags.
 pub fn state_of(model: &Model, k: u8) -> WState
-    ensures { SameOver 4 (values_of result) (start_values (assigned model.now) k) }
+    ensures items { SameOver 4 (values_of result) (start_values (assigned model.now) k) }
+    ensures flags { result.nzcv < 16 }
 {
     WState {
         r: [
