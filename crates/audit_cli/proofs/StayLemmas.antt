@@ -1,5 +1,5 @@
 -- A step that asks for more answers than are left is seen by no event.
-use Rattle.std.proofs.Common.{◌≡◌, ◌∙◌, ℕ, ◌*◌, ◌==◌, ◌%◌, true, false, List, [], ◌∷◌, ◌++◌, length, map, Option, Some, None, refl, sym, ap, append-nil, if◌then◌else◌}
+use Rattle.std.proofs.Common.{◌≡◌, ◌∙◌, ℕ, ◌*◌, ◌==◌, ◌%◌, true, false, List, [], ◌∷◌, ◌++◌, length, map, Option, Some, None, refl, ap, append-nil, if◌then◌else◌}
 use Rattle.std.specs.Prelude.{nat_le, slice_get}
 use Rattle.thumb_instr.specs.declared.instr.Instr.{Instr}
 use Rattle.thumb_instr.specs.declared.instr.Instr.TheVariants as instr
@@ -9,9 +9,9 @@ use Rattle.thumb_instr.specs.declared.operation.Hint.{Hint}
 use Rattle.thumb_instr.specs.declared.operation.Hint.TheVariants as hint
 use Rattle.thumb_instr.specs.Items.{has}
 use Rattle.thumb_instr.specs.Shape.{registers_in, pushed, offset_access, word_access}
-use Rattle.thumb_model.specs.Items.{sp, lr}
+use Rattle.thumb_model.specs.Items.{sp}
 use Rattle.thumb_model.specs.Listing.{Code, Place, Op, Word}
-use Rattle.thumb_model.specs.Machine.{Naming, State, At, Here, Ended, World, Answer, Target, Inside, External, Landing, Goes, Leaves, Strays, Around, Act, Event, Call, Sys, Left, Fault, Astray, Next, On, Stay, To, Over, act, around_of, puts, ends, branches, registers_left, tells, takes, aligned, answered, served, handed, answers_with, is_device, access_size, value_at, gets, loads, stores, accesses, behind, below, stores_many, device_words, enough, many_outputs, loads_many, load_events, left_from, jumps, calls_out, calls, calls_by, with_pc, popped_word, popping, pops_to, pops, holds, hints, interrupts_code, barrier_code, special_code, reads_special, offset, does, falls, step_at, step_on}
+use Rattle.thumb_model.specs.Machine.{Naming, State, At, Here, Ended, World, Answer, Target, Inside, External, Landing, Goes, Leaves, Strays, Around, Act, Event, Call, Sys, Fault, On, Stay, To, Over, act, around_of, puts, ends, branches, tells, takes, aligned, answered, served, handed, answers_with, is_device, access_size, value_at, gets, loads, stores, accesses, behind, below, stores_many, device_words, enough, loads_many, jumps, calls_out, calls, calls_by, with_pc, popped_word, pops_to, pops, holds, hints, special_code, reads_special, offset, step_at, step_on}
 use Rattle.thumb_machine.specs.Running.{next_at, next_on}
 
 abbrev Quiet : Act → Type 0

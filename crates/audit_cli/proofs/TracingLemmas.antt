@@ -20,7 +20,7 @@ use Rattle.audit_cli.specs.Running.{IsRun}
 use Rattle.audit_cli.specs.Start.{answers_from, start_values, start_world}
 use Rattle.audit_cli.specs.declared.outcome.Outcome.{Outcome as Outcomes}
 use Rattle.audit_cli.specs.Outcomes.{outcome_view}
-use Rattle.audit_cli.specs.Plans.{Outcome, Refuses, Does}
+use Rattle.audit_cli.specs.Plans.{Refuses, Does}
 use Rattle.audit_cli.specs.TraceLines.{event_lines, refused_fault, refused_label, refused_line, steps_line}
 use Rattle.audit_cli.specs.Tracing.{Journey, LinesTrace, unlaid, unlabelled, ran, Traces, unread, read}
 

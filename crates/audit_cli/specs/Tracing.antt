@@ -1,5 +1,5 @@
 -- What `trace` comes to.
-use Rattle.std.specs.Prelude.{◌≡◌, ℕ, List, [], ◌∷◌, ◌++◌, Option, Some, None}
+use Rattle.std.specs.Prelude.{◌≡◌, ℕ, List, [], ◌∷◌, ◌++◌, Some, None}
 use Rattle.thumb_model.specs.Listing.{Name, Line, code_of, place_of}
 use Rattle.thumb_model.specs.Layout.{Fault, Layable}
 use Rattle.thumb_model.specs.Machine.{Naming, step, times}

@@ -1,8 +1,6 @@
-use Rattle.std.proofs.Common.{◌≡◌, ◌∙◌, ◌<◌, ◌≤◌, ℕ, arith, subst, sym}
+use Rattle.std.proofs.Common.{◌≡◌, ◌∙◌, arith, subst, sym}
 use Rattle.thumb_machine.specs.declared.program.Program.{Program}
-use Rattle.thumb_machine.specs.declared.machine.Stage.TheVariants as stage
 use Rattle.thumb_machine.specs.Running.{IsProgram, state_of}
-use Rattle.audit_cli.specs.Running.{IsRun}
 use Rattle.audit_cli.proofs.RunningLemmas.{all_taken, asks_more, asks_unseen, is_over, one_more, seen}
 use Rattle.audit_cli.proofs.running.run.Goals as goal
 

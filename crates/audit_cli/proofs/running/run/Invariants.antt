@@ -1,4 +1,4 @@
-use Rattle.std.proofs.Common.{◌≡◌, ◌≤◌}
+use Rattle.std.proofs.Common.{◌≡◌}
 use Rattle.thumb_model.specs.Listing.{Code}
 use Rattle.thumb_model.specs.Machine.{Naming}
 use Rattle.thumb_machine.specs.Running.{IsProgram, state_of}

@@ -1,4 +1,4 @@
-use Rattle.std.proofs.Common.{◌≡◌, ◌∙◌, ◌++◌, ◌-◌, ◌<◌, ℕ, List, append-nil, ap, arith, sym}
+use Rattle.std.proofs.Common.{◌≡◌, ◌∙◌, ◌++◌, ◌-◌, ℕ, List, append-nil, ap, arith, sym}
 use Rattle.thumb_model.specs.Machine as model
 use Rattle.thumb_machine.specs.Outside.{answers_of}
 use Rattle.audit_cli.specs.Start.{answers_from}

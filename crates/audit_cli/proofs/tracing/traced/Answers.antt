@@ -1,4 +1,4 @@
-use Rattle.std.proofs.Common.{◌≡◌, ◌∙◌, ◌++◌, ℕ, List, ap, subst, sym}
+use Rattle.std.proofs.Common.{◌∙◌, ◌++◌, ℕ, List, ap, subst, sym}
 use Rattle.thumb_model.specs.Listing.{code_of}
 use Rattle.thumb_machine.specs.declared.answers.Answer.{Answer}
 use Rattle.thumb_machine.specs.declared.event.Event.{Event}
