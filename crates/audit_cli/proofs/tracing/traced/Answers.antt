@@ -5,8 +5,8 @@ use Rattle.thumb_machine.specs.declared.event.Event.{Event}
 use Rattle.thumb_machine.specs.Naming.{naming_of}
 use Rattle.thumb_machine.specs.Outside.{answers_of, events_of}
 use Rattle.thumb_machine.specs.Running.{state_of}
-use Rattle.audit_cli.specs.Journeys.{journey_of}
 use Rattle.thumb_machine.specs.Laid.{IsLaid}
+use Rattle.audit_cli.specs.Journeys.{journey_of}
 use Rattle.audit_cli.specs.Plans.{Outcome}
 use Rattle.audit_cli.specs.TraceLines.{event_lines, steps_line}
 use Rattle.audit_cli.specs.Tracing.{LinesTrace}
