@@ -67,17 +67,17 @@ straight_alike i j e = by_kind i ∙ ap (λ (m : Made). is_straight_kind m.kind 
 
 -- ---- what may stand on a line ----
 
-pub label_stands : (number : ℕ) (text : List ℕ) → number ≡ 1 → IsLabel text → MayStand number text
-label_stands number text first l = record { form = Labels l.name; allowed = (first, l.named); spelled = l.spelled }
+pub label_stands : (number : ℕ) (text : List ℕ) → (number ≡ 1) × IsLabel text → MayStand number text
+label_stands number text l = record { form = Labels l.1.name; allowed = (l.0, l.1.named); spelled = l.1.spelled }
 
 pub instr_stands : (number : ℕ) (text : List ℕ) → HoldsInstr text → MayStand number text
 instr_stands number text h = record { form = Holds h.instr; allowed = h.straight; spelled = h.spelled }
 
 -- what may stand there and is neither empty nor a label on the first line is an instruction
-pub stands_alone : (number : ℕ) (text : List ℕ) → (text ≡ [] → ⊥) → (number ≡ 1 → IsLabel text → ⊥) → MayStand number text → HoldsInstr text
+pub stands_alone : (number : ℕ) (text : List ℕ) → (text ≡ [] → ⊥) → ((number ≡ 1) × IsLabel text → ⊥) → MayStand number text → HoldsInstr text
 stands_alone number text some other s = by_form s.form s.allowed s.spelled
   where
     by_form : (f : Form) → IsAllowed number f → text ≡ text_of_form f → HoldsInstr text
     by_form Blank a e = absurd (some e)
-    by_form (Labels name) a e = absurd (other a.0 (record { name = name; named = a.1; spelled = e }))
+    by_form (Labels name) a e = absurd (other (a.0, record { name = name; named = a.1; spelled = e }))
     by_form (Holds i) a e = record { instr = i; straight = a; spelled = e }

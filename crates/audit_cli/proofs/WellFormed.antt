@@ -40,7 +40,7 @@ stand_there : (rule : Rule) (r : Replacement) (ls : List Line) → Applies rule 
 stand_there rule r ls a k lt =
     let n = window_length rule r.registers (code_of ls) r.place a in
     let there : slice_get (places_of ls) (r.place + k) ≡ slice_get (map plain a.window) k =
-        sym (get_drop r.place (places_of ls) k (r.place + k) refl) ∙ sym (get_take (length rule.left) (drop r.place (places_of ls)) k lt) ∙ ap (λ (ps : List Place). slice_get ps k) a.stands in
+    sym (get_drop r.place (places_of ls) k (r.place + k) refl) ∙ sym (get_take (length rule.left) (drop r.place (places_of ls)) k lt) ∙ ap (λ (ps : List Place). slice_get ps k) a.stands in
     ap is_op_place there ∙ plain_at a.window k (omega arith)
 
 -- by an entry whose right side is empty

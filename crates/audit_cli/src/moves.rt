@@ -1,11 +1,11 @@
-ghost use Rattle.std.specs.Prelude.{◌≡◌, ◌<◌, List, ℕ, length, map, IfOk, IfSome, IfNone};
+ghost use Rattle.std.specs.Prelude.{◌≡◌, ◌<◌, ◌||◌, List, ℕ, length, map, IfOk, IfSome, IfNone};
 ghost use Rattle.thumb_instr.specs.declared.instr.Instr.{Instr};
 ghost use Rattle.listing_parser.specs.Views.{line_view};
 ghost use Rattle.thumb_model.specs.Listing.{places_of};
 ghost use Rattle.thumb_model.specs.Rewrite.{Low};
 ghost use Rattle.thumb_model.specs.Rewritten.{AreRewritten};
 ghost use Rattle.audit_cli.specs.Moves.{self_move, first_setting, used_view};
-ghost use Rattle.audit_cli.specs.Simple.{AreSimple};
+ghost use Rattle.audit_cli.specs.Simple.{AreSimple, has_name};
 
 use crate::straight::{has_label, instr_in};
 use listing_parser::{Line, Listing};
@@ -56,7 +56,7 @@ pub fn drop_moves<'a>(
     let mut is_labelled = false;
     for line in listing.lines() {
         match instr_in(line) {
-            None => is_labelled = is_labelled || has_label(line),
+            None => is_labelled = is_labelled_with(is_labelled, line),
             Some(instr) => {
                 following -= 1;
                 if let Some(register) = dropped_register(entries, &instr) {
@@ -81,6 +81,13 @@ pub fn drop_moves<'a>(
         instructions: place,
         used,
     })
+}
+
+/// Whether a label stands behind the instructions that were kept, once this line is among them.
+fn is_labelled_with(is_labelled: bool, line: &Line) -> bool
+    ensures { result ≡ (is_labelled || has_name (line_view line.now).names) }
+{
+    is_labelled || has_label(line)
 }
 
 /// The low register that an instruction moves to itself, if it is such a move and some entry drops it.

@@ -72,6 +72,13 @@ fn holds_instr(alloc: Global, text: &[u8]) -> Result<bool, AllocError>
     }
 }
 
+/// Whether the line is the first and a label alone.
+fn is_first_label(source: SourceLine<'_>) -> bool
+    ensures { IsTrue result ↔ ((source.entry.number ≡ 1) × IsLabel source.entry.text.now) }
+{
+    source.number == 1 && is_label(source.text)
+}
+
 /// Whether the line's text may stand on a line of its number.
 fn may_stand(alloc: Global, source: SourceLine<'_>) -> Result<bool, AllocError>
     ensures { IfOk result (λ b. IsTrue b ↔ MayStand source.entry.number source.entry.text.now) }
@@ -79,7 +86,7 @@ fn may_stand(alloc: Global, source: SourceLine<'_>) -> Result<bool, AllocError>
     if source.text.is_empty() {
         return Ok(true);
     }
-    if source.number == 1 && is_label(source.text) {
+    if is_first_label(source) {
         return Ok(true);
     }
     holds_instr(alloc, source.text)

@@ -7,7 +7,7 @@ use Rattle.thumb_model.specs.Listing.{Line}
 use Rattle.audit_cli.specs.declared.moves.Used.{Used}
 use Rattle.audit_cli.proofs.MovesPass.{IsUnderway, underway_other, underway_runs, underway_drop, underway_last}
 use Rattle.audit_cli.proofs.moves.drop_moves.Goals as goal
-use Rattle.audit_cli.proofs.moves.drop_moves.Goals.{in-None+then-is_labelled, in-None+else-is_labelled, in-Some, in-Some-dropped_register+else-following-gt0+else-not-is_labelled, in_default, then-following-gt0-via-then-following-gt0, then-following-gt0-via-else-following-gt0+then-not-is_labelled}
+use Rattle.audit_cli.proofs.moves.drop_moves.Goals.{in-None, in-Some, in-Some-dropped_register+else-following-gt0+else-not-is_labelled, in_default, then-following-gt0-via-then-following-gt0, then-following-gt0-via-else-following-gt0+then-not-is_labelled}
 
 -- the lines that are left, one after the other
 cut : (lines : List Lines) (i : ℕ) (line : Lines) → i < length lines → line ≡ get_or lines i line → map line_view (drop i lines) ≡ line_view line ∷ map line_view (drop (i + 1) lines)
@@ -19,12 +19,6 @@ none_left lines i h = ap (map line_view) (drop_of_length-le lines h)
 -- one line more is kept
 more : (kept new : List (Bor Lines)) (line : Bor Lines) → new ≡ kept ++ line ∷ [] → map (λ (v : Bor Lines). line_view v.now) new ≡ map (λ (v : Bor Lines). line_view v.now) kept ++ line_view line.now ∷ []
 more kept new line e = ap (map (λ (v : Bor Lines). line_view v.now)) e ∙ map-append (λ (v : Bor Lines). line_view v.now) kept (line ∷ [])
-
-or_true : (a b : Bool) → a ≡ true → (a || b) ≡ true
-or_true a b e = ap (λ x. x || b) e
-
-or_false : (a b : Bool) → a ≡ false → (a || b) ≡ b
-or_false a b e = ap (λ x. x || b) e
 
 pub loop-line-preserved-then-following-gt0 : goal.loop-line-preserved-then-following-gt0
 loop-line-preserved-then-following-gt0 c =
@@ -48,8 +42,7 @@ loop-line-preserved c =
     let pushed = more c.loop-line.kept.items c.push-in-loop-line.new.self.items _ c.in_ok-push.ensures.items in
     subst (λ (ls : List Line). IsUnderway c.args.entries c.args.listing.now (map line_view (drop (c.loop-line.line-index + 1) lines)) ls c.loop-line.used.items c.match-instr_in.place c.match-instr_in.following c.match-instr_in.is_labelled) (sym pushed)
     (elim c.match-instr_in.branch [
-      | in-None+then-is_labelled w ↦ rw (w.place-is, w.following-is, w.is_labelled-is) (underway_other line _ u (sym c.instr_in.ensures ∙ w.in-None.is) (w.if-is_labelled.true ∙ sym (or_true _ _ w.if-is_labelled.true)))
-      | in-None+else-is_labelled w ↦ rw (w.place-is, w.following-is, w.is_labelled-is) (underway_other line _ u (sym c.instr_in.ensures ∙ w.in-None.is) (w.has_label-is_labelled.ensures ∙ sym (or_false _ _ w.if-is_labelled.false)))
+      | in-None w ↦ rw (w.place-is, w.following-is, w.is_labelled-is) (underway_other line _ u (sym c.instr_in.ensures ∙ w.in-None.is) w.is_labelled_with-is_labelled.ensures)
       | in-Some w ↦
           elim w.match-dropped_register.branch [
             | in-Some-dropped_register+else-following-gt0+else-not-is_labelled w' ↦
