@@ -1,7 +1,8 @@
 //! The program: hands the process's words to the top call, and ends with its status.
 #![tactic(auto)]
 
-ghost use Rattle.std.specs.Prelude.{◌≡◌, ◌<◌, map, option_map, string_bytes};
+ghost use Rattle.std.specs.Prelude.{◌≡◌, ◌<◌, IfOk, drop, map, option_map, string_bytes};
+ghost use Rattle.std.specs.Vec.Iter.{into_iter_items};
 ghost use Rattle.outer_store.specs.Outside.{Grows, SinkGrows};
 ghost use Rattle.audit_cli.specs.Peep.{Peeps};
 ghost use Rattle.peep.specs.Words.{word_of};
@@ -17,9 +18,12 @@ use std::sync::ledger::{Blank, Ledger as Name};
 use step_ledger::{Free, Steps};
 
 /// The words after the program's name.
-fn words_of(alloc: Global, args: Args<Global>) -> Result<Vec<String>, AllocError> {
+fn words_of(alloc: Global, mut args: Args<Global>) -> Result<Vec<String>, AllocError>
+    ensures { IfOk result (λ words. words.items ≡ drop 1 (into_iter_items args)) }
+{
+    let _name = args.next();
     let mut words = Vec::new(alloc);
-    for word in args.skip(1) {
+    for word in args {
         words.push(word)?;
     }
     Ok(words)
