@@ -7,7 +7,7 @@ use Rattle.thumb_table.specs.Table.{pieces, form_of, values_of, whole, IsCode}
 use Rattle.thumb_table.specs.declared.row.Code.TheVariants as code
 use Rattle.thumb_model.specs.Listing.{Name, Statement, Nothing, Runs, Words, Aligns, Sets, Line}
 use Rattle.thumb_model.specs.Layout.{size_at, instr_size}
-use Rattle.thumb_model.specs.Image.{IsInstrBytes, Laid, laid, IsStatementBytes, AreLineBytes, IsImage}
+use Rattle.thumb_model.specs.Image.{Laid, laid, IsStatementBytes, AreLineBytes, IsImage}
 use Rattle.audit_cli.specs.Codes.{IsCodeOf, AreCodes, PushedCode}
 
 -- what completes the lines that are left completes all, behind these bytes

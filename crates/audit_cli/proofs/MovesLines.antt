@@ -4,7 +4,7 @@ use Rattle.std.specs.Prelude.{slice_get}
 use Rattle.std.specs.List.{list_any}
 use Rattle.std.proofs.lemmas.List.Folds.{list_any-append}
 use Rattle.thumb_instr.specs.declared.instr.Instr.{Instr}
-use Rattle.thumb_model.specs.Listing.{Name, Mention, Statement, Nothing, Runs, Words, Aligns, Sets, Line, Place, places_in, places_of, Label, labels_at, labels_from}
+use Rattle.thumb_model.specs.Listing.{Name, Statement, Nothing, Runs, Words, Aligns, Sets, Line, Place, places_in, places_of, Label, labels_at, labels_from}
 use Rattle.thumb_model.specs.Layout.{Layable, lies_in, faults_from, fault_at, size_at, or_first}
 use Rattle.thumb_model.specs.Rewritten.{is_op, without, replaced_lines, are_joined, are_joined_from, labels_kept}
 

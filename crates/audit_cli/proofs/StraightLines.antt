@@ -1,33 +1,28 @@
 -- A straight listing is a listing, of simple lines.
-use Rattle.std.proofs.Common.{◌≡◌, ◌∙◌, ◌⊎◌, inl, inr, ℕ, ◌+◌, ◌≤◌, ◌<◌, ◌==◌, ◌&&◌, ◌||◌, nat_lt, Bool, true, false, List, [], ◌∷◌, ◌++◌, length, map, refl, sym, ap, subst, arith, append-nil, length-append, Option, Some, None, true≢false}
-use Rattle.std.specs.Prelude.{Result, Ok, Err, option_map}
+use Rattle.std.proofs.Common.{◌≡◌, ◌∙◌, ◌⊎◌, inl, inr, ℕ, ◌+◌, ◌≤◌, ◌<◌, true, false, List, [], ◌∷◌, ◌++◌, length, map, refl, sym, ap, subst, arith, append-nil, length-append, Option, Some, None, true≢false}
+use Rattle.std.specs.Prelude.{Result, Ok, option_map}
 use Rattle.std.specs.List.{All}
 use Rattle.std.proofs.lemmas.Option.{same_Some}
 use Rattle.std.proofs.lemmas.List.Elements.{All-head, All-tail}
 use Rattle.thumb_instr.specs.declared.instr.Instr.{Instr}
 use Rattle.thumb_instr.specs.declared.instr.Instr.TheVariants as instr
-use Rattle.thumb_instr.specs.declared.operation.Sum.TheVariants as sum
-use Rattle.thumb_instr.specs.declared.operation.Operation.TheVariants as operation
-use Rattle.thumb_syntax.specs.Made.{Made, made_of}
+use Rattle.thumb_syntax.specs.Made.{made_of}
 use Rattle.thumb_syntax.specs.Rows.{Shown, reading}
 use Rattle.thumb_syntax.specs.Spelling.{text_of}
-use Rattle.thumb_syntax.specs.Operands.{is_name}
 use Rattle.thumb_syntax.specs.Whole.{is_unlabelled, is_whole, shown_with}
 use Rattle.thumb_syntax.proofs.ReadWhole.{reading_is_whole}
 use Rattle.thumb_syntax.proofs.RoundTrip.{writing_reads_back}
-use Rattle.thumb_model.specs.Layout.{is_among}
 use Rattle.thumb_model.specs.Listing.{Name, Mention, Statement, Nothing, Runs, Words, Aligns, Sets, Line}
-use Rattle.ascii_scan.specs.Lines.{Placed, lines_of, lines_in, placed, placed_from, content_of, whole}
-use Rattle.ascii_scan.specs.Names.{name_length}
+use Rattle.ascii_scan.specs.Lines.{Placed, lines_of, placed, placed_from, whole}
 use Rattle.listing_parser.specs.declared.errors.Kind.{Kind}
 use Rattle.listing_parser.specs.Bare.{shown_of, said_of, bare}
-use Rattle.listing_parser.specs.Grammar.{Said, Plain, Instruction, Bare, Read, checked_line, read_lines, with_first, says}
+use Rattle.listing_parser.specs.Grammar.{Said, Plain, Instruction, Bare, Read, checked_line, read_lines, says}
 use Rattle.listing_parser.specs.Parsing.{AreLines, IsListing, IsRefused, AtLine, AtTwice, AtTarget}
 use Rattle.listing_parser.specs.Replacing.{names_no_label}
-use Rattle.listing_parser.specs.TableWords.{defined_in, first_twice, is_again}
+use Rattle.listing_parser.specs.TableWords.{defined_in, first_twice}
 use Rattle.listing_parser.specs.Targets.{first_target, functions, is_on_target}
 use Rattle.listing_parser.proofs.CanonicalLines.{canonical_line_checked, empty_line_checked, label_line_checked, labels_only, name_by_length, names_none, told_of, unnamed}
-use Rattle.audit_cli.specs.Straight.{is_straight_instr, HoldsInstr, Form, Blank, Labels, Holds, text_of_form, IsAllowed, MayStand, IsStraight, AreStraight}
+use Rattle.audit_cli.specs.Straight.{is_straight_instr, HoldsInstr, Form, Blank, Labels, Holds, text_of_form, IsAllowed, IsStraight, AreStraight}
 use Rattle.audit_cli.specs.Simple.{IsSimpleStatement, IsSimple, AreSimple}
 use Rattle.audit_cli.proofs.Lists.{same_parts}
 use Rattle.audit_cli.proofs.StraightLemmas.{straight_alike}

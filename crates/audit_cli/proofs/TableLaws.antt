@@ -1,12 +1,8 @@
 -- Tables of the first form are determined by their texts.
-use Rattle.std.proofs.Common.{◌≡◌, ◌∙◌, ℕ, suc, ◌+◌, ◌≤◌, List, [], ◌∷◌, ◌++◌, length, map, refl, sym, ap, subst, arith, true, Option, Some, None, append_assoc, append-nil, length-append}
-use Rattle.std.specs.List.{list_all}
+use Rattle.std.proofs.Common.{◌≡◌, ◌∙◌, ℕ, ◌≤◌, List, [], ◌∷◌, ◌++◌, length, map, refl, sym, ap, subst, arith, Option, Some, append_assoc, append-nil}
 use Rattle.std.proofs.lemmas.Option.{same_Some}
-use Rattle.std.proofs.lemmas.List.{length-map}
-use Rattle.ascii_scan.specs.Lines.{Placed, lines_in}
-use Rattle.audit_cli.specs.declared.read_table.Next.{Next}
 use Rattle.audit_cli.specs.declared.read_table.Next.TheVariants.{Peep, Nothing}
-use Rattle.audit_cli.specs.FirstTable.{is_state, table_lines, shown, IsTable, Begins, Stops, IsBadTableLine, TablesAreDetermined}
+use Rattle.audit_cli.specs.FirstTable.{table_lines, IsTable, Begins, Stops, IsBadTableLine, TablesAreDetermined}
 use Rattle.audit_cli.proofs.Lists.{same_parts}
 use Rattle.audit_cli.proofs.TableLemmas.{run, reads}
 

@@ -1,26 +1,23 @@
 -- What rewriting leaves is a listing: its text is read as its lines.
-use Rattle.std.proofs.Common.{◌≡◌, ◌∙◌, ℕ, zero, suc, ◌+◌, ◌<◌, ◌≤◌, true, List, [], ◌∷◌, length, map, take, drop, refl, sym, ap, subst, arith}
+use Rattle.std.proofs.Common.{◌≡◌, ◌∙◌, ℕ, zero, suc, ◌+◌, ◌<◌, ◌≤◌, true, List, [], ◌∷◌, length, map, drop, refl, sym, ap, subst, arith}
 use Rattle.std.specs.Prelude.{slice_get}
 use Rattle.std.specs.List.{list_all}
 use Rattle.std.proofs.lemmas.List.{length-map}
 use Rattle.thumb_instr.specs.declared.instr.Instr.{Instr}
 use Rattle.ascii_scan.specs.Lines.{lines_of}
-use Rattle.thumb_model.specs.Listing.{Name, Line, Place, plain, places_of, code_of, is_op_place}
-use Rattle.thumb_model.specs.Rewrite.{Low, Rule, AreSound, Applies, renamed}
-use Rattle.thumb_model.specs.Rewritten.{Setting, Replacement, AppliesIn, AreRewritten, lines_after, lines_after_rule, replaced_lines}
+use Rattle.thumb_model.specs.Listing.{Line, Place, plain, places_of, code_of, is_op_place}
+use Rattle.thumb_model.specs.Rewrite.{Rule, Applies, renamed}
+use Rattle.thumb_model.specs.Rewritten.{Replacement, AppliesIn, AreRewritten, lines_after, lines_after_rule}
 use Rattle.thumb_model.proofs.Lists.{get_drop, get_take}
 use Rattle.thumb_model.proofs.LinesKept.{fewer_lines, one_line_keeps}
 use Rattle.thumb_model.proofs.Table.{window_length}
 use Rattle.listing_parser.specs.Grammar.{Bare, Read}
 use Rattle.listing_parser.specs.Bare.{bare}
 use Rattle.listing_parser.specs.Parsing.{IsListing, text_of_lines}
-use Rattle.listing_parser.specs.ReadAgain.{AreReplaced}
-use Rattle.listing_parser.specs.Replacing.{names_no_label, own_line}
-use Rattle.listing_parser.specs.Targets.{is_code_label}
+use Rattle.listing_parser.specs.Replacing.{names_no_label}
 use Rattle.listing_parser.proofs.FewLemmas.{all_few}
 use Rattle.listing_parser.proofs.PrintLemmas.{prints_back}
 use Rattle.listing_parser.proofs.ReplacedLines.{replaced_reads_again}
-use Rattle.audit_cli.specs.Moves.{moves_table}
 use Rattle.audit_cli.specs.Rewriting.{setting}
 use Rattle.audit_cli.proofs.MovesRule.{moves_only, moves_are_sound}
 

@@ -1,6 +1,5 @@
 -- The bytes of the instructions of straight lines, wherever they lie.
-use Rattle.std.specs.Prelude.{◌≡◌, ◌<◌, ℕ, List, [], ◌∷◌, ◌++◌, Some, None}
-use Rattle.thumb_instr.specs.declared.instr.Instr.{Instr}
+use Rattle.std.specs.Prelude.{◌≡◌, ℕ, List, [], ◌∷◌, ◌++◌, Some, None}
 use Rattle.thumb_model.specs.Listing.{Statement, Nothing, Runs, Words, Aligns, Sets, Line}
 use Rattle.thumb_model.specs.Image.{IsInstrBytes}
 

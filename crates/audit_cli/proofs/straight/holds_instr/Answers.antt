@@ -1,4 +1,4 @@
-use Rattle.std.proofs.Common.{◌≡◌, ◌∙◌, List, ℕ, Option, Some, None, refl, sym, ap, subst, true≢false}
+use Rattle.std.proofs.Common.{◌∙◌, refl, sym, ap, true≢false}
 use Rattle.std.specs.Prelude.{option_map}
 use Rattle.thumb_syntax.specs.ParsedView.{shown}
 use Rattle.std.specs.Str.{bytes_eq}
