@@ -1,3 +1,4 @@
+pub mod Lists
 pub mod Assembled
 pub mod MovesLines
 pub mod MovesRule

@@ -11,6 +11,7 @@ use Rattle.thumb_syntax.specs.declared.kind.Kind.TheVariants as kind
 use Rattle.thumb_syntax.specs.Made.{Made, made_of}
 use Rattle.ascii_scan.specs.Lines.{Placed}
 use Rattle.audit_cli.specs.Straight.{is_straight_instr, HoldsInstr, IsLabel, Form, Blank, Labels, Holds, IsAllowed, text_of_form, MayStand, IsStraight, AreDetermined}
+use Rattle.audit_cli.proofs.Lists.{same_parts}
 
 -- ---- a first bad line ----
 
@@ -23,17 +24,14 @@ unfolding IsBad
 no_bad [] bad after none all = none (All-head IsStraight bad after all)
 no_bad (p ∷ ps) bad after none all = no_bad ps bad after none (All-tail IsStraight p (ps ++ bad ∷ after) all)
 
-heads : {X : Type 0} (x y : X) (xs ys : List X) → x ∷ xs ≡ y ∷ ys → (x ≡ y) × (xs ≡ ys)
-heads x y xs ys e = (cc, cc)
-
 same_bad : (before : List Placed) (bad : Placed) (after other : List Placed) (worse : Placed) (rest : List Placed) → IsBad bad → IsBad worse
     → All IsStraight before → All IsStraight other → before ++ bad ∷ after ≡ other ++ worse ∷ rest → bad ≡ worse
 unfolding IsBad
-same_bad [] bad after [] worse rest b w a c e = (heads bad worse after rest e).0
-same_bad [] bad after (p ∷ ps) worse rest b w a c e = absurd (b (subst IsStraight (sym (heads bad p after (ps ++ worse ∷ rest) e).0) (All-head IsStraight p ps c)))
-same_bad (p ∷ ps) bad after [] worse rest b w a c e = absurd (w (subst IsStraight (heads p worse (ps ++ bad ∷ after) rest e).0 (All-head IsStraight p ps a)))
+same_bad [] bad after [] worse rest b w a c e = (same_parts e).0
+same_bad [] bad after (p ∷ ps) worse rest b w a c e = absurd (b (subst IsStraight (sym (same_parts e).0) (All-head IsStraight p ps c)))
+same_bad (p ∷ ps) bad after [] worse rest b w a c e = absurd (w (subst IsStraight (same_parts e).0 (All-head IsStraight p ps a)))
 same_bad (p ∷ ps) bad after (q ∷ qs) worse rest b w a c e =
-    same_bad ps bad after qs worse rest b w (All-tail IsStraight p ps a) (All-tail IsStraight q qs c) (heads p q (ps ++ bad ∷ after) (qs ++ worse ∷ rest) e).1
+    same_bad ps bad after qs worse rest b w (All-tail IsStraight p ps a) (All-tail IsStraight q qs c) (same_parts e).1
 
 pub are_determined : AreDetermined
 unfolding IsBad

@@ -1,7 +1,8 @@
 -- A straight listing is a listing, of simple lines.
-use Rattle.std.proofs.Common.{◌≡◌, ◌∙◌, ◌⊎◌, inl, inr, ℕ, ◌+◌, ◌≤◌, ◌<◌, true, false, List, [], ◌∷◌, ◌++◌, length, map, refl, sym, ap, subst, arith, length-append, Option, Some, None, true≢false}
+use Rattle.std.proofs.Common.{◌≡◌, ◌∙◌, ◌⊎◌, inl, inr, ℕ, ◌+◌, ◌≤◌, ◌<◌, true, false, List, [], ◌∷◌, ◌++◌, length, map, refl, sym, ap, subst, arith, append-nil, length-append, Option, Some, None, true≢false}
 use Rattle.std.specs.Prelude.{Result, Ok, option_map}
 use Rattle.std.specs.List.{All}
+use Rattle.std.proofs.lemmas.Option.{same_Some}
 use Rattle.std.proofs.lemmas.List.Elements.{All-head, All-tail}
 use Rattle.thumb_instr.specs.declared.instr.Instr.{Instr}
 use Rattle.thumb_instr.specs.declared.instr.Instr.TheVariants as instr
@@ -23,6 +24,7 @@ use Rattle.listing_parser.specs.Targets.{first_target, functions, is_on_target}
 use Rattle.listing_parser.proofs.CanonicalLines.{canonical_line_checked, empty_line_checked, label_line_checked, labels_only, name_by_length, names_none, told_of, unnamed}
 use Rattle.audit_cli.specs.Straight.{is_straight_instr, HoldsInstr, Form, Blank, Labels, Holds, text_of_form, IsAllowed, IsStraight, AreStraight}
 use Rattle.audit_cli.specs.Simple.{IsSimpleStatement, IsSimple, AreSimple}
+use Rattle.audit_cli.proofs.Lists.{same_parts}
 use Rattle.audit_cli.proofs.StraightLemmas.{straight_alike}
 
 -- ---- instructions ----
@@ -104,11 +106,7 @@ simple_from names front (Sets name address) (inl e) = absurd (cc)
 simple_from names front (Sets name address) (inr r) = absurd (let e = r.1 in cc)
 
 defines_names : (names : List Name) (s : Statement) (text front : List ℕ) → IsSimpleStatement names front s → defined_in (record { names = names; statement = s; text = text; front = front }) ≡ names
-defines_names names Nothing text front h = append_nothing names
-  where
-    append_nothing : (names : List Name) → names ++ [] ≡ names
-    append_nothing [] = refl
-    append_nothing (n ∷ ns) = ap (λ (w : List Name). n ∷ w) (append_nothing ns)
+defines_names names Nothing text front h = append-nil names
 defines_names names (Runs i m) text front h = rw h.0 refl
 defines_names names (Words vs) text front h = absurd h
 defines_names names (Aligns size most) text front h = absurd h
@@ -128,16 +126,13 @@ plain_line n b l e said named =
       defines = elim named [ inl none ↦ inl (defines ∙ sym same ∙ none) | inr some ↦ inr (some.0, some.1, defines ∙ sym same ∙ some.2) ];
     }
 
-heads : {X : Type 0} {x y : X} {xs ys : List X} → x ∷ xs ≡ y ∷ ys → (x ≡ y) × (xs ≡ ys)
-heads e = (cc, cc)
-
 plain_lines : (n : ℕ) (rs : List Read) (ls : List Line) → ArePlainReads n rs → map (λ r. r.line) rs ≡ map bare ls → AreSimple ls × DefineFirst n ls
 unfolding ArePlainReads DefineFirst
 plain_lines n [] [] plain same = (tt, tt)
 plain_lines n [] (l ∷ ls) plain same = absurd (cc)
 plain_lines n (r ∷ rs) [] plain same = absurd (cc)
 plain_lines n (r ∷ rs) (l ∷ ls) plain same =
-    let h = heads same in
+    let h = same_parts same in
     let first = plain_line n r.line l h.0 plain.0.said plain.0.named in
     let rest = plain_lines (n + 1) rs ls plain.1 h.1 in
     ((first.simple, rest.0), (first.defines, rest.1))
@@ -197,10 +192,7 @@ pub never_read : (text : List ℕ) → reading text ≡ None → HoldsInstr text
 never_read text none h = absurd (let e = sym none ∙ text_reads text h in cc)
 
 same_shown : (text : List ℕ) (s : Shown) (h : HoldsInstr text) → reading text ≡ Some s → s ≡ shown_of h.instr None
-same_shown text s h e = some_same (sym e ∙ text_reads text h)
-  where
-    some_same : {s t : Shown} → (let o : Option Shown = Some s in o) ≡ Some t → s ≡ t
-    some_same e = cc
+same_shown text s h e = same_Some s (shown_of h.instr None) (sym e ∙ text_reads text h)
 
 pub never_other : (text : List ℕ) (i : Instr) (s : Shown) → reading text ≡ Some s → s.made ≡ made_of i → is_straight_instr i ≡ false → HoldsInstr text → ⊥
 never_other text i s e made other h =

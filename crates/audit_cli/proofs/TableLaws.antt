@@ -3,10 +3,8 @@ use Rattle.std.proofs.Common.{◌≡◌, ◌∙◌, ℕ, ◌≤◌, List, [], �
 use Rattle.std.proofs.lemmas.Option.{same_Some}
 use Rattle.audit_cli.specs.declared.read_table.Next.TheVariants.{Peep, Nothing}
 use Rattle.audit_cli.specs.FirstTable.{table_lines, IsTable, Begins, Stops, IsBadTableLine, TablesAreDetermined}
+use Rattle.audit_cli.proofs.Lists.{same_parts}
 use Rattle.audit_cli.proofs.TableLemmas.{run, reads}
-
-heads : {X : Type 0} (x y : X) (xs ys : List X) → x ∷ xs ≡ y ∷ ys → (x ≡ y) × (xs ≡ ys)
-heads x y xs ys e = (cc, cc)
 
 -- texts that are alike as lines are alike
 same_texts : (ts us : List (List ℕ)) → ◌≡◌ {A = List (Option (List ℕ))} (map Some ts) (map Some us) → ts ≡ us
@@ -14,7 +12,7 @@ same_texts [] [] e = refl
 same_texts [] (u ∷ us) e = absurd cc
 same_texts (t ∷ ts) [] e = absurd cc
 same_texts (t ∷ ts) (u ∷ us) e =
-    let parts = heads (Some t) (Some u) (map Some ts) (map Some us) e in
+    let parts = same_parts e in
     let first = same_Some t u parts.0 in
     let rest = same_texts ts us parts.1 in
     cc
@@ -45,7 +43,7 @@ no_longer seen [] (u ∷ us) rest other e stops b =
     absurd (never (begins_more seen u us b))
 no_longer seen (t ∷ ts) [] rest other e stops b = omega arith
 no_longer seen (t ∷ ts) (u ∷ us) rest other e stops b =
-    let parts = heads (Some t) (Some u) (map Some ts ++ rest) (map Some us ++ other) e in
+    let parts = same_parts e in
     let first : u ≡ t = sym (same_Some t u parts.0) in
     let S : List (List ℕ) → Type 0 = λ w. Stops w rest in
     let next = no_longer (seen ++ t ∷ []) ts us rest other parts.1 (subst S (sym (append_assoc seen (t ∷ []) ts)) stops)
@@ -65,7 +63,7 @@ none_left [] [] rest e h = (e, refl)
 none_left [] (u ∷ us) rest e h = absurd (omega arith)
 none_left (t ∷ ts) [] rest e h = absurd cc
 none_left (t ∷ ts) (u ∷ us) rest e h =
-    let parts = heads (Some t) (Some u) (map Some ts ++ rest) (map Some us) e in
+    let parts = same_parts e in
     let first : u ≡ t = sym (same_Some t u parts.0) in
     let next = none_left ts us rest parts.1 (omega arith) in
     let tails : us ≡ ts = next.1 in

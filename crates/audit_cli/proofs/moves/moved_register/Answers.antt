@@ -2,26 +2,16 @@ use Rattle.std.proofs.Common.{◌≡◌, ◌<◌, ◌≤◌, Option, Some, None,
 use Rattle.std.specs.Prelude.{IfSome, IfNone, IsSome}
 use Rattle.thumb_instr.specs.declared.instr.Instr.{Instr}
 use Rattle.thumb_instr.specs.declared.instr.Instr.TheVariants.{Mov}
-use Rattle.thumb_instr.proofs.Registers.{widened, widened_number}
+use Rattle.thumb_instr.proofs.Registers.{widened, widened_number, same_number}
 use Rattle.thumb_model.specs.Rewrite.{Low, Reg}
 use Rattle.audit_cli.specs.Moves.{self_move}
 use Rattle.audit_cli.proofs.moves.moved_register.Goals as goal
-use mathlib.Core.HLevel.{is_prop→PathP}
-use native.Mathlib.Bridge.{le_prop}
-
--- registers of one number are one
-same_register : (a b : Reg) → a.number ≡ b.number → a ≡ b
-same_register a b e = λ i. record {
-  number = e i;
-  least = is_prop→PathP (λ j. 0 ≤ e j) (λ j. le_prop) a.least b.least i;
-  below = is_prop→PathP (λ j. e j < 15) (λ j. le_prop) a.below b.below i;
-}
 
 is_self_move : (o : Option Low) (instr : Instr) (target source : Reg) → instr ≡ Mov target source → target.number ≡ source.number → IfSome o (λ d. d.number ≡ target.number) → IfSome o (λ d. instr ≡ self_move d)
 is_self_move None instr target source e same h = h
 is_self_move (Some d) instr target source e same h =
-    let t : target ≡ widened d = same_register target (widened d) (sym h ∙ sym (widened_number d)) in
-    let s : source ≡ widened d = same_register source (widened d) (sym same ∙ sym h ∙ sym (widened_number d)) in
+    let t : target ≡ widened d = same_number target (widened d) (sym h ∙ sym (widened_number d)) in
+    let s : source ≡ widened d = same_number source (widened d) (sym same ∙ sym h ∙ sym (widened_number d)) in
     cc
 
 -- a high register is no low one

@@ -1,4 +1,4 @@
-use Rattle.std.proofs.Common.{◌≡◌, ◌∙◌, ◌↔◌, [], ◌==◌, ℕ, List, length, Bool, false, refl, sym, ap, arith, true≢false}
+use Rattle.std.proofs.Common.{◌≡◌, ◌∙◌, ◌↔◌, [], ◌==◌, ℕ, List, length, Bool, false, refl, sym, ap, true≢false}
 use Rattle.std.specs.Prelude.{Result, Ok, Err, IsTrue, IfOk}
 use Rattle.audit_cli.specs.Straight.{HoldsInstr, IsLabel, MayStand}
 use Rattle.audit_cli.proofs.StraightLemmas.{label_stands, instr_stands, stands_alone}
