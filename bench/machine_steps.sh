@@ -6,7 +6,8 @@ turns=${1:-5}
 take_crates label_layout thumb_machine
 proved=$(build_proved machine_steps "$top/bench/machine_steps/proved.rs" listing_parser label_layout thumb_machine anyhow)
 plain=$(build_plain "$top/bench/machine_steps/plain.rs")
+looping() { "$1" < "$top/bench/machine_steps/loop.s"; }
 plain_time=$(least "$turns" "$work/plain.txt" "$plain")
-proved_time=$(least "$turns" "$work/proved.txt" "$proved")
+proved_time=$(least "$turns" "$work/proved.txt" looping "$proved")
 cmp "$work/proved.txt" "$work/plain.txt"
 print_times "a million steps" ms "$proved_time" "$plain_time"

@@ -1,38 +1,14 @@
-//! Times the proved machine on a loop. In Rattle; machine_steps.sh builds it.
+//! Times a million steps of the proved machine on the listing that standard input gives. In Rattle; machine_steps.sh builds it.
 #![tactic(auto)]
 
 use label_layout::layout;
 use listing_parser::parse;
 use std::alloc::Global;
+use std::io::Read;
 use std::time::Instant;
 use thumb_machine::{Answers, Bytes, Event, Machine, Naming, Stage, State};
 
 const STEPS: u32 = 1_000_000;
-
-/// A loop of loads, stores and branches over sixteen instructions.
-const LOOP: &[u8] = b"f:
-\tldr\tr0, .L4
-\tmovs\tr1, #0
-.L2:
-\tldr\tr2, [r0]
-\tadds\tr2, r2, #1
-\tstr\tr2, [r0]
-\tuxtb\tr3, r2
-\tldrb\tr4, [r0, r3]
-\tadds\tr4, r4, r2
-\tstrb\tr4, [r0, r3]
-\tstrh\tr4, [r0, #6]
-\tldrh\tr5, [r0, #6]
-\tcmp\tr5, #200
-\tbhi\t.L3
-\tstr\tr5, [r0, #8]
-\tadds\tr1, r1, #1
-.L3:
-\tb\t.L2
-\t.align\t2
-.L4:
-\t.word\t0x20000000
-";
 
 /// Zeros, sp 0x20001000 and lr 0xffffffff, at the place 0.
 fn start(alloc: Global) -> State {
@@ -68,7 +44,9 @@ fn digest_of(events: &[Event]) -> u32 {
 
 fn main(rt: HostRuntime) -> anyhow::Result<()> {
     let alloc = rt.alloc();
-    let listing = parse(alloc, LOOP)?;
+    let mut text = Vec::new(alloc);
+    rt.stdin().read_to_end(&mut text)?;
+    let listing = parse(alloc, &text)?;
     let laid = layout(alloc, &listing, 0)?;
     let naming = Naming::laid(alloc, &listing, &laid)?;
     let mut machine = Machine::new(alloc, &listing, &naming, &start(alloc))?;
