@@ -42,22 +42,33 @@ fn digest_of(events: &[Event]) -> u32 {
     digest
 }
 
-fn main(rt: HostRuntime) -> anyhow::Result<()> {
-    let alloc = rt.alloc();
-    let mut text = Vec::new(alloc);
-    rt.stdin().read_to_end(&mut text)?;
-    let listing = parse(alloc, &text)?;
+/// The machine of a listing that lies at 0.
+fn machine_of(alloc: Global, text: &[u8]) -> anyhow::Result<Machine> {
+    let listing = parse(alloc, text)?;
     let laid = layout(alloc, &listing, 0)?;
     let naming = Naming::laid(alloc, &listing, &laid)?;
-    let mut machine = Machine::new(alloc, &listing, &naming, &start(alloc))?;
-    let mut answers = Answers::new(Vec::new(alloc));
-    let began = Instant::now(&rt)?;
-    let mut going = 0;
+    let machine = Machine::new(alloc, &listing, &naming, &start(alloc))?;
+    Ok(machine)
+}
+
+/// Takes the steps, and counts those after which the run goes on.
+fn count_going(machine: &mut Machine, answers: &mut Answers) -> anyhow::Result<u32> {
+    let mut going = 0u32;
     for _ in 0..STEPS {
-        if machine.step(&mut answers)? == Stage::Going {
-            going += 1;
+        if machine.step(answers)? == Stage::Going {
+            going = going.wrapping_add(1);
         }
     }
+    Ok(going)
+}
+
+fn main(rt: HostRuntime) -> anyhow::Result<()> {
+    let mut text = Vec::new(rt.alloc());
+    rt.stdin().read_to_end(&mut text)?;
+    let mut machine = machine_of(rt.alloc(), &text)?;
+    let mut answers = Answers::new(Vec::new(rt.alloc()));
+    let began = Instant::now(&rt)?;
+    let going = count_going(&mut machine, &mut answers)?;
     let milliseconds = began.elapsed(&rt)?.as_millis();
     let digest = digest_of(machine.events());
     println!(rt; "{going} {} {digest:08x}", machine.events().len())?;
