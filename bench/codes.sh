@@ -3,12 +3,12 @@
 # Use: bench/codes.sh [TURNS]
 . "$(dirname "$0")/common.sh"
 turns=${1:-1000}
-with_turns() { sed "s/TURNS: u32 = .*;/TURNS: u32 = $turns;/" "$1"; }
+with_sum() { cat "$1" "$top/bench/codes/sum.rs" | sed "s/TURNS: u32 = .*;/TURNS: u32 = $turns;/"; }
 take_crates thumb_table
-with_turns "$top/bench/codes/proved.rs" > "$work/proved.rs"
+with_sum "$top/bench/codes/proved.rs" > "$work/proved.rs"
 proved=$(build_proved codes "$work/proved.rs" thumb_instr thumb_table)
 python3 "$top/bench/stripped.py" "$work/plain.rs" thumb_instr thumb_table -- seq laws items accesses window
-with_turns "$top/bench/codes/plain.rs" >> "$work/plain.rs"
+with_sum "$top/bench/codes/plain.rs" >> "$work/plain.rs"
 plain=$(build_plain "$work/plain.rs")
 proved_time=$(($(least 1 "$work/proved.txt" clocked "$proved") / 1000))
 plain_time=$(($(least 1 "$work/plain.txt" clocked "$plain") / 1000))

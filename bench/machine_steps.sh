@@ -4,8 +4,9 @@
 . "$(dirname "$0")/common.sh"
 turns=${1:-5}
 take_crates label_layout thumb_machine
-proved=$(build_proved machine_steps "$top/bench/machine_steps/proved.rs" listing_parser label_layout thumb_machine anyhow)
-plain=$(build_plain "$top/bench/machine_steps/plain.rs")
+with_digest() { cat "$top/bench/machine_steps/$1" "$top/bench/machine_steps/digest.rs" > "$work/$1"; echo "$work/$1"; }
+proved=$(build_proved machine_steps "$(with_digest proved.rs)" listing_parser label_layout thumb_machine anyhow)
+plain=$(build_plain "$(with_digest plain.rs)")
 looping() { "$1" < "$top/bench/machine_steps/loop.s"; }
 plain_time=$(least "$turns" "$work/plain.txt" "$plain")
 proved_time=$(least "$turns" "$work/proved.txt" looping "$proved")

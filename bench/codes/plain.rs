@@ -1,19 +1,6 @@
-// The same in plain Rust, behind the crates' code with its contracts taken out.
+// The same in plain Rust, behind the crates' code with its contracts taken out. codes.sh puts sum.rs behind it.
 use thumb_table::{Code, decode, encode};
 
-const TURNS: u32 = 1000;
-
 fn main() {
-    let mut sum = 0u64;
-    for _ in 0..TURNS {
-        for first in 0..=65535u16 {
-            if let Some(instr) = decode(first, 0xF800) {
-                sum = sum.wrapping_add(match encode(&instr) {
-                    Code::One(a) => a as u64,
-                    Code::Two(a, b) => a as u64 + b as u64,
-                });
-            }
-        }
-    }
-    println!("{sum}");
+    println!("{}", sum_of_codes());
 }

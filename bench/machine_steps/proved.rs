@@ -1,4 +1,4 @@
-//! Times a million steps of the proved machine on the listing that standard input gives. In Rattle; machine_steps.sh builds it.
+//! Times a million steps of the proved machine on the listing that standard input gives. In Rattle; machine_steps.sh puts digest.rs behind it and builds it.
 #![tactic(auto)]
 
 use label_layout::layout;
@@ -20,26 +20,6 @@ fn start(alloc: Global) -> State {
         bytes: Bytes::new(Vec::new(alloc)),
         place: 0,
     }
-}
-
-fn mixed(digest: u32, word: u32) -> u32 {
-    (digest ^ word).wrapping_mul(16_777_619)
-}
-
-fn digest_of(events: &[Event]) -> u32 {
-    let mut digest = 2_166_136_261;
-    for event in events {
-        match event {
-            Event::Load { address, size } => digest = mixed(mixed(digest, *address), *size),
-            Event::Store {
-                address,
-                size,
-                value,
-            } => digest = mixed(mixed(mixed(digest, *address), *size), *value),
-            _ => digest = mixed(digest, 0),
-        }
-    }
-    digest
 }
 
 /// The machine of a listing that lies at 0.
