@@ -1,5 +1,5 @@
 -- Labels by name.
-use Rattle.std.proofs.Common.{◌≡◌, ◌∙◌, ◌⊎◌, inl, inr, ℕ, zero, suc, ◌+◌, ◌<◌, ◌||◌, Bool, true, false, List, [], ◌∷◌, ◌++◌, length, take, drop, map, get_or, is_some, refl, sym, ap, arith, true≢false, subst, Option, Some, None, if◌then◌else◌}
+use Rattle.std.proofs.Common.{◌≡◌, ◌∙◌, ◌⊎◌, inl, inr, ℕ, zero, suc, ◌+◌, ◌<◌, ◌||◌, Bool, true, false, List, [], ◌∷◌, ◌++◌, length, take, drop, get_or, is_some, refl, sym, ap, arith, true≢false, subst, Option, Some, None, if◌then◌else◌}
 use Rattle.std.specs.Prelude.{slice_get}
 use Rattle.std.specs.Str.{bytes_eq}
 use Rattle.std.proofs.lemmas.Bool.{cases_Bool}
@@ -189,7 +189,7 @@ no_label_from name n (l ∷ ls) e = elim (cases_Bool (is_among name l.names)) [
   | inr h ↦ rw h (no_label_from name (n + 1) ls (rw h at e))
 ]
 
-label_from_line : (name : Name) (n m k : ℕ) (ls : List Line) → label_line name n ls ≡ Some m → n + k ≡ m → from_label name ls ≡ drop k ls
+pub label_from_line : (name : Name) (n m k : ℕ) (ls : List Line) → label_line name n ls ≡ Some m → n + k ≡ m → from_label name ls ≡ drop k ls
 label_from_line name n m k [] e h = absurd (let bad : None ≡ Some m = e in cc)
 label_from_line name n m zero (l ∷ ls) e h = elim (cases_Bool (is_among name l.names)) [
   | inl a ↦ rw a refl
@@ -199,11 +199,3 @@ label_from_line name n m (suc k) (l ∷ ls) e h = elim (cases_Bool (is_among nam
   | inl a ↦ absurd (let same : Some n ≡ Some m = rw a at e in let is : n ≡ m = cc in omega arith)
   | inr a ↦ rw a (label_from_line name (n + 1) m k ls (rw a at e) (omega arith))
 ]
-
-map_drop : {A B : Type 0} (f : A → B) (k : ℕ) (xs : List A) → map f (drop k xs) ≡ drop k (map f xs)
-map_drop f zero xs = refl
-map_drop f (suc k) [] = refl
-map_drop f (suc k) (x ∷ xs) = map_drop f k xs
-
-pub from_line : {A : Type 0} (f : A → Line) (name : Name) (m : ℕ) (xs : List A) → label_line name 0 (map f xs) ≡ Some m → map f (drop m xs) ≡ from_label name (map f xs)
-from_line f name m xs e = map_drop f m xs ∙ sym (label_from_line name 0 m m (map f xs) e (omega arith))

@@ -17,3 +17,4 @@ pub mod OldLines
 pub mod ReplacedTargets
 pub mod ReplacedLines
 pub mod MadeLemmas
+pub mod RunLemmas

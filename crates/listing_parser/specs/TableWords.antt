@@ -22,6 +22,22 @@ abbrev pub passed_from : ℕ → List Line → List Passed
 passed_from places [] = []
 passed_from places (l ∷ ls) = record { places = places } ∷ passed_from (places + length (places_in l.statement)) ls
 
+-- of each line, how many words of data stand from it on, before an instruction or an alignment line
+abbrev pub words_on : Statement → ℕ → ℕ
+words_on Nothing behind = behind
+words_on (Runs i mention) behind = 0
+words_on (Words vs) behind = length vs + behind
+words_on (Aligns size most) behind = 0
+words_on (Sets name address) behind = behind
+
+abbrev pub words_from : List Line → ℕ
+words_from [] = 0
+words_from (l ∷ ls) = words_on l.statement (words_from ls)
+
+abbrev pub runs_from : List Line → List ℕ
+runs_from [] = []
+runs_from (l ∷ ls) = words_from (l ∷ ls) ∷ runs_from ls
+
 -- the first line, counted from n, that has the label
 abbrev pub label_line : Name → ℕ → List Line → Option ℕ
 label_line name n [] = None

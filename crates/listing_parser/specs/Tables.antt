@@ -4,7 +4,7 @@ use Rattle.std.specs.Map.{lookup}
 use Rattle.thumb_model.specs.Listing.{Name, Line, places_of}
 use Rattle.thumb_model.specs.Layout.{set_address}
 use Rattle.listing_parser.specs.declared.index.Index.{Index}
-use Rattle.listing_parser.specs.TableWords.{spots_from, passed_from, label_line, first_twice, is_key}
+use Rattle.listing_parser.specs.TableWords.{spots_from, passed_from, runs_from, label_line, first_twice, is_key}
 
 -- the tables are those of the lines
 pub record IsIndex (lines : List Line) (index : Index) : Type 0 where
@@ -12,5 +12,6 @@ pub record IsIndex (lines : List Line) (index : Index) : Type 0 where
   pub once : first_twice 1 [] lines ≡ None
   pub spots : index.spots.items ≡ spots_from 0 lines
   pub passed : index.passed.items ≡ passed_from 0 lines
+  pub runs : index.runs.items ≡ runs_from lines
   pub labels : (name : Name) → lookup (is_key name) index.labels.entries ≡ label_line name 0 lines
   pub addresses : (name : Name) → lookup (is_key name) index.addresses.entries ≡ set_address name lines

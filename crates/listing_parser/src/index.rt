@@ -1,12 +1,12 @@
 //! Tables by which places and names are found without a search.
-ghost use Rattle.std.specs.Prelude.{◌≡◌, ◌<◌, ◌^◌, ◌++◌, ℕ, Bool, List, None, Some, map, length, IfOk, OnOk, if◌then◌else◌};
+ghost use Rattle.std.specs.Prelude.{◌≡◌, ◌+◌, ◌<◌, ◌^◌, ◌++◌, ℕ, Bool, List, None, Some, map, length, IfOk, OnOk, if◌then◌else◌};
 ghost use Rattle.std.specs.Map.{lookup};
 ghost use Rattle.std.specs.Str.{bytes_eq};
 ghost use Rattle.thumb_syntax.specs.Registers.{or_else};
 ghost use Rattle.thumb_model.specs.Listing.{places_in, places_of};
 ghost use Rattle.thumb_model.specs.Layout.{is_among, set_address, set_in};
 ghost use Rattle.listing_parser.specs.Views.{line_view, statement_view};
-ghost use Rattle.listing_parser.specs.TableWords.{is_key, label_line, passed_from, spots_at, spots_from};
+ghost use Rattle.listing_parser.specs.TableWords.{is_key, label_line, passed_from, runs_from, spots_at, spots_from, words_on};
 
 use crate::errors::Memory;
 use crate::line::{Line, Statement};
@@ -36,6 +36,8 @@ pub struct Index {
     pub spots: Vec<Spot>,
     /// What stands before each line.
     pub passed: Vec<Passed>,
+    /// How many words of data stand from each line on, before an instruction or an alignment line.
+    pub runs: Vec<usize>,
     /// The index of the first line that has a label of the name.
     pub labels: IndexMap<Vec<u8>, usize>,
     /// The first address that is set for a name.
@@ -86,6 +88,36 @@ fn counts_before(alloc: Global, lines: &[Line]) -> Result<Vec<Passed>, AllocErro
         places += places_in(&line.statement);
     }
     Ok(passed)
+}
+
+/// How many words of data stand from a statement on, where `behind` stand from the next line on.
+fn words_on(statement: &Statement, behind: usize) -> usize
+    requires { length (places_in (statement_view statement.now)) + behind < 2 ^ 32 }
+    ensures { result ≡ words_on (statement_view statement.now) behind }
+{
+    match statement {
+        Statement::Nothing => behind,
+        Statement::Sets { .. } => behind,
+        Statement::Runs { .. } => 0,
+        Statement::Aligns { .. } => 0,
+        Statement::Words(values) => values.len() + behind,
+    }
+}
+
+/// How many words of data stand from each line on, before an instruction or an alignment line.
+fn runs(alloc: Global, lines: &[Line]) -> Result<Vec<usize>, AllocError>
+    requires { length (places_of (map line_view lines.now)) < 2 ^ 32 }
+    ensures { IfOk result (λ v. v.items ≡ runs_from (map line_view lines.now)) }
+{
+    let mut runs = vec![in alloc; 0; lines.len()]?;
+    let mut behind = 0;
+    let mut at = lines.len();
+    while at > 0 {
+        at -= 1;
+        behind = words_on(&lines[at].statement, behind);
+        runs[at] = behind;
+    }
+    Ok(runs)
 }
 
 /// Adds a value under a name, where it has none.
@@ -171,11 +203,13 @@ impl Index {
     {
         let spots = spots(alloc, lines)?;
         let passed = counts_before(alloc, lines)?;
+        let runs = runs(alloc, lines)?;
         let labels = labels(alloc, lines)?;
         let addresses = addresses(alloc, lines)?;
         Ok(Index {
             spots,
             passed,
+            runs,
             labels,
             addresses,
         })

@@ -65,7 +65,8 @@ impl Listing {
     ghost use Rattle.std.specs.List.{list_all};
     ghost use Rattle.listing_parser.specs.Replacing.{names_no_label, own_line};
     ghost use Rattle.listing_parser.specs.Views.{line_view, place_view};
-    ghost use Rattle.listing_parser.specs.TableWords.{first_twice, label_line};
+    ghost use Rattle.listing_parser.specs.TableWords.{first_twice, label_line, words_from};
+    ghost use Rattle.listing_parser.specs.Targets.{from_label};
 
     /// The listing of lines that define no name twice and have fewer than 2^32 places.
     pub(crate) fn of(alloc: Global, lines: Vec<Line>) -> Result<Listing, Memory>
@@ -106,6 +107,16 @@ impl Listing {
         ensures { result ≡ label_line name.now 0 self.now }
     {
         self.index.labels.get(name).copied()
+    }
+
+    /// How many words of data stand from the label of the name on, before an instruction or an alignment line. 0 where there is no such label.
+    pub fn words_from(&self, name: &[u8]) -> usize
+        ensures { result ≡ words_from (from_label name.now self.now) }
+    {
+        match self.label_line(name) {
+            None => 0,
+            Some(line) => self.index.runs[line],
+        }
     }
 
     /// The place that the label of the name stands before, be it an instruction, a data word or the end.

@@ -2,7 +2,7 @@
 ghost use Rattle.std.specs.Prelude.{◌≡◌, ◌||◌, ◌++◌, ℕ, List, true, false, map, IfOk, OnOk};
 ghost use Rattle.std.specs.Str.{bytes_eq};
 ghost use Rattle.thumb_model.specs.Layout.{is_among};
-ghost use Rattle.listing_parser.specs.Views.{line_view, mention_view, statement_view, value_view};
+ghost use Rattle.listing_parser.specs.Views.{mention_view, statement_view, value_view};
 ghost use Rattle.listing_parser.specs.ToldView.{mark_view, read_view};
 ghost use Rattle.listing_parser.specs.Views.{names_view};
 ghost use Rattle.listing_parser.specs.Targets.{are_words_of, first_target, from_label, functions, is_aimed, is_aimed_at, is_code_label, is_label, is_literal, is_next, is_on_target, is_word_of, marked_by_name, marked_first, reaches, still_waits};
@@ -94,39 +94,11 @@ fn is_function(functions: &IndexSet<Vec<u8>>, name: &[u8]) -> bool
     functions.contains(name)
 }
 
-/// Whether the first `words` + 1 places of the lines are words of data, with no alignment line before the last of them.
-fn reaches(lines: &[Line], words: usize) -> bool
-    ensures { result ≡ reaches (map line_view lines.now) words }
+/// Whether so many words of data and one more stand from the name's label on, with no alignment line before the last of them.
+fn reaches(listing: &Listing, name: &[u8], words: usize) -> bool
+    ensures { result ≡ reaches (from_label name.now listing.now) words }
 {
-    let mut left = words;
-    for line in lines {
-        match &line.statement {
-            Statement::Nothing => continue,
-            Statement::Sets { .. } => continue,
-            Statement::Runs { .. } => return false,
-            Statement::Aligns { .. } => return false,
-            Statement::Words(values) => {
-                if left < values.len() {
-                    return true;
-                }
-                left -= values.len();
-            }
-        }
-    }
-    false
-}
-
-/// The lines from the name's label on.
-fn from_label<'a>(listing: &'a Listing, name: &[u8]) -> &'a [Line]
-    ensures { map line_view result.now ≡ from_label name.now listing.now }
-{
-    match listing.label_line(name) {
-        None => &[],
-        Some(line) => {
-            let (_, after) = listing.lines().split_at(line);
-            after
-        }
-    }
+    words < listing.words_from(name)
 }
 
 fn is_literal(listing: &Listing, mention: &Mention) -> bool
@@ -134,10 +106,7 @@ fn is_literal(listing: &Listing, mention: &Mention) -> bool
 {
     mention.plus % 4 == 0
         && mention.plus <= 1020
-        && reaches(
-            from_label(listing, &mention.name),
-            (mention.plus / 4) as usize,
-        )
+        && reaches(listing, &mention.name, (mention.plus / 4) as usize)
 }
 
 fn is_code_label(listing: &Listing, name: &[u8]) -> bool
