@@ -1,0 +1,15 @@
+pub mod Lists
+pub mod Laid
+pub mod Chains
+pub mod Held
+pub mod Pushed
+pub mod Watched
+pub mod Unwatched
+pub mod Views
+pub mod Dropped
+pub mod Steps
+pub mod Moves
+pub mod Watchers
+pub mod Copies
+pub mod Walks
+pub mod Followed
