@@ -1,0 +1,176 @@
+ghost use Rattle.std.specs.Prelude.{◌≡◌, ◌≢◌, ℕ, ◌+◌, ◌-◌, ◌<◌, ◌≤◌, ◌⊎◌, List, [], ◌∷◌, ◌++◌, length, take, Contains, All, Any, IfOk, OnOk, IfSome, slice_get, Option, Some, None, true, false};
+ghost use Rattle.clause_model.specs.Literals.{negated};
+ghost use Rattle.clause_model.specs.Clauses.{IsFalse, AllFalse};
+ghost use Rattle.clause_arena.specs.Contents.{Content, HasClause, HasLiteral, Watches, IsWhole, literals_of, IsBetween, IsAfter};
+ghost use Rattle.unit_propagation.specs.declared.watching.Outcome.TheVariants.{Kept, Moved, Conflict};
+ghost use Rattle.unit_propagation.specs.Watching.{IsAttached, IsKnown, IsOtherTrue, Rule, RuleUpTo, IsLater, IsMoved, Due};
+
+use clause_arena::{Arena, Memory, Ref};
+use clause_model::{Assignment, Literal};
+
+/// The literal that the other slot watches.
+fn other_of(arena: &Arena, at: Ref, slot: u8) -> u32
+    requires clause { HasClause arena.now at }
+    requires slot { slot < 2 }
+    requires attached { IsAttached arena.now }
+    requires watches { (literal : ℕ) × Watches arena.now at slot literal }
+    ensures { Watches arena.now at (1 - slot) result }
+{
+    match arena.watched(at, 1 - slot) {
+        Some(literal) => literal,
+        None => 0,
+    }
+}
+
+/// What comes of a watch whose literal has become false.
+enum Outcome {
+    /// It stays, and the other watched literal is true.
+    Kept,
+    /// Its slot watches another literal.
+    Moved,
+    /// The clause is false.
+    Conflict,
+}
+
+/// Whether a literal is another one, and isn't false.
+fn is_free(literal: u32, other: u32, assignment: &Assignment) -> bool
+    ensures free { result ≡ true → (literal ≢ other) × (IsFalse assignment.now literal → ⊥) }
+    ensures bound { result ≡ false → (literal ≡ other) ⊎ IsFalse assignment.now literal }
+{
+    if literal == other {
+        return false;
+    }
+    !assignment.is_true(Literal::from_code(literal).negated())
+}
+
+/// A literal of a clause, but for one, that isn't false.
+fn find_free(literals: &[u32], other: u32, assignment: &Assignment) -> Option<u32>
+    ensures some { IfSome result (λ l. Contains literals.now l × (l ≢ other) × (IsFalse assignment.now l → ⊥)) }
+    ensures none { result ≡ None → All (λ l. (l ≡ other) ⊎ IsFalse assignment.now l) literals.now }
+{
+    for literal in literals {
+        if is_free(*literal, other, assignment) {
+            return Some(*literal);
+        }
+    }
+    None
+}
+
+/// The watch after another one.
+fn following(arena: &Arena, watch: (Ref, u8)) -> Option<(Ref, u8)>
+    requires { (literal : ℕ) × Watches arena.now watch.0 watch.1 literal }
+    ensures { (literal : ℕ) (earlier later : List (ℕ × ℕ)) → IsBetween arena.now literal earlier watch later → result ≡ slice_get later 0 }
+{
+    let (at, slot) = watch;
+    arena.next_watch(at, slot)
+}
+
+/// Keeps a watch of a false literal where the other one is true, moves it where a literal of the
+/// clause isn't false, and makes the other one true where it can.
+fn visit(
+    arena: &mut Arena,
+    assignment: &mut Assignment,
+    reasons: &mut Vec<Option<Ref>>,
+    falsified: u32,
+    before: Option<(Ref, u8)>,
+    watch: (Ref, u8),
+) -> Result<Outcome, Memory>
+    requires whole { IsWhole arena.old }
+    requires aligned { length reasons.old.items ≡ length assignment.old }
+    requires attached { IsAttached arena.old }
+    requires known { IsKnown arena.old }
+    requires falsified { IsFalse assignment.old falsified }
+    requires after { (seen : List (ℕ × ℕ)) × ((rest : List (ℕ × ℕ)) × IsAfter arena.old before watch falsified seen rest) }
+    ensures whole { IsWhole arena.new }
+    ensures later { OnOk result (IsLater arena.old assignment.old reasons.old.items arena.new assignment.new reasons.new.items) }
+    ensures kept { IfOk result (λ v. v ≡ Kept → (arena.new ≡ arena.old) × IsOtherTrue arena.new assignment.new watch.0 watch.1) }
+    ensures moved { IfOk result (λ v. v ≡ Moved → (assignment.new ≡ assignment.old) × IsMoved arena.old arena.new assignment.old falsified before watch) }
+    ensures conflict { IfOk result (λ v. v ≡ Conflict → (arena.new ≡ arena.old) × HasClause arena.new watch.0 × AllFalse assignment.new (literals_of arena.new watch.0)) }
+{
+    let (at, slot) = watch;
+    let other = other_of(arena, at, slot);
+    let literal = Literal::from_code(other);
+    if assignment.is_true(literal) {
+        return Ok(Outcome::Kept);
+    }
+    match find_free(arena.lits(at), other, assignment) {
+        Some(free) => {
+            let _trues = assignment.len();
+            arena.move_watch(before, at, slot, free);
+            let _literals = arena.literals();
+            Ok(Outcome::Moved)
+        }
+        None => {
+            if assignment.is_true(literal.negated()) {
+                return Ok(Outcome::Conflict);
+            }
+            assignment.set(literal)?;
+            reasons.push(Some(at))?;
+            Ok(Outcome::Kept)
+        }
+    }
+}
+
+/// Goes along the chain of a literal that has become false; the answer is a false clause.
+fn walk(
+    arena: &mut Arena,
+    assignment: &mut Assignment,
+    reasons: &mut Vec<Option<Ref>>,
+    falsified: u32,
+) -> Result<Option<Ref>, Memory>
+    requires whole { IsWhole arena.old }
+    requires aligned { length reasons.old.items ≡ length assignment.old }
+    requires attached { IsAttached arena.old }
+    requires known { IsKnown arena.old }
+    requires literal { HasLiteral arena.old falsified }
+    requires falsified { IsFalse assignment.old falsified }
+    ensures whole { IsWhole arena.new }
+    ensures later { OnOk result (IsLater arena.old assignment.old reasons.old.items arena.new assignment.new reasons.new.items) }
+    ensures done { IfOk result (λ conflict. conflict ≡ None → (p : List ℕ) → ((k : ℕ) → Contains p k → Contains assignment.old k) → ((at slot literal : ℕ) → Watches arena.old at slot literal → Contains p (negated literal) → (literal ≡ falsified) ⊎ IsOtherTrue arena.old assignment.old at slot) → RuleUpTo arena.new p assignment.new) }
+    ensures conflict { IfOk result (λ conflict. (at : ℕ) → conflict ≡ Some at → HasClause arena.new at × AllFalse assignment.new (literals_of arena.new at)) }
+{
+    let mut before: Option<(Ref, u8)> = None;
+    let mut next = arena.first_watch(falsified);
+    while let Some(watch) = next {
+        let (at, slot) = watch;
+        let last = before;
+        next = following(arena, (at, slot));
+        match visit(arena, assignment, reasons, falsified, last, (at, slot))? {
+            Outcome::Kept => before = Some((at, slot)),
+            Outcome::Moved => (),
+            Outcome::Conflict => return Ok(Some(at)),
+        }
+    }
+    Ok(None)
+}
+
+/// Makes true what follows by unit clauses, from a place of the assignment on, and notes beside each
+/// literal the clause that it follows by; the answer is a false clause, if there is one.
+pub fn propagate(
+    arena: &mut Arena,
+    assignment: &mut Assignment,
+    reasons: &mut Vec<Option<Ref>>,
+    from: usize,
+) -> Result<Option<Ref>, Memory>
+    requires aligned { length reasons.old.items ≡ length assignment.old }
+    requires attached { IsAttached arena.old }
+    requires known { IsKnown arena.old }
+    requires literals { All (HasLiteral arena.old) assignment.old }
+    requires from { from ≤ length assignment.old }
+    requires rule { RuleUpTo arena.old (take from assignment.old) assignment.old }
+    ensures later { OnOk result (IsLater arena.old assignment.old reasons.old.items arena.new assignment.new reasons.new.items) }
+    ensures done { IfOk result (λ conflict. conflict ≡ None → Rule arena.new assignment.new) }
+    ensures conflict { IfOk result (λ conflict. (at : ℕ) → conflict ≡ Some at → HasClause arena.new at × AllFalse assignment.new (literals_of arena.new at)) }
+{
+    let mut head = from;
+    while head < assignment.len() {
+        let _count = arena.literals();
+        let falsified = assignment.literals()[head].negated();
+        head += 1;
+        match walk(arena, assignment, reasons, falsified.code())? {
+            Some(at) => return Ok(Some(at)),
+            None => (),
+        }
+    }
+    Ok(None)
+}
