@@ -8,7 +8,8 @@ use Rattle.std.proofs.lemmas.Option.{slice_get_within}
 use Rattle.thumb_instr.specs.declared.instr.Instr.{Instr}
 use Rattle.thumb_model.specs.Layout.{Layable, fault_at}
 use Rattle.thumb_model.specs.Listing.{Name, Statement, Nothing, Runs, Words, Aligns, Sets, Line, Mention, Place, plain, places_in, places_of, labels_at, labels_from, code_of}
-use Rattle.thumb_model.specs.Rewrite.{Low, Rule, Applies}
+use Rattle.thumb_instr.specs.Renaming.{Low}
+use Rattle.thumb_model.specs.Rewrite.{Rule, Applies}
 use Rattle.thumb_model.specs.Rewritten.{Replacement, AppliesIn, IsFirst, NoneApplies, AreRewritten, lines_after, lines_after_rule, left_length, left_length_of}
 use Rattle.thumb_model.proofs.Lists.{get_front, get_back}
 use Rattle.audit_cli.specs.declared.moves.Used.{Used}

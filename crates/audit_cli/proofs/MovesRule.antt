@@ -8,7 +8,8 @@ use Rattle.thumb_instr.specs.declared.instr.Instr.TheVariants as instr
 use Rattle.thumb_instr.specs.Window.{byte_sum, byte_of}
 use Rattle.thumb_model.specs.Items.{Values, one_of}
 use Rattle.thumb_model.specs.Listing.{Place, plain, Code, is_code, is_op_place}
-use Rattle.thumb_model.specs.Rewrite.{Low, Rule, IsSoundRule, AreSound, Applies, item_under, moved, renamed, normalised}
+use Rattle.thumb_instr.specs.Renaming.{Low, item_under, renamed}
+use Rattle.thumb_model.specs.Rewrite.{Rule, IsSoundRule, AreSound, Applies, moved, normalised}
 use Rattle.thumb_model.proofs.Lists.{get_drop, get_take, take_all, length_drop}
 use Rattle.thumb_model.proofs.Small.{live_small}
 use Rattle.audit_cli.specs.Moves.{r0, self_move, move_rule, moves_table}

@@ -6,7 +6,8 @@ use Rattle.std.proofs.lemmas.List.{length-map}
 use Rattle.thumb_instr.specs.declared.instr.Instr.{Instr}
 use Rattle.ascii_scan.specs.Lines.{lines_of}
 use Rattle.thumb_model.specs.Listing.{Line, Place, plain, places_of, code_of, is_op_place}
-use Rattle.thumb_model.specs.Rewrite.{Rule, Applies, renamed}
+use Rattle.thumb_instr.specs.Renaming.{renamed}
+use Rattle.thumb_model.specs.Rewrite.{Rule, Applies}
 use Rattle.thumb_model.specs.Rewritten.{Replacement, AppliesIn, AreRewritten, lines_after, lines_after_rule}
 use Rattle.thumb_model.proofs.Lists.{get_drop, get_take}
 use Rattle.thumb_model.proofs.LinesKept.{fewer_lines, one_line_keeps}

@@ -4,8 +4,8 @@ use Rattle.std.proofs.Common.{lit<, lit≤}
 use Rattle.audit_cli.specs.declared.moves.Used.{Used}
 use Rattle.thumb_instr.specs.declared.instr.Instr.{Instr}
 use Rattle.thumb_instr.specs.declared.instr.Instr.TheVariants.{Mov}
-use Rattle.thumb_instr.proofs.Registers.{widened}
-use Rattle.thumb_model.specs.Rewrite.{Low, Reg, Rule}
+use Rattle.thumb_instr.specs.Renaming.{widened, Low, Reg}
+use Rattle.thumb_model.specs.Rewrite.{Rule}
 use Rattle.thumb_model.specs.Rewritten.{Setting, Replacement}
 
 -- r0

@@ -2,7 +2,7 @@ ghost use Rattle.std.specs.Prelude.{◌≡◌, ◌<◌, ◌||◌, List, ℕ, len
 ghost use Rattle.thumb_instr.specs.declared.instr.Instr.{Instr};
 ghost use Rattle.listing_parser.specs.Views.{line_view};
 ghost use Rattle.thumb_model.specs.Listing.{places_of};
-ghost use Rattle.thumb_model.specs.Rewrite.{Low};
+ghost use Rattle.thumb_instr.specs.Renaming.{Low};
 ghost use Rattle.thumb_model.specs.Rewritten.{AreRewritten};
 ghost use Rattle.audit_cli.specs.Moves.{self_move, first_setting, used_view};
 ghost use Rattle.audit_cli.specs.Simple.{AreSimple, has_name};

@@ -1,5 +1,5 @@
 -- Registers and numbers of a range: a low register as a register, and that those of one number are one.
-use Rattle.std.proofs.Common.{refl, Option, Some, None, ◌≡◌, ◌≢◌, ℕ, ◌<◌, ◌≤◌, ◌*◌, ◌%◌, ◌/◌, ◌^◌, arith}
+use Rattle.std.proofs.Common.{refl, ◌≡◌, ◌≢◌, ℕ, ◌<◌, ◌≤◌, ◌*◌, ◌%◌, ◌/◌, ◌^◌}
 use mathlib.Core.HLevel.{is_prop→PathP}
 use native.Mathlib.Bridge.{le_prop}
 use Rattle.std.proofs.Math.Nat.{ℕ_set}
@@ -9,32 +9,12 @@ use Rattle.thumb_instr.specs.declared.distance.Distance.{Distance}
 use Rattle.thumb_instr.specs.declared.within.NotBothSp.{NotBothSp}
 use Rattle.thumb_instr.specs.declared.within.NotBothLow.{NotBothLow}
 use Rattle.thumb_instr.specs.declared.within.Stored.{Stored}
-
-pub widened : Within 0 8 → Within 0 15
-widened r = record { number = r.number; least = r.least; below = omega (arith, r.below) }
+use Rattle.thumb_instr.specs.Renaming.{widened}
 
 -- a low register has the same number as a register
 pub widened_number : (r : Within 0 8) → (widened r).number ≡ r.number
 unfolding widened
 widened_number r = refl
-
--- a register, or a low one in its place
-abbrev pub wide_or : Option (Within 0 8) → Within 0 15 → Within 0 15
-wide_or None x = x
-wide_or (Some r) x = widened r
-
--- only sp itself gives sp
-pub sp_of : (o : Option (Within 0 8)) (x : Within 0 15) → (wide_or o x).number ≡ 13 → x.number ≡ 13
-sp_of None x e = e
-sp_of (Some r) x e = absurd (omega (arith, widened_number r, r.below))
-
--- the registers of a sum with low ones in their place
-abbrev pub sum_under : (Within 0 15 → Option (Within 0 8)) → NotBothSp → NotBothSp
-sum_under f r = record {
-  target = wide_or (f r.target) r.target;
-  source = wide_or (f r.source) r.source;
-  one_other = λ e g. r.one_other (sp_of (f r.target) r.target e) (sp_of (f r.source) r.source g);
-}
 
 -- numbers of a range, registers, distances and pairs that hold the same are one
 pub same_number : {a b : ℕ} (x y : Within a b) → x.number ≡ y.number → x ≡ y

@@ -2,22 +2,34 @@
 #![tactic(auto)]
 
 pub mod accesses;
+pub mod apart;
 pub mod distance;
 pub mod instr;
 pub mod items;
+pub mod kind;
+pub mod laws;
 pub mod operation;
+pub mod rebuilding;
+pub mod renaming;
+pub mod role;
 pub mod seq;
 pub mod window;
 pub mod within;
 
 pub use accesses::shape;
+pub use apart::parts;
 pub use distance::{Distance, Far, Farthest, Near};
 pub use instr::Instr;
 pub use items::{Items, Mask, Shape};
+pub use kind::{Kind, Parts};
+pub use laws::rebuilding_gives_back;
 pub use operation::{
     Access, Barrier, ByteOperation, Condition, Extension, Hint, Interrupts, OffsetAccess,
     Operation, Reversal, Right, Special, Sum, WordAccess,
 };
+pub use rebuilding::{made, rebuilt};
+pub use renaming::{registers_of, renamed};
+pub use role::{Class, Operands, Role, Usage, roles};
 pub use seq::Seq;
 pub use window::{in_window, normal};
 pub use within::{

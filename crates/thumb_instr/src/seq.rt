@@ -80,8 +80,14 @@ impl Seq {
 mod tests {
     use super::*;
     use crate::accesses::shape;
+    use crate::apart::parts;
     use crate::items::{C, LR, Mask, SP, Z};
-    use crate::operation::{ByteOperation, Sum};
+    use crate::kind::{Kind, Parts};
+    use crate::laws::rebuilding_gives_back;
+    use crate::operation::{ByteOperation, Operation, Right, Sum};
+    use crate::rebuilding::{made, rebuilt};
+    use crate::renaming::{registers_of, renamed};
+    use crate::role::{Class, Role, Usage, roles};
     use crate::window::{in_window, normal};
     use crate::within::Within;
     use std::test::Fail;
@@ -108,7 +114,7 @@ mod tests {
         assert_eq!(rt; push.writes.bits, 1 << SP);
         assert_eq!(rt; Mask::of(push.uses).items.bits, 0);
         let shift = shape(&Instr::Two {
-            operation: crate::operation::Operation::Lsl,
+            operation: Operation::Lsl,
             target: Within::of(0),
             other: Within::of(1),
         });
@@ -132,5 +138,52 @@ mod tests {
         assert!(rt; normal(short) == long);
         assert!(rt; in_window(&short));
         assert!(rt; !in_window(&Instr::default()));
+    }
+
+    #[test]
+    fn parts_of_instructions(rt: HostRuntime) -> Result<(), Fail> {
+        let shift = Instr::ShiftRight {
+            shift: Right::Asr,
+            target: Within::of(3),
+            source: Within::of(1),
+            amount: Within::of(32),
+        };
+        let taken = parts(&shift);
+        assert_eq!(rt; taken.second, 1);
+        assert!(rt; rebuilding_gives_back(&shift).ok_or("some")? == shift);
+        let long = Parts {
+            kind: taken.kind,
+            first: 3,
+            second: 1,
+            third: 33,
+        };
+        assert!(rt; rebuilt(&long).is_none());
+        assert!(rt; made(Kind::Bx, 14, 9, 9).is_some());
+        assert!(rt;
+            rebuilt(&Parts {
+                kind: Kind::Bx,
+                first: 14,
+                second: 9,
+                third: 9
+            })
+            .is_none()
+        );
+        let roles = roles(Kind::Two(Operation::Mvn));
+        assert!(rt; roles.first == Role::Register(Usage::Written, Class::Low));
+        Ok(())
+    }
+
+    #[test]
+    fn renaming(rt: HostRuntime) {
+        let product = Instr::Two {
+            operation: Operation::Mul,
+            target: Within::of(1),
+            other: Within::of(5),
+        };
+        let mapped = renamed(&product, &[Within::of(0), Within::of(7)]);
+        let names = registers_of(&mapped);
+        assert_eq!(rt; names.len(), 2);
+        assert_eq!(rt; names.as_slice()[0].number, 7);
+        assert_eq!(rt; names.as_slice()[1].number, 5);
     }
 }

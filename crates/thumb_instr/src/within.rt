@@ -34,6 +34,17 @@ impl<const LEAST: u32, const END: u32> Within<LEAST, END> {
 /// A low register, r0 to r7.
 pub type Low = Within<0, 8>;
 
+impl Default for Within<0, 8> {
+    ghost use Rattle.std.specs.Prelude.{◌≡◌};
+
+    ghost is_default = { λ r. r.number ≡ 0 };
+
+    /// r0
+    fn default() -> Self {
+        Within::of(0)
+    }
+}
+
 /// A register but pc: r0 to r12, sp as 13 and lr as 14.
 pub type Reg = Within<0, 15>;
 

@@ -22,7 +22,7 @@ use Rattle.thumb_instr.specs.Shape.{registers_in, pushed, offset_access, word_ac
 use Rattle.thumb_model.specs.Items.{Values, AreWords, assigned, one_of, sp, lr, written_to, n_flag, z_flag, c_flag, v_flag}
 use Rattle.thumb_model.specs.Effect.{outputs, complement, result_flags, sum_flags, result_outputs, shift_outputs, sum_outputs, right_shift, product, two_outputs, byte_outputs}
 use Rattle.thumb_model.specs.Machine.{with_bytes, World, IsWorld, Answer, AreAnswers, AreBytes, Target, Inside, External, Landing, Goes, Leaves, Strays, Around, Act, Event, Fault, Next, On, Stay, To, Over, act, puts, ends, branches, tells, takes, aligned, answered, served, all_at, answers_with, is_device, access_size, value_at, with_value, stored, loaded, gets, loads, stores, accesses, next_word, behind, stored_words, stores_many, word_at, left_at, words_from, left_from, device_words, enough, many_outputs, loads_many, jumps, calls_out, calls, calls_by, with_pc, popping, pops_to, pops, holds, hints}
-use Rattle.thumb_model.specs.Rewrite.{AreBelow}
+use Rattle.thumb_instr.specs.Renaming.{AreBelow}
 use Rattle.thumb_model.proofs.Small.{registers_low}
 use Rattle.thumb_model.proofs.Bounds.{sum_small, shift_small, sign_small_8, sign_small_16, extension_small, reversal_small, and_small, or_small, xor_small}
 
@@ -139,7 +139,6 @@ pub values_of : (i : Instr) (v : Values) → AreHeld v → AreValues (outputs i 
 values_of (instr.Mov d m) v a = (written_value d _ (a.words.register m.number (omega arith)), tt)
 values_of (instr.Three s d n m) v a = sum_values d _ (sum_small s (v n.number) (v m.number))
 values_of (instr.Two o d m) v a = two_values o d _ _ _ (a.words.register d.number (omega arith)) (a.words.register m.number (omega arith))
-values_of (instr.Bx m) v a = tt
 values_of (instr.Movs d m) v a = result_values d _ (a.words.register m.number (omega arith))
 values_of (instr.ShiftLeft d m i) v a = shift_values d _ (shift_small shift.Lsl (v m.number) i.number false (a.words.register m.number (omega arith)))
 values_of (instr.ShiftRight s d m i) v a = shift_values d _ (shift_small (right_shift s) (v m.number) i.number false (a.words.register m.number (omega arith)))
@@ -147,30 +146,11 @@ values_of (instr.ThreeNumber s d n i) v a = sum_values d _ (sum_small s (v n.num
 values_of (instr.TwoNumber o d i) v a = byte_values o d (v d.number) i.number (omega arith)
 values_of (instr.Add r) v a = (written_value r.target _ (sum_small sum.Add (v r.target.number) (v r.source.number)), tt)
 values_of (instr.Compare r) v a = sum_flag_values _
-values_of (instr.Blx m) v a = tt
-values_of (instr.Literal t d) v a = tt
-values_of (instr.Indexed x t n m) v a = tt
-values_of (instr.Offset x t n i) v a = tt
-values_of (instr.Stack x t i) v a = tt
-values_of (instr.Address d i) v a = tt
 values_of (instr.StackAddress d i) v a = (low_value d _ (sum_small sum.Add (v sp) (4 * i.number)), tt)
 values_of (instr.StackMove s i) v a = (written_at sp _ (omega arith) (sum_small s (v sp) (4 * i.number)), tt)
 values_of (instr.Extend e d m) v a = (low_value d _ (extension_small e (v m.number)), tt)
 values_of (instr.Reverse r d m) v a = (low_value d _ (reversal_small r (v m.number)), tt)
-values_of (instr.Push l) v a = tt
-values_of (instr.Pop l) v a = tt
-values_of (instr.StoreMany s) v a = tt
-values_of (instr.LoadMany n l) v a = tt
-values_of (instr.Breakpoint i) v a = tt
-values_of (instr.Service i) v a = tt
-values_of (instr.Hint h) v a = tt
-values_of (instr.ChangeState i) v a = tt
-values_of (instr.BranchIf c d) v a = tt
-values_of (instr.Branch d) v a = tt
-values_of (instr.Call d) v a = tt
-values_of (instr.Barrier b) v a = tt
-values_of (instr.ReadSpecial d s) v a = tt
-values_of (instr.WriteMask m) v a = tt
+values_of i v a = tt
 
 -- ---- an act leaves a world ----
 

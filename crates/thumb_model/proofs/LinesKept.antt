@@ -5,7 +5,8 @@ use Rattle.thumb_instr.specs.declared.instr.Instr.{Instr}
 use Rattle.thumb_model.specs.Listing.{Place, Op, Word, plain, Label, Line, Code, places_of, labels_from, code_of}
 use Rattle.thumb_model.specs.Layout.{Layable}
 use Rattle.thumb_model.specs.Same.{Same}
-use Rattle.thumb_model.specs.Rewrite.{Rule, AreSound, Applies, renamed, replaced}
+use Rattle.thumb_instr.specs.Renaming.{renamed}
+use Rattle.thumb_model.specs.Rewrite.{Rule, AreSound, Applies, replaced}
 use Rattle.thumb_model.specs.Rewritten.{Setting, Replacement, replaced_lines, lines_after_rule, lines_after, AppliesIn, NoneApplies, AreRewritten, AllApplied}
 use Rattle.thumb_model.proofs.Lists.{length_map}
 use Rattle.thumb_model.proofs.LinesReplaced.{AreOps, AllOutside, code_replaced, lines_fewer}

@@ -19,7 +19,7 @@ use Rattle.thumb_model.specs.Items.{one_of, sp, lr}
 use Rattle.thumb_model.specs.Listing.{Place, Op, Word, Code}
 use Rattle.thumb_model.specs.Machine.{registers_left, handed, aim_of}
 use Rattle.thumb_model.specs.Flow.{Way, way, Onward, AnyPoint, Out, jump_way, call_way, left_but, ways, ways_on, ways_of, Reads, now, later, LiveAfter}
-use Rattle.thumb_model.specs.Rewrite.{AreBelow}
+use Rattle.thumb_instr.specs.Renaming.{AreBelow}
 
 -- an item of a list of items below k is below k
 pub below_in : (k x : ℕ) (xs : List ℕ) → AreBelow k xs → one_of x xs ≡ true → x < k
@@ -141,11 +141,9 @@ small_ways aim (instr.TwoNumber o d i) = (small_byte o d, tt)
 small_ways aim (instr.Add r) = ((omega arith, (omega arith, tt)), tt)
 small_ways aim (instr.Compare r) = ((omega arith, (omega arith, tt)), tt)
 small_ways aim (instr.Blx m) = ((omega arith, tt), ((omega arith, by_test 19 handed refl), tt))
-small_ways aim (instr.Literal t d) = (tt, tt)
 small_ways aim (instr.Indexed a t n m) = ((omega arith, (omega arith, small_access a t)), tt)
 small_ways aim (instr.Offset a t n i) = ((omega arith, small_access (offset_access a) t), tt)
 small_ways aim (instr.Stack a t i) = ((omega arith, small_access (word_access a) t), tt)
-small_ways aim (instr.Address d i) = (tt, tt)
 small_ways aim (instr.StackAddress d i) = ((omega arith, tt), tt)
 small_ways aim (instr.StackMove s i) = ((omega arith, tt), tt)
 small_ways aim (instr.Extend e d m) = ((omega arith, tt), tt)
@@ -158,16 +156,12 @@ small_ways aim (instr.Pop l) =
     ]
 small_ways aim (instr.StoreMany s) = ((omega arith, registers_small s.list.number), tt)
 small_ways aim (instr.LoadMany n l) = ((omega arith, tt), tt)
-small_ways aim (instr.Breakpoint i) = (tt, tt)
 small_ways aim (instr.Service i) = (by_test 19 (0 ∷ 1 ∷ 2 ∷ 3 ∷ 12 ∷ sp ∷ []) refl, tt)
-small_ways aim (instr.Hint h) = (tt, tt)
-small_ways aim (instr.ChangeState i) = (tt, tt)
 small_ways aim (instr.BranchIf c d) = (small_jump aim (condition_uses c) (small_condition c), (small_condition c, tt))
 small_ways aim (instr.Branch d) = (small_jump aim [] tt, tt)
 small_ways aim (instr.Call d) = (small_call aim, tt)
-small_ways aim (instr.Barrier b) = (tt, tt)
-small_ways aim (instr.ReadSpecial d s) = (tt, tt)
 small_ways aim (instr.WriteMask m) = ((omega arith, tt), tt)
+small_ways aim i = (tt, tt)
 
 small_at : (ws : List Way) (k : ℕ) (w : Way) → AreSmall ws → slice_get ws k ≡ Some w → AreBelow 19 w.reads
 small_at [] k w a e = absurd (cc)

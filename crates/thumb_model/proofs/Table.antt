@@ -1,74 +1,25 @@
 -- An entry whose sides are equal keeps the runs where it applies.
-use Rattle.std.proofs.Common.{◌≡◌, ℕ, suc, ◌+◌, ◌-◌, ◌<◌, ◌≤◌, nat_lt, true, false, List, [], ◌∷◌, ◌++◌, length, length-append, take, drop, map, Some, None, refl, sym, ap, ◌∙◌, subst, ◌⊎◌, arith}
+use Rattle.std.proofs.Common.{◌≡◌, ℕ, suc, ◌+◌, ◌-◌, ◌<◌, ◌≤◌, true, false, List, [], ◌∷◌, ◌++◌, length, length-append, take, drop, map, Some, refl, sym, ap, ◌∙◌, subst, ◌⊎◌, arith}
 use Rattle.std.specs.Prelude.{slice_get}
-use Rattle.std.proofs.lemmas.Bool.{and_parts, and_from, lt-ltb}
 use Rattle.thumb_instr.specs.declared.instr.Instr.{Instr}
 use Rattle.thumb_instr.specs.declared.instr.Instr.TheVariants as instr
 use Rattle.thumb_instr.specs.Shape.{uses_of, writes_of}
 use Rattle.thumb_instr.specs.Window.{is_in_window}
-use Rattle.thumb_instr.proofs.Registers.{widened_number}
-use Rattle.thumb_instr.proofs.Registers.{wide_or}
+use Rattle.thumb_instr.proofs.RenamingLemmas.{window_renamed}
+use Rattle.thumb_instr.specs.Renaming.{Low, renamed}
 use Rattle.thumb_model.specs.Items.{Values}
 use Rattle.thumb_model.specs.Effect.{after_all}
 use Rattle.thumb_model.specs.Listing.{Place, plain, Code, is_op_place, is_code, is_call_instr}
 use Rattle.thumb_model.specs.Flow.{way, Onward, Reads, LiveAfter}
-use Rattle.thumb_model.specs.Rewrite.{Low, Reg, Rule, IsSoundRule, renamed, reg_under, both_under, AreOver, normalised, replaced, move_label, Applies}
+use Rattle.thumb_model.specs.Rewrite.{Rule, IsSoundRule, AreOver, normalised, replaced, move_label, Applies}
 use Rattle.thumb_model.proofs.Lists.{get_drop, get_take, length_map, take_all, take_short, length_drop}
 use Rattle.thumb_model.proofs.Moved.{IsReplacement, AreNoCalls}
 use Rattle.thumb_model.proofs.Window.{StandsAt, AreStraight, sides_agree, normal_in_window, normal_after}
 use Rattle.thumb_model.proofs.Follow.{IsSound, stands_from, Keeps, replaced_keeps}
 
--- a renamed low register is low
-low_stays : (registers : List Low) (d : Reg) → nat_lt d.number 8 ≡ true → nat_lt (reg_under registers d).number 8 ≡ true
-low_stays registers d h = elim (slice_get registers d.number) as (λ o. nat_lt (wide_or o d).number 8 ≡ true) [ None ↦ h | Some r ↦ ap (λ n. nat_lt n 8) (widened_number r) ∙ lt-ltb r.number 8 (omega arith) ]
-
--- a row: a renamed instruction may stand in a window where it may itself
-straight_one : (registers : List Low) (i : Instr) → is_in_window i ≡ true → is_in_window (renamed registers i) ≡ true
-straight_one registers (instr.Mov d m) h =
-    let both = and_parts (nat_lt d.number 8) (nat_lt m.number 8) h in
-    and_from (nat_lt (reg_under registers d).number 8) (nat_lt (reg_under registers m).number 8) (low_stays registers d both.0) (low_stays registers m both.1)
-straight_one registers (instr.Add r) h =
-    let both = and_parts (nat_lt r.target.number 8) (nat_lt r.source.number 8) h in
-    and_from (nat_lt (both_under registers r).target.number 8) (nat_lt (both_under registers r).source.number 8)
-    (low_stays registers r.target both.0)
-    (low_stays registers r.source both.1)
-straight_one registers (instr.Three s d n m) h = refl
-straight_one registers (instr.Two o d m) h = refl
-straight_one registers (instr.Bx m) h = absurd (cc)
-straight_one registers (instr.Movs d m) h = refl
-straight_one registers (instr.ShiftLeft d m i) h = refl
-straight_one registers (instr.ShiftRight s d m i) h = refl
-straight_one registers (instr.ThreeNumber s d n i) h = refl
-straight_one registers (instr.TwoNumber o d i) h = refl
-straight_one registers (instr.Compare r) h = absurd (cc)
-straight_one registers (instr.Blx m) h = absurd (cc)
-straight_one registers (instr.Literal t d) h = absurd (cc)
-straight_one registers (instr.Indexed a t n m) h = absurd (cc)
-straight_one registers (instr.Offset a t n i) h = absurd (cc)
-straight_one registers (instr.Stack a t i) h = absurd (cc)
-straight_one registers (instr.Address d i) h = absurd (cc)
-straight_one registers (instr.StackAddress d i) h = absurd (cc)
-straight_one registers (instr.StackMove s i) h = absurd (cc)
-straight_one registers (instr.Extend e d m) h = refl
-straight_one registers (instr.Reverse r d m) h = refl
-straight_one registers (instr.Push l) h = absurd (cc)
-straight_one registers (instr.Pop l) h = absurd (cc)
-straight_one registers (instr.StoreMany s) h = absurd (cc)
-straight_one registers (instr.LoadMany n l) h = absurd (cc)
-straight_one registers (instr.Breakpoint i) h = absurd (cc)
-straight_one registers (instr.Service i) h = absurd (cc)
-straight_one registers (instr.Hint k) h = absurd (cc)
-straight_one registers (instr.ChangeState i) h = absurd (cc)
-straight_one registers (instr.BranchIf c d) h = absurd (cc)
-straight_one registers (instr.Branch d) h = absurd (cc)
-straight_one registers (instr.Call d) h = absurd (cc)
-straight_one registers (instr.Barrier b) h = absurd (cc)
-straight_one registers (instr.ReadSpecial d s) h = absurd (cc)
-straight_one registers (instr.WriteMask m) h = absurd (cc)
-
 straight : (registers : List Low) (k : ℕ) (is : List Instr) → AreOver k is → AreStraight (map (renamed registers) is)
 straight registers k [] h = tt
-straight registers k (i ∷ is) h = (straight_one registers i (h.0), straight registers k is h.2)
+straight registers k (i ∷ is) h = (window_renamed registers i (h.0), straight registers k is h.2)
 
 -- what the normal forms are straight with
 straight_window : (is js : List Instr) → map normalised is ≡ js → AreStraight js → AreStraight is
@@ -84,38 +35,15 @@ pub live_there : (code : Code) (p : ℕ) (i : Instr) → slice_get code.places p
 live_there code p (instr.Mov d m) e h x r = (0, way (uses_of (instr.Mov d m)) (writes_of (instr.Mov d m)) Onward, p + 1, rw e refl, refl, r)
 live_there code p (instr.Three s d n m) e h x r = (0, way (uses_of (instr.Three s d n m)) (writes_of (instr.Three s d n m)) Onward, p + 1, rw e refl, refl, r)
 live_there code p (instr.Two o d m) e h x r = (0, way (uses_of (instr.Two o d m)) (writes_of (instr.Two o d m)) Onward, p + 1, rw e refl, refl, r)
-live_there code p (instr.Bx m) e h x r = absurd (cc)
 live_there code p (instr.Movs d m) e h x r = (0, way (uses_of (instr.Movs d m)) (writes_of (instr.Movs d m)) Onward, p + 1, rw e refl, refl, r)
 live_there code p (instr.ShiftLeft d m i) e h x r = (0, way (uses_of (instr.ShiftLeft d m i)) (writes_of (instr.ShiftLeft d m i)) Onward, p + 1, rw e refl, refl, r)
 live_there code p (instr.ShiftRight s d m i) e h x r = (0, way (uses_of (instr.ShiftRight s d m i)) (writes_of (instr.ShiftRight s d m i)) Onward, p + 1, rw e refl, refl, r)
 live_there code p (instr.ThreeNumber s d n i) e h x r = (0, way (uses_of (instr.ThreeNumber s d n i)) (writes_of (instr.ThreeNumber s d n i)) Onward, p + 1, rw e refl, refl, r)
 live_there code p (instr.TwoNumber o d i) e h x r = (0, way (uses_of (instr.TwoNumber o d i)) (writes_of (instr.TwoNumber o d i)) Onward, p + 1, rw e refl, refl, r)
 live_there code p (instr.Add k) e h x r = (0, way (uses_of (instr.Add k)) (writes_of (instr.Add k)) Onward, p + 1, rw e refl, refl, r)
-live_there code p (instr.Compare k) e h x r = absurd (cc)
-live_there code p (instr.Blx m) e h x r = absurd (cc)
-live_there code p (instr.Literal t d) e h x r = absurd (cc)
-live_there code p (instr.Indexed z t n m) e h x r = absurd (cc)
-live_there code p (instr.Offset z t n i) e h x r = absurd (cc)
-live_there code p (instr.Stack z t i) e h x r = absurd (cc)
-live_there code p (instr.Address d i) e h x r = absurd (cc)
-live_there code p (instr.StackAddress d i) e h x r = absurd (cc)
-live_there code p (instr.StackMove s i) e h x r = absurd (cc)
 live_there code p (instr.Extend k d m) e h x r = (0, way (uses_of (instr.Extend k d m)) (writes_of (instr.Extend k d m)) Onward, p + 1, rw e refl, refl, r)
 live_there code p (instr.Reverse k d m) e h x r = (0, way (uses_of (instr.Reverse k d m)) (writes_of (instr.Reverse k d m)) Onward, p + 1, rw e refl, refl, r)
-live_there code p (instr.Push l) e h x r = absurd (cc)
-live_there code p (instr.Pop l) e h x r = absurd (cc)
-live_there code p (instr.StoreMany s) e h x r = absurd (cc)
-live_there code p (instr.LoadMany n l) e h x r = absurd (cc)
-live_there code p (instr.Breakpoint i) e h x r = absurd (cc)
-live_there code p (instr.Service i) e h x r = absurd (cc)
-live_there code p (instr.Hint k) e h x r = absurd (cc)
-live_there code p (instr.ChangeState i) e h x r = absurd (cc)
-live_there code p (instr.BranchIf c d) e h x r = absurd (cc)
-live_there code p (instr.Branch d) e h x r = absurd (cc)
-live_there code p (instr.Call d) e h x r = absurd (cc)
-live_there code p (instr.Barrier b) e h x r = absurd (cc)
-live_there code p (instr.ReadSpecial d s) e h x r = absurd (cc)
-live_there code p (instr.WriteMask m) e h x r = absurd (cc)
+live_there code p i e h x r = absurd (cc)
 
 last_of : (is : List Instr) → 0 < length is → AreStraight is → (i : Instr) × (slice_get (map plain is) (length is - 1) ≡ Some (plain i)) × (is_in_window i ≡ true)
 last_of [] l s = absurd (omega arith)
@@ -126,41 +54,9 @@ last_of (i ∷ j ∷ is) l s =
 
 -- a row: what may stand in a window is no call
 no_call : (i : Instr) → is_in_window i ≡ true → is_call_instr i ≡ false
-no_call (instr.Mov d m) h = refl
-no_call (instr.Three s d n m) h = refl
-no_call (instr.Two o d m) h = refl
-no_call (instr.Bx m) h = refl
-no_call (instr.Movs d m) h = refl
-no_call (instr.ShiftLeft d m i) h = refl
-no_call (instr.ShiftRight s d m i) h = refl
-no_call (instr.ThreeNumber s d n i) h = refl
-no_call (instr.TwoNumber o d i) h = refl
-no_call (instr.Add r) h = refl
-no_call (instr.Compare r) h = refl
 no_call (instr.Blx m) h = absurd (cc)
-no_call (instr.Literal t d) h = refl
-no_call (instr.Indexed a t n m) h = refl
-no_call (instr.Offset a t n i) h = refl
-no_call (instr.Stack a t i) h = refl
-no_call (instr.Address d i) h = refl
-no_call (instr.StackAddress d i) h = refl
-no_call (instr.StackMove s i) h = refl
-no_call (instr.Extend e d m) h = refl
-no_call (instr.Reverse r d m) h = refl
-no_call (instr.Push l) h = refl
-no_call (instr.Pop l) h = refl
-no_call (instr.StoreMany s) h = refl
-no_call (instr.LoadMany n l) h = refl
-no_call (instr.Breakpoint i) h = refl
-no_call (instr.Service i) h = refl
-no_call (instr.Hint k) h = refl
-no_call (instr.ChangeState i) h = refl
-no_call (instr.BranchIf c d) h = refl
-no_call (instr.Branch d) h = refl
 no_call (instr.Call d) h = absurd (cc)
-no_call (instr.Barrier b) h = refl
-no_call (instr.ReadSpecial d s) h = refl
-no_call (instr.WriteMask m) h = refl
+no_call i h = refl
 
 no_calls : (is : List Instr) → AreStraight is → AreNoCalls (map plain is)
 no_calls [] h = tt

@@ -79,41 +79,15 @@ pub record AroundTied (R : ℕ → ℕ → Type 0) (a b : Around) : Type 0 where
 module _ (R : ℕ → ℕ → Type 0) where
   -- a row: where all is tied, so is what an instruction looks at
   pub looks_tied : (a b : Around) → AroundTied R a b → (i : Instr) (w : World) → LooksTied R a b i w
-  looks_tied a b h (instr.Mov d m) w = tt
-  looks_tied a b h (instr.Three s d n m) w = tt
-  looks_tied a b h (instr.Two o d m) w = tt
   looks_tied a b h (instr.Bx m) w = h.lands (w.values m.number)
-  looks_tied a b h (instr.Movs d m) w = tt
-  looks_tied a b h (instr.ShiftLeft d m i) w = tt
-  looks_tied a b h (instr.ShiftRight s d m i) w = tt
-  looks_tied a b h (instr.ThreeNumber s d n i) w = tt
-  looks_tied a b h (instr.TwoNumber o d i) w = tt
-  looks_tied a b h (instr.Add r) w = tt
-  looks_tied a b h (instr.Compare r) w = tt
   looks_tied a b h (instr.Blx m) w = (h.lands (w.values m.number), h.link)
   looks_tied a b h (instr.Literal t d) w = h.literal
-  looks_tied a b h (instr.Indexed x t n m) w = tt
-  looks_tied a b h (instr.Offset x t n i) w = tt
-  looks_tied a b h (instr.Stack x t i) w = tt
   looks_tied a b h (instr.Address d i) w = h.literal
-  looks_tied a b h (instr.StackAddress d i) w = tt
-  looks_tied a b h (instr.StackMove s i) w = tt
-  looks_tied a b h (instr.Extend e d m) w = tt
-  looks_tied a b h (instr.Reverse r d m) w = tt
-  looks_tied a b h (instr.Push l) w = tt
   looks_tied a b h (instr.Pop l) w = h.lands
-  looks_tied a b h (instr.StoreMany s) w = tt
-  looks_tied a b h (instr.LoadMany n l) w = tt
-  looks_tied a b h (instr.Breakpoint i) w = tt
-  looks_tied a b h (instr.Service i) w = tt
-  looks_tied a b h (instr.Hint k) w = tt
-  looks_tied a b h (instr.ChangeState i) w = tt
   looks_tied a b h (instr.BranchIf c d) w = h.target
   looks_tied a b h (instr.Branch d) w = h.target
   looks_tied a b h (instr.Call d) w = (h.target, h.link)
-  looks_tied a b h (instr.Barrier x) w = tt
-  looks_tied a b h (instr.ReadSpecial d s) w = tt
-  looks_tied a b h (instr.WriteMask m) w = tt
+  looks_tied a b h i w = tt
 
   branch_tied : (k l : Landing) (word : ℕ) (w : World) → LandingTied R k l → ActTied R (branches k word w) (branches l word w)
   branch_tied (Goes p) (Goes q) word w h = record { outputs = refl; memory = refl; answers = refl; events = refl; next = h }
@@ -239,27 +213,13 @@ module _ (R : ℕ → ℕ → Type 0) where
 
   -- a row: an instruction does the same in surroundings that are tied
   pub act_tied : (a b : Around) (i : Instr) (w : World) → LooksTied R a b i w → ActTied R (act a i w) (act b i w)
-  act_tied a b (instr.Mov d m) w h = puts_tied _ w
-  act_tied a b (instr.Three s d n m) w h = puts_tied _ w
-  act_tied a b (instr.Two o d m) w h = puts_tied _ w
   act_tied a b (instr.Bx m) w h = branch_tied (a.lands (w.values m.number)) (b.lands (w.values m.number)) (w.values m.number) w h
-  act_tied a b (instr.Movs d m) w h = puts_tied _ w
-  act_tied a b (instr.ShiftLeft d m i) w h = puts_tied _ w
-  act_tied a b (instr.ShiftRight s d m i) w h = puts_tied _ w
-  act_tied a b (instr.ThreeNumber s d n i) w h = puts_tied _ w
-  act_tied a b (instr.TwoNumber o d i) w h = puts_tied _ w
-  act_tied a b (instr.Add r) w h = puts_tied _ w
-  act_tied a b (instr.Compare r) w h = puts_tied _ w
   act_tied a b (instr.Blx m) w h = call_by_tied (a.lands (w.values m.number)) (b.lands (w.values m.number)) (w.values m.number) a.link b.link w h.0 h.1
   act_tied a b (instr.Literal t d) w h = literal_tied _ a.literal b.literal w h
   act_tied a b (instr.Indexed x t n m) w h = accesses_tied x t.number _ _ w
   act_tied a b (instr.Offset x t n i) w h = accesses_tied (offset_access x) t.number _ _ w
   act_tied a b (instr.Stack x t i) w h = accesses_tied (word_access x) t.number _ _ w
   act_tied a b (instr.Address d i) w h = literal_tied _ a.literal b.literal w h
-  act_tied a b (instr.StackAddress d i) w h = puts_tied _ w
-  act_tied a b (instr.StackMove s i) w h = puts_tied _ w
-  act_tied a b (instr.Extend e d m) w h = puts_tied _ w
-  act_tied a b (instr.Reverse r d m) w h = puts_tied _ w
   act_tied a b (instr.Push l) w h = stores_many_tied sp _ _ (map w.values (pushed l.number)) w
   act_tied a b (instr.Pop l) w h = pops_tied a b l.number w h (has l.number 8)
   act_tied a b (instr.StoreMany s) w h = stores_many_tied s.base.number _ _ (map w.values (registers_in s.list.number)) w
@@ -274,3 +234,4 @@ module _ (R : ℕ → ℕ → Type 0) where
   act_tied a b (instr.Barrier x) w h = still_tied _ tt
   act_tied a b (instr.ReadSpecial d s) w h = takes_tied _ w w.answers (λ answer rest. tt)
   act_tied a b (instr.WriteMask m) w h = still_tied _ tt
+  act_tied a b i w h = puts_tied _ w

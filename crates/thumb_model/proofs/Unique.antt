@@ -6,11 +6,12 @@ use Rattle.thumb_instr.specs.declared.instr.Instr.TheVariants as instr
 use Rattle.thumb_instr.specs.declared.within.NotBothSp.{NotBothSp}
 use Rattle.thumb_instr.specs.Window.{is_in_window}
 use Rattle.thumb_instr.proofs.Registers.{low_is}
+use Rattle.thumb_instr.proofs.RenamingLemmas.{low_number, reg_number}
 use Rattle.thumb_model.specs.Items.{one_of}
 use Rattle.thumb_model.specs.Listing.{plain, Line, Code, code_of}
-use Rattle.thumb_model.specs.Rewrite.{Low, Reg, Rule, IsSoundRule, AreSound, AreOver, named, renamed, low_under, reg_under, both_under, number_or, item_under, is_named, normalised, Applies}
+use Rattle.thumb_instr.specs.Renaming.{Low, Reg, named, renamed, low_under, reg_under, both_under, number_or, item_under}
+use Rattle.thumb_model.specs.Rewrite.{Rule, IsSoundRule, AreSound, AreOver, is_named, normalised, Applies}
 use Rattle.thumb_model.specs.Rewritten.{Setting, Replacement, IsFirst, lines_after, AreRewritten, IsDetermined}
-use Rattle.thumb_model.proofs.Window.{low_number, reg_number}
 
 -- two maps give each of these items the same
 abbrev AgreeOnAll : List Low → List Low → List ℕ → Type 0
@@ -50,30 +51,7 @@ renamed_tells f g (instr.TwoNumber o d i) w e = (low_tells f g d (cc), tt)
 renamed_tells f g (instr.Add r) w e = let b = both_tells f g r (cc) in (b.0, (b.1, tt))
 renamed_tells f g (instr.Extend k d m) w e = (low_tells f g d (cc), (low_tells f g m (cc), tt))
 renamed_tells f g (instr.Reverse k d m) w e = (low_tells f g d (cc), (low_tells f g m (cc), tt))
-renamed_tells f g (instr.Bx m) w e = absurd (cc)
-renamed_tells f g (instr.Compare r) w e = absurd (cc)
-renamed_tells f g (instr.Blx m) w e = absurd (cc)
-renamed_tells f g (instr.Literal t d) w e = absurd (cc)
-renamed_tells f g (instr.Indexed a t n m) w e = absurd (cc)
-renamed_tells f g (instr.Offset a t n i) w e = absurd (cc)
-renamed_tells f g (instr.Stack a t i) w e = absurd (cc)
-renamed_tells f g (instr.Address d i) w e = absurd (cc)
-renamed_tells f g (instr.StackAddress d i) w e = absurd (cc)
-renamed_tells f g (instr.StackMove s i) w e = absurd (cc)
-renamed_tells f g (instr.Push l) w e = absurd (cc)
-renamed_tells f g (instr.Pop l) w e = absurd (cc)
-renamed_tells f g (instr.StoreMany s) w e = absurd (cc)
-renamed_tells f g (instr.LoadMany n l) w e = absurd (cc)
-renamed_tells f g (instr.Breakpoint i) w e = absurd (cc)
-renamed_tells f g (instr.Service i) w e = absurd (cc)
-renamed_tells f g (instr.Hint k) w e = absurd (cc)
-renamed_tells f g (instr.ChangeState i) w e = absurd (cc)
-renamed_tells f g (instr.BranchIf c d) w e = absurd (cc)
-renamed_tells f g (instr.Branch d) w e = absurd (cc)
-renamed_tells f g (instr.Call d) w e = absurd (cc)
-renamed_tells f g (instr.Barrier b) w e = absurd (cc)
-renamed_tells f g (instr.ReadSpecial d s) w e = absurd (cc)
-renamed_tells f g (instr.WriteMask m) w e = absurd (cc)
+renamed_tells f g i w e = absurd (cc)
 
 all_tell : (f g : List Low) (k : ℕ) (is : List Instr) (x : ℕ) → AreOver k is → map (renamed f) is ≡ map (renamed g) is → is_named x is ≡ true → item_under f x ≡ item_under g x
 all_tell f g k [] x o e h = absurd (cc)

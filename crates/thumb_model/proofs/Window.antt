@@ -1,6 +1,6 @@
 -- Straight code: what a window does, in a run and under a renaming.
 use Rattle.std.proofs.Common.{◌≡◌, ◌≢◌, ℕ, zero, suc, ◌+◌, ◌*◌, ◌/◌, ◌<◌, ◌≤◌, ◌==◌, ◌||◌, true, false, List, [], ◌∷◌, ◌++◌, length, map, Option, Some, None, refl, sym, ap, ◌∙◌, subst, ◌⊎◌, inl, inr, arith, if◌then◌else◌, eq-eqb, eqb-true, ne_eqb, ◌^◌, ◌%◌, Bool}
-use Rattle.std.specs.Prelude.{slice_get, unwrap_or, bit_and, bit_or, bit_xor}
+use Rattle.std.specs.Prelude.{slice_get, bit_and, bit_or, bit_xor}
 use Rattle.std.proofs.lemmas.Option.{slice_get_past}
 use Rattle.word_bits.specs.declared.Sum.{Sum as WordSum}
 use Rattle.word_bits.specs.declared.Shift.TheVariants as shift
@@ -15,14 +15,14 @@ use Rattle.thumb_instr.specs.declared.operation.ByteOperation.{ByteOperation}
 use Rattle.thumb_instr.specs.declared.operation.ByteOperation.TheVariants as byte
 use Rattle.thumb_instr.specs.declared.within.NotBothSp.{NotBothSp}
 use Rattle.thumb_instr.specs.Window.{is_in_window, byte_sum, byte_of}
-use Rattle.thumb_instr.proofs.Registers.{widened_number}
-use Rattle.thumb_instr.proofs.Registers.{wide_or}
+use Rattle.thumb_instr.proofs.RenamingLemmas.{low_number, reg_number}
+use Rattle.thumb_instr.specs.Renaming.{Low, Reg, named, renamed, low_under, reg_under, both_under, number_or, item_under, AreBelow}
 use Rattle.thumb_model.specs.Items.{Values, AreWords, assigned, one_of, sp, written_to, n_flag, z_flag, c_flag, v_flag}
 use Rattle.thumb_model.specs.Effect.{outputs, complement, result_flags, sum_flags, result_outputs, shift_outputs, sum_outputs, three_sum, right_shift, product, extension_of, reversal_of, two_outputs, byte_outputs, after, after_all}
 use Rattle.thumb_model.specs.Listing.{Mention, Place, Op, plain, Code, IsPoint}
 use Rattle.thumb_model.specs.Machine.{Naming, World, Landing, Goes, Around, Act, Here, State, Next, On, Stay, To, Over, act, puts, around_of, aim_of, target_at, step, times}
 use Rattle.thumb_model.specs.Flow.{ways_on, ways_of, ways, Leads, Onward, ToPlace, AnyPoint, Out, Follows, Reads, now, later}
-use Rattle.thumb_model.specs.Rewrite.{Low, Reg, named, renamed, low_under, reg_under, both_under, number_or, item_under, IsOneToOne, AreBelow, AreOver, Equal, normalised}
+use Rattle.thumb_model.specs.Rewrite.{IsOneToOne, AreOver, Equal, normalised}
 use Rattle.thumb_model.proofs.Law.{keys, AgreeOn, assigned_agree, assigned_other, inside_of, Matches, Taken, AlikeBut, law, ap_two}
 use Rattle.thumb_model.proofs.Held.{values_of, are_held, AreHeld}
 use Rattle.thumb_model.proofs.Points.{landing_is}
@@ -47,7 +47,6 @@ pub straight_act : (around : Around) (i : Instr) (w : World) → is_in_window i 
 straight_act around (instr.Mov d m) w h = refl
 straight_act around (instr.Three s d n m) w h = refl
 straight_act around (instr.Two o d m) w h = refl
-straight_act around (instr.Bx m) w h = absurd (cc)
 straight_act around (instr.Movs d m) w h = refl
 straight_act around (instr.ShiftLeft d m i) w h = refl
 straight_act around (instr.ShiftRight s d m i) w h = refl
@@ -55,30 +54,11 @@ straight_act around (instr.ThreeNumber s d n i) w h = refl
 straight_act around (instr.TwoNumber o d i) w h = refl
 straight_act around (instr.Add r) w h = refl
 straight_act around (instr.Compare r) w h = refl
-straight_act around (instr.Blx m) w h = absurd (cc)
-straight_act around (instr.Literal t d) w h = absurd (cc)
-straight_act around (instr.Indexed x t n m) w h = absurd (cc)
-straight_act around (instr.Offset x t n i) w h = absurd (cc)
-straight_act around (instr.Stack x t i) w h = absurd (cc)
-straight_act around (instr.Address d i) w h = absurd (cc)
 straight_act around (instr.StackAddress d i) w h = refl
 straight_act around (instr.StackMove s i) w h = refl
 straight_act around (instr.Extend e d m) w h = refl
 straight_act around (instr.Reverse r d m) w h = refl
-straight_act around (instr.Push l) w h = absurd (cc)
-straight_act around (instr.Pop l) w h = absurd (cc)
-straight_act around (instr.StoreMany s) w h = absurd (cc)
-straight_act around (instr.LoadMany n l) w h = absurd (cc)
-straight_act around (instr.Breakpoint i) w h = absurd (cc)
-straight_act around (instr.Service i) w h = absurd (cc)
-straight_act around (instr.Hint k) w h = absurd (cc)
-straight_act around (instr.ChangeState i) w h = absurd (cc)
-straight_act around (instr.BranchIf c d) w h = absurd (cc)
-straight_act around (instr.Branch d) w h = absurd (cc)
-straight_act around (instr.Call d) w h = absurd (cc)
-straight_act around (instr.Barrier b) w h = absurd (cc)
-straight_act around (instr.ReadSpecial d s) w h = absurd (cc)
-straight_act around (instr.WriteMask m) w h = absurd (cc)
+straight_act around i w h = absurd (cc)
 
 append_nothing : {A : Type 0} (xs : List A) → xs ++ [] ≡ xs
 append_nothing [] = refl
@@ -189,83 +169,17 @@ byte_sums sum.Sub d n i v e = ap (λ x. sum_outputs d.number (three_sum sum.Sub 
 
 -- a row: the instruction that stands for both encodings puts the same
 normal_outputs : (i : Instr) (v : Values) → outputs (normalised i) v ≡ outputs i v
-normal_outputs (instr.Mov d m) v = refl
-normal_outputs (instr.Three s d n m) v = refl
-normal_outputs (instr.Two o d m) v = refl
-normal_outputs (instr.Bx m) v = refl
-normal_outputs (instr.Movs d m) v = refl
-normal_outputs (instr.ShiftLeft d m i) v = refl
-normal_outputs (instr.ShiftRight s d m i) v = refl
 normal_outputs (instr.ThreeNumber k d n i) v =
     elim (d.number == n.number) as (λ b. (d.number == n.number) ≡ b → outputs (if b then instr.TwoNumber (byte_sum k) d (byte_of i) else instr.ThreeNumber k d n i) v ≡ outputs (instr.ThreeNumber k d n i) v) [
       | true ↦ λ e. byte_sums k d n i v (eqb-true d.number n.number e)
       | false ↦ λ e. refl
     ] refl
-normal_outputs (instr.TwoNumber o d i) v = refl
-normal_outputs (instr.Add r) v = refl
-normal_outputs (instr.Compare r) v = refl
-normal_outputs (instr.Blx m) v = refl
-normal_outputs (instr.Literal t d) v = refl
-normal_outputs (instr.Indexed a t n m) v = refl
-normal_outputs (instr.Offset a t n i) v = refl
-normal_outputs (instr.Stack a t i) v = refl
-normal_outputs (instr.Address d i) v = refl
-normal_outputs (instr.StackAddress d i) v = refl
-normal_outputs (instr.StackMove s i) v = refl
-normal_outputs (instr.Extend e d m) v = refl
-normal_outputs (instr.Reverse r d m) v = refl
-normal_outputs (instr.Push l) v = refl
-normal_outputs (instr.Pop l) v = refl
-normal_outputs (instr.StoreMany s) v = refl
-normal_outputs (instr.LoadMany n l) v = refl
-normal_outputs (instr.Breakpoint i) v = refl
-normal_outputs (instr.Service i) v = refl
-normal_outputs (instr.Hint k) v = refl
-normal_outputs (instr.ChangeState i) v = refl
-normal_outputs (instr.BranchIf c d) v = refl
-normal_outputs (instr.Branch d) v = refl
-normal_outputs (instr.Call d) v = refl
-normal_outputs (instr.Barrier b) v = refl
-normal_outputs (instr.ReadSpecial d s) v = refl
-normal_outputs (instr.WriteMask m) v = refl
+normal_outputs i v = refl
 
 -- a row: and it may stand in a window where the other may
 pub normal_in_window : (i : Instr) → is_in_window (normalised i) ≡ is_in_window i
-normal_in_window (instr.Mov d m) = refl
-normal_in_window (instr.Three s d n m) = refl
-normal_in_window (instr.Two o d m) = refl
-normal_in_window (instr.Bx m) = refl
-normal_in_window (instr.Movs d m) = refl
-normal_in_window (instr.ShiftLeft d m i) = refl
-normal_in_window (instr.ShiftRight s d m i) = refl
 normal_in_window (instr.ThreeNumber k d n i) = elim (d.number == n.number) as (λ b. is_in_window (if b then instr.TwoNumber (byte_sum k) d (byte_of i) else instr.ThreeNumber k d n i) ≡ true) [ true ↦ refl | false ↦ refl ]
-normal_in_window (instr.TwoNumber o d i) = refl
-normal_in_window (instr.Add r) = refl
-normal_in_window (instr.Compare r) = refl
-normal_in_window (instr.Blx m) = refl
-normal_in_window (instr.Literal t d) = refl
-normal_in_window (instr.Indexed a t n m) = refl
-normal_in_window (instr.Offset a t n i) = refl
-normal_in_window (instr.Stack a t i) = refl
-normal_in_window (instr.Address d i) = refl
-normal_in_window (instr.StackAddress d i) = refl
-normal_in_window (instr.StackMove s i) = refl
-normal_in_window (instr.Extend e d m) = refl
-normal_in_window (instr.Reverse r d m) = refl
-normal_in_window (instr.Push l) = refl
-normal_in_window (instr.Pop l) = refl
-normal_in_window (instr.StoreMany s) = refl
-normal_in_window (instr.LoadMany n l) = refl
-normal_in_window (instr.Breakpoint i) = refl
-normal_in_window (instr.Service i) = refl
-normal_in_window (instr.Hint k) = refl
-normal_in_window (instr.ChangeState i) = refl
-normal_in_window (instr.BranchIf c d) = refl
-normal_in_window (instr.Branch d) = refl
-normal_in_window (instr.Call d) = refl
-normal_in_window (instr.Barrier b) = refl
-normal_in_window (instr.ReadSpecial d s) = refl
-normal_in_window (instr.WriteMask m) = refl
+normal_in_window i = refl
 
 -- normal forms do the same
 pub normal_after : (is : List Instr) (v : Values) → after_all (map normalised is) v ≡ after_all is v
@@ -277,14 +191,6 @@ normal_after (i ∷ is) v = ap (λ os. after_all (map normalised is) (assigned o
 -- a canonical register or a flag
 abbrev pub IsCanonical : ℕ → ℕ → Type 0
 IsCanonical k x = (x < k) ⊎ ((15 ≤ x) × (x < 19))
-
--- the number of a renamed register
-pub low_number : (registers : List Low) (d : Low) → (low_under registers d).number ≡ item_under registers d.number
-low_number registers d = elim (slice_get registers d.number) as (λ o. (unwrap_or o d).number ≡ number_or o d.number) [ None ↦ refl | Some r ↦ refl ]
-
--- the number of a renamed register
-pub reg_number : (registers : List Low) (d : Reg) → (reg_under registers d).number ≡ item_under registers d.number
-reg_number registers d = elim (slice_get registers d.number) as (λ o. (wide_or o d).number ≡ number_or o d.number) [ None ↦ refl | Some r ↦ widened_number r ]
 
 -- a word goes as it is into a low register
 low_written : (x w : ℕ) → x < 8 → written_to x w ≡ w
@@ -461,30 +367,7 @@ module _ (registers : List Low) (few : length registers ≤ 4) (one : IsOneToOne
       (ap_two (λ x y. (three_sum sum.Add x y).value) (ap s (target_number r) ∙ c r.target.number (inl b.0)) (ap s (source_number r) ∙ c r.source.number (inl b.1.0)))
   outputs_renamed (instr.Extend e d m) s w t b c = one_renamed d _ (extension_of e (w m.number)) (ap (extension_of e) (read_as m s w b.1.0 c))
   outputs_renamed (instr.Reverse r d m) s w t b c = one_renamed d _ (reversal_of r (w m.number)) (ap (reversal_of r) (read_as m s w b.1.0 c))
-  outputs_renamed (instr.Bx m) s w t b c = absurd (cc)
-  outputs_renamed (instr.Compare r) s w t b c = absurd (cc)
-  outputs_renamed (instr.Blx m) s w t b c = absurd (cc)
-  outputs_renamed (instr.Literal q d) s w t b c = absurd (cc)
-  outputs_renamed (instr.Indexed a q n m) s w t b c = absurd (cc)
-  outputs_renamed (instr.Offset a q n i) s w t b c = absurd (cc)
-  outputs_renamed (instr.Stack a q i) s w t b c = absurd (cc)
-  outputs_renamed (instr.Address d i) s w t b c = absurd (cc)
-  outputs_renamed (instr.StackAddress d i) s w t b c = absurd (cc)
-  outputs_renamed (instr.StackMove k i) s w t b c = absurd (cc)
-  outputs_renamed (instr.Push l) s w t b c = absurd (cc)
-  outputs_renamed (instr.Pop l) s w t b c = absurd (cc)
-  outputs_renamed (instr.StoreMany k) s w t b c = absurd (cc)
-  outputs_renamed (instr.LoadMany n l) s w t b c = absurd (cc)
-  outputs_renamed (instr.Breakpoint i) s w t b c = absurd (cc)
-  outputs_renamed (instr.Service i) s w t b c = absurd (cc)
-  outputs_renamed (instr.Hint k) s w t b c = absurd (cc)
-  outputs_renamed (instr.ChangeState i) s w t b c = absurd (cc)
-  outputs_renamed (instr.BranchIf k d) s w t b c = absurd (cc)
-  outputs_renamed (instr.Branch d) s w t b c = absurd (cc)
-  outputs_renamed (instr.Call d) s w t b c = absurd (cc)
-  outputs_renamed (instr.Barrier k) s w t b c = absurd (cc)
-  outputs_renamed (instr.ReadSpecial d k) s w t b c = absurd (cc)
-  outputs_renamed (instr.WriteMask m) s w t b c = absurd (cc)
+  outputs_renamed i s w t b c = absurd (cc)
 
   -- a row: an instruction writes canonical items alone
   outputs_canonical : (i : Instr) (w : Values) → is_in_window i ≡ true → AreBelow (length registers) (named i) → AreCanonical (keys (outputs i w))
@@ -499,30 +382,7 @@ module _ (registers : List Low) (few : length registers ≤ 4) (one : IsOneToOne
   outputs_canonical (instr.Add r) w t b = (inl b.0, tt)
   outputs_canonical (instr.Extend e d m) w t b = (inl b.0, tt)
   outputs_canonical (instr.Reverse r d m) w t b = (inl b.0, tt)
-  outputs_canonical (instr.Bx m) w t b = absurd (cc)
-  outputs_canonical (instr.Compare r) w t b = absurd (cc)
-  outputs_canonical (instr.Blx m) w t b = absurd (cc)
-  outputs_canonical (instr.Literal q d) w t b = absurd (cc)
-  outputs_canonical (instr.Indexed a q n m) w t b = absurd (cc)
-  outputs_canonical (instr.Offset a q n i) w t b = absurd (cc)
-  outputs_canonical (instr.Stack a q i) w t b = absurd (cc)
-  outputs_canonical (instr.Address d i) w t b = absurd (cc)
-  outputs_canonical (instr.StackAddress d i) w t b = absurd (cc)
-  outputs_canonical (instr.StackMove s i) w t b = absurd (cc)
-  outputs_canonical (instr.Push l) w t b = absurd (cc)
-  outputs_canonical (instr.Pop l) w t b = absurd (cc)
-  outputs_canonical (instr.StoreMany s) w t b = absurd (cc)
-  outputs_canonical (instr.LoadMany n l) w t b = absurd (cc)
-  outputs_canonical (instr.Breakpoint i) w t b = absurd (cc)
-  outputs_canonical (instr.Service i) w t b = absurd (cc)
-  outputs_canonical (instr.Hint k) w t b = absurd (cc)
-  outputs_canonical (instr.ChangeState i) w t b = absurd (cc)
-  outputs_canonical (instr.BranchIf c d) w t b = absurd (cc)
-  outputs_canonical (instr.Branch d) w t b = absurd (cc)
-  outputs_canonical (instr.Call d) w t b = absurd (cc)
-  outputs_canonical (instr.Barrier k) w t b = absurd (cc)
-  outputs_canonical (instr.ReadSpecial d s) w t b = absurd (cc)
-  outputs_canonical (instr.WriteMask m) w t b = absurd (cc)
+  outputs_canonical i w t b = absurd (cc)
 
   under_one : (x y : ℕ) → IsCanonical (length registers) x → IsCanonical (length registers) y → under x ≡ under y → x ≡ y
   under_one x y (inl h) (inl k) e =

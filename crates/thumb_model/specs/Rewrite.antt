@@ -1,22 +1,12 @@
 -- Entries, where they apply, and the places that they leave.
-use Rattle.std.specs.Prelude.{◌≡◌, ℕ, ◌+◌, ◌-◌, ◌<◌, ◌≤◌, ◌||◌, Bool, true, false, min, max, List, [], ◌∷◌, ◌++◌, length, take, drop, map, Option, Some, None, slice_get, unwrap_or, ◌⊎◌}
+use Rattle.std.specs.Prelude.{◌≡◌, ℕ, ◌+◌, ◌-◌, ◌<◌, ◌≤◌, ◌||◌, Bool, true, false, min, max, List, [], ◌∷◌, ◌++◌, length, take, drop, map, Some, slice_get, ◌⊎◌}
 use Rattle.thumb_instr.specs.declared.instr.Instr.{Instr}
-use Rattle.thumb_instr.specs.declared.instr.Instr.TheVariants as instr
-use Rattle.thumb_instr.specs.declared.within.Within.{Within}
+use Rattle.thumb_instr.specs.Renaming.{Low, named, AreBelow, renamed, item_under}
 use Rattle.thumb_instr.specs.Window.{is_in_window, normal_of}
 use Rattle.thumb_model.specs.Items.{Values, AreWords, one_of}
 use Rattle.thumb_model.specs.Effect.{after_all}
 use Rattle.thumb_model.specs.Listing.{plain, Label, Code, is_code}
 use Rattle.thumb_model.specs.Flow.{LiveAfter}
-use Rattle.thumb_instr.specs.declared.within.NotBothSp.{NotBothSp}
-use Rattle.thumb_instr.proofs.Registers.{wide_or, sum_under}
-
--- a low register, and a register but pc
-abbrev pub Low : Type 0
-Low = Within 0 8
-
-abbrev pub Reg : Type 0
-Reg = Within 0 15
 
 -- an entry: its left side, its right side, the items that may be live after it, and how many registers it names
 pub record Rule : Type 0 where
@@ -31,60 +21,9 @@ Equal left right mask = (v : Values) → AreWords v → (x : ℕ) → one_of x m
 
 -- ---- renaming ----
 
--- the registers that an instruction which may stand in a window names
-abbrev pub named : Instr → List ℕ
-named (instr.Mov d m) = d.number ∷ m.number ∷ []
-named (instr.Three s d n m) = d.number ∷ n.number ∷ m.number ∷ []
-named (instr.Two o d m) = d.number ∷ m.number ∷ []
-named (instr.Movs d m) = d.number ∷ m.number ∷ []
-named (instr.ShiftLeft d m i) = d.number ∷ m.number ∷ []
-named (instr.ShiftRight s d m i) = d.number ∷ m.number ∷ []
-named (instr.ThreeNumber s d n i) = d.number ∷ n.number ∷ []
-named (instr.TwoNumber o d i) = d.number ∷ []
-named (instr.Add r) = r.target.number ∷ r.source.number ∷ []
-named (instr.Extend e d m) = d.number ∷ m.number ∷ []
-named (instr.Reverse r d m) = d.number ∷ m.number ∷ []
-named i = []
-
--- the register that a canonical one stands for: one of the map, and each other register itself
-abbrev pub low_under : List Low → Low → Low
-low_under registers x = unwrap_or (slice_get registers x.number) x
-
-abbrev pub reg_under : List Low → Reg → Reg
-reg_under registers x = wide_or (slice_get registers x.number) x
-
-abbrev pub both_under : List Low → NotBothSp → NotBothSp
-both_under registers r = sum_under (λ x. slice_get registers x.number) r
-
-abbrev pub renamed : List Low → Instr → Instr
-renamed registers (instr.Mov d m) = instr.Mov (reg_under registers d) (reg_under registers m)
-renamed registers (instr.Three s d n m) = instr.Three s (low_under registers d) (low_under registers n) (low_under registers m)
-renamed registers (instr.Two o d m) = instr.Two o (low_under registers d) (low_under registers m)
-renamed registers (instr.Movs d m) = instr.Movs (low_under registers d) (low_under registers m)
-renamed registers (instr.ShiftLeft d m i) = instr.ShiftLeft (low_under registers d) (low_under registers m) i
-renamed registers (instr.ShiftRight s d m i) = instr.ShiftRight s (low_under registers d) (low_under registers m) i
-renamed registers (instr.ThreeNumber s d n i) = instr.ThreeNumber s (low_under registers d) (low_under registers n) i
-renamed registers (instr.TwoNumber o d i) = instr.TwoNumber o (low_under registers d) i
-renamed registers (instr.Add r) = instr.Add (both_under registers r)
-renamed registers (instr.Extend e d m) = instr.Extend e (low_under registers d) (low_under registers m)
-renamed registers (instr.Reverse r d m) = instr.Reverse r (low_under registers d) (low_under registers m)
-renamed registers i = i
-
--- the item that a canonical one stands for: a register of the map, and each other item itself
-abbrev pub number_or : Option Low → ℕ → ℕ
-number_or None x = x
-number_or (Some r) x = r.number
-
-abbrev pub item_under : List Low → ℕ → ℕ
-item_under registers x = number_or (slice_get registers x) x
-
 -- no two of them are the same
 pub record IsOneToOne (registers : List Low) : Type 0 where
   pub distinct : (j k : ℕ) (r : Low) → slice_get registers j ≡ Some r → (s : Low) → slice_get registers k ≡ Some s → r.number ≡ s.number → j ≡ k
-
-abbrev pub AreBelow : ℕ → List ℕ → Type 0
-AreBelow k [] = Unit {0}
-AreBelow k (x ∷ xs) = (x < k) × AreBelow k xs
 
 -- each instruction may stand in a window, and names registers below k alone
 abbrev pub AreOver : ℕ → List Instr → Type 0

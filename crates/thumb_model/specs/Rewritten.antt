@@ -3,7 +3,8 @@ use Rattle.std.specs.Prelude.{◌≡◌, ℕ, zero, suc, ◌-◌, ◌≤◌, ◌
 use Rattle.thumb_instr.specs.declared.instr.Instr.{Instr}
 use Rattle.thumb_model.specs.Listing.{Name, Statement, Nothing, Runs, Words, Aligns, Sets, Line, places_in, code_of}
 use Rattle.thumb_model.specs.Layout.{Layable}
-use Rattle.thumb_model.specs.Rewrite.{Low, Rule, AreSound, Applies, renamed}
+use Rattle.thumb_instr.specs.Renaming.{Low, renamed}
+use Rattle.thumb_model.specs.Rewrite.{Rule, AreSound, Applies}
 
 -- what rewriting is given: the table, the base, and the bytes of an instruction's own line
 pub record Setting : Type 0 where

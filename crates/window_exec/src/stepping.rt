@@ -3,7 +3,7 @@ ghost use Rattle.word_bits.specs.Word.{shift_of};
 ghost use Rattle.thumb_instr.specs.Window.{is_in_window};
 ghost use Rattle.thumb_model.specs.Items.{assigned, c_flag};
 ghost use Rattle.thumb_model.specs.Effect.{sum_outputs, shift_outputs, three_sum, right_shift, extension_of, reversal_of, two_outputs, byte_outputs, after};
-ghost use Rattle.thumb_model.specs.Rewrite.{named, AreBelow};
+ghost use Rattle.thumb_instr.specs.Renaming.{named, AreBelow};
 ghost use Rattle.window_exec.specs.State.{values_of};
 
 use crate::state::WState;

@@ -1,6 +1,6 @@
 ghost use Rattle.std.specs.Prelude.{◌≡◌, true, IsTrue, IfSome};
 ghost use Rattle.thumb_instr.specs.Window.{is_in_window};
-ghost use Rattle.thumb_model.specs.Rewrite.{named, AreBelow};
+ghost use Rattle.thumb_instr.specs.Renaming.{named, AreBelow};
 
 use super::*;
 use std::test::Fail;

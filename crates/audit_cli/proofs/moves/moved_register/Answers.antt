@@ -2,8 +2,8 @@ use Rattle.std.proofs.Common.{◌≡◌, ◌<◌, ◌≤◌, Option, Some, None,
 use Rattle.std.specs.Prelude.{IfSome, IfNone, IsSome}
 use Rattle.thumb_instr.specs.declared.instr.Instr.{Instr}
 use Rattle.thumb_instr.specs.declared.instr.Instr.TheVariants.{Mov}
-use Rattle.thumb_instr.proofs.Registers.{widened, widened_number, same_number}
-use Rattle.thumb_model.specs.Rewrite.{Low, Reg}
+use Rattle.thumb_instr.specs.Renaming.{widened, Low, Reg}
+use Rattle.thumb_instr.proofs.Registers.{widened_number, same_number}
 use Rattle.audit_cli.specs.Moves.{self_move}
 use Rattle.audit_cli.proofs.moves.moved_register.Goals as goal
 

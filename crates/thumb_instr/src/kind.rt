@@ -1,0 +1,55 @@
+//! Instructions without their registers and numbers, and with them as plain numbers.
+use crate::operation::{
+    Access, Barrier, ByteOperation, Condition, Extension, Hint, Interrupts, OffsetAccess,
+    Operation, Reversal, Right, Special, Sum, WordAccess,
+};
+
+/// What an instruction is, without its registers and numbers: as the constructors of `Instr`, with the operation.
+#[derive(Clone, Copy, Debug, PartialEq, Eq)]
+pub enum Kind {
+    Mov,
+    Three(Sum),
+    Two(Operation),
+    Bx,
+    Movs,
+    ShiftLeft,
+    ShiftRight(Right),
+    ThreeNumber(Sum),
+    TwoNumber(ByteOperation),
+    Add,
+    Compare,
+    Blx,
+    Literal,
+    Indexed(Access),
+    Offset(OffsetAccess),
+    Stack(WordAccess),
+    Address,
+    StackAddress,
+    StackMove(Sum),
+    Extend(Extension),
+    Reverse(Reversal),
+    Push,
+    Pop,
+    StoreMany,
+    LoadMany,
+    Breakpoint,
+    Service,
+    Hint(Hint),
+    ChangeState(Interrupts),
+    BranchIf(Condition),
+    Branch,
+    Call,
+    Barrier(Barrier),
+    ReadSpecial(Special),
+    WriteMask,
+}
+
+/// An instruction as its kind and its registers and numbers, in the order of its canonical text: 0 stands for a number that its kind has none of.
+/// Lists of registers are their bits, offsets are in the units of the encoding, and distances are the fields of the encoding.
+#[derive(Clone, Copy, Debug, PartialEq, Eq)]
+pub struct Parts {
+    pub kind: Kind,
+    pub first: u32,
+    pub second: u32,
+    pub third: u32,
+}

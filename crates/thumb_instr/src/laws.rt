@@ -1,0 +1,13 @@
+//! What holds of instructions and their parts together.
+ghost use Rattle.std.specs.Prelude.{◌≡◌, Some};
+
+use crate::apart::parts;
+use crate::instr::Instr;
+use crate::rebuilding::rebuilt;
+
+/// What is put together of an instruction's parts: the instruction.
+pub fn rebuilding_gives_back(instr: &Instr) -> Option<Instr>
+    ensures { result ≡ Some instr.now }
+{
+    rebuilt(&parts(instr))
+}
