@@ -60,3 +60,8 @@ least() {
 print_times() {
     echo "$1: proved $3 $2, ${5:-plain Rust} $4 $2, ratio $(awk "BEGIN { printf \"%.2f\", $3 / $4 }")"
 }
+
+# print_factor WHAT UNIT ONCE TWICE: prints both times and by which factor the second is longer.
+print_factor() {
+    echo "$1 $3 and $4 $2, factor $(awk "BEGIN { printf \"%.2f\", $4 / $3 }")"
+}

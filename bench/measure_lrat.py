@@ -57,7 +57,8 @@ def main():
             rows.append(least([report for _, report in runs]))
         print(
             f"{len(clauses)} clauses, {len(said)} lines, {looked_at(clauses, proof_lines)} literals:"
-            f" read {rows[0][0]} against {rows[1][0]}, checked {rows[0][1]} against {rows[1][1]}"
+            f" read {rows[0][0]} against {rows[1][0]}, checked {rows[0][1]} against {rows[1][1]},"
+            f" ratio {rows[0][1] / max(rows[1][1], 1):.2f}"
         )
 
 
