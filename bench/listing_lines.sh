@@ -19,7 +19,7 @@ case $do in
 esac
 take_crates listing_parser label_layout
 proved=$(build_proved listing_lines "$top/bench/listing_lines/proved.rs" listing_parser label_layout anyhow)
-plain=$(build_plain "$top/bench/listing_lines/plain.rs")
+plain=$(build_plain "$top/bench/listing_lines/plain/main.rs")
 
 # run_on PROGRAM LISTING: runs a program on a listing, as many turns as there are, and sets what the runs took at least: `printing` with reading and printing,
 # `laying` with reading and laying out, `all` with the three. `told` is what it tells beside times.
