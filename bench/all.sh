@@ -6,22 +6,27 @@ listings=${1:-}
 [ -d "$listings" ] || { sed -n '2,3s/^# //p' "$0" >&2; exit 2; }
 failed=0
 
-# measure TOOL RUNNER SCRIPT WORD..: runs a script of this folder.
+# measure TOOLS RUNNER SCRIPT WORD..: runs a script of this folder, which needs the tools beside rt and rustc.
 measure() {
+    local tool
     echo "$3:"
-    if ! command -v "$1" > /dev/null; then
-        echo "skipped, for want of $1"
-    elif ! "$2" "$top/bench/$3" "${@:4}"; then
+    for tool in rt rustc $1; do
+        if ! command -v "$tool" > /dev/null; then
+            echo "skipped, for want of $tool"
+            return
+        fi
+    done
+    if ! "$2" "$top/bench/$3" "${@:4}"; then
         echo "failed"
         failed=1
     fi
 }
 
-measure rt bash codes.sh
-measure rt bash window_steps.sh
-measure rt bash formulas.sh
-measure rt bash machine_steps.sh
-measure rt bash listing_lines.sh --all "$listings"
-measure rt bash rewrite.sh
+measure python3 bash codes.sh
+measure "" bash window_steps.sh
+measure "" bash formulas.sh
+measure "" bash machine_steps.sh
+measure python3 bash listing_lines.sh --all "$listings"
+measure python3 bash rewrite.sh
 measure cadical python3 measure_lrat.py "$work/lrat"
 exit "$failed"
