@@ -11,7 +11,7 @@ use Rattle.thumb_instr.specs.declared.operation.Right.TheVariants as right
 use Rattle.thumb_instr.specs.declared.operation.Operation.TheVariants as operation
 use Rattle.thumb_instr.specs.declared.operation.Extension.TheVariants as extension
 use Rattle.thumb_instr.specs.declared.operation.Reversal.TheVariants as reversal
-use Rattle.std.proofs.Common.{◌≡◌, ◌<◌, subst, lit≤}
+use Rattle.std.proofs.Common.{◌<◌, subst, lit≤}
 use Rattle.std.proofs.Math.Nat.{lt_of_lt_of_le}
 use Rattle.std.proofs.Math.Dec.{le→leb}
 use Rattle.seq_enum.specs.Lists.{numbers_from, held_in, grid2, grid3}

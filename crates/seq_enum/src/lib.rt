@@ -1,6 +1,17 @@
 //! The alphabet of a window's instructions over a few registers and a pool of numbers, and its sequences by number.
 #![tactic(auto)]
 
+mod alphabet;
+mod members;
+mod places;
+mod pool;
+mod registers;
 mod rows;
+mod sequences;
+#[cfg(test)]
+mod tests;
 
+pub use alphabet::size;
+pub use pool::Pool;
 pub use rows::{Pair, Row};
+pub use sequences::{number_of, seq_at};

@@ -1,0 +1,169 @@
+ghost use Rattle.std.specs.Prelude.{◌≡◌, ◌≤◌, ◌<◌, slice_get, length, filter, IfSome, IsSome, IsTrue, ◌↔◌, Some, true};
+ghost use Rattle.seq_enum.specs.Lists.{ascends_from, held_in, IsPlace};
+ghost use Rattle.seq_enum.specs.Places.{place_of};
+ghost use Rattle.seq_enum.specs.Pools.{is_pool, inside};
+
+use arrayvec::ArrayVec;
+use std::marker::Model;
+use thumb_instr::Within;
+
+/// The numbers that instructions of an alphabet may have: 1 to 16 distinct ones from 0 to 255, ascending.
+#[derive(Drop)]
+pub struct Pool {
+    numbers: ArrayVec<u8, 16>,
+}
+
+impl Model for Pool {
+    ghost use Rattle.std.specs.Prelude.{List, ℕ, IsTrue};
+    ghost use Rattle.seq_enum.specs.Pools.{is_pool};
+
+    ghost Value = { List ℕ };
+
+    ghost view = { λ p. p.numbers.items };
+
+    ghost invariant = { λ p. IsTrue (is_pool p.numbers.items) };
+}
+
+impl Pool {
+    /// The pool of some numbers, where they are 1 to 16, each above the one before.
+    pub fn new(numbers: &[u8]) -> Option<Pool>
+        ensures valid { IsSome result ↔ IsTrue (is_pool numbers.now) }
+        ensures value { IfSome result (λ p. p ≡ numbers.now) }
+    {
+        if is_pool(numbers) {
+            Some(Pool {
+                numbers: kept(numbers),
+            })
+        } else {
+            None
+        }
+    }
+
+    /// The numbers, ascending.
+    pub fn numbers(&self) -> &[u8]
+        ensures value { result.now ≡ self.now }
+        ensures valid { IsTrue (is_pool self.now) }
+    {
+        self.numbers.as_slice()
+    }
+
+    /// How many of the numbers are from `least` to below `limit`.
+    #[tactic(auto, using(crate::proofs::Fields::held_length))]
+    pub(crate) fn count(&self, least: u32, limit: u32) -> u64
+        ensures value { result ≡ length (held_in least limit self.now) }
+        ensures small { result ≤ 16 }
+    {
+        count_among(&self.numbers, least, limit)
+    }
+
+    /// The number at a place among those that a field of this range holds.
+    #[tactic(auto, using(crate::proofs::Fields::held_gets))]
+    pub(crate) fn number<const LEAST: u32, const END: u32>(
+        &self,
+        place: u64,
+    ) -> Option<Within<LEAST, END>>
+        ensures { result ≡ slice_get (held_in LEAST END self.now) place }
+    {
+        match number_among(self.numbers(), LEAST, END, place) {
+            None => None,
+            Some(number) => Within::new(u32::from(number)),
+        }
+    }
+
+    /// Where a number stands among those that a field of its range holds.
+    pub(crate) fn place<const LEAST: u32, const END: u32>(
+        &self,
+        number: Within<LEAST, END>,
+    ) -> Option<u64>
+        ensures value { IsPlace result (held_in LEAST END self.now) number.entry }
+        ensures small { IfSome result (λ i. i < 16) }
+    {
+        place_among(self.numbers(), LEAST, END, number.number)
+    }
+}
+
+/// Whether these are the numbers of a pool.
+#[tactic(auto, using(crate::proofs::Bounds::pools))]
+fn is_pool(numbers: &[u8]) -> bool
+    ensures { result ≡ is_pool numbers.now }
+{
+    if numbers.is_empty() {
+        return false;
+    }
+    if numbers.len() > 16 {
+        return false;
+    }
+    ascends(numbers)
+}
+
+/// Whether each number is above the one before.
+#[tactic(auto, unfolding(crate::specs::Lists::ascends_from))]
+fn ascends(numbers: &[u8]) -> bool
+    ensures { result ≡ ascends_from 0 numbers.now }
+{
+    let mut low = 0u16;
+    for x in numbers {
+        if u16::from(*x) < low {
+            return false;
+        }
+        low = u16::from(*x) + 1;
+    }
+    true
+}
+
+/// The numbers as a value of its own.
+fn kept(numbers: &[u8]) -> ArrayVec<u8, 16>
+    requires { length numbers.now ≤ 16 }
+    ensures { result.items ≡ numbers.now }
+{
+    let mut kept = ArrayVec::new();
+    for x in numbers {
+        kept.push(*x);
+    }
+    kept
+}
+
+/// How many of the numbers are from `least` to below `limit`.
+fn count_among(numbers: &[u8], least: u32, limit: u32) -> u64
+    ensures value { result ≡ length (filter (inside least limit) numbers.now) }
+    ensures small { result ≤ length numbers.now }
+{
+    numbers
+        .iter()
+        .filter(|x| least <= u32::from(**x) && u32::from(**x) < limit)
+        .count() as u64
+}
+
+/// The number at a place among those from `least` to below `limit`.
+fn number_among(numbers: &[u8], least: u32, limit: u32, place: u64) -> Option<u8>
+    ensures { result ≡ slice_get (filter (inside least limit) numbers.now) place }
+{
+    let mut before = place;
+    for x in numbers {
+        if least <= u32::from(*x) && u32::from(*x) < limit {
+            if before == 0 {
+                return Some(*x);
+            }
+            before -= 1;
+        }
+    }
+    None
+}
+
+/// Where a number stands among those from `least` to below `limit`.
+#[tactic(auto, unfolding(crate::specs::Places::place_of))]
+fn place_among(numbers: &[u8], least: u32, limit: u32, number: u32) -> Option<u64>
+    ensures value { result ≡ place_of number (filter (inside least limit) numbers.now) }
+    ensures small { IfSome result (λ i. i < length numbers.now) }
+{
+    let mut before = 0u64;
+    for x in numbers {
+        if least <= u32::from(*x) && u32::from(*x) < limit {
+            if u32::from(*x) == number {
+                return Some(before);
+            }
+            before += 1;
+        }
+    }
+    None
+}
