@@ -2,7 +2,7 @@
 # Measures reading a listing and printing it back, and reading it and laying it out, with the proved crates beside a plain Rust program that reads the same grammar.
 # Use: bench/listing_lines.sh LISTING [TURNS]
 # or   bench/listing_lines.sh --each FOLDER, which tries that each file of a folder is printed back byte for byte, and laid out alike by both programs,
-# or   bench/listing_lines.sh --shapes [TURNS], which measures listings of some shapes at n and 2n: where time is linear the factor is about 2,
+# or   bench/listing_lines.sh --shapes [TURNS], which measures listings of some shapes at n and 2n: where time is linear the factor is about that of plain Rust,
 # or   bench/listing_lines.sh --all FOLDER [TURNS]: the folder's files each, one listing of about 65,000 lines made by repeating them, and the shapes.
 . "$(dirname "$0")/common.sh"
 usage() { sed -n '2,6s/^# //p' "$0" >&2; exit 2; }
