@@ -6,9 +6,10 @@ use Rattle.thumb_instr.specs.declared.instr.Instr.{Instr}
 use Rattle.thumb_instr.specs.declared.instr.Instr.TheVariants as instr
 use Rattle.thumb_instr.specs.declared.operation.Sum.TheVariants as sum
 use Rattle.thumb_instr.specs.declared.operation.Operation.TheVariants as operation
-use Rattle.thumb_syntax.specs.declared.kind.Kind.{Kind}
-use Rattle.thumb_syntax.specs.declared.kind.Kind.TheVariants as kind
-use Rattle.thumb_syntax.specs.Made.{Made, made_of}
+use Rattle.thumb_instr.specs.declared.kind.Kind.{Kind}
+use Rattle.thumb_instr.specs.declared.kind.Kind.TheVariants as kind
+use Rattle.thumb_instr.specs.declared.kind.Parts.{Parts}
+use Rattle.thumb_instr.specs.Parts.{parts_of}
 use Rattle.ascii_scan.specs.Lines.{Placed}
 use Rattle.audit_cli.specs.Straight.{is_straight_instr, HoldsInstr, IsLabel, Form, Blank, Labels, Holds, IsAllowed, text_of_form, MayStand, IsStraight, AreDetermined}
 use Rattle.audit_cli.proofs.Lists.{same_parts}
@@ -49,7 +50,7 @@ is_straight_kind (kind.Two operation.Mul) a b = true
 is_straight_kind kind.Bx a b = a == 14
 is_straight_kind k a b = false
 
-by_kind : (i : Instr) → is_straight_instr i ≡ is_straight_kind (made_of i).kind (made_of i).first (made_of i).second
+by_kind : (i : Instr) → is_straight_instr i ≡ is_straight_kind (parts_of i).kind (parts_of i).first (parts_of i).second
 unfolding is_straight_kind
 by_kind (instr.Mov d m) = refl
 by_kind (instr.Three sum.Add d n m) = refl
@@ -60,8 +61,8 @@ by_kind (instr.Bx m) = refl
 by_kind i = refl
 
 -- what is straight is told by kind and numbers
-pub straight_alike : (i j : Instr) → made_of i ≡ made_of j → is_straight_instr i ≡ is_straight_instr j
-straight_alike i j e = by_kind i ∙ ap (λ (m : Made). is_straight_kind m.kind m.first m.second) e ∙ sym (by_kind j)
+pub straight_alike : (i j : Instr) → parts_of i ≡ parts_of j → is_straight_instr i ≡ is_straight_instr j
+straight_alike i j e = by_kind i ∙ ap (λ (m : Parts). is_straight_kind m.kind m.first m.second) e ∙ sym (by_kind j)
 
 -- ---- what may stand on a line ----
 

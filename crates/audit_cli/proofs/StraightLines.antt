@@ -6,7 +6,7 @@ use Rattle.std.proofs.lemmas.Option.{same_Some}
 use Rattle.std.proofs.lemmas.List.Elements.{All-head, All-tail}
 use Rattle.thumb_instr.specs.declared.instr.Instr.{Instr}
 use Rattle.thumb_instr.specs.declared.instr.Instr.TheVariants as instr
-use Rattle.thumb_syntax.specs.Made.{made_of}
+use Rattle.thumb_instr.specs.Parts.{parts_of}
 use Rattle.thumb_syntax.specs.Rows.{Shown, reading}
 use Rattle.thumb_syntax.specs.Spelling.{text_of}
 use Rattle.thumb_syntax.specs.Whole.{is_unlabelled, is_whole, shown_with}
@@ -194,7 +194,7 @@ never_read text none h = absurd (let e = sym none ∙ text_reads text h in cc)
 same_shown : (text : List ℕ) (s : Shown) (h : HoldsInstr text) → reading text ≡ Some s → s ≡ shown_of h.instr None
 same_shown text s h e = same_Some s (shown_of h.instr None) (sym e ∙ text_reads text h)
 
-pub never_other : (text : List ℕ) (i : Instr) (s : Shown) → reading text ≡ Some s → s.made ≡ made_of i → is_straight_instr i ≡ false → HoldsInstr text → ⊥
+pub never_other : (text : List ℕ) (i : Instr) (s : Shown) → reading text ≡ Some s → s.made ≡ parts_of i → is_straight_instr i ≡ false → HoldsInstr text → ⊥
 never_other text i s e made other h =
     let same : is_straight_instr i ≡ is_straight_instr h.instr = straight_alike i h.instr (sym made ∙ ap (λ (x : Shown). x.made) (same_shown text s h e)) in
     absurd (true≢false (sym h.straight ∙ sym same ∙ other))
@@ -216,13 +216,13 @@ whole_alone (instr.Address t d) l s e = absurd (true≢false (sym s))
 whole_alone i l s e = unlabelled l e
 
 -- a straight instruction is read without a label
-shown_alone : (text : List ℕ) (i : Instr) (s : Shown) → reading text ≡ Some s → s.made ≡ made_of i → is_straight_instr i ≡ true → s ≡ shown_of i None
+shown_alone : (text : List ℕ) (i : Instr) (s : Shown) → reading text ≡ Some s → s.made ≡ parts_of i → is_straight_instr i ≡ true → s ≡ shown_of i None
 shown_alone text i s e made straight =
     let as_whole : s ≡ shown_with i s.label = λ k. record { made = made k; label = s.label } in
     let none : s.label ≡ None = whole_alone i s.label straight (reading_is_whole text i s.label (e ∙ ap (λ (x : Shown). (let o : Option Shown = Some x in o)) as_whole)) in
     λ k. record { made = made k; label = none k }
 
-pub holds_written : (text : List ℕ) (i : Instr) (s : Shown) → reading text ≡ Some s → s.made ≡ made_of i → is_straight_instr i ≡ true → text ≡ text_of s → HoldsInstr text
+pub holds_written : (text : List ℕ) (i : Instr) (s : Shown) → reading text ≡ Some s → s.made ≡ parts_of i → is_straight_instr i ≡ true → text ≡ text_of s → HoldsInstr text
 holds_written text i s e made straight same = record {
   instr = i;
   straight = straight;

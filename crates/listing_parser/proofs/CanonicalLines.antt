@@ -19,7 +19,7 @@ use Rattle.thumb_syntax.specs.Operands.{is_name, is_some_of}
 use Rattle.thumb_syntax.specs.Slots.{Fields, at, empty}
 use Rattle.thumb_syntax.specs.Rows.{Row, Shown, data_rows, memory_rows, control_rows, reading}
 use Rattle.thumb_syntax.specs.RowLaws.{rows}
-use Rattle.thumb_syntax.specs.Made.{made_of}
+use Rattle.thumb_instr.specs.Parts.{parts_of}
 use Rattle.thumb_syntax.specs.Canonical.{mnemonic}
 use Rattle.thumb_syntax.specs.Spelling.{register_text, number_text, has_bit, separator, member_text, members, low_bits, stack_bits, slot_text, slots_text, operands_text, text_of}
 use Rattle.thumb_syntax.specs.Whole.{is_whole}
@@ -218,7 +218,7 @@ names_none i e = refl
 -- the canonical text of an instruction that names no label
 pub canonical_text : (i : Instr) → names_no_label i ≡ true → Canonical (text_of (shown_of i None))
 canonical_text i e =
-    let m = made_of i in
+    let m = parts_of i in
     let w = written i None (names_none i e) in
     let f = fields m.first m.second m.third None in
     let row = row_at (mnemonic m.kind) w.slots m.kind in

@@ -1,158 +1,12 @@
--- An instruction is determined by its kind and numbers, and a line by what its text tells.
+-- A line is determined by what its text tells.
 use Rattle.std.proofs.Common.{◌≡◌, ◌∙◌, ℕ, List, [], ◌∷◌, map, refl, sym, ap, Option, Some, None, Ok, option_map}
 use Rattle.ascii_scan.specs.Lines.{lines_in}
-use Rattle.thumb_instr.specs.declared.instr.Instr.{Instr}
-use Rattle.thumb_instr.specs.declared.instr.Instr.TheVariants as instr
-use Rattle.thumb_instr.proofs.Registers.{same_number, same_general, same_distance, same_not_both_sp, same_not_both_low, same_stored}
-use Rattle.thumb_syntax.specs.declared.kind.Kind.TheVariants as kind
-use Rattle.thumb_syntax.specs.Made.{Made, made_of}
+use Rattle.thumb_instr.proofs.PartLemmas.{same_parts}
 use Rattle.thumb_syntax.specs.Rows.{Shown}
 use Rattle.thumb_model.specs.Listing.{Mention, Statement, Runs, Line}
 use Rattle.listing_parser.specs.Grammar.{Plain, Instruction, Bare, Read, read_lines}
 use Rattle.listing_parser.specs.Bare.{shown_of, said_of, bare}
 use Rattle.listing_parser.specs.Parsing.{OneListing}
-
--- ---- instructions ----
-
-kinds : (m n : Made) → m ≡ n → m.kind ≡ n.kind
-kinds m n e = ap (λ (x : Made). x.kind) e
-
-firsts : (m n : Made) → m ≡ n → m.first ≡ n.first
-firsts m n e = ap (λ (x : Made). x.first) e
-
-seconds : (m n : Made) → m ≡ n → m.second ≡ n.second
-seconds m n e = ap (λ (x : Made). x.second) e
-
-thirds : (m n : Made) → m ≡ n → m.third ≡ n.third
-thirds m n e = ap (λ (x : Made). x.third) e
-
--- two instructions of one kind and the same numbers are one
-pub same_made : (i j : Instr) → made_of i ≡ made_of j → i ≡ j
-same_made (instr.Mov a b) (instr.Mov x y) e =
-    let one = same_number a x (firsts _ _ e) in
-    let two = same_number b y (seconds _ _ e) in
-    cc
-same_made (instr.Three o a b c) (instr.Three p x y z) e =
-    let k : kind.Three o ≡ kind.Three p = kinds _ _ e in
-    let same : o ≡ p = cc in
-    let one = same_number a x (firsts _ _ e) in
-    let two = same_number b y (seconds _ _ e) in
-    let three = same_number c z (thirds _ _ e) in
-    cc
-same_made (instr.Two o a b) (instr.Two p x y) e =
-    let k : kind.Two o ≡ kind.Two p = kinds _ _ e in
-    let same : o ≡ p = cc in
-    let one = same_number a x (firsts _ _ e) in
-    let two = same_number b y (seconds _ _ e) in
-    cc
-same_made (instr.Bx a) (instr.Bx x) e = ap instr.Bx (same_general a x (firsts _ _ e))
-same_made (instr.Movs a b) (instr.Movs x y) e =
-    let one = same_number a x (firsts _ _ e) in
-    let two = same_number b y (seconds _ _ e) in
-    cc
-same_made (instr.ShiftLeft a b c) (instr.ShiftLeft x y z) e =
-    let one = same_number a x (firsts _ _ e) in
-    let two = same_number b y (seconds _ _ e) in
-    let three = same_number c z (thirds _ _ e) in
-    cc
-same_made (instr.ShiftRight o a b c) (instr.ShiftRight p x y z) e =
-    let k : kind.ShiftRight o ≡ kind.ShiftRight p = kinds _ _ e in
-    let same : o ≡ p = cc in
-    let one = same_number a x (firsts _ _ e) in
-    let two = same_number b y (seconds _ _ e) in
-    let three = same_number c z (thirds _ _ e) in
-    cc
-same_made (instr.ThreeNumber o a b c) (instr.ThreeNumber p x y z) e =
-    let k : kind.ThreeNumber o ≡ kind.ThreeNumber p = kinds _ _ e in
-    let same : o ≡ p = cc in
-    let one = same_number a x (firsts _ _ e) in
-    let two = same_number b y (seconds _ _ e) in
-    let three = same_number c z (thirds _ _ e) in
-    cc
-same_made (instr.TwoNumber o a b) (instr.TwoNumber p x y) e =
-    let k : kind.TwoNumber o ≡ kind.TwoNumber p = kinds _ _ e in
-    let same : o ≡ p = cc in
-    let one = same_number a x (firsts _ _ e) in
-    let two = same_number b y (seconds _ _ e) in
-    cc
-same_made (instr.Add r) (instr.Add s) e = ap instr.Add (same_not_both_sp r s (same_number r.target s.target (firsts _ _ e)) (same_number r.source s.source (seconds _ _ e)))
-same_made (instr.Compare r) (instr.Compare s) e = ap instr.Compare (same_not_both_low r s (same_number r.left s.left (firsts _ _ e)) (same_number r.right s.right (seconds _ _ e)))
-same_made (instr.Blx a) (instr.Blx x) e = ap instr.Blx (same_general a x (firsts _ _ e))
-same_made (instr.Literal a b) (instr.Literal x y) e =
-    let one = same_number a x (firsts _ _ e) in
-    let two = same_number b y (seconds _ _ e) in
-    cc
-same_made (instr.Indexed o a b c) (instr.Indexed p x y z) e =
-    let k : kind.Indexed o ≡ kind.Indexed p = kinds _ _ e in
-    let same : o ≡ p = cc in
-    let one = same_number a x (firsts _ _ e) in
-    let two = same_number b y (seconds _ _ e) in
-    let three = same_number c z (thirds _ _ e) in
-    cc
-same_made (instr.Offset o a b c) (instr.Offset p x y z) e =
-    let k : kind.Offset o ≡ kind.Offset p = kinds _ _ e in
-    let same : o ≡ p = cc in
-    let one = same_number a x (firsts _ _ e) in
-    let two = same_number b y (seconds _ _ e) in
-    let three = same_number c z (thirds _ _ e) in
-    cc
-same_made (instr.Stack o a b) (instr.Stack p x y) e =
-    let k : kind.Stack o ≡ kind.Stack p = kinds _ _ e in
-    let same : o ≡ p = cc in
-    let one = same_number a x (firsts _ _ e) in
-    let two = same_number b y (seconds _ _ e) in
-    cc
-same_made (instr.Address a b) (instr.Address x y) e =
-    let one = same_number a x (firsts _ _ e) in
-    let two = same_number b y (seconds _ _ e) in
-    cc
-same_made (instr.StackAddress a b) (instr.StackAddress x y) e =
-    let one = same_number a x (firsts _ _ e) in
-    let two = same_number b y (seconds _ _ e) in
-    cc
-same_made (instr.StackMove o a) (instr.StackMove p x) e =
-    let k : kind.StackMove o ≡ kind.StackMove p = kinds _ _ e in
-    let same : o ≡ p = cc in
-    let one = same_number a x (firsts _ _ e) in
-    cc
-same_made (instr.Extend o a b) (instr.Extend p x y) e =
-    let k : kind.Extend o ≡ kind.Extend p = kinds _ _ e in
-    let same : o ≡ p = cc in
-    let one = same_number a x (firsts _ _ e) in
-    let two = same_number b y (seconds _ _ e) in
-    cc
-same_made (instr.Reverse o a b) (instr.Reverse p x y) e =
-    let k : kind.Reverse o ≡ kind.Reverse p = kinds _ _ e in
-    let same : o ≡ p = cc in
-    let one = same_number a x (firsts _ _ e) in
-    let two = same_number b y (seconds _ _ e) in
-    cc
-same_made (instr.Push a) (instr.Push x) e = ap instr.Push (same_number a x (firsts _ _ e))
-same_made (instr.Pop a) (instr.Pop x) e = ap instr.Pop (same_number a x (firsts _ _ e))
-same_made (instr.StoreMany r) (instr.StoreMany s) e = ap instr.StoreMany (same_stored r s (same_number r.base s.base (firsts _ _ e)) (same_number r.list s.list (seconds _ _ e)))
-same_made (instr.LoadMany a b) (instr.LoadMany x y) e =
-    let one = same_number a x (firsts _ _ e) in
-    let two = same_number b y (seconds _ _ e) in
-    cc
-same_made (instr.Breakpoint a) (instr.Breakpoint x) e = ap instr.Breakpoint (same_number a x (firsts _ _ e))
-same_made (instr.Service a) (instr.Service x) e = ap instr.Service (same_number a x (firsts _ _ e))
-same_made (instr.Hint o) (instr.Hint p) e = let k : kind.Hint o ≡ kind.Hint p = kinds _ _ e in let same : o ≡ p = cc in ap instr.Hint same
-same_made (instr.ChangeState o) (instr.ChangeState p) e = let k : kind.ChangeState o ≡ kind.ChangeState p = kinds _ _ e in let same : o ≡ p = cc in ap instr.ChangeState same
-same_made (instr.BranchIf o a) (instr.BranchIf p x) e =
-    let k : kind.BranchIf o ≡ kind.BranchIf p = kinds _ _ e in
-    let same : o ≡ p = cc in
-    let one = same_distance a x (firsts _ _ e) in
-    cc
-same_made (instr.Branch a) (instr.Branch x) e = ap instr.Branch (same_distance a x (firsts _ _ e))
-same_made (instr.Call a) (instr.Call x) e = ap instr.Call (same_distance a x (firsts _ _ e))
-same_made (instr.Barrier o) (instr.Barrier p) e = let k : kind.Barrier o ≡ kind.Barrier p = kinds _ _ e in let same : o ≡ p = cc in ap instr.Barrier same
-same_made (instr.ReadSpecial a o) (instr.ReadSpecial x p) e =
-    let k : kind.ReadSpecial o ≡ kind.ReadSpecial p = kinds _ _ e in
-    let same : o ≡ p = cc in
-    let one = same_general a x (firsts _ _ e) in
-    cc
-same_made (instr.WriteMask a) (instr.WriteMask x) e = ap instr.WriteMask (same_general a x (firsts _ _ e))
-same_made i j e = absurd (let k = kinds _ _ e in cc)
 
 -- ---- lines ----
 
@@ -176,7 +30,7 @@ same_shown s t e = cc
 same_said : (s t : Statement) → said_of s ≡ said_of t → s ≡ t
 same_said (Runs i m) (Runs j n) e =
     let shown = same_shown (shown_of i m) (shown_of j n) e in
-    let instrs : i ≡ j = same_made i j (ap (λ (x : Shown). x.made) shown) in
+    let instrs : i ≡ j = same_parts i j (ap (λ (x : Shown). x.made) shown) in
     let mentions : m ≡ n = same_mention m n (ap (λ (x : Shown). x.label) shown) in
     cc
 same_said (Runs i m) t e = absurd (cc)

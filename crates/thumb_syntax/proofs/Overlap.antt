@@ -12,10 +12,11 @@ use Rattle.thumb_syntax.specs.declared.form.Place.{Place}
 use Rattle.thumb_syntax.specs.declared.form.Place.TheVariants as place
 use Rattle.thumb_syntax.specs.declared.form.Slot.{Slot}
 use Rattle.thumb_syntax.specs.declared.form.Slot.TheVariants as slot
-use Rattle.thumb_syntax.specs.declared.kind.Kind.{Kind}
-use Rattle.thumb_syntax.specs.declared.kind.Kind.TheVariants as kind
+use Rattle.thumb_instr.specs.declared.kind.Kind.{Kind}
+use Rattle.thumb_instr.specs.declared.kind.Kind.TheVariants as kind
 use Rattle.thumb_syntax.specs.Operands.{Operand, register, name}
-use Rattle.thumb_syntax.specs.Made.{Made, made, when, is_low, are_low, are_registers}
+use Rattle.thumb_instr.specs.declared.kind.Parts.{Parts}
+use Rattle.thumb_instr.specs.Parts.{made, when, is_low, are_low, are_registers}
 use Rattle.thumb_syntax.specs.Slots.{Fields, empty, at, put, held_by, filled}
 use Rattle.thumb_syntax.specs.Rows.{Row, Shown, with_label, shown_by, read_as, first, second, same, data_rows, memory_rows, control_rows}
 use Rattle.thumb_syntax.specs.RowLaws.{rows}
@@ -113,17 +114,17 @@ is_low_at kind.StackAddress place.First = true
 is_low_at (kind.Offset x) place.Second = true
 is_low_at k p = false
 
-abbrev pub made_by : Kind → Fields → Option Made
+abbrev pub made_by : Kind → Fields → Option Parts
 made_by k f = made k f.first f.second f.third
 
-pub when_some : (b : Bool) (m n : Made) → when b m ≡ Some n → (b ≡ true) × (m ≡ n)
+pub when_some : (b : Bool) (m n : Parts) → when b m ≡ Some n → (b ≡ true) × (m ≡ n)
 when_some true m n e = (refl, cc)
 when_some false m n e = absurd (cc)
 
 below_eight : (n : ℕ) → is_low n ≡ true → n < 8
 below_eight n e = ltb-true n 8 (and_parts (nat_le 0 n) (nat_lt n 8) e).1
 
-low_there : (k : Kind) (p : Place) (f : Fields) (m : Made) → is_low_at k p ≡ true → made_by k f ≡ Some m → at f p < 8
+low_there : (k : Kind) (p : Place) (f : Fields) (m : Parts) → is_low_at k p ≡ true → made_by k f ≡ Some m → at f p < 8
 low_there kind.StackAddress place.First f m e h = below_eight f.first (and_parts _ _ (when_some _ _ m h).0).0
 low_there (kind.Offset x) place.Second f m e h = below_eight f.second (and_parts _ _ (and_parts _ _ (when_some _ _ m h).0).1).0
 low_there k p f m e h = absurd (true≢false (sym e))
@@ -133,7 +134,7 @@ abbrev low_and_sp : Kind → Slot → List Slot → Slot → Bool
 low_and_sp k (slot.Register p) ss slot.Sp = is_low_at k p && list_all (leaves p) ss
 low_and_sp k s ss t = false
 
-never_sp : (k : Kind) (s t : Slot) (ss : List Slot) (f g : Fields) (o : Operand) (os : List Operand) (h y x : Fields) (m : Made)
+never_sp : (k : Kind) (s t : Slot) (ss : List Slot) (f g : Fields) (o : Operand) (os : List Operand) (h y x : Fields) (m : Parts)
     → low_and_sp k s ss t ≡ true → held_by s f o ≡ Some h → held_by t g o ≡ Some y → filled ss h os ≡ Some x → made_by k x ≡ Some m → ⊥
 never_sp k (slot.Register p) slot.Sp ss f g o os h y x m c a b fill is =
     let parts = and_parts (is_low_at k p) (list_all (leaves p) ss) c in
@@ -153,7 +154,7 @@ clash k l [] (t ∷ ts) = takes_one t
 clash k l (s ∷ ss) [] = takes_one s
 clash k l (s ∷ ss) (t ∷ ts) = takes_one s && (takes_one t && (slots_clash s t || (low_and_sp k s ss t || (low_and_sp l t ts s || clash k l ss ts))))
 
-clash_apart : (k l : Kind) (ss ts : List Slot) (f g : Fields) (os : List Operand) (x y : Fields) (m n : Made)
+clash_apart : (k l : Kind) (ss ts : List Slot) (f g : Fields) (os : List Operand) (x y : Fields) (m n : Parts)
     → clash k l ss ts ≡ true → filled ss f os ≡ Some x → filled ts g os ≡ Some y → made_by k x ≡ Some m → made_by l y ≡ Some n → ⊥
 clash_apart k l [] [] f g os x y m n c a b p q = true≢false (sym c)
 clash_apart k l [] (t ∷ ts) f g os x y m n c a b p q = let o = took t ts g os y c b in let i = o.is in let e = (none_left f os x a).0 in cc
@@ -321,11 +322,11 @@ two_is ss e = absurd (true≢false (sym e))
 abbrev are_comparisons : Row → Row → Bool
 are_comparisons a b = (is_low_compare a.kind && is_high_compare b.kind) && (is_two a.slots && is_two b.slots)
 
-low_compared : (k : Kind) (f : Fields) (m : Made) → is_low_compare k ≡ true → made_by k f ≡ Some m → are_low f.first f.second ≡ true
+low_compared : (k : Kind) (f : Fields) (m : Parts) → is_low_compare k ≡ true → made_by k f ≡ Some m → are_low f.first f.second ≡ true
 low_compared (kind.Two operation.Cmp) f m c e = (when_some _ _ m e).0
 low_compared k f m c e = absurd (true≢false (sym c))
 
-high_compared : (k : Kind) (f : Fields) (m : Made) → is_high_compare k ≡ true → made_by k f ≡ Some m → not (nat_lt f.first 8 && nat_lt f.second 8) ≡ true
+high_compared : (k : Kind) (f : Fields) (m : Parts) → is_high_compare k ≡ true → made_by k f ≡ Some m → not (nat_lt f.first 8 && nat_lt f.second 8) ≡ true
 high_compared kind.Compare f m c e = (and_parts (are_registers f.first f.second) (not (nat_lt f.first 8 && nat_lt f.second 8)) (when_some _ _ m e).0).1
 high_compared k f m c e = absurd (true≢false (sym c))
 
@@ -350,7 +351,7 @@ pub record Read (w : List ℕ) (os : List Operand) (r : Row) (s : Shown) : Type 
   pub spelled : is_spelled w r.mnemonic ≡ true
   pub fields : Fields
   pub filled : filled r.slots empty os ≡ Some fields
-  pub instr : Made
+  pub instr : Parts
   pub made : made_by r.kind fields ≡ Some instr
   pub shown : with_label fields.label instr ≡ s
 

@@ -13,17 +13,22 @@ use Rattle.thumb_syntax.specs.declared.form.Place.{Place}
 use Rattle.thumb_syntax.specs.declared.form.Place.TheVariants as place
 use Rattle.thumb_syntax.specs.declared.form.Slot.{Slot}
 use Rattle.thumb_syntax.specs.declared.form.Slot.TheVariants as slot
-use Rattle.thumb_syntax.specs.declared.kind.Kind.{Kind}
-use Rattle.thumb_syntax.specs.declared.kind.Kind.TheVariants as kind
+use Rattle.thumb_instr.specs.declared.kind.Kind.{Kind}
+use Rattle.thumb_instr.specs.declared.kind.Kind.TheVariants as kind
 use Rattle.thumb_syntax.specs.Registers.{register_named}
 use Rattle.thumb_syntax.specs.Operands.{Operand, register, base, number, sign, name, sum, operand, of_word, plain, numbered, or_stray, sum_of, range_to, after_register, after_name, is_plain, is_name}
 use Rattle.thumb_syntax.specs.Lists.{listed}
-use Rattle.thumb_syntax.specs.Made.{Made, made, made_of}
+use Rattle.thumb_instr.specs.declared.kind.Parts.{Parts}
+use Rattle.thumb_instr.specs.declared.role.Role.{Role}
+use Rattle.thumb_instr.specs.declared.role.Role.TheVariants as role
+use Rattle.thumb_instr.specs.Parts.{made, parts_of, is_instr, kept, kept_of}
+use Rattle.thumb_instr.specs.Roles.{roles}
+use Rattle.thumb_instr.proofs.PartLemmas.{made_kind}
 use Rattle.thumb_syntax.specs.Slots.{Fields, empty, at, put, named, is_in_list, held_by, list_held, taken, filled}
 use Rattle.thumb_syntax.specs.Rows.{Row, Shown, data_rows, memory_rows, control_rows}
 use Rattle.thumb_syntax.specs.RowLaws.{rows, by_row}
 use Rattle.thumb_syntax.specs.Whole.{is_label, is_label_sum, is_unlabelled, is_whole, shown_with, ReadingIsWhole}
-use Rattle.thumb_syntax.proofs.Steps.{and_then_some, map_some, kept_some, took, none_left, number_put}
+use Rattle.thumb_syntax.proofs.Steps.{and_then_some, map_some, kept_some, took, none_left, number_put, register_held, mark_held}
 use Rattle.thumb_syntax.proofs.Overlap.{when_some, Read, read_by}
 use Rattle.thumb_syntax.proofs.RowRelation.{reads_some_row}
 
@@ -208,7 +213,7 @@ label_of k = 0
 
 abbrev slots_label : List Slot → ℕ
 slots_label (slot.Label ∷ []) = 1
-slots_label (slot.Register p ∷ slot.Mark m ∷ slot.LabelSum ∷ []) = 2
+slots_label (slot.Register place.First ∷ slot.Mark m ∷ slot.LabelSum ∷ []) = 2
 slots_label ss = if list_all keeps_label ss then 0 else 3
 
 abbrev is_fitting : ℕ → Option (List ℕ × ℕ) → Bool
@@ -229,7 +234,7 @@ other_slots ss os x n less e h = elim (cases_Bool (list_all keeps_label ss)) [
 
 fitting_from : (ss : List Slot) (os : List Operand) (x : Fields) (n : ℕ) → n < 3 → list_all is_proper os ≡ true → slots_label ss ≡ n → filled ss empty os ≡ Some x → is_fitting n x.label ≡ true
 fitting_from (slot.Label ∷ []) os x n less all e h = subst (λ (k : ℕ). is_fitting k x.label ≡ true) e (label_from empty os x all h)
-fitting_from (slot.Register p ∷ slot.Mark m ∷ slot.LabelSum ∷ []) os x n less all e h = subst (λ (k : ℕ). is_fitting k x.label ≡ true) e (label_sum_from p m empty os x all h)
+fitting_from (slot.Register place.First ∷ slot.Mark m ∷ slot.LabelSum ∷ []) os x n less all e h = subst (λ (k : ℕ). is_fitting k x.label ≡ true) e (label_sum_from place.First m empty os x all h)
 fitting_from ss os x n less all e h = other_slots ss os x n less e h
 
 abbrev is_alike : Row → Bool
@@ -248,35 +253,62 @@ few_labels : (k : Kind) → label_of k < 3
 few_labels kind.Literal = omega arith
 few_labels k = omega arith
 
--- ---- an instruction's kind is its form's, and it has no distance where it names a label
-
-made_kind : (k : Kind) (a b c : ℕ) (m : Made) → made k a b c ≡ Some m → m.kind ≡ k
-made_kind (kind.Hint x) a b c m e = cc
-made_kind (kind.ChangeState x) a b c m e = cc
-made_kind (kind.BranchIf x) a b c m e = cc
-made_kind kind.Branch a b c m e = cc
-made_kind kind.Call a b c m e = cc
-made_kind (kind.Barrier x) a b c m e = cc
-made_kind k a b c m e = ap (λ (n : Made). n.kind) (sym (when_some _ _ m e).1)
+-- ---- an instruction has no distance where it names a label
 
 -- what stands in a label's place
-abbrev distance : Kind → Made → ℕ
-distance kind.Literal m = m.second
-distance kind.Address m = m.second
-distance (kind.BranchIf c) m = m.first
-distance kind.Branch m = m.first
-distance kind.Call m = m.first
-distance k m = 0
+abbrev distance : ℕ → ℕ → ℕ → ℕ
+distance zero a b = 0
+distance (suc zero) a b = a
+distance (suc (suc n)) a b = b
 
-no_distance : (k : Kind) (a b c : ℕ) (m : Made) → made k a b c ≡ Some m → distance k m ≡ 0
-no_distance kind.Literal a b c m e = ap (λ (n : Made). n.second) (sym (when_some _ _ m e).1)
-no_distance kind.Address a b c m e = ap (λ (n : Made). n.second) (sym (when_some _ _ m e).1)
-no_distance (kind.BranchIf x) a b c m e = cc
-no_distance kind.Branch a b c m e = cc
-no_distance kind.Call a b c m e = cc
-no_distance k a b c m e = refl
+label_first : (o : Operand) (h : Fields) → held_by slot.Label empty o ≡ Some h → h.first ≡ 0
+label_first (name w) h e = let same : named empty w 0 ≡ h = cc in ap (λ (x : Fields). x.first) (sym same)
+label_first o h e = absurd (cc)
 
-whole_from : (i : Instr) (l : Option (List ℕ × ℕ)) → distance (made_of i).kind (made_of i) ≡ 0 → is_fitting (label_of (made_of i).kind) l ≡ true → is_whole i l ≡ true
+sum_second : (g : Fields) (o : Operand) (h : Fields) → held_by slot.LabelSum g o ≡ Some h → h.second ≡ g.second
+sum_second g (name w) h e = let same : named g w 0 ≡ h = cc in ap (λ (x : Fields). x.second) (sym same)
+sum_second g (sum w i) h e = let same : named g w i ≡ h = cc in ap (λ (x : Fields). x.second) (sym same)
+sum_second g o h e = absurd (cc)
+
+other_distance : (ss : List Slot) (x : Fields) (n : ℕ) → n < 3 → (if list_all keeps_label ss then 0 else 3) ≡ n → distance n x.first x.second ≡ 0
+other_distance ss x n less e = elim (cases_Bool (list_all keeps_label ss)) [
+  | inl yes' ↦ (
+      let none : 0 ≡ n = rw yes' at e in
+      subst (λ (k : ℕ). distance k x.first x.second ≡ 0) none refl)
+  | inr no' ↦ absurd (let three : 3 ≡ n = rw no' at e in omega arith)
+]
+
+no_distance : (ss : List Slot) (os : List Operand) (x : Fields) (n : ℕ) → n < 3 → slots_label ss ≡ n → filled ss empty os ≡ Some x → distance n x.first x.second ≡ 0
+no_distance (slot.Label ∷ []) os x n less e h =
+    let t = took slot.Label [] empty os x refl h in
+    subst (λ (k : ℕ). distance k x.first x.second ≡ 0) e
+    (subst (λ (y : Fields). y.first ≡ 0) (none_left t.fields t.after x t.filled).1 (label_first t.operand t.fields t.held))
+no_distance (slot.Register place.First ∷ slot.Mark m ∷ slot.LabelSum ∷ []) os x n less e h =
+    let a = took (slot.Register place.First) (slot.Mark m ∷ slot.LabelSum ∷ []) empty os x refl h in
+    let b = took (slot.Mark m) (slot.LabelSum ∷ []) a.fields a.after x refl a.filled in
+    let c = took slot.LabelSum [] b.fields b.after x refl b.filled in
+    let put_first = (register_held place.First empty a.operand a.fields a.held).2 in
+    let same = (mark_held m a.fields b.operand b.fields b.held).1 in
+    let none : c.fields.second ≡ 0 = sum_second b.fields c.operand c.fields c.held ∙ sym (ap (λ (y : Fields). y.second) same) ∙ sym (ap (λ (y : Fields). y.second) put_first) in
+    subst (λ (k : ℕ). distance k x.first x.second ≡ 0) e
+    (subst (λ (y : Fields). y.second ≡ 0) (none_left c.fields c.after x c.filled).1 none)
+no_distance ss os x n less e h = other_distance ss x n less e
+
+kept_none : (r : Role) (a : ℕ) → a ≡ 0 → kept r a ≡ 0
+kept_none role.Nothing a e = refl
+kept_none r a e = e
+
+kept_distance : (n : ℕ) (k : Kind) (a b c : ℕ) (m : Parts) → made k a b c ≡ Some m → distance n a b ≡ 0 → distance n m.first m.second ≡ 0
+kept_distance n k a b c m e d =
+    let same = (when_some (is_instr k a b c) (kept_of (roles k) k a b c) m e).1 in
+    subst (λ (x : Parts). distance n x.first x.second ≡ 0) same (by_number n d)
+  where
+    by_number : (n : ℕ) → distance n a b ≡ 0 → distance n (kept (roles k).first a) (kept (roles k).second b) ≡ 0
+    by_number zero d = refl
+    by_number (suc zero) d = kept_none (roles k).first a d
+    by_number (suc (suc n)) d = kept_none (roles k).second b d
+
+whole_from : (i : Instr) (l : Option (List ℕ × ℕ)) → distance (label_of (parts_of i).kind) (parts_of i).first (parts_of i).second ≡ 0 → is_fitting (label_of (parts_of i).kind) l ≡ true → is_whole i l ≡ true
 whole_from (instr.Literal t i) l d f = and_from (i.number == 0) (is_label_sum l) (eq-eqb i.number 0 d) f
 whole_from (instr.Address t i) l d f = and_from (i.number == 0) (is_label_sum l) (eq-eqb i.number 0 d) f
 whole_from (instr.BranchIf c i) l d f = and_from (i.field == 0) (is_label l) (eq-eqb i.field 0 d) f
@@ -286,14 +318,15 @@ whole_from i l d f = f
 
 row_whole : (w : List ℕ) (os : List Operand) (k : ℕ) (r : Row) (i : Instr) (l : Option (List ℕ × ℕ)) → list_all is_proper os ≡ true → slice_get rows k ≡ Some r → Read w os r (shown_with i l) → is_whole i l ≡ true
 row_whole w os k r i l all there u =
-    let m : u.instr ≡ made_of i = ap (λ (s : Shown). s.made) u.shown in
+    let m : u.instr ≡ parts_of i = ap (λ (s : Shown). s.made) u.shown in
     let same : u.fields.label ≡ l = ap (λ (s : Shown). s.label) u.shown in
-    let is : made r.kind u.fields.first u.fields.second u.fields.third ≡ Some (made_of i) = u.made ∙ ap (λ (n : Made). Some n) m in
-    let kinds : (made_of i).kind ≡ r.kind = made_kind r.kind _ _ _ (made_of i) is in
+    let is : made r.kind u.fields.first u.fields.second u.fields.third ≡ Some (parts_of i) = u.made ∙ ap (λ (n : Parts). Some n) m in
+    let kinds : (parts_of i).kind ≡ r.kind = made_kind r.kind _ _ _ (parts_of i) is in
     let alike = eqb-true (slots_label r.slots) (label_of r.kind) (alike_in rows k r all_alike there) in
     let fit : is_fitting (label_of r.kind) u.fields.label ≡ true = fitting_from r.slots os u.fields (label_of r.kind) (few_labels r.kind) all alike u.filled in
     whole_from i l
-    (subst (λ (x : Kind). distance x (made_of i) ≡ 0) (sym kinds) (no_distance r.kind _ _ _ (made_of i) is))
+    (subst (λ (x : Kind). distance (label_of x) (parts_of i).first (parts_of i).second ≡ 0) (sym kinds)
+    (kept_distance (label_of r.kind) r.kind u.fields.first u.fields.second u.fields.third (parts_of i) is (no_distance r.slots os u.fields (label_of r.kind) (few_labels r.kind) alike u.filled)))
     (subst (λ (x : Kind). is_fitting (label_of x) l ≡ true) (sym kinds) (subst (λ (x : Option (List ℕ × ℕ)). is_fitting (label_of r.kind) x ≡ true) same fit))
 
 by_row_whole : (ts : List Token) (k : ℕ) (r : Row) (i : Instr) (l : Option (List ℕ × ℕ)) → slice_get rows k ≡ Some r → by_row r ts ≡ Some (shown_with i l) → is_whole i l ≡ true

@@ -10,7 +10,9 @@ use Rattle.ascii_scan.specs.Tokens.{word, tokens, is_inner, begins_inner}
 use Rattle.ascii_scan.proofs.TokenLemmas.{tokens_written, tokens_blank}
 use Rattle.thumb_syntax.specs.declared.form.Slot.{Slot}
 use Rattle.thumb_syntax.specs.Operands.{operand}
-use Rattle.thumb_syntax.specs.Made.{Made, made_of}
+use Rattle.thumb_instr.specs.declared.kind.Parts.{Parts}
+use Rattle.thumb_instr.specs.Parts.{made, parts_of}
+use Rattle.thumb_instr.proofs.PartLemmas.{made_parts}
 use Rattle.thumb_syntax.specs.Slots.{Fields, empty, filled}
 use Rattle.thumb_syntax.specs.Rows.{Row, with_label, shown_by, read_as, reading, data_rows, memory_rows, control_rows}
 use Rattle.thumb_syntax.specs.RowLaws.{rows, by_row}
@@ -59,8 +61,8 @@ is_itself w = (bytes_eq-Decides (map to_ascii_lowercase w) (map to_ascii_lowerca
 
 -- ---- the form reads it
 
-reads_back : (m : Made) (l : Option (List ℕ × ℕ)) → Written m l → reading (text_of (with_label l m)) ≡ Some (with_label l m)
-reads_back m l w =
+reads_back : (m : Parts) (l : Option (List ℕ × ℕ)) → made m.kind m.first m.second m.third ≡ Some m → Written m l → reading (text_of (with_label l m)) ≡ Some (with_label l m)
+reads_back m l is w =
     let f = fields m.first m.second m.third l in
     let row = row_at (mnemonic m.kind) w.slots m.kind in
     let text : tokens (text_of (with_label l m)) ≡ word (mnemonic m.kind) ∷ tokens (operands_text w.slots f) =
@@ -69,10 +71,10 @@ reads_back m l w =
     let fills : filled w.slots empty (map operand (tokens (operands_text w.slots f))) ≡ Some f =
     ap (filled w.slots empty) (same_operands w.slots f) ∙ written_fills w.slots empty f w.fit ∙ ap (λ (g : Fields). Some g) w.back in
     let shown : option_and_then (shown_by m.kind) (filled w.slots empty (map operand (tokens (operands_text w.slots f)))) ≡ Some (with_label l m) =
-    ap (option_and_then (shown_by m.kind)) fills ∙ ap (option_map (with_label l)) w.is_made in
+    ap (option_and_then (shown_by m.kind)) fills ∙ ap (option_map (with_label l)) is in
     let read : read_as (mnemonic m.kind) (map operand (tokens (operands_text w.slots f))) row ≡ Some (with_label l m) = rw (is_itself (mnemonic m.kind)) shown in
     (reads_some_row (text_of (with_label l m)) (with_label l m)).1
     (record { place = w.place; row = row; is_there = w.is_there; reads = ap (by_row row) text ∙ read })
 
 pub writing_reads_back : WritingReadsBack
-writing_reads_back i l e = reads_back (made_of i) l (written i l e)
+writing_reads_back i l e = reads_back (parts_of i) l (made_parts i) (written i l e)

@@ -1,12 +1,13 @@
 -- Each instruction with its label is written in the slots of one of the forms, and filled by what was written.
-use Rattle.std.proofs.Common.{◌≡◌, ◌≢◌, ◌∙◌, inl, inr, ℕ, ◌*◌, ◌/◌, ◌%◌, ◌<◌, ◌≤◌, ◌^◌, ◌&&◌, ◌||◌, ◌==◌, Bool, true, not, List, [], ◌∷◌, Option, Some, None, refl, sym, ap, subst, arith, true≢false, eqb-true, eq-eqb, lt-ltb}
+use Rattle.std.proofs.Common.{◌≡◌, ◌∙◌, inl, inr, ℕ, ◌*◌, ◌<◌, ◌≤◌, ◌^◌, ◌&&◌, ◌||◌, ◌==◌, true, List, [], ◌∷◌, Option, Some, None, refl, sym, ap, subst, arith, true≢false, eqb-true, eq-eqb, lt-ltb}
 use Rattle.std.specs.Prelude.{nat_lt, nat_le, slice_get}
-use Rattle.std.proofs.lemmas.Bool.{cases_Bool, and_parts, and_from, le-leb, le-ltb, ne_eqb, ltb-true, agree_below, agree_below_at}
+use Rattle.std.proofs.lemmas.Bool.{cases_Bool, and_parts, and_from, le-leb, le-ltb, agree_below, agree_below_at}
 use Rattle.thumb_syntax.specs.declared.form.Place.TheVariants as place
 use Rattle.thumb_syntax.specs.declared.form.Slot.{Slot}
 use Rattle.thumb_syntax.specs.declared.form.Slot.TheVariants as slot
-use Rattle.thumb_syntax.specs.declared.kind.Kind.{Kind}
-use Rattle.thumb_syntax.specs.Made.{Made, of, made, when, is_within, is_low, are_low, are_registers, are_three_low, is_general, low_and, two_low_and, is_register, is_stored}
+use Rattle.thumb_instr.specs.declared.kind.Kind.{Kind}
+use Rattle.thumb_instr.specs.declared.kind.Parts.{Parts}
+use Rattle.thumb_instr.specs.Parts.{of}
 use Rattle.thumb_syntax.specs.Slots.{Fields, empty, is_in_list}
 use Rattle.thumb_syntax.specs.Rows.{Row, first, second, third, same, comma, open', close}
 use Rattle.thumb_syntax.specs.RowLaws.{rows}
@@ -26,46 +27,43 @@ abbrev pub Stands : ℕ → Kind → List Slot → Type 0
 Stands n k ss = slice_get rows n ≡ Some (row_at (mnemonic k) ss k)
 
 -- the text of an instruction and its label in the slots of a form
-pub record Written (m : Made) (l : Option (List ℕ × ℕ)) : Type 0 where
+pub record Written (m : Parts) (l : Option (List ℕ × ℕ)) : Type 0 where
   pub place : ℕ
   pub slots : List Slot
   pub is_there : Stands place m.kind slots
   pub text : operands_text (canonical m.kind m.first m.second m.third) (fields m.first m.second m.third l) ≡ operands_text slots (fields m.first m.second m.third l)
   pub fit : slots_fit slots empty (fields m.first m.second m.third l) ≡ true
   pub back : stored slots empty (fields m.first m.second m.third l) ≡ fields m.first m.second m.third l
-  pub is_made : made m.kind m.first m.second m.third ≡ Some m
 
 no_label : (l : Option (List ℕ × ℕ)) → is_unlabelled l ≡ true → None ≡ l
 no_label None e = refl
 no_label (Some l) e = absurd (true≢false (sym e))
 
 -- without a label
-plain_row : (m : Made) (l : Option (List ℕ × ℕ)) (n : ℕ) (ss : List Slot) → Stands n m.kind ss → canonical m.kind m.first m.second m.third ≡ ss
+plain_row : (m : Parts) (l : Option (List ℕ × ℕ)) (n : ℕ) (ss : List Slot) → Stands n m.kind ss → canonical m.kind m.first m.second m.third ≡ ss
     → slots_fit ss empty (fields m.first m.second m.third l) ≡ true → stored ss empty (fields m.first m.second m.third l) ≡ fields m.first m.second m.third None
-    → made m.kind m.first m.second m.third ≡ Some m → is_unlabelled l ≡ true → Written m l
-plain_row m l n ss there slots' fit back is none = record {
+    → is_unlabelled l ≡ true → Written m l
+plain_row m l n ss there slots' fit back none = record {
   place = n;
   slots = ss;
   is_there = there;
   text = ap (λ (ts : List Slot). operands_text ts (fields m.first m.second m.third l)) slots';
   fit = fit;
   back = back ∙ ap (fields m.first m.second m.third) (no_label l none);
-  is_made = is;
 }
 
 -- the same, where the slots' numbers have other ends than the canonical text's
-number_row : (m : Made) (l : Option (List ℕ × ℕ)) (n : ℕ) (ss : List Slot) → Stands n m.kind ss
+number_row : (m : Parts) (l : Option (List ℕ × ℕ)) (n : ℕ) (ss : List Slot) → Stands n m.kind ss
     → operands_text (canonical m.kind m.first m.second m.third) (fields m.first m.second m.third l) ≡ operands_text ss (fields m.first m.second m.third l)
     → slots_fit ss empty (fields m.first m.second m.third l) ≡ true → stored ss empty (fields m.first m.second m.third l) ≡ fields m.first m.second m.third None
-    → made m.kind m.first m.second m.third ≡ Some m → is_unlabelled l ≡ true → Written m l
-number_row m l n ss there text fit back is none = record {
+    → is_unlabelled l ≡ true → Written m l
+number_row m l n ss there text fit back none = record {
   place = n;
   slots = ss;
   is_there = there;
   text = text;
   fit = fit;
   back = back ∙ ap (fields m.first m.second m.third) (no_label l none);
-  is_made = is;
 }
 
 register16 : (n : ℕ) → n < 16 → nat_lt n 16 ≡ true
@@ -80,76 +78,29 @@ fits_number least most step v some low high small =
     (and_from (nat_le least (v * step)) _ (le-leb least (v * step) low)
     (and_from (nat_le (v * step) most) (nat_lt (v * step) (2 ^ 32)) (le-leb (v * step) most high) (lt-ltb (v * step) (2 ^ 32) (omega arith))))
 
--- ---- the ranges of an instruction's registers and numbers are those of its kind
-
-within : (least end n : ℕ) → least ≤ n → n < end → is_within least end n ≡ true
-within least end n low high = and_from (nat_le least n) (nat_lt n end) (le-leb least n low) (lt-ltb n end high)
-
-low : (n : ℕ) → n < 8 → is_low n ≡ true
-low n less = within 0 8 n (omega arith) less
-
-general : (n : ℕ) → n < 15 → n ≢ 13 → is_general n ≡ true
-general n less other = and_from (nat_lt n 15) (not (n == 13)) (lt-ltb n 15 less) (rw (ne_eqb n 13 other) refl)
-
-two_low : (a b : ℕ) → a < 8 → b < 8 → are_low a b ≡ true
-two_low a b p q = and_from (is_low a) (is_low b) (low a p) (low b q)
-
-three_low : (a b c : ℕ) → a < 8 → b < 8 → c < 8 → are_three_low a b c ≡ true
-three_low a b c p q r = and_from (is_low a) (are_low b c) (low a p) (two_low b c q r)
-
-pub two_registers : (a b : ℕ) → a < 15 → b < 15 → are_registers a b ≡ true
-two_registers a b p q = and_from (is_register a) (is_register b) (within 0 15 a (omega arith) p) (within 0 15 b (omega arith) q)
-
-low_number : (least end a n : ℕ) → a < 8 → least ≤ n → n < end → low_and least end a n ≡ true
-low_number least end a n p q r = and_from (is_low a) (is_within least end n) (low a p) (within least end n q r)
-
-two_low_number : (least end a b n : ℕ) → a < 8 → b < 8 → least ≤ n → n < end → two_low_and least end a b n ≡ true
-two_low_number least end a b n p q r s = and_from (is_low a) (low_and least end b n) (low a p) (low_number least end b n q r s)
-
-pub not_both_sp : (a b : ℕ) → a < 15 → b < 15 → (a ≡ 13 → b ≢ 13) → (are_registers a b && not (a == 13 && b == 13)) ≡ true
-not_both_sp a b p q other = and_from (are_registers a b) (not (a == 13 && b == 13)) (two_registers a b p q) (elim (cases_Bool (a == 13)) [
-  | inl e ↦ (let f = ne_eqb b 13 (other (eqb-true a 13 e)) in rw (e, f) refl)
-  | inr e ↦ rw e refl
-])
-
-pub not_both_low : (a b : ℕ) → a < 15 → b < 15 → (a < 8 → 8 ≤ b) → (are_registers a b && not (nat_lt a 8 && nat_lt b 8)) ≡ true
-not_both_low a b p q high = and_from (are_registers a b) (not (nat_lt a 8 && nat_lt b 8)) (two_registers a b p q) (elim (cases_Bool (nat_lt a 8)) [
-  | inl e ↦ (let f = le-ltb b 8 (high (ltb-true a 8 e)) in rw (e, f) refl)
-  | inr e ↦ rw e refl
-])
-
-stored_base : (a b : ℕ) → a < 8 → 1 ≤ b → b < 256 → (b / 2 ^ a % 2 ≡ 1 → b % 2 ^ a ≡ 0) → (low_and 1 256 a b && is_stored a b) ≡ true
-stored_base a b p q r lowest = and_from (low_and 1 256 a b) (is_stored a b) (low_number 1 256 a b p q r) (elim (cases_Bool (b / 2 ^ a % 2 == 1)) [
-  | inl e ↦ (let f = eq-eqb (b % 2 ^ a) 0 (lowest (eqb-true (b / 2 ^ a % 2) 1 e)) in rw (e, f) refl)
-  | inr e ↦ rw e refl
-])
-
-pub made_when : (b : Bool) (m : Made) → b ≡ true → when b m ≡ Some m
-made_when b m e = rw e refl
-
-pub two_row : (k : Kind) (n a b : ℕ) (l : Option (List ℕ × ℕ)) → Stands n k two → canonical k a b 0 ≡ two → made k a b 0 ≡ Some (of k a b 0) → a < 16 → b < 16 → is_unlabelled l ≡ true → Written (of k a b 0) l
-two_row k n a b l there slots' is p q none = plain_row (of k a b 0) l n two there slots' (rw (lt-ltb a 16 p, lt-ltb b 16 q) refl) refl is none
+pub two_row : (k : Kind) (n a b : ℕ) (l : Option (List ℕ × ℕ)) → Stands n k two → canonical k a b 0 ≡ two → a < 16 → b < 16 → is_unlabelled l ≡ true → Written (of k a b 0) l
+two_row k n a b l there slots' p q none = plain_row (of k a b 0) l n two there slots' (rw (lt-ltb a 16 p, lt-ltb b 16 q) refl) refl none
 
 -- two low registers
-pub low_row : (k : Kind) (n a b : ℕ) (l : Option (List ℕ × ℕ)) → Stands n k two → canonical k a b 0 ≡ two → made k a b 0 ≡ when (are_low a b) (of k a b 0) → a < 8 → b < 8 → is_unlabelled l ≡ true → Written (of k a b 0) l
-low_row k n a b l there slots' is p q none = two_row k n a b l there slots' (is ∙ made_when (are_low a b) (of k a b 0) (two_low a b p q)) (omega arith) (omega arith) none
+pub low_row : (k : Kind) (n a b : ℕ) (l : Option (List ℕ × ℕ)) → Stands n k two → canonical k a b 0 ≡ two → a < 8 → b < 8 → is_unlabelled l ≡ true → Written (of k a b 0) l
+low_row k n a b l there slots' p q none = two_row k n a b l there slots' (omega arith) (omega arith) none
 
 pub zero_row : (k : Kind) (n a b : ℕ) (l : Option (List ℕ × ℕ)) → Stands n k (first ∷ comma ∷ second ∷ comma ∷ slot.Exactly 0 ∷ []) → canonical k a b 0 ≡ first ∷ comma ∷ second ∷ comma ∷ slot.Exactly 0 ∷ []
-    → made k a b 0 ≡ when (are_low a b) (of k a b 0) → a < 8 → b < 8 → is_unlabelled l ≡ true → Written (of k a b 0) l
-zero_row k n a b l there slots' is p q none = plain_row (of k a b 0) l n _ there slots' (rw (low16 a p, low16 b q) refl) refl (is ∙ made_when (are_low a b) (of k a b 0) (two_low a b p q)) none
+    → a < 8 → b < 8 → is_unlabelled l ≡ true → Written (of k a b 0) l
+zero_row k n a b l there slots' p q none = plain_row (of k a b 0) l n _ there slots' (rw (low16 a p, low16 b q) refl) refl none
 
 pub same_row : (k : Kind) (n a b : ℕ) (l : Option (List ℕ × ℕ)) → Stands n k (first ∷ comma ∷ second ∷ comma ∷ same ∷ []) → canonical k a b 0 ≡ first ∷ comma ∷ second ∷ comma ∷ same ∷ []
-    → made k a b 0 ≡ when (are_low a b) (of k a b 0) → a < 8 → b < 8 → is_unlabelled l ≡ true → Written (of k a b 0) l
-same_row k n a b l there slots' is p q none = plain_row (of k a b 0) l n _ there slots' (rw (low16 a p, low16 b q, eq-eqb a a refl) refl) refl (is ∙ made_when (are_low a b) (of k a b 0) (two_low a b p q)) none
+    → a < 8 → b < 8 → is_unlabelled l ≡ true → Written (of k a b 0) l
+same_row k n a b l there slots' p q none = plain_row (of k a b 0) l n _ there slots' (rw (low16 a p, low16 b q, eq-eqb a a refl) refl) refl none
 
-pub three_row : (k : Kind) (n a b c : ℕ) (l : Option (List ℕ × ℕ)) → Stands n k three → canonical k a b c ≡ three → made k a b c ≡ when (are_three_low a b c) (of k a b c) → a < 8 → b < 8 → c < 8 → is_unlabelled l ≡ true → Written (of k a b c) l
-three_row k n a b c l there slots' is p q r none = plain_row (of k a b c) l n three there slots' (rw (low16 a p, low16 b q, low16 c r) refl) refl (is ∙ made_when (are_three_low a b c) (of k a b c) (three_low a b c p q r)) none
+pub three_row : (k : Kind) (n a b c : ℕ) (l : Option (List ℕ × ℕ)) → Stands n k three → canonical k a b c ≡ three → a < 8 → b < 8 → c < 8 → is_unlabelled l ≡ true → Written (of k a b c) l
+three_row k n a b c l there slots' p q r none = plain_row (of k a b c) l n three there slots' (rw (low16 a p, low16 b q, low16 c r) refl) refl none
 
 abbrev indexed : List Slot
 indexed = first ∷ comma ∷ open' ∷ second ∷ comma ∷ third ∷ close ∷ []
 
-pub indexed_row : (k : Kind) (n a b c : ℕ) (l : Option (List ℕ × ℕ)) → Stands n k indexed → canonical k a b c ≡ indexed → made k a b c ≡ when (are_three_low a b c) (of k a b c) → a < 8 → b < 8 → c < 8 → is_unlabelled l ≡ true → Written (of k a b c) l
-indexed_row k n a b c l there slots' is p q r none = plain_row (of k a b c) l n indexed there slots' (rw (low16 a p, low16 b q, low16 c r) refl) refl (is ∙ made_when (are_three_low a b c) (of k a b c) (three_low a b c p q r)) none
+pub indexed_row : (k : Kind) (n a b c : ℕ) (l : Option (List ℕ × ℕ)) → Stands n k indexed → canonical k a b c ≡ indexed → a < 8 → b < 8 → c < 8 → is_unlabelled l ≡ true → Written (of k a b c) l
+indexed_row k n a b c l there slots' p q r none = plain_row (of k a b c) l n indexed there slots' (rw (low16 a p, low16 b q, low16 c r) refl) refl none
 
 abbrev amount : ℕ → ℕ → List Slot
 amount least most = first ∷ comma ∷ second ∷ comma ∷ slot.Number place.Third least most 1 ∷ []
@@ -165,53 +116,50 @@ one_fits least most step end v all low less =
     rw reached at this
 
 pub amount_row : (k : Kind) (n least most end a b c : ℕ) (l : Option (List ℕ × ℕ)) → Stands n k (amount least most) → operands_text (canonical k a b c) (fields a b c l) ≡ operands_text (amount least most) (fields a b c l)
-    → made k a b c ≡ when (two_low_and least end a b c) (of k a b c) → all_fit least most 1 end → a < 8 → b < 8 → least ≤ c → c < end → is_unlabelled l ≡ true → Written (of k a b c) l
-amount_row k n least most end a b c l there text is all p q r s none =
-    number_row (of k a b c) l n (amount least most) there text (rw (low16 a p, low16 b q, one_fits least most 1 end c all r s) refl) refl
-    (is ∙ made_when (two_low_and least end a b c) (of k a b c) (two_low_number least end a b c p q r s)) none
+    → all_fit least most 1 end → a < 8 → b < 8 → least ≤ c → c < end → is_unlabelled l ≡ true → Written (of k a b c) l
+amount_row k n least most end a b c l there text all p q r s none =
+    number_row (of k a b c) l n (amount least most) there text (rw (low16 a p, low16 b q, one_fits least most 1 end c all r s) refl) refl none
 
 pub byte_row : (k : Kind) (n a b : ℕ) (l : Option (List ℕ × ℕ)) → Stands n k (first ∷ comma ∷ slot.Number place.Second 0 255 1 ∷ []) → canonical k a b 0 ≡ first ∷ comma ∷ slot.Number place.Second 0 255 1 ∷ []
-    → made k a b 0 ≡ when (low_and 0 256 a b) (of k a b 0) → a < 8 → b < 256 → is_unlabelled l ≡ true → Written (of k a b 0) l
-byte_row k n a b l there slots' is p q none = plain_row (of k a b 0) l n _ there slots' (rw (low16 a p, fits_number 0 255 1 b (omega arith) (omega arith) (omega arith) (omega arith)) refl) refl (is ∙ made_when (low_and 0 256 a b) (of k a b 0) (low_number 0 256 a b p (omega arith) q)) none
+    → a < 8 → b < 256 → is_unlabelled l ≡ true → Written (of k a b 0) l
+byte_row k n a b l there slots' p q none = plain_row (of k a b 0) l n _ there slots' (rw (low16 a p, fits_number 0 255 1 b (omega arith) (omega arith) (omega arith) (omega arith)) refl) refl none
 
-pub one_row : (k : Kind) (n a : ℕ) (l : Option (List ℕ × ℕ)) → Stands n k (first ∷ []) → canonical k a 0 0 ≡ first ∷ [] → made k a 0 0 ≡ when (is_general a) (of k a 0 0) → a < 15 → a ≢ 13 → is_unlabelled l ≡ true → Written (of k a 0 0) l
-one_row k n a l there slots' is p q none = plain_row (of k a 0 0) l n _ there slots' (rw (register16 a (omega arith)) refl) refl (is ∙ made_when (is_general a) (of k a 0 0) (general a p q)) none
+pub one_row : (k : Kind) (n a : ℕ) (l : Option (List ℕ × ℕ)) → Stands n k (first ∷ []) → canonical k a 0 0 ≡ first ∷ [] → a < 15 → is_unlabelled l ≡ true → Written (of k a 0 0) l
+one_row k n a l there slots' p none = plain_row (of k a 0 0) l n _ there slots' (rw (register16 a (omega arith)) refl) refl none
 
-pub alone_row : (k : Kind) (n a : ℕ) (l : Option (List ℕ × ℕ)) → Stands n k (slot.Number place.First 0 255 1 ∷ []) → canonical k a 0 0 ≡ slot.Number place.First 0 255 1 ∷ [] → made k a 0 0 ≡ when (is_within 0 256 a) (of k a 0 0) → a < 256 → is_unlabelled l ≡ true → Written (of k a 0 0) l
-alone_row k n a l there slots' is p none = plain_row (of k a 0 0) l n _ there slots' (rw (fits_number 0 255 1 a (omega arith) (omega arith) (omega arith) (omega arith)) refl) refl (is ∙ made_when (is_within 0 256 a) (of k a 0 0) (within 0 256 a (omega arith) p)) none
+pub alone_row : (k : Kind) (n a : ℕ) (l : Option (List ℕ × ℕ)) → Stands n k (slot.Number place.First 0 255 1 ∷ []) → canonical k a 0 0 ≡ slot.Number place.First 0 255 1 ∷ [] → a < 256 → is_unlabelled l ≡ true → Written (of k a 0 0) l
+alone_row k n a l there slots' p none = plain_row (of k a 0 0) l n _ there slots' (rw (fits_number 0 255 1 a (omega arith) (omega arith) (omega arith) (omega arith)) refl) refl none
 
-pub label_sum_row : (k : Kind) (n a : ℕ) (l : Option (List ℕ × ℕ)) → Stands n k labelled → canonical k a 0 0 ≡ labelled → made k a 0 0 ≡ when (is_low a) (of k a 0 0) → a < 8 → is_label_sum l ≡ true → Written (of k a 0 0) l
-label_sum_row k n a l there slots' is p e = record {
+pub label_sum_row : (k : Kind) (n a : ℕ) (l : Option (List ℕ × ℕ)) → Stands n k labelled → canonical k a 0 0 ≡ labelled → a < 8 → is_label_sum l ≡ true → Written (of k a 0 0) l
+label_sum_row k n a l there slots' p e = record {
   place = n;
   slots = labelled;
   is_there = there;
   text = ap (λ (ts : List Slot). operands_text ts (fields a 0 0 l)) slots';
   fit = rw (low16 a p, e) refl;
   back = refl;
-  is_made = is ∙ made_when (is_low a) (of k a 0 0) (low a p);
 }
 
-pub label_row : (k : Kind) (n : ℕ) (l : Option (List ℕ × ℕ)) → Stands n k (slot.Label ∷ []) → canonical k 0 0 0 ≡ slot.Label ∷ [] → made k 0 0 0 ≡ Some (of k 0 0 0) → is_label l ≡ true → Written (of k 0 0 0) l
-label_row k n l there slots' is e = record {
+pub label_row : (k : Kind) (n : ℕ) (l : Option (List ℕ × ℕ)) → Stands n k (slot.Label ∷ []) → canonical k 0 0 0 ≡ slot.Label ∷ [] → is_label l ≡ true → Written (of k 0 0 0) l
+label_row k n l there slots' e = record {
   place = n;
   slots = slot.Label ∷ [];
   is_there = there;
   text = ap (λ (ts : List Slot). operands_text ts (fields 0 0 0 l)) slots';
   fit = rw e refl;
   back = refl;
-  is_made = is;
 }
 
 -- with a distance of 0 in a label's place
-pub jump_row : (k : Kind) (n i : ℕ) (l : Option (List ℕ × ℕ)) → Stands n k (slot.Label ∷ []) → canonical k 0 0 0 ≡ slot.Label ∷ [] → made k 0 0 0 ≡ Some (of k 0 0 0) → ((i == 0) && is_label l) ≡ true → Written (of k i 0 0) l
-jump_row k n i l there slots' is e =
+pub jump_row : (k : Kind) (n i : ℕ) (l : Option (List ℕ × ℕ)) → Stands n k (slot.Label ∷ []) → canonical k 0 0 0 ≡ slot.Label ∷ [] → ((i == 0) && is_label l) ≡ true → Written (of k i 0 0) l
+jump_row k n i l there slots' e =
     let parts = and_parts (i == 0) (is_label l) e in
-    subst (λ (x : ℕ). Written (of k x 0 0) l) (sym (eqb-true i 0 parts.0)) (label_row k n l there slots' is parts.1)
+    subst (λ (x : ℕ). Written (of k x 0 0) l) (sym (eqb-true i 0 parts.0)) (label_row k n l there slots' parts.1)
 
-pub place_row : (k : Kind) (n a i : ℕ) (l : Option (List ℕ × ℕ)) → Stands n k labelled → canonical k a 0 0 ≡ labelled → made k a 0 0 ≡ when (is_low a) (of k a 0 0) → a < 8 → ((i == 0) && is_label_sum l) ≡ true → Written (of k a i 0) l
-place_row k n a i l there slots' is p e =
+pub place_row : (k : Kind) (n a i : ℕ) (l : Option (List ℕ × ℕ)) → Stands n k labelled → canonical k a 0 0 ≡ labelled → a < 8 → ((i == 0) && is_label_sum l) ≡ true → Written (of k a i 0) l
+place_row k n a i l there slots' p e =
     let parts = and_parts (i == 0) (is_label_sum l) e in
-    subst (λ (x : ℕ). Written (of k a x 0) l) (sym (eqb-true i 0 parts.0)) (label_sum_row k n a l there slots' is p parts.1)
+    subst (λ (x : ℕ). Written (of k a x 0) l) (sym (eqb-true i 0 parts.0)) (label_sum_row k n a l there slots' p parts.1)
 
 abbrev without_offset : List Slot
 without_offset = first ∷ comma ∷ open' ∷ second ∷ close ∷ []
@@ -220,12 +168,11 @@ abbrev with_offset : ℕ → ℕ → List Slot
 with_offset most step = first ∷ comma ∷ open' ∷ second ∷ comma ∷ slot.Number place.Third 0 most step ∷ close ∷ []
 
 pub offset_row : (k : Kind) (n z most step a b c : ℕ) (l : Option (List ℕ × ℕ)) → Stands n k (with_offset most step) → Stands z k without_offset → canonical k a b c ≡ offset_slots most step c
-    → made k a b c ≡ when (two_low_and 0 32 a b c) (of k a b c) → all_fit 0 most step 32 → a < 8 → b < 8 → c < 32 → is_unlabelled l ≡ true → Written (of k a b c) l
-offset_row k n z most step a b c l some none slots' is all p q r free =
-    let made' = is ∙ made_when (two_low_and 0 32 a b c) (of k a b c) (two_low_number 0 32 a b c p q (omega arith) r) in
+    → all_fit 0 most step 32 → a < 8 → b < 8 → c < 32 → is_unlabelled l ≡ true → Written (of k a b c) l
+offset_row k n z most step a b c l some none slots' all p q r free =
     elim (cases_Bool (c == 0)) [
-      | inl e ↦ plain_row (of k a b c) l z without_offset none (slots' ∙ rw e refl) (rw (low16 a p, low16 b q) refl) (ap (λ (x : ℕ). fields a b x None) (sym (eqb-true c 0 e))) made' free
-      | inr e ↦ plain_row (of k a b c) l n (with_offset most step) some (slots' ∙ rw e refl) (rw (low16 a p, low16 b q, one_fits 0 most step 32 c all (omega arith) r) refl) refl made' free
+      | inl e ↦ plain_row (of k a b c) l z without_offset none (slots' ∙ rw e refl) (rw (low16 a p, low16 b q) refl) (ap (λ (x : ℕ). fields a b x None) (sym (eqb-true c 0 e))) free
+      | inr e ↦ plain_row (of k a b c) l n (with_offset most step) some (slots' ∙ rw e refl) (rw (low16 a p, low16 b q, one_fits 0 most step 32 c all (omega arith) r) refl) refl free
     ]
 
 abbrev at_sp : List Slot
@@ -238,35 +185,33 @@ fits_words : (v : ℕ) → v < 256 → number_fits 0 1020 4 v ≡ true
 fits_words v less = fits_number 0 1020 4 v (omega arith) (omega arith) (omega arith) (omega arith)
 
 pub stack_row : (k : Kind) (n z a b : ℕ) (l : Option (List ℕ × ℕ)) → Stands n k from_sp → Stands z k at_sp → canonical k a b 0 ≡ stack_slots b
-    → made k a b 0 ≡ when (low_and 0 256 a b) (of k a b 0) → a < 8 → b < 256 → is_unlabelled l ≡ true → Written (of k a b 0) l
-stack_row k n z a b l some none slots' is p q free =
-    let made' = is ∙ made_when (low_and 0 256 a b) (of k a b 0) (low_number 0 256 a b p (omega arith) q) in
+    → a < 8 → b < 256 → is_unlabelled l ≡ true → Written (of k a b 0) l
+stack_row k n z a b l some none slots' p q free =
     elim (cases_Bool (b == 0)) [
-      | inl e ↦ plain_row (of k a b 0) l z at_sp none (slots' ∙ rw e refl) (rw (low16 a p) refl) (ap (λ (x : ℕ). fields a x 0 None) (sym (eqb-true b 0 e))) made' free
-      | inr e ↦ plain_row (of k a b 0) l n from_sp some (slots' ∙ rw e refl) (rw (low16 a p, fits_words b q) refl) refl made' free
+      | inl e ↦ plain_row (of k a b 0) l z at_sp none (slots' ∙ rw e refl) (rw (low16 a p) refl) (ap (λ (x : ℕ). fields a x 0 None) (sym (eqb-true b 0 e))) free
+      | inr e ↦ plain_row (of k a b 0) l n from_sp some (slots' ∙ rw e refl) (rw (low16 a p, fits_words b q) refl) refl free
     ]
 
 abbrev sp_sum : List Slot
 sp_sum = first ∷ comma ∷ slot.Sp ∷ comma ∷ slot.Number place.Second 0 1020 4 ∷ []
 
-pub sp_sum_row : (k : Kind) (n a b : ℕ) (l : Option (List ℕ × ℕ)) → Stands n k sp_sum → canonical k a b 0 ≡ sp_sum → made k a b 0 ≡ when (low_and 0 256 a b) (of k a b 0) → a < 8 → b < 256 → is_unlabelled l ≡ true → Written (of k a b 0) l
-sp_sum_row k n a b l there slots' is p q none = plain_row (of k a b 0) l n sp_sum there slots' (rw (low16 a p, fits_words b q) refl) refl (is ∙ made_when (low_and 0 256 a b) (of k a b 0) (low_number 0 256 a b p (omega arith) q)) none
+pub sp_sum_row : (k : Kind) (n a b : ℕ) (l : Option (List ℕ × ℕ)) → Stands n k sp_sum → canonical k a b 0 ≡ sp_sum → a < 8 → b < 256 → is_unlabelled l ≡ true → Written (of k a b 0) l
+sp_sum_row k n a b l there slots' p q none = plain_row (of k a b 0) l n sp_sum there slots' (rw (low16 a p, fits_words b q) refl) refl none
 
 abbrev sp_move : List Slot
 sp_move = slot.Sp ∷ comma ∷ slot.Sp ∷ comma ∷ slot.Number place.First 0 508 4 ∷ []
 
-pub sp_move_row : (k : Kind) (n a : ℕ) (l : Option (List ℕ × ℕ)) → Stands n k sp_move → canonical k a 0 0 ≡ sp_move → made k a 0 0 ≡ when (is_within 0 128 a) (of k a 0 0) → a < 128 → is_unlabelled l ≡ true → Written (of k a 0 0) l
-sp_move_row k n a l there slots' is p none = plain_row (of k a 0 0) l n sp_move there slots' (rw (fits_number 0 508 4 a (omega arith) (omega arith) (omega arith) (omega arith)) refl) refl (is ∙ made_when (is_within 0 128 a) (of k a 0 0) (within 0 128 a (omega arith) p)) none
+pub sp_move_row : (k : Kind) (n a : ℕ) (l : Option (List ℕ × ℕ)) → Stands n k sp_move → canonical k a 0 0 ≡ sp_move → a < 128 → is_unlabelled l ≡ true → Written (of k a 0 0) l
+sp_move_row k n a l there slots' p none = plain_row (of k a 0 0) l n sp_move there slots' (rw (fits_number 0 508 4 a (omega arith) (omega arith) (omega arith) (omega arith)) refl) refl none
 
-pub list_row : (k : Kind) (n extra a : ℕ) (l : Option (List ℕ × ℕ)) → Stands n k (slot.StackList place.First extra ∷ []) → canonical k a 0 0 ≡ slot.StackList place.First extra ∷ [] → made k a 0 0 ≡ when (is_within 1 512 a) (of k a 0 0)
-    → (extra == 14 || extra == 15) ≡ true → 0 < a → a < 512 → is_unlabelled l ≡ true → Written (of k a 0 0) l
-list_row k n extra a l there slots' is which p q none = plain_row (of k a 0 0) l n _ there slots' (rw (which, lt-ltb 0 a p, lt-ltb a 512 q) refl) refl (is ∙ made_when (is_within 1 512 a) (of k a 0 0) (within 1 512 a p q)) none
+pub list_row : (k : Kind) (n extra a : ℕ) (l : Option (List ℕ × ℕ)) → Stands n k (slot.StackList place.First extra ∷ []) → canonical k a 0 0 ≡ slot.StackList place.First extra ∷ [] → (extra == 14 || extra == 15) ≡ true → 0 < a → a < 512 → is_unlabelled l ≡ true → Written (of k a 0 0) l
+list_row k n extra a l there slots' which p q none = plain_row (of k a 0 0) l n _ there slots' (rw (which, lt-ltb 0 a p, lt-ltb a 512 q) refl) refl none
 
 abbrev written_back : List Slot
 written_back = slot.Base place.First ∷ comma ∷ slot.LowList place.Second ∷ []
 
-pub store_row : (k : Kind) (n a b : ℕ) (l : Option (List ℕ × ℕ)) → Stands n k written_back → canonical k a b 0 ≡ written_back → made k a b 0 ≡ when (low_and 1 256 a b && is_stored a b) (of k a b 0) → a < 8 → 0 < b → b < 256 → (b / 2 ^ a % 2 ≡ 1 → b % 2 ^ a ≡ 0) → is_unlabelled l ≡ true → Written (of k a b 0) l
-store_row k n a b l there slots' is p q r lowest none = plain_row (of k a b 0) l n written_back there slots' (rw (lt-ltb a 8 p, lt-ltb 0 b q, lt-ltb b 256 r) refl) refl (is ∙ made_when (low_and 1 256 a b && is_stored a b) (of k a b 0) (stored_base a b p q r lowest)) none
+pub store_row : (k : Kind) (n a b : ℕ) (l : Option (List ℕ × ℕ)) → Stands n k written_back → canonical k a b 0 ≡ written_back → a < 8 → 0 < b → b < 256 → is_unlabelled l ≡ true → Written (of k a b 0) l
+store_row k n a b l there slots' p q r none = plain_row (of k a b 0) l n written_back there slots' (rw (lt-ltb a 8 p, lt-ltb 0 b q, lt-ltb b 256 r) refl) refl none
 
 abbrev load_apart : List Slot
 load_apart = slot.Base place.First ∷ comma ∷ slot.LowList place.Second ∷ slot.NotInList place.First place.Second ∷ []
@@ -275,32 +220,31 @@ abbrev load_within : List Slot
 load_within = first ∷ comma ∷ slot.LowList place.Second ∷ slot.InList place.First place.Second ∷ []
 
 pub load_row : (k : Kind) (n m a b : ℕ) (l : Option (List ℕ × ℕ)) → Stands n k load_apart → Stands m k load_within → canonical k a b 0 ≡ load_slots a b
-    → made k a b 0 ≡ when (low_and 1 256 a b) (of k a b 0) → a < 8 → 0 < b → b < 256 → is_unlabelled l ≡ true → Written (of k a b 0) l
-load_row k n m a b l apart within' slots' is p q r none =
-    let made' = is ∙ made_when (low_and 1 256 a b) (of k a b 0) (low_number 1 256 a b p q r) in
+    → a < 8 → 0 < b → b < 256 → is_unlabelled l ≡ true → Written (of k a b 0) l
+load_row k n m a b l apart within' slots' p q r none =
     let text = ap (λ (ts : List Slot). operands_text ts (fields a b 0 l)) slots' in
     elim (cases_Bool (is_in_list a b)) [
-      | inl e ↦ number_row (of k a b 0) l m load_within within' (text ∙ rw e refl) (rw (e, low16 a p, lt-ltb 0 b q, lt-ltb b 256 r) refl) refl made' none
-      | inr e ↦ number_row (of k a b 0) l n load_apart apart (text ∙ rw e refl) (rw (e, lt-ltb a 8 p, lt-ltb 0 b q, lt-ltb b 256 r) refl) refl made' none
+      | inl e ↦ number_row (of k a b 0) l m load_within within' (text ∙ rw e refl) (rw (e, low16 a p, lt-ltb 0 b q, lt-ltb b 256 r) refl) refl none
+      | inr e ↦ number_row (of k a b 0) l n load_apart apart (text ∙ rw e refl) (rw (e, lt-ltb a 8 p, lt-ltb 0 b q, lt-ltb b 256 r) refl) refl none
     ]
 
 -- slots without a register or number
 pub fixed_row : (k : Kind) (n : ℕ) (ss : List Slot) (l : Option (List ℕ × ℕ)) → Stands n k ss → canonical k 0 0 0 ≡ ss → slots_fit ss empty (fields 0 0 0 l) ≡ true → stored ss empty (fields 0 0 0 l) ≡ empty
-    → made k 0 0 0 ≡ Some (of k 0 0 0) → is_unlabelled l ≡ true → Written (of k 0 0 0) l
-fixed_row k n ss l there slots' fit back is none = plain_row (of k 0 0 0) l n ss there slots' fit back is none
+    → is_unlabelled l ≡ true → Written (of k 0 0 0) l
+fixed_row k n ss l there slots' fit back none = plain_row (of k 0 0 0) l n ss there slots' fit back none
 
 -- a special register
 abbrev from_special : Slot → List Slot
 from_special s = first ∷ comma ∷ s ∷ []
 
-pub primask_row : (k : Kind) (n a : ℕ) (l : Option (List ℕ × ℕ)) → Stands n k (from_special slot.Primask) → canonical k a 0 0 ≡ from_special slot.Primask → made k a 0 0 ≡ when (is_general a) (of k a 0 0) → a < 15 → a ≢ 13 → is_unlabelled l ≡ true → Written (of k a 0 0) l
-primask_row k n a l there slots' is p q none = plain_row (of k a 0 0) l n _ there slots' (rw (register16 a (omega arith)) refl) refl (is ∙ made_when (is_general a) (of k a 0 0) (general a p q)) none
+pub primask_row : (k : Kind) (n a : ℕ) (l : Option (List ℕ × ℕ)) → Stands n k (from_special slot.Primask) → canonical k a 0 0 ≡ from_special slot.Primask → a < 15 → is_unlabelled l ≡ true → Written (of k a 0 0) l
+primask_row k n a l there slots' p none = plain_row (of k a 0 0) l n _ there slots' (rw (register16 a (omega arith)) refl) refl none
 
-pub ipsr_row : (k : Kind) (n a : ℕ) (l : Option (List ℕ × ℕ)) → Stands n k (from_special slot.Ipsr) → canonical k a 0 0 ≡ from_special slot.Ipsr → made k a 0 0 ≡ when (is_general a) (of k a 0 0) → a < 15 → a ≢ 13 → is_unlabelled l ≡ true → Written (of k a 0 0) l
-ipsr_row k n a l there slots' is p q none = plain_row (of k a 0 0) l n _ there slots' (rw (register16 a (omega arith)) refl) refl (is ∙ made_when (is_general a) (of k a 0 0) (general a p q)) none
+pub ipsr_row : (k : Kind) (n a : ℕ) (l : Option (List ℕ × ℕ)) → Stands n k (from_special slot.Ipsr) → canonical k a 0 0 ≡ from_special slot.Ipsr → a < 15 → is_unlabelled l ≡ true → Written (of k a 0 0) l
+ipsr_row k n a l there slots' p none = plain_row (of k a 0 0) l n _ there slots' (rw (register16 a (omega arith)) refl) refl none
 
 abbrev to_special : List Slot
 to_special = slot.Primask ∷ comma ∷ first ∷ []
 
-pub mask_row : (k : Kind) (n a : ℕ) (l : Option (List ℕ × ℕ)) → Stands n k to_special → canonical k a 0 0 ≡ to_special → made k a 0 0 ≡ when (is_general a) (of k a 0 0) → a < 15 → a ≢ 13 → is_unlabelled l ≡ true → Written (of k a 0 0) l
-mask_row k n a l there slots' is p q none = plain_row (of k a 0 0) l n to_special there slots' (rw (register16 a (omega arith)) refl) refl (is ∙ made_when (is_general a) (of k a 0 0) (general a p q)) none
+pub mask_row : (k : Kind) (n a : ℕ) (l : Option (List ℕ × ℕ)) → Stands n k to_special → canonical k a 0 0 ≡ to_special → a < 15 → is_unlabelled l ≡ true → Written (of k a 0 0) l
+mask_row k n a l there slots' p none = plain_row (of k a 0 0) l n to_special there slots' (rw (register16 a (omega arith)) refl) refl none

@@ -17,8 +17,8 @@ use Rattle.thumb_instr.specs.declared.operation.Special.TheVariants as special
 use Rattle.thumb_syntax.specs.declared.form.Place.TheVariants as place
 use Rattle.thumb_syntax.specs.declared.form.Slot.{Slot}
 use Rattle.thumb_syntax.specs.declared.form.Slot.TheVariants as slot
-use Rattle.thumb_syntax.specs.declared.kind.Kind.{Kind}
-use Rattle.thumb_syntax.specs.declared.kind.Kind.TheVariants as kind
+use Rattle.thumb_instr.specs.declared.kind.Kind.{Kind}
+use Rattle.thumb_instr.specs.declared.kind.Kind.TheVariants as kind
 use Rattle.thumb_syntax.specs.Rows.{first, second, third, same, comma, open', close}
 use Rattle.thumb_syntax.specs.Slots.{is_in_list}
 

@@ -2,13 +2,11 @@ pub mod Registers
 pub mod RegisterView
 pub mod Operands
 pub mod Views
-pub mod Made
 pub mod Lists
 pub mod Slots
 pub mod FieldViews
 pub mod Rows
 pub mod ParsedView
-pub mod ApartView
 pub mod Canonical
 pub mod Spelling
 pub mod RowLaws

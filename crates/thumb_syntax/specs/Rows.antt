@@ -20,11 +20,12 @@ use Rattle.thumb_syntax.specs.declared.form.Form.{Form}
 use Rattle.thumb_syntax.specs.declared.form.Place.TheVariants as place
 use Rattle.thumb_syntax.specs.declared.form.Slot.{Slot}
 use Rattle.thumb_syntax.specs.declared.form.Slot.TheVariants as slot
-use Rattle.thumb_syntax.specs.declared.kind.Kind.{Kind}
-use Rattle.thumb_syntax.specs.declared.kind.Kind.TheVariants as kind
+use Rattle.thumb_instr.specs.declared.kind.Kind.{Kind}
+use Rattle.thumb_instr.specs.declared.kind.Kind.TheVariants as kind
 use Rattle.thumb_syntax.specs.Registers.{first_some, or_else}
 use Rattle.thumb_syntax.specs.Operands.{Operand, operand}
-use Rattle.thumb_syntax.specs.Made.{Made, made}
+use Rattle.thumb_instr.specs.declared.kind.Parts.{Parts}
+use Rattle.thumb_instr.specs.Parts.{made}
 use Rattle.thumb_syntax.specs.Slots.{Fields, empty, filled}
 
 pub record Row : Type 0 where
@@ -224,10 +225,10 @@ control_rows =
 
 -- an instruction and its label, with what is added
 pub record Shown : Type 0 where
-  pub made : Made
+  pub made : Parts
   pub label : Option (List ℕ × ℕ)
 
-abbrev pub with_label : Option (List ℕ × ℕ) → Made → Shown
+abbrev pub with_label : Option (List ℕ × ℕ) → Parts → Shown
 with_label l m = record { made = m; label = l }
 
 abbrev pub shown_by : Kind → Fields → Option Shown

@@ -4,10 +4,9 @@ ghost use Rattle.thumb_syntax.specs.Canonical.{mnemonic, offset_slots, stack_slo
 
 use crate::fields::is_in_list;
 use crate::form::{Place, Slot};
-use crate::kind::Kind;
 use crate::table::{CLOSE, COMMA, FIRST, OPEN, SAME, SECOND, THIRD};
 use thumb_instr::{
-    Access, Barrier, ByteOperation, Condition, Extension, Hint, Interrupts, OffsetAccess,
+    Access, Barrier, ByteOperation, Condition, Extension, Hint, Interrupts, Kind, OffsetAccess,
     Operation, Reversal, Right, Special, Sum, WordAccess,
 };
 

@@ -1,5 +1,5 @@
 //! The forms of instructions' texts.
-use crate::kind::Kind;
+use thumb_instr::Kind;
 
 /// A register or number of an instruction, in the order of its canonical text.
 #[derive(Clone, Copy)]

@@ -1,15 +1,12 @@
 //! Instructions as text: the canonical spelling of the ARM manual's unified syntax, and the other spellings that are read.
 #![tactic(auto)]
 
-mod apart;
 mod canonical;
 mod errors;
 mod fields;
 mod form;
-mod kind;
 mod laws;
 mod lists;
-mod making;
 mod operands;
 mod reading;
 mod registers;

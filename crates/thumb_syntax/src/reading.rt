@@ -8,12 +8,10 @@ ghost use Rattle.thumb_syntax.specs.Rows.{row_of, shown_by, read_as, read_in, re
 
 use crate::fields::{Fields, Label, filled};
 use crate::form::Form;
-use crate::kind::Kind;
-use crate::making::made;
 use crate::registers::is_spelled;
 use crate::table::{control_forms, data_forms, memory_forms};
 use ascii_scan::{Token, next_token};
-use thumb_instr::Instr;
+use thumb_instr::{Instr, Kind, made};
 
 /// An instruction that was read, and the label that it names. Where it names one, its distance is 0.
 #[derive(Clone, Copy)]

@@ -3,9 +3,8 @@ ghost use Rattle.std.specs.Prelude.{◌≡◌, map};
 ghost use Rattle.thumb_syntax.specs.Rows.{row_of, data_rows, memory_rows, control_rows};
 
 use crate::form::{Form, Place, Slot};
-use crate::kind::Kind;
 use thumb_instr::{
-    Access, Barrier, ByteOperation, Condition, Extension, Hint, Interrupts, OffsetAccess,
+    Access, Barrier, ByteOperation, Condition, Extension, Hint, Interrupts, Kind, OffsetAccess,
     Operation, Reversal, Right, Special, Sum, WordAccess,
 };
 

@@ -6,7 +6,6 @@ ghost use Rattle.thumb_syntax.specs.ParsedView.{shown};
 ghost use Rattle.std.specs.Prelude.{option_map};
 ghost use Rattle.thumb_syntax.specs.Spelling.{register_text, number_text, mark_text, has_bit, member_text, separator, members, list_text, sum_text, label_text, label_sum_text, slot_text, slots_text, operands_text, text_of};
 
-use crate::apart::apart;
 use crate::canonical::{mnemonic, slots};
 use crate::errors::Memory;
 use crate::fields::{Fields, Label, at};
@@ -14,6 +13,7 @@ use crate::form::Slot;
 use crate::reading::Parsed;
 use itoa::Buffer;
 use std::alloc::{AllocError, Global};
+use thumb_instr::parts;
 
 fn write_decimal(number: u64, out: &mut Vec<u8>) -> Result<(), AllocError>
     ensures { OnOk result (out.new.items ≡ out.old.items ++ decimal number) }
@@ -205,22 +205,17 @@ fn write_operands(slots: &[Slot], fields: &Fields<'_>, out: &mut Vec<u8>) -> Res
 pub fn write_instr(alloc: Global, parsed: &Parsed<'_>) -> Result<Vec<u8>, Memory>
     ensures { IfOk result (λ text. text.items ≡ text_of (shown parsed.now)) }
 {
-    let numbered = apart(&parsed.instr);
+    let parts = parts(&parsed.instr);
     let fields = Fields {
-        first: numbered.first,
-        second: numbered.second,
-        third: numbered.third,
+        first: parts.first,
+        second: parts.second,
+        third: parts.third,
         label: parsed.label,
     };
     let mut out = Vec::new(alloc);
-    out.extend_from_slice(mnemonic(numbered.kind))?;
+    out.extend_from_slice(mnemonic(parts.kind))?;
     write_operands(
-        slots(
-            numbered.kind,
-            numbered.first,
-            numbered.second,
-            numbered.third,
-        ),
+        slots(parts.kind, parts.first, parts.second, parts.third),
         &fields,
         &mut out,
     )?;
