@@ -11,3 +11,4 @@ pub mod Canonical
 pub mod Spelling
 pub mod RowLaws
 pub mod Whole
+pub mod LeftView

@@ -1,14 +1,14 @@
 //! What the operands of a form hold.
-ghost use Rattle.std.specs.Prelude.{◌≡◌, map, option_map};
-ghost use Rattle.ascii_scan.specs.Tokens.{tokens};
-ghost use Rattle.thumb_syntax.specs.Operands.{operand};
+ghost use Rattle.std.specs.Prelude.{◌≡◌, option_map};
 ghost use Rattle.thumb_syntax.specs.Views.{view};
 ghost use Rattle.thumb_syntax.specs.FieldViews.{held};
+ghost use Rattle.thumb_syntax.specs.LeftView.{left};
 ghost use Rattle.thumb_syntax.specs.Slots.{empty, at, put, named, is_in_list, kept_if, number_held, held_by, taken, filled};
 
 use crate::form::{Place, Slot};
+use crate::left::Left;
 use crate::lists::listed;
-use crate::operands::{Operand, next_operand};
+use crate::operands::Operand;
 use crate::registers::is_spelled;
 
 /// A label that an instruction names, and the number that is added to it.
@@ -181,22 +181,26 @@ fn held_by<'a>(slot: &Slot, fields: Fields<'a>, operand: Operand<'a>) -> Option<
     }
 }
 
-/// The fields after what the slot takes, and the bytes after that.
-fn taken<'a>(slot: &Slot, fields: Fields<'a>, bytes: &'a [u8]) -> Option<(Fields<'a>, &'a [u8])>
-    ensures { option_map (λ r. (held r.0, map operand (tokens r.1.now))) result ≡ taken slot.now (held fields.entry) (map operand (tokens bytes.now)) }
+/// The fields after what the slot takes, and what is left after that.
+fn taken<'a, 'r>(
+    slot: &Slot,
+    fields: Fields<'a>,
+    operands: Left<'a, 'r>,
+) -> Option<(Fields<'a>, Left<'a, 'r>)>
+    ensures { option_map (λ r. (held r.0, left r.1)) result ≡ taken slot.now (held fields.entry) (left operands.entry) }
 {
     match *slot {
-        Slot::LowList(place) => match listed(None, bytes) {
+        Slot::LowList(place) => match listed(None, operands) {
             Some((list, after)) => Some((put(fields, place, list), after)),
             None => None,
         },
-        Slot::StackList(place, extra) => match listed(Some(extra), bytes) {
+        Slot::StackList(place, extra) => match listed(Some(extra), operands) {
             Some((list, after)) => Some((put(fields, place, list), after)),
             None => None,
         },
         Slot::InList(register, list) => {
             if is_in_list(at(&fields, register), at(&fields, list)) {
-                Some((fields, bytes))
+                Some((fields, operands))
             } else {
                 None
             }
@@ -205,10 +209,10 @@ fn taken<'a>(slot: &Slot, fields: Fields<'a>, bytes: &'a [u8]) -> Option<(Fields
             if is_in_list(at(&fields, register), at(&fields, list)) {
                 None
             } else {
-                Some((fields, bytes))
+                Some((fields, operands))
             }
         }
-        _ => match next_operand(bytes) {
+        _ => match operands.next() {
             Some((operand, after)) => match held_by(slot, fields, operand) {
                 Some(more) => Some((more, after)),
                 None => None,
@@ -219,15 +223,15 @@ fn taken<'a>(slot: &Slot, fields: Fields<'a>, bytes: &'a [u8]) -> Option<(Fields
 }
 
 /// The fields after operands that fill the slots, with none left.
-fn filled_from<'a>(slots: &[Slot], fields: Fields<'a>, bytes: &'a [u8]) -> Option<Fields<'a>>
-    ensures { option_map held result ≡ filled slots.now (held fields.entry) (map operand (tokens bytes.now)) }
+fn filled_from<'a>(slots: &[Slot], fields: Fields<'a>, operands: Left<'a, '_>) -> Option<Fields<'a>>
+    ensures { option_map held result ≡ filled slots.now (held fields.entry) (left operands.entry) }
 {
     match slots.split_first() {
-        None => match next_operand(bytes) {
+        None => match operands.next() {
             None => Some(fields),
             Some(_) => None,
         },
-        Some((slot, rest)) => match taken(slot, fields, bytes) {
+        Some((slot, rest)) => match taken(slot, fields, operands) {
             Some((more, after)) => filled_from(rest, more, after),
             None => None,
         },
@@ -235,8 +239,8 @@ fn filled_from<'a>(slots: &[Slot], fields: Fields<'a>, bytes: &'a [u8]) -> Optio
 }
 
 /// The fields of operands that fill the slots, with none left.
-pub fn filled<'a>(slots: &[Slot], bytes: &'a [u8]) -> Option<Fields<'a>>
-    ensures { option_map held result ≡ filled slots.now empty (map operand (tokens bytes.now)) }
+pub fn filled<'a>(slots: &[Slot], operands: Left<'a, '_>) -> Option<Fields<'a>>
+    ensures { option_map held result ≡ filled slots.now empty (left operands.entry) }
 {
-    filled_from(slots, empty(), bytes)
+    filled_from(slots, empty(), operands)
 }

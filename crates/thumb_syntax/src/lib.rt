@@ -6,6 +6,7 @@ mod errors;
 mod fields;
 mod form;
 mod laws;
+mod left;
 mod lists;
 mod operands;
 mod reading;

@@ -1,11 +1,11 @@
 //! Lists of registers.
-ghost use Rattle.std.specs.Prelude.{◌≡◌, ◌<◌, ◌≤◌, ◌+◌, ◌-◌, ◌^◌, map, option_map};
-ghost use Rattle.ascii_scan.specs.Tokens.{tokens};
-ghost use Rattle.thumb_syntax.specs.Operands.{operand};
+ghost use Rattle.std.specs.Prelude.{◌≡◌, ◌<◌, ◌≤◌, ◌+◌, ◌-◌, ◌^◌, option_map};
 ghost use Rattle.thumb_syntax.specs.Views.{view};
+ghost use Rattle.thumb_syntax.specs.LeftView.{left};
 ghost use Rattle.thumb_syntax.specs.Lists.{is_sign, bits_of, joined, added, items, listed};
 
-use crate::operands::{Operand, next_operand};
+use crate::left::Left;
+use crate::operands::Operand;
 
 fn is_sign(mark: u8, operand: &Operand<'_>) -> bool
     ensures { result ≡ is_sign mark (view operand.now) }
@@ -79,13 +79,17 @@ fn added(extra: Option<u32>, list: u32, item: &Operand<'_>) -> Option<u32>
     }
 }
 
-/// The list with the items up to the closing brace, and the bytes after it.
-fn items<'a>(extra: Option<u32>, list: u32, bytes: &'a [u8]) -> Option<(u32, &'a [u8])>
-    ensures { option_map (λ r. (r.0, map operand (tokens r.1.now))) result ≡ items extra list (map operand (tokens bytes.now)) }
+/// The list with the items up to the closing brace, and what is left after it.
+fn items<'a, 'r>(
+    extra: Option<u32>,
+    list: u32,
+    operands: Left<'a, 'r>,
+) -> Option<(u32, Left<'a, 'r>)>
+    ensures { option_map (λ r. (r.0, left r.1)) result ≡ items extra list (left operands.entry) }
 {
-    match next_operand(bytes) {
+    match operands.next() {
         None => None,
-        Some((item, after_item)) => match next_operand(after_item) {
+        Some((item, after_item)) => match after_item.next() {
             None => None,
             Some((sign, after)) => match added(extra, list, &item) {
                 None => None,
@@ -103,11 +107,11 @@ fn items<'a>(extra: Option<u32>, list: u32, bytes: &'a [u8]) -> Option<(u32, &'a
     }
 }
 
-/// A list in braces, which may have one register more than r0 to r7, and the bytes after it.
-pub fn listed<'a>(extra: Option<u32>, bytes: &'a [u8]) -> Option<(u32, &'a [u8])>
-    ensures { option_map (λ r. (r.0, map operand (tokens r.1.now))) result ≡ listed extra (map operand (tokens bytes.now)) }
+/// A list in braces, which may have one register more than r0 to r7, and what is left after it.
+pub fn listed<'a, 'r>(extra: Option<u32>, operands: Left<'a, 'r>) -> Option<(u32, Left<'a, 'r>)>
+    ensures { option_map (λ r. (r.0, left r.1)) result ≡ listed extra (left operands.entry) }
 {
-    match next_operand(bytes) {
+    match operands.next() {
         None => None,
         Some((sign, after)) => {
             if is_sign(b'{', &sign) {

@@ -30,6 +30,18 @@ pub enum Operand<'a> {
     Stray,
 }
 
+impl Default for Operand<'_> {
+    ghost use Rattle.std.specs.Prelude.{◌≡◌};
+    ghost use Rattle.thumb_syntax.specs.declared.operands.Operand.TheVariants.{Stray};
+
+    ghost is_default = { λ o. o ≡ Stray };
+
+    /// A stray one.
+    fn default() -> Self {
+        Operand::Stray
+    }
+}
+
 fn is_plain_byte(byte: u8) -> bool
     ensures { result ≡ is_plain byte }
 {

@@ -1,7 +1,6 @@
-use Rattle.std.proofs.Common.{length, map}
-use Rattle.ascii_scan.specs.Tokens.{tokens}
-use Rattle.thumb_syntax.specs.Operands.{operand}
+use Rattle.std.proofs.Common.{length}
+use Rattle.thumb_syntax.specs.LeftView.{left}
 use Rattle.thumb_syntax.proofs.lists.+items.Given as goal
 
 abbrev pub decreases-items : goal.decreases-items
-decreases-items l = length (map operand (tokens l.bytes.now))
+decreases-items l = length (left l.operands)
