@@ -3,9 +3,6 @@ pub mod Assembled
 pub mod MovesLines
 pub mod MovesRule
 pub mod MovesPass
-pub mod StageLemmas
-pub mod RunLemmas
-pub mod Deeds
 pub mod StraightLemmas
 pub mod StraightLines
 pub mod PrintLemmas

@@ -1,5 +1,5 @@
 -- One pass over the lines makes every replacement, each the first that can be made.
-use Rattle.std.proofs.Common.{◌≡◌, ℕ, zero, suc, ◌+◌, ◌-◌, ◌<◌, ◌≤◌, ◌==◌, ◌||◌, Bool, true, false, List, [], ◌∷◌, ◌++◌, length, map, Option, Some, None, refl, sym, ap, ◌∙◌, subst, ◌⊎◌, inl, inr, arith, eq-eqb, append_assoc, length-append}
+use Rattle.std.proofs.Common.{◌≡◌, ℕ, zero, suc, ◌+◌, ◌-◌, ◌<◌, ◌≤◌, ◌==◌, ◌||◌, Bool, true, false, List, [], ◌∷◌, ◌++◌, length, map, Option, Some, None, refl, sym, ap, ◌∙◌, subst, ◌⊎◌, inl, inr, arith, eq-eqb, append_assoc, length-append, if◌then◌else◌}
 use Rattle.std.specs.Prelude.{slice_get}
 use Rattle.std.proofs.lemmas.Bool.{cases_lt}
 use Rattle.std.proofs.lemmas.List.{map-append, append-nil}
@@ -10,9 +10,10 @@ use Rattle.thumb_model.specs.Layout.{Layable, fault_at}
 use Rattle.thumb_model.specs.Listing.{Name, Statement, Nothing, Runs, Words, Aligns, Sets, Line, Mention, Place, plain, places_in, places_of, labels_at, labels_from, code_of}
 use Rattle.thumb_instr.specs.Renaming.{Low}
 use Rattle.thumb_model.specs.Rewrite.{Rule, Applies}
-use Rattle.thumb_model.specs.Rewritten.{Replacement, AppliesIn, IsFirst, NoneApplies, AreRewritten, lines_after, lines_after_rule, left_length, left_length_of}
+use Rattle.thumb_model.specs.Rewritten.{is_op, Replacement, AppliesIn, IsFirst, NoneApplies, AreRewritten, lines_after, lines_after_rule, left_length, left_length_of}
 use Rattle.thumb_model.proofs.Lists.{get_front, get_back}
 use Rattle.audit_cli.specs.declared.moves.Used.{Used}
+use Rattle.audit_cli.specs.Rewriting.{instruction_count}
 use Rattle.audit_cli.specs.Simple.{has_name, instr_in, IsSimpleStatement, IsSimple, AreSimple}
 use Rattle.audit_cli.specs.Moves.{self_move, move_rule, moves_table, first_setting, used_view}
 use Rattle.audit_cli.proofs.MovesLines.{places_of-append, labels_from-append, is_labelled, unlabelled_before, unlabelled_after, alone, replaced_alone, joined_alone, AreFaultless, laid_out}
@@ -161,6 +162,22 @@ statement_faultless lies at (Sets name address) names front h = absurd h
 simple_faultless : (ls : List Line) → AreSimple ls → AreFaultless ls
 simple_faultless [] h = tt
 simple_faultless (l ∷ ls) h = (λ lies at. statement_faultless lies at l.statement l.names l.front h.0, simple_faultless ls h.1)
+
+-- so they can be laid out
+pub simple_layable : (base : ℕ) (ls : List Line) → AreSimple ls → Layable base ls
+simple_layable base ls h = laid_out base ls (simple_faultless ls h)
+
+-- and each of their places is an instruction
+counts_one : (s : Statement) (names : List Name) (front : List ℕ) (ls : List Line) → IsSimpleStatement names front s → instruction_count ls ≡ length (places_of ls) → (if is_op s then instruction_count ls + 1 else instruction_count ls) ≡ length (places_in s ++ places_of ls)
+counts_one Nothing names front ls g h = h
+counts_one (Runs i m) names front ls g h = omega arith
+counts_one (Words vs) names front ls g h = absurd g
+counts_one (Aligns size most) names front ls g h = absurd g
+counts_one (Sets name address) names front ls g h = absurd g
+
+pub simple_count : (ls : List Line) → AreSimple ls → instruction_count ls ≡ length (places_of ls)
+simple_count [] h = refl
+simple_count (l ∷ ls) h = counts_one l.statement l.names l.front ls h.0 (simple_count ls h.1)
 
 simple_both : (ks ls : List Line) → AreSimple ks → AreSimple ls → AreSimple (ks ++ ls)
 simple_both [] ls h g = g

@@ -2,9 +2,9 @@
 use Rattle.std.proofs.Common.{ℕ, List, refl, inr}
 use Rattle.command_line.specs.CommandLine.{Request, AskFor}
 use Rattle.outer_store.specs.Outside.{Seen, Sunk}
-use Rattle.audit_cli.specs.declared.status.Status.{Status}
-use Rattle.audit_cli.specs.declared.status.Status.TheVariants as status
-use Rattle.audit_cli.specs.Plans.{Runs}
+use Rattle.command_runs.specs.declared.status.Status.{Status}
+use Rattle.command_runs.specs.declared.status.Status.TheVariants as status
+use Rattle.command_runs.specs.Plans.{Runs}
 use Rattle.audit_cli.specs.Peep.{plan_of, IsUntouched, Peeps}
 
 pub untouched : (seen : Seen) (sunk : Sunk) → IsUntouched seen seen sunk sunk

@@ -1,16 +1,18 @@
 -- What is kept of a rewritten listing, and why it is the headline's.
 use Rattle.std.proofs.Common.{◌≡◌, ◌∙◌, ℕ, List, [], ◌∷◌, ◌++◌, length, codes, sym, ap, subst, arith}
-use Rattle.thumb_model.specs.Listing.{Line, places_of}
+use Rattle.thumb_model.specs.Listing.{Line}
 use Rattle.thumb_model.specs.Rewrite.{Rule}
 use Rattle.thumb_model.specs.Rewritten.{Replacement, AreRewritten}
-use Rattle.thumb_model.proofs.LinesKept.{lines_same, none_left, all_applied, no_more_lines}
+use Rattle.thumb_model.specs.Layout.{Layable}
+use Rattle.thumb_model.proofs.LinesKept.{lines_same, none_left, all_applied, no_more_lines, still_layable}
 use Rattle.audit_cli.specs.Moves.{moves_table}
 use Rattle.listing_parser.specs.Parsing.{IsListing, text_of_lines}
 use Rattle.audit_cli.specs.Straight.{AreStraight, IsFirstBad}
 use Rattle.audit_cli.specs.FirstTable.{IsTable, IsBadTableLine}
-use Rattle.audit_cli.specs.Plans.{Outcome, Refuses, Does}
+use Rattle.command_runs.specs.Plans.{Outcome, Refuses, Does}
 use Rattle.audit_cli.specs.Printed.{report_of, refused_table_line, refused_listing_line, image_line}
-use Rattle.audit_cli.specs.Rewriting.{Destination, Counts, AreImage, IsKept, alone, pair, IsKeptIn, setting, AreShortest, IsRewriting, ListingComes, bad_listing, rewrites, Comes, bad_table, goes_on}
+use Rattle.audit_cli.specs.Rewriting.{Destination, Counts, AreImage, IsKept, alone, pair, IsKeptIn, setting, AreShortest, IsRewriting, Rewrites, rewritten, instruction_count}
+use Rattle.audit_cli.specs.FirstForm.{first_table, Comes, bad_table, bad_listing, in_form}
 use Rattle.audit_cli.proofs.MovesRule.{moves_only, moves_are_sound}
 use Rattle.audit_cli.proofs.WellFormed.{still_reads}
 
@@ -32,21 +34,22 @@ kept_pair out image base lines c text bytes printed o some t i p e =
     (subst (λ (x : List ℕ). IsKept to lines c ((out, text_of_lines lines) ∷ (image, bytes) ∷ []) x) (sym p) (pair some bytes i)))
 
 -- nothing is shorter than nothing
-moves_are_shortest : (entries : ℕ) → AreShortest (moves_table entries)
-moves_are_shortest entries k rule e shorter l equal =
+moves_are_shortest : (entries : ℕ) → AreShortest (first_table entries)
+moves_are_shortest entries k rule e number shorter s l o equal =
     let none : length rule.right ≡ 0 = ap (λ (r : Rule). length r.right) (moves_only entries k rule e) in
     absurd (omega (arith, l, none))
 
 -- rewriting by the definition is the headline
-pub is_rewriting : (to : Destination) (entries : ℕ) (given lines : List Line) (replacements : List Replacement) (c : Counts) (o : Outcome) → IsListing (text_of_lines given) given → AreRewritten (setting to.base entries) given replacements lines → c ≡ record { replaced = length replacements; before = length (places_of given); after = length (places_of lines) } → IsKeptIn to lines c o → IsRewriting to entries given o
-is_rewriting to entries given lines replacements c o is r e k =
-    let s = setting to.base entries in
+pub is_rewriting : (to : Destination) (entries : ℕ) (given lines : List Line) (replacements : List Replacement) (c : Counts) (o : Outcome) → IsListing (text_of_lines given) given → Layable to.base given → AreRewritten (setting to.base (moves_table entries)) given replacements lines → c ≡ record { replaced = length replacements; before = instruction_count given; after = instruction_count lines } → IsKeptIn to lines c o → IsRewriting to (first_table entries) given o
+is_rewriting to entries given lines replacements c o is laid r e k =
+    let s = setting to.base (moves_table entries) in
     record {
       replacements = replacements;
       lines = lines;
       rewritten = r;
       listed = still_reads to.base entries (text_of_lines given) given replacements lines r is;
       no_longer = no_more_lines s given replacements lines r;
+      layable = still_layable s given replacements lines laid r;
       same = lines_same s given replacements lines (moves_are_sound entries) r;
       finished = none_left s given replacements lines r;
       applied = all_applied s given replacements lines r;
@@ -57,14 +60,14 @@ is_rewriting to entries given lines replacements c o is r e k =
 
 -- ---- what the texts come to ----
 
-pub listing_refused : (to : Destination) (entries : ℕ) (listing : List ℕ) (n : ℕ) (line : List ℕ) (o : Outcome) → IsFirstBad listing n → line ≡ refused_listing_line n → o ≡ Refuses line → ListingComes to entries listing o
-listing_refused to entries listing n line o bad l e = subst (ListingComes to entries listing) (sym (e ∙ ap Refuses l)) (bad_listing n bad)
+pub listing_refused : (to : Destination) (table listing : List ℕ) (entries n : ℕ) (line : List ℕ) (o : Outcome) → IsTable table entries → IsFirstBad listing n → line ≡ refused_listing_line n → o ≡ Refuses line → Comes to table listing o
+listing_refused to table listing entries n line o is bad l e = subst (Comes to table listing) (sym (e ∙ ap Refuses l)) (bad_listing entries is n bad)
 
-pub listing_rewritten : (to : Destination) (entries : ℕ) (listing : List ℕ) (given : List Line) (o : Outcome) → AreStraight listing → IsListing listing given → IsRewriting to entries given o → ListingComes to entries listing o
-listing_rewritten to entries listing given o straight is r = rewrites straight given is o r
+pub in_the_form : (to : Destination) (table listing : List ℕ) (entries : ℕ) (o : Outcome) → IsTable table entries → AreStraight listing → Rewrites to (first_table entries) listing o → Comes to table listing o
+in_the_form to table listing entries o is straight r = in_form entries is straight o r
+
+pub listing_rewritten : (to : Destination) (entries : ℕ) (listing : List ℕ) (given : List Line) (o : Outcome) → IsListing listing given → Layable to.base given → IsRewriting to (first_table entries) given o → Rewrites to (first_table entries) listing o
+listing_rewritten to entries listing given o is laid r = rewritten given is laid o r
 
 pub table_refused : (to : Destination) (table listing : List ℕ) (n : ℕ) (line : List ℕ) (o : Outcome) → IsBadTableLine table n → line ≡ refused_table_line n → o ≡ Refuses line → Comes to table listing o
 table_refused to table listing n line o bad l e = subst (Comes to table listing) (sym (e ∙ ap Refuses l)) (bad_table n bad)
-
-pub table_goes_on : (to : Destination) (table listing : List ℕ) (entries : ℕ) (o : Outcome) → IsTable table entries → ListingComes to entries listing o → Comes to table listing o
-table_goes_on to table listing entries o is l = goes_on entries is o l

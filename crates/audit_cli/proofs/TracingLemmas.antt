@@ -18,9 +18,9 @@ use Rattle.thumb_machine.specs.Starting.{Starts, start_values as values_at}
 use Rattle.thumb_machine.specs.Laid.{IsLaid}
 use Rattle.audit_cli.specs.Running.{IsRun}
 use Rattle.audit_cli.specs.Start.{answers_from, start_values, start_world}
-use Rattle.audit_cli.specs.declared.outcome.Outcome.{Outcome as Outcomes}
-use Rattle.audit_cli.specs.Outcomes.{outcome_view}
-use Rattle.audit_cli.specs.Plans.{Refuses, Does}
+use Rattle.command_runs.specs.declared.outcome.Outcome.{Outcome as Outcomes}
+use Rattle.command_runs.specs.Outcomes.{outcome_view}
+use Rattle.command_runs.specs.Plans.{Refuses, Does}
 use Rattle.audit_cli.specs.TraceLines.{event_lines, refused_fault, refused_label, refused_line, steps_line}
 use Rattle.audit_cli.specs.Tracing.{Journey, LinesTrace, unlaid, unlabelled, ran, Traces, unread, read}
 

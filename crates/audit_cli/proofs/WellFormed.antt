@@ -20,6 +20,7 @@ use Rattle.listing_parser.proofs.FewLemmas.{all_few}
 use Rattle.listing_parser.proofs.PrintLemmas.{prints_back}
 use Rattle.listing_parser.proofs.ReplacedLines.{replaced_reads_again}
 use Rattle.audit_cli.specs.Rewriting.{setting}
+use Rattle.audit_cli.specs.Moves.{moves_table}
 use Rattle.audit_cli.proofs.MovesRule.{moves_only, moves_are_sound}
 
 -- a listing has at most 65,536 lines
@@ -45,9 +46,9 @@ stand_there rule r ls a k lt =
     ap is_op_place there ∙ plain_at a.window k (omega arith)
 
 -- by an entry whose right side is empty
-reads_after : (base entries : ℕ) (r : Replacement) (bytes : List ℕ) (ls : List Line) → AppliesIn (setting base entries) r ls → IsListing bytes ls → IsListing (text_of_lines (lines_after (setting base entries) r ls)) (lines_after (setting base entries) r ls)
+reads_after : (base entries : ℕ) (r : Replacement) (bytes : List ℕ) (ls : List Line) → AppliesIn (setting base (moves_table entries)) r ls → IsListing bytes ls → IsListing (text_of_lines (lines_after (setting base (moves_table entries)) r ls)) (lines_after (setting base (moves_table entries)) r ls)
 reads_after base entries r bytes ls a is =
-    let s = setting base entries in
+    let s = setting base (moves_table entries) in
     let rule = a.rule in
     let instrs = map (renamed r.registers) rule.right in
     let keeps = one_line_keeps s r ls (moves_are_sound entries) a in
@@ -65,8 +66,8 @@ reads_after base entries r bytes ls a is =
 
 -- ---- all of them ----
 
-pub still_reads : (base entries : ℕ) (bytes : List ℕ) (given : List Line) (rs : List Replacement) (new : List Line) → AreRewritten (setting base entries) given rs new → IsListing bytes given → IsListing (text_of_lines new) new
+pub still_reads : (base entries : ℕ) (bytes : List ℕ) (given : List Line) (rs : List Replacement) (new : List Line) → AreRewritten (setting base (moves_table entries)) given rs new → IsListing bytes given → IsListing (text_of_lines new) new
 still_reads base entries bytes given [] new h is = subst (λ (ls : List Line). IsListing (text_of_lines ls) ls) (sym h.1) (subst (λ (bs : List ℕ). IsListing bs given) (sym (prints_back bytes given is)) is)
 still_reads base entries bytes given (r ∷ rs) new h is =
-    let next = lines_after (setting base entries) r given in
+    let next = lines_after (setting base (moves_table entries)) r given in
     still_reads base entries (text_of_lines next) next rs new h.1 (reads_after base entries r bytes given h.0.applies is)

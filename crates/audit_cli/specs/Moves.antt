@@ -18,7 +18,7 @@ self_move d = Mov (widened d) (widened d)
 
 -- `mov r0, r0` goes, whatever is live after it
 abbrev pub move_rule : Rule
-move_rule = record { left = Mov r0 r0 ∷ []; right = []; mask = 0 ∷ 15 ∷ 16 ∷ 17 ∷ 18 ∷ []; count = 1 }
+move_rule = record { left = Mov r0 r0 ∷ []; right = []; mask = 0 ∷ 15 ∷ 16 ∷ 17 ∷ 18 ∷ []; open_numbers = [] }
 
 -- a table of so many of these entries
 abbrev pub moves_table : ℕ → List Rule

@@ -2,10 +2,10 @@
 use Rattle.std.specs.Prelude.{ℕ, ◌⊎◌, List, [], ◌∷◌}
 use Rattle.command_line.specs.CommandLine.{Request, rewrite, trace, AskFor}
 use Rattle.outer_store.specs.Outside.{Seen, SameHeld, Sunk, WroteNone}
-use Rattle.audit_cli.specs.declared.status.Status.{Status}
-use Rattle.audit_cli.specs.declared.status.Status.TheVariants as status
-use Rattle.audit_cli.specs.Plans.{Plan, Runs}
-use Rattle.audit_cli.specs.Rewriting.{RewriteComesTo}
+use Rattle.command_runs.specs.declared.status.Status.{Status}
+use Rattle.command_runs.specs.declared.status.Status.TheVariants as status
+use Rattle.command_runs.specs.Plans.{Plan, Runs}
+use Rattle.audit_cli.specs.FirstForm.{RewriteComesTo}
 use Rattle.audit_cli.specs.Tracing.{TraceComesTo}
 
 -- what a request fetches, and what comes of it

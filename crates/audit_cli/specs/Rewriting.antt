@@ -1,18 +1,21 @@
 -- What the command `rewrite` comes to: the program's headline, but for its store and sink.
-use Rattle.std.specs.Prelude.{◌≡◌, ◌<◌, ◌≤◌, ℕ, List, [], ◌∷◌, ◌++◌, length, codes, Some, slice_get}
+use Rattle.std.specs.Prelude.{◌≡◌, ◌<◌, ◌≤◌, ◌+◌, ℕ, false, List, [], ◌∷◌, ◌++◌, length, codes, Some, slice_get, if◌then◌else◌}
 use Rattle.thumb_instr.specs.declared.instr.Instr.{Instr}
-use Rattle.thumb_model.specs.Listing.{Name, Line, places_of, code_of}
+use Rattle.thumb_model.specs.Items.{one_of}
+use Rattle.thumb_model.specs.Listing.{Name, Line, code_of}
+use Rattle.thumb_model.specs.Layout.{Fault, Layable, set_address}
 use Rattle.thumb_model.specs.Image.{IsImage}
 use Rattle.thumb_model.specs.Same.{Same}
-use Rattle.thumb_model.specs.Rewrite.{Rule, Equal, AreSound}
-use Rattle.thumb_model.specs.Rewritten.{Setting, Replacement, AreRewritten, AllApplied, NoneApplies}
-use Rattle.listing_parser.specs.Parsing.{IsListing, text_of_lines}
+use Rattle.thumb_model.specs.Rewrite.{Rule, Equal, AreSound, register_count}
+use Rattle.thumb_model.specs.Rewritten.{Setting, Replacement, AreRewritten, AllApplied, NoneApplies, is_op}
+use Rattle.seq_enum.specs.Alphabet.{sequences}
+use Rattle.listing_parser.specs.declared.errors.Kind.{Kind}
+use Rattle.listing_parser.specs.Parsing.{IsListing, IsRefused, text_of_lines}
 use Rattle.listing_parser.specs.Replacing.{own_line}
-use Rattle.audit_cli.specs.Straight.{AreStraight, IsFirstBad}
-use Rattle.audit_cli.specs.FirstTable.{IsTable, IsBadTableLine}
-use Rattle.audit_cli.specs.Moves.{moves_table, first_setting}
-use Rattle.audit_cli.specs.Plans.{Keep, Outcome, Refuses, Does}
-use Rattle.audit_cli.specs.Printed.{report_of, refused_table_line, refused_listing_line, image_line}
+use Rattle.label_layout.specs.Refusals.{first_fault}
+use Rattle.command_runs.specs.Plans.{Keep, Outcome, Refuses, Does}
+use Rattle.audit_cli.specs.Printed.{report_of, image_line}
+use Rattle.audit_cli.specs.TraceLines.{refused_line, refused_fault}
 
 -- the names that a rewritten listing and its image are kept under, and where the image lies
 pub record Destination : Type 0 where
@@ -20,7 +23,17 @@ pub record Destination : Type 0 where
   pub image : List ℕ
   pub base : ℕ
 
+-- a table, as far as rewriting goes by it: the pool of the numbers in its sequences, and its entries
+pub record Table : Type 0 where
+  pub pool : List ℕ
+  pub rules : List Rule
+
 -- ---- what is kept and printed ----
+
+-- how many instructions lines hold
+abbrev pub instruction_count : List Line → ℕ
+instruction_count [] = 0
+instruction_count (l ∷ ls) = if is_op l.statement then instruction_count ls + 1 else instruction_count ls
 
 -- how many replacements were made, and how many instructions there were before and after
 pub record Counts : Type 0 where
@@ -28,9 +41,13 @@ pub record Counts : Type 0 where
   pub before : ℕ
   pub after : ℕ
 
--- the bytes are the image of the lines at a base, whatever is set for external names
+-- what stands for external names is what the lines set for them, where they set it
+abbrev pub IsSetBy : List Line → (Name → ℕ) → Type 0
+IsSetBy lines set = (name : Name) (address : ℕ) → set_address name lines ≡ Some address → set name ≡ address
+
+-- the bytes are the image of the lines at a base, with the addresses that the lines set
 abbrev pub AreImage : ℕ → List Line → List ℕ → Type 0
-AreImage base lines bytes = (set : Name → ℕ) → IsImage base set lines bytes
+AreImage base lines bytes = (set : Name → ℕ) → IsSetBy lines set → IsImage base set lines bytes
 
 -- the listing is kept, and then its image unless that is named `-`; the lines tell the counts and the image's size
 pub data IsKept (to : Destination) (lines : List Line) (c : Counts) : List Keep → List ℕ → Type 0 where
@@ -45,47 +62,42 @@ IsKeptIn to lines c (Does keeps printed) = IsKept to lines c keeps printed
 -- ---- the headline ----
 
 -- a new instruction has a line of its own: a tab, its canonical text, and a newline
-abbrev pub setting : ℕ → ℕ → Setting
-setting base entries = first_setting own_line base entries
+abbrev pub setting : ℕ → List Rule → Setting
+setting base rules = record { table = rules; base = base; write = own_line }
 
--- no sequence that is shorter than an entry's right side leaves the same under its mask
-abbrev pub AreShortest : List Rule → Type 0
-AreShortest table = (k : ℕ) (rule : Rule) → slice_get table k ≡ Some rule → (shorter : List Instr) → length shorter < length rule.right → Equal rule.left shorter rule.mask → ⊥
+-- of the alphabet of the registers that its left side names, no sequence with fewer instructions than an entry's right side leaves the same under its mask, save those that the entry names open
+abbrev pub IsShortest : List ℕ → Rule → Type 0
+IsShortest pool rule =
+    (number : ℕ) (shorter : List Instr) → slice_get (sequences (register_count rule.left) pool) number ≡ Some shorter → length shorter < length rule.right
+    → one_of number rule.open_numbers ≡ false → Equal rule.left shorter rule.mask → ⊥
 
--- a listing is rewritten by a table of so many entries
-pub record IsRewriting (to : Destination) (entries : ℕ) (given : List Line) (o : Outcome) : Type 0 where
+abbrev pub AreShortest : Table → Type 0
+AreShortest table = (k : ℕ) (rule : Rule) → slice_get table.rules k ≡ Some rule → IsShortest table.pool rule
+
+-- a listing is rewritten by a table
+pub record IsRewriting (to : Destination) (table : Table) (given : List Line) (o : Outcome) : Type 0 where
   -- the one listing that is left: each replacement is the first that can be made
   pub replacements : List Replacement
   pub lines : List Line
-  pub rewritten : AreRewritten (setting to.base entries) given replacements lines
-  -- its text is read as these lines, and they are no more than before
+  pub rewritten : AreRewritten (setting to.base table.rules) given replacements lines
+  -- its text is read as these lines, which are no more than before, and can be laid out
   pub listed : IsListing (text_of_lines lines) lines
   pub no_longer : length lines ≤ length given
+  pub layable : Layable to.base lines
   -- the same runs from every state, in no more steps
   pub same : Same (code_of given) (code_of lines)
   -- no entry applies any more
-  pub finished : NoneApplies (setting to.base entries) lines
+  pub finished : NoneApplies (setting to.base table.rules) lines
   -- each replacement applied in the listing as it then was, and leaves the same live registers and flags
-  pub applied : AllApplied (setting to.base entries) given replacements
-  pub sound : AreSound (moves_table entries)
-  -- no shorter sequence does
-  pub shortest : AreShortest (moves_table entries)
-  -- the listing is kept, and its image; each place of a straight listing is an instruction
-  pub kept : IsKeptIn to lines (record { replaced = length replacements; before = length (places_of given); after = length (places_of lines) }) o
+  pub applied : AllApplied (setting to.base table.rules) given replacements
+  pub sound : AreSound table.rules
+  -- no shorter sequence of the entry's alphabet does
+  pub shortest : AreShortest table
+  -- the listing is kept, and its image
+  pub kept : IsKeptIn to lines (record { replaced = length replacements; before = instruction_count given; after = instruction_count lines }) o
 
--- what the text of a listing comes to: it is refused at its first line that may not stand in a straight listing, or its lines are rewritten
-pub data ListingComes (to : Destination) (entries : ℕ) (listing : List ℕ) : Outcome → Type 0 where
-  bad_listing : (n : ℕ) → IsFirstBad listing n → ListingComes to entries listing (Refuses (refused_listing_line n))
-  rewrites : AreStraight listing → (given : List Line) → IsListing listing given → (o : Outcome) → IsRewriting to entries given o → ListingComes to entries listing o
-
--- what the texts of a table and a listing come to: the table is refused at its first bad line, or else the listing goes by it
-pub data Comes (to : Destination) (table listing : List ℕ) : Outcome → Type 0 where
-  bad_table : (n : ℕ) → IsBadTableLine table n → Comes to table listing (Refuses (refused_table_line n))
-  goes_on : (entries : ℕ) → IsTable table entries → (o : Outcome) → ListingComes to entries listing o → Comes to table listing o
-
--- `rewrite` fetches two texts, and is given no other number of them
-abbrev pub RewriteComesTo : Destination → List (List ℕ) → Outcome → Type 0
-RewriteComesTo to [] o = o ≡ Refuses []
-RewriteComesTo to (table ∷ []) o = o ≡ Refuses []
-RewriteComesTo to (table ∷ listing ∷ []) o = Comes to table listing o
-RewriteComesTo to (table ∷ listing ∷ text ∷ texts) o = o ≡ Refuses []
+-- what the text of a listing comes to by a table: it is refused at the first line that makes it no listing, or that can't be laid out from the base; or its lines are rewritten
+pub data Rewrites (to : Destination) (table : Table) (listing : List ℕ) : Outcome → Type 0 where
+  unread : (n : ℕ) (k : Kind) → IsRefused listing n k → Rewrites to table listing (Refuses (refused_line n k))
+  unlaid : (given : List Line) → IsListing listing given → (n : ℕ) (fault : Fault) → first_fault to.base given ≡ Some (n, fault) → Rewrites to table listing (Refuses (refused_fault n fault))
+  rewritten : (given : List Line) → IsListing listing given → Layable to.base given → (o : Outcome) → IsRewriting to table given o → Rewrites to table listing o

@@ -9,7 +9,7 @@ use Rattle.listing_parser.specs.Parsing.{IsListing, IsRefused}
 use Rattle.label_layout.specs.Refusals.{first_fault}
 use Rattle.thumb_machine.specs.declared.machine.Stage.{Stage}
 use Rattle.thumb_machine.specs.Laid.{IsLaid}
-use Rattle.audit_cli.specs.Plans.{Outcome, Refuses, Does}
+use Rattle.command_runs.specs.Plans.{Outcome, Refuses, Does}
 use Rattle.audit_cli.specs.Running.{IsRun}
 use Rattle.audit_cli.specs.Start.{start_world}
 use Rattle.audit_cli.specs.TraceLines.{event_lines, steps_line, refused_line, refused_fault, refused_label}
@@ -32,8 +32,6 @@ pub data Traces (journey : Journey) (text : List ℕ) : Outcome → Type 0 where
   unread : (n : ℕ) (k : Kind) → IsRefused text n k → Traces journey text (Refuses (refused_line n k))
   read : (lines : List Line) → IsListing text lines → (o : Outcome) → LinesTrace journey lines o → Traces journey text o
 
--- `trace` fetches one text, and is given no other number of them
+-- `trace` goes by one text
 abbrev pub TraceComesTo : Journey → List (List ℕ) → Outcome → Type 0
-TraceComesTo journey [] o = o ≡ Refuses []
-TraceComesTo journey (text ∷ []) o = Traces journey text o
-TraceComesTo journey (text ∷ other ∷ texts) o = o ≡ Refuses []
+TraceComesTo journey texts o = (text : List ℕ) × (texts ≡ text ∷ []) × Traces journey text o

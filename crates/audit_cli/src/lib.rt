@@ -3,20 +3,17 @@
 
 mod assembling;
 mod moves;
-mod outcome;
 mod printing;
 mod read_error;
 mod read_table;
 mod rewriting;
 mod running;
-mod stages;
 mod start;
-mod status;
 mod straight;
 mod top;
 mod trace_lines;
 mod tracing;
 
 pub use command_line::{Command, Memory, usage_of};
-pub use status::Status;
+pub use command_runs::Status;
 pub use top::peep;

@@ -2,23 +2,25 @@
 ghost use Rattle.std.specs.Prelude.{◌≡◌, ◌++◌, ◌∷◌, [], ◌↔◌, ℕ, List, length, map, codes, IfOk, IsTrue};
 ghost use Rattle.listing_parser.specs.Parsing.{IsListing, text_of_lines};
 ghost use Rattle.listing_parser.specs.Views.{line_view};
-ghost use Rattle.audit_cli.specs.Outcomes.{deed_view, outcome_view};
-ghost use Rattle.audit_cli.specs.Plans.{Refuses, Does};
+ghost use Rattle.command_runs.specs.Outcomes.{deed_view, outcome_view};
+ghost use Rattle.command_runs.specs.Plans.{Refuses, Does};
 ghost use Rattle.audit_cli.specs.Printed.{report_of, image_line};
-ghost use Rattle.audit_cli.specs.Rewriting.{IsKeptIn, IsRewriting, ListingComes, Comes};
+ghost use Rattle.audit_cli.specs.Rewriting.{IsKeptIn, IsRewriting, Rewrites, instruction_count};
+ghost use Rattle.audit_cli.specs.FirstForm.{first_table, Comes};
+ghost use Rattle.thumb_model.specs.Rewritten.{is_op};
 ghost use Rattle.audit_cli.specs.Destinations.{destination_of};
 ghost use Rattle.audit_cli.specs.Simple.{AreSimple};
 ghost use Rattle.audit_cli.specs.Straight.{AreStraight};
+ghost use Rattle.audit_cli.specs.FirstTable.{IsTable};
 
 use crate::assembling::assemble;
 use crate::moves::drop_moves;
-use crate::outcome::{Deed, Outcome};
 use crate::printing::{image_report, print, refused_listing, refused_table, report};
 use crate::read_error::ReadError;
 use crate::read_table::read_table;
-use crate::stages;
 use crate::straight::first_bad;
-use listing_parser::{Line, Listing, ListingError, parse};
+use command_runs::{Deed, Outcome};
+use listing_parser::{Line, Listing, ListingError, Statement, parse};
 use std::alloc::{AllocError, Global};
 use step_ledger::{Ledger, Steps};
 
@@ -105,6 +107,26 @@ fn kept_listing(
     return Ok(outcome);
 }
 
+/// Whether a line holds an instruction.
+fn is_instruction(line: &Line) -> bool
+    ensures { result ≡ is_op (line_view line.now).statement }
+{
+    matches!(line.statement, Statement::Runs { .. })
+}
+
+/// How many instructions the lines hold.
+fn instruction_count(lines: &[Line]) -> u64
+    ensures { result ≡ instruction_count (map line_view lines.now) }
+{
+    let mut count = 0;
+    for line in lines {
+        if is_instruction(line) {
+            count += 1;
+        }
+    }
+    count
+}
+
 /// Rewrites a straight listing by a table of so many entries.
 fn rewritten(
     alloc: Global,
@@ -115,10 +137,10 @@ fn rewritten(
 ) -> Result<Outcome, AllocError>
     requires simple { AreSimple listing.now }
     requires listed { IsListing (text_of_lines listing.now) listing.now }
-    ensures { (base : ℕ) → IfOk result (λ o. IsRewriting (record { out = out.now; image = image.now; base = base }) entries listing.now (outcome_view o)) }
+    ensures { (base : ℕ) → IfOk result (λ o. IsRewriting (record { out = out.now; image = image.now; base = base }) (first_table entries) listing.now (outcome_view o)) }
 {
     let new = drop_moves(alloc, entries, listing)?;
-    let before = u64::from(listing.place_count());
+    let before = instruction_count(listing.lines());
     let after = new.instructions as u64;
     let replaced = new.used.len() as u64;
     let outcome = kept_listing(alloc, out, image, &new.lines, replaced, before, after)?;
@@ -148,7 +170,7 @@ fn straight_outcome(
     listing: &[u8],
 ) -> Result<Outcome, AllocError>
     requires { AreStraight listing.now }
-    ensures { IfOk result (λ o. ListingComes (destination_of to.now) entries listing.now (outcome_view o)) }
+    ensures { IfOk result (λ o. Rewrites (destination_of to.now) (first_table entries) listing.now (outcome_view o)) }
 {
     match parse(alloc, listing) {
         Err(ListingError::Memory) => return Err(AllocError),
@@ -161,18 +183,20 @@ fn straight_outcome(
     }
 }
 
-/// What the text of a listing comes to, by a table of so many entries.
-#[tactic(auto, using(crate::proofs::RewritingLemmas::listing_refused))]
+/// What the text of a listing comes to, by the text of a table of so many entries.
 fn listing_outcome(
     alloc: Global,
     to: &Rewrite<'_>,
     entries: usize,
     listing: &[u8],
 ) -> Result<Outcome, AllocError>
-    ensures { IfOk result (λ o. ListingComes (destination_of to.now) entries listing.now (outcome_view o)) }
+    ensures { (table : List ℕ) → IsTable table entries → IfOk result (λ o. Comes (destination_of to.now) table listing.now (outcome_view o)) }
 {
     match first_bad(alloc, listing)? {
-        None => straight_outcome(alloc, to, entries, listing),
+        None => {
+            let outcome = straight_outcome(alloc, to, entries, listing)?;
+            return Ok(outcome);
+        }
         Some(number) => {
             let line = refused_listing(alloc, number)?;
             return Ok(refuses(line));
@@ -181,7 +205,7 @@ fn listing_outcome(
 }
 
 /// What the texts of a table and a listing come to.
-#[tactic(auto, using(crate::proofs::RewritingLemmas::table_refused, crate::proofs::RewritingLemmas::table_goes_on))]
+#[tactic(auto, using(crate::proofs::RewritingLemmas::table_refused))]
 fn outcome(
     alloc: Global,
     to: &Rewrite<'_>,
@@ -203,9 +227,11 @@ fn outcome(
     }
 }
 
-impl stages::Command for Rewrite<'_> {
-    ghost use Rattle.audit_cli.specs.Rewriting.{RewriteComesTo};
+impl command_runs::Command for Rewrite<'_> {
+    ghost use Rattle.audit_cli.specs.FirstForm.{RewriteComesTo};
     ghost use Rattle.audit_cli.specs.Destinations.{destination_of};
+
+    ghost takes = { 2 };
 
     ghost comes = { λ s texts o. RewriteComesTo (destination_of s) texts o };
 
@@ -220,7 +246,7 @@ impl stages::Command for Rewrite<'_> {
                 let outcome = outcome(alloc, self, table, listing)?;
                 Ok(outcome)
             }
-            _ => Ok(Outcome::Refuses(Vec::new(alloc))),
+            _ => unreachable!(),
         }
     }
 }

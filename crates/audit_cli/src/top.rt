@@ -2,14 +2,13 @@
 ghost use Rattle.std.specs.Prelude.{◌≡◌, map, string_bytes};
 ghost use Rattle.outer_store.specs.Outside.{Grows, SinkGrows};
 ghost use Rattle.command_line.specs.Request.{request_of};
-ghost use Rattle.audit_cli.specs.Plans.{Runs};
+ghost use Rattle.command_runs.specs.Plans.{Runs};
 ghost use Rattle.audit_cli.specs.Peep.{plan_of, Peeps};
 
 use crate::rewriting::Rewrite;
-use crate::stages::run;
-use crate::status::Status;
 use crate::tracing::Trace;
 use command_line::{Command, usage_of};
+use command_runs::{Status, run};
 use outer_store::{Sink, Store};
 use std::alloc::Global;
 use step_ledger::{Ledger, Steps};

@@ -5,16 +5,15 @@ ghost use Rattle.thumb_model.specs.Layout.{Layable};
 ghost use Rattle.listing_parser.specs.Parsing.{IsRefused};
 ghost use Rattle.label_layout.specs.Addresses.{AreAddresses};
 ghost use Rattle.label_layout.specs.Refusals.{fault_of, first_fault};
-ghost use Rattle.audit_cli.specs.Outcomes.{outcome_view};
-ghost use Rattle.audit_cli.specs.Plans.{Does};
+ghost use Rattle.command_runs.specs.Outcomes.{outcome_view};
+ghost use Rattle.command_runs.specs.Plans.{Does};
 ghost use Rattle.audit_cli.specs.Journeys.{journey_of};
 ghost use Rattle.audit_cli.specs.Tracing.{Journey, LinesTrace, Traces};
 
-use crate::outcome::Outcome;
 use crate::running::run;
-use crate::stages;
 use crate::start::{answers, state};
 use crate::trace_lines::{refused_fault, refused_label, refused_line, run_lines};
+use command_runs::Outcome;
 use label_layout::{Kind as LayoutKind, Layout, LayoutError, layout};
 use listing_parser::{Kind, Listing, ListingError, parse};
 use std::alloc::{AllocError, Global};
@@ -116,9 +115,11 @@ fn outcome(alloc: Global, trace: &Trace<'_>, text: &[u8]) -> Result<Outcome, All
     }
 }
 
-impl stages::Command for Trace<'_> {
+impl command_runs::Command for Trace<'_> {
     ghost use Rattle.audit_cli.specs.Tracing.{TraceComesTo};
     ghost use Rattle.audit_cli.specs.Journeys.{journey_of};
+
+    ghost takes = { 1 };
 
     ghost comes = { λ t texts o. TraceComesTo (journey_of t) texts o };
 
@@ -133,7 +134,7 @@ impl stages::Command for Trace<'_> {
                 let outcome = outcome(alloc, self, text)?;
                 Ok(outcome)
             }
-            _ => Ok(Outcome::Refuses(Vec::new(alloc))),
+            _ => unreachable!(),
         }
     }
 }

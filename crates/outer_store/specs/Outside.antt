@@ -50,6 +50,12 @@ pub record Grows (old new : Seen) : Type 0 where
   pub oversize : old.oversize ≤ new.oversize
   pub steady : old.may_fail ≡ false → new.faults ≡ old.faults
 
+-- each count is as it was
+pub record SameCounts (old new : Seen) : Type 0 where
+  pub faults : new.faults ≡ old.faults
+  pub missing : new.missing ≡ old.missing
+  pub oversize : new.oversize ≡ old.oversize
+
 -- a cause that a store which tells shows by what it holds, and any other by a count
 abbrev pub Shows : Bool → Type 0 → Type 0 → Type 0
 Shows true told risen = told
@@ -74,7 +80,7 @@ Gave old name bytes = old.tells ≡ true → old.held name ≡ Some bytes
 
 -- what each answer of a fetch says
 abbrev pub Fetches : Seen → Seen → List ℕ → Result (List ℕ) StoreError → Type 0
-Fetches old new name (Ok bytes) = (length bytes ≤ limit) × Gave old name bytes
+Fetches old new name (Ok bytes) = SameCounts old new × (length bytes ≤ limit) × Gave old name bytes
 Fetches old new name (Err store.Failed) = Rose old.faults new.faults
 Fetches old new name (Err store.Missing) = (new.faults ≡ old.faults) × MissedAt old new name
 Fetches old new name (Err store.TooBig) = (new.faults ≡ old.faults) × TooBigAt old new name
@@ -82,7 +88,7 @@ Fetches old new name (Err store.Memory) = Unit {0}
 
 -- what each answer of a keep says
 abbrev pub Keeps : Seen → Seen → List ℕ → List ℕ → Result (Unit {0}) StoreError → Type 0
-Keeps old new name bytes (Ok u) = old.tells ≡ true → new.held name ≡ Some bytes
+Keeps old new name bytes (Ok u) = SameCounts old new × (old.tells ≡ true → new.held name ≡ Some bytes)
 Keeps old new name bytes (Err store.Failed) = Rose old.faults new.faults
 Keeps old new name bytes (Err store.Missing) = ⊥
 Keeps old new name bytes (Err store.TooBig) = ⊥
@@ -118,6 +124,6 @@ WroteNone old new = old.tells ≡ true → new.written ≡ old.written
 
 -- what each answer of a put says
 abbrev pub Puts : Sunk → Sunk → List ℕ → Result (Unit {0}) SinkError → Type 0
-Puts old new bytes (Ok u) = Wrote old new bytes
+Puts old new bytes (Ok u) = (new.faults ≡ old.faults) × Wrote old new bytes
 Puts old new bytes (Err sink.Failed) = Rose old.faults new.faults × WrotePart old new bytes
 Puts old new bytes (Err sink.Memory) = WroteNone old new

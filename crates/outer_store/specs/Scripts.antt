@@ -1,5 +1,9 @@
 -- Stores and sinks as they are seen: in memory, failing at calls named beforehand, and real, telling nothing.
-use Rattle.std.specs.Prelude.{◌≡◌, ℕ, Bool, true, false, List, [], ◌∷◌, None, Contains}
+use Rattle.std.specs.Prelude.{◌≡◌, ℕ, Bool, true, false, List, [], ◌∷◌, None, Contains, Result, Ok, Err}
+use Rattle.outer_store.specs.declared.StoreError.{StoreError}
+use Rattle.outer_store.specs.declared.StoreError.TheVariants as store
+use Rattle.outer_store.specs.declared.SinkError.{SinkError}
+use Rattle.outer_store.specs.declared.SinkError.TheVariants as sink
 use Rattle.outer_store.specs.Entries.{Entry, text_in}
 use Rattle.outer_store.specs.Outside.{Seen, Sunk, counted}
 
@@ -34,6 +38,14 @@ pub record Texts : Type 0 where
 abbrev pub seen_texts : Texts → Seen
 seen_texts s = record { tells = true; held = text_in s.entries; may_fail = is_some_number s.script.failing; faults = s.script.faults; missing = s.missing; oversize = s.oversize }
 
+-- each answer of a call raises its own count alone
+abbrev pub RaisesTexts : {X : Type 0} → Texts → Texts → Result X StoreError → Type 0
+RaisesTexts old new (Ok x) = (new.script.faults ≡ old.script.faults) × (new.missing ≡ old.missing) × (new.oversize ≡ old.oversize)
+RaisesTexts old new (Err store.Failed) = (new.script.faults ≡ counted old.script.faults) × (new.missing ≡ old.missing) × (new.oversize ≡ old.oversize)
+RaisesTexts old new (Err store.Missing) = (new.script.faults ≡ old.script.faults) × (new.missing ≡ counted old.missing) × (new.oversize ≡ old.oversize)
+RaisesTexts old new (Err store.TooBig) = (new.script.faults ≡ old.script.faults) × (new.missing ≡ old.missing) × (new.oversize ≡ counted old.oversize)
+RaisesTexts old new (Err store.Memory) = (new.script.faults ≡ old.script.faults) × (new.missing ≡ old.missing) × (new.oversize ≡ old.oversize)
+
 -- a sink in memory
 pub record Bytes : Type 0 where
   pub written : List ℕ
@@ -42,6 +54,12 @@ pub record Bytes : Type 0 where
 -- it tells what was written
 abbrev pub seen_bytes : Bytes → Sunk
 seen_bytes s = record { tells = true; written = s.written; may_fail = is_some_number s.script.failing; faults = s.script.faults }
+
+-- only a call that fails raises the count
+abbrev pub RaisesBytes : {X : Type 0} → Bytes → Bytes → Result X SinkError → Type 0
+RaisesBytes old new (Ok x) = new.script.faults ≡ old.script.faults
+RaisesBytes old new (Err sink.Failed) = new.script.faults ≡ counted old.script.faults
+RaisesBytes old new (Err sink.Memory) = new.script.faults ≡ old.script.faults
 
 -- a real store
 pub record Counts : Type 0 where

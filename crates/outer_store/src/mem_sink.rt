@@ -1,7 +1,7 @@
 //! A sink in memory.
 ghost use Rattle.std.specs.Prelude.{◌≡◌, ◌↔◌, [], IsErrOf, OnErr, true};
 ghost use Rattle.outer_store.specs.Outside.{SinkGrows, Puts};
-ghost use Rattle.outer_store.specs.Scripts.{Bytes, IsCalled, FailsNext, seen_bytes};
+ghost use Rattle.outer_store.specs.Scripts.{Bytes, IsCalled, FailsNext, RaisesBytes, seen_bytes};
 
 use crate::calls::Calls;
 use crate::{Sink, SinkError};
@@ -49,6 +49,7 @@ impl Sink for MemSink {
 
         ensures called { IsCalled self.old.script self.new.script }
         ensures failed { IsErrOf result SinkError.Failed ↔ FailsNext self.old.script }
+        ensures raises { RaisesBytes self.old self.new result }
         ensures unchanged { OnErr result (self.new.written ≡ self.old.written) }
     {
         if self.calls.fails_next() {

@@ -6,7 +6,7 @@ ghost use Rattle.std.specs.Result.{result_map_both};
 ghost use Rattle.std.specs.Str.{bytes_eq};
 ghost use Rattle.outer_store.specs.Entries.{is_named, text_in};
 ghost use Rattle.outer_store.specs.Outside.{Grows, SameHeld, OthersStay, Fetches, Keeps};
-ghost use Rattle.outer_store.specs.Scripts.{Texts, IsCalled, FailsNext, seen_texts};
+ghost use Rattle.outer_store.specs.Scripts.{Texts, IsCalled, FailsNext, RaisesTexts, seen_texts};
 
 use crate::calls::Calls;
 use crate::{Store, StoreError, TEXT_LIMIT};
@@ -110,6 +110,7 @@ impl Store for MemStore {
 
         ensures called { IsCalled self.old.script self.new.script }
         ensures failed { IsErrOf result StoreError.Failed ↔ FailsNext self.old.script }
+        ensures raises { RaisesTexts self.old self.new result }
     {
         if self.calls.fails_next() {
             return Err(StoreError::Failed);
@@ -139,6 +140,7 @@ impl Store for MemStore {
 
         ensures called { IsCalled self.old.script self.new.script }
         ensures failed { IsErrOf result StoreError.Failed ↔ FailsNext self.old.script }
+        ensures raises { RaisesTexts self.old self.new result }
         ensures unchanged { OnErr result (self.new.entries ≡ self.old.entries) }
     {
         if self.calls.fails_next() {

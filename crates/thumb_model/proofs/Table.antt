@@ -11,7 +11,7 @@ use Rattle.thumb_model.specs.Items.{Values}
 use Rattle.thumb_model.specs.Effect.{after_all}
 use Rattle.thumb_model.specs.Listing.{Place, plain, Code, is_op_place, is_code, is_call_instr}
 use Rattle.thumb_model.specs.Flow.{way, Onward, Reads, LiveAfter}
-use Rattle.thumb_model.specs.Rewrite.{Rule, IsSoundRule, AreOver, normalised, replaced, move_label, Applies}
+use Rattle.thumb_model.specs.Rewrite.{Rule, register_count, IsSoundRule, AreOver, normalised, replaced, move_label, Applies}
 use Rattle.thumb_model.proofs.Lists.{get_drop, get_take, length_map, take_all, take_short, length_drop}
 use Rattle.thumb_model.proofs.Moved.{IsReplacement, AreNoCalls}
 use Rattle.thumb_model.proofs.Window.{StandsAt, AreStraight, sides_agree, normal_in_window, normal_after}
@@ -73,15 +73,15 @@ applies_sound rule registers code p eq a =
     let r : List Instr = map (renamed registers) rule.right in
     let n : length l ≡ length rule.left = window_length rule registers code p a in
     let m : length r ≡ length rule.right = length_map (renamed registers) rule.right in
-    let over : (is : List Instr) → AreOver rule.count is → AreOver (length registers) is = λ is o. subst (λ k. AreOver k is) (sym a.as_many) o in
+    let over : (is : List Instr) → AreOver (register_count rule.left) is → AreOver (length registers) is = λ is o. subst (λ k. AreOver k is) (sym a.as_many) o in
     let shorter = a.shorter in
     let op : List Place = map plain l in
     let k : length op ≡ length l = length_map plain l in
     let w : length (take (length rule.left) (drop p code.places)) ≡ length op = ap length a.stands in
     let stands : StandsAt code.places p l =
     stands_from code.places p l (λ j lt. sym (get_drop p code.places j (p + j) refl) ∙ sym (get_take (length rule.left) (drop p code.places) j (omega arith)) ∙ ap (λ xs. slice_get xs j) a.stands) in
-    let straight_l : AreStraight l = straight_window l (map (renamed registers) rule.left) a.matches (straight registers rule.count rule.left eq.left) in
-    let straight_r : AreStraight r = straight registers rule.count rule.right eq.right in
+    let straight_l : AreStraight l = straight_window l (map (renamed registers) rule.left) a.matches (straight registers (register_count rule.left) rule.left eq.left) in
+    let straight_r : AreStraight r = straight registers (register_count rule.left) rule.right eq.right in
     let last = last_of l (omega arith) straight_l in
     let at_last : slice_get code.places (p + length rule.left - 1) ≡ Some (plain last.0) =
     sym (get_drop p code.places (length l - 1) (p + length rule.left - 1) (omega arith)) ∙ sym (get_take (length rule.left) (drop p code.places) (length l - 1) (omega arith)) ∙ ap (λ xs. slice_get xs (length l - 1)) a.stands ∙ last.1 in

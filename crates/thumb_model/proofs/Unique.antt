@@ -10,7 +10,7 @@ use Rattle.thumb_instr.proofs.RenamingLemmas.{low_number, reg_number}
 use Rattle.thumb_model.specs.Items.{one_of}
 use Rattle.thumb_model.specs.Listing.{plain, Line, Code, code_of}
 use Rattle.thumb_instr.specs.Renaming.{Low, Reg, named, renamed, low_under, reg_under, both_under, number_or, item_under}
-use Rattle.thumb_model.specs.Rewrite.{Rule, IsSoundRule, AreSound, AreOver, is_named, normalised, Applies}
+use Rattle.thumb_model.specs.Rewrite.{Rule, register_count, IsSoundRule, AreSound, AreOver, is_named, normalised, Applies}
 use Rattle.thumb_model.specs.Rewritten.{Setting, Replacement, IsFirst, lines_after, AreRewritten, IsDetermined}
 
 -- two maps give each of these items the same
@@ -102,7 +102,7 @@ same_registers rule xs ys code p s a b =
     let window : a.window ≡ b.window = plain_same a.window b.window (sym a.stands ∙ b.stands) in
     let sides : map (renamed xs) rule.left ≡ map (renamed ys) rule.left = sym a.matches ∙ ap (map normalised) window ∙ b.matches in
     same_list xs ys (omega arith) (λ k l.
-    let t = all_tell xs ys rule.count rule.left k s.left sides (s.all_named k (omega arith)) in
+    let t = all_tell xs ys (register_count rule.left) rule.left k s.left sides (s.all_named k (omega arith)) in
     let x = some_at xs k l in
     let y = some_at ys k (omega arith) in
     let ex : item_under xs k ≡ x.0.number = ap (λ o. number_or o k) x.1 in

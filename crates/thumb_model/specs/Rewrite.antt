@@ -8,12 +8,12 @@ use Rattle.thumb_model.specs.Effect.{after_all}
 use Rattle.thumb_model.specs.Listing.{plain, Label, Code, is_code}
 use Rattle.thumb_model.specs.Flow.{LiveAfter}
 
--- an entry: its left side, its right side, the items that may be live after it, and how many registers it names
+-- an entry: its left side, its right side, the items that may be live after it, and the numbers of the shorter sequences that it leaves open
 pub record Rule : Type 0 where
   pub left : List Instr
   pub right : List Instr
   pub mask : List ℕ
-  pub count : ℕ
+  pub open_numbers : List ℕ
 
 -- from every state, each item of the mask is the same after both
 abbrev pub Equal : List Instr → List Instr → List ℕ → Type 0
@@ -35,13 +35,22 @@ abbrev pub is_named : ℕ → List Instr → Bool
 is_named x [] = false
 is_named x (i ∷ is) = one_of x (named i) || is_named x is
 
--- the entry's sides are equal under its mask, and it names the registers below its count, each on the left
+-- how many registers instructions name where they name each one below the greatest: the least number that is above all that they name
+abbrev pub above : List ℕ → ℕ
+above [] = 0
+above (x ∷ xs) = max (x + 1) (above xs)
+
+abbrev pub register_count : List Instr → ℕ
+register_count [] = 0
+register_count (i ∷ is) = max (above (named i)) (register_count is)
+
+-- the entry's sides are equal under its mask, and it names registers that its left side names, which are those below their count
 pub record IsSoundRule (rule : Rule) : Type 0 where
-  pub few : rule.count ≤ 4
-  pub left : AreOver rule.count rule.left
-  pub right : AreOver rule.count rule.right
-  pub mask : (x : ℕ) → one_of x rule.mask ≡ true → (x < rule.count) ⊎ ((15 ≤ x) × (x < 19))
-  pub all_named : (x : ℕ) → x < rule.count → is_named x rule.left ≡ true
+  pub few : register_count rule.left ≤ 4
+  pub left : AreOver (register_count rule.left) rule.left
+  pub right : AreOver (register_count rule.left) rule.right
+  pub mask : (x : ℕ) → one_of x rule.mask ≡ true → (x < register_count rule.left) ⊎ ((15 ≤ x) × (x < 19))
+  pub all_named : (x : ℕ) → x < register_count rule.left → is_named x rule.left ≡ true
   pub equal : Equal rule.left rule.right rule.mask
 
 abbrev pub AreSound : List Rule → Type 0
@@ -71,7 +80,7 @@ replaced code p count is = record {
 
 pub record Applies (rule : Rule) (registers : List Low) (code : Code) (p : ℕ) : Type 0 where
   -- a one-to-one map of the entry's registers
-  pub as_many : length registers ≡ rule.count
+  pub as_many : length registers ≡ register_count rule.left
   pub one_to_one : IsOneToOne registers
   -- the instructions from p, normalised, are the left side under the map
   pub window : List Instr

@@ -1,4 +1,3 @@
-use crate::status::Status;
 use crate::top::peep;
 use outer_store::{MemSink, MemStore};
 use std::alloc::Global;

@@ -1,7 +1,7 @@
 use Rattle.std.proofs.Common.{◌≡◌, ◌∙◌, ◌++◌, map, length, codes, true, false, ap, arith, Bor}
 use Rattle.listing_parser.specs.declared.line.Line.{Line as Lines}
 use Rattle.listing_parser.specs.Views.{line_view}
-use Rattle.audit_cli.specs.Outcomes.{outcome_view}
+use Rattle.command_runs.specs.Outcomes.{outcome_view}
 use Rattle.audit_cli.specs.Printed.{report_of, image_line}
 use Rattle.audit_cli.proofs.RewritingLemmas.{kept_pair}
 use Rattle.audit_cli.proofs.rewriting.kept_listing.Goals as goal
@@ -13,6 +13,6 @@ returns c = λ base.
     let count : c.len.result ≡ length c.in_ok-bytes.bytes.items = omega arith in
     kept_pair c.args.out.now c.args.image.now base (map (λ (v : Bor Lines). line_view v.now) c.args.lines.now) (record { replaced = c.args.replaced; before = c.args.before; after = c.args.after })
     c.in_ok-text.text.items c.in_ok-bytes.bytes.items c.in_ok-printed-2.printed.items (outcome_view c.in_ok-outcome-2.outcome)
-    some c.in_ok-text.ensures (c.in_ok-bytes.ensures base)
+    some c.in_ok-text.ensures (λ set is. c.in_ok-bytes.ensures base set)
     (c.in_ok-printed-2.ensures ∙ ap (λ n. report_of c.args.replaced c.args.before c.args.after ++ image_line n) count)
     c.in_ok-outcome-2.ensures

@@ -1,24 +1,26 @@
-use Rattle.std.proofs.Common.{◌≡◌, List, length, map, arith, subst, Bor}
+use Rattle.std.proofs.Common.{◌≡◌, ◌∙◌, List, length, map, ap, sym, subst, arith, Bor}
 use Rattle.std.proofs.lemmas.List.{length-map}
-use Rattle.thumb_model.specs.Listing.{places_of}
 use Rattle.listing_parser.specs.declared.line.Line.{Line as Lines}
 use Rattle.listing_parser.specs.Replacing.{own_line}
 use Rattle.listing_parser.specs.Views.{line_view}
 use Rattle.audit_cli.specs.Moves.{used_view}
-use Rattle.audit_cli.specs.Outcomes.{outcome_view}
-use Rattle.audit_cli.specs.Rewriting.{IsKeptIn}
+use Rattle.command_runs.specs.Outcomes.{outcome_view}
+use Rattle.audit_cli.specs.Rewriting.{IsKeptIn, instruction_count}
+use Rattle.audit_cli.proofs.MovesPass.{simple_layable, simple_count}
 use Rattle.audit_cli.proofs.RewritingLemmas.{is_rewriting}
 use Rattle.audit_cli.proofs.rewriting.rewritten.Goals as goal
 
 pub returns : goal.returns
 returns c = λ base.
     let new = c.in_ok-new.new in
+    let lines = map (λ (v : Bor Lines). line_view v.now) new.lines.items in
     let uses = c.len-replaced.ensures in
     let replaced : c.len-replaced.result ≡ length (map used_view new.used.items) = simp length-map (omega arith) in
-    let before : c.from-before.result ≡ length (places_of c.args.listing.now) = (let f = c.from-before.ensures in let p = c.place_count.ensures in omega arith) in
-    let after : new.instructions ≡ length (places_of (map (λ (v : Bor Lines). line_view v.now) new.lines.items)) = c.in_ok-new.ensures.count in
-    is_rewriting (record { out = c.args.out.now; image = c.args.image.now; base = base }) c.args.entries c.args.listing.now (map (λ (v : Bor Lines). line_view v.now) new.lines.items) (map used_view new.used.items)
-    (record { replaced = c.len-replaced.result; before = c.from-before.result; after = new.instructions }) (outcome_view c.in_ok-outcome.outcome) c.requires.listed
+    let before : c.instruction_count-before.result ≡ instruction_count c.args.listing.now = c.instruction_count-before.ensures ∙ ap instruction_count c.lines.ensures in
+    let after : new.instructions ≡ instruction_count lines = c.in_ok-new.ensures.count ∙ sym (simple_count lines c.in_ok-new.ensures.simple) in
+    is_rewriting (record { out = c.args.out.now; image = c.args.image.now; base = base }) c.args.entries c.args.listing.now lines (map used_view new.used.items)
+    (record { replaced = c.len-replaced.result; before = c.instruction_count-before.result; after = new.instructions }) (outcome_view c.in_ok-outcome.outcome) c.requires.listed
+    (simple_layable base c.args.listing.now c.requires.simple)
     (c.in_ok-new.ensures.rewritten own_line base)
     (λ i. record { replaced = replaced i; before = before i; after = after i })
-    (subst (λ (ls : List (Bor Lines)). IsKeptIn (record { out = c.args.out.now; image = c.args.image.now; base = base }) (map (λ (v : Bor Lines). line_view v.now) ls) (record { replaced = c.len-replaced.result; before = c.from-before.result; after = new.instructions }) (outcome_view c.in_ok-outcome.outcome)) c.deref.ensures.value (c.in_ok-outcome.ensures base))
+    (subst (λ (ls : List (Bor Lines)). IsKeptIn (record { out = c.args.out.now; image = c.args.image.now; base = base }) (map (λ (v : Bor Lines). line_view v.now) ls) (record { replaced = c.len-replaced.result; before = c.instruction_count-before.result; after = new.instructions }) (outcome_view c.in_ok-outcome.outcome)) c.deref.ensures.value (c.in_ok-outcome.ensures base))

@@ -7,7 +7,7 @@ use Rattle.thumb_machine.specs.Outside.{answers_of, events_of}
 use Rattle.thumb_machine.specs.Running.{state_of}
 use Rattle.thumb_machine.specs.Laid.{IsLaid}
 use Rattle.audit_cli.specs.Journeys.{journey_of}
-use Rattle.audit_cli.specs.Plans.{Outcome}
+use Rattle.command_runs.specs.Plans.{Outcome}
 use Rattle.audit_cli.specs.TraceLines.{event_lines, steps_line}
 use Rattle.audit_cli.specs.Tracing.{LinesTrace}
 use Rattle.audit_cli.proofs.TracingLemmas.{begins, runs}

@@ -1,11 +1,12 @@
 use Rattle.std.proofs.Common.{map, take}
-use Rattle.audit_cli.specs.Plans.{Kept}
-use Rattle.outer_store.specs.Outside.{Grows}
-use Rattle.audit_cli.specs.Outcomes.{deed_view}
-use Rattle.audit_cli.proofs.stages.keep_all.Given as goal
+use Rattle.command_runs.specs.Plans.{Kept}
+use Rattle.outer_store.specs.Outside.{Grows, SameCounts}
+use Rattle.command_runs.specs.Outcomes.{deed_view}
+use Rattle.command_runs.proofs.stages.keep_all.Given as goal
 
 abbrev pub invariant-loop-deed : goal.invariant-loop-deed
 invariant-loop-deed g l = record {
   kept : Kept (take l.deed-index (map deed_view l.deeds)) (g.S.Store.seen l.initial.store) (g.S.Store.seen l.store);
+  counts : SameCounts (g.S.Store.seen l.initial.store) (g.S.Store.seen l.store);
   grows : Grows (g.S.Store.seen l.initial.store) (g.S.Store.seen l.store);
 }

@@ -2,8 +2,8 @@
 use Rattle.std.proofs.Common.{◌≡◌, ◌∙◌, ◌<◌, ℕ, List, length, map, Some, refl, sym, ap, get_or, option_map}
 use Rattle.std.specs.Prelude.{slice_get, string_bytes}
 use Rattle.std.proofs.lemmas.Option.{slice_get-map, slice_get_read}
-use Rattle.audit_cli.specs.declared.outcome.Deed.{Deed}
-use Rattle.audit_cli.specs.Outcomes.{deed_view}
+use Rattle.command_runs.specs.declared.outcome.Deed.{Deed}
+use Rattle.command_runs.specs.Outcomes.{deed_view}
 
 pub deed_at : (ds : List Deed) (i : ℕ) (d : Deed) (name text : List ℕ) → i < length ds → d ≡ get_or ds i d → name ≡ string_bytes d.name → text ≡ d.text.items → slice_get (map deed_view ds) i ≡ Some (name, text)
 deed_at ds i d name text l is n t =

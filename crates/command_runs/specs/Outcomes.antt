@@ -1,9 +1,9 @@
 -- Outcomes of the code as outcomes of a plan.
 use Rattle.std.specs.Prelude.{string_bytes, map}
-use Rattle.audit_cli.specs.declared.outcome.Deed.{Deed}
-use Rattle.audit_cli.specs.declared.outcome.Outcome.{Outcome}
-use Rattle.audit_cli.specs.declared.outcome.Outcome.TheVariants as outcome
-use Rattle.audit_cli.specs.Plans.{Keep, Outcome as Comes, Refuses, Does}
+use Rattle.command_runs.specs.declared.outcome.Deed.{Deed}
+use Rattle.command_runs.specs.declared.outcome.Outcome.{Outcome}
+use Rattle.command_runs.specs.declared.outcome.Outcome.TheVariants as outcome
+use Rattle.command_runs.specs.Plans.{Keep, Outcome as Comes, Refuses, Does}
 
 -- a name and its bytes
 abbrev pub deed_view : Deed → Keep

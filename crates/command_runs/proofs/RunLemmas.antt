@@ -4,18 +4,18 @@ use Rattle.std.specs.Prelude.{if◌then◌else◌, All}
 use Rattle.std.specs.Str.{bytes_eq}
 use Rattle.std.proofs.lemmas.Bool.{cases_Bool}
 use Rattle.std.proofs.lemmas.Slice.Eq.{bytes_eq-Decides}
-use Rattle.audit_cli.specs.declared.status.Status.{Status}
-use Rattle.audit_cli.specs.declared.status.Status.TheVariants as status
-use Rattle.outer_store.specs.Outside.{Sunk, Seen, Held, SameHeld, Grows, Rose, MissedAt, TooBigAt, IsTooBig, limit}
-use Rattle.audit_cli.specs.Plans.{Keep, Outcome, Refuses, Does, Plan, keeps_of, AreTexts, StopsAt, with_text, kept, Kept, FailsAfter, ShortAfter, ComesTo, Runs}
-use Rattle.audit_cli.specs.Stages.{Gathers, Stores, Prints, Finishes}
-use Rattle.audit_cli.proofs.StageLemmas.{rose_before, same_again}
+use Rattle.command_runs.specs.declared.status.Status.{Status}
+use Rattle.command_runs.specs.declared.status.Status.TheVariants as status
+use Rattle.outer_store.specs.Outside.{Sunk, Seen, Held, SameHeld, SameCounts, Grows, Rose, MissedAt, TooBigAt, IsTooBig, limit}
+use Rattle.command_runs.specs.Plans.{Keep, Outcome, Refuses, Does, Plan, keeps_of, AreTexts, StopsAt, with_text, kept, Kept, FailsAfter, ShortAfter, ComesTo, Runs}
+use Rattle.command_runs.specs.Stages.{Gathers, Stores, Prints, Finishes}
+use Rattle.command_runs.proofs.StageLemmas.{rose_before, same_again, counts_first, counts_again}
 
 -- ---- after the outcome ----
 
 -- one line is put, and nothing is kept
 pub refused : (line : List ℕ) (seen : Seen) (before after : Sunk) (s : Status) → Prints status.Refused line before after s → Finishes (Refuses line) seen seen before after s
-refused line seen before after status.Refused h = (refl, λ n. refl, h.1)
+refused line seen before after status.Refused h = (refl, counts_first seen, λ n. refl, h.1, h.2)
 refused line seen before after status.SinkFault h = (h.0, λ t n. refl, h.1)
 refused line seen before after status.Memory h = (record { number = 0; within = omega arith; kept = λ t n. refl }, h)
 refused line seen before after status.Done h = absurd (cc (h.0))
@@ -40,10 +40,10 @@ all_of [] = refl
 all_of (x ∷ xs) = ap (λ ys. x ∷ ys) (all_of xs)
 
 -- all is kept, and the lines are put
-pub done : (keeps : List Keep) (lines : List ℕ) (old new : Seen) (before after : Sunk) (s : Status) → Kept keeps old new → Prints status.Done lines before after s → Finishes (Does keeps lines) old new before after s
-done keeps lines old new before after status.Done k h = (refl, k, h.1)
-done keeps lines old new before after status.SinkFault k h = (h.0, k, h.1)
-done keeps lines old new before after status.Memory k h = (record { number = length keeps; within = omega arith; kept = subst (λ (ks : List Keep). Kept ks old new) (sym (all_of keeps)) k }, h)
+pub done : (keeps : List Keep) (lines : List ℕ) (old new : Seen) (before after : Sunk) (s : Status) → SameCounts old new × Kept keeps old new → Prints status.Done lines before after s → Finishes (Does keeps lines) old new before after s
+done keeps lines old new before after status.Done k h = (refl, k.0, k.1, h.1, h.2)
+done keeps lines old new before after status.SinkFault k h = (h.0, k.1, h.1)
+done keeps lines old new before after status.Memory k h = (record { number = length keeps; within = omega arith; kept = subst (λ (ks : List Keep). Kept ks old new) (sym (all_of keeps)) k.1 }, h)
 done keeps lines old new before after status.Refused k h = absurd (cc (h.0))
 done keeps lines old new before after status.Usage k h = h
 done keeps lines old new before after status.StoreFault k h = absurd h
@@ -83,18 +83,18 @@ short_before : (ks : List Keep) (a b c : Seen) → Grows a b → SameHeld a.held
 short_before ks a b c g s h = record { number = h.number; within = h.within; kept = kept_before (take h.number ks) a b c g s h.kept }
 
 -- the texts were fetched, come to an outcome, and that was finished
-pub finished : (plan : Plan) (texts : List (List ℕ)) (o : Outcome) (old mid new : Seen) (before after : Sunk) (s : Status) → AreTexts old plan.names texts → SameHeld old.held mid.held → Grows old mid
+pub finished : (plan : Plan) (texts : List (List ℕ)) (o : Outcome) (old mid new : Seen) (before after : Sunk) (s : Status) → SameCounts old mid × AreTexts old plan.names texts → SameHeld old.held mid.held → Grows old mid
     → plan.comes texts o → Finishes o mid new before after s → Runs plan old new before after s
 finished plan texts o old mid new before after s read same g comes h = go s h where
   from : ComesTo plan old o
-  from = record { texts = texts; read = read; comes = comes }
+  from = record { texts = texts; read = read.1; comes = comes }
 
   is_done : (x : Outcome) → ComesTo plan old x → Finishes x mid new before after status.Done → Runs plan old new before after status.Done
   is_done (Refuses line) c f = absurd (cc (f.0))
-  is_done (Does keeps lines) c f = record { keeps = keeps; lines = lines; outcome = c; kept = kept_before keeps old mid new g same f.1; wrote = f.2 }
+  is_done (Does keeps lines) c f = record { counts = counts_again old mid new read.0 f.1; faults = f.3; keeps = keeps; lines = lines; outcome = c; kept = kept_before keeps old mid new g same f.2; wrote = f.4 }
 
   is_refused : (x : Outcome) → ComesTo plan old x → Finishes x mid new before after status.Refused → Runs plan old new before after status.Refused
-  is_refused (Refuses line) c f = record { line = line; outcome = c; same = same_again old.held mid.held new.held same f.1; wrote = f.2 }
+  is_refused (Refuses line) c f = record { counts = counts_again old mid new read.0 f.1; faults = f.3; line = line; outcome = c; same = same_again old.held mid.held new.held same f.2; wrote = f.4 }
   is_refused (Does keeps lines) c f = absurd (cc (f.0))
 
   go : (s : Status) → Finishes o mid new before after s → Runs plan old new before after s

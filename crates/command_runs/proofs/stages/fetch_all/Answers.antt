@@ -2,9 +2,9 @@ use Rattle.std.proofs.Common.{◌≡◌, ◌∙◌, ◌<◌, ◌+◌, ℕ, List,
 use Rattle.std.specs.Prelude.{slice_get}
 use Rattle.std.proofs.lemmas.Option.{slice_get-map, slice_get-get_or}
 use Rattle.std.proofs.lemmas.List.{map-append}
-use Rattle.audit_cli.specs.Plans.{AreTexts}
-use Rattle.audit_cli.proofs.StageLemmas.{gathers_more, gathers_stop, same_again, grows_again}
-use Rattle.audit_cli.proofs.stages.fetch_all.Goals as goal
+use Rattle.command_runs.specs.Plans.{AreTexts}
+use Rattle.command_runs.proofs.StageLemmas.{gathers_more, gathers_stop, same_again, grows_again, counts_again}
+use Rattle.command_runs.proofs.stages.fetch_all.Goals as goal
 
 -- a name by its place
 name_at : (ns : List (Bor (List ℕ))) (i : ℕ) (d : Bor (List ℕ)) → i < length ns → slice_get (map (λ (n : Bor (List ℕ)). n.now) ns) i ≡ Some (get_or ns i d).now
@@ -26,10 +26,11 @@ loop-name-preserved g c =
     let old = g.S.Store.seen c.args.store.now in
     let mid = g.S.Store.seen c.loop-name.store in
     let new = g.S.Store.seen c.fetch.new.store in
-    let more : AreTexts old (take (c.loop-name.name-index + 1) names) (texts ++ c.in-Ok.text.items ∷ []) = gathers_more names texts c.loop-name.name-index (c.loop-name.name-index + 1) name c.in-Ok.text.items old mid new (name_at c.args.names.now c.loop-name.name-index d c.loop-name-test.true) refl c.loop-name.invariant.grows c.loop-name.invariant.held c.loop-name.invariant.read c.in-Ok.ensures.reads in
+    let more : AreTexts old (take (c.loop-name.name-index + 1) names) (texts ++ c.in-Ok.text.items ∷ []) = gathers_more names texts c.loop-name.name-index (c.loop-name.name-index + 1) name c.in-Ok.text.items old mid new (name_at c.args.names.now c.loop-name.name-index d c.loop-name-test.true) refl c.loop-name.invariant.grows c.loop-name.invariant.held c.loop-name.invariant.read c.in-Ok.ensures.reads.1 in
     let is : texts ++ c.in-Ok.text.items ∷ [] ≡ map (λ (t : Vec ℕ Global). t.items) c.push.new.self.items = sym (ap (map (λ (t : Vec ℕ Global). t.items)) c.in-Ok-push.ensures.items ∙ map-append (λ (t : Vec ℕ Global). t.items) c.loop-name.texts.items (c.in-Ok.text ∷ [])) in
     record {
       read = subst (AreTexts old (take (c.loop-name.name-index + 1) names)) is more;
+      counts = counts_again old mid new c.loop-name.invariant.counts c.in-Ok.ensures.reads.0;
       held = same_again old.held mid.held new.held c.loop-name.invariant.held c.in-Ok.ensures.held;
       grows = grows_again old mid new c.loop-name.invariant.grows c.in-Ok.ensures.grows;
     }

@@ -5,16 +5,22 @@ use std::alloc::{AllocError, Global};
 
 /// Bytes to be kept under a name.
 #[derive(Drop)]
-pub(crate) struct Deed {
-    pub(crate) name: String,
-    pub(crate) text: Vec<u8>,
+pub struct Deed {
+    /// The name.
+    pub name: String,
+    /// What is kept under it.
+    pub text: Vec<u8>,
 }
 
 impl Deed {
-    ghost use Rattle.audit_cli.specs.Outcomes.{deed_view};
+    ghost use Rattle.command_runs.specs.Outcomes.{deed_view};
 
     /// The text, to be kept under the name.
-    pub(crate) fn new(alloc: Global, name: &str, text: Vec<u8>) -> Result<Deed, AllocError>
+    ///
+    /// # Errors
+    ///
+    /// Only where memory runs out.
+    pub fn new(alloc: Global, name: &str, text: Vec<u8>) -> Result<Deed, AllocError>
         ensures { IfOk result (λ d. deed_view d ≡ (name.now, text.items)) }
     {
         let name = String::from_str(alloc, name)?;
@@ -24,7 +30,7 @@ impl Deed {
 
 /// What the texts of a command come to.
 #[derive(Drop)]
-pub(crate) enum Outcome {
+pub enum Outcome {
     /// One line, with its newline.
     Refuses(Vec<u8>),
     /// What is kept, in order, and the lines that are then printed, each with its newline.

@@ -4,11 +4,11 @@ use Rattle.std.specs.Prelude.{slice_get, if◌then◌else◌, unwrap_or}
 use Rattle.std.specs.Str.{bytes_eq}
 use Rattle.std.proofs.lemmas.Bool.{cases_Bool}
 use Rattle.std.proofs.lemmas.Slice.Eq.{bytes_eq-Decides}
-use Rattle.audit_cli.specs.declared.status.Status.{Status}
-use Rattle.audit_cli.specs.declared.status.Status.TheVariants as status
-use Rattle.outer_store.specs.Outside.{Sunk, Seen, Held, SameHeld, Grows, Rose, MissedAt, TooBigAt, IsTooBig, OthersStay, SinkGrows}
-use Rattle.audit_cli.specs.Plans.{Keep, IsText, AreTexts, StopsAt, with_text, kept, Kept}
-use Rattle.audit_cli.specs.Stages.{Reads, Gathers, StoresOne, Stores}
+use Rattle.command_runs.specs.declared.status.Status.{Status}
+use Rattle.command_runs.specs.declared.status.Status.TheVariants as status
+use Rattle.outer_store.specs.Outside.{Sunk, Seen, Held, SameHeld, SameCounts, Grows, Rose, MissedAt, TooBigAt, IsTooBig, OthersStay, SinkGrows}
+use Rattle.command_runs.specs.Plans.{Keep, IsText, AreTexts, StopsAt, with_text, kept, Kept}
+use Rattle.command_runs.specs.Stages.{Reads, Gathers, StoresOne, Stores}
 
 -- ---- from a later state back to an earlier one ----
 
@@ -20,6 +20,12 @@ same_first a = λ n. refl
 
 pub same_again : (a b c : Held) → SameHeld a b → SameHeld b c → SameHeld a c
 same_again a b c p q = λ n. q n ∙ p n
+
+pub counts_first : (a : Seen) → SameCounts a a
+counts_first a = record { faults = refl; missing = refl; oversize = refl }
+
+pub counts_again : (a b c : Seen) → SameCounts a b → SameCounts b c → SameCounts a c
+counts_again a b c p q = record { faults = q.faults ∙ p.faults; missing = q.missing ∙ p.missing; oversize = q.oversize ∙ p.oversize }
 
 pub grows_first : (a : Seen) → Grows a a
 grows_first a = record { tells = refl; may_fail = refl; faults = omega arith; missing = omega arith; oversize = omega arith; steady = λ s. refl }
@@ -53,6 +59,13 @@ big_before a b c name g s h = elim (cases_Bool a.tells) [
 ]
 
 -- ---- fetches in a row ----
+
+-- there are as many texts as names
+pub as_many_texts : (old : Seen) (ns ts : List (List ℕ)) → AreTexts old ns ts → length ts ≡ length ns
+as_many_texts old [] [] h = refl
+as_many_texts old [] (t ∷ ts) h = absurd h
+as_many_texts old (n ∷ ns) [] h = absurd h
+as_many_texts old (n ∷ ns) (t ∷ ts) h = ap suc (as_many_texts old ns ts h.1)
 
 pub texts_more : (old : Seen) (ns ts : List (List ℕ)) (n t : List ℕ) → AreTexts old ns ts → IsText old n t → AreTexts old (ns ++ n ∷ []) (ts ++ t ∷ [])
 texts_more old [] [] n t h k = (k, tt)
@@ -97,6 +110,9 @@ kept_one name bytes old new k o = λ t n. elim (cases_Bool (bytes_eq n name)) [
   | inl e ↦ rw e (let same : n ≡ name = (bytes_eq-Decides n name).0 e in subst (λ (m : List ℕ). new.held m ≡ Some bytes) (sym same) (k t))
   | inr e ↦ rw e (o n (λ same. true≢false (sym ((bytes_eq-Decides n name).1 same) ∙ e)))
 ]
+
+pub stored_one : (name bytes : List ℕ) (old new : Seen) → SameCounts old new × (old.tells ≡ true → new.held name ≡ Some bytes) → OthersStay name old.held new.held → SameCounts old new × Kept ((name, bytes) ∷ []) old new
+stored_one name bytes old new k o = (k.0, kept_one name bytes old new k.1 o)
 
 kept_more : (ks : List Keep) (k : Keep) (h : Held) (n : List ℕ) → kept (ks ++ k ∷ []) h n ≡ with_text (kept ks h) k n
 kept_more [] k h n = refl

@@ -1,9 +1,9 @@
 -- What a run of a command has done, by the status that it ends with.
 use Rattle.std.specs.Prelude.{◌≡◌, ◌≢◌, ◌≤◌, ◌⊎◌, ℕ, true, List, [], ◌∷◌, take, length, Some, slice_get, if◌then◌else◌}
 use Rattle.std.specs.Str.{bytes_eq}
-use Rattle.audit_cli.specs.declared.status.Status.{Status}
-use Rattle.audit_cli.specs.declared.status.Status.TheVariants as status
-use Rattle.outer_store.specs.Outside.{Seen, Held, SameHeld, Rose, MissedAt, TooBigAt, Gave, limit, Sunk, Wrote, WrotePart, WroteNone}
+use Rattle.command_runs.specs.declared.status.Status.{Status}
+use Rattle.command_runs.specs.declared.status.Status.TheVariants as status
+use Rattle.outer_store.specs.Outside.{Seen, Held, SameHeld, SameCounts, Rose, MissedAt, TooBigAt, Gave, limit, Sunk, Wrote, WrotePart, WroteNone}
 
 -- the number that the process ends with
 abbrev pub code_of : Status → ℕ
@@ -98,16 +98,20 @@ pub record ComesTo (plan : Plan) (old : Seen) (outcome : Outcome) : Type 0 where
   pub read : AreTexts old plan.names texts
   pub comes : plan.comes texts outcome
 
--- all was kept, and the lines were printed
+-- all was kept, and the lines were printed; no count rose
 pub record IsDone (plan : Plan) (old new : Seen) (before after : Sunk) : Type 0 where
+  pub counts : SameCounts old new
+  pub faults : after.faults ≡ before.faults
   pub keeps : List Keep
   pub lines : List ℕ
   pub outcome : ComesTo plan old (Does keeps lines)
   pub kept : Kept keeps old new
   pub wrote : Wrote before after lines
 
--- nothing was kept, and one line was printed
+-- nothing was kept, and one line was printed; no count rose
 pub record IsRefused (plan : Plan) (old new : Seen) (before after : Sunk) : Type 0 where
+  pub counts : SameCounts old new
+  pub faults : after.faults ≡ before.faults
   pub line : List ℕ
   pub outcome : ComesTo plan old (Refuses line)
   pub same : SameHeld old.held new.held

@@ -1,13 +1,13 @@
 -- What each stage of a run has done: the fetches, the keeps, the put, and all that follows the outcome.
 use Rattle.std.specs.Prelude.{◌≡◌, ℕ, List, [], ◌∷◌, Result, Ok, Err}
-use Rattle.audit_cli.specs.declared.status.Status.{Status}
-use Rattle.audit_cli.specs.declared.status.Status.TheVariants as status
-use Rattle.outer_store.specs.Outside.{Seen, SameHeld, Rose, MissedAt, TooBigAt, Sunk, Wrote, WrotePart, WroteNone}
-use Rattle.audit_cli.specs.Plans.{Keep, Outcome, Refuses, Does, keeps_of, due, IsText, AreTexts, StopsAt, Kept, KeptBut, FailsAfter, ShortAfter}
+use Rattle.command_runs.specs.declared.status.Status.{Status}
+use Rattle.command_runs.specs.declared.status.Status.TheVariants as status
+use Rattle.outer_store.specs.Outside.{Seen, SameHeld, SameCounts, Rose, MissedAt, TooBigAt, Sunk, Wrote, WrotePart, WroteNone}
+use Rattle.command_runs.specs.Plans.{Keep, Outcome, Refuses, Does, keeps_of, due, IsText, AreTexts, StopsAt, Kept, KeptBut, FailsAfter, ShortAfter}
 
 -- one text was fetched, or why not
 abbrev pub Reads : List ℕ → Seen → Seen → Result (List ℕ) Status → Type 0
-Reads name old new (Ok text) = IsText old name text
+Reads name old new (Ok text) = SameCounts old new × IsText old name text
 Reads name old new (Err status.StoreFault) = Rose old.faults new.faults
 Reads name old new (Err status.Missing) = MissedAt old new name
 Reads name old new (Err status.TooBig) = TooBigAt old new name
@@ -19,7 +19,7 @@ Reads name old new (Err status.SinkFault) = ⊥
 
 -- the texts of some names were fetched, or why not
 abbrev pub Gathers : List (List ℕ) → Seen → Seen → Result (List (List ℕ)) Status → Type 0
-Gathers names old new (Ok texts) = AreTexts old names texts
+Gathers names old new (Ok texts) = SameCounts old new × AreTexts old names texts
 Gathers names old new (Err status.StoreFault) = Rose old.faults new.faults
 Gathers names old new (Err status.Missing) = StopsAt (λ n. MissedAt old new n) old names
 Gathers names old new (Err status.TooBig) = StopsAt (λ n. TooBigAt old new n) old names
@@ -31,7 +31,7 @@ Gathers names old new (Err status.SinkFault) = ⊥
 
 -- one text was kept, or why not
 abbrev pub StoresOne : Keep → Seen → Seen → Result (Unit {0}) Status → Type 0
-StoresOne k old new (Ok u) = Kept (k ∷ []) old new
+StoresOne k old new (Ok u) = SameCounts old new × Kept (k ∷ []) old new
 StoresOne k old new (Err status.StoreFault) = Rose old.faults new.faults × KeptBut k.0 [] old new
 StoresOne k old new (Err status.Memory) = SameHeld old.held new.held
 StoresOne k old new (Err status.Done) = ⊥
@@ -43,7 +43,7 @@ StoresOne k old new (Err status.Missing) = ⊥
 
 -- texts were kept in order, or how many of them and why no more
 abbrev pub Stores : List Keep → Seen → Seen → Result (Unit {0}) Status → Type 0
-Stores ks old new (Ok u) = Kept ks old new
+Stores ks old new (Ok u) = SameCounts old new × Kept ks old new
 Stores ks old new (Err status.StoreFault) = Rose old.faults new.faults × FailsAfter ks old new
 Stores ks old new (Err status.Memory) = ShortAfter ks old new
 Stores ks old new (Err status.Done) = ⊥
@@ -55,8 +55,8 @@ Stores ks old new (Err status.Missing) = ⊥
 
 -- the bytes were put, so that the run is good, or why not
 abbrev pub Prints : Status → List ℕ → Sunk → Sunk → Status → Type 0
-Prints good bytes before after status.Done = (good ≡ status.Done) × Wrote before after bytes
-Prints good bytes before after status.Refused = (good ≡ status.Refused) × Wrote before after bytes
+Prints good bytes before after status.Done = (good ≡ status.Done) × (after.faults ≡ before.faults) × Wrote before after bytes
+Prints good bytes before after status.Refused = (good ≡ status.Refused) × (after.faults ≡ before.faults) × Wrote before after bytes
 Prints good bytes before after status.SinkFault = Rose before.faults after.faults × WrotePart before after bytes
 Prints good bytes before after status.Memory = WroteNone before after
 Prints good bytes before after status.Usage = ⊥
@@ -71,8 +71,8 @@ good_of (Does keeps lines) = status.Done
 
 -- what follows once the outcome is known
 abbrev pub Finishes : Outcome → Seen → Seen → Sunk → Sunk → Status → Type 0
-Finishes o old new before after status.Done = (good_of o ≡ status.Done) × Kept (keeps_of o) old new × Wrote before after (due o)
-Finishes o old new before after status.Refused = (good_of o ≡ status.Refused) × SameHeld old.held new.held × Wrote before after (due o)
+Finishes o old new before after status.Done = (good_of o ≡ status.Done) × SameCounts old new × Kept (keeps_of o) old new × (after.faults ≡ before.faults) × Wrote before after (due o)
+Finishes o old new before after status.Refused = (good_of o ≡ status.Refused) × SameCounts old new × SameHeld old.held new.held × (after.faults ≡ before.faults) × Wrote before after (due o)
 Finishes o old new before after status.StoreFault = Rose old.faults new.faults × FailsAfter (keeps_of o) old new × WroteNone before after
 Finishes o old new before after status.SinkFault = Rose before.faults after.faults × Kept (keeps_of o) old new × WrotePart before after (due o)
 Finishes o old new before after status.Memory = ShortAfter (keeps_of o) old new × WroteNone before after

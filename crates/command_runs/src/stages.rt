@@ -1,11 +1,11 @@
 //! The stages of a run: the fetches, what the texts come to, the keeps, and one put.
-ghost use Rattle.std.specs.Prelude.{◌≡◌, ℕ, ◌⊎◌, List, [], ◌∷◌, Result, IfOk, map};
+ghost use Rattle.std.specs.Prelude.{◌≡◌, ℕ, ◌⊎◌, List, [], ◌∷◌, Result, IfOk, length, map};
 ghost use Rattle.std.specs.Result.{result_map_both};
-ghost use Rattle.audit_cli.specs.declared.status.Status.TheVariants as status;
+ghost use Rattle.command_runs.specs.declared.status.Status.TheVariants as status;
 ghost use Rattle.outer_store.specs.Outside.{Seen, Grows, SameHeld, Sunk, SinkGrows};
-ghost use Rattle.audit_cli.specs.Plans.{Keep, Runs, Outcome as Comes};
-ghost use Rattle.audit_cli.specs.Stages.{Reads, Gathers, StoresOne, Stores, Prints, Finishes};
-ghost use Rattle.audit_cli.specs.Outcomes.{deed_view, outcome_view};
+ghost use Rattle.command_runs.specs.Plans.{Keep, Runs, Outcome as Comes};
+ghost use Rattle.command_runs.specs.Stages.{Reads, Gathers, StoresOne, Stores, Prints, Finishes};
+ghost use Rattle.command_runs.specs.Outcomes.{deed_view, outcome_view};
 
 use crate::outcome::{Deed, Outcome};
 use crate::status::Status;
@@ -29,7 +29,7 @@ fn fetch<S: Store>(alloc: Global, store: &mut S, name: &str) -> Result<Vec<u8>, 
 }
 
 /// The texts under the names, fetched in order up to the first that cannot be.
-#[tactic(auto, using(crate::proofs::StageLemmas::gathers_more, crate::proofs::StageLemmas::gathers_stop, crate::proofs::StageLemmas::same_again, crate::proofs::StageLemmas::grows_again, crate::proofs::StageLemmas::grows_first))]
+#[tactic(auto, using(crate::proofs::StageLemmas::gathers_more, crate::proofs::StageLemmas::gathers_stop, crate::proofs::StageLemmas::counts_first, crate::proofs::StageLemmas::same_again, crate::proofs::StageLemmas::grows_again, crate::proofs::StageLemmas::grows_first))]
 fn fetch_all<S: Store>(alloc: Global, store: &mut S, names: &[&str]) -> Result<Vec<Vec<u8>>, Status>
     ensures gathers { Gathers (map (λ n. n.now) names.now) (S.seen store.old) (S.seen store.new) (result_map_both (λ v. map (λ t. t.items) v.items) (λ e. e) result) }
     ensures held { SameHeld (S.seen store.old).held (S.seen store.new).held }
@@ -49,7 +49,7 @@ fn fetch_all<S: Store>(alloc: Global, store: &mut S, names: &[&str]) -> Result<V
 }
 
 /// Keeps one text.
-#[tactic(auto, using(crate::proofs::StageLemmas::kept_one))]
+#[tactic(auto, using(crate::proofs::StageLemmas::stored_one))]
 fn keep_one<S: Store>(store: &mut S, name: &str, text: &[u8]) -> Result<(), Status>
     ensures stores { StoresOne (name.now, text.now) (S.seen store.old) (S.seen store.new) result }
     ensures grows { Grows (S.seen store.old) (S.seen store.new) }
@@ -64,7 +64,7 @@ fn keep_one<S: Store>(store: &mut S, name: &str, text: &[u8]) -> Result<(), Stat
 }
 
 /// Keeps each text, in order, up to the first that cannot be.
-#[tactic(auto, using(crate::proofs::StageLemmas::stores_more, crate::proofs::StageLemmas::stores_stop, crate::proofs::StageLemmas::grows_again, crate::proofs::StageLemmas::grows_first))]
+#[tactic(auto, using(crate::proofs::StageLemmas::stores_more, crate::proofs::StageLemmas::stores_stop, crate::proofs::StageLemmas::counts_first, crate::proofs::StageLemmas::grows_again, crate::proofs::StageLemmas::grows_first))]
 fn keep_all<S: Store>(store: &mut S, deeds: &[Deed]) -> Result<(), Status>
     ensures stores { Stores (map deed_view deeds.now) (S.seen store.old) (S.seen store.new) result }
     ensures grows { Grows (S.seen store.old) (S.seen store.new) }
@@ -110,22 +110,29 @@ fn finish<S: Store, O: Sink>(store: &mut S, sink: &mut O, outcome: Outcome) -> S
 }
 
 /// What a command makes of the texts that it fetches.
-pub(crate) trait Command {
+pub trait Command {
+    ghost takes: { ℕ };
+
     ghost comes: { Self → List (List ℕ) → Comes → Type 0 };
 
-    /// What the texts come to.
+    /// What the texts come to, of which there are as many as the command takes.
+    ///
+    /// # Errors
+    ///
+    /// Only where memory runs out.
     fn compute<L: Ledger>(
         &self,
         alloc: Global,
         texts: &[Vec<u8>],
         steps: &mut Steps<L>,
     ) -> Result<Outcome, AllocError>
+        requires { length texts.now ≡ takes }
         ensures { IfOk result (λ o. comes self.now (map (λ t. t.items) texts.now) (outcome_view o)) };
 }
 
-/// A whole run: fetches the names, computes, keeps and prints.
+/// A whole run: fetches the texts under the names, of which there are as many as the command takes, computes, keeps and prints.
 #[tactic(auto, using(crate::proofs::RunLemmas::stopped, crate::proofs::RunLemmas::short, crate::proofs::RunLemmas::finished, crate::proofs::StageLemmas::grows_again, crate::proofs::StageLemmas::sink_first))]
-pub(crate) fn run<C: Command, S: Store, O: Sink, L: Ledger>(
+pub fn run<C: Command, S: Store, O: Sink, L: Ledger>(
     alloc: Global,
     command: &C,
     names: &[&str],
@@ -133,6 +140,7 @@ pub(crate) fn run<C: Command, S: Store, O: Sink, L: Ledger>(
     sink: &mut O,
     steps: &mut Steps<L>,
 ) -> Status
+    requires { length names.now ≡ C.takes }
     ensures runs { Runs (record { names = map (λ n. n.now) names.now; comes = C.comes command.now }) (S.seen store.old) (S.seen store.new) (O.sunk sink.old) (O.sunk sink.new) result }
     ensures grows { Grows (S.seen store.old) (S.seen store.new) }
     ensures sink_grows { SinkGrows (O.sunk sink.old) (O.sunk sink.new) }

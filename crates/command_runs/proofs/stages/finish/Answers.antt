@@ -1,9 +1,9 @@
 use Rattle.std.proofs.Common.{◌≡◌, map, sym, ap, subst}
-use Rattle.audit_cli.specs.Outcomes.{deed_view, outcome_view}
-use Rattle.audit_cli.specs.Plans.{Outcome, Does}
-use Rattle.audit_cli.specs.Stages.{Finishes}
-use Rattle.audit_cli.proofs.RunLemmas.{done}
-use Rattle.audit_cli.proofs.stages.finish.Goals as goal
+use Rattle.command_runs.specs.Outcomes.{deed_view, outcome_view}
+use Rattle.command_runs.specs.Plans.{Outcome, Does}
+use Rattle.command_runs.specs.Stages.{Finishes}
+use Rattle.command_runs.proofs.RunLemmas.{done}
+use Rattle.command_runs.proofs.stages.finish.Goals as goal
 
 -- all is kept, and the lines are put
 pub returns-in-Ok-clause-finishes : goal.returns-in-Ok-clause-finishes

@@ -1,0 +1,22 @@
+-- The first form of `rewrite`: tables that drop moves of a register to itself, and straight listings.
+use Rattle.std.specs.Prelude.{◌≡◌, ℕ, List, [], ◌∷◌}
+use Rattle.command_runs.specs.Plans.{Outcome, Refuses}
+use Rattle.audit_cli.specs.Printed.{refused_table_line, refused_listing_line}
+use Rattle.audit_cli.specs.FirstTable.{IsTable, IsBadTableLine}
+use Rattle.audit_cli.specs.Straight.{AreStraight, IsFirstBad}
+use Rattle.audit_cli.specs.Moves.{moves_table}
+use Rattle.audit_cli.specs.Rewriting.{Destination, Table, Rewrites}
+
+-- the table of a text of the first form with so many entries
+abbrev pub first_table : ℕ → Table
+first_table entries = record { pool = 24 ∷ 255 ∷ []; rules = moves_table entries }
+
+-- what the texts of a table and a listing come to: the table is refused at its first line outside the form, then the listing at its own; texts of the form are rewritten
+pub data Comes (to : Destination) (table listing : List ℕ) : Outcome → Type 0 where
+  bad_table : (n : ℕ) → IsBadTableLine table n → Comes to table listing (Refuses (refused_table_line n))
+  bad_listing : (entries : ℕ) → IsTable table entries → (n : ℕ) → IsFirstBad listing n → Comes to table listing (Refuses (refused_listing_line n))
+  in_form : (entries : ℕ) → IsTable table entries → AreStraight listing → (o : Outcome) → Rewrites to (first_table entries) listing o → Comes to table listing o
+
+-- `rewrite` goes by two texts
+abbrev pub RewriteComesTo : Destination → List (List ℕ) → Outcome → Type 0
+RewriteComesTo to texts o = (table : List ℕ) × (listing : List ℕ) × (texts ≡ table ∷ listing ∷ []) × Comes to table listing o

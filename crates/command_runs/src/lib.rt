@@ -1,0 +1,10 @@
+//! What runs a command: it fetches the texts under the command's names, keeps what they come to and puts its lines as one piece.
+#![tactic(auto)]
+
+mod outcome;
+mod stages;
+mod status;
+
+pub use outcome::{Deed, Outcome};
+pub use stages::{Command, run};
+pub use status::Status;
