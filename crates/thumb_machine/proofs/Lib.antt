@@ -11,3 +11,4 @@ pub mod ReturnLemmas
 pub mod Walked
 pub mod RisingLemmas
 pub mod FitLemmas
+pub mod NamedRegisters

@@ -1,8 +1,6 @@
-ghost use Rattle.std.specs.Prelude.{◌≡◌, ◌<◌, ◌≤◌, ◌==◌, [], ◌∷◌};
+ghost use Rattle.std.specs.Prelude.{◌≡◌, ◌<◌, ◌≤◌, [], ◌∷◌};
 ghost use Rattle.std.specs.Int.{bit_at, from_bool};
-ghost use Rattle.word_bits.specs.Word.{sum_of, shift_of};
 ghost use Rattle.thumb_model.specs.Items.{assigned, written_to, n_flag, z_flag, c_flag, v_flag};
-ghost use Rattle.thumb_model.specs.Effect.{result_flags, sum_flags, result_outputs, shift_outputs, sum_outputs};
 ghost use Rattle.thumb_model.specs.Machine.{all_at, answered, served, holds};
 ghost use Rattle.thumb_machine.specs.Registers.{values_of};
 ghost use Rattle.thumb_machine.specs.Outside.{answer_values};
@@ -10,30 +8,14 @@ ghost use Rattle.thumb_machine.specs.Outside.{answer_values};
 use crate::answers::Answer;
 use thumb_instr::Condition;
 use thumb_instr::items::{C, N, V, Z};
-use word_bits::{Shift, Sum, add_with_carry, shift_c};
+use window_exec::{RegisterFile, flags, written};
+use word_bits::Sum;
 
 /// The registers r0 to r12, sp and lr, in this order, and the flags: N is 8, Z is 4, C is 2 and V is 1. The bits above these mean nothing.
 #[derive(Clone, Copy, Debug, PartialEq, Eq)]
 pub struct Registers {
     pub r: [u32; 15],
     pub nzcv: u8,
-}
-
-/// N and Z of a value, with C and V.
-fn flags(value: u32, c: bool, v: bool) -> u8
-    ensures n { bit_at result 3 ≡ bit_at value 31 }
-    ensures z { bit_at result 2 ≡ from_bool (value == 0) }
-    ensures c { bit_at result 1 ≡ from_bool c }
-    ensures v { bit_at result 0 ≡ from_bool v }
-{
-    u8::from(value >> 31 == 1) << 3 | u8::from(value == 0) << 2 | u8::from(c) << 1 | u8::from(v)
-}
-
-/// What a register holds after a word was written to it: the two low bits of sp stay zero.
-pub(crate) fn written(register: u32, word: u32) -> u32
-    ensures { result ≡ written_to register word }
-{
-    if register == 13 { word / 4 * 4 } else { word }
 }
 
 impl Registers {
@@ -52,14 +34,6 @@ impl Registers {
         ensures { result ≡ values_of self.now flag }
     {
         (self.nzcv >> (V - flag)) & 1
-    }
-
-    /// C.
-    pub(crate) fn carry(&self) -> bool
-        ensures value { result ≡ (values_of self.now c_flag == 1) }
-        ensures bit { from_bool result ≡ values_of self.now c_flag }
-    {
-        self.flag(C) == 1
     }
 
     /// V.
@@ -83,34 +57,6 @@ impl Registers {
         ensures { values_of self.new ≡ assigned ((target, written_to target word) ∷ []) (values_of self.old) }
     {
         self.set(target, written(target, word));
-    }
-
-    /// Gives the flags N and Z of a result.
-    pub(crate) fn test(&mut self, value: u32)
-        ensures { values_of self.new ≡ assigned (result_flags value) (values_of self.old) }
-    {
-        self.nzcv = flags(value, self.carry(), self.overflow());
-    }
-
-    /// Gives all flags of AddWithCarry(x, y, c).
-    pub(crate) fn compare(&mut self, x: u32, y: u32, c: bool)
-        ensures { values_of self.new ≡ assigned (sum_flags (sum_of x y c)) (values_of self.old) }
-    {
-        self.sum(add_with_carry(x, y, c));
-    }
-
-    /// Gives all flags of a sum.
-    fn sum(&mut self, sum: Sum)
-        ensures { values_of self.new ≡ assigned (sum_flags sum) (values_of self.old) }
-    {
-        self.nzcv = flags(sum.value, sum.c, sum.v);
-    }
-
-    /// Gives the flags N and Z of a result, and another C.
-    fn shift(&mut self, value: u32, c: bool)
-        ensures { values_of self.new ≡ assigned (result_flags value) (assigned ((c_flag, from_bool c) ∷ []) (values_of self.old)) }
-    {
-        self.nzcv = flags(value, c, self.overflow());
     }
 
     /// Gives all flags: N is 8, Z is 4, C is 2 and V is 1.
@@ -165,33 +111,34 @@ impl Registers {
             Condition::Le => !(!z & (n == v)),
         }
     }
+}
 
-    /// Puts a result into a register, and its N and Z.
-    pub(crate) fn set_result(&mut self, target: u32, value: u32)
-        requires { target < 15 }
-        ensures { values_of self.new ≡ assigned (result_outputs target value) (values_of self.old) }
-    {
-        self.test(value);
-        self.set(target, value);
+impl RegisterFile for Registers {
+    ghost values = { values_of };
+
+    ghost count = { 15 };
+
+    fn register(&self, number: u32) -> u32 {
+        self.r[number as usize]
     }
 
-    /// Puts a shift of a value into a register, its N and Z, and its last bit out as C.
-    pub(crate) fn set_shift(&mut self, target: u32, kind: Shift, x: u32, n: u32, c: bool)
-        requires { target < 15 }
-        ensures { values_of self.new ≡ assigned (shift_outputs target (shift_of kind x n c)) (values_of self.old) }
-    {
-        let (value, out) = shift_c(kind, x, n, c);
-        self.shift(value, out);
-        self.set(target, value);
+    fn set_register(&mut self, number: u32, value: u32) {
+        self.r[number as usize] = value;
     }
 
-    /// Puts AddWithCarry(x, y, c) into a register, and all its flags.
-    pub(crate) fn set_sum(&mut self, target: u32, x: u32, y: u32, c: bool)
-        requires { target < 15 }
-        ensures { values_of self.new ≡ assigned (sum_outputs target (sum_of x y c)) (values_of self.old) }
-    {
-        let sum = add_with_carry(x, y, c);
-        self.sum(sum);
-        self.set(target, sum.value);
+    fn carry(&self) -> bool {
+        self.flag(C) == 1
+    }
+
+    fn set_result_flags(&mut self, value: u32) {
+        self.nzcv = flags(value, self.flag(C) == 1, self.overflow());
+    }
+
+    fn set_shift_flags(&mut self, value: u32, c: bool) {
+        self.nzcv = flags(value, c, self.overflow());
+    }
+
+    fn set_sum_flags(&mut self, sum: Sum) {
+        self.nzcv = flags(sum.value, sum.c, sum.v);
     }
 }

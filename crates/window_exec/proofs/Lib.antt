@@ -1,2 +1,3 @@
+pub mod WindowForms
 pub mod Differences
 pub mod Normal

@@ -1,3 +1,4 @@
+pub mod Computes
 pub mod Normal
 pub mod State
 pub mod Telling

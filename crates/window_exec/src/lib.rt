@@ -1,13 +1,17 @@
 //! What the instructions of a window do to the registers r0 to r3 and the flags, by the machine's own operations.
 #![tactic(auto)]
 
+mod computing;
 pub mod laws;
+mod register_file;
 mod sequence;
 mod state;
 mod stepping;
 #[cfg(test)]
 mod tests;
 
+pub use computing::{compute, computes, total, written};
+pub use register_file::{RegisterFile, flags};
 pub use sequence::{run_seq, tells};
 pub use state::WState;
 pub use stepping::step;
