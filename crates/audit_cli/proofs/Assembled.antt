@@ -42,40 +42,7 @@ are_image all bytes c base set =
 eight_bits : (i : Instr) → 8 * instr_size i ≡ width (pieces (form_of i))
 unfolding pieces
 eight_bits (instr.Mov d m) = refl
-eight_bits (instr.Three s d n m) = refl
-eight_bits (instr.Two o d m) = refl
-eight_bits (instr.Bx m) = refl
-eight_bits (instr.Movs d m) = refl
-eight_bits (instr.ShiftLeft d m i) = refl
-eight_bits (instr.ShiftRight s d m i) = refl
-eight_bits (instr.ThreeNumber s d n i) = refl
-eight_bits (instr.TwoNumber o d i) = refl
-eight_bits (instr.Add r) = refl
-eight_bits (instr.Compare r) = refl
-eight_bits (instr.Blx m) = refl
-eight_bits (instr.Literal t d) = refl
-eight_bits (instr.Indexed a t n m) = refl
-eight_bits (instr.Offset a t n i) = refl
-eight_bits (instr.Stack a t i) = refl
-eight_bits (instr.Address d i) = refl
-eight_bits (instr.StackAddress d i) = refl
-eight_bits (instr.StackMove s i) = refl
-eight_bits (instr.Extend e d m) = refl
-eight_bits (instr.Reverse r d m) = refl
-eight_bits (instr.Push l) = refl
-eight_bits (instr.Pop l) = refl
-eight_bits (instr.StoreMany s) = refl
-eight_bits (instr.LoadMany n l) = refl
-eight_bits (instr.Breakpoint i) = refl
-eight_bits (instr.Service i) = refl
-eight_bits (instr.Hint k) = refl
-eight_bits (instr.ChangeState i) = refl
-eight_bits (instr.BranchIf c d) = refl
-eight_bits (instr.Branch d) = refl
-eight_bits (instr.Call d) = refl
-eight_bits (instr.Barrier b) = refl
-eight_bits (instr.ReadSpecial d s) = refl
-eight_bits (instr.WriteMask m) = refl
+eight_bits i = refl
 
 upper_byte : (h : ℕ) → h < 65536 → h / 256 % 256 ≡ h / 256
 upper_byte h l = omega arith

@@ -194,42 +194,9 @@ only_register (d ∷ ds) e = (d, refl)
 
 -- a row: no other instruction stands for a move
 move_is : (i : Instr) (d : Low) → normalised i ≡ self_move d → i ≡ self_move d
-move_is (instr.Mov g m) d e = e
-move_is (instr.Three s g n m) d e = e
-move_is (instr.Two o g m) d e = e
-move_is (instr.Bx m) d e = e
-move_is (instr.Movs g m) d e = e
-move_is (instr.ShiftLeft g m i) d e = e
-move_is (instr.ShiftRight s g m i) d e = e
 move_is (instr.ThreeNumber k g n j) d e =
     elim (g.number == n.number) as (λ b. (if b then instr.TwoNumber (byte_sum k) g (byte_of j) else instr.ThreeNumber k g n j) ≡ self_move d → instr.ThreeNumber k g n j ≡ self_move d) [ true ↦ λ f. absurd (cc) | false ↦ λ f. f ] e
-move_is (instr.TwoNumber o g i) d e = e
-move_is (instr.Add r) d e = e
-move_is (instr.Compare r) d e = e
-move_is (instr.Blx m) d e = e
-move_is (instr.Literal t g) d e = e
-move_is (instr.Indexed a t n m) d e = e
-move_is (instr.Offset a t n i) d e = e
-move_is (instr.Stack a t i) d e = e
-move_is (instr.Address g i) d e = e
-move_is (instr.StackAddress g i) d e = e
-move_is (instr.StackMove s i) d e = e
-move_is (instr.Extend k g m) d e = e
-move_is (instr.Reverse r g m) d e = e
-move_is (instr.Push l) d e = e
-move_is (instr.Pop l) d e = e
-move_is (instr.StoreMany s) d e = e
-move_is (instr.LoadMany n l) d e = e
-move_is (instr.Breakpoint i) d e = e
-move_is (instr.Service i) d e = e
-move_is (instr.Hint k) d e = e
-move_is (instr.ChangeState i) d e = e
-move_is (instr.BranchIf c g) d e = e
-move_is (instr.Branch g) d e = e
-move_is (instr.Call g) d e = e
-move_is (instr.Barrier b) d e = e
-move_is (instr.ReadSpecial g s) d e = e
-move_is (instr.WriteMask m) d e = e
+move_is i d e = e
 
 window_is : (is : List Instr) (d : Low) → map normalised is ≡ self_move d ∷ [] → is ≡ self_move d ∷ []
 window_is [] d e = absurd (cc)

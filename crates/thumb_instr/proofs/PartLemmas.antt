@@ -117,129 +117,40 @@ thirds m n e = ap (λ (x : Parts). x.third) e
 
 -- two instructions of one kind and the same numbers are one
 pub same_parts : (i j : Instr) → parts_of i ≡ parts_of j → i ≡ j
-same_parts (instr.Mov a b) (instr.Mov x y) e =
-    let one = same_number a x (firsts _ _ e) in
-    let two = same_number b y (seconds _ _ e) in
-    cc
-same_parts (instr.Three o a b c) (instr.Three p x y z) e =
-    let k : kind.Three o ≡ kind.Three p = kinds _ _ e in
-    let same : o ≡ p = cc in
-    let one = same_number a x (firsts _ _ e) in
-    let two = same_number b y (seconds _ _ e) in
-    let three = same_number c z (thirds _ _ e) in
-    cc
-same_parts (instr.Two o a b) (instr.Two p x y) e =
-    let k : kind.Two o ≡ kind.Two p = kinds _ _ e in
-    let same : o ≡ p = cc in
-    let one = same_number a x (firsts _ _ e) in
-    let two = same_number b y (seconds _ _ e) in
-    cc
+same_parts (instr.Mov a b) (instr.Mov x y) e = λ k. instr.Mov (same_number a x (firsts _ _ e) k) (same_number b y (seconds _ _ e) k)
+same_parts (instr.Three o a b c) (instr.Three p x y z) e = let q : kind.Three o ≡ kind.Three p = kinds _ _ e in let s : o ≡ p = cc in λ k. instr.Three (s k) (same_number a x (firsts _ _ e) k) (same_number b y (seconds _ _ e) k) (same_number c z (thirds _ _ e) k)
+same_parts (instr.Two o a b) (instr.Two p x y) e = let q : kind.Two o ≡ kind.Two p = kinds _ _ e in let s : o ≡ p = cc in λ k. instr.Two (s k) (same_number a x (firsts _ _ e) k) (same_number b y (seconds _ _ e) k)
 same_parts (instr.Bx a) (instr.Bx x) e = ap instr.Bx (same_general a x (firsts _ _ e))
-same_parts (instr.Movs a b) (instr.Movs x y) e =
-    let one = same_number a x (firsts _ _ e) in
-    let two = same_number b y (seconds _ _ e) in
-    cc
-same_parts (instr.ShiftLeft a b c) (instr.ShiftLeft x y z) e =
-    let one = same_number a x (firsts _ _ e) in
-    let two = same_number b y (seconds _ _ e) in
-    let three = same_number c z (thirds _ _ e) in
-    cc
-same_parts (instr.ShiftRight o a b c) (instr.ShiftRight p x y z) e =
-    let k : kind.ShiftRight o ≡ kind.ShiftRight p = kinds _ _ e in
-    let same : o ≡ p = cc in
-    let one = same_number a x (firsts _ _ e) in
-    let two = same_number b y (seconds _ _ e) in
-    let three = same_number c z (thirds _ _ e) in
-    cc
-same_parts (instr.ThreeNumber o a b c) (instr.ThreeNumber p x y z) e =
-    let k : kind.ThreeNumber o ≡ kind.ThreeNumber p = kinds _ _ e in
-    let same : o ≡ p = cc in
-    let one = same_number a x (firsts _ _ e) in
-    let two = same_number b y (seconds _ _ e) in
-    let three = same_number c z (thirds _ _ e) in
-    cc
-same_parts (instr.TwoNumber o a b) (instr.TwoNumber p x y) e =
-    let k : kind.TwoNumber o ≡ kind.TwoNumber p = kinds _ _ e in
-    let same : o ≡ p = cc in
-    let one = same_number a x (firsts _ _ e) in
-    let two = same_number b y (seconds _ _ e) in
-    cc
+same_parts (instr.Movs a b) (instr.Movs x y) e = λ k. instr.Movs (same_number a x (firsts _ _ e) k) (same_number b y (seconds _ _ e) k)
+same_parts (instr.ShiftLeft a b c) (instr.ShiftLeft x y z) e = λ k. instr.ShiftLeft (same_number a x (firsts _ _ e) k) (same_number b y (seconds _ _ e) k) (same_number c z (thirds _ _ e) k)
+same_parts (instr.ShiftRight o a b c) (instr.ShiftRight p x y z) e = let q : kind.ShiftRight o ≡ kind.ShiftRight p = kinds _ _ e in let s : o ≡ p = cc in λ k. instr.ShiftRight (s k) (same_number a x (firsts _ _ e) k) (same_number b y (seconds _ _ e) k) (same_number c z (thirds _ _ e) k)
+same_parts (instr.ThreeNumber o a b c) (instr.ThreeNumber p x y z) e = let q : kind.ThreeNumber o ≡ kind.ThreeNumber p = kinds _ _ e in let s : o ≡ p = cc in λ k. instr.ThreeNumber (s k) (same_number a x (firsts _ _ e) k) (same_number b y (seconds _ _ e) k) (same_number c z (thirds _ _ e) k)
+same_parts (instr.TwoNumber o a b) (instr.TwoNumber p x y) e = let q : kind.TwoNumber o ≡ kind.TwoNumber p = kinds _ _ e in let s : o ≡ p = cc in λ k. instr.TwoNumber (s k) (same_number a x (firsts _ _ e) k) (same_number b y (seconds _ _ e) k)
 same_parts (instr.Add r) (instr.Add s) e = ap instr.Add (same_not_both_sp r s (same_number r.target s.target (firsts _ _ e)) (same_number r.source s.source (seconds _ _ e)))
 same_parts (instr.Compare r) (instr.Compare s) e = ap instr.Compare (same_not_both_low r s (same_number r.left s.left (firsts _ _ e)) (same_number r.right s.right (seconds _ _ e)))
 same_parts (instr.Blx a) (instr.Blx x) e = ap instr.Blx (same_general a x (firsts _ _ e))
-same_parts (instr.Literal a b) (instr.Literal x y) e =
-    let one = same_number a x (firsts _ _ e) in
-    let two = same_number b y (seconds _ _ e) in
-    cc
-same_parts (instr.Indexed o a b c) (instr.Indexed p x y z) e =
-    let k : kind.Indexed o ≡ kind.Indexed p = kinds _ _ e in
-    let same : o ≡ p = cc in
-    let one = same_number a x (firsts _ _ e) in
-    let two = same_number b y (seconds _ _ e) in
-    let three = same_number c z (thirds _ _ e) in
-    cc
-same_parts (instr.Offset o a b c) (instr.Offset p x y z) e =
-    let k : kind.Offset o ≡ kind.Offset p = kinds _ _ e in
-    let same : o ≡ p = cc in
-    let one = same_number a x (firsts _ _ e) in
-    let two = same_number b y (seconds _ _ e) in
-    let three = same_number c z (thirds _ _ e) in
-    cc
-same_parts (instr.Stack o a b) (instr.Stack p x y) e =
-    let k : kind.Stack o ≡ kind.Stack p = kinds _ _ e in
-    let same : o ≡ p = cc in
-    let one = same_number a x (firsts _ _ e) in
-    let two = same_number b y (seconds _ _ e) in
-    cc
-same_parts (instr.Address a b) (instr.Address x y) e =
-    let one = same_number a x (firsts _ _ e) in
-    let two = same_number b y (seconds _ _ e) in
-    cc
-same_parts (instr.StackAddress a b) (instr.StackAddress x y) e =
-    let one = same_number a x (firsts _ _ e) in
-    let two = same_number b y (seconds _ _ e) in
-    cc
-same_parts (instr.StackMove o a) (instr.StackMove p x) e =
-    let k : kind.StackMove o ≡ kind.StackMove p = kinds _ _ e in
-    let same : o ≡ p = cc in
-    let one = same_number a x (firsts _ _ e) in
-    cc
-same_parts (instr.Extend o a b) (instr.Extend p x y) e =
-    let k : kind.Extend o ≡ kind.Extend p = kinds _ _ e in
-    let same : o ≡ p = cc in
-    let one = same_number a x (firsts _ _ e) in
-    let two = same_number b y (seconds _ _ e) in
-    cc
-same_parts (instr.Reverse o a b) (instr.Reverse p x y) e =
-    let k : kind.Reverse o ≡ kind.Reverse p = kinds _ _ e in
-    let same : o ≡ p = cc in
-    let one = same_number a x (firsts _ _ e) in
-    let two = same_number b y (seconds _ _ e) in
-    cc
+same_parts (instr.Literal a b) (instr.Literal x y) e = λ k. instr.Literal (same_number a x (firsts _ _ e) k) (same_number b y (seconds _ _ e) k)
+same_parts (instr.Indexed o a b c) (instr.Indexed p x y z) e = let q : kind.Indexed o ≡ kind.Indexed p = kinds _ _ e in let s : o ≡ p = cc in λ k. instr.Indexed (s k) (same_number a x (firsts _ _ e) k) (same_number b y (seconds _ _ e) k) (same_number c z (thirds _ _ e) k)
+same_parts (instr.Offset o a b c) (instr.Offset p x y z) e = let q : kind.Offset o ≡ kind.Offset p = kinds _ _ e in let s : o ≡ p = cc in λ k. instr.Offset (s k) (same_number a x (firsts _ _ e) k) (same_number b y (seconds _ _ e) k) (same_number c z (thirds _ _ e) k)
+same_parts (instr.Stack o a b) (instr.Stack p x y) e = let q : kind.Stack o ≡ kind.Stack p = kinds _ _ e in let s : o ≡ p = cc in λ k. instr.Stack (s k) (same_number a x (firsts _ _ e) k) (same_number b y (seconds _ _ e) k)
+same_parts (instr.Address a b) (instr.Address x y) e = λ k. instr.Address (same_number a x (firsts _ _ e) k) (same_number b y (seconds _ _ e) k)
+same_parts (instr.StackAddress a b) (instr.StackAddress x y) e = λ k. instr.StackAddress (same_number a x (firsts _ _ e) k) (same_number b y (seconds _ _ e) k)
+same_parts (instr.StackMove o a) (instr.StackMove p x) e = let q : kind.StackMove o ≡ kind.StackMove p = kinds _ _ e in let s : o ≡ p = cc in λ k. instr.StackMove (s k) (same_number a x (firsts _ _ e) k)
+same_parts (instr.Extend o a b) (instr.Extend p x y) e = let q : kind.Extend o ≡ kind.Extend p = kinds _ _ e in let s : o ≡ p = cc in λ k. instr.Extend (s k) (same_number a x (firsts _ _ e) k) (same_number b y (seconds _ _ e) k)
+same_parts (instr.Reverse o a b) (instr.Reverse p x y) e = let q : kind.Reverse o ≡ kind.Reverse p = kinds _ _ e in let s : o ≡ p = cc in λ k. instr.Reverse (s k) (same_number a x (firsts _ _ e) k) (same_number b y (seconds _ _ e) k)
 same_parts (instr.Push a) (instr.Push x) e = ap instr.Push (same_number a x (firsts _ _ e))
 same_parts (instr.Pop a) (instr.Pop x) e = ap instr.Pop (same_number a x (firsts _ _ e))
 same_parts (instr.StoreMany r) (instr.StoreMany s) e = ap instr.StoreMany (same_stored r s (same_number r.base s.base (firsts _ _ e)) (same_number r.list s.list (seconds _ _ e)))
-same_parts (instr.LoadMany a b) (instr.LoadMany x y) e =
-    let one = same_number a x (firsts _ _ e) in
-    let two = same_number b y (seconds _ _ e) in
-    cc
+same_parts (instr.LoadMany a b) (instr.LoadMany x y) e = λ k. instr.LoadMany (same_number a x (firsts _ _ e) k) (same_number b y (seconds _ _ e) k)
 same_parts (instr.Breakpoint a) (instr.Breakpoint x) e = ap instr.Breakpoint (same_number a x (firsts _ _ e))
 same_parts (instr.Service a) (instr.Service x) e = ap instr.Service (same_number a x (firsts _ _ e))
 same_parts (instr.Hint o) (instr.Hint p) e = let k : kind.Hint o ≡ kind.Hint p = kinds _ _ e in let same : o ≡ p = cc in ap instr.Hint same
 same_parts (instr.ChangeState o) (instr.ChangeState p) e = let k : kind.ChangeState o ≡ kind.ChangeState p = kinds _ _ e in let same : o ≡ p = cc in ap instr.ChangeState same
-same_parts (instr.BranchIf o a) (instr.BranchIf p x) e =
-    let k : kind.BranchIf o ≡ kind.BranchIf p = kinds _ _ e in
-    let same : o ≡ p = cc in
-    let one = same_distance a x (firsts _ _ e) in
-    cc
+same_parts (instr.BranchIf o a) (instr.BranchIf p x) e = let q : kind.BranchIf o ≡ kind.BranchIf p = kinds _ _ e in let s : o ≡ p = cc in λ k. instr.BranchIf (s k) (same_distance a x (firsts _ _ e) k)
 same_parts (instr.Branch a) (instr.Branch x) e = ap instr.Branch (same_distance a x (firsts _ _ e))
 same_parts (instr.Call a) (instr.Call x) e = ap instr.Call (same_distance a x (firsts _ _ e))
 same_parts (instr.Barrier o) (instr.Barrier p) e = let k : kind.Barrier o ≡ kind.Barrier p = kinds _ _ e in let same : o ≡ p = cc in ap instr.Barrier same
-same_parts (instr.ReadSpecial a o) (instr.ReadSpecial x p) e =
-    let k : kind.ReadSpecial o ≡ kind.ReadSpecial p = kinds _ _ e in
-    let same : o ≡ p = cc in
-    let one = same_general a x (firsts _ _ e) in
-    cc
+same_parts (instr.ReadSpecial a o) (instr.ReadSpecial x p) e = let q : kind.ReadSpecial o ≡ kind.ReadSpecial p = kinds _ _ e in let s : o ≡ p = cc in λ k. instr.ReadSpecial (same_general a x (firsts _ _ e) k) (s k)
 same_parts (instr.WriteMask a) (instr.WriteMask x) e = ap instr.WriteMask (same_general a x (firsts _ _ e))
 same_parts i j e = absurd (let k = kinds _ _ e in cc)
 

@@ -1,7 +1,7 @@
 -- The items that an instruction reads and writes. Where it has several ways on, those of the first: to a label or a code point of the listing.
 use Rattle.std.specs.Prelude.{ℕ, List, [], ◌∷◌, ◌++◌, filter, if◌then◌else◌}
 use Rattle.thumb_instr.specs.declared.instr.Instr.{Instr}
-use Rattle.thumb_instr.specs.declared.instr.Instr.TheVariants.{Mov, Three, Two, Bx, Movs, ShiftLeft, ShiftRight, ThreeNumber, TwoNumber, Add, Compare, Blx, Literal, Indexed, Offset, Stack, Address, StackAddress, StackMove, Extend, Reverse, Push, Pop, StoreMany, LoadMany, Breakpoint, Service, Hint, ChangeState, BranchIf, Branch, Call, Barrier, ReadSpecial, WriteMask}
+use Rattle.thumb_instr.specs.declared.instr.Instr.TheVariants.{Mov, Three, Two, Bx, Movs, ShiftLeft, ShiftRight, ThreeNumber, TwoNumber, Add, Compare, Blx, Literal, Indexed, Offset, Stack, Address, StackAddress, StackMove, Extend, Reverse, Push, Pop, StoreMany, LoadMany, Service, BranchIf, Call, ReadSpecial, WriteMask}
 use Rattle.thumb_instr.specs.declared.operation.ByteOperation.{ByteOperation}
 use Rattle.thumb_instr.specs.declared.operation.ByteOperation.TheVariants as byte
 use Rattle.thumb_instr.specs.declared.operation.Operation.{Operation}
@@ -148,11 +148,9 @@ uses_of (TwoNumber o d i) = byte_uses o d.number
 uses_of (Add r) = r.target.number ∷ r.source.number ∷ []
 uses_of (Compare r) = r.left.number ∷ r.right.number ∷ []
 uses_of (Blx m) = m.number ∷ []
-uses_of (Literal t i) = []
 uses_of (Indexed a t n m) = n.number ∷ m.number ∷ access_uses a t.number
 uses_of (Offset a t n i) = n.number ∷ access_uses (offset_access a) t.number
 uses_of (Stack a t i) = sp ∷ access_uses (word_access a) t.number
-uses_of (Address d i) = []
 uses_of (StackAddress d i) = sp ∷ []
 uses_of (StackMove s i) = sp ∷ []
 uses_of (Extend e d m) = m.number ∷ []
@@ -161,23 +159,16 @@ uses_of (Push l) = sp ∷ pushed l.number
 uses_of (Pop l) = sp ∷ []
 uses_of (StoreMany s) = s.base.number ∷ registers_in s.list.number
 uses_of (LoadMany n l) = n.number ∷ []
-uses_of (Breakpoint i) = []
 uses_of (Service i) = 0 ∷ 1 ∷ 2 ∷ 3 ∷ 12 ∷ sp ∷ []
-uses_of (Hint h) = []
-uses_of (ChangeState i) = []
 uses_of (BranchIf c i) = condition_uses c
-uses_of (Branch i) = []
-uses_of (Call i) = []
-uses_of (Barrier b) = []
-uses_of (ReadSpecial d s) = []
 uses_of (WriteMask m) = m.number ∷ []
+uses_of i = []
 
 -- the items that an instruction writes: LDM writes its base back, or loads it
 abbrev pub writes_of : Instr → List ℕ
 writes_of (Mov d m) = d.number ∷ []
 writes_of (Three s d n m) = d.number ∷ nzcv
 writes_of (Two o d m) = two_writes o d.number
-writes_of (Bx m) = []
 writes_of (Movs d m) = d.number ∷ nz
 writes_of (ShiftLeft d m i) = d.number ∷ nzc
 writes_of (ShiftRight s d m i) = d.number ∷ nzc
@@ -199,13 +190,7 @@ writes_of (Push l) = sp ∷ []
 writes_of (Pop l) = sp ∷ registers_in l.number
 writes_of (StoreMany s) = s.base.number ∷ []
 writes_of (LoadMany n l) = n.number ∷ registers_in l.number
-writes_of (Breakpoint i) = []
 writes_of (Service i) = 0 ∷ 1 ∷ 2 ∷ 3 ∷ 12 ∷ []
-writes_of (Hint h) = []
-writes_of (ChangeState i) = []
-writes_of (BranchIf c i) = []
-writes_of (Branch i) = []
 writes_of (Call i) = lr ∷ []
-writes_of (Barrier b) = []
 writes_of (ReadSpecial d s) = d.number ∷ []
-writes_of (WriteMask m) = []
+writes_of i = []

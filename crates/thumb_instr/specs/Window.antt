@@ -3,7 +3,7 @@ use Rattle.std.specs.Prelude.{◌==◌, ◌&&◌, nat_lt, Bool, true, false, if�
 use Rattle.std.proofs.Common.{lit≤}
 use Rattle.std.proofs.Math.Nat.{lt_of_lt_of_le}
 use Rattle.thumb_instr.specs.declared.instr.Instr.{Instr}
-use Rattle.thumb_instr.specs.declared.instr.Instr.TheVariants.{Mov, Three, Two, Bx, Movs, ShiftLeft, ShiftRight, ThreeNumber, TwoNumber, Add, Compare, Blx, Literal, Indexed, Offset, Stack, Address, StackAddress, StackMove, Extend, Reverse, Push, Pop, StoreMany, LoadMany, Breakpoint, Service, Hint, ChangeState, BranchIf, Branch, Call, Barrier, ReadSpecial, WriteMask}
+use Rattle.thumb_instr.specs.declared.instr.Instr.TheVariants.{Mov, Three, Two, Movs, ShiftLeft, ShiftRight, ThreeNumber, TwoNumber, Add, Extend, Reverse}
 use Rattle.thumb_instr.specs.declared.operation.Sum.{Sum}
 use Rattle.thumb_instr.specs.declared.operation.Sum.TheVariants as sum
 use Rattle.thumb_instr.specs.declared.operation.ByteOperation.{ByteOperation}
@@ -15,38 +15,15 @@ abbrev pub is_in_window : Instr → Bool
 is_in_window (Mov d m) = nat_lt d.number 8 && nat_lt m.number 8
 is_in_window (Three s d n m) = true
 is_in_window (Two o d m) = true
-is_in_window (Bx m) = false
 is_in_window (Movs d m) = true
 is_in_window (ShiftLeft d m i) = true
 is_in_window (ShiftRight s d m i) = true
 is_in_window (ThreeNumber s d n i) = true
 is_in_window (TwoNumber o d i) = true
 is_in_window (Add r) = nat_lt r.target.number 8 && nat_lt r.source.number 8
-is_in_window (Compare r) = false
-is_in_window (Blx m) = false
-is_in_window (Literal t i) = false
-is_in_window (Indexed a t n m) = false
-is_in_window (Offset a t n i) = false
-is_in_window (Stack a t i) = false
-is_in_window (Address d i) = false
-is_in_window (StackAddress d i) = false
-is_in_window (StackMove s i) = false
 is_in_window (Extend e d m) = true
 is_in_window (Reverse r d m) = true
-is_in_window (Push l) = false
-is_in_window (Pop l) = false
-is_in_window (StoreMany l) = false
-is_in_window (LoadMany n l) = false
-is_in_window (Breakpoint i) = false
-is_in_window (Service i) = false
-is_in_window (Hint h) = false
-is_in_window (ChangeState i) = false
-is_in_window (BranchIf c i) = false
-is_in_window (Branch i) = false
-is_in_window (Call i) = false
-is_in_window (Barrier b) = false
-is_in_window (ReadSpecial d s) = false
-is_in_window (WriteMask m) = false
+is_in_window i = false
 
 -- a 3-bit number as an 8-bit one
 abbrev pub byte_of : Within 0 8 → Within 0 256

@@ -50,7 +50,6 @@ fn uses(instr: &Instr) -> Items
             registers.right.number as u8,
         ]),
         Instr::Blx { source } => Items::of(&[source.number as u8]),
-        Instr::Literal { .. } => Items::none(),
         Instr::Indexed {
             access,
             target,
@@ -66,7 +65,6 @@ fn uses(instr: &Instr) -> Items
         Instr::Stack { access, target, .. } => {
             Items::one(SP).union(access_uses(word_access(access), target))
         }
-        Instr::Address { .. } => Items::none(),
         Instr::StackAddress { .. } => Items::one(SP),
         Instr::StackMove { .. } => Items::one(SP),
         Instr::Extend { source, .. } => Items::of(&[source.number as u8]),
@@ -77,16 +75,10 @@ fn uses(instr: &Instr) -> Items
             Items::of(&[stored.base.number as u8]).union(registers_in(stored.list.number))
         }
         Instr::LoadMany { base, .. } => Items::of(&[base.number as u8]),
-        Instr::Breakpoint { .. } => Items::none(),
         Instr::Service { .. } => Items::of(&[0, 1, 2, 3, 12, SP]),
-        Instr::Hint { .. } => Items::none(),
-        Instr::ChangeState { .. } => Items::none(),
         Instr::BranchIf { condition, .. } => condition_uses(condition),
-        Instr::Branch { .. } => Items::none(),
-        Instr::Call { .. } => Items::none(),
-        Instr::Barrier { .. } => Items::none(),
-        Instr::ReadSpecial { .. } => Items::none(),
         Instr::WriteMask { source } => Items::of(&[source.number as u8]),
+        _ => Items::none(),
     }
 }
 
@@ -102,7 +94,6 @@ fn writes(instr: &Instr) -> Items
             target,
             ..
         } => two_writes(operation, target),
-        Instr::Bx { .. } => Items::none(),
         Instr::Movs { target, .. } => Items::of(&[target.number as u8, N, Z]),
         Instr::ShiftLeft { target, .. } => Items::of(&[target.number as u8, N, Z, C]),
         Instr::ShiftRight { target, .. } => Items::of(&[target.number as u8, N, Z, C]),
@@ -130,16 +121,10 @@ fn writes(instr: &Instr) -> Items
         Instr::LoadMany { base, list } => {
             Items::of(&[base.number as u8]).union(registers_in(list.number))
         }
-        Instr::Breakpoint { .. } => Items::none(),
         Instr::Service { .. } => Items::of(&[0, 1, 2, 3, 12]),
-        Instr::Hint { .. } => Items::none(),
-        Instr::ChangeState { .. } => Items::none(),
-        Instr::BranchIf { .. } => Items::none(),
-        Instr::Branch { .. } => Items::none(),
         Instr::Call { .. } => Items::one(LR),
-        Instr::Barrier { .. } => Items::none(),
         Instr::ReadSpecial { target, .. } => Items::of(&[target.number as u8]),
-        Instr::WriteMask { .. } => Items::none(),
+        _ => Items::none(),
     }
 }
 
