@@ -91,12 +91,12 @@ made_parts (instr.WriteMask m) = when_true _ _ (general m)
 made_parts i = refl
 
 -- the instruction of a kind and numbers has the kind
-when_is : (b : Bool) (m n : Parts) → when b m ≡ Some n → m ≡ n
-when_is true m n e = cc
-when_is false m n e = absurd (cc)
+pub when_some : (b : Bool) (m n : Parts) → when b m ≡ Some n → (b ≡ true) × (m ≡ n)
+when_some true m n e = (refl, cc)
+when_some false m n e = absurd (cc)
 
 pub made_kind : (k : Kind) (a b c : ℕ) (m : Parts) → made k a b c ≡ Some m → m.kind ≡ k
-made_kind k a b c m e = ap (λ (n : Parts). n.kind) (sym (when_is (is_instr k a b c) (kept_of (roles k) k a b c) m e))
+made_kind k a b c m e = ap (λ (n : Parts). n.kind) (sym (when_some (is_instr k a b c) (kept_of (roles k) k a b c) m e).1)
 
 pub same_fields : (m n : Parts) → m.kind ≡ n.kind → m.first ≡ n.first → m.second ≡ n.second → m.third ≡ n.third → m ≡ n
 same_fields m n e f g h = λ i. record { kind = e i; first = f i; second = g i; third = h i }

@@ -16,7 +16,8 @@ use Rattle.thumb_instr.specs.declared.kind.Kind.{Kind}
 use Rattle.thumb_instr.specs.declared.kind.Kind.TheVariants as kind
 use Rattle.thumb_syntax.specs.Operands.{Operand, register, name}
 use Rattle.thumb_instr.specs.declared.kind.Parts.{Parts}
-use Rattle.thumb_instr.specs.Parts.{made, when, is_low, are_low, are_registers}
+use Rattle.thumb_instr.specs.Parts.{made, is_low, are_low, are_registers}
+use Rattle.thumb_instr.proofs.PartLemmas.{when_some}
 use Rattle.thumb_syntax.specs.Slots.{Fields, empty, at, put, held_by, filled}
 use Rattle.thumb_syntax.specs.Rows.{Row, Shown, with_label, shown_by, read_as, first, second, same, data_rows, memory_rows, control_rows}
 use Rattle.thumb_syntax.specs.RowLaws.{rows}
@@ -116,10 +117,6 @@ is_low_at k p = false
 
 abbrev pub made_by : Kind → Fields → Option Parts
 made_by k f = made k f.first f.second f.third
-
-pub when_some : (b : Bool) (m n : Parts) → when b m ≡ Some n → (b ≡ true) × (m ≡ n)
-when_some true m n e = (refl, cc)
-when_some false m n e = absurd (cc)
 
 below_eight : (n : ℕ) → is_low n ≡ true → n < 8
 below_eight n e = ltb-true n 8 (and_parts (nat_le 0 n) (nat_lt n 8) e).1
