@@ -1,0 +1,11 @@
+pub mod Lists
+pub mod Grounds
+pub mod Assumptions
+pub mod Falsified
+pub mod Refuted
+pub mod Minimised
+pub mod Conflicts
+pub mod Hints
+pub mod Places
+pub mod Derived
+pub mod Learned

@@ -1,0 +1,4 @@
+pub mod Implied
+pub mod Assumed
+pub mod Analysed
+pub mod Hinted

@@ -1,0 +1,106 @@
+//! What a conflict teaches: the clause of the first unique implication point.
+
+ghost use Rattle.std.specs.Prelude.{◌≡◌, ℕ, ◌≤◌, ◌<◌, ◌⊎◌, OnOk, IfOk, All, Any, List, length, take, drop, Contains, IsTrue, ◌↔◌, ◌-◌};
+ghost use Rattle.clause_model.specs.Literals.{negated};
+ghost use Rattle.clause_model.specs.Clauses.{AllFalse, IsConsistent};
+ghost use Rattle.cdcl_core.specs.Implied.{clauses_of};
+ghost use Rattle.cdcl_core.specs.Analysed.{AtConflict, LearnsFrom, Sees};
+
+use clause_arena::{Arena, Memory, Ref};
+use clause_model::{Assignment, Literal};
+use std::alloc::Global;
+
+/// Sees a literal, if it is true.
+fn see_one(seen: &mut Assignment, literal: Literal, trail: &Assignment) -> Result<(), Memory>
+    requires { All (Contains trail.now) seen.old }
+    ensures part { OnOk result (All (Contains trail.now) seen.new) }
+    ensures grows { OnOk result (All (Contains seen.new) seen.old) }
+    ensures seen { OnOk result (Contains trail.now literal → Contains seen.new literal) }
+    ensures only { OnOk result (All (λ t. Contains seen.old t ⊎ (t ≡ literal)) seen.new) }
+{
+    if !trail.is_true(literal) {
+        return Ok(());
+    }
+    if seen.is_true(literal) {
+        return Ok(());
+    }
+    let _trues = trail.len();
+    seen.set(literal)?;
+    Ok(())
+}
+
+/// Sees each true literal whose contrary the clause has.
+pub fn see(seen: &mut Assignment, clause: &[u32], trail: &Assignment) -> Result<(), Memory>
+    requires { All (Contains trail.now) seen.old }
+    ensures { OnOk result (Sees trail.now clause.now seen.old seen.new) }
+{
+    for code in clause {
+        let opposite = Literal::from_code(*code).negated();
+        see_one(seen, opposite, trail)?;
+    }
+    Ok(())
+}
+
+/// Whether a literal of the part is seen, looked for from its end.
+fn sees_some(seen: &Assignment, part: &[Literal]) -> bool
+    ensures { IsTrue result ↔ Any (Contains seen.now) part.now }
+{
+    let mut at = part.len();
+    while at > 0 {
+        at -= 1;
+        if seen.is_true(part[at]) {
+            return true;
+        }
+    }
+    false
+}
+
+/// The contraries of the seen literals of the part.
+fn contraries(alloc: Global, seen: &Assignment, part: &[Literal]) -> Result<Vec<Literal>, Memory>
+    ensures all { IfOk result (λ v. All (λ t. Contains seen.now t → Contains v.items (negated t)) part.now) }
+    ensures only { IfOk result (λ v. AllFalse part.now v.items) }
+{
+    let mut found = Vec::new(alloc);
+    for literal in part {
+        if seen.is_true(*literal) {
+            found.push(literal.negated())?;
+        }
+    }
+    Ok(found)
+}
+
+/// The clause that the conflict teaches: the literal of this level, and the others.
+pub fn analyse(
+    alloc: Global,
+    arena: &Arena,
+    trail: &Assignment,
+    reasons: &[Option<Ref>],
+    seen: &mut Assignment,
+    low: usize,
+    start: usize,
+    conflict: Ref,
+) -> Result<(Literal, Vec<Literal>), Memory>
+    requires { AtConflict arena.now reasons.now trail.now low start conflict }
+    ensures { IfOk result (λ learnt. LearnsFrom (clauses_of arena.now) trail.now low start learnt.0 learnt.1.items) }
+{
+    seen.truncate(0);
+    see(seen, arena.lits(conflict), trail)?;
+    let literals = trail.literals();
+    let mut at = trail.len();
+    while at > start {
+        at -= 1;
+        let literal = literals[at];
+        if seen.is_true(literal) {
+            if !sees_some(seen, &literals[start..at]) {
+                let others = contraries(alloc, seen, &literals[low..start])?;
+                return Ok((literal.negated(), others));
+            }
+            let reason = reasons[at];
+            match reason {
+                Some(number) => see(seen, arena.lits(number), trail)?,
+                None => unreachable!(),
+            }
+        }
+    }
+    unreachable!()
+}

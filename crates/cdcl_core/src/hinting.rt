@@ -1,0 +1,108 @@
+//! The line that a false clause gives, with the hints that show it.
+//!
+//! The hints are read off the trail from its end: the false clause, and before it the reason of each
+//! literal whose contrary stands in a clause of a hint.
+
+ghost use Rattle.std.specs.Prelude.{◌≡◌, ◌≢◌, ℕ, ◌+◌, ◌<◌, ◌^◌, IfOk, All, AllPairs, List, length, map, Contains, Some, slice_get, pos};
+ghost use Rattle.clause_model.specs.Literals.{negated};
+ghost use Rattle.clause_model.specs.Propagation.{numbered};
+ghost use Rattle.clause_arena.specs.Contents.{references_of};
+ghost use Rattle.cdcl_core.specs.Implied.{clauses_of};
+ghost use Rattle.cdcl_core.specs.Hinted.{HasReasons, RefutesTidily};
+
+use crate::analysis::see;
+use clause_arena::{Arena, Memory, Ref};
+use clause_model::{Assignment, Literal};
+use lrat_check::{Addition, Hint, Id};
+use std::alloc::Global;
+
+/// The place of a reference among those of all clauses.
+fn place_of(refs: &[Ref], at: Ref) -> usize
+    requires ascending { AllPairs (λ r s. r < s) refs.now }
+    requires within { Contains refs.now at }
+    ensures { slice_get refs.now result ≡ Some at }
+{
+    let mut low = 0;
+    let mut high = refs.len();
+    while high - low > 1 {
+        let middle = low + (high - low) / 2;
+        if refs[middle].offset() <= at.offset() {
+            low = middle;
+            continue;
+        }
+        high = middle;
+    }
+    low
+}
+
+/// The hint that names a clause: they are numbered from 1.
+fn hint_of(refs: &[Ref], at: Ref) -> Hint
+    requires ascending { AllPairs (λ r s. r < s) refs.now }
+    requires within { Contains refs.now at }
+    requires few { length refs.now < 2 ^ 32 }
+    ensures { (k : ℕ) × (slice_get refs.now k ≡ Some at) × (result ≡ pos (k + 1)) }
+{
+    let number = place_of(refs, at) as u32 + 1;
+    Hint::new(Id::new(number))
+}
+
+/// The contraries of literals.
+fn negations(alloc: Global, literals: &[Literal]) -> Result<Vec<Literal>, Memory>
+    ensures { IfOk result (λ v. v.items ≡ map negated literals.now) }
+{
+    let mut found = Vec::new(alloc);
+    for literal in literals {
+        found.push(literal.negated())?;
+    }
+    Ok(found)
+}
+
+/// The line that adds the clause of the contraries of the given literals, which leave a clause false.
+pub fn derive(
+    alloc: Global,
+    arena: &Arena,
+    refs: &[Ref],
+    trail: &Assignment,
+    reasons: &[Option<Ref>],
+    seen: &mut Assignment,
+    givens: &[Literal],
+    conflict: Ref,
+    id: Id,
+) -> Result<Addition, Memory>
+    requires refs { refs.now ≡ references_of arena.now }
+    requires few { length refs.now < 2 ^ 32 }
+    requires reasons { HasReasons arena.now reasons.now trail.now givens.now conflict }
+    requires distinct { AllPairs (λ l m. l ≢ m) givens.now }
+    requires bounded { All (λ l. l < 400000) givens.now }
+    ensures id { IfOk result (λ line. line.id ≡ id) }
+    ensures literals { IfOk result (λ line. line.literals.items ≡ map negated givens.now) }
+    ensures hints { IfOk result (λ line. (hints : List ℕ) × (line.hints.items ≡ map pos hints) × RefutesTidily (numbered (clauses_of arena.now)) givens.now hints) }
+{
+    let _whole = arena.literals();
+    let literals = negations(alloc, givens)?;
+    seen.truncate(0);
+    see(seen, arena.lits(conflict), trail)?;
+    let mut hints = Vec::new(alloc);
+    hints.push(hint_of(refs, conflict))?;
+    let trues = trail.literals();
+    let mut at = trail.len();
+    while at > 0 {
+        at -= 1;
+        if !seen.is_true(trues[at]) {
+            continue;
+        }
+        let reason = reasons[at];
+        match reason {
+            Some(number) => {
+                see(seen, arena.lits(number), trail)?;
+                hints.insert(0, hint_of(refs, number))?;
+            }
+            None => {}
+        }
+    }
+    Ok(Addition {
+        id,
+        literals,
+        hints,
+    })
+}

@@ -1,0 +1,9 @@
+//! A solver by clause learning, whose log certifies what it finds.
+#![tactic(auto)]
+
+mod analysis;
+mod assumption;
+mod certifying;
+mod hinting;
+mod learning;
+mod minimising;
