@@ -1,0 +1,90 @@
+-- The text of a table: its lines in order, each with a newline at its end.
+use Rattle.std.specs.Prelude.{ℕ, zero, suc, ◌+◌, ◌/◌, ◌%◌, List, [], ◌∷◌, ◌++◌, map, codes, decimal, nat_lt, None, if◌then◌else◌}
+use Rattle.std.specs.List.{flat_map}
+use Rattle.thumb_instr.specs.declared.instr.Instr.{Instr}
+use Rattle.thumb_instr.specs.Items.{has}
+use Rattle.thumb_syntax.specs.Spelling.{text_of as text_of_shown}
+use Rattle.thumb_syntax.specs.Whole.{shown_with}
+use Rattle.lrat_check.specs.Content.{Content}
+use Rattle.lrat_check.specs.Text.{text_of as text_of_line}
+use Rattle.fingerprints.specs.Seeded.{Seen}
+use Rattle.rule_table.specs.Table.{Opened, Rule, Table}
+
+-- a digit of a hexadecimal number, in lower case, and the last n digits of a number
+abbrev pub hex_digit : ℕ → ℕ
+hex_digit d = if nat_lt d 10 then d + 48 else d + 87
+
+unfoldable pub hex_of : ℕ → ℕ → List ℕ
+hex_of zero w = []
+hex_of (suc n) w = hex_of n (w / 16) ++ hex_digit (w % 16) ∷ []
+
+-- the canonical text of an instruction that names no label
+abbrev pub instr_text : Instr → List ℕ
+instr_text i = text_of_shown (shown_with i None)
+
+-- a text, where the mask has the item
+abbrev pub named : ℕ → ℕ → List ℕ → List ℕ
+named mask item text = if has mask item then text else []
+
+-- what a line says
+pub data Item : Type 0 where
+  Version : Item
+  Regs : ℕ → Item
+  Longest : ℕ → Item
+  Seed : ℕ → Item
+  Budget : ℕ → Item
+  Pool : List ℕ → Item
+  State : Seen → Item
+  Entry : Item
+  Left : Instr → Item
+  Right : Instr → Item
+  Mask : ℕ → Item
+  Proof : Item
+  Logged : Content → Item
+  Open : ℕ → Item
+  End : Item
+
+-- words with a blank before each
+abbrev pub after_blanks : List (List ℕ) → List ℕ
+after_blanks words = flat_map (λ w. 32 ∷ w) words
+
+-- a line, without its newline
+abbrev pub line_of : Item → List ℕ
+line_of Version = codes "peep 1"
+line_of (Regs n) = codes "regs " ++ decimal n
+line_of (Longest n) = codes "left " ++ decimal n
+line_of (Seed n) = codes "seed " ++ decimal n
+line_of (Budget n) = codes "budget " ++ decimal n
+line_of (Pool ns) = codes "pool" ++ after_blanks (map decimal ns)
+line_of (State s) = codes "state" ++ (after_blanks (map (hex_of 8) s.r) ++ 32 ∷ hex_of 1 s.nzcv)
+line_of Entry = codes "entry"
+line_of (Left i) = codes "left " ++ instr_text i
+line_of (Right i) = codes "right " ++ instr_text i
+line_of (Mask m) =
+    codes "mask" ++ (named m 0 (codes " r0") ++ (named m 1 (codes " r1") ++ (named m 2 (codes " r2") ++ (named m 3 (codes " r3")
+    ++ (named m 15 (codes " n") ++ (named m 16 (codes " z") ++ (named m 17 (codes " c") ++ named m 18 (codes " v"))))))))
+line_of Proof = codes "proof"
+line_of (Logged c) = text_of_line c
+line_of (Open n) = codes "open " ++ decimal n
+line_of End = codes "end"
+
+-- lines, each with its newline
+abbrev pub text_of_items : List Item → List ℕ
+text_of_items items = flat_map (λ i. line_of i ++ 10 ∷ []) items
+
+-- an open number with its log
+abbrev pub open_items : Opened → List Item
+open_items o = Open o.number ∷ map Logged o.log
+
+abbrev pub rule_items : Rule → List Item
+rule_items r = Entry ∷ (map Left r.left ++ (map Right r.right ++ Mask r.mask ∷ Proof ∷ (map Logged r.proof ++ flat_map open_items r.opens)))
+
+abbrev pub header_items : Table → List Item
+header_items t = Version ∷ Regs t.regs ∷ Longest t.left ∷ Seed t.seed ∷ Budget t.budget ∷ Pool t.pool ∷ []
+
+-- the lines of a table
+abbrev pub items_of : Table → List Item
+items_of t = header_items t ++ (map State t.states ++ (flat_map rule_items t.rules ++ End ∷ []))
+
+abbrev pub text_of : Table → List ℕ
+text_of t = text_of_items (items_of t)

@@ -1,0 +1,153 @@
+//! The lines of a table's text, each written behind what is there.
+ghost use Rattle.std.specs.Prelude.{◌≡◌, ◌++◌, ◌<◌, ◌∷◌, [], decimal, codes, OnOk, map};
+ghost use Rattle.lrat_check.specs.Content.{content_of};
+ghost use Rattle.fingerprints.specs.Seeded.{seen};
+ghost use Rattle.rule_table.specs.Text.{hex_digit, hex_of, line_of, instr_text, after_blanks, named};
+ghost use Rattle.rule_table.specs.Text as item;
+
+use crate::errors::Memory;
+use itoa::Buffer;
+use lrat_check::{Line, write_line};
+use std::alloc::{AllocError, Global};
+use thumb_instr::{Instr, Mask};
+use thumb_syntax::{Parsed, write_instr};
+use window_exec::WState;
+
+/// A decimal number.
+pub(crate) fn write_decimal(out: &mut Vec<u8>, number: u64) -> Result<(), AllocError>
+    ensures { OnOk result (out.new.items ≡ out.old.items ++ decimal number) }
+{
+    out.extend_from_slice(Buffer::new().format(number).as_bytes())
+}
+
+/// A word, a blank, a number and a newline.
+pub(crate) fn write_number(out: &mut Vec<u8>, word: &[u8], number: u64) -> Result<(), AllocError>
+    ensures { OnOk result (out.new.items ≡ out.old.items ++ ((word.entry.now ++ decimal number) ++ 10 ∷ [])) }
+{
+    out.extend_from_slice(word)?;
+    write_decimal(out, number)?;
+    out.push(b'\n')?;
+    Ok(())
+}
+
+/// A word, an instruction and a newline.
+pub(crate) fn write_instruction(
+    alloc: Global,
+    out: &mut Vec<u8>,
+    word: &[u8],
+    instr: Instr,
+) -> Result<(), Memory>
+    ensures { OnOk result (out.new.items ≡ out.old.items ++ ((word.entry.now ++ instr_text instr) ++ 10 ∷ [])) }
+{
+    let text = write_instr(alloc, &Parsed { instr, label: None })?;
+    out.extend_from_slice(word)?;
+    out.extend_from_slice(&text)?;
+    out.push(b'\n')?;
+    Ok(())
+}
+
+/// A line of a proof.
+pub(crate) fn write_logged(alloc: Global, out: &mut Vec<u8>, line: &Line) -> Result<(), Memory>
+    ensures { OnOk result (out.new.items ≡ out.old.items ++ (line_of (item.Logged (content_of line.entry.now)) ++ 10 ∷ [])) }
+{
+    let text = write_line(alloc, line)?;
+    out.extend_from_slice(&text)?;
+    Ok(())
+}
+
+/// A hexadecimal digit.
+fn hex_digit(digit: u32) -> u8
+    requires { digit < 16 }
+    ensures { result ≡ hex_digit digit }
+{
+    if digit < 10 {
+        digit as u8 + b'0'
+    } else {
+        digit as u8 + 87
+    }
+}
+
+/// The last hexadecimal digits of a number, so many.
+fn write_hex(out: &mut Vec<u8>, digits: u32, number: u32) -> Result<(), AllocError>
+    ensures { OnOk result (out.new.items ≡ out.old.items ++ hex_of digits number) }
+{
+    if digits == 0 {
+        return Ok(());
+    }
+    write_hex(out, digits - 1, number / 16)?;
+    out.push(hex_digit(number % 16))?;
+    Ok(())
+}
+
+/// A state.
+pub(crate) fn write_state(out: &mut Vec<u8>, state: WState) -> Result<(), AllocError>
+    ensures { OnOk result (out.new.items ≡ out.old.items ++ (line_of (item.State (seen state)) ++ 10 ∷ [])) }
+{
+    out.extend_from_slice(b"state")?;
+    write_words(out, state.r.as_slice())?;
+    out.push(b' ')?;
+    write_hex(out, 1, u32::from(state.nzcv))?;
+    out.push(b'\n')?;
+    Ok(())
+}
+
+/// Words, each as a blank and eight digits.
+fn write_words(out: &mut Vec<u8>, words: &[u32]) -> Result<(), AllocError>
+    ensures { OnOk result (out.new.items ≡ out.old.items ++ after_blanks (map (hex_of 8) words.entry.now)) }
+{
+    for word in words {
+        out.push(b' ')?;
+        write_hex(out, 8, *word)?;
+    }
+    Ok(())
+}
+
+/// The numbers of a pool.
+pub(crate) fn write_pool(out: &mut Vec<u8>, numbers: &[u8]) -> Result<(), AllocError>
+    ensures { OnOk result (out.new.items ≡ out.old.items ++ (line_of (item.Pool numbers.entry.now) ++ 10 ∷ [])) }
+{
+    out.extend_from_slice(b"pool")?;
+    write_numbers(out, numbers)?;
+    out.push(b'\n')?;
+    Ok(())
+}
+
+/// Numbers, each behind a blank.
+fn write_numbers(out: &mut Vec<u8>, numbers: &[u8]) -> Result<(), AllocError>
+    ensures { OnOk result (out.new.items ≡ out.old.items ++ after_blanks (map decimal numbers.entry.now)) }
+{
+    for number in numbers {
+        out.push(b' ')?;
+        write_decimal(out, u64::from(*number))?;
+    }
+    Ok(())
+}
+
+/// A mask.
+pub(crate) fn write_mask(out: &mut Vec<u8>, mask: Mask) -> Result<(), AllocError>
+    ensures { OnOk result (out.new.items ≡ out.old.items ++ (line_of (item.Mask mask.items.bits) ++ 10 ∷ [])) }
+{
+    out.extend_from_slice(b"mask")?;
+    write_item(out, mask, 0, b" r0")?;
+    write_item(out, mask, 1, b" r1")?;
+    write_item(out, mask, 2, b" r2")?;
+    write_item(out, mask, 3, b" r3")?;
+    write_item(out, mask, 15, b" n")?;
+    write_item(out, mask, 16, b" z")?;
+    write_item(out, mask, 17, b" c")?;
+    write_item(out, mask, 18, b" v")?;
+    out.push(b'\n')?;
+    Ok(())
+}
+
+/// An item's text, where the mask has it.
+fn write_item(out: &mut Vec<u8>, mask: Mask, item: u8, text: &[u8]) -> Result<(), AllocError>
+    requires { item < 19 }
+    ensures { OnOk result (out.new.items ≡ out.old.items ++ named mask.items.bits item text.entry.now) }
+{
+    if mask.has(item) {
+        out.extend_from_slice(text)
+    } else {
+        Ok(())
+    }
+}

@@ -1,0 +1,122 @@
+//! The text of a table.
+ghost use Rattle.std.specs.Prelude.{◌≡◌, ◌++◌, ◌∷◌, [], codes, OnOk, IfOk, map};
+ghost use Rattle.std.specs.List.{flat_map};
+ghost use Rattle.lrat_check.specs.Content.{content_of};
+ghost use Rattle.fingerprints.specs.Seeded.{seen};
+ghost use Rattle.rule_table.specs.Text.{text_of_items, text_of, header_items, rule_items, open_items};
+ghost use Rattle.rule_table.specs.Text as item;
+ghost use Rattle.rule_table.specs.Views.{table_of, rule_of, opened_of};
+
+use crate::errors::Memory;
+use crate::lines::{
+    write_instruction, write_logged, write_mask, write_number, write_pool, write_state,
+};
+use crate::table::{Entry, Open, Table};
+use lrat_check::Line;
+use std::alloc::{AllocError, Global};
+use thumb_instr::Instr;
+use window_exec::WState;
+
+/// The text of a table.
+pub fn write_table(alloc: Global, table: &Table) -> Result<Vec<u8>, Memory>
+    ensures { IfOk result (λ text. text.items ≡ text_of (table_of table.entry.now)) }
+{
+    let mut out = Vec::new(alloc);
+    write_header(&mut out, table)?;
+    write_states(&mut out, table.states.as_slice())?;
+    write_entries(alloc, &mut out, &table.entries)?;
+    out.extend_from_slice(b"end\n")?;
+    Ok(out)
+}
+
+/// The numbers of registers and instructions.
+fn write_sizes(out: &mut Vec<u8>, regs: u8, left: u8) -> Result<(), AllocError>
+    ensures { OnOk result (out.new.items ≡ out.old.items ++ text_of_items (item.Regs regs ∷ item.Longest left ∷ [])) }
+{
+    write_number(out, b"regs ", u64::from(regs))?;
+    write_number(out, b"left ", u64::from(left))
+}
+
+/// The seed and the budget.
+fn write_limits(out: &mut Vec<u8>, seed: u32, budget: u32) -> Result<(), AllocError>
+    ensures { OnOk result (out.new.items ≡ out.old.items ++ text_of_items (item.Seed seed ∷ item.Budget budget ∷ [])) }
+{
+    write_number(out, b"seed ", u64::from(seed))?;
+    write_number(out, b"budget ", u64::from(budget))
+}
+
+fn write_header(out: &mut Vec<u8>, table: &Table) -> Result<(), AllocError>
+    ensures { OnOk result (out.new.items ≡ out.old.items ++ text_of_items (header_items (table_of table.entry.now))) }
+{
+    out.extend_from_slice(b"peep 1\n")?;
+    write_sizes(out, table.regs, table.left)?;
+    write_limits(out, table.seed, table.budget)?;
+    write_pool(out, table.pool.numbers())
+}
+
+fn write_states(out: &mut Vec<u8>, states: &[WState]) -> Result<(), AllocError>
+    ensures { OnOk result (out.new.items ≡ out.old.items ++ text_of_items (map item.State (map seen states.entry.now))) }
+{
+    for state in states {
+        write_state(out, *state)?;
+    }
+    Ok(())
+}
+
+fn write_entries(alloc: Global, out: &mut Vec<u8>, entries: &[Entry]) -> Result<(), Memory>
+    ensures { OnOk result (out.new.items ≡ out.old.items ++ text_of_items (flat_map rule_items (map rule_of entries.entry.now))) }
+{
+    for entry in entries {
+        write_entry(alloc, out, entry)?;
+    }
+    Ok(())
+}
+
+fn write_entry(alloc: Global, out: &mut Vec<u8>, entry: &Entry) -> Result<(), Memory>
+    ensures { OnOk result (out.new.items ≡ out.old.items ++ text_of_items (rule_items (rule_of entry.entry.now))) }
+{
+    out.extend_from_slice(b"entry\n")?;
+    write_left(alloc, out, entry.left.as_slice())?;
+    write_right(alloc, out, entry.right.as_slice())?;
+    write_mask(out, entry.mask)?;
+    out.extend_from_slice(b"proof\n")?;
+    write_log(alloc, out, &entry.proof)?;
+    write_opens(alloc, out, &entry.opens)
+}
+
+fn write_left(alloc: Global, out: &mut Vec<u8>, instrs: &[Instr]) -> Result<(), Memory>
+    ensures { OnOk result (out.new.items ≡ out.old.items ++ text_of_items (map item.Left instrs.entry.now)) }
+{
+    for instr in instrs {
+        write_instruction(alloc, out, b"left ", *instr)?;
+    }
+    Ok(())
+}
+
+fn write_right(alloc: Global, out: &mut Vec<u8>, instrs: &[Instr]) -> Result<(), Memory>
+    ensures { OnOk result (out.new.items ≡ out.old.items ++ text_of_items (map item.Right instrs.entry.now)) }
+{
+    for instr in instrs {
+        write_instruction(alloc, out, b"right ", *instr)?;
+    }
+    Ok(())
+}
+
+fn write_log(alloc: Global, out: &mut Vec<u8>, lines: &[Line]) -> Result<(), Memory>
+    ensures { OnOk result (out.new.items ≡ out.old.items ++ text_of_items (map item.Logged (map content_of lines.entry.now))) }
+{
+    for line in lines {
+        write_logged(alloc, out, line)?;
+    }
+    Ok(())
+}
+
+fn write_opens(alloc: Global, out: &mut Vec<u8>, opens: &[Open]) -> Result<(), Memory>
+    ensures { OnOk result (out.new.items ≡ out.old.items ++ text_of_items (flat_map open_items (map opened_of opens.entry.now))) }
+{
+    for open in opens {
+        write_number(out, b"open ", open.number)?;
+        write_log(alloc, out, &open.log)?;
+    }
+    Ok(())
+}
