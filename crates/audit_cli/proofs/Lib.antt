@@ -6,6 +6,8 @@ pub mod MovesPass
 pub mod StraightLemmas
 pub mod StraightLines
 pub mod PrintLemmas
+pub mod RefusalLemmas
+pub mod StepLemmas
 pub mod TableLemmas
 pub mod TableLaws
 pub mod WellFormed

@@ -163,11 +163,7 @@ simple_faultless : (ls : List Line) → AreSimple ls → AreFaultless ls
 simple_faultless [] h = tt
 simple_faultless (l ∷ ls) h = (λ lies at. statement_faultless lies at l.statement l.names l.front h.0, simple_faultless ls h.1)
 
--- so they can be laid out
-pub simple_layable : (base : ℕ) (ls : List Line) → AreSimple ls → Layable base ls
-simple_layable base ls h = laid_out base ls (simple_faultless ls h)
-
--- and each of their places is an instruction
+-- each of their places is an instruction
 counts_one : (s : Statement) (names : List Name) (front : List ℕ) (ls : List Line) → IsSimpleStatement names front s → instruction_count ls ≡ length (places_of ls) → (if is_op s then instruction_count ls + 1 else instruction_count ls) ≡ length (places_in s ++ places_of ls)
 counts_one Nothing names front ls g h = h
 counts_one (Runs i m) names front ls g h = omega arith

@@ -1,5 +1,5 @@
 -- What is kept of a rewritten listing, and why it is the headline's.
-use Rattle.std.proofs.Common.{◌≡◌, ◌∙◌, ℕ, List, [], ◌∷◌, ◌++◌, length, codes, sym, ap, subst, arith}
+use Rattle.std.proofs.Common.{◌≡◌, ℕ, List, [], ◌∷◌, ◌++◌, length, codes, sym, ap, subst, arith}
 use Rattle.thumb_model.specs.Listing.{Line}
 use Rattle.thumb_model.specs.Rewrite.{Rule}
 use Rattle.thumb_model.specs.Rewritten.{Replacement, AreRewritten}
@@ -7,12 +7,10 @@ use Rattle.thumb_model.specs.Layout.{Layable}
 use Rattle.thumb_model.proofs.LinesKept.{lines_same, none_left, all_applied, no_more_lines, still_layable}
 use Rattle.audit_cli.specs.Moves.{moves_table}
 use Rattle.listing_parser.specs.Parsing.{IsListing, text_of_lines}
-use Rattle.audit_cli.specs.Straight.{AreStraight, IsFirstBad}
-use Rattle.audit_cli.specs.FirstTable.{IsTable, IsBadTableLine}
-use Rattle.command_runs.specs.Plans.{Outcome, Refuses, Does}
-use Rattle.audit_cli.specs.Printed.{report_of, refused_table_line, refused_listing_line, image_line}
-use Rattle.audit_cli.specs.Rewriting.{Destination, Counts, AreImage, IsKept, alone, pair, IsKeptIn, setting, AreShortest, IsRewriting, Rewrites, rewritten, instruction_count}
-use Rattle.audit_cli.specs.FirstForm.{first_table, Comes, bad_table, bad_listing, in_form}
+use Rattle.command_runs.specs.Plans.{Outcome, Does}
+use Rattle.audit_cli.specs.Printed.{report_of, image_line}
+use Rattle.audit_cli.specs.Rewriting.{Destination, Counts, AreImage, IsKept, alone, pair, IsKeptIn, setting, AreShortest, IsRewriting, instruction_count}
+use Rattle.audit_cli.specs.FirstForm.{first_table}
 use Rattle.audit_cli.proofs.MovesRule.{moves_only, moves_are_sound}
 use Rattle.audit_cli.proofs.WellFormed.{still_reads}
 
@@ -57,17 +55,3 @@ is_rewriting to entries given lines replacements c o is laid r e k =
       shortest = moves_are_shortest entries;
       kept = subst (λ (x : Counts). IsKeptIn to lines x o) e k;
     }
-
--- ---- what the texts come to ----
-
-pub listing_refused : (to : Destination) (table listing : List ℕ) (entries n : ℕ) (line : List ℕ) (o : Outcome) → IsTable table entries → IsFirstBad listing n → line ≡ refused_listing_line n → o ≡ Refuses line → Comes to table listing o
-listing_refused to table listing entries n line o is bad l e = subst (Comes to table listing) (sym (e ∙ ap Refuses l)) (bad_listing entries is n bad)
-
-pub in_the_form : (to : Destination) (table listing : List ℕ) (entries : ℕ) (o : Outcome) → IsTable table entries → AreStraight listing → Rewrites to (first_table entries) listing o → Comes to table listing o
-in_the_form to table listing entries o is straight r = in_form entries is straight o r
-
-pub listing_rewritten : (to : Destination) (entries : ℕ) (listing : List ℕ) (given : List Line) (o : Outcome) → IsListing listing given → Layable to.base given → IsRewriting to (first_table entries) given o → Rewrites to (first_table entries) listing o
-listing_rewritten to entries listing given o is laid r = rewritten given is laid o r
-
-pub table_refused : (to : Destination) (table listing : List ℕ) (n : ℕ) (line : List ℕ) (o : Outcome) → IsBadTableLine table n → line ≡ refused_table_line n → o ≡ Refuses line → Comes to table listing o
-table_refused to table listing n line o bad l e = subst (Comes to table listing) (sym (e ∙ ap Refuses l)) (bad_table n bad)

@@ -1,11 +1,9 @@
 -- What lines and texts come to.
 use Rattle.std.proofs.Common.{◌≡◌, ◌∙◌, ◌++◌, ℕ, List, [], Result, Ok, Err, sym, ap, subst}
-use Rattle.std.specs.Prelude.{IfOk, Some, None}
+use Rattle.std.specs.Prelude.{IfOk, Some}
 use Rattle.thumb_model.specs.Listing.{Line, code_of, place_of}
-use Rattle.thumb_model.specs.Layout.{Fault, Layable}
-use Rattle.listing_parser.specs.declared.errors.Kind.{Kind}
-use Rattle.listing_parser.specs.Parsing.{IsListing, IsRefused}
-use Rattle.label_layout.specs.Refusals.{first_fault}
+use Rattle.thumb_model.specs.Layout.{Layable}
+use Rattle.listing_parser.specs.Parsing.{IsListing}
 use Rattle.thumb_model.specs.Machine.{Event, Here, Naming, State, step, times, with_bytes}
 use Rattle.thumb_model.specs.Same.{begun, here_or_ended}
 use Rattle.thumb_machine.specs.declared.answers.Answer.{Answer}
@@ -20,18 +18,9 @@ use Rattle.audit_cli.specs.Running.{IsRun}
 use Rattle.audit_cli.specs.Start.{answers_from, start_values, start_world}
 use Rattle.command_runs.specs.declared.outcome.Outcome.{Outcome as Outcomes}
 use Rattle.command_runs.specs.Outcomes.{outcome_view}
-use Rattle.command_runs.specs.Plans.{Refuses, Does}
-use Rattle.audit_cli.specs.TraceLines.{event_lines, refused_fault, refused_label, refused_line, steps_line}
-use Rattle.audit_cli.specs.Tracing.{Journey, LinesTrace, unlaid, unlabelled, ran, Traces, unread, read}
-
-pub refused_text : (journey : Journey) (text line : List ℕ) (n : ℕ) (k : Kind) → IsRefused text n k → line ≡ refused_line n k → Traces journey text (Refuses line)
-refused_text journey text line n k h e = subst (λ (l : List ℕ). Traces journey text (Refuses l)) (sym e) (unread n k h)
-
-pub refused_lines : (journey : Journey) (lines : List Line) (line : List ℕ) (n : ℕ) (f : Fault) → first_fault 0 lines ≡ Some (n, f) → line ≡ refused_fault n f → LinesTrace journey lines (Refuses line)
-refused_lines journey lines line n f h e = subst (λ (l : List ℕ). LinesTrace journey lines (Refuses l)) (sym e) (unlaid n f h)
-
-pub no_label : (journey : Journey) (lines : List Line) (line : List ℕ) → Layable 0 lines → place_of (code_of lines) journey.label ≡ None → line ≡ refused_label → LinesTrace journey lines (Refuses line)
-no_label journey lines line h none e = subst (λ (l : List ℕ). LinesTrace journey lines (Refuses l)) (sym e) (unlabelled h none)
+use Rattle.command_runs.specs.Plans.{Does}
+use Rattle.audit_cli.specs.TraceLines.{event_lines, steps_line}
+use Rattle.audit_cli.specs.Tracing.{Journey, LinesTrace, ran, Traces, read}
 
 pub goes_on : {E : Type 0} (journey : Journey) (text : List ℕ) (lines : List Line) (r : Result Outcomes E) → IsListing text lines → IfOk r (λ o. LinesTrace journey lines (outcome_view o)) → IfOk r (λ o. Traces journey text (outcome_view o))
 goes_on journey text lines (Ok o) is h = read lines is (outcome_view o) h

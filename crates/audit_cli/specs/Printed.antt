@@ -14,14 +14,6 @@ and_number n = 32 ∷ decimal n
 abbrev pub report_of : ℕ → ℕ → ℕ → List ℕ
 report_of replaced before after = printed (codes "replaced" ++ and_number replaced) ++ printed (codes "instructions" ++ and_number before ++ and_number after)
 
--- `refused table LINE`
-abbrev pub refused_table_line : ℕ → List ℕ
-refused_table_line line = printed (codes "refused table" ++ and_number line)
-
--- `refused listing LINE 1`
-abbrev pub refused_listing_line : ℕ → List ℕ
-refused_listing_line line = printed (codes "refused listing" ++ and_number line ++ and_number 1)
-
 -- `image BYTES`
 abbrev pub image_line : ℕ → List ℕ
 image_line bytes = printed (codes "image" ++ and_number bytes)

@@ -3,19 +3,19 @@ use Rattle.std.specs.Prelude.{◌≡◌, ◌<◌, ◌≤◌, ◌+◌, ℕ, false
 use Rattle.thumb_instr.specs.declared.instr.Instr.{Instr}
 use Rattle.thumb_model.specs.Items.{one_of}
 use Rattle.thumb_model.specs.Listing.{Name, Line, code_of}
-use Rattle.thumb_model.specs.Layout.{Fault, Layable, set_address}
+use Rattle.thumb_model.specs.Layout.{Layable, set_address}
 use Rattle.thumb_model.specs.Image.{IsImage}
 use Rattle.thumb_model.specs.Same.{Same}
 use Rattle.thumb_model.specs.Rewrite.{Rule, Equal, AreSound, register_count}
 use Rattle.thumb_model.specs.Rewritten.{Setting, Replacement, AreRewritten, AllApplied, NoneApplies, is_op}
 use Rattle.seq_enum.specs.Alphabet.{sequences}
-use Rattle.listing_parser.specs.declared.errors.Kind.{Kind}
-use Rattle.listing_parser.specs.Parsing.{IsListing, IsRefused, text_of_lines}
+use Rattle.listing_parser.specs.Parsing.{IsListing, text_of_lines}
 use Rattle.listing_parser.specs.Replacing.{own_line}
-use Rattle.label_layout.specs.Refusals.{first_fault}
 use Rattle.command_runs.specs.Plans.{Keep, Outcome, Refuses, Does}
 use Rattle.audit_cli.specs.Printed.{report_of, image_line}
-use Rattle.audit_cli.specs.TraceLines.{refused_line, refused_fault}
+use Rattle.audit_cli.specs.declared.refusal.Refusal.{Refusal}
+use Rattle.audit_cli.specs.Refusals.{refusal_line}
+use Rattle.audit_cli.specs.Steps.{IsUnread, IsUnlaid}
 
 -- the names that a rewritten listing and its image are kept under, and where the image lies
 pub record Destination : Type 0 where
@@ -96,8 +96,12 @@ pub record IsRewriting (to : Destination) (table : Table) (given : List Line) (o
   -- the listing is kept, and its image
   pub kept : IsKeptIn to lines (record { replaced = length replacements; before = instruction_count given; after = instruction_count lines }) o
 
--- what the text of a listing comes to by a table: it is refused at the first line that makes it no listing, or that can't be laid out from the base; or its lines are rewritten
-pub data Rewrites (to : Destination) (table : Table) (listing : List ℕ) : Outcome → Type 0 where
-  unread : (n : ℕ) (k : Kind) → IsRefused listing n k → Rewrites to table listing (Refuses (refused_line n k))
-  unlaid : (given : List Line) → IsListing listing given → (n : ℕ) (fault : Fault) → first_fault to.base given ≡ Some (n, fault) → Rewrites to table listing (Refuses (refused_fault n fault))
-  rewritten : (given : List Line) → IsListing listing given → Layable to.base given → (o : Outcome) → IsRewriting to table given o → Rewrites to table listing o
+-- what the lines of a listing come to by a table: they are refused at the first that can't be laid out from the base, or rewritten
+pub data LinesRewrite (to : Destination) (table : Table) (given : List Line) : Outcome → Type 0 where
+  unlaid : (r : Refusal) → IsUnlaid to.base given r → LinesRewrite to table given (Refuses (refusal_line r))
+  rewritten : Layable to.base given → (o : Outcome) → IsRewriting to table given o → LinesRewrite to table given o
+
+-- what a text comes to by a table: it is refused at the first line that makes it no listing, or its lines are rewritten
+pub data Rewrites (to : Destination) (table : Table) (text : List ℕ) : Outcome → Type 0 where
+  unread : (r : Refusal) → IsUnread text r → Rewrites to table text (Refuses (refusal_line r))
+  read : (given : List Line) → IsListing text given → (o : Outcome) → LinesRewrite to table given o → Rewrites to table text o

@@ -1,11 +1,7 @@
 -- The printed lines of a trace.
 use Rattle.std.specs.Prelude.{ℕ, ◌+◌, ◌/◌, ◌%◌, nat_lt, List, [], ◌∷◌, ◌++◌, codes, if◌then◌else◌}
 use Rattle.std.specs.List.{flat_map}
-use Rattle.std.specs.Fmt.{signed_decimal}
 use Rattle.thumb_model.specs.Machine.{Event, Load, Store, Call, Sys, Left, Fault, Astray, Fell}
-use Rattle.thumb_model.specs.Layout as layout
-use Rattle.listing_parser.specs.declared.errors.Kind.{Kind}
-use Rattle.listing_parser.specs.declared.errors.Kind.TheVariants as kind
 use Rattle.thumb_machine.specs.declared.machine.Stage.{Stage}
 use Rattle.thumb_machine.specs.declared.machine.Stage.TheVariants as stage
 use Rattle.audit_cli.specs.Printed.{printed, and_number}
@@ -58,24 +54,3 @@ stage_word stage.Wants = codes "wants"
 -- `steps N STAGE`
 abbrev pub steps_line : ℕ → Stage → List ℕ
 steps_line n s = printed (codes "steps" ++ and_number n ++ (32 ∷ stage_word s))
-
--- ---- refusals ----
-
-abbrev pub kind_number : Kind → ℕ
-kind_number kind.Shape = 1
-kind_number kind.Twice = 2
-kind_number kind.Target = 3
-kind_number kind.Limit = 6
-
--- `refused listing LINE KIND`
-abbrev pub refused_line : ℕ → Kind → List ℕ
-refused_line line k = printed (codes "refused listing" ++ and_number line ++ and_number (kind_number k))
-
--- `refused listing LINE 4 DISTANCE` and `refused listing LINE 5 ADDRESS`
-abbrev pub refused_fault : ℕ → layout.Fault → List ℕ
-refused_fault line (layout.Range distance) = printed (codes "refused listing" ++ and_number line ++ codes " 4 " ++ signed_decimal distance)
-refused_fault line (layout.Align address) = printed (codes "refused listing" ++ and_number line ++ codes " 5" ++ and_number address)
-
--- `refused label`
-abbrev pub refused_label : List ℕ
-refused_label = printed (codes "refused label")

@@ -1,18 +1,20 @@
 -- What `trace` comes to.
 use Rattle.std.specs.Prelude.{◌≡◌, ℕ, List, [], ◌∷◌, ◌++◌, Some, None}
 use Rattle.thumb_model.specs.Listing.{Name, Line, code_of, place_of}
-use Rattle.thumb_model.specs.Layout.{Fault, Layable}
+use Rattle.thumb_model.specs.Layout.{Layable}
 use Rattle.thumb_model.specs.Machine.{Naming, step, times}
 use Rattle.thumb_model.specs.Same.{begun}
-use Rattle.listing_parser.specs.declared.errors.Kind.{Kind}
-use Rattle.listing_parser.specs.Parsing.{IsListing, IsRefused}
-use Rattle.label_layout.specs.Refusals.{first_fault}
+use Rattle.listing_parser.specs.Parsing.{IsListing}
 use Rattle.thumb_machine.specs.declared.machine.Stage.{Stage}
 use Rattle.thumb_machine.specs.Laid.{IsLaid}
 use Rattle.command_runs.specs.Plans.{Outcome, Refuses, Does}
 use Rattle.audit_cli.specs.Running.{IsRun}
 use Rattle.audit_cli.specs.Start.{start_world}
-use Rattle.audit_cli.specs.TraceLines.{event_lines, steps_line, refused_line, refused_fault, refused_label}
+use Rattle.audit_cli.specs.declared.refusal.Refusal.{Refusal}
+use Rattle.audit_cli.specs.declared.refusal.Refusal.TheVariants as refusal
+use Rattle.audit_cli.specs.Refusals.{refusal_line}
+use Rattle.audit_cli.specs.Steps.{IsUnread, IsUnlaid}
+use Rattle.audit_cli.specs.TraceLines.{event_lines, steps_line}
 
 -- what is asked for: the label where the run begins, and the most steps
 pub record Journey : Type 0 where
@@ -21,15 +23,15 @@ pub record Journey : Type 0 where
 
 -- what lines come to: they are refused at the first that can't be laid out, or for want of the code label, or run from it under the naming that they are laid out with
 pub data LinesTrace (journey : Journey) (lines : List Line) : Outcome → Type 0 where
-  unlaid : (n : ℕ) (fault : Fault) → first_fault 0 lines ≡ Some (n, fault) → LinesTrace journey lines (Refuses (refused_fault n fault))
-  unlabelled : Layable 0 lines → place_of (code_of lines) journey.label ≡ None → LinesTrace journey lines (Refuses refused_label)
+  unlaid : (r : Refusal) → IsUnlaid 0 lines r → LinesTrace journey lines (Refuses (refusal_line r))
+  unlabelled : Layable 0 lines → place_of (code_of lines) journey.label ≡ None → LinesTrace journey lines (Refuses (refusal_line refusal.Label))
   ran : Layable 0 lines → (p : ℕ) → place_of (code_of lines) journey.label ≡ Some p → (names : Naming) → IsLaid 0 lines names
       → (n : ℕ) (s : Stage) → IsRun names (code_of lines) (begun (code_of lines) journey.label start_world []) journey.most n s
       → LinesTrace journey lines (Does [] (event_lines (times (step names (code_of lines)) n (begun (code_of lines) journey.label start_world [])).events ++ steps_line n s))
 
 -- what a text comes to: it is refused at the first line that makes it no listing, or its lines are traced
 pub data Traces (journey : Journey) (text : List ℕ) : Outcome → Type 0 where
-  unread : (n : ℕ) (k : Kind) → IsRefused text n k → Traces journey text (Refuses (refused_line n k))
+  unread : (r : Refusal) → IsUnread text r → Traces journey text (Refuses (refusal_line r))
   read : (lines : List Line) → IsListing text lines → (o : Outcome) → LinesTrace journey lines o → Traces journey text o
 
 -- `trace` goes by one text

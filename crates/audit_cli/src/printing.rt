@@ -1,7 +1,7 @@
 ghost use Rattle.std.specs.Prelude.{◌≡◌, IfOk, map};
 ghost use Rattle.listing_parser.specs.Parsing.{text_of_lines};
 ghost use Rattle.listing_parser.specs.Views.{line_view};
-ghost use Rattle.audit_cli.specs.Printed.{report_of, refused_table_line, refused_listing_line, image_line};
+ghost use Rattle.audit_cli.specs.Printed.{report_of, image_line};
 
 use listing_parser::Line;
 use std::alloc::{AllocError, Global};
@@ -25,22 +25,6 @@ pub fn report(alloc: Global, replaced: u64, before: u64, after: u64) -> Result<V
     Ok(text.into_bytes())
 }
 
-/// What is printed of a table that is refused at this line.
-pub fn refused_table(alloc: Global, line: u64) -> Result<Vec<u8>, AllocError>
-    ensures { IfOk result (λ v. v.items ≡ refused_table_line line) }
-{
-    let text = format!(in alloc; "refused table {line}\n")?;
-    Ok(text.into_bytes())
-}
-
-/// What is printed of a listing that is refused at this line, which is none of a listing.
-pub fn refused_listing(alloc: Global, line: u64) -> Result<Vec<u8>, AllocError>
-    ensures { IfOk result (λ v. v.items ≡ refused_listing_line line) }
-{
-    let text = format!(in alloc; "refused listing {line} 1\n")?;
-    Ok(text.into_bytes())
-}
-
 /// What is printed of an image of so many bytes.
 pub fn image_report(alloc: Global, bytes: u64) -> Result<Vec<u8>, AllocError>
     ensures { IfOk result (λ v. v.items ≡ image_line bytes) }
@@ -59,14 +43,6 @@ mod tests {
         assert_eq!(rt;
             report(rt.alloc(), 2, 4, 2)?.as_slice(),
             b"replaced 2\ninstructions 4 2\n".as_slice()
-        );
-        assert_eq!(rt;
-            refused_table(rt.alloc(), 72)?.as_slice(),
-            b"refused table 72\n".as_slice()
-        );
-        assert_eq!(rt;
-            refused_listing(rt.alloc(), 65537)?.as_slice(),
-            b"refused listing 65537 1\n".as_slice()
         );
         Ok(())
     }

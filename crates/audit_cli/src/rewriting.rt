@@ -3,9 +3,10 @@ ghost use Rattle.std.specs.Prelude.{◌≡◌, ◌++◌, ◌∷◌, [], ◌↔�
 ghost use Rattle.listing_parser.specs.Parsing.{IsListing, text_of_lines};
 ghost use Rattle.listing_parser.specs.Views.{line_view};
 ghost use Rattle.command_runs.specs.Outcomes.{deed_view, outcome_view};
-ghost use Rattle.command_runs.specs.Plans.{Refuses, Does};
+ghost use Rattle.command_runs.specs.Plans.{Does};
+ghost use Rattle.thumb_model.specs.Layout.{Layable};
 ghost use Rattle.audit_cli.specs.Printed.{report_of, image_line};
-ghost use Rattle.audit_cli.specs.Rewriting.{IsKeptIn, IsRewriting, Rewrites, instruction_count};
+ghost use Rattle.audit_cli.specs.Rewriting.{IsKeptIn, IsRewriting, LinesRewrite, Rewrites, instruction_count};
 ghost use Rattle.audit_cli.specs.FirstForm.{first_table, Comes};
 ghost use Rattle.thumb_model.specs.Rewritten.{is_op};
 ghost use Rattle.audit_cli.specs.Destinations.{destination_of};
@@ -15,12 +16,14 @@ ghost use Rattle.audit_cli.specs.FirstTable.{IsTable};
 
 use crate::assembling::assemble;
 use crate::moves::drop_moves;
-use crate::printing::{image_report, print, refused_listing, refused_table, report};
+use crate::printing::{image_report, print, report};
 use crate::read_error::ReadError;
 use crate::read_table::read_table;
+use crate::refusal::{Refusal, refused};
+use crate::steps::{lay_out, read_listing};
 use crate::straight::first_bad;
 use command_runs::{Deed, Outcome};
-use listing_parser::{Line, Listing, ListingError, Statement, parse};
+use listing_parser::{Kind, Line, Listing, Statement};
 use std::alloc::{AllocError, Global};
 use step_ledger::{Ledger, Steps};
 
@@ -137,7 +140,7 @@ fn rewritten(
 ) -> Result<Outcome, AllocError>
     requires simple { AreSimple listing.now }
     requires listed { IsListing (text_of_lines listing.now) listing.now }
-    ensures { (base : ℕ) → IfOk result (λ o. IsRewriting (record { out = out.now; image = image.now; base = base }) (first_table entries) listing.now (outcome_view o)) }
+    ensures { (base : ℕ) → Layable base listing.now → IfOk result (λ o. IsRewriting (record { out = out.now; image = image.now; base = base }) (first_table entries) listing.now (outcome_view o)) }
 {
     let new = drop_moves(alloc, entries, listing)?;
     let before = instruction_count(listing.lines());
@@ -155,35 +158,52 @@ pub(crate) struct Rewrite<'a> {
     pub(crate) base: u32,
 }
 
-/// Nothing is kept, and the line is printed.
-fn refuses(line: Vec<u8>) -> Outcome
-    ensures { outcome_view result ≡ Refuses line.items }
-{
-    Outcome::Refuses(line)
-}
-
-/// What the text of a straight listing comes to, by a table of so many entries.
-fn straight_outcome(
+/// What the lines of a straight listing come to by a table of so many entries.
+fn lines_outcome(
     alloc: Global,
     to: &Rewrite<'_>,
     entries: usize,
-    listing: &[u8],
+    listing: &Listing,
 ) -> Result<Outcome, AllocError>
-    requires { AreStraight listing.now }
-    ensures { IfOk result (λ o. Rewrites (destination_of to.now) (first_table entries) listing.now (outcome_view o)) }
+    requires simple { AreSimple listing.now }
+    requires listed { IsListing (text_of_lines listing.now) listing.now }
+    ensures { IfOk result (λ o. LinesRewrite (destination_of to.now) (first_table entries) listing.now (outcome_view o)) }
 {
-    match parse(alloc, listing) {
-        Err(ListingError::Memory) => return Err(AllocError),
-        // a straight listing is a listing
-        Err(ListingError::Line { .. }) => unreachable!(),
-        Ok(listing) => {
-            let outcome = rewritten(alloc, entries, &listing, to.out, to.image)?;
-            return Ok(outcome);
+    match lay_out(alloc, listing, to.base)? {
+        Err(refusal) => {
+            let outcome = refused(alloc, refusal)?;
+            Ok(outcome)
+        }
+        Ok(_) => {
+            let outcome = rewritten(alloc, entries, listing, to.out, to.image)?;
+            Ok(outcome)
         }
     }
 }
 
-/// What the text of a listing comes to, by the text of a table of so many entries.
+/// What the text of a straight listing comes to by a table of so many entries.
+fn text_outcome(
+    alloc: Global,
+    to: &Rewrite<'_>,
+    entries: usize,
+    text: &[u8],
+) -> Result<Outcome, AllocError>
+    requires { AreStraight text.now }
+    ensures { IfOk result (λ o. Rewrites (destination_of to.now) (first_table entries) text.now (outcome_view o)) }
+{
+    match read_listing(alloc, text)? {
+        Err(refusal) => {
+            let outcome = refused(alloc, refusal)?;
+            Ok(outcome)
+        }
+        Ok(listing) => {
+            let outcome = lines_outcome(alloc, to, entries, &listing)?;
+            Ok(outcome)
+        }
+    }
+}
+
+/// What the text of a listing comes to by the text of a table with so many entries.
 fn listing_outcome(
     alloc: Global,
     to: &Rewrite<'_>,
@@ -194,18 +214,23 @@ fn listing_outcome(
 {
     match first_bad(alloc, listing)? {
         None => {
-            let outcome = straight_outcome(alloc, to, entries, listing)?;
-            return Ok(outcome);
+            let outcome = text_outcome(alloc, to, entries, listing)?;
+            Ok(outcome)
         }
-        Some(number) => {
-            let line = refused_listing(alloc, number)?;
-            return Ok(refuses(line));
+        Some(line) => {
+            let outcome = refused(
+                alloc,
+                Refusal::Listing {
+                    line,
+                    kind: Kind::Shape,
+                },
+            )?;
+            Ok(outcome)
         }
     }
 }
 
 /// What the texts of a table and a listing come to.
-#[tactic(auto, using(crate::proofs::RewritingLemmas::table_refused))]
 fn outcome(
     alloc: Global,
     to: &Rewrite<'_>,
@@ -215,14 +240,14 @@ fn outcome(
     ensures { IfOk result (λ o. Comes (destination_of to.now) table.now listing.now (outcome_view o)) }
 {
     match read_table(table) {
-        Err(ReadError::Memory) => return Err(AllocError),
-        Err(ReadError::Line(number)) => {
-            let line = refused_table(alloc, number)?;
-            return Ok(refuses(line));
+        Err(ReadError::Memory) => Err(AllocError),
+        Err(ReadError::Line(line)) => {
+            let outcome = refused(alloc, Refusal::Table { line })?;
+            Ok(outcome)
         }
         Ok(read) => {
             let outcome = listing_outcome(alloc, to, read.entries as usize, listing)?;
-            return Ok(outcome);
+            Ok(outcome)
         }
     }
 }

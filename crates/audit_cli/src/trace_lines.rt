@@ -1,14 +1,9 @@
 //! The printed lines of a trace.
 ghost use Rattle.std.specs.Prelude.{◌≡◌, ◌<◌, ◌+◌, ◌++◌, ◌∷◌, [], codes, IfOk, OnOk};
-ghost use Rattle.std.specs.Fmt.{signed_decimal};
 ghost use Rattle.thumb_machine.specs.Outside.{event_of, events_of};
-ghost use Rattle.thumb_model.specs.Layout.{Range, Align};
-ghost use Rattle.label_layout.specs.Refusals.{fault_of};
 ghost use Rattle.audit_cli.specs.Printed.{printed, and_number};
-ghost use Rattle.audit_cli.specs.TraceLines.{hex_digit as hex_digit_of, word_text as word_text_of, and_word, and_words, event_line, event_lines as event_lines_of, stage_word as stage_word_of, steps_line as steps_line_of, kind_number, refused_line as refused_line_of, refused_fault as refused_fault_of, refused_label as refused_label_of};
+ghost use Rattle.audit_cli.specs.TraceLines.{hex_digit as hex_digit_of, word_text as word_text_of, and_word, and_words, event_line, event_lines as event_lines_of, stage_word as stage_word_of, steps_line as steps_line_of};
 
-use label_layout::Kind as LayoutKind;
-use listing_parser::Kind;
 use std::alloc::{AllocError, Global};
 use thumb_machine::{Event, Stage};
 
@@ -192,57 +187,4 @@ pub(crate) fn run_lines(
     let last = steps_line(alloc, taken, stage)?;
     lines.extend_from_slice(&last)?;
     Ok(lines)
-}
-
-/// The number of a kind of refusal.
-fn kind_number(kind: Kind) -> u8
-    ensures { result ≡ kind_number kind }
-{
-    kind as u8
-}
-
-/// `refused listing LINE KIND`
-pub(crate) fn refused_line(alloc: Global, line: u64, kind: Kind) -> Result<Vec<u8>, AllocError>
-    ensures { IfOk result (λ v. v.items ≡ refused_line_of line kind) }
-{
-    let number = kind_number(kind);
-    let text = format!(in alloc; "refused listing {line} {number}\n")?;
-    Ok(text.into_bytes())
-}
-
-/// `refused listing LINE 4 DISTANCE`
-fn refused_range(alloc: Global, line: u64, distance: i64) -> Result<Vec<u8>, AllocError>
-    ensures { IfOk result (λ v. v.items ≡ refused_fault_of line (Range distance)) }
-{
-    let text = format!(in alloc; "refused listing {line} 4 {distance}\n")?;
-    Ok(text.into_bytes())
-}
-
-/// `refused listing LINE 5 ADDRESS`
-fn refused_align(alloc: Global, line: u64, address: u64) -> Result<Vec<u8>, AllocError>
-    ensures { IfOk result (λ v. v.items ≡ refused_fault_of line (Align address)) }
-{
-    let text = format!(in alloc; "refused listing {line} 5 {address}\n")?;
-    Ok(text.into_bytes())
-}
-
-/// What is printed of a listing that cannot be laid out at this line.
-pub(crate) fn refused_fault(
-    alloc: Global,
-    line: u64,
-    kind: LayoutKind,
-) -> Result<Vec<u8>, AllocError>
-    ensures { IfOk result (λ v. v.items ≡ refused_fault_of line (fault_of kind)) }
-{
-    match kind {
-        LayoutKind::Range(distance) => refused_range(alloc, line, distance),
-        LayoutKind::Align(address) => refused_align(alloc, line, address),
-    }
-}
-
-/// `refused label`
-pub(crate) fn refused_label(alloc: Global) -> Result<Vec<u8>, AllocError>
-    ensures { IfOk result (λ v. v.items ≡ refused_label_of) }
-{
-    b"refused label\n".to_vec(alloc)
 }

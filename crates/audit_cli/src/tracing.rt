@@ -1,21 +1,21 @@
 //! The command `trace`: what the text of a listing comes to.
-ghost use Rattle.std.specs.Prelude.{◌≡◌, ℕ, List, [], IfOk, Some, None};
-ghost use Rattle.thumb_model.specs.Listing.{Line, code_of, place_of};
+ghost use Rattle.std.specs.Prelude.{◌≡◌, [], IfOk, Some};
+ghost use Rattle.thumb_model.specs.Listing.{code_of, place_of};
 ghost use Rattle.thumb_model.specs.Layout.{Layable};
-ghost use Rattle.listing_parser.specs.Parsing.{IsRefused};
 ghost use Rattle.label_layout.specs.Addresses.{AreAddresses};
-ghost use Rattle.label_layout.specs.Refusals.{fault_of, first_fault};
 ghost use Rattle.command_runs.specs.Outcomes.{outcome_view};
 ghost use Rattle.command_runs.specs.Plans.{Does};
 ghost use Rattle.audit_cli.specs.Journeys.{journey_of};
-ghost use Rattle.audit_cli.specs.Tracing.{Journey, LinesTrace, Traces};
+ghost use Rattle.audit_cli.specs.Tracing.{LinesTrace, Traces};
 
+use crate::refusal::{Refusal, refused};
 use crate::running::run;
 use crate::start::{answers, state};
-use crate::trace_lines::{refused_fault, refused_label, refused_line, run_lines};
+use crate::steps::{lay_out, read_listing};
+use crate::trace_lines::run_lines;
 use command_runs::Outcome;
-use label_layout::{Kind as LayoutKind, Layout, LayoutError, layout};
-use listing_parser::{Kind, Listing, ListingError, parse};
+use label_layout::Layout;
+use listing_parser::Listing;
 use std::alloc::{AllocError, Global};
 use step_ledger::{Ledger, Steps};
 use thumb_machine::{Answers, Machine, Naming};
@@ -25,30 +25,6 @@ use thumb_machine::{Answers, Machine, Naming};
 pub(crate) struct Trace<'a> {
     pub(crate) label: &'a str,
     pub(crate) most: u32,
-}
-
-/// A text is refused at a line.
-fn refuse_line(alloc: Global, number: u64, kind: Kind) -> Result<Outcome, AllocError>
-    ensures { (journey : Journey) (text : List ℕ) → IsRefused text number kind → IfOk result (λ o. Traces journey text (outcome_view o)) }
-{
-    let line = refused_line(alloc, number, kind)?;
-    Ok(Outcome::Refuses(line))
-}
-
-/// Lines are refused at one that cannot be laid out.
-fn refuse_fault(alloc: Global, number: u64, kind: LayoutKind) -> Result<Outcome, AllocError>
-    ensures { (journey : Journey) (lines : List Line) → first_fault 0 lines ≡ Some (number, fault_of kind) → IfOk result (λ o. LinesTrace journey lines (outcome_view o)) }
-{
-    let line = refused_fault(alloc, number, kind)?;
-    Ok(Outcome::Refuses(line))
-}
-
-/// Lines are refused for want of the code label.
-fn refuse_label(alloc: Global) -> Result<Outcome, AllocError>
-    ensures { (journey : Journey) (lines : List Line) → Layable 0 lines → place_of (code_of lines) journey.label ≡ None → IfOk result (λ o. LinesTrace journey lines (outcome_view o)) }
-{
-    let line = refused_label(alloc)?;
-    Ok(Outcome::Refuses(line))
 }
 
 /// Nothing is kept, and lines are printed.
@@ -94,12 +70,20 @@ fn listing_outcome(
 ) -> Result<Outcome, AllocError>
     ensures { IfOk result (λ o. LinesTrace (journey_of trace.now) listing.now (outcome_view o)) }
 {
-    match layout(alloc, listing, 0) {
-        Err(LayoutError::Memory) => return Err(AllocError),
-        Err(LayoutError::Line { number, kind }) => return refuse_fault(alloc, number, kind),
+    match lay_out(alloc, listing, 0)? {
+        Err(refusal) => {
+            let outcome = refused(alloc, refusal)?;
+            Ok(outcome)
+        }
         Ok(laid) => match listing.place_of(trace.label.as_bytes()) {
-            Some(place) => return traced(alloc, trace, listing, &laid, place),
-            None => return refuse_label(alloc),
+            None => {
+                let outcome = refused(alloc, Refusal::Label)?;
+                Ok(outcome)
+            }
+            Some(place) => {
+                let outcome = traced(alloc, trace, listing, &laid, place)?;
+                Ok(outcome)
+            }
         },
     }
 }
@@ -108,10 +92,15 @@ fn listing_outcome(
 fn outcome(alloc: Global, trace: &Trace<'_>, text: &[u8]) -> Result<Outcome, AllocError>
     ensures { IfOk result (λ o. Traces (journey_of trace.now) text.now (outcome_view o)) }
 {
-    match parse(alloc, text) {
-        Err(ListingError::Memory) => return Err(AllocError),
-        Err(ListingError::Line { number, kind }) => return refuse_line(alloc, number, kind),
-        Ok(listing) => return listing_outcome(alloc, trace, &listing),
+    match read_listing(alloc, text)? {
+        Err(refusal) => {
+            let outcome = refused(alloc, refusal)?;
+            Ok(outcome)
+        }
+        Ok(listing) => {
+            let outcome = listing_outcome(alloc, trace, &listing)?;
+            Ok(outcome)
+        }
     }
 }
 

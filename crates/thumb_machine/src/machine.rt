@@ -135,6 +135,7 @@ impl Machine {
     /// Takes a step. Where memory is refused, or more answers are needed than are left, nothing changes; an ended machine tells its end again.
     pub fn step(&mut self, answers: &mut Answers) -> Result<Stage, AllocError>
         ensures program { self.new.program ≡ self.old.program }
+        ensures kept { OnErr result (self.new.at ≡ self.old.at) }
         ensures step { (names : Names) (code : Code) → IsProgram names code self.old.program → Steps names code self.old answers.old self.new answers.new result }
     {
         let place = match self.at {
@@ -152,6 +153,7 @@ impl Machine {
         requires here { self.old.at ≡ At.Here place }
         requires row { slice_get self.old.program.rows.items place ≡ Some row }
         ensures program { self.new.program ≡ self.old.program }
+        ensures kept { OnErr result (self.new.at ≡ self.old.at) }
         ensures step { (names : Names) (code : Code) → IsProgram names code self.old.program → Steps names code self.old answers.old self.new answers.new result }
     {
         match row {

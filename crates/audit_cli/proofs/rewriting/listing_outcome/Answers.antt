@@ -1,16 +1,19 @@
 use Rattle.std.proofs.Common.{rules}
+use Rattle.listing_parser.specs.declared.errors.Kind.TheVariants as kind
 use Rattle.command_runs.specs.Outcomes.{outcome_view}
+use Rattle.audit_cli.specs.declared.refusal.Refusal.TheVariants as refusal
 use Rattle.audit_cli.specs.Destinations.{destination_of}
 use Rattle.audit_cli.specs.Straight.{AreStraight, IsFirstBad}
-use Rattle.audit_cli.proofs.RewritingLemmas.{listing_refused, in_the_form}
+use Rattle.audit_cli.specs.FirstForm.{Comes, bad_listing, in_form}
+use Rattle.audit_cli.proofs.StepLemmas.{refused_so}
 use Rattle.audit_cli.proofs.rewriting.listing_outcome.Goals as goal
 
-pub returns-in-None : goal.returns-in-None
-returns-in-None c = λ table is.
+pub returns-in_ok-outcome-in-None : goal.returns-in_ok-outcome-in-None
+returns-in_ok-outcome-in-None c = λ table is.
     let straight : AreStraight c.args.listing.now = search rules in
-    in_the_form (destination_of c.args.to.now) table c.args.listing.now c.args.entries (outcome_view c.in_ok-outcome-in-None.outcome) is straight c.in_ok-outcome-in-None.ensures
+    in_form c.args.entries is straight (outcome_view c.in_ok-outcome-in-None.outcome) c.in_ok-outcome-in-None.ensures
 
-pub returns-in-Some : goal.returns-in-Some
-returns-in-Some c = λ table is.
-    let bad : IsFirstBad c.args.listing.now c.in-Some.number = search rules in
-    listing_refused (destination_of c.args.to.now) table c.args.listing.now c.args.entries c.in-Some.number c.in_ok-line-in-Some.line.items (outcome_view c.refuses.result) is bad c.in_ok-line-in-Some.ensures c.refuses.ensures
+pub returns-in_ok-outcome-in-Some : goal.returns-in_ok-outcome-in-Some
+returns-in_ok-outcome-in-Some c = λ table is.
+    let bad : IsFirstBad c.args.listing.now c.in-Some.line = search rules in
+    refused_so (Comes (destination_of c.args.to.now) table c.args.listing.now) (refusal.Listing c.in-Some.line kind.Shape) (outcome_view c.in_ok-outcome-in-Some.outcome) c.in_ok-outcome-in-Some.ensures (bad_listing c.args.entries is c.in-Some.line bad)

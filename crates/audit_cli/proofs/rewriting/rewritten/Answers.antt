@@ -6,12 +6,12 @@ use Rattle.listing_parser.specs.Views.{line_view}
 use Rattle.audit_cli.specs.Moves.{used_view}
 use Rattle.command_runs.specs.Outcomes.{outcome_view}
 use Rattle.audit_cli.specs.Rewriting.{IsKeptIn, instruction_count}
-use Rattle.audit_cli.proofs.MovesPass.{simple_layable, simple_count}
+use Rattle.audit_cli.proofs.MovesPass.{simple_count}
 use Rattle.audit_cli.proofs.RewritingLemmas.{is_rewriting}
 use Rattle.audit_cli.proofs.rewriting.rewritten.Goals as goal
 
 pub returns : goal.returns
-returns c = λ base.
+returns c = λ base laid.
     let new = c.in_ok-new.new in
     let lines = map (λ (v : Bor Lines). line_view v.now) new.lines.items in
     let uses = c.len-replaced.ensures in
@@ -20,7 +20,7 @@ returns c = λ base.
     let after : new.instructions ≡ instruction_count lines = c.in_ok-new.ensures.count ∙ sym (simple_count lines c.in_ok-new.ensures.simple) in
     is_rewriting (record { out = c.args.out.now; image = c.args.image.now; base = base }) c.args.entries c.args.listing.now lines (map used_view new.used.items)
     (record { replaced = c.len-replaced.result; before = c.instruction_count-before.result; after = new.instructions }) (outcome_view c.in_ok-outcome.outcome) c.requires.listed
-    (simple_layable base c.args.listing.now c.requires.simple)
+    laid
     (c.in_ok-new.ensures.rewritten own_line base)
     (λ i. record { replaced = replaced i; before = before i; after = after i })
     (subst (λ (ls : List (Bor Lines)). IsKeptIn (record { out = c.args.out.now; image = c.args.image.now; base = base }) (map (λ (v : Bor Lines). line_view v.now) ls) (record { replaced = c.len-replaced.result; before = c.instruction_count-before.result; after = new.instructions }) (outcome_view c.in_ok-outcome.outcome)) c.deref.ensures.value (c.in_ok-outcome.ensures base))

@@ -1,8 +1,8 @@
 use Rattle.std.proofs.Common.{◌∙◌, ◌++◌, ◌∷◌, [], ap, sym}
 use Rattle.std.specs.Prelude.{codes}
 use Rattle.std.specs.Fmt.{decimal}
-use Rattle.audit_cli.proofs.TraceLemmas.{refused_line_is}
-use Rattle.audit_cli.proofs.trace_lines.refused_line.Goals as goal
+use Rattle.audit_cli.proofs.RefusalLemmas.{refused_line_is}
+use Rattle.audit_cli.proofs.refusal.listing_line.Goals as goal
 
 pub returns : goal.returns
 returns c =

@@ -3,8 +3,8 @@ use Rattle.std.specs.Prelude.{codes}
 use Rattle.std.specs.Fmt.{decimal, signed_decimal}
 use Rattle.std.proofs.lemmas.Int.{to_z-of_z}
 use mir.Syntax.{w64}
-use Rattle.audit_cli.proofs.TraceLemmas.{refused_range_is}
-use Rattle.audit_cli.proofs.trace_lines.refused_range.Goals as goal
+use Rattle.audit_cli.proofs.RefusalLemmas.{refused_range_is}
+use Rattle.audit_cli.proofs.refusal.range_line.Goals as goal
 
 pub returns : goal.returns
 returns c =

@@ -1,0 +1,28 @@
+-- Why runs are refused, and the lines that tell it.
+use Rattle.std.specs.Prelude.{ℕ, List, ◌++◌, codes}
+use Rattle.std.specs.Fmt.{signed_decimal}
+use Rattle.thumb_model.specs.Layout as layout
+use Rattle.listing_parser.specs.declared.errors.Kind.{Kind}
+use Rattle.listing_parser.specs.declared.errors.Kind.TheVariants as kind
+use Rattle.audit_cli.specs.declared.refusal.Refusal.{Refusal}
+use Rattle.audit_cli.specs.declared.refusal.Refusal.TheVariants as refusal
+use Rattle.audit_cli.specs.Printed.{printed, and_number}
+
+abbrev pub kind_number : Kind → ℕ
+kind_number kind.Shape = 1
+kind_number kind.Twice = 2
+kind_number kind.Target = 3
+kind_number kind.Limit = 6
+
+-- `refused table LINE`, `refused listing LINE KIND`, `refused listing LINE 4 DISTANCE`, `refused listing LINE 5 ADDRESS` and `refused label`
+abbrev pub refusal_line : Refusal → List ℕ
+refusal_line (refusal.Table line) = printed (codes "refused table" ++ and_number line)
+refusal_line (refusal.Listing line k) = printed (codes "refused listing" ++ and_number line ++ and_number (kind_number k))
+refusal_line (refusal.Range line distance) = printed (codes "refused listing" ++ and_number line ++ codes " 4 " ++ signed_decimal distance)
+refusal_line (refusal.Align line address) = printed (codes "refused listing" ++ and_number line ++ codes " 5" ++ and_number address)
+refusal_line refusal.Label = printed (codes "refused label")
+
+-- the refusal of a line that can't be laid out
+abbrev pub unlaid_refusal : ℕ → layout.Fault → Refusal
+unlaid_refusal line (layout.Range distance) = refusal.Range line distance
+unlaid_refusal line (layout.Align address) = refusal.Align line address
