@@ -7,7 +7,7 @@ with_sum() { cat "$1" "$top/bench/codes/sum.rs" | sed "s/TURNS: u32 = .*;/TURNS:
 take_crates thumb_table
 with_sum "$top/bench/codes/proved.rs" > "$work/proved.rs"
 proved=$(build_proved codes "$work/proved.rs" thumb_instr thumb_table)
-python3 "$top/bench/stripped.py" "$work/plain.rs" thumb_instr thumb_table -- seq laws items accesses window
+python3 "$top/bench/stripped.py" "$work/plain.rs" thumb_instr thumb_table -- seq laws items accesses window renaming
 with_sum "$top/bench/codes/plain.rs" >> "$work/plain.rs"
 plain=$(build_plain "$work/plain.rs")
 proved_time=$(($(least 1 "$work/proved.txt" clocked "$proved") / 1000))

@@ -3,7 +3,7 @@
 
 ghost use Rattle.std.specs.Prelude.{◌≡◌, true, IsTrue};
 ghost use Rattle.thumb_instr.specs.Window.{is_in_window};
-ghost use Rattle.thumb_model.specs.Rewrite.{named};
+ghost use Rattle.thumb_instr.specs.Renaming.{named};
 ghost use Rattle.window_steps.specs.Ready.{are_below};
 
 use std::alloc::{AllocError, Global};
