@@ -9,3 +9,5 @@ pub mod Hints
 pub mod Places
 pub mod Derived
 pub mod Learned
+pub mod Adopted
+pub mod Searches

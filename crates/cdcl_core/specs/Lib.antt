@@ -2,3 +2,4 @@ pub mod Implied
 pub mod Assumed
 pub mod Analysed
 pub mod Hinted
+pub mod Searched

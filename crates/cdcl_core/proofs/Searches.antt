@@ -1,0 +1,204 @@
+-- Decisions, and what they lead to.
+use Rattle.std.proofs.Common.{◌≡◌, ◌≢◌, ℕ, ◌+◌, ◌-◌, ◌*◌, ◌/◌, ◌<◌, ◌≤◌, ◌⊎◌, List, [], ◌∷◌, ◌++◌, length, length-append, get_or, take, map, refl, sym, ◌∙◌, ap, inl, inr, arith, Option, Some, None, subst, pos, ℤ}
+use Rattle.std.specs.Prelude.{All, AllPairs, Any, Contains, slice_get, replicate}
+use Rattle.std.proofs.lemmas.Bool.{cases_eq, cases_lt}
+use Rattle.std.proofs.lemmas.Bool.Decides.{nat_tests}
+use Rattle.std.proofs.lemmas.List.{length-map, get_or-map, take_all, take_at, take-take, length-take}
+use Rattle.std.proofs.lemmas.List.Elements.{All-nil, All-cons, All-map, All-push, All-contains, All-weaker, All-contains_itself, Contains-push, Contains-append_left, Contains-append_right, Contains-get_or}
+use Rattle.clause_model.specs.Literals.{negated, variable_of}
+use Rattle.clause_model.specs.Clauses.{IsFalse, IsUnset, IsOpen, IsConsistent}
+use Rattle.clause_model.specs.Asserting.{IsClosed, IsAsserting}
+use Rattle.clause_model.specs.Propagation.{numbered}
+use Rattle.clause_model.proofs.LiteralLaws.{negated-negated, variables_differ}
+use Rattle.clause_model.proofs.Marks.{Consistent-push, Distinct-push}
+use Rattle.clause_arena.specs.Contents.{Clause, Content, HasClause, HasLiteral, IsWhole, literals_of, literals_in, references_of}
+use Rattle.unit_propagation.specs.Watching.{IsLater, IsReason, IsOtherTrue, Rule, RuleUpTo}
+use Rattle.unit_propagation.proofs.Heads.{length_below}
+use Rattle.lrat_check.specs.declared.line.Addition.{Addition}
+use Rattle.cdcl_core.specs.Implied.{clauses_of, IsConflict, IsJustified, IsCovered, IsGround, Level, level_of}
+use Rattle.cdcl_core.specs.Assumed.{IsAssumed}
+use Rattle.cdcl_core.specs.Analysed.{AtConflict}
+use Rattle.cdcl_core.specs.Hinted.{HasReasons, RefutesTidily, TidyPropagation}
+use Rattle.cdcl_core.specs.Searched.{IsBase, IsModelOf, Adds}
+use Rattle.cdcl_core.proofs.Lists.{nothing_in}
+use Rattle.cdcl_core.proofs.Grounds.{found_at, ground_assumed, ground_later, ground_closed, justified_assumed, justified_later, justified_more}
+use Rattle.cdcl_core.proofs.Refuted.{ground_forces}
+
+-- literals of distinct variables are as many as these at most
+pub count_variables : (variables : ℕ) (trail : List ℕ) → IsConsistent trail → AllPairs (λ l m. l ≢ m) trail → All (λ l. l < 2 * variables) trail → length trail ≤ variables
+count_variables variables trail c d h =
+    let b : length (map variable_of trail) ≤ variables = length_below variables (map variable_of trail) apart (All-map (λ v. v < variables) variable_of trail (All-weaker (λ l. l < 2 * variables) (λ l. variable_of l < variables) (λ l k. omega (arith, k)) trail h)) in
+    omega (arith, b, length-map trail variable_of)
+  where
+    apart : AllPairs (λ v w. v ≢ w) (map variable_of trail)
+    apart i j e lt b =
+        let bj : j < length trail = omega (arith, b, length-map trail variable_of) in
+        let bi : i < length trail = omega arith in
+        let l : ℕ = get_or trail i 0 in
+        let m : ℕ = get_or trail j 0 in
+        let p : get_or (map variable_of trail) i e ≡ variable_of l = get_or-map variable_of trail i 0 e bi in
+        let q : get_or (map variable_of trail) j e ≡ variable_of m = get_or-map variable_of trail j 0 e bj in
+        let n : variable_of l ≢ variable_of m = variables_differ l m (d i j 0 lt bj) (λ f. c m (Contains-get_or trail j 0 bj) (subst (Contains trail) f (Contains-get_or trail i 0 bi))) in
+        λ same. n (sym p ∙ (same ∙ q))
+
+-- with an unset literal there are fewer
+pub room_for : (variables : ℕ) (trail : List ℕ) (l : ℕ) → IsConsistent trail → AllPairs (λ l m. l ≢ m) trail → All (λ l. l < 2 * variables) trail → IsUnset trail l → l < 2 * variables → length trail < variables
+room_for variables trail l c d h u b =
+    let n : length (trail ++ l ∷ []) ≤ variables = count_variables variables (trail ++ l ∷ []) (Consistent-push trail l u c) (Distinct-push trail l u.0 d) (All-push (λ x. x < 2 * variables) trail l h b) in
+    omega (arith, n, length-append trail (l ∷ []))
+
+-- a variable is set where its negative literal isn't unset
+pub unset_with : (trail : List ℕ) (v x l : ℕ) → l ≡ 2 * v + 1 → 2 * v ≤ x → x < 2 * (v + 1) → IsUnset trail x → IsUnset trail l
+unset_with trail v x l e a b u = elim (cases_eq x l) [
+  | inl f ↦ subst (IsUnset trail) f u
+  | inr n ↦
+      let g : x ≡ 2 * v = omega (arith, a, b, e) in
+      let p : negated x ≡ l = even v x l e g in
+      let q : negated l ≡ x = ap negated (sym p) ∙ negated-negated x in
+      ((λ c. u.1 (subst (Contains trail) (sym p) c)), (λ c. u.0 (subst (Contains trail) q c)))
+]
+  where
+    even : (v x l : ℕ) → l ≡ 2 * v + 1 → x ≡ 2 * v → negated x ≡ l
+    even v x l e g = rw (e, g) (grind (arith, nat_tests))
+
+-- what holds at each decision
+pub record Deciding (level : Level) (content : Content) (reasons : List (Option ℕ)) (trail : List ℕ) : Type 0 where
+  pub ground : IsGround level content reasons trail
+  pub rule : Rule content trail
+  pub denied : List ℕ
+  pub justified : IsJustified content denied reasons trail
+
+pub deciding_begun : (clauses : List (List ℕ)) (size : ℕ) (content : Content) (refs : List ℕ) (reasons : List (Option ℕ)) (trail : List ℕ) (low : ℕ) → IsBase clauses size content refs reasons trail None → Rule content trail → low ≡ length trail → Deciding (level_of content trail low) content reasons trail
+deciding_begun clauses size content refs reasons trail low b rule e =
+    let t : take low trail ≡ trail = take_all low trail (omega (arith, e)) in
+    let r : take low reasons ≡ reasons = take_all low reasons (omega (arith, e, b.justified.aligned)) in
+    record {
+      ground = record {
+        clauses = refl;
+        references = refl;
+        size = refl;
+        within = omega (arith, e);
+        base = refl;
+        attached = b.attached;
+        known = b.known;
+        literals = b.literals;
+        aligned = b.justified.aligned;
+        covered = subst (IsCovered content) (sym t) (b.covered refl);
+        rule = subst (Rule content) (sym t) rule;
+        justified = rw (t, r) b.justified;
+      };
+      rule = rule;
+      denied = [];
+      justified = b.justified;
+    }
+
+-- where no literal is unset, each clause is true
+pub model_of : (level : Level) (content : Content) (reasons : List (Option ℕ)) (trail : List ℕ) → Deciding level content reasons trail → IsWhole content → IsConsistent trail → ((l : ℕ) → l < length content.chains → IsUnset trail l → ⊥) → IsModelOf level.clauses trail
+model_of level content reasons trail d whole consistent none = record {
+  consistent = consistent;
+  holds = subst (λ (cs : List (List ℕ)). All (λ clause. Any (Contains trail) clause) cs) d.ground.clauses (All-map (λ clause. Any (Contains trail) clause) (λ (c : Clause). c.literals) content.clauses (λ k e b.
+      let c : Clause = get_or content.clauses k e in
+      let f : literals_of content c.at ≡ c.literals = ap literals_in (found_at content.clauses k e whole.apart b) in
+      let n : k < length (clauses_of content) = omega (arith, b, length-map content.clauses (λ (x : Clause). x.literals)) in
+      let m : k < length (references_of content) = omega (arith, b, length-map content.clauses (λ (x : Clause). x.at)) in
+      let h : HasClause content c.at = (k, m, get_or-map (λ (x : Clause). x.at) content.clauses k e c.at b) in
+      let all : All (IsOpen trail) (clauses_of content) = subst (λ (cs : List (List ℕ)). All (IsOpen trail) cs) (sym d.ground.clauses) (ground_closed level content reasons trail d.ground whole d.rule) in
+      let o : IsOpen trail c.literals = subst (IsOpen trail) (get_or-map (λ (x : Clause). x.literals) content.clauses k e [] b) (all k [] n) in
+      elim o [
+        | inl t ↦ t
+        | inr w ↦ absurd (none w.0 (d.ground.known.literals c.at w.0 h (subst (λ (ls : List ℕ). Contains ls w.0) (sym f) w.2.first)) w.2.first_unset)
+      ]));
+}
+
+-- a decision, and what follows
+module _ (level : Level) (content : Content) (reasons : List (Option ℕ)) (trail : List ℕ) (d : Deciding level content reasons trail) (l : ℕ) (known : HasLiteral content l) (reasons1 : List (Option ℕ)) (trail1 : List ℕ) (er : reasons1 ≡ reasons ++ None ∷ []) (et : trail1 ≡ trail ++ l ∷ []) where
+  assumed : IsAssumed (negated l ∷ []) reasons trail reasons1 trail1
+  assumed = record {
+    added = l ∷ [];
+    trail = et;
+    unexplained = er;
+    within = All-cons (λ t. Contains (negated l ∷ []) (negated t)) l [] (0, omega arith, refl) (All-nil (λ t. Contains (negated l ∷ []) (negated t)));
+    falsified = All-cons (IsFalse trail1) (negated l) [] (subst (Contains trail1) (sym (negated-negated l)) (rw et (Contains-push trail l))) (All-nil (IsFalse trail1));
+  }
+
+  pub decided_ground : IsGround level content reasons1 trail1
+  decided_ground = ground_assumed level content reasons trail d.ground (negated l ∷ []) reasons1 trail1 assumed (rw et (All-push (HasLiteral content) trail l d.ground.literals known))
+
+  pub decided_rule : (start : ℕ) → start ≡ length trail → RuleUpTo content (take start trail1) trail1
+  decided_rule start e at slot m w c =
+      let t : take start trail1 ≡ trail = ap (λ (xs : List ℕ). take start xs) et ∙ take_at trail (l ∷ []) start (sym e) in
+      let o : IsOtherTrue content trail at slot = d.rule at slot m w (subst (λ (xs : List ℕ). Contains xs (negated m)) t c) in
+      (o.0, (o.1.0, subst (λ (xs : List ℕ). Contains xs o.0) (sym et) (Contains-append_left trail (l ∷ []) o.0 o.1.1)))
+
+  denied : List ℕ
+  denied = d.denied ++ negated l ∷ []
+
+  decided_justified : IsJustified content denied reasons1 trail1
+  unfolding denied
+  decided_justified = justified_assumed content denied (negated l ∷ []) reasons reasons1 trail trail1
+      (justified_more content d.denied denied reasons trail (All-weaker (Contains d.denied) (Contains denied) (λ x p. Contains-append_left d.denied (negated l ∷ []) x p) d.denied (All-contains_itself d.denied)) d.justified)
+      assumed (All-weaker (Contains (negated l ∷ [])) (Contains denied) (λ x p. Contains-append_right d.denied (negated l ∷ []) x p) (negated l ∷ []) (All-contains_itself (negated l ∷ [])))
+
+  module _ (content' : Content) (reasons' : List (Option ℕ)) (trail' : List ℕ) (f : IsLater content trail1 reasons1 content' trail' reasons') where
+    pub later_ground : IsGround level content' reasons' trail'
+    later_ground = ground_later level content reasons1 trail1 decided_ground content' reasons' trail' f
+
+    pub deciding_later : Rule content' trail' → Deciding level content' reasons' trail'
+    deciding_later r = record {
+      ground = later_ground;
+      rule = r;
+      denied = denied;
+      justified = justified_later content content' denied reasons1 reasons' trail1 trail' decided_justified f;
+    }
+
+    longer : length trail1 ≡ length trail + 1
+    longer = ap length et ∙ length-append trail (l ∷ [])
+
+    pub at_conflict : (start at : ℕ) → start ≡ length trail → IsWhole content → IsConflict content' trail' at → AtConflict content' reasons' trail' level.low start at
+    at_conflict start at e whole w = record {
+      aligned = f.aligned;
+      because = (justified_later content content' denied reasons1 reasons' trail1 trail' decided_justified f).because;
+      later = λ k a b z.
+          let n : length trail1 ≤ k = omega (arith, longer, e, a) in
+          let m : k < length trail' = omega (arith, b, f.aligned) in
+          let y = f.because k n m in
+          let q : Some (Some y.0) ≡ Some None = sym y.1 ∙ z in
+          absurd cc;
+      closed =
+          let t : take start trail' ≡ trail = sym (take-take start (length trail1) trail' (omega (arith, longer, e))) ∙ (ap (λ (xs : List ℕ). take start xs) (f.prefix ∙ et) ∙ take_at trail (l ∷ []) start (sym e)) in
+          rw t (subst (λ (cs : List (List ℕ)). IsClosed cs trail) (sym later_ground.clauses) (ground_closed level content reasons trail d.ground whole d.rule));
+      falsified = w;
+      order = omega (arith, d.ground.within, e);
+      forced = λ a p o. rw (later_ground.base) (ground_forces level content' reasons' trail' later_ground a p (subst (λ (cs : List (List ℕ)). IsClosed cs a) later_ground.clauses o));
+    }
+
+-- a false clause before any decision
+pub base_reasons : (clauses : List (List ℕ)) (size : ℕ) (content : Content) (refs : List ℕ) (reasons : List (Option ℕ)) (trail : List ℕ) (at : ℕ) → IsBase clauses size content refs reasons trail (Some at) → HasReasons content reasons trail [] at
+base_reasons clauses size content refs reasons trail at b = record {
+  aligned = b.justified.aligned;
+  because = b.justified.because;
+  given = λ k e. absurd (nothing_in (negated (get_or trail k 0)) (b.justified.given k e));
+  proper = λ k r e c. nothing_in (get_or trail k 0) c;
+  part = All-nil (Contains trail);
+  falsified = b.falsified at refl;
+}
+
+pub tidy_empty : (live : ℕ → Option (List ℕ)) (literals hints : List ℕ) → literals ≡ [] → RefutesTidily live [] hints → TidyPropagation live literals hints
+tidy_empty live literals hints e r = rw e r
+
+pub adds_line : (clauses clauses' : List (List ℕ)) (line : Addition) (id : ℕ) → line.id ≡ id → id ≡ length clauses + 1 → clauses' ≡ clauses → ((hints : List ℕ) × (line.hints.items ≡ map pos hints) × TidyPropagation (numbered clauses') line.literals.items hints) → Adds clauses line
+adds_line clauses clauses' line id e f g w = record {
+  id = e ∙ f;
+  hints = w.0;
+  hints_are = w.1;
+  tidy = subst (λ (cs : List (List ℕ)). TidyPropagation (numbered cs) line.literals.items w.0) g w.2;
+}
+
+pub bounded_by : (level : Level) (content : Content) (reasons : List (Option ℕ)) (trail : List ℕ) (bound : ℕ) → IsGround level content reasons trail → level.size ≡ bound → All (λ l. l < bound) trail
+bounded_by level content reasons trail bound g e = All-weaker (HasLiteral content) (λ l. l < bound) (λ l b. omega (arith, b, e, g.size)) trail g.literals
+
+pub known_below : (level : Level) (content : Content) (reasons : List (Option ℕ)) (trail : List ℕ) (bound l : ℕ) → IsGround level content reasons trail → level.size ≡ bound → l < bound → HasLiteral content l
+known_below level content reasons trail bound l g e b = omega (arith, b, e, g.size)
+
+pub below_bound : (level : Level) (content : Content) (reasons : List (Option ℕ)) (trail : List ℕ) (bound l : ℕ) → IsGround level content reasons trail → level.size ≡ bound → HasLiteral content l → l < bound
+below_bound level content reasons trail bound l g e b = omega (arith, b, e, g.size)

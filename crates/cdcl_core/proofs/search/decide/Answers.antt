@@ -1,0 +1,63 @@
+use Rattle.std.proofs.Common.{◌≡◌, ℕ, ◌+◌, ◌*◌, ◌<◌, ◌≤◌, List, length, refl, sym, ◌∙◌, subst, arith, ap, length-append, [], ◌∷◌}
+use Rattle.clause_model.specs.Asserting.{IsAsserting}
+use Rattle.cdcl_core.specs.Implied.{clauses_of, level_of}
+use Rattle.cdcl_core.proofs.Grounds.{ground_again, ground_onto}
+use Rattle.cdcl_core.proofs.Learned.{known_there}
+use Rattle.cdcl_core.proofs.Adopted.{base_back}
+use Rattle.cdcl_core.proofs.Searches.{deciding_begun, model_of, decided_ground, decided_rule, later_ground, deciding_later, at_conflict, adds_line, count_variables, bounded_by, known_below, below_bound}
+use Rattle.cdcl_core.proofs.search.decide.Goals as goal
+
+pub deciding-init : goal.deciding-init
+deciding-init g c = (deciding_begun (clauses_of c.args.arena.now) (length c.args.arena.now.chains) c.args.arena.now c.args.refs.now c.args.reasons.now.items c.args.trail.now c.len-low.result c.requires.base c.requires.rule c.len-low.ensures.value, omega arith)
+
+pub pick-requires-clause-bounded : goal.pick-requires-clause-bounded
+pick-requires-clause-bounded g c = bounded_by (level_of c.args.arena.now c.args.trail.now c.len-low.result) c.deciding.arena c.deciding.reasons.items c.deciding.trail (2 * c.args.variables) c.deciding.invariant.0.ground c.requires.size
+
+pub returns-in-None-clause-ends : goal.returns-in-None-clause-ends
+returns-in-None-clause-ends g c = model_of (level_of c.args.arena.now c.args.trail.now c.len-low.result) c.deciding.arena c.deciding.reasons.items c.deciding.trail c.deciding.invariant.0 c.literals-literals.ensures.whole c.len-start.ensures.consistent (λ l b u. c.in-None.ensures.none refl l (below_bound (level_of c.args.arena.now c.args.trail.now c.len-low.result) c.deciding.arena c.deciding.reasons.items c.deciding.trail (2 * c.args.variables) l c.deciding.invariant.0.ground c.requires.size b) u)
+
+pub returns-in-None-clause-cost : goal.returns-in-None-clause-cost
+returns-in-None-clause-cost g c =
+    let b : length c.deciding.trail ≤ c.args.variables = count_variables c.args.variables c.deciding.trail c.len-start.ensures.consistent c.len-start.ensures.distinct (bounded_by (level_of c.args.arena.now c.args.trail.now c.len-low.result) c.deciding.arena c.deciding.reasons.items c.deciding.trail (2 * c.args.variables) c.deciding.invariant.0.ground c.requires.size) in
+    omega (arith, b, c.deciding.invariant.1)
+
+pub propagate-requires-clause-aligned : goal.propagate-requires-clause-aligned
+propagate-requires-clause-aligned g c = (decided_ground (level_of c.args.arena.now c.args.trail.now c.len-low.result) c.deciding.arena c.deciding.reasons.items c.deciding.trail c.deciding.invariant.0 c.in-Some.literal (known_below (level_of c.args.arena.now c.args.trail.now c.len-low.result) c.deciding.arena c.deciding.reasons.items c.deciding.trail (2 * c.args.variables) c.in-Some.literal c.deciding.invariant.0.ground c.requires.size c.in-Some.ensures.some.1) c.push.new.self.items c.set.new.self c.in_ok-push-in-Some.ensures.items c.in_ok-set-in-Some.ensures.ok).aligned
+
+pub propagate-requires-clause-attached : goal.propagate-requires-clause-attached
+propagate-requires-clause-attached g c = (decided_ground (level_of c.args.arena.now c.args.trail.now c.len-low.result) c.deciding.arena c.deciding.reasons.items c.deciding.trail c.deciding.invariant.0 c.in-Some.literal (known_below (level_of c.args.arena.now c.args.trail.now c.len-low.result) c.deciding.arena c.deciding.reasons.items c.deciding.trail (2 * c.args.variables) c.in-Some.literal c.deciding.invariant.0.ground c.requires.size c.in-Some.ensures.some.1) c.push.new.self.items c.set.new.self c.in_ok-push-in-Some.ensures.items c.in_ok-set-in-Some.ensures.ok).attached
+
+pub propagate-requires-clause-known : goal.propagate-requires-clause-known
+propagate-requires-clause-known g c = (decided_ground (level_of c.args.arena.now c.args.trail.now c.len-low.result) c.deciding.arena c.deciding.reasons.items c.deciding.trail c.deciding.invariant.0 c.in-Some.literal (known_below (level_of c.args.arena.now c.args.trail.now c.len-low.result) c.deciding.arena c.deciding.reasons.items c.deciding.trail (2 * c.args.variables) c.in-Some.literal c.deciding.invariant.0.ground c.requires.size c.in-Some.ensures.some.1) c.push.new.self.items c.set.new.self c.in_ok-push-in-Some.ensures.items c.in_ok-set-in-Some.ensures.ok).known
+
+pub propagate-requires-clause-literals : goal.propagate-requires-clause-literals
+propagate-requires-clause-literals g c = (decided_ground (level_of c.args.arena.now c.args.trail.now c.len-low.result) c.deciding.arena c.deciding.reasons.items c.deciding.trail c.deciding.invariant.0 c.in-Some.literal (known_below (level_of c.args.arena.now c.args.trail.now c.len-low.result) c.deciding.arena c.deciding.reasons.items c.deciding.trail (2 * c.args.variables) c.in-Some.literal c.deciding.invariant.0.ground c.requires.size c.in-Some.ensures.some.1) c.push.new.self.items c.set.new.self c.in_ok-push-in-Some.ensures.items c.in_ok-set-in-Some.ensures.ok).literals
+
+pub propagate-requires-clause-rule : goal.propagate-requires-clause-rule
+propagate-requires-clause-rule g c = decided_rule (level_of c.args.arena.now c.args.trail.now c.len-low.result) c.deciding.arena c.deciding.reasons.items c.deciding.trail c.deciding.invariant.0 c.in-Some.literal (known_below (level_of c.args.arena.now c.args.trail.now c.len-low.result) c.deciding.arena c.deciding.reasons.items c.deciding.trail (2 * c.args.variables) c.in-Some.literal c.deciding.invariant.0.ground c.requires.size c.in-Some.ensures.some.1) c.push.new.self.items c.set.new.self c.in_ok-push-in-Some.ensures.items c.in_ok-set-in-Some.ensures.ok c.len-start.result c.len-start.ensures.value
+
+pub deciding-preserved : goal.deciding-preserved
+deciding-preserved g c =
+    let n : length c.set.new.self ≡ length c.deciding.trail + 1 = ap length c.in_ok-set-in-Some.ensures.ok ∙ length-append c.deciding.trail (c.in-Some.literal ∷ []) in
+    (deciding_later (level_of c.args.arena.now c.args.trail.now c.len-low.result) c.deciding.arena c.deciding.reasons.items c.deciding.trail c.deciding.invariant.0 c.in-Some.literal (known_below (level_of c.args.arena.now c.args.trail.now c.len-low.result) c.deciding.arena c.deciding.reasons.items c.deciding.trail (2 * c.args.variables) c.in-Some.literal c.deciding.invariant.0.ground c.requires.size c.in-Some.ensures.some.1) c.push.new.self.items c.set.new.self c.in_ok-push-in-Some.ensures.items c.in_ok-set-in-Some.ensures.ok c.propagate.new.arena c.propagate.new.reasons.items c.propagate.new.assignment c.in_ok-propagate-in-Some.ensures.later (c.in_ok-propagate-in-Some.ensures.done c.in-None-2.is), omega (arith, n, c.tick.ensures, c.deciding.invariant.1, c.in_ok-propagate-in-Some.ensures.later.longer))
+
+pub learn-requires-clause-ground : goal.learn-requires-clause-ground
+learn-requires-clause-ground g c = ground_again (level_of c.args.arena.now c.args.trail.now c.len-low.result) c.propagate.new.arena c.propagate.new.reasons.items c.propagate.new.assignment (later_ground (level_of c.args.arena.now c.args.trail.now c.len-low.result) c.deciding.arena c.deciding.reasons.items c.deciding.trail c.deciding.invariant.0 c.in-Some.literal (known_below (level_of c.args.arena.now c.args.trail.now c.len-low.result) c.deciding.arena c.deciding.reasons.items c.deciding.trail (2 * c.args.variables) c.in-Some.literal c.deciding.invariant.0.ground c.requires.size c.in-Some.ensures.some.1) c.push.new.self.items c.set.new.self c.in_ok-push-in-Some.ensures.items c.in_ok-set-in-Some.ensures.ok c.propagate.new.arena c.propagate.new.reasons.items c.propagate.new.assignment c.in_ok-propagate-in-Some.ensures.later)
+
+pub learn-requires-clause-conflict : goal.learn-requires-clause-conflict
+learn-requires-clause-conflict g c = at_conflict (level_of c.args.arena.now c.args.trail.now c.len-low.result) c.deciding.arena c.deciding.reasons.items c.deciding.trail c.deciding.invariant.0 c.in-Some.literal (known_below (level_of c.args.arena.now c.args.trail.now c.len-low.result) c.deciding.arena c.deciding.reasons.items c.deciding.trail (2 * c.args.variables) c.in-Some.literal c.deciding.invariant.0.ground c.requires.size c.in-Some.ensures.some.1) c.push.new.self.items c.set.new.self c.in_ok-push-in-Some.ensures.items c.in_ok-set-in-Some.ensures.ok c.propagate.new.arena c.propagate.new.reasons.items c.propagate.new.assignment c.in_ok-propagate-in-Some.ensures.later c.len-start.result c.in-Some-2.conflict c.len-start.ensures.value c.literals-literals.ensures.whole (c.in_ok-propagate-in-Some.ensures.conflict c.in-Some-2.conflict c.in-Some-2.is)
+
+pub learn-requires-clause-refs : goal.learn-requires-clause-refs
+learn-requires-clause-refs g c = c.requires.base.numbered_by ∙ sym (later_ground (level_of c.args.arena.now c.args.trail.now c.len-low.result) c.deciding.arena c.deciding.reasons.items c.deciding.trail c.deciding.invariant.0 c.in-Some.literal (known_below (level_of c.args.arena.now c.args.trail.now c.len-low.result) c.deciding.arena c.deciding.reasons.items c.deciding.trail (2 * c.args.variables) c.in-Some.literal c.deciding.invariant.0.ground c.requires.size c.in-Some.ensures.some.1) c.push.new.self.items c.set.new.self c.in_ok-push-in-Some.ensures.items c.in_ok-set-in-Some.ensures.ok c.propagate.new.arena c.propagate.new.reasons.items c.propagate.new.assignment c.in_ok-propagate-in-Some.ensures.later).references
+
+pub returns-in-Some-2-clause-ends : goal.returns-in-Some-2-clause-ends
+returns-in-Some-2-clause-ends g c = (
+  adds_line (clauses_of c.args.arena.now) (clauses_of c.propagate.new.arena) c.in_ok-line-in-Some-2.line c.args.id c.in_ok-line-in-Some-2.ensures.id c.requires.id (later_ground (level_of c.args.arena.now c.args.trail.now c.len-low.result) c.deciding.arena c.deciding.reasons.items c.deciding.trail c.deciding.invariant.0 c.in-Some.literal (known_below (level_of c.args.arena.now c.args.trail.now c.len-low.result) c.deciding.arena c.deciding.reasons.items c.deciding.trail (2 * c.args.variables) c.in-Some.literal c.deciding.invariant.0.ground c.requires.size c.in-Some.ensures.some.1) c.push.new.self.items c.set.new.self c.in_ok-push-in-Some.ensures.items c.in_ok-set-in-Some.ensures.ok c.propagate.new.arena c.propagate.new.reasons.items c.propagate.new.assignment c.in_ok-propagate-in-Some.ensures.later).clauses c.in_ok-line-in-Some-2.ensures.tidy,
+  subst (λ (cs : List (List ℕ)). IsAsserting cs c.in_ok-line-in-Some-2.line.literals.items) (later_ground (level_of c.args.arena.now c.args.trail.now c.len-low.result) c.deciding.arena c.deciding.reasons.items c.deciding.trail c.deciding.invariant.0 c.in-Some.literal (known_below (level_of c.args.arena.now c.args.trail.now c.len-low.result) c.deciding.arena c.deciding.reasons.items c.deciding.trail (2 * c.args.variables) c.in-Some.literal c.deciding.invariant.0.ground c.requires.size c.in-Some.ensures.some.1) c.push.new.self.items c.set.new.self c.in_ok-push-in-Some.ensures.items c.in_ok-set-in-Some.ensures.ok c.propagate.new.arena c.propagate.new.reasons.items c.propagate.new.assignment c.in_ok-propagate-in-Some.ensures.later).clauses c.in_ok-line-in-Some-2.ensures.asserting,
+)
+
+pub returns-in-Some-2-clause-goes_on : goal.returns-in-Some-2-clause-goes_on
+returns-in-Some-2-clause-goes_on g c = (
+  base_back (level_of c.args.arena.now c.args.trail.now c.len-low.result) c.learn.new.arena c.learn.new.reasons.items c.back.new.reasons.items c.learn.new.trail c.back.new.trail c.args.refs.now (ground_onto (level_of c.args.arena.now c.args.trail.now c.len-low.result) c.propagate.new.arena c.propagate.new.reasons.items c.propagate.new.assignment (later_ground (level_of c.args.arena.now c.args.trail.now c.len-low.result) c.deciding.arena c.deciding.reasons.items c.deciding.trail c.deciding.invariant.0 c.in-Some.literal (known_below (level_of c.args.arena.now c.args.trail.now c.len-low.result) c.deciding.arena c.deciding.reasons.items c.deciding.trail (2 * c.args.variables) c.in-Some.literal c.deciding.invariant.0.ground c.requires.size c.in-Some.ensures.some.1) c.push.new.self.items c.set.new.self c.in_ok-push-in-Some.ensures.items c.in_ok-set-in-Some.ensures.ok c.propagate.new.arena c.propagate.new.reasons.items c.propagate.new.assignment c.in_ok-propagate-in-Some.ensures.later) c.learn.new.arena c.learn.new.reasons.items c.learn.new.trail c.in_ok-line-in-Some-2.ensures.ground) c.requires.base.numbered_by c.back.ensures.trail c.back.ensures.reasons,
+  known_there (level_of c.args.arena.now c.args.trail.now c.len-low.result) c.learn.new.arena c.propagate.new.arena c.propagate.new.reasons.items c.propagate.new.assignment c.in_ok-line-in-Some-2.line.literals.items (later_ground (level_of c.args.arena.now c.args.trail.now c.len-low.result) c.deciding.arena c.deciding.reasons.items c.deciding.trail c.deciding.invariant.0 c.in-Some.literal (known_below (level_of c.args.arena.now c.args.trail.now c.len-low.result) c.deciding.arena c.deciding.reasons.items c.deciding.trail (2 * c.args.variables) c.in-Some.literal c.deciding.invariant.0.ground c.requires.size c.in-Some.ensures.some.1) c.push.new.self.items c.set.new.self c.in_ok-push-in-Some.ensures.items c.in_ok-set-in-Some.ensures.ok c.propagate.new.arena c.propagate.new.reasons.items c.propagate.new.assignment c.in_ok-propagate-in-Some.ensures.later) (ground_onto (level_of c.args.arena.now c.args.trail.now c.len-low.result) c.propagate.new.arena c.propagate.new.reasons.items c.propagate.new.assignment (later_ground (level_of c.args.arena.now c.args.trail.now c.len-low.result) c.deciding.arena c.deciding.reasons.items c.deciding.trail c.deciding.invariant.0 c.in-Some.literal (known_below (level_of c.args.arena.now c.args.trail.now c.len-low.result) c.deciding.arena c.deciding.reasons.items c.deciding.trail (2 * c.args.variables) c.in-Some.literal c.deciding.invariant.0.ground c.requires.size c.in-Some.ensures.some.1) c.push.new.self.items c.set.new.self c.in_ok-push-in-Some.ensures.items c.in_ok-set-in-Some.ensures.ok c.propagate.new.arena c.propagate.new.reasons.items c.propagate.new.assignment c.in_ok-propagate-in-Some.ensures.later) c.learn.new.arena c.learn.new.reasons.items c.learn.new.trail c.in_ok-line-in-Some-2.ensures.ground).size c.in_ok-line-in-Some-2.ensures.known,
+)

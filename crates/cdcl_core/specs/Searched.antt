@@ -1,0 +1,48 @@
+-- What a search begins with, and how it ends.
+use Rattle.std.specs.Prelude.{ℕ, ℤ, pos, ◌≡◌, ◌+◌, List, [], ◌∷◌, ◌++◌, All, Any, Contains, Option, Some, None, map, length}
+use Rattle.clause_model.specs.Clauses.{IsConsistent}
+use Rattle.clause_model.specs.Asserting.{IsAsserting}
+use Rattle.clause_model.specs.Propagation.{numbered}
+use Rattle.clause_arena.specs.Contents.{Content, HasLiteral, references_of}
+use Rattle.unit_propagation.specs.Watching.{IsAttached, IsKnown}
+use Rattle.lrat_check.specs.declared.line.Addition.{Addition}
+use Rattle.cdcl_core.specs.declared.search.Ending.{Ending}
+use Rattle.cdcl_core.specs.declared.search.Ending.TheVariants.{Model, Refuted, Taught}
+use Rattle.cdcl_core.specs.Implied.{clauses_of, IsConflict, IsJustified, IsCovered}
+use Rattle.cdcl_core.specs.Hinted.{TidyPropagation}
+
+-- the arena has the clauses; what is true follows from them, and either a clause is false, or each watches two literals or has a true one
+pub record IsBase (clauses : List (List ℕ)) (size : ℕ) (content : Content) (references : List ℕ) (reasons : List (Option ℕ)) (trail : List ℕ) (conflict : Option ℕ) : Type 0 where
+  pub clauses_are : clauses_of content ≡ clauses
+  pub size_is : length content.chains ≡ size
+  pub numbered_by : references ≡ references_of content
+  pub attached : IsAttached content
+  pub known : IsKnown content
+  pub literals : All (HasLiteral content) trail
+  pub justified : IsJustified content [] reasons trail
+  pub covered : conflict ≡ None → IsCovered content trail
+  pub falsified : (at : ℕ) → conflict ≡ Some at → IsConflict content trail at
+
+-- each clause has a literal that is true
+pub record IsModelOf (clauses : List (List ℕ)) (a : List ℕ) : Type 0 where
+  pub consistent : IsConsistent a
+  pub holds : All (λ clause. Any (Contains a) clause) clauses
+
+-- a line adds these literals under the number after those of the clauses, by hints with none to spare
+pub record Adds (clauses : List (List ℕ)) (line : Addition) : Type 0 where
+  pub id : line.id ≡ length clauses + 1
+  pub hints : List ℕ
+  pub hints_are : line.hints.items ≡ map pos hints
+  pub tidy : TidyPropagation (numbered clauses) line.literals.items hints
+
+-- a model, the empty clause, or an asserting clause
+abbrev pub EndsAs : List (List ℕ) → List ℕ → Ending → Type 0
+EndsAs clauses a Model = IsModelOf clauses a
+EndsAs clauses a (Refuted line) = Adds clauses line × (line.literals.items ≡ [])
+EndsAs clauses a (Taught line) = Adds clauses line × IsAsserting clauses line.literals.items
+
+-- after a clause was taught, the search may begin anew; its literals are the arena's
+abbrev pub GoesOn : List (List ℕ) → ℕ → Content → List ℕ → List (Option ℕ) → List ℕ → Ending → Type 0
+GoesOn clauses size content references reasons trail Model = Unit {0}
+GoesOn clauses size content references reasons trail (Refuted line) = Unit {0}
+GoesOn clauses size content references reasons trail (Taught line) = IsBase clauses size content references reasons trail None × All (HasLiteral content) line.literals.items
