@@ -6,3 +6,4 @@ pub mod Bounds
 pub mod Mnemonics
 pub mod Words
 pub mod Pairs
+pub mod Steps

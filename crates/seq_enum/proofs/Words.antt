@@ -12,7 +12,7 @@ use Rattle.std.proofs.lemmas.Bool.Decides.{leb_tells}
 use Rattle.thumb_instr.specs.declared.instr.Instr.{Instr}
 use Rattle.seq_enum.specs.Lists.{IsPlace, numbers_from}
 use Rattle.seq_enum.specs.Places.{sum_below}
-use Rattle.seq_enum.specs.Alphabet.{words, sequences, alphabet}
+use Rattle.seq_enum.specs.Alphabet.{words, sequences, sequences_of, alphabet}
 use Rattle.seq_enum.proofs.Numbered.{length-flat_map-even, get-flat_map-digits, IsPlace-flat_map, IsPlace-map, IsPlace-lists, flat_map_at, get_front, get_back, numbers_at, length-numbers, piece_here, piece_later}
 
 pub length-words : (letters : List Instr) (n : ℕ) → length (words letters n) ≡ length letters ^ n
@@ -117,26 +117,45 @@ pub ruleset sums = (power_small, power_fits, sum_below-more, sum_below-none)
 number_here : (n : ℕ) → n < 6 → get_or (numbers_from 0 6) n 0 ≡ n
 number_here n h = get_or_from_slice_get (numbers_from 0 6) n n 0 (numbers_at 0 6 n h ∙ ap Some (omega arith))
 
-pub seq_here : (k : ℕ) (pool : List ℕ) (n left : ℕ) → n < 6 → left < length (alphabet k pool) ^ n
-    → slice_get (flat_map (words (alphabet k pool)) (drop n (numbers_from 0 6))) left ≡ slice_get (words (alphabet k pool) n) left
-seq_here k pool n left h low =
+pub word_here : (letters : List Instr) (n left : ℕ) → n < 6 → left < length letters ^ n
+    → slice_get (flat_map (words letters) (drop n (numbers_from 0 6))) left ≡ slice_get (words letters n) left
+word_here letters n left h low =
     let at : get_or (numbers_from 0 6) n 0 ≡ n = number_here n h in
     let within : n < length (numbers_from 0 6) = omega (arith, length-numbers 0 6) in
-    let fits : left < length (words (alphabet k pool) (get_or (numbers_from 0 6) n 0)) = rw at (rw length-words low) in
-    piece_here (words (alphabet k pool)) (numbers_from 0 6) n left 0 within fits ∙ ap (λ m. slice_get (words (alphabet k pool) m) left) at
+    let fits : left < length (words letters (get_or (numbers_from 0 6) n 0)) = rw at (rw length-words low) in
+    piece_here (words letters) (numbers_from 0 6) n left 0 within fits ∙ ap (λ m. slice_get (words letters m) left) at
+
+pub word_later : (letters : List Instr) (n left : ℕ) → n < 6 → length letters ^ n ≤ left
+    → slice_get (flat_map (words letters) (drop n (numbers_from 0 6))) left
+    ≡ slice_get (flat_map (words letters) (drop (n + 1) (numbers_from 0 6))) (left - length letters ^ n)
+word_later letters n left h past =
+    let at : get_or (numbers_from 0 6) n 0 ≡ n = number_here n h in
+    let within : n < length (numbers_from 0 6) = omega (arith, length-numbers 0 6) in
+    let size : length (words letters (get_or (numbers_from 0 6) n 0)) ≡ length letters ^ n = rw at (length-words letters n) in
+    piece_later (words letters) (numbers_from 0 6) n left 0 within (omega arith)
+    ∙ ap (λ m. slice_get (flat_map (words letters) (drop (n + 1) (numbers_from 0 6))) (left - m)) size
+
+pub seq_here : (k : ℕ) (pool : List ℕ) (n left : ℕ) → n < 6 → left < length (alphabet k pool) ^ n
+    → slice_get (flat_map (words (alphabet k pool)) (drop n (numbers_from 0 6))) left ≡ slice_get (words (alphabet k pool) n) left
+seq_here k pool n left h low = word_here (alphabet k pool) n left h low
 
 pub seq_later : (k : ℕ) (pool : List ℕ) (n left : ℕ) → n < 6 → length (alphabet k pool) ^ n ≤ left
     → slice_get (flat_map (words (alphabet k pool)) (drop n (numbers_from 0 6))) left
     ≡ slice_get (flat_map (words (alphabet k pool)) (drop (n + 1) (numbers_from 0 6))) (left - length (alphabet k pool) ^ n)
-seq_later k pool n left h past =
-    let at : get_or (numbers_from 0 6) n 0 ≡ n = number_here n h in
-    let within : n < length (numbers_from 0 6) = omega (arith, length-numbers 0 6) in
-    let size : length (words (alphabet k pool) (get_or (numbers_from 0 6) n 0)) ≡ length (alphabet k pool) ^ n = rw at (length-words (alphabet k pool) n) in
-    piece_later (words (alphabet k pool)) (numbers_from 0 6) n left 0 within (omega arith)
-    ∙ ap (λ m. slice_get (flat_map (words (alphabet k pool)) (drop (n + 1) (numbers_from 0 6))) (left - m)) size
+seq_later k pool n left h past = word_later (alphabet k pool) n left h past
+
+pub word_start : (letters : List Instr) (q : ℕ) → slice_get (flat_map (words letters) (drop 0 (numbers_from 0 6))) q ≡ slice_get (sequences_of letters) q
+unfolding sequences_of
+word_start letters q = refl
+
+pub word_end : (letters : List Instr) (q : ℕ) → slice_get (flat_map (words letters) (drop 6 (numbers_from 0 6))) q ≡ None
+unfolding numbers_from
+word_end letters q = refl
+
+pub ruleset walked = (word_here, word_later, word_start)
 
 pub seq_start : (k : ℕ) (pool : List ℕ) (q : ℕ) → slice_get (flat_map (words (alphabet k pool)) (drop 0 (numbers_from 0 6))) q ≡ slice_get (sequences k pool) q
-unfolding sequences
+unfolding sequences_of
 seq_start k pool q = refl
 
 pub seq_end : (k : ℕ) (pool : List ℕ) (q : ℕ) → slice_get (flat_map (words (alphabet k pool)) (drop 6 (numbers_from 0 6))) q ≡ None
@@ -213,7 +232,7 @@ shorter_is letters (suc n) h =
 
 pub IsPlace-sequences : (k : ℕ) (pool : List ℕ) (w : List Instr) → length w ≤ 5 → (q : Option ℕ) → IsPlace q (words (alphabet k pool) (length w)) w
     → IsPlace (option_map (λ b. sum_below (λ m. length (alphabet k pool) ^ m) (length w) + b) q) (sequences k pool) w
-unfolding sequences
+unfolding sequences_of
 IsPlace-sequences k pool w h q in_words =
     let letters = alphabet k pool in
     let n = length w in

@@ -78,6 +78,10 @@ unfoldable pub words : {A : Type 0} → List A → ℕ → List (List A)
 words letters zero = [] ∷ []
 words letters (suc n) = flat_map (λ w. map (λ x. w ++ x ∷ []) letters) (words letters n)
 
--- the sequences of at most five instructions by number: the shorter ones first
-unfoldable pub sequences : ℕ → List ℕ → List (List Instr)
-sequences k pool = flat_map (words (alphabet k pool)) (numbers_from 0 6)
+-- the sequences of at most five letters by number: the shorter ones first
+unfoldable pub sequences_of : {A : Type 0} → List A → List (List A)
+sequences_of letters = flat_map (words letters) (numbers_from 0 6)
+
+-- those of the alphabet
+abbrev pub sequences : ℕ → List ℕ → List (List Instr)
+sequences k pool = sequences_of (alphabet k pool)

@@ -10,8 +10,10 @@ mod rows;
 mod sequences;
 #[cfg(test)]
 mod tests;
+mod walk;
 
 pub use alphabet::size;
 pub use pool::Pool;
 pub use rows::{Pair, Row};
 pub use sequences::{number_of, seq_at};
+pub use walk::{Walk, letters};

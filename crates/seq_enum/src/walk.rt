@@ -1,0 +1,137 @@
+//! All sequences one after the other. Most often only the last instruction changes, so that a step costs no more than that.
+ghost use Rattle.std.specs.Prelude.{◌≡◌, ◌≤◌, ◌<◌, ◌+◌, ◌^◌, length, slice_get, Some, None, MatchOption, IfOk};
+ghost use Rattle.std.specs.Bool.{OnTrue, OnFalse};
+ghost use Rattle.seq_enum.specs.Alphabet.{alphabet, words, sequences_of};
+ghost use Rattle.seq_enum.specs.Walks.{Stands, IsWalk};
+
+use crate::alphabet::{instr_at, size};
+use crate::pool::Pool;
+use arrayvec::ArrayVec;
+use std::alloc::{AllocError, Global};
+use thumb_instr::Instr;
+
+/// A walk through the sequences of at most five letters of an alphabet, in order of their numbers.
+#[derive(Drop)]
+pub struct Walk<'a> {
+    letters: &'a [Instr],
+    instrs: ArrayVec<Instr, 5>,
+    last: u64,
+    number: u64,
+}
+
+impl<'a> Walk<'a> {
+    /// A walk that stands at sequence 0, which is empty.
+    pub fn new(letters: &'a [Instr]) -> Self
+        requires some { 0 < length letters.now }
+        requires few { length letters.now ≤ 1952 }
+        ensures stands { IsWalk result }
+        ensures letters { result.letters.now ≡ letters.now }
+        ensures number { result.number ≡ 0 }
+    {
+        Walk {
+            letters,
+            instrs: ArrayVec::new(),
+            last: 0,
+            number: 0,
+        }
+    }
+
+    /// The number of the sequence where it stands.
+    pub fn number(&self) -> u64
+        ensures { result ≡ self.now.number }
+    {
+        self.number
+    }
+
+    /// The sequence where it stands.
+    pub fn instrs(&self) -> &[Instr]
+        requires { IsWalk self.now }
+        ensures { slice_get (sequences_of self.now.letters.now) self.now.number ≡ Some result.now }
+    {
+        self.instrs.as_slice()
+    }
+
+    /// Goes on to the next sequence. False where there is none, and then it stands where it stood.
+    pub fn next(&mut self) -> bool
+        requires { IsWalk self.old }
+        ensures stands { IsWalk self.new }
+        ensures letters { self.new.letters.now ≡ self.old.letters.now }
+        ensures more { OnTrue result (self.new.number ≡ self.old.number + 1) }
+        ensures end { OnFalse result (slice_get (sequences_of self.old.letters.now) (self.old.number + 1) ≡ None) }
+        ensures stays { OnFalse result (self.new.number ≡ self.old.number) }
+    {
+        let letters = self.letters;
+        let next = self.last + 1;
+        let count = self.instrs.len();
+        if count > 0 && next < letters.len() as u64 {
+            self.instrs.truncate(count - 1);
+            self.instrs.push(letters[next as usize]);
+            self.last = next;
+            self.number += 1;
+            return true;
+        }
+        match word_of(letters, self.number + 1) {
+            None => false,
+            Some((instrs, last)) => {
+                self.instrs = instrs;
+                self.last = last;
+                self.number += 1;
+                true
+            }
+        }
+    }
+}
+
+/// The instructions of the alphabet, in order.
+pub fn letters(alloc: Global, k: u8, pool: &Pool) -> Result<Vec<Instr>, AllocError>
+    requires some { 0 < k }
+    requires few { k ≤ 4 }
+    ensures value { IfOk result (λ letters. letters.items ≡ alphabet k pool.now) }
+    ensures some { IfOk result (λ letters. 0 < length letters.items) }
+    ensures few { IfOk result (λ letters. length letters.items ≤ 1952) }
+{
+    let count = size(k, pool);
+    let mut letters = Vec::new(alloc);
+    for place in 0..count {
+        match instr_at(k, pool, place) {
+            None => unreachable!(),
+            Some(instr) => letters.push(instr)?,
+        }
+    }
+    Ok(letters)
+}
+
+/// The sequence of a number, and the place of its last letter.
+fn word_of(letters: &[Instr], number: u64) -> Option<(ArrayVec<Instr, 5>, u64)>
+    requires some { 0 < length letters.now }
+    requires few { length letters.now ≤ 1952 }
+    ensures { MatchOption result (slice_get (sequences_of letters.now) number ≡ None) (λ p. Stands letters.now p.0.items number p.1) }
+{
+    let size = letters.len() as u64;
+    let mut left = number;
+    for n in 0..6u32 {
+        let count = size.pow(n);
+        if left < count {
+            return Some((letters_at(letters, n, left), left % size));
+        }
+        left -= count;
+    }
+    None
+}
+
+/// The letters of a place among the sequences of so many.
+fn letters_at(letters: &[Instr], count: u32, place: u64) -> ArrayVec<Instr, 5>
+    requires some { 0 < length letters.now }
+    requires short { count ≤ 5 }
+    requires within { place < length letters.now ^ count }
+    ensures { slice_get (words letters.now count) place ≡ Some result.items }
+{
+    let size = letters.len() as u64;
+    let mut instrs = ArrayVec::new();
+    let mut left = place;
+    for _turn in 0..count {
+        instrs.insert(0, letters[(left % size) as usize]);
+        left /= size;
+    }
+    instrs
+}
