@@ -1,10 +1,51 @@
--- Printed lines of a trace, piece after piece.
-use Rattle.std.proofs.Common.{◌≡◌, ◌++◌, ◌∷◌, [], ℕ}
-use Rattle.std.specs.Prelude.{codes}
-use Rattle.std.specs.Fmt.{decimal}
+-- What lines and texts come to.
+use Rattle.std.proofs.Common.{◌≡◌, ◌∙◌, ◌++◌, ℕ, List, [], Result, Ok, Err, sym, ap, subst}
+use Rattle.std.specs.Prelude.{IfOk, Some}
+use Rattle.thumb_model.specs.Listing.{Line, code_of, place_of}
+use Rattle.thumb_model.specs.Layout.{Layable}
+use Rattle.listing_parser.specs.Parsing.{IsListing}
+use Rattle.thumb_model.specs.Machine.{Event, Here, Naming, State, step, times, with_bytes}
+use Rattle.thumb_model.specs.Same.{begun, here_or_ended}
+use Rattle.thumb_machine.specs.declared.answers.Answer.{Answer}
+use Rattle.thumb_machine.specs.declared.machine.Machine.{Machine}
 use Rattle.thumb_machine.specs.declared.machine.Stage.{Stage}
-use Rattle.audit_cli.specs.TraceLines.{stage_word, steps_line}
-use Rattle.audit_cli.proofs.RefusalLemmas.{three}
+use Rattle.thumb_machine.specs.declared.machine.State.{State as Begins}
+use Rattle.thumb_machine.specs.Outside.{answers_of, events_of}
+use Rattle.thumb_machine.specs.Running.{at_of, state_of}
+use Rattle.thumb_machine.specs.Starting.{Starts, start_values as values_at}
+use Rattle.thumb_machine.specs.Laid.{IsLaid}
+use Rattle.audit_cli.specs.Running.{IsRun}
+use Rattle.audit_cli.specs.Start.{answers_from, start_values, start_world}
+use Rattle.command_runs.specs.declared.outcome.Outcome.{Outcome as Outcomes}
+use Rattle.command_runs.specs.Outcomes.{outcome_view}
+use Rattle.command_runs.specs.Plans.{Does}
+use Rattle.audit_cli.specs.TraceLines.{event_lines, steps_line}
+use Rattle.audit_cli.specs.Trace.{Journey, LinesTrace, ran, Traces, read}
 
-pub steps_line_is : (n : ℕ) (s : Stage) → steps_line n s ≡ codes "steps " ++ (decimal n ++ 32 ∷ (stage_word s ++ 10 ∷ []))
-steps_line_is n s = three (codes "steps") (32 ∷ decimal n) (32 ∷ stage_word s)
+pub goes_on : {E : Type 0} (journey : Journey) (text : List ℕ) (lines : List Line) (r : Result Outcomes E) → IsListing text lines → IfOk r (λ o. LinesTrace journey lines (outcome_view o)) → IfOk r (λ o. Traces journey text (outcome_view o))
+goes_on journey text lines (Ok o) is h = read lines is (outcome_view o) h
+goes_on journey text lines (Err e) is h = tt
+
+-- ---- the run ----
+
+-- a machine that begins so is where the trace begins
+pub begins : (lines : List Line) (label : List ℕ) (p : ℕ) (b : Begins) (m : Machine) (left : List Answer) → place_of (code_of lines) label ≡ Some p
+    → values_at b ≡ start_values → b.bytes ≡ [] → b.place ≡ p → Starts b m → answers_of left ≡ answers_from 1 256 → state_of m left ≡ begun (code_of lines) label start_world []
+begins lines label p b m left at values bytes place starts answers = λ i. record {
+  world = record {
+    values = (starts.values ∙ values) i;
+    memory = (starts.memory ∙ ap (λ bs. with_bytes bs (λ (a : ℕ). 0)) bytes) i;
+    answers = answers i;
+  };
+  at = (ap at_of starts.place ∙ ap Here place ∙ ap here_or_ended (sym at)) i;
+  events = ap events_of starts.events i;
+}
+
+-- a run from there is what the lines come to
+pub runs : (journey : Journey) (lines : List Line) (p : ℕ) (names : Naming) (start : State) (n : ℕ) (s : Stage) (es : List Event) (printed : List ℕ) → Layable 0 lines
+    → place_of (code_of lines) journey.label ≡ Some p → IsLaid 0 lines names → start ≡ begun (code_of lines) journey.label start_world [] → IsRun names (code_of lines) start journey.most n s
+    → es ≡ (times (step names (code_of lines)) n start).events → printed ≡ event_lines es ++ steps_line n s → LinesTrace journey lines (Does [] printed)
+runs journey lines p names start n s es printed layable at laid begins run seen is =
+    subst (λ (l : List ℕ). LinesTrace journey lines (Does [] l))
+    (ap (λ (t : State). event_lines (times (step names (code_of lines)) n t).events ++ steps_line n s) (sym begins) ∙ ap (λ (l : List Event). event_lines l ++ steps_line n s) (sym seen) ∙ sym is)
+    (ran layable p at names laid n s (subst (λ (t : State). IsRun names (code_of lines) t journey.most n s) begins run))

@@ -1,13 +1,20 @@
 -- The first form of `rewrite`: tables that drop moves of a register to itself, and straight listings.
+pub mod FirstTable
+pub mod TableSteps
+pub mod Reads
+pub mod Moves
+pub mod Straight
+pub mod Simple
+pub mod Codes
 use Rattle.std.specs.Prelude.{◌≡◌, ℕ, List, [], ◌∷◌}
 use Rattle.command_runs.specs.Plans.{Outcome, Refuses}
 use Rattle.listing_parser.specs.declared.errors.Kind.TheVariants as kind
 use Rattle.audit_cli.specs.declared.refusal.Refusal.TheVariants as refusal
 use Rattle.audit_cli.specs.Refusals.{refusal_line}
-use Rattle.audit_cli.specs.FirstTable.{IsTable, IsBadTableLine}
-use Rattle.audit_cli.specs.Straight.{AreStraight, IsFirstBad}
-use Rattle.audit_cli.specs.Moves.{moves_table}
-use Rattle.audit_cli.specs.Rewriting.{Destination, Table, Rewrites}
+use Rattle.audit_cli.specs.FirstForm.FirstTable.{IsTable, IsBadTableLine}
+use Rattle.audit_cli.specs.FirstForm.Straight.{AreStraight, IsFirstBad}
+use Rattle.audit_cli.specs.FirstForm.Moves.{moves_table}
+use Rattle.audit_cli.specs.Rewrite.{Destination, Table, Rewrites}
 
 -- the table of a text of the first form with so many entries
 abbrev pub first_table : ℕ → Table

@@ -6,7 +6,7 @@ use Rattle.command_runs.specs.declared.status.Status.{Status}
 use Rattle.command_runs.specs.declared.status.Status.TheVariants as status
 use Rattle.command_runs.specs.Plans.{Plan, Runs}
 use Rattle.audit_cli.specs.FirstForm.{RewriteComesTo}
-use Rattle.audit_cli.specs.Tracing.{TraceComesTo}
+use Rattle.audit_cli.specs.Trace.{TraceComesTo}
 
 -- what a request fetches, and what comes of it
 abbrev pub plan_of : Request → Plan

@@ -1,20 +1,16 @@
 //! The commands: what the words ask for, what the texts come to, and what is kept and printed.
 #![tactic(auto)]
 
-mod assembling;
-mod moves;
+mod first_form;
 mod printing;
-mod read_error;
-mod read_table;
 mod refusal;
-mod rewriting;
+mod rewrite;
 mod running;
 mod start;
 mod steps;
-mod straight;
 mod top;
+mod trace;
 mod trace_lines;
-mod tracing;
 
 pub use command_line::{Command, Memory, usage_of};
 pub use command_runs::Status;

@@ -5,8 +5,8 @@ ghost use Rattle.command_line.specs.Request.{request_of};
 ghost use Rattle.command_runs.specs.Plans.{Runs};
 ghost use Rattle.audit_cli.specs.Peep.{plan_of, Peeps};
 
-use crate::rewriting::Rewrite;
-use crate::tracing::Trace;
+use crate::rewrite::Rewrite;
+use crate::trace::Trace;
 use command_line::{Command, usage_of};
 use command_runs::{Status, run};
 use outer_store::{Sink, Store};

@@ -1,7 +1,7 @@
 use Rattle.std.proofs.Common.{◌∙◌, ◌++◌, ◌∷◌, [], List, ℕ, ap, sym}
 use Rattle.std.specs.Prelude.{codes}
 use Rattle.std.specs.Fmt.{decimal}
-use Rattle.audit_cli.proofs.TraceLemmas.{steps_line_is}
+use Rattle.audit_cli.proofs.TraceLineLemmas.{steps_line_is}
 use Rattle.audit_cli.proofs.trace_lines.steps_line.Goals as goal
 
 pub returns : goal.returns

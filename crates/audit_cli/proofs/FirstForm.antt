@@ -1,0 +1,10 @@
+-- Proofs of the first form of `rewrite`.
+pub mod Assembled
+pub mod MovesLines
+pub mod MovesPass
+pub mod MovesRule
+pub mod StraightLemmas
+pub mod StraightLines
+pub mod TableLaws
+pub mod TableLemmas
+pub mod WellFormed

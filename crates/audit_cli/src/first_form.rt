@@ -1,0 +1,7 @@
+//! The first form of `rewrite`: tables that drop moves of a register to itself, and straight listings.
+
+pub(crate) mod assembling;
+pub(crate) mod moves;
+pub(crate) mod read_error;
+pub(crate) mod read_table;
+pub(crate) mod straight;
