@@ -1,5 +1,5 @@
 -- The words and options of each command, and what they ask for.
-use Rattle.std.proofs.Common.{◌≡◌, ◌∙◌, ◌<◌, ℕ, true, List, [], ◌∷◌, length, map, Option, Some, None, refl, sym, ap, ap₂, arith, codes, subst, option_map}
+use Rattle.std.proofs.Common.{◌≡◌, ◌∙◌, ◌<◌, true, List, [], ◌∷◌, length, map, Option, Some, None, refl, sym, ap, ap₂, arith, codes, option_map}
 use Rattle.std.specs.Prelude.{option_and_then}
 use Rattle.std.specs.List.{list_all}
 use Rattle.clap.specs.Words.{Row, fault_of, first_of, subcommand_of}

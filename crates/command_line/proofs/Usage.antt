@@ -1,5 +1,5 @@
 -- From what clap promises to what the words ask for.
-use Rattle.std.proofs.Common.{◌≡◌, ◌≢◌, ◌∙◌, suc, List, [], ◌∷◌, map, Option, Some, None, refl, sym, ap, ap₂, arith, Bor, option_map, subst}
+use Rattle.std.proofs.Common.{◌≡◌, ◌≢◌, ◌∙◌, suc, List, [], ◌∷◌, map, Option, Some, None, sym, ap, ap₂, arith, Bor, option_map, subst}
 use Rattle.std.specs.Prelude.{All, MatchOption, option_and_then}
 use Rattle.std.specs.Box.{box_value}
 use Rattle.std.specs.Str.{IsUtf8}
@@ -9,7 +9,7 @@ use Rattle.clap.specs.declared.parser.matches.ArgMatches.TheViews.{out-ArgMatche
 use Rattle.clap.specs.declared.parser.matches.Found.{Found}
 use Rattle.clap.proofs.WalkLemmas.{first_value-rows}
 use Rattle.command_line.specs.App.{asked, asked_by, peep_app}
-use Rattle.command_line.specs.CommandLine.{AskFor, Form, Request, Text}
+use Rattle.command_line.specs.CommandLine.{AskFor, AskOnce, Form, Request, Text}
 use Rattle.command_line.specs.Request.{request_of}
 use Rattle.command_line.specs.declared.command.Command.{Command}
 use Rattle.command_line.proofs.Views.{AreTexts}
@@ -19,6 +19,18 @@ use Rattle.command_line.proofs.Forms.{meaning, same_asked}
 pub are_texts : (xs : List (Bor Text)) → All (λ t. IsUtf8 t.now) xs → AreTexts (map (λ t. t.now) xs)
 are_texts [] all = tt
 are_texts (x ∷ xs) all = (all 0 x (omega arith), are_texts xs (λ k d lt. all (suc k) d (omega arith)))
+
+-- words that are texts
+are_all_texts : (ws : List Text) → All IsUtf8 ws → AreTexts ws
+are_all_texts [] all = tt
+are_all_texts (w ∷ ws) all = (all 0 w (omega arith), are_all_texts ws (λ k d lt. all (suc k) d (omega arith)))
+
+-- all that the words ask for is what clap's matches say
+pub asks_once : AskOnce
+asks_once ws all r s a b =
+    let texts = are_all_texts ws all in
+    let same : Some r ≡ Some s = sym (complete ws texts r a).1 ∙ (complete ws texts s b).1 in
+    cc
 
 -- what clap refuses asks for nothing
 pub refused_asks : (texts slice : List (Bor Text)) (ws : List Text) → slice ≡ texts → map (λ t. t.now) texts ≡ ws → All (λ t. IsUtf8 t.now) texts

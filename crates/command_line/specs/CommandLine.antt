@@ -1,7 +1,7 @@
 -- Command lines: what the words after the program's name ask for. A word is a list of bytes.
-use Rattle.std.specs.Prelude.{◌≡◌, ◌++◌, ◌&&◌, ◌==◌, ◌%◌, ℕ, Bool, true, false, not, List, [], ◌∷◌, Option, Some, None, if◌then◌else◌, codes, find, nat_le, option_and_then, option_map, unwrap_or}
+use Rattle.std.specs.Prelude.{◌≡◌, ◌++◌, ◌&&◌, ◌==◌, ◌%◌, ℕ, Bool, true, false, not, All, List, [], ◌∷◌, Option, Some, None, if◌then◌else◌, codes, find, nat_le, option_and_then, option_map, unwrap_or}
 use Rattle.std.specs.List.{flat_map, list_all, list_any}
-use Rattle.std.specs.Str.{bytes_eq}
+use Rattle.std.specs.Str.{bytes_eq, IsUtf8}
 use Rattle.ascii_scan.specs.Numeral.{numeral}
 
 abbrev pub Text : Type 0
@@ -122,3 +122,7 @@ pub record AskFor (ws : List Text) (r : Request) : Type 0 where
   pub given : List Given
   pub command : IsCommand (name_of form) (options_of form) ws words given
   pub asks : request_by form words (λ n. value_of n given) ≡ Some r
+
+-- words ask for at most one thing
+abbrev pub AskOnce : Type 0
+AskOnce = (ws : List Text) → All IsUtf8 ws → (r s : Request) → AskFor ws r → AskFor ws s → r ≡ s

@@ -12,7 +12,7 @@ ghost use Rattle.std.specs.Prelude.{◌≡◌, ◌≢◌, [], All, IfOk, MatchOp
 ghost use Rattle.std.specs.Str.{IsUtf8};
 ghost use Rattle.clap.specs.Words.{fault_of, subcommand_of, subcommand_rows_of};
 ghost use Rattle.command_line.specs.App.{peep_app};
-ghost use Rattle.command_line.specs.CommandLine.{AskFor, Request};
+ghost use Rattle.command_line.specs.CommandLine.{AskFor, AskOnce, Request};
 ghost use Rattle.command_line.specs.Request.{request_of};
 
 mod app;
@@ -67,6 +67,11 @@ pub fn usage_of(alloc: Global, words: &[String]) -> Result<Option<Command>, Memo
         None => Ok(None),
     }
 }
+
+/// Words ask for at most one command.
+pub fn words_ask_once()
+    ensures { AskOnce }
+{}
 
 #[cfg(test)]
 mod tests;
