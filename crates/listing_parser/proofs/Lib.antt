@@ -18,3 +18,4 @@ pub mod ReplacedTargets
 pub mod ReplacedLines
 pub mod MadeLemmas
 pub mod RunLemmas
+pub mod VerdictLemmas

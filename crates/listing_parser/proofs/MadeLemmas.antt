@@ -45,7 +45,7 @@ same_bare l m e =
     let fronts : l.front ≡ m.front = ap (λ (b : Bare). b.front) e in
     λ i. record { names = names i; statement = statements i; text = texts i; front = fronts i }
 
-same_lines : (ls ms : List Line) → map bare ls ≡ map bare ms → ls ≡ ms
+pub same_lines : (ls ms : List Line) → map bare ls ≡ map bare ms → ls ≡ ms
 same_lines [] [] e = refl
 same_lines [] (m ∷ ms) e = absurd (cc)
 same_lines (l ∷ ls) [] e = absurd (cc)
@@ -56,7 +56,7 @@ same_lines (l ∷ ls) (m ∷ ms) e =
     let behind : ls ≡ ms = same_lines ls ms others in
     cc
 
-same_reads : (bytes : List ℕ) (rs ss : List Read) → read_lines (lines_in bytes) ≡ Ok rs → read_lines (lines_in bytes) ≡ Ok ss → rs ≡ ss
+pub same_reads : (bytes : List ℕ) (rs ss : List Read) → read_lines (lines_in bytes) ≡ Ok rs → read_lines (lines_in bytes) ≡ Ok ss → rs ≡ ss
 same_reads bytes rs ss e f = let both : Ok rs ≡ Ok ss = sym e ∙ f in cc
 
 pub one_listing : OneListing

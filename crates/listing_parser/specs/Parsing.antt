@@ -49,3 +49,16 @@ PrintsBack = (bytes : List ℕ) (lines : List Line) → IsListing bytes lines �
 -- a text is the listing of at most one list of lines
 abbrev pub OneListing : Type 0
 OneListing = (bytes : List ℕ) (lines others : List Line) → IsListing bytes lines → IsListing bytes others → lines ≡ others
+
+-- no text is a listing and refused as well
+abbrev pub NotBoth : Type 0
+NotBoth = (bytes : List ℕ) (lines : List Line) (n : ℕ) (k : Kind) → IsListing bytes lines → IsRefused bytes n k → ⊥
+
+-- the line and the kind by which a text is refused are determined
+abbrev pub RefusedOnce : Type 0
+RefusedOnce = (bytes : List ℕ) (n m : ℕ) (k j : Kind) → IsRefused bytes n k → IsRefused bytes m j → (n ≡ m) × (k ≡ j)
+
+-- the verdict on a text is one alone
+pub record OneVerdict : Type 0 where
+  pub not_both : NotBoth
+  pub refused_once : RefusedOnce

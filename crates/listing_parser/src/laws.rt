@@ -1,5 +1,5 @@
 //! What holds of every listing that is read.
-ghost use Rattle.listing_parser.specs.Parsing.{OneListing, PrintsBack};
+ghost use Rattle.listing_parser.specs.Parsing.{OneListing, OneVerdict, PrintsBack};
 ghost use Rattle.listing_parser.specs.ReadAgain.{ReplacedReadsAgain};
 
 /// A listing's lines, joined, are the text that was read, byte for byte.
@@ -10,6 +10,11 @@ pub fn listings_print_back()
 /// A text is the listing of no other lines: its instructions, names and numbers are determined.
 pub fn a_text_has_one_listing()
     ensures { OneListing }
+{}
+
+/// A text is a listing or refused, and not both, and the line and the kind by which it is refused are determined.
+pub fn a_text_has_one_verdict()
+    ensures { OneVerdict }
 {}
 
 /// The text of a listing after a replacement is read again as the lines that the replacement left: see `Listing::replaced`. No code label may be lost

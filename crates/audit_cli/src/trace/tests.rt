@@ -1,4 +1,5 @@
 use crate::top::peep;
+use command_runs::Status;
 use outer_store::{MemSink, MemStore};
 use std::alloc::Global;
 use std::test::Fail;
