@@ -1,19 +1,17 @@
 -- A clause more, before any decision.
-use Rattle.std.proofs.Common.{◌≡◌, ◌≢◌, ℕ, ◌+◌, ◌-◌, ◌<◌, ◌≤◌, ◌⊎◌, List, [], ◌∷◌, ◌++◌, length, length-append, get_or, take, map, refl, sym, ◌∙◌, ap, inl, inr, arith, Option, Some, None, subst, false}
+use Rattle.std.proofs.Common.{◌≡◌, ◌≢◌, ℕ, ◌+◌, ◌<◌, ◌⊎◌, List, [], ◌∷◌, ◌++◌, length, length-append, get_or, take, map, refl, sym, ◌∙◌, ap, inl, inr, arith, Option, Some, None, subst, false}
 use Rattle.std.specs.Prelude.{All, Any, Contains, slice_get}
-use Rattle.std.proofs.lemmas.List.{map_push, take_at, get_or-take, get_or_push, take_all}
-use Rattle.std.proofs.lemmas.List.Elements.{All-nil, All-push, All-weaker, All-contains_itself, Contains-push, Contains-push_cases, Contains-append_left, Contains-get_or}
-use Rattle.std.proofs.lemmas.Option.{slice_get_within}
+use Rattle.std.proofs.lemmas.List.{map_push, take_at, get_or_push}
+use Rattle.std.proofs.lemmas.List.Elements.{All-push, All-weaker, Contains-push, Contains-push_cases, Contains-append_left}
 use Rattle.clause_model.specs.Literals.{negated}
-use Rattle.clause_model.specs.Clauses.{IsFalse, IsUnset, IsUnit, AllFalse, IsConsistent}
-use Rattle.clause_model.proofs.Asserted.{AllFalse-grown}
-use Rattle.clause_arena.specs.Contents.{Clause, Content, HasClause, HasLiteral, Watches, literals_of, references_of}
+use Rattle.clause_model.specs.Clauses.{IsFalse, IsUnset, IsUnit, AllFalse}
+use Rattle.clause_arena.specs.Contents.{Clause, Content, HasLiteral, Watches, literals_of, references_of}
 use Rattle.unit_propagation.specs.Watching.{IsWatched, IsReason, IsAdded, IsLater}
 use Rattle.unit_propagation.proofs.Steps.{reason_later, Contains-part}
 use Rattle.unit_propagation.proofs.Walks.{known_later}
-use Rattle.cdcl_core.specs.Implied.{clauses_of, IsConflict, IsJustified, IsCovered, IsGround, Level, level_of}
+use Rattle.cdcl_core.specs.Implied.{clauses_of, IsConflict, IsJustified, IsCovered, IsGround, Level}
 use Rattle.cdcl_core.specs.Searched.{IsBase}
-use Rattle.cdcl_core.proofs.Lists.{entry_cases, grown_from_keeps, nothing_in}
+use Rattle.cdcl_core.proofs.Lists.{entry_cases, nothing_in}
 use Rattle.cdcl_core.proofs.Grounds.{covered_later, justified_later, ground_back}
 
 any_grown : (a b clause : List ℕ) → ((x : ℕ) → Contains a x → Contains b x) → Any (Contains a) clause → Any (Contains b) clause

@@ -1,5 +1,5 @@
 -- Literals that are made false.
-use Rattle.std.proofs.Common.{◌≡◌, ℕ, ◌+◌, ◌<◌, ◌≤◌, List, [], ◌∷◌, ◌++◌, length, get_or, take, length-append, append-nil, append_assoc, refl, sym, ◌∙◌, ap, arith, Option, None, subst, suc}
+use Rattle.std.proofs.Common.{◌≡◌, ℕ, ◌+◌, ◌<◌, List, [], ◌∷◌, ◌++◌, length, get_or, take, length-append, append-nil, append_assoc, sym, ◌∙◌, ap, arith, Option, None, subst, suc}
 use Rattle.std.specs.Prelude.{All, Contains, replicate}
 use Rattle.std.proofs.lemmas.List.{take_more}
 use Rattle.std.proofs.lemmas.List.Elements.{All-nil, All-push, All-append, All-contains, All-weaker, All-contains_itself, Contains-push, Contains-append_left}

@@ -2,17 +2,17 @@
 use Rattle.std.proofs.Common.{◌≡◌, ◌≢◌, ℕ, ◌+◌, ◌-◌, ◌<◌, ◌≤◌, ◌⊎◌, List, [], ◌∷◌, ◌++◌, length, get_or, take, drop, refl, sym, ◌∙◌, ap, inl, inr, arith, Option, Some, None, subst}
 use Rattle.std.specs.Prelude.{All, AllPairs, Any, Contains, slice_get}
 use Rattle.std.proofs.lemmas.Bool.{cases_eq, cases_lt}
-use Rattle.std.proofs.lemmas.List.{take_more, length-take, get_or-take, get_or_default, take_all}
+use Rattle.std.proofs.lemmas.List.{take_more, get_or_default, take_all}
 use Rattle.std.proofs.lemmas.List.Elements.{All-nil, All-cons, All-head, All-tail, All-push, All-contains, All-weaker, All-contains_itself, Contains-get_or, Contains-append_left, Contains-append_right, Contains-push}
 use Rattle.clause_model.specs.Literals.{negated}
-use Rattle.clause_model.specs.Clauses.{IsFalse, IsUnset, AllFalse, IsUnit, IsOpen, IsConsistent}
+use Rattle.clause_model.specs.Clauses.{IsFalse, AllFalse, IsUnit, IsOpen, IsConsistent}
 use Rattle.clause_model.specs.Asserting.{IsClosed}
 use Rattle.clause_model.proofs.LiteralLaws.{negated-negated}
 use Rattle.clause_model.proofs.Runs.{Consistent-open}
 use Rattle.clause_model.proofs.Scans.{Contains-take}
 use Rattle.clause_arena.specs.Contents.{Content, literals_of}
 use Rattle.unit_propagation.specs.Watching.{IsReason}
-use Rattle.cdcl_core.specs.Implied.{clauses_of, IsConflict}
+use Rattle.cdcl_core.specs.Implied.{clauses_of}
 use Rattle.cdcl_core.specs.Analysed.{AtConflict, LearnsFrom, Sees}
 use Rattle.cdcl_core.proofs.Lists.{take_cases, place_in, placed, part_has, place_in_part}
 use Rattle.cdcl_core.proofs.Grounds.{open_at}

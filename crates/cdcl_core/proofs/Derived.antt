@@ -1,12 +1,12 @@
 -- The clause that is denied, and what follows, where it is certified.
-use Rattle.std.proofs.Common.{◌≡◌, ◌≢◌, ℕ, ◌+◌, ◌-◌, ◌<◌, ◌≤◌, ◌⊎◌, List, [], ◌∷◌, ◌++◌, length, length-append, get_or, take, drop, map, refl, sym, ◌∙◌, ap, inl, inr, arith, Option, Some, None, subst, zero, suc, pos, ℤ}
+use Rattle.std.proofs.Common.{◌≡◌, ◌≢◌, ℕ, ◌+◌, ◌-◌, ◌<◌, ◌≤◌, ◌⊎◌, List, [], ◌∷◌, ◌++◌, length, length-append, get_or, take, drop, map, refl, sym, ◌∙◌, ap, inl, inr, arith, Option, Some, None, subst, zero, suc}
 use Rattle.std.specs.Prelude.{All, AllPairs, Contains, slice_get, replicate}
 use Rattle.std.proofs.lemmas.Bool.{cases_eq, cases_lt}
-use Rattle.std.proofs.lemmas.List.{length-take, length-replicate, take_at, take-append-drop, get_or_default, get_or-append-add}
+use Rattle.std.proofs.lemmas.List.{length-take, take_at, take-append-drop, get_or_default, get_or-append-add}
 use Rattle.std.proofs.lemmas.Option.{slice_get_within}
-use Rattle.std.proofs.lemmas.List.Elements.{All-nil, All-map, All-contains, All-weaker, All-contains_itself, Contains-append_left, Contains-append_right, Contains-get_or}
+use Rattle.std.proofs.lemmas.List.Elements.{All-map, All-contains, All-weaker, All-contains_itself, Contains-append_right}
 use Rattle.clause_model.specs.Literals.{negated}
-use Rattle.clause_model.specs.Clauses.{IsFalse, AllFalse, IsConsistent}
+use Rattle.clause_model.specs.Clauses.{IsFalse, IsConsistent}
 use Rattle.clause_model.specs.Propagation.{numbered}
 use Rattle.clause_model.proofs.Asserted.{AllFalse-grown}
 use Rattle.clause_model.proofs.LiteralLaws.{negated-negated}

@@ -1,6 +1,6 @@
 -- Literals that are made false after what is true before any decision, and what follows.
-use Rattle.std.proofs.Common.{◌≡◌, ℕ, ◌<◌, ◌≤◌, List, [], ◌++◌, length, take, refl, sym, ◌∙◌, subst, arith, Option}
-use Rattle.std.specs.Prelude.{All, Contains}
+use Rattle.std.proofs.Common.{◌≡◌, ℕ, List, [], ◌++◌, length, take, sym, subst, Option}
+use Rattle.std.specs.Prelude.{Contains}
 use Rattle.std.proofs.lemmas.List.Elements.{All-nil, All-weaker, All-contains_itself, Contains-append_left, Contains-append_right}
 use Rattle.clause_model.specs.Literals.{negated}
 use Rattle.clause_model.specs.Clauses.{AllFalse, IsConsistent}
@@ -10,7 +10,7 @@ use Rattle.unit_propagation.specs.Watching.{IsLater, Rule, RuleUpTo, IsOtherTrue
 use Rattle.unit_propagation.proofs.Steps.{Contains-part}
 use Rattle.cdcl_core.specs.Implied.{clauses_of, Level, level_of, IsGround, IsJustified, IsSettled}
 use Rattle.cdcl_core.specs.Assumed.{CanFalsify, IsAssumed}
-use Rattle.cdcl_core.proofs.Lists.{nothing_in, grown_from_keeps}
+use Rattle.cdcl_core.proofs.Lists.{grown_from_keeps}
 use Rattle.cdcl_core.proofs.Grounds.{ground_back, ground_assumed, ground_later, ground_closed, justified_later, justified_assumed, justified_more}
 use Rattle.cdcl_core.proofs.Assumptions.{CanFalsify_left, CanFalsify_right, assumed_bounded, assumed_grows}
 

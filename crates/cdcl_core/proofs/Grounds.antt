@@ -1,22 +1,22 @@
 -- What keeps the ground of a search.
-use Rattle.std.proofs.Common.{◌≡◌, ◌≢◌, ℕ, ◌+◌, ◌-◌, ◌<◌, ◌≤◌, ◌⊎◌, List, [], ◌∷◌, ◌++◌, length, get_or, take, map, length-append, refl, sym, ◌∙◌, ap, inl, inr, arith, Option, Some, None, subst, zero, suc, true, false, nat_eq}
+use Rattle.std.proofs.Common.{◌≡◌, ℕ, ◌+◌, ◌-◌, ◌<◌, ◌≤◌, List, [], ◌∷◌, ◌++◌, length, get_or, take, map, length-append, refl, sym, ◌∙◌, ap, inl, inr, arith, Option, Some, None, subst, zero, suc, true, false, nat_eq}
 use Rattle.std.specs.Prelude.{All, Any, AllPairs, Contains, slice_get, replicate, MatchOption}
 use Rattle.std.proofs.lemmas.Bool.{cases_eq, cases_lt}
 use Rattle.std.proofs.lemmas.Bool.Decides.{nat_tests}
-use Rattle.std.proofs.lemmas.List.{take_more, length-take, length-replicate, get_or-take, get_or_default, get_or-append-add, take-append-le, take-take, take_at, take_all, length-map, get_or-map}
-use Rattle.std.proofs.lemmas.List.Elements.{All-nil, All-head, All-tail, All-map, All-contains, All-weaker, All-append, Contains-get_or}
+use Rattle.std.proofs.lemmas.List.{length-take, length-replicate, get_or-take, get_or-append-add, take-append-le, take-take, take_at, take_all, length-map, get_or-map}
+use Rattle.std.proofs.lemmas.List.Elements.{All-head, All-tail, All-map, All-contains}
 use Rattle.std.proofs.lemmas.Option.{slice_get_within}
 use Rattle.clause_model.specs.Literals.{negated}
-use Rattle.clause_model.specs.Clauses.{IsFalse, IsConsistent, IsOpen, IsUnit, AllFalse}
+use Rattle.clause_model.specs.Clauses.{IsOpen, IsUnit}
 use Rattle.clause_model.specs.Asserting.{IsClosed}
 use Rattle.clause_arena.specs.Contents.{Clause, Content, HasClause, HasLiteral, IsWhole, literals_of, literals_in, clause_among, references_of}
 use Rattle.unit_propagation.specs.Watching.{IsWatched, IsReason, IsLater, Rule}
 use Rattle.unit_propagation.proofs.Steps.{reason_later, Contains-part, Contains-cases}
 use Rattle.unit_propagation.proofs.Walks.{known_later}
 use Rattle.unit_propagation.proofs.Opened.{opened}
-use Rattle.cdcl_core.specs.Implied.{clauses_of, IsConflict, IsSettled, IsJustified, IsCovered, IsGround, Level, level_of}
-use Rattle.cdcl_core.specs.Assumed.{CanFalsify, IsAssumed}
-use Rattle.cdcl_core.proofs.Lists.{All-left, All-right, nothing_in, entry_append, entry_replicate, entry_take, entry_of_take}
+use Rattle.cdcl_core.specs.Implied.{clauses_of, IsJustified, IsCovered, IsGround, Level, level_of}
+use Rattle.cdcl_core.specs.Assumed.{IsAssumed}
+use Rattle.cdcl_core.proofs.Lists.{nothing_in, entry_append, entry_replicate, entry_take}
 
 -- an answer by its two cases
 pub outcome_of : {S : Type 0} {C : ℕ → Type 0} (r : Option ℕ) → (r ≡ None → S) → ((at : ℕ) → r ≡ Some at → C at) → MatchOption r S C

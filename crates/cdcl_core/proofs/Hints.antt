@@ -1,23 +1,23 @@
 -- From a false clause back to what was given.
-use Rattle.std.proofs.Common.{◌≡◌, ◌≢◌, ℕ, ◌+◌, ◌-◌, ◌<◌, ◌≤◌, ◌⊎◌, List, [], ◌∷◌, ◌++◌, length, get_or, take, drop, map, length-append, refl, sym, ◌∙◌, ap, inl, inr, arith, Option, Some, None, subst, true, false, zero, suc, nat_eq, pos, ℤ}
-use Rattle.std.specs.Prelude.{All, AllPairs, Any, Contains, slice_get, insert, replicate}
-use Rattle.std.proofs.lemmas.Bool.{cases_eq, cases_lt}
+use Rattle.std.proofs.Common.{◌≡◌, ◌≢◌, ℕ, ◌+◌, ◌-◌, ◌<◌, ◌≤◌, ◌⊎◌, List, [], ◌∷◌, ◌++◌, length, get_or, take, map, refl, sym, ◌∙◌, ap, inl, inr, arith, Option, Some, None, subst, false, zero, suc, nat_eq, pos, ℤ}
+use Rattle.std.specs.Prelude.{All, AllPairs, Contains, slice_get, insert}
+use Rattle.std.proofs.lemmas.Bool.{cases_eq}
 use Rattle.std.proofs.lemmas.Bool.Decides.{nat_tests}
-use Rattle.std.proofs.lemmas.List.{take_more, length-take, get_or-take, take_all, get_or_default, length-map, get_or-map, map_push}
+use Rattle.std.proofs.lemmas.List.{take_more, get_or_default, length-map, get_or-map}
 use Rattle.std.proofs.lemmas.Option.{slice_get_within, slice_get-get_or, get_or_from_slice_get}
-use Rattle.std.proofs.lemmas.List.Elements.{All-push, All-cons, All-nil, All-contains, All-weaker, All-map, All-append, All-contains_itself, Contains-append_left, Contains-append_right, Contains-push, Contains-push_cases, Contains-get_or}
-use Rattle.clause_model.specs.Literals.{negated, HasDistinctVariables, variable_of}
-use Rattle.clause_model.specs.Clauses.{IsFalse, IsUnset, AllFalse, IsUnit, IsConsistent}
+use Rattle.std.proofs.lemmas.List.Elements.{All-push, All-cons, All-nil, All-contains, All-weaker, All-map, All-contains_itself, Contains-append_left, Contains-append_right, Contains-push, Contains-get_or}
+use Rattle.clause_model.specs.Literals.{negated, HasDistinctVariables}
+use Rattle.clause_model.specs.Clauses.{IsFalse, IsUnit, IsConsistent}
 use Rattle.clause_model.specs.Propagation.{numbered}
-use Rattle.clause_model.proofs.LiteralLaws.{negated-negated, variables_differ, variable_of-negated}
+use Rattle.clause_model.proofs.LiteralLaws.{variables_differ, variable_of-negated}
 use Rattle.clause_model.proofs.Scans.{Contains-take}
-use Rattle.clause_arena.specs.Contents.{Clause, Content, HasClause, IsWhole, literals_of, literals_in, clause_among, references_of}
+use Rattle.clause_arena.specs.Contents.{Clause, Content, IsWhole, literals_of, literals_in, references_of}
 use Rattle.unit_propagation.specs.Watching.{IsReason}
-use Rattle.cdcl_core.specs.Implied.{clauses_of, IsConflict}
+use Rattle.cdcl_core.specs.Implied.{clauses_of}
 use Rattle.cdcl_core.specs.Analysed.{Sees}
 use Rattle.cdcl_core.specs.Hinted.{HasReasons, IsUsed, RefutesTidily}
 use Rattle.cdcl_core.proofs.Grounds.{found_at}
-use Rattle.cdcl_core.proofs.Lists.{All-left, All-right, take_cases, place_in, nothing_in}
+use Rattle.cdcl_core.proofs.Lists.{place_in, nothing_in}
 
 -- the number of a clause is its place among the references, from 1
 pub numbered_at : (content : Content) (whole : IsWhole content) (refs : List ℕ) (k r : ℕ) → refs ≡ references_of content → slice_get refs k ≡ Some r → numbered (clauses_of content) (k + 1) ≡ Some (literals_of content r)

@@ -1,18 +1,16 @@
 -- The clause that a conflict teaches is asserting once it has been minimised.
-use Rattle.std.proofs.Common.{◌≡◌, ◌≢◌, ℕ, ◌+◌, ◌<◌, ◌≤◌, ◌⊎◌, List, [], ◌∷◌, ◌++◌, length, get_or, take, refl, sym, ◌∙◌, ap, inl, inr, arith, Option, Some, None, subst, map, pos, ℤ}
+use Rattle.std.proofs.Common.{◌≡◌, ℕ, ◌<◌, ◌⊎◌, List, [], ◌∷◌, ◌++◌, length, get_or, take, refl, sym, ◌∙◌, ap, inl, inr, arith, Option, subst}
 use Rattle.std.specs.Prelude.{All, Contains}
 use Rattle.std.proofs.lemmas.List.{length-take, get_or-take}
-use Rattle.std.proofs.lemmas.List.Elements.{All-nil, All-cons, All-contains, All-weaker, All-contains_itself, Contains-get_or}
+use Rattle.std.proofs.lemmas.List.Elements.{All-cons, All-contains, All-weaker, All-contains_itself, Contains-get_or}
 use Rattle.clause_model.specs.Literals.{negated}
-use Rattle.clause_model.specs.Clauses.{IsFalse, IsUnset, AllFalse, IsConsistent}
-use Rattle.clause_model.specs.Asserting.{IsClosed, Frees, IsFreed, IsAsserting}
-use Rattle.clause_model.specs.Propagation.{numbered}
+use Rattle.clause_model.specs.Clauses.{IsFalse, IsConsistent}
+use Rattle.clause_model.specs.Asserting.{Frees, IsFreed, IsAsserting}
 use Rattle.clause_model.proofs.Scans.{Contains-take}
 use Rattle.clause_arena.specs.Contents.{Content, HasLiteral}
 use Rattle.cdcl_core.specs.Implied.{clauses_of, Level, level_of, IsGround, IsRefutable}
 use Rattle.cdcl_core.specs.Assumed.{CanFalsify}
 use Rattle.cdcl_core.specs.Analysed.{AtConflict, LearnsFrom}
-use Rattle.cdcl_core.specs.Hinted.{TidyPropagation}
 use Rattle.cdcl_core.proofs.Minimised.{Within, CanFalsify-within, Freed-within}
 
 -- the same clause

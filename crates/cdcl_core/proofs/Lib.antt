@@ -11,3 +11,5 @@ pub mod Derived
 pub mod Learned
 pub mod Adopted
 pub mod Searches
+pub mod Statements
+pub mod Logs

@@ -1,11 +1,10 @@
-use Rattle.std.proofs.Common.{◌≡◌, ◌≢◌, ℕ, ◌+◌, ◌<◌, ◌≤◌, ◌⊎◌, List, [], ◌∷◌, ◌++◌, length, get_or, take, map, length-append, append-nil, refl, sym, ◌∙◌, ap, inl, inr, arith, Option, subst}
-use Rattle.std.specs.Prelude.{All, Any, Contains, slice_get}
+use Rattle.std.proofs.Common.{◌≡◌, ℕ, ◌≤◌, ◌⊎◌, List, [], ◌∷◌, ◌++◌, length, take, length-append, append-nil, refl, inl, inr, arith, Option, subst}
+use Rattle.std.specs.Prelude.{All, Contains}
 use Rattle.std.proofs.lemmas.List.{take-append-le}
 use Rattle.std.proofs.Math.Seq.{take-length}
-use Rattle.std.proofs.lemmas.List.Elements.{All-push, All-nil, All-contains, All-weaker, All-append, All-map, All-contains_itself, Contains-append_left, Contains-append_right, Contains-push}
-use Rattle.clause_model.specs.Literals.{negated}
-use Rattle.clause_model.specs.Clauses.{IsFalse, AllFalse, IsConsistent}
-use Rattle.clause_model.specs.Asserting.{Frees, IsFreed}
+use Rattle.std.proofs.lemmas.List.Elements.{All-push, All-contains, All-weaker, All-append, All-contains_itself, Contains-append_left, Contains-append_right}
+use Rattle.clause_model.specs.Clauses.{IsFalse, AllFalse}
+use Rattle.clause_model.specs.Asserting.{IsFreed}
 use Rattle.clause_arena.specs.Contents.{Content}
 use Rattle.cdcl_core.specs.Implied.{clauses_of, Level, IsGround, IsSettled, IsJustified, IsConflict, IsRefutable}
 use Rattle.cdcl_core.specs.Assumed.{CanFalsify}

@@ -1,18 +1,18 @@
 -- Decisions, and what they lead to.
-use Rattle.std.proofs.Common.{◌≡◌, ◌≢◌, ℕ, ◌+◌, ◌-◌, ◌*◌, ◌/◌, ◌<◌, ◌≤◌, ◌⊎◌, List, [], ◌∷◌, ◌++◌, length, length-append, get_or, take, map, refl, sym, ◌∙◌, ap, inl, inr, arith, Option, Some, None, subst, pos, ℤ}
-use Rattle.std.specs.Prelude.{All, AllPairs, Any, Contains, slice_get, replicate}
-use Rattle.std.proofs.lemmas.Bool.{cases_eq, cases_lt}
+use Rattle.std.proofs.Common.{◌≡◌, ◌≢◌, ℕ, ◌+◌, ◌*◌, ◌<◌, ◌≤◌, List, [], ◌∷◌, ◌++◌, length, length-append, get_or, take, map, refl, sym, ◌∙◌, ap, inl, inr, arith, Option, Some, None, subst, pos}
+use Rattle.std.specs.Prelude.{All, AllPairs, Any, Contains}
+use Rattle.std.proofs.lemmas.Bool.{cases_eq}
 use Rattle.std.proofs.lemmas.Bool.Decides.{nat_tests}
-use Rattle.std.proofs.lemmas.List.{length-map, get_or-map, take_all, take_at, take-take, length-take}
-use Rattle.std.proofs.lemmas.List.Elements.{All-nil, All-cons, All-map, All-push, All-contains, All-weaker, All-contains_itself, Contains-push, Contains-append_left, Contains-append_right, Contains-get_or}
+use Rattle.std.proofs.lemmas.List.{length-map, get_or-map, take_all, take_at, take-take}
+use Rattle.std.proofs.lemmas.List.Elements.{All-nil, All-cons, All-map, All-push, All-weaker, All-contains_itself, Contains-push, Contains-append_left, Contains-append_right, Contains-get_or}
 use Rattle.clause_model.specs.Literals.{negated, variable_of}
 use Rattle.clause_model.specs.Clauses.{IsFalse, IsUnset, IsOpen, IsConsistent}
-use Rattle.clause_model.specs.Asserting.{IsClosed, IsAsserting}
+use Rattle.clause_model.specs.Asserting.{IsClosed}
 use Rattle.clause_model.specs.Propagation.{numbered}
 use Rattle.clause_model.proofs.LiteralLaws.{negated-negated, variables_differ}
 use Rattle.clause_model.proofs.Marks.{Consistent-push, Distinct-push}
 use Rattle.clause_arena.specs.Contents.{Clause, Content, HasClause, HasLiteral, IsWhole, literals_of, literals_in, references_of}
-use Rattle.unit_propagation.specs.Watching.{IsLater, IsReason, IsOtherTrue, Rule, RuleUpTo}
+use Rattle.unit_propagation.specs.Watching.{IsLater, IsOtherTrue, Rule, RuleUpTo}
 use Rattle.unit_propagation.proofs.Heads.{length_below}
 use Rattle.lrat_check.specs.declared.line.Addition.{Addition}
 use Rattle.cdcl_core.specs.Implied.{clauses_of, IsConflict, IsJustified, IsCovered, IsGround, Level, level_of}

@@ -1,5 +1,5 @@
 -- What a conflict teaches.
-use Rattle.std.specs.Prelude.{ℕ, ◌≡◌, ◌≢◌, ◌<◌, ◌≤◌, ◌⊎◌, List, ◌∷◌, All, AllPairs, Contains, Option, Some, None, slice_get, length, take}
+use Rattle.std.specs.Prelude.{ℕ, ◌≡◌, ◌≢◌, ◌<◌, ◌≤◌, ◌⊎◌, List, ◌∷◌, All, Contains, Option, Some, None, slice_get, length, take}
 use Rattle.clause_model.specs.Literals.{negated}
 use Rattle.clause_model.specs.Clauses.{IsFalse, IsUnset, IsConsistent, AllFalse}
 use Rattle.clause_model.specs.Asserting.{IsClosed}

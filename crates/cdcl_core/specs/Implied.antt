@@ -1,5 +1,5 @@
 -- What follows from the clauses of an arena by propagation.
-use Rattle.std.specs.Prelude.{ℕ, ◌≡◌, ◌<◌, ◌≤◌, ◌⊎◌, List, [], All, Any, Contains, Option, Some, None, slice_get, get_or, length, take, map}
+use Rattle.std.specs.Prelude.{ℕ, ◌≡◌, ◌≤◌, ◌⊎◌, List, [], All, Any, Contains, Option, Some, None, slice_get, get_or, length, take, map}
 use Rattle.clause_model.specs.Literals.{negated}
 use Rattle.clause_model.specs.Clauses.{IsConsistent, AllFalse}
 use Rattle.clause_model.specs.Asserting.{IsClosed}

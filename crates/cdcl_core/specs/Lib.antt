@@ -3,3 +3,4 @@ pub mod Assumed
 pub mod Analysed
 pub mod Hinted
 pub mod Searched
+pub mod Solved

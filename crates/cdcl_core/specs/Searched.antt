@@ -1,5 +1,5 @@
 -- What a search begins with, and how it ends.
-use Rattle.std.specs.Prelude.{ℕ, ℤ, pos, ◌≡◌, ◌+◌, List, [], ◌∷◌, ◌++◌, All, Any, Contains, Option, Some, None, map, length}
+use Rattle.std.specs.Prelude.{ℕ, pos, ◌≡◌, ◌+◌, List, [], All, Any, Contains, Option, Some, None, map, length}
 use Rattle.clause_model.specs.Clauses.{IsConsistent}
 use Rattle.clause_model.specs.Asserting.{IsAsserting}
 use Rattle.clause_model.specs.Propagation.{numbered}

@@ -5,7 +5,14 @@ mod adopting;
 mod analysis;
 mod assumption;
 mod certifying;
+mod formulas;
 mod hinting;
 mod learning;
 mod minimising;
 mod search;
+mod solving;
+#[cfg(test)]
+mod tests;
+
+pub use clause_arena::Memory;
+pub use solving::{Verdict, solve};

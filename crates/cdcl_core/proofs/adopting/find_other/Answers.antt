@@ -1,7 +1,6 @@
 use Rattle.std.proofs.Common.{◌≡◌, arith, subst}
 use Rattle.std.specs.Prelude.{All}
 use Rattle.std.proofs.lemmas.List.{take_all}
-use Rattle.std.proofs.lemmas.List.Elements.{All-more}
 use Rattle.cdcl_core.proofs.adopting.find_other.Goals as goal
 
 pub returns-clause-none : goal.returns-clause-none

@@ -1,5 +1,5 @@
-use Rattle.std.proofs.Common.{◌≡◌, ◌≤◌, ◌<◌, ◌-◌, ℕ, List, [], take, drop, length, get_or, refl, sym, ◌∙◌, ap, subst, ◌+◌, Option, Some, None, arith}
-use Rattle.std.specs.Prelude.{Any, All, Contains, slice_get}
+use Rattle.std.proofs.Common.{◌≡◌, ◌≤◌, ◌<◌, ◌-◌, ℕ, List, [], take, drop, length, get_or, refl, sym, ◌∙◌, ap, subst, ◌+◌, Some, None, arith}
+use Rattle.std.specs.Prelude.{Any, All, Contains}
 use Rattle.std.proofs.lemmas.List.{get_or_default}
 use Rattle.std.proofs.lemmas.List.Elements.{All-nil}
 use Rattle.clause_model.specs.Literals.{negated}
@@ -9,7 +9,7 @@ use Rattle.clause_arena.specs.Contents.{literals_of}
 use Rattle.cdcl_core.specs.Analysed.{Sees}
 use Rattle.cdcl_core.specs.Implied.{clauses_of}
 use Rattle.cdcl_core.proofs.Lists.{reason_of}
-use Rattle.cdcl_core.proofs.Conflicts.{Resolved, Resolved-begun, Resolved-skip, Resolved-next, Resolved-learns, has_reason, none_seen, some_seen, contrary_is}
+use Rattle.cdcl_core.proofs.Conflicts.{Resolved, Resolved-begun, Resolved-skip, Resolved-next, Resolved-learns, has_reason, none_seen, some_seen}
 use Rattle.cdcl_core.proofs.analysis.analyse.Goals as goal
 
 read : (shown trail : List ℕ) (n l : ℕ) → shown ≡ trail → l ≡ get_or shown n l → l ≡ get_or trail n l

@@ -1,7 +1,7 @@
-use Rattle.std.proofs.Common.{take, length, ◌≤◌, sym, refl}
+use Rattle.std.proofs.Common.{length, ◌≤◌}
 use Rattle.std.proofs.lemmas.List.{take_all}
 use Rattle.clause_model.proofs.Scans.{never}
-use Rattle.cdcl_core.proofs.Conflicts.{Turned, turned_none, turned_skip, turned_more}
+use Rattle.cdcl_core.proofs.Conflicts.{turned_none, turned_skip, turned_more}
 use Rattle.cdcl_core.proofs.analysis.contraries.Goals as goal
 use Rattle.cdcl_core.proofs.analysis.contraries.Goals.{then-is_true+in_ok-push, else-is_true}
 

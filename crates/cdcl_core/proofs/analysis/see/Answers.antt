@@ -1,4 +1,4 @@
-use Rattle.std.proofs.Common.{ℕ, take, get_or, length, ◌≤◌, ◌<◌}
+use Rattle.std.proofs.Common.{ℕ, get_or, length, ◌≤◌, ◌<◌}
 use Rattle.std.proofs.lemmas.List.{take_all, get_or_default}
 use Rattle.cdcl_core.proofs.Conflicts.{sees_none, sees_more}
 use Rattle.cdcl_core.proofs.analysis.see.Goals as goal

@@ -1,4 +1,4 @@
-use Rattle.std.proofs.Common.{◌≡◌, ◌≤◌, ◌<◌, ◌+◌, ◌-◌, ℕ, List, take, length, sym, subst, inl, inr, arith}
+use Rattle.std.proofs.Common.{◌≡◌, ◌<◌, ◌+◌, ◌-◌, ℕ, take, length, sym, subst, inl, inr, arith}
 use Rattle.std.specs.Prelude.{Any, Contains}
 use Rattle.clause_model.proofs.Scans.{never}
 use Rattle.cdcl_core.proofs.Lists.{Any_take}

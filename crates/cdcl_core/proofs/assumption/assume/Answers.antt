@@ -1,4 +1,4 @@
-use Rattle.std.proofs.Common.{◌≡◌, ℕ, ◌≤◌, List, length, take, arith, refl}
+use Rattle.std.proofs.Common.{◌≤◌, length, refl}
 use Rattle.std.proofs.lemmas.List.{take_all}
 use Rattle.clause_model.proofs.Scans.{never}
 use Rattle.cdcl_core.proofs.Assumptions.{assumed_none, assumed_already, assumed_more, assumed_unset}

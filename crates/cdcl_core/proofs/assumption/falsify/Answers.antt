@@ -1,5 +1,5 @@
 use Rattle.std.proofs.Common.{length}
-use Rattle.cdcl_core.specs.Implied.{clauses_of, IsConflict, IsSettled, level_of}
+use Rattle.cdcl_core.specs.Implied.{level_of}
 use Rattle.cdcl_core.proofs.Grounds.{outcome_of}
 use Rattle.cdcl_core.proofs.Falsified.{first_falsifiable, second_falsifiable, assumed_ground, rule_from, falsified_ground, falsified_left, falsified_right, falsified_justified, falsified_settled}
 use Rattle.cdcl_core.proofs.assumption.falsify.Goals as goal

@@ -1,5 +1,5 @@
-use Rattle.std.proofs.Common.{◌≡◌, ◌≢◌, ◌<◌, ℕ, List, length, take, drop, sym, subst, ◌∙◌, ◌-◌, refl, ap, Option}
-use Rattle.std.specs.Prelude.{All, AllPairs, Contains}
+use Rattle.std.proofs.Common.{◌≢◌, ◌<◌, ℕ, List, length, take, drop, sym, subst, ◌∙◌, ◌-◌, ap, Option}
+use Rattle.std.specs.Prelude.{All, AllPairs}
 use Rattle.clause_arena.specs.Contents.{references_of, Clause}
 use Rattle.cdcl_core.specs.Implied.{level_of}
 use Rattle.cdcl_core.specs.Hinted.{HasReasons}

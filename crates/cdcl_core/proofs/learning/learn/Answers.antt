@@ -1,11 +1,9 @@
-use Rattle.std.proofs.Common.{◌≡◌, ℕ, List, [], ◌∷◌, ◌++◌, length, take, refl, sym, ◌∙◌, ap, subst, ◌≤◌, arith}
+use Rattle.std.proofs.Common.{ℕ, List, [], ◌∷◌, ◌++◌, length, take, refl, sym, ◌∙◌, ap, subst, ◌≤◌, arith}
 use Rattle.std.specs.Prelude.{All, Contains}
 use Rattle.clause_model.specs.Clauses.{IsFalse}
 use Rattle.clause_model.specs.Propagation.{numbered}
-use Rattle.clause_arena.specs.Contents.{references_of}
 use Rattle.cdcl_core.specs.Implied.{clauses_of, level_of, IsRefutable}
 use Rattle.cdcl_core.specs.Assumed.{CanFalsify}
-use Rattle.cdcl_core.specs.Analysed.{AtConflict}
 use Rattle.cdcl_core.specs.Hinted.{TidyPropagation}
 use Rattle.cdcl_core.proofs.Grounds.{ground_again, ground_onto}
 use Rattle.cdcl_core.proofs.Minimised.{falsifiable_here}

@@ -1,7 +1,7 @@
-use Rattle.std.proofs.Common.{◌≡◌, ℕ, List, [], ◌++◌, length, arith, take, subst}
-use Rattle.cdcl_core.specs.Implied.{clauses_of, Level, level_of, IsSettled}
+use Rattle.std.proofs.Common.{◌≡◌, ℕ, List, length, arith, take, subst}
+use Rattle.cdcl_core.specs.Implied.{clauses_of, level_of, IsSettled}
 use Rattle.cdcl_core.proofs.Grounds.{ground_again, ground_onto}
-use Rattle.cdcl_core.proofs.Minimised.{Minimised, Minimised-begun, Minimised-done, done_refutable, done_freed, done_subset, nil_from_length, popped_falsifiable, popped_dropped, popped_kept, falsifiable_here}
+use Rattle.cdcl_core.proofs.Minimised.{Minimised-begun, Minimised-done, done_refutable, done_freed, done_subset, nil_from_length, popped_falsifiable, popped_dropped, popped_kept, falsifiable_here}
 use Rattle.cdcl_core.proofs.minimising.minimise.Goals as goal
 
 pub loop-literal-init : goal.loop-literal-init

@@ -1,4 +1,4 @@
-use Rattle.std.proofs.Common.{◌≡◌, ℕ, ◌+◌, ◌*◌, ◌<◌, ◌≤◌, List, length, refl, sym, ◌∙◌, subst, arith, ap, length-append, [], ◌∷◌}
+use Rattle.std.proofs.Common.{◌≡◌, ℕ, ◌+◌, ◌*◌, ◌≤◌, List, length, refl, sym, ◌∙◌, subst, arith, ap, length-append, [], ◌∷◌}
 use Rattle.clause_model.specs.Asserting.{IsAsserting}
 use Rattle.cdcl_core.specs.Implied.{clauses_of, level_of}
 use Rattle.cdcl_core.proofs.Grounds.{ground_again, ground_onto}

@@ -1,4 +1,4 @@
-use Rattle.std.proofs.Common.{ℕ, ◌+◌, ◌*◌, ◌<◌, ◌≤◌, inl, inr, arith, refl}
+use Rattle.std.proofs.Common.{◌*◌, inl, inr, arith, refl}
 use Rattle.std.proofs.lemmas.Bool.{cases_lt}
 use Rattle.clause_model.proofs.Scans.{never}
 use Rattle.cdcl_core.proofs.Searches.{room_for, unset_with}

@@ -1,4 +1,4 @@
-use Rattle.std.proofs.Common.{◌≡◌, ℕ, List, length, sym, subst, Option, Some, None}
+use Rattle.std.proofs.Common.{ℕ, List, length, sym, subst, Option, Some, None}
 use Rattle.cdcl_core.specs.Implied.{clauses_of}
 use Rattle.cdcl_core.specs.Searched.{IsBase}
 use Rattle.cdcl_core.proofs.Adopted.{base_later, base_here, conflict_is, no_conflict_is}

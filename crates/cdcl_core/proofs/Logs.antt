@@ -1,0 +1,86 @@
+-- The log that a solver keeps.
+use Rattle.std.proofs.Common.{◌≡◌, ℕ, ◌+◌, ◌*◌, ◌<◌, ◌≤◌, List, [], ◌∷◌, ◌++◌, length, get_or, take, map, length-append, append-nil, append_assoc, refl, sym, ◌∙◌, ap, inl, inr, arith, Option, subst}
+use Rattle.std.specs.Prelude.{All, Any, Contains}
+use Rattle.std.proofs.lemmas.Bool.{cases_lt}
+use Rattle.std.proofs.lemmas.List.{length-map, map_push, take-append-le, take_at, get_or_push, get_or_append_left}
+use Rattle.std.proofs.Math.Nat.{mul-le-mul_left, mul-le-mul_right}
+use Rattle.clause_model.specs.Asserting.{IsAsserting}
+use Rattle.clause_arena.specs.Contents.{Clause, Content}
+use Rattle.lrat_check.specs.declared.line.Line.{Line}
+use Rattle.lrat_check.specs.declared.line.Line.TheVariants.{Addition as Adding}
+use Rattle.lrat_check.specs.declared.line.Addition.{Addition}
+use Rattle.cdcl_core.specs.Implied.{clauses_of}
+use Rattle.cdcl_core.specs.Searched.{IsBase, IsModelOf, Adds}
+use Rattle.cdcl_core.specs.Solved.{literals_in, with_log, Teaches, IsLog, IsRefutation}
+use Rattle.cdcl_core.proofs.Lists.{All-left}
+
+-- what holds after so many lines
+pub record Running (formula : List (List ℕ)) (size : ℕ) (content : Content) (refs : List ℕ) (reasons : List (Option ℕ)) (trail : List ℕ) (conflict : Option ℕ) (log : List Line) (round : ℕ) : Type 0 where
+  pub base : IsBase (with_log formula log) size content refs reasons trail conflict
+  pub each : IsLog formula log
+  pub count : length log ≡ round
+
+pub running_begun : (formula : List (List ℕ)) (size : ℕ) (content : Content) (refs : List ℕ) (reasons : List (Option ℕ)) (trail : List ℕ) (conflict : Option ℕ) (log : List Line) → IsBase formula size content refs reasons trail conflict → log ≡ [] → Running formula size content refs reasons trail conflict log 0
+running_begun formula size content refs reasons trail conflict log b e = rw e record {
+  base = subst (λ (cs : List (List ℕ)). IsBase cs size content refs reasons trail conflict) (sym (append-nil formula)) b;
+  each = λ k d c. absurd (omega (arith, c));
+  count = refl;
+}
+
+with_more : (formula : List (List ℕ)) (log : List Line) (line : Line) → with_log formula (log ++ line ∷ []) ≡ with_log formula log ++ literals_in line ∷ []
+with_more formula log line = ap (λ (cs : List (List ℕ)). formula ++ cs) (map_push literals_in log line) ∙ sym (append_assoc formula (map literals_in log) (literals_in line ∷ []))
+
+pub log_more : (formula : List (List ℕ)) (log : List Line) (line : Line) → IsLog formula log → Teaches (with_log formula log) line → IsLog formula (log ++ line ∷ [])
+log_more formula log line h t k d b = elim (cases_lt k (length log)) [
+  | inl c ↦
+      let m : k ≤ length log = omega arith in
+      let p : take k (log ++ line ∷ []) ≡ take k log = take-append-le k log (line ∷ []) m in
+      let q : get_or (log ++ line ∷ []) k d ≡ get_or log k d = get_or_append_left log (line ∷ []) d k c in
+      rw (p, q) (h k d c)
+  | inr c ↦
+      let m : k ≡ length log = omega (arith, b, c, length-append log (line ∷ [])) in
+      let p : take k (log ++ line ∷ []) ≡ log = take_at log (line ∷ []) k (sym m) in
+      let q : get_or (log ++ line ∷ []) k d ≡ line = get_or_push log line d k (sym m) in
+      rw (p, q) t
+]
+
+module _ (formula : List (List ℕ)) (size : ℕ) (content : Content) (refs : List ℕ) (reasons : List (Option ℕ)) (trail : List ℕ) (conflict : Option ℕ) (log : List Line) (round : ℕ) (h : Running formula size content refs reasons trail conflict log round) where
+  -- how many clauses there are
+  pub clause_count : length (clauses_of content) ≡ length formula + round
+  clause_count = ap length h.base.clauses_are ∙ (length-append formula (map literals_in log) ∙ ap (λ (n : ℕ). length formula + n) (length-map log literals_in ∙ h.count))
+
+  pub reference_count : length refs ≡ length formula + round
+  reference_count = ap length h.base.numbered_by ∙ (length-map content.clauses (λ (c : Clause). c.at) ∙ (sym (length-map content.clauses (λ (c : Clause). c.literals)) ∙ clause_count))
+
+  pub formula_holds : (a : List ℕ) → IsModelOf (clauses_of content) a → All (λ clause. Any (Contains a) clause) formula
+  formula_holds a m = All-left (λ clause. Any (Contains a) clause) formula (map literals_in log) (subst (λ (cs : List (List ℕ)). All (λ clause. Any (Contains a) clause) cs) h.base.clauses_are m.holds)
+
+  pub refuted : (line : Addition) (log' : List Line) → log' ≡ log ++ Adding line ∷ [] → Adds (clauses_of content) line × (line.literals.items ≡ []) → IsRefutation formula log'
+  refuted line log' e r = (log, Adding line, e, h.each, (subst (λ (cs : List (List ℕ)). Adds cs line) h.base.clauses_are r.0, r.1))
+
+  pub running_more : (line : Addition) (literals : List ℕ) (log' : List Line) (content' : Content) (refs' : List ℕ) (reasons' : List (Option ℕ)) (trail' : List ℕ) (conflict' : Option ℕ) → log' ≡ log ++ Adding line ∷ [] → literals ≡ line.literals.items
+      → Adds (clauses_of content) line × IsAsserting (clauses_of content) line.literals.items → (later : Content) (size' : ℕ) → clauses_of later ≡ clauses_of content → size' ≡ size → IsBase (clauses_of later ++ literals ∷ []) size' content' refs' reasons' trail' conflict' → Running formula size content' refs' reasons' trail' conflict' log' (round + 1)
+  running_more line literals log' content' refs' reasons' trail' conflict' e f t later size' g i b = rw e record {
+    base =
+        let p : clauses_of later ++ literals ∷ [] ≡ with_log formula (log ++ Adding line ∷ []) = ap (λ (cs : List (List ℕ)). cs ++ literals ∷ []) (g ∙ h.base.clauses_are) ∙ (ap (λ (ls : List ℕ). with_log formula log ++ ls ∷ []) f ∙ sym (with_more formula log (Adding line))) in
+        subst (λ (cs : List (List ℕ)). IsBase cs size content' refs' reasons' trail' conflict') p (subst (λ (n : ℕ). IsBase (clauses_of later ++ literals ∷ []) n content' refs' reasons' trail' conflict') i b);
+    each = log_more formula log (Adding line) h.each (subst (λ (cs : List (List ℕ)). Adds cs line) h.base.clauses_are t.0, subst (λ (cs : List (List ℕ)). IsAsserting cs line.literals.items) h.base.clauses_are t.1);
+    count = omega (arith, h.count, length-append log (Adding line ∷ []));
+  }
+
+-- an asserting clause isn't empty
+pub asserting_some : (clauses : List (List ℕ)) (literals codes : List ℕ) → codes ≡ literals → IsAsserting clauses literals → 0 < length codes
+asserting_some clauses literals codes e s = let b : s.1.2.0 < length literals = s.1.2.1 in omega (arith, b, ap length e)
+
+-- the decisions and conflicts of so many searches
+pub rounds_more : (r w : ℕ) → (r + 1) * w ≡ r * w + w
+rounds_more r w = grind arith
+
+pub rounds_within : (r b w : ℕ) → r + 1 ≤ b → r * w + w ≤ b * w
+rounds_within r b w h = omega (arith, rounds_more r w, mul-le-mul_right {m = r + 1} {n = b} w h)
+
+pub budget_within : (b w n : ℕ) → w ≤ n → b * (w + 1) ≤ (b + 1) * (n + 1)
+budget_within b w n h =
+    let p : b * (w + 1) ≤ b * (n + 1) = mul-le-mul_left {m = w + 1} {n = n + 1} b (omega arith) in
+    let q : b * (n + 1) ≤ (b + 1) * (n + 1) = mul-le-mul_right {m = b} {n = b + 1} (n + 1) (omega arith) in
+    omega (arith, p, q)

@@ -1,0 +1,150 @@
+//! The solver.
+
+ghost use Rattle.std.specs.Prelude.{◌≡◌, ◌≢◌, ℕ, ◌+◌, ◌*◌, ◌<◌, ◌≤◌, ◌^◌, ◌∷◌, [], ◌++◌, OnOk, OnErr, IfOk, All, IsTrue, ◌↔◌, List, length, map, Contains};
+ghost use Rattle.clause_model.specs.Literals.{codes_of};
+ghost use Rattle.cnf_gates.specs.Cnf.{IsLiteral};
+ghost use Rattle.cnf_gates.specs.Meaning.{assigned};
+ghost use Rattle.cdcl_core.specs.Searched.{IsBase};
+ghost use Rattle.cdcl_core.specs.Solved.{AreBelow, VerdictOf, literals_in};
+
+use crate::adopting::adopt;
+use crate::formulas::{has_empty, load, reach};
+use crate::search::{Ending, search};
+use clause_arena::{Arena, Memory, Ref};
+use clause_model::{Assignment, Literal};
+use cnf_gates::{Formula, Model};
+use lrat_check::{Addition, Id, Line};
+use std::alloc::Global;
+use step_ledger::{Ledger, Steps};
+
+/// What a solver found.
+#[derive(Drop)]
+pub enum Verdict {
+    /// A model of the formula.
+    Sat(Model),
+    /// The formula has no model: the log's last clause is empty, or there is no line where a clause
+    /// of the formula is empty.
+    Unsat(Vec<Line>),
+    /// As many clauses were learnt as the budget allows, and none is empty.
+    Spent(Vec<Line>),
+}
+
+/// The values that make the true literals true.
+fn model_of(alloc: Global, variables: u32, trail: &Assignment) -> Result<Model, Memory>
+    requires { variables ≤ 200000 }
+    ensures { IfOk result (λ m. (v : ℕ) → v < variables → (IsTrue (assigned m v) ↔ Contains trail.now (2 * v))) }
+{
+    let mut values = Vec::new(alloc);
+    for variable in 0..variables {
+        let literal = Literal::new(variable, false);
+        values.push(trail.is_true(literal))?;
+    }
+    Ok(Model::new(values))
+}
+
+/// The codes of a line's literals.
+fn codes_in(alloc: Global, line: &Addition) -> Result<Vec<u32>, Memory>
+    ensures { IfOk result (λ v. v.items ≡ line.now.literals.items) }
+{
+    let mut found = Vec::new(alloc);
+    for literal in &line.literals {
+        found.push(literal.code())?;
+    }
+    Ok(found)
+}
+
+/// Searches again and again, until there is a model, the empty clause, or no budget.
+fn run<L: Ledger>(
+    alloc: Global,
+    formula: &Formula,
+    budget: u32,
+    arena: &mut Arena,
+    refs: &mut Vec<Ref>,
+    trail: &mut Assignment,
+    reasons: &mut Vec<Option<Ref>>,
+    variables: u32,
+    conflict: Option<Ref>,
+    steps: &mut Steps<L>,
+) -> Result<Verdict, Memory>
+    requires ids { budget + length formula.now.clauses ≤ 4294967295 }
+    requires variables { variables ≤ 200000 }
+    requires size { length arena.old.chains ≡ 2 * variables }
+    requires literals { All (λ clause. All IsLiteral clause) formula.now.clauses }
+    requires below { AreBelow variables (codes_of formula.now.clauses) }
+    requires base { IsBase (codes_of formula.now.clauses) (length arena.old.chains) arena.old refs.old.items reasons.old.items trail.old conflict }
+    ensures verdict { IfOk result (VerdictOf formula.now budget) }
+    ensures cost { steps.new ≤ steps.old + budget * (variables + 1) }
+{
+    let mut log = Vec::new(alloc);
+    let mut seen = Assignment::new(alloc);
+    let mut current = conflict;
+    for round in 0..budget {
+        let id = Id::new(formula.clauses() as u32 + round + 1);
+        let before = current;
+        match search(
+            alloc, arena, refs, trail, reasons, &mut seen, variables, before, id, steps,
+        )? {
+            Ending::Model => {
+                let _trues = trail.len();
+                let model = model_of(alloc, variables, trail)?;
+                return Ok(Verdict::Sat(model));
+            }
+            Ending::Refuted(line) => {
+                log.push(Line::Addition(line))?;
+                return Ok(Verdict::Unsat(log));
+            }
+            Ending::Taught(line) => {
+                let literals = codes_in(alloc, &line)?;
+                current = adopt(arena, refs, trail, reasons, None, &literals)?;
+                log.push(Line::Addition(line))?;
+            }
+        }
+    }
+    Ok(Verdict::Spent(log))
+}
+
+/// Whether the formula has a model, as far as so many learnt clauses tell.
+///
+/// The log has no deletion, and its lines follow by reverse unit propagation, with the hints that
+/// show it; each but the empty one adds a clause that is new and has no literal to spare. The steps
+/// are the decisions and conflicts.
+pub fn solve<L: Ledger>(
+    alloc: Global,
+    formula: &Formula,
+    budget: u32,
+    steps: &mut Steps<L>,
+) -> Result<Verdict, Memory>
+    requires { budget + length formula.now.clauses ≤ 4294967295 }
+    ensures verdict { IfOk result (VerdictOf formula.now budget) }
+    ensures cost { (n : ℕ) → formula.now.variables ≤ n → AreBelow n (codes_of formula.now.clauses) → steps.new ≤ steps.old + (budget + 1) * (n + 1) }
+{
+    if has_empty(formula) {
+        return Ok(Verdict::Unsat(Vec::new(alloc)));
+    }
+    let variables = reach(formula);
+    let mut arena = Arena::new(alloc, variables)?;
+    let mut refs = Vec::new(alloc);
+    let mut trail = Assignment::new(alloc);
+    let mut reasons = Vec::new(alloc);
+    let conflict = load(
+        alloc,
+        formula,
+        &mut arena,
+        &mut refs,
+        &mut trail,
+        &mut reasons,
+    )?;
+    let verdict = run(
+        alloc,
+        formula,
+        budget,
+        &mut arena,
+        &mut refs,
+        &mut trail,
+        &mut reasons,
+        variables,
+        conflict,
+        steps,
+    )?;
+    Ok(verdict)
+}
