@@ -1,3 +1,4 @@
 pub mod Table
 pub mod Text
 pub mod Views
+pub mod Canonical

@@ -3,11 +3,15 @@
 
 mod errors;
 mod lines;
+mod map;
 mod table;
 #[cfg(test)]
 mod tests;
+mod windows;
 mod writing;
 
 pub use errors::Memory;
+pub use map::Map;
 pub use table::{Entry, Open, Table};
+pub use windows::canonical;
 pub use writing::write_table;

@@ -3,7 +3,9 @@ use fingerprints::seeded;
 use lrat_check::read_line;
 use seq_enum::Pool;
 use std::test::Fail;
-use thumb_instr::{Extension, Instr, Items, Mask, Right, Seq, Within};
+use thumb_instr::{
+    ByteOperation, Extension, Instr, Items, Mask, Operation, Right, Seq, Sum, Within,
+};
 
 /// The text of a table of one rule, by hand: left and right sides, mask, proof, open number and the first state of seed 42.
 const BEGIN: &[u8] =
@@ -68,5 +70,49 @@ fn a_table_is_written(rt: HostRuntime) -> Result<(), Fail> {
     assert!(rt; text.starts_with(BEGIN));
     assert!(rt; text.ends_with(END));
     assert_eq!(rt; text.iter().filter(|b| **b == b'\n').count(), 6 + 64 + 12);
+    Ok(())
+}
+
+#[test]
+fn windows_are_renamed(rt: HostRuntime) -> Result<(), Fail> {
+    let product = Instr::Two {
+        operation: Operation::Mul,
+        target: Within::of(5),
+        other: Within::of(3),
+    };
+    let sum = Instr::ThreeNumber {
+        sum: Sum::Add,
+        target: Within::of(3),
+        source: Within::of(3),
+        number: Within::of(7),
+    };
+    let items = Items::of(&[0, 3, 16]);
+    let (seq, map, mask) = canonical(&[product, sum], items).ok_or("a window")?;
+    let first = Instr::Two {
+        operation: Operation::Mul,
+        target: Within::of(0),
+        other: Within::of(1),
+    };
+    let second = Instr::TwoNumber {
+        operation: ByteOperation::Add,
+        target: Within::of(1),
+        number: Within::of(7),
+    };
+    assert!(rt; seq.as_slice() == [first, second].as_slice());
+    assert_eq!(rt; map.get(0), Some(Within::of(5)));
+    assert_eq!(rt; map.get(1), Some(Within::of(3)));
+    assert_eq!(rt; map.get(2), None);
+    assert_eq!(rt; mask.items.bits, (1 << 1) + (1 << 16));
+    assert!(rt; canonical(&[], items).is_none());
+    assert!(rt; canonical(&[Instr::default()], items).is_none());
+    assert!(rt; canonical(&[sum, sum, sum, sum, sum, sum], items).is_none());
+    let other = Instr::Three {
+        sum: Sum::Sub,
+        target: Within::of(0),
+        left: Within::of(1),
+        right: Within::of(2),
+    };
+    assert!(rt; canonical(&[product, other], items).is_none());
+    assert!(rt; canonical(&[sum, other], items).is_some());
     Ok(())
 }

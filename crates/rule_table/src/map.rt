@@ -1,0 +1,45 @@
+ghost use Rattle.std.specs.Prelude.{◌≡◌, ◌≤◌, length, map, slice_get, Some};
+ghost use Rattle.std.specs.Option.{option_and_then};
+
+use arrayvec::ArrayVec;
+use std::marker::Model;
+use thumb_instr::Low;
+
+/// The registers that stand in place of r0, r1 and so on, where there are some.
+#[derive(Drop)]
+pub struct Map {
+    registers: ArrayVec<Option<Low>, 8>,
+}
+
+impl Model for Map {
+    ghost use Rattle.std.specs.Prelude.{List, Option};
+    ghost use Rattle.thumb_instr.specs.declared.within.Within.{Within};
+
+    ghost Value = { List (Option (Within 0 8)) };
+
+    ghost view = { λ m. m.registers.items };
+}
+
+impl Map {
+    /// The map to these registers.
+    pub(crate) fn to(registers: &[Low]) -> Map
+        requires { length registers.now ≤ 8 }
+        ensures { result ≡ map Some registers.now }
+    {
+        let mut given = ArrayVec::new();
+        for register in registers {
+            given.push(Some(*register));
+        }
+        Map { registers: given }
+    }
+
+    /// The register in place of a canonical one: None exactly where the map doesn't have that.
+    pub fn get(&self, canonical: u8) -> Option<Low>
+        ensures { result ≡ option_and_then (λ o. o) (slice_get self.now canonical) }
+    {
+        match self.registers.get(usize::from(canonical)) {
+            None => None,
+            Some(given) => *given,
+        }
+    }
+}

@@ -1,0 +1,201 @@
+//! Windows with their registers renamed by first appearance.
+ghost use Rattle.std.specs.Prelude.{◌≡◌, ◌<◌, ◌≤◌, ℕ, [], ◌∷◌, ◌&&◌, ◌==◌, true, length, map, slice_get, MatchOption};
+ghost use Rattle.std.specs.List.{list_all};
+ghost use Rattle.std.specs.Bool.{OnTrue, OnFalse};
+ghost use Rattle.thumb_instr.specs.Items.{has as has_item};
+ghost use Rattle.thumb_instr.specs.Window.{is_in_window, normal_of};
+ghost use Rattle.thumb_instr.specs.Renaming.{renamed};
+ghost use Rattle.rule_table.specs.Canonical.{has, with_first, firsts, name_in, numbers_of, appearing, register_has, masked, IsRenamable, IsCanonical};
+
+use crate::map::Map;
+use arrayvec::ArrayVec;
+use thumb_instr::{Instr, Items, Low, Mask, Seq, in_window, normal, registers_of, renamed};
+
+/// The window, normal, with its registers renamed r0, r1 and so on by first appearance, the map to its own registers, and the items that
+/// are its registers, by their new names, or flags. None exactly where the slice is empty or longer than five, some instruction may not
+/// stand in a window, or more than four registers are named.
+pub fn canonical(window: &[Instr], items: Items) -> Option<(Seq, Map, Mask)>
+    ensures { MatchOption result (IsRenamable window.now → ⊥) (λ c. IsRenamable window.now × IsCanonical window.now items.bits c.0 c.1 c.2.items.bits) }
+{
+    if window.is_empty() || window.len() > 5 || !are_windows(window) {
+        return None;
+    }
+    let normal = normalised(window);
+    match order_of(normal.as_slice()) {
+        None => None,
+        Some(order) => {
+            let names = names_of(&order);
+            let seq = renamed_all(normal.as_slice(), names.as_slice());
+            Some((seq, Map::to(&order), mask_of(items, &order)))
+        }
+    }
+}
+
+/// Whether each instruction may stand in a window.
+fn are_windows(instrs: &[Instr]) -> bool
+    ensures { result ≡ list_all is_in_window instrs.now }
+{
+    instrs.iter().all(|instr| in_window(instr))
+}
+
+/// The instructions, each in its normal form.
+fn normalised(window: &[Instr]) -> Seq
+    requires { length window.now ≤ 5 }
+    ensures { result ≡ map normal_of window.now }
+{
+    let mut seq = Seq::new();
+    for instr in window {
+        seq.push(normal(*instr));
+    }
+    seq
+}
+
+/// The instructions under a map.
+fn renamed_all(instrs: &[Instr], registers: &[Low]) -> Seq
+    requires { length instrs.now ≤ 5 }
+    ensures { result ≡ map (renamed registers.now) instrs.now }
+{
+    let mut seq = Seq::new();
+    for instr in instrs {
+        seq.push(renamed(instr, registers));
+    }
+    seq
+}
+
+/// Whether a register is among those seen.
+fn has(seen: &[Low], register: Low) -> bool
+    ensures { result ≡ has (numbers_of seen.now) register.number }
+{
+    for other in seen {
+        if other.number == register.number {
+            return true;
+        }
+    }
+    false
+}
+
+/// Puts a register behind those seen, where it isn't among them; false where there is no room.
+fn see(seen: &mut ArrayVec<Low, 4>, register: Low) -> bool
+    ensures yes { OnTrue result (numbers_of seen.new.items ≡ with_first (numbers_of seen.old.items) register.number) }
+    ensures room { OnTrue result (length seen.new.items ≤ 4) }
+    ensures no { OnFalse result (4 < length (with_first (numbers_of seen.old.items) register.number)) }
+{
+    if has(seen, register) {
+        seen.len() <= 4
+    } else {
+        seen.try_push(register).is_ok()
+    }
+}
+
+/// Puts registers behind those seen, each where it isn't among them; false where there is no room.
+#[tactic(auto, using(crate::proofs::Orders::order))]
+fn see_all(seen: &mut ArrayVec<Low, 4>, registers: &[Low]) -> bool
+    requires { length seen.old.items ≤ 4 }
+    ensures yes { OnTrue result (numbers_of seen.new.items ≡ firsts (numbers_of seen.old.items) (numbers_of registers.entry.now)) }
+    ensures room { OnTrue result (length seen.new.items ≤ 4) }
+    ensures no { OnFalse result (4 < length (firsts (numbers_of seen.old.items) (numbers_of registers.entry.now))) }
+{
+    for register in registers {
+        if !see(seen, *register) {
+            return false;
+        }
+    }
+    true
+}
+
+/// The registers that instructions name, in order of first appearance; None where there are more than four.
+#[tactic(auto, using(crate::proofs::Orders::orders))]
+fn order_of(instrs: &[Instr]) -> Option<ArrayVec<Low, 4>>
+    requires { list_all is_in_window instrs.now ≡ true }
+    ensures { MatchOption result (4 < length (appearing instrs.now)) (λ m. (numbers_of m.items ≡ appearing instrs.now) × (length m.items ≤ 4)) }
+{
+    let mut seen = ArrayVec::new();
+    for instr in instrs {
+        if !see_all(&mut seen, &registers_of(instr)) {
+            return None;
+        }
+    }
+    Some(seen)
+}
+
+/// The place of a register in the order; past the end where it has none.
+#[tactic(auto, unfolding(crate::specs::Canonical::name_in))]
+fn name_in(order: &[Low], register: u32) -> u32
+    requires { length order.now ≤ 4 }
+    ensures value { result ≡ name_in (numbers_of order.now) register }
+    ensures small { result ≤ 4 }
+{
+    let mut place = 0;
+    for other in order {
+        if other.number == register {
+            return place;
+        }
+        place += 1;
+    }
+    place
+}
+
+/// The name of r0 to r7 by a place.
+fn name_of(order: &[Low], register: u32) -> Low
+    requires { length order.now ≤ 4 }
+    ensures { result.number ≡ name_in (numbers_of order.now) register }
+{
+    Low::of(name_in(order, register))
+}
+
+/// The names of r0 to r7 by their order.
+fn names_of(order: &[Low]) -> [Low; 8]
+    requires { length order.now ≤ 4 }
+    ensures { numbers_of result ≡ map (name_in (numbers_of order.now)) (0 ∷ 1 ∷ 2 ∷ 3 ∷ 4 ∷ 5 ∷ 6 ∷ 7 ∷ []) }
+{
+    [
+        name_of(order, 0),
+        name_of(order, 1),
+        name_of(order, 2),
+        name_of(order, 3),
+        name_of(order, 4),
+        name_of(order, 5),
+        name_of(order, 6),
+        name_of(order, 7),
+    ]
+}
+
+/// An item under another name, where it is one of these.
+fn kept(items: Items, item: u8, name: u8) -> Items
+    requires item { item < 19 }
+    requires name { name < 19 }
+    ensures { (x : ℕ) → has_item result.bits x ≡ (has_item items.bits item && (x == name)) }
+{
+    if items.has(item) {
+        Items::one(name)
+    } else {
+        Items::none()
+    }
+}
+
+/// A register under its name, where it is one of the items.
+fn kept_at(items: Items, order: &[Low], name: u8) -> Items
+    requires { name < 4 }
+    ensures { (x : ℕ) → has_item result.bits x ≡ (register_has items.bits (slice_get (numbers_of order.now) name) && (x == name)) }
+{
+    match order.get(usize::from(name)) {
+        None => Items::none(),
+        Some(register) => kept(items, register.number as u8, name),
+    }
+}
+
+/// The items by their names.
+fn mask_of(items: Items, order: &[Low]) -> Mask
+    ensures { (x : ℕ) → has_item result.items.bits x ≡ masked items.bits (numbers_of order.now) x }
+{
+    let registers = kept_at(items, order, 0)
+        .union(kept_at(items, order, 1))
+        .union(kept_at(items, order, 2))
+        .union(kept_at(items, order, 3));
+    let named = registers
+        .union(kept(items, 15, 15))
+        .union(kept(items, 16, 16))
+        .union(kept(items, 17, 17))
+        .union(kept(items, 18, 18));
+    Mask::of(named)
+}
