@@ -9,6 +9,7 @@ mod formulas;
 mod hinting;
 mod learning;
 mod minimising;
+mod order;
 mod search;
 mod solving;
 #[cfg(test)]

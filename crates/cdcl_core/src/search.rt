@@ -1,6 +1,6 @@
 //! The search for a model: decisions, until each clause is true or one is false.
 
-ghost use Rattle.std.specs.Prelude.{◌≡◌, ℕ, ◌+◌, ◌*◌, ◌<◌, ◌≤◌, ◌^◌, OnOk, IfOk, IfSome, None, Some, All, List, [], length, IsTrue, ◌↔◌};
+ghost use Rattle.std.specs.Prelude.{◌≡◌, ℕ, ◌+◌, ◌*◌, ◌<◌, ◌≤◌, ◌^◌, OnOk, IfOk, IfSome, None, Some, All, List, [], length};
 ghost use Rattle.clause_model.specs.Clauses.{IsUnset};
 ghost use Rattle.unit_propagation.specs.Watching.{Rule};
 ghost use Rattle.cdcl_core.specs.Implied.{clauses_of, IsConflict};
@@ -9,6 +9,7 @@ ghost use Rattle.cdcl_core.specs.Searched.{IsBase, Adds, EndsAs, GoesOn};
 use crate::assumption::back;
 use crate::hinting::derive;
 use crate::learning::learn;
+use crate::order::{Order, is_unset};
 use clause_arena::{Arena, Memory, Ref};
 use clause_model::{Assignment, Literal};
 use lrat_check::{Addition, Id};
@@ -27,14 +28,8 @@ pub enum Ending {
     Taught(Addition),
 }
 
-fn is_unset(trail: &Assignment, literal: Literal) -> bool
-    ensures { IsTrue result ↔ IsUnset trail.now literal }
-{
-    !trail.is_true(literal) && !trail.is_true(literal.negated())
-}
-
-/// An unset literal of the first variables.
-fn pick(variables: u32, trail: &Assignment) -> Option<Literal>
+/// An unset literal of the first variables, that which the order proposes, if it does.
+fn pick(order: &mut Order, variables: u32, trail: &Assignment) -> Option<Literal>
     requires few { variables ≤ 200000 }
     requires bounded { All (λ l. l < 2 * variables) trail.now }
     ensures none { result ≡ None → (l : ℕ) → l < 2 * variables → IsUnset trail.now l → ⊥ }
@@ -42,6 +37,10 @@ fn pick(variables: u32, trail: &Assignment) -> Option<Literal>
     ensures room { IfSome result (λ l. length trail.now < variables) }
 {
     let _trues = trail.len();
+    match order.propose(variables, trail) {
+        Some(literal) => return Some(literal),
+        None => {}
+    }
     for variable in 0..variables {
         let literal = Literal::new(variable, true);
         if is_unset(trail, literal) {
@@ -80,6 +79,7 @@ fn decide<L: Ledger>(
     trail: &mut Assignment,
     reasons: &mut Vec<Option<Ref>>,
     seen: &mut Assignment,
+    order: &mut Order,
     variables: u32,
     id: Id,
     steps: &mut Steps<L>,
@@ -95,10 +95,11 @@ fn decide<L: Ledger>(
     ensures cost { steps.new ≤ steps.old + variables + 1 }
 {
     let low = trail.len();
+    order.begin();
     'deciding: loop {
         let _literals = arena.literals();
         let start = trail.len();
-        match pick(variables, trail) {
+        match pick(order, variables, trail) {
             None => return Ok(Ending::Model),
             Some(literal) => {
                 steps.tick();
@@ -108,10 +109,12 @@ fn decide<L: Ledger>(
                     None => {}
                     Some(conflict) => {
                         steps.tick();
+                        order.save(trail.literals());
                         let line = learn(
                             alloc, arena, refs, trail, reasons, seen, low, start, conflict, id,
                         )?;
                         back(trail, reasons, low);
+                        order.bump(seen.literals(), trail)?;
                         return Ok(Ending::Taught(line));
                     }
                 }
@@ -128,6 +131,7 @@ pub fn search<L: Ledger>(
     trail: &mut Assignment,
     reasons: &mut Vec<Option<Ref>>,
     seen: &mut Assignment,
+    order: &mut Order,
     variables: u32,
     conflict: Option<Ref>,
     id: Id,
@@ -157,7 +161,7 @@ pub fn search<L: Ledger>(
             None => {
                 let _literals = arena.literals();
                 let ending = decide(
-                    alloc, arena, refs, trail, reasons, seen, variables, id, steps,
+                    alloc, arena, refs, trail, reasons, seen, order, variables, id, steps,
                 )?;
                 Ok(ending)
             }

@@ -9,6 +9,7 @@ ghost use Rattle.cdcl_core.specs.Solved.{AreBelow, VerdictOf, literals_in};
 
 use crate::adopting::adopt;
 use crate::formulas::{has_empty, load, reach};
+use crate::order::Order;
 use crate::search::{Ending, search};
 use clause_arena::{Arena, Memory, Ref};
 use clause_model::{Assignment, Literal};
@@ -77,12 +78,13 @@ fn run<L: Ledger>(
 {
     let mut log = Vec::new(alloc);
     let mut seen = Assignment::new(alloc);
+    let mut order = Order::new(alloc, variables)?;
     let mut current = conflict;
     for round in 0..budget {
         let id = Id::new(formula.clauses() as u32 + round + 1);
         let before = current;
         match search(
-            alloc, arena, refs, trail, reasons, &mut seen, variables, before, id, steps,
+            alloc, arena, refs, trail, reasons, &mut seen, &mut order, variables, before, id, steps,
         )? {
             Ending::Model => {
                 let _trues = trail.len();

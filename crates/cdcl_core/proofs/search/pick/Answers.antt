@@ -18,3 +18,6 @@ returns-then-is_unset-clause-some c = (c.if-is_unset.ensures.0 refl, omega (arit
 
 pub returns-clause-none : goal.returns-clause-none
 returns-clause-none c = λ e x b u. c.loop-variable.invariant x (omega (arith, c.loop-variable-test.false, b)) u
+
+pub returns-in-Some-clause-room : goal.returns-in-Some-clause-room
+returns-in-Some-clause-room c = room_for c.args.variables c.args.trail.now c.in-Some.literal c.len-trues.ensures.consistent c.len-trues.ensures.distinct c.requires.bounded c.in-Some.ensures.0 c.in-Some.ensures.1
