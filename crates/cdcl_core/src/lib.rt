@@ -7,6 +7,7 @@ mod assumption;
 mod certifying;
 mod formulas;
 mod hinting;
+pub mod laws;
 mod learning;
 mod minimising;
 mod order;
