@@ -1,5 +1,5 @@
-//! The order of decisions, which only proposes: variables that took part in a conflict come first,
-//! the latest before all, and each takes the value that it had last.
+//! The order of decisions, which only proposes: variables come by their numbers, and each takes the
+//! value that it had last.
 
 ghost use Rattle.std.specs.Prelude.{ℕ, ◌*◌, ◌<◌, ◌≤◌, IfSome, IsTrue, ◌↔◌, ◌≡◌, ◌+◌, ◌^◌, ◌⊎◌};
 ghost use Rattle.clause_model.specs.Clauses.{IsUnset};
@@ -11,12 +11,7 @@ use std::alloc::Global;
 /// Which variable is decided next, and how.
 #[derive(Drop)]
 pub struct Order {
-    alloc: Global,
-    /// The variables of the latest conflicts, the latest last.
-    recent: Vec<u32>,
-    /// How many of these are still to be proposed in this search.
-    cursor: usize,
-    /// The first variable that was not proposed by its number in this search.
+    /// The first variable that was not proposed in this search.
     next: u32,
     /// Whether a variable was false when it had a value last.
     phases: Vec<bool>,
@@ -33,18 +28,11 @@ impl Order {
     /// No conflict yet.
     pub fn new(alloc: Global, variables: u32) -> Result<Self, Memory> {
         let phases = vec![in alloc; true; variables as usize]?;
-        Ok(Order {
-            alloc,
-            recent: Vec::new(alloc),
-            cursor: 0,
-            next: 0,
-            phases,
-        })
+        Ok(Order { next: 0, phases })
     }
 
-    /// Begins with the latest variables again.
+    /// Begins with the first variable again.
     pub fn begin(&mut self) {
-        self.cursor = self.recent.len();
         self.next = 0;
     }
 
@@ -60,26 +48,8 @@ impl Order {
         }
     }
 
-    /// An unset literal of the latest variables.
-    fn propose_recent(&mut self, variables: u32, trail: &Assignment) -> Option<Literal>
-        requires { variables ≤ 200000 }
-        ensures { IfSome result (λ l. IsUnset trail.now l × (l < 2 * variables)) }
-    {
-        while self.cursor > 0 {
-            self.cursor -= 1;
-            let variable = self.recent.get(self.cursor).copied().unwrap_or(0);
-            if variable < variables {
-                let literal = self.literal(variable);
-                if is_unset(trail, literal) {
-                    return Some(literal);
-                }
-            }
-        }
-        None
-    }
-
-    /// An unset literal, the next by its number.
-    fn propose_next(&mut self, variables: u32, trail: &Assignment) -> Option<Literal>
+    /// The next unset literal, if there is one.
+    pub fn propose(&mut self, variables: u32, trail: &Assignment) -> Option<Literal>
         requires { variables ≤ 200000 }
         ensures { IfSome result (λ l. IsUnset trail.now l × (l < 2 * variables)) }
     {
@@ -93,17 +63,6 @@ impl Order {
         None
     }
 
-    /// An unset literal, if one is found.
-    pub fn propose(&mut self, variables: u32, trail: &Assignment) -> Option<Literal>
-        requires { variables ≤ 200000 }
-        ensures { IfSome result (λ l. IsUnset trail.now l × (l < 2 * variables)) }
-    {
-        match self.propose_recent(variables, trail) {
-            Some(literal) => Some(literal),
-            None => self.propose_next(variables, trail),
-        }
-    }
-
     /// Keeps the values that variables have.
     pub fn save(&mut self, literals: &[Literal]) {
         for literal in literals {
@@ -112,19 +71,5 @@ impl Order {
                 *phase = negative;
             }
         }
-    }
-
-    /// Brings forward the variables that are unset.
-    pub fn bump(&mut self, literals: &[Literal], trail: &Assignment) -> Result<(), Memory> {
-        for literal in literals {
-            if !trail.is_true(*literal) {
-                self.recent.push(literal.variable())?;
-            }
-        }
-        let len = self.recent.len();
-        if len > 1000 && len / 8 > self.phases.len() {
-            self.recent = Vec::from_slice(self.alloc, &self.recent[len / 2..])?;
-        }
-        Ok(())
     }
 }

@@ -114,7 +114,6 @@ fn decide<L: Ledger>(
                             alloc, arena, refs, trail, reasons, seen, low, start, conflict, id,
                         )?;
                         back(trail, reasons, low);
-                        order.bump(seen.literals(), trail)?;
                         return Ok(Ending::Taught(line));
                     }
                 }
