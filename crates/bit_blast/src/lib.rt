@@ -9,8 +9,6 @@ pub mod laws;
 mod shifts;
 mod sides;
 mod state;
-#[cfg(test)]
-mod tests;
 mod words;
 
 pub use sides::formula;

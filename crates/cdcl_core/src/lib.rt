@@ -13,8 +13,6 @@ mod minimising;
 mod order;
 mod search;
 mod solving;
-#[cfg(test)]
-mod tests;
 
 pub use clause_arena::Memory;
 pub use solving::{Verdict, solve};

@@ -10,8 +10,6 @@ mod dimacs;
 mod errors;
 mod formula;
 pub mod laws;
-#[cfg(test)]
-mod tests;
 
 pub use assignment::Model;
 pub use bit::{Bit, Gate, LIMIT, Literal, Variable};

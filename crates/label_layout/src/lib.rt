@@ -6,8 +6,6 @@ mod errors;
 mod faults;
 mod laying;
 mod sizes;
-#[cfg(test)]
-mod tests;
 
 pub use addresses::Layout;
 pub use errors::{Kind, LayoutError};

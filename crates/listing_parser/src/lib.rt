@@ -13,8 +13,6 @@ mod replacing;
 mod splitting;
 mod statement;
 mod targets;
-#[cfg(test)]
-mod tests;
 mod twice;
 mod values;
 

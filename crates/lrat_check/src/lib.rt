@@ -14,6 +14,3 @@ pub use checker::Checker;
 pub use fault::LineFault;
 pub use line::{Addition, Deletion, Hint, Id, Line, VARIABLES};
 pub use text::{read_line, write_line};
-
-#[cfg(test)]
-mod tests;

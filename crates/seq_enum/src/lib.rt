@@ -8,8 +8,6 @@ mod pool;
 mod registers;
 mod rows;
 mod sequences;
-#[cfg(test)]
-mod tests;
 mod walk;
 
 pub use alphabet::size;

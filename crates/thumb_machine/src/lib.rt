@@ -7,8 +7,6 @@ mod answers;
 mod computing;
 mod distinct;
 mod event;
-#[cfg(test)]
-mod fit_tests;
 mod fitting;
 mod laying;
 mod lists;
@@ -20,11 +18,7 @@ mod points;
 mod popping;
 mod program;
 mod registers;
-#[cfg(test)]
-mod run_tests;
 mod system;
-#[cfg(test)]
-mod tests;
 mod walking;
 mod world;
 

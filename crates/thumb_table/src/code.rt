@@ -467,6 +467,3 @@ pub fn decode(first: u16, second: u16) -> Option<Instr>
     }
     None
 }
-
-#[cfg(test)]
-mod tests;

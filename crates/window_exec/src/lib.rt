@@ -7,8 +7,6 @@ mod register_file;
 mod sequence;
 mod state;
 mod stepping;
-#[cfg(test)]
-mod tests;
 
 pub use computing::{compute, computes, total, written};
 pub use register_file::{RegisterFile, flags};

@@ -2,11 +2,11 @@ ghost use Rattle.std.specs.Prelude.{◌≡◌, true, IsTrue, IfSome};
 ghost use Rattle.thumb_instr.specs.Window.{is_in_window};
 ghost use Rattle.thumb_instr.specs.Renaming.{named, AreBelow};
 
-use super::*;
 use std::test::Fail;
 use thumb_instr::items::Z;
 use thumb_instr::{Extension, Instr, Items, Mask, Operation, Right, Seq, Within, in_window};
 use thumb_table::decode;
+use window_exec::{WState, flags, run_seq, step, tells};
 
 /// 606 steps of an emulated Cortex-M0, nine numbers each: the halfword, r0 to r3 and NZCV before, the number of the register that may have
 /// been written, its value and NZCV after.

@@ -1,5 +1,5 @@
-use crate::{Checker, LineFault, read_line, write_line};
 use cnf_gates::{Bit, Builder, Formula};
+use lrat_check::{Checker, Hint, LineFault, read_line, write_line};
 use std::alloc::Global;
 use std::process::Abort;
 use std::test::Fail;

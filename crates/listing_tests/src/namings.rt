@@ -1,9 +1,9 @@
-use crate::naming::Naming;
 use indexmap::IndexMap;
 use label_layout::layout;
 use listing_parser::parse;
 use std::alloc::{AllocError, Global};
 use std::test::Fail;
+use thumb_machine::Naming;
 
 /// The seventeen lines of one function as gcc writes it, with a literal behind it.
 const FUNCTION: &[u8] =

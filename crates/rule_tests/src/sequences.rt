@@ -1,4 +1,4 @@
-use super::*;
+use seq_enum::{Pool, Walk, letters, number_of, seq_at, size};
 use std::test::Fail;
 use thumb_instr::{Extension, Instr, Seq, Sum, Within};
 

@@ -1,6 +1,6 @@
 ghost use Rattle.std.specs.Prelude.{◌≤◌, length};
 
-use crate::{Verdict, solve};
+use cdcl_core::{Verdict, solve};
 use cnf_gates::{Bit, Builder, Formula};
 use lrat_check::{Checker, Line};
 use std::alloc::Global;

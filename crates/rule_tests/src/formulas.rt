@@ -2,7 +2,7 @@ ghost use Rattle.std.specs.Prelude.{◌≡◌, true, IsTrue, IfSome};
 ghost use Rattle.thumb_instr.specs.Window.{is_in_window};
 ghost use Rattle.thumb_instr.specs.Renaming.{named, AreBelow};
 
-use crate::{formula, state_of};
+use bit_blast::{formula, state_of};
 use cnf_gates::{Formula, Model};
 use std::test::Fail;
 use thumb_instr::items::{C, N, V, Z};

@@ -1,10 +1,9 @@
-use super::*;
-use crate::row::Code;
 use std::test::Fail;
 use thumb_instr::{
     Barrier, ByteOperation, Condition, Distance, General, Instr, LowList, OffsetAccess, Operation,
     Right, Special, Stored, Sum, Within,
 };
+use thumb_table::{Code, decode, encode};
 
 /// The first halfwords of instructions of one halfword, as an assembler that is not ours reads them: the first and the last of each run.
 static RUNS: [(u16, u16); 226] = [

@@ -1,11 +1,8 @@
-use crate::answers::{Answer, Answers, Bytes};
-use crate::event::Event;
-use crate::machine::{Machine, Stage, State};
-use crate::naming::Naming;
 use indexmap::IndexMap;
 use listing_parser::parse;
 use std::alloc::{AllocError, Global};
 use std::test::Fail;
+use thumb_machine::{Answer, Answers, Bytes, Event, Machine, Naming, Stage, State};
 
 /// A machine and the answers that it is given.
 #[derive(Drop)]

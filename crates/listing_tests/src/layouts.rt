@@ -1,4 +1,4 @@
-use crate::{CODE_END, Kind, LayoutError, layout};
+use label_layout::{CODE_END, Kind, LayoutError, layout};
 use listing_parser::parse;
 use std::alloc::Global;
 use std::test::Fail;

@@ -1,7 +1,7 @@
 ghost use Rattle.std.specs.Prelude.{◌≡◌, true};
 ghost use Rattle.listing_parser.specs.Replacing.{names_no_label};
 
-use super::*;
+use listing_parser::{Line, Listing, ListingError, Memory, Place, Statement, Value, parse, print};
 use std::alloc::Global;
 use std::test::Fail;
 use thumb_instr::{Extension, Instr, Low};

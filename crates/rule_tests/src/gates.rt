@@ -1,4 +1,4 @@
-use crate::{Bit, Builder, Formula, GateError, LIMIT, Model, write_dimacs};
+use cnf_gates::{Bit, Builder, Formula, GateError, LIMIT, Model, write_dimacs};
 use std::alloc::Global;
 use std::test::Fail;
 

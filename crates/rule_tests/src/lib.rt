@@ -1,0 +1,15 @@
+//! Tests of the crates that make and check rules, over their public names.
+#![tactic(auto)]
+
+#[cfg(test)]
+mod formulas;
+#[cfg(test)]
+mod gates;
+#[cfg(test)]
+mod proofs_checked;
+#[cfg(test)]
+mod sequences;
+#[cfg(test)]
+mod solving;
+#[cfg(test)]
+mod standings;
