@@ -2,3 +2,4 @@ pub mod Table
 pub mod Text
 pub mod Views
 pub mod Canonical
+pub mod Valid
