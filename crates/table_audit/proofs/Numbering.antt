@@ -1,0 +1,88 @@
+-- The sequences with fewer instructions than some number, among all of an alphabet.
+use Rattle.std.proofs.Common.{◌≡◌, ℕ, zero, suc, ◌+◌, ◌-◌, ◌^◌, ◌<◌, ◌≤◌, List, [], ◌∷◌, ◌++◌, inl, inr, length, refl, sym, ◌∙◌, ap, arith, subst, Option, Some, None, slice_get, length-append, add-one, zero-add}
+use Rattle.std.specs.List.{flat_map}
+use Rattle.std.proofs.lemmas.List.Concat.{flat_map-append}
+use Rattle.std.proofs.lemmas.Option.{slice_get_within, same_Some}
+use Rattle.std.proofs.lemmas.Bool.Decides.{leb_tells}
+use Rattle.thumb_instr.specs.declared.instr.Instr.{Instr}
+use Rattle.seq_enum.specs.Lists.{numbers_from}
+use Rattle.seq_enum.specs.Places.{sum_below}
+use Rattle.seq_enum.specs.Alphabet.{alphabet, words, sequences, sequences_of}
+use Rattle.seq_enum.proofs.Numbered.{get_front, get_back, numbers_at, length-numbers, flat_map_at}
+use Rattle.seq_enum.proofs.Words.{length-words, word_length}
+use Rattle.table_audit.specs.Shorter.{sequences_below}
+
+-- numbers up to one, and from there on
+numbers_split : (first n m : ℕ) → numbers_from first (n + m) ≡ numbers_from first n ++ numbers_from (first + n) m
+unfolding numbers_from
+numbers_split first zero m =
+    let a : 0 + m ≡ m = omega arith in
+    let b : first + 0 ≡ first = omega arith in
+    rw (a, b) refl
+numbers_split first (suc n) m =
+    let a : suc n + m ≡ suc (n + m) = omega arith in
+    let b : suc first + n ≡ first + suc n = omega arith in
+    rw (a, ← b) (ap (λ ns. first ∷ ns) (numbers_split (suc first) n m))
+
+-- all sequences are those below n instructions and the longer ones behind them
+sequences_split : (k : ℕ) (pool : List ℕ) (n : ℕ) → n ≤ 6 → sequences k pool ≡ sequences_below k pool n ++ flat_map (words (alphabet k pool)) (numbers_from n (6 - n))
+unfolding sequences_of sequences_below
+sequences_split k pool n h =
+    let whole : n + (6 - n) ≡ 6 = omega arith in
+    let low : 0 + n ≡ n = omega arith in
+    let split : numbers_from 0 6 ≡ numbers_from 0 n ++ numbers_from n (6 - n) =
+    ap (numbers_from 0) (sym whole) ∙ numbers_split 0 n (6 - n) ∙ ap (λ m. numbers_from 0 n ++ numbers_from m (6 - n)) low in
+    ap (flat_map (words (alphabet k pool))) split ∙ flat_map-append (words (alphabet k pool)) (numbers_from 0 n) (numbers_from n (6 - n))
+
+-- what stands among sequences of a range of lengths has one of these
+length_in : (letters : List Instr) (first count q : ℕ) (s : List Instr) → slice_get (flat_map (words letters) (numbers_from first count)) q ≡ Some s
+    → (first ≤ length s) × (length s < first + count)
+length_in letters first count q s e =
+    flat_map_at (words letters) (numbers_from first count) q s e (λ h m j at here.
+    let within : h < count = omega (arith, slice_get_within (numbers_from first count) h m at, length-numbers first count) in
+    let is : first + h ≡ m = same_Some _ _ (sym (numbers_at first count h within) ∙ at) in
+    let size : length s ≡ m = word_length letters m j s here in
+    (omega arith, omega arith))
+
+-- the number of a sequence among the shorter ones is its number among all
+pub below_in : (k : ℕ) (pool : List ℕ) (n q : ℕ) (s : List Instr) → n ≤ 6 → slice_get (sequences_below k pool n) q ≡ Some s
+    → (slice_get (sequences k pool) q ≡ Some s) × (length s < n)
+unfolding sequences_below
+below_in k pool n q s h e =
+    let within : q < length (sequences_below k pool n) = slice_get_within (sequences_below k pool n) q s e in
+    let bounds = length_in (alphabet k pool) 0 n q s e in (
+      ap (λ xs. slice_get xs q) (sequences_split k pool n h) ∙ get_front (sequences_below k pool n) (flat_map (words (alphabet k pool)) (numbers_from n (6 - n))) q within ∙ e,
+      omega (arith, bounds.1),
+    )
+
+-- and the other way round
+pub below_from : (k : ℕ) (pool : List ℕ) (n q : ℕ) (s : List Instr) → n ≤ 6 → slice_get (sequences k pool) q ≡ Some s → length s < n
+    → slice_get (sequences_below k pool n) q ≡ Some s
+below_from k pool n q s h e short =
+    let front = sequences_below k pool n in
+    let back = flat_map (words (alphabet k pool)) (numbers_from n (6 - n)) in
+    let at : slice_get (front ++ back) q ≡ Some s = sym (ap (λ xs. slice_get xs q) (sequences_split k pool n h)) ∙ e in
+    elim (leb_tells (length front) q) [
+      | inl past ↦ (
+        let there : slice_get back (q - length front) ≡ Some s = sym (get_back front back q past.1) ∙ at in
+        let bounds = length_in (alphabet k pool) n (6 - n) (q - length front) s there in
+        absurd (omega (arith, bounds.0))
+      )
+      | inr low ↦ sym (get_front front back q low.1) ∙ at
+    ]
+
+-- how many there are
+pub length-sequences_below : (k : ℕ) (pool : List ℕ) (n : ℕ) → length (sequences_below k pool n) ≡ sum_below (λ m. length (alphabet k pool) ^ m) n
+unfolding sequences_below sum_below numbers_from
+length-sequences_below k pool zero = refl
+length-sequences_below k pool (suc n) =
+    let letters = alphabet k pool in
+    let split : numbers_from 0 (suc n) ≡ numbers_from 0 n ++ n ∷ [] = ap (numbers_from 0) (sym (add-one n)) ∙ numbers_split 0 n 1 ∙ ap (λ m. numbers_from 0 n ++ m ∷ []) (zero-add n) in
+    ap (λ ns. length (flat_map (words letters) ns)) split
+    ∙ ap length (flat_map-append (words letters) (numbers_from 0 n) (n ∷ []))
+    ∙ length-append (flat_map (words letters) (numbers_from 0 n)) (words letters n ++ [])
+    ∙ omega (arith, length-sequences_below k pool n, length-append (words letters n) [], length-words letters n)
+
+-- the same, where the alphabet's size is known
+pub count_is : (k : ℕ) (pool : List ℕ) (n m size count : ℕ) → size ≡ length (alphabet k pool) → m ≡ n → count ≡ sum_below (λ i. size ^ i) m → count ≡ length (sequences_below k pool n)
+count_is k pool n m size count e f h = h ∙ ap (λ s. sum_below (λ i. s ^ i) m) e ∙ ap (λ j. sum_below (λ i. length (alphabet k pool) ^ i) j) f ∙ sym (length-sequences_below k pool n)

@@ -1,0 +1,5 @@
+pub mod Sides
+pub mod Shorter
+pub mod Acceptance
+pub mod Costs
+pub mod Soundness

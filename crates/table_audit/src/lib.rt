@@ -1,0 +1,8 @@
+//! The audit of a table of rules: an accepted table's rules are sound, and shortest but for what they name open.
+#![tactic(auto)]
+
+mod errors;
+mod states;
+mod widths;
+
+pub use errors::{AuditError, EntryFault};
