@@ -1,5 +1,7 @@
 pub mod Sides
+pub mod Orders
 pub mod Shorter
+pub mod Trials
 pub mod Acceptance
 pub mod Costs
 pub mod Soundness

@@ -41,9 +41,9 @@ formula_against e seq = sides_formula e.left seq e.mask (named_count e.left)
 abbrev pub formula_of : Rule → Cnf
 formula_of e = formula_against e e.right
 
--- sides and mask over the registers that the left side names, at most four of them
+-- an entry with a formula: its left side is canonical, and sides and mask are over the registers that it names
 pub record HasFormula (e : Rule) : Type 0 where
-  pub few : named_count e.left ≤ 4
+  pub canonical : IsCanonicalSide e.left
   pub left : AreOver (named_count e.left) e.left
   pub right : AreOver (named_count e.left) e.right
   pub mask : IsMaskOver (named_count e.left) e.mask

@@ -2,7 +2,9 @@
 #![tactic(auto)]
 
 mod errors;
+mod sides;
 mod states;
+mod trials;
 mod widths;
 
 pub use errors::{AuditError, EntryFault};
