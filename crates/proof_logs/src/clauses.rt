@@ -18,7 +18,7 @@ pub struct Clauses {
 }
 
 impl Model for Clauses {
-    ghost use Rattle.std.specs.Prelude.{ℕ, List, []};
+    ghost use Rattle.std.specs.Prelude.{◌≡◌, ℕ, List, []};
     ghost use Rattle.proof_logs.specs.Checked.{lists_of};
 
     ghost Value = { List (List ℕ) };

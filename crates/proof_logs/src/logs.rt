@@ -75,7 +75,7 @@ fn are_accepted<L: Ledger>(
     match check_lines(alloc, formula, log, steps) {
         Ok(_) => Ok(true),
         Err(ProofFault::Memory) => Err(Memory),
-        Err(_) => Ok(false),
+        Err(ProofFault::Line(_) | ProofFault::Unfinished) => Ok(false),
     }
 }
 

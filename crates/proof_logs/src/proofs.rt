@@ -1,4 +1,4 @@
-ghost use Rattle.std.specs.Prelude.{◌≡◌, ℕ, ◌+◌, ◌≤◌, ◌↔◌, IsTrue, IfOk, OnOk, Bool, true, Some};
+ghost use Rattle.std.specs.Prelude.{◌≡◌, ℕ, ◌+◌, ◌≤◌, ◌↔◌, ◌⊎◌, IsTrue, IfOk, OnOk, Bool, true, Some};
 ghost use Rattle.cnf_gates.specs.Meaning.{all_true};
 ghost use Rattle.clause_model.specs.Literals.{codes_of};
 ghost use Rattle.proof_logs.specs.Verdicts.{Answers};
@@ -45,11 +45,19 @@ pub(crate) fn check_lines<L: Ledger>(
 {
     let mut checker = Checker::new(alloc, formula)?;
     for (place, line) in lines.iter().enumerate() {
-        match checker.add(line, steps) {
-            Ok(()) => {}
-            Err(LineFault::Memory) => return Err(ProofFault::Memory),
-            Err(_) => return Err(ProofFault::Line(place as u64 + 1)),
+        if let Err(fault) = checker.add(line, steps) {
+            return Err(fault_at(place as u64 + 1, fault));
         }
     }
     Ok(checker)
+}
+
+/// The fault of a proof whose line of this number has the one given.
+fn fault_at(number: u64, fault: LineFault) -> ProofFault
+    ensures { ((fault ≡ LineFault.Memory) × (result ≡ ProofFault.Memory)) ⊎ ((fault ≡ LineFault.Memory → ⊥) × (result ≡ ProofFault.Line number)) }
+{
+    match fault {
+        LineFault::Memory => ProofFault::Memory,
+        _ => ProofFault::Line(number),
+    }
 }
