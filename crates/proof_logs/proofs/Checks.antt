@@ -1,6 +1,6 @@
 -- A checker that has accepted the lines so far knows what they say, and refuses what they don't accept.
-use Rattle.std.proofs.Common.{◌≡◌, ◌≢◌, ℕ, ℤ, ◌+◌, ◌≤◌, ◌⊎◌, List, [], ◌∷◌, ◌++◌, length, take, drop, sym, ◌∙◌, ap, subst, arith, refl, inl, inr, map, slice_get, Option, Some, None, Bool, true, false, nat_eq, cond, append_assoc}
-use Rattle.std.specs.Prelude.{All, Any, Contains, IsTrue, ◌↔◌, IsSome, is_some, unsigned_abs}
+use Rattle.std.proofs.Common.{◌≡◌, ℕ, ◌+◌, ◌≤◌, ◌⊎◌, List, [], ◌∷◌, ◌++◌, length, take, drop, sym, ◌∙◌, ap, subst, arith, refl, inl, inr, map, slice_get, Option, Some, None, true, false, nat_eq, append_assoc}
+use Rattle.std.specs.Prelude.{Any, Contains, IsTrue, ◌↔◌, is_some, unsigned_abs}
 use Rattle.std.proofs.Math.Path.{fun_ext}
 use Rattle.std.proofs.lemmas.Bool.{cases_eq, true≢false}
 use Rattle.std.proofs.lemmas.Bool.Decides.{nat_tests}
@@ -8,7 +8,6 @@ use Rattle.std.proofs.lemmas.List.{drop_all, append-nil}
 use Rattle.std.proofs.lemmas.List.Elements.{All-contains, Contains-append_left, Contains-push_cases}
 use Rattle.std.proofs.lemmas.List.Quantifiers.{Any-push}
 use Rattle.clause_model.specs.Literals.{negated, HasDistinctVariables}
-use Rattle.clause_model.specs.Propagation.{numbered}
 use Rattle.clause_model.proofs.Sound.{negations_consistent}
 use Rattle.clause_model.proofs.Runs.{refutes_or_stops}
 use Rattle.lrat_check.specs.declared.fault.LineFault.{LineFault}
@@ -23,7 +22,7 @@ use Rattle.lrat_check.specs.Checking.{State, live_at, Starts, Accepts as Leads}
 use Rattle.lrat_check.specs.Faults.{IsFaultOf}
 use Rattle.proof_logs.specs.Verdicts.{Tests, Then}
 use Rattle.proof_logs.specs.Lines.{Known, started, with_clause, without_all, after_line, Accepts, AllAccepted, added, additions, line_cost, lines_cost}
-use Rattle.proof_logs.specs.Proofs.{LinesVerdict, HasEmpty}
+use Rattle.proof_logs.specs.Proofs.{LinesVerdict}
 use Rattle.proof_logs.specs.Checked.{known_of}
 use Rattle.proof_logs.proofs.Turns.{drop_got, then_passed}
 use Rattle.proof_logs.proofs.Determined.{lines_one}

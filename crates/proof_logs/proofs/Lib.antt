@@ -5,3 +5,4 @@ pub mod Additions
 pub mod Newness
 pub mod Checks
 pub mod Sound
+pub mod Renamed

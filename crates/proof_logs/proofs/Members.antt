@@ -1,5 +1,5 @@
 -- The literals of a clause as members, and the clauses that are part of it.
-use Rattle.std.proofs.Common.{◌≡◌, ℕ, ◌+◌, ◌<◌, ◌≤◌, List, [], ◌∷◌, ◌++◌, length, get_or, take, sym, ◌∙◌, ap, subst, arith, map, Vec, refl, true, false}
+use Rattle.std.proofs.Common.{◌≡◌, ℕ, ◌+◌, ◌<◌, ◌≤◌, List, [], ◌∷◌, ◌++◌, length, get_or, take, sym, ◌∙◌, ap, subst, arith, Vec, refl, true, false}
 use Rattle.std.specs.Prelude.{All, Contains, sum_by, IsTrue, ◌↔◌}
 use Rattle.std.specs.Global.{Global}
 use Rattle.std.proofs.Math.Seq.{get_or-take}

@@ -1,7 +1,6 @@
 -- The clauses still to come are new exactly where all are.
-use Rattle.std.proofs.Common.{◌≡◌, ℕ, ◌+◌, ◌≤◌, List, [], ◌∷◌, ◌++◌, length, drop, sym, subst, arith, slice_get, Some, ap, ◌∙◌}
+use Rattle.std.proofs.Common.{◌≡◌, ℕ, ◌+◌, ◌≤◌, List, [], ◌∷◌, ◌++◌, length, sym, subst, arith, ap}
 use Rattle.std.specs.Prelude.{sum_by}
-use Rattle.std.proofs.lemmas.List.{drop_all}
 use Rattle.clause_model.specs.Asserting.{IsNew}
 use Rattle.proof_logs.specs.Logs.{EachIsNew, newness_cost}
 

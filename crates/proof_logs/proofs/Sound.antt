@@ -1,6 +1,6 @@
 -- A formula of which a proof is accepted has no model.
 use Rattle.std.proofs.Common.{◌≡◌, ℕ, ◌+◌, ◌-◌, ◌*◌, ◌⊎◌, ℤ, List, [], ◌∷◌, ◌++◌, map, refl, sym, ◌∙◌, inl, inr, arith, Option, Some, None, subst, Bool, true, false, zero, suc, true≢false, append_assoc}
-use Rattle.std.specs.Prelude.{All, Any, IfSome, nat_eq, slice_get, ◌||◌, ◌&&◌, not, pos, negsuc, unsigned_abs}
+use Rattle.std.specs.Prelude.{All, IfSome, nat_eq, slice_get, ◌||◌, ◌&&◌, not, pos, negsuc, unsigned_abs}
 use Rattle.std.proofs.lemmas.Bool.{cases_eq}
 use Rattle.std.proofs.lemmas.Bool.Decides.{nat_tests}
 use Rattle.std.proofs.lemmas.List.{append-nil}
@@ -13,8 +13,8 @@ use Rattle.clause_model.specs.Propagation.{numbered, SatisfiesLive}
 use Rattle.clause_model.proofs.Sound.{rup_sound}
 use Rattle.lrat_check.specs.Content.{Content, addition, deletion}
 use Rattle.lrat_check.proofs.Accepted.{deleted_live}
-use Rattle.proof_logs.specs.Lines.{Known, started, with_clause, without_all, after_line, Accepts, AllAccepted, added, additions}
-use Rattle.proof_logs.specs.Proofs.{LinesVerdict, HasEmpty, ProofVerdict}
+use Rattle.proof_logs.specs.Lines.{Known, started, with_clause, without_all, after_line, AllAccepted, additions}
+use Rattle.proof_logs.specs.Proofs.{HasEmpty, ProofVerdict}
 use Rattle.proof_logs.proofs.Checks.{passed_accepted}
 
 code_true : (m : ℕ → Bool) (z : ℤ) → number_value m z ≡ true → literal_value m (code_of z) ≡ true

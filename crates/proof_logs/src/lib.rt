@@ -10,3 +10,6 @@ mod proofs;
 pub use faults::ProofFault;
 pub use logs::is_spent;
 pub use proofs::check_proof;
+
+#[cfg(test)]
+mod tests;

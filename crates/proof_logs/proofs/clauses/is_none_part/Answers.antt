@@ -1,5 +1,5 @@
-use Rattle.std.proofs.Common.{arith, ◌≤◌, ◌≡◌, ◌+◌, length, sym, ap, subst, List, ℕ}
-use Rattle.std.specs.Prelude.{All, Contains, sum_by, Vec}
+use Rattle.std.proofs.Common.{arith, ◌≤◌, ◌+◌, length, sym, ap, subst, ℕ}
+use Rattle.std.specs.Prelude.{All, Contains, Vec}
 use Rattle.std.specs.Global.{Global}
 use Rattle.std.proofs.lemmas.List.{length-map}
 use Rattle.std.proofs.lemmas.List.Sums.{sum_by-take-le}

@@ -1,4 +1,4 @@
-use Rattle.std.proofs.Common.{arith, sym, ◌∙◌, inl, inr}
+use Rattle.std.proofs.Common.{arith, sym, ◌∙◌}
 use Rattle.proof_logs.specs.Checked.{contents_of}
 use Rattle.proof_logs.proofs.Additions.{content_at, empty_added, count_added, count_same, all_added, all_same, is_nil, is_no_nil}
 use Rattle.proof_logs.proofs.Members.{says_no}

@@ -1,4 +1,4 @@
-use Rattle.std.proofs.Common.{◌≡◌, ◌≤◌, length, slice_get, Some, refl, inr, arith, sym, subst, take}
+use Rattle.std.proofs.Common.{◌≡◌, ◌≤◌, length, slice_get, Some, inr, arith, sym, subst}
 use Rattle.std.specs.Prelude.{Any, IsTrue, ◌↔◌, ◌++◌, []}
 use Rattle.std.proofs.lemmas.List.{length-map, take_all, append-nil}
 use Rattle.clause_model.specs.Literals.{codes_of}

@@ -1,4 +1,4 @@
-use Rattle.std.proofs.Common.{List, ℕ, subst, ◌∙◌, ap, sym}
+use Rattle.std.proofs.Common.{List, ℕ, subst, ◌∙◌, ap}
 use Rattle.std.specs.Prelude.{IsTrue, ◌↔◌}
 use Rattle.clause_model.specs.Asserting.{IsNew}
 use Rattle.proof_logs.specs.Checked.{lists_of}

@@ -1,7 +1,5 @@
-use Rattle.std.proofs.Common.{◌≤◌, length, arith}
-use Rattle.std.proofs.lemmas.List.{length-map}
 use Rattle.clause_model.specs.Literals.{codes_of}
-use Rattle.lrat_check.proofs.Starts.{code_at, all_codes}
+use Rattle.lrat_check.proofs.Starts.{code_at}
 use Rattle.proof_logs.proofs.Members.{lists_push}
 use Rattle.proof_logs.proofs.clauses.Clauses.of.Goals as goal
 
