@@ -1,5 +1,5 @@
 -- A loop over a list has the answer of a verdict on the elements in turn, where what is left has it.
-use Rattle.std.proofs.Common.{ℕ, ◌≡◌, ◌<◌, ◌≤◌, ◌+◌, ◌∷◌, ◌⊎◌, inl, inr, List, Option, Some, None, length, get_or, slice_get, drop, sym, ◌∙◌, ap, subst, add-one, refl}
+use Rattle.std.proofs.Common.{ℕ, ◌≡◌, ◌<◌, ◌≤◌, ◌+◌, ◌∷◌, ◌⊎◌, inl, inr, List, Option, Some, None, length, get_or, slice_get, drop, sym, ◌∙◌, ap, subst, add-one, refl, [], zero, suc, arith}
 use Rattle.std.proofs.Math.Seq.{drop-cons}
 use Rattle.std.proofs.lemmas.List.{drop_all}
 use Rattle.std.proofs.lemmas.Option.{slice_get-get_or, get_or_from_slice_get, slice_get_within}
@@ -37,3 +37,11 @@ turn_end test m xs i whole h rest = rest.leads None (subst (λ ys. InTurn test m
 pub turn_failed : {X F : Type 0} (test : ℕ → X → Option F → Type 0) (m : ℕ) (xs : List X) (i : ℕ) (x : X) (whole : Option F → Type 0) (f g : F) → slice_get xs i ≡ Some x → Rest test m (drop i xs) whole → (f ≡ g) ⊎ test m x (Some f) → (f ≡ g) ⊎ whole (Some f)
 turn_failed test m xs i x whole f g e rest (inl p) = inl p
 turn_failed test m xs i x whole f g e rest (inr p) = inr (turn_fault test m xs i x whole f e rest p)
+
+-- where all pass, each does
+pub turn_each : {X F : Type 0} (test : ℕ → X → Option F → Type 0) (m : ℕ) (xs : List X) (i : ℕ) (x : X) → InTurn test m xs None → slice_get xs i ≡ Some x → test (m + i) x None
+turn_each test m [] i x p e = absurd (cc)
+turn_each test m (y ∷ xs) zero x p e =
+    let q : y ≡ x = cc in let k : m ≡ m + 0 = omega arith in subst (λ j. test j x None) k (subst (λ z. test m z None) q p.0)
+turn_each test m (y ∷ xs) (suc i) x p e =
+    let k : m + 1 + i ≡ m + suc i = omega arith in subst (λ j. test j x None) k (turn_each test (m + 1) xs i x p.1 e)

@@ -2,3 +2,4 @@ pub mod Verdicts
 pub mod Lines
 pub mod Proofs
 pub mod Logs
+pub mod Checked

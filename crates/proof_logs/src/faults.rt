@@ -1,4 +1,6 @@
-use std::alloc::AllocError;
+ghost use Rattle.std.specs.Prelude.{◌≡◌};
+
+use cnf_gates::Memory;
 use thiserror::Error;
 
 /// Why a proof is refused.
@@ -13,4 +15,14 @@ pub enum ProofFault {
     /// The memory didn't suffice.
     #[error("out of memory")]
     Memory,
+}
+
+impl From<Memory> for ProofFault {
+    ghost use Rattle.proof_logs.specs.declared.faults.ProofFault.TheVariants.{Memory};
+
+    ghost from_gives = { λ _ e. e ≡ Memory };
+
+    fn from(_error: Memory) -> Self {
+        ProofFault::Memory
+    }
 }
