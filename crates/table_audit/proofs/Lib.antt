@@ -4,3 +4,4 @@ pub mod Tellings
 pub mod Letters
 pub mod Appearing
 pub mod Fitting
+pub mod Answering

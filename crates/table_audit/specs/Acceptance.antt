@@ -35,7 +35,7 @@ WideVerdict t = Tests (width t ≤ 5000000) (Wide (width t))
 abbrev pub SidesVerdict : Table → ℕ → Rule → Option AuditError → Type 0
 SidesVerdict t n e = Tests (SidesFit t e) (Entry n Sides)
 
--- the proof shows that no state tells the sides apart
+-- the proof shows that no state tells the sides apart: its first line that isn't accepted, or that there is no empty clause
 abbrev pub EntryProofVerdict : ℕ → Rule → Option AuditError → Type 0
 EntryProofVerdict n e = ProofVerdict (λ line. Entry n (Proof line)) (Entry n Unfinished) (codes_of (formula_of e).clauses) e.proof
 

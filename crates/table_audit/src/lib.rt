@@ -2,9 +2,11 @@
 #![tactic(auto)]
 
 mod errors;
+mod refutation;
 mod sides;
 mod states;
 mod trials;
 mod widths;
 
 pub use errors::{AuditError, EntryFault};
+pub use sides::{entry_formula, sides_fit};

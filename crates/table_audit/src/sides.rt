@@ -10,7 +10,7 @@ ghost use Rattle.bit_blast.specs.Differences.{sides_formula};
 ghost use Rattle.bit_blast.specs.Exactness.{IsMaskOver};
 ghost use Rattle.rule_table.specs.Canonical.{firsts, numbers_of, appearing};
 ghost use Rattle.rule_table.specs.Views.{rule_of, table_of};
-ghost use Rattle.table_audit.specs.Sides.{named_count, IsCanonicalSide, SidesFit, HasFormula, formula_of};
+ghost use Rattle.table_audit.specs.Sides.{named_count, IsCanonicalSide, SidesFit, HasFormula, formula_against, formula_of};
 ghost use Rattle.table_audit.specs.Orders.{IsAstray, IsInOrder, AreWithin};
 
 use bit_blast::formula;
@@ -124,4 +124,25 @@ pub fn sides_fit(table: &Table, entry: &Entry) -> bool
         None => false,
         Some(k) => are_within(table, entry, k),
     }
+}
+
+/// The formula that the left side of an entry and a sequence differ in some item of the mask, over the registers that the left side names.
+pub(crate) fn formula_against(alloc: Global, entry: &Entry, seq: &Seq) -> Result<Formula, Memory>
+    requires entry { HasFormula (rule_of entry.now) }
+    requires seq { AreOver (named_count entry.now.left) seq.now }
+    ensures { IfOk result (λ f. f ≡ formula_against (rule_of entry.now) seq.now) }
+{
+    match names_in_order(&entry.left) {
+        None => unreachable!(),
+        Some(k) => formula(alloc, &entry.left, seq, entry.mask, k),
+    }
+}
+
+/// The formula that the sides of an entry differ, whose sides fit a table: the proof of the entry is a proof of this formula, and its DIMACS
+/// text is what a checker of its own is given.
+pub fn entry_formula(alloc: Global, entry: &Entry) -> Result<Formula, Memory>
+    requires { HasFormula (rule_of entry.now) }
+    ensures { IfOk result (λ f. f ≡ formula_of (rule_of entry.now)) }
+{
+    formula_against(alloc, entry, &entry.right)
 }
