@@ -5,3 +5,6 @@ pub mod Letters
 pub mod Appearing
 pub mod Fitting
 pub mod Answering
+pub mod Counting
+pub mod Upcoming
+pub mod Walking

@@ -1,6 +1,7 @@
 pub mod Sides
 pub mod Orders
 pub mod Shorter
+pub mod Naming
 pub mod Trials
 pub mod Acceptance
 pub mod Faults

@@ -5,6 +5,7 @@ mod errors;
 mod refutation;
 mod sides;
 mod states;
+mod told;
 mod trials;
 mod widths;
 
