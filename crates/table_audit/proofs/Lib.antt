@@ -8,3 +8,4 @@ pub mod Answering
 pub mod Counting
 pub mod Upcoming
 pub mod Walking
+pub mod Openings

@@ -2,6 +2,7 @@
 #![tactic(auto)]
 
 mod errors;
+mod opens;
 mod refutation;
 mod sides;
 mod states;
