@@ -1,9 +1,11 @@
 -- The answer to an entry's proof.
-use Rattle.std.proofs.Common.{◌≡◌, ℕ, ◌⊎◌, inl, inr, List, Option, Some, None, map, ap, sym, subst}
+use Rattle.std.proofs.Common.{◌≡◌, ℕ, ◌⊎◌, inl, inr, List, Option, Some, None, Result, Ok, Err, map, ap, sym, ◌∙◌, subst}
+use Rattle.std.specs.Result.{IsErrAnd}
 use Rattle.std.specs.Option.{option_map}
 use Rattle.lrat_check.specs.Content.{Content}
 use Rattle.proof_logs.specs.declared.faults.ProofFault.{ProofFault}
 use Rattle.proof_logs.specs.declared.faults.ProofFault.TheVariants as proof
+use Rattle.proof_logs.specs.Verdicts.{Answers}
 use Rattle.proof_logs.specs.Proofs.{ProofVerdict}
 use Rattle.proof_logs.proofs.Renamed.{proof_renamed}
 use Rattle.table_audit.specs.declared.errors.EntryFault.TheVariants.{Proof, Unfinished}
@@ -30,3 +32,9 @@ proof_failed n clauses whole lines log fault told e f is (inr p) =
     inr (subst (λ t. ProofVerdict (λ line. Entry n (Proof line)) (Entry n Unfinished) whole log (Some t)) (sym is)
     (subst (λ ls. ProofVerdict (λ line. Entry n (Proof line)) (Entry n Unfinished) whole ls (Some (fault_of n fault))) f
     (subst (λ cs. ProofVerdict (λ line. Entry n (Proof line)) (Entry n Unfinished) cs lines (Some (fault_of n fault))) e (renamed n clauses lines (Some fault) p))))
+
+-- an error that is handed on is the answer that it was
+pub handed_on : {A F : Type 0} (memory f : F) (r : Result A F) (verdict : Option F → Type 0) → IsErrAnd r (λ e. e ≡ f) → (f ≡ memory) ⊎ verdict (Some f) → Answers memory r verdict
+handed_on memory f (Ok a) verdict h p = absurd h
+handed_on memory f (Err e) verdict h (inl p) = inl (h ∙ p)
+handed_on memory f (Err e) verdict h (inr p) = inr (subst (λ x. verdict (Some x)) (sym h) p)

@@ -19,7 +19,7 @@ use Rattle.table_audit.proofs.Numbering.{numbers_split}
 
 -- ---- r0, r1 and so on ----
 
-has_low : (first count r : ℕ) → first ≤ r → r < first + count → has (numbers_from first count) r ≡ true
+pub has_low : (first count r : ℕ) → first ≤ r → r < first + count → has (numbers_from first count) r ≡ true
 unfolding numbers_from
 has_low first zero r h k = absurd (omega arith)
 has_low first (suc count) r h k = elim (cases_Bool (first == r)) [

@@ -1,5 +1,7 @@
 -- Steps of runs, one share for each of the sequences.
-use Rattle.std.proofs.Common.{ℕ, ◌<◌, ◌≤◌, ◌+◌, ◌*◌, arith}
+use Rattle.std.proofs.Common.{ℕ, ◌≡◌, ◌<◌, ◌≤◌, ◌+◌, ◌*◌, List, Some, length, get_or, slice_get, sum_by, take, ap, arith}
+use Rattle.std.proofs.lemmas.Option.{slice_get_within, get_or_from_slice_get}
+use Rattle.std.proofs.lemmas.List.Sums.{sum_by_more, sum_by_more_le}
 use Rattle.std.proofs.Math.Nat.{mul-le-mul_left, mul-le-mul_right}
 
 -- a run of s instructions from each of u states is within the share of r instructions
@@ -21,3 +23,18 @@ pub end_cost : (after start place count share : ℕ) → after ≤ start + place
 end_cost after start place count share h k =
     let e : place * share ≤ count * share = mul-le-mul_right share k in
     omega (arith, h, e)
+
+-- one entry more, and all of them
+pub entries_next : {X : Type 0} (f : X → ℕ) (xs : List X) (i start before after : ℕ) (x : X) → slice_get xs i ≡ Some x → before ≤ start + sum_by f (take i xs) → after ≤ before + f x
+    → after ≤ start + sum_by f (take (i + 1) xs)
+entries_next f xs i start before after x at h k =
+    let low : i < length xs = slice_get_within xs i x at in
+    let here : f (get_or xs i x) ≡ f x = ap f (get_or_from_slice_get xs i x x at) in
+    omega (arith, h, k, sum_by_more f xs i x low, here)
+
+pub entries_stop : {X : Type 0} (f : X → ℕ) (xs : List X) (i start before after : ℕ) (x : X) → slice_get xs i ≡ Some x → before ≤ start + sum_by f (take i xs) → after ≤ before + f x
+    → after ≤ start + sum_by f xs
+entries_stop f xs i start before after x at h k =
+    let low : i < length xs = slice_get_within xs i x at in
+    let here : f (get_or xs i x) ≡ f x = ap f (get_or_from_slice_get xs i x x at) in
+    omega (arith, h, k, sum_by_more_le f xs i x low, here)

@@ -9,3 +9,6 @@ pub mod Counting
 pub mod Upcoming
 pub mod Walking
 pub mod Openings
+pub mod Names
+pub mod Sound
+pub mod Determined

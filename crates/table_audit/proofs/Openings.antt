@@ -1,7 +1,6 @@
 -- Numbers that are rightly named open, and what their tests cost.
 use Rattle.std.proofs.Common.{◌≡◌, ℕ, zero, suc, ◌+◌, ◌*◌, ◌<◌, ◌≤◌, ◌↔◌, inl, inr, Bool, true, false, IsTrue, nat_le, List, [], ◌∷◌, get_or, take, sum_by, Option, Some, None, slice_get, length, map, refl, sym, ◌∙◌, ap, subst, arith, Result, Ok, Err, IfOk}
-use Rattle.std.specs.Option.{option_map}
-use Rattle.std.proofs.lemmas.Option.{same_Some, slice_get-map, slice_get_within, slice_get_cases, get_or_from_slice_get}
+use Rattle.std.proofs.lemmas.Option.{same_Some, slice_get_within, slice_get_cases, get_or_from_slice_get}
 use Rattle.std.proofs.lemmas.Bool.{and_parts, leb-true}
 use Rattle.std.proofs.lemmas.List.Sums.{sum_by_more, sum_by_more_le, sum_by-take-le}
 use Rattle.std.proofs.lemmas.List.{length-map}
@@ -11,11 +10,8 @@ use Rattle.clause_model.specs.Literals.{codes_of}
 use Rattle.lrat_check.specs.Content.{Content}
 use Rattle.fingerprints.specs.Seeded.{Seen}
 use Rattle.seq_enum.specs.Lists.{ascends_from}
-use Rattle.rule_table.specs.declared.table.Open as opening
 use Rattle.rule_table.specs.Table.{Opened, Rule, Table}
 use Rattle.rule_table.specs.Valid.{numbers_of}
-use Rattle.rule_table.specs.Views.{opened_of}
-use Rattle.proof_logs.proofs.Turns.{got}
 use Rattle.proof_logs.specs.Logs.{IsSpentLog, spent_cost}
 use Rattle.table_audit.specs.Sides.{named_count, formula_against}
 use Rattle.table_audit.specs.Shorter.{sequences_below, shorter, IsTold}
@@ -85,10 +81,6 @@ spent_answers t e o seq budget clauses log (Ok b) at untold f g h spent =
 spent_answers t e o seq budget clauses log (Err x) at untold f g h spent = tt
 
 -- ---- one number named open after the other ----
-
--- a number named open by its place
-pub listed : (opens : List opening.Open) (i : ℕ) (o : opening.Open) → i < length opens → o ≡ get_or opens i o → slice_get (map opened_of opens) i ≡ Some (opened_of o)
-listed opens i o low is = slice_get-map opened_of opens i ∙ ap (option_map opened_of) (got opens i o low is)
 
 number_place : (low : ℕ) (opens : List Opened) (i : ℕ) (o : Opened) → ascends_from low (numbers_of opens) ≡ true → slice_get opens i ≡ Some o → low + i ≤ o.number
 unfolding ascends_from

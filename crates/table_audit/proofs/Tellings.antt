@@ -1,16 +1,18 @@
 -- Trials, and the listed states that they begin at.
 use Rattle.std.proofs.Common.{◌≡◌, ℕ, ◌+◌, ◌<◌, ◌≤◌, ◌↔◌, List, Option, Some, length, get_or, slice_get, map, take, sym, ◌∙◌, ap, subst, inl, inr, arith, Bool, IsTrue}
 use Rattle.std.specs.List.{All, Any}
+use Rattle.std.specs.Option.{option_map}
 use Rattle.std.proofs.lemmas.List.{take_more, take_all, get_or_default, length-map}
 use Rattle.std.proofs.lemmas.List.Elements.{All-push}
 use Rattle.std.proofs.Math.ListN.{get_or-map}
-use Rattle.std.proofs.lemmas.Option.{slice_get_cases}
+use Rattle.std.proofs.lemmas.Option.{slice_get_cases, slice_get-map}
 use Rattle.thumb_instr.specs.declared.instr.Instr.{Instr}
 use Rattle.thumb_model.specs.Items.{Values}
 use Rattle.thumb_model.specs.Effect.{after_all}
 use Rattle.window_exec.specs.State.{values_of}
 use Rattle.window_exec.specs.Telling.{Differ, Tells}
 use Rattle.fingerprints.specs.Seeded.{Seen, seen}
+use Rattle.proof_logs.proofs.Turns.{got}
 use Rattle.table_audit.specs.declared.trials.Trial.{Trial}
 use Rattle.table_audit.specs.Shorter.{values_in, IsTold}
 use Rattle.table_audit.specs.Trials.{start_of, AreTrials}
@@ -27,6 +29,10 @@ none_any P xs i past none found =
 
 pub any_at : {X : Type 0} (P : X → Type 0) (xs : List X) (i : ℕ) (d : X) → i < length xs → P (get_or xs i d) → Any P xs
 any_at P xs i d low here = (i, get_or xs i d, low, get_or_default xs i (get_or xs i d) d low, here)
+
+-- what a list's element becomes stands at its place
+pub listed : {X Y : Type 0} (f : X → Y) (xs : List X) (i : ℕ) (x : X) → i < length xs → x ≡ get_or xs i x → slice_get (map f xs) i ≡ Some (f x)
+listed f xs i x low is = slice_get-map f xs i ∙ ap (option_map f) (got xs i x low is)
 
 -- ---- trials ----
 

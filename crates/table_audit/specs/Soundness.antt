@@ -10,8 +10,8 @@ use Rattle.table_audit.specs.Acceptance.{IsRightlyOpen}
 
 -- ---- entries as rewriting has them ----
 
--- the items of a mask
-abbrev pub items_in : ℕ → List ℕ
+-- the items of a mask: some of r0 to r3, N, Z, C and V
+unfoldable pub items_in : ℕ → List ℕ
 items_in mask = filter (has mask) (0 ∷ 1 ∷ 2 ∷ 3 ∷ 15 ∷ 16 ∷ 17 ∷ 18 ∷ [])
 
 abbrev pub number_of : table.Opened → ℕ

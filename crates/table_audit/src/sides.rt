@@ -126,16 +126,32 @@ pub fn sides_fit(table: &Table, entry: &Entry) -> bool
     }
 }
 
+/// How many registers a canonical side names.
+pub(crate) fn named_count(side: &Seq) -> u8
+    requires { IsCanonicalSide side.now }
+    ensures value { result ≡ named_count side.now }
+    ensures some { 0 < result }
+    ensures few { result ≤ 4 }
+{
+    match names_in_order(side) {
+        None => unreachable!(),
+        Some(k) => k,
+    }
+}
+
 /// The formula that the left side of an entry and a sequence differ in some item of the mask, over the registers that the left side names.
 pub(crate) fn formula_against(alloc: Global, entry: &Entry, seq: &Seq) -> Result<Formula, Memory>
     requires entry { HasFormula (rule_of entry.now) }
     requires seq { AreOver (named_count entry.now.left) seq.now }
     ensures { IfOk result (λ f. f ≡ formula_against (rule_of entry.now) seq.now) }
 {
-    match names_in_order(&entry.left) {
-        None => unreachable!(),
-        Some(k) => formula(alloc, &entry.left, seq, entry.mask, k),
-    }
+    formula(
+        alloc,
+        &entry.left,
+        seq,
+        entry.mask,
+        named_count(&entry.left),
+    )
 }
 
 /// The formula that the sides of an entry differ, whose sides fit a table: the proof of the entry is a proof of this formula, and its DIMACS
