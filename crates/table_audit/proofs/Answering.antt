@@ -1,5 +1,5 @@
 -- The answer to an entry's proof.
-use Rattle.std.proofs.Common.{◌≡◌, ℕ, ◌⊎◌, inl, inr, List, Option, Some, None, Result, Ok, Err, map, ap, sym, ◌∙◌, subst}
+use Rattle.std.proofs.Common.{◌≡◌, ℕ, ◌⊎◌, inl, inr, List, Option, Some, None, Result, Ok, Err, ap, sym, ◌∙◌, subst}
 use Rattle.std.specs.Result.{IsErrAnd}
 use Rattle.std.specs.Option.{option_map}
 use Rattle.lrat_check.specs.Content.{Content}
@@ -12,7 +12,6 @@ use Rattle.table_audit.specs.declared.errors.EntryFault.TheVariants.{Proof, Unfi
 use Rattle.table_audit.specs.declared.errors.AuditError.{AuditError}
 use Rattle.table_audit.specs.declared.errors.AuditError.TheVariants.{Entry, Memory}
 use Rattle.table_audit.specs.Faults.{fault_of}
-
 
 renamed : (n : ℕ) (clauses : List (List ℕ)) (lines : List Content) (o : Option ProofFault) → ProofVerdict proof.Line proof.Unfinished clauses lines o
     → ProofVerdict (λ line. Entry n (Proof line)) (Entry n Unfinished) clauses lines (option_map (fault_of n) o)

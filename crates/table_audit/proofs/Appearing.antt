@@ -1,9 +1,8 @@
 -- Registers in order of first appearance: r0, r1 and so on, or astray.
-use Rattle.std.proofs.Common.{◌≡◌, ℕ, zero, suc, ◌+◌, ◌-◌, ◌<◌, ◌≤◌, ◌==◌, Bool, true, false, inl, inr, List, [], ◌∷◌, ◌++◌, Some, None, slice_get, length, refl, sym, ◌∙◌, ap, subst, arith, cond, zero-add, get_or, drop, length-append}
+use Rattle.std.proofs.Common.{◌≡◌, ℕ, zero, suc, ◌+◌, ◌-◌, ◌<◌, ◌≤◌, ◌==◌, true, false, inl, inr, List, [], ◌∷◌, ◌++◌, Some, slice_get, length, refl, sym, ◌∙◌, ap, subst, arith, cond, zero-add, get_or, drop, length-append}
 use Rattle.std.specs.List.{flat_map, list_all}
 use Rattle.std.proofs.lemmas.Option.{same_Some, slice_get_within}
 use Rattle.std.proofs.lemmas.Bool.{eq-eqb, eqb-true, cases_Bool, and_parts}
-
 use Rattle.seq_enum.specs.Lists.{numbers_from}
 use Rattle.seq_enum.proofs.Numbered.{numbers_at, length-numbers, get_front, get_back}
 use Rattle.thumb_instr.specs.Renaming.{Low}
@@ -25,9 +24,9 @@ has_low first zero r h k = absurd (omega arith)
 has_low first (suc count) r h k = elim (cases_Bool (first == r)) [
   | inl same ↦ rw same refl
   | inr other ↦ (
-    let apart : first ≡ r → ⊥ = λ e. (let yes : (first == r) ≡ true = eq-eqb first r e in absurd (cc)) in
-    rw other (has_low (suc first) count r (omega (arith, apart)) (omega arith))
-  )
+      let apart : first ≡ r → ⊥ = λ e. (let yes : (first == r) ≡ true = eq-eqb first r e in absurd (cc)) in
+      rw other (has_low (suc first) count r (omega (arith, apart)) (omega arith))
+      )
 ]
 
 has_high : (first count r : ℕ) → first + count ≤ r → has (numbers_from first count) r ≡ false

@@ -1,6 +1,5 @@
 -- The audit of a table has one answer.
-use Rattle.std.proofs.Common.{ℕ, ◌≡◌, Option, None, Result, IfErr}
-use Rattle.clause_model.specs.Literals.{codes_of}
+use Rattle.std.proofs.Common.{ℕ, ◌≡◌, Option, Result, IfErr}
 use Rattle.rule_table.specs.Table.{Rule, Table}
 use Rattle.proof_logs.specs.Verdicts.{Answers}
 use Rattle.proof_logs.proofs.Determined.{IsOne, tests_one, then_one, turn_one, proof_one, passing_answers}

@@ -1,10 +1,9 @@
 -- Sides that fit a table.
-use Rattle.std.proofs.Common.{◌≡◌, ℕ, suc, ◌<◌, ◌≤◌, ◌↔◌, IsTrue, true, List, [], ◌∷◌, Option, Some, None, slice_get, get_or, map, length, refl, sym, ◌∙◌, ap, subst, arith, All, Contains}
+use Rattle.std.proofs.Common.{◌≡◌, ℕ, suc, ◌≤◌, ◌↔◌, IsTrue, List, [], ◌∷◌, Option, Some, None, map, length, refl, sym, ◌∙◌, ap, subst, arith, All, Contains}
 use Rattle.std.specs.Option.{is_some}
-use Rattle.std.specs.List.{list_all}
 use Rattle.std.proofs.lemmas.Option.{slice_get-get_or}
 use Rattle.thumb_instr.specs.declared.instr.Instr.{Instr}
-use Rattle.thumb_instr.specs.Window.{is_in_window, normal_of}
+use Rattle.thumb_instr.specs.Window.{normal_of}
 use Rattle.thumb_model.specs.Rewrite.{AreOver}
 use Rattle.seq_enum.specs.Lists.{IsPlace}
 use Rattle.seq_enum.specs.Alphabet.{alphabet, sequences, IsOver}

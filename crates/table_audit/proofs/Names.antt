@@ -1,6 +1,6 @@
 -- How many registers a canonical side names, said in two ways, and the items of a mask as a list.
-use Rattle.std.proofs.Common.{◌≡◌, ℕ, zero, suc, ◌+◌, ◌-◌, ◌<◌, ◌≤◌, ◌⊎◌, ◌==◌, ◌||◌, ◌&&◌, inl, inr, Bool, true, false, List, [], ◌∷◌, ◌++◌, max, length, map, filter, cond, refl, sym, ◌∙◌, ap, subst, arith, nat_lt, nat_le}
-use Rattle.std.specs.List.{flat_map, list_any}
+use Rattle.std.proofs.Common.{◌≡◌, ℕ, zero, suc, ◌+◌, ◌-◌, ◌<◌, ◌≤◌, ◌⊎◌, ◌==◌, ◌||◌, ◌&&◌, inl, inr, Bool, true, false, List, [], ◌∷◌, ◌++◌, max, map, filter, cond, refl, sym, ◌∙◌, ap, subst, arith, nat_lt, nat_le}
+use Rattle.std.specs.List.{flat_map}
 use Rattle.std.proofs.lemmas.Bool.{cases_Bool, eqb-true, eq-eqb, or_cases, or_left, or_right, ltb-true, leb-true, and_parts}
 use Rattle.std.proofs.lemmas.List.Folds.{list_any-append}
 use Rattle.thumb_instr.specs.declared.instr.Instr.{Instr}
@@ -94,16 +94,16 @@ has_from seen (r ∷ rs) x h = elim (has_from (with_first seen r) rs x h) [
   | inl early ↦ elim (cases_Bool (has seen r)) [
     | inl there ↦ inl (let same : with_first seen r ≡ seen = rw there refl in subst (λ xs. has xs x ≡ true) same early)
     | inr new ↦ (
-      let same : with_first seen r ≡ seen ++ r ∷ [] = rw new refl in
-      let split : (has seen x || has (r ∷ []) x) ≡ true = sym (list_any-append (λ y. y == x) seen (r ∷ [])) ∙ subst (λ xs. has xs x ≡ true) same early in
-      elim (or_cases (has seen x) (has (r ∷ []) x) split) [
-        | inl there ↦ inl there
-        | inr here ↦ inr (elim (or_cases (r == x) false here) [
-          | inl same ↦ or_left (r == x) (has rs x) same
-          | inr never ↦ absurd (cc)
-        ])
-      ]
-    )
+        let same : with_first seen r ≡ seen ++ r ∷ [] = rw new refl in
+        let split : (has seen x || has (r ∷ []) x) ≡ true = sym (list_any-append (λ y. y == x) seen (r ∷ [])) ∙ subst (λ xs. has xs x ≡ true) same early in
+        elim (or_cases (has seen x) (has (r ∷ []) x) split) [
+          | inl there ↦ inl there
+          | inr here ↦ inr (elim (or_cases (r == x) false here) [
+            | inl same ↦ or_left (r == x) (has rs x) same
+            | inr never ↦ absurd (cc)
+          ])
+        ]
+        )
   ]
   | inr later ↦ inr (or_right (r == x) (has rs x) later)
 ]
@@ -171,13 +171,13 @@ unfolding all_items
 is_item x h = elim (or_cases (nat_lt x 4) (nat_le 15 x && nat_lt x 19) h) [
   | inl low ↦ of_four (λ y. one_of y all_items ≡ true) refl refl refl refl x (ltb-true x 4 low)
   | inr flag ↦ (
-    let parts = and_parts (nat_le 15 x) (nat_lt x 19) flag in
-    let least : 15 ≤ x = leb-true 15 x parts.0 in
-    let below : x < 19 = ltb-true x 19 parts.1 in
-    let e : 15 + (x - 15) ≡ x = omega arith in
-    let few : x - 15 < 4 = omega arith in
-    subst (λ y. one_of y all_items ≡ true) e (of_four (λ y. one_of (15 + y) all_items ≡ true) refl refl refl refl (x - 15) few)
-  )
+      let parts = and_parts (nat_le 15 x) (nat_lt x 19) flag in
+      let least : 15 ≤ x = leb-true 15 x parts.0 in
+      let below : x < 19 = ltb-true x 19 parts.1 in
+      let e : 15 + (x - 15) ≡ x = omega arith in
+      let few : x - 15 < 4 = omega arith in
+      subst (λ y. one_of y all_items ≡ true) e (of_four (λ y. one_of (15 + y) all_items ≡ true) refl refl refl refl (x - 15) few)
+      )
 ]
 
 pub has_one : (mask x : ℕ) → one_of x (items_in mask) ≡ true → (has_item mask x ≡ true) × (is_in_masks x ≡ true)

@@ -67,10 +67,10 @@ below_from k pool n q s h e short =
     let at : slice_get (front ++ back) q ≡ Some s = sym (ap (λ xs. slice_get xs q) (sequences_split k pool n h)) ∙ e in
     elim (leb_tells (length front) q) [
       | inl past ↦ (
-        let there : slice_get back (q - length front) ≡ Some s = sym (get_back front back q past.1) ∙ at in
-        let bounds = length_in (alphabet k pool) n (6 - n) (q - length front) s there in
-        absurd (omega (arith, bounds.0))
-      )
+          let there : slice_get back (q - length front) ≡ Some s = sym (get_back front back q past.1) ∙ at in
+          let bounds = length_in (alphabet k pool) n (6 - n) (q - length front) s there in
+          absurd (omega (arith, bounds.0))
+          )
       | inr low ↦ sym (get_front front back q low.1) ∙ at
     ]
 
@@ -122,7 +122,7 @@ words_have letters (suc n) (y ∷ ys) size over =
     let last : slice_get letters one.0 ≡ Some x = slice_get-get_or letters one.0 x one.1 ∙ ap Some one.2 in (
       front.0 * length letters + one.0,
       get-flat_map make (length letters) (words letters n) (λ j w e. length-map letters (λ v. w ++ v ∷ [])) front.0 one.0 one.1
-      ∙ rw front.1 (slice_get-map (λ v. take n s ++ v ∷ []) letters one.0 ∙ ap (option_map (λ v. take n s ++ v ∷ [])) last ∙ ap Some parts),
+          ∙ rw front.1 (slice_get-map (λ v. take n s ++ v ∷ []) letters one.0 ∙ ap (option_map (λ v. take n s ++ v ∷ [])) last ∙ ap Some parts),
     )
 
 -- so a sequence of at most five letters has a number
@@ -140,10 +140,10 @@ has_number k pool s short over =
     let place : length front + word.0 - length front ≡ word.0 = omega arith in (
       length front + word.0,
       ap (λ xs. slice_get xs (length front + word.0)) (sequences_split k pool n (omega arith) ∙ ap (λ xs. front ++ xs) back)
-      ∙ get_back front (words letters n ++ rest) (length front + word.0) (omega arith)
-      ∙ ap (slice_get (words letters n ++ rest)) place
-      ∙ get_front (words letters n) rest word.0 low
-      ∙ word.1,
+          ∙ get_back front (words letters n ++ rest) (length front + word.0) (omega arith)
+          ∙ ap (slice_get (words letters n ++ rest)) place
+          ∙ get_front (words letters n) rest word.0 low
+          ∙ word.1,
     )
 
 -- ---- one of the shorter sequences, or none ----
@@ -156,19 +156,19 @@ pub below_long : (k : ℕ) (pool : List ℕ) (n q : ℕ) (o : Option (List Instr
     → None ≡ slice_get (sequences_below k pool n) q
 below_long k pool n q o s h e f long = elim (slice_get_cases (sequences_below k pool n) q).1 [
   | inl p ↦ (
-    let whole = below_in k pool n q p.0 h p.2 in
-    let same : s ≡ p.0 = same_Some _ _ (sym f ∙ e ∙ whole.0) in
-    absurd (omega (arith, long, whole.1, ap length same))
-  )
+      let whole = below_in k pool n q p.0 h p.2 in
+      let same : s ≡ p.0 = same_Some _ _ (sym f ∙ e ∙ whole.0) in
+      absurd (omega (arith, long, whole.1, ap length same))
+      )
   | inr p ↦ sym p.1
 ]
 
 pub below_none : (k : ℕ) (pool : List ℕ) (n q : ℕ) (o : Option (List Instr)) → n ≤ 6 → o ≡ slice_get (sequences k pool) q → o ≡ None → None ≡ slice_get (sequences_below k pool n) q
 below_none k pool n q o h e f = elim (slice_get_cases (sequences_below k pool n) q).1 [
   | inl p ↦ (
-    let whole = below_in k pool n q p.0 h p.2 in
-    let no : None ≡ Some p.0 = sym f ∙ e ∙ whole.0 in
-    absurd (cc)
-  )
+      let whole = below_in k pool n q p.0 h p.2 in
+      let no : None ≡ Some p.0 = sym f ∙ e ∙ whole.0 in
+      absurd (cc)
+      )
   | inr p ↦ sym p.1
 ]

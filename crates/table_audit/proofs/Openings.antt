@@ -1,5 +1,5 @@
 -- Numbers that are rightly named open, and what their tests cost.
-use Rattle.std.proofs.Common.{◌≡◌, ℕ, zero, suc, ◌+◌, ◌*◌, ◌<◌, ◌≤◌, ◌↔◌, inl, inr, Bool, true, false, IsTrue, nat_le, List, [], ◌∷◌, get_or, take, sum_by, Option, Some, None, slice_get, length, map, refl, sym, ◌∙◌, ap, subst, arith, Result, Ok, Err, IfOk}
+use Rattle.std.proofs.Common.{◌≡◌, ℕ, zero, suc, ◌+◌, ◌*◌, ◌<◌, ◌≤◌, ◌↔◌, inl, inr, Bool, true, IsTrue, nat_le, List, [], ◌∷◌, get_or, take, sum_by, Option, Some, None, slice_get, length, sym, ◌∙◌, ap, subst, arith, Result, Ok, Err, IfOk}
 use Rattle.std.proofs.lemmas.Option.{same_Some, slice_get_within, slice_get_cases, get_or_from_slice_get}
 use Rattle.std.proofs.lemmas.Bool.{and_parts, leb-true}
 use Rattle.std.proofs.lemmas.List.Sums.{sum_by_more, sum_by_more_le, sum_by-take-le}
@@ -39,9 +39,9 @@ pub spent_open : (t : Table) (e : Rule) (o : Opened) (seq : List Instr) (r : Boo
 spent_open t e o seq r at untold spent = (
   λ h. record { seq = seq; is_shorter = at; untold = untold; spent = spent.0 h },
   λ right. (
-    let same : right.seq ≡ seq = same_Some _ _ (sym right.is_shorter ∙ at) in
-    spent.1 (subst (λ s. IsSpentLog t.budget (codes_of (formula_against e s).clauses) o.log) same right.spent)
-  ),
+      let same : right.seq ≡ seq = same_Some _ _ (sym right.is_shorter ∙ at) in
+      spent.1 (subst (λ s. IsSpentLog t.budget (codes_of (formula_against e s).clauses) o.log) same right.spent)
+      ),
 )
 
 -- ---- steps ----
@@ -102,18 +102,18 @@ runs_within : (t : Table) (e : Rule) (i : ℕ) (o : Opened) → ascends_from 0 (
     → i * (length t.states * length e.right) + told_cost t e o ≤ length (shorter t e) * (length t.states * length e.right)
 runs_within t e i o a at few = elim (slice_get_cases (shorter t e) o.number).1 [
   | inl p ↦ (
-    let share = length t.states * length e.right in
-    let here : told_cost t e o ≡ share = ap (run_share t e) p.2 in
-    let low : i + 1 ≤ length (shorter t e) = omega (arith, number_place 0 e.opens i o a at, p.1) in
-    let more : (i + 1) * share ≤ length (shorter t e) * share = mul-le-mul_right share low in
-    omega (arith, here, more)
-  )
+      let share = length t.states * length e.right in
+      let here : told_cost t e o ≡ share = ap (run_share t e) p.2 in
+      let low : i + 1 ≤ length (shorter t e) = omega (arith, number_place 0 e.opens i o a at, p.1) in
+      let more : (i + 1) * share ≤ length (shorter t e) * share = mul-le-mul_right share low in
+      omega (arith, here, more)
+      )
   | inr p ↦ (
-    let share = length t.states * length e.right in
-    let here : told_cost t e o ≡ 0 = ap (run_share t e) p.1 in
-    let more : i * share ≤ length (shorter t e) * share = mul-le-mul_right share few in
-    omega (arith, here, more)
-  )
+      let share = length t.states * length e.right in
+      let here : told_cost t e o ≡ 0 = ap (run_share t e) p.1 in
+      let more : i * share ≤ length (shorter t e) * share = mul-le-mul_right share few in
+      omega (arith, here, more)
+      )
 ]
 
 told_most : (t : Table) (e : Rule) (o : Opened) → told_cost t e o ≤ length t.states * length e.right

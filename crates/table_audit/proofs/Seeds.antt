@@ -1,5 +1,5 @@
 -- Whether a state is one that a table lists.
-use Rattle.std.proofs.Common.{◌≡◌, ℕ, ◌<◌, ◌≤◌, ◌&&◌, length, get_or, ◌↔◌, Bool, true, false, IsTrue, List, Option, Some, None, slice_get, map, sym, ◌∙◌, ap, refl, eqb, inl, inr}
+use Rattle.std.proofs.Common.{◌≡◌, ℕ, ◌<◌, ◌≤◌, ◌&&◌, length, get_or, ◌↔◌, Bool, true, IsTrue, List, Some, None, slice_get, map, sym, ◌∙◌, ap, refl, eqb, inl, inr}
 use Rattle.std.specs.Option.{option_map}
 use Rattle.std.proofs.lemmas.Option.{slice_get-map, slice_get-get_or, slice_get_past, same_Some}
 use Rattle.std.proofs.lemmas.Bool.{and_parts, eqb-true, eq-eqb, cases_Bool}

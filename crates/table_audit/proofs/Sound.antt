@@ -1,32 +1,29 @@
 -- An accepted table's rules are sound and shortest, and what they name open is rightly so.
-use Rattle.std.proofs.Common.{◌≡◌, ℕ, zero, suc, ◌+◌, ◌-◌, ◌^◌, ◌<◌, ◌≤◌, ◌⊎◌, ◌==◌, ◌&&◌, inl, inr, Bool, true, false, List, [], ◌∷◌, Option, Some, None, slice_get, get_or, length, map, refl, sym, ◌∙◌, ap, subst, arith, All, nat_lt, nat_le, zero-add}
+use Rattle.std.proofs.Common.{◌≡◌, ℕ, zero, suc, ◌+◌, ◌-◌, ◌^◌, ◌<◌, ◌≤◌, ◌⊎◌, ◌==◌, ◌&&◌, inl, inr, true, false, List, [], ◌∷◌, Option, Some, None, slice_get, get_or, length, refl, sym, ◌∙◌, ap, subst, arith, All, nat_lt, nat_le, zero-add}
 use Rattle.std.specs.Option.{option_map}
-use Rattle.std.specs.Int.{bit_at}
 use Rattle.std.proofs.lemmas.Nat.Bits.{bit_at-lt}
 use Rattle.std.proofs.lemmas.List.{get_or_past}
 use Rattle.std.proofs.lemmas.Option.{slice_get-map, slice_get_within, get_or_from_slice_get, same_Some}
 use Rattle.std.proofs.lemmas.Bool.Decides.{leb_tells}
-use Rattle.std.proofs.lemmas.Bool.{false≢true, or_cases, and_parts, ltb-true, leb-true, cases_Bool, eqb-true}
+use Rattle.std.proofs.lemmas.Bool.{false≢true, or_cases, and_parts, ltb-true, cases_Bool, eqb-true}
 use Rattle.thumb_instr.specs.declared.instr.Instr.{Instr}
-use Rattle.thumb_instr.specs.Items.{has, is_in_masks}
-use Rattle.thumb_model.specs.Items.{Values, AreWords, one_of}
-use Rattle.thumb_model.specs.Effect.{after_all}
+use Rattle.thumb_model.specs.Items.{AreWords, one_of}
 use Rattle.thumb_model.specs.Rewrite.{Equal, IsSoundRule, AreOver, AreSound, is_named, register_count}
 use Rattle.thumb_model.specs.Rewrite as model
 use Rattle.fingerprints.specs.Seeded.{Seen}
 use Rattle.seq_enum.specs.Alphabet.{sequences}
 use Rattle.bit_blast.specs.Exactness.{IsMask, HasNoModel, AreEqual}
 use Rattle.bit_blast.proofs.Exact.{no_model_is_equal}
-use Rattle.rule_table.specs.Table.{Opened, Rule, Table}
+use Rattle.rule_table.specs.Table.{Rule, Table}
 use Rattle.rule_table.specs.Valid.{IsState, IsRule, IsTable}
 use Rattle.proof_logs.specs.Verdicts.{InTurn}
 use Rattle.proof_logs.proofs.Sound.{proved_unsatisfied}
 use Rattle.table_audit.specs.declared.errors.EntryFault.TheVariants.{Proof, Unfinished}
 use Rattle.table_audit.specs.declared.errors.AuditError.TheVariants.{Entry}
 use Rattle.table_audit.specs.Sides.{named_count, SidesFit, HasFormula, formula_of}
-use Rattle.table_audit.specs.Shorter.{shorter, values_in, IsTold, is_named as is_named_open}
-use Rattle.table_audit.specs.Acceptance.{EntryVerdict, EntryProofVerdict, ToldTest, ToldVerdict, OpenTest, OpensVerdict, IsRightlyOpen, IsAccepted}
-use Rattle.table_audit.specs.Soundness.{items_in, rewriting_rule, rules_of, IsShortest, AreShortest, AreRightlyOpen, IsSound, number_of}
+use Rattle.table_audit.specs.Shorter.{shorter, values_in, IsTold}
+use Rattle.table_audit.specs.Acceptance.{EntryVerdict, EntryProofVerdict, ToldTest, ToldVerdict, OpenTest, OpensVerdict, IsAccepted}
+use Rattle.table_audit.specs.Soundness.{items_in, rewriting_rule, rules_of, IsShortest, IsSound}
 use Rattle.table_audit.proofs.Numbering.{below_from}
 use Rattle.table_audit.proofs.Fitting.{formula_fits, ordered_of}
 use Rattle.table_audit.proofs.Names.{count_same, all_named, open_is, has_one, one_has, of_four}
@@ -66,16 +63,16 @@ are_words s valid = record {
   register = λ x low. subst (λ n. n < 2 ^ 32) (sym (register_value s x (inl low))) (small_word s x valid);
   flag = λ x high. elim (leb_tells 19 x) [
     | inl past ↦ (
-      let long : length s.r ≤ x = omega (arith, valid.four, past.1) in
-      let none : get_or s.r x 0 ≡ 0 = get_or_past s.r x 0 long in
-      let is : values_in s x ≡ 0 = register_value s x (inr past.1) ∙ none in
-      omega (arith, is)
-    )
+        let long : length s.r ≤ x = omega (arith, valid.four, past.1) in
+        let none : get_or s.r x 0 ≡ 0 = get_or_past s.r x 0 long in
+        let is : values_in s x ≡ 0 = register_value s x (inr past.1) ∙ none in
+        omega (arith, is)
+        )
     | inr low ↦ (
-      let e : 15 + (x - 15) ≡ x = omega arith in
-      let few : x - 15 < 4 = omega (arith, low.1) in
-      subst (λ y. values_in s y < 2) e (of_four (λ y. values_in s (15 + y) < 2) (bit_at-lt s.nzcv 3) (bit_at-lt s.nzcv 2) (bit_at-lt s.nzcv 1) (bit_at-lt s.nzcv 0) (x - 15) few)
-    )
+        let e : 15 + (x - 15) ≡ x = omega arith in
+        let few : x - 15 < 4 = omega (arith, low.1) in
+        subst (λ y. values_in s y < 2) e (of_four (λ y. values_in s (15 + y) < 2) (bit_at-lt s.nzcv 3) (bit_at-lt s.nzcv 2) (bit_at-lt s.nzcv 1) (bit_at-lt s.nzcv 0) (x - 15) few)
+        )
   ];
 }
 
@@ -101,10 +98,13 @@ mask_over k e is f x h =
     let item = has_one e.mask x h in
     elim (f.mask x item.0) [
       | inl low ↦ inl (omega (arith, low, is))
-      | inr high ↦ inr (high, elim (or_cases (nat_lt x 4) (nat_le 15 x && nat_lt x 19) item.1) [
-        | inl four ↦ omega (arith, ltb-true x 4 four)
-        | inr flag ↦ ltb-true x 19 (and_parts (nat_le 15 x) (nat_lt x 19) flag).1
-      ])
+      | inr high ↦ inr (
+        high,
+        elim (or_cases (nat_lt x 4) (nat_le 15 x && nat_lt x 19) item.1) [
+          | inl four ↦ omega (arith, ltb-true x 4 four)
+          | inr flag ↦ ltb-true x 19 (and_parts (nat_le 15 x) (nat_lt x 19) flag).1
+        ],
+      )
     ]
 
 sound_rule : (t : Table) (n : ℕ) (e : Rule) → SidesFit t e → IsMask e.mask → EntryProofVerdict n e None → IsSoundRule (rewriting_rule e)

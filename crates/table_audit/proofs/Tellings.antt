@@ -1,5 +1,5 @@
 -- Trials, and the listed states that they begin at.
-use Rattle.std.proofs.Common.{◌≡◌, ℕ, ◌+◌, ◌<◌, ◌≤◌, ◌↔◌, List, Option, Some, length, get_or, slice_get, map, take, sym, ◌∙◌, ap, subst, inl, inr, arith, Bool, IsTrue}
+use Rattle.std.proofs.Common.{◌≡◌, ℕ, ◌+◌, ◌<◌, ◌≤◌, ◌↔◌, List, Some, length, get_or, slice_get, map, take, sym, ◌∙◌, ap, subst, inl, inr, arith, Bool, IsTrue}
 use Rattle.std.specs.List.{All, Any}
 use Rattle.std.specs.Option.{option_map}
 use Rattle.std.proofs.lemmas.List.{take_more, take_all, get_or_default, length-map}

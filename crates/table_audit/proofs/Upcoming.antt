@@ -1,5 +1,5 @@
 -- Numbers named open, one after the other.
-use Rattle.std.proofs.Common.{◌≡◌, ℕ, zero, suc, ◌+◌, ◌<◌, ◌≤◌, ◌==◌, ◌||◌, ◌&&◌, Bool, true, false, inl, inr, List, [], ◌∷◌, Option, Some, None, slice_get, drop, length, map, refl, sym, ◌∙◌, ap, subst, arith, nat_le}
+use Rattle.std.proofs.Common.{◌≡◌, ℕ, suc, ◌+◌, ◌<◌, ◌≤◌, ◌==◌, true, false, inl, inr, List, [], ◌∷◌, Some, None, drop, refl, sym, ◌∙◌, ap, subst, arith, nat_le}
 use Rattle.std.proofs.lemmas.List.{drop_all}
 use Rattle.std.proofs.lemmas.Option.{slice_get_cases}
 use Rattle.std.proofs.lemmas.Bool.{eqb-true, eq-eqb, and_parts, cases_Bool, leb-true, le-leb}
@@ -55,9 +55,9 @@ record Here (opens : List Opened) (next number : ℕ) : Type 0 where
 here : (opens : List Opened) (next number : ℕ) → is_number_at opens next number ≡ true → Here opens next number
 here opens next number h = elim (slice_get_cases opens next).1 [
   | inl p ↦ (
-    let test : is_number (Some p.0) number ≡ true = sym (ap (λ o. is_number o number) p.2) ∙ h in
-    record { first = p.0; is = eqb-true p.0.number number test; parts = drop_got opens next p.0 p.2 }
-  )
+      let test : is_number (Some p.0) number ≡ true = sym (ap (λ o. is_number o number) p.2) ∙ h in
+      record { first = p.0; is = eqb-true p.0.number number test; parts = drop_got opens next p.0 p.2 }
+      )
   | inr p ↦ (let test : is_number None number ≡ true = sym (ap (λ o. is_number o number) p.1) ∙ h in absurd (cc))
 ]
 
@@ -83,12 +83,12 @@ upcoming_named opens next number u h =
 pub unnamed_now : (opens : List Opened) (next number : ℕ) → IsUpcoming opens next number → is_number_at opens next number ≡ false → is_named opens number ≡ false
 unnamed_now opens next number u h = elim (slice_get_cases opens next).1 [
   | inl p ↦ (
-    let parts : drop next opens ≡ p.0 ∷ drop (next + 1) opens = drop_got opens next p.0 p.2 in
-    let test : (p.0.number == number) ≡ false = sym (ap (λ o. is_number o number) p.2) ∙ h in
-    let a : ascends_from number (p.0.number ∷ numbers_of (drop (next + 1) opens)) ≡ true = subst (λ os. ascends_from number (numbers_of os) ≡ true) parts u.ascends in
-    let rest = ascends_rest number p.0.number (numbers_of (drop (next + 1) opens)) a in
-    u.passed number (omega arith) ∙ ap (λ os. is_named os number) parts ∙ rw test (named_high (drop (next + 1) opens) (suc p.0.number) number (omega (arith, rest.0)) rest.1)
-  )
+      let parts : drop next opens ≡ p.0 ∷ drop (next + 1) opens = drop_got opens next p.0 p.2 in
+      let test : (p.0.number == number) ≡ false = sym (ap (λ o. is_number o number) p.2) ∙ h in
+      let a : ascends_from number (p.0.number ∷ numbers_of (drop (next + 1) opens)) ≡ true = subst (λ os. ascends_from number (numbers_of os) ≡ true) parts u.ascends in
+      let rest = ascends_rest number p.0.number (numbers_of (drop (next + 1) opens)) a in
+      u.passed number (omega arith) ∙ ap (λ os. is_named os number) parts ∙ rw test (named_high (drop (next + 1) opens) (suc p.0.number) number (omega (arith, rest.0)) rest.1)
+      )
   | inr p ↦ u.passed number (omega arith) ∙ ap (λ os. is_named os number) (drop_all next opens p.0)
 ]
 
@@ -96,13 +96,13 @@ pub upcoming_passed : (opens : List Opened) (next number : ℕ) → IsUpcoming o
 upcoming_passed opens next number u h = record {
   ascends = elim (slice_get_cases opens next).1 [
     | inl p ↦ (
-      let parts : drop next opens ≡ p.0 ∷ drop (next + 1) opens = drop_got opens next p.0 p.2 in
-      let test : (p.0.number == number) ≡ false = sym (ap (λ o. is_number o number) p.2) ∙ h in
-      let a : ascends_from number (p.0.number ∷ numbers_of (drop (next + 1) opens)) ≡ true = subst (λ os. ascends_from number (numbers_of os) ≡ true) parts u.ascends in
-      let rest = ascends_rest number p.0.number (numbers_of (drop (next + 1) opens)) a in
-      let other : p.0.number ≡ number → ⊥ = λ e. (let same : (p.0.number == number) ≡ true = eq-eqb p.0.number number e in absurd (cc)) in
-      subst (λ os. ascends_from (number + 1) (numbers_of os) ≡ true) (sym parts) (ascends_more number (number + 1) p.0.number (numbers_of (drop (next + 1) opens)) (omega (arith, rest.0, other)) a)
-    )
+        let parts : drop next opens ≡ p.0 ∷ drop (next + 1) opens = drop_got opens next p.0 p.2 in
+        let test : (p.0.number == number) ≡ false = sym (ap (λ o. is_number o number) p.2) ∙ h in
+        let a : ascends_from number (p.0.number ∷ numbers_of (drop (next + 1) opens)) ≡ true = subst (λ os. ascends_from number (numbers_of os) ≡ true) parts u.ascends in
+        let rest = ascends_rest number p.0.number (numbers_of (drop (next + 1) opens)) a in
+        let other : p.0.number ≡ number → ⊥ = λ e. (let same : (p.0.number == number) ≡ true = eq-eqb p.0.number number e in absurd (cc)) in
+        subst (λ os. ascends_from (number + 1) (numbers_of os) ≡ true) (sym parts) (ascends_more number (number + 1) p.0.number (numbers_of (drop (next + 1) opens)) (omega (arith, rest.0, other)) a)
+        )
     | inr p ↦ subst (λ os. ascends_from (number + 1) (numbers_of os) ≡ true) (sym (drop_all next opens p.0)) (ascends_none (number + 1))
   ];
   passed = λ n past. u.passed n (omega arith);

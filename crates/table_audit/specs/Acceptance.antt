@@ -7,7 +7,6 @@ use Rattle.rule_table.specs.Table.{Opened, Rule, Table}
 use Rattle.proof_logs.specs.Verdicts.{Tests, Then, InTurn}
 use Rattle.proof_logs.specs.Proofs.{ProofVerdict}
 use Rattle.proof_logs.specs.Logs.{IsSpentLog}
-use Rattle.table_audit.specs.declared.errors.EntryFault.{EntryFault}
 use Rattle.table_audit.specs.declared.errors.EntryFault.TheVariants.{Sides, Proof, Unfinished, Untold, Open}
 use Rattle.table_audit.specs.declared.errors.AuditError.{AuditError}
 use Rattle.table_audit.specs.declared.errors.AuditError.TheVariants.{States, Wide, Entry}

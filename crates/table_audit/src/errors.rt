@@ -34,10 +34,7 @@ pub enum AuditError {
     Wide(u64),
     /// An entry, by its number from 1.
     #[error("entry {number}: {kind}")]
-    Entry {
-        number: u64,
-        kind: EntryFault,
-    },
+    Entry { number: u64, kind: EntryFault },
     /// The memory didn't suffice.
     #[error("out of memory")]
     Memory,

@@ -13,7 +13,7 @@ mod trials;
 mod verdict;
 mod widths;
 
-pub use verdict::audit;
 pub use audited::Audited;
 pub use errors::{AuditError, EntryFault};
 pub use sides::{entry_formula, sides_fit};
+pub use verdict::audit;

@@ -35,12 +35,7 @@ fn check_shorter<L: Ledger>(
     ensures cost { steps.new ≤ steps.old + (runs_cost (table_of table.now) (rule_of entry.now) + sum_by (open_cost (table_of table.now) (rule_of entry.now)) (map opened_of entry.now.opens.items)) }
 {
     let k = named_count(&entry.left);
-    let trials = trials_of(
-        alloc,
-        entry.left.as_slice(),
-        table.states.as_slice(),
-        steps,
-    )?;
+    let trials = trials_of(alloc, entry.left.as_slice(), table.states.as_slice(), steps)?;
     check_told(alloc, table, number, entry, k, &trials, steps)?;
     check_opens(alloc, table, number, entry, k, &trials, steps)
 }

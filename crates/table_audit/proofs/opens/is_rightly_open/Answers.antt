@@ -1,16 +1,16 @@
-use Rattle.std.proofs.Common.{arith, refl, sym, subst, ap, ◌∙◌, ◌≡◌, ◌≤◌, ◌↔◌, slice_get, Some, length, map, IsTrue}
+use Rattle.std.proofs.Common.{arith, refl, sym, subst, ap, ◌∙◌, ◌≡◌, ◌≤◌, slice_get, Some, length, map}
 use Rattle.std.proofs.lemmas.Bool.{false≢true}
 use Rattle.fingerprints.specs.Seeded.{seen}
 use Rattle.thumb_model.specs.Rewrite.{AreOver}
 use Rattle.clause_model.specs.Literals.{codes_of}
 use Rattle.lrat_check.specs.Content.{content_of}
 use Rattle.rule_table.specs.Views.{opened_of, rule_of, table_of}
-use Rattle.proof_logs.specs.Logs.{IsSpentLog, spent_cost}
+use Rattle.proof_logs.specs.Logs.{spent_cost}
 use Rattle.table_audit.specs.Sides.{formula_against}
 use Rattle.table_audit.specs.Shorter.{shorter, IsTold}
 use Rattle.table_audit.proofs.Tellings.{told_is}
 use Rattle.table_audit.proofs.Walking.{over_more}
-use Rattle.table_audit.proofs.Openings.{found, told_open, spent_answers, as_many, told_within, spent_within}
+use Rattle.table_audit.proofs.Openings.{found, told_open, spent_answers, as_many, spent_within}
 use Rattle.table_audit.proofs.opens.is_rightly_open.Goals as goal
 
 pub is_told-requires : goal.is_told-requires

@@ -1,5 +1,4 @@
-use Rattle.std.proofs.Common.{arith, sym, ap, ◌∙◌, ◌≡◌, get_or, length}
-use Rattle.std.proofs.lemmas.List.{length-map}
+use Rattle.std.proofs.Common.{arith, sym, ap, ◌∙◌, ◌≡◌, get_or}
 use Rattle.thumb_instr.specs.Renaming.{named}
 use Rattle.rule_table.specs.Canonical.{numbers_of}
 use Rattle.rule_table.proofs.Orders.{instr-end}

@@ -1,7 +1,5 @@
-use Rattle.std.proofs.Common.{◌↔◌, IsTrue}
 use Rattle.rule_table.specs.Views.{rule_of, table_of}
-use Rattle.table_audit.specs.Orders.{AreWithin}
-use Rattle.table_audit.proofs.Fitting.{fits, ordered_of, formula_fits}
+use Rattle.table_audit.proofs.Fitting.{fits, formula_fits}
 use Rattle.table_audit.proofs.sides.sides_fit.Goals as goal
 
 pub returns-in-Some-clause-fit : goal.returns-in-Some-clause-fit

@@ -1,4 +1,4 @@
-use Rattle.std.proofs.Common.{subst, ap, ◌<◌, ◌≡◌, arith, length, slice_get, Some, map}
+use Rattle.std.proofs.Common.{subst, ◌≡◌, slice_get, Some, map}
 use Rattle.std.proofs.lemmas.Option.{get_or_from_slice_get, slice_get_within}
 use Rattle.rule_table.specs.Valid.{IsRule}
 use Rattle.rule_table.specs.Views.{rule_of, table_of}

@@ -1,4 +1,4 @@
-use Rattle.std.proofs.Common.{arith, subst, sym}
+use Rattle.std.proofs.Common.{subst, sym}
 use Rattle.thumb_model.specs.Rewrite.{AreOver}
 use Rattle.table_audit.proofs.Fitting.{ordered_of}
 use Rattle.table_audit.proofs.Walking.{over_more}
