@@ -3,3 +3,6 @@ pub mod Text
 pub mod Views
 pub mod Canonical
 pub mod Valid
+pub mod Items
+pub mod Grammar
+pub mod Refused

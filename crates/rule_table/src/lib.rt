@@ -10,7 +10,7 @@ mod tests;
 mod windows;
 mod writing;
 
-pub use errors::Memory;
+pub use errors::{Memory, TableError};
 pub use map::Map;
 pub use table::{Entry, Open, Table};
 pub use windows::canonical;
