@@ -6,3 +6,4 @@ pub mod Valid
 pub mod Items
 pub mod Grammar
 pub mod Refused
+pub mod Fronts

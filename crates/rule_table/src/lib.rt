@@ -8,6 +8,7 @@ mod table;
 #[cfg(test)]
 mod tests;
 mod windows;
+mod words;
 mod writing;
 
 pub use errors::{Memory, TableError};
