@@ -1,12 +1,11 @@
 -- What lines begin with, and what stands behind it.
 use Rattle.std.specs.Prelude.{ℕ, ◌==◌, ◌++◌, List, [], ◌∷◌, map, codes, decimal, Option, Some, None, if◌then◌else◌}
-use Rattle.std.specs.List.{flat_map}
 use Rattle.std.specs.Char.{is_ascii_digit}
 use Rattle.std.specs.Borrow.{Bor}
 use Rattle.lrat_check.specs.Text.{text_of as text_of_line}
 use Rattle.rule_table.specs.declared.words.Word.{Word}
 use Rattle.rule_table.specs.declared.words.Word.TheVariants as word
-use Rattle.rule_table.specs.Text.{Item, Version, Regs, Longest, Seed, Budget, Pool, State, Entry, Left, Right, Mask, Proof, Logged, Open, End, after_blanks, hex_of, instr_text, named}
+use Rattle.rule_table.specs.Text.{Item, Version, Regs, Longest, Seed, Budget, Pool, State, Entry, Left, Right, Mask, Proof, Logged, Open, End, after_blanks, hex_of, instr_text, mask_text}
 
 unfoldable pub words : List Word
 words =
@@ -52,14 +51,14 @@ front (b ∷ bs) = if is_ascii_digit b then Some (word.Digit, b ∷ bs) else fro
 abbrev pub seen_front : Word × Bor (List ℕ) → Word × List ℕ
 seen_front p = (p.0, p.1.now)
 
--- the items of masks, each as it is written
-abbrev pub mask_rows : List (ℕ × List ℕ)
-mask_rows =
-    (0, codes " r0") ∷ (1, codes " r1") ∷ (2, codes " r2") ∷ (3, codes " r3")
-    ∷ (15, codes " n") ∷ (16, codes " z") ∷ (17, codes " c") ∷ (18, codes " v") ∷ []
+-- the items whose texts stand at the front of the bytes in the order of the rows, and what stands behind them
+abbrev pub and_taken : List ℕ → ℕ → Option (List ℕ) → (List ℕ → List ℕ × List ℕ) → List ℕ × List ℕ
+and_taken bs x None others = others bs
+and_taken bs x (Some t) others = (x ∷ (others t).0, (others t).1)
 
-abbrev pub mask_text : ℕ → List ℕ
-mask_text m = flat_map (λ (r : ℕ × List ℕ). named m r.0 r.1) mask_rows
+unfoldable pub taken : List (ℕ × List ℕ) → List ℕ → List ℕ × List ℕ
+taken [] bs = ([], bs)
+taken (r ∷ rs) bs = and_taken bs r.0 (strip r.1 bs) (taken rs)
 
 -- what stands behind the word
 abbrev pub tail_of : Item → List ℕ
