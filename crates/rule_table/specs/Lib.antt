@@ -7,3 +7,4 @@ pub mod Items
 pub mod Grammar
 pub mod Refused
 pub mod Fronts
+pub mod Digits
