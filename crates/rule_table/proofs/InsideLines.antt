@@ -145,7 +145,7 @@ pool_small ns e =
 pub pool_inside : (ns : List ℕ) → is_pool ns ≡ true → IsInside (after_blanks (map decimal ns))
 pool_inside ns e = blanks_inside decimal (λ n. n < 2 ^ 64) decimal_inside ns (pool_small ns e)
 
-named_inside : (m item : ℕ) (text : List ℕ) → IsInside text → IsInside (named m item text)
+pub named_inside : (m item : ℕ) (text : List ℕ) → IsInside text → IsInside (named m item text)
 named_inside m item text h = by (has m item)
   where
     by : (b : Bool) → IsInside (cond b text [])

@@ -8,3 +8,4 @@ pub mod Grammar
 pub mod Refused
 pub mod Fronts
 pub mod Digits
+pub mod Steps
