@@ -9,7 +9,11 @@ use Rattle.std.proofs.lemmas.Bool.{and_parts}
 use Rattle.std.proofs.lemmas.List.Folds.{list_all-append, list_all_at}
 use Rattle.std.proofs.lemmas.List.Elements.{All-head, All-tail}
 use Rattle.rule_table.specs.Text.{hex_digit, hex_of, after_blanks}
-use Rattle.rule_table.specs.Digits.{digit_value}
+use Rattle.fingerprints.specs.Seeded.{Seen}
+use Rattle.rule_table.specs.Text.{State}
+use Rattle.rule_table.specs.Valid.{IsState}
+use Rattle.rule_table.specs.Fronts.{tail_of}
+use Rattle.rule_table.specs.Digits.{digit_value, pair_text}
 
 pub digit_back : (b d : ℕ) → digit_value b ≡ Some d → (hex_digit d ≡ b) × (d < 16)
 digit_back b d e = grind arith
@@ -109,3 +113,74 @@ state_tells vs ws f g n h k a b e =
     let words = words_tell vs ws (32 ∷ hex_of 1 f) (32 ∷ hex_of 1 g) n h k e in
     let flags : hex_of 1 f ≡ hex_of 1 g = (let t = words.1 in cc) in
     (words.0, hex_tells 1 f g (omega arith) (omega arith) flags)
+
+-- ---- reading
+
+digit_of_hex : (d : ℕ) → d < 16 → digit_value (hex_digit d) ≡ None → ⊥
+unfolding is_hex
+digit_of_hex d h e = let bad : true ≡ false = sym (digit_is_hex d h) ∙ ap is_some e in absurd cc
+
+pub hex_one : (d : ℕ) → d < 16 → hex_of 1 d ≡ hex_digit d ∷ []
+unfolding hex_of
+hex_one d h = let same : d % 16 ≡ d = omega arith in rw same refl
+
+pub two_bytes : (bs : List ℕ) → length bs ≡ 2 → bs ≡ get_or bs 0 0 ∷ get_or bs 1 0 ∷ []
+two_bytes [] h = absurd (omega arith)
+two_bytes (a ∷ []) h = absurd (omega arith)
+two_bytes (a ∷ b ∷ []) h = refl
+two_bytes (a ∷ b ∷ x ∷ xs) h = absurd (omega arith)
+
+pub no_digit : (bs : List ℕ) (d : ℕ) → d < 16 → digit_value (get_or bs 1 0) ≡ None → 32 ∷ hex_of 1 d ≡ bs → ⊥
+no_digit bs d h none e =
+    let is : hex_digit d ≡ get_or bs 1 0 = ap (λ us. get_or us 1 0) (ap (λ us. 32 ∷ us) (sym (hex_one d h)) ∙ e) in
+    digit_of_hex d h (ap digit_value is ∙ none)
+
+pub some_digit : (bs : List ℕ) (d : ℕ) → length bs ≡ 2 → get_or bs 0 0 ≡ 32 → digit_value (get_or bs 1 0) ≡ Some d → (d < 16) × (32 ∷ hex_of 1 d ≡ bs)
+some_digit bs d size first is =
+    let back = digit_back (get_or bs 1 0) d is in
+    let word : 32 ∷ hex_of 1 d ≡ bs =
+    ap (λ us. 32 ∷ us) (hex_one d back.1) ∙ ap (λ b. 32 ∷ b ∷ []) back.0 ∙ ap (λ a. a ∷ get_or bs 1 0 ∷ []) (sym first) ∙ sym (two_bytes bs size) in
+    (back.1, word)
+
+-- no word stands there
+pub no_word : (bs digits : List ℕ) (w : ℕ) (more : List ℕ) → digits ≡ take 8 (drop 1 bs) → 32 ∷ (hex_of 8 w ++ more) ≡ bs → hex_of 8 w ≡ digits
+no_word bs digits w more front e =
+    let size : 8 ≡ length (hex_of 8 w) = sym (length-hex 8 w) in
+    sym (take-append_seam (hex_of 8 w) more) ∙ ap (λ n. take n (hex_of 8 w ++ more)) (sym size) ∙ ap (λ us. take 8 (drop 1 us)) e ∙ sym front
+
+pub short_word : (bs : List ℕ) (w : ℕ) (more : List ℕ) → length bs < 9 → 32 ∷ (hex_of 8 w ++ more) ≡ bs → ⊥
+short_word bs w more h e = omega (arith, ap length e, length-append (hex_of 8 w) more, length-hex 8 w)
+
+-- two words in front of more
+pub pair_tells : (v w x y : ℕ) (us vs : List ℕ) → pair_text v w us ≡ pair_text x y vs → us ≡ vs
+pair_tells v w x y us vs e =
+    let first = word_tells 8 v x (32 ∷ (hex_of 8 w ++ us)) (32 ∷ (hex_of 8 y ++ vs)) e in
+    (word_tells 8 w y us vs first.1).1
+
+-- a state's text as two pairs of words and the flags
+pub record Four (s : Seen) (bs : List ℕ) : Type 0 where
+  pub a : ℕ
+  pub b : ℕ
+  pub c : ℕ
+  pub d : ℕ
+  pub is : pair_text a b (pair_text c d (32 ∷ hex_of 1 s.nzcv)) ≡ bs
+
+pub four : (s : Seen) (bs : List ℕ) → IsState s → tail_of (State s) ≡ bs → Four s bs
+four s bs is e = by s.r refl is.four
+  where
+    assoc : (w : ℕ) (xs ys : List ℕ) → 32 ∷ ((hex_of 8 w ++ xs) ++ ys) ≡ 32 ∷ (hex_of 8 w ++ (xs ++ ys))
+    assoc w xs ys = ap (λ us. 32 ∷ us) (append_assoc (hex_of 8 w) xs ys)
+
+    by : (ws : List ℕ) → s.r ≡ ws → length ws ≡ 4 → Four s bs
+    by [] q n = absurd (omega arith)
+    by (a ∷ []) q n = absurd (omega arith)
+    by (a ∷ b ∷ []) q n = absurd (omega arith)
+    by (a ∷ b ∷ c ∷ []) q n = absurd (omega arith)
+    by (a ∷ b ∷ c ∷ d ∷ []) q n = record {
+      a = a;
+      b = b;
+      c = c;
+      d = d;
+      is = sym (simp append_assoc refl) ∙ ap (λ ws. after_blanks (map (hex_of 8) ws) ++ 32 ∷ hex_of 1 s.nzcv) (sym q) ∙ e;
+    }
+    by (a ∷ b ∷ c ∷ d ∷ x ∷ ws) q n = absurd (omega arith)

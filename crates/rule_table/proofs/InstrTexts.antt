@@ -1,5 +1,5 @@
 -- The texts of instructions of windows: they begin with a letter, have no newline, and tell the instruction.
-use Rattle.std.proofs.Common.{◌≡◌, ℕ, ◌*◌, ◌<◌, ◌≤◌, ◌^◌, ◌==◌, ◌&&◌, Bool, true, false, List, [], ◌∷◌, ◌++◌, refl, sym, ◌∙◌, ap, arith, cond, Option, Some, None, inl, inr, eqb-true}
+use Rattle.std.proofs.Common.{◌≡◌, ℕ, ◌*◌, ◌<◌, ◌≤◌, ◌^◌, ◌==◌, ◌&&◌, Bool, true, false, List, [], ◌∷◌, ◌++◌, refl, sym, ◌∙◌, ap, arith, cond, Option, Some, None, inl, inr, eqb-true, map, lt-ltb}
 use Rattle.std.specs.Prelude.{codes, decimal, nat_lt, nat_le, if◌then◌else◌}
 use Rattle.std.specs.List.{list_all}
 use Rattle.std.specs.Char.{is_ascii_digit}
@@ -18,6 +18,8 @@ use Rattle.thumb_instr.specs.declared.operation.Right.TheVariants as right
 use Rattle.thumb_instr.specs.declared.operation.ByteOperation.TheVariants as byte
 use Rattle.thumb_instr.specs.declared.operation.Extension.TheVariants as extension
 use Rattle.thumb_instr.specs.declared.operation.Reversal.TheVariants as reversal
+use Rattle.thumb_instr.specs.declared.within.Within.{Within}
+use Rattle.thumb_instr.specs.Renaming.{AreBelow}
 use Rattle.thumb_instr.specs.Window.{is_in_window}
 use Rattle.thumb_instr.specs.Parts.{parts_of}
 use Rattle.thumb_instr.proofs.PartLemmas.{same_parts}
@@ -213,3 +215,20 @@ pub instr_tells : (i j : Instr) → IsInstr i → IsInstr j → instr_text i ≡
 instr_tells i j a b e =
     let same : Some (shown_with i None) ≡ Some (shown_with j None) = sym (reads_back i a) ∙ ap reading e ∙ reads_back j b in
     (same_shown i j None (same_Some _ _ same)).0
+
+-- ---- reading
+
+-- what is read of an instruction's text is that instruction
+pub read_is : (i : Instr) (o : Option Shown) (bs : List ℕ) → o ≡ reading bs → IsInstr i → instr_text i ≡ bs → o ≡ Some (shown_with i None)
+read_is i o bs e is text = e ∙ ap reading (sym text) ∙ reads_back i is
+
+-- low registers
+pub low_tests : (rs : List (Within 0 8)) → list_all (λ (r : Within 0 8). nat_lt r.number 4) rs ≡ true → AreBelow 4 (map (λ (r : Within 0 8). r.number) rs)
+low_tests [] e = tt
+low_tests (r ∷ rs) e =
+    let both = and_parts (nat_lt r.number 4) (list_all (λ (q : Within 0 8). nat_lt q.number 4) rs) e in
+    (ltb-true r.number 4 both.0, low_tests rs both.1)
+
+pub low_tested : (rs : List (Within 0 8)) → AreBelow 4 (map (λ (r : Within 0 8). r.number) rs) → list_all (λ (r : Within 0 8). nat_lt r.number 4) rs ≡ true
+low_tested [] h = refl
+low_tested (r ∷ rs) h = and_from (nat_lt r.number 4) (list_all (λ (q : Within 0 8). nat_lt q.number 4) rs) (lt-ltb r.number 4 h.0) (low_tested rs h.1)

@@ -1,16 +1,18 @@
 -- The items of masks in their texts.
 use Rattle.std.proofs.Common.{◌≡◌, ℕ, zero, suc, ◌+◌, ◌<◌, ◌≤◌, ◌==◌, ◌&&◌, ◌||◌, Bool, true, false, List, [], ◌∷◌, ◌++◌, length, map, refl, sym, ◌∙◌, ap, arith, cond, Option, Some, None, inl, inr, eqb-true, eq-eqb, append_assoc, append-nil, leb-true, nat_le}
 use Rattle.std.specs.Prelude.{nat_lt}
-use Rattle.std.specs.List.{flat_map}
+use Rattle.std.specs.List.{flat_map, list_all}
 use Rattle.std.specs.Int.{bit_at}
 use Rattle.std.proofs.lemmas.Bool.{cases_Bool, and_parts, and_from, ne_eqb}
 use Rattle.std.proofs.lemmas.Bool.Decides.{nat_tests}
 use Rattle.std.proofs.lemmas.Nat.Bits.{same_from_bits, bit_at-lt}
 use Rattle.seq_enum.specs.Lists.{ascends_from}
 use Rattle.thumb_instr.specs.Items.{has, is_in_masks, one_of}
+use Rattle.rule_table.specs.declared.tails.MaskItem.{MaskItem}
+use Rattle.rule_table.specs.MaskView.{row_of}
 use Rattle.rule_table.specs.Text.{named, mask_rows, mask_text}
 use Rattle.rule_table.specs.Valid.{IsMask}
-use Rattle.rule_table.specs.Fronts.{strip, and_taken, taken}
+use Rattle.rule_table.specs.Fronts.{strip, left_of, is_taken, and_taken, taken}
 use Rattle.rule_table.proofs.FrontLemmas.{strip_front, strip_sound}
 
 -- the texts of those rows whose items are wanted
@@ -220,3 +222,37 @@ mask_of_taken m bs tells none =
 -- bytes that aren't all taken are no mask's text
 pub not_mask : (m : ℕ) (bs : List ℕ) → mask_text m ≡ bs → (taken mask_rows bs).1 ≡ []
 not_mask m bs e = ap (λ us. (taken mask_rows us).1) (sym e) ∙ ap (λ (p : List ℕ × List ℕ). p.1) (taken_mask m)
+
+-- ---- one row after the other
+
+or_later : (a b c : Bool) → (a || (b || c)) ≡ ((a || b) || c)
+or_later true b c = refl
+or_later false b c = refl
+
+taken_more : (r : ℕ × List ℕ) (rs : List (ℕ × List ℕ)) (bs : List ℕ) (x : ℕ)
+    → (one_of x (taken (r ∷ rs) bs).0 ≡ (is_taken r.0 (strip r.1 bs) x || one_of x (taken rs (left_of bs (strip r.1 bs))).0)) × ((taken (r ∷ rs) bs).1 ≡ (taken rs (left_of bs (strip r.1 bs))).1)
+unfolding taken
+taken_more r rs bs x = by (strip r.1 bs)
+  where
+    by : (o : Option (List ℕ)) → (one_of x (and_taken bs r.0 o (taken rs)).0 ≡ (is_taken r.0 o x || one_of x (taken rs (left_of bs o)).0)) × ((and_taken bs r.0 o (taken rs)).1 ≡ (taken rs (left_of bs o)).1)
+    by None = (refl, refl)
+    by (Some t) = (refl, refl)
+
+pub items_more : (a : Bool) (r : ℕ × List ℕ) (rs : List (ℕ × List ℕ)) (bs : List ℕ) (x : ℕ)
+    → (a || one_of x (taken (r ∷ rs) bs).0) ≡ ((a || is_taken r.0 (strip r.1 bs) x) || one_of x (taken rs (left_of bs (strip r.1 bs))).0)
+items_more a r rs bs x = ap (λ b. a || b) (taken_more r rs bs x).0 ∙ or_later a (is_taken r.0 (strip r.1 bs) x) (one_of x (taken rs (left_of bs (strip r.1 bs))).0)
+
+pub rest_more : (r : ℕ × List ℕ) (rs : List (ℕ × List ℕ)) (bs : List ℕ) → (taken (r ∷ rs) bs).1 ≡ (taken rs (left_of bs (strip r.1 bs))).1
+rest_more r rs bs = (taken_more r rs bs 0).1
+
+-- the code's list of rows
+rows_tests : (xs : List MaskItem) → list_all (λ (r : MaskItem). nat_lt r.item 19) xs ≡ list_all (λ (r : ℕ × List ℕ). nat_lt r.0 19) (map row_of xs)
+rows_tests [] = refl
+rows_tests (x ∷ xs) = ap (λ b. nat_lt x.item 19 && b) (rows_tests xs)
+
+pub rows_small : (xs : List MaskItem) → map row_of xs ≡ mask_rows → list_all (λ (r : MaskItem). nat_lt r.item 19) xs ≡ true
+rows_small xs e = rows_tests xs ∙ ap (list_all (λ (r : ℕ × List ℕ). nat_lt r.0 19)) e
+
+pub empty_list : (xs : List ℕ) → (length xs == 0) ≡ true → xs ≡ []
+empty_list [] e = refl
+empty_list (x ∷ xs) e = absurd (omega (arith, eqb-true (length (x ∷ xs)) 0 e))

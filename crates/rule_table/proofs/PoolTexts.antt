@@ -1,14 +1,14 @@
 -- Numbers behind blanks, and the words between blanks.
-use Rattle.std.proofs.Common.{◌≡◌, ℕ, ◌<◌, ◌≤◌, ◌^◌, ◌==◌, ◌&&◌, Bool, true, false, List, [], ◌∷◌, ◌++◌, length, map, refl, sym, ◌∙◌, ap, arith, eqb, append-nil}
-use Rattle.std.specs.Prelude.{decimal, nat_lt, nat_le}
+use Rattle.std.proofs.Common.{◌≡◌, ℕ, ◌<◌, ◌≤◌, ◌^◌, ◌==◌, ◌&&◌, Bool, true, false, List, [], ◌∷◌, ◌++◌, length, map, refl, sym, ◌∙◌, ap, arith, eqb, append-nil, leb-true, Option, Some, None}
+use Rattle.std.specs.Prelude.{decimal, nat_lt, nat_le, MatchOption, IsSome, IfSome, IsTrue, ◌↔◌}
 use Rattle.std.specs.Char.{is_ascii_digit}
 use Rattle.std.specs.Str.{all_ascii_digits}
 use Rattle.std.specs.List.{flat_map, All, slice_split, join_with_byte, list_all}
 use Rattle.std.proofs.lemmas.Fmt.{decimal_injective}
-use Rattle.std.proofs.lemmas.Bool.{and_parts}
+use Rattle.std.proofs.lemmas.Bool.{and_parts, false≢true}
 use Rattle.std.proofs.lemmas.List.Elements.{All-nil, All-cons, All-head, All-tail, All-map, All-weaker}
 use Rattle.std.proofs.lemmas.List.Splits.{slice_split_none, slice_split_at, join_with_byte-slice_split}
-use Rattle.seq_enum.specs.Pools.{is_pool}
+use Rattle.seq_enum.specs.Pools.{is_pool, inside}
 use Rattle.lrat_check.proofs.Texts.{map-injective, HasNoBlank}
 use Rattle.rule_table.specs.Text.{after_blanks}
 use Rattle.rule_table.proofs.InsideLines.{decimal_digits, pool_small}
@@ -82,3 +82,40 @@ pub record InWords (bs : List ℕ) (ns : List ℕ) : Type 0 where
 pub pool_words : (bs : List ℕ) (ns : List ℕ) → is_pool ns ≡ true → after_blanks (map decimal ns) ≡ bs → InWords bs ns
 pool_words bs [] h e = absurd (omega (arith, some_number [] h))
 pool_words bs (n ∷ ns) h e = record { rest = decimal n ++ after_blanks (map decimal ns); is = sym e; words = sym (split_numbers n ns (pool_small (n ∷ ns) h)) }
+
+-- at most 16 numbers, each a byte
+inside_most : (n : ℕ) → inside 0 256 n ≡ true → n ≤ 255
+inside_most n e = grind arith
+
+pub pool_bytes : (ns : List ℕ) → is_pool ns ≡ true → (length ns ≤ 16) × All (λ n. n ≤ 255) ns
+unfolding is_pool
+pool_bytes ns e =
+    let a = and_parts (nat_lt 0 (length ns) && nat_le (length ns) 16 && list_all (inside 0 256) ns) _ e in
+    let b = and_parts (nat_lt 0 (length ns) && nat_le (length ns) 16) (list_all (inside 0 256) ns) a.0 in
+    (leb-true (length ns) 16 (and_parts (nat_lt 0 (length ns)) (nat_le (length ns) 16) b.0).1, all ns b.1)
+  where
+    all : (ms : List ℕ) → list_all (inside 0 256) ms ≡ true → All (λ n. n ≤ 255) ms
+    all [] h = All-nil (λ n. n ≤ 255)
+    all (m ∷ ms) h =
+        let both = and_parts (inside 0 256 m) (list_all (inside 0 256) ms) h in
+        All-cons (λ n. n ≤ 255) m ms (inside_most m both.0) (all ms both.1)
+
+bytes_short : (ns : List ℕ) → All (λ n. n ≤ 255) ns → All IsShort ns
+bytes_short ns all = All-weaker (λ n. n ≤ 255) IsShort (λ n h. omega arith) ns all
+
+-- what is made of the numbers behind the first blank
+pub made_pool : (bs rest numbers : List ℕ) (o : Option (List ℕ)) → bs ≡ 32 ∷ rest → All (λ n. n ≤ 255) numbers → map decimal numbers ≡ split rest
+    → IsSome o ↔ IsTrue (is_pool numbers) → IfSome o (λ p. p ≡ numbers)
+    → MatchOption o ((ns : List ℕ) → is_pool ns ≡ true → after_blanks (map decimal ns) ≡ bs → ⊥) (λ p. (is_pool p ≡ true) × (after_blanks (map decimal p) ≡ bs))
+made_pool bs rest numbers None e small words valid value = λ ns h f.
+    let found = pool_words bs ns h f in
+    let same_rest : found.rest ≡ rest = (let tails : 32 ∷ found.rest ≡ 32 ∷ rest = sym found.is ∙ e in cc) in
+    let same : numbers ≡ ns = numbers_tell numbers ns (bytes_short numbers small) (pool_small ns h) (words ∙ ap split (sym same_rest) ∙ sym found.words) in
+    false≢true (valid.1 (ap is_pool same ∙ h))
+made_pool bs rest numbers (Some p) e small words valid value =
+    let is : is_pool numbers ≡ true = valid.0 refl in
+    (ap is_pool value ∙ is, ap (λ ns. after_blanks (map decimal ns)) value ∙ texts numbers is words ∙ sym e)
+  where
+    texts : (ns : List ℕ) → is_pool ns ≡ true → map decimal ns ≡ split rest → after_blanks (map decimal ns) ≡ 32 ∷ rest
+    texts [] h w = absurd (omega (arith, some_number [] h))
+    texts (n ∷ ns) h w = words_blanks rest n ns w

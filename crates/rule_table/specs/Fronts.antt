@@ -1,5 +1,5 @@
 -- What lines begin with, and what stands behind it.
-use Rattle.std.specs.Prelude.{ℕ, ◌==◌, ◌++◌, List, [], ◌∷◌, map, codes, decimal, Option, Some, None, if◌then◌else◌}
+use Rattle.std.specs.Prelude.{ℕ, ◌==◌, ◌++◌, Bool, false, List, [], ◌∷◌, map, codes, decimal, Option, Some, None, if◌then◌else◌}
 use Rattle.std.specs.Char.{is_ascii_digit}
 use Rattle.std.specs.Borrow.{Bor}
 use Rattle.lrat_check.specs.Text.{text_of as text_of_line}
@@ -50,6 +50,15 @@ front (b ∷ bs) = if is_ascii_digit b then Some (word.Digit, b ∷ bs) else fro
 
 abbrev pub seen_front : Word × Bor (List ℕ) → Word × List ℕ
 seen_front p = (p.0, p.1.now)
+
+-- what is left where something was taken from the front of the bytes, and which item was
+abbrev pub left_of : List ℕ → Option (List ℕ) → List ℕ
+left_of bs None = bs
+left_of bs (Some t) = t
+
+abbrev pub is_taken : ℕ → Option (List ℕ) → ℕ → Bool
+is_taken y None x = false
+is_taken y (Some t) x = x == y
 
 -- the items whose texts stand at the front of the bytes in the order of the rows, and what stands behind them
 abbrev pub and_taken : List ℕ → ℕ → Option (List ℕ) → (List ℕ → List ℕ × List ℕ) → List ℕ × List ℕ

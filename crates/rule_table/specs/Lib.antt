@@ -9,3 +9,5 @@ pub mod Refused
 pub mod Fronts
 pub mod Digits
 pub mod Steps
+pub mod ItemView
+pub mod MaskView

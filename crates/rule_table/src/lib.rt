@@ -2,9 +2,12 @@
 #![tactic(auto)]
 
 mod errors;
+mod item;
 mod lines;
 mod map;
+mod numbers;
 mod table;
+mod tails;
 #[cfg(test)]
 mod tests;
 mod windows;
