@@ -11,3 +11,5 @@ pub mod Digits
 pub mod Steps
 pub mod ItemView
 pub mod MaskView
+pub mod Told
+

@@ -8,6 +8,7 @@ mod map;
 mod numbers;
 mod table;
 mod tails;
+mod telling;
 #[cfg(test)]
 mod tests;
 mod windows;
