@@ -17,6 +17,10 @@ use Rattle.rule_table.specs.Items.{IsItem}
 use Rattle.rule_table.specs.Grammar.{Stage, Start, Done, step, run}
 use Rattle.rule_table.specs.Steps.{Follows, StepsTo}
 use Rattle.rule_table.specs.declared.errors.TableError.TheVariants as error
+use Rattle.rule_table.specs.declared.table.Table.{Table as Code}
+use Rattle.rule_table.specs.declared.stages.Reading.{Reading}
+use Rattle.rule_table.specs.declared.stages.Reading.TheVariants as reading
+use Rattle.rule_table.specs.StageView.{stage_of}
 use Rattle.rule_table.specs.Views.{table_of}
 use Rattle.rule_table.specs.Refused.{IsText, Begins, Stops, IsRefused, OneTable, NotBoth, RefusedOnce, WrittenReadsBack}
 use Rattle.rule_table.proofs.ReadBack.{run-append, reads}
@@ -254,6 +258,19 @@ bad bytes p left s n g a none = record {
       | inr e ↦ true≢false (sym (is_ended_last (line_of o.item)) ∙ ap is_ended o.is_line ∙ open_line p left a e)
     ]
 
+-- a line that says something
+pub line_steps : (s : Stage) (p : Placed) (i : Item) (o : Option Stage) → p.is_ended ≡ true → IsItem i → line_of i ≡ p.text → o ≡ step s i → StepsTo s p o
+line_steps s p i None ended' is text e = λ j h js same. let one : j ≡ i = lines_tell j i js is (same ∙ sym text) in ap (step s) one ∙ sym e
+line_steps s p i (Some t) ended' is text e = record { ended = ended'; item = i; valid = is; is = text; next = sym e }
+
+-- a line that comes is one of the text's
+pub room : (bytes : List ℕ) (p : Placed) (left : List Placed) (s : Stage) (n : ℕ) → Progress bytes (p ∷ left) s n → n ≤ length bytes
+room bytes p left s n g =
+    let all : length (lines_of bytes) ≡ length (map ended g.items) + length (map whole (p ∷ left)) =
+    ap length g.split' ∙ length-append (map ended g.items) (map whole (p ∷ left)) in
+    let lines : length (lines_in bytes) ≡ length (lines_of bytes) = sym (length-map (lines_in bytes) whole) ∙ ap length (map-whole bytes 1 0) in
+    omega (arith, all, lines, length-lines_in bytes, g.count, length-map g.items ended, length-map left whole)
+
 -- a line is missing
 pub missing : (bytes : List ℕ) (s : Stage) (n : ℕ) → Progress bytes [] s n → ((t : Table) → s ≡ Done t → ⊥) → IsRefused bytes n
 missing bytes s n g undone = record {
@@ -344,3 +361,36 @@ pub written_reads_back : WrittenReadsBack
 written_reads_back t (Ok u) is r = one_table (text_of t) (table_of u) t r (record { valid = is; whole = refl })
 written_reads_back t (Err (error.Line n)) is r = not_both (text_of t) t n (record { valid = is; whole = refl }) r
 written_reads_back t (Err error.Memory) is r = tt
+
+-- ---- lines that come
+
+pub bad_at : (bytes : List ℕ) (left after : List Placed) (p : Placed) (s : Stage) (n : ℕ) → Progress bytes left s n → AreLeft left → left ≡ p ∷ after → StepsTo s p None → IsRefused bytes n
+bad_at bytes left after p s n g a e none =
+    let P : List Placed → Type 0 = λ w. Progress bytes w s n in
+    bad bytes p after s n (subst P e g) (subst AreLeft e a) none
+
+pub more_at : (bytes : List ℕ) (left after : List Placed) (p : Placed) (s t : Stage) (n : ℕ) → Progress bytes left s n → left ≡ p ∷ after → StepsTo s p (Some t) → Progress bytes after t (n + 1)
+more_at bytes left after p s t n g e next =
+    let P : List Placed → Type 0 = λ w. Progress bytes w s n in
+    more bytes p after s t n (subst P e g) next
+
+pub room_at : (bytes : List ℕ) (left after : List Placed) (p : Placed) (s : Stage) (n : ℕ) → Progress bytes left s n → left ≡ p ∷ after → n ≤ length bytes
+room_at bytes left after p s n g e =
+    let P : List Placed → Type 0 = λ w. Progress bytes w s n in
+    room bytes p after s n (subst P e g)
+
+pub missing_at : (bytes : List ℕ) (left : List Placed) (s : Stage) (n : ℕ) → Progress bytes left s n → left ≡ [] → ((t : Table) → s ≡ Done t → ⊥) → IsRefused bytes n
+missing_at bytes left s n g e undone =
+    let P : List Placed → Type 0 = λ w. Progress bytes w s n in
+    missing bytes s n (subst P e g) undone
+
+pub whole_at : (bytes : List ℕ) (left : List Placed) (s : Stage) (t : Table) (n : ℕ) → Progress bytes left s n → left ≡ [] → s ≡ Done t → IsText bytes t
+whole_at bytes left s t n g e done =
+    let P : List Placed → Type 0 = λ w. Progress bytes w s n in
+    let Q : Stage → Type 0 = λ u. Progress bytes [] u n in
+    whole_text bytes t n (subst Q done (subst P e g))
+
+-- what isn't done as code isn't done
+pub undone : (r : Reading) → ((x : Code) → r ≡ reading.Done x → ⊥) → (t : Table) → stage_of r ≡ Done t → ⊥
+undone (reading.Done x) h t e = h x refl
+undone r h t e = absurd cc

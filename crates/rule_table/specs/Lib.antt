@@ -13,3 +13,4 @@ pub mod ItemView
 pub mod MaskView
 pub mod Told
 
+pub mod StageView

@@ -6,6 +6,8 @@ mod item;
 mod lines;
 mod map;
 mod numbers;
+mod reading;
+mod stages;
 mod table;
 mod tails;
 mod telling;
@@ -17,6 +19,7 @@ mod writing;
 
 pub use errors::{Memory, TableError};
 pub use map::Map;
+pub use reading::read_table;
 pub use table::{Entry, Open, Table};
 pub use windows::canonical;
 pub use writing::write_table;
