@@ -26,6 +26,15 @@ instr_text i = text_of_shown (shown_with i None)
 abbrev pub named : ℕ → ℕ → List ℕ → List ℕ
 named mask item text = if has mask item then text else []
 
+-- the items of masks, each as it is written, in the order in which they are
+abbrev pub mask_rows : List (ℕ × List ℕ)
+mask_rows =
+    (0, codes " r0") ∷ (1, codes " r1") ∷ (2, codes " r2") ∷ (3, codes " r3")
+    ∷ (15, codes " n") ∷ (16, codes " z") ∷ (17, codes " c") ∷ (18, codes " v") ∷ []
+
+abbrev pub mask_text : ℕ → List ℕ
+mask_text m = flat_map (λ (r : ℕ × List ℕ). named m r.0 r.1) mask_rows
+
 -- what a line says
 pub data Item : Type 0 where
   Version : Item
@@ -60,9 +69,7 @@ line_of (State s) = codes "state" ++ (after_blanks (map (hex_of 8) s.r) ++ 32 �
 line_of Entry = codes "entry"
 line_of (Left i) = codes "left " ++ instr_text i
 line_of (Right i) = codes "right " ++ instr_text i
-line_of (Mask m) =
-    codes "mask" ++ (named m 0 (codes " r0") ++ (named m 1 (codes " r1") ++ (named m 2 (codes " r2") ++ (named m 3 (codes " r3")
-    ++ (named m 15 (codes " n") ++ (named m 16 (codes " z") ++ (named m 17 (codes " c") ++ named m 18 (codes " v"))))))))
+line_of (Mask m) = codes "mask" ++ mask_text m
 line_of Proof = codes "proof"
 line_of (Logged c) = text_of_line c
 line_of (Open n) = codes "open " ++ decimal n

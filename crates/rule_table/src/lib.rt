@@ -2,16 +2,24 @@
 #![tactic(auto)]
 
 mod errors;
+mod item;
 mod lines;
 mod map;
+mod numbers;
+mod reading;
+mod stages;
 mod table;
+mod tails;
+mod telling;
 #[cfg(test)]
 mod tests;
 mod windows;
+mod words;
 mod writing;
 
-pub use errors::Memory;
+pub use errors::{Memory, TableError};
 pub use map::Map;
+pub use reading::read_table;
 pub use table::{Entry, Open, Table};
 pub use windows::canonical;
 pub use writing::write_table;

@@ -1,0 +1,9 @@
+use Rattle.std.proofs.Common.{◌≤◌, ◌+◌, take}
+use Rattle.std.specs.Prelude.{All, Contains}
+use Rattle.proof_logs.proofs.clauses.is_part.Given as goal
+
+abbrev pub invariant-loop-literal : goal.invariant-loop-literal
+invariant-loop-literal g l = record {
+  part : All (Contains l.members) (take l.literal-index l.clause);
+  cost : l.steps ≤ l.initial.steps + l.literal-index;
+}

@@ -1,0 +1,12 @@
+use Rattle.std.proofs.Common.{rules, None}
+use Rattle.clause_model.specs.Literals.{codes_of}
+use Rattle.proof_logs.specs.declared.faults.ProofFault.TheVariants.{Line as LineOf, Unfinished}
+use Rattle.proof_logs.specs.Checked.{contents_of}
+use Rattle.proof_logs.specs.Proofs.{ProofVerdict}
+use Rattle.proof_logs.proofs.Sound.{proved_unsatisfied}
+use Rattle.proof_logs.proofs.proofs.check_proof.Goals as goal
+
+pub returns-then-refuted-clause-sound : goal.returns-then-refuted-clause-sound
+returns-then-refuted-clause-sound g c = λ v e.
+    let passes : ProofVerdict LineOf Unfinished (codes_of c.args.formula.now.clauses) (contents_of c.args.lines.now) None = search rules in
+    proved_unsatisfied LineOf Unfinished c.args.formula.now.clauses (contents_of c.args.lines.now) passes v e

@@ -1,0 +1,5 @@
+pub mod Verdicts
+pub mod Lines
+pub mod Proofs
+pub mod Logs
+pub mod Checked

@@ -1,0 +1,28 @@
+-- Logs of a search that spent its budget.
+use Rattle.std.specs.Prelude.{ℕ, ◌≡◌, ◌≢◌, ◌+◌, ◌++◌, List, [], ◌∷◌, All, length, sum_by}
+use Rattle.clause_model.specs.Asserting.{IsNew}
+use Rattle.lrat_check.specs.Content.{Content}
+use Rattle.proof_logs.specs.Lines.{started, AllAccepted, additions, lines_cost}
+
+-- each clause in turn contains no clause before it, those that were deleted included
+abbrev pub EachIsNew : List (List ℕ) → List (List ℕ) → Type 0
+EachIsNew before [] = Unit {0}
+EachIsNew before (clause ∷ clauses) = IsNew before clause × EachIsNew (before ++ clause ∷ []) clauses
+
+-- the log adds as many clauses as the budget allows, none of them empty
+abbrev pub Spends : ℕ → List Content → Type 0
+Spends budget log = (length (additions log) ≡ budget) × All (λ clause. clause ≢ []) (additions log)
+
+-- the log adds as many clauses as the budget allows, none of them empty and each new, and all its lines are accepted
+pub record IsSpentLog (budget : ℕ) (clauses : List (List ℕ)) (log : List Content) : Type 0 where
+  pub spends : Spends budget log
+  pub accepted : AllAccepted (started clauses) log
+  pub new : EachIsNew clauses (additions log)
+
+-- the lengths of all clauses before each of the clauses
+abbrev pub newness_cost : List (List ℕ) → List (List ℕ) → ℕ
+newness_cost before [] = 0
+newness_cost before (clause ∷ clauses) = sum_by length before + newness_cost (before ++ clause ∷ []) clauses
+
+abbrev pub spent_cost : List (List ℕ) → List Content → ℕ
+spent_cost clauses log = lines_cost (started clauses) log + newness_cost clauses (additions log)

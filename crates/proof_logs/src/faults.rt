@@ -1,0 +1,28 @@
+ghost use Rattle.std.specs.Prelude.{◌≡◌};
+
+use cnf_gates::Memory;
+use thiserror::Error;
+
+/// Why a proof is refused.
+#[derive(Clone, Copy, Debug, Drop, PartialEq, Eq, Error)]
+pub enum ProofFault {
+    /// The first line that isn't accepted, by its number from 1.
+    #[error("line {0} of the proof is not accepted")]
+    Line(u64),
+    /// All lines are accepted, and no clause is empty.
+    #[error("the proof does not come to an empty clause")]
+    Unfinished,
+    /// The memory didn't suffice.
+    #[error("out of memory")]
+    Memory,
+}
+
+impl From<Memory> for ProofFault {
+    ghost use Rattle.proof_logs.specs.declared.faults.ProofFault.TheVariants.{Memory};
+
+    ghost from_gives = { λ _ e. e ≡ Memory };
+
+    fn from(_error: Memory) -> Self {
+        ProofFault::Memory
+    }
+}

@@ -1,0 +1,15 @@
+//! Whole proofs that formulas have no model, and logs of searches that spent their budgets.
+#![tactic(auto)]
+
+mod clauses;
+mod faults;
+pub mod laws;
+mod logs;
+mod proofs;
+
+pub use faults::ProofFault;
+pub use logs::is_spent;
+pub use proofs::check_proof;
+
+#[cfg(test)]
+mod tests;

@@ -1,0 +1,467 @@
+-- Lines that can be read so far begin a table, and only those do.
+use Rattle.std.proofs.Common.{◌≡◌, ℕ, suc, ◌+◌, ◌<◌, ◌≤◌, ◌^◌, ◌&&◌, Bool, true, false, List, [], ◌∷◌, ◌++◌, length, map, nat_le, nat_lt, refl, sym, ◌∙◌, ap, arith, Option, Some, None, append_assoc, append-nil, length-append, lt-ltb, le-leb, ltb-true, leb-true, subst}
+use Rattle.std.specs.Option.{option_and_then}
+use Rattle.std.specs.List.{flat_map, All}
+use Rattle.std.proofs.lemmas.Bool.{and_parts, and_from}
+use Rattle.std.proofs.lemmas.Nat.Bits.{bit_at-zero}
+use Rattle.std.specs.Prelude.{◌==◌}
+use Rattle.std.proofs.lemmas.Option.{cond_some, same_Some, option_and_then_some}
+use Rattle.std.proofs.lemmas.List.{map-append}
+use Rattle.std.proofs.lemmas.List.Concat.{flat_map-append}
+use Rattle.std.proofs.lemmas.List.Elements.{All-nil, All-cons, All-head, All-tail, All-push}
+use Rattle.seq_enum.specs.Lists.{ascends_from}
+use Rattle.seq_enum.specs.Pools.{is_pool}
+use Rattle.thumb_instr.specs.declared.instr.Instr.{Instr}
+use Rattle.thumb_instr.specs.declared.instr.Instr.TheVariants as instr
+use Rattle.thumb_instr.specs.declared.within.Within.{Within}
+use Rattle.thumb_instr.specs.Window.{is_in_window}
+use Rattle.thumb_instr.specs.Renaming.{named, AreBelow}
+use Rattle.lrat_check.specs.Content.{Content}
+use Rattle.lrat_check.specs.Text.{IsLine}
+use Rattle.rule_table.specs.Table.{Opened, Rule, Table}
+use Rattle.rule_table.specs.Text.{Item, Version, Regs, Longest, Seed, Budget, Pool, State, Entry, Left, Right, Mask, Proof, Logged, Open, End, open_items, rule_items, header_items, items_of}
+use Rattle.rule_table.specs.Valid.{IsState, IsInstr, IsMask, IsOpened, IsRule, IsTable, numbers_of}
+use Rattle.rule_table.specs.Items.{IsItem}
+use Rattle.rule_table.specs.Grammar.{Stage, Start, Versioned, HasRegs, HasLeft, HasSeed, HasBudget, Stated, Sided, Masked, Proved, Opening, Done, with_state, with_rule, with_opened, is_empty, step, run}
+
+-- a header, states and finished rules
+abbrev pub front_items : Table → List Item
+front_items t = header_items t ++ (map State t.states ++ flat_map rule_items t.rules)
+
+-- the lines that were read to come to a stage
+unfoldable pub written : Stage → List Item
+written Start = []
+written Versioned = Version ∷ []
+written (HasRegs n) = Version ∷ Regs n ∷ []
+written (HasLeft n l) = Version ∷ Regs n ∷ Longest l ∷ []
+written (HasSeed n l s) = Version ∷ Regs n ∷ Longest l ∷ Seed s ∷ []
+written (HasBudget n l s b) = Version ∷ Regs n ∷ Longest l ∷ Seed s ∷ Budget b ∷ []
+written (Stated t) = front_items t
+written (Sided t ls rs) = front_items t ++ (Entry ∷ (map Left ls ++ map Right rs))
+written (Masked t ls rs m) = front_items t ++ (Entry ∷ (map Left ls ++ (map Right rs ++ Mask m ∷ [])))
+written (Proved t r) = front_items t ++ rule_items r
+written (Opening t r o) = front_items t ++ rule_items (with_opened r o)
+written (Done t) = items_of t
+
+-- few instructions, and none on the right before one on the left
+pub record AreSides (ls rs : List Instr) : Type 0 where
+  pub few_left : length ls ≤ 5
+  pub few_right : length rs ≤ 5
+  pub left : All IsInstr ls
+  pub right : All IsInstr rs
+  pub after_left : is_empty rs ≡ false → 0 < length ls
+
+-- what holds at a stage
+unfoldable pub Fine : Stage → Type 0
+Fine Start = Unit {0}
+Fine Versioned = Unit {0}
+Fine (HasRegs n) = IsItem (Regs n)
+Fine (HasLeft n l) = IsItem (Regs n) × IsItem (Longest l)
+Fine (HasSeed n l s) = IsItem (Regs n) × IsItem (Longest l) × IsItem (Seed s)
+Fine (HasBudget n l s b) = IsItem (Regs n) × IsItem (Longest l) × IsItem (Seed s) × IsItem (Budget b)
+Fine (Stated t) = IsTable t × (t.rules ≡ [])
+Fine (Sided t ls rs) = IsTable t × AreSides ls rs
+Fine (Masked t ls rs m) = IsTable t × AreSides ls rs × (0 < length ls) × IsMask m
+Fine (Proved t r) = IsTable t × IsRule r × (r.opens ≡ [])
+Fine (Opening t r o) = IsTable t × IsRule (with_opened r o)
+Fine (Done t) = IsTable t
+
+record Steps (s t : Stage) (i : Item) : Type 0 where
+  more : written t ≡ written s ++ i ∷ []
+  fine : Fine t
+
+-- ---- more of a table
+
+table_state : (t : Table) (s : _) → IsTable t → IsState s → IsTable (with_state t s)
+table_state t s is state = record {
+  some_regs = is.some_regs;
+  few_regs = is.few_regs;
+  some_left = is.some_left;
+  few_left = is.few_left;
+  seed = is.seed;
+  some_budget = is.some_budget;
+  few_budget = is.few_budget;
+  pool = is.pool;
+  states = All-push IsState t.states s is.states state;
+  rules = is.rules;
+}
+
+table_rule : (t : Table) (r : Rule) → IsTable t → IsRule r → IsTable (with_rule t r)
+table_rule t r is rule = record {
+  some_regs = is.some_regs;
+  few_regs = is.few_regs;
+  some_left = is.some_left;
+  few_left = is.few_left;
+  seed = is.seed;
+  some_budget = is.some_budget;
+  few_budget = is.few_budget;
+  pool = is.pool;
+  states = is.states;
+  rules = All-push IsRule t.rules r is.rules rule;
+}
+
+rule_of_sides : (ls rs : List Instr) (m : ℕ) → AreSides ls rs → 0 < length ls → IsMask m → IsRule (record { left = ls; right = rs; mask = m; proof = []; opens = [] })
+unfolding ascends_from
+rule_of_sides ls rs m sides some mask = record {
+  some = some;
+  few_left = sides.few_left;
+  few_right = sides.few_right;
+  left = sides.left;
+  right = sides.right;
+  mask = mask;
+  proof = All-nil IsLine;
+  opens = All-nil IsOpened;
+  ascending = refl;
+}
+
+rule_line : (r : Rule) (c : Content) → IsRule r → IsLine c → IsRule (record { left = r.left; right = r.right; mask = r.mask; proof = r.proof ++ c ∷ []; opens = r.opens })
+rule_line r c is line = record {
+  some = is.some;
+  few_left = is.few_left;
+  few_right = is.few_right;
+  left = is.left;
+  right = is.right;
+  mask = is.mask;
+  proof = All-push IsLine r.proof c is.proof line;
+  opens = is.opens;
+  ascending = is.ascending;
+}
+
+-- a rule with other open numbers
+rule_opens : (r : Rule) (os : List Opened) → IsRule r → All IsOpened os → ascends_from 0 (numbers_of os) ≡ true
+    → IsRule (record { left = r.left; right = r.right; mask = r.mask; proof = r.proof; opens = os })
+rule_opens r os is opens up = record {
+  some = is.some;
+  few_left = is.few_left;
+  few_right = is.few_right;
+  left = is.left;
+  right = is.right;
+  mask = is.mask;
+  proof = is.proof;
+  opens = opens;
+  ascending = up;
+}
+
+-- a number above the last
+rises_more : (low : ℕ) (os : List Opened) (o p : Opened) → ascends_from low (numbers_of (os ++ o ∷ [])) ≡ true → o.number < p.number
+    → ascends_from low (numbers_of ((os ++ o ∷ []) ++ p ∷ [])) ≡ true
+unfolding ascends_from
+rises_more low [] o p up h = rw ((and_parts (nat_le low o.number) true up).0, le-leb (suc o.number) p.number h) refl
+rises_more low (q ∷ os) o p up h =
+    let parts = and_parts (nat_le low q.number) (ascends_from (suc q.number) (numbers_of (os ++ o ∷ []))) up in
+    rw parts.0 (rises_more (suc q.number) os o p parts.1 h)
+
+-- the last number's log doesn't matter
+rises_same : (low : ℕ) (os : List Opened) (o p : Opened) → o.number ≡ p.number → ascends_from low (numbers_of (os ++ o ∷ [])) ≡ true → ascends_from low (numbers_of (os ++ p ∷ [])) ≡ true
+unfolding ascends_from
+rises_same low [] o p e up = rw e at up
+rises_same low (q ∷ os) o p e up =
+    let parts = and_parts (nat_le low q.number) (ascends_from (suc q.number) (numbers_of (os ++ o ∷ []))) up in
+    rw parts.0 (rises_same (suc q.number) os o p e parts.1)
+
+All-front : (xs : List Opened) (x : Opened) → All IsOpened (xs ++ x ∷ []) → All IsOpened xs × IsOpened x
+All-front [] x h = (All-nil IsOpened, All-head IsOpened x [] h)
+All-front (y ∷ xs) x h =
+    let rest = All-front xs x (All-tail IsOpened y (xs ++ x ∷ []) h) in
+    (All-cons IsOpened y xs (All-head IsOpened y (xs ++ x ∷ []) h) rest.0, rest.1)
+
+opened : (n : ℕ) → n < 2 ^ 64 → IsOpened (record { number = n; log = [] })
+opened n h = record { small = h; log = All-nil IsLine }
+
+opened_line : (o : Opened) (c : Content) → IsOpened o → IsLine c → IsOpened (record { number = o.number; log = o.log ++ c ∷ [] })
+opened_line o c is line = record { small = is.small; log = All-push IsLine o.log c is.log line }
+
+-- ---- more lines
+
+-- one more line behind what stands behind a front
+behind : (t : Table) (xs ys : List Item) (i : Item) → ys ≡ xs ++ i ∷ [] → front_items t ++ ys ≡ (front_items t ++ xs) ++ i ∷ []
+behind t xs ys i e = ap (λ us. front_items t ++ us) e ∙ sym (append_assoc (front_items t) xs (i ∷ []))
+
+last_more : {X : Type 0} (f : X → Item) (xs : List X) (x : X) → map f (xs ++ x ∷ []) ++ [] ≡ (map f xs ++ []) ++ f x ∷ []
+last_more f xs x = append-nil (map f (xs ++ x ∷ [])) ∙ map-append f xs (x ∷ []) ∙ ap (λ us. us ++ f x ∷ []) (sym (append-nil (map f xs)))
+
+left_more : (ls : List Instr) (i : Instr) → Entry ∷ (map Left (ls ++ i ∷ []) ++ map Right []) ≡ (Entry ∷ (map Left ls ++ map Right [])) ++ Left i ∷ []
+left_more ls i = simp (map-append, append-nil) refl
+
+right_more : (ls rs : List Instr) (i : Instr) → Entry ∷ (map Left ls ++ map Right (rs ++ i ∷ [])) ≡ (Entry ∷ (map Left ls ++ map Right rs)) ++ Right i ∷ []
+right_more ls rs i = simp (map-append, append_assoc) refl
+
+mask_more : (ls rs : List Instr) (m : ℕ) → Entry ∷ (map Left ls ++ (map Right rs ++ Mask m ∷ [])) ≡ (Entry ∷ (map Left ls ++ map Right rs)) ++ Mask m ∷ []
+mask_more ls rs m = simp append_assoc refl
+
+proof_more : (ls rs : List Instr) (m : ℕ) → rule_items (record { left = ls; right = rs; mask = m; proof = []; opens = [] }) ≡ (Entry ∷ (map Left ls ++ (map Right rs ++ Mask m ∷ []))) ++ Proof ∷ []
+proof_more ls rs m = simp append_assoc refl
+
+line_more : (r : Rule) (c : Content) → r.opens ≡ [] → rule_items (record { left = r.left; right = r.right; mask = r.mask; proof = r.proof ++ c ∷ []; opens = r.opens }) ≡ rule_items r ++ Logged c ∷ []
+line_more r c none =
+    let L = map Left r.left in
+    let R = map Right r.right in
+    let xs = map Logged r.proof ++ [] in
+    rw none (ap (λ us. Entry ∷ (L ++ (R ++ Mask r.mask ∷ Proof ∷ us))) (last_more Logged r.proof c)
+    ∙ sym (ap (λ us. Entry ∷ us) (append_assoc L (R ++ Mask r.mask ∷ Proof ∷ xs) (Logged c ∷ []) ∙ ap (λ us. L ++ us) (append_assoc R (Mask r.mask ∷ Proof ∷ xs) (Logged c ∷ [])))))
+
+open_more : (r : Rule) (n : ℕ) → rule_items (with_opened r (record { number = n; log = [] })) ≡ rule_items r ++ Open n ∷ []
+open_more r n = simp (flat_map-append, append_assoc) refl
+
+log_more : (r : Rule) (o : Opened) (c : Content) → rule_items (with_opened r (record { number = o.number; log = o.log ++ c ∷ [] })) ≡ rule_items (with_opened r o) ++ Logged c ∷ []
+log_more r o c = simp (flat_map-append, map-append, append_assoc, append-nil) refl
+
+rule_more : (t : Table) (r : Rule) (xs : List Item) → front_items (with_rule t r) ++ xs ≡ (front_items t ++ rule_items r) ++ xs
+rule_more t r xs = simp (flat_map-append, append_assoc, append-nil) refl
+
+table_more : (t : Table) → items_of t ≡ front_items t ++ End ∷ []
+table_more t = simp append_assoc refl
+
+state_more : (t : Table) (s : _) → t.rules ≡ [] → front_items (with_state t s) ≡ front_items t ++ State s ∷ []
+state_more t s none = rw none (ap (λ us. header_items t ++ us) (last_more State t.states s))
+
+empty : (xs : List Instr) → is_empty xs ≡ true → xs ≡ []
+empty [] e = refl
+empty (x ∷ xs) e = cc
+
+no_sides : AreSides [] []
+no_sides = record { few_left = omega arith; few_right = omega arith; left = All-nil IsInstr; right = All-nil IsInstr; after_left = λ e. absurd cc }
+
+-- ---- one line
+
+step_written : (s : Stage) (i : Item) (t : Stage) → Fine s → IsItem i → step s i ≡ Some t → Steps s t i
+unfolding step written Fine ascends_from
+step_written Start Version t f is e = rw (← same_Some _ _ e) (record { more = refl; fine = tt })
+step_written Versioned (Regs n) t f is e = rw (← same_Some _ _ e) (record { more = refl; fine = is })
+step_written (HasRegs n) (Longest l) t f is e = rw (← same_Some _ _ e) (record { more = refl; fine = (f, is) })
+step_written (HasLeft n l) (Seed s) t f is e = rw (← same_Some _ _ e) (record { more = refl; fine = (f.0, f.1, is) })
+step_written (HasSeed n l s) (Budget b) t f is e = rw (← same_Some _ _ e) (record { more = refl; fine = (f.0, f.1, f.2, is) })
+step_written (HasBudget n l s b) (Pool ns) t f is e =
+    rw (← same_Some _ _ e) (record {
+      more = refl;
+      fine = (
+        record {
+          some_regs = f.0.0;
+          few_regs = f.0.1;
+          some_left = f.1.0;
+          few_left = f.1.1;
+          seed = f.2;
+          some_budget = f.3.0;
+          few_budget = f.3.1;
+          pool = is;
+          states = All-nil IsState;
+          rules = All-nil IsRule;
+        },
+        refl,
+      );
+    })
+step_written (Stated b) (State s) t f is e = rw (← same_Some _ _ e) (record { more = state_more b s f.1; fine = (table_state b s f.0 is, f.1) })
+step_written (Stated b) Entry t f is e = rw (← same_Some _ _ e) (record { more = refl; fine = (f.0, no_sides) })
+step_written (Stated b) End t f is e = rw (← same_Some _ _ e) (record { more = table_more b; fine = f.0 })
+step_written (Sided b ls rs) (Left i) t f is e =
+    let parts = cond_some (nat_lt (length ls) 5 && is_empty rs) (Sided b (ls ++ i ∷ []) rs) t e in
+    let tests = and_parts (nat_lt (length ls) 5) (is_empty rs) parts.0 in
+    let none : rs ≡ [] = empty rs tests.1 in
+    let few : length ls < 5 = ltb-true (length ls) 5 tests.0 in
+    rw (← parts.1, none) (record {
+      more = behind b (Entry ∷ (map Left ls ++ map Right [])) _ (Left i) (left_more ls i);
+      fine = (
+        f.0,
+        record {
+          few_left = omega (arith, length-append ls (i ∷ []));
+          few_right = omega arith;
+          left = All-push IsInstr ls i f.1.left is;
+          right = All-nil IsInstr;
+          after_left = λ h. absurd cc;
+        },
+      );
+    })
+step_written (Sided b ls rs) (Right i) t f is e =
+    let parts = cond_some (nat_lt 0 (length ls) && nat_lt (length rs) 5) (Sided b ls (rs ++ i ∷ [])) t e in
+    let tests = and_parts (nat_lt 0 (length ls)) (nat_lt (length rs) 5) parts.0 in
+    let some : 0 < length ls = ltb-true 0 (length ls) tests.0 in
+    let few : length rs < 5 = ltb-true (length rs) 5 tests.1 in
+    rw (← parts.1) (record {
+      more = behind b (Entry ∷ (map Left ls ++ map Right rs)) _ (Right i) (right_more ls rs i);
+      fine = (
+        f.0,
+        record {
+          few_left = f.1.few_left;
+          few_right = omega (arith, length-append rs (i ∷ []));
+          left = f.1.left;
+          right = All-push IsInstr rs i f.1.right is;
+          after_left = λ h. some;
+        },
+      );
+    })
+step_written (Sided b ls rs) (Mask m) t f is e =
+    let parts = cond_some (nat_lt 0 (length ls)) (Masked b ls rs m) t e in
+    rw (← parts.1) (record { more = behind b (Entry ∷ (map Left ls ++ map Right rs)) _ (Mask m) (mask_more ls rs m); fine = (f.0, f.1, ltb-true 0 (length ls) parts.0, is) })
+step_written (Masked b ls rs m) Proof t f is e =
+    rw (← same_Some _ _ e) (record {
+      more = behind b (Entry ∷ (map Left ls ++ (map Right rs ++ Mask m ∷ []))) _ Proof (proof_more ls rs m);
+      fine = (f.0, rule_of_sides ls rs m f.1 f.2 f.3, refl);
+    })
+step_written (Proved b r) (Logged c) t f is e =
+    rw (← same_Some _ _ e) (record { more = behind b (rule_items r) _ (Logged c) (line_more r c f.2); fine = (f.0, rule_line r c f.1 is, f.2) })
+step_written (Proved b r) (Open n) t f is e =
+    rw (← same_Some _ _ e) (record {
+      more = behind b (rule_items r) _ (Open n) (open_more r n);
+      fine = (f.0, rule_opens r (r.opens ++ record { number = n; log = [] } ∷ []) f.1 (All-push IsOpened r.opens _ f.1.opens (opened n is)) (rw (f.2, le-leb 0 n (omega arith)) refl));
+    })
+step_written (Proved b r) Entry t f is e =
+    rw (← same_Some _ _ e) (record { more = rule_more b r (Entry ∷ []); fine = (table_rule b r f.0 f.1, no_sides) })
+step_written (Proved b r) End t f is e =
+    rw (← same_Some _ _ e) (record { more = table_more (with_rule b r) ∙ rule_more b r (End ∷ []); fine = table_rule b r f.0 f.1 })
+step_written (Opening b r o) (Logged c) t f is e =
+    let opens = All-front r.opens o f.1.opens in
+    let next : Opened = record { number = o.number; log = o.log ++ c ∷ [] } in
+    rw (← same_Some _ _ e) (record {
+      more = behind b (rule_items (with_opened r o)) _ (Logged c) (log_more r o c);
+      fine = (f.0, rule_opens (with_opened r o) (r.opens ++ next ∷ []) f.1 (All-push IsOpened r.opens next opens.0 (opened_line o c opens.1 is)) (rises_same 0 r.opens o next refl f.1.ascending));
+    })
+step_written (Opening b r o) (Open n) t f is e =
+    let next : Opened = record { number = n; log = [] } in
+    let parts = cond_some (nat_lt o.number n) (Opening b (with_opened r o) next) t e in
+    rw (← parts.1) (record {
+      more = behind b (rule_items (with_opened r o)) _ (Open n) (open_more (with_opened r o) n);
+      fine = (
+        f.0,
+        rule_opens (with_opened r o) ((r.opens ++ o ∷ []) ++ next ∷ []) f.1 (All-push IsOpened (r.opens ++ o ∷ []) next f.1.opens (opened n is))
+        (rises_more 0 r.opens o next f.1.ascending (ltb-true o.number n parts.0)),
+      );
+    })
+step_written (Opening b r o) Entry t f is e =
+    rw (← same_Some _ _ e) (record { more = rule_more b (with_opened r o) (Entry ∷ []); fine = (table_rule b (with_opened r o) f.0 f.1, no_sides) })
+step_written (Opening b r o) End t f is e =
+    rw (← same_Some _ _ e) (record { more = table_more (with_rule b (with_opened r o)) ∙ rule_more b (with_opened r o) (End ∷ []); fine = table_rule b (with_opened r o) f.0 f.1 })
+step_written s i t f is e = absurd cc
+
+pub run_written : (p : List Item) (s t : Stage) → Fine s → All IsItem p → run s p ≡ Some t → (written t ≡ written s ++ p) × Fine t
+unfolding run
+run_written [] s t f all e = rw (← same_Some _ _ e) (sym (append-nil (written s)), f)
+run_written (i ∷ p) s t f all e =
+    option_and_then_some (λ u. run u p) (step s i) t e (λ u at rest.
+    let first = step_written s i u f (All-head IsItem i p all) at in
+    let later = run_written p u t first.fine (All-tail IsItem i p all) rest in
+    (later.0 ∙ ap (λ us. us ++ p) first.more ∙ append_assoc (written s) (i ∷ []) p, later.1))
+
+-- ---- what was read goes on to a table
+
+-- any instruction, for a left side that has none
+r0 : Within 0 8
+r0 = record { number = 0; least = omega arith; below = omega arith }
+
+some_instr : Instr
+some_instr = instr.Movs r0 r0
+
+some_is : IsInstr some_instr
+unfolding some_instr r0
+some_is = record { window = refl; low = (omega arith, (omega arith, tt)) }
+
+-- some table's lines begin with these
+pub record Opens (is : List Item) : Type 0 where
+  pub table : Table
+  pub valid : IsTable table
+  pub rest : List Item
+  pub whole : items_of table ≡ is ++ rest
+
+-- one line more, or less
+back : (s t : Stage) (i : Item) → Steps s t i → Opens (written t) → Opens (written s)
+back s t i more o = record {
+  table = o.table;
+  valid = o.valid;
+  rest = i ∷ o.rest;
+  whole = o.whole ∙ ap (λ us. us ++ o.rest) more.more ∙ append_assoc (written s) (i ∷ []) o.rest;
+}
+
+by_step : (s : Stage) (i : Item) (t : Stage) → Fine s → IsItem i → step s i ≡ Some t → (Fine t → Opens (written t)) → Opens (written s)
+by_step s i t f is e next = let more = step_written s i t f is e in back s t i more (next more.fine)
+
+done : (t : Table) → Fine (Done t) → Opens (written (Done t))
+unfolding Fine written
+done t f = record { table = t; valid = f; rest = []; whole = sym (append-nil (items_of t)) }
+
+-- Stages from the last to the first: from each, the shortest way to the end.
+from_proved : (t : Table) (r : Rule) → Fine (Proved t r) → Opens (written (Proved t r))
+unfolding step
+from_proved t r f = by_step (Proved t r) End (Done (with_rule t r)) f tt refl (done (with_rule t r))
+
+from_opening : (t : Table) (r : Rule) (o : Opened) → Fine (Opening t r o) → Opens (written (Opening t r o))
+unfolding step
+from_opening t r o f = by_step (Opening t r o) End (Done (with_rule t (with_opened r o))) f tt refl (done (with_rule t (with_opened r o)))
+
+from_masked : (t : Table) (ls rs : List Instr) (m : ℕ) → Fine (Masked t ls rs m) → Opens (written (Masked t ls rs m))
+unfolding step
+from_masked t ls rs m f =
+    let r : Rule = record { left = ls; right = rs; mask = m; proof = []; opens = [] } in
+    by_step (Masked t ls rs m) Proof (Proved t r) f tt refl (from_proved t r)
+
+-- a rule under the empty mask
+no_mask : IsMask 0
+no_mask x h = absurd (let k = bit_at-zero x in let bad : (0 == 1) ≡ true = rw k at h in cc)
+
+from_some : (t : Table) (ls rs : List Instr) → Fine (Sided t ls rs) → 0 < length ls → Opens (written (Sided t ls rs))
+unfolding step
+from_some t ls rs f some = by_step (Sided t ls rs) (Mask 0) (Masked t ls rs 0) f no_mask (rw (lt-ltb 0 (length ls) some) refl) (from_masked t ls rs 0)
+
+unopened : (b : Bool) → (b ≡ false → ⊥) → b ≡ true
+unopened true h = refl
+unopened false h = absurd (h refl)
+
+from_sided : (t : Table) (ls rs : List Instr) → Fine (Sided t ls rs) → Opens (written (Sided t ls rs))
+unfolding step Fine
+from_sided t [] rs f =
+    let none : is_empty rs ≡ true = unopened (is_empty rs) (λ h. omega (arith, f.1.after_left h)) in
+    by_step (Sided t [] rs) (Left some_instr) (Sided t (some_instr ∷ []) rs) f some_is (rw none refl) (λ g. from_some t (some_instr ∷ []) rs g (omega arith))
+from_sided t (i ∷ ls) rs f = from_some t (i ∷ ls) rs f (omega arith)
+
+from_stated : (t : Table) → Fine (Stated t) → Opens (written (Stated t))
+unfolding step
+from_stated t f = by_step (Stated t) End (Done t) f tt refl (done t)
+
+from_budget : (n l s b : ℕ) → Fine (HasBudget n l s b) → Opens (written (HasBudget n l s b))
+unfolding step is_pool ascends_from
+from_budget n l s b f =
+    by_step (HasBudget n l s b) (Pool (0 ∷ [])) (Stated (record { regs = n; left = l; seed = s; budget = b; pool = 0 ∷ []; states = []; rules = [] })) f refl refl
+    (from_stated (record { regs = n; left = l; seed = s; budget = b; pool = 0 ∷ []; states = []; rules = [] }))
+
+from_seed : (n l s : ℕ) → Fine (HasSeed n l s) → Opens (written (HasSeed n l s))
+unfolding step
+from_seed n l s f = by_step (HasSeed n l s) (Budget 1) (HasBudget n l s 1) f (omega arith, omega arith) refl (from_budget n l s 1)
+
+from_left : (n l : ℕ) → Fine (HasLeft n l) → Opens (written (HasLeft n l))
+unfolding step
+from_left n l f = by_step (HasLeft n l) (Seed 0) (HasSeed n l 0) f (omega arith) refl (from_seed n l 0)
+
+from_regs : (n : ℕ) → Fine (HasRegs n) → Opens (written (HasRegs n))
+unfolding step
+from_regs n f = by_step (HasRegs n) (Longest 1) (HasLeft n 1) f (omega arith, omega arith) refl (from_left n 1)
+
+from_versioned : Fine Versioned → Opens (written Versioned)
+unfolding step
+from_versioned f = by_step Versioned (Regs 1) (HasRegs 1) f (omega arith, omega arith) refl (from_regs 1)
+
+from_start : Fine Start → Opens (written Start)
+unfolding step
+from_start f = by_step Start Version Versioned f tt refl from_versioned
+
+pub completes : (s : Stage) → Fine s → Opens (written s)
+completes Start f = from_start f
+completes Versioned f = from_versioned f
+completes (HasRegs n) f = from_regs n f
+completes (HasLeft n l) f = from_left n l f
+completes (HasSeed n l s) f = from_seed n l s f
+completes (HasBudget n l s b) f = from_budget n l s b f
+completes (Stated t) f = from_stated t f
+completes (Sided t ls rs) f = from_sided t ls rs f
+completes (Masked t ls rs m) f = from_masked t ls rs m f
+completes (Proved t r) f = from_proved t r f
+completes (Opening t r o) f = from_opening t r o f
+completes (Done t) f = done t f
+
+-- what is read from the start begins a table, and what a whole table's lines are read as is that table
+pub read_opens : (p : List Item) (s : Stage) → All IsItem p → run Start p ≡ Some s → Opens p
+unfolding written Fine
+read_opens p s all e =
+    let reached = run_written p Start s tt all e in
+    subst Opens reached.0 (completes s reached.1)
+
+pub read_whole : (p : List Item) (t : Table) → All IsItem p → run Start p ≡ Some (Done t) → IsTable t × (items_of t ≡ p)
+unfolding written Fine
+read_whole p t all e = let reached = run_written p Start (Done t) tt all e in (reached.1, reached.0)

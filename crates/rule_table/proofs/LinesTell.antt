@@ -1,0 +1,127 @@
+-- A line tells what it says.
+use Rattle.std.proofs.Common.{◌≡◌, ℕ, ◌<◌, ◌≤◌, ◌^◌, Bool, true, false, List, [], ◌∷◌, ◌++◌, length, map, refl, sym, ◌∙◌, ap, arith, Option, Some, None, true≢false}
+use Rattle.std.specs.Prelude.{decimal, codes}
+use Rattle.std.specs.Char.{is_ascii_digit}
+use Rattle.std.specs.List.{list_all, All, flat_map}
+use Rattle.std.proofs.lemmas.Bool.{and_parts}
+use Rattle.std.proofs.lemmas.Fmt.{decimal_injective}
+use Rattle.std.proofs.lemmas.Option.{same_Some}
+use Rattle.ascii_scan.specs.FirstLine.{is_inside}
+use Rattle.lrat_check.specs.Content.{Content}
+use Rattle.lrat_check.specs.Text.{IsLine, text_of as text_of_line}
+use Rattle.lrat_check.proofs.Outcomes.{text_of-injective}
+use Rattle.fingerprints.specs.Seeded.{Seen}
+use Rattle.rule_table.specs.declared.words.Word.{Word}
+use Rattle.rule_table.specs.declared.words.Word.TheVariants as word
+use Rattle.rule_table.specs.Text.{Item, Version, Regs, Longest, Seed, Budget, Pool, State, Entry, Left, Right, Mask, Proof, Logged, Open, End, line_of, instr_text, after_blanks, hex_of, mask_text, mask_rows, named}
+use Rattle.rule_table.specs.Valid.{IsState, IsInstr, IsMask}
+use Rattle.rule_table.specs.Items.{IsItem}
+use Rattle.rule_table.specs.Fronts.{words, word_text, front_in, front, word_of, tail_of}
+use Rattle.rule_table.proofs.FrontLemmas.{same_pair}
+use Rattle.rule_table.proofs.InsideLines.{IsInside, inside_both, decimal_inside, logged_inside, state_inside, pool_inside, named_inside, Digital, decimal_digital, logged_digital}
+use Rattle.rule_table.proofs.InstrTexts.{instr_inside, instr_tells, Lettered, instr_lettered}
+use Rattle.rule_table.proofs.MaskTexts.{mask_tells}
+use Rattle.rule_table.proofs.HexTexts.{state_tells}
+use Rattle.rule_table.proofs.PoolTexts.{pools_tell}
+
+-- ---- fronts
+
+digit_front : (bs : List ℕ) → Digital bs → front bs ≡ Some (word.Digit, bs)
+unfolding front
+digit_front bs d = ap front d.is ∙ rw d.tells (ap (λ us. Some (word.Digit, us)) (sym d.is))
+
+pub front_line : (i : Item) → IsItem i → front (line_of i) ≡ Some (word_of i, tail_of i)
+unfolding front words
+front_line Version is = refl
+front_line (Regs n) is = refl
+front_line (Longest n) is = refl
+front_line (Seed n) is = refl
+front_line (Budget n) is = refl
+front_line (Pool ns) is = refl
+front_line (State s) is = refl
+front_line Entry is = refl
+front_line (Left i) is = refl
+front_line (Right i) is = refl
+front_line (Mask m) is = refl
+front_line Proof is = refl
+front_line (Logged c) is = digit_front (text_of_line c) (logged_digital c is)
+front_line (Open n) is = refl
+front_line End is = refl
+
+-- ---- no newline
+
+mask_inside : (m : ℕ) → IsInside (mask_text m)
+mask_inside m = rows mask_rows refl
+  where
+    rows : (rs : List (ℕ × List ℕ)) → list_all (λ (r : ℕ × List ℕ). list_all is_inside r.1) rs ≡ true → IsInside (flat_map (λ (r : ℕ × List ℕ). named m r.0 r.1) rs)
+    rows [] e = refl
+    rows (r ∷ rs) e =
+        let both = and_parts (list_all is_inside r.1) (list_all (λ (q : ℕ × List ℕ). list_all is_inside q.1) rs) e in
+        inside_both (named m r.0 r.1) (flat_map (λ (q : ℕ × List ℕ). named m q.0 q.1) rs) (named_inside m r.0 r.1 both.0) (rows rs both.1)
+
+number_inside : (w : List ℕ) (n : ℕ) → IsInside w → n < 2 ^ 64 → IsInside (w ++ decimal n)
+number_inside w n h small = inside_both w (decimal n) h (decimal_inside n small)
+
+pub line_inside : (i : Item) → IsItem i → IsInside (line_of i)
+line_inside Version is = refl
+line_inside (Regs n) is = number_inside (codes "regs ") n refl (omega (arith, is.1))
+line_inside (Longest n) is = number_inside (codes "left ") n refl (omega (arith, is.1))
+line_inside (Seed n) is = number_inside (codes "seed ") n refl (omega (arith, is))
+line_inside (Budget n) is = number_inside (codes "budget ") n refl (omega (arith, is.1))
+line_inside (Pool ns) is = inside_both (codes "pool") (after_blanks (map decimal ns)) refl (pool_inside ns is)
+line_inside (State s) is = inside_both (codes "state") (after_blanks (map (hex_of 8) s.r) ++ 32 ∷ hex_of 1 s.nzcv) refl (state_inside s)
+line_inside Entry is = refl
+line_inside (Left i) is = inside_both (codes "left ") (instr_text i) refl (instr_inside i is)
+line_inside (Right i) is = inside_both (codes "right ") (instr_text i) refl (instr_inside i is)
+line_inside (Mask m) is = inside_both (codes "mask") (mask_text m) refl (mask_inside m)
+line_inside Proof is = refl
+line_inside (Logged c) is = logged_inside c is
+line_inside (Open n) is = number_inside (codes "open ") n refl is
+line_inside End is = refl
+
+-- ---- tails
+
+numbers : (m n : ℕ) → m < 2 ^ 64 → n < 2 ^ 64 → decimal m ≡ decimal n → m ≡ n
+numbers = decimal_injective
+
+-- a decimal number isn't an instruction
+no_instr : (n : ℕ) (i : _) → n < 2 ^ 64 → IsInstr i → decimal n ≡ instr_text i → ⊥
+no_instr n i small is e =
+    let d = decimal_digital n small in
+    let l = instr_lettered i is in
+    let same : d.digit ∷ d.after ≡ l.first ∷ l.after = sym d.is ∙ e ∙ l.is in
+    let first : d.digit ≡ l.first = cc in
+    true≢false (sym d.tells ∙ ap is_ascii_digit first ∙ l.tells)
+
+same_seen : (s t : Seen) → s.r ≡ t.r → s.nzcv ≡ t.nzcv → s ≡ t
+same_seen s t e f = λ i. record { r = e i; nzcv = f i }
+
+states : (s t : Seen) → IsState s → IsState t → tail_of (State s) ≡ tail_of (State t) → s ≡ t
+states s t a b e =
+    let parts = state_tells s.r t.r s.nzcv t.nzcv (a.four ∙ sym b.four) a.words b.words a.flags b.flags e in
+    same_seen s t parts.0 parts.1
+
+tails_tell : (i j : Item) → IsItem i → IsItem j → word_of i ≡ word_of j → tail_of i ≡ tail_of j → i ≡ j
+tails_tell Version Version a b w e = refl
+tails_tell (Regs m) (Regs n) a b w e = ap Regs (numbers m n (omega (arith, a.1)) (omega (arith, b.1)) e)
+tails_tell (Longest m) (Longest n) a b w e = ap Longest (numbers m n (omega (arith, a.1)) (omega (arith, b.1)) e)
+tails_tell (Longest m) (Left i) a b w e = absurd (no_instr m i (omega (arith, a.1)) b e)
+tails_tell (Seed m) (Seed n) a b w e = ap Seed (numbers m n (omega (arith, a)) (omega (arith, b)) e)
+tails_tell (Budget m) (Budget n) a b w e = ap Budget (numbers m n (omega (arith, a.1)) (omega (arith, b.1)) e)
+tails_tell (Pool ms) (Pool ns) a b w e = ap Pool (pools_tell ms ns a b e)
+tails_tell (State s) (State t) a b w e = ap State (states s t a b e)
+tails_tell Entry Entry a b w e = refl
+tails_tell (Left i) (Longest n) a b w e = absurd (no_instr n i (omega (arith, b.1)) a (sym e))
+tails_tell (Left i) (Left j) a b w e = ap Left (instr_tells i j a b e)
+tails_tell (Right i) (Right j) a b w e = ap Right (instr_tells i j a b e)
+tails_tell (Mask m) (Mask n) a b w e = ap Mask (mask_tells m n a b e)
+tails_tell Proof Proof a b w e = refl
+tails_tell (Logged c) (Logged d) a b w e = ap Logged (text_of-injective c d a b e)
+tails_tell (Open m) (Open n) a b w e = ap Open (numbers m n a b e)
+tails_tell End End a b w e = refl
+tails_tell i j a b w e = absurd cc
+
+pub lines_tell : (i j : Item) → IsItem i → IsItem j → line_of i ≡ line_of j → i ≡ j
+lines_tell i j a b e =
+    let same = same_pair (word_of i) (word_of j) (tail_of i) (tail_of j) (sym (front_line i a) ∙ ap front e ∙ front_line j b) in
+    tails_tell i j a b same.0 same.1

@@ -1,0 +1,396 @@
+-- What has been read of a text, and what comes of it.
+use Rattle.std.proofs.Common.{◌≡◌, ◌∙◌, ℕ, suc, ◌+◌, ◌<◌, ◌≤◌, ◌^◌, ◌==◌, Bool, true, false, List, [], ◌∷◌, ◌++◌, length, map, refl, sym, ap, subst, arith, Option, Some, None, append_assoc, append-nil, length-append, add-one, inl, inr, true≢false, cond, Ok, Err}
+use Rattle.std.specs.Option.{option_and_then}
+use Rattle.std.specs.List.{flat_map, list_all, All, concat}
+use Rattle.std.proofs.lemmas.Bool.{cases_Bool, and_parts}
+use Rattle.std.proofs.lemmas.Option.{same_Some, option_and_then_some}
+use Rattle.std.proofs.lemmas.List.{map-append, length-map}
+use Rattle.std.proofs.lemmas.List.Elements.{All-nil, All-cons, All-head, All-tail, All-append, All-map, All-push, All-weaker}
+use Rattle.ascii_scan.specs.FirstLine.{is_inside}
+use Rattle.ascii_scan.specs.Lines.{lines_of, onto_first, content_of, is_ended, Placed, placed, placed_from, lines_in, whole}
+use Rattle.ascii_scan.proofs.LineLemmas.{lines_nil, lines_newline, lines_other, lines_join, map-whole, length-lines_in}
+use Rattle.rule_table.specs.Table.{Opened, Rule, Table}
+use Rattle.rule_table.specs.Text.{Item, Version, Regs, Longest, Seed, Budget, Pool, State, Entry, Left, Right, Mask, Proof, Logged, Open, End, line_of, text_of_items, text_of, open_items, rule_items, items_of}
+use Rattle.rule_table.specs.Valid.{IsState, IsInstr, IsOpened, IsRule, IsTable}
+use Rattle.lrat_check.specs.Text.{IsLine}
+use Rattle.rule_table.specs.Items.{IsItem}
+use Rattle.rule_table.specs.Grammar.{Stage, Start, Done, step, run}
+use Rattle.rule_table.specs.Steps.{Follows, StepsTo}
+use Rattle.rule_table.specs.declared.errors.TableError.TheVariants as error
+use Rattle.rule_table.specs.declared.table.Table.{Table as Code}
+use Rattle.rule_table.specs.declared.stages.Reading.{Reading}
+use Rattle.rule_table.specs.declared.stages.Reading.TheVariants as reading
+use Rattle.rule_table.specs.StageView.{stage_of}
+use Rattle.rule_table.specs.Views.{table_of}
+use Rattle.rule_table.specs.Refused.{IsText, Begins, Stops, IsRefused, OneTable, NotBoth, RefusedOnce, WrittenReadsBack}
+use Rattle.rule_table.proofs.ReadBack.{run-append, reads}
+use Rattle.rule_table.proofs.Beginnings.{Opens, read_opens, read_whole}
+use Rattle.rule_table.proofs.HexTexts.{same_front}
+use Rattle.rule_table.proofs.InsideLines.{IsInside}
+use Rattle.rule_table.proofs.LinesTell.{line_inside, lines_tell}
+
+-- ---- lines with their newlines
+
+abbrev pub ended : Item → List ℕ
+ended i = line_of i ++ 10 ∷ []
+
+-- a line whose last byte is its only newline
+line_first : (t bs : List ℕ) → IsInside t → lines_of ((t ++ 10 ∷ []) ++ bs) ≡ (t ++ 10 ∷ []) ∷ lines_of bs
+line_first [] bs h = lines_newline 10 bs refl
+line_first (b ∷ t) bs h = elim (cases_Bool (b == 10)) [
+  | inl e ↦ absurd (true≢false (sym (rw e at h)))
+  | inr e ↦ lines_other b ((t ++ 10 ∷ []) ++ bs) e ∙ ap (onto_first b) (line_first t bs (rw e at h))
+]
+
+content_ended : (t : List ℕ) → IsInside t → content_of (t ++ 10 ∷ []) ≡ t
+content_ended [] h = refl
+content_ended (b ∷ t) h = elim (cases_Bool (b == 10)) [
+  | inl e ↦ absurd (true≢false (sym (rw e at h)))
+  | inr e ↦ rw e (ap (λ us. b ∷ us) (content_ended t (rw e at h)))
+]
+
+is_ended_last : (t : List ℕ) → is_ended (t ++ 10 ∷ []) ≡ true
+is_ended_last [] = refl
+is_ended_last (b ∷ t) = elim (cases_Bool (b == 10)) [ inl e ↦ rw e refl | inr e ↦ rw e (is_ended_last t) ]
+
+-- what isn't ended is its own content
+open_content : (l : List ℕ) → is_ended l ≡ false → content_of l ≡ l
+open_content [] h = refl
+open_content (b ∷ l) h = elim (cases_Bool (b == 10)) [
+  | inl e ↦ absurd (true≢false (rw e at h))
+  | inr e ↦ rw e (ap (λ us. b ∷ us) (open_content l (rw e at h)))
+]
+
+pub lines_items : (is : List Item) → All IsItem is → lines_of (text_of_items is) ≡ map ended is
+lines_items [] all = lines_nil
+lines_items (i ∷ is) all =
+    line_first (line_of i) (text_of_items is) (line_inside i (All-head IsItem i is all)) ∙ ap (λ ls. ended i ∷ ls) (lines_items is (All-tail IsItem i is all))
+
+ended_tells : (i j : Item) → IsItem i → IsItem j → ended i ≡ ended j → i ≡ j
+ended_tells i j a b e =
+    lines_tell i j a b (sym (content_ended (line_of i) (line_inside i a)) ∙ ap content_of e ∙ content_ended (line_of j) (line_inside j b))
+
+-- ---- the items of a table
+
+opened_items : (o : Opened) → IsOpened o → All IsItem (open_items o)
+opened_items o is = All-cons IsItem (Open o.number) (map Logged o.log) is.small (All-map IsItem Logged o.log is.log)
+
+many_items : {X : Type 0} (P : X → Type 0) (f : X → List Item) → ((x : X) → P x → All IsItem (f x)) → (xs : List X) → All P xs → All IsItem (flat_map f xs)
+many_items P f each [] all = All-nil IsItem
+many_items P f each (x ∷ xs) all = All-append IsItem (f x) (flat_map f xs) (each x (All-head P x xs all)) (many_items P f each xs (All-tail P x xs all))
+
+rule_all : (r : Rule) → IsRule r → All IsItem (rule_items r)
+rule_all r is =
+    let opens = flat_map open_items r.opens in
+    let logged = map Logged r.proof ++ opens in
+    let masked = Mask r.mask ∷ Proof ∷ logged in
+    let sides = map Right r.right ++ masked in
+    All-cons IsItem Entry (map Left r.left ++ sides) tt
+    (All-append IsItem (map Left r.left) sides (All-map IsItem Left r.left is.left)
+    (All-append IsItem (map Right r.right) masked (All-map IsItem Right r.right is.right)
+    (All-cons IsItem (Mask r.mask) (Proof ∷ logged) is.mask
+    (All-cons IsItem Proof logged tt
+    (All-append IsItem (map Logged r.proof) opens (All-map IsItem Logged r.proof is.proof)
+    (many_items IsOpened open_items opened_items r.opens is.opens))))))
+
+pub table_all : (t : Table) → IsTable t → All IsItem (items_of t)
+table_all t is =
+    let rules = flat_map rule_items t.rules ++ End ∷ [] in
+    let body = map State t.states ++ rules in
+    All-cons IsItem Version (Regs t.regs ∷ Longest t.left ∷ Seed t.seed ∷ Budget t.budget ∷ Pool t.pool ∷ body) tt
+    (All-cons IsItem (Regs t.regs) (Longest t.left ∷ Seed t.seed ∷ Budget t.budget ∷ Pool t.pool ∷ body) (is.some_regs, is.few_regs)
+    (All-cons IsItem (Longest t.left) (Seed t.seed ∷ Budget t.budget ∷ Pool t.pool ∷ body) (is.some_left, is.few_left)
+    (All-cons IsItem (Seed t.seed) (Budget t.budget ∷ Pool t.pool ∷ body) is.seed
+    (All-cons IsItem (Budget t.budget) (Pool t.pool ∷ body) (is.some_budget, is.few_budget)
+    (All-cons IsItem (Pool t.pool) body is.pool
+    (All-append IsItem (map State t.states) rules (All-map IsItem State t.states is.states)
+    (All-append IsItem (flat_map rule_items t.rules) (End ∷ []) (many_items IsRule rule_items rule_all t.rules is.rules)
+    (All-cons IsItem End [] tt (All-nil IsItem)))))))))
+
+pub table_lines : (t : Table) → IsTable t → lines_of (text_of t) ≡ map ended (items_of t)
+table_lines t is = lines_items (items_of t) (table_all t is)
+
+-- ---- beginnings
+
+pub begins : (is : List Item) → Opens is → Begins (map ended is)
+begins is o = record {
+  table = o.table;
+  valid = o.valid;
+  rest = map ended o.rest;
+  whole = table_lines o.table o.valid ∙ ap (map ended) o.whole ∙ map-append ended is o.rest;
+}
+
+-- items whose lines begin with those of others begin with these
+record Split (xs is : List Item) (lines : List (List ℕ)) : Type 0 where
+  rest : List Item
+  whole : xs ≡ is ++ rest
+  left : map ended rest ≡ lines
+
+split : (xs is : List Item) (lines : List (List ℕ)) → All IsItem xs → All IsItem is → map ended xs ≡ map ended is ++ lines → Split xs is lines
+split xs [] lines a b e = record { rest = xs; whole = refl; left = e }
+split [] (i ∷ is) lines a b e = cc
+split (x ∷ xs) (i ∷ is) lines a b e =
+    let first : ended x ≡ ended i = cc in
+    let tail : map ended xs ≡ map ended is ++ lines = cc in
+    let same : x ≡ i = ended_tells x i (All-head IsItem x xs a) (All-head IsItem i is b) first in
+    let later = split xs is lines (All-tail IsItem x xs a) (All-tail IsItem i is b) tail in
+    record { rest = later.rest; whole = ap (λ y. y ∷ xs) same ∙ ap (λ us. i ∷ us) later.whole; left = later.left }
+
+-- a table goes on with this line
+record Goes (is : List Item) (line : List ℕ) : Type 0 where
+  table : Table
+  valid : IsTable table
+  item : Item
+  rest : List Item
+  is_item : IsItem item
+  whole : items_of table ≡ is ++ item ∷ rest
+  is_line : ended item ≡ line
+
+All-behind : (is : List Item) (j : Item) (rest : List Item) → All IsItem (is ++ j ∷ rest) → IsItem j
+All-behind [] j rest h = All-head IsItem j rest h
+All-behind (i ∷ is) j rest h = All-behind is j rest (All-tail IsItem i (is ++ j ∷ rest) h)
+
+goes : (is : List Item) (line : List ℕ) → All IsItem is → Begins (map ended is ++ line ∷ []) → Goes is line
+goes is line all b = from (split (items_of b.table) is (line ∷ b.rest) items all e)
+  where
+    items : All IsItem (items_of b.table)
+    items = table_all b.table b.valid
+
+    e : map ended (items_of b.table) ≡ map ended is ++ line ∷ b.rest
+    e = sym (table_lines b.table b.valid) ∙ b.whole ∙ append_assoc (map ended is) (line ∷ []) b.rest
+
+    from : Split (items_of b.table) is (line ∷ b.rest) → Goes is line
+    from s = by s.rest s.whole s.left
+      where
+        by : (rest : List Item) → items_of b.table ≡ is ++ rest → map ended rest ≡ line ∷ b.rest → Goes is line
+        by [] w l = cc
+        by (j ∷ rest) w l = record {
+          table = b.table;
+          valid = b.valid;
+          item = j;
+          rest = rest;
+          is_item = All-behind is j rest (subst (All IsItem) w items);
+          whole = w;
+          is_line = cc;
+        }
+
+-- ---- the loop
+
+same_last : (xs ys : List ℕ) → xs ++ 10 ∷ [] ≡ ys ++ 10 ∷ [] → xs ≡ ys
+same_last xs ys e =
+    let size : length xs ≡ length ys = omega (arith, ap length e, length-append xs (10 ∷ []), length-append ys (10 ∷ [])) in
+    (same_front xs ys (10 ∷ []) (10 ∷ []) size e).0
+
+-- items were read, and lines are left
+pub record Progress (bytes : List ℕ) (left : List Placed) (s : Stage) (number : ℕ) : Type 0 where
+  pub items : List Item
+  pub split' : lines_of bytes ≡ map ended items ++ map whole left
+  pub all : All IsItem items
+  pub ran : run Start items ≡ Some s
+  pub count : number ≡ length items + 1
+
+pub begun : (bytes : List ℕ) (left : List Placed) → left ≡ lines_in bytes → Progress bytes left Start 1
+unfolding run
+begun bytes left e = record { items = []; split' = sym (ap (map whole) e ∙ map-whole bytes 1 0); all = All-nil IsItem; ran = refl; count = omega arith }
+
+next_run : (is : List Item) (i : Item) (s : Stage) → run Start is ≡ Some s → run Start (is ++ i ∷ []) ≡ step s i
+unfolding run
+next_run is i s e = run-append Start is (i ∷ []) ∙ ap (option_and_then (λ u. option_and_then (λ v. Some v) (step u i))) e ∙ same (step s i)
+  where
+    same : (o : Option Stage) → option_and_then (λ v. Some v) o ≡ o
+    same None = refl
+    same (Some v) = refl
+
+whole_ended : (p : Placed) → p.is_ended ≡ true → whole p ≡ p.text ++ 10 ∷ []
+whole_ended p e = rw e refl
+
+whole_open : (p : Placed) → p.is_ended ≡ false → whole p ≡ p.text
+whole_open p e = rw e refl
+
+pub more : (bytes : List ℕ) (p : Placed) (left : List Placed) (s t : Stage) (n : ℕ) → Progress bytes (p ∷ left) s n → Follows s p t → Progress bytes left t (n + 1)
+more bytes p left s t n g f = record {
+  items = g.items ++ f.item ∷ [];
+  split' = g.split' ∙ ap (λ l. map ended g.items ++ l ∷ map whole left) (whole_ended p f.ended ∙ ap (λ us. us ++ 10 ∷ []) (sym f.is))
+      ∙ sym (append_assoc (map ended g.items) (ended f.item ∷ []) (map whole left)) ∙ ap (λ ls. ls ++ map whole left) (sym (map-append ended g.items (f.item ∷ [])));
+  all = All-push IsItem g.items f.item g.all f.valid;
+  ran = next_run g.items f.item s g.ran ∙ f.next;
+  count = omega (arith, g.count, length-append g.items (f.item ∷ []));
+}
+
+-- the lines of a text that are left
+pub record AreLeft (left : List Placed) : Type 0 where
+  pub number : ℕ
+  pub start : ℕ
+  pub bytes : List ℕ
+  pub is : left ≡ placed_from number start (lines_of bytes)
+
+-- a line that isn't ended has no newline
+open_line : (p : Placed) (left : List Placed) → AreLeft (p ∷ left) → p.is_ended ≡ false → is_ended (whole p) ≡ false
+open_line p left a e = by (lines_of a.bytes) a.is
+  where
+    by : (ls : List (List ℕ)) → p ∷ left ≡ placed_from a.number a.start ls → is_ended (whole p) ≡ false
+    by [] h = cc
+    by (l ∷ ls) h =
+        let same : p ≡ placed a.number a.start l = cc in
+        let open' : is_ended l ≡ false = sym (ap (λ (q : Placed). q.is_ended) same) ∙ e in
+        ap is_ended (whole_open p e ∙ ap (λ (q : Placed). q.text) same ∙ open_content l open') ∙ open'
+
+run_none : (is : List Item) (j : Item) (rest : List Item) (s : Stage) (t : Table) → run Start is ≡ Some s → step s j ≡ None → run Start (is ++ j ∷ rest) ≡ Some (Done t) → ⊥
+unfolding run
+run_none is j rest s t ran none e =
+    let bad : None ≡ Some (Done t) = sym (run-append Start is (j ∷ rest) ∙ ap (option_and_then (λ u. run u (j ∷ rest))) ran ∙ ap (option_and_then (λ u. run u rest)) none) ∙ e in
+    absurd cc
+
+pub bad : (bytes : List ℕ) (p : Placed) (left : List Placed) (s : Stage) (n : ℕ) → Progress bytes (p ∷ left) s n → AreLeft (p ∷ left) → StepsTo s p None → IsRefused bytes n
+bad bytes p left s n g a none = record {
+  before = map ended g.items;
+  rest = whole p ∷ map whole left;
+  split = g.split';
+  count = omega (arith, g.count, length-map g.items ended);
+  begins = begins g.items (read_opens g.items s g.all g.ran);
+  stops = λ b. stops (goes g.items (whole p) g.all b);
+}
+  where
+    stops : Goes g.items (whole p) → ⊥
+    stops o = elim (cases_Bool p.is_ended) [
+      | inl e ↦ (let line : line_of o.item ≡ p.text = same_last (line_of o.item) p.text (o.is_line ∙ whole_ended p e) in
+      run_none g.items o.item o.rest s o.table g.ran (none o.item e o.is_item line) (ap (run Start) (sym o.whole) ∙ reads o.table o.valid))
+      | inr e ↦ true≢false (sym (is_ended_last (line_of o.item)) ∙ ap is_ended o.is_line ∙ open_line p left a e)
+    ]
+
+-- a line that says something
+pub line_steps : (s : Stage) (p : Placed) (i : Item) (o : Option Stage) → p.is_ended ≡ true → IsItem i → line_of i ≡ p.text → o ≡ step s i → StepsTo s p o
+line_steps s p i None ended' is text e = λ j h js same. let one : j ≡ i = lines_tell j i js is (same ∙ sym text) in ap (step s) one ∙ sym e
+line_steps s p i (Some t) ended' is text e = record { ended = ended'; item = i; valid = is; is = text; next = sym e }
+
+-- a line that comes is one of the text's
+pub room : (bytes : List ℕ) (p : Placed) (left : List Placed) (s : Stage) (n : ℕ) → Progress bytes (p ∷ left) s n → n ≤ length bytes
+room bytes p left s n g =
+    let all : length (lines_of bytes) ≡ length (map ended g.items) + length (map whole (p ∷ left)) =
+    ap length g.split' ∙ length-append (map ended g.items) (map whole (p ∷ left)) in
+    let lines : length (lines_in bytes) ≡ length (lines_of bytes) = sym (length-map (lines_in bytes) whole) ∙ ap length (map-whole bytes 1 0) in
+    omega (arith, all, lines, length-lines_in bytes, g.count, length-map g.items ended, length-map left whole)
+
+-- a line is missing
+pub missing : (bytes : List ℕ) (s : Stage) (n : ℕ) → Progress bytes [] s n → ((t : Table) → s ≡ Done t → ⊥) → IsRefused bytes n
+missing bytes s n g undone = record {
+  before = map ended g.items;
+  rest = [];
+  split = g.split';
+  count = omega (arith, g.count, length-map g.items ended);
+  begins = begins g.items (read_opens g.items s g.all g.ran);
+  stops = λ t is whole.
+      let found = split (items_of t) g.items [] (table_all t is) g.all (sym (table_lines t is) ∙ whole ∙ sym (append-nil (map ended g.items))) in
+      undone t (same_Some s (Done t) (sym g.ran ∙ ap (run Start) (no_more t found) ∙ reads t is));
+}
+  where
+    no_more : (t : Table) → Split (items_of t) g.items [] → g.items ≡ items_of t
+    no_more t f = by f.rest f.whole f.left
+      where
+        by : (rest : List Item) → items_of t ≡ g.items ++ rest → map ended rest ≡ [] → g.items ≡ items_of t
+        by [] w l = sym (w ∙ append-nil g.items)
+        by (i ∷ rest) w l = cc
+
+-- all lines were read
+pub whole_text : (bytes : List ℕ) (t : Table) (n : ℕ) → Progress bytes [] (Done t) n → IsText bytes t
+whole_text bytes t n g =
+    let parts = read_whole g.items t g.all g.ran in
+    let lines : lines_of bytes ≡ lines_of (text_of t) = g.split' ∙ append-nil (map ended g.items) ∙ ap (map ended) (sym parts.1) ∙ sym (table_lines t parts.0) in
+    record { valid = parts.0; whole = sym (lines_join (text_of t)) ∙ ap concat (sym lines) ∙ lines_join bytes }
+
+-- ---- laws
+
+same_done : (t u : Table) → Some (Done t) ≡ Some (Done u) → t ≡ u
+same_done t u e = cc
+
+same_items : (xs ys : List Item) → All IsItem xs → All IsItem ys → map ended xs ≡ map ended ys → xs ≡ ys
+same_items xs ys a b e = by (split xs ys [] a b (e ∙ sym (append-nil (map ended ys))))
+  where
+    none : (rest : List Item) → map ended rest ≡ [] → rest ≡ []
+    none [] h = refl
+    none (i ∷ rest) h = cc
+
+    by : Split xs ys [] → xs ≡ ys
+    by s = s.whole ∙ ap (λ us. ys ++ us) (none s.rest s.left) ∙ append-nil ys
+
+pub one_table : OneTable
+one_table bytes t u a b =
+    let lines : map ended (items_of t) ≡ map ended (items_of u) = sym (table_lines t a.valid) ∙ ap lines_of (a.whole ∙ sym b.whole) ∙ table_lines u b.valid in
+    let items = same_items (items_of t) (items_of u) (table_all t a.valid) (table_all u b.valid) lines in
+    same_done t u (sym (reads t a.valid) ∙ ap (run Start) items ∙ reads u b.valid)
+
+pub not_both : NotBoth
+not_both bytes t n a r = by r.rest r.split r.stops
+  where
+    lines : lines_of (text_of t) ≡ lines_of bytes
+    lines = ap lines_of a.whole
+
+    by : (rest : List (List ℕ)) → lines_of bytes ≡ r.before ++ rest → Stops r.before rest → ⊥
+    by [] e stops = stops t a.valid (lines ∙ e ∙ append-nil r.before)
+    by (l ∷ rest) e stops = stops (record { table = t; valid = a.valid; rest = rest; whole = lines ∙ e ∙ sym (append_assoc r.before (l ∷ []) rest) })
+
+-- what begins a table begins it with fewer lines too
+fewer : (xs ys : List (List ℕ)) → Begins (xs ++ ys) → Begins xs
+fewer xs ys b = record { table = b.table; valid = b.valid; rest = ys ++ b.rest; whole = b.whole ∙ append_assoc xs ys b.rest }
+
+-- no table begins with more lines than come before a stop
+no_longer : (seen xs ys us vs : List (List ℕ)) → xs ++ us ≡ ys ++ vs → Stops (seen ++ xs) us → Begins (seen ++ ys) → length ys ≤ length xs
+no_longer seen [] [] us vs e stops b = omega arith
+no_longer seen [] (y ∷ ys) us vs e stops b =
+    let S : List (List ℕ) → Type 0 = λ w. Stops (seen ++ []) w in
+    let never : Begins ((seen ++ []) ++ y ∷ []) → ⊥ = subst S e stops in
+    let one : Begins (seen ++ y ∷ []) = fewer (seen ++ y ∷ []) ys (subst Begins (sym (append_assoc seen (y ∷ []) ys)) b) in
+    absurd (never (subst Begins (ap (λ w. w ++ y ∷ []) (sym (append-nil seen))) one))
+no_longer seen (x ∷ xs) [] us vs e stops b = omega arith
+no_longer seen (x ∷ xs) (y ∷ ys) us vs e stops b =
+    let first : y ≡ x = cc in
+    let tail : xs ++ us ≡ ys ++ vs = cc in
+    let S : List (List ℕ) → Type 0 = λ w. Stops w us in
+    let next = no_longer (seen ++ x ∷ []) xs ys us vs tail (subst S (sym (append_assoc seen (x ∷ []) xs)) stops)
+    (subst Begins (ap (λ w. seen ++ w ∷ ys) first ∙ sym (append_assoc seen (x ∷ []) ys)) b) in
+    omega (arith, next)
+
+pub refused_once : RefusedOnce
+refused_once bytes n m a b =
+    let e = sym a.split ∙ b.split in
+    let less = no_longer [] a.before b.before a.rest b.rest e a.stops b.begins in
+    let more = no_longer [] b.before a.before b.rest a.rest (sym e) b.stops a.begins in
+    omega (arith, less, more, a.count, b.count)
+
+pub written_reads_back : WrittenReadsBack
+written_reads_back t (Ok u) is r = one_table (text_of t) (table_of u) t r (record { valid = is; whole = refl })
+written_reads_back t (Err (error.Line n)) is r = not_both (text_of t) t n (record { valid = is; whole = refl }) r
+written_reads_back t (Err error.Memory) is r = tt
+
+-- ---- lines that come
+
+pub bad_at : (bytes : List ℕ) (left after : List Placed) (p : Placed) (s : Stage) (n : ℕ) → Progress bytes left s n → AreLeft left → left ≡ p ∷ after → StepsTo s p None → IsRefused bytes n
+bad_at bytes left after p s n g a e none =
+    let P : List Placed → Type 0 = λ w. Progress bytes w s n in
+    bad bytes p after s n (subst P e g) (subst AreLeft e a) none
+
+pub more_at : (bytes : List ℕ) (left after : List Placed) (p : Placed) (s t : Stage) (n : ℕ) → Progress bytes left s n → left ≡ p ∷ after → StepsTo s p (Some t) → Progress bytes after t (n + 1)
+more_at bytes left after p s t n g e next =
+    let P : List Placed → Type 0 = λ w. Progress bytes w s n in
+    more bytes p after s t n (subst P e g) next
+
+pub room_at : (bytes : List ℕ) (left after : List Placed) (p : Placed) (s : Stage) (n : ℕ) → Progress bytes left s n → left ≡ p ∷ after → n ≤ length bytes
+room_at bytes left after p s n g e =
+    let P : List Placed → Type 0 = λ w. Progress bytes w s n in
+    room bytes p after s n (subst P e g)
+
+pub missing_at : (bytes : List ℕ) (left : List Placed) (s : Stage) (n : ℕ) → Progress bytes left s n → left ≡ [] → ((t : Table) → s ≡ Done t → ⊥) → IsRefused bytes n
+missing_at bytes left s n g e undone =
+    let P : List Placed → Type 0 = λ w. Progress bytes w s n in
+    missing bytes s n (subst P e g) undone
+
+pub whole_at : (bytes : List ℕ) (left : List Placed) (s : Stage) (t : Table) (n : ℕ) → Progress bytes left s n → left ≡ [] → s ≡ Done t → IsText bytes t
+whole_at bytes left s t n g e done =
+    let P : List Placed → Type 0 = λ w. Progress bytes w s n in
+    let Q : Stage → Type 0 = λ u. Progress bytes [] u n in
+    whole_text bytes t n (subst Q done (subst P e g))
+
+-- what isn't done as code isn't done
+pub undone : (r : Reading) → ((x : Code) → r ≡ reading.Done x → ⊥) → (t : Table) → stage_of r ≡ Done t → ⊥
+undone (reading.Done x) h t e = h x refl
+undone r h t e = absurd cc

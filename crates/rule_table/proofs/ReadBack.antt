@@ -1,0 +1,156 @@
+-- A table's lines are read as the table.
+use Rattle.std.proofs.Common.{◌≡◌, ℕ, suc, ◌+◌, ◌<◌, ◌≤◌, ◌&&◌, Bool, true, false, List, [], ◌∷◌, ◌++◌, length, map, nat_le, nat_lt, refl, sym, ◌∙◌, ap, arith, Option, Some, None, append_assoc, append-nil, length-append, lt-ltb, ltb-true, leb-true}
+use Rattle.std.specs.Option.{option_and_then}
+use Rattle.std.specs.List.{flat_map, All}
+use Rattle.std.proofs.lemmas.Bool.{and_parts}
+use Rattle.std.proofs.lemmas.List.Elements.{All-head, All-tail}
+use Rattle.seq_enum.specs.Lists.{ascends_from}
+use Rattle.lrat_check.specs.Content.{Content}
+use Rattle.fingerprints.specs.Seeded.{Seen}
+use Rattle.thumb_instr.specs.declared.instr.Instr.{Instr}
+use Rattle.rule_table.specs.Table.{Opened, Rule, Table}
+use Rattle.rule_table.specs.Text.{Item, Version, Regs, Longest, Seed, Budget, Pool, State, Entry, Left, Right, Mask, Proof, Logged, Open, End, open_items, rule_items, header_items, items_of}
+use Rattle.rule_table.specs.Valid.{IsRule, IsTable, numbers_of}
+use Rattle.rule_table.specs.Grammar.{Stage, Start, Stated, Sided, Masked, Proved, Opening, Done, with_state, with_rule, with_opened, step, run}
+
+pub run-append : (s : Stage) (p q : List Item) → run s (p ++ q) ≡ option_and_then (λ t. run t q) (run s p)
+unfolding run
+run-append s [] q = refl
+run-append s (i ∷ p) q = from (step s i) (λ t. run-append t p q)
+  where
+    from : (o : Option Stage) → ((t : Stage) → run t (p ++ q) ≡ option_and_then (λ u. run u q) (run t p))
+        → option_and_then (λ t. run t (p ++ q)) o ≡ option_and_then (λ t. run t q) (option_and_then (λ t. run t p) o)
+    from None h = refl
+    from (Some t) h = h t
+
+-- a table with more states, more rules
+more_states : Table → List Seen → Table
+more_states t ss = record { regs = t.regs; left = t.left; seed = t.seed; budget = t.budget; pool = t.pool; states = t.states ++ ss; rules = t.rules }
+
+more_rules : Table → List Rule → Table
+more_rules t rs = record { regs = t.regs; left = t.left; seed = t.seed; budget = t.budget; pool = t.pool; states = t.states; rules = t.rules ++ rs }
+
+reads_states : (t : Table) (ss : List Seen) (rest : List Item) → run (Stated t) (map State ss ++ rest) ≡ run (Stated (more_states t ss)) rest
+unfolding run step more_states
+reads_states t [] rest = ap (λ us. run (Stated (record { regs = t.regs; left = t.left; seed = t.seed; budget = t.budget; pool = t.pool; states = us; rules = t.rules })) rest) (sym (append-nil t.states))
+reads_states t (s ∷ ss) rest =
+    reads_states (with_state t s) ss rest
+    ∙ ap (λ us. run (Stated (record { regs = t.regs; left = t.left; seed = t.seed; budget = t.budget; pool = t.pool; states = us; rules = t.rules })) rest) (append_assoc t.states (s ∷ []) ss)
+
+reads_left : (t : Table) (ls is : List Instr) (rest : List Item) → length ls + length is ≤ 5 → run (Sided t ls []) (map Left is ++ rest) ≡ run (Sided t (ls ++ is) []) rest
+unfolding run step
+reads_left t ls [] rest h = ap (λ us. run (Sided t us []) rest) (sym (append-nil ls))
+reads_left t ls (i ∷ is) rest h =
+    let room : nat_lt (length ls) 5 ≡ true = lt-ltb (length ls) 5 (omega arith) in
+    rw room (reads_left t (ls ++ i ∷ []) is rest (omega (arith, length-append ls (i ∷ []))) ∙ ap (λ us. run (Sided t us []) rest) (append_assoc ls (i ∷ []) is))
+
+reads_right : (t : Table) (ls rs is : List Instr) (rest : List Item) → 0 < length ls → length rs + length is ≤ 5 → run (Sided t ls rs) (map Right is ++ rest) ≡ run (Sided t ls (rs ++ is)) rest
+unfolding run step
+reads_right t ls rs [] rest some h = ap (λ us. run (Sided t ls us) rest) (sym (append-nil rs))
+reads_right t ls rs (i ∷ is) rest some h =
+    let left : nat_lt 0 (length ls) ≡ true = lt-ltb 0 (length ls) some in
+    let room : nat_lt (length rs) 5 ≡ true = lt-ltb (length rs) 5 (omega arith) in
+    rw (left, room) (reads_right t ls (rs ++ i ∷ []) is rest some (omega (arith, length-append rs (i ∷ []))) ∙ ap (λ us. run (Sided t ls us) rest) (append_assoc rs (i ∷ []) is))
+
+reads_proof : (t : Table) (r : Rule) (cs : List Content) (rest : List Item)
+    → run (Proved t r) (map Logged cs ++ rest) ≡ run (Proved t (record { left = r.left; right = r.right; mask = r.mask; proof = r.proof ++ cs; opens = r.opens })) rest
+unfolding run step
+reads_proof t r [] rest = ap (λ us. run (Proved t (record { left = r.left; right = r.right; mask = r.mask; proof = us; opens = r.opens })) rest) (sym (append-nil r.proof))
+reads_proof t r (c ∷ cs) rest =
+    reads_proof t (record { left = r.left; right = r.right; mask = r.mask; proof = r.proof ++ c ∷ []; opens = r.opens }) cs rest
+    ∙ ap (λ us. run (Proved t (record { left = r.left; right = r.right; mask = r.mask; proof = us; opens = r.opens })) rest) (append_assoc r.proof (c ∷ []) cs)
+
+reads_log : (t : Table) (r : Rule) (o : Opened) (cs : List Content) (rest : List Item)
+    → run (Opening t r o) (map Logged cs ++ rest) ≡ run (Opening t r (record { number = o.number; log = o.log ++ cs })) rest
+unfolding run step
+reads_log t r o [] rest = ap (λ us. run (Opening t r (record { number = o.number; log = us })) rest) (sym (append-nil o.log))
+reads_log t r o (c ∷ cs) rest =
+    reads_log t r (record { number = o.number; log = o.log ++ c ∷ [] }) cs rest
+    ∙ ap (λ us. run (Opening t r (record { number = o.number; log = us })) rest) (append_assoc o.log (c ∷ []) cs)
+
+-- what a rule ends before: the next rule, or the end of the table
+record Closes (rest : List Item) : Type 0 where
+  same : (t : Table) (r : Rule) (o : Opened) → run (Opening t r o) rest ≡ run (Proved t (with_opened r o)) rest
+
+more_opens : Rule → List Opened → Rule
+more_opens r os = record { left = r.left; right = r.right; mask = r.mask; proof = r.proof; opens = r.opens ++ os }
+
+reads_later : (t : Table) (r : Rule) (o : Opened) (os : List Opened) (rest : List Item) → Closes rest → ascends_from (suc o.number) (numbers_of os) ≡ true
+    → run (Opening t r o) (flat_map open_items os ++ rest) ≡ run (Proved t (more_opens r (o ∷ os))) rest
+unfolding run step ascends_from more_opens
+reads_later t r o [] rest closes up = closes.same t r o
+reads_later t r o (p ∷ os) rest closes up =
+    let parts = and_parts (nat_le (suc o.number) p.number) (ascends_from (suc p.number) (numbers_of os)) up in
+    let above : nat_lt o.number p.number ≡ true = lt-ltb o.number p.number (omega (arith, leb-true (suc o.number) p.number parts.0)) in
+    rw above (ap (run (Opening t (with_opened r o) (record { number = p.number; log = [] }))) (append_assoc (map Logged p.log) (flat_map open_items os) rest)
+    ∙ reads_log t (with_opened r o) (record { number = p.number; log = [] }) p.log (flat_map open_items os ++ rest)
+    ∙ reads_later t (with_opened r o) p os rest closes parts.1
+    ∙ ap (λ us. run (Proved t (record { left = r.left; right = r.right; mask = r.mask; proof = r.proof; opens = us })) rest) (append_assoc r.opens (o ∷ []) (p ∷ os)))
+
+reads_opens : (t : Table) (r : Rule) (os : List Opened) (rest : List Item) → Closes rest → ascends_from 0 (numbers_of os) ≡ true
+    → run (Proved t r) (flat_map open_items os ++ rest) ≡ run (Proved t (more_opens r os)) rest
+unfolding run step ascends_from more_opens
+reads_opens t r [] rest closes up = ap (λ us. run (Proved t (record { left = r.left; right = r.right; mask = r.mask; proof = r.proof; opens = us })) rest) (sym (append-nil r.opens))
+reads_opens t r (p ∷ os) rest closes up =
+    let parts = and_parts (nat_le 0 p.number) (ascends_from (suc p.number) (numbers_of os)) up in
+    ap (run (Opening t r (record { number = p.number; log = [] }))) (append_assoc (map Logged p.log) (flat_map open_items os) rest)
+    ∙ reads_log t r (record { number = p.number; log = [] }) p.log (flat_map open_items os ++ rest)
+    ∙ reads_later t r p os rest closes parts.1
+
+-- the lines of a rule behind its first
+tail_items : Rule → List Item
+tail_items r = map Left r.left ++ (map Right r.right ++ Mask r.mask ∷ Proof ∷ (map Logged r.proof ++ flat_map open_items r.opens))
+
+reads_rule : (t : Table) (r : Rule) (rest : List Item) → IsRule r → Closes rest → run (Sided t [] []) (tail_items r ++ rest) ≡ run (Proved t r) rest
+unfolding run step more_opens tail_items
+reads_rule t r rest is closes =
+    let some : nat_lt 0 (length r.left) ≡ true = lt-ltb 0 (length r.left) is.some in
+    let opens = flat_map open_items r.opens in
+    let proof = map Logged r.proof ++ opens in
+    let sides = map Right r.right ++ Mask r.mask ∷ Proof ∷ proof in
+    ap (run (Sided t [] [])) (append_assoc (map Left r.left) sides rest)
+    ∙ reads_left t [] r.left (sides ++ rest) (omega (arith, is.few_left))
+    ∙ ap (run (Sided t r.left [])) (append_assoc (map Right r.right) (Mask r.mask ∷ Proof ∷ proof) rest)
+    ∙ reads_right t r.left [] r.right (Mask r.mask ∷ Proof ∷ (proof ++ rest)) is.some (omega (arith, is.few_right))
+    ∙ rw some (ap (run (Proved t (record { left = r.left; right = r.right; mask = r.mask; proof = []; opens = [] }))) (append_assoc (map Logged r.proof) opens rest)
+    ∙ reads_proof t (record { left = r.left; right = r.right; mask = r.mask; proof = []; opens = [] }) r.proof (opens ++ rest)
+    ∙ reads_opens t (record { left = r.left; right = r.right; mask = r.mask; proof = r.proof; opens = [] }) r.opens rest closes is.ascending)
+
+closes_entry : (rest : List Item) → Closes (Entry ∷ rest)
+unfolding run step
+closes_entry rest = record { same = λ t r o. refl }
+
+closes_end : (rest : List Item) → Closes (End ∷ rest)
+unfolding run step
+closes_end rest = record { same = λ t r o. refl }
+
+closes_rules : (rs : List Rule) → Closes (flat_map rule_items rs ++ End ∷ [])
+closes_rules [] = closes_end []
+closes_rules (r ∷ rs) = closes_entry _
+
+-- rules behind a finished one
+reads_rules : (t : Table) (r : Rule) (rs : List Rule) → All IsRule rs → run (Proved t r) (flat_map rule_items rs ++ End ∷ []) ≡ Some (Done (more_rules t (r ∷ rs)))
+unfolding run step more_rules tail_items
+reads_rules t r [] all = refl
+reads_rules t r (q ∷ rs) all =
+    ap (run (Sided (with_rule t r) [] [])) (append_assoc (tail_items q) (flat_map rule_items rs) (End ∷ []))
+    ∙ reads_rule (with_rule t r) q (flat_map rule_items rs ++ End ∷ []) (All-head IsRule q rs all) (closes_rules rs)
+    ∙ reads_rules (with_rule t r) q rs (All-tail IsRule q rs all)
+    ∙ ap (λ us. Some (Done (record { regs = t.regs; left = t.left; seed = t.seed; budget = t.budget; pool = t.pool; states = t.states; rules = us }))) (append_assoc t.rules (r ∷ []) (q ∷ rs))
+
+reads_all : (t : Table) (rs : List Rule) → t.rules ≡ [] → All IsRule rs
+    → run (Stated t) (flat_map rule_items rs ++ End ∷ []) ≡ Some (Done (record { regs = t.regs; left = t.left; seed = t.seed; budget = t.budget; pool = t.pool; states = t.states; rules = rs }))
+unfolding run step more_rules tail_items
+reads_all t [] none all = ap (λ us. Some (Done (record { regs = t.regs; left = t.left; seed = t.seed; budget = t.budget; pool = t.pool; states = t.states; rules = us }))) none
+reads_all t (r ∷ rs) none all =
+    ap (run (Sided t [] [])) (append_assoc (tail_items r) (flat_map rule_items rs) (End ∷ []))
+    ∙ reads_rule t r (flat_map rule_items rs ++ End ∷ []) (All-head IsRule r rs all) (closes_rules rs)
+    ∙ reads_rules t r rs (All-tail IsRule r rs all)
+    ∙ ap (λ us. Some (Done (record { regs = t.regs; left = t.left; seed = t.seed; budget = t.budget; pool = t.pool; states = t.states; rules = us ++ r ∷ rs }))) none
+
+pub reads : (t : Table) → IsTable t → run Start (items_of t) ≡ Some (Done t)
+unfolding run step more_states
+reads t is =
+    let begun : Table = record { regs = t.regs; left = t.left; seed = t.seed; budget = t.budget; pool = t.pool; states = []; rules = [] } in
+    reads_states begun t.states (flat_map rule_items t.rules ++ End ∷ [])
+    ∙ reads_all (record { regs = t.regs; left = t.left; seed = t.seed; budget = t.budget; pool = t.pool; states = t.states; rules = [] }) t.rules refl is.rules

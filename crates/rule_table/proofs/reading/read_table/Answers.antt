@@ -1,0 +1,47 @@
+use Rattle.std.proofs.Common.{◌≡◌, ◌∙◌, ◌≤◌, ◌+◌, ap, sym, subst, arith, refl, length, Option, Some, None}
+use Rattle.std.specs.Prelude.{option_map}
+use Rattle.ascii_scan.specs.Source.{lines_left, line_view}
+use Rattle.rule_table.specs.declared.stages.Reading.{Reading}
+use Rattle.rule_table.specs.Grammar.{Stage}
+use Rattle.rule_table.specs.StageView.{stage_of}
+use Rattle.rule_table.specs.Steps.{StepsTo}
+use Rattle.rule_table.specs.Views.{table_of}
+use Rattle.rule_table.proofs.Progress.{begun, bad_at, more_at, room_at, missing_at, whole_at, undone}
+use Rattle.rule_table.proofs.reading.read_table.Goals as goal
+
+pub loop-line-init : goal.loop-line-init
+loop-line-init c = begun c.args.text.now _ (ap lines_left c.into_iter-line-iterator.ensures.into_iter_gives ∙ c.new-line-items.ensures)
+
+pub returns-in-None-2 : goal.returns-in-None-2
+returns-in-None-2 c =
+    let it = c.loop-line.line-iterator in
+    let s = stage_of c.loop-line.reading in
+    let line = line_view c.in-Some.line in
+    let P : Option Reading → Type 0 = λ o. StepsTo s line (option_map stage_of o) in
+    bad_at c.args.text.now (lines_left it) (lines_left c.next.new.self) line s c.loop-line.number c.loop-line.invariant
+    (record { number = it.passed + 1; start = it.start; bytes = it.rest.now; is = refl }) c.in-Some.ensures.steps (subst P c.in-None-2.is c.in_ok-step_line.ensures)
+
+pub overflow_add-number : goal.overflow_add-number
+overflow_add-number c =
+    let few : c.loop-line.number ≤ length c.args.text.now =
+    room_at c.args.text.now (lines_left c.loop-line.line-iterator) (lines_left c.next.new.self) (line_view c.in-Some.line) (stage_of c.loop-line.reading) c.loop-line.number c.loop-line.invariant
+    c.in-Some.ensures.steps in
+    omega arith
+
+pub loop-line-preserved : goal.loop-line-preserved
+loop-line-preserved c =
+    let s = stage_of c.loop-line.reading in
+    let line = line_view c.in-Some.line in
+    let P : Option Reading → Type 0 = λ o. StepsTo s line (option_map stage_of o) in
+    more_at c.args.text.now (lines_left c.loop-line.line-iterator) (lines_left c.next.new.self) line s (stage_of c.in-Some-2.next) c.loop-line.number c.loop-line.invariant c.in-Some.ensures.steps
+    (subst P c.in-Some-2.is c.in_ok-step_line.ensures)
+
+pub returns-in-Done : goal.returns-in-Done
+returns-in-Done c =
+    whole_at c.args.text.now (lines_left c.loop-line.line-iterator) (stage_of c.loop-line.reading) (table_of c.in-Done.table) c.loop-line.number c.loop-line.invariant c.in-None.ensures.steps.0
+    (ap stage_of c.in-Done.is)
+
+pub returns : goal.returns
+returns c =
+    missing_at c.args.text.now (lines_left c.loop-line.line-iterator) (stage_of c.loop-line.reading) c.loop-line.number c.loop-line.invariant c.in-None.ensures.steps.0
+    (undone c.loop-line.reading c.in_default.not-Done)

@@ -1,0 +1,105 @@
+-- What lines begin with, and what stands behind it.
+use Rattle.std.specs.Prelude.{ℕ, ◌==◌, ◌++◌, Bool, false, List, [], ◌∷◌, map, codes, decimal, Option, Some, None, if◌then◌else◌}
+use Rattle.std.specs.Char.{is_ascii_digit}
+use Rattle.std.specs.Borrow.{Bor}
+use Rattle.lrat_check.specs.Text.{text_of as text_of_line}
+use Rattle.rule_table.specs.declared.words.Word.{Word}
+use Rattle.rule_table.specs.declared.words.Word.TheVariants as word
+use Rattle.rule_table.specs.Text.{Item, Version, Regs, Longest, Seed, Budget, Pool, State, Entry, Left, Right, Mask, Proof, Logged, Open, End, after_blanks, hex_of, instr_text, mask_text}
+
+unfoldable pub words : List Word
+words =
+    word.Version ∷ word.Regs ∷ word.Left ∷ word.Seed ∷ word.Budget ∷ word.Pool ∷ word.State
+    ∷ word.Entry ∷ word.Right ∷ word.Mask ∷ word.Proof ∷ word.Open ∷ word.End ∷ []
+
+abbrev pub word_text : Word → List ℕ
+word_text word.Version = codes "peep 1"
+word_text word.Regs = codes "regs "
+word_text word.Left = codes "left "
+word_text word.Seed = codes "seed "
+word_text word.Budget = codes "budget "
+word_text word.Pool = codes "pool"
+word_text word.State = codes "state"
+word_text word.Entry = codes "entry"
+word_text word.Right = codes "right "
+word_text word.Mask = codes "mask"
+word_text word.Proof = codes "proof"
+word_text word.Open = codes "open "
+word_text word.End = codes "end"
+word_text word.Digit = []
+
+-- what stands behind a prefix
+abbrev pub strip : List ℕ → List ℕ → Option (List ℕ)
+strip [] bs = Some bs
+strip (p ∷ ps) [] = None
+strip (p ∷ ps) (b ∷ bs) = if p == b then strip ps bs else None
+
+-- a word with what stands behind it, or else what the others give
+abbrev pub or_else : Word → Option (List ℕ) → Option (Word × List ℕ) → Option (Word × List ℕ)
+or_else w (Some t) others = Some (w, t)
+or_else w None others = others
+
+abbrev pub front_in : List Word → List ℕ → Option (Word × List ℕ)
+front_in [] bs = None
+front_in (w ∷ ws) bs = or_else w (strip (word_text w) bs) (front_in ws bs)
+
+-- of a line of a proof, which begins with a digit, all of it
+unfoldable pub front : List ℕ → Option (Word × List ℕ)
+front [] = None
+front (b ∷ bs) = if is_ascii_digit b then Some (word.Digit, b ∷ bs) else front_in words (b ∷ bs)
+
+abbrev pub seen_front : Word × Bor (List ℕ) → Word × List ℕ
+seen_front p = (p.0, p.1.now)
+
+-- what is left where something was taken from the front of the bytes, and which item was
+abbrev pub left_of : List ℕ → Option (List ℕ) → List ℕ
+left_of bs None = bs
+left_of bs (Some t) = t
+
+abbrev pub is_taken : ℕ → Option (List ℕ) → ℕ → Bool
+is_taken y None x = false
+is_taken y (Some t) x = x == y
+
+-- the items whose texts stand at the front of the bytes in the order of the rows, and what stands behind them
+abbrev pub and_taken : List ℕ → ℕ → Option (List ℕ) → (List ℕ → List ℕ × List ℕ) → List ℕ × List ℕ
+and_taken bs x None others = others bs
+and_taken bs x (Some t) others = (x ∷ (others t).0, (others t).1)
+
+unfoldable pub taken : List (ℕ × List ℕ) → List ℕ → List ℕ × List ℕ
+taken [] bs = ([], bs)
+taken (r ∷ rs) bs = and_taken bs r.0 (strip r.1 bs) (taken rs)
+
+-- what stands behind the word
+abbrev pub tail_of : Item → List ℕ
+tail_of Version = []
+tail_of (Regs n) = decimal n
+tail_of (Longest n) = decimal n
+tail_of (Seed n) = decimal n
+tail_of (Budget n) = decimal n
+tail_of (Pool ns) = after_blanks (map decimal ns)
+tail_of (State s) = after_blanks (map (hex_of 8) s.r) ++ 32 ∷ hex_of 1 s.nzcv
+tail_of Entry = []
+tail_of (Left i) = instr_text i
+tail_of (Right i) = instr_text i
+tail_of (Mask m) = mask_text m
+tail_of Proof = []
+tail_of (Logged c) = text_of_line c
+tail_of (Open n) = decimal n
+tail_of End = []
+
+abbrev pub word_of : Item → Word
+word_of Version = word.Version
+word_of (Regs n) = word.Regs
+word_of (Longest n) = word.Left
+word_of (Seed n) = word.Seed
+word_of (Budget n) = word.Budget
+word_of (Pool ns) = word.Pool
+word_of (State s) = word.State
+word_of Entry = word.Entry
+word_of (Left i) = word.Left
+word_of (Right i) = word.Right
+word_of (Mask m) = word.Mask
+word_of Proof = word.Proof
+word_of (Logged c) = word.Digit
+word_of (Open n) = word.Open
+word_of End = word.End

@@ -1,0 +1,23 @@
+-- What a line says, without where it lies in memory.
+use Rattle.lrat_check.specs.Content.{content_of}
+use Rattle.fingerprints.specs.Seeded.{seen}
+use Rattle.rule_table.specs.declared.item.Item.{Item as Code}
+use Rattle.rule_table.specs.declared.item.Item.TheVariants as code
+use Rattle.rule_table.specs.Text.{Item, Version, Regs, Longest, Seed, Budget, Pool, State, Entry, Left, Right, Mask, Proof, Logged, Open, End}
+
+abbrev pub item_of : Code → Item
+item_of code.Version = Version
+item_of (code.Regs n) = Regs n
+item_of (code.Longest n) = Longest n
+item_of (code.Seed n) = Seed n
+item_of (code.Budget n) = Budget n
+item_of (code.Pool ns) = Pool ns
+item_of (code.State s) = State (seen s)
+item_of code.Entry = Entry
+item_of (code.Left i) = Left i
+item_of (code.Right i) = Right i
+item_of (code.Mask m) = Mask m.items.bits
+item_of code.Proof = Proof
+item_of (code.Logged l) = Logged (content_of l)
+item_of (code.Open n) = Open n
+item_of code.End = End

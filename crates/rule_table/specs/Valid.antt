@@ -1,0 +1,60 @@
+-- Which tables have a text: the limits of its lines, and of how many there are of each kind.
+use Rattle.std.specs.Prelude.{◌≡◌, ℕ, ◌<◌, ◌≤◌, ◌^◌, true, List, length, map}
+use Rattle.std.specs.List.{All}
+use Rattle.thumb_instr.specs.declared.instr.Instr.{Instr}
+use Rattle.thumb_instr.specs.Items.{has, is_in_masks}
+use Rattle.thumb_instr.specs.Window.{is_in_window}
+use Rattle.thumb_instr.specs.Renaming.{named, AreBelow}
+use Rattle.seq_enum.specs.Lists.{ascends_from}
+use Rattle.seq_enum.specs.Pools.{is_pool}
+use Rattle.lrat_check.specs.Text.{IsLine}
+use Rattle.fingerprints.specs.Seeded.{Seen}
+use Rattle.rule_table.specs.Table.{Opened, Rule, Table}
+
+-- four words, and the four flags
+pub record IsState (s : Seen) : Type 0 where
+  pub four : length s.r ≡ 4
+  pub words : All (λ w. w < 2 ^ 32) s.r
+  pub flags : s.nzcv < 16
+
+-- an instruction of windows over r0 to r3: each such has a canonical text, from which it is read
+pub record IsInstr (i : Instr) : Type 0 where
+  pub window : is_in_window i ≡ true
+  pub low : AreBelow 4 (named i)
+
+-- a set of some of r0 to r3 and the flags
+abbrev pub IsMask : ℕ → Type 0
+IsMask m = (x : ℕ) → has m x ≡ true → is_in_masks x ≡ true
+
+-- a number of 64 bits, with lines of a proof
+pub record IsOpened (o : Opened) : Type 0 where
+  pub small : o.number < 2 ^ 64
+  pub log : All IsLine o.log
+
+abbrev pub numbers_of : List Opened → List ℕ
+numbers_of opens = map (λ o. o.number) opens
+
+-- one to five instructions on the left, at most five on the right, open numbers each above the one before
+pub record IsRule (r : Rule) : Type 0 where
+  pub some : 0 < length r.left
+  pub few_left : length r.left ≤ 5
+  pub few_right : length r.right ≤ 5
+  pub left : All IsInstr r.left
+  pub right : All IsInstr r.right
+  pub mask : IsMask r.mask
+  pub proof : All IsLine r.proof
+  pub opens : All IsOpened r.opens
+  pub ascending : ascends_from 0 (numbers_of r.opens) ≡ true
+
+-- the numbers of the first lines lie in their limits, and each state and rule is one that has lines
+pub record IsTable (t : Table) : Type 0 where
+  pub some_regs : 1 ≤ t.regs
+  pub few_regs : t.regs ≤ 4
+  pub some_left : 1 ≤ t.left
+  pub few_left : t.left ≤ 5
+  pub seed : t.seed < 2 ^ 32
+  pub some_budget : 1 ≤ t.budget
+  pub few_budget : t.budget ≤ 1000000
+  pub pool : is_pool t.pool ≡ true
+  pub states : All IsState t.states
+  pub rules : All IsRule t.rules

@@ -1,0 +1,24 @@
+use lrat_check::Line;
+use seq_enum::Pool;
+use thumb_instr::{Instr, Mask};
+use window_exec::WState;
+
+/// What a line of a table says.
+#[derive(Drop)]
+pub(crate) enum Item {
+    Version,
+    Regs(u8),
+    Longest(u8),
+    Seed(u32),
+    Budget(u32),
+    Pool(Pool),
+    State(WState),
+    Entry,
+    Left(Instr),
+    Right(Instr),
+    Mask(Mask),
+    Proof,
+    Logged(Line),
+    Open(u64),
+    End,
+}

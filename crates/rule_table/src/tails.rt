@@ -1,0 +1,184 @@
+//! What stands behind the words of lines.
+ghost use Rattle.std.specs.Prelude.{◌≡◌, ℕ, List, [], ◌∷◌, ◌++◌, ◌<◌, ◌^◌, ◌||◌, true, map, decimal, MatchOption, IfOk, IsTrue, ◌↔◌, nat_lt};
+ghost use Rattle.std.specs.List.{list_all};
+ghost use Rattle.thumb_instr.specs.Items.{has as has_item, one_of};
+ghost use Rattle.thumb_instr.specs.declared.instr.Instr.{Instr};
+ghost use Rattle.seq_enum.specs.Pools.{is_pool};
+ghost use Rattle.fingerprints.specs.Seeded.{Seen, seen};
+ghost use Rattle.rule_table.specs.Text.{after_blanks, instr_text, mask_rows, mask_text, State};
+ghost use Rattle.rule_table.specs.Valid.{IsState, IsInstr, IsMask};
+ghost use Rattle.rule_table.specs.Fronts.{strip, is_taken, left_of, taken, tail_of};
+ghost use Rattle.rule_table.specs.MaskView.{row_of};
+
+use crate::errors::Memory;
+use crate::numbers::{blank_digit, blank_words, bytes_of, words_in};
+use crate::words::strip;
+use seq_enum::Pool;
+use std::alloc::{AllocError, Global};
+use thumb_instr::{Instr, Items, Low, Mask, in_window, registers_of};
+use thumb_syntax::{Parsed, read_instr, write_instr};
+use window_exec::WState;
+
+/// A pool of numbers, each behind a blank.
+pub(crate) fn pool(alloc: Global, tail: &[u8]) -> Result<Option<Pool>, AllocError>
+    ensures { IfOk result (λ r. MatchOption r ((ns : List ℕ) → is_pool ns ≡ true → after_blanks (map decimal ns) ≡ tail.now → ⊥) (λ p. (is_pool p ≡ true) × (after_blanks (map decimal p) ≡ tail.now))) }
+{
+    let Some((first, rest)) = tail.split_first() else {
+        return Ok(None);
+    };
+    if *first != b' ' {
+        return Ok(None);
+    }
+    let words = words_in(alloc, rest)?;
+    match bytes_of(&words) {
+        None => Ok(None),
+        Some(numbers) => Ok(Pool::new(&numbers)),
+    }
+}
+
+/// The four words of a state and its flags, each behind a blank.
+pub(crate) fn state(tail: &[u8]) -> Option<WState>
+    ensures { MatchOption result ((s : Seen) → IsState s → tail_of (State s) ≡ tail.now → ⊥) (λ s. IsState (seen s) × (tail_of (State (seen s)) ≡ tail.now)) }
+{
+    let Some((first, second, rest)) = blank_words(tail) else {
+        return None;
+    };
+    let Some((third, fourth, rest)) = blank_words(rest) else {
+        return None;
+    };
+    match blank_digit(rest) {
+        None => None,
+        Some(nzcv) => Some(WState {
+            r: [first, second, third, fourth],
+            nzcv,
+        }),
+    }
+}
+
+/// An item of masks, as it is written.
+struct MaskItem {
+    item: u8,
+    text: &'static [u8],
+}
+
+/// The items of masks, in the order in which they are written.
+static MASK_ITEMS: [MaskItem; 8] = [
+    MaskItem {
+        item: 0,
+        text: b" r0",
+    },
+    MaskItem {
+        item: 1,
+        text: b" r1",
+    },
+    MaskItem {
+        item: 2,
+        text: b" r2",
+    },
+    MaskItem {
+        item: 3,
+        text: b" r3",
+    },
+    MaskItem {
+        item: 15,
+        text: b" n",
+    },
+    MaskItem {
+        item: 16,
+        text: b" z",
+    },
+    MaskItem {
+        item: 17,
+        text: b" c",
+    },
+    MaskItem {
+        item: 18,
+        text: b" v",
+    },
+];
+
+fn mask_items() -> &'static [MaskItem]
+    ensures { map row_of result.now ≡ mask_rows }
+{
+    &MASK_ITEMS
+}
+
+/// The items and an item, where its text stands at the front of the bytes, and what stands behind it.
+fn taken_one<'a>(row: &MaskItem, items: Items, bytes: &'a [u8]) -> (Items, &'a [u8])
+    requires { row.now.item < 19 }
+    ensures items { (x : ℕ) → has_item result.0.bits x ≡ (has_item items.bits x || is_taken row.now.item (strip row.now.text.now bytes.entry.now) x) }
+    ensures rest { result.1.now ≡ left_of bytes.entry.now (strip row.now.text.now bytes.entry.now) }
+{
+    match strip(row.text, bytes) {
+        None => (items, bytes),
+        Some(after) => (items.union(Items::one(row.item)), after),
+    }
+}
+
+/// The items whose texts stand at the front of the bytes in the order of the list, and what stands behind them.
+#[tactic(auto, unfolding(crate::specs::Fronts::taken))]
+fn taken<'a>(list: &[MaskItem], bytes: &'a [u8]) -> (Items, &'a [u8])
+    requires { list_all (λ r. nat_lt r.item 19) list.now ≡ true }
+    ensures items { (x : ℕ) → has_item result.0.bits x ≡ one_of x (taken (map row_of list.now) bytes.entry.now).0 }
+    ensures rest { result.1.now ≡ (taken (map row_of list.now) bytes.entry.now).1 }
+{
+    let mut items = Items::none();
+    let mut rest = bytes;
+    for row in list {
+        let (more, after) = taken_one(row, items, rest);
+        items = more;
+        rest = after;
+    }
+    (items, rest)
+}
+
+/// The items of a mask, each behind a blank.
+pub(crate) fn mask(tail: &[u8]) -> Option<Mask>
+    ensures { MatchOption result ((m : ℕ) → IsMask m → mask_text m ≡ tail.now → ⊥) (λ m. IsMask m.items.bits × (mask_text m.items.bits ≡ tail.now)) }
+{
+    let (items, rest) = taken(mask_items(), tail);
+    if rest.is_empty() {
+        Some(Mask::of(items))
+    } else {
+        None
+    }
+}
+
+/// Whether each register is one of r0 to r3.
+fn are_low(registers: &[Low]) -> bool
+    ensures { result ≡ list_all (λ r. nat_lt r.number 4) registers.now }
+{
+    registers.iter().all(|register| register.number < 4)
+}
+
+/// Whether an instruction may stand in a table: in windows, over r0 to r3.
+fn is_low(instr: &Instr) -> bool
+    ensures { IsTrue result ↔ IsInstr instr.now }
+{
+    in_window(instr) && are_low(&registers_of(instr))
+}
+
+/// Whether the text is the instruction's canonical one.
+fn is_canonical(alloc: Global, instr: Instr, text: &[u8]) -> Result<bool, Memory>
+    ensures { IfOk result (λ b. IsTrue b ↔ (instr_text instr ≡ text.now)) }
+{
+    let written = write_instr(alloc, &Parsed { instr, label: None })?;
+    Ok(written.as_slice() == text)
+}
+
+/// An instruction in its canonical text, over r0 to r3.
+pub(crate) fn instruction(alloc: Global, text: &[u8]) -> Result<Option<Instr>, Memory>
+    ensures { IfOk result (λ r. MatchOption r ((i : Instr) → IsInstr i → instr_text i ≡ text.now → ⊥) (λ i. IsInstr i × (instr_text i ≡ text.now))) }
+{
+    let Some(parsed) = read_instr(text) else {
+        return Ok(None);
+    };
+    if !is_low(&parsed.instr) {
+        return Ok(None);
+    }
+    if is_canonical(alloc, parsed.instr, text)? {
+        Ok(Some(parsed.instr))
+    } else {
+        Ok(None)
+    }
+}

@@ -1,0 +1,104 @@
+//! The words that lines of a table begin with.
+ghost use Rattle.std.specs.Prelude.{◌≡◌, option_map};
+ghost use Rattle.rule_table.specs.Fronts.{words, word_text, strip, front_in, front, seen_front};
+
+/// What a line begins with: a word of its own, or a digit, as the lines of a proof do.
+#[derive(Clone, Copy)]
+pub(crate) enum Word {
+    Version,
+    Regs,
+    Left,
+    Seed,
+    Budget,
+    Pool,
+    State,
+    Entry,
+    Right,
+    Mask,
+    Proof,
+    Open,
+    End,
+    Digit,
+}
+
+/// All words but the digits.
+static WORDS: [Word; 13] = [
+    Word::Version,
+    Word::Regs,
+    Word::Left,
+    Word::Seed,
+    Word::Budget,
+    Word::Pool,
+    Word::State,
+    Word::Entry,
+    Word::Right,
+    Word::Mask,
+    Word::Proof,
+    Word::Open,
+    Word::End,
+];
+
+#[tactic(auto, unfolding(crate::specs::Fronts::words))]
+fn words() -> &'static [Word]
+    ensures { result.now ≡ words }
+{
+    &WORDS
+}
+
+/// What stands at the front of a line, with the blank where one has to follow.
+fn word_text(word: Word) -> &'static [u8]
+    ensures { result.now ≡ word_text word }
+{
+    match word {
+        Word::Version => b"peep 1",
+        Word::Regs => b"regs ",
+        Word::Left => b"left ",
+        Word::Seed => b"seed ",
+        Word::Budget => b"budget ",
+        Word::Pool => b"pool",
+        Word::State => b"state",
+        Word::Entry => b"entry",
+        Word::Right => b"right ",
+        Word::Mask => b"mask",
+        Word::Proof => b"proof",
+        Word::Open => b"open ",
+        Word::End => b"end",
+        Word::Digit => b"",
+    }
+}
+
+/// What stands behind a prefix, where the bytes begin with it.
+pub(crate) fn strip<'a>(prefix: &[u8], bytes: &'a [u8]) -> Option<&'a [u8]>
+    ensures { option_map (λ t. t.now) result ≡ strip prefix.now bytes.entry.now }
+{
+    bytes.strip_prefix(prefix)
+}
+
+/// The first of these words with which the bytes begin, and what stands behind it.
+fn front_in<'a>(words: &[Word], bytes: &'a [u8]) -> Option<(Word, &'a [u8])>
+    ensures { option_map seen_front result ≡ front_in words.now bytes.entry.now }
+{
+    for word in words {
+        if let Some(rest) = strip(word_text(*word), bytes) {
+            return Some((*word, rest));
+        }
+    }
+    None
+}
+
+/// The word that a line begins with, and what stands behind it; of a line that begins with a digit all of it.
+#[tactic(auto, unfolding(crate::specs::Fronts::front))]
+pub(crate) fn front(line: &[u8]) -> Option<(Word, &[u8])>
+    ensures { option_map seen_front result ≡ front line.entry.now }
+{
+    match line.split_first() {
+        None => None,
+        Some((first, _)) => {
+            if first.is_ascii_digit() {
+                Some((Word::Digit, line))
+            } else {
+                front_in(words(), line)
+            }
+        }
+    }
+}

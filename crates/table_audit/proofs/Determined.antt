@@ -1,0 +1,26 @@
+-- The audit of a table has one answer.
+use Rattle.std.proofs.Common.{ℕ, ◌≡◌, Option, Result, IfErr}
+use Rattle.rule_table.specs.Table.{Rule, Table}
+use Rattle.proof_logs.specs.Verdicts.{Answers}
+use Rattle.proof_logs.proofs.Determined.{IsOne, tests_one, then_one, turn_one, proof_one, passing_answers}
+use Rattle.table_audit.specs.declared.errors.AuditError.{AuditError}
+use Rattle.table_audit.specs.declared.errors.AuditError.TheVariants.{Memory}
+use Rattle.table_audit.specs.Acceptance.{StateTest, StatesVerdict, WideVerdict, SidesVerdict, EntryProofVerdict, ToldTest, ToldVerdict, OpenTest, OpensVerdict, EntryVerdict, EntriesVerdict, TableVerdict, IsAccepted}
+
+entry_one : (t : Table) (n : ℕ) (e : Rule) → IsOne (EntryVerdict t n e)
+unfolding EntryVerdict
+entry_one t n e =
+    let told = turn_one (ToldTest t n e) 0 _ (λ q s. tests_one _ _) in
+    let opens = turn_one (OpenTest t n e) 0 e.opens (λ i o. tests_one _ _) in
+    then_one (SidesVerdict t n e) _ (tests_one _ _) (then_one (EntryProofVerdict n e) _ (proof_one _ _ _ _) (then_one (ToldVerdict t n e) (OpensVerdict t n e) told opens))
+
+table_one : (t : Table) → IsOne (TableVerdict t)
+table_one t =
+    then_one (StatesVerdict t) _ (turn_one (StateTest t) 0 _ (λ n s. tests_one _ _))
+    (then_one (WideVerdict t) (EntriesVerdict t) (tests_one _ _) (turn_one (EntryVerdict t) 1 t.rules (λ n e. entry_one t n e)))
+
+pub table_same : (t : Table) (a b : Option AuditError) → TableVerdict t a → TableVerdict t b → a ≡ b
+table_same t a b p q = (table_one t).same a b p q
+
+pub accepted_answers : {A : Type 0} (t : Table) (r : Result A AuditError) → IsAccepted t → Answers Memory r (TableVerdict t) → IfErr r (λ e. e ≡ Memory)
+accepted_answers t r p q = passing_answers Memory (TableVerdict t) r (table_one t) p q

@@ -1,0 +1,14 @@
+pub mod Numbering
+pub mod Seeds
+pub mod Tellings
+pub mod Letters
+pub mod Appearing
+pub mod Fitting
+pub mod Answering
+pub mod Counting
+pub mod Upcoming
+pub mod Walking
+pub mod Openings
+pub mod Names
+pub mod Sound
+pub mod Determined

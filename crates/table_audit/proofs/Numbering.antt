@@ -1,0 +1,174 @@
+-- The sequences with fewer instructions than some number, among all of an alphabet.
+use Rattle.std.proofs.Common.{◌≡◌, ℕ, zero, suc, ◌+◌, ◌-◌, ◌*◌, ◌^◌, ◌<◌, ◌≤◌, List, [], ◌∷◌, ◌++◌, inl, inr, length, refl, sym, ◌∙◌, ap, arith, subst, Option, Some, None, slice_get, length-append, add-one, zero-add, All, Contains, map, take, get_or}
+use Rattle.std.specs.List.{flat_map}
+use Rattle.std.specs.Option.{option_map}
+use Rattle.std.proofs.lemmas.List.{take_more, take_all, length-map, length-take-le}
+use Rattle.std.proofs.lemmas.List.Elements.{All-push, All-take}
+use Rattle.std.proofs.lemmas.List.Concat.{flat_map-append}
+use Rattle.std.proofs.lemmas.Option.{slice_get_within, same_Some, slice_get-map, slice_get-get_or, get_or_from_slice_get, slice_get_cases}
+use Rattle.std.proofs.lemmas.Bool.Decides.{leb_tells}
+use Rattle.thumb_instr.specs.declared.instr.Instr.{Instr}
+use Rattle.seq_enum.specs.Lists.{numbers_from}
+use Rattle.seq_enum.specs.Places.{sum_below}
+use Rattle.seq_enum.specs.Alphabet.{alphabet, words, sequences, sequences_of, IsOver}
+use Rattle.seq_enum.proofs.Numbered.{get_front, get_back, numbers_at, length-numbers, flat_map_at, flat_map_from, get-flat_map}
+use Rattle.seq_enum.proofs.Words.{length-words, word_length, words_parts}
+use Rattle.table_audit.specs.Shorter.{sequences_below}
+
+-- numbers up to one, and from there on
+pub numbers_split : (first n m : ℕ) → numbers_from first (n + m) ≡ numbers_from first n ++ numbers_from (first + n) m
+unfolding numbers_from
+numbers_split first zero m =
+    let a : 0 + m ≡ m = omega arith in
+    let b : first + 0 ≡ first = omega arith in
+    rw (a, b) refl
+numbers_split first (suc n) m =
+    let a : suc n + m ≡ suc (n + m) = omega arith in
+    let b : suc first + n ≡ first + suc n = omega arith in
+    rw (a, ← b) (ap (λ ns. first ∷ ns) (numbers_split (suc first) n m))
+
+-- all sequences are those below n instructions and the longer ones behind them
+sequences_split : (k : ℕ) (pool : List ℕ) (n : ℕ) → n ≤ 6 → sequences k pool ≡ sequences_below k pool n ++ flat_map (words (alphabet k pool)) (numbers_from n (6 - n))
+unfolding sequences_of sequences_below
+sequences_split k pool n h =
+    let whole : n + (6 - n) ≡ 6 = omega arith in
+    let low : 0 + n ≡ n = omega arith in
+    let split : numbers_from 0 6 ≡ numbers_from 0 n ++ numbers_from n (6 - n) =
+    ap (numbers_from 0) (sym whole) ∙ numbers_split 0 n (6 - n) ∙ ap (λ m. numbers_from 0 n ++ numbers_from m (6 - n)) low in
+    ap (flat_map (words (alphabet k pool))) split ∙ flat_map-append (words (alphabet k pool)) (numbers_from 0 n) (numbers_from n (6 - n))
+
+-- what stands among sequences of a range of lengths has one of these
+length_in : (letters : List Instr) (first count q : ℕ) (s : List Instr) → slice_get (flat_map (words letters) (numbers_from first count)) q ≡ Some s
+    → (first ≤ length s) × (length s < first + count)
+length_in letters first count q s e =
+    flat_map_at (words letters) (numbers_from first count) q s e (λ h m j at here.
+    let within : h < count = omega (arith, slice_get_within (numbers_from first count) h m at, length-numbers first count) in
+    let is : first + h ≡ m = same_Some _ _ (sym (numbers_at first count h within) ∙ at) in
+    let size : length s ≡ m = word_length letters m j s here in
+    (omega arith, omega arith))
+
+-- the number of a sequence among the shorter ones is its number among all
+pub below_in : (k : ℕ) (pool : List ℕ) (n q : ℕ) (s : List Instr) → n ≤ 6 → slice_get (sequences_below k pool n) q ≡ Some s
+    → (slice_get (sequences k pool) q ≡ Some s) × (length s < n)
+unfolding sequences_below
+below_in k pool n q s h e =
+    let within : q < length (sequences_below k pool n) = slice_get_within (sequences_below k pool n) q s e in
+    let bounds = length_in (alphabet k pool) 0 n q s e in (
+      ap (λ xs. slice_get xs q) (sequences_split k pool n h) ∙ get_front (sequences_below k pool n) (flat_map (words (alphabet k pool)) (numbers_from n (6 - n))) q within ∙ e,
+      omega (arith, bounds.1),
+    )
+
+-- and the other way round
+pub below_from : (k : ℕ) (pool : List ℕ) (n q : ℕ) (s : List Instr) → n ≤ 6 → slice_get (sequences k pool) q ≡ Some s → length s < n
+    → slice_get (sequences_below k pool n) q ≡ Some s
+below_from k pool n q s h e short =
+    let front = sequences_below k pool n in
+    let back = flat_map (words (alphabet k pool)) (numbers_from n (6 - n)) in
+    let at : slice_get (front ++ back) q ≡ Some s = sym (ap (λ xs. slice_get xs q) (sequences_split k pool n h)) ∙ e in
+    elim (leb_tells (length front) q) [
+      | inl past ↦ (
+          let there : slice_get back (q - length front) ≡ Some s = sym (get_back front back q past.1) ∙ at in
+          let bounds = length_in (alphabet k pool) n (6 - n) (q - length front) s there in
+          absurd (omega (arith, bounds.0))
+          )
+      | inr low ↦ sym (get_front front back q low.1) ∙ at
+    ]
+
+-- how many there are
+pub length-sequences_below : (k : ℕ) (pool : List ℕ) (n : ℕ) → length (sequences_below k pool n) ≡ sum_below (λ m. length (alphabet k pool) ^ m) n
+unfolding sequences_below sum_below numbers_from
+length-sequences_below k pool zero = refl
+length-sequences_below k pool (suc n) =
+    let letters = alphabet k pool in
+    let split : numbers_from 0 (suc n) ≡ numbers_from 0 n ++ n ∷ [] = ap (numbers_from 0) (sym (add-one n)) ∙ numbers_split 0 n 1 ∙ ap (λ m. numbers_from 0 n ++ m ∷ []) (zero-add n) in
+    ap (λ ns. length (flat_map (words letters) ns)) split
+    ∙ ap length (flat_map-append (words letters) (numbers_from 0 n) (n ∷ []))
+    ∙ length-append (flat_map (words letters) (numbers_from 0 n)) (words letters n ++ [])
+    ∙ omega (arith, length-sequences_below k pool n, length-append (words letters n) [], length-words letters n)
+
+-- the same, where the alphabet's size is known
+pub count_is : (k : ℕ) (pool : List ℕ) (n m size count : ℕ) → size ≡ length (alphabet k pool) → m ≡ n → count ≡ sum_below (λ i. size ^ i) m → count ≡ length (sequences_below k pool n)
+count_is k pool n m size count e f h = h ∙ ap (λ s. sum_below (λ i. s ^ i) m) e ∙ ap (λ j. sum_below (λ i. length (alphabet k pool) ^ i) j) f ∙ sym (length-sequences_below k pool n)
+
+-- ---- the letters of sequences ----
+
+-- each instruction of a numbered sequence is a letter
+over_words : (letters : List Instr) (n i : ℕ) (w : List Instr) → slice_get (words letters n) i ≡ Some w → All (Contains letters) w
+unfolding words
+over_words letters zero zero w e = subst (All (Contains letters)) (same_Some [] w e) (λ k d low. absurd (omega arith))
+over_words letters zero (suc i) w e = absurd cc
+over_words letters (suc n) i w e =
+    words_parts letters n i w e (λ h j v x front at is.
+    subst (All (Contains letters)) (sym is) (All-push (Contains letters) v x (over_words letters n h v front) (j, slice_get_within letters j x at, get_or_from_slice_get letters j x x at)))
+
+pub over_sequences : (k : ℕ) (pool : List ℕ) (q : ℕ) (s : List Instr) → slice_get (sequences k pool) q ≡ Some s → IsOver k pool s
+unfolding sequences_of
+over_sequences k pool q s e = flat_map_from (words (alphabet k pool)) (numbers_from 0 6) q s e (λ m j at. over_words (alphabet k pool) m j s at)
+
+-- a sequence of letters is a word
+words_have : (letters : List Instr) (n : ℕ) (s : List Instr) → length s ≡ n → All (Contains letters) s → (i : ℕ) × (slice_get (words letters n) i ≡ Some s)
+unfolding words
+words_have letters zero [] size over = (0, refl)
+words_have letters zero (y ∷ ys) size over = absurd (omega arith)
+words_have letters (suc n) [] size over = absurd (omega arith)
+words_have letters (suc n) (y ∷ ys) size over =
+    let s = y ∷ ys in
+    let make : List Instr → List (List Instr) = λ w. map (λ x. w ++ x ∷ []) letters in
+    let low : n < length s = omega arith in
+    let x = get_or s n y in
+    let one = over n y low in
+    let parts : take n s ++ x ∷ [] ≡ s = sym (take_more s n y low) ∙ take_all (n + 1) s (omega arith) in
+    let front = words_have letters n (take n s) (length-take-le n s (omega arith)) (All-take (Contains letters) n s over) in
+    let last : slice_get letters one.0 ≡ Some x = slice_get-get_or letters one.0 x one.1 ∙ ap Some one.2 in (
+      front.0 * length letters + one.0,
+      get-flat_map make (length letters) (words letters n) (λ j w e. length-map letters (λ v. w ++ v ∷ [])) front.0 one.0 one.1
+          ∙ rw front.1 (slice_get-map (λ v. take n s ++ v ∷ []) letters one.0 ∙ ap (option_map (λ v. take n s ++ v ∷ [])) last ∙ ap Some parts),
+    )
+
+-- so a sequence of at most five letters has a number
+pub has_number : (k : ℕ) (pool : List ℕ) (s : List Instr) → length s ≤ 5 → IsOver k pool s → (q : ℕ) × (slice_get (sequences k pool) q ≡ Some s)
+unfolding numbers_from
+has_number k pool s short over =
+    let letters = alphabet k pool in
+    let n = length s in
+    let word = words_have letters n s refl over in
+    let front = sequences_below k pool n in
+    let more : 6 - n ≡ suc (5 - n) = omega arith in
+    let rest = flat_map (words letters) (numbers_from (suc n) (5 - n)) in
+    let back : flat_map (words letters) (numbers_from n (6 - n)) ≡ words letters n ++ rest = ap (λ m. flat_map (words letters) (numbers_from n m)) more in
+    let low : word.0 < length (words letters n) = slice_get_within (words letters n) word.0 s word.1 in
+    let place : length front + word.0 - length front ≡ word.0 = omega arith in (
+      length front + word.0,
+      ap (λ xs. slice_get xs (length front + word.0)) (sequences_split k pool n (omega arith) ∙ ap (λ xs. front ++ xs) back)
+          ∙ get_back front (words letters n ++ rest) (length front + word.0) (omega arith)
+          ∙ ap (slice_get (words letters n ++ rest)) place
+          ∙ get_front (words letters n) rest word.0 low
+          ∙ word.1,
+    )
+
+-- ---- one of the shorter sequences, or none ----
+
+pub below_short : (k : ℕ) (pool : List ℕ) (n q : ℕ) (o : Option (List Instr)) (s : List Instr) → n ≤ 6 → o ≡ slice_get (sequences k pool) q → o ≡ Some s → length s < n
+    → Some s ≡ slice_get (sequences_below k pool n) q
+below_short k pool n q o s h e f short = sym (below_from k pool n q s h (sym e ∙ f) short)
+
+pub below_long : (k : ℕ) (pool : List ℕ) (n q : ℕ) (o : Option (List Instr)) (s : List Instr) → n ≤ 6 → o ≡ slice_get (sequences k pool) q → o ≡ Some s → n ≤ length s
+    → None ≡ slice_get (sequences_below k pool n) q
+below_long k pool n q o s h e f long = elim (slice_get_cases (sequences_below k pool n) q).1 [
+  | inl p ↦ (
+      let whole = below_in k pool n q p.0 h p.2 in
+      let same : s ≡ p.0 = same_Some _ _ (sym f ∙ e ∙ whole.0) in
+      absurd (omega (arith, long, whole.1, ap length same))
+      )
+  | inr p ↦ sym p.1
+]
+
+pub below_none : (k : ℕ) (pool : List ℕ) (n q : ℕ) (o : Option (List Instr)) → n ≤ 6 → o ≡ slice_get (sequences k pool) q → o ≡ None → None ≡ slice_get (sequences_below k pool n) q
+below_none k pool n q o h e f = elim (slice_get_cases (sequences_below k pool n) q).1 [
+  | inl p ↦ (
+      let whole = below_in k pool n q p.0 h p.2 in
+      let no : None ≡ Some p.0 = sym f ∙ e ∙ whole.0 in
+      absurd (cc)
+      )
+  | inr p ↦ sym p.1
+]

@@ -1,0 +1,171 @@
+-- An accepted table's rules are sound and shortest, and what they name open is rightly so.
+use Rattle.std.proofs.Common.{◌≡◌, ℕ, zero, suc, ◌+◌, ◌-◌, ◌^◌, ◌<◌, ◌≤◌, ◌⊎◌, ◌==◌, ◌&&◌, inl, inr, true, false, List, [], ◌∷◌, Option, Some, None, slice_get, get_or, length, refl, sym, ◌∙◌, ap, subst, arith, All, nat_lt, nat_le, zero-add}
+use Rattle.std.specs.Option.{option_map}
+use Rattle.std.proofs.lemmas.Nat.Bits.{bit_at-lt}
+use Rattle.std.proofs.lemmas.List.{get_or_past}
+use Rattle.std.proofs.lemmas.Option.{slice_get-map, slice_get_within, get_or_from_slice_get, same_Some}
+use Rattle.std.proofs.lemmas.Bool.Decides.{leb_tells}
+use Rattle.std.proofs.lemmas.Bool.{false≢true, or_cases, and_parts, ltb-true, cases_Bool, eqb-true}
+use Rattle.thumb_instr.specs.declared.instr.Instr.{Instr}
+use Rattle.thumb_model.specs.Items.{AreWords, one_of}
+use Rattle.thumb_model.specs.Rewrite.{Equal, IsSoundRule, AreOver, AreSound, is_named, register_count}
+use Rattle.thumb_model.specs.Rewrite as model
+use Rattle.fingerprints.specs.Seeded.{Seen}
+use Rattle.seq_enum.specs.Alphabet.{sequences}
+use Rattle.bit_blast.specs.Exactness.{IsMask, HasNoModel, AreEqual}
+use Rattle.bit_blast.proofs.Exact.{no_model_is_equal}
+use Rattle.rule_table.specs.Table.{Rule, Table}
+use Rattle.rule_table.specs.Valid.{IsState, IsRule, IsTable}
+use Rattle.proof_logs.specs.Verdicts.{InTurn}
+use Rattle.proof_logs.proofs.Sound.{proved_unsatisfied}
+use Rattle.table_audit.specs.declared.errors.EntryFault.TheVariants.{Proof, Unfinished}
+use Rattle.table_audit.specs.declared.errors.AuditError.TheVariants.{Entry}
+use Rattle.table_audit.specs.Sides.{named_count, SidesFit, HasFormula, formula_of}
+use Rattle.table_audit.specs.Shorter.{shorter, values_in, IsTold}
+use Rattle.table_audit.specs.Acceptance.{EntryVerdict, EntryProofVerdict, ToldTest, ToldVerdict, OpenTest, OpensVerdict, IsAccepted}
+use Rattle.table_audit.specs.Soundness.{items_in, rewriting_rule, rules_of, IsShortest, IsSound}
+use Rattle.table_audit.proofs.Numbering.{below_from}
+use Rattle.table_audit.proofs.Fitting.{formula_fits, ordered_of}
+use Rattle.table_audit.proofs.Names.{count_same, all_named, open_is, has_one, one_has, of_four}
+
+-- where all pass, each does
+turn_each : {X F : Type 0} (test : ℕ → X → Option F → Type 0) (m : ℕ) (xs : List X) (i : ℕ) (x : X) → InTurn test m xs None → slice_get xs i ≡ Some x → test (m + i) x None
+turn_each test m [] i x p e = absurd (cc)
+turn_each test m (y ∷ xs) zero x p e =
+    let k : m ≡ m + 0 = omega arith in subst (λ j. test j x None) k (subst (λ z. test m z None) (same_Some _ _ e) p.0)
+turn_each test m (y ∷ xs) (suc i) x p e =
+    let k : m + 1 + i ≡ m + suc i = omega arith in subst (λ j. test j x None) k (turn_each test (m + 1) xs i x p.1 e)
+
+-- ---- the words of listed states ----
+
+other : (x n : ℕ) → (x ≡ n → ⊥) → (x == n) ≡ false
+other x n h = elim (cases_Bool (x == n)) [
+  | inl same ↦ absurd (h (eqb-true x n same))
+  | inr differ ↦ differ
+]
+
+register_value : (s : Seen) (x : ℕ) → (x < 15) ⊎ (19 ≤ x) → values_in s x ≡ get_or s.r x 0
+register_value s x h =
+    let n : (x == 15) ≡ false = other x 15 (λ e. elim h [ inl l ↦ omega (arith, e, l) | inr l ↦ omega (arith, e, l) ]) in
+    let z : (x == 16) ≡ false = other x 16 (λ e. elim h [ inl l ↦ omega (arith, e, l) | inr l ↦ omega (arith, e, l) ]) in
+    let c : (x == 17) ≡ false = other x 17 (λ e. elim h [ inl l ↦ omega (arith, e, l) | inr l ↦ omega (arith, e, l) ]) in
+    let v : (x == 18) ≡ false = other x 18 (λ e. elim h [ inl l ↦ omega (arith, e, l) | inr l ↦ omega (arith, e, l) ]) in
+    rw (n, z, c, v) refl
+
+small_word : (s : Seen) (x : ℕ) → IsState s → get_or s.r x 0 < 2 ^ 32
+small_word s x valid = elim (leb_tells (length s.r) x) [
+  | inl past ↦ (let none : get_or s.r x 0 ≡ 0 = get_or_past s.r x 0 past.1 in omega (arith, none))
+  | inr low ↦ valid.words x 0 low.1
+]
+
+are_words : (s : Seen) → IsState s → AreWords (values_in s)
+are_words s valid = record {
+  register = λ x low. subst (λ n. n < 2 ^ 32) (sym (register_value s x (inl low))) (small_word s x valid);
+  flag = λ x high. elim (leb_tells 19 x) [
+    | inl past ↦ (
+        let long : length s.r ≤ x = omega (arith, valid.four, past.1) in
+        let none : get_or s.r x 0 ≡ 0 = get_or_past s.r x 0 long in
+        let is : values_in s x ≡ 0 = register_value s x (inr past.1) ∙ none in
+        omega (arith, is)
+        )
+    | inr low ↦ (
+        let e : 15 + (x - 15) ≡ x = omega arith in
+        let few : x - 15 < 4 = omega (arith, low.1) in
+        subst (λ y. values_in s y < 2) e (of_four (λ y. values_in s (15 + y) < 2) (bit_at-lt s.nzcv 3) (bit_at-lt s.nzcv 2) (bit_at-lt s.nzcv 1) (bit_at-lt s.nzcv 0) (x - 15) few)
+        )
+  ];
+}
+
+-- ---- one entry ----
+
+-- both sides leave the same
+equal_sides : (n : ℕ) (e : Rule) → HasFormula e → IsMask e.mask → EntryProofVerdict n e None → Equal e.left e.right (items_in e.mask)
+equal_sides n e f masks p v words x h =
+    let none : HasNoModel (formula_of e) = proved_unsatisfied (λ line. Entry n (Proof line)) (Entry n Unfinished) (formula_of e).clauses e.proof p in
+    let same : AreEqual e.left e.right e.mask = (no_model_is_equal e.left e.right e.mask (named_count e.left) f.left f.right masks f.mask).0 none in
+    same v words x (has_one e.mask x h).0
+
+-- a state that tells a sequence shows that it leaves another value
+told_differs : (states : List Seen) (left seq : List Instr) (mask : ℕ) → All IsState states → IsMask mask → IsTold states left seq mask → Equal left seq (items_in mask) → ⊥
+told_differs states left seq mask valid masks told same =
+    let s = told.1 in
+    let state : IsState s = subst IsState told.3 (valid told.0 s told.2) in
+    let differ = told.4 in
+    differ.2 (same (values_in s) (are_words s state) differ.0 (one_has mask differ.0 differ.1 (masks differ.0 differ.1)))
+
+mask_over : (k : ℕ) (e : Rule) → k ≡ named_count e.left → HasFormula e → (x : ℕ) → one_of x (items_in e.mask) ≡ true → (x < k) ⊎ ((15 ≤ x) × (x < 19))
+mask_over k e is f x h =
+    let item = has_one e.mask x h in
+    elim (f.mask x item.0) [
+      | inl low ↦ inl (omega (arith, low, is))
+      | inr high ↦ inr (
+        high,
+        elim (or_cases (nat_lt x 4) (nat_le 15 x && nat_lt x 19) item.1) [
+          | inl four ↦ omega (arith, ltb-true x 4 four)
+          | inr flag ↦ ltb-true x 19 (and_parts (nat_le 15 x) (nat_lt x 19) flag).1
+        ],
+      )
+    ]
+
+sound_rule : (t : Table) (n : ℕ) (e : Rule) → SidesFit t e → IsMask e.mask → EntryProofVerdict n e None → IsSoundRule (rewriting_rule e)
+sound_rule t n e sides masks p =
+    let f = formula_fits t e sides in
+    let is : register_count e.left ≡ named_count e.left = count_same e.left sides.canonical in
+    record {
+      few = omega (arith, is, (ordered_of e.left sides.canonical).few);
+      left = subst (λ k. AreOver k e.left) (sym is) f.left;
+      right = subst (λ k. AreOver k e.right) (sym is) f.right;
+      mask = mask_over (register_count e.left) e is f;
+      all_named = λ x low. all_named e.left sides.canonical x (omega (arith, low, is));
+      equal = equal_sides n e f masks p;
+    }
+
+shortest_rule : (t : Table) (n : ℕ) (e : Rule) → IsTable t → IsRule e → SidesFit t e → ToldVerdict t n e None → IsShortest t.pool (rewriting_rule e)
+shortest_rule t n e valid rule sides told number seq at short unnamed same =
+    let is : register_count e.left ≡ named_count e.left = count_same e.left sides.canonical in
+    let there : slice_get (shorter t e) number ≡ Some seq =
+    below_from (named_count e.left) t.pool (length e.right) number seq (omega (arith, rule.few_right)) (ap (λ k. slice_get (sequences k t.pool) number) (sym is) ∙ at) short in
+    let here = turn_each (ToldTest t n e) 0 (shorter t e) number seq told there in
+    let found : ToldTest t n e number seq None = subst (λ j. ToldTest t n e j seq None) (zero-add number) here in
+    elim found [
+      | inl named ↦ false≢true (sym unnamed ∙ sym (open_is e.opens number) ∙ named)
+      | inr tells ↦ told_differs t.states e.left seq e.mask valid.states rule.mask tells same
+    ]
+
+-- ---- the table ----
+
+-- what is known of an entry of an accepted table
+record IsPassed (t : Table) (n : ℕ) (e : Rule) : Type 0 where
+  rule : IsRule e
+  sides : SidesFit t e
+  proof : EntryProofVerdict n e None
+  told : ToldVerdict t n e None
+  opens : OpensVerdict t n e None
+
+passed : (t : Table) (i : ℕ) (e : Rule) → IsTable t → IsAccepted t → slice_get t.rules i ≡ Some e → IsPassed t (1 + i) e
+unfolding EntryVerdict
+passed t i e valid p at =
+    let here = turn_each (EntryVerdict t) 1 t.rules i e p.1.1 at in
+    let rule : IsRule e = subst IsRule (get_or_from_slice_get t.rules i e e at) (valid.rules i e (slice_get_within t.rules i e at)) in
+    record { rule = rule; sides = here.0; proof = here.1.0; told = here.1.1.0; opens = here.1.1.1 }
+
+-- a rule for rewriting is that of an entry
+rule_at : {P : Type 0} (t : Table) (k : ℕ) (rule : model.Rule) → slice_get (rules_of t) k ≡ Some rule → ((e : Rule) → slice_get t.rules k ≡ Some e → rewriting_rule e ≡ rule → P) → P
+rule_at {P} t k rule at next = go (slice_get t.rules k) refl (sym (slice_get-map rewriting_rule t.rules k) ∙ at)
+  where
+    go : (o : Option Rule) → slice_get t.rules k ≡ o → option_map rewriting_rule o ≡ Some rule → P
+    go None e h = absurd (cc)
+    go (Some x) e h = next x e (same_Some _ _ h)
+
+pub accepted_sound : (t : Table) → IsTable t → IsAccepted t → IsSound t
+accepted_sound t valid p = record {
+  sound = λ k rule at. rule_at t k rule at (λ e there is.
+      let q = passed t k e valid p there in
+      subst IsSoundRule is (sound_rule t (1 + k) e q.sides q.rule.mask q.proof));
+  shortest = λ k rule at. rule_at t k rule at (λ e there is.
+      let q = passed t k e valid p there in
+      subst (IsShortest t.pool) is (shortest_rule t (1 + k) e valid q.rule q.sides q.told));
+  opens = λ k e there i o at.
+      let q = passed t k e valid p there in
+      turn_each (OpenTest t (1 + k) e) 0 e.opens i o q.opens at;
+}

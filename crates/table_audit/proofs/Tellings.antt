@@ -1,0 +1,76 @@
+-- Trials, and the listed states that they begin at.
+use Rattle.std.proofs.Common.{◌≡◌, ℕ, ◌+◌, ◌<◌, ◌≤◌, ◌↔◌, List, Some, length, get_or, slice_get, map, take, sym, ◌∙◌, ap, subst, inl, inr, arith, Bool, IsTrue}
+use Rattle.std.specs.List.{All, Any}
+use Rattle.std.specs.Option.{option_map}
+use Rattle.std.proofs.lemmas.List.{take_more, take_all, get_or_default, length-map}
+use Rattle.std.proofs.lemmas.List.Elements.{All-push}
+use Rattle.std.proofs.Math.ListN.{get_or-map}
+use Rattle.std.proofs.lemmas.Option.{slice_get_cases, slice_get-map}
+use Rattle.thumb_instr.specs.declared.instr.Instr.{Instr}
+use Rattle.thumb_model.specs.Items.{Values}
+use Rattle.thumb_model.specs.Effect.{after_all}
+use Rattle.window_exec.specs.State.{values_of}
+use Rattle.window_exec.specs.Telling.{Differ, Tells}
+use Rattle.fingerprints.specs.Seeded.{Seen, seen}
+use Rattle.proof_logs.proofs.Turns.{got}
+use Rattle.table_audit.specs.declared.trials.Trial.{Trial}
+use Rattle.table_audit.specs.Shorter.{values_in, IsTold}
+use Rattle.table_audit.specs.Trials.{start_of, AreTrials}
+
+-- ---- none of a list so far, or one of it ----
+
+pub none_more : {X : Type 0} (P : X → Type 0) (xs : List X) (i : ℕ) (d : X) → i < length xs → All (λ x. P x → ⊥) (take i xs) → (P (get_or xs i d) → ⊥) → All (λ x. P x → ⊥) (take (i + 1) xs)
+none_more P xs i d low none here = subst (All (λ x. P x → ⊥)) (sym (take_more xs i d low)) (All-push (λ x. P x → ⊥) (take i xs) (get_or xs i d) none here)
+
+pub none_any : {X : Type 0} (P : X → Type 0) (xs : List X) (i : ℕ) → length xs ≤ i → All (λ x. P x → ⊥) (take i xs) → Any P xs → ⊥
+none_any P xs i past none found =
+    let all : All (λ x. P x → ⊥) xs = subst (All (λ x. P x → ⊥)) (take_all i xs past) none in
+    all found.0 found.1 found.2 (subst P (sym found.3) found.4)
+
+pub any_at : {X : Type 0} (P : X → Type 0) (xs : List X) (i : ℕ) (d : X) → i < length xs → P (get_or xs i d) → Any P xs
+any_at P xs i d low here = (i, get_or xs i d, low, get_or_default xs i (get_or xs i d) d low, here)
+
+-- what a list's element becomes stands at its place
+pub listed : {X Y : Type 0} (f : X → Y) (xs : List X) (i : ℕ) (x : X) → i < length xs → x ≡ get_or xs i x → slice_get (map f xs) i ≡ Some (f x)
+listed f xs i x low is = slice_get-map f xs i ∙ ap (option_map f) (got xs i x low is)
+
+-- ---- trials ----
+
+-- a test beside a state is one beside what it holds
+pub beside : (a b v : Values) (mask : ℕ) (r : Bool) → b ≡ v → IsTrue r ↔ Differ a b mask → IsTrue r ↔ Differ a v mask
+beside a b v mask r e h = subst (λ w. IsTrue r ↔ Differ a w mask) e h
+
+present : {X : Type 0} (xs : List X) (i : ℕ) → i < length xs → (x : X) × (get_or xs i x ≡ x)
+present xs i low = elim (slice_get_cases xs i).1 [
+  | inl p ↦ (p.0, p.3)
+  | inr p ↦ absurd (omega (arith, low, p.0))
+]
+
+-- a sequence leaves of some trial's state another value exactly where some state tells it
+pub told_is : (left : List Instr) (states : List Seen) (trials : List Trial) (seq : List Instr) (mask : ℕ) → AreTrials left states trials
+    → Any (λ t. Differ (values_of t.end) (after_all seq (values_of t.start)) mask) trials ↔ IsTold states left seq mask
+told_is left states trials seq mask are = (forth, back)
+  where
+    size : length states ≡ length trials
+    size = sym (ap length are.starts) ∙ length-map trials start_of
+
+    forth : Any (λ t. Differ (values_of t.end) (after_all seq (values_of t.start)) mask) trials → IsTold states left seq mask
+    forth found =
+        let k = found.0 in
+        let t = found.1 in
+        let end : values_of t.end ≡ after_all left (values_of t.start) = subst (λ (u : Trial). values_of u.end ≡ after_all left (values_of u.start)) found.3 (are.ends k t found.2) in
+        let at : get_or states k (seen t.start) ≡ seen t.start = sym (ap (λ ss. get_or ss k (seen t.start)) are.starts) ∙ get_or-map start_of trials k t ∙ ap start_of found.3 in
+        let tells : Tells (values_in (seen t.start)) left seq mask = subst (λ v. Differ v (after_all seq (values_of t.start)) mask) end found.4 in
+        (k, seen t.start, omega (arith, size, found.2), at, tells)
+
+    back : IsTold states left seq mask → Any (λ t. Differ (values_of t.end) (after_all seq (values_of t.start)) mask) trials
+    back found =
+        let k = found.0 in
+        let low : k < length trials = omega (arith, size, found.2) in
+        let here = present trials k low in
+        let t = here.0 in
+        let end : values_of t.end ≡ after_all left (values_of t.start) = subst (λ (u : Trial). values_of u.end ≡ after_all left (values_of u.start)) here.1 (are.ends k t low) in
+        let listed : get_or states k (seen t.start) ≡ seen t.start = sym (ap (λ ss. get_or ss k (seen t.start)) are.starts) ∙ get_or-map start_of trials k t ∙ ap start_of here.1 in
+        let same : found.1 ≡ seen t.start = sym found.3 ∙ get_or_default states k found.1 (seen t.start) found.2 ∙ listed in
+        let tells : Tells (values_in (seen t.start)) left seq mask = subst (λ s. Tells (values_in s) left seq mask) same found.4 in
+        (k, t, low, here.1, subst (λ v. Differ v (after_all seq (values_of t.start)) mask) (sym end) tells)

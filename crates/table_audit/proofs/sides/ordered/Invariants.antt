@@ -1,0 +1,11 @@
+use Rattle.std.proofs.Common.{◌≡◌, ◌≤◌, ◌+◌, drop}
+use Rattle.seq_enum.specs.Lists.{numbers_from}
+use Rattle.rule_table.specs.Canonical.{firsts, numbers_of}
+use Rattle.table_audit.proofs.sides.ordered.Given as goal
+
+-- the registers that are left lead to the same list
+abbrev pub invariant-loop-register : goal.invariant-loop-register
+invariant-loop-register l = record {
+  same : firsts (numbers_from 0 l.seen) (numbers_of (drop l.register-index l.registers)) ≡ firsts (numbers_from 0 l.count) (numbers_of l.registers);
+  few : l.seen ≤ l.count + l.register-index;
+}

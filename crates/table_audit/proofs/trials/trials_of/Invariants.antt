@@ -1,0 +1,10 @@
+use Rattle.std.proofs.Common.{◌≤◌, ◌+◌, ◌*◌, take, map, length}
+use Rattle.fingerprints.specs.Seeded.{seen}
+use Rattle.table_audit.specs.Trials.{AreTrials}
+use Rattle.table_audit.proofs.trials.trials_of.Given as goal
+
+abbrev pub invariant-loop-state : goal.invariant-loop-state
+invariant-loop-state g l = record {
+  trials : AreTrials l.left (map seen (take l.state-index l.states)) l.trials.items;
+  cost : l.steps ≤ l.initial.steps + l.state-index * length l.left;
+}

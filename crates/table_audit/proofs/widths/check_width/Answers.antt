@@ -1,0 +1,16 @@
+use Rattle.std.proofs.Common.{inr, ap, ◌≡◌, arith}
+use Rattle.rule_table.specs.Views.{table_of}
+use Rattle.table_audit.specs.declared.errors.AuditError.TheVariants.{Wide}
+use Rattle.table_audit.specs.Acceptance.{width}
+use Rattle.table_audit.proofs.Numbering.{count_is}
+use Rattle.table_audit.proofs.widths.check_width.Goals as goal
+
+pub returns-then-width-gt-WIDEST : goal.returns-then-width-gt-WIDEST
+returns-then-width-gt-WIDEST c =
+    let e : c.count_below-width.result ≡ width (table_of c.args.table.now) = count_is _ _ _ _ _ _ c.size.ensures.value c.from.ensures c.count_below-width.ensures.value in
+    inr (ap Wide e, λ h. omega (arith, e, h, c.if-width-gt-WIDEST.true))
+
+pub returns : goal.returns
+returns c =
+    let e : c.count_below-width.result ≡ width (table_of c.args.table.now) = count_is _ _ _ _ _ _ c.size.ensures.value c.from.ensures c.count_below-width.ensures.value in
+    omega (arith, e, c.if-width-gt-WIDEST.false)

@@ -1,0 +1,74 @@
+-- Whether the audit accepts a table, or why not: the first cause in order.
+use Rattle.std.specs.Prelude.{ℕ, ◌≡◌, ◌≤◌, ◌⊎◌, ◌+◌, true, List, Option, Some, None, length, slice_get}
+use Rattle.thumb_instr.specs.declared.instr.Instr.{Instr}
+use Rattle.clause_model.specs.Literals.{codes_of}
+use Rattle.fingerprints.specs.Seeded.{Seen, seeded_states}
+use Rattle.rule_table.specs.Table.{Opened, Rule, Table}
+use Rattle.proof_logs.specs.Verdicts.{Tests, Then, InTurn}
+use Rattle.proof_logs.specs.Proofs.{ProofVerdict}
+use Rattle.proof_logs.specs.Logs.{IsSpentLog}
+use Rattle.table_audit.specs.declared.errors.EntryFault.TheVariants.{Sides, Proof, Unfinished, Untold, Open}
+use Rattle.table_audit.specs.declared.errors.AuditError.{AuditError}
+use Rattle.table_audit.specs.declared.errors.AuditError.TheVariants.{States, Wide, Entry}
+use Rattle.table_audit.specs.Sides.{SidesFit, formula_against, formula_of}
+use Rattle.table_audit.specs.Shorter.{sequences_below, shorter, IsTold, is_named}
+
+-- ---- the table ----
+
+-- each state of the seed stands at its place
+abbrev pub StateTest : Table → ℕ → Seen → Option AuditError → Type 0
+StateTest t n s = Tests (slice_get t.states n ≡ Some s) (States (n + 1))
+
+abbrev pub StatesVerdict : Table → Option AuditError → Type 0
+StatesVerdict t = InTurn (StateTest t) 0 (seeded_states t.seed)
+
+-- how many sequences an entry of a table may have to be told from, at most
+abbrev pub width : Table → ℕ
+width t = length (sequences_below t.regs t.pool t.left)
+
+abbrev pub WideVerdict : Table → Option AuditError → Type 0
+WideVerdict t = Tests (width t ≤ 5000000) (Wide (width t))
+
+-- ---- an entry, which has this number ----
+
+abbrev pub SidesVerdict : Table → ℕ → Rule → Option AuditError → Type 0
+SidesVerdict t n e = Tests (SidesFit t e) (Entry n Sides)
+
+-- the proof shows that no state tells the sides apart: its first line that isn't accepted, or that there is no empty clause
+abbrev pub EntryProofVerdict : ℕ → Rule → Option AuditError → Type 0
+EntryProofVerdict n e = ProofVerdict (λ line. Entry n (Proof line)) (Entry n Unfinished) (codes_of (formula_of e).clauses) e.proof
+
+-- each shorter sequence is named open, or some state tells it from the left side
+abbrev pub ToldTest : Table → ℕ → Rule → ℕ → List Instr → Option AuditError → Type 0
+ToldTest t n e number seq = Tests ((is_named e.opens number ≡ true) ⊎ IsTold t.states e.left seq e.mask) (Entry n (Untold number))
+
+abbrev pub ToldVerdict : Table → ℕ → Rule → Option AuditError → Type 0
+ToldVerdict t n e = InTurn (ToldTest t n e) 0 (shorter t e)
+
+-- an open number is that of a shorter sequence, which no state tells from the left side, and its log spends the budget on the formula of the two
+pub record IsRightlyOpen (t : Table) (e : Rule) (o : Opened) : Type 0 where
+  pub seq : List Instr
+  pub is_shorter : slice_get (shorter t e) o.number ≡ Some seq
+  pub untold : IsTold t.states e.left seq e.mask → ⊥
+  pub spent : IsSpentLog t.budget (codes_of (formula_against e seq).clauses) o.log
+
+abbrev pub OpenTest : Table → ℕ → Rule → ℕ → Opened → Option AuditError → Type 0
+OpenTest t n e i o = Tests (IsRightlyOpen t e o) (Entry n (Open o.number))
+
+abbrev pub OpensVerdict : Table → ℕ → Rule → Option AuditError → Type 0
+OpensVerdict t n e = InTurn (OpenTest t n e) 0 e.opens
+
+unfoldable pub EntryVerdict : Table → ℕ → Rule → Option AuditError → Type 0
+EntryVerdict t n e = Then (SidesVerdict t n e) (Then (EntryProofVerdict n e) (Then (ToldVerdict t n e) (OpensVerdict t n e)))
+
+-- ---- all ----
+
+abbrev pub EntriesVerdict : Table → Option AuditError → Type 0
+EntriesVerdict t = InTurn (EntryVerdict t) 1 t.rules
+
+-- the first cause for which the table is refused, or none
+abbrev pub TableVerdict : Table → Option AuditError → Type 0
+TableVerdict t = Then (StatesVerdict t) (Then (WideVerdict t) (EntriesVerdict t))
+
+abbrev pub IsAccepted : Table → Type 0
+IsAccepted t = TableVerdict t None

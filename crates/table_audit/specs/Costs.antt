@@ -1,0 +1,31 @@
+-- How many steps the audit of a table counts at most.
+use Rattle.std.specs.Prelude.{ℕ, ◌+◌, ◌*◌, List, Option, Some, None, length, slice_get, sum_by}
+use Rattle.thumb_instr.specs.declared.instr.Instr.{Instr}
+use Rattle.clause_model.specs.Literals.{codes_of}
+use Rattle.rule_table.specs.Table.{Opened, Rule, Table}
+use Rattle.proof_logs.specs.Lines.{started, lines_cost}
+use Rattle.proof_logs.specs.Logs.{spent_cost}
+use Rattle.table_audit.specs.Sides.{formula_against, formula_of}
+use Rattle.table_audit.specs.Shorter.{shorter}
+
+-- steps of instructions: both sides on each state once, and again for each shorter sequence and for each that is named open
+abbrev pub runs_cost : Table → Rule → ℕ
+runs_cost t e = (2 * length (shorter t e) + 1) * (length t.states * (length e.left + length e.right))
+
+-- looks at literals: those of the proof's lines
+abbrev pub proof_cost : Rule → ℕ
+proof_cost e = lines_cost (started (codes_of (formula_of e).clauses)) e.proof
+
+-- and those of an open number's log
+abbrev pub log_cost : Rule → Opened → Option (List Instr) → ℕ
+log_cost e o None = 0
+log_cost e o (Some seq) = spent_cost (codes_of (formula_against e seq).clauses) o.log
+
+abbrev pub open_cost : Table → Rule → Opened → ℕ
+open_cost t e o = log_cost e o (slice_get (shorter t e) o.number)
+
+abbrev pub entry_cost : Table → Rule → ℕ
+entry_cost t e = runs_cost t e + proof_cost e + sum_by (open_cost t e) e.opens
+
+abbrev pub table_cost : Table → ℕ
+table_cost t = sum_by (entry_cost t) t.rules

@@ -1,0 +1,49 @@
+-- The sides that an entry of a table may have.
+use Rattle.std.specs.Prelude.{◌≡◌, ◌≤◌, ℕ, List, length, map}
+use Rattle.thumb_instr.specs.declared.instr.Instr.{Instr}
+use Rattle.thumb_instr.specs.Window.{normal_of}
+use Rattle.thumb_model.specs.Rewrite.{AreOver}
+use Rattle.seq_enum.specs.Lists.{numbers_from}
+use Rattle.seq_enum.specs.Alphabet.{IsOver}
+use Rattle.cnf_gates.specs.Cnf.{Cnf}
+use Rattle.bit_blast.specs.Differences.{sides_formula}
+use Rattle.bit_blast.specs.Exactness.{IsMaskOver}
+use Rattle.rule_table.specs.Canonical.{IsRenamable, appearing}
+use Rattle.rule_table.specs.Table.{Rule, Table}
+
+-- how many registers instructions name
+abbrev pub named_count : List Instr → ℕ
+named_count instrs = length (appearing instrs)
+
+-- a sequence is its own canonical form: it has one, each instruction is normal, and its registers are r0, r1 and so on by first appearance
+pub record IsCanonicalSide (side : List Instr) : Type 0 where
+  pub renamable : IsRenamable side
+  pub normal : map normal_of side ≡ side
+  pub in_order : appearing side ≡ numbers_from 0 (named_count side)
+
+-- an entry's sides and its mask are what the table's header allows
+pub record SidesFit (t : Table) (e : Rule) : Type 0 where
+  pub canonical : IsCanonicalSide e.left
+  pub short : length e.left ≤ t.left
+  pub few : named_count e.left ≤ t.regs
+  -- both are of the alphabet of the registers that the left side names
+  pub left : IsOver (named_count e.left) t.pool e.left
+  pub right : IsOver (named_count e.left) t.pool e.right
+  pub no_longer : length e.right ≤ length e.left
+  -- the mask has no other register
+  pub mask : IsMaskOver (named_count e.left) e.mask
+
+-- the formula that an entry's left side and a sequence differ in some item of its mask, over the registers that the left side names
+abbrev pub formula_against : Rule → List Instr → Cnf
+formula_against e seq = sides_formula e.left seq e.mask (named_count e.left)
+
+-- that of the two sides
+abbrev pub formula_of : Rule → Cnf
+formula_of e = formula_against e e.right
+
+-- an entry with a formula: its left side is canonical, and sides and mask are over the registers that it names
+pub record HasFormula (e : Rule) : Type 0 where
+  pub canonical : IsCanonicalSide e.left
+  pub left : AreOver (named_count e.left) e.left
+  pub right : AreOver (named_count e.left) e.right
+  pub mask : IsMaskOver (named_count e.left) e.mask

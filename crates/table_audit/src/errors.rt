@@ -1,0 +1,81 @@
+ghost use Rattle.std.specs.Prelude.{◌≡◌};
+
+use std::alloc::{AllocError, AllocFailed};
+use thiserror::Error;
+
+/// Why an entry is refused.
+#[derive(Clone, Copy, Debug, PartialEq, Eq, Error)]
+pub enum EntryFault {
+    /// The sides or the mask are not what the table's header allows.
+    #[error("sides or mask are not of the table's form")]
+    Sides,
+    /// The first line of the proof that isn't accepted, by its number from 1.
+    #[error("line {0} of the proof is not accepted")]
+    Proof(u64),
+    /// All lines are accepted, and no clause is empty.
+    #[error("the proof does not come to an empty clause")]
+    Unfinished,
+    /// The lowest shorter sequence that isn't named open and that no state tells from the left side, by its number.
+    #[error("no state tells sequence {0}")]
+    Untold(u64),
+    /// The first number named open that isn't that of a shorter sequence, or whose sequence a state tells, or whose log doesn't spend the budget.
+    #[error("{0} is not rightly named open")]
+    Open(u64),
+}
+
+/// Why a table is refused.
+#[derive(Clone, Copy, Debug, PartialEq, Eq, Error)]
+pub enum AuditError {
+    /// The place, from 1, of the first of the seed's states that is missing or another.
+    #[error("state {0} is not the seed's")]
+    States(u64),
+    /// How many shorter sequences there may be, where these are more than 5,000,000.
+    #[error("{0} sequences are too many")]
+    Wide(u64),
+    /// An entry, by its number from 1.
+    #[error("entry {number}: {kind}")]
+    Entry { number: u64, kind: EntryFault },
+    /// The memory didn't suffice.
+    #[error("out of memory")]
+    Memory,
+}
+
+impl From<AllocError> for AuditError {
+    ghost use Rattle.table_audit.specs.declared.errors.AuditError.TheVariants.{Memory};
+
+    ghost from_gives = { λ _ e. e ≡ Memory };
+
+    fn from(_: AllocError) -> Self {
+        AuditError::Memory
+    }
+}
+
+impl<T: Drop> From<AllocFailed<T>> for AuditError {
+    ghost use Rattle.table_audit.specs.declared.errors.AuditError.TheVariants.{Memory};
+
+    ghost from_gives = { λ _ e. e ≡ Memory };
+
+    fn from(_: AllocFailed<T>) -> Self {
+        AuditError::Memory
+    }
+}
+
+impl From<cnf_gates::Memory> for AuditError {
+    ghost use Rattle.table_audit.specs.declared.errors.AuditError.TheVariants.{Memory};
+
+    ghost from_gives = { λ _ e. e ≡ Memory };
+
+    fn from(_: cnf_gates::Memory) -> Self {
+        AuditError::Memory
+    }
+}
+
+impl From<fingerprints::Memory> for AuditError {
+    ghost use Rattle.table_audit.specs.declared.errors.AuditError.TheVariants.{Memory};
+
+    ghost from_gives = { λ _ e. e ≡ Memory };
+
+    fn from(_: fingerprints::Memory) -> Self {
+        AuditError::Memory
+    }
+}

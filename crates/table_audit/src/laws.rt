@@ -1,0 +1,26 @@
+//! What follows from the definitions, each as the contract of a function that does nothing.
+ghost use Rattle.std.specs.Prelude.{◌≡◌, Option, Result, IfErr};
+ghost use Rattle.rule_table.specs.declared.table.Table as code;
+ghost use Rattle.rule_table.specs.Table.{Table};
+ghost use Rattle.rule_table.specs.Valid.{IsTable};
+ghost use Rattle.proof_logs.specs.Verdicts.{Answers};
+ghost use Rattle.table_audit.specs.declared.errors.AuditError.{AuditError};
+ghost use Rattle.table_audit.specs.Acceptance.{TableVerdict, IsAccepted};
+ghost use Rattle.table_audit.specs.Soundness.{IsSound};
+
+/// The verdict on a table is one.
+pub fn audit_has_one_answer()
+    ensures { (t : Table) (a b : Option AuditError) → TableVerdict t a → TableVerdict t b → a ≡ b }
+{}
+
+/// An accepted table is refused for want of memory alone.
+#[tactic(auto, using(crate::proofs::Determined::accepted_answers))]
+pub fn accepted_tables_are_not_refused()
+    ensures { (t : Table) (r : Result code.Table AuditError) → IsAccepted t → Answers AuditError.Memory r (TableVerdict t) → IfErr r (λ e. e ≡ AuditError.Memory) }
+{}
+
+/// The rules of an accepted table are sound, and shortest but for what they name open, which is rightly so.
+#[tactic(auto, using(crate::proofs::Sound::accepted_sound))]
+pub fn accepted_tables_are_sound()
+    ensures { (t : Table) → IsTable t → IsAccepted t → IsSound t }
+{}

@@ -1,0 +1,21 @@
+//! The audit of a table of rules: an accepted table's rules are sound, and shortest but for what they name open.
+#![tactic(auto)]
+
+mod audited;
+mod errors;
+pub mod laws;
+mod opens;
+mod refutation;
+mod sides;
+mod states;
+#[cfg(test)]
+mod tests;
+mod told;
+mod trials;
+mod verdict;
+mod widths;
+
+pub use audited::Audited;
+pub use errors::{AuditError, EntryFault};
+pub use sides::{entry_formula, sides_fit};
+pub use verdict::audit;

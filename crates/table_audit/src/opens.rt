@@ -1,0 +1,102 @@
+//! The numbers that an entry names open.
+ghost use Rattle.std.specs.Prelude.{◌≡◌, ◌<◌, ◌≤◌, ◌+◌, ◌*◌, ◌↔◌, true, IfOk, IfSome, IsTrue, length, map, slice_get, sum_by};
+ghost use Rattle.fingerprints.specs.Seeded.{seen};
+ghost use Rattle.thumb_model.specs.Rewrite.{AreOver};
+ghost use Rattle.seq_enum.specs.Lists.{ascends_from};
+ghost use Rattle.rule_table.specs.Valid.{numbers_of};
+ghost use Rattle.rule_table.specs.Views.{opened_of, rule_of, table_of};
+ghost use Rattle.proof_logs.specs.Verdicts.{Answers};
+ghost use Rattle.table_audit.specs.Sides.{named_count, HasFormula};
+ghost use Rattle.table_audit.specs.Shorter.{sequences_below, shorter};
+ghost use Rattle.table_audit.specs.Trials.{AreTrials};
+ghost use Rattle.table_audit.specs.Acceptance.{IsRightlyOpen, OpensVerdict};
+ghost use Rattle.table_audit.specs.Costs.{open_cost};
+ghost use Rattle.table_audit.specs.Naming.{told_cost};
+
+use crate::errors::{AuditError, EntryFault};
+use crate::sides::formula_against;
+use crate::trials::{Trial, is_told};
+use cnf_gates::Memory;
+use proof_logs::is_spent;
+use rule_table::{Entry, Open, Table};
+use seq_enum::{Pool, seq_at};
+use std::alloc::Global;
+use step_ledger::{Ledger, Steps};
+use thumb_instr::Seq;
+
+/// The sequence of a number, of the first `k` registers and a pool, where it has fewer than `count` instructions.
+fn shorter_at(k: u8, pool: &Pool, count: usize, number: u64) -> Option<Seq>
+    requires some { 0 < k }
+    requires few { k ≤ 4 }
+    requires short { count ≤ 5 }
+    ensures value { result ≡ slice_get (sequences_below k pool.now count) number }
+    ensures over { IfSome result (λ seq. AreOver k seq) }
+    ensures shorter { IfSome result (λ seq. length seq < count) }
+{
+    match seq_at(k, pool, number) {
+        Some(seq) if seq.len() < count => Some(seq),
+        _ => None,
+    }
+}
+
+/// Whether a number that an entry names open is that of a shorter sequence, which no state tells from the left side, and its log spends the
+/// budget on the formula of the two.
+fn is_rightly_open<L: Ledger>(
+    alloc: Global,
+    table: &Table,
+    entry: &Entry,
+    k: u8,
+    trials: &[Trial],
+    open: &Open,
+    steps: &mut Steps<L>,
+) -> Result<bool, Memory>
+    requires count { k ≡ named_count entry.now.left }
+    requires some { 0 < k }
+    requires few { k ≤ 4 }
+    requires formula { HasFormula (rule_of entry.now) }
+    requires trials { AreTrials entry.now.left (map seen table.now.states) trials.now }
+    ensures right { IfOk result (λ right. IsTrue right ↔ IsRightlyOpen (table_of table.now) (rule_of entry.now) (opened_of open.now)) }
+    ensures cost { steps.new ≤ steps.old + (told_cost (table_of table.now) (rule_of entry.now) (opened_of open.now) + open_cost (table_of table.now) (rule_of entry.now) (opened_of open.now)) }
+{
+    match shorter_at(k, &table.pool, entry.right.len(), open.number) {
+        None => Ok(false),
+        Some(seq) => {
+            if is_told(trials, seq.as_slice(), entry.mask, steps) {
+                return Ok(false);
+            }
+            let formula = formula_against(alloc, entry, &seq)?;
+            is_spent(alloc, &formula, &open.log, table.budget, steps)
+        }
+    }
+}
+
+/// Tells the first number named open that isn't rightly so.
+pub(crate) fn check_opens<L: Ledger>(
+    alloc: Global,
+    table: &Table,
+    number: u64,
+    entry: &Entry,
+    k: u8,
+    trials: &[Trial],
+    steps: &mut Steps<L>,
+) -> Result<(), AuditError>
+    requires count { k ≡ named_count entry.now.left }
+    requires some { 0 < k }
+    requires few { k ≤ 4 }
+    requires formula { HasFormula (rule_of entry.now) }
+    requires ascending { ascends_from 0 (numbers_of (map opened_of entry.now.opens.items)) ≡ true }
+    requires trials { AreTrials entry.now.left (map seen table.now.states) trials.now }
+    ensures answers { Answers AuditError.Memory result (OpensVerdict (table_of table.now) number (rule_of entry.now)) }
+    ensures cost { steps.new ≤ steps.old + (length (shorter (table_of table.now) (rule_of entry.now)) * (length (table_of table.now).states * length entry.now.right)
+        + sum_by (open_cost (table_of table.now) (rule_of entry.now)) (map opened_of entry.now.opens.items)) }
+{
+    for open in &entry.opens {
+        if !is_rightly_open(alloc, table, entry, k, trials, open, steps)? {
+            return Err(AuditError::Entry {
+                number,
+                kind: EntryFault::Open(open.number),
+            });
+        }
+    }
+    Ok(())
+}

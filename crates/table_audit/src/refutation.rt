@@ -1,0 +1,51 @@
+//! The proof of an entry.
+ghost use Rattle.std.specs.Prelude.{◌≡◌, ◌≤◌, ◌+◌};
+ghost use Rattle.rule_table.specs.Views.{rule_of};
+ghost use Rattle.proof_logs.specs.Verdicts.{Answers};
+ghost use Rattle.table_audit.specs.declared.errors.AuditError.TheVariants.{Memory};
+ghost use Rattle.table_audit.specs.Sides.{HasFormula};
+ghost use Rattle.table_audit.specs.Acceptance.{EntryProofVerdict};
+ghost use Rattle.table_audit.specs.Faults.{fault_of};
+ghost use Rattle.table_audit.specs.Costs.{proof_cost};
+
+use crate::errors::{AuditError, EntryFault};
+use crate::sides::entry_formula;
+use proof_logs::ProofFault;
+use rule_table::Entry;
+use std::alloc::Global;
+use step_ledger::{Ledger, Steps};
+
+/// The fault of a proof as that of the entry of this number.
+fn fault_of(number: u64, fault: ProofFault) -> AuditError
+    ensures { result ≡ fault_of number fault }
+{
+    match fault {
+        ProofFault::Line(line) => AuditError::Entry {
+            number,
+            kind: EntryFault::Proof(line),
+        },
+        ProofFault::Unfinished => AuditError::Entry {
+            number,
+            kind: EntryFault::Unfinished,
+        },
+        ProofFault::Memory => AuditError::Memory,
+    }
+}
+
+/// Tells the first line of an entry's proof that isn't accepted, or that it comes to no empty clause.
+pub(crate) fn check_proof<L: Ledger>(
+    alloc: Global,
+    number: u64,
+    entry: &Entry,
+    steps: &mut Steps<L>,
+) -> Result<(), AuditError>
+    requires { HasFormula (rule_of entry.now) }
+    ensures answers { Answers Memory result (EntryProofVerdict number (rule_of entry.now)) }
+    ensures cost { steps.new ≤ steps.old + proof_cost (rule_of entry.now) }
+{
+    let formula = entry_formula(alloc, entry)?;
+    match proof_logs::check_proof(alloc, &formula, &entry.proof, steps) {
+        Ok(()) => Ok(()),
+        Err(fault) => Err(fault_of(number, fault)),
+    }
+}

@@ -1,0 +1,164 @@
+//! The sides that an entry may have, and the formula that they differ.
+ghost use Rattle.std.specs.Prelude.{◌≡◌, ◌+◌, ◌<◌, ◌≤◌, ◌↔◌, true, IfOk, IfSome, IsTrue, MatchOption, length, map};
+ghost use Rattle.std.specs.List.{list_all};
+ghost use Rattle.thumb_instr.specs.Window.{is_in_window};
+ghost use Rattle.thumb_instr.specs.Renaming.{named};
+ghost use Rattle.thumb_model.specs.Rewrite.{AreOver};
+ghost use Rattle.seq_enum.specs.Lists.{numbers_from};
+ghost use Rattle.seq_enum.specs.Alphabet.{IsOver};
+ghost use Rattle.bit_blast.specs.Differences.{sides_formula};
+ghost use Rattle.bit_blast.specs.Exactness.{IsMaskOver};
+ghost use Rattle.rule_table.specs.Canonical.{firsts, numbers_of, appearing};
+ghost use Rattle.rule_table.specs.Views.{rule_of, table_of};
+ghost use Rattle.table_audit.specs.Sides.{named_count, IsCanonicalSide, SidesFit, HasFormula, formula_against, formula_of};
+ghost use Rattle.table_audit.specs.Orders.{IsAstray, IsInOrder, AreWithin};
+
+use bit_blast::formula;
+use cnf_gates::{Formula, Memory};
+use rule_table::{Entry, Table};
+use seq_enum::{Pool, number_of};
+use std::alloc::Global;
+use thumb_instr::{Instr, Low, Mask, Seq, in_window, normal, registers_of};
+
+/// How many registers there are, where those of a list, after r0 up to below r(count), are r0, r1 and so on by first appearance.
+fn ordered(registers: &[Low], count: u32) -> Option<u32>
+    requires { count + length registers.now < 100 }
+    ensures few { IfSome result (λ n. n ≤ count + length registers.now) }
+    ensures value { MatchOption result (IsAstray (firsts (numbers_from 0 count) (numbers_of registers.now))) (λ n. firsts (numbers_from 0 count) (numbers_of registers.now) ≡ numbers_from 0 n) }
+{
+    let mut seen = count;
+    for register in registers {
+        if register.number > seen {
+            return None;
+        }
+        if register.number == seen {
+            seen += 1;
+        }
+    }
+    Some(seen)
+}
+
+/// How many registers instructions that may stand in a window name, where those are r0, r1 and so on by first appearance.
+fn ordered_names(instrs: &[Instr]) -> Option<u32>
+    requires windows { list_all is_in_window instrs.now ≡ true }
+    requires few { length instrs.now ≤ 5 }
+    ensures value { MatchOption result (IsAstray (appearing instrs.now)) (λ n. appearing instrs.now ≡ numbers_from 0 n) }
+{
+    let mut count = 0;
+    for instr in instrs {
+        match ordered(&registers_of(instr), count) {
+            None => return None,
+            Some(more) => count = more,
+        }
+    }
+    Some(count)
+}
+
+/// Whether each instruction may stand in a window.
+fn are_windows(instrs: &[Instr]) -> bool
+    ensures { result ≡ list_all is_in_window instrs.now }
+{
+    instrs.iter().all(|instr| in_window(instr))
+}
+
+/// How many registers a side names, where there are instructions, each may stand in a window, and their registers, at most four, are r0, r1
+/// and so on by first appearance.
+fn names_in_order(side: &Seq) -> Option<u8>
+    ensures value { MatchOption result (IsInOrder side.now → ⊥) (λ k. IsInOrder side.now × (k ≡ named_count side.now)) }
+    ensures some { IfSome result (λ k. 0 < k) }
+    ensures few { IfSome result (λ k. k ≤ 4) }
+    ensures short { length side.now ≤ 5 }
+{
+    let instrs = side.as_slice();
+    if instrs.is_empty() || !are_windows(instrs) {
+        return None;
+    }
+    match ordered_names(instrs) {
+        Some(count) if count <= 4 => Some(count as u8),
+        _ => None,
+    }
+}
+
+/// Whether each instruction of a sequence is one of the alphabet of the first `k` registers and a pool.
+fn is_over(k: u8, pool: &Pool, seq: &Seq) -> bool
+    requires some { 0 < k }
+    requires few { k ≤ 4 }
+    requires short { length seq.now ≤ 5 }
+    ensures { IsTrue result ↔ IsOver k pool.now seq.now }
+{
+    number_of(k, pool, seq).is_some()
+}
+
+/// Whether a mask has no register of `k` or above.
+fn is_mask_over(k: u8, mask: Mask) -> bool
+    ensures { IsTrue result ↔ IsMaskOver k mask.items.bits }
+{
+    for register in k..4 {
+        if mask.has(register) {
+            return false;
+        }
+    }
+    true
+}
+
+/// Whether sides and mask are over the first `k` registers and the pool, and within the header's numbers.
+fn are_within(table: &Table, entry: &Entry, k: u8) -> bool
+    requires some { 0 < k }
+    requires few { k ≤ 4 }
+    ensures { IsTrue result ↔ AreWithin (table_of table.now) (rule_of entry.now) k }
+{
+    entry.left.len() <= usize::from(table.left)
+        && entry.right.len() <= entry.left.len()
+        && k <= table.regs
+        && is_over(k, &table.pool, &entry.left)
+        && is_over(k, &table.pool, &entry.right)
+        && is_mask_over(k, entry.mask)
+}
+
+/// Whether the sides and the mask of an entry are what the table's header allows.
+pub fn sides_fit(table: &Table, entry: &Entry) -> bool
+    ensures fit { IsTrue result ↔ SidesFit (table_of table.now) (rule_of entry.now) }
+    ensures formula { IsTrue result → HasFormula (rule_of entry.now) }
+{
+    match names_in_order(&entry.left) {
+        None => false,
+        Some(k) => are_within(table, entry, k),
+    }
+}
+
+/// How many registers a canonical side names.
+pub(crate) fn named_count(side: &Seq) -> u8
+    requires { IsCanonicalSide side.now }
+    ensures value { result ≡ named_count side.now }
+    ensures some { 0 < result }
+    ensures few { result ≤ 4 }
+{
+    match names_in_order(side) {
+        None => unreachable!(),
+        Some(k) => k,
+    }
+}
+
+/// The formula that the left side of an entry and a sequence differ in some item of the mask, over the registers that the left side names.
+pub(crate) fn formula_against(alloc: Global, entry: &Entry, seq: &Seq) -> Result<Formula, Memory>
+    requires entry { HasFormula (rule_of entry.now) }
+    requires seq { AreOver (named_count entry.now.left) seq.now }
+    ensures { IfOk result (λ f. f ≡ formula_against (rule_of entry.now) seq.now) }
+{
+    formula(
+        alloc,
+        &entry.left,
+        seq,
+        entry.mask,
+        named_count(&entry.left),
+    )
+}
+
+/// The formula that the sides of an entry differ, whose sides fit a table: the proof of the entry is a proof of this formula, and its DIMACS
+/// text is what a checker of its own is given.
+pub fn entry_formula(alloc: Global, entry: &Entry) -> Result<Formula, Memory>
+    requires { HasFormula (rule_of entry.now) }
+    ensures { IfOk result (λ f. f ≡ formula_of (rule_of entry.now)) }
+{
+    formula_against(alloc, entry, &entry.right)
+}

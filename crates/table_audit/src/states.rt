@@ -1,0 +1,33 @@
+//! The states that a table begins with: those of its seed.
+ghost use Rattle.std.specs.Prelude.{◌≡◌, ◌↔◌, IsTrue, Some, slice_get, map};
+ghost use Rattle.fingerprints.specs.Seeded.{seen};
+ghost use Rattle.rule_table.specs.Views.{table_of};
+ghost use Rattle.table_audit.specs.declared.errors.AuditError.TheVariants.{Memory};
+ghost use Rattle.proof_logs.specs.Verdicts.{Answers};
+ghost use Rattle.table_audit.specs.Acceptance.{StatesVerdict};
+
+use crate::errors::AuditError;
+use fingerprints::seeded;
+use rule_table::Table;
+use std::alloc::Global;
+use window_exec::WState;
+
+/// Whether a state stands at a place of a list.
+fn is_there(states: &[WState], place: usize, state: &WState) -> bool
+    ensures { IsTrue result ↔ (slice_get (map seen states.now) place ≡ Some (seen state.now)) }
+{
+    place < states.len() && states[place] == *state
+}
+
+/// Tells the first of the seed's states that is missing from the table, or is another there.
+pub(crate) fn check_states(alloc: Global, table: &Table) -> Result<(), AuditError>
+    ensures { Answers Memory result (StatesVerdict (table_of table.now)) }
+{
+    let seeds = seeded(alloc, table.seed)?;
+    for (place, state) in seeds.as_slice().iter().enumerate() {
+        if !is_there(table.states.as_slice(), place, state) {
+            return Err(AuditError::States(place as u64 + 1));
+        }
+    }
+    Ok(())
+}

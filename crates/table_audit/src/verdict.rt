@@ -1,0 +1,115 @@
+//! The audit: its tests in order, and tables that passed it.
+ghost use Rattle.std.specs.Prelude.{◌≡◌, ◌≤◌, ◌+◌, IfOk, true, map, sum_by};
+ghost use Rattle.seq_enum.specs.Lists.{ascends_from};
+ghost use Rattle.rule_table.specs.Valid.{IsTable, numbers_of};
+ghost use Rattle.rule_table.specs.Views.{opened_of, rule_of, table_of};
+ghost use Rattle.proof_logs.specs.Verdicts.{Answers, Then};
+ghost use Rattle.table_audit.specs.Sides.{HasFormula};
+ghost use Rattle.table_audit.specs.Acceptance.{ToldVerdict, OpensVerdict, EntryVerdict, EntriesVerdict, TableVerdict};
+ghost use Rattle.table_audit.specs.Costs.{runs_cost, open_cost, entry_cost, table_cost};
+
+use crate::audited::Audited;
+use crate::errors::{AuditError, EntryFault};
+use crate::opens::check_opens;
+use crate::refutation::check_proof;
+use crate::sides::{named_count, sides_fit};
+use crate::states::check_states;
+use crate::told::check_told;
+use crate::trials::trials_of;
+use crate::widths::check_width;
+use rule_table::{Entry, Table};
+use std::alloc::Global;
+use step_ledger::{Ledger, Steps};
+
+/// Tells the lowest shorter sequence that is neither named open nor told by a state, or the first number that isn't rightly named open.
+fn check_shorter<L: Ledger>(
+    alloc: Global,
+    table: &Table,
+    number: u64,
+    entry: &Entry,
+    steps: &mut Steps<L>,
+) -> Result<(), AuditError>
+    requires formula { HasFormula (rule_of entry.now) }
+    requires ascending { ascends_from 0 (numbers_of (map opened_of entry.now.opens.items)) ≡ true }
+    ensures answers { Answers AuditError.Memory result (Then (ToldVerdict (table_of table.now) number (rule_of entry.now)) (OpensVerdict (table_of table.now) number (rule_of entry.now))) }
+    ensures cost { steps.new ≤ steps.old + (runs_cost (table_of table.now) (rule_of entry.now) + sum_by (open_cost (table_of table.now) (rule_of entry.now)) (map opened_of entry.now.opens.items)) }
+{
+    let k = named_count(&entry.left);
+    let trials = trials_of(alloc, entry.left.as_slice(), table.states.as_slice(), steps)?;
+    check_told(alloc, table, number, entry, k, &trials, steps)?;
+    check_opens(alloc, table, number, entry, k, &trials, steps)
+}
+
+/// Tells why an entry is refused, if it is.
+#[tactic(auto, unfolding(crate::specs::Acceptance::EntryVerdict))]
+fn check_entry<L: Ledger>(
+    alloc: Global,
+    table: &Table,
+    number: u64,
+    entry: &Entry,
+    steps: &mut Steps<L>,
+) -> Result<(), AuditError>
+    requires { ascends_from 0 (numbers_of (map opened_of entry.now.opens.items)) ≡ true }
+    ensures answers { Answers AuditError.Memory result (EntryVerdict (table_of table.now) number (rule_of entry.now)) }
+    ensures cost { steps.new ≤ steps.old + entry_cost (table_of table.now) (rule_of entry.now) }
+{
+    if !sides_fit(table, entry) {
+        return Err(AuditError::Entry {
+            number,
+            kind: EntryFault::Sides,
+        });
+    }
+    check_proof(alloc, number, entry, steps)?;
+    check_shorter(alloc, table, number, entry, steps)
+}
+
+/// Tells the first entry that is refused, and why.
+fn check_entries<L: Ledger>(
+    alloc: Global,
+    table: &Table,
+    steps: &mut Steps<L>,
+) -> Result<(), AuditError>
+    requires { IsTable (table_of table.now) }
+    ensures answers { Answers AuditError.Memory result (EntriesVerdict (table_of table.now)) }
+    ensures cost { steps.new ≤ steps.old + table_cost (table_of table.now) }
+{
+    for (place, entry) in table.entries.iter().enumerate() {
+        check_entry(alloc, table, place as u64 + 1, entry, steps)?;
+    }
+    Ok(())
+}
+
+/// Tells why a table is refused, if it is.
+fn check_table<L: Ledger>(
+    alloc: Global,
+    table: &Table,
+    steps: &mut Steps<L>,
+) -> Result<(), AuditError>
+    requires { IsTable (table_of table.now) }
+    ensures answers { Answers AuditError.Memory result (TableVerdict (table_of table.now)) }
+    ensures cost { steps.new ≤ steps.old + table_cost (table_of table.now) }
+{
+    check_states(alloc, table)?;
+    check_width(table)?;
+    check_entries(alloc, table, steps)
+}
+
+/// Accepts a table, or tells the first cause for which it is refused, and gives the table up. In order: the first of the seed's states that
+/// is missing or another; that there are too many shorter sequences; then entry by entry its sides, the first line of its proof that isn't
+/// accepted, that the proof comes to no empty clause, the lowest shorter sequence that is neither named open nor told by a state, and the
+/// first number that isn't rightly named open.
+///
+/// A step is an instruction that is run, or a look at a literal of a clause.
+pub fn audit<L: Ledger>(
+    alloc: Global,
+    table: Table,
+    steps: &mut Steps<L>,
+) -> Result<Audited, AuditError>
+    requires { IsTable (table_of table) }
+    ensures answers { Answers AuditError.Memory result (TableVerdict (table_of table)) }
+    ensures kept { IfOk result (λ audited. audited ≡ table) }
+    ensures cost { steps.new ≤ steps.old + table_cost (table_of table) }
+{
+    check_table(alloc, &table, steps)?;
+    Ok(Audited::new(table))
+}
