@@ -16,9 +16,9 @@ returns-then-same_kind c =
     let kinds = c.if-same_kind.ensures.0 refl in
     let numbers = c.same_numbers.ensures in (
       λ h.
-      let n = numbers.0 h in
-      same_parts c.args.a.now c.args.b.now (sym c.parts-one.ensures ∙ same_fields one other kinds n.0 n.1 n.2 ∙ c.parts-other.ensures),
+          let n = numbers.0 h in
+          same_parts c.args.a.now c.args.b.now (sym c.parts-one.ensures ∙ same_fields one other kinds n.0 n.1 n.2 ∙ c.parts-other.ensures),
       λ e.
-      let same : one ≡ other = c.parts-one.ensures ∙ ap parts_of e ∙ sym c.parts-other.ensures in
-      numbers.1 (ap (λ (p : Parts). p.first) same, ap (λ (p : Parts). p.second) same, ap (λ (p : Parts). p.third) same),
+          let same : one ≡ other = c.parts-one.ensures ∙ ap parts_of e ∙ sym c.parts-other.ensures in
+          numbers.1 (ap (λ (p : Parts). p.first) same, ap (λ (p : Parts). p.second) same, ap (λ (p : Parts). p.third) same),
     )
