@@ -19,7 +19,7 @@ use Rattle.rule_table.proofs.Orders.{name_stands, has_firsts}
 abbrev pub eight : List ℕ
 eight = 0 ∷ 1 ∷ 2 ∷ 3 ∷ 4 ∷ 5 ∷ 6 ∷ 7 ∷ []
 
-eight_at : (x : ℕ) → x < 8 → slice_get eight x ≡ Some x
+pub eight_at : (x : ℕ) → x < 8 → slice_get eight x ≡ Some x
 eight_at zero h = refl
 eight_at (suc zero) h = refl
 eight_at (suc (suc zero)) h = refl

@@ -323,7 +323,7 @@ step_written (Opening b r o) (Open n) t f is e =
       fine = (
         f.0,
         rule_opens (with_opened r o) ((r.opens ++ o ∷ []) ++ next ∷ []) f.1 (All-push IsOpened (r.opens ++ o ∷ []) next f.1.opens (opened n is))
-        (rises_more 0 r.opens o next f.1.ascending (ltb-true o.number n parts.0)),
+            (rises_more 0 r.opens o next f.1.ascending (ltb-true o.number n parts.0)),
       );
     })
 step_written (Opening b r o) Entry t f is e =

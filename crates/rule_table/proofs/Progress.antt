@@ -254,7 +254,7 @@ bad bytes p left s n g a none = record {
     stops : Goes g.items (whole p) → ⊥
     stops o = elim (cases_Bool p.is_ended) [
       | inl e ↦ (let line : line_of o.item ≡ p.text = same_last (line_of o.item) p.text (o.is_line ∙ whole_ended p e) in
-      run_none g.items o.item o.rest s o.table g.ran (none o.item e o.is_item line) (ap (run Start) (sym o.whole) ∙ reads o.table o.valid))
+          run_none g.items o.item o.rest s o.table g.ran (none o.item e o.is_item line) (ap (run Start) (sym o.whole) ∙ reads o.table o.valid))
       | inr e ↦ true≢false (sym (is_ended_last (line_of o.item)) ∙ ap is_ended o.is_line ∙ open_line p left a e)
     ]
 

@@ -12,5 +12,5 @@ pub mod Steps
 pub mod ItemView
 pub mod MaskView
 pub mod Told
-
 pub mod StageView
+pub mod Matching

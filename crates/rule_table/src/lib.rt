@@ -3,8 +3,10 @@
 
 mod errors;
 mod item;
+pub mod laws;
 mod lines;
 mod map;
+mod matching;
 mod numbers;
 mod reading;
 mod stages;
@@ -19,6 +21,7 @@ mod writing;
 
 pub use errors::{Memory, TableError};
 pub use map::Map;
+pub use matching::matches;
 pub use reading::read_table;
 pub use table::{Entry, Open, Table};
 pub use windows::canonical;

@@ -33,6 +33,18 @@ impl Map {
         Map { registers: given }
     }
 
+    /// The map that has these in place of r0 to r7.
+    pub(crate) fn of(given: &[Option<Low>]) -> Map
+        requires { length given.now ≤ 8 }
+        ensures { result ≡ given.now }
+    {
+        let mut registers = ArrayVec::new();
+        for register in given {
+            registers.push(*register);
+        }
+        Map { registers }
+    }
+
     /// The register in place of a canonical one: None exactly where the map doesn't have that.
     pub fn get(&self, canonical: u8) -> Option<Low>
         ensures { result ≡ option_and_then (λ o. o) (slice_get self.now canonical) }

@@ -1,75 +1,167 @@
 use super::*;
-use fingerprints::seeded;
-use lrat_check::read_line;
-use seq_enum::Pool;
+use ascii_scan::Lines;
+use std::alloc::{AllocError, Global};
 use std::test::Fail;
-use thumb_instr::{
-    ByteOperation, Extension, Instr, Items, Mask, Operation, Right, Seq, Sum, Within,
-};
+use thumb_instr::{ByteOperation, Instr, Items, Low, Operation, Sum, Within};
 
-/// The text of a table of one rule, by hand: left and right sides, mask, proof, open number and the first state of seed 42.
-const BEGIN: &[u8] =
-    b"peep 1\nregs 2\nleft 2\nseed 42\nbudget 1\npool 24 255\nstate a15c02b7 7b47f409 ba1d3330 83d2f293 b\n";
+/// A table of one state and two entries, in 23 lines.
+const TABLE: &str = "peep 1
+regs 2
+left 2
+seed 42
+budget 1
+pool 24 255
+state a15c02b7 0000000f ffffffff 01234567 d
+entry
+left lsls r0, r0, #24
+left lsrs r0, r0, #24
+right uxtb r0, r0
+mask r0 z
+proof
+9 -1 2 0 3 4 0
+10 d 9 0
+open 0
+11 0 10 0
+open 18446744073709551615
+entry
+left adds r0, r0, #3
+mask
+proof
+end
+";
 
-const END: &[u8] =
-    b"entry\nleft lsls r0, r0, #24\nleft lsrs r0, r0, #24\nright uxtb r0, r0\nmask r0 z\nproof\n9 -1 2 0 3 4 0\n10 d 9 0\nopen 0\n11 0 10 0\nopen 18446744073709551615\nend\n";
+/// The table with one part of it replaced.
+fn changed(alloc: Global, old: &str, new: &str) -> Result<String, AllocError> {
+    match TABLE.split_once(old) {
+        None => Ok(String::new(alloc)),
+        Some((before, after)) => format!(in alloc; "{before}{new}{after}"),
+    }
+}
+
+/// The line at which a text is refused.
+fn refused_at(alloc: Global, text: &[u8]) -> Option<u64> {
+    match read_table(alloc, text) {
+        Ok(_) => None,
+        Err(TableError::Line(line)) => Some(line),
+        Err(TableError::Memory) => Some(0),
+    }
+}
 
 #[test]
-fn a_table_is_written(rt: HostRuntime) -> Result<(), Fail> {
+fn tables_are_read_and_written(rt: HostRuntime) -> Result<(), Fail> {
     let alloc = rt.alloc();
-    let low = Within::of(0);
-    let left = Seq::from_slice(&[
-        Instr::ShiftLeft {
-            target: low,
-            source: low,
-            amount: Within::of(24),
-        },
-        Instr::ShiftRight {
-            shift: Right::Lsr,
-            target: low,
-            source: low,
-            amount: Within::of(24),
-        },
-    ])
-    .ok_or("left")?;
-    let right = Seq::from_slice(&[Instr::Extend {
-        extension: Extension::Uxtb,
-        target: low,
-        source: low,
-    }])
-    .ok_or("right")?;
-    let mut proof = Vec::new(alloc);
-    proof.push(read_line(alloc, b"9 -1 2 0 3 4 0")?.ok_or("addition")?)?;
-    proof.push(read_line(alloc, b"10 d 9 0")?.ok_or("deletion")?)?;
-    let mut log = Vec::new(alloc);
-    log.push(read_line(alloc, b"11 0 10 0")?.ok_or("empty clause")?)?;
-    let mut opens = Vec::new(alloc);
-    opens.push(Open { number: 0, log })?;
-    opens.push(Open {
-        number: 18_446_744_073_709_551_615,
-        log: Vec::new(alloc),
-    })?;
-    let mut entries = Vec::new(alloc);
-    entries.push(Entry {
-        left,
-        right,
-        mask: Mask::of(Items::of(&[0, 16])),
-        opens,
-        proof,
-    })?;
-    let table = Table {
-        regs: 2,
-        left: 2,
-        seed: 42,
-        budget: 1,
-        pool: Pool::new(&[24, 255]).ok_or("pool")?,
-        states: seeded(alloc, 42)?,
-        entries,
+    for (old, new) in [
+        ("peep", "peep"),
+        ("budget 1", "budget 1000000"),
+        ("pool 24 255", "pool 0"),
+        ("seed 42", "seed 4294967295"),
+        ("mask r0 z", "mask r0 r1 r2 r3 n z c v"),
+        ("left adds r0, r0, #3", "left adds r0, #3"),
+        ("open 0\n11 0 10 0\n", ""),
+        (
+            "4567 d\n",
+            "4567 d\nstate 00000000 00000000 00000000 00000000 0\n",
+        ),
+    ] {
+        let text = changed(alloc, old, new)?;
+        let table = read_table(alloc, text.as_bytes())?;
+        let written = write_table(alloc, &table)?;
+        assert!(rt; written.as_slice() == text.as_bytes());
+    }
+    let table = read_table(alloc, TABLE.as_bytes())?;
+    assert_eq!(rt; table.pool.numbers(), [24, 255].as_slice());
+    assert_eq!(rt; table.entries.len(), 2);
+    assert_eq!(rt; table.entries[0].opens.len(), 2);
+    assert_eq!(rt; table.entries[0].mask.items.bits, 1 + (1 << 16));
+    Ok(())
+}
+
+#[test]
+fn other_texts_are_refused(rt: HostRuntime) -> Result<(), Fail> {
+    let alloc = rt.alloc();
+    for line in Lines::new(TABLE.as_bytes()) {
+        let before = TABLE.as_bytes().get(..line.start).ok_or("lines before")?;
+        assert_eq!(rt; refused_at(alloc, before), Some(line.number as u64));
+        let cut = TABLE.as_bytes().get(..line.end).ok_or("a cut line")?;
+        assert_eq!(rt; refused_at(alloc, cut), Some(line.number as u64));
+    }
+    for (old, new, line) in [
+        ("peep 1", "peep 2", 1),
+        ("peep 1", " peep 1", 1),
+        ("regs 2", "regs 5", 2),
+        ("regs 2", "regs 0", 2),
+        ("regs 2", "regs 02", 2),
+        ("regs 2\n", "regs 2\r\n", 2),
+        ("left 2", "left 6", 3),
+        ("seed 42", "seed 4294967296", 4),
+        ("budget 1", "budget 0", 5),
+        ("budget 1", "budget 1000001", 5),
+        ("pool 24 255", "pool 24 256", 6),
+        ("pool 24 255", "pool 255 24", 6),
+        ("pool 24 255", "pool 24  255", 6),
+        ("pool 24 255", "pool", 6),
+        ("a15c02b7", "A15c02b7", 7),
+        ("ffffffff", "fffffff", 7),
+        ("4567 d", "4567 10", 7),
+        ("left lsls r0, r0, #24", "left lsls r4, r0, #24", 9),
+        ("lsls r0, r0, #24", "LSLS r0, r0, #24", 9),
+        ("lsls r0, r0, #24", "lsls r0, r0, #0x18", 9),
+        ("lsls r0, r0, #24", "nop", 9),
+        ("uxtb r0, r0\n", "uxtb r0, r0\nleft uxtb r0, r0\n", 12),
+        ("mask r0 z", "mask z r0", 12),
+        ("mask r0 z", "mask r4", 12),
+        ("9 -1 2 0 3 4 0", "9 -1 1 0 3 4 0", 14),
+        ("10 d 9 0", "10 d 9", 15),
+        ("open 0\n", "open 18446744073709551615\n", 18),
+        ("open 18446744073709551615", "open 18446744073709551616", 18),
+        ("entry\nleft adds r0, r0, #3\n", "entry\n", 20),
+        ("end\n", "end\n\n", 24),
+        ("end\n", "end\nx", 24),
+    ] {
+        let text = changed(alloc, old, new)?;
+        assert_eq!(rt; refused_at(alloc, text.as_bytes()), Some(line));
+    }
+    let sixth = changed(
+        alloc,
+        "left adds r0, r0, #3\n",
+        "left mov r0, r0\nleft mov r0, r0\nleft mov r0, r0\nleft mov r0, r0\nleft mov r0, r0\nleft mov r0, r0\n",
+    )?;
+    assert_eq!(rt; refused_at(alloc, sixth.as_bytes()), Some(25));
+    Ok(())
+}
+
+fn product(target: Low, other: Low) -> Instr {
+    Instr::Two {
+        operation: Operation::Mul,
+        target,
+        other,
+    }
+}
+
+#[test]
+fn windows_are_matched(rt: HostRuntime) -> Result<(), Fail> {
+    let alloc = rt.alloc();
+    let text = changed(
+        alloc,
+        "left lsls r0, r0, #24\nleft lsrs r0, r0, #24\n",
+        "left muls r1, r2, r1\nleft adds r2, #7\n",
+    )?;
+    let table = read_table(alloc, text.as_bytes())?;
+    assert_eq!(rt; table.entries.len(), 2);
+    let entry = &table.entries[0];
+    let sum = Instr::ThreeNumber {
+        sum: Sum::Add,
+        target: Within::of(3),
+        source: Within::of(3),
+        number: Within::of(7),
     };
-    let text = write_table(alloc, &table)?;
-    assert!(rt; text.starts_with(BEGIN));
-    assert!(rt; text.ends_with(END));
-    assert_eq!(rt; text.iter().filter(|b| **b == b'\n').count(), 6 + 64 + 12);
+    let map = matches(entry, &[product(Within::of(5), Within::of(3)), sum]).ok_or("a match")?;
+    assert_eq!(rt; map.get(0), None);
+    assert_eq!(rt; map.get(1), Some(Within::of(5)));
+    assert_eq!(rt; map.get(2), Some(Within::of(3)));
+    assert!(rt; matches(entry, &[product(Within::of(3), Within::of(3)), sum]).is_none());
+    assert!(rt; matches(entry, &[product(Within::of(5), Within::of(4)), sum]).is_none());
+    assert!(rt; matches(entry, &[product(Within::of(5), Within::of(3))]).is_none());
     Ok(())
 }
 

@@ -32,14 +32,14 @@ pub fn canonical(window: &[Instr], items: Items) -> Option<(Seq, Map, Mask)>
 }
 
 /// Whether each instruction may stand in a window.
-fn are_windows(instrs: &[Instr]) -> bool
+pub(crate) fn are_windows(instrs: &[Instr]) -> bool
     ensures { result ≡ list_all is_in_window instrs.now }
 {
     instrs.iter().all(|instr| in_window(instr))
 }
 
 /// The instructions, each in its normal form.
-fn normalised(window: &[Instr]) -> Seq
+pub(crate) fn normalised(window: &[Instr]) -> Seq
     requires { length window.now ≤ 5 }
     ensures { result ≡ map normal_of window.now }
 {
@@ -51,7 +51,7 @@ fn normalised(window: &[Instr]) -> Seq
 }
 
 /// The instructions under a map.
-fn renamed_all(instrs: &[Instr], registers: &[Low]) -> Seq
+pub(crate) fn renamed_all(instrs: &[Instr], registers: &[Low]) -> Seq
     requires { length instrs.now ≤ 5 }
     ensures { result ≡ map (renamed registers.now) instrs.now }
 {

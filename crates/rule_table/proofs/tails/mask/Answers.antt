@@ -17,7 +17,7 @@ returns-then-is_empty c =
     sym (c.taken.ensures.rest ∙ ap (λ rs. (taken rs tail).1) c.mask_items.ensures) ∙ empty_list c.taken.result.1.now (sym c.is_empty.ensures ∙ c.if-is_empty.true) in (
       c.of.result.in_masks,
       mask_of_taken c.of.result.items.bits tail
-      (λ x. c.of.ensures x ∙ ap (λ b. b && is_in_masks x) (c.taken.ensures.items x ∙ ap (λ rs. one_of x (taken rs tail).0) c.mask_items.ensures)) none,
+          (λ x. c.of.ensures x ∙ ap (λ b. b && is_in_masks x) (c.taken.ensures.items x ∙ ap (λ rs. one_of x (taken rs tail).0) c.mask_items.ensures)) none,
     )
 
 pub returns-else-is_empty : goal.returns-else-is_empty
