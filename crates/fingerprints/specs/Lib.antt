@@ -1,1 +1,5 @@
 pub mod Seeded
+pub mod Lanes
+pub mod Print
+pub mod Columns
+pub mod Sequences
