@@ -1,11 +1,7 @@
 -- Prints, state by state and column by column.
-use Rattle.std.proofs.Common.{◌≡◌, ℕ, Bool, zero, suc, ◌+◌, ◌-◌, ◌<◌, ◌≤◌, List, [], ◌∷◌, ◌++◌, length, drop, take, map, fold, bit_and, refl, sym, ap, ◌∙◌, arith}
-use Rattle.std.proofs.lemmas.List.{map-append, take-append-drop}
+use Rattle.std.proofs.Common.{◌≡◌, ℕ, Bool, zero, suc, ◌+◌, ◌-◌, ◌<◌, ◌≤◌, List, [], ◌∷◌, ◌++◌, fold, bit_and, refl, sym, ap, ◌∙◌, arith}
 use Rattle.std.proofs.lemmas.List.Sums.{fold-append}
 use Rattle.thumb_instr.specs.Items.{has}
-use Rattle.thumb_model.specs.Items.{Values}
-use Rattle.window_exec.specs.declared.state.WState.{WState}
-use Rattle.window_exec.specs.State.{values_of}
 use Rattle.fingerprints.specs.declared.lanes.Lanes.{Lanes}
 use Rattle.fingerprints.specs.declared.columns.Column.{Column}
 use Rattle.fingerprints.specs.Lanes.{values_at, flags_at}
@@ -44,14 +40,3 @@ by_words m h a b c d g h1 h2 h3 h4 h5 t0 t1 t2 t3 s0 s1 s2 s3 e1 e2 e3 e4 e5 =
     ∙ ap (λ n. fold mixed n third) (sym e2) ∙ fold-append mixed h2 (one_if t2 c) fourth
     ∙ ap (λ n. fold mixed n fourth) (sym e3) ∙ fold-append mixed h3 (one_if t3 d) (g ∷ [])
     ∙ ap (λ n. mixed n g) (sym e4) ∙ sym e5))
-
--- the states of a list's first part, and then those of the rest
-pub one_part : (f : Values → Values) (m h n r : ℕ) (rest : List WState) → r ≡ print_from m h (map f (map values_of (take n rest)))
-    → print_from m r (map f (map values_of (drop n rest))) ≡ print_from m h (map f (map values_of rest))
-one_part f m h n r rest e =
-    let part = map f (map values_of (take n rest)) in
-    let more = map f (map values_of (drop n rest)) in
-    let split : part ++ more ≡ map f (map values_of rest) =
-        sym (map-append f (map values_of (take n rest)) (map values_of (drop n rest)))
-        ∙ ap (map f) (sym (map-append values_of (take n rest) (drop n rest))) ∙ ap (λ ss. map f (map values_of ss)) (take-append-drop n rest) in
-    ap (λ p. print_from m p more) e ∙ sym (fold-append (with_words m) h part more) ∙ ap (print_from m h) split

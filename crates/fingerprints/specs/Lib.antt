@@ -3,3 +3,4 @@ pub mod Lanes
 pub mod Print
 pub mod Columns
 pub mod Sequences
+pub mod Index

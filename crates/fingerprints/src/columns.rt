@@ -22,6 +22,12 @@ pub(crate) struct Column {
 }
 
 impl Column {
+    ghost use Rattle.std.specs.Prelude.{◌≡◌, ◌≤◌, map, length, true};
+    ghost use Rattle.thumb_instr.specs.Window.{is_in_window};
+    ghost use Rattle.thumb_instr.specs.Renaming.{named, AreBelow};
+    ghost use Rattle.thumb_model.specs.Effect.{after, after_all};
+    ghost use Rattle.thumb_model.specs.Rewrite.{AreOver};
+    ghost use Rattle.window_exec.specs.State.{values_of};
     ghost use Rattle.fingerprints.specs.Columns.{states_of};
 
     /// The states given, from lane 0 on.

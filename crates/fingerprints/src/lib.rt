@@ -2,16 +2,20 @@
 //! the prints that sequences leave in them.
 #![tactic(auto)]
 
+mod arranging;
 mod columns;
 mod errors;
+mod index;
 mod lanes;
 mod print;
+mod sequences;
 mod states;
 mod stepping;
 #[cfg(test)]
 mod tests;
 
 pub use errors::Memory;
+pub use index::Index;
 pub use lanes::Lanes;
 pub use print::print_of;
 pub use states::{States, first_state_of_42, seeded};
