@@ -6,3 +6,5 @@ pub mod PrintLemmas
 pub mod SequenceLemmas
 pub mod StateLemmas
 pub mod StepLemmas
+pub mod Candidates
+pub mod Alike

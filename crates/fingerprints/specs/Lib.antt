@@ -4,3 +4,4 @@ pub mod Print
 pub mod Columns
 pub mod Sequences
 pub mod Index
+pub mod Laws

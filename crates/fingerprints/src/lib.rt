@@ -7,6 +7,7 @@ mod columns;
 mod errors;
 mod index;
 mod lanes;
+pub mod laws;
 mod print;
 mod sequences;
 mod states;
