@@ -132,7 +132,7 @@ module _ (mask longest print number : ℕ) (states : List Values) (letters : Lis
       → Contains (scanned print 0 (prints_within mask states letters longest)) number
   sequence_is_candidate s =
       let at : slice_get (prints_within mask states letters longest) number ≡ Some print =
-          slice_get-map (print_after mask states) (sequences_within longest letters) number ∙ ap (option_map (print_after mask states)) (sequence_is_within longest letters number s.0 h s.1 s.2) ∙ ap (λ x. Some x) s.3 in
+      slice_get-map (print_after mask states) (sequences_within longest letters) number ∙ ap (option_map (print_after mask states)) (sequence_is_within longest letters number s.0 h s.1 s.2) ∙ ap (λ x. Some x) s.3 in
       let k = place_found print 0 (prints_within mask states letters longest) number at in
       let same : 0 + number ≡ number = omega arith in
       contains_at _ number k.0 (k.1 ∙ ap (λ x. Some x) same)

@@ -72,10 +72,7 @@ fn eight_of(states: &[WState]) -> [WState; 8]
     requires { length states.now ≤ 8 }
     ensures { (i : ℕ) (s : WState) → slice_get states.now i ≡ Some s → slice_get result i ≡ Some s }
 {
-    let mut eight = [WState {
-        r: [0; 4],
-        nzcv: 0,
-    }; 8];
+    let mut eight = [WState { r: [0; 4], nzcv: 0 }; 8];
     for (i, state) in states.iter().enumerate() {
         eight[i] = *state;
     }
