@@ -1,5 +1,5 @@
 -- Sequences that no state tells apart have equal prints.
-use Rattle.std.proofs.Common.{◌≡◌, ◌≢◌, ℕ, zero, suc, ◌+◌, ◌*◌, ◌%◌, ◌<◌, ◌≤◌, ◌^◌, ◌==◌, inl, inr, Bool, true, false, List, [], ◌∷◌, ◌++◌, length, map, get_or, fold, bit_and, min, refl, sym, ◌∙◌, ap, subst, arith}
+use Rattle.std.proofs.Common.{◌≡◌, ℕ, zero, suc, ◌+◌, ◌*◌, ◌%◌, ◌<◌, ◌≤◌, ◌^◌, ◌==◌, inl, inr, Bool, true, false, List, [], ◌∷◌, length, map, get_or, fold, bit_and, min, refl, sym, ◌∙◌, ap, arith}
 use Rattle.std.specs.Prelude.{All, if◌then◌else◌}
 use Rattle.std.specs.Int.{bit_at, from_bool}
 use Rattle.std.proofs.lemmas.Bool.{cases_eq, cases_lt, cases_Bool}
@@ -9,7 +9,7 @@ use Rattle.std.proofs.lemmas.Nat.{and_le_r}
 use Rattle.std.proofs.lemmas.Nat.Bits.{bit_at-lt, bit_at_and, same_from_bits_below}
 use Rattle.thumb_instr.specs.declared.instr.Instr.{Instr}
 use Rattle.thumb_instr.specs.Items.{has}
-use Rattle.thumb_model.specs.Items.{Values, AreWords, sp, n_flag, z_flag, c_flag, v_flag}
+use Rattle.thumb_model.specs.Items.{Values, n_flag, z_flag, c_flag, v_flag}
 use Rattle.thumb_model.specs.Effect.{outputs, after, after_all}
 use Rattle.thumb_model.proofs.Held.{AreHeld, are_held, values_of as outputs_held}
 use Rattle.window_exec.specs.declared.state.WState.{WState}

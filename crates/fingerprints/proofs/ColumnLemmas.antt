@@ -1,5 +1,5 @@
 -- Columns of states, and the states after an instruction.
-use Rattle.std.proofs.Common.{◌≡◌, ℕ, zero, suc, ◌+◌, ◌<◌, ◌≤◌, List, [], ◌∷◌, ◌++◌, length, slice_get, slice_index_or, Some, drop, map, refl, sym, ap, ◌∙◌, arith, subst}
+use Rattle.std.proofs.Common.{◌≡◌, ℕ, zero, suc, ◌+◌, ◌<◌, ◌≤◌, List, [], ◌∷◌, length, slice_get, slice_index_or, Some, drop, map, refl, sym, ap, ◌∙◌, arith, subst}
 use Rattle.std.proofs.lemmas.List.{drop_all}
 use Rattle.std.proofs.lemmas.Simd.{map-map}
 use Rattle.std.proofs.Math.Seq.{drop-cons}
@@ -10,9 +10,8 @@ use Rattle.thumb_model.specs.Items.{Values}
 use Rattle.window_exec.specs.declared.state.WState.{WState}
 use Rattle.window_exec.specs.State.{values_of}
 use Rattle.fingerprints.specs.declared.lanes.Lanes.{Lanes}
-use Rattle.fingerprints.specs.declared.columns.Column.{Column}
 use Rattle.fingerprints.specs.Lanes.{values_at}
-use Rattle.fingerprints.specs.Columns.{lanes_from, states_of, states_in}
+use Rattle.fingerprints.specs.Columns.{lanes_from}
 
 -- a column holds the states given
 pub lanes_hold : (l : Lanes) (ss : List WState) (i : ℕ) → ((j : ℕ) (s : WState) → slice_get ss j ≡ Some s → values_at l (i + j) ≡ values_of s) → lanes_from l i (length ss) ≡ map values_of ss

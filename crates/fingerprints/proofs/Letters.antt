@@ -1,5 +1,5 @@
 -- The letters of an alphabet: each may stand in a window, names registers below k alone, and is normal.
-use Rattle.std.proofs.Common.{◌≡◌, ℕ, zero, suc, ◌+◌, ◌<◌, ◌≤◌, ◌==◌, ◌⊎◌, inl, inr, Bool, true, false, not, List, [], ◌∷◌, Option, Some, None, slice_get, map, cond, filter, refl, sym, ◌∙◌, ap, subst, arith, nat_lt}
+use Rattle.std.proofs.Common.{◌≡◌, ℕ, zero, suc, ◌<◌, ◌≤◌, ◌==◌, ◌⊎◌, inl, inr, Bool, true, false, not, List, [], ◌∷◌, Option, Some, None, slice_get, map, cond, filter, refl, sym, ◌∙◌, ap, subst, arith, nat_lt}
 use Rattle.std.specs.Option.{option_map}
 use Rattle.std.proofs.lemmas.Bool.{lt-ltb, not-true, eqb-true, eq-eqb, cases_Bool}
 use Rattle.std.proofs.lemmas.Option.{slice_get-map, same_Some}
@@ -9,7 +9,7 @@ use Rattle.thumb_instr.specs.declared.instr.Instr.TheVariants as instr
 use Rattle.thumb_instr.specs.Renaming.{named, AreBelow}
 use Rattle.thumb_instr.specs.Window.{is_in_window, normal_of}
 use Rattle.seq_enum.specs.Lists.{grid2, grid3, held_in}
-use Rattle.seq_enum.specs.Alphabet.{registers, others, wide, added, pair_of, rows, members, alphabet}
+use Rattle.seq_enum.specs.Alphabet.{registers, others, wide, pair_of, rows, members, alphabet}
 use Rattle.seq_enum.specs.declared.rows.Row.{Row}
 use Rattle.seq_enum.specs.declared.rows.Row.TheVariants as row
 use Rattle.seq_enum.specs.declared.rows.Pair.{Pair}

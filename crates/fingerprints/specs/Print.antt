@@ -1,5 +1,5 @@
 -- Prints: the words that a sequence leaves in each state, mixed one after the other.
-use Rattle.std.specs.Prelude.{ℕ, zero, suc, ◌+◌, ◌*◌, ◌%◌, ◌^◌, List, [], ◌∷◌, ◌++◌, Bool, if◌then◌else◌, bit_and, bit_xor, fold, map}
+use Rattle.std.specs.Prelude.{ℕ, ◌+◌, ◌*◌, ◌%◌, ◌^◌, List, [], ◌∷◌, ◌++◌, Bool, if◌then◌else◌, bit_and, bit_xor, fold, map}
 use Rattle.std.specs.Int.{w64, rotate_left, from_bool}
 use Rattle.thumb_instr.specs.declared.instr.Instr.{Instr}
 use Rattle.thumb_instr.specs.Items.{has}

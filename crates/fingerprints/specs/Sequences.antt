@@ -1,10 +1,10 @@
 -- Sequences of an alphabet by their numbers, and their prints.
-use Rattle.std.specs.Prelude.{ℕ, zero, suc, ◌+◌, List, [], ◌∷◌, ◌++◌, map}
+use Rattle.std.specs.Prelude.{ℕ, ◌+◌, List, map}
 use Rattle.std.specs.List.{flat_map}
 use Rattle.thumb_instr.specs.declared.instr.Instr.{Instr}
 use Rattle.thumb_model.specs.Items.{Values}
 use Rattle.seq_enum.specs.Lists.{numbers_from}
-use Rattle.seq_enum.specs.Alphabet.{alphabet, words}
+use Rattle.seq_enum.specs.Alphabet.{words}
 use Rattle.fingerprints.specs.Print.{print_after}
 
 -- the sequences of at most so many instructions of an alphabet, by number

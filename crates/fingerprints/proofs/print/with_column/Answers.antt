@@ -1,4 +1,4 @@
-use Rattle.std.proofs.Common.{◌≡◌, ◌<◌, ◌≤◌, ◌∙◌, sym, arith}
+use Rattle.std.proofs.Common.{◌<◌, ◌∙◌, sym, arith}
 use Rattle.fingerprints.proofs.PrintLemmas.{one_lane, no_lane, by_words}
 use Rattle.fingerprints.proofs.print.with_column.Goals as goal
 

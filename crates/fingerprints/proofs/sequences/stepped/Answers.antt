@@ -1,4 +1,4 @@
-use Rattle.std.proofs.Common.{◌++◌, sym, ap, map, ◌∙◌}
+use Rattle.std.proofs.Common.{sym, map, ◌∙◌}
 use Rattle.thumb_model.specs.Effect.{after}
 use Rattle.fingerprints.specs.Columns.{states_in}
 use Rattle.fingerprints.proofs.SequenceLemmas.{none_stepped, column_stepped, columns_done}
