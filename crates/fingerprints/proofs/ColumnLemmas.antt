@@ -1,5 +1,5 @@
 -- Columns of states, and the states after an instruction.
-use Rattle.std.proofs.Common.{◌≡◌, ℕ, zero, suc, ◌+◌, ◌<◌, ◌≤◌, List, [], ◌∷◌, length, slice_get, slice_index_or, Some, drop, map, refl, sym, ap, ◌∙◌, arith, subst}
+use Rattle.std.proofs.Common.{◌≡◌, ℕ, zero, suc, ◌+◌, ◌<◌, ◌≤◌, List, [], ◌∷◌, length, slice_get, slice_index_or, Some, drop, map, refl, sym, ap, ◌∙◌, arith}
 use Rattle.std.proofs.lemmas.List.{drop_all}
 use Rattle.std.proofs.lemmas.Simd.{map-map}
 use Rattle.std.proofs.Math.Seq.{drop-cons}
@@ -47,9 +47,6 @@ over_more letters i x h over =
     let one : suc i ≡ i + 1 = omega arith in
     let here : drop i letters ≡ slice_index_or letters i x ∷ drop (i + 1) letters = drop-cons letters i x h ∙ ap (λ n. slice_index_or letters i x ∷ drop n letters) one in
     (rw here at over).2
-
-pub over_this : (letters : List Instr) (i : ℕ) (x : Instr) → i < length letters → x ≡ slice_index_or letters i x → AreOver 4 (drop i letters) → AreOver 4 (x ∷ drop (i + 1) letters)
-over_this letters i x h item over = subst (AreOver 4) (rest_is letters i x h item) over
 
 pub run_on : (instrs : List Instr) (i : ℕ) (x : Instr) (states later whole : List Values) → i < length instrs → x ≡ slice_index_or instrs i x → later ≡ map (after x) states
     → map (after_all (drop i instrs)) states ≡ whole → map (after_all (drop (i + 1) instrs)) later ≡ whole

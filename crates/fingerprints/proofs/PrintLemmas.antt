@@ -1,11 +1,13 @@
 -- Prints, state by state and column by column.
-use Rattle.std.proofs.Common.{◌≡◌, ℕ, Bool, suc, ◌+◌, ◌-◌, ◌<◌, ◌≤◌, List, [], ◌∷◌, ◌++◌, fold, bit_and, refl, sym, ap, ◌∙◌, arith}
+use Rattle.std.proofs.Common.{◌≡◌, ℕ, Bool, suc, ◌+◌, ◌-◌, ◌<◌, ◌≤◌, List, [], ◌∷◌, ◌++◌, fold, bit_and, slice_index, refl, sym, ap, ◌∙◌, arith}
 use Rattle.std.proofs.lemmas.List.Sums.{fold-append}
 use Rattle.thumb_instr.specs.Items.{has}
 use Rattle.fingerprints.specs.declared.lanes.Lanes.{Lanes}
 use Rattle.fingerprints.specs.declared.columns.Column.{Column}
+use Rattle.fingerprints.specs.declared.print.Words.{Words}
 use Rattle.fingerprints.specs.Lanes.{values_at, flags_at}
 use Rattle.fingerprints.specs.Print.{mixed, one_if, masked, nzcv_of, in_mask, words_of, with_words, print_from}
+use Rattle.fingerprints.specs.Words.{AreWordsAt}
 use Rattle.fingerprints.specs.Columns.{lanes_from, states_of, states_in}
 
 -- one more lane
@@ -40,3 +42,9 @@ by_words m h a b c d g h1 h2 h3 h4 h5 t0 t1 t2 t3 s0 s1 s2 s3 e1 e2 e3 e4 e5 =
     ∙ ap (λ n. fold mixed n third) (sym e2) ∙ fold-append mixed h2 (one_if t2 c) fourth
     ∙ ap (λ n. fold mixed n fourth) (sym e3) ∙ fold-append mixed h3 (one_if t3 d) (g ∷ [])
     ∙ ap (λ n. mixed n g) (sym e4) ∙ sym e5))
+
+-- one more lane, by its words
+pub one_lane_on : (m h i count : ℕ) (l : Lanes) (words : Words) (flags r whole : ℕ) → i < count → AreWordsAt l words i → flags ≡ nzcv_of (in_mask m)
+    → r ≡ fold mixed h (masked m (slice_index words.r0 i) (slice_index words.r1 i) (slice_index words.r2 i) (slice_index words.r3 i) (bit_and (slice_index words.nzcv i) flags))
+    → print_from m h (lanes_from l i (count - i)) ≡ whole → print_from m r (lanes_from l (i + 1) (count - (i + 1))) ≡ whole
+one_lane_on m h i count l words flags r whole below are f e so = one_lane m h i count l _ _ _ _ _ _ r below are.r0 are.r1 are.r2 are.r3 are.nzcv f e ∙ so

@@ -1,7 +1,7 @@
 -- Prints along the tree of beginnings.
-use Rattle.std.proofs.Common.{◌≡◌, ℕ, zero, suc, ◌+◌, ◌-◌, ◌<◌, ◌≤◌, List, [], ◌∷◌, ◌++◌, length, drop, take, slice_index_or, append-nil, append_assoc, map, refl, sym, ap, ◌∙◌, arith}
+use Rattle.std.proofs.Common.{◌≡◌, ℕ, zero, suc, ◌+◌, ◌-◌, ◌<◌, ◌≤◌, List, [], ◌∷◌, ◌++◌, length, drop, take, slice_index_or, append-nil, append_assoc, map, refl, sym, ap, ◌∙◌, arith, subst}
 use Rattle.std.specs.List.{flat_map}
-use Rattle.std.proofs.lemmas.List.{map-append, drop_all, take-append-drop}
+use Rattle.std.proofs.lemmas.List.{map-append, drop_all, take-append-drop, take_rest}
 use Rattle.std.proofs.lemmas.List.Concat.{flat_map-append}
 use Rattle.std.proofs.lemmas.List.Sums.{fold-append}
 use Rattle.std.proofs.lemmas.Simd.{map-map}
@@ -11,13 +11,16 @@ use Rattle.thumb_model.specs.Items.{Values}
 use Rattle.thumb_model.specs.Effect.{after, after_all}
 use Rattle.window_exec.specs.declared.state.WState.{WState}
 use Rattle.window_exec.specs.State.{values_of}
+use Rattle.thumb_model.specs.Rewrite.{AreOver}
 use Rattle.seq_enum.specs.Lists.{numbers_from}
 use Rattle.seq_enum.specs.Alphabet.{words}
 use Rattle.fingerprints.specs.declared.columns.Column.{Column}
 use Rattle.fingerprints.specs.Print.{with_words, print_from, print_after}
-use Rattle.fingerprints.specs.Columns.{states_of, states_in}
+use Rattle.fingerprints.specs.declared.lanes.Lanes.{Lanes}
+use Rattle.fingerprints.specs.Lanes.{values_at}
+use Rattle.fingerprints.specs.Columns.{lanes_from, states_of, states_in}
 use Rattle.fingerprints.specs.Sequences.{sequences_within, prints_of, prints_within}
-use Rattle.fingerprints.proofs.ColumnLemmas.{rest_is, unchanged}
+use Rattle.fingerprints.proofs.ColumnLemmas.{rest_is, unchanged, column_after}
 
 -- ---- words with a letter more in front are words with a letter more behind
 
@@ -103,13 +106,6 @@ letter_done mask states after_x letters n i x old new h item step e =
     ap (λ ps. ps ++ rest) (e ∙ ap (λ vs. old ++ prints_of mask vs letters n) step)
     ∙ append_assoc old (prints_of mask (map (after x) states) letters n) rest
     ∙ ap (λ ls. old ++ prints_behind mask states letters n ls) (sym (rest_is letters i x h item))
-
-pub letter_printed : (mask : ℕ) (states : List Values) (letters : List Instr) (i : ℕ) (x : Instr) (old new : List ℕ) (print : ℕ) → i < length letters → x ≡ slice_index_or letters i x
-    → print ≡ print_from mask 0 (map (after x) states) → new ≡ old ++ print ∷ []
-    → new ++ prints_behind mask states letters 0 (drop (i + 1) letters) ≡ old ++ prints_behind mask states letters 0 (drop i letters)
-letter_printed mask states letters i x old new print h item p e =
-    letter_done mask states (map (after x) states) letters 0 i x old new h item refl
-    (e ∙ ap (λ q. old ++ q ∷ []) p ∙ ap (λ ps. old ++ ps) (sym (prints_none mask (map (after x) states) letters 0 refl)))
 
 pub letters_done : (mask : ℕ) (states : List Values) (letters : List Instr) (n i : ℕ) (old : List ℕ) → length letters ≤ i → old ++ prints_behind mask states letters n (drop i letters) ≡ old
 unfolding prints_behind
@@ -199,3 +195,51 @@ column_arranged columns new column rest eight more n e f held p =
     ∙ ap (λ vs. vs ++ map values_of more) (states_behind columns column ∙ ap (λ vs. states_in columns ++ vs) held)
     ∙ append_assoc (states_in columns) (map values_of eight) (map values_of more)
     ∙ ap (λ vs. states_in columns ++ vs) (sym (map-append values_of eight more) ∙ ap (map values_of) (ap (λ ss. ss ++ more) e ∙ ap (λ ss. take n rest ++ ss) f ∙ take-append-drop n rest))
+
+-- one more column, whose lanes became what f makes of them
+pub lanes_printed : (f : Values → Values) (m h : ℕ) (columns : List Column) (i : ℕ) (column : Column) (l : Lanes) (r whole : ℕ) → i < length columns → column ≡ slice_index_or columns i column
+    → ((j : ℕ) → j < 8 → values_at l j ≡ f (values_at column.lanes j)) → r ≡ print_from m h (lanes_from l 0 column.count)
+    → print_from m h (map f (states_in (drop i columns))) ≡ whole → print_from m r (map f (states_in (drop (i + 1) columns))) ≡ whole
+lanes_printed f m h columns i column l r whole below item each e so =
+    column_printed f m h columns i column (record { lanes = l; count = column.count; most = column.most }) r below item (column_after f column.lanes l column.count each column.most) e ∙ so
+
+-- the prints of four letters, and then those of the rest
+pub four_printed : (mask : ℕ) (states : List Values) (letters rest tail : List Instr) (x y z w : Instr) (old now whole : List ℕ) (p q r s : ℕ) → rest ≡ x ∷ y ∷ z ∷ w ∷ tail
+    → p ≡ print_from mask 0 (map (after x) states) → q ≡ print_from mask 0 (map (after y) states) → r ≡ print_from mask 0 (map (after z) states) → s ≡ print_from mask 0 (map (after w) states)
+    → now ≡ (((old ++ p ∷ []) ++ q ∷ []) ++ r ∷ []) ++ s ∷ []
+    → old ++ prints_behind mask states letters 0 rest ≡ whole → now ++ prints_behind mask states letters 0 tail ≡ whole
+unfolding prints_behind
+four_printed mask states letters rest tail x y z w old now whole p q r s e a b c d f so =
+    ap (λ ns. ns ++ prints_behind mask states letters 0 tail) (f ∙ simp append_assoc)
+    ∙ append_assoc old (p ∷ q ∷ r ∷ s ∷ []) (prints_behind mask states letters 0 tail)
+    ∙ rw (a, b, c, d) (ap (λ ns. old ++ ns) (sym (each x (y ∷ z ∷ w ∷ tail) ∙ ap (λ ns. print_from mask 0 (map (after x) states) ∷ ns)
+    (each y (z ∷ w ∷ tail) ∙ ap (λ ns. print_from mask 0 (map (after y) states) ∷ ns) (each z (w ∷ tail) ∙ ap (λ ns. print_from mask 0 (map (after z) states) ∷ ns) (each w tail))))))
+    ∙ ap (λ is. old ++ prints_behind mask states letters 0 is) (sym e) ∙ so
+  where
+    each : (i : Instr) (is : List Instr) → prints_behind mask states letters 0 (i ∷ is) ≡ print_from mask 0 (map (after i) states) ∷ prints_behind mask states letters 0 is
+    each i is = ap (λ ns. ns ++ prints_behind mask states letters 0 is) (prints_none mask (map (after i) states) letters 0 refl)
+
+-- a list of four at least, by its first four
+pub four_are : (rest : List Instr) (x y z w : Instr) → 4 ≤ length rest → x ≡ slice_index_or rest 0 x → y ≡ slice_index_or rest 1 y → z ≡ slice_index_or rest 2 z → w ≡ slice_index_or rest 3 w
+    → rest ≡ x ∷ y ∷ z ∷ w ∷ take (length rest - 4) (drop 4 rest)
+four_are (a ∷ b ∷ c ∷ d ∷ ds) x y z w h ea eb ec ed =
+    rw (ea, eb, ec, ed) (ap (λ is. a ∷ b ∷ c ∷ d ∷ is) (sym (take_rest (a ∷ b ∷ c ∷ d ∷ ds) 4)))
+four_are rest x y z w h ea eb ec ed = absurd (omega arith)
+
+pub over_tail : (rest : List Instr) (x y z w : Instr) (tail : List Instr) → rest ≡ x ∷ y ∷ z ∷ w ∷ tail → AreOver 4 rest → AreOver 4 tail
+over_tail rest x y z w tail e over = let o : AreOver 4 (x ∷ y ∷ z ∷ w ∷ tail) = subst (AreOver 4) e over in o.2.2.2.2
+
+-- one more letter of those that are left
+pub left_printed : (mask : ℕ) (states : List Values) (letters rest : List Instr) (i : ℕ) (x : Instr) (old new whole : List ℕ) (print : ℕ) → i < length rest → x ≡ slice_index_or rest i x
+    → print ≡ print_from mask 0 (map (after x) states) → new ≡ old ++ print ∷ []
+    → old ++ prints_behind mask states letters 0 (drop i rest) ≡ whole → new ++ prints_behind mask states letters 0 (drop (i + 1) rest) ≡ whole
+unfolding prints_behind
+left_printed mask states letters rest i x old new whole print h item p e so =
+    let tail = prints_behind mask states letters 0 (drop (i + 1) rest) in
+    ap (λ ns. ns ++ tail) (e ∙ ap (λ n. old ++ n ∷ []) p ∙ ap (λ ns. old ++ ns) (sym (prints_none mask (map (after x) states) letters 0 refl)))
+    ∙ append_assoc old (prints_of mask (map (after x) states) letters 0) tail
+    ∙ ap (λ is. old ++ prints_behind mask states letters 0 is) (sym (rest_is rest i x h item)) ∙ so
+
+pub none_left : (mask : ℕ) (states : List Values) (letters rest : List Instr) (i : ℕ) (old whole : List ℕ) → length rest ≤ i → old ++ prints_behind mask states letters 0 (drop i rest) ≡ whole → old ≡ whole
+unfolding prints_behind
+none_left mask states letters rest i old whole h so = sym (append-nil old) ∙ ap (λ is. old ++ prints_behind mask states letters 0 is) (sym (drop_all i rest h)) ∙ so

@@ -1,13 +1,15 @@
 //! Prints of what sequences leave in states.
 
-ghost use Rattle.std.specs.Prelude.{◌≡◌, ℕ, ◌<◌, fold, map};
+ghost use Rattle.std.specs.Prelude.{◌≡◌, ℕ, ◌<◌, ◌≤◌, fold, map, bit_and, slice_index};
 ghost use Rattle.thumb_model.specs.Effect.{after_all};
 ghost use Rattle.thumb_model.specs.Rewrite.{AreOver};
 ghost use Rattle.window_exec.specs.State.{values_of};
 ghost use Rattle.fingerprints.specs.Print.{mixed, one_if, masked, nzcv_of, in_mask, print_from, print_after};
-ghost use Rattle.fingerprints.specs.Columns.{states_of, states_in};
+ghost use Rattle.fingerprints.specs.Columns.{lanes_from, states_of, states_in};
+ghost use Rattle.fingerprints.specs.Words.{AreWordsAt};
 
 use crate::columns::Column;
+use crate::lanes::Lanes;
 use crate::states::States;
 use thumb_instr::items::{C, N, V, Z};
 use thumb_instr::{Mask, Seq};
@@ -36,25 +38,98 @@ fn flags_of(mask: Mask) -> u32
     high + u32::from(mask.has(C)) * 2 + u32::from(mask.has(V))
 }
 
+/// The print so far with the words of one more state.
+#[inline(always)]
+fn with_state(print: u64, words: &Words, i: usize, mask: Mask, flags: u32) -> u64
+    requires { i < 8 }
+    ensures { result ≡ fold mixed print (masked mask.items.bits (slice_index words.now.r0 i) (slice_index words.now.r1 i) (slice_index words.now.r2 i) (slice_index words.now.r3 i) (bit_and (slice_index words.now.nzcv i) flags)) }
+{
+    let mut h = print;
+    h = mixed_if(h, mask.has(0), words.r0[i]);
+    h = mixed_if(h, mask.has(1), words.r1[i]);
+    h = mixed_if(h, mask.has(2), words.r2[i]);
+    h = mixed_if(h, mask.has(3), words.r3[i]);
+    mixed(h, words.nzcv[i] & flags)
+}
+
+/// The registers and flags of a column's states, lane by lane.
+#[derive(Clone, Copy)]
+struct Words {
+    r0: [u32; 8],
+    r1: [u32; 8],
+    r2: [u32; 8],
+    r3: [u32; 8],
+    nzcv: [u32; 8],
+}
+
+/// The words of eight states.
+#[inline(always)]
+fn words_of(lanes: &Lanes) -> Words
+    ensures { (i : ℕ) → i < 8 → AreWordsAt lanes.now result i }
+{
+    Words {
+        r0: lanes.get(0).to_array(),
+        r1: lanes.get(1).to_array(),
+        r2: lanes.get(2).to_array(),
+        r3: lanes.get(3).to_array(),
+        nzcv: lanes.nzcv().to_array(),
+    }
+}
+
 /// The print so far with the states of a column, from lane 0 on.
 #[inline(always)]
 pub(crate) fn with_column(print: u64, column: &Column, mask: Mask) -> u64
     ensures { result ≡ print_from mask.items.bits print (states_of column.now) }
 {
-    let r0 = column.lanes.get(0).to_array();
-    let r1 = column.lanes.get(1).to_array();
-    let r2 = column.lanes.get(2).to_array();
-    let r3 = column.lanes.get(3).to_array();
-    let nzcv = column.lanes.nzcv().to_array();
+    let words = words_of(&column.lanes);
     let flags = flags_of(mask);
     let mut h = print;
-    // the mask is tested in this loop, and not in a function of one state: so the tests are taken out of it
     for i in 0..column.count {
-        h = mixed_if(h, mask.has(0), r0[i]);
-        h = mixed_if(h, mask.has(1), r1[i]);
-        h = mixed_if(h, mask.has(2), r2[i]);
-        h = mixed_if(h, mask.has(3), r3[i]);
-        h = mixed(h, nzcv[i] & flags);
+        h = with_state(h, &words, i, mask, flags);
+    }
+    h
+}
+
+/// Four prints.
+#[derive(Clone, Copy)]
+pub(crate) struct Prints {
+    pub(crate) a: u64,
+    pub(crate) b: u64,
+    pub(crate) c: u64,
+    pub(crate) d: u64,
+}
+
+/// Four prints so far, each with the states of lanes of its own. They are mixed in turn, so that
+/// none waits for another.
+#[inline(always)]
+pub(crate) fn with_lanes(
+    prints: Prints,
+    a: &Lanes,
+    b: &Lanes,
+    c: &Lanes,
+    d: &Lanes,
+    count: usize,
+    mask: Mask,
+) -> Prints
+    requires { count ≤ 8 }
+    ensures a { result.a ≡ print_from mask.items.bits prints.a (lanes_from a.now 0 count) }
+    ensures b { result.b ≡ print_from mask.items.bits prints.b (lanes_from b.now 0 count) }
+    ensures c { result.c ≡ print_from mask.items.bits prints.c (lanes_from c.now 0 count) }
+    ensures d { result.d ≡ print_from mask.items.bits prints.d (lanes_from d.now 0 count) }
+{
+    let first = words_of(a);
+    let second = words_of(b);
+    let third = words_of(c);
+    let fourth = words_of(d);
+    let flags = flags_of(mask);
+    let mut h = prints;
+    for i in 0..count {
+        h = Prints {
+            a: with_state(h.a, &first, i, mask, flags),
+            b: with_state(h.b, &second, i, mask, flags),
+            c: with_state(h.c, &third, i, mask, flags),
+            d: with_state(h.d, &fourth, i, mask, flags),
+        };
     }
     h
 }

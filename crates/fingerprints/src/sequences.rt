@@ -2,7 +2,7 @@
 //! after a beginning are kept while the sequences that go on from it are printed, so that a
 //! sequence takes one step of each column.
 
-ghost use Rattle.std.specs.Prelude.{◌≡◌, true, ◌≤◌, ◌+◌, ◌++◌, map, IfOk, OnOk};
+ghost use Rattle.std.specs.Prelude.{◌≡◌, true, ◌≤◌, ◌+◌, ◌++◌, ◌∷◌, [], map, IfOk, OnOk};
 ghost use Rattle.thumb_instr.specs.Window.{is_in_window};
 ghost use Rattle.thumb_instr.specs.Renaming.{named, AreBelow};
 ghost use Rattle.thumb_model.specs.Effect.{after};
@@ -12,7 +12,8 @@ ghost use Rattle.fingerprints.specs.Columns.{states_in};
 ghost use Rattle.fingerprints.specs.Sequences.{prints_of, prints_within};
 
 use crate::columns::Column;
-use crate::print::{print_in, with_column};
+use crate::print::{Prints, print_in, with_column, with_lanes};
+use crate::stepping::step8;
 use std::alloc::{AllocError, Global};
 use thumb_instr::{Instr, Mask};
 
@@ -71,7 +72,16 @@ fn print_letters(
     requires { AreOver 4 letters.now }
     ensures { OnOk result (prints.new.items ≡ prints.old.items ++ prints_of mask.items.bits (states_in columns.now) letters.now 1) }
 {
-    for letter in letters {
+    let mut rest = letters;
+    while let [a, b, c, d, more @ ..] = rest {
+        let four = print_four(a, b, c, d, columns, mask);
+        prints.push(four.a)?;
+        prints.push(four.b)?;
+        prints.push(four.c)?;
+        prints.push(four.d)?;
+        rest = more;
+    }
+    for letter in rest {
         prints.push(print_next(letter, columns, mask))?;
     }
     Ok(())
@@ -101,4 +111,28 @@ fn print_next(instr: &Instr, columns: &[Column], mask: Mask) -> u64
         h = with_column(h, &column.after(instr), mask);
     }
     h
+}
+
+/// The prints of the states after each of four instructions.
+fn print_four(a: &Instr, b: &Instr, c: &Instr, d: &Instr, columns: &[Column], mask: Mask) -> Prints
+    requires { AreOver 4 (a.now ∷ b.now ∷ c.now ∷ d.now ∷ []) }
+    ensures a { result.a ≡ print_from mask.items.bits 0 (map (after a.now) (states_in columns.now)) }
+    ensures b { result.b ≡ print_from mask.items.bits 0 (map (after b.now) (states_in columns.now)) }
+    ensures c { result.c ≡ print_from mask.items.bits 0 (map (after c.now) (states_in columns.now)) }
+    ensures d { result.d ≡ print_from mask.items.bits 0 (map (after d.now) (states_in columns.now)) }
+{
+    let mut prints = Prints {
+        a: 0,
+        b: 0,
+        c: 0,
+        d: 0,
+    };
+    for column in columns {
+        let first = step8(a, &column.lanes);
+        let second = step8(b, &column.lanes);
+        let third = step8(c, &column.lanes);
+        let fourth = step8(d, &column.lanes);
+        prints = with_lanes(prints, &first, &second, &third, &fourth, column.count, mask);
+    }
+    prints
 }
