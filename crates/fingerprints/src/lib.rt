@@ -1,10 +1,23 @@
-//! The states by which sequences are told apart: those that a seed gives.
+//! The states by which sequences are told apart: those that a seed gives, eight side by side, and
+//! the prints that sequences leave in them.
 #![tactic(auto)]
 
+mod arranging;
+mod columns;
 mod errors;
+mod index;
+mod lanes;
+pub mod laws;
+mod print;
+mod sequences;
 mod states;
+mod stepping;
 #[cfg(test)]
 mod tests;
 
 pub use errors::Memory;
+pub use index::Index;
+pub use lanes::Lanes;
+pub use print::print_of;
 pub use states::{States, first_state_of_42, seeded};
+pub use stepping::step8;

@@ -1,6 +1,14 @@
+ghost use Rattle.thumb_model.specs.Rewrite.{AreOver};
+
 use super::*;
+use seq_enum::{Pool, number_of};
 use std::test::Fail;
-use window_exec::WState;
+use thumb_instr::items::{C, N, V, Z};
+use thumb_instr::{
+    ByteOperation, Extension, Instr, Items, Mask, NotBothSp, Operation, Reversal, Right, Seq, Sum,
+    Within,
+};
+use window_exec::{WState, run_seq, step};
 
 /// The 64 states of a seed as another program computed them: r0 to r3 and the flags.
 static OF_0: [([u32; 4], u8); 64] = [
@@ -229,5 +237,182 @@ fn made_from_a_vector(rt: HostRuntime) -> Result<(), Fail> {
     let states = seeded(rt.alloc(), 42)?.into_vec();
     let again = States::new(states);
     assert_eq!(rt; again.as_slice().len(), 64);
+    Ok(())
+}
+
+/// Eight states at the edges of shifts and flags.
+const EDGES: [WState; 8] = [
+    WState {
+        r: [0x8000_0000, 0x20, 2, 3],
+        nzcv: 2,
+    },
+    WState {
+        r: [0x8000_0000, 0x21, 2, 3],
+        nzcv: 0,
+    },
+    WState {
+        r: [0x8000_0000, 0x100, 2, 3],
+        nzcv: 2,
+    },
+    WState {
+        r: [0x9391_7d9e, 0x8000_0001, 2, 3],
+        nzcv: 15,
+    },
+    WState {
+        r: [0xffff_ffff, 1, 2, 3],
+        nzcv: 0,
+    },
+    WState {
+        r: [0, 0, 0, 0],
+        nzcv: 4,
+    },
+    WState {
+        r: [0x7fff_ffff, 0x7fff_ffff, 2, 3],
+        nzcv: 9,
+    },
+    WState {
+        r: [1, 31, 2, 3],
+        nzcv: 6,
+    },
+];
+
+#[test]
+fn lanes_step_as_states_do(rt: HostRuntime) {
+    let lanes = Lanes::of(&EDGES);
+    for i in 0..8usize {
+        assert_eq!(rt; lanes.at(i), EDGES[i]);
+    }
+    use Operation::*;
+    for operation in [
+        And, Eor, Lsl, Lsr, Asr, Adc, Sbc, Ror, Tst, Rsb, Cmp, Cmn, Orr, Mul, Bic, Mvn,
+    ] {
+        let instr = Instr::Two {
+            operation,
+            target: Within::of(0),
+            other: Within::of(1),
+        };
+        let after = step8(&instr, &lanes);
+        for i in 0..8usize {
+            assert_eq!(rt; after.at(i), step(&instr, EDGES[i]));
+        }
+    }
+    for shift in [Right::Lsr, Right::Asr] {
+        let instr = Instr::ShiftRight {
+            shift,
+            target: Within::of(0),
+            source: Within::of(0),
+            amount: Within::of(32),
+        };
+        let after = step8(&instr, &lanes);
+        for i in 0..8usize {
+            assert_eq!(rt; after.at(i), step(&instr, EDGES[i]));
+        }
+    }
+}
+
+/// The print by running the states one after the other.
+fn plain_print(seq: &Seq, states: &[WState], mask: Mask) -> u64
+    requires { AreOver 4 seq.now }
+{
+    let mut print = 0;
+    for state in states {
+        let after = run_seq(seq, *state);
+        for register in 0..4u8 {
+            if mask.has(register) {
+                print = plain_mixed(print, after.r[register as usize]);
+            }
+        }
+        let mut flags = 0;
+        for (flag, bit) in [(N, 8), (Z, 4), (C, 2), (V, 1)] {
+            if mask.has(flag) {
+                flags |= after.nzcv & bit;
+            }
+        }
+        print = plain_mixed(print, u32::from(flags));
+    }
+    print
+}
+
+fn plain_mixed(print: u64, word: u32) -> u64 {
+    let turned = print << 5 | print >> 59;
+    (turned ^ u64::from(word)).wrapping_mul(0x9E37_79B9_7F4A_7C15)
+}
+
+// Prints of a few sequences in 67 states, so that the last column isn't full, by all masks of three kinds; and where the
+// index of all sequences of at most two instructions has them.
+#[test]
+fn prints_are_those_of_single_states(rt: HostRuntime) -> Result<(), Fail> {
+    let alloc = rt.alloc();
+    let mut listed = seeded(alloc, 42)?.into_vec();
+    listed.push(EDGES[0])?;
+    listed.push(EDGES[3])?;
+    listed.push(EDGES[6])?;
+    let states = States::new(listed);
+    let pool = Pool::new(&[1, 24]).ok_or("a pool")?;
+    let add = Instr::TwoNumber {
+        operation: ByteOperation::Add,
+        target: Within::of(0),
+        number: Within::of(1),
+    };
+    let shift = Instr::Two {
+        operation: Operation::Ror,
+        target: Within::of(1),
+        other: Within::of(0),
+    };
+    let total = Instr::Three {
+        sum: Sum::Sub,
+        target: Within::of(1),
+        left: Within::of(0),
+        right: Within::of(1),
+    };
+    let extend = Instr::Extend {
+        extension: Extension::Sxtb,
+        target: Within::of(0),
+        source: Within::of(1),
+    };
+    let reverse = Instr::Reverse {
+        reversal: Reversal::Revsh,
+        target: Within::of(1),
+        source: Within::of(1),
+    };
+    let plain = Instr::Add {
+        registers: NotBothSp::new(Within::of(1), Within::of(0)).ok_or("registers")?,
+    };
+    let seqs = [
+        Seq::from_slice(&[]).ok_or("none")?,
+        Seq::from_slice(&[add]).ok_or("one")?,
+        Seq::from_slice(&[shift, total]).ok_or("two")?,
+        Seq::from_slice(&[total, extend]).ok_or("two")?,
+        Seq::from_slice(&[reverse, plain]).ok_or("two")?,
+    ];
+    for items in [&[0, 1, N, Z, C, V][..], &[1, C][..], &[N, V][..]] {
+        let mask = Mask::of(Items::of(items));
+        let index = Index::build(alloc, 2, &pool, 2, &states, mask)?;
+        for seq in &seqs {
+            let print = print_of(seq, &states, mask);
+            assert_eq!(rt; print, plain_print(seq, states.as_slice(), mask));
+            let number = number_of(2, &pool, seq).ok_or("a number")?;
+            assert!(rt; index.candidates(alloc, print)?.contains(&number));
+        }
+    }
+    Ok(())
+}
+
+// One register, the pool 1 and no item: each of the 36 sequences of at most one instruction has the print 0.
+#[test]
+fn nothing_is_told_without_items(rt: HostRuntime) -> Result<(), Fail> {
+    let alloc = rt.alloc();
+    let states = seeded(alloc, 42)?;
+    let pool = Pool::new(&[1]).ok_or("a pool")?;
+    let index = Index::build(alloc, 1, &pool, 1, &states, Mask::of(Items::none()))?;
+    let mut numbers = Vec::new(alloc);
+    for number in 0..36u64 {
+        numbers.push(number)?;
+    }
+    assert_eq!(rt; index.candidates(alloc, 0)?, numbers);
+    assert!(rt; index.candidates(alloc, 1)?.is_empty());
+    assert_eq!(rt; index.pairs().len(), 36);
+    assert_eq!(rt; index.pairs().first().copied(), Some((0, 0)));
+    assert_eq!(rt; index.pairs().last().copied(), Some((0, 35)));
     Ok(())
 }

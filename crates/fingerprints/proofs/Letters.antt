@@ -1,0 +1,125 @@
+-- The letters of an alphabet: each may stand in a window, names registers below k alone, and is normal.
+use Rattle.std.proofs.Common.{◌≡◌, ℕ, zero, suc, ◌<◌, ◌≤◌, ◌==◌, ◌⊎◌, inl, inr, Bool, true, false, not, List, [], ◌∷◌, Option, Some, None, slice_get, map, cond, filter, refl, sym, ◌∙◌, ap, subst, arith, nat_lt}
+use Rattle.std.specs.Option.{option_map}
+use Rattle.std.proofs.lemmas.Bool.{lt-ltb, not-true, eqb-true, eq-eqb, cases_Bool}
+use Rattle.std.proofs.lemmas.Option.{slice_get-map, same_Some}
+use Rattle.thumb_instr.specs.declared.within.Within.{Within}
+use Rattle.thumb_instr.specs.declared.instr.Instr.{Instr}
+use Rattle.thumb_instr.specs.declared.instr.Instr.TheVariants as instr
+use Rattle.thumb_instr.specs.Renaming.{named, AreBelow}
+use Rattle.thumb_instr.specs.Window.{is_in_window, normal_of}
+use Rattle.seq_enum.specs.Lists.{grid2, grid3, held_in}
+use Rattle.seq_enum.specs.Alphabet.{registers, others, wide, pair_of, rows, members, alphabet}
+use Rattle.seq_enum.specs.declared.rows.Row.{Row}
+use Rattle.seq_enum.specs.declared.rows.Row.TheVariants as row
+use Rattle.seq_enum.specs.declared.rows.Pair.{Pair}
+use Rattle.seq_enum.specs.declared.rows.Pair.TheVariants as pair
+use Rattle.seq_enum.proofs.Numbered.{flat_map_at, flat_map_from}
+use Rattle.seq_enum.proofs.Fields.{register_low}
+use Rattle.std.proofs.Math.Nat.{lt_of_lt_of_le}
+use Rattle.thumb_model.specs.Rewrite.{AreOver}
+
+-- what a letter of the registers below k is
+pub record IsLetter (k : ℕ) (i : Instr) : Type 0 where
+  pub window : is_in_window i ≡ true
+  pub below : AreBelow k (named i)
+  pub normal : normal_of i ≡ i
+
+-- ---- lists ----
+
+at_cons : {X : Type 0} (x : X) (ys : List X) (i : ℕ) (o : X) → slice_get (x ∷ ys) i ≡ Some o → (x ≡ o) ⊎ ((k : ℕ) × (slice_get ys k ≡ Some o))
+at_cons x ys zero o h = inl (same_Some _ _ h)
+at_cons x ys (suc i) o h = inr (i, h)
+
+-- what a filter keeps passes, and is an element
+filter_at : {X : Type 0} (p : X → Bool) (xs : List X) (i : ℕ) (o : X) → slice_get (filter p xs) i ≡ Some o → (p o ≡ true) × ((j : ℕ) × (slice_get xs j ≡ Some o))
+filter_at p [] i o h = absurd (cc)
+filter_at p (x ∷ xs) i o h =
+    elim (p x) as (λ b. p x ≡ b → slice_get (cond b (x ∷ filter p xs) (filter p xs)) i ≡ Some o → (p o ≡ true) × ((j : ℕ) × (slice_get (x ∷ xs) j ≡ Some o))) [
+      | true ↦ λ e k. elim (at_cons x (filter p xs) i o k) [
+        | inl q ↦ (ap p (sym q) ∙ e, (0, ap (λ z. Some z) q))
+        | inr r ↦ (let later = filter_at p xs r.0 o r.1 in (later.0, (suc later.1.0, later.1.1)))
+      ]
+      | false ↦ λ e k. let later = filter_at p xs i o k in (later.0, (suc later.1.0, later.1.1))
+    ] refl h
+
+-- what stands in a grid is made of elements
+grid2_parts : {X Y A P : Type 0} (make : X → Y → A) (xs : List X) (ys : List Y) (i : ℕ) (a : A) → slice_get (grid2 make xs ys) i ≡ Some a
+    → ((h j : ℕ) (x : X) (y : Y) → slice_get xs h ≡ Some x → slice_get ys j ≡ Some y → make x y ≡ a → P) → P
+unfolding grid2
+grid2_parts {X} {Y} {A} {P} make xs ys i a e next =
+    flat_map_at (λ x. map (make x) ys) xs i a e (λ h x j front there. last h x j front (slice_get ys j) refl (sym (slice_get-map (make x) ys j) ∙ there))
+  where
+    last : (h : ℕ) (x : X) (j : ℕ) → slice_get xs h ≡ Some x → (o : Option Y) → slice_get ys j ≡ o → option_map (make x) o ≡ Some a → P
+    last h x j front None at is = absurd cc
+    last h x j front (Some y) at is = next h j x y front at (same_Some _ _ is)
+
+grid3_parts : {X Y Z A P : Type 0} (make : X → Y → Z → A) (xs : List X) (ys : X → List Y) (zs : List Z) (i : ℕ) (a : A) → slice_get (grid3 make xs ys zs) i ≡ Some a
+    → ((h j l : ℕ) (x : X) (y : Y) (z : Z) → slice_get xs h ≡ Some x → slice_get (ys x) j ≡ Some y → slice_get zs l ≡ Some z → make x y z ≡ a → P) → P
+unfolding grid3
+grid3_parts make xs ys zs i a e next =
+    flat_map_at (λ x. grid2 (make x) (ys x) zs) xs i a e (λ h x j front there.
+    grid2_parts (make x) (ys x) zs j a there (λ m n y z at last is. next h m n x y z front at last is))
+
+-- ---- letters, mnemonic by mnemonic ----
+
+low_low : (k : ℕ) (d : Within 0 8) → nat_lt (wide d).number 8 ≡ true
+low_low k d = lt-ltb d.number 8 d.below
+
+pair_letter : (k : ℕ) (p : Pair) (d m : Within 0 8) → d.number < k → m.number < k → IsLetter k (pair_of p d m)
+pair_letter k (pair.Two o) d m x y = record { window = refl; below = (x, (y, tt)); normal = refl }
+pair_letter k pair.Movs d m x y = record { window = refl; below = (x, (y, tt)); normal = refl }
+pair_letter k pair.Mov d m x y = record { window = rw (low_low k d, low_low k m) refl; below = (x, (y, tt)); normal = refl }
+pair_letter k pair.Add d m x y = record { window = rw (low_low k d, low_low k m) refl; below = (x, (y, tt)); normal = refl }
+pair_letter k (pair.Extend o) d m x y = record { window = refl; below = (x, (y, tt)); normal = refl }
+pair_letter k (pair.Reverse o) d m x y = record { window = refl; below = (x, (y, tt)); normal = refl }
+
+apart : (a b : ℕ) → (b == a) ≡ false → (a == b) ≡ false
+apart a b h = elim (cases_Bool (a == b)) [
+  | inl same ↦ (let e : (b == a) ≡ true = eq-eqb b a (sym (eqb-true a b same)) in absurd (cc))
+  | inr other ↦ other
+]
+
+member_letter : (k : ℕ) (pool : List ℕ) (r : Row) (i : ℕ) (a : Instr) → k ≤ 8 → slice_get (members k pool r) i ≡ Some a → IsLetter k a
+unfolding members
+member_letter k pool (row.Three s) i a few e =
+    grid3_parts (instr.Three s) (registers k) (λ d. registers k) (registers k) i a e (λ h j l d n m at there last is.
+    subst (IsLetter k) is (record { window = refl; below = (register_low k h d few at, (register_low k j n few there, (register_low k l m few last, tt))); normal = refl }))
+member_letter k pool (row.Number s) i a few e =
+    grid3_parts (instr.ThreeNumber s) (registers k) (others k) (held_in 0 8 pool) i a e (λ h j l d n m at there last is.
+    let kept = filter_at (λ (x : Within 0 8). not (x.number == d.number)) (registers k) j n there in
+    subst (IsLetter k) is (record {
+      window = refl;
+      below = (register_low k h d few at, (register_low k kept.1.0 n few kept.1.1, tt));
+      normal = rw (apart d.number n.number (not-true (n.number == d.number) kept.0)) refl;
+    }))
+member_letter k pool (row.Byte o) i a few e =
+    grid2_parts (instr.TwoNumber o) (registers k) (held_in 0 256 pool) i a e (λ h j d n at there is.
+    subst (IsLetter k) is (record { window = refl; below = (register_low k h d few at, tt); normal = refl }))
+member_letter k pool row.Left i a few e =
+    grid3_parts instr.ShiftLeft (registers k) (λ d. registers k) (held_in 1 32 pool) i a e (λ h j l d n m at there last is.
+    subst (IsLetter k) is (record { window = refl; below = (register_low k h d few at, (register_low k j n few there, tt)); normal = refl }))
+member_letter k pool (row.Right s) i a few e =
+    grid3_parts (instr.ShiftRight s) (registers k) (λ d. registers k) (held_in 1 33 pool) i a e (λ h j l d n m at there last is.
+    subst (IsLetter k) is (record { window = refl; below = (register_low k h d few at, (register_low k j n few there, tt)); normal = refl }))
+member_letter k pool (row.Pair p) i a few e =
+    grid2_parts (pair_of p) (registers k) (registers k) i a e (λ h j d m at there is.
+    subst (IsLetter k) is (pair_letter k p d m (register_low k h d few at) (register_low k j m few there)))
+
+pub letter : (k : ℕ) (pool : List ℕ) (i : ℕ) (a : Instr) → k ≤ 8 → slice_get (alphabet k pool) i ≡ Some a → IsLetter k a
+unfolding alphabet
+letter k pool i a few e = flat_map_from (members k pool) rows i a e (λ r j at. member_letter k pool r j a few at)
+
+-- ---- a list of letters
+
+all_over : (xs : List Instr) → ((i : ℕ) (a : Instr) → slice_get xs i ≡ Some a → (is_in_window a ≡ true) × AreBelow 4 (named a)) → AreOver 4 xs
+all_over [] h = tt
+all_over (x ∷ xs) h = ((h 0 x refl).0, (h 0 x refl).1, all_over xs (λ i a e. h (suc i) a e))
+
+below_more : (k : ℕ) (rs : List ℕ) → k ≤ 4 → AreBelow k rs → AreBelow 4 rs
+below_more k [] h b = tt
+below_more k (r ∷ rs) h b = (lt_of_lt_of_le b.0 h, below_more k rs h b.1)
+
+-- the letters of at most four registers may be run on a state
+pub alphabet_over : (k : ℕ) (pool : List ℕ) → k ≤ 4 → AreOver 4 (alphabet k pool)
+alphabet_over k pool few = all_over (alphabet k pool) (λ i a e. let l = letter k pool i a (omega arith) e in (l.window, below_more k (named a) few l.below))

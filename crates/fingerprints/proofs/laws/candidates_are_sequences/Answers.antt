@@ -1,0 +1,5 @@
+use Rattle.fingerprints.proofs.Candidates.{candidate_is_sequence, sequence_is_candidate}
+use Rattle.fingerprints.proofs.laws.candidates_are_sequences.Goals as goal
+
+pub returns : goal.returns
+returns c = λ mask longest print number states letters h. (candidate_is_sequence mask longest print number states letters h, sequence_is_candidate mask longest print number states letters h)

@@ -1,0 +1,24 @@
+use Rattle.std.proofs.Common.{◌≡◌, ◌++◌, drop, length}
+use Rattle.thumb_model.specs.Rewrite.{AreOver}
+use Rattle.fingerprints.specs.Columns.{states_in}
+use Rattle.fingerprints.specs.Sequences.{prints_of}
+use Rattle.fingerprints.proofs.SequenceLemmas.{prints_behind}
+use Rattle.fingerprints.proofs.sequences.print_letters.Given as goal
+
+-- the letters that are left complete the prints
+abbrev pub invariant-loop-rest : goal.invariant-loop-rest
+invariant-loop-rest l = record {
+  over : AreOver 4 l.rest;
+  printed : l.prints.items ++ prints_behind l.mask.items.bits (states_in l.columns) l.letters 0 l.rest
+      ≡ l.fn.prints.items ++ prints_of l.mask.items.bits (states_in l.columns) l.letters 1;
+}
+
+abbrev pub decreases-loop-rest : goal.decreases-loop-rest
+decreases-loop-rest l = length l.rest
+
+abbrev pub invariant-loop-letter : goal.invariant-loop-letter
+invariant-loop-letter l = record {
+  over : AreOver 4 (drop l.letter-index l.letter-items);
+  printed : l.prints.items ++ prints_behind l.mask.items.bits (states_in l.columns) l.letters 0 (drop l.letter-index l.letter-items)
+      ≡ l.fn.prints.items ++ prints_of l.mask.items.bits (states_in l.columns) l.letters 1;
+}

@@ -1,0 +1,11 @@
+use Rattle.std.proofs.Common.{◌≡◌, ◌-◌, ◌+◌, ◌++◌}
+use Rattle.fingerprints.specs.Columns.{states_in}
+use Rattle.fingerprints.specs.Sequences.{prints_within}
+use Rattle.fingerprints.proofs.SequenceLemmas.{prints_between}
+use Rattle.fingerprints.proofs.sequences.prints_within.Given as goal
+
+-- the lengths that are left complete the prints
+abbrev pub invariant-loop-length : goal.invariant-loop-length
+invariant-loop-length l =
+    l.prints.items ++ prints_between l.mask.items.bits (states_in l.columns) l.letters l.length (l.longest + 1 - l.length)
+    ≡ prints_within l.mask.items.bits (states_in l.columns) l.letters l.longest

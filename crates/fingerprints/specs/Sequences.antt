@@ -1,0 +1,20 @@
+-- Sequences of an alphabet by their numbers, and their prints.
+use Rattle.std.specs.Prelude.{ℕ, ◌+◌, List, map}
+use Rattle.std.specs.List.{flat_map}
+use Rattle.thumb_instr.specs.declared.instr.Instr.{Instr}
+use Rattle.thumb_model.specs.Items.{Values}
+use Rattle.seq_enum.specs.Lists.{numbers_from}
+use Rattle.seq_enum.specs.Alphabet.{words}
+use Rattle.fingerprints.specs.Print.{print_after}
+
+-- the sequences of at most so many instructions of an alphabet, by number
+unfoldable pub sequences_within : ℕ → List Instr → List (List Instr)
+sequences_within longest letters = flat_map (words letters) (numbers_from 0 (longest + 1))
+
+-- the prints of all sequences of n instructions
+abbrev pub prints_of : ℕ → List Values → List Instr → ℕ → List ℕ
+prints_of mask states letters n = map (print_after mask states) (words letters n)
+
+-- the prints of the sequences of at most so many instructions, by number
+abbrev pub prints_within : ℕ → List Values → List Instr → ℕ → List ℕ
+prints_within mask states letters longest = map (print_after mask states) (sequences_within longest letters)
