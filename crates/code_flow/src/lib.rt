@@ -3,6 +3,8 @@
 
 mod finding;
 pub mod laws;
+#[cfg(test)]
+mod tests;
 mod way;
 
 pub use finding::ways;
