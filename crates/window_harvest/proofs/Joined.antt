@@ -1,6 +1,6 @@
 -- What stands in rows against windows of lines.
-use Rattle.std.proofs.Common.{◌≡◌, ◌≢◌, ℕ, zero, suc, ◌+◌, ◌-◌, ◌<◌, ◌≤◌, ◌==◌, ◌&&◌, ◌||◌, Bool, true, false, List, [], ◌∷◌, ◌++◌, length, take, drop, map, Option, Some, None, refl, sym, ap, ◌∙◌, subst, ◌⊎◌, inl, inr, arith, length-append, ne_eqb}
-use Rattle.std.specs.Prelude.{slice_get, if◌then◌else◌}
+use Rattle.std.proofs.Common.{◌≡◌, ◌≢◌, ℕ, zero, suc, ◌+◌, ◌-◌, ◌<◌, ◌≤◌, ◌==◌, ◌&&◌, ◌||◌, Bool, true, false, List, [], ◌∷◌, ◌++◌, length, take, drop, map, Option, Some, None, refl, sym, ap, ◌∙◌, subst, ◌⊎◌, inl, inr, arith, length-append, append-nil, append_assoc, ne_eqb}
+use Rattle.std.specs.Prelude.{slice_get, nat_eq, if◌then◌else◌}
 use Rattle.std.specs.List.{list_all}
 use Rattle.std.proofs.lemmas.Bool.{and_parts, and_from, cases_lt}
 use Rattle.thumb_instr.specs.declared.instr.Instr.{Instr}
@@ -10,7 +10,7 @@ use Rattle.thumb_model.specs.Rewritten.{is_op, is_align, are_joined, are_joined_
 use Rattle.window_harvest.specs.declared.rows.Row.{Row}
 use Rattle.window_harvest.specs.Windows.{IsWindow}
 use Rattle.window_harvest.specs.Rows.{is_unlabelled, letter_of, rows_of, stays_joined, rows_from}
-use Rattle.window_harvest.specs.Runs.{before, run}
+use Rattle.window_harvest.specs.Runs.{letter_at, before, run}
 
 -- the instructions stand in the rows, joined; of the first it may not matter
 abbrev pub Fits : Bool → List Instr → List Row → Type 0
@@ -19,16 +19,6 @@ Fits first (i ∷ is) [] = ⊥
 Fits first (i ∷ is) (r ∷ rs) = ((first || r.is_joined) ≡ true) × (r.letter ≡ Some i) × Fits false is rs
 
 -- ---- runs ----
-
-pub run_short : (first : Bool) (n : ℕ) (rows : List Row) → length (run first n rows) ≤ n
-run_short first zero rows = omega arith
-run_short first (suc n) [] = omega arith
-run_short first (suc n) (r ∷ rs) = go (run false n rs) (run_short false n rs) (first || r.is_joined) r.letter
-  where
-    go : (is : List Instr) → length is ≤ n → (b : Bool) (o : Option Instr) → length (if b then before o is else []) ≤ suc n
-    go is h true None = omega arith
-    go is h true (Some i) = omega arith
-    go is h false o = omega arith
 
 -- each front of a run fits
 pub run_fits : (first : Bool) (n k : ℕ) (rows : List Row) → Fits first (take k (run first n rows)) rows
@@ -39,18 +29,49 @@ run_fits first (suc n) (suc k) [] = tt
 run_fits first (suc n) zero (r ∷ rs) = tt
 run_fits first (suc n) (suc k) (r ∷ rs) = go (run_fits false n k rs) (first || r.is_joined) refl r.letter refl
   where
-    go : Fits false (take k (run false n rs)) rs → (b : Bool) → (first || r.is_joined) ≡ b → (o : Option Instr) → r.letter ≡ o → Fits first (take (suc k) (if b then before o (run false n rs) else [])) (r ∷ rs)
+    go : Fits false (take k (run false n rs)) rs → (b : Bool) → (first || r.is_joined) ≡ b → (o : Option Instr) → r.letter ≡ o → Fits first (take (suc k) (before (if b then o else None) (run false n rs))) (r ∷ rs)
     go h true e None f = tt
     go h true e (Some i) f = (e, f, h)
     go h false e o f = tt
 
 -- what fits is a front of the run
-pub fits_run : (first : Bool) (n : ℕ) (is : List Instr) (rows : List Row) → length is ≤ n → Fits first is rows → take (length is) (run first n rows) ≡ is
+fits_run : (first : Bool) (n : ℕ) (is : List Instr) (rows : List Row) → length is ≤ n → Fits first is rows → take (length is) (run first n rows) ≡ is
 fits_run first n [] rows h f = refl
 fits_run first zero (i ∷ is) rows h f = absurd (omega arith)
 fits_run first (suc n) (i ∷ is) [] h f = absurd f
 fits_run first (suc n) (i ∷ is) (r ∷ rs) h f =
     rw (f.0, f.1) (ap (λ (js : List Instr). i ∷ js) (fits_run false n is rs (omega arith) f.2))
+
+-- a run ends where there is no letter
+run_none : (begins : Bool) (n : ℕ) (rows : List Row) → letter_at begins rows ≡ None → run begins n rows ≡ []
+run_none begins zero rows e = refl
+run_none begins (suc n) [] e = refl
+run_none begins (suc n) (r ∷ rs) e = ap (λ (o : Option Instr). before o (run false n rs)) e
+
+run_some : (begins : Bool) (n at : ℕ) (rows : List Row) (i : Instr) → letter_at begins (drop at rows) ≡ Some i → run begins (suc n) (drop at rows) ≡ i ∷ run false n (drop (at + 1) rows)
+run_some begins n zero [] i e = absurd (cc)
+run_some begins n (suc at) [] i e = absurd (cc)
+run_some begins n zero (r ∷ rs) i e = ap (λ (o : Option Instr). before o (run false n rs)) e
+run_some begins n (suc at) (r ∷ rs) i e = run_some begins n at rs i e ∙ ap (λ k. i ∷ run false n (drop k (r ∷ rs))) (let f : suc (at + 1) ≡ suc at + 1 = omega arith in f)
+
+pub run_ends : (seq : List Instr) (begins : Bool) (n : ℕ) (rows : List Row) (all : List Instr) → letter_at begins rows ≡ None → seq ++ run begins n rows ≡ all → seq ≡ all
+run_ends seq begins n rows all e f = sym (append-nil seq) ∙ ap (λ is. seq ++ is) (sym (run_none begins n rows e)) ∙ f
+
+-- one instruction more
+pub run_more : (seq : List Instr) (most place : ℕ) (rows : List Row) (i : Instr) → length seq < most → letter_at (nat_eq (length seq) 0) (drop (place + length seq) rows) ≡ Some i
+    → (seq ++ i ∷ []) ++ run (nat_eq (length (seq ++ i ∷ [])) 0) (most - length (seq ++ i ∷ [])) (drop (place + length (seq ++ i ∷ [])) rows)
+    ≡ seq ++ run (nat_eq (length seq) 0) (most - length seq) (drop (place + length seq) rows)
+run_more seq most place rows i h e =
+    let len : length (seq ++ i ∷ []) ≡ length seq + 1 = omega (arith, length-append seq (i ∷ [])) in
+    let left : most - length seq ≡ suc (most - (length seq + 1)) = omega arith in
+    let later : nat_eq (length seq + 1) 0 ≡ false = ne_eqb (length seq + 1) 0 (λ z. omega arith) in
+    let at : place + (length seq + 1) ≡ place + length seq + 1 = omega arith in
+    append_assoc seq (i ∷ []) _
+    ∙ ap (λ n. seq ++ i ∷ run (nat_eq n 0) (most - n) (drop (place + n) rows)) len
+    ∙ ap (λ b. seq ++ i ∷ run b (most - (length seq + 1)) (drop (place + (length seq + 1)) rows)) later
+    ∙ ap (λ n. seq ++ i ∷ run false (most - (length seq + 1)) (drop n rows)) at
+    ∙ ap (λ is. seq ++ is) (sym (run_some (nat_eq (length seq) 0) (most - (length seq + 1)) (place + length seq) rows i e))
+    ∙ ap (λ n. seq ++ run (nat_eq (length seq) 0) n (drop (place + length seq) rows)) (sym left)
 
 -- ---- behind an instruction ----
 

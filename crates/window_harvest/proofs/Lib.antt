@@ -1,1 +1,5 @@
 mod Joined
+mod Lists
+mod Alphabet
+mod Once
+mod Pairs

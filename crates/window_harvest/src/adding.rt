@@ -25,9 +25,13 @@ fn pair_at(looked: Looked<'_>, window: &[Instr], items: Items) -> Option<(Seq, M
     requires { looked.regs ≤ 4 }
     ensures { (lines : List Line) (spot : Spot) → StandsThere lines spot window.now items.bits → MatchOption result ((pair : Pair) → IsPairAt (limits_of looked.entry) lines spot pair → ⊥) (λ f. IsPairAt (limits_of looked.entry) lines spot (pair_of (f.0, f.1)) × IsKey looked.entry.pool.now (pair_of (f.0, f.1)) f.2) }
 {
-    let (seq, _, mask) = canonical(window, items)?;
-    let key = key_of(&seq, mask, looked.regs, looked.pool)?;
-    Some((seq, mask, key))
+    match canonical(window, items) {
+        None => None,
+        Some((seq, _, mask)) => match key_of(&seq, mask, looked.regs, looked.pool) {
+            None => None,
+            Some(key) => Some((seq, mask, key)),
+        },
+    }
 }
 
 /// Puts a pair behind the others, where it isn't among them.

@@ -44,19 +44,25 @@ fn register_count(instrs: &[Instr]) -> u32
 /// The key of a pair. None exactly where the window names more than so many registers, or isn't over their alphabet.
 pub fn key_of(seq: &Seq, mask: Mask, regs: u8, pool: &Pool) -> Option<Key>
     requires letters { list_all is_in_window seq.now ≡ true }
+    requires some { 0 < length seq.now }
     requires short { length seq.now ≤ 5 }
     requires regs { regs ≤ 4 }
     ensures { MatchOption result (Lies regs pool.now seq.now → ⊥) (λ key. Lies regs pool.now seq.now × IsKey pool.now (record { seq = seq.now; mask = mask.items.bits }) key) }
 {
     let count = register_count(seq.as_slice());
-    if count == 0 || count > u32::from(regs) {
+    if count == 0 {
+        return None;
+    }
+    if count > u32::from(regs) {
         return None;
     }
     let registers = count as u8;
-    let number = number_of(registers, pool, seq)?;
-    Some(Key {
-        registers,
-        number,
-        mask: mask.items.bits,
-    })
+    match number_of(registers, pool, seq) {
+        None => None,
+        Some(number) => Some(Key {
+            registers,
+            number,
+            mask: mask.items.bits,
+        }),
+    }
 }
