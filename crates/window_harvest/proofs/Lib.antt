@@ -3,3 +3,6 @@ mod Lists
 mod Alphabet
 mod Once
 mod Pairs
+mod Added
+mod Seen
+mod Places

@@ -1,5 +1,5 @@
 -- What stands in lists.
-use Rattle.std.proofs.Common.{◌≡◌, ℕ, zero, suc, ◌+◌, ◌-◌, ◌<◌, ◌≤◌, List, [], ◌∷◌, ◌++◌, length, map, get_or, Option, Some, None, refl, sym, ap, ◌∙◌, subst, arith}
+use Rattle.std.proofs.Common.{◌≡◌, ℕ, zero, suc, ◌+◌, ◌-◌, ◌<◌, ◌≤◌, List, [], ◌∷◌, ◌++◌, length, map, get_or, Option, Some, None, refl, sym, ap, ◌∙◌, subst, ◌⊎◌, inl, inr, arith}
 use Rattle.std.specs.Prelude.{slice_get, Contains, All}
 use Rattle.std.specs.List.{flat_map}
 use Rattle.std.specs.Option.{option_map}
@@ -53,3 +53,22 @@ all_each P (x ∷ xs) a = (a 0 x (omega arith), all_each P xs (λ k d h. a (suc 
 pub each_append : {A : Type 0} (P : A → Type 0) (xs ys : List A) → Each P xs → Each P ys → Each P (xs ++ ys)
 each_append P [] ys a b = b
 each_append P (x ∷ xs) ys a b = (a.0, each_append P xs ys a.1 b)
+
+pub in_parts : {A : Type 0} (xs ys : List A) (x : A) → In (xs ++ ys) x → In xs x ⊎ In ys x
+in_parts [] ys x e = inr e
+in_parts (z ∷ xs) ys x e = go (λ i h. in_parts xs ys x (i, h)) e.0 e.1
+  where
+    later : In xs x ⊎ In ys x → In (z ∷ xs) x ⊎ In ys x
+    later (inl f) = inl (suc f.0, f.1)
+    later (inr f) = inr f
+
+    go : ((i : ℕ) → slice_get (xs ++ ys) i ≡ Some x → In xs x ⊎ In ys x) → (i : ℕ) → slice_get (z ∷ (xs ++ ys)) i ≡ Some x → In (z ∷ xs) x ⊎ In ys x
+    go rest zero h = inl (0, h)
+    go rest (suc i) h = later (rest i h)
+
+pub in_one : {A : Type 0} (y x : A) → In (y ∷ []) x → x ≡ y
+in_one y x e = go e.0 e.1
+  where
+    go : (i : ℕ) → slice_get (y ∷ []) i ≡ Some x → x ≡ y
+    go zero h = cc
+    go (suc i) h = absurd (cc)

@@ -2,7 +2,9 @@
 #![tactic(auto)]
 
 mod adding;
+mod harvesting;
 mod keys;
 mod rows;
 mod runs;
 
+pub use harvesting::windows;
