@@ -1,0 +1,227 @@
+//! The ways of an instruction, a row for each form.
+ghost use Rattle.std.specs.Prelude.{◌≡◌, ◌<◌, ◌≤◌, ◌-◌, ◌^◌, ℕ, List, [], ◌∷◌, Option, Some, None, slice_get, is_some, option_map};
+ghost use Rattle.thumb_instr.specs.Items.{one_of, has};
+ghost use Rattle.thumb_instr.specs.Shape.{uses_of, writes_of};
+ghost use Rattle.thumb_model.specs.Listing.{code_of, is_op_place, places_of};
+ghost use Rattle.thumb_model.specs.Machine.{aim_of, answered, handed, registers_left};
+ghost use Rattle.thumb_model.specs.Flow.{way, ways, ways_of, jump_way, call_way, Onward};
+ghost use Rattle.listing_parser.specs.Views.{mention_view};
+ghost use Rattle.code_flow.specs.Flow.{AreWays, IsWay, way_list};
+
+use crate::way::{Next, Way, Ways};
+use listing_parser::{Listing, Mention, Place};
+use thumb_instr::items::{C, LR, N, SP, V, Z};
+use thumb_instr::{General, Instr, Items, StackList, shape};
+
+/// The ways on from a place: what stands there, and where it may go on. None exactly at a data word or past the last place.
+pub fn ways(listing: &Listing, place: u32) -> Option<Ways>
+    ensures some { is_some result ≡ is_op_place (slice_get (places_of listing.now) place) }
+    ensures ways { AreWays place (ways (code_of listing.now) place) (way_list result) }
+{
+    if place >= listing.place_count() {
+        return None;
+    }
+    match listing.place(place) {
+        None => None,
+        Some(found) => match found {
+            Place::Word(_) => None,
+            Place::Op { instr, mention } => {
+                Some(ways_of(&instr, target(listing, mention), place))
+            }
+        },
+    }
+}
+
+/// The place of the code label that is mentioned.
+fn target(listing: &Listing, mention: Option<&Mention>) -> Option<u32>
+    ensures { result ≡ aim_of (code_of listing.now) (option_map (λ r. mention_view r.now) mention.entry) }
+{
+    match mention {
+        None => None,
+        Some(mention) => listing.place_of(mention.name.as_slice()),
+    }
+}
+
+/// The ways of an instruction at a place. `target` is the place of the code label that it mentions.
+fn ways_of(instr: &Instr, target: Option<u32>, place: u32) -> Ways
+    requires { place < 2 ^ 32 - 1 }
+    ensures { AreWays place (ways_of target instr.now) (way_list (Some result)) }
+{
+    match *instr {
+        Instr::Bx { source } => branches_by(source),
+        Instr::Blx { source } => calls_by(source, place),
+        Instr::Pop { list } => pops(list, place),
+        Instr::BranchIf { .. } => branches_if(shape(instr).uses, target, place),
+        Instr::Branch { .. } => only(jump(Items::none(), target)),
+        Instr::Call { .. } => only(call(target, place)),
+        _ => only(onward(instr, place)),
+    }
+}
+
+/// One way.
+fn only(way: Way) -> Ways
+    ensures { result ≡ record { first = way; second = None } }
+{
+    Ways {
+        first: way,
+        second: None,
+    }
+}
+
+/// What leaves the listing takes r0 to r11, sp and lr along.
+fn left() -> Items
+    ensures { (x : ℕ) → has result.bits x ≡ one_of x registers_left }
+{
+    Items::of(&[0, 1, 2, 3, 4, 5, 6, 7, 8, 9, 10, 11, SP, LR])
+}
+
+/// What a call out of the listing hands out: the arguments in r0 to r3, and sp.
+fn handed() -> Items
+    ensures { (x : ℕ) → has result.bits x ≡ one_of x handed }
+{
+    Items::of(&[0, 1, 2, 3, SP])
+}
+
+/// What a call out of the listing brings back: what a callee needn't keep.
+fn answered() -> Items
+    ensures { (x : ℕ) → has result.bits x ≡ one_of x answered }
+{
+    Items::of(&[0, 1, 2, 3, 12, LR, N, Z, C, V])
+}
+
+/// To the next place, by the instruction's shape.
+fn onward(instr: &Instr, place: u32) -> Way
+    requires { place < 2 ^ 32 - 1 }
+    ensures { IsWay place (way (uses_of instr.now) (writes_of instr.now) Onward) result }
+{
+    let shape = shape(instr);
+    Way {
+        uses: shape.uses,
+        writes: shape.writes,
+        next: Next::Place(place + 1),
+    }
+}
+
+/// By a direct branch that reads these: to its place, or out.
+fn jump(reads: Items, target: Option<u32>) -> Way
+    ensures { (p : ℕ) (list : List ℕ) → ((x : ℕ) → has reads.bits x ≡ one_of x list) → IsWay p (jump_way list target) result }
+{
+    match target {
+        Some(place) => Way {
+            uses: reads,
+            writes: Items::none(),
+            next: Next::Place(place),
+        },
+        None => Way {
+            uses: reads.union(left()),
+            writes: Items::none(),
+            next: Next::Out,
+        },
+    }
+}
+
+/// By `bl`: to its place, or out and back.
+fn call(target: Option<u32>, place: u32) -> Way
+    requires { place < 2 ^ 32 - 1 }
+    ensures { IsWay place (call_way target) result }
+{
+    match target {
+        Some(place) => Way {
+            uses: Items::none(),
+            writes: Items::one(LR),
+            next: Next::Place(place),
+        },
+        None => Way {
+            uses: handed(),
+            writes: answered(),
+            next: Next::Place(place + 1),
+        },
+    }
+}
+
+/// `bx`: to a code point, or out.
+fn branches_by(source: General) -> Ways
+    ensures { (p : ℕ) (aim : Option ℕ) → AreWays p (ways_of aim (Instr.Bx source)) (way_list (Some result)) }
+{
+    let word = Items::of(&[source.number as u8]);
+    Ways {
+        first: Way {
+            uses: word,
+            writes: Items::none(),
+            next: Next::Points,
+        },
+        second: Some(Way {
+            uses: word.union(left()),
+            writes: Items::none(),
+            next: Next::Out,
+        }),
+    }
+}
+
+/// `blx`: to a code point, or out and back.
+fn calls_by(source: General, place: u32) -> Ways
+    requires { place < 2 ^ 32 - 1 }
+    ensures { (aim : Option ℕ) → AreWays place (ways_of aim (Instr.Blx source)) (way_list (Some result)) }
+{
+    let word = Items::of(&[source.number as u8]);
+    Ways {
+        first: Way {
+            uses: word,
+            writes: Items::of(&[LR]),
+            next: Next::Points,
+        },
+        second: Some(Way {
+            uses: word.union(handed()),
+            writes: answered(),
+            next: Next::Place(place + 1),
+        }),
+    }
+}
+
+/// `pop`: to the next place, or with pc to a code point or out.
+fn pops(list: StackList, place: u32) -> Ways
+    requires { place < 2 ^ 32 - 1 }
+    ensures { (aim : Option ℕ) → AreWays place (ways_of aim (Instr.Pop list)) (way_list (Some result)) }
+{
+    if list.number >= 256 {
+        returns_by(list)
+    } else {
+        only(onward(&Instr::Pop { list }, place))
+    }
+}
+
+/// `pop` with pc: to a code point, or out with what it leaves of r0 to r11, sp and lr.
+fn returns_by(list: StackList) -> Ways
+    requires { 256 ≤ list.number }
+    ensures { (p : ℕ) (aim : Option ℕ) → AreWays p (ways_of aim (Instr.Pop list)) (way_list (Some result)) }
+{
+    let writes = shape(&Instr::Pop { list }).writes;
+    let stack = Items::of(&[SP]);
+    Ways {
+        first: Way {
+            uses: stack,
+            writes,
+            next: Next::Points,
+        },
+        second: Some(Way {
+            uses: stack.union(left().minus(writes)),
+            writes,
+            next: Next::Out,
+        }),
+    }
+}
+
+/// A conditional branch that reads these: to its place or out, or to the next place.
+fn branches_if(reads: Items, target: Option<u32>, place: u32) -> Ways
+    requires { place < 2 ^ 32 - 1 }
+    ensures { (list : List ℕ) → ((x : ℕ) → has reads.bits x ≡ one_of x list) → AreWays place (jump_way list target ∷ way list [] Onward ∷ []) (way_list (Some result)) }
+{
+    Ways {
+        first: jump(reads, target),
+        second: Some(Way {
+            uses: reads,
+            writes: Items::none(),
+            next: Next::Place(place + 1),
+        }),
+    }
+}

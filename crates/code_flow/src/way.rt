@@ -1,0 +1,27 @@
+use thumb_instr::Items;
+
+/// Where a way leads.
+#[derive(Clone, Copy, Debug, PartialEq, Eq)]
+pub enum Next {
+    /// To this place. The place behind the last one may be its number: there nothing stands.
+    Place(u32),
+    /// To any code point: the place of a code label, or a return point, which is the place behind a `bl` or `blx`.
+    Points,
+    /// Out of the listing.
+    Out,
+}
+
+/// A way on from an instruction: the items that it reads, those that it writes, and where it leads.
+#[derive(Clone, Copy, Debug, PartialEq, Eq)]
+pub struct Way {
+    pub uses: Items,
+    pub writes: Items,
+    pub next: Next,
+}
+
+/// The ways on from an instruction: one or two.
+#[derive(Clone, Copy, Debug, PartialEq, Eq)]
+pub struct Ways {
+    pub first: Way,
+    pub second: Option<Way>,
+}

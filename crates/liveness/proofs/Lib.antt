@@ -1,0 +1,4 @@
+mod Weights
+mod Paths
+mod Visits
+mod Marks

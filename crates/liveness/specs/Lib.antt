@@ -1,0 +1,4 @@
+pub mod Ways
+pub mod Points
+pub mod Passes
+pub mod Live

@@ -1,0 +1,54 @@
+ghost use Rattle.std.specs.Prelude.{◌≡◌, ◌+◌, ◌*◌, ◌≤◌, length, IfOk};
+ghost use Rattle.thumb_model.specs.Listing.{code_of, places_of};
+ghost use Rattle.liveness.specs.Ways.{AreAllWays};
+ghost use Rattle.liveness.specs.Live.{IsLive};
+
+use crate::passes::settle;
+use crate::points::all_points;
+use crate::sets::Live;
+use code_flow::{Ways, ways};
+use listing_parser::{Listing, Memory};
+use std::alloc::{AllocError, Global};
+use step_ledger::{Ledger, Steps};
+use thumb_instr::Items;
+
+/// The items that are live before and after each place of a listing.
+///
+/// A step is a visit of a place: a look at its ways together with its set.
+pub fn live<L: Ledger>(
+    alloc: Global,
+    listing: &Listing,
+    steps: &mut Steps<L>,
+) -> Result<Live, Memory>
+    ensures live { IfOk result (λ live. IsLive (code_of listing.now) live) }
+    ensures cost { steps.new ≤ steps.old + (19 * length (places_of listing.now) + 1) * length (places_of listing.now) }
+{
+    let count = listing.place_count() as usize;
+    let ways = all_ways(alloc, listing)?;
+    let is_point = all_points(alloc, listing)?;
+    let mut before = vec![in alloc; Items::none(); count]?;
+    let mut after = vec![in alloc; Items::none(); count]?;
+    let mut points = Items::none();
+    settle(
+        listing,
+        &ways,
+        &is_point,
+        &mut before,
+        &mut after,
+        &mut points,
+        steps,
+    );
+    Ok(Live { before, after })
+}
+
+/// The ways of each place.
+fn all_ways(alloc: Global, listing: &Listing) -> Result<Vec<Option<Ways>>, AllocError>
+    ensures len { IfOk result (λ all. length all.items ≡ length (places_of listing.now)) }
+    ensures ways { IfOk result (λ all. AreAllWays (code_of listing.now) all.items) }
+{
+    let mut all = Vec::with_capacity(alloc, listing.place_count() as usize)?;
+    for place in 0..listing.place_count() {
+        all.push(ways(listing, place))?;
+    }
+    Ok(all)
+}

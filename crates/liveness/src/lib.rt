@@ -1,0 +1,16 @@
+//! The items that are live before and after each place of a listing: those that a path from there reads before it writes them.
+//!
+//! Backward passes over all places until nothing changes. A set is a word of 19 bits, so a visit of a place treats all items at once; most listings
+//! take a few passes. The ways of each place are worked out once, and so are the code points. One set for all code points stands in for them where a
+//! branch goes by a word, and grows with theirs.
+#![tactic(auto)]
+
+mod finding;
+mod passes;
+mod points;
+mod sets;
+#[cfg(test)]
+mod tests;
+
+pub use finding::live;
+pub use sets::Live;

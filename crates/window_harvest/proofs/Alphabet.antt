@@ -1,0 +1,56 @@
+-- Sequences of an alphabet against their numbers.
+use Rattle.std.proofs.Common.{◌≡◌, ℕ, zero, suc, ◌+◌, ◌<◌, ◌≤◌, List, [], ◌∷◌, ◌++◌, length, Some, refl, sym, ap, ◌∙◌, subst, arith, append-nil, append_assoc}
+use Rattle.std.specs.Prelude.{slice_get, map, Contains}
+use Rattle.std.specs.List.{flat_map}
+use Rattle.std.proofs.lemmas.Option.{same_Some}
+use Rattle.thumb_instr.specs.declared.instr.Instr.{Instr}
+use Rattle.seq_enum.specs.Lists.{numbers_from, held_in, grid2, grid3}
+use Rattle.seq_enum.specs.Alphabet.{rows, members, alphabet, words, sequences_of, sequences, IsOver}
+use Rattle.seq_enum.proofs.Numbered.{flat_map_from, numbers_at}
+use Rattle.seq_enum.proofs.Words.{words_parts}
+use Rattle.window_harvest.proofs.Lists.{In, contains_in, in_contains, in_map, in_lists, Each, each_all, all_each, each_append}
+
+word_each : (letters : List Instr) (n i : ℕ) (w : List Instr) → slice_get (words letters n) i ≡ Some w → Each (Contains letters) w
+unfolding words
+word_each letters zero zero w e = subst (Each (Contains letters)) (same_Some [] w e) tt
+word_each letters zero (suc i) w e = absurd (cc)
+word_each letters (suc n) i w e = words_parts letters n i w e (λ h j v x front at is.
+  subst (Each (Contains letters)) (sym is) (each_append (Contains letters) v (x ∷ []) (word_each letters n h v front) (in_contains letters x (j, at), tt)))
+
+one_more : (letters : List Instr) (n : ℕ) (v : List Instr) (x : Instr) → In (words letters n) v → In letters x → In (words letters (suc n)) (v ++ x ∷ [])
+unfolding words
+one_more letters n v x a b = in_lists (λ w. map (λ y. w ++ y ∷ []) letters) (words letters n) v (v ++ x ∷ []) a (in_map (λ y. v ++ y ∷ []) letters x b)
+
+longer : (letters : List Instr) (n m : ℕ) (v w : List Instr) → m ≡ n + length w → In (words letters n) v → Each (Contains letters) w → In (words letters m) (v ++ w)
+longer letters n m v [] e a b =
+    let f : n ≡ m = omega arith in
+    subst (λ (u : List Instr). In (words letters m) u) (sym (append-nil v)) (subst (λ k. In (words letters k) v) f a)
+longer letters n m v (x ∷ xs) e a b =
+    subst (λ (u : List Instr). In (words letters m) u) (append_assoc v (x ∷ []) xs) (longer letters (suc n) m (v ++ x ∷ []) xs (omega arith) (one_more letters n v x a (contains_in letters x b.0)) b.1)
+
+first_word : (letters : List Instr) → In (words letters 0) []
+unfolding words
+first_word letters = (0, refl)
+
+-- a sequence by its number is over the alphabet
+pub number_over : (k : ℕ) (pool : List ℕ) (i : ℕ) (w : List Instr) → slice_get (sequences k pool) i ≡ Some w → IsOver k pool w
+unfolding sequences_of
+number_over k pool i w e = flat_map_from (words (alphabet k pool)) (numbers_from 0 6) i w e (λ n j at. each_all (Contains (alphabet k pool)) w (word_each (alphabet k pool) n j w at))
+
+-- at most five instructions of the alphabet have a number
+pub over_number : (k : ℕ) (pool : List ℕ) (w : List Instr) → length w ≤ 5 → IsOver k pool w → In (sequences k pool) w
+unfolding sequences_of
+over_number k pool w h o =
+    let letters = alphabet k pool in
+    in_lists (words letters) (numbers_from 0 6) (length w) w
+    (length w, numbers_at 0 6 (length w) (omega arith) ∙ ap Some (let f : 0 + length w ≡ length w = omega arith in f))
+    (longer letters 0 (length w) [] w (omega arith) (first_word letters) (all_each (Contains letters) w o))
+
+-- no instruction names no register
+pub no_alphabet : (pool : List ℕ) → alphabet 0 pool ≡ []
+unfolding alphabet rows members grid2 grid3 held_in numbers_from
+no_alphabet pool = refl
+
+pub over_none : (pool : List ℕ) (w : List Instr) → 0 < length w → IsOver 0 pool w → ⊥
+over_none pool [] h o = omega arith
+over_none pool (x ∷ xs) h o = let c = subst (λ (l : List Instr). Contains l x) (no_alphabet pool) (o 0 x h) in omega (arith, c.1)

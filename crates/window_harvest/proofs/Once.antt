@@ -1,0 +1,231 @@
+-- A window has one canonical form.
+use Rattle.std.proofs.Common.{◌≡◌, ℕ, zero, suc, ◌+◌, ◌<◌, ◌≤◌, ◌==◌, ◌&&◌, ◌||◌, Bool, true, false, min, List, [], ◌∷◌, ◌++◌, length, map, Option, Some, None, refl, sym, ap, ◌∙◌, subst, ◌⊎◌, inl, inr, arith, lt-ltb, eq-eqb, eqb-true, cond}
+use Rattle.std.specs.Prelude.{slice_get, nat_lt, if◌then◌else◌}
+use Rattle.std.specs.Int.{bit_at}
+use Rattle.std.specs.List.{flat_map, list_any, list_all}
+use Rattle.std.specs.Option.{option_map}
+use Rattle.std.proofs.lemmas.Bool.{and_parts, and_from, cases_Bool}
+use Rattle.std.proofs.lemmas.Nat.Bits.{bit_at-lt, same_from_bits}
+use Rattle.std.proofs.lemmas.Option.{slice_get-map, slice_get_within}
+use Rattle.std.proofs.lemmas.List.{length-map}
+use Rattle.std.proofs.lemmas.List.Folds.{list_any-append}
+use Rattle.thumb_instr.specs.declared.instr.Instr.{Instr}
+use Rattle.thumb_instr.specs.declared.instr.Instr.TheVariants as instr
+use Rattle.thumb_instr.specs.Items.{has as has_item}
+use Rattle.thumb_instr.specs.Window.{is_in_window, normal_of}
+use Rattle.thumb_instr.specs.Renaming.{Low, Reg, named, renamed, AreBelow, low_under, reg_under, both_under, item_under, number_or}
+use Rattle.thumb_instr.proofs.Registers.{same_number, same_not_both_sp}
+use Rattle.thumb_instr.proofs.RenamingLemmas.{low_number, reg_number, below_parts}
+use Rattle.rule_table.specs.Canonical.{has, with_first, firsts, name_in, numbers_of, appearing, masked, IsCanonical}
+use Rattle.rule_table.proofs.Backs.{windows_normal}
+
+-- ---- there and back ----
+
+-- each register comes back under the second map
+abbrev AllBack : List Low → List Low → List ℕ → Type 0
+AllBack f g [] = Unit {0}
+AllBack f g (x ∷ xs) = (item_under g (item_under f x) ≡ x) × AllBack f g xs
+
+low_back : (f g : List Low) (d : Low) → item_under g (item_under f d.number) ≡ d.number → low_under g (low_under f d) ≡ d
+low_back f g d e = same_number (low_under g (low_under f d)) d (low_number g (low_under f d) ∙ ap (item_under g) (low_number f d) ∙ e)
+
+reg_back : (f g : List Low) (d : Reg) → item_under g (item_under f d.number) ≡ d.number → reg_under g (reg_under f d) ≡ d
+reg_back f g d e = same_number (reg_under g (reg_under f d)) d (reg_number g (reg_under f d) ∙ ap (item_under g) (reg_number f d) ∙ e)
+
+-- a row: an instruction comes back
+instr_back : (f g : List Low) (i : Instr) → is_in_window i ≡ true → AllBack f g (named i) → renamed g (renamed f i) ≡ i
+instr_back f g (instr.Mov d m) w a = rw (reg_back f g d a.0, reg_back f g m a.1.0) refl
+instr_back f g (instr.Add r) w a = ap instr.Add (same_not_both_sp (both_under g (both_under f r)) r (reg_back f g r.target a.0) (reg_back f g r.source a.1.0))
+instr_back f g (instr.Three s d n m) w a = rw (low_back f g d a.0, low_back f g n a.1.0, low_back f g m a.1.1.0) refl
+instr_back f g (instr.Two o d m) w a = rw (low_back f g d a.0, low_back f g m a.1.0) refl
+instr_back f g (instr.Movs d m) w a = rw (low_back f g d a.0, low_back f g m a.1.0) refl
+instr_back f g (instr.ShiftLeft d m i) w a = rw (low_back f g d a.0, low_back f g m a.1.0) refl
+instr_back f g (instr.ShiftRight s d m i) w a = rw (low_back f g d a.0, low_back f g m a.1.0) refl
+instr_back f g (instr.ThreeNumber s d n i) w a = rw (low_back f g d a.0, low_back f g n a.1.0) refl
+instr_back f g (instr.TwoNumber o d i) w a = rw (low_back f g d a.0) refl
+instr_back f g (instr.Extend e d m) w a = rw (low_back f g d a.0, low_back f g m a.1.0) refl
+instr_back f g (instr.Reverse r d m) w a = rw (low_back f g d a.0, low_back f g m a.1.0) refl
+instr_back f g i w a = absurd (cc)
+
+-- a row: what is renamed to an instruction of a window is one, where its registers are low
+window_back : (f : List Low) (k : ℕ) (i : Instr) → k ≤ 8 → AreBelow k (named i) → is_in_window (renamed f i) ≡ true → is_in_window i ≡ true
+window_back f k (instr.Mov d m) h a w = and_from (nat_lt d.number 8) (nat_lt m.number 8) (lt-ltb d.number 8 (let b = a.0 in omega arith)) (lt-ltb m.number 8 (let b = a.1.0 in omega arith))
+window_back f k (instr.Add r) h a w = and_from (nat_lt r.target.number 8) (nat_lt r.source.number 8) (lt-ltb r.target.number 8 (let b = a.0 in omega arith)) (lt-ltb r.source.number 8 (let b = a.1.0 in omega arith))
+window_back f k (instr.Three s d n m) h a w = refl
+window_back f k (instr.Two o d m) h a w = refl
+window_back f k (instr.Movs d m) h a w = refl
+window_back f k (instr.ShiftLeft d m i) h a w = refl
+window_back f k (instr.ShiftRight s d m i) h a w = refl
+window_back f k (instr.ThreeNumber s d n i) h a w = refl
+window_back f k (instr.TwoNumber o d i) h a w = refl
+window_back f k (instr.Extend e d m) h a w = refl
+window_back f k (instr.Reverse r d m) h a w = refl
+window_back f k i h a w = w
+
+pub windows_back : (f : List Low) (k : ℕ) (is : List Instr) → k ≤ 8 → AreBelow k (flat_map named is) → list_all is_in_window (map (renamed f) is) ≡ true → list_all is_in_window is ≡ true
+windows_back f k [] h a w = refl
+windows_back f k (i ∷ is) h a w =
+    let b = below_parts k (named i) (flat_map named is) a in
+    let v = and_parts (is_in_window (renamed f i)) (list_all is_in_window (map (renamed f) is)) w in
+    and_from (is_in_window i) (list_all is_in_window is) (window_back f k i h b.0 v.0) (windows_back f k is h b.1 v.1)
+
+-- ---- names of registers ----
+
+abbrev AreDistinct : List ℕ → Type 0
+AreDistinct [] = Unit {0}
+AreDistinct (x ∷ xs) = (has xs x ≡ false) × AreDistinct xs
+
+or_false : (a b : Bool) → a ≡ false → b ≡ false → (a || b) ≡ false
+or_false true b e f = e
+or_false false b e f = f
+
+or_parts : (a b : Bool) → (a || b) ≡ false → (a ≡ false) × (b ≡ false)
+or_parts true b e = absurd (cc)
+or_parts false b e = (refl, e)
+
+has_append : (xs ys : List ℕ) (x : ℕ) → has (xs ++ ys) x ≡ (has xs x || has ys x)
+has_append xs ys x = list_any-append (λ y. y == x) xs ys
+
+not_same : (a b : ℕ) → (a == b) ≡ false → (b == a) ≡ false
+not_same a b e = go (b == a) refl
+  where
+    go : (t : Bool) → (b == a) ≡ t → t ≡ false
+    go true f = absurd (let g : (a == b) ≡ true = eq-eqb a b (sym (eqb-true b a f)) in cc)
+    go false f = refl
+
+distinct_more : (xs : List ℕ) (r : ℕ) → AreDistinct xs → has xs r ≡ false → AreDistinct (xs ++ r ∷ [])
+distinct_more [] r d h = (refl, tt)
+distinct_more (x ∷ xs) r d h =
+    let p = or_parts (x == r) (has xs r) h in
+    (has_append xs (r ∷ []) x ∙ or_false (has xs x) (has (r ∷ []) x) d.0 (or_false (r == x) false (not_same x r p.0) refl), distinct_more xs r d.1 p.1)
+
+distinct_firsts : (seen rs : List ℕ) → AreDistinct seen → AreDistinct (firsts seen rs)
+unfolding firsts
+distinct_firsts seen [] d = d
+distinct_firsts seen (r ∷ rs) d = distinct_firsts (with_first seen r) rs (go (has seen r) refl)
+  where
+    go : (b : Bool) → has seen r ≡ b → AreDistinct (if b then seen else seen ++ r ∷ [])
+    go true h = d
+    go false h = distinct_more seen r d h
+
+has_at : (xs : List ℕ) (i r : ℕ) → slice_get xs i ≡ Some r → has xs r ≡ true
+has_at [] i r e = absurd (cc)
+has_at (x ∷ xs) zero r e = let s : x ≡ r = cc in ap (λ b. b || has xs r) (eq-eqb x r s)
+has_at (x ∷ xs) (suc i) r e = go (x == r) (has_at xs i r e)
+  where
+    go : (b : Bool) → has xs r ≡ true → (b || has xs r) ≡ true
+    go true h = refl
+    go false h = h
+
+-- a register's name is the place where it stands
+name_at : (xs : List ℕ) (i r : ℕ) → AreDistinct xs → slice_get xs i ≡ Some r → name_in xs r ≡ i
+unfolding name_in
+name_at [] i r d e = absurd (cc)
+name_at (x ∷ xs) zero r d e = let s : x ≡ r = cc in rw (eq-eqb x r s) refl
+name_at (x ∷ xs) (suc i) r d e = go (x == r) refl (name_at xs i r d.1 e)
+  where
+    go : (b : Bool) → (x == r) ≡ b → name_in xs r ≡ i → (if b then 0 else suc (name_in xs r)) ≡ suc i
+    go true t h = absurd (let s : x ≡ r = eqb-true x r t in let g : has xs x ≡ true = ap (has xs) s ∙ has_at xs i r e in let f = d.0 in cc)
+    go false t h = ap suc h
+
+-- ---- the map back ----
+
+eight : List ℕ
+eight = 0 ∷ 1 ∷ 2 ∷ 3 ∷ 4 ∷ 5 ∷ 6 ∷ 7 ∷ []
+
+eight_at : (x : ℕ) → x < 8 → slice_get eight x ≡ Some x
+unfolding eight
+eight_at zero h = refl
+eight_at (suc zero) h = refl
+eight_at (suc (suc zero)) h = refl
+eight_at (suc (suc (suc zero))) h = refl
+eight_at (suc (suc (suc (suc zero)))) h = refl
+eight_at (suc (suc (suc (suc (suc zero))))) h = refl
+eight_at (suc (suc (suc (suc (suc (suc zero)))))) h = refl
+eight_at (suc (suc (suc (suc (suc (suc (suc zero))))))) h = refl
+eight_at (suc (suc (suc (suc (suc (suc (suc (suc x)))))))) h = absurd (omega arith)
+
+-- the register of a number up to 7
+low_of : ℕ → Low
+low_of n = record { number = min n 7; least = omega arith; below = omega arith }
+
+low_of_number : (n : ℕ) → n ≤ 7 → (low_of n).number ≡ n
+unfolding low_of
+low_of_number n h = omega arith
+
+backward : List Low → List Low
+backward f = map (λ r. low_of (name_in (numbers_of f) r)) eight
+
+back_at : (f : List Low) (x : ℕ) → x < 8 → slice_get (backward f) x ≡ Some (low_of (name_in (numbers_of f) x))
+unfolding backward
+back_at f x h = slice_get-map (λ r. low_of (name_in (numbers_of f) r)) eight x ∙ ap (option_map (λ r. low_of (name_in (numbers_of f) r))) (eight_at x h)
+
+comes_back : (f : List Low) (k x : ℕ) → length f ≡ k → k ≤ 4 → AreDistinct (numbers_of f) → x < k → item_under (backward f) (item_under f x) ≡ x
+comes_back f k x n h d l = go (slice_get f x) refl
+  where
+    some_at : (xs : List Low) (i : ℕ) → i < length xs → slice_get xs i ≡ None → ⊥
+    some_at [] i h e = omega arith
+    some_at (y ∷ xs) zero h e = cc
+    some_at (y ∷ xs) (suc i) h e = some_at xs i (omega arith) e
+
+    go : (o : Option Low) → slice_get f x ≡ o → item_under (backward f) (number_or o x) ≡ x
+    go None e = absurd (some_at f x (omega arith) e)
+    go (Some r) e =
+        let there : slice_get (numbers_of f) x ≡ Some r.number = slice_get-map (λ (y : Low). y.number) f x ∙ ap (option_map (λ (y : Low). y.number)) e in
+        let name : name_in (numbers_of f) r.number ≡ x = name_at (numbers_of f) x r.number d there in
+        ap (λ (o : Option Low). number_or o r.number) (back_at f r.number r.below) ∙ ap (λ n. (low_of n).number) name ∙ low_of_number x (omega arith)
+
+all_come_back : (f : List Low) (k : ℕ) (xs : List ℕ) → length f ≡ k → k ≤ 4 → AreDistinct (numbers_of f) → AreBelow k xs → AllBack f (backward f) xs
+all_come_back f k [] n h d a = tt
+all_come_back f k (x ∷ xs) n h d a = (comes_back f k x n h d a.0, all_come_back f k xs n h d a.1)
+
+seq_back : (f : List Low) (k : ℕ) (is : List Instr) → length f ≡ k → k ≤ 4 → AreDistinct (numbers_of f) → AreBelow k (flat_map named is) → list_all is_in_window is ≡ true → map (renamed (backward f)) (map (renamed f) is) ≡ is
+seq_back f k [] n h d a w = refl
+seq_back f k (i ∷ is) n h d a w =
+    let b = below_parts k (named i) (flat_map named is) a in
+    let v = and_parts (is_in_window i) (list_all is_in_window is) w in
+    ap (λ j. j ∷ map (renamed (backward f)) (map (renamed f) is)) (instr_back f (backward f) i v.0 (all_come_back f k (named i) n h d b.0))
+    ∙ ap (λ js. i ∷ js) (seq_back f k is n h d b.1 v.1)
+
+-- ---- one form ----
+
+same_registers : (f g : List Low) → numbers_of f ≡ numbers_of g → f ≡ g
+same_registers [] [] e = refl
+same_registers [] (y ∷ g) e = absurd (cc)
+same_registers (x ∷ f) [] e = absurd (cc)
+same_registers (x ∷ f) (y ∷ g) e =
+    let head : x.number ≡ y.number = cc in
+    let tail : numbers_of f ≡ numbers_of g = cc in
+    ap (λ z. z ∷ f) (same_number x y head) ∙ ap (λ zs. y ∷ zs) (same_registers f g tail)
+
+same_bit : (a b x : ℕ) → has_item a x ≡ has_item b x → bit_at a x ≡ bit_at b x
+same_bit a b x = go (bit_at a x) (bit_at b x) (bit_at-lt a x) (bit_at-lt b x)
+  where
+    go : (m n : ℕ) → m < 2 → n < 2 → (m == 1) ≡ (n == 1) → m ≡ n
+    go zero zero h k e = refl
+    go zero (suc zero) h k e = absurd (cc)
+    go (suc zero) zero h k e = absurd (cc)
+    go (suc zero) (suc zero) h k e = refl
+    go (suc (suc m)) n h k e = absurd (omega arith)
+    go m (suc (suc n)) h k e = absurd (omega arith)
+
+pub same_words : (a b : ℕ) → ((x : ℕ) → has_item a x ≡ has_item b x) → a ≡ b
+same_words a b h = same_from_bits a b (λ x. same_bit a b x (h x))
+
+-- the canonical form of a window of at most four registers, and the mask of items, are determined
+pub canonical_once : (window : List Instr) (items : ℕ) (seq other : List Instr) (given too : List (Option Low)) (mask next : ℕ) → list_all is_in_window window ≡ true → length (appearing (map normal_of window)) ≤ 4
+    → IsCanonical window items seq given mask → IsCanonical window items other too next → (seq ≡ other) × (mask ≡ next)
+canonical_once window items seq other given too mask next w few a b =
+    let same : a.registers ≡ b.registers = same_registers a.registers b.registers (a.order ∙ sym b.order) in
+    let k = length a.registers in
+    let count : k ≤ 4 = omega (arith, ap length a.order, length-map a.registers (λ (r : Low). r.number)) in
+    let distinct : AreDistinct (numbers_of a.registers) = subst AreDistinct (sym a.order) (distinct_firsts [] (flat_map named (map normal_of window)) tt) in
+    let under : map (renamed a.registers) other ≡ map normal_of window = ap (λ (f : List Low). map (renamed f) other) same ∙ b.under in
+    let below : AreBelow k (flat_map named other) = subst (λ n. AreBelow n (flat_map named other)) (ap length (sym same)) b.below in
+    let normal : list_all is_in_window (map normal_of window) ≡ true = windows_normal window w in
+    let letters : list_all is_in_window seq ≡ true = windows_back a.registers k seq (omega arith) a.below (ap (list_all is_in_window) a.under ∙ normal) in
+    let letters_too : list_all is_in_window other ≡ true = windows_back a.registers k other (omega arith) below (ap (list_all is_in_window) under ∙ normal) in
+    (
+      sym (seq_back a.registers k seq refl count distinct a.below letters) ∙ ap (map (renamed (backward a.registers))) (a.under ∙ sym under) ∙ seq_back a.registers k other refl count distinct below letters_too,
+      same_words mask next (λ x. a.masks x ∙ ap (λ (f : List Low). masked items (numbers_of f) x) same ∙ sym (b.masks x)),
+    )

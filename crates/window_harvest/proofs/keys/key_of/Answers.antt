@@ -1,0 +1,31 @@
+use Rattle.std.proofs.Common.{◌≡◌, ◌∙◌, ◌≤◌, ℕ, None, Some, refl, sym, ap, subst, arith}
+use Rattle.thumb_model.specs.Rewrite.{register_count}
+use Rattle.seq_enum.specs.Lists.{IsPlace}
+use Rattle.seq_enum.specs.Alphabet.{IsOver, sequences}
+use Rattle.window_harvest.proofs.Alphabet.{number_over, over_number, over_none}
+use Rattle.window_harvest.proofs.keys.key_of.Goals as goal
+
+pub returns-then-count-eq0 : goal.returns-then-count-eq0
+returns-then-count-eq0 c = λ l.
+    let count : register_count c.args.seq.now ≡ 0 = ap register_count (sym c.as_slice.ensures.value) ∙ sym c.register_count-count.ensures.value ∙ c.if-count-eq0.true in
+    over_none c.args.pool.now c.args.seq.now c.requires.some (subst (λ k. IsOver k c.args.pool.now c.args.seq.now) count l.over)
+
+pub returns-in-None : goal.returns-in-None
+returns-in-None c = λ l.
+    let count : register_count c.args.seq.now ≡ c.register_count-count.result = ap register_count (sym c.as_slice.ensures.value) ∙ sym c.register_count-count.ensures.value in
+    let stands = over_number c.register_count-count.result c.args.pool.now c.args.seq.now c.requires.short (subst (λ k. IsOver k c.args.pool.now c.args.seq.now) count l.over) in
+    let place : IsPlace None (sequences c.register_count-count.result c.args.pool.now) c.args.seq.now = c.in-None.ensures in
+    let found : None ≡ Some stands.0 = place.found stands.0 stands.1 in
+    absurd (cc)
+
+pub returns-in-Some : goal.returns-in-Some
+returns-in-Some c =
+    let count : c.register_count-count.result ≡ register_count c.args.seq.now = c.register_count-count.ensures.value ∙ ap register_count c.as_slice.ensures.value in
+    let place : IsPlace (Some c.in-Some.number) (sequences c.register_count-count.result c.args.pool.now) c.args.seq.now = c.in-Some.ensures in
+    (
+      record {
+        few = omega (arith, count, c.if-count-from.false, c.from.ensures);
+        over = subst (λ k. IsOver k c.args.pool.now c.args.seq.now) count (number_over c.register_count-count.result c.args.pool.now c.in-Some.number c.args.seq.now (place.stands c.in-Some.number refl));
+      },
+      record { registers = count; number = place; mask = refl },
+    )

@@ -1,0 +1,6 @@
+pub mod Windows
+pub mod Harvest
+pub mod Rows
+pub mod Runs
+pub mod Keys
+pub mod Looks

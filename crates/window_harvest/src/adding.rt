@@ -1,0 +1,95 @@
+//! The pairs found so far, each once, in order of first appearance.
+ghost use Rattle.std.specs.Prelude.{◌≡◌, ◌≤◌, ◌<◌, ◌^◌, [], ◌∷◌, ℕ, List, false, length, map, MatchOption, OnOk};
+ghost use Rattle.thumb_model.specs.Listing.{Line};
+ghost use Rattle.window_harvest.specs.Harvest.{Pair, Spot, pair_of, StandsThere, IsPairAt, spots_at, AreAdded};
+ghost use Rattle.window_harvest.specs.Keys.{IsKey, AreSeen, IsPut};
+ghost use Rattle.window_harvest.specs.Looks.{limits_of, AreOf};
+
+use crate::keys::{Key, key_of};
+use crate::rows::Row;
+use crate::runs::run;
+use listing_parser::Memory;
+use liveness::Live;
+use rule_table::canonical;
+use seq_enum::Pool;
+use std::collections::HashSet;
+use thumb_instr::{Instr, Items, Mask, Seq};
+
+/// How many registers and instructions a window has at most, and the numbers that it may have.
+#[derive(Clone, Copy)]
+pub struct Looked<'a> {
+    pub regs: u8,
+    pub left: u8,
+    pub pool: &'a Pool,
+}
+
+/// The pair of a window after which these items are live, and its key.
+fn pair_at(looked: Looked<'_>, window: &[Instr], items: Items) -> Option<(Seq, Mask, Key)>
+    requires { looked.regs ≤ 4 }
+    ensures { (lines : List Line) (spot : Spot) → StandsThere lines spot window.now items.bits → MatchOption result ((pair : Pair) → IsPairAt (limits_of looked.entry) lines spot pair → ⊥) (λ f. IsPairAt (limits_of looked.entry) lines spot (pair_of (f.0, f.1)) × IsKey looked.entry.pool.now (pair_of (f.0, f.1)) f.2) }
+{
+    match canonical(window, items) {
+        None => None,
+        Some((seq, _, mask)) => match key_of(&seq, mask, looked.regs, looked.pool) {
+            None => None,
+            Some(key) => Some((seq, mask, key)),
+        },
+    }
+}
+
+/// Puts a pair behind the others, where it isn't among them.
+fn add_pair(
+    seen: &mut HashSet<Key>,
+    pairs: &mut Vec<(Seq, Mask)>,
+    seq: Seq,
+    mask: Mask,
+    key: Key,
+) -> Result<(), Memory>
+    ensures { OnOk result ((pool : List ℕ) → IsKey pool (pair_of (seq, mask)) key → AreSeen pool seen.old.keys (map pair_of pairs.old.items) → AreSeen pool seen.new.keys (map pair_of pairs.new.items) × IsPut (pair_of (seq, mask)) (map pair_of pairs.old.items) (map pair_of pairs.new.items)) }
+{
+    if seen.insert(key)? {
+        pairs.push((seq, mask))?;
+    }
+    Ok(())
+}
+
+/// Adds the pair of a window after which these items are live, where it has one.
+fn add_window(
+    seen: &mut HashSet<Key>,
+    pairs: &mut Vec<(Seq, Mask)>,
+    looked: Looked<'_>,
+    window: &[Instr],
+    items: Items,
+) -> Result<(), Memory>
+    requires { looked.regs ≤ 4 }
+    ensures { OnOk result ((lines : List Line) (spot : Spot) → StandsThere lines spot window.now items.bits → AreSeen looked.entry.pool.now seen.old.keys (map pair_of pairs.old.items) → AreSeen looked.entry.pool.now seen.new.keys (map pair_of pairs.new.items) × AreAdded (limits_of looked.entry) lines (spot ∷ []) (map pair_of pairs.old.items) (map pair_of pairs.new.items)) }
+{
+    match pair_at(looked, window, items) {
+        None => Ok(()),
+        Some((seq, mask, key)) => add_pair(seen, pairs, seq, mask, key),
+    }
+}
+
+/// Adds the pairs of the windows that begin at a place, by their length.
+pub fn add_place(
+    seen: &mut HashSet<Key>,
+    pairs: &mut Vec<(Seq, Mask)>,
+    looked: Looked<'_>,
+    rows: &[Row],
+    live: &Live,
+    place: u32,
+) -> Result<(), Memory>
+    requires regs { looked.regs ≤ 4 }
+    requires left { looked.left ≤ 5 }
+    requires rows { length rows.now ≡ length live.now.after }
+    requires few { length rows.now < 2 ^ 32 }
+    requires place { place < length rows.now }
+    ensures { OnOk result ((lines : List Line) → AreOf lines rows.now live.now → AreSeen looked.entry.pool.now seen.old.keys (map pair_of pairs.old.items) → AreSeen looked.entry.pool.now seen.new.keys (map pair_of pairs.new.items) × AreAdded (limits_of looked.entry) lines (spots_at looked.entry.left place) (map pair_of pairs.old.items) (map pair_of pairs.new.items)) }
+{
+    let run = run(rows, place as usize, usize::from(looked.left));
+    for last in 0..run.len() {
+        let items = live.after(place + last as u32);
+        add_window(seen, pairs, looked, &run.as_slice()[..last + 1], items)?;
+    }
+    Ok(())
+}
