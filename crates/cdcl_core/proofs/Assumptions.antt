@@ -1,6 +1,6 @@
 -- Literals that are made false.
 use Rattle.std.proofs.Common.{◌≡◌, ℕ, ◌+◌, ◌<◌, List, [], ◌∷◌, ◌++◌, length, get_or, take, length-append, append-nil, append_assoc, sym, ◌∙◌, ap, arith, Option, None, subst, suc}
-use Rattle.std.specs.Prelude.{All, Contains, replicate}
+use Rattle.std.specs.Prelude.{All, Any, Contains, replicate}
 use Rattle.std.proofs.lemmas.List.{take_more}
 use Rattle.std.proofs.lemmas.List.Elements.{All-nil, All-push, All-append, All-contains, All-weaker, All-contains_itself, Contains-push, Contains-append_left}
 use Rattle.clause_model.specs.Literals.{negated}
@@ -56,14 +56,18 @@ module _ (literals : List ℕ) (i l n : ℕ) (b : i < length literals) (e : l �
 pub within_under : (literals part : List ℕ) (r : List (Option ℕ)) (a : List ℕ) (s : List (Option ℕ)) (t u : List ℕ) → IsAssumed part r a s t → ((x : ℕ) → Contains part x → Contains literals x) → All (Contains u) a → AllFalse u literals → All (Contains u) t
 within_under literals part r a s t u h w g f = rw h.trail (All-append (Contains u) a h.added g (All-weaker (λ x. Contains part (negated x)) (Contains u) (λ x c. subst (Contains u) (negated-negated x) (All-contains (IsFalse u) literals (negated x) f (w (negated x) c))) h.added h.within))
 
-pub assumed_unset : (size : ℕ) (a literals : List ℕ) (i l n : ℕ) → i < length literals → l ≡ get_or literals i l → n ≡ negated l → CanFalsify size a literals → (r : List (Option ℕ)) (s : List (Option ℕ)) (t : List ℕ) → IsAssumed (take i literals) r a s t → (Contains t n → ⊥) → IsUnset t n
-assumed_unset size a literals i l n b e q h r s t g f =
-    let all : All (Contains h.under) t = within_under literals (take i literals) r a s t h.under g (λ x c. Contains-take x i literals c) h.contains h.falsifies in
-    let d : Contains h.under (negated l) = All-contains (IsFalse h.under) literals l h.falsifies (i, b, sym e) in (
-      f,
-      λ p. let m : negated n ≡ l = ap negated q ∙ negated-negated l in
-          h.consistent l (subst (Contains h.under) m (All-contains (Contains h.under) t (negated n) all p)) d,
-    )
+-- the contrary of a literal that isn't true, where it isn't either
+pub opposite_unset : (t : List ℕ) (l n : ℕ) → n ≡ negated l → (Contains t l → ⊥) → (Contains t n → ⊥) → IsUnset t n
+opposite_unset t l n q f g = (g, λ p. f (subst (Contains t) (ap negated q ∙ negated-negated l) p))
+
+pub part_in : (n : ℕ) (xs : List ℕ) → All (Contains xs) (take n xs)
+part_in n xs = All-weaker (Contains (take n xs)) (Contains xs) (λ x p. Contains-take x n xs p) (take n xs) (All-contains_itself (take n xs))
+
+-- none of literals that can be false together becomes true
+pub never_true : (size : ℕ) (a literals tried : List ℕ) (r s : List (Option ℕ)) (t : List ℕ) → CanFalsify size a literals → All (Contains literals) tried → IsAssumed tried r a s t → Any (Contains t) literals → ⊥
+never_true size a literals tried r s t h w g y =
+    let all : All (Contains h.under) t = within_under literals tried r a s t h.under g (λ x c. All-contains (Contains literals) tried x w c) h.contains h.falsifies in
+    h.consistent y.1 (All-contains (Contains h.under) t y.1 all y.4) (All-contains (IsFalse h.under) literals y.1 h.falsifies (y.0, y.2, y.3))
 
 pub assumed_grows : (literals : List ℕ) (r : List (Option ℕ)) (a : List ℕ) (s : List (Option ℕ)) (t : List ℕ) → IsAssumed literals r a s t → All (Contains t) a
 assumed_grows literals r a s t h = rw h.trail (All-weaker (Contains a) (Contains (a ++ h.added)) (λ l p. Contains-append_left a h.added l p) a (All-contains_itself a))
@@ -74,17 +78,3 @@ module _ (size : ℕ) (a literals : List ℕ) (h : CanFalsify size a literals) (
 
   pub assumed_bounded : All (λ l. l < size) t
   assumed_bounded = All-weaker (Contains h.under) (λ l. l < size) (λ l c. All-contains (λ x. x < size) h.under l h.bounded c) t assumed_under
-
--- the first list of assumptions, and the second after it
-pub CanFalsify_left : (size : ℕ) (a left right : List ℕ) → CanFalsify size a (left ++ right) → CanFalsify size a left
-CanFalsify_left size a left right h = record { under = h.under; consistent = h.consistent; bounded = h.bounded; contains = h.contains; falsifies = All-left (IsFalse h.under) left right h.falsifies }
-
-pub CanFalsify_right : (size : ℕ) (a left right : List ℕ) (r s : List (Option ℕ)) (t : List ℕ) → CanFalsify size a (left ++ right) → IsAssumed left r a s t → CanFalsify size t right
-unfolding CanFalsify_left
-CanFalsify_right size a left right r s t h g = record {
-  under = h.under;
-  consistent = h.consistent;
-  bounded = h.bounded;
-  contains = assumed_under size a left (CanFalsify_left size a left right h) r s t g;
-  falsifies = All-right (IsFalse h.under) left right h.falsifies;
-}

@@ -1,18 +1,21 @@
--- Literals that are made false after what is true before any decision, and what follows.
-use Rattle.std.proofs.Common.{◌≡◌, ℕ, List, [], ◌++◌, length, take, sym, subst, Option}
-use Rattle.std.specs.Prelude.{Contains}
-use Rattle.std.proofs.lemmas.List.Elements.{All-nil, All-weaker, All-contains_itself, Contains-append_left, Contains-append_right}
+-- Literals that are made false, and what follows.
+use Rattle.std.proofs.Common.{◌≡◌, ℕ, ◌≤◌, List, [], ◌++◌, length, take, length-append, refl, sym, ◌∙◌, ap, arith, subst, map, Option, None, true, false}
+use Rattle.std.specs.Prelude.{All, Any, Contains, replicate}
+use Rattle.std.proofs.lemmas.List.{take_at, take_all, take-take}
+use Rattle.std.proofs.lemmas.List.Elements.{All-nil, All-append, All-contains, All-weaker, Contains-append_right}
 use Rattle.clause_model.specs.Literals.{negated}
-use Rattle.clause_model.specs.Clauses.{AllFalse, IsConsistent}
+use Rattle.clause_model.specs.Clauses.{IsFalse, AllFalse}
 use Rattle.clause_model.proofs.Asserted.{AllFalse-grown}
-use Rattle.clause_arena.specs.Contents.{Content, IsWhole}
-use Rattle.unit_propagation.specs.Watching.{IsLater, Rule, RuleUpTo, IsOtherTrue}
-use Rattle.unit_propagation.proofs.Steps.{Contains-part}
-use Rattle.cdcl_core.specs.Implied.{clauses_of, Level, level_of, IsGround, IsJustified, IsSettled}
-use Rattle.cdcl_core.specs.Assumed.{CanFalsify, IsAssumed}
+use Rattle.clause_model.proofs.LiteralLaws.{negated-negated}
+use Rattle.clause_arena.specs.Contents.{Clause, Content, HasLiteral}
+use Rattle.unit_propagation.specs.Watching.{IsKnown, IsLater, Rule, RuleUpTo, IsOtherTrue}
+use Rattle.unit_propagation.proofs.Steps.{Contains-part, later_same, part_of_longer}
+use Rattle.cdcl_core.specs.Implied.{clauses_of, Level, IsGround, IsJustified, IsConflict, IsRefutable}
+use Rattle.cdcl_core.specs.Assumed.{CanFalsify, IsAssumed, IsDenied}
 use Rattle.cdcl_core.proofs.Lists.{grown_from_keeps}
-use Rattle.cdcl_core.proofs.Grounds.{ground_back, ground_assumed, ground_later, ground_closed, justified_later, justified_assumed, justified_more}
-use Rattle.cdcl_core.proofs.Assumptions.{CanFalsify_left, CanFalsify_right, assumed_bounded, assumed_grows}
+use Rattle.cdcl_core.proofs.Grounds.{ground_back, ground_assumed, ground_later, justified_later, justified_assumed, justified_more}
+use Rattle.cdcl_core.proofs.Minimised.{Within, within_left, within_right, within_trans}
+use Rattle.cdcl_core.proofs.Refuted.{trail_true, conflict_refutes}
 
 -- the rule before any decision, where more literals are true
 pub rule_from : (level : Level) (content : Content) (reasons : List (Option ℕ)) (trail : List ℕ) → IsGround level content reasons trail → RuleUpTo content (take level.low trail) trail
@@ -30,45 +33,93 @@ back_justified level content reasons rb trail tb denied g e f = rw (e, f) (justi
 pub back_falsifiable : (size low : ℕ) (trail tb literals : List ℕ) → tb ≡ take low trail → CanFalsify size (take low trail) literals → CanFalsify size tb literals
 back_falsifiable size low trail tb literals e f = rw e f
 
-module _ (content : Content) (low : ℕ) (reasons : List (Option ℕ)) (trail : List ℕ) (g : IsGround (level_of content trail low) content reasons trail) (left right : List ℕ) (f : CanFalsify (length content.chains) (take low trail) (left ++ right))
-    (rb : List (Option ℕ)) (tb : List ℕ) (eb : tb ≡ take low trail) (er : rb ≡ take low reasons) where
-  abbrev level : Level
-  level = level_of content trail low
+-- how the watches have moved, said of an earlier part of the trail
+pub watches_of : (earlier later : Content) (a t b : List ℕ) (ra r s : List (Option ℕ)) → length ra ≡ length a → length a ≤ length t → take (length a) t ≡ a → IsLater earlier t r later b s → IsLater earlier a ra later a ra
+watches_of earlier later a t b ra r s al n e l = record {
+  clauses = l.clauses;
+  size = l.size;
+  attached = l.attached;
+  watched = l.watched;
+  literals = λ h. All-weaker (HasLiteral earlier) (HasLiteral later) (λ x k. omega (arith, k, l.size)) a h;
+  longer = omega arith;
+  prefix = take_all (length a) a (omega arith);
+  aligned = al;
+  reasons_kept = take_all (length a) ra (omega (arith, al));
+  kept = λ m c h.
+      let same : take m t ≡ take m a = sym (take-take m (length a) t c) ∙ ap (λ (xs : List ℕ). take m xs) e in
+      let there : take m b ≡ take m t = sym (take-take m (length t) b (omega (arith, n, c))) ∙ ap (λ (xs : List ℕ). take m xs) l.prefix in
+      subst (Rule later) (there ∙ same) (l.kept m (omega (arith, n, c)) (subst (Rule earlier) (sym same) h));
+  because = λ k c d. absurd (omega arith);
+}
 
-  whole_falsifiable : CanFalsify (length content.chains) tb (left ++ right)
-  whole_falsifiable = back_falsifiable (length content.chains) low trail tb (left ++ right) eb f
+module _ (content : Content) (ra : List (Option ℕ)) (a literals tried : List ℕ) (al : length ra ≡ length a) (w : Within tried literals) (r : List (Option ℕ)) (t : List ℕ) (h : IsAssumed tried ra a r t) where
+  tried_prefix : take (length a) t ≡ a
+  tried_prefix = ap (λ (xs : List ℕ). take (length a) xs) h.trail ∙ take_at a h.added (length a) refl
 
-  pub first_falsifiable : CanFalsify (length content.chains) tb left
-  first_falsifiable = CanFalsify_left (length content.chains) tb left right whole_falsifiable
+  tried_reasons : take (length a) r ≡ ra
+  tried_reasons = ap (λ (xs : List (Option ℕ)). take (length a) xs) h.unexplained ∙ take_at ra (replicate (length h.added) None) (length a) al
 
-  module _ (r1 : List (Option ℕ)) (t1 : List ℕ) (h1 : IsAssumed left rb tb r1 t1) where
-    pub second_falsifiable : CanFalsify (length content.chains) t1 right
-    second_falsifiable = CanFalsify_right (length content.chains) tb left right rb r1 t1 whole_falsifiable h1
+  pub tried_longer : length a ≤ length t
+  tried_longer = omega (arith, ap length h.trail, length-append a h.added)
 
-    g1 : IsGround level content r1 t1
-    g1 = ground_assumed level content rb tb (back_ground level content reasons rb trail tb g eb er) left r1 t1 h1 (assumed_bounded (length content.chains) tb left first_falsifiable rb r1 t1 h1)
+  pub tried_rule : (mark : ℕ) → mark ≡ length a → Rule content a → RuleUpTo content (take mark t) t
+  tried_rule mark e rule at slot l v c =
+      let o : IsOtherTrue content a at slot = rule at slot l v (subst (λ (xs : List ℕ). Contains xs (negated l)) (ap (λ (n : ℕ). take n t) e ∙ tried_prefix) c) in
+      (o.0, (o.1.0, part_of_longer a t tried_prefix o.0 o.1.1))
 
-    module _ (r2 : List (Option ℕ)) (t2 : List ℕ) (h2 : IsAssumed right r1 t1 r2 t2) where
-      pub assumed_ground : IsGround level content r2 t2
-      assumed_ground = ground_assumed level content r1 t1 g1 right r2 t2 h2 (assumed_bounded (length content.chains) t1 right second_falsifiable r1 r2 t2 h2)
+  pub tried_ground : (level : Level) → IsGround level content ra a → All (HasLiteral content) literals → IsGround level content r t
+  tried_ground level g k = ground_assumed level content ra a g tried r t h (rw h.trail (All-append (HasLiteral content) a h.added g.literals
+      (All-weaker (λ x. Contains tried (negated x)) (HasLiteral content) (λ x c. subst (HasLiteral content) (negated-negated x)
+      (g.known.contrary (negated x) (All-contains (HasLiteral content) literals (negated x) k (All-contains (Contains literals) tried (negated x) w c)))) h.added h.within)))
 
-      assumed_justified : IsJustified content (left ++ right) r2 t2
-      assumed_justified = justified_assumed content (left ++ right) right r1 r2 t1 t2
-          (justified_assumed content (left ++ right) left rb r1 tb t1 (back_justified level content reasons rb trail tb (left ++ right) g eb er) h1 (All-weaker (Contains left) (Contains (left ++ right)) (λ l p. Contains-append_left left right l p) left (All-contains_itself left)))
-          h2 (All-weaker (Contains right) (Contains (left ++ right)) (λ l p. Contains-append_right left right l p) right (All-contains_itself right))
+  tried_justified : (denied : List ℕ) → IsJustified content denied ra a → IsJustified content (denied ++ literals) r t
+  tried_justified denied j = justified_assumed content (denied ++ literals) tried ra r a t (justified_more content denied (denied ++ literals) ra a (within_left denied literals) j)
+      h (within_trans tried literals (denied ++ literals) w (within_right denied literals))
 
-      module _ (content' : Content) (r' : List (Option ℕ)) (t' : List ℕ) (l : IsLater content t2 r2 content' t' r') where
-        pub falsified_ground : IsGround level content' r' t'
-        falsified_ground = ground_later level content r2 t2 assumed_ground content' r' t' l
+  -- a literal that follows is to be false
+  pub denied_true : All (HasLiteral content) literals → Any (Contains t) literals → IsDenied literals content a ra content t r true
+  denied_true k y = record {
+    prefix = tried_prefix;
+    reasons_kept = tried_reasons;
+    watches = later_same content a ra al;
+    ground = λ level g. tried_ground level g k;
+    justified = tried_justified;
+    settled = λ e. absurd cc;
+    refuted = λ e denied j b p o f.
+        let all : All (Contains b) t = trail_true content (clauses_of content) refl (denied ++ literals) r t (tried_justified denied j) b p o f in
+        p y.1 (All-contains (Contains b) t y.1 all y.4) (All-contains (IsFalse b) (denied ++ literals) y.1 f (Contains-append_right denied literals y.1 (y.0, y.2, y.3)));
+  }
 
-        pub falsified_right : AllFalse t' right
-        falsified_right = AllFalse-grown t2 t' right (grown_from_keeps t2 t' l.prefix) h2.falsified
+  module _ (k : All (HasLiteral content) literals) (content' : Content) (r' : List (Option ℕ)) (t' : List ℕ) (l : IsLater content t r content' t' r') where
+    later_prefix : take (length a) t' ≡ a
+    later_prefix = sym (take-take (length a) (length t) t' tried_longer) ∙ (ap (λ (xs : List ℕ). take (length a) xs) l.prefix ∙ tried_prefix)
 
-        pub falsified_left : AllFalse t' left
-        falsified_left = AllFalse-grown t2 t' left (grown_from_keeps t2 t' l.prefix) (AllFalse-grown t1 t2 left (assumed_grows right r1 t1 r2 t2 h2) h1.falsified)
+    later_reasons : take (length a) r' ≡ ra
+    later_reasons = sym (take-take (length a) (length t) r' tried_longer) ∙ (ap (λ (xs : List (Option ℕ)). take (length a) xs) l.reasons_kept ∙ tried_reasons)
 
-        pub falsified_justified : IsJustified content' (left ++ right) r' t'
-        falsified_justified = justified_later content content' (left ++ right) r2 r' t2 t' assumed_justified l
+    later_justified : (denied : List ℕ) → IsJustified content denied ra a → IsJustified content' (denied ++ literals) r' t'
+    later_justified denied j = justified_later content content' (denied ++ literals) r r' t t' (tried_justified denied j) l
 
-        pub falsified_settled : IsConsistent t' → IsWhole content' → Rule content' t' → IsSettled (clauses_of content) t'
-        falsified_settled p w r = record { consistent = p; closed = ground_closed level content' r' t' falsified_ground w r }
+    -- a clause is false
+    pub denied_false : (at : ℕ) → IsConflict content' t' at → IsDenied literals content a ra content' t' r' true
+    denied_false at c = record {
+      prefix = later_prefix;
+      reasons_kept = later_reasons;
+      watches = watches_of content content' a t t' ra r r' al tried_longer tried_prefix l;
+      ground = λ level g. ground_later level content r t (tried_ground level g k) content' r' t' l;
+      justified = later_justified;
+      settled = λ e. absurd cc;
+      refuted = λ e denied j b p o f. conflict_refutes content' (clauses_of content) (ap (λ (cs : List Clause). map (λ (x : Clause). x.literals) cs) l.clauses) (denied ++ literals) r' t' (later_justified denied j) b p o f at c;
+    }
+
+    -- nothing is left to propagate
+    pub denied_settled : AllFalse t literals → Rule content' t' → IsDenied literals content a ra content' t' r' false
+    denied_settled f rule = record {
+      prefix = later_prefix;
+      reasons_kept = later_reasons;
+      watches = watches_of content content' a t t' ra r r' al tried_longer tried_prefix l;
+      ground = λ level g. ground_later level content r t (tried_ground level g k) content' r' t' l;
+      justified = later_justified;
+      settled = λ e. (rule, AllFalse-grown t t' literals (grown_from_keeps t t' l.prefix) f);
+      refuted = λ e. absurd cc;
+    }

@@ -4,6 +4,7 @@ pub mod Assumptions
 pub mod Falsified
 pub mod Refuted
 pub mod Minimised
+pub mod Halved
 pub mod Conflicts
 pub mod Hints
 pub mod Places

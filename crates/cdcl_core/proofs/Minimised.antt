@@ -1,15 +1,15 @@
-use Rattle.std.proofs.Common.{◌≡◌, ℕ, ◌≤◌, ◌⊎◌, List, [], ◌∷◌, ◌++◌, length, take, length-append, append-nil, refl, inl, inr, arith, Option, subst}
+-- Literals that are needed.
+use Rattle.std.proofs.Common.{◌≡◌, ℕ, ◌≤◌, ◌⊎◌, List, [], ◌++◌, length, get_or, take, append-nil, append_assoc, refl, sym, ◌∙◌, ap, inl, inr, arith, Option, subst}
 use Rattle.std.specs.Prelude.{All, Contains}
-use Rattle.std.proofs.lemmas.List.{take-append-le}
-use Rattle.std.proofs.Math.Seq.{take-length}
-use Rattle.std.proofs.lemmas.List.Elements.{All-push, All-contains, All-weaker, All-append, All-contains_itself, Contains-append_left, Contains-append_right}
+use Rattle.std.proofs.lemmas.List.{take_at, get_or_default}
+use Rattle.std.proofs.lemmas.List.Elements.{All-nil, All-contains, All-weaker, All-append, All-contains_itself, Contains-append_left, Contains-append_right}
 use Rattle.clause_model.specs.Clauses.{IsFalse, AllFalse}
 use Rattle.clause_model.specs.Asserting.{IsFreed}
 use Rattle.clause_arena.specs.Contents.{Content}
-use Rattle.cdcl_core.specs.Implied.{clauses_of, Level, IsGround, IsSettled, IsJustified, IsConflict, IsRefutable}
+use Rattle.cdcl_core.specs.Implied.{Level, IsGround, IsSettled, IsRefutable}
 use Rattle.cdcl_core.specs.Assumed.{CanFalsify}
+use Rattle.cdcl_core.specs.Minimal.{AreNeeded}
 use Rattle.cdcl_core.proofs.Lists.{All-left, All-right}
-use Rattle.cdcl_core.proofs.Refuted.{conflict_refutes}
 
 -- each of xs is one of ys
 abbrev pub Within : List ℕ → List ℕ → Type 0
@@ -23,27 +23,6 @@ within_right xs ys = All-weaker (Contains ys) (Contains (xs ++ ys)) (λ l p. Con
 
 pub within_trans : (xs ys zs : List ℕ) → Within xs ys → Within ys zs → Within xs zs
 within_trans xs ys zs h k = All-weaker (Contains ys) (Contains zs) (λ l p. All-contains (Contains zs) ys l k p) xs h
-
-module _ (kept rest : List ℕ) (m : ℕ) where
-  pub within_dropped : Within (kept ++ rest) (kept ++ (rest ++ m ∷ []))
-  within_dropped = All-append (Contains (kept ++ (rest ++ m ∷ []))) kept rest (within_left kept (rest ++ m ∷ []))
-      (within_trans rest (rest ++ m ∷ []) (kept ++ (rest ++ m ∷ [])) (within_left rest (m ∷ [])) (within_right kept (rest ++ m ∷ [])))
-
-  last : Within (m ∷ []) (kept ++ (rest ++ m ∷ []))
-  last = within_trans (m ∷ []) (rest ++ m ∷ []) (kept ++ (rest ++ m ∷ [])) (within_right rest (m ∷ [])) (within_right kept (rest ++ m ∷ []))
-
-  pub within_moved : Within ((kept ++ m ∷ []) ++ rest) (kept ++ (rest ++ m ∷ []))
-  within_moved =
-      let whole : List ℕ = kept ++ (rest ++ m ∷ []) in
-      All-append (Contains whole) (kept ++ m ∷ []) rest (All-append (Contains whole) kept (m ∷ []) (within_left kept (rest ++ m ∷ [])) last)
-      (All-right (Contains whole) kept rest within_dropped)
-
-  pub within_back : Within (kept ++ (rest ++ m ∷ [])) ((kept ++ m ∷ []) ++ rest)
-  within_back =
-      let whole : List ℕ = (kept ++ m ∷ []) ++ rest in
-      let front : Within (kept ++ m ∷ []) whole = within_left (kept ++ m ∷ []) rest in
-      All-append (Contains whole) kept (rest ++ m ∷ []) (All-left (Contains whole) kept (m ∷ []) front)
-      (All-append (Contains whole) rest (m ∷ []) (within_right (kept ++ m ∷ []) rest) (All-right (Contains whole) kept (m ∷ []) front))
 
 module _ (clauses : List (List ℕ)) (size : ℕ) (base : List ℕ) (xs ys : List ℕ) (w : Within ys xs) where
   pub Freed-within : (l : ℕ) → IsFreed clauses xs l → IsFreed clauses ys l
@@ -68,92 +47,79 @@ module _ (clauses : List (List ℕ)) (size : ℕ) (base : List ℕ) (xs ys : Lis
   pub Refutable-within : IsRefutable clauses ys → IsRefutable clauses xs
   Refutable-within r a h o f = r a h o (All-weaker (Contains xs) (IsFalse a) (λ m p. All-contains (IsFalse a) xs m f p) ys w)
 
--- what is known while `kept` grows from `first`
-pub record Minimised (clauses : List (List ℕ)) (size : ℕ) (base first whole kept rest : List ℕ) : Type 0 where
-  pub falsifiable : CanFalsify size base (kept ++ rest)
-  pub refutable : IsRefutable clauses (kept ++ rest)
-  pub freed : All (λ l. Contains first l ⊎ IsFreed clauses (kept ++ rest) l) kept
-  pub subset : Within (kept ++ rest) whole
-  pub begins : take (length first) kept ≡ first
-  pub long : length first ≤ length kept
-
-module _ (clauses : List (List ℕ)) (size : ℕ) (base first whole kept rest : List ℕ) (m : ℕ) (h : Minimised clauses size base first whole kept (rest ++ m ∷ [])) where
-  pub Minimised-dropped : (content : Content) → clauses_of content ≡ clauses → (reasons : List (Option ℕ)) (trail : List ℕ) (i : ℕ) → IsJustified content (kept ++ rest) reasons trail → IsConflict content trail i → Minimised clauses size base first whole kept rest
-  Minimised-dropped content is reasons trail i j c = record {
-    falsifiable = CanFalsify-within clauses size base (kept ++ (rest ++ m ∷ [])) (kept ++ rest) (within_dropped kept rest m) h.falsifiable;
-    refutable = λ a p o f. conflict_refutes content clauses is (kept ++ rest) reasons trail j a p o f i c;
-    freed = All-weaker (λ l. Contains first l ⊎ IsFreed clauses (kept ++ (rest ++ m ∷ [])) l) (λ l. Contains first l ⊎ IsFreed clauses (kept ++ rest) l)
-        (λ l s. elim s [ inl p ↦ inl p | inr f ↦ inr (Freed-within clauses size base (kept ++ (rest ++ m ∷ [])) (kept ++ rest) (within_dropped kept rest m) l f) ]) kept h.freed;
-    subset = within_trans (kept ++ rest) (kept ++ (rest ++ m ∷ [])) whole (within_dropped kept rest m) h.subset;
-    begins = h.begins;
-    long = h.long;
-  }
-
-  pub Minimised-kept : (a : List ℕ) → IsSettled clauses a → AllFalse a kept → AllFalse a rest → Minimised clauses size base first whole (kept ++ m ∷ []) rest
-  Minimised-kept a s f g =
-      let old : List ℕ = kept ++ (rest ++ m ∷ []) in
-      let new : List ℕ = (kept ++ m ∷ []) ++ rest in
-      let P : ℕ → Type 0 = λ x. (x ≡ m) ⊎ IsFalse a x in
-      let weak : (x : ℕ) → IsFalse a x → P x = (λ x p. inr p) in
-      record {
-        falsifiable = CanFalsify-within clauses size base old new (within_moved kept rest m) h.falsifiable;
-        refutable = Refutable-within clauses size base new old (within_back kept rest m) h.refutable;
-        freed = All-push (λ l. Contains first l ⊎ IsFreed clauses new l) kept m
-            (All-weaker (λ l. Contains first l ⊎ IsFreed clauses old l) (λ l. Contains first l ⊎ IsFreed clauses new l)
-            (λ l q. elim q [ inl p ↦ inl p | inr z ↦ inr (Freed-within clauses size base old new (within_moved kept rest m) l z) ]) kept h.freed)
-            (inr (
-              a,
-              record {
-                consistent = s.consistent;
-                others = All-append P (kept ++ m ∷ []) rest (All-push P kept m (All-weaker (IsFalse a) P weak kept f) (inl refl)) (All-weaker (IsFalse a) P weak rest g);
-                closed = s.closed;
-              },
-            ));
-        subset = within_trans new old whole (within_moved kept rest m) h.subset;
-        begins = let b : length first ≤ length kept = h.long in rw take-append-le h.begins;
-        long = omega (arith, h.long, length-append {A = ℕ});
-      }
-
-pub Minimised-begun : (clauses : List (List ℕ)) (size : ℕ) (base kept rest : List ℕ) → CanFalsify size base (kept ++ rest) → IsRefutable clauses (kept ++ rest) → Minimised clauses size base kept (kept ++ rest) kept rest
-Minimised-begun clauses size base kept rest f r = record {
-  falsifiable = f;
+-- where nothing follows from the contraries of all others, a single literal is needed
+pub single_needed : (clauses : List (List ℕ)) (others literals part a : List ℕ) → length literals ≤ 1 → part ≡ literals → IsRefutable clauses (others ++ literals) → IsSettled clauses a → AllFalse a others → AreNeeded clauses others part
+single_needed clauses others literals part a b e r s f = rw e record {
   refutable = r;
-  freed = All-weaker (Contains kept) (λ l. Contains kept l ⊎ IsFreed clauses (kept ++ rest) l) (λ l p. inl p) kept (All-contains_itself kept);
-  subset = All-contains_itself (kept ++ rest);
-  begins = take-length kept;
-  long = omega arith;
+  freed = λ k d i.
+      let l : ℕ = get_or literals k d in
+      let P : ℕ → Type 0 = λ m. (m ≡ l) ⊎ IsFalse a m in (
+        a,
+        record {
+          consistent = s.consistent;
+          others = All-append P others literals (All-weaker (IsFalse a) P (λ m p. inr p) others f) (λ n c j.
+              let same : n ≡ k = omega arith in
+              inl (ap (λ (x : ℕ). get_or literals x c) same ∙ get_or_default literals k c d i));
+          closed = s.closed;
+        },
+      );
 }
 
-pub Minimised-done : (clauses : List (List ℕ)) (size : ℕ) (base first whole kept rest : List ℕ) → rest ≡ [] → Minimised clauses size base first whole kept rest → Minimised clauses size base first whole kept []
-Minimised-done clauses size base first whole kept rest e h = subst (Minimised clauses size base first whole kept) e h
+-- where the others alone are refutable, no literal is needed
+pub none_needed : (clauses : List (List ℕ)) (others part : List ℕ) → part ≡ [] → IsRefutable clauses others → AreNeeded clauses others part
+none_needed clauses others part e r = rw e record {
+  refutable = subst (IsRefutable clauses) (sym (append-nil others)) r;
+  freed = All-nil (IsFreed clauses (others ++ []));
+}
 
-module _ (clauses : List (List ℕ)) (size : ℕ) (base first whole kept : List ℕ) (h : Minimised clauses size base first whole kept []) where
-  pub done_refutable : IsRefutable clauses kept
-  done_refutable = subst (IsRefutable clauses) (append-nil kept) h.refutable
+-- the first half where the second is false, and then the second where the part of the first is
+module _ (clauses : List (List ℕ)) (others first second : List ℕ) (r : IsRefutable clauses (others ++ (first ++ second))) where
+  pub first_refutable : IsRefutable clauses ((others ++ second) ++ first)
+  first_refutable =
+      let whole : List ℕ = (others ++ second) ++ first in
+      let front : Within (others ++ second) whole = within_left (others ++ second) first in
+      Refutable-within clauses 0 [] whole (others ++ (first ++ second)) (All-append (Contains whole) others (first ++ second) (All-left (Contains whole) others second front)
+      (All-append (Contains whole) first second (within_right (others ++ second) first) (All-right (Contains whole) others second front))) r
 
-  pub done_freed : All (λ l. Contains first l ⊎ IsFreed clauses kept l) kept
-  done_freed = subst (λ (xs : List ℕ). All (λ l. Contains first l ⊎ IsFreed clauses xs l) kept) (append-nil kept) h.freed
+  module _ (part : List ℕ) (h : AreNeeded clauses (others ++ second) part) where
+    pub second_refutable : IsRefutable clauses ((others ++ part) ++ second)
+    second_refutable =
+        let whole : List ℕ = (others ++ part) ++ second in
+        let front : Within (others ++ part) whole = within_left (others ++ part) second in
+        Refutable-within clauses 0 [] whole ((others ++ second) ++ part) (All-append (Contains whole) (others ++ second) part
+        (All-append (Contains whole) others second (All-left (Contains whole) others part front) (within_right (others ++ part) second)) (All-right (Contains whole) others part front)) h.refutable
 
-  pub done_subset : Within kept whole
-  done_subset = subst (λ (xs : List ℕ). Within xs whole) (append-nil kept) h.subset
+    pub halves_needed : (rest : List ℕ) → Within rest second → AreNeeded clauses (others ++ part) rest → AreNeeded clauses others (part ++ rest)
+    halves_needed rest w k =
+        let whole : List ℕ = others ++ (part ++ rest) in
+        let all : List ℕ = (others ++ second) ++ part in
+        let front : Within (others ++ second) all = within_left (others ++ second) part in
+        let there : Within whole all =
+            All-append (Contains all) others (part ++ rest) (All-left (Contains all) others second front)
+            (All-append (Contains all) part rest (within_right (others ++ second) part) (within_trans rest second all w (All-right (Contains all) others second front))) in
+        let here : Within whole ((others ++ part) ++ rest) = subst (λ (xs : List ℕ). Within whole xs) (sym (append_assoc others part rest)) (All-contains_itself whole) in
+        record {
+          refutable = subst (IsRefutable clauses) (append_assoc others part rest) k.refutable;
+          freed = All-append (IsFreed clauses whole) part rest
+              (All-weaker (IsFreed clauses all) (IsFreed clauses whole) (Freed-within clauses 0 [] all whole there) part h.freed)
+              (All-weaker (IsFreed clauses ((others ++ part) ++ rest)) (IsFreed clauses whole) (Freed-within clauses 0 [] ((others ++ part) ++ rest) whole here) rest k.freed);
+        }
 
-pub nil_from_length : (xs : List ℕ) → length xs ≡ 0 → xs ≡ []
-nil_from_length [] e = refl
-nil_from_length (x ∷ xs) e = absurd (omega arith)
+-- a clause that begins with what was kept from the first
+module _ (clauses : List (List ℕ)) (first literals part kept : List ℕ) (e : kept ≡ first ++ part) (w : Within part literals) (h : AreNeeded clauses first part) where
+  pub kept_refutable : IsRefutable clauses kept
+  kept_refutable = rw e h.refutable
 
--- by the clause of `pop` on the items
-module _ (clauses : List (List ℕ)) (size : ℕ) (base first whole kept rest rest' : List ℕ) (m : ℕ) (e : rest ≡ rest' ++ m ∷ []) (h : Minimised clauses size base first whole kept rest) where
-  popped : Minimised clauses size base first whole kept (rest' ++ m ∷ [])
-  popped = subst (Minimised clauses size base first whole kept) e h
+  pub kept_freed : All (λ l. Contains first l ⊎ IsFreed clauses kept l) kept
+  kept_freed = rw e (All-append (λ l. Contains first l ⊎ IsFreed clauses (first ++ part) l) first part
+      (All-weaker (Contains first) (λ l. Contains first l ⊎ IsFreed clauses (first ++ part) l) (λ l p. inl p) first (All-contains_itself first))
+      (All-weaker (IsFreed clauses (first ++ part)) (λ l. Contains first l ⊎ IsFreed clauses (first ++ part) l) (λ l p. inr p) part h.freed))
 
-  pub popped_falsifiable : (xs ys : List ℕ) → xs ≡ kept → ys ≡ rest' → CanFalsify size base (xs ++ ys)
-  popped_falsifiable xs ys f g = rw (f, g) (CanFalsify-within clauses size base (kept ++ (rest' ++ m ∷ [])) (kept ++ rest') (within_dropped kept rest' m) popped.falsifiable)
+  pub kept_within : Within kept (first ++ literals)
+  kept_within = rw e (All-append (Contains (first ++ literals)) first part (within_left first literals) (within_trans part literals (first ++ literals) w (within_right first literals)))
 
-  pub popped_dropped : (xs ys : List ℕ) → xs ≡ kept → ys ≡ rest' → (content : Content) → clauses_of content ≡ clauses → (reasons : List (Option ℕ)) (trail : List ℕ) (i : ℕ) → IsJustified content (xs ++ ys) reasons trail → IsConflict content trail i → Minimised clauses size base first whole kept rest'
-  popped_dropped xs ys f g content is reasons trail i j c = Minimised-dropped clauses size base first whole kept rest' m popped content is reasons trail i (rw (← f, ← g) j) c
-
-  pub popped_kept : (a xs ys kept' : List ℕ) → xs ≡ kept → ys ≡ rest' → kept' ≡ kept ++ m ∷ [] → IsSettled clauses a → AllFalse a xs → AllFalse a ys → Minimised clauses size base first whole kept' rest'
-  popped_kept a xs ys kept' f g k s p q = rw k (Minimised-kept clauses size base first whole kept rest' m popped a s (subst (AllFalse a) f p) (subst (AllFalse a) g q))
+  pub kept_begins : take (length first) kept ≡ first
+  kept_begins = rw e (take_at first part (length first) refl)
 
 -- what the next trial requires, said of the arena and the trail as they are
 pub falsifiable_here : (level : Level) (content : Content) (reasons : List (Option ℕ)) (trail literals : List ℕ) → IsGround level content reasons trail → CanFalsify level.size level.base literals → CanFalsify (length content.chains) (take level.low trail) literals

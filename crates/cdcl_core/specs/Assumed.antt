@@ -1,7 +1,10 @@
 -- Literals that are made false.
-use Rattle.std.specs.Prelude.{ℕ, ◌≡◌, ◌<◌, List, ◌++◌, All, Contains, Option, None, length, replicate}
+use Rattle.std.specs.Prelude.{ℕ, ◌≡◌, ◌<◌, List, ◌++◌, Bool, true, false, All, Contains, Option, None, length, replicate, take}
 use Rattle.clause_model.specs.Literals.{negated}
 use Rattle.clause_model.specs.Clauses.{IsConsistent, AllFalse}
+use Rattle.clause_arena.specs.Contents.{Content}
+use Rattle.unit_propagation.specs.Watching.{IsLater, Rule}
+use Rattle.cdcl_core.specs.Implied.{clauses_of, IsRefutable, IsJustified, Level, IsGround}
 
 -- some consistent assignment of literals below the size contains a and makes the literals false
 pub record CanFalsify (size : ℕ) (a literals : List ℕ) : Type 0 where
@@ -18,3 +21,13 @@ pub record IsAssumed (literals : List ℕ) (before : List (Option ℕ)) (a : Lis
   pub unexplained : reasons ≡ before ++ replicate (length added) None
   pub within : All (λ t. Contains literals (negated t)) added
   pub falsified : AllFalse b literals
+
+-- after a the literals became false, and what follows became true, with nothing left to propagate; or they can't be false where those that a denies are
+pub record IsDenied (literals : List ℕ) (earlier : Content) (a : List ℕ) (before : List (Option ℕ)) (later : Content) (b : List ℕ) (reasons : List (Option ℕ)) (is_refuted : Bool) : Type 0 where
+  pub prefix : take (length a) b ≡ a
+  pub reasons_kept : take (length a) reasons ≡ before
+  pub watches : IsLater earlier a before later a before
+  pub ground : (level : Level) → IsGround level earlier before a → IsGround level later reasons b
+  pub justified : (denied : List ℕ) → IsJustified earlier denied before a → IsJustified later (denied ++ literals) reasons b
+  pub settled : is_refuted ≡ false → Rule later b × AllFalse b literals
+  pub refuted : is_refuted ≡ true → (denied : List ℕ) → IsJustified earlier denied before a → IsRefutable (clauses_of earlier) (denied ++ literals)

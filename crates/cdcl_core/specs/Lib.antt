@@ -1,5 +1,6 @@
 pub mod Implied
 pub mod Assumed
+pub mod Minimal
 pub mod Analysed
 pub mod Hinted
 pub mod Searched

@@ -1,9 +1,10 @@
 //! Literals that are made false, to see what follows.
 
-ghost use Rattle.std.specs.Prelude.{◌≡◌, ℕ, ◌≤◌, ◌++◌, OnOk, IfOk, MatchOption, List, length, take};
-ghost use Rattle.clause_model.specs.Clauses.{AllFalse};
-ghost use Rattle.cdcl_core.specs.Implied.{clauses_of, IsConflict, IsSettled, IsJustified, IsGround, level_of};
-ghost use Rattle.cdcl_core.specs.Assumed.{CanFalsify, IsAssumed};
+ghost use Rattle.std.specs.Prelude.{◌≡◌, ℕ, ◌≤◌, OnOk, IfOk, All, Any, Contains, List, take, true, false};
+ghost use Rattle.clause_arena.specs.Contents.{HasLiteral};
+ghost use Rattle.unit_propagation.specs.Watching.{Rule};
+ghost use Rattle.cdcl_core.specs.Implied.{Level, IsGround};
+ghost use Rattle.cdcl_core.specs.Assumed.{IsAssumed, IsDenied};
 
 use clause_arena::{Arena, Memory, Ref};
 use clause_model::{Assignment, Literal};
@@ -18,48 +19,49 @@ pub fn back(trail: &mut Assignment, reasons: &mut Vec<Option<Ref>>, low: usize)
     reasons.truncate(low);
 }
 
-/// Makes each literal false, without a reason.
+/// Makes each literal false, without a reason, up to one that is true; the answer is whether one is.
 pub fn assume(
     literals: &[Literal],
     trail: &mut Assignment,
     reasons: &mut Vec<Option<Ref>>,
-) -> Result<(), Memory>
-    requires { (size : ℕ) × CanFalsify size trail.old literals.now }
-    ensures { OnOk result (IsAssumed literals.now reasons.old.items trail.old reasons.new.items trail.new) }
+) -> Result<bool, Memory>
+    ensures tried { OnOk result ((tried : List ℕ) × All (Contains literals.now) tried × IsAssumed tried reasons.old.items trail.old reasons.new.items trail.new) }
+    ensures each { IfOk result (λ is_true. is_true ≡ false → IsAssumed literals.now reasons.old.items trail.old reasons.new.items trail.new) }
+    ensures one { IfOk result (λ is_true. is_true ≡ true → Any (Contains trail.new) literals.now) }
 {
     for literal in literals {
+        if trail.is_true(*literal) {
+            return Ok(true);
+        }
         let opposite = literal.negated();
         if !trail.is_true(opposite) {
             trail.set(opposite)?;
             reasons.push(None)?;
         }
     }
-    Ok(())
+    Ok(false)
 }
 
-/// Makes each literal of both lists false, after what is true before any decision, and propagates;
-/// the answer is a clause that is then false.
-pub fn falsify(
+/// Makes each literal false and propagates, where nothing was left to propagate; the answer is
+/// whether a literal is true or a clause is then false.
+pub fn deny(
     arena: &mut Arena,
     trail: &mut Assignment,
     reasons: &mut Vec<Option<Ref>>,
-    low: usize,
-    left: &[Literal],
-    right: &[Literal],
-) -> Result<Option<Ref>, Memory>
-    requires ground { IsGround (level_of arena.old trail.old low) arena.old reasons.old.items trail.old }
-    requires falsifiable { CanFalsify (length arena.old.chains) (take low trail.old) (left.now ++ right.now) }
-    ensures ground { OnOk result (IsGround (level_of arena.old trail.old low) arena.new reasons.new.items trail.new) }
-    ensures left { OnOk result (AllFalse trail.new left.now) }
-    ensures right { OnOk result (AllFalse trail.new right.now) }
-    ensures justified { OnOk result (IsJustified arena.new (left.now ++ right.now) reasons.new.items trail.new) }
-    ensures outcome { IfOk result (λ r. MatchOption r (IsSettled (clauses_of arena.old) trail.new) (IsConflict arena.new trail.new)) }
+    literals: &[Literal],
+) -> Result<bool, Memory>
+    requires ground { (level : Level) × IsGround level arena.old reasons.old.items trail.old }
+    requires rule { Rule arena.old trail.old }
+    requires known { All (HasLiteral arena.old) literals.now }
+    ensures { IfOk result (λ is_refuted. IsDenied literals.now arena.old trail.old reasons.old.items arena.new trail.new reasons.new.items is_refuted) }
 {
-    back(trail, reasons, low);
-    assume(left, trail, reasons)?;
-    assume(right, trail, reasons)?;
-    let conflict = propagate(arena, trail, reasons, low)?;
-    let _trues = trail.len();
-    let _literals = arena.literals();
-    Ok(conflict)
+    let mark = trail.len();
+    let is_true = assume(literals, trail, reasons)?;
+    if is_true {
+        return Ok(true);
+    }
+    match propagate(arena, trail, reasons, mark)? {
+        Some(_) => Ok(true),
+        None => Ok(false),
+    }
 }

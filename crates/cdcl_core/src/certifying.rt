@@ -46,7 +46,10 @@ pub fn certify(
     ensures tidy { IfOk result (λ line. (hints : List ℕ) × (line.hints.items ≡ map pos hints) × TidyPropagation (numbered (clauses_of arena.old)) line.literals.items hints) }
 {
     back(trail, reasons, low);
-    assume(clause, trail, reasons)?;
+    let is_true = assume(clause, trail, reasons)?;
+    if is_true {
+        unreachable!();
+    }
     let high = trail.len();
     match propagate(arena, trail, reasons, low)? {
         Some(conflict) => {

@@ -44,7 +44,7 @@ pub fn learn(
     let (literal, others) = analyse(alloc, arena, trail, reasons, seen, low, start, conflict)?;
     let mut literals = Vec::new(alloc);
     literals.push(literal)?;
-    minimise(arena, trail, reasons, low, &mut literals, others)?;
+    minimise(alloc, arena, trail, reasons, low, &mut literals, &others)?;
     let line = certify(alloc, arena, refs, trail, reasons, seen, low, &literals, id)?;
     Ok(line)
 }

@@ -3,39 +3,89 @@
 //! A literal is left out where propagation from the negations of the others still ends in a false
 //! clause. One pass is enough: where it doesn't, the assignment in which it ends shows that this
 //! literal is needed, and it shows so as well once more literals are left out.
+//!
+//! The literals are halved until one is left, so that those on which a trial agrees with the one
+//! before it are propagated once for both: the first half is tried where the second is false, and
+//! then the second where what the first needs is. Where the others alone end in a false clause, a
+//! whole half is left out at once.
 
-ghost use Rattle.std.specs.Prelude.{◌≡◌, ℕ, ◌⊎◌, ◌++◌, OnOk, All, List, length, take, Contains};
+ghost use Rattle.std.specs.Prelude.{◌≡◌, ℕ, ◌⊎◌, ◌++◌, OnOk, IfOk, All, List, length, take, Contains};
+ghost use Rattle.clause_model.specs.Clauses.{AllFalse};
 ghost use Rattle.clause_model.specs.Asserting.{IsFreed};
-ghost use Rattle.cdcl_core.specs.Implied.{clauses_of, IsRefutable, IsGround, level_of};
+ghost use Rattle.clause_arena.specs.Contents.{HasLiteral};
+ghost use Rattle.unit_propagation.specs.Watching.{Rule, IsLater};
+ghost use Rattle.cdcl_core.specs.Implied.{clauses_of, IsRefutable, IsGround, IsJustified, Level, level_of};
 ghost use Rattle.cdcl_core.specs.Assumed.{CanFalsify};
+ghost use Rattle.cdcl_core.specs.Minimal.{AreNeeded};
 
-use crate::assumption::falsify;
+use crate::assumption::{back, deny};
 use clause_arena::{Arena, Memory, Ref};
 use clause_model::{Assignment, Literal};
+use std::alloc::Global;
 
-/// Moves to `kept` each literal of `rest` without which the others' negations leave nothing false.
+/// Those of the literals that are needed where `denied` are false as well.
+fn needed(
+    alloc: Global,
+    arena: &mut Arena,
+    trail: &mut Assignment,
+    reasons: &mut Vec<Option<Ref>>,
+    denied: &[Literal],
+    literals: &[Literal],
+) -> Result<Vec<Literal>, Memory>
+    requires ground { (level : Level) × IsGround level arena.old reasons.old.items trail.old }
+    requires rule { Rule arena.old trail.old }
+    requires known_denied { All (HasLiteral arena.old) denied.now }
+    requires known { All (HasLiteral arena.old) literals.now }
+    ensures trail { OnOk result (trail.new ≡ trail.old) }
+    ensures reasons { OnOk result (reasons.new.items ≡ reasons.old.items) }
+    ensures watches { OnOk result (IsLater arena.old trail.old reasons.old.items arena.new trail.old reasons.old.items) }
+    ensures part { IfOk result (λ part. All (Contains literals.now) part.items) }
+    ensures needed { IfOk result (λ part. (others : List ℕ) → IsJustified arena.old others reasons.old.items trail.old → AllFalse trail.old others → IsRefutable (clauses_of arena.old) ((others ++ denied.now) ++ literals.now) → AreNeeded (clauses_of arena.old) (others ++ denied.now) part.items) }
+{
+    let mark = trail.len();
+    let is_refuted = deny(arena, trail, reasons, denied)?;
+    if is_refuted {
+        back(trail, reasons, mark);
+        return Ok(Vec::new(alloc));
+    }
+    if literals.len() <= 1 {
+        let _trues = trail.len();
+        let _whole = arena.literals();
+        let part = Vec::from_slice(alloc, literals)?;
+        back(trail, reasons, mark);
+        return Ok(part);
+    }
+    let middle = literals.len() / 2;
+    let first = &literals[..middle];
+    let second = &literals[middle..];
+    let mut part = needed(alloc, arena, trail, reasons, second, first)?;
+    let rest = needed(alloc, arena, trail, reasons, &part, second)?;
+    back(trail, reasons, mark);
+    part.extend_from_slice(&rest)?;
+    Ok(part)
+}
+
+/// Adds to `kept` each literal of `rest` without which the others' negations leave nothing false.
 pub fn minimise(
+    alloc: Global,
     arena: &mut Arena,
     trail: &mut Assignment,
     reasons: &mut Vec<Option<Ref>>,
     low: usize,
     kept: &mut Vec<Literal>,
-    mut rest: Vec<Literal>,
+    rest: &[Literal],
 ) -> Result<(), Memory>
     requires ground { IsGround (level_of arena.old trail.old low) arena.old reasons.old.items trail.old }
-    requires falsifiable { CanFalsify (length arena.old.chains) (take low trail.old) (kept.old.items ++ rest.items) }
-    requires refutable { IsRefutable (clauses_of arena.old) (kept.old.items ++ rest.items) }
+    requires falsifiable { CanFalsify (length arena.old.chains) (take low trail.old) (kept.old.items ++ rest.now) }
+    requires refutable { IsRefutable (clauses_of arena.old) (kept.old.items ++ rest.now) }
     ensures ground { OnOk result (IsGround (level_of arena.old trail.old low) arena.new reasons.new.items trail.new) }
     ensures refutable { OnOk result (IsRefutable (clauses_of arena.old) kept.new.items) }
     ensures freed { OnOk result (All (λ l. Contains kept.old.items l ⊎ IsFreed (clauses_of arena.old) kept.new.items l) kept.new.items) }
-    ensures subset { OnOk result (All (Contains (kept.old.items ++ rest.items)) kept.new.items) }
+    ensures subset { OnOk result (All (Contains (kept.old.items ++ rest.now)) kept.new.items) }
     ensures first { OnOk result (take (length kept.old.items) kept.new.items ≡ kept.old.items) }
 {
-    while let Some(literal) = rest.pop() {
-        match falsify(arena, trail, reasons, low, kept, &rest)? {
-            None => kept.push(literal)?,
-            Some(_) => {}
-        }
-    }
+    back(trail, reasons, low);
+    let part = needed(alloc, arena, trail, reasons, kept, rest)?;
+    kept.extend_from_slice(&part)?;
     Ok(())
 }

@@ -1,5 +1,10 @@
-//! The order of decisions, which only proposes: variables come by their numbers, and each takes the
-//! value that it had last.
+//! The order of decisions, which only proposes: every second search goes by the numbers of the
+//! variables, and the others by the latest conflicts, the variables of the last one first. Each
+//! variable takes the value that it had last.
+//!
+//! Neither order is good for all formulas: by their numbers variables refute a product against
+//! shifts and sums in a fifth of the conflicts, and by the latest conflicts a difference in turn in
+//! a tenth and less. In turn they take about twice the better one's.
 
 ghost use Rattle.std.specs.Prelude.{ℕ, ◌*◌, ◌<◌, ◌≤◌, IfSome, IsTrue, ◌↔◌, ◌≡◌, ◌+◌, ◌^◌, ◌⊎◌};
 ghost use Rattle.clause_model.specs.Clauses.{IsUnset};
@@ -7,11 +12,20 @@ ghost use Rattle.clause_model.specs.Clauses.{IsUnset};
 use clause_arena::Memory;
 use clause_model::{Assignment, Literal};
 use std::alloc::Global;
+use std::mem::swap;
 
 /// Which variable is decided next, and how.
 #[derive(Drop)]
 pub struct Order {
-    /// The first variable that was not proposed in this search.
+    /// The variables, those of the latest conflicts first.
+    ranked: Vec<u32>,
+    /// Room for another ranking.
+    spare: Vec<u32>,
+    /// Whether the last conflict involved a variable, while they are ranked anew.
+    is_involved: Vec<bool>,
+    /// Whether this search goes by the numbers of the variables.
+    by_number: bool,
+    /// How many variables were looked at in this search.
     next: u32,
     /// Whether a variable was false when it had a value last.
     phases: Vec<bool>,
@@ -24,16 +38,46 @@ pub fn is_unset(trail: &Assignment, literal: Literal) -> bool
     !trail.is_true(literal) && !trail.is_true(literal.negated())
 }
 
+/// Adds to a ranking the variables that are involved, or those that aren't, in their order.
+fn rank(
+    ranking: &mut Vec<u32>,
+    variables: &[u32],
+    is_involved: &[bool],
+    wanted: bool,
+) -> Result<(), Memory> {
+    for variable in variables {
+        let involved = is_involved
+            .get(*variable as usize)
+            .copied()
+            .unwrap_or(false);
+        if involved == wanted {
+            ranking.push(*variable)?;
+        }
+    }
+    Ok(())
+}
+
 impl Order {
-    /// No conflict yet.
+    /// No conflict yet: the last variables come first, since they depend on the others.
     pub fn new(alloc: Global, variables: u32) -> Result<Self, Memory> {
-        let phases = vec![in alloc; true; variables as usize]?;
-        Ok(Order { next: 0, phases })
+        let mut ranked = Vec::with_capacity(alloc, variables as usize)?;
+        for variable in (0..variables).rev() {
+            ranked.push(variable)?;
+        }
+        Ok(Order {
+            ranked,
+            spare: Vec::with_capacity(alloc, variables as usize)?,
+            is_involved: vec![in alloc; false; variables as usize]?,
+            by_number: false,
+            next: 0,
+            phases: vec![in alloc; true; variables as usize]?,
+        })
     }
 
-    /// Begins with the first variable again.
+    /// Begins another search.
     pub fn begin(&mut self) {
         self.next = 0;
+        self.by_number = !self.by_number;
     }
 
     fn literal(&self, variable: u32) -> Literal
@@ -48,16 +92,27 @@ impl Order {
         }
     }
 
+    /// The variable at a place of this search's order.
+    fn at(&self, place: u32) -> u32 {
+        if self.by_number {
+            return place;
+        }
+        self.ranked.get(place as usize).copied().unwrap_or(place)
+    }
+
     /// The next unset literal, if there is one.
     pub fn propose(&mut self, variables: u32, trail: &Assignment) -> Option<Literal>
         requires { variables ≤ 200000 }
         ensures { IfSome result (λ l. IsUnset trail.now l × (l < 2 * variables)) }
     {
         while self.next < variables {
-            let literal = self.literal(self.next);
+            let variable = self.at(self.next);
             self.next += 1;
-            if is_unset(trail, literal) {
-                return Some(literal);
+            if variable < variables {
+                let literal = self.literal(variable);
+                if is_unset(trail, literal) {
+                    return Some(literal);
+                }
             }
         }
         None
@@ -71,5 +126,26 @@ impl Order {
                 *phase = negative;
             }
         }
+    }
+
+    /// Notes which variables the literals name.
+    fn mark(&mut self, literals: &[Literal], involved: bool) {
+        for literal in literals {
+            if let Some(mark) = self.is_involved.get_mut(literal.variable() as usize) {
+                *mark = involved;
+            }
+        }
+    }
+
+    /// Brings the variables of a conflict's literals to the front. Both they and the others keep
+    /// their order.
+    pub fn bring_forward(&mut self, literals: &[Literal]) -> Result<(), Memory> {
+        self.mark(literals, true);
+        self.spare.clear();
+        rank(&mut self.spare, &self.ranked, &self.is_involved, true)?;
+        rank(&mut self.spare, &self.ranked, &self.is_involved, false)?;
+        swap(&mut self.ranked, &mut self.spare);
+        self.mark(literals, false);
+        Ok(())
     }
 }

@@ -113,6 +113,7 @@ fn decide<L: Ledger>(
                         let line = learn(
                             alloc, arena, refs, trail, reasons, seen, low, start, conflict, id,
                         )?;
+                        order.bring_forward(seen.literals())?;
                         back(trail, reasons, low);
                         return Ok(Ending::Taught(line));
                     }

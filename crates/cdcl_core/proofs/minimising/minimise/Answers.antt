@@ -1,52 +1,35 @@
-use Rattle.std.proofs.Common.{◌≡◌, ℕ, List, length, arith, take, subst}
-use Rattle.cdcl_core.specs.Implied.{clauses_of, level_of, IsSettled}
-use Rattle.cdcl_core.proofs.Grounds.{ground_again, ground_onto}
-use Rattle.cdcl_core.proofs.Minimised.{Minimised-begun, Minimised-done, done_refutable, done_freed, done_subset, nil_from_length, popped_falsifiable, popped_dropped, popped_kept, falsifiable_here}
+use Rattle.std.proofs.Common.{ℕ, List, ◌++◌, ◌∙◌, sym, subst, ap}
+use Rattle.unit_propagation.specs.Watching.{Rule}
+use Rattle.cdcl_core.specs.Implied.{clauses_of, level_of}
+use Rattle.cdcl_core.proofs.Falsified.{back_ground}
+use Rattle.cdcl_core.proofs.Minimised.{kept_refutable, kept_freed, kept_within, kept_begins}
+use Rattle.cdcl_core.proofs.Halved.{ground_there, known_first, known_rest, clause_needed}
 use Rattle.cdcl_core.proofs.minimising.minimise.Goals as goal
 
-pub loop-literal-init : goal.loop-literal-init
-loop-literal-init c = (c.requires.ground, Minimised-begun (clauses_of c.args.arena.now) (length c.args.arena.now.chains) (take c.args.low c.args.trail.now) _ _ c.requires.falsifiable c.requires.refutable)
+pub needed-requires-clause-ground : goal.needed-requires-clause-ground
+needed-requires-clause-ground c = (level_of c.args.arena.now c.args.trail.now c.args.low, back_ground (level_of c.args.arena.now c.args.trail.now c.args.low) c.args.arena.now c.args.reasons.now.items c.back.new.reasons.items c.args.trail.now c.back.new.trail c.requires.ground c.back.ensures.trail c.back.ensures.reasons)
 
-pub falsify-requires-clause-ground : goal.falsify-requires-clause-ground
-falsify-requires-clause-ground c = ground_again (level_of c.args.arena.now c.args.trail.now c.args.low) c.loop-literal.arena c.loop-literal.reasons.items c.loop-literal.trail c.loop-literal.invariant.0
+pub needed-requires-clause-rule : goal.needed-requires-clause-rule
+needed-requires-clause-rule c = subst (Rule c.args.arena.now) (sym c.back.ensures.trail) c.requires.ground.rule
 
-pub falsify-requires-clause-falsifiable : goal.falsify-requires-clause-falsifiable
-falsify-requires-clause-falsifiable c = falsifiable_here (level_of c.args.arena.now c.args.trail.now c.args.low) c.loop-literal.arena c.loop-literal.reasons.items c.loop-literal.trail _ c.loop-literal.invariant.0
-    (popped_falsifiable (clauses_of c.args.arena.now) (length c.args.arena.now.chains) (take c.args.low c.args.trail.now) _ _ _ _ _ _ c.in-Some.ensures.items c.loop-literal.invariant.1 _ _ c.deref.ensures.value c.deref-in-Some.ensures.value)
+pub needed-requires-clause-known_denied : goal.needed-requires-clause-known_denied
+needed-requires-clause-known_denied c = known_first c.args.arena.now c.args.reasons.now.items c.back.new.reasons.items c.args.trail.now c.back.new.trail c.args.low c.requires.ground c.back.ensures.trail c.back.ensures.reasons c.args.kept.now.items c.deref.result.now c.args.rest.now c.deref.ensures.value c.requires.falsifiable c.requires.refutable
 
-pub loop-literal-preserved : goal.loop-literal-preserved
-loop-literal-preserved c =
-    let outcome = rw c.in-Some-2.is at c.in_ok-falsify.ensures.outcome in
-    let g = ground_onto (level_of c.args.arena.now c.args.trail.now c.args.low) c.loop-literal.arena c.loop-literal.reasons.items c.loop-literal.trail c.loop-literal.invariant.0 c.falsify.new.arena c.falsify.new.reasons.items c.falsify.new.trail c.in_ok-falsify.ensures.ground in (
-      g,
-      popped_dropped (clauses_of c.args.arena.now) (length c.args.arena.now.chains) (take c.args.low c.args.trail.now) _ _ _ _ _ _ c.in-Some.ensures.items c.loop-literal.invariant.1 _ _ c.deref.ensures.value c.deref-in-Some.ensures.value c.falsify.new.arena g.clauses _ _ _ c.in_ok-falsify.ensures.justified outcome,
-    )
-
-pub loop-literal-preserved-in-Continue-branch-3 : goal.loop-literal-preserved-in-Continue-branch-3
-loop-literal-preserved-in-Continue-branch-3 c =
-    let outcome = rw c.in-None.is at c.in_ok-falsify.ensures.outcome in (
-      ground_onto (level_of c.args.arena.now c.args.trail.now c.args.low) c.loop-literal.arena c.loop-literal.reasons.items c.loop-literal.trail c.loop-literal.invariant.0 c.falsify.new.arena c.falsify.new.reasons.items c.falsify.new.trail c.in_ok-falsify.ensures.ground,
-      popped_kept (clauses_of c.args.arena.now) (length c.args.arena.now.chains) (take c.args.low c.args.trail.now) _ _ _ _ _ _ c.in-Some.ensures.items c.loop-literal.invariant.1 _ _ _ _ c.deref.ensures.value c.deref-in-Some.ensures.value c.in_ok-push-in-None.ensures.items
-          (subst (λ (cs : List (List ℕ)). IsSettled cs c.falsify.new.trail) c.loop-literal.invariant.0.clauses outcome) c.in_ok-falsify.ensures.left c.in_ok-falsify.ensures.right,
-    )
+pub needed-requires-clause-known : goal.needed-requires-clause-known
+needed-requires-clause-known c = known_rest c.args.arena.now c.args.reasons.now.items c.back.new.reasons.items c.args.trail.now c.back.new.trail c.args.low c.requires.ground c.back.ensures.trail c.back.ensures.reasons c.args.kept.now.items c.deref.result.now c.args.rest.now c.deref.ensures.value c.requires.falsifiable c.requires.refutable
 
 pub returns-clause-ground : goal.returns-clause-ground
-returns-clause-ground c = c.loop-literal.invariant.0
+returns-clause-ground c = ground_there c.args.arena.now c.needed.new.arena c.back.new.reasons.items c.needed.new.reasons.items c.back.new.trail c.needed.new.trail c.in_ok-part.ensures.watches c.in_ok-part.ensures.trail c.in_ok-part.ensures.reasons (level_of c.args.arena.now c.args.trail.now c.args.low)
+    (back_ground (level_of c.args.arena.now c.args.trail.now c.args.low) c.args.arena.now c.args.reasons.now.items c.back.new.reasons.items c.args.trail.now c.back.new.trail c.requires.ground c.back.ensures.trail c.back.ensures.reasons)
 
 pub returns-clause-refutable : goal.returns-clause-refutable
-returns-clause-refutable c =
-    let z : length c.loop-literal.rest.items ≡ 0 = omega (arith, c.in_default.ensures.cases.0) in
-    done_refutable (clauses_of c.args.arena.now) (length c.args.arena.now.chains) (take c.args.low c.args.trail.now) _ _ _ (Minimised-done _ _ _ _ _ _ _ (nil_from_length _ z) c.loop-literal.invariant.1)
+returns-clause-refutable c = kept_refutable (clauses_of c.args.arena.now) c.args.kept.now.items c.args.rest.now c.in_ok-part.part.items c.extend_from_slice.new.self.items (c.in_ok-extend_from_slice.ensures.items ∙ ap (λ (xs : List ℕ). c.args.kept.now.items ++ xs) c.deref-2.ensures.value) c.in_ok-part.ensures.part (clause_needed c.args.arena.now c.args.reasons.now.items c.back.new.reasons.items c.args.trail.now c.back.new.trail c.args.low c.requires.ground c.back.ensures.trail c.back.ensures.reasons c.args.kept.now.items c.deref.result.now c.args.rest.now c.deref.ensures.value c.requires.falsifiable c.requires.refutable c.in_ok-part.part.items c.in_ok-part.ensures.needed)
 
 pub returns-clause-freed : goal.returns-clause-freed
-returns-clause-freed c =
-    let z : length c.loop-literal.rest.items ≡ 0 = omega (arith, c.in_default.ensures.cases.0) in
-    done_freed (clauses_of c.args.arena.now) (length c.args.arena.now.chains) (take c.args.low c.args.trail.now) _ _ _ (Minimised-done _ _ _ _ _ _ _ (nil_from_length _ z) c.loop-literal.invariant.1)
+returns-clause-freed c = kept_freed (clauses_of c.args.arena.now) c.args.kept.now.items c.args.rest.now c.in_ok-part.part.items c.extend_from_slice.new.self.items (c.in_ok-extend_from_slice.ensures.items ∙ ap (λ (xs : List ℕ). c.args.kept.now.items ++ xs) c.deref-2.ensures.value) c.in_ok-part.ensures.part (clause_needed c.args.arena.now c.args.reasons.now.items c.back.new.reasons.items c.args.trail.now c.back.new.trail c.args.low c.requires.ground c.back.ensures.trail c.back.ensures.reasons c.args.kept.now.items c.deref.result.now c.args.rest.now c.deref.ensures.value c.requires.falsifiable c.requires.refutable c.in_ok-part.part.items c.in_ok-part.ensures.needed)
 
 pub returns-clause-subset : goal.returns-clause-subset
-returns-clause-subset c =
-    let z : length c.loop-literal.rest.items ≡ 0 = omega (arith, c.in_default.ensures.cases.0) in
-    done_subset (clauses_of c.args.arena.now) (length c.args.arena.now.chains) (take c.args.low c.args.trail.now) _ _ _ (Minimised-done _ _ _ _ _ _ _ (nil_from_length _ z) c.loop-literal.invariant.1)
+returns-clause-subset c = kept_within (clauses_of c.args.arena.now) c.args.kept.now.items c.args.rest.now c.in_ok-part.part.items c.extend_from_slice.new.self.items (c.in_ok-extend_from_slice.ensures.items ∙ ap (λ (xs : List ℕ). c.args.kept.now.items ++ xs) c.deref-2.ensures.value) c.in_ok-part.ensures.part (clause_needed c.args.arena.now c.args.reasons.now.items c.back.new.reasons.items c.args.trail.now c.back.new.trail c.args.low c.requires.ground c.back.ensures.trail c.back.ensures.reasons c.args.kept.now.items c.deref.result.now c.args.rest.now c.deref.ensures.value c.requires.falsifiable c.requires.refutable c.in_ok-part.part.items c.in_ok-part.ensures.needed)
 
 pub returns-clause-first : goal.returns-clause-first
-returns-clause-first c = c.loop-literal.invariant.1.begins
+returns-clause-first c = kept_begins (clauses_of c.args.arena.now) c.args.kept.now.items c.args.rest.now c.in_ok-part.part.items c.extend_from_slice.new.self.items (c.in_ok-extend_from_slice.ensures.items ∙ ap (λ (xs : List ℕ). c.args.kept.now.items ++ xs) c.deref-2.ensures.value) c.in_ok-part.ensures.part (clause_needed c.args.arena.now c.args.reasons.now.items c.back.new.reasons.items c.args.trail.now c.back.new.trail c.args.low c.requires.ground c.back.ensures.trail c.back.ensures.reasons c.args.kept.now.items c.deref.result.now c.args.rest.now c.deref.ensures.value c.requires.falsifiable c.requires.refutable c.in_ok-part.part.items c.in_ok-part.ensures.needed)

@@ -1,9 +1,22 @@
-use Rattle.std.proofs.Common.{◌≡◌, ◌+◌, [], ◌∷◌, length, length-append, inr, ap, ◌∙◌, arith}
-use Rattle.clause_model.specs.Literals.{codes_of}
+use Rattle.std.proofs.Common.{◌≡◌, ℕ, ◌+◌, List, [], ◌∷◌, length, length-append, inr, ap, sym, subst, ◌∙◌, arith}
+use Rattle.std.specs.Prelude.{All, map}
+use Rattle.std.proofs.lemmas.List.{length-map}
+use Rattle.clause_arena.specs.Contents.{HasLiteral}
+use Rattle.clause_model.specs.Literals.{code_of, codes_of}
 use Rattle.lrat_check.specs.declared.line.Line.TheVariants.{Addition as Adding}
 use Rattle.cdcl_core.proofs.Statements.{model_true}
-use Rattle.cdcl_core.proofs.Logs.{formula_holds, refuted, running_more, rounds_more}
+use Rattle.cdcl_core.proofs.Logs.{formula_holds, reference_count, refuted, running_more, rounds_more}
 use Rattle.cdcl_core.proofs.solving.run.Goals as goal
+
+pub search-requires-clause-few : goal.search-requires-clause-few
+search-requires-clause-few g c =
+    let n : length c.loop-round.refs.items ≡ length (codes_of c.args.formula.now.clauses) + c.loop-round.round = reference_count (codes_of c.args.formula.now.clauses) (length c.args.arena.now.chains) c.loop-round.arena c.loop-round.refs.items c.loop-round.reasons.items c.loop-round.trail c.loop-round.current c.loop-round.log.items c.loop-round.round c.loop-round.invariant.0 in
+    omega (arith, n, ap length c.deref.ensures.value, length-map c.args.formula.now.clauses (map code_of), c.requires.ids, c.loop-round-test.true)
+
+pub adopt-requires-clause-known : goal.adopt-requires-clause-known
+adopt-requires-clause-known g c =
+    let w = rw c.in-Taught.is at c.in_ok-search.ensures.goes_on in
+    subst (λ (xs : List ℕ). All (HasLiteral c.search.new.arena) xs) (sym (c.deref-in-Taught.ensures.value ∙ c.in_ok-literals-in-Taught.ensures)) w.1
 
 pub returns-in-Model-clause-verdict : goal.returns-in-Model-clause-verdict
 returns-in-Model-clause-verdict g c =
