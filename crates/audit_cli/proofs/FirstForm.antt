@@ -5,6 +5,5 @@ pub mod MovesPass
 pub mod MovesRule
 pub mod StraightLemmas
 pub mod StraightLines
-pub mod TableLaws
-pub mod TableLemmas
+pub mod TablesLemmas
 pub mod WellFormed

@@ -2,6 +2,7 @@ pub mod Lists
 pub mod PrintLemmas
 pub mod RefusalLemmas
 pub mod StepLemmas
+pub mod TableTexts
 pub mod RewriteLemmas
 pub mod PeepLemmas
 pub mod TraceLineLemmas

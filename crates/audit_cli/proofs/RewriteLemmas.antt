@@ -9,7 +9,8 @@ use Rattle.audit_cli.specs.FirstForm.Moves.{moves_table}
 use Rattle.listing_parser.specs.Parsing.{IsListing, text_of_lines}
 use Rattle.command_runs.specs.Plans.{Outcome, Does}
 use Rattle.audit_cli.specs.Printed.{report_of, image_line}
-use Rattle.audit_cli.specs.Rewrite.{Destination, Counts, AreImage, IsKept, alone, pair, IsKeptIn, setting, AreShortest, IsRewriting, instruction_count}
+use Rattle.audit_cli.specs.Rewrite.{Destination, Counts, AreImage, IsKept, alone, pair, IsKeptIn, setting, IsRewriting, instruction_count}
+use Rattle.table_audit.specs.Soundness.{AreShortest}
 use Rattle.audit_cli.specs.FirstForm.{first_table}
 use Rattle.audit_cli.proofs.FirstForm.MovesRule.{moves_only, moves_are_sound}
 use Rattle.audit_cli.proofs.FirstForm.WellFormed.{still_reads}
@@ -32,14 +33,14 @@ kept_pair out image base lines c text bytes printed o some t i p e =
     (subst (λ (x : List ℕ). IsKept to lines c ((out, text_of_lines lines) ∷ (image, bytes) ∷ []) x) (sym p) (pair some bytes i)))
 
 -- nothing is shorter than nothing
-moves_are_shortest : (entries : ℕ) → AreShortest (first_table entries)
-moves_are_shortest entries k rule e number shorter s l o equal =
+moves_are_shortest : (pool : List ℕ) (entries : ℕ) → AreShortest pool (moves_table entries)
+moves_are_shortest pool entries k rule e number shorter s l o equal =
     let none : length rule.right ≡ 0 = ap (λ (r : Rule). length r.right) (moves_only entries k rule e) in
     absurd (omega (arith, l, none))
 
 -- rewriting by the definition is the headline
-pub is_rewriting : (to : Destination) (entries : ℕ) (given lines : List Line) (replacements : List Replacement) (c : Counts) (o : Outcome) → IsListing (text_of_lines given) given → Layable to.base given → AreRewritten (setting to.base (moves_table entries)) given replacements lines → c ≡ record { replaced = length replacements; before = instruction_count given; after = instruction_count lines } → IsKeptIn to lines c o → IsRewriting to (first_table entries) given o
-is_rewriting to entries given lines replacements c o is laid r e k =
+pub is_rewriting : (to : Destination) (pool : List ℕ) (entries : ℕ) (given lines : List Line) (replacements : List Replacement) (c : Counts) (o : Outcome) → IsListing (text_of_lines given) given → Layable to.base given → AreRewritten (setting to.base (moves_table entries)) given replacements lines → c ≡ record { replaced = length replacements; before = instruction_count given; after = instruction_count lines } → IsKeptIn to lines c o → IsRewriting to (first_table pool entries) given o
+is_rewriting to pool entries given lines replacements c o is laid r e k =
     let s = setting to.base (moves_table entries) in
     record {
       replacements = replacements;
@@ -52,6 +53,6 @@ is_rewriting to entries given lines replacements c o is laid r e k =
       finished = none_left s given replacements lines r;
       applied = all_applied s given replacements lines r;
       sound = moves_are_sound entries;
-      shortest = moves_are_shortest entries;
+      shortest = moves_are_shortest pool entries;
       kept = subst (λ (x : Counts). IsKeptIn to lines x o) e k;
     }

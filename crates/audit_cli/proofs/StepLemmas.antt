@@ -1,6 +1,11 @@
 -- Refusals of the shared steps.
-use Rattle.std.proofs.Common.{◌≡◌, ℕ, List, Result, Ok, Err, sym, subst}
-use Rattle.std.specs.Prelude.{Some}
+use Rattle.std.proofs.Common.{◌≡◌, ◌∙◌, ap, ◌⊎◌, inl, inr, ℕ, List, Option, Some, None, Result, Ok, Err, sym, subst}
+use Rattle.std.specs.Result.{result_map_both}
+use Rattle.rule_table.specs.Table.{Table}
+use Rattle.rule_table.specs.Refused.{IsText, IsRefused as IsRefusedTable}
+use Rattle.proof_logs.specs.Verdicts.{Answers}
+use Rattle.table_audit.specs.declared.errors.AuditError.{AuditError}
+use Rattle.table_audit.specs.declared.errors.AuditError.TheVariants as audit
 use Rattle.thumb_model.specs.Listing.{Line}
 use Rattle.thumb_model.specs.Layout.{Fault, Layable}
 use Rattle.listing_parser.specs.declared.errors.Kind.{Kind}
@@ -11,7 +16,20 @@ use Rattle.command_runs.specs.Plans.{Outcome, Refuses}
 use Rattle.audit_cli.specs.declared.refusal.Refusal.{Refusal}
 use Rattle.audit_cli.specs.declared.refusal.Refusal.TheVariants as refusal
 use Rattle.audit_cli.specs.Refusals.{unlaid_refusal, refusal_line}
-use Rattle.audit_cli.specs.Steps.{IsUnread, unread, IsUnlaid, unlaid, ReadsListing, LaysOut}
+use Rattle.audit_cli.specs.Steps.{AuditsTable, IsAudited, IsUnaudited, ReadsTable, IsUnlisted, unlisted, IsUnread, unread, IsUnlaid, unlaid, ReadsListing, LaysOut}
+
+pub is_unlisted : (text : List ℕ) (line : ℕ) → IsRefusedTable text line → IsUnlisted text (refusal.Table line)
+is_unlisted text line h = unlisted line h
+
+-- what the audit answered
+pub refused_verdict : {A : Type 0} (x : Result A AuditError) (d e : AuditError) (V : Option AuditError → Type 0) → Answers audit.Memory x V → x ≡ Err d → d ≡ e → (e ≡ audit.Memory → ⊥) → V (Some e)
+refused_verdict {A} x d e V h is same other = go (subst (λ (y : Result A AuditError). Answers audit.Memory y V) (is ∙ ap (λ (f : AuditError). Err f) same) h) where
+  go : (e ≡ audit.Memory) ⊎ V (Some e) → V (Some e)
+  go (inl m) = absurd (other m)
+  go (inr v) = v
+
+pub accepted_verdict : {A : Type 0} (x : Result A AuditError) (a : A) (V : Option AuditError → Type 0) → Answers audit.Memory x V → x ≡ Ok a → V None
+accepted_verdict {A} x a V h is = subst (λ (y : Result A AuditError). Answers audit.Memory y V) is h
 
 pub is_unread : (text : List ℕ) (line : ℕ) (k : Kind) → IsRefused text line k → IsUnread text (refusal.Listing line k)
 is_unread text line k h = unread line k h
@@ -22,6 +40,20 @@ is_unlaid base lines line fault r h e = subst (IsUnlaid base lines) (sym e) (unl
 -- what holds of the refusal's line holds of an outcome that is it
 pub refused_so : (P : Outcome → Type 0) (r : Refusal) (o : Outcome) → o ≡ Refuses (refusal_line r) → P (Refuses (refusal_line r)) → P o
 refused_so P r o e h = subst P (sym e) h
+
+-- what a step answered, with a view of what it made
+
+pub is_listed : {A : Type 0} (view : A → Table) (text : List ℕ) (x : Result A Refusal) (a : A) → ReadsTable text (result_map_both view (λ e. e) x) → x ≡ Ok a → IsText text (view a)
+is_listed {A} view text x a h e = subst (λ (y : Result A Refusal). ReadsTable text (result_map_both view (λ r. r) y)) e h
+
+pub not_listed : {A : Type 0} (view : A → Table) (text : List ℕ) (x : Result A Refusal) (r : Refusal) → ReadsTable text (result_map_both view (λ e. e) x) → x ≡ Err r → IsUnlisted text r
+not_listed {A} view text x r h e = subst (λ (y : Result A Refusal). ReadsTable text (result_map_both view (λ s. s) y)) e h
+
+pub is_audited : {A : Type 0} (view : A → Table) (text : List ℕ) (x : Result A Refusal) (a : A) → AuditsTable text (result_map_both view (λ e. e) x) → x ≡ Ok a → IsAudited text (view a)
+is_audited {A} view text x a h e = subst (λ (y : Result A Refusal). AuditsTable text (result_map_both view (λ r. r) y)) e h
+
+pub not_audited : {A : Type 0} (view : A → Table) (text : List ℕ) (x : Result A Refusal) (r : Refusal) → AuditsTable text (result_map_both view (λ e. e) x) → x ≡ Err r → IsUnaudited text r
+not_audited {A} view text x r h e = subst (λ (y : Result A Refusal). AuditsTable text (result_map_both view (λ s. s) y)) e h
 
 -- what a step answered
 

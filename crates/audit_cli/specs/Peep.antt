@@ -1,16 +1,20 @@
 -- The whole contract of the top call: what the words ask for, and what the run of it has done.
 use Rattle.std.specs.Prelude.{ℕ, ◌⊎◌, List, [], ◌∷◌}
-use Rattle.command_line.specs.CommandLine.{Request, rewrite, trace, AskFor}
+use Rattle.command_line.specs.CommandLine.{Request, rewrite, audit, export, trace, AskFor}
 use Rattle.outer_store.specs.Outside.{Seen, SameHeld, Sunk, WroteNone}
 use Rattle.command_runs.specs.declared.status.Status.{Status}
 use Rattle.command_runs.specs.declared.status.Status.TheVariants as status
 use Rattle.command_runs.specs.Plans.{Plan, Runs}
 use Rattle.audit_cli.specs.FirstForm.{RewriteComesTo}
+use Rattle.audit_cli.specs.Audit.{AuditComesTo}
+use Rattle.audit_cli.specs.Export.{ExportComesTo}
 use Rattle.audit_cli.specs.Trace.{TraceComesTo}
 
 -- what a request fetches, and what comes of it
 abbrev pub plan_of : Request → Plan
 plan_of (rewrite table listing out image base) = record { names = table ∷ listing ∷ []; comes = RewriteComesTo (record { out = out; image = image; base = base }) }
+plan_of (audit table) = record { names = table ∷ []; comes = AuditComesTo }
+plan_of (export table entry cnf lrat) = record { names = table ∷ []; comes = ExportComesTo (record { entry = entry; cnf = cnf; lrat = lrat }) }
 plan_of (trace listing label steps) = record { names = listing ∷ []; comes = TraceComesTo (record { label = label; most = steps }) }
 
 -- nothing was kept or printed

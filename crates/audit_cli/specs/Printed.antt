@@ -17,3 +17,11 @@ report_of replaced before after = printed (codes "replaced" ++ and_number replac
 -- `image BYTES`
 abbrev pub image_line : ℕ → List ℕ
 image_line bytes = printed (codes "image" ++ and_number bytes)
+
+-- `entries E open O`
+abbrev pub entries_line : ℕ → ℕ → List ℕ
+entries_line entries opens = printed (codes "entries" ++ and_number entries ++ codes " open" ++ and_number opens)
+
+-- `variables V clauses C lines P`
+abbrev pub formula_line : ℕ → ℕ → ℕ → List ℕ
+formula_line variables clauses lines = printed (codes "variables" ++ and_number variables ++ codes " clauses" ++ and_number clauses ++ codes " lines" ++ and_number lines)

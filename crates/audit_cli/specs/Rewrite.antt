@@ -1,14 +1,12 @@
 -- What the command `rewrite` comes to: the program's headline, but for its store and sink.
-use Rattle.std.specs.Prelude.{◌≡◌, ◌<◌, ◌≤◌, ◌+◌, ℕ, false, List, [], ◌∷◌, ◌++◌, length, codes, Some, slice_get, if◌then◌else◌}
-use Rattle.thumb_instr.specs.declared.instr.Instr.{Instr}
-use Rattle.thumb_model.specs.Items.{one_of}
+use Rattle.std.specs.Prelude.{◌≡◌, ◌≤◌, ◌+◌, ℕ, List, [], ◌∷◌, ◌++◌, length, codes, Some, if◌then◌else◌}
 use Rattle.thumb_model.specs.Listing.{Name, Line, code_of}
 use Rattle.thumb_model.specs.Layout.{Layable, set_address}
 use Rattle.thumb_model.specs.Image.{IsImage}
 use Rattle.thumb_model.specs.Same.{Same}
-use Rattle.thumb_model.specs.Rewrite.{Rule, Equal, AreSound, register_count}
+use Rattle.thumb_model.specs.Rewrite.{Rule, AreSound}
 use Rattle.thumb_model.specs.Rewritten.{Setting, Replacement, AreRewritten, AllApplied, NoneApplies, is_op}
-use Rattle.seq_enum.specs.Alphabet.{sequences}
+use Rattle.table_audit.specs.Soundness.{AreShortest}
 use Rattle.listing_parser.specs.Parsing.{IsListing, text_of_lines}
 use Rattle.listing_parser.specs.Replacing.{own_line}
 use Rattle.command_runs.specs.Plans.{Keep, Outcome, Refuses, Does}
@@ -65,15 +63,6 @@ IsKeptIn to lines c (Does keeps printed) = IsKept to lines c keeps printed
 abbrev pub setting : ℕ → List Rule → Setting
 setting base rules = record { table = rules; base = base; write = own_line }
 
--- of the alphabet of the registers that its left side names, no sequence with fewer instructions than an entry's right side leaves the same under its mask, save those that the entry names open
-abbrev pub IsShortest : List ℕ → Rule → Type 0
-IsShortest pool rule =
-    (number : ℕ) (shorter : List Instr) → slice_get (sequences (register_count rule.left) pool) number ≡ Some shorter → length shorter < length rule.right
-    → one_of number rule.open_numbers ≡ false → Equal rule.left shorter rule.mask → ⊥
-
-abbrev pub AreShortest : Table → Type 0
-AreShortest table = (k : ℕ) (rule : Rule) → slice_get table.rules k ≡ Some rule → IsShortest table.pool rule
-
 -- a listing is rewritten by a table
 pub record IsRewriting (to : Destination) (table : Table) (given : List Line) (o : Outcome) : Type 0 where
   -- the one listing that is left: each replacement is the first that can be made
@@ -92,7 +81,7 @@ pub record IsRewriting (to : Destination) (table : Table) (given : List Line) (o
   pub applied : AllApplied (setting to.base table.rules) given replacements
   pub sound : AreSound table.rules
   -- no shorter sequence of the entry's alphabet does
-  pub shortest : AreShortest table
+  pub shortest : AreShortest table.pool table.rules
   -- the listing is kept, and its image
   pub kept : IsKeptIn to lines (record { replaced = length replacements; before = instruction_count given; after = instruction_count lines }) o
 

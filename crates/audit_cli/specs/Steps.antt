@@ -1,7 +1,12 @@
--- The steps that commands share: a listing's text is read, and its lines are laid out.
+-- The steps that commands share: a table's text is read and audited, a listing's text is read, and its lines are laid out.
 use Rattle.std.specs.Prelude.{◌≡◌, ℕ, List, Result, Ok, Err, Some}
 use Rattle.thumb_model.specs.Listing.{Line}
 use Rattle.thumb_model.specs.Layout.{Fault, Layable}
+use Rattle.rule_table.specs.Table.{Table}
+use Rattle.rule_table.specs.Refused.{IsText, IsRefused as IsRefusedTable}
+use Rattle.table_audit.specs.declared.errors.EntryFault.{EntryFault}
+use Rattle.table_audit.specs.declared.errors.AuditError.TheVariants as audit
+use Rattle.table_audit.specs.Acceptance.{TableVerdict, IsAccepted}
 use Rattle.listing_parser.specs.declared.errors.Kind.{Kind}
 use Rattle.listing_parser.specs.Parsing.{IsListing, IsRefused}
 use Rattle.label_layout.specs.Refusals.{first_fault}
@@ -10,6 +15,17 @@ use Rattle.audit_cli.specs.declared.refusal.Refusal.{Refusal}
 use Rattle.audit_cli.specs.declared.refusal.Refusal.TheVariants as refusal
 use Rattle.audit_cli.specs.Refusals.{unlaid_refusal}
 
+-- a text is refused at the least line such that so many first lines begin no table
+pub data IsUnlisted (text : List ℕ) : Refusal → Type 0 where
+  unlisted : (line : ℕ) → IsRefusedTable text line → IsUnlisted text (refusal.Table line)
+
+-- or it is a table that the audit refuses, by the first cause
+pub data IsUnaudited (text : List ℕ) : Refusal → Type 0 where
+  no_table : (r : Refusal) → IsUnlisted text r → IsUnaudited text r
+  other_state : (t : Table) → IsText text t → (place : ℕ) → TableVerdict t (Some (audit.States place)) → IsUnaudited text (refusal.States place)
+  too_wide : (t : Table) → IsText text t → (count : ℕ) → TableVerdict t (Some (audit.Wide count)) → IsUnaudited text (refusal.Wide count)
+  bad_entry : (t : Table) → IsText text t → (number : ℕ) (k : EntryFault) → TableVerdict t (Some (audit.Entry number k)) → IsUnaudited text (refusal.Entry number k)
+
 -- a text is refused at the first line that makes it no listing
 pub data IsUnread (text : List ℕ) : Refusal → Type 0 where
   unread : (line : ℕ) (k : Kind) → IsRefused text line k → IsUnread text (refusal.Listing line k)
@@ -17,6 +33,20 @@ pub data IsUnread (text : List ℕ) : Refusal → Type 0 where
 -- lines are refused at the first that can't be laid out from a base
 pub data IsUnlaid (base : ℕ) (lines : List Line) : Refusal → Type 0 where
   unlaid : (line : ℕ) (fault : Fault) → first_fault base lines ≡ Some (line, fault) → IsUnlaid base lines (unlaid_refusal line fault)
+
+-- the text is that of an accepted table
+pub record IsAudited (text : List ℕ) (t : Table) : Type 0 where
+  pub is : IsText text t
+  pub accepted : IsAccepted t
+
+-- what comes of reading a table's text, and of auditing it
+abbrev pub ReadsTable : List ℕ → Result Table Refusal → Type 0
+ReadsTable text (Ok t) = IsText text t
+ReadsTable text (Err r) = IsUnlisted text r
+
+abbrev pub AuditsTable : List ℕ → Result Table Refusal → Type 0
+AuditsTable text (Ok t) = IsAudited text t
+AuditsTable text (Err r) = IsUnaudited text r
 
 -- what comes of reading a text
 abbrev pub ReadsListing : List ℕ → Result (List Line) Refusal → Type 0

@@ -2,6 +2,5 @@
 
 pub(crate) mod assembling;
 pub(crate) mod moves;
-pub(crate) mod read_error;
-pub(crate) mod read_table;
 pub(crate) mod straight;
+pub(crate) mod tables;

@@ -1,6 +1,8 @@
 //! The commands: what the words ask for, what the texts come to, and what is kept and printed.
 #![tactic(auto)]
 
+mod audit;
+mod export;
 mod first_form;
 mod printing;
 mod refusal;

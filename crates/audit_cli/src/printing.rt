@@ -1,8 +1,12 @@
-ghost use Rattle.std.specs.Prelude.{◌≡◌, IfOk, map};
+//! What is kept and printed, as bytes.
+ghost use Rattle.std.specs.Prelude.{◌≡◌, ◌∷◌, [], IfOk, map};
 ghost use Rattle.listing_parser.specs.Parsing.{text_of_lines};
 ghost use Rattle.listing_parser.specs.Views.{line_view};
-ghost use Rattle.audit_cli.specs.Printed.{report_of, image_line};
+ghost use Rattle.audit_cli.specs.Printed.{report_of, image_line, entries_line, formula_line};
+ghost use Rattle.command_runs.specs.Outcomes.{deed_view, outcome_view};
+ghost use Rattle.command_runs.specs.Plans.{Does};
 
+use command_runs::{Deed, Outcome};
 use listing_parser::Line;
 use std::alloc::{AllocError, Global};
 
@@ -33,17 +37,67 @@ pub fn image_report(alloc: Global, bytes: u64) -> Result<Vec<u8>, AllocError>
     Ok(text.into_bytes())
 }
 
-#[cfg(test)]
-mod tests {
-    use super::*;
-    use std::test::Fail;
+/// What is printed of an accepted table: how many entries it has, and how many numbers these name open.
+pub fn entries_report(alloc: Global, entries: u64, opens: u64) -> Result<Vec<u8>, AllocError>
+    ensures { IfOk result (λ v. v.items ≡ entries_line entries opens) }
+{
+    let text = format!(in alloc; "entries {entries} open {opens}\n")?;
+    Ok(text.into_bytes())
+}
 
-    #[test]
-    fn prints(rt: HostRuntime) -> Result<(), Fail> {
-        assert_eq!(rt;
-            report(rt.alloc(), 2, 4, 2)?.as_slice(),
-            b"replaced 2\ninstructions 4 2\n".as_slice()
-        );
-        Ok(())
+/// What is printed of a formula and a proof: how many variables, clauses and lines they have.
+pub fn formula_report(
+    alloc: Global,
+    variables: u32,
+    clauses: u64,
+    lines: u64,
+) -> Result<Vec<u8>, AllocError>
+    ensures { IfOk result (λ v. v.items ≡ formula_line variables clauses lines) }
+{
+    let text = format!(in alloc; "variables {variables} clauses {clauses} lines {lines}\n")?;
+    Ok(text.into_bytes())
+}
+
+/// Nothing is kept, and lines are printed.
+pub fn prints(alloc: Global, lines: Vec<u8>) -> Outcome
+    ensures { outcome_view result ≡ Does [] lines.items }
+{
+    Outcome::Does {
+        keeps: Vec::new(alloc),
+        lines,
     }
+}
+
+/// One text is kept.
+pub fn keeps_text(
+    alloc: Global,
+    name: &str,
+    text: Vec<u8>,
+    lines: Vec<u8>,
+) -> Result<Outcome, AllocError>
+    ensures { IfOk result (λ o. outcome_view o ≡ Does ((name.now, text.items) ∷ []) lines.items) }
+{
+    let deed = Deed::new(alloc, name, text)?;
+    let mut keeps = Vec::new(alloc);
+    keeps.push(deed)?;
+    Ok(Outcome::Does { keeps, lines })
+}
+
+/// A text is kept, and then another.
+pub fn keeps_two(
+    alloc: Global,
+    name: &str,
+    text: Vec<u8>,
+    other_name: &str,
+    other: Vec<u8>,
+    lines: Vec<u8>,
+) -> Result<Outcome, AllocError>
+    ensures { IfOk result (λ o. outcome_view o ≡ Does ((name.now, text.items) ∷ (other_name.now, other.items) ∷ []) lines.items) }
+{
+    let deed = Deed::new(alloc, name, text)?;
+    let other_deed = Deed::new(alloc, other_name, other)?;
+    let mut keeps = Vec::new(alloc);
+    keeps.push(deed)?;
+    keeps.push(other_deed)?;
+    Ok(Outcome::Does { keeps, lines })
 }

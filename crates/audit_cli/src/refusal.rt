@@ -2,17 +2,26 @@
 ghost use Rattle.std.specs.Prelude.{◌≡◌, IfOk};
 ghost use Rattle.command_runs.specs.Outcomes.{outcome_view};
 ghost use Rattle.command_runs.specs.Plans.{Refuses};
-ghost use Rattle.audit_cli.specs.Refusals.{kind_number, refusal_line};
+ghost use Rattle.audit_cli.specs.Refusals.{fault_words, kind_number, refusal_line};
 
 use command_runs::Outcome;
 use listing_parser::Kind;
 use std::alloc::{AllocError, Global};
+use table_audit::EntryFault;
 
 /// Why a run is refused. Lines are counted from 1.
 #[derive(Clone, Copy)]
 pub(crate) enum Refusal {
     /// The line is the first that may not stand in a table.
     Table { line: u64 },
+    /// The state at that place, from 1, is missing or isn't the seed's.
+    States { place: u64 },
+    /// So many shorter sequences are too many.
+    Wide { count: u64 },
+    /// The entry, counted from 1, has this fault.
+    Entry { number: u64, fault: EntryFault },
+    /// There is no such entry.
+    Number,
     /// The line is the first that makes a text no listing.
     Listing { line: u64, kind: Kind },
     /// The line is the first that cannot be laid out: what it mentions is that many bytes away.
@@ -36,6 +45,55 @@ fn table_line(alloc: Global, line: u64) -> Result<Vec<u8>, AllocError>
 {
     let text = format!(in alloc; "refused table {line}\n")?;
     Ok(text.into_bytes())
+}
+
+/// `refused states PLACE`
+fn states_line(alloc: Global, place: u64) -> Result<Vec<u8>, AllocError>
+    ensures { IfOk result (λ v. v.items ≡ refusal_line (Refusal.States place)) }
+{
+    let text = format!(in alloc; "refused states {place}\n")?;
+    Ok(text.into_bytes())
+}
+
+/// `refused wide COUNT`
+fn wide_line(alloc: Global, count: u64) -> Result<Vec<u8>, AllocError>
+    ensures { IfOk result (λ v. v.items ≡ refusal_line (Refusal.Wide count)) }
+{
+    let text = format!(in alloc; "refused wide {count}\n")?;
+    Ok(text.into_bytes())
+}
+
+/// The number of a fault, and what it tells: ` 1`, ` 2 LINE`, ` 3`, ` 4 SEQUENCE` or ` 5 SEQUENCE`.
+fn fault_words(alloc: Global, fault: EntryFault) -> Result<Vec<u8>, AllocError>
+    ensures { IfOk result (λ v. v.items ≡ fault_words fault) }
+{
+    let text = match fault {
+        EntryFault::Sides => format!(in alloc; " 1")?,
+        EntryFault::Proof(line) => format!(in alloc; " 2 {line}")?,
+        EntryFault::Unfinished => format!(in alloc; " 3")?,
+        EntryFault::Untold(sequence) => format!(in alloc; " 4 {sequence}")?,
+        EntryFault::Open(sequence) => format!(in alloc; " 5 {sequence}")?,
+    };
+    Ok(text.into_bytes())
+}
+
+/// `refused entry NUMBER KIND ..`
+fn entry_line(alloc: Global, number: u64, fault: EntryFault) -> Result<Vec<u8>, AllocError>
+    ensures { IfOk result (λ v. v.items ≡ refusal_line (Refusal.Entry number fault)) }
+{
+    let text = format!(in alloc; "refused entry {number}")?;
+    let mut line = text.into_bytes();
+    let words = fault_words(alloc, fault)?;
+    line.extend_from_slice(&words)?;
+    line.push(b'\n')?;
+    Ok(line)
+}
+
+/// `refused number`
+fn number_line(alloc: Global) -> Result<Vec<u8>, AllocError>
+    ensures { IfOk result (λ v. v.items ≡ refusal_line Refusal.Number) }
+{
+    b"refused number\n".to_vec(alloc)
 }
 
 /// `refused listing LINE KIND`
@@ -76,6 +134,10 @@ fn refusal_line(alloc: Global, refusal: Refusal) -> Result<Vec<u8>, AllocError>
 {
     match refusal {
         Refusal::Table { line } => table_line(alloc, line),
+        Refusal::States { place } => states_line(alloc, place),
+        Refusal::Wide { count } => wide_line(alloc, count),
+        Refusal::Entry { number, fault } => entry_line(alloc, number, fault),
+        Refusal::Number => number_line(alloc),
         Refusal::Listing { line, kind } => listing_line(alloc, line, kind),
         Refusal::Range { line, distance } => range_line(alloc, line, distance),
         Refusal::Align { line, address } => align_line(alloc, line, address),
@@ -89,45 +151,4 @@ pub(crate) fn refused(alloc: Global, refusal: Refusal) -> Result<Outcome, AllocE
 {
     let line = refusal_line(alloc, refusal)?;
     Ok(Outcome::Refuses(line))
-}
-
-#[cfg(test)]
-mod tests {
-    use super::*;
-    use std::test::Fail;
-
-    #[test]
-    fn lines(rt: HostRuntime) -> Result<(), Fail> {
-        for (refusal, line) in [
-            (
-                Refusal::Table { line: 72 },
-                b"refused table 72\n".as_slice(),
-            ),
-            (
-                Refusal::Listing {
-                    line: 65537,
-                    kind: Kind::Limit,
-                },
-                b"refused listing 65537 6\n",
-            ),
-            (
-                Refusal::Range {
-                    line: 3,
-                    distance: -260,
-                },
-                b"refused listing 3 4 -260\n",
-            ),
-            (
-                Refusal::Align {
-                    line: 2,
-                    address: 6,
-                },
-                b"refused listing 2 5 6\n",
-            ),
-            (Refusal::Label, b"refused label\n"),
-        ] {
-            assert_eq!(rt; refusal_line(rt.alloc(), refusal)?.as_slice(), line);
-        }
-        Ok(())
-    }
 }

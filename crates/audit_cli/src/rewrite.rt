@@ -1,9 +1,8 @@
 //! The command `rewrite`: what the texts of a table and a listing come to.
-ghost use Rattle.std.specs.Prelude.{◌≡◌, ◌++◌, ◌∷◌, [], ◌↔◌, ℕ, List, length, map, codes, IfOk, IsTrue};
+ghost use Rattle.std.specs.Prelude.{◌≡◌, ◌++◌, ◌↔◌, ◌<◌, ◌^◌, ℕ, List, length, map, codes, IfOk, IsTrue};
 ghost use Rattle.listing_parser.specs.Parsing.{IsListing, text_of_lines};
 ghost use Rattle.listing_parser.specs.Views.{line_view};
-ghost use Rattle.command_runs.specs.Outcomes.{deed_view, outcome_view};
-ghost use Rattle.command_runs.specs.Plans.{Does};
+ghost use Rattle.command_runs.specs.Outcomes.{outcome_view};
 ghost use Rattle.thumb_model.specs.Layout.{Layable};
 ghost use Rattle.audit_cli.specs.Printed.{report_of, image_line};
 ghost use Rattle.audit_cli.specs.Rewrite.{IsKeptIn, IsRewriting, LinesRewrite, Rewrites, instruction_count};
@@ -12,18 +11,21 @@ ghost use Rattle.thumb_model.specs.Rewritten.{is_op};
 ghost use Rattle.audit_cli.specs.Destinations.{destination_of};
 ghost use Rattle.audit_cli.specs.FirstForm.Simple.{AreSimple};
 ghost use Rattle.audit_cli.specs.FirstForm.Straight.{AreStraight};
-ghost use Rattle.audit_cli.specs.FirstForm.FirstTable.{IsTable};
+ghost use Rattle.audit_cli.specs.FirstForm.Tables.{AreMoves};
+ghost use Rattle.audit_cli.specs.Steps.{IsAudited};
+ghost use Rattle.rule_table.specs.Text.{items_of};
+ghost use Rattle.rule_table.specs.Views.{table_of};
 
 use crate::first_form::assembling::assemble;
 use crate::first_form::moves::drop_moves;
-use crate::first_form::read_error::ReadError;
-use crate::first_form::read_table::read_table;
 use crate::first_form::straight::first_bad;
-use crate::printing::{image_report, print, report};
+use crate::first_form::tables::first_other;
+use crate::printing::{image_report, keeps_text, keeps_two, print, report};
 use crate::refusal::{Refusal, refused};
-use crate::steps::{lay_out, read_listing};
-use command_runs::{Deed, Outcome};
+use crate::steps::{lay_out, read_audited, read_listing};
+use command_runs::Outcome;
 use listing_parser::{Kind, Line, Listing, Statement};
+use rule_table::Table;
 use std::alloc::{AllocError, Global};
 use step_ledger::{Ledger, Steps};
 
@@ -32,40 +34,6 @@ fn is_no_image(image: &str) -> bool
     ensures { IsTrue result ↔ (image.now ≡ codes "-") }
 {
     image == "-"
-}
-
-/// One text is kept.
-fn keeps_text(
-    alloc: Global,
-    out: &str,
-    text: Vec<u8>,
-    lines: Vec<u8>,
-) -> Result<Outcome, AllocError>
-    ensures { IfOk result (λ o. outcome_view o ≡ Does ((out.now, text.items) ∷ []) lines.items) }
-{
-    let deed = Deed::new(alloc, out, text)?;
-    let mut keeps = Vec::new(alloc);
-    keeps.push(deed)?;
-    Ok(Outcome::Does { keeps, lines })
-}
-
-/// A text is kept, and then an image.
-fn keeps_image(
-    alloc: Global,
-    out: &str,
-    text: Vec<u8>,
-    image: &str,
-    bytes: Vec<u8>,
-    lines: Vec<u8>,
-) -> Result<Outcome, AllocError>
-    ensures { IfOk result (λ o. outcome_view o ≡ Does ((out.now, text.items) ∷ (image.now, bytes.items) ∷ []) lines.items) }
-{
-    let deed = Deed::new(alloc, out, text)?;
-    let image_deed = Deed::new(alloc, image, bytes)?;
-    let mut keeps = Vec::new(alloc);
-    keeps.push(deed)?;
-    keeps.push(image_deed)?;
-    Ok(Outcome::Does { keeps, lines })
 }
 
 /// The report of a rewritten listing with that of its image.
@@ -106,7 +74,7 @@ fn kept_listing(
     }
     let bytes = assemble(alloc, lines)?;
     let printed = report_image(alloc, replaced, before, after, bytes.len() as u64)?;
-    let outcome = keeps_image(alloc, out, text, image, bytes, printed)?;
+    let outcome = keeps_two(alloc, out, text, image, bytes, printed)?;
     return Ok(outcome);
 }
 
@@ -140,7 +108,7 @@ fn rewritten(
 ) -> Result<Outcome, AllocError>
     requires simple { AreSimple listing.now }
     requires listed { IsListing (text_of_lines listing.now) listing.now }
-    ensures { (base : ℕ) → Layable base listing.now → IfOk result (λ o. IsRewriting (record { out = out.now; image = image.now; base = base }) (first_table entries) listing.now (outcome_view o)) }
+    ensures { (pool : List ℕ) (base : ℕ) → Layable base listing.now → IfOk result (λ o. IsRewriting (record { out = out.now; image = image.now; base = base }) (first_table pool entries) listing.now (outcome_view o)) }
 {
     let new = drop_moves(alloc, entries, listing)?;
     let before = instruction_count(listing.lines());
@@ -167,7 +135,7 @@ fn lines_outcome(
 ) -> Result<Outcome, AllocError>
     requires simple { AreSimple listing.now }
     requires listed { IsListing (text_of_lines listing.now) listing.now }
-    ensures { IfOk result (λ o. LinesRewrite (destination_of to.now) (first_table entries) listing.now (outcome_view o)) }
+    ensures { (pool : List ℕ) → IfOk result (λ o. LinesRewrite (destination_of to.now) (first_table pool entries) listing.now (outcome_view o)) }
 {
     match lay_out(alloc, listing, to.base)? {
         Err(refusal) => {
@@ -189,7 +157,7 @@ fn text_outcome(
     text: &[u8],
 ) -> Result<Outcome, AllocError>
     requires { AreStraight text.now }
-    ensures { IfOk result (λ o. Rewrites (destination_of to.now) (first_table entries) text.now (outcome_view o)) }
+    ensures { (pool : List ℕ) → IfOk result (λ o. Rewrites (destination_of to.now) (first_table pool entries) text.now (outcome_view o)) }
 {
     match read_listing(alloc, text)? {
         Err(refusal) => {
@@ -203,18 +171,19 @@ fn text_outcome(
     }
 }
 
-/// What the text of a listing comes to by the text of a table with so many entries.
+/// What the text of a listing comes to by a table whose entries each remove a move of r0 to itself.
 fn listing_outcome(
     alloc: Global,
     to: &Rewrite<'_>,
-    entries: usize,
+    table: &Table,
     listing: &[u8],
 ) -> Result<Outcome, AllocError>
-    ensures { (table : List ℕ) → IsTable table entries → IfOk result (λ o. Comes (destination_of to.now) table listing.now (outcome_view o)) }
+    requires { AreMoves (table_of table.now) }
+    ensures { (text : List ℕ) → IsAudited text (table_of table.now) → IfOk result (λ o. Comes (destination_of to.now) text listing.now (outcome_view o)) }
 {
     match first_bad(alloc, listing)? {
         None => {
-            let outcome = text_outcome(alloc, to, entries, listing)?;
+            let outcome = text_outcome(alloc, to, table.entries.len(), listing)?;
             Ok(outcome)
         }
         Some(line) => {
@@ -230,23 +199,45 @@ fn listing_outcome(
     }
 }
 
+/// What the text of a listing comes to by an accepted table.
+fn table_outcome(
+    alloc: Global,
+    to: &Rewrite<'_>,
+    table: &Table,
+    listing: &[u8],
+) -> Result<Outcome, AllocError>
+    requires { length (items_of (table_of table.now)) < 2 ^ 63 }
+    ensures { (text : List ℕ) → IsAudited text (table_of table.now) → IfOk result (λ o. Comes (destination_of to.now) text listing.now (outcome_view o)) }
+{
+    match first_other(table) {
+        None => {
+            let outcome = listing_outcome(alloc, to, table, listing)?;
+            Ok(outcome)
+        }
+        Some(line) => {
+            let outcome = refused(alloc, Refusal::Table { line })?;
+            Ok(outcome)
+        }
+    }
+}
+
 /// What the texts of a table and a listing come to.
-fn outcome(
+fn outcome<L: Ledger>(
     alloc: Global,
     to: &Rewrite<'_>,
     table: &[u8],
     listing: &[u8],
+    steps: &mut Steps<L>,
 ) -> Result<Outcome, AllocError>
     ensures { IfOk result (λ o. Comes (destination_of to.now) table.now listing.now (outcome_view o)) }
 {
-    match read_table(table) {
-        Err(ReadError::Memory) => Err(AllocError),
-        Err(ReadError::Line(line)) => {
-            let outcome = refused(alloc, Refusal::Table { line })?;
+    match read_audited(alloc, table, steps)? {
+        Err(refusal) => {
+            let outcome = refused(alloc, refusal)?;
             Ok(outcome)
         }
-        Ok(read) => {
-            let outcome = listing_outcome(alloc, to, read.entries as usize, listing)?;
+        Ok(audited) => {
+            let outcome = table_outcome(alloc, to, audited.table(), listing)?;
             Ok(outcome)
         }
     }
@@ -264,11 +255,11 @@ impl command_runs::Command for Rewrite<'_> {
         &self,
         alloc: Global,
         texts: &[Vec<u8>],
-        _steps: &mut Steps<L>,
+        steps: &mut Steps<L>,
     ) -> Result<Outcome, AllocError> {
         match texts {
             [table, listing] => {
-                let outcome = outcome(alloc, self, table, listing)?;
+                let outcome = outcome(alloc, self, table, listing, steps)?;
                 Ok(outcome)
             }
             _ => unreachable!(),

@@ -1,13 +1,70 @@
-//! The steps that commands share: reading a listing's text, and laying it out.
-ghost use Rattle.std.specs.Prelude.{◌≡◌, IfOk};
+//! The steps that commands share: reading a table's text and auditing it, reading a listing's text, and laying it out.
+ghost use Rattle.std.specs.Prelude.{◌≡◌, ℕ, List, IfOk};
+ghost use Rattle.std.specs.Result.{result_map_both};
+ghost use Rattle.rule_table.specs.Refused.{IsText};
+ghost use Rattle.rule_table.specs.Valid.{IsTable};
+ghost use Rattle.rule_table.specs.Views.{table_of};
 ghost use Rattle.audit_cli.specs.Refusals.{unlaid_refusal};
 ghost use Rattle.label_layout.specs.Refusals.{fault_of};
-ghost use Rattle.audit_cli.specs.Steps.{LaysOut, ReadsListing};
+ghost use Rattle.audit_cli.specs.Steps.{AuditsTable, LaysOut, ReadsListing, ReadsTable};
 
 use crate::refusal::Refusal;
 use label_layout::{Kind as LayoutKind, Layout, LayoutError, layout};
 use listing_parser::{Listing, ListingError, parse};
+use rule_table::{Table, TableError, read_table};
 use std::alloc::{AllocError, Global};
+use step_ledger::{Ledger, Steps};
+use table_audit::{AuditError, Audited, audit};
+
+/// The table of a text, or why it is none.
+#[tactic(auto, using(crate::proofs::StepLemmas::is_unlisted))]
+pub(crate) fn read_rules(
+    alloc: Global,
+    text: &[u8],
+) -> Result<Result<Table, Refusal>, AllocError>
+    ensures { IfOk result (λ r. ReadsTable text.now (result_map_both table_of (λ e. e) r)) }
+{
+    match read_table(alloc, text) {
+        Err(TableError::Memory) => Err(AllocError),
+        Err(TableError::Line(line)) => Ok(Err(Refusal::Table { line })),
+        Ok(table) => Ok(Ok(table)),
+    }
+}
+
+/// The table, audited, or why it is refused.
+fn audited<L: Ledger>(
+    alloc: Global,
+    table: Table,
+    steps: &mut Steps<L>,
+) -> Result<Result<Audited, Refusal>, AllocError>
+    requires { IsTable (table_of table) }
+    ensures { (text : List ℕ) → IsText text (table_of table) → IfOk result (λ r. AuditsTable text (result_map_both table_of (λ e. e) r)) }
+{
+    match audit(alloc, table, steps) {
+        Err(AuditError::Memory) => Err(AllocError),
+        Err(AuditError::States(place)) => Ok(Err(Refusal::States { place })),
+        Err(AuditError::Wide(count)) => Ok(Err(Refusal::Wide { count })),
+        Err(AuditError::Entry { number, kind }) => Ok(Err(Refusal::Entry {
+            number,
+            fault: kind,
+        })),
+        Ok(audited) => Ok(Ok(audited)),
+    }
+}
+
+/// The accepted table of a text, or why there is none.
+pub(crate) fn read_audited<L: Ledger>(
+    alloc: Global,
+    text: &[u8],
+    steps: &mut Steps<L>,
+) -> Result<Result<Audited, Refusal>, AllocError>
+    ensures { IfOk result (λ r. AuditsTable text.now (result_map_both table_of (λ e. e) r)) }
+{
+    match read_rules(alloc, text)? {
+        Err(refusal) => Ok(Err(refusal)),
+        Ok(table) => audited(alloc, table, steps),
+    }
+}
 
 /// The listing of a text, or why it is none.
 #[tactic(auto, using(crate::proofs::StepLemmas::is_unread))]

@@ -5,6 +5,8 @@ ghost use Rattle.command_line.specs.Request.{request_of};
 ghost use Rattle.command_runs.specs.Plans.{Runs};
 ghost use Rattle.audit_cli.specs.Peep.{plan_of, Peeps};
 
+use crate::audit::Audit;
+use crate::export::Export;
 use crate::rewrite::Rewrite;
 use crate::trace::Trace;
 use command_line::{Command, usage_of};
@@ -40,6 +42,24 @@ fn run_command<S: Store, O: Sink, L: Ledger>(
             };
             let names = [table.as_str(), listing.as_str()];
             return run(alloc, &rewrite, &names, store, sink, steps);
+        }
+        Command::Audit { table } => {
+            let names = [table.as_str()];
+            return run(alloc, &Audit, &names, store, sink, steps);
+        }
+        Command::Export {
+            table,
+            entry,
+            cnf,
+            lrat,
+        } => {
+            let export = Export {
+                entry: *entry,
+                cnf: cnf.as_str(),
+                lrat: lrat.as_str(),
+            };
+            let names = [table.as_str()];
+            return run(alloc, &export, &names, store, sink, steps);
         }
         Command::Trace {
             listing,
@@ -78,6 +98,3 @@ pub fn peep<S: Store, O: Sink, L: Ledger>(
         Ok(Some(command)) => return run_command(alloc, &command, store, out, steps),
     }
 }
-
-#[cfg(test)]
-mod tests;

@@ -1,13 +1,13 @@
 //! The command `trace`: what the text of a listing comes to.
-ghost use Rattle.std.specs.Prelude.{◌≡◌, [], IfOk, Some};
+ghost use Rattle.std.specs.Prelude.{◌≡◌, IfOk, Some};
 ghost use Rattle.thumb_model.specs.Listing.{code_of, place_of};
 ghost use Rattle.thumb_model.specs.Layout.{Layable};
 ghost use Rattle.label_layout.specs.Addresses.{AreAddresses};
 ghost use Rattle.command_runs.specs.Outcomes.{outcome_view};
-ghost use Rattle.command_runs.specs.Plans.{Does};
 ghost use Rattle.audit_cli.specs.Journeys.{journey_of};
 ghost use Rattle.audit_cli.specs.Trace.{LinesTrace, Traces};
 
+use crate::printing::prints;
 use crate::refusal::{Refusal, refused};
 use crate::running::run;
 use crate::start::{answers, state};
@@ -25,16 +25,6 @@ use thumb_machine::{Answers, Machine, Naming};
 pub(crate) struct Trace<'a> {
     pub(crate) label: &'a str,
     pub(crate) most: u32,
-}
-
-/// Nothing is kept, and lines are printed.
-fn prints(alloc: Global, lines: Vec<u8>) -> Outcome
-    ensures { outcome_view result ≡ Does [] lines.items }
-{
-    Outcome::Does {
-        keeps: Vec::new(alloc),
-        lines,
-    }
 }
 
 /// What comes of the run of a listing from a place.
@@ -127,6 +117,3 @@ impl command_runs::Command for Trace<'_> {
         }
     }
 }
-
-#[cfg(test)]
-mod tests;

@@ -4,7 +4,7 @@ use Rattle.std.specs.Prelude.{option_and_then}
 use Rattle.std.specs.List.{list_all}
 use Rattle.clap.specs.Words.{Row, fault_of, first_of, subcommand_of}
 use Rattle.command_line.specs.App.{all_given, asked, asked_by, form_of, peep_app, words_for}
-use Rattle.command_line.specs.CommandLine.{AskFor, Form, rewrites, traces, Given, IsCommand, Request, rewrite, Text, base_of, is_one_of, name_of, options_of, request_by, value_of}
+use Rattle.command_line.specs.CommandLine.{AskFor, Form, rewrites, audits, exports, traces, Given, IsCommand, Request, rewrite, Text, base_of, is_one_of, name_of, options_of, request_by, value_of}
 use Rattle.command_line.proofs.Items.{is_name}
 use Rattle.command_line.proofs.Law.{rows}
 use Rattle.command_line.proofs.Views.{AreTexts}
@@ -19,28 +19,30 @@ meaning ws = option_and_then asked (subcommand_of peep_app ws)
 
 -- ---- of each form ----
 
-few : (form : Form) → length (words_for form) < 1000
-few rewrites = omega arith
-few traces = omega arith
+pub record IsForm (form : Form) : Type 0 where
+  -- its words are few
+  pub few : length (words_for form) < 1000
+  -- its options are names, and no word is named as another or as an option
+  pub names : list_all is_name (options_of form) ≡ true
+  pub apart : are_apart (words_for form) (options_of form) ≡ true
+  -- its name tells it
+  pub named : form_of (name_of form) ≡ Some form
 
-names : (form : Form) → list_all is_name (options_of form) ≡ true
-names rewrites = refl
-names traces = refl
-
-apart : (form : Form) → are_apart (words_for form) (options_of form) ≡ true
-apart rewrites = refl
-apart traces = refl
-
--- the name tells the form
-named : (form : Form) → form_of (name_of form) ≡ Some form
-named rewrites = refl
-named traces = refl
+is_form : (form : Form) → IsForm form
+is_form rewrites = record { few = omega arith; names = refl; apart = refl; named = refl }
+is_form audits = record { few = omega arith; names = refl; apart = refl; named = refl }
+is_form exports = record { few = omega arith; names = refl; apart = refl; named = refl }
+is_form traces = record { few = omega arith; names = refl; apart = refl; named = refl }
 
 -- only the values of the options are looked at
 pub same_options : (form : Form) (ps : List Text) (f g : Text → Option Text) → ((n : Text) → is_one_of (options_of form) n ≡ true → f n ≡ g n)
     → request_by form ps f ≡ request_by form ps g
 same_options rewrites (t ∷ l ∷ o ∷ i ∷ []) f g e = ap (λ (v : Option Text). option_map (λ base. rewrite t l o i base) (base_of v)) (e (codes "base") refl)
 same_options rewrites ps f g e = refl
+same_options audits (t ∷ []) f g e = refl
+same_options audits ps f g e = refl
+same_options exports (t ∷ n ∷ c ∷ l ∷ []) f g e = refl
+same_options exports ps f g e = refl
 same_options traces (l ∷ n ∷ s ∷ []) f g e = refl
 same_options traces ps f g e = refl
 
@@ -48,6 +50,10 @@ same_options traces ps f g e = refl
 counted : (form : Form) (ps : List Text) (value : Text → Option Text) (r : Request) → request_by form ps value ≡ Some r → length ps ≡ length (words_for form)
 counted rewrites (t ∷ l ∷ o ∷ i ∷ []) value r e = refl
 counted rewrites ps value r e = absurd (let bad : None ≡ Some r = e in cc)
+counted audits (t ∷ []) value r e = refl
+counted audits ps value r e = absurd (let bad : None ≡ Some r = e in cc)
+counted exports (t ∷ n ∷ c ∷ l ∷ []) value r e = refl
+counted exports ps value r e = absurd (let bad : None ≡ Some r = e in cc)
 counted traces (l ∷ n ∷ s ∷ []) value r e = refl
 counted traces ps value r e = absurd (let bad : None ≡ Some r = e in cc)
 
@@ -68,15 +74,15 @@ asked_is form us gs ps words options =
     ap (option_and_then (λ ws. request_by form ws (λ id. first_of id (rows us)))) (ap all_given (row_values (words_for form) us ∙ words) ∙ all_some ps)
     ∙ same_options form ps (λ id. first_of id (rows us)) (λ n. value_of n gs) (λ n ours. first_row n us ∙ options n ours)
 
-asked_named : (form : Form) (rs : List Row) → asked (name_of form, rs) ≡ asked_by form (λ id. first_of id rs)
-asked_named form rs = ap (option_and_then (λ f. asked_by f (λ id. first_of id rs))) (named form)
+pub asked_named : (form : Form) (rs : List Row) → asked (name_of form, rs) ≡ asked_by form (λ id. first_of id rs)
+asked_named form rs = ap (option_and_then (λ f. asked_by f (λ id. first_of id rs))) (is_form form).named
 
 -- what clap takes and finds is asked for
 pub form_sound : (form : Form) (ws : List Text) → AreTexts ws → fault_of peep_app (name_of form ∷ ws) ≡ [] → (r : Request) → meaning (name_of form ∷ ws) ≡ Some r
     → AskFor (name_of form ∷ ws) r
-form_sound form ws texts fine r e = go (finds_command (name_of form) (words_for form) (options_of form) (few form) (names form) (apart form) (enters form) ws texts fine) where
+form_sound form ws texts fine r e = go (finds_command (name_of form) (words_for form) (options_of form) (is_form form).few (is_form form).names (is_form form).apart (enters form) ws texts fine) where
   go : (us : List Given) × (ps : List Text) × (gs : List Given)
-      × Finds (name_of form) (words_for form) (options_of form) (few form) (names form) (apart form) (enters form) ws ps gs us
+      × Finds (name_of form) (words_for form) (options_of form) (is_form form).few (is_form form).names (is_form form).apart (enters form) ws ps gs us
       × IsCommand (name_of form) (options_of form) (name_of form ∷ ws) ps gs → AskFor (name_of form ∷ ws) r
   go (us, ps, gs, f, c) = record {
     form = form;
@@ -91,7 +97,7 @@ pub form_complete : (form : Form) (ws : List Text) → AreTexts ws → (r : Requ
     → IsCommand (name_of form) (options_of form) (name_of form ∷ ws) ps gs → request_by form ps (λ n. value_of n gs) ≡ Some r
     → (fault_of peep_app (name_of form ∷ ws) ≡ []) × (meaning (name_of form ∷ ws) ≡ Some r)
 form_complete form ws texts r ps gs c e =
-    let f = command_finds (name_of form) (words_for form) (options_of form) (few form) (names form) (apart form) (enters form) ws texts ps gs c (counted form ps (λ n. value_of n gs) r e) in
+    let f = command_finds (name_of form) (words_for form) (options_of form) (is_form form).few (is_form form).names (is_form form).apart (enters form) ws texts ps gs c (counted form ps (λ n. value_of n gs) r e) in
     (f.1.fine, ap (option_and_then asked) f.1.found ∙ asked_named form (rows f.0) ∙ asked_is form f.0 gs ps f.1.in_order f.1.options ∙ e)
 
 -- words ask for one thing of a form
@@ -99,8 +105,8 @@ pub form_one : (form : Form) (ws : List Text) (r s : Request) (ps qs : List Text
     → IsCommand (name_of form) (options_of form) (name_of form ∷ ws) ps gs → request_by form ps (λ n. value_of n gs) ≡ Some r
     → IsCommand (name_of form) (options_of form) (name_of form ∷ ws) qs hs → request_by form qs (λ n. value_of n hs) ≡ Some s → r ≡ s
 form_one form ws r s ps qs gs hs c e d h =
-    let f = command_agrees (name_of form) (words_for form) (options_of form) (names form) (apart form) ws ps gs c (counted form ps (λ n. value_of n gs) r e) in
-    let g = command_agrees (name_of form) (words_for form) (options_of form) (names form) (apart form) ws qs hs d (counted form qs (λ n. value_of n hs) s h) in
+    let f = command_agrees (name_of form) (words_for form) (options_of form) (is_form form).names (is_form form).apart ws ps gs c (counted form ps (λ n. value_of n gs) r e) in
+    let g = command_agrees (name_of form) (words_for form) (options_of form) (is_form form).names (is_form form).apart ws qs hs d (counted form qs (λ n. value_of n hs) s h) in
     let us : List Given = f.0 in
     let vs : List Given = g.0 in
     let read : Some us ≡ Some vs = sym f.1.read ∙ g.1.read in
@@ -112,7 +118,7 @@ form_one form ws r s ps qs gs hs c e d h =
 
 -- two forms of one name are one
 pub same_form : (form other : Form) → name_of form ≡ name_of other → form ≡ other
-same_form form other e = let both : Some form ≡ Some other = sym (named form) ∙ ap form_of e ∙ named other in cc
+same_form form other e = let both : Some form ≡ Some other = sym (is_form form).named ∙ ap form_of e ∙ (is_form other).named in cc
 
 -- what is asked for is told by the values alone
 pub same_asked : (form : Form) (f g : Text → Option Text) → ((id : Text) → f id ≡ g id) → asked_by form f ≡ asked_by form g

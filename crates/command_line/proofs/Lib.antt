@@ -9,6 +9,7 @@ pub mod Items
 pub mod NamedValues
 pub mod Exact
 pub mod Top
+pub mod Added
 pub mod Commands
 pub mod Forms
 pub mod Requests

@@ -2,14 +2,13 @@
 use Rattle.std.proofs.Common.{◌≡◌, ◌∙◌, inl, inr, true, false, List, [], ◌∷◌, Some, sym, ap, subst, true≢false}
 use Rattle.std.specs.Str.{bytes_eq}
 use Rattle.clap.specs.Words.{fault_of}
-use Rattle.command_line.specs.App.{peep_app}
-use Rattle.command_line.specs.CommandLine.{AskFor, Form, rewrites, traces, Given, IsCommand, Request, Text, name_of, options_of, request_by, value_of}
+use Rattle.command_line.specs.App.{forms, peep_app}
+use Rattle.command_line.specs.CommandLine.{AskFor, Form, Given, IsCommand, Request, Text, name_of, options_of, request_by, value_of}
 use Rattle.command_line.proofs.Law.{clean}
 use Rattle.command_line.proofs.Views.{AreTexts, word_is}
 use Rattle.command_line.proofs.Bytes.{same_text}
-use Rattle.command_line.proofs.Top.{nothing_fault, other_first}
+use Rattle.command_line.proofs.Top.{named_or_none, nothing_fault, other_first}
 use Rattle.command_line.proofs.Forms.{form_complete, form_one, form_sound, meaning, same_form}
-use Rattle.command_line.proofs.BoolLemmas.{either}
 
 -- the first word is a form's name
 by_name : (form : Form) (w : Text) (ws : List Text) → AreTexts ws → bytes_eq (name_of form) w ≡ true → fault_of peep_app (w ∷ ws) ≡ [] → (r : Request) → meaning (w ∷ ws) ≡ Some r → AskFor (w ∷ ws) r
@@ -20,12 +19,9 @@ by_name form w ws texts same fine r e =
 
 pub sound : (ws : List Text) → AreTexts ws → fault_of peep_app ws ≡ [] → (r : Request) → meaning ws ≡ Some r → AskFor ws r
 sound [] texts fine r e = absurd (true≢false (sym (ap clean fine) ∙ nothing_fault))
-sound (w ∷ ws) texts fine r e = elim (either (bytes_eq (name_of rewrites) w)) [
-  | inl same ↦ by_name rewrites w ws texts.1 same fine r e
-  | inr first ↦ elim (either (bytes_eq (name_of traces) w)) [
-    | inl same ↦ by_name traces w ws texts.1 same fine r e
-    | inr second ↦ absurd (true≢false (sym (ap clean fine) ∙ other_first w ws first second (word_is (λ _. false) w texts.0)))
-  ]
+sound (w ∷ ws) texts fine r e = elim (named_or_none forms w) [
+  | inl (form, same) ↦ by_name form w ws texts.1 same fine r e
+  | inr none ↦ absurd (true≢false (sym (ap clean fine) ∙ other_first w ws none (word_is (λ _. false) w texts.0)))
 ]
 
 -- a command's first word is its name

@@ -9,12 +9,12 @@ use Rattle.clap.specs.declared.parser.matches.ArgMatches.TheViews.{out-ArgMatche
 use Rattle.clap.specs.declared.parser.matches.Found.{Found}
 use Rattle.clap.proofs.WalkLemmas.{first_value-rows}
 use Rattle.command_line.specs.App.{asked, asked_by, peep_app}
-use Rattle.command_line.specs.CommandLine.{AskFor, AskOnce, Form, Request, Text}
+use Rattle.command_line.specs.CommandLine.{AskFor, AskOnce, Form, Request, Text, name_of}
 use Rattle.command_line.specs.Request.{request_of}
 use Rattle.command_line.specs.declared.command.Command.{Command}
 use Rattle.command_line.proofs.Views.{AreTexts}
 use Rattle.command_line.proofs.Requests.{complete, sound}
-use Rattle.command_line.proofs.Forms.{meaning, same_asked}
+use Rattle.command_line.proofs.Forms.{asked_named, meaning, same_asked}
 
 pub are_texts : (xs : List (Bor Text)) → All (λ t. IsUtf8 t.now) xs → AreTexts (map (λ t. t.now) xs)
 are_texts [] all = tt
@@ -55,7 +55,7 @@ taken_asks texts slice ws same are all m (fine, found) o e =
       go (Some c) e = sound ws utf8 (sym (ap (fault_of peep_app) words) ∙ fine) (request_of c) (sym e)
 
 -- what clap finds is told by its rows
-pub found_asked : (form : Form) (f : Found) → asked_by form (first_value f) ≡ asked_by form (λ id. first_of id (rows_of f))
+found_asked : (form : Form) (f : Found) → asked_by form (first_value f) ≡ asked_by form (λ id. first_of id (rows_of f))
 found_asked form f = same_asked form (first_value f) (λ id. first_of id (rows_of f)) (first_value-rows f)
 
 -- a pair, from each of its parts
@@ -65,8 +65,14 @@ paired None pair n rs en er = absurd (let bad : None ≡ Some n = en in cc)
 paired (Some x) pair n rs en er = let a : (pair x).0 ≡ n = cc in let b : (pair x).1 ≡ rs = cc in ap₂ (λ (t : Text) (l : List Row). Some (t, l)) a b
 
 -- the subcommand that was met, from its name and its rows
-pub met_is : (m : ArgMatches) (n : Text) (rs : List Row) → Some n ≡ subcommand_name_of m → Some rs ≡ option_map (λ p. p.1) (subcommand_rows_of m) → subcommand_rows_of m ≡ Some (n, rs)
+met_is : (m : ArgMatches) (n : Text) (rs : List Row) → Some n ≡ subcommand_name_of m → Some rs ≡ option_map (λ p. p.1) (subcommand_rows_of m) → subcommand_rows_of m ≡ Some (n, rs)
 met_is m n rs en er = paired (out-ArgMatches m).subcommand (λ b. ((out-SubCommand (box_value b)).name.now, rows_of (found_of (out-SubCommand (box_value b)).matches))) n rs (sym en) (sym er)
+
+-- what the subcommand of a form's name asks for
+pub asked_met : (form : Form) (m : ArgMatches) (f : Found) (n : Text) → Some n ≡ subcommand_name_of m → Some (rows_of f) ≡ option_map (λ p. p.1) (subcommand_rows_of m) → n ≡ name_of form
+    → option_and_then asked (subcommand_rows_of m) ≡ asked_by form (first_value f)
+asked_met form m f n en er is =
+    ap (option_and_then asked) (met_is m n (rows_of f) en er) ∙ ap (λ (k : Text). asked (k, rows_of f)) is ∙ asked_named form (rows_of f) ∙ sym (found_asked form f)
 
 pub at_some : {X : Type 0} (o : Option X) (x : X) (P : Type 0) (Q : X → Type 0) → o ≡ Some x → MatchOption o P Q → Q x
 at_some {X} o x P Q e h = subst (λ (p : Option X). MatchOption p P Q) e h

@@ -1,8 +1,8 @@
 -- The program and its commands, as clap's definitions see them.
-use Rattle.std.specs.Prelude.{true, List, [], ◌∷◌, Option, Some, None, codes, fold, map, option_map, option_and_then, if◌then◌else◌}
+use Rattle.std.specs.Prelude.{true, List, [], ◌∷◌, Option, Some, codes, find, fold, map, option_map, option_and_then}
 use Rattle.std.specs.Str.{bytes_eq}
 use Rattle.clap.specs.Words.{App, Row, first_of, Rule, Text, new_app, new_rule, with_rule, with_subcommand}
-use Rattle.command_line.specs.CommandLine.{Request, Form, rewrites, traces, name_of, options_of, request_by}
+use Rattle.command_line.specs.CommandLine.{Request, Form, rewrites, audits, exports, traces, name_of, options_of, request_by}
 
 -- a positional word
 abbrev pub positional : Text → Rule
@@ -17,9 +17,15 @@ abbrev pub command_app : Text → List Text → List Text → App
 command_app name words options =
     fold (λ a id. with_rule a (option id)) (fold (λ a id. with_rule a (positional id)) (new_app name) words) options
 
+-- the commands
+abbrev pub forms : List Form
+forms = rewrites ∷ audits ∷ exports ∷ traces ∷ []
+
 -- the names of a command's positional words
 abbrev pub words_for : Form → List Text
 words_for rewrites = codes "table" ∷ codes "listing" ∷ codes "out" ∷ codes "image" ∷ []
+words_for audits = codes "table" ∷ []
+words_for exports = codes "table" ∷ codes "entry" ∷ codes "cnf" ∷ codes "lrat" ∷ []
 words_for traces = codes "listing" ∷ codes "label" ∷ codes "steps" ∷ []
 
 abbrev pub app_for : Form → App
@@ -36,7 +42,7 @@ bare_app = let a = new_app (codes "peep") in record a {
 }
 
 abbrev pub peep_app : App
-peep_app = with_subcommand (with_subcommand bare_app (app_for rewrites).top) (app_for traces).top
+peep_app = fold (λ a form. with_subcommand a (app_for form).top) bare_app forms
 
 -- all of these values, or none where one of them is none
 abbrev pub all_given : List (Option Text) → Option (List Text)
@@ -49,7 +55,7 @@ asked_by form value = option_and_then (λ ws. request_by form ws value) (all_giv
 
 -- the command of this name
 abbrev pub form_of : Text → Option Form
-form_of n = if bytes_eq n (codes "rewrite") then Some rewrites else if bytes_eq n (codes "trace") then Some traces else None
+form_of n = find (λ form. bytes_eq n (name_of form)) forms
 
 -- what the command of this name, with these rows, asks for
 abbrev pub asked : Text × List Row → Option Request

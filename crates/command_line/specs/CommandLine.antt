@@ -93,25 +93,33 @@ steps_of v = option_and_then (λ n. if nat_le n 1000000 then Some n else None) (
 -- what a command line asks for
 pub data Request : Type 0 where
   rewrite : (table listing out image : Text) → ℕ → Request
+  audit : (table : Text) → Request
+  export : (table : Text) (entry : ℕ) (cnf lrat : Text) → Request
   trace : (listing label : Text) → ℕ → Request
 
 -- ---- the commands ----
 
 pub data Form : Type 0 where
   rewrites : Form
+  audits : Form
+  exports : Form
   traces : Form
 
 abbrev pub name_of : Form → Text
 name_of rewrites = codes "rewrite"
+name_of audits = codes "audit"
+name_of exports = codes "export"
 name_of traces = codes "trace"
 
 abbrev pub options_of : Form → List Text
 options_of rewrites = codes "base" ∷ []
-options_of traces = []
+options_of form = []
 
 -- what a command asks for, by its positional words and the values of its options
 abbrev pub request_by : Form → List Text → (Text → Option Text) → Option Request
 request_by rewrites (table ∷ listing ∷ out ∷ image ∷ []) value = option_map (λ base. rewrite table listing out image base) (base_of (value (codes "base")))
+request_by audits (table ∷ []) value = Some (audit table)
+request_by exports (table ∷ entry ∷ cnf ∷ lrat ∷ []) value = option_map (λ number. export table number cnf lrat) (numeral entry)
 request_by traces (listing ∷ label ∷ count ∷ []) value = option_map (λ steps. trace listing label steps) (steps_of count)
 request_by form words value = None
 

@@ -4,7 +4,7 @@ ghost use Rattle.std.specs.Prelude.{◌≡◌, IfOk, false};
 ghost use Rattle.clap.specs.Words.{app_of, with_rule};
 ghost use Rattle.clap.specs.declared.builder.Command.TheViews.{out-Command as fields_of};
 ghost use Rattle.command_line.specs.App.{positional, option, app_for, peep_app};
-ghost use Rattle.command_line.specs.CommandLine.{rewrites, traces};
+ghost use Rattle.command_line.specs.CommandLine.{rewrites, audits, exports, traces};
 
 use clap::{Arg, Command};
 use std::alloc::{AllocError, Global};
@@ -48,6 +48,27 @@ fn rewrite<'a>(alloc: Global) -> Result<Command<'a>, AllocError>
     with_option(alloc, command, "base")
 }
 
+/// `audit TABLE`
+fn audit<'a>(alloc: Global) -> Result<Command<'a>, AllocError>
+    ensures app { IfOk result (λ c. app_of c ≡ app_for audits) }
+    ensures own { IfOk result (λ c. (fields_of c).has_globals ≡ false) }
+{
+    let command = Command::new(alloc, "audit");
+    with_word(alloc, command, "table")
+}
+
+/// `export TABLE ENTRY CNF LRAT`
+fn export<'a>(alloc: Global) -> Result<Command<'a>, AllocError>
+    ensures app { IfOk result (λ c. app_of c ≡ app_for exports) }
+    ensures own { IfOk result (λ c. (fields_of c).has_globals ≡ false) }
+{
+    let command = Command::new(alloc, "export");
+    let command = with_word(alloc, command, "table")?;
+    let command = with_word(alloc, command, "entry")?;
+    let command = with_word(alloc, command, "cnf")?;
+    with_word(alloc, command, "lrat")
+}
+
 /// `trace LISTING LABEL STEPS`
 fn trace<'a>(alloc: Global) -> Result<Command<'a>, AllocError>
     ensures app { IfOk result (λ c. app_of c ≡ app_for traces) }
@@ -64,6 +85,8 @@ pub fn peep<'a>(alloc: Global) -> Result<Command<'a>, AllocError>
     ensures { IfOk result (λ c. app_of c ≡ peep_app) }
 {
     let rewrite = rewrite(alloc)?;
+    let audit = audit(alloc)?;
+    let export = export(alloc)?;
     let trace = trace(alloc)?;
     let command = Command::new(alloc, "peep")
         .no_binary_name(true)
@@ -71,6 +94,8 @@ pub fn peep<'a>(alloc: Global) -> Result<Command<'a>, AllocError>
         .disable_help_subcommand(true)
         .subcommand_required(true)
         .subcommand(rewrite)?
+        .subcommand(audit)?
+        .subcommand(export)?
         .subcommand(trace)?;
     Ok(command)
 }

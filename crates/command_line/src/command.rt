@@ -15,6 +15,15 @@ pub enum Command {
         /// An address: a multiple of 4 up to 268,435,456.
         base: u32,
     },
+    /// Read and audit the table.
+    Audit { table: String },
+    /// Keep the formula of an entry, counted from 1, as `cnf`, and its proof as `lrat`.
+    Export {
+        table: String,
+        entry: u32,
+        cnf: String,
+        lrat: String,
+    },
     /// Run the listing from a code label for at most so many steps, and print what is seen of the run.
     Trace {
         listing: String,

@@ -73,5 +73,3 @@ pub fn words_ask_once()
     ensures { AskOnce }
 {}
 
-#[cfg(test)]
-mod tests;

@@ -3,7 +3,7 @@
 ghost use Rattle.std.specs.Prelude.{◌≡◌, IfOk, option_map, option_and_then, string_bytes};
 ghost use Rattle.clap.specs.Words.{first_of, first_value, found_of, rows_of, subcommand_rows_of};
 ghost use Rattle.command_line.specs.App.{asked_by, asked};
-ghost use Rattle.command_line.specs.CommandLine.{rewrites, traces, base_of, is_base, steps_of};
+ghost use Rattle.command_line.specs.CommandLine.{rewrites, audits, exports, traces, base_of, is_base, steps_of};
 ghost use Rattle.command_line.specs.Request.{request_of};
 
 use super::command::Command;
@@ -56,6 +56,41 @@ fn rewrite(alloc: Global, given: &ArgMatches<'_>) -> Result<Option<Command>, All
     }))
 }
 
+/// The values of `audit`.
+fn audit(alloc: Global, given: &ArgMatches<'_>) -> Result<Option<Command>, AllocError>
+    ensures { IfOk result (λ o. option_map request_of o ≡ asked_by audits (first_value (found_of given.now))) }
+{
+    let Some(table) = given.get_str("table") else {
+        return Ok(None);
+    };
+    Ok(Some(Command::Audit {
+        table: String::from_str(alloc, table)?,
+    }))
+}
+
+/// The values of `export`.
+fn export(alloc: Global, given: &ArgMatches<'_>) -> Result<Option<Command>, AllocError>
+    ensures { IfOk result (λ o. option_map request_of o ≡ asked_by exports (first_value (found_of given.now))) }
+{
+    let (Some(table), Some(word), Some(cnf), Some(lrat)) = (
+        given.get_str("table"),
+        given.get_str("entry"),
+        given.get_str("cnf"),
+        given.get_str("lrat"),
+    ) else {
+        return Ok(None);
+    };
+    let Some(entry) = number(word.as_bytes()) else {
+        return Ok(None);
+    };
+    Ok(Some(Command::Export {
+        table: String::from_str(alloc, table)?,
+        entry,
+        cnf: String::from_str(alloc, cnf)?,
+        lrat: String::from_str(alloc, lrat)?,
+    }))
+}
+
 /// The values of `trace`.
 fn trace(alloc: Global, given: &ArgMatches<'_>) -> Result<Option<Command>, AllocError>
     ensures { IfOk result (λ o. option_map request_of o ≡ asked_by traces (first_value (found_of given.now))) }
@@ -83,6 +118,8 @@ pub fn command_of(alloc: Global, matches: &ArgMatches<'_>) -> Result<Option<Comm
 {
     match matches.subcommand() {
         Some(("rewrite", given)) => rewrite(alloc, given),
+        Some(("audit", given)) => audit(alloc, given),
+        Some(("export", given)) => export(alloc, given),
         Some(("trace", given)) => trace(alloc, given),
         _ => Ok(None),
     }

@@ -19,10 +19,10 @@ lines_outcome-requires-clause-listed c =
     subst (λ (bytes : List ℕ). IsListing bytes c.in-Ok.listing) (sym (prints_back c.args.text.now c.in-Ok.listing is)) is
 
 pub returns-in_ok-outcome-in-Err : goal.returns-in_ok-outcome-in-Err
-returns-in_ok-outcome-in-Err c =
-    refused_so (Rewrites (destination_of c.args.to.now) (first_table c.args.entries) c.args.text.now) c.in-Err.refusal (outcome_view c.in_ok-outcome-in-Err.outcome) c.in_ok-outcome-in-Err.ensures
+returns-in_ok-outcome-in-Err c = λ pool.
+    refused_so (Rewrites (destination_of c.args.to.now) (first_table pool c.args.entries) c.args.text.now) c.in-Err.refusal (outcome_view c.in_ok-outcome-in-Err.outcome) c.in_ok-outcome-in-Err.ensures
     (unread c.in-Err.refusal (not_read c.args.text.now c.in_ok-refusal.field-0 c.in-Err.refusal c.in_ok-refusal.ensures c.in-Err.is))
 
 pub returns-in_ok-outcome-in-Ok : goal.returns-in_ok-outcome-in-Ok
-returns-in_ok-outcome-in-Ok c =
-    read c.in-Ok.listing (is_read c.args.text.now c.in_ok-refusal.field-0 c.in-Ok.listing c.in_ok-refusal.ensures c.in-Ok.is) (outcome_view c.in_ok-outcome-in-Ok.outcome) c.in_ok-outcome-in-Ok.ensures
+returns-in_ok-outcome-in-Ok c = λ pool.
+    read c.in-Ok.listing (is_read c.args.text.now c.in_ok-refusal.field-0 c.in-Ok.listing c.in_ok-refusal.ensures c.in-Ok.is) (outcome_view c.in_ok-outcome-in-Ok.outcome) (c.in_ok-outcome-in-Ok.ensures pool)

@@ -1,22 +1,11 @@
-use super::*;
+use crate::tables::table;
+use audit_cli::{Status, peep};
 use outer_store::{MemSink, MemStore};
+use std::alloc::Global;
 use std::test::Fail;
-use step_ledger::Counted;
-
-const HEADER: &[u8] = b"peep 1\nregs 2\nleft 2\nseed 42\nbudget 1\npool 24 255\n";
-
-const STATE: &[u8] = b"state a15c02b7 7b47f409 ba1d3330 83d2f293 b\n";
+use step_ledger::{Counted, Steps};
 
 const MOVES: &[u8] = b"entry\nleft mov r0, r0\nmask r0 n z c v\nproof\n";
-
-/// A table with a state, and an entry that drops self-moves or none.
-fn table(alloc: Global, entry: &[u8]) -> Result<Vec<u8>, Fail> {
-    let mut text = HEADER.to_vec(alloc)?;
-    text.extend_from_slice(STATE)?;
-    text.extend_from_slice(entry)?;
-    text.extend_from_slice(b"end\n")?;
-    Ok(text)
-}
 
 /// A store that holds a table and a listing.
 fn store_of(alloc: Global, entry: &[u8], listing: &[u8], failing: u64) -> Result<MemStore, Fail> {
@@ -156,13 +145,35 @@ fn keeps_images(rt: HostRuntime) -> Result<(), Fail> {
 #[test]
 fn refuses(rt: HostRuntime) -> Result<(), Fail> {
     let alloc = rt.alloc();
-    let other = b"entry\nleft lsls r0, r0, #24\n".as_slice();
-    let cases: [(&[u8], &[u8], &[u8]); 5] = [
+    let cases: [(&[u8], &[u8], &[u8]); 16] = [
         (MOVES, b"f:\nf:\nmov r0, r0\n", b"refused listing 2 1\n"),
         (MOVES, b"mov r0, r0\nmov r8, r0\n", b"refused listing 2 1\n"),
         (MOVES, b"nop\nf:\nf:\n", b"refused listing 1 1\n"),
-        (other, SUM, b"refused table 9\n"),
-        (b"end\n", b"?", b"refused table 9\n"),
+        (MOVES, b"mov r8, r0\n", b"refused listing 1 1\n"),
+        (MOVES, b"bx lr\nbx r0\n", b"refused listing 2 1\n"),
+        (MOVES, b"\n\nmuls r0, r1, r1\n", b"refused listing 3 1\n"),
+        (MOVES, b"adds r0, r0, r1 \n", b"refused listing 1 1\n"),
+        (MOVES, b"mov r0, r0\r\n", b"refused listing 1 1\n"),
+        (MOVES, b"f: bx lr\n", b"refused listing 1 1\n"),
+        (
+            b"entry\nleft lsls r0, r0, #24\nleft lsrs r0, r0, #24\nright uxtb r0, r0\nmask r0\nproof\n",
+            SUM,
+            b"refused table 72\n",
+        ),
+        (
+            b"entry\nleft mov r0, r0\nmask r0 n z c v\nproof\nentry\nleft mov r0, r0\nmask r0\nproof\n",
+            SUM,
+            b"refused table 76\n",
+        ),
+        (
+            b"entry\nleft movs r0, r0\nmask z\nproof\n",
+            SUM,
+            b"refused entry 1 3\n",
+        ),
+        (b"end\n", b"?", b"refused table 72\n"),
+        (b"entry\nleft lsls r0, r0, #32\n", SUM, b"refused table 72\n"),
+        (b"entry\n", SUM, b"refused table 72\n"),
+        (b"states\n", SUM, b"refused table 71\n"),
     ];
     for (entry, listing, line) in cases {
         let mut store = store_of(alloc, entry, listing, 0)?;

@@ -1,5 +1,4 @@
-use crate::top::peep;
-use command_runs::Status;
+use audit_cli::{Status, peep};
 use outer_store::{MemSink, MemStore};
 use std::alloc::Global;
 use std::test::Fail;

@@ -1,4 +1,4 @@
-use super::{Command, usage_of};
+use command_line::{Command, usage_of};
 use std::alloc::{AllocError, Global};
 use std::process::Abort;
 use std::test::Fail;
@@ -122,6 +122,16 @@ fn these_are_no_command(rt: HostRuntime) -> Result<(), Fail> {
         "trace a b 1 --help",
         "trace rewrite a b 1",
         "Trace a b 1",
+        "audit",
+        "audit a b",
+        "audit a --base 4",
+        "audit -a",
+        "export a 1 b",
+        "export a 1 b c d",
+        "export a b c d",
+        "export a 4294967296 b c",
+        "export a 01 b c",
+        "export a 1 b c --entry 1",
         "Rewrite a b c d",
     ];
     for line in lines {
@@ -159,6 +169,45 @@ fn these_are_rewrite(rt: HostRuntime) -> Result<(), Fail> {
     ];
     for (line, names, base) in rows {
         assert_rewrite(&rt, rt.alloc(), line, names, base)?;
+    }
+    Ok(())
+}
+
+#[test]
+fn these_are_audit(rt: HostRuntime) -> Result<(), Fail> {
+    for (line, name) in [("audit a", "a"), ("audit -", "-"), ("audit -- -a", "-a")] {
+        let words = words_of(rt.alloc(), line)?;
+        let Some(Command::Audit { table }) = usage_of(rt.alloc(), words.as_slice())? else {
+            return Err(Fail::from("no command"));
+        };
+        assert_eq!(rt; table.as_str(), name, "{line}");
+    }
+    Ok(())
+}
+
+#[test]
+fn these_are_export(rt: HostRuntime) -> Result<(), Fail> {
+    for (line, number) in [
+        ("export t 0 c l", 0),
+        ("export t 0xff c l", 255),
+        ("export t 4294967295 c l", 4_294_967_295),
+    ] {
+        let words = words_of(rt.alloc(), line)?;
+        let Some(
+            Command::Export {
+                table,
+                entry,
+                cnf,
+                lrat,
+            },
+        ) = usage_of(rt.alloc(), words.as_slice())?
+        else {
+            return Err(Fail::from("no command"));
+        };
+        assert_eq!(rt; entry, number, "{line}");
+        assert_eq!(rt; table.as_str(), "t", "{line}");
+        assert_eq!(rt; cnf.as_str(), "c", "{line}");
+        assert_eq!(rt; lrat.as_str(), "l", "{line}");
     }
     Ok(())
 }

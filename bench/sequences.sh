@@ -1,0 +1,11 @@
+#!/usr/bin/env bash
+# Measures the proved walk through the first 5,000,000 sequences of three registers and the default pool beside the same in plain Rust. Use: bench/sequences.sh [TURNS]
+. "$(dirname "$0")/common.sh"
+turns=${1:-5}
+take_crates seq_enum thumb_table
+proved=$(build_proved sequences "$top/bench/sequences/proved.rs" seq_enum thumb_instr thumb_table anyhow)
+plain=$(build_plain "$top/bench/sequences/plain.rs")
+plain_time=$(least "$turns" "$work/plain.txt" "$plain")
+proved_time=$(least "$turns" "$work/proved.txt" "$proved")
+cmp "$work/proved.txt" "$work/plain.txt"
+print_times "5,000,000 sequences" ms "$proved_time" "$plain_time"

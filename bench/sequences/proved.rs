@@ -1,0 +1,50 @@
+//! Walks through sequences with the proved crate. In Rattle; sequences.sh builds it.
+#![tactic(auto)]
+
+ghost use Rattle.std.specs.Prelude.{◌<◌, ◌≤◌, length};
+
+use seq_enum::{Pool, Walk, letters};
+use std::alloc::Global;
+use std::time::Instant;
+use thumb_instr::Instr;
+use thumb_table::{Code, encode};
+
+/// The code of an instruction of one halfword.
+fn code(instr: &Instr) -> u64 {
+    match encode(instr) {
+        Code::One(first) => u64::from(first),
+        Code::Two(first, _) => u64::from(first),
+    }
+}
+
+/// A digest of the last instructions.
+fn digest(letters: &[Instr], count: u32) -> u64
+    requires some { 0 < length letters.now }
+    requires few { length letters.now ≤ 1952 }
+{
+    let mut walk = Walk::new(letters);
+    let mut sum = 0u64;
+    for _turn in 0..count {
+        let instrs = walk.instrs();
+        let last = match instrs.last() {
+            None => 0,
+            Some(instr) => code(instr),
+        };
+        sum = sum.rotate_left(5) ^ (last + instrs.len() as u64 * 65536);
+        walk.next();
+    }
+    sum
+}
+
+fn main(rt: HostRuntime) -> anyhow::Result<()> {
+    let pool = Pool::new(&[0, 1, 2, 4, 8, 16, 24, 31, 255]);
+    let Some(pool) = pool else {
+        return Ok(());
+    };
+    let letters = letters(rt.alloc(), 3, &pool)?;
+    let start = Instant::now(&rt)?;
+    let sum = digest(&letters, 5_000_000);
+    eprintln!(rt; "{} ms", start.elapsed(&rt)?.as_millis())?;
+    println!(rt; "{sum:016x}")?;
+    Ok(())
+}

@@ -1,0 +1,60 @@
+-- How many lines the text of a table has at most.
+use Rattle.std.proofs.Common.{◌≡◌, ◌∙◌, ℕ, ◌+◌, ◌≤◌, List, [], ◌∷◌, ◌++◌, length, map, subst, arith, length-append}
+use Rattle.std.specs.List.{flat_map}
+use Rattle.std.specs.Prelude.{sum_by}
+use Rattle.std.proofs.lemmas.List.Sums.{sum_by-cons}
+use Rattle.rule_table.specs.Table.{Opened, Rule, Table}
+use Rattle.rule_table.specs.Text.{Item, State, Left, Right, Mask, Proof, Logged, End, header_items, items_of, line_of, open_items, rule_items, text_of_items}
+use Rattle.rule_table.specs.Refused.{IsText}
+use Rattle.audit_cli.specs.Audit.{open_count, opens_of}
+
+items_short : (items : List Item) → length items ≤ length (text_of_items items)
+items_short [] = omega arith
+items_short (i ∷ is) =
+    let line : List ℕ = line_of i ++ 10 ∷ [] in
+    let here : length line ≡ length (line_of i) + 1 = length-append (line_of i) (10 ∷ []) in
+    let both : length (text_of_items (i ∷ is)) ≡ length line + length (text_of_items is) = length-append line (text_of_items is) in
+    let rest = items_short is in
+    omega arith
+
+-- each line of a table has a byte of its text
+pub items_within : (text : List ℕ) (t : Table) → IsText text t → length (items_of t) ≤ length text
+items_within text t is = subst (λ (bytes : List ℕ). length (items_of t) ≤ length bytes) is.whole (items_short (items_of t))
+
+opens_short : (os : List Opened) → length os ≤ length (flat_map open_items os)
+opens_short [] = omega arith
+opens_short (o ∷ os) =
+    let both : length (flat_map open_items (o ∷ os)) ≡ length (open_items o) + length (flat_map open_items os) = length-append (open_items o) (flat_map open_items os) in
+    let rest = opens_short os in
+    omega arith
+
+rule_short : (e : Rule) → open_count e ≤ length (rule_items e)
+rule_short e =
+    let numbers : List Item = flat_map open_items e.opens in
+    let logs : List Item = map Logged e.proof in
+    let rights : List Item = map Right e.right in
+    let a = opens_short e.opens in
+    let b : length (logs ++ numbers) ≡ length logs + length numbers = length-append logs numbers in
+    let c : length (rights ++ Mask e.mask ∷ Proof ∷ (logs ++ numbers)) ≡ length rights + (length (logs ++ numbers) + 2) = length-append rights (Mask e.mask ∷ Proof ∷ (logs ++ numbers)) ∙ omega arith in
+    let d : length (map Left e.left ++ (rights ++ Mask e.mask ∷ Proof ∷ (logs ++ numbers))) ≡ length (map Left e.left) + length (rights ++ Mask e.mask ∷ Proof ∷ (logs ++ numbers)) =
+    length-append (map Left e.left) (rights ++ Mask e.mask ∷ Proof ∷ (logs ++ numbers)) in
+    omega arith
+
+rules_short : (rules : List Rule) → sum_by open_count rules ≤ length (flat_map rule_items rules)
+rules_short [] = omega arith
+rules_short (e ∷ es) =
+    let both : length (flat_map rule_items (e ∷ es)) ≡ length (rule_items e) + length (flat_map rule_items es) = length-append (rule_items e) (flat_map rule_items es) in
+    let sum : sum_by open_count (e ∷ es) ≡ open_count e + sum_by open_count es = sum_by-cons open_count e es in
+    let here = rule_short e in
+    let rest = rules_short es in
+    omega arith
+
+-- and so each open number has one
+pub opens_within : (text : List ℕ) (t : Table) → IsText text t → opens_of t ≤ length text
+opens_within text t is =
+    let all = items_within text t is in
+    let some = rules_short t.rules in
+    let a : length (items_of t) ≡ length (header_items t) + length (map State t.states ++ (flat_map rule_items t.rules ++ End ∷ [])) = length-append (header_items t) (map State t.states ++ (flat_map rule_items t.rules ++ End ∷ [])) in
+    let b : length (map State t.states ++ (flat_map rule_items t.rules ++ End ∷ [])) ≡ length (map State t.states) + length (flat_map rule_items t.rules ++ End ∷ []) = length-append (map State t.states) (flat_map rule_items t.rules ++ End ∷ []) in
+    let c : length (flat_map rule_items t.rules ++ End ∷ []) ≡ length (flat_map rule_items t.rules) + 1 = length-append (flat_map rule_items t.rules) (End ∷ []) in
+    omega arith

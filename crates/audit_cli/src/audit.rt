@@ -1,0 +1,74 @@
+//! The command `audit`: what the text of a table comes to.
+ghost use Rattle.std.specs.Prelude.{◌≡◌, ◌<◌, ◌^◌, [], IfOk, length, map, sum_by};
+ghost use Rattle.command_runs.specs.Outcomes.{outcome_view};
+ghost use Rattle.rule_table.specs.Views.{rule_of, table_of};
+ghost use Rattle.audit_cli.specs.Audit.{Audits, open_count};
+
+use crate::printing::{entries_report, prints};
+use crate::refusal::refused;
+use crate::steps::read_audited;
+use command_runs::Outcome;
+use rule_table::Entry;
+use std::alloc::{AllocError, Global};
+use step_ledger::{Ledger, Steps};
+
+/// The command `audit`.
+#[derive(Drop)]
+pub(crate) struct Audit;
+
+/// How many numbers entries name open.
+fn open_count(entries: &[Entry]) -> u64
+    requires { sum_by open_count (map rule_of entries.now) < 2 ^ 63 }
+    ensures { result ≡ sum_by open_count (map rule_of entries.now) }
+{
+    let mut count = 0;
+    for entry in entries {
+        count += entry.opens.len() as u64;
+    }
+    count
+}
+
+/// What a text comes to.
+fn outcome<L: Ledger>(
+    alloc: Global,
+    text: &[u8],
+    steps: &mut Steps<L>,
+) -> Result<Outcome, AllocError>
+    ensures { IfOk result (λ o. Audits text.now (outcome_view o)) }
+{
+    match read_audited(alloc, text, steps)? {
+        Err(refusal) => {
+            let outcome = refused(alloc, refusal)?;
+            Ok(outcome)
+        }
+        Ok(audited) => {
+            let entries = &audited.table().entries;
+            let lines = entries_report(alloc, entries.len() as u64, open_count(entries))?;
+            let outcome = prints(alloc, lines);
+            Ok(outcome)
+        }
+    }
+}
+
+impl command_runs::Command for Audit {
+    ghost use Rattle.audit_cli.specs.Audit.{AuditComesTo};
+
+    ghost takes = { 1 };
+
+    ghost comes = { λ _ texts o. AuditComesTo texts o };
+
+    fn compute<L: Ledger>(
+        &self,
+        alloc: Global,
+        texts: &[Vec<u8>],
+        steps: &mut Steps<L>,
+    ) -> Result<Outcome, AllocError> {
+        match texts {
+            [text] => {
+                let outcome = outcome(alloc, text, steps)?;
+                Ok(outcome)
+            }
+            _ => unreachable!(),
+        }
+    }
+}
