@@ -18,10 +18,7 @@ use table_audit::{AuditError, Audited, audit};
 
 /// The table of a text, or why it is none.
 #[tactic(auto, using(crate::proofs::StepLemmas::is_unlisted))]
-pub(crate) fn read_rules(
-    alloc: Global,
-    text: &[u8],
-) -> Result<Result<Table, Refusal>, AllocError>
+pub(crate) fn read_rules(alloc: Global, text: &[u8]) -> Result<Result<Table, Refusal>, AllocError>
     ensures { IfOk result (λ r. ReadsTable text.now (result_map_both table_of (λ e. e) r)) }
 {
     match read_table(alloc, text) {

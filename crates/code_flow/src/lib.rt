@@ -3,8 +3,6 @@
 
 mod finding;
 pub mod laws;
-#[cfg(test)]
-mod tests;
 mod way;
 
 pub use finding::ways;

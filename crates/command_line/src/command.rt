@@ -16,7 +16,9 @@ pub enum Command {
         base: u32,
     },
     /// Read and audit the table.
-    Audit { table: String },
+    Audit {
+        table: String,
+    },
     /// Keep the formula of an entry, counted from 1, as `cnf`, and its proof as `lrat`.
     Export {
         table: String,

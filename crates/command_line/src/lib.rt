@@ -72,4 +72,3 @@ pub fn usage_of(alloc: Global, words: &[String]) -> Result<Option<Command>, Memo
 pub fn words_ask_once()
     ensures { AskOnce }
 {}
-

@@ -146,11 +146,18 @@ fn a_state_that_tells(rt: HostRuntime) -> Result<(), Fail> {
 fn exports(rt: HostRuntime) -> Result<(), Fail> {
     let alloc = rt.alloc();
     let mut store = store_of(alloc, table(alloc, BYTE)?)?;
-    let text = printed(alloc, &mut store, &["export", "t", "1", "c", "l"], Status::Done)?;
+    let text = printed(
+        alloc,
+        &mut store,
+        &["export", "t", "1", "c", "l"],
+        Status::Done,
+    )?;
     assert!(rt; text.as_slice() == b"variables 43 clauses 22 lines 0\n".as_slice());
     let cnf = store.held("c").ok_or("formula")?;
     assert!(rt;
-        cnf.starts_with(b"p cnf 43 22\n-37 -1 0\n-37 -2 0\n37 1 2 0\n-38 -3 0\n-38 37 0\n38 3 -37 0\n")
+        cnf.starts_with(
+            b"p cnf 43 22\n-37 -1 0\n-37 -2 0\n37 1 2 0\n-38 -3 0\n-38 37 0\n38 3 -37 0\n"
+        )
     );
     assert!(rt; cnf.ends_with(b"\n0\n"));
     assert!(rt; store.held("l") == Some(b"".as_slice()));
@@ -165,12 +172,22 @@ fn exports(rt: HostRuntime) -> Result<(), Fail> {
     }
     let proved = b"entry\nleft movs r0, r0\nmask z\nproof\n99 0 98 0\n";
     let mut store = store_of(alloc, table(alloc, proved)?)?;
-    let text = printed(alloc, &mut store, &["export", "t", "1", "c", "l"], Status::Done)?;
+    let text = printed(
+        alloc,
+        &mut store,
+        &["export", "t", "1", "c", "l"],
+        Status::Done,
+    )?;
     assert!(rt; text.as_slice() == b"variables 68 clauses 98 lines 1\n".as_slice());
     assert!(rt; store.held("l") == Some(b"99 0 98 0\n".as_slice()));
     let unfit = b"entry\nleft mov r1, r1\nmask r1\nproof\n";
     let mut store = store_of(alloc, table(alloc, unfit)?)?;
-    let text = printed(alloc, &mut store, &["export", "t", "1", "c", "l"], Status::Refused)?;
+    let text = printed(
+        alloc,
+        &mut store,
+        &["export", "t", "1", "c", "l"],
+        Status::Refused,
+    )?;
     assert!(rt; text.as_slice() == b"refused entry 1 1\n".as_slice());
     Ok(())
 }

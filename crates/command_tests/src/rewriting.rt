@@ -171,7 +171,11 @@ fn refuses(rt: HostRuntime) -> Result<(), Fail> {
             b"refused entry 1 3\n",
         ),
         (b"end\n", b"?", b"refused table 72\n"),
-        (b"entry\nleft lsls r0, r0, #32\n", SUM, b"refused table 72\n"),
+        (
+            b"entry\nleft lsls r0, r0, #32\n",
+            SUM,
+            b"refused table 72\n",
+        ),
         (b"entry\n", SUM, b"refused table 72\n"),
         (b"states\n", SUM, b"refused table 71\n"),
     ];

@@ -12,8 +12,6 @@ mod print;
 mod sequences;
 mod states;
 mod stepping;
-#[cfg(test)]
-mod tests;
 
 pub use errors::Memory;
 pub use index::Index;

@@ -10,6 +10,8 @@ mod layouts;
 #[cfg(test)]
 mod listings;
 #[cfg(test)]
+mod live_items;
+#[cfg(test)]
 mod namings;
 #[cfg(test)]
 mod runs;
@@ -19,5 +21,7 @@ mod scanning;
 mod steps;
 #[cfg(test)]
 mod syntax;
+#[cfg(test)]
+mod ways;
 #[cfg(test)]
 mod words;

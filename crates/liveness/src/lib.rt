@@ -9,8 +9,6 @@ mod finding;
 mod passes;
 mod points;
 mod sets;
-#[cfg(test)]
-mod tests;
 
 pub use finding::live;
 pub use sets::Live;

@@ -10,6 +10,3 @@ mod proofs;
 pub use faults::ProofFault;
 pub use logs::is_spent;
 pub use proofs::check_proof;
-
-#[cfg(test)]
-mod tests;

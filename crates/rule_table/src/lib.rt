@@ -13,8 +13,6 @@ mod stages;
 mod table;
 mod tails;
 mod telling;
-#[cfg(test)]
-mod tests;
 mod windows;
 mod words;
 mod writing;

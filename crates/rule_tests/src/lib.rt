@@ -2,9 +2,15 @@
 #![tactic(auto)]
 
 #[cfg(test)]
+mod audits;
+#[cfg(test)]
 mod formulas;
 #[cfg(test)]
 mod gates;
+#[cfg(test)]
+mod logs;
+#[cfg(test)]
+mod prints;
 #[cfg(test)]
 mod proofs_checked;
 #[cfg(test)]
@@ -13,3 +19,5 @@ mod sequences;
 mod solving;
 #[cfg(test)]
 mod standings;
+#[cfg(test)]
+mod tables;

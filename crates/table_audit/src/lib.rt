@@ -8,8 +8,6 @@ mod opens;
 mod refutation;
 mod sides;
 mod states;
-#[cfg(test)]
-mod tests;
 mod told;
 mod trials;
 mod verdict;

@@ -1,6 +1,6 @@
 ghost use Rattle.thumb_model.specs.Rewrite.{AreOver};
 
-use super::*;
+use fingerprints::{Index, Lanes, States, print_of, seeded, step8};
 use seq_enum::{Pool, number_of};
 use std::test::Fail;
 use thumb_instr::items::{C, N, V, Z};

@@ -1,10 +1,10 @@
-use super::*;
 use fingerprints::seeded;
 use rule_table::{Table, read_table, write_table};
 use seq_enum::Pool;
 use std::alloc::Global;
 use std::test::Fail;
 use step_ledger::{Counted, Steps};
+use table_audit::{AuditError, EntryFault, audit, entry_formula, sides_fit};
 
 /// The text of a table with this seed in its header, the states of seed 42 and budget 1, without its entries and its last line.
 fn begun(alloc: Global, regs: u8, left: u8, seed: u32, pool: &[u8]) -> Result<Vec<u8>, Fail> {

@@ -1,6 +1,6 @@
-use crate::{ProofFault, check_proof, is_spent};
 use cnf_gates::Formula;
 use lrat_check::{Line, read_line};
+use proof_logs::{ProofFault, check_proof, is_spent};
 use std::alloc::Global;
 use std::test::Fail;
 use step_ledger::{Counted, Steps};

@@ -1,5 +1,5 @@
-use super::*;
 use ascii_scan::Lines;
+use rule_table::{Memory, TableError, canonical, matches, read_table, write_table};
 use std::alloc::{AllocError, Global};
 use std::test::Fail;
 use thumb_instr::{ByteOperation, Instr, Items, Low, Operation, Sum, Within};

@@ -1,5 +1,5 @@
-use crate::live;
 use listing_parser::parse;
+use liveness::live;
 use std::test::Fail;
 use step_ledger::{Counted, Steps};
 

@@ -1,4 +1,4 @@
-use crate::{Next, Way, Ways, ways};
+use code_flow::{Next, Way, ways};
 use listing_parser::parse;
 use std::test::Fail;
 use thumb_instr::Items;
