@@ -99,7 +99,7 @@ fn altered_tables(rt: HostRuntime) -> Result<(), Fail> {
             "",
             b"refused states 1\n",
         ),
-        ("left 2", "left 5", b"entries 1 open 0\n"),
+        ("left 2", "left 3", b"entries 1 open 0\n"),
         ("regs 2\nleft 2", "regs 4\nleft 4", b"refused wide "),
         ("regs 2", "regs 5", b"refused table 2\n"),
         ("left 2", "left 1", b"refused entry 1 1\n"),
