@@ -16,7 +16,7 @@ use Rattle.thumb_instr.proofs.Registers.{same_number, same_not_both_sp, widened_
 use Rattle.thumb_instr.proofs.RenamingLemmas.{named_renamed, named_low, window_renamed, low_number, reg_number}
 use Rattle.rule_table.specs.Canonical.{has, numbers_of}
 use Rattle.rule_table.proofs.Backs.{eight_at, windows_normal}
-use Rattle.rule_table.specs.Matching.{registers_in, eight, agrees, are_alike, first_at, or_first, given_for, of_window, Renames, Matches, IsMapOf, OneMap}
+use Rattle.rule_table.specs.Matching.{registers_in, eight, agrees, are_alike, first_at, or_first, given_for, kind_of, of_window, Renames, Matches, IsMapOf, OneMap}
 
 -- an instruction of windows has such a kind
 pub window_kind : (i : Instr) → is_in_window i ≡ true → of_window (parts_of i).kind ≡ true
@@ -32,6 +32,29 @@ window_kind (instr.Add r) w = refl
 window_kind (instr.Extend e d m) w = refl
 window_kind (instr.Reverse r d m) w = refl
 window_kind i w = absurd cc
+
+-- renaming keeps kinds
+kind_renamed : (r : List Low) (i : Instr) → kind_of (renamed r i) ≡ kind_of i
+kind_renamed r (instr.Mov d m) = refl
+kind_renamed r (instr.Three s d n m) = refl
+kind_renamed r (instr.Two o d m) = refl
+kind_renamed r (instr.Movs d m) = refl
+kind_renamed r (instr.ShiftLeft d m i) = refl
+kind_renamed r (instr.ShiftRight s d m i) = refl
+kind_renamed r (instr.ThreeNumber s d n i) = refl
+kind_renamed r (instr.TwoNumber o d i) = refl
+kind_renamed r (instr.Add x) = refl
+kind_renamed r (instr.Extend e d m) = refl
+kind_renamed r (instr.Reverse o d m) = refl
+kind_renamed r i = refl
+
+kinds_renamed : (r : List Low) (is : List Instr) → map kind_of is ≡ map kind_of (map (renamed r) is)
+kinds_renamed r [] = refl
+kinds_renamed r (i ∷ is) = ap (λ k. k ∷ map kind_of is) (sym (kind_renamed r i)) ∙ ap (λ ks. kind_of (renamed r i) ∷ ks) (kinds_renamed r is)
+
+-- a side and what it becomes are of the same kinds
+pub same_kinds : (left normal : List Instr) (registers : List Low) → Renames left normal registers → map kind_of left ≡ map kind_of normal
+same_kinds left normal registers m = kinds_renamed registers left ∙ ap (map kind_of) m.under
 
 -- ---- lists of numbers
 

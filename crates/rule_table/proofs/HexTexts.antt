@@ -23,6 +23,14 @@ unfolding hex_of
 length-hex zero w = refl
 length-hex (suc n) w = omega (arith, length-append (hex_of n (w / 16)) (hex_digit (w % 16) ∷ []), length-hex n (w / 16))
 
+-- the last digits of a number are those of its sixteenth, and one more
+pub hex_suc : (n w : ℕ) → 0 < n → hex_of n w ≡ hex_of (n - 1) (w / 16) ++ hex_digit (w % 16) ∷ []
+unfolding hex_of
+hex_suc zero w h = absurd (omega arith)
+hex_suc (suc n) w h =
+    let same : n ≡ suc n - 1 = omega arith in
+    ap (λ m. hex_of m (w / 16) ++ hex_digit (w % 16) ∷ []) same
+
 pub hex_more : (n w d : ℕ) → d < 16 → hex_of (suc n) (w * 16 + d) ≡ hex_of n w ++ hex_digit d ∷ []
 unfolding hex_of
 hex_more n w d h = rw (div-mul-add w 16 d h, mod-mul-add w 16 d h) refl

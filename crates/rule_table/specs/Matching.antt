@@ -5,6 +5,7 @@ use Rattle.std.proofs.Common.{lit≤, lit<}
 use Rattle.thumb_instr.specs.declared.instr.Instr.{Instr}
 use Rattle.thumb_instr.specs.declared.kind.Kind.{Kind}
 use Rattle.thumb_instr.specs.declared.kind.Kind.TheVariants as kind
+use Rattle.thumb_instr.specs.Parts.{parts_of}
 use Rattle.thumb_instr.specs.Window.{is_in_window, normal_of}
 use Rattle.thumb_instr.specs.Renaming.{Low, named, renamed, item_under}
 use Rattle.rule_table.specs.Canonical.{has}
@@ -63,6 +64,10 @@ unfoldable pub first_at : List Low → List Low → ℕ → Option Low
 first_at [] ws x = None
 first_at (l ∷ ls) [] x = None
 first_at (l ∷ ls) (w ∷ ws) x = if l.number == x then Some w else first_at ls ws x
+
+-- what an instruction is, without its registers and numbers
+abbrev pub kind_of : Instr → Kind
+kind_of i = (parts_of i).kind
 
 -- the register, or r0
 abbrev pub or_first : Option Low → Low

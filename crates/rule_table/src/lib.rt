@@ -1,4 +1,22 @@
-//! Tables of rules and their text.
+//! Tables of rules and their text. Each line ends with a newline; one blank stands between two words, numbers are decimal without leading
+//! zeros, instructions in canonical text over r0 to r3.
+//!
+//! ```text
+//! peep 1
+//! regs N                   1 to 4
+//! left N                   1 to 5
+//! seed N                   below 2^32
+//! budget N                 1 to 1,000,000
+//! pool N ..                1 to 16 numbers from 0 to 255, ascending
+//! state R0 R1 R2 R3 F      any number of them: eight hexadecimal digits each and one for the flags, in lower case
+//! entry                    any number of entries, each these lines:
+//! left INSTRUCTION         1 to 5
+//! right INSTRUCTION        0 to 5
+//! mask ITEM ..             some of r0 r1 r2 r3 n z c v, in this order
+//! proof                    with lines in LRAT behind it
+//! open NUMBER              any number of them, each number above the one before, with lines in LRAT behind each
+//! end
+//! ```
 #![tactic(auto)]
 
 mod errors;

@@ -4,7 +4,7 @@ ghost use Rattle.std.specs.List.{list_all};
 ghost use Rattle.thumb_instr.specs.Window.{is_in_window};
 ghost use Rattle.thumb_instr.specs.Renaming.{Low as LowRegister};
 ghost use Rattle.rule_table.specs.Canonical.{numbers_of};
-ghost use Rattle.rule_table.specs.Matching.{registers_in, eight, agrees, are_alike, first_at, or_first, given_for, of_window, Renames, Matches, IsMapOf};
+ghost use Rattle.rule_table.specs.Matching.{registers_in, eight, agrees, are_alike, first_at, or_first, given_for, kind_of, of_window, Renames, Matches, IsMapOf};
 
 use crate::map::Map;
 use crate::table::Entry;
@@ -39,6 +39,9 @@ fn map_of(left: &[Instr], normal: &[Instr]) -> Option<Map>
     requires few_normal { length normal.now ≤ 5 }
     ensures { MatchOption result ((registers : List LowRegister) → Renames left.now normal.now registers → ⊥) (λ m. (registers : List LowRegister) × Renames left.now normal.now registers × (m ≡ map (given_for (registers_in left.now) registers) eight)) }
 {
+    if !are_of_kinds(left, normal) {
+        return None;
+    }
     let names = names_in(left);
     let own = names_in(normal);
     if !are_alike(&names, &own) {
@@ -213,6 +216,30 @@ fn same_kind(a: Kind, b: Kind) -> bool
             _ => false,
         },
         _ => false,
+    }
+}
+
+/// Whether two instructions of windows are of one kind.
+fn is_of_kind(a: &Instr, b: &Instr) -> bool
+    requires { is_in_window a.now ≡ true }
+    ensures { IsTrue result ↔ (kind_of a.now ≡ kind_of b.now) }
+{
+    let one = parts(a);
+    let other = parts(b);
+    same_kind(one.kind, other.kind)
+}
+
+/// Whether two sequences of instructions of windows are of the same kinds.
+fn are_of_kinds(some: &[Instr], others: &[Instr]) -> bool
+    requires { list_all is_in_window some.now ≡ true }
+    ensures { IsTrue result ↔ (map kind_of some.now ≡ map kind_of others.now) }
+{
+    match some.split_first() {
+        None => others.is_empty(),
+        Some((first, some)) => match others.split_first() {
+            None => false,
+            Some((other, others)) => is_of_kind(first, other) && are_of_kinds(some, others),
+        },
     }
 }
 

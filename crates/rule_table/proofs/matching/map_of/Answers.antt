@@ -6,7 +6,7 @@ use Rattle.thumb_instr.specs.Window.{is_in_window}
 use Rattle.thumb_instr.specs.Renaming.{Low, renamed}
 use Rattle.rule_table.specs.Canonical.{numbers_of}
 use Rattle.rule_table.specs.Matching.{are_alike, first_at, or_first, given_for, eight, registers_in}
-use Rattle.rule_table.proofs.AlikeLemmas.{filled, unlike, found_renames, is_map, all_given, windows_renamed}
+use Rattle.rule_table.proofs.AlikeLemmas.{filled, same_kinds, unlike, found_renames, is_map, all_given, windows_renamed}
 use Rattle.rule_table.proofs.matching.map_of.Goals as goal
 
 -- what the test of the lists says of the registers that were gathered
@@ -20,6 +20,9 @@ made ls ws xs ys regs given left seq e f g h k =
     let first : given ≡ map (first_at ls ws) eight =
     g ∙ ap (λ (us : List Low). map (first_at us ys) eight) e ∙ ap (λ (us : List Low). map (first_at ls us) eight) f in
     k ∙ ap (λ (us : List Low). map (renamed us) left) (h ∙ ap (map or_first) first)
+
+pub returns-then-not-are_of_kinds : goal.returns-then-not-are_of_kinds
+returns-then-not-are_of_kinds c = λ registers m. false≢true (c.if-not-are_of_kinds.ensures.1 (same_kinds c.args.left.now c.args.normal.now registers m))
 
 pub returns-then-not-are_alike : goal.returns-then-not-are_alike
 returns-then-not-are_alike c = λ registers m.
