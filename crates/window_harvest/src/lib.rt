@@ -6,5 +6,7 @@ mod harvesting;
 mod keys;
 mod rows;
 mod runs;
+#[cfg(test)]
+mod tests;
 
 pub use harvesting::windows;
