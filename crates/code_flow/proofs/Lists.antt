@@ -1,6 +1,5 @@
 -- Unions of items as lists, and bit 8 of a list of nine bits.
 use Rattle.std.proofs.Common.{◌≡◌, ◌∙◌, ℕ, ◌/◌, ◌%◌, ◌<◌, ◌≤◌, ◌==◌, ◌&&◌, ◌||◌, not, Bool, true, false, List, [], ◌∷◌, ◌++◌, refl, sym, ap, arith}
-use Rattle.thumb_instr.specs.declared.items.Items.{Items}
 use Rattle.thumb_instr.specs.Items.{one_of, has, sp}
 use Rattle.thumb_instr.proofs.Listed.{one_of_append, one_of_filter}
 use Rattle.thumb_model.specs.Machine.{registers_left}

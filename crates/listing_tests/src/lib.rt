@@ -4,6 +4,8 @@
 #[cfg(test)]
 mod encodings;
 #[cfg(test)]
+mod harvests;
+#[cfg(test)]
 mod instructions;
 #[cfg(test)]
 mod layouts;

@@ -1,13 +1,12 @@
 -- Marking the code points.
-use Rattle.std.proofs.Common.{◌≡◌, ◌≢◌, ℕ, zero, suc, ◌+◌, ◌<◌, ◌≤◌, ◌==◌, ◌&&◌, ◌||◌, not, Bool, true, false, List, [], ◌∷◌, ◌++◌, length, drop, drop-cons, map, get_or, replicate, if◌then◌else◌, eq-eqb, ne_eqb, Option, Some, None, refl, sym, ap, ◌∙◌, inl, inr, arith, add-one, length-append, ◌↔◌}
+use Rattle.std.proofs.Common.{◌≡◌, ◌≢◌, ℕ, zero, suc, ◌+◌, ◌<◌, ◌==◌, ◌&&◌, ◌||◌, Bool, true, false, List, [], ◌∷◌, ◌++◌, length, drop, drop-cons, map, get_or, replicate, if◌then◌else◌, eq-eqb, ne_eqb, Option, Some, None, refl, sym, ap, ◌∙◌, inl, inr, arith, add-one, length-append}
 use Rattle.std.specs.Prelude.{slice_get, slice_set}
 use Rattle.std.proofs.lemmas.Bool.{cases_eq}
-use Rattle.std.proofs.lemmas.Option.{slice_get_past}
 use Rattle.listing_parser.specs.declared.line.Line.{Line as Lines}
 use Rattle.listing_parser.specs.Views.{line_view}
 use Rattle.thumb_instr.proofs.Listed.{one_of_append}
 use Rattle.thumb_model.specs.Items.{one_of}
-use Rattle.thumb_model.specs.Listing.{Name, Place, Label, Line, Code, is_op_place, is_call, labels_at, labels_from, places_in, places_of, label_places, return_places, IsPoint}
+use Rattle.thumb_model.specs.Listing.{Name, Place, Label, Line, Code, is_op_place, is_call, labels_at, labels_from, places_in, places_of, label_places, return_places}
 use Rattle.liveness.specs.Points.{is_true, marked, some_name, is_call_place, HasPoints}
 
 or_true : (c : Bool) → (c || true) ≡ true

@@ -1,5 +1,5 @@
 -- Sets that no visit changes are what is live by paths.
-use Rattle.std.proofs.Common.{◌≡◌, ℕ, zero, suc, ◌+◌, ◌<◌, ◌≤◌, ◌==◌, ◌&&◌, ◌||◌, not, Bool, true, false, List, [], ◌∷◌, length, Option, Some, None, refl, sym, ap, ◌∙◌, subst, ◌⊎◌, inl, inr, arith, ◌↔◌}
+use Rattle.std.proofs.Common.{◌≡◌, ℕ, zero, suc, ◌+◌, ◌<◌, ◌==◌, ◌&&◌, ◌||◌, not, Bool, true, false, List, [], ◌∷◌, length, Option, Some, None, refl, sym, ap, ◌∙◌, subst, ◌⊎◌, inl, inr, arith, ◌↔◌}
 use Rattle.std.specs.Prelude.{slice_get}
 use Rattle.std.proofs.lemmas.Option.{slice_get_past}
 use Rattle.std.proofs.lemmas.Bool.{cases_lt}
@@ -14,7 +14,7 @@ use Rattle.code_flow.specs.declared.way.Way.{Way}
 use Rattle.code_flow.specs.declared.way.Ways.{Ways}
 use Rattle.code_flow.specs.Flow.{way_list, next_of, IsWay, AreWays}
 use Rattle.liveness.specs.Ways.{AreAllWays}
-use Rattle.liveness.specs.Live.{set_at, Sets, IsLive}
+use Rattle.liveness.specs.Live.{set_at, IsLive}
 use Rattle.liveness.specs.Passes.{there, gained, led, AreSound, AreClosedFrom}
 
 pub or_cases : (a b : Bool) → (a || b) ≡ true → (a ≡ true) ⊎ (b ≡ true)

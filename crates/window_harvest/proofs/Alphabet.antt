@@ -15,7 +15,7 @@ unfolding words
 word_each letters zero zero w e = subst (Each (Contains letters)) (same_Some [] w e) tt
 word_each letters zero (suc i) w e = absurd (cc)
 word_each letters (suc n) i w e = words_parts letters n i w e (λ h j v x front at is.
-  subst (Each (Contains letters)) (sym is) (each_append (Contains letters) v (x ∷ []) (word_each letters n h v front) (in_contains letters x (j, at), tt)))
+    subst (Each (Contains letters)) (sym is) (each_append (Contains letters) v (x ∷ []) (word_each letters n h v front) (in_contains letters x (j, at), tt)))
 
 one_more : (letters : List Instr) (n : ℕ) (v : List Instr) (x : Instr) → In (words letters n) v → In letters x → In (words letters (suc n)) (v ++ x ∷ [])
 unfolding words

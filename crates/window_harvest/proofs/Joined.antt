@@ -361,13 +361,16 @@ span_fits (l ∷ ls) b c p low high i is e g t =
     by rec names (Runs j m) zero h t =
         let s = head_of (Op j m) (plain i) (take (length is) (places_of ls)) (map plain is) t.stands in
         let w = and_parts (is_in_window i) (list_all is_in_window is) t.letters in
-        let clear = (clear_parts low high (labels_at c names) (labels_from (c + 1) ls) t.free).1 in
-        (refl, is_letter i j m s.0 w.0, tail_fits ls (c + 1) high is (omega arith) (record {
-          stands = s.1;
-          letters = w.1;
-          free = from_clear low high (labels_from (c + 1) ls) (all_from (c + 1) (low + 1) ls (omega arith)) clear;
-          joined = ap (λ n. are_joined n ls) (let z : length is ≡ suc (length is) - 1 = omega arith in z) ∙ t.joined;
-        }))
+        let clear = (clear_parts low high (labels_at c names) (labels_from (c + 1) ls) t.free).1 in (
+          refl,
+          is_letter i j m s.0 w.0,
+          tail_fits ls (c + 1) high is (omega arith) (record {
+            stands = s.1;
+            letters = w.1;
+            free = from_clear low high (labels_from (c + 1) ls) (all_from (c + 1) (low + 1) ls (omega arith)) clear;
+            joined = ap (λ n. are_joined n ls) (let z : length is ≡ suc (length is) - 1 = omega arith in z) ∙ t.joined;
+          }),
+        )
     by rec names (Runs j m) (suc q) h t =
         let joined : are_joined_from (suc q - 1) (suc (length is)) ls ≡ true = rw (no_place q) at t.joined in
         rec true 1 q (omega arith) (record {

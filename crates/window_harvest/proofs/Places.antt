@@ -14,7 +14,7 @@ use Rattle.window_harvest.specs.Rows.{is_unlabelled, rows_of, stays_joined, rows
 use Rattle.window_harvest.specs.Runs.{letter_at, before, run}
 use Rattle.window_harvest.specs.Harvest.{Pair, Limits, spot_of, StandsThere, IsPairAt}
 use Rattle.window_harvest.specs.Keys.{key_eq, IsKey, AreSeen}
-use Rattle.window_harvest.specs.Looks.{AreOf}
+use Rattle.window_harvest.specs.LimitsOf.{AreOf}
 use Rattle.window_harvest.proofs.Joined.{run_window, window_in_run}
 
 length-take : {A : Type 0} (n : ℕ) (xs : List A) → n ≤ length xs → length (take n xs) ≡ n

@@ -3,4 +3,4 @@ pub mod Harvest
 pub mod Rows
 pub mod Runs
 pub mod Keys
-pub mod Looks
+pub mod LimitsOf

@@ -3,7 +3,7 @@ ghost use Rattle.std.specs.Prelude.{◌≡◌, ◌≤◌, ◌<◌, ◌^◌, [], 
 ghost use Rattle.thumb_model.specs.Listing.{Line};
 ghost use Rattle.window_harvest.specs.Harvest.{Pair, Spot, pair_of, StandsThere, IsPairAt, spots_at, AreAdded};
 ghost use Rattle.window_harvest.specs.Keys.{IsKey, AreSeen, IsPut};
-ghost use Rattle.window_harvest.specs.Looks.{limits_of, AreOf};
+ghost use Rattle.window_harvest.specs.LimitsOf.{limits_of, AreOf};
 
 use crate::keys::{Key, key_of};
 use crate::rows::Row;
@@ -17,20 +17,20 @@ use thumb_instr::{Instr, Items, Mask, Seq};
 
 /// How many registers and instructions a window has at most, and the numbers that it may have.
 #[derive(Clone, Copy)]
-pub struct Looked<'a> {
+pub struct Limits<'a> {
     pub regs: u8,
     pub left: u8,
     pub pool: &'a Pool,
 }
 
 /// The pair of a window after which these items are live, and its key.
-fn pair_at(looked: Looked<'_>, window: &[Instr], items: Items) -> Option<(Seq, Mask, Key)>
-    requires { looked.regs ≤ 4 }
-    ensures { (lines : List Line) (spot : Spot) → StandsThere lines spot window.now items.bits → MatchOption result ((pair : Pair) → IsPairAt (limits_of looked.entry) lines spot pair → ⊥) (λ f. IsPairAt (limits_of looked.entry) lines spot (pair_of (f.0, f.1)) × IsKey looked.entry.pool.now (pair_of (f.0, f.1)) f.2) }
+fn pair_at(limits: Limits<'_>, window: &[Instr], items: Items) -> Option<(Seq, Mask, Key)>
+    requires { limits.regs ≤ 4 }
+    ensures { (lines : List Line) (spot : Spot) → StandsThere lines spot window.now items.bits → MatchOption result ((pair : Pair) → IsPairAt (limits_of limits.entry) lines spot pair → ⊥) (λ f. IsPairAt (limits_of limits.entry) lines spot (pair_of (f.0, f.1)) × IsKey limits.entry.pool.now (pair_of (f.0, f.1)) f.2) }
 {
     match canonical(window, items) {
         None => None,
-        Some((seq, _, mask)) => match key_of(&seq, mask, looked.regs, looked.pool) {
+        Some((seq, _, mask)) => match key_of(&seq, mask, limits.regs, limits.pool) {
             None => None,
             Some(key) => Some((seq, mask, key)),
         },
@@ -57,14 +57,14 @@ fn add_pair(
 fn add_window(
     seen: &mut HashSet<Key>,
     pairs: &mut Vec<(Seq, Mask)>,
-    looked: Looked<'_>,
+    limits: Limits<'_>,
     window: &[Instr],
     items: Items,
 ) -> Result<(), Memory>
-    requires { looked.regs ≤ 4 }
-    ensures { OnOk result ((lines : List Line) (spot : Spot) → StandsThere lines spot window.now items.bits → AreSeen looked.entry.pool.now seen.old.keys (map pair_of pairs.old.items) → AreSeen looked.entry.pool.now seen.new.keys (map pair_of pairs.new.items) × AreAdded (limits_of looked.entry) lines (spot ∷ []) (map pair_of pairs.old.items) (map pair_of pairs.new.items)) }
+    requires { limits.regs ≤ 4 }
+    ensures { OnOk result ((lines : List Line) (spot : Spot) → StandsThere lines spot window.now items.bits → AreSeen limits.entry.pool.now seen.old.keys (map pair_of pairs.old.items) → AreSeen limits.entry.pool.now seen.new.keys (map pair_of pairs.new.items) × AreAdded (limits_of limits.entry) lines (spot ∷ []) (map pair_of pairs.old.items) (map pair_of pairs.new.items)) }
 {
-    match pair_at(looked, window, items) {
+    match pair_at(limits, window, items) {
         None => Ok(()),
         Some((seq, mask, key)) => add_pair(seen, pairs, seq, mask, key),
     }
@@ -74,22 +74,22 @@ fn add_window(
 pub fn add_place(
     seen: &mut HashSet<Key>,
     pairs: &mut Vec<(Seq, Mask)>,
-    looked: Looked<'_>,
+    limits: Limits<'_>,
     rows: &[Row],
     live: &Live,
     place: u32,
 ) -> Result<(), Memory>
-    requires regs { looked.regs ≤ 4 }
-    requires left { looked.left ≤ 5 }
+    requires regs { limits.regs ≤ 4 }
+    requires left { limits.left ≤ 5 }
     requires rows { length rows.now ≡ length live.now.after }
     requires few { length rows.now < 2 ^ 32 }
     requires place { place < length rows.now }
-    ensures { OnOk result ((lines : List Line) → AreOf lines rows.now live.now → AreSeen looked.entry.pool.now seen.old.keys (map pair_of pairs.old.items) → AreSeen looked.entry.pool.now seen.new.keys (map pair_of pairs.new.items) × AreAdded (limits_of looked.entry) lines (spots_at looked.entry.left place) (map pair_of pairs.old.items) (map pair_of pairs.new.items)) }
+    ensures { OnOk result ((lines : List Line) → AreOf lines rows.now live.now → AreSeen limits.entry.pool.now seen.old.keys (map pair_of pairs.old.items) → AreSeen limits.entry.pool.now seen.new.keys (map pair_of pairs.new.items) × AreAdded (limits_of limits.entry) lines (spots_at limits.entry.left place) (map pair_of pairs.old.items) (map pair_of pairs.new.items)) }
 {
-    let run = run(rows, place as usize, usize::from(looked.left));
+    let run = run(rows, place as usize, usize::from(limits.left));
     for last in 0..run.len() {
         let items = live.after(place + last as u32);
-        add_window(seen, pairs, looked, &run.as_slice()[..last + 1], items)?;
+        add_window(seen, pairs, limits, &run.as_slice()[..last + 1], items)?;
     }
     Ok(())
 }

@@ -3,7 +3,7 @@ ghost use Rattle.thumb_model.specs.Listing.{code_of};
 ghost use Rattle.liveness.specs.Live.{IsLive};
 ghost use Rattle.window_harvest.specs.Harvest.{AreHarvest, pair_of};
 
-use crate::adding::{Looked, add_place};
+use crate::adding::{Limits, add_place};
 use crate::rows::rows;
 use listing_parser::{Listing, Memory};
 use liveness::Live;
@@ -28,12 +28,12 @@ pub fn windows(
     requires left { left ≤ 5 }
     ensures { IfOk result (λ pairs. AreHarvest (record { regs = regs; left = left; pool = pool.now }) listing.now (map pair_of pairs.items)) }
 {
-    let looked = Looked { regs, left, pool };
+    let limits = Limits { regs, left, pool };
     let rows = rows(alloc, listing.lines())?;
     let mut seen = HashSet::new(alloc);
     let mut pairs = Vec::new(alloc);
     for place in 0..listing.place_count() {
-        add_place(&mut seen, &mut pairs, looked, &rows, live, place)?;
+        add_place(&mut seen, &mut pairs, limits, &rows, live, place)?;
     }
     Ok(pairs)
 }

@@ -11,7 +11,13 @@ fn letter_at(rows: &[Row], at: usize, begins: bool) -> Option<Instr>
 {
     match rows.get(at) {
         None => None,
-        Some(row) => { if begins || row.is_joined { row.letter } else { None } }
+        Some(row) => {
+            if begins || row.is_joined {
+                row.letter
+            } else {
+                None
+            }
+        }
     }
 }
 

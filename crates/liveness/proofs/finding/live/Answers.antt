@@ -4,7 +4,6 @@ use Rattle.thumb_instr.specs.declared.items.Items.{Items}
 use Rattle.code_flow.specs.declared.way.Ways.{Ways}
 use Rattle.thumb_model.specs.Listing.{code_of, places_of}
 use Rattle.liveness.specs.Live.{IsLive}
-use Rattle.liveness.specs.Ways.{AreAllWays}
 use Rattle.liveness.specs.Passes.{AreClosedFrom}
 use Rattle.liveness.proofs.Paths.{finished_live}
 use Rattle.liveness.proofs.Visits.{written_back}

@@ -6,7 +6,7 @@ use Rattle.window_harvest.specs.declared.rows.Row.{Row}
 use Rattle.window_harvest.specs.Rows.{rows_from}
 use Rattle.window_harvest.specs.Harvest.{Pair, pair_of, spots, AreAdded}
 use Rattle.window_harvest.specs.Keys.{AreSeen}
-use Rattle.window_harvest.specs.Looks.{AreOf}
+use Rattle.window_harvest.specs.LimitsOf.{AreOf}
 use Rattle.window_harvest.proofs.Added.{places_none, places_more}
 use Rattle.window_harvest.proofs.Places.{rows_length, none_seen}
 use Rattle.window_harvest.proofs.harvesting.windows.Goals as goal

@@ -21,8 +21,7 @@ returns-in-None c = λ l.
 pub returns-in-Some : goal.returns-in-Some
 returns-in-Some c =
     let count : c.register_count-count.result ≡ register_count c.args.seq.now = c.register_count-count.ensures.value ∙ ap register_count c.as_slice.ensures.value in
-    let place : IsPlace (Some c.in-Some.number) (sequences c.register_count-count.result c.args.pool.now) c.args.seq.now = c.in-Some.ensures in
-    (
+    let place : IsPlace (Some c.in-Some.number) (sequences c.register_count-count.result c.args.pool.now) c.args.seq.now = c.in-Some.ensures in (
       record {
         few = omega (arith, count, c.if-count-from.false, c.from.ensures);
         over = subst (λ k. IsOver k c.args.pool.now c.args.seq.now) count (number_over c.register_count-count.result c.args.pool.now c.in-Some.number c.args.seq.now (place.stands c.in-Some.number refl));

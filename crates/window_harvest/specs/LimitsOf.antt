@@ -1,13 +1,13 @@
--- What windows are looked for, and where.
+-- The limits and the places of windows as the code holds them.
 use Rattle.std.specs.Prelude.{◌≡◌, false, List}
 use Rattle.thumb_model.specs.Listing.{Line, code_of}
 use Rattle.liveness.specs.Live.{Sets, IsLive}
-use Rattle.window_harvest.specs.declared.adding.Looked.{Looked}
+use Rattle.window_harvest.specs.declared.adding.Limits.{Limits as CodeLimits}
 use Rattle.window_harvest.specs.declared.rows.Row.{Row}
 use Rattle.window_harvest.specs.Rows.{rows_from}
 use Rattle.window_harvest.specs.Harvest.{Limits}
 
-abbrev pub limits_of : Looked → Limits
+abbrev pub limits_of : CodeLimits → Limits
 limits_of l = record { regs = l.regs; left = l.left; pool = l.pool.now }
 
 -- the rows and the sets of live items are those of the lines
