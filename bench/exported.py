@@ -1,9 +1,9 @@
 #!/usr/bin/env python3
 """Takes rules of every kind of instruction to a solver that is not ours and back.
 
-Usage: python3 bench/exported.py FOLDER
+Usage: python3 bench/exported.py FOLDER [TABLE]
 
-FOLDER lies outside the repository. For each rule `peep export` writes the formula that its sides
+FOLDER lies outside the repository. TABLE gets the text of one table of all rules, with their proofs. For each rule `peep export` writes the formula that its sides
 differ; CaDiCaL has to refute it. Its proof, turned into lines with hints, is put into the table's
 text, which `peep audit` has to accept; and with one literal or one hint damaged it has to refuse
 just what a second checker refuses, at the same line.
@@ -50,19 +50,23 @@ RULES = [
 ]
 
 
-def table(rule, lines):
-    """The text of a table of one rule with the lines of its proof, over the states of the shipped table."""
+def entry(rule, lines):
+    """The lines of an entry, with those of its proof."""
+    left, right, mask = rule
+    sides = [f"left {instr}" for instr in left.split("; ")]
+    sides += [f"right {instr}" for instr in right.split("; ") if instr]
+    return ["entry", *sides, f"mask {mask}", "proof", *lines]
+
+
+def table(entries):
+    """The text of a table of entries, over the states of the shipped table."""
     states = [
         line
         for line in (TOP / "examples" / "moves.peep").read_text().splitlines()
         if line.startswith("state ")
     ]
-    left, right, mask = rule
-    sides = [f"left {instr}" for instr in left.split("; ")]
-    sides += [f"right {instr}" for instr in right.split("; ") if instr]
     head = ["peep 1", "regs 2", "left 2", "seed 42", "budget 1", "pool 1 2 3 24 255"]
-    entry = ["entry", *sides, f"mask {mask}", "proof", *lines]
-    return "\n".join([*head, *states, *entry, "end"]) + "\n"
+    return "\n".join([*head, *states, *sum(entries, []), "end"]) + "\n"
 
 
 def first_refused(clauses, lines):
@@ -87,16 +91,19 @@ def main():
     folder.mkdir(parents=True, exist_ok=True)
     draw = random.Random(1)
     failed, proved, refused, same = 0, 0, 0, 0
+    entries = []
     for rule in RULES:
         held, cnf, lrat = folder / "table", folder / "formula.cnf", folder / "proof.lrat"
-        held.write_text(table(rule, []))
+        held.write_text(table([entry(rule, [])]))
         status, printed = peep("export", held, 1, cnf, lrat)
         if status != 0:
             print(f"{rule}: {printed}")
             failed += 1
             continue
         clauses, lines = proof(cnf, folder)
-        held.write_text(table(rule, [text(line) for line in lines]))
+        whole = entry(rule, [text(line) for line in lines])
+        entries.append(whole)
+        held.write_text(table([whole]))
         status, printed = peep("audit", held)
         if (status, printed) != (0, "entries 1 open 0\n"):
             print(f"{rule}: {printed}")
@@ -109,7 +116,7 @@ def main():
             for changed in damaged(lines[place], draw):
                 whole = [*lines[:place], changed, *lines[place + 1 :]]
                 due = first_refused(clauses, whole)
-                held.write_text(table(rule, [text(line) for line in whole]))
+                held.write_text(table([entry(rule, [text(line) for line in whole])]))
                 status, printed = peep("audit", held)
                 want = "entries 1 open 0\n" if due is None else f"refused entry 1 {due}\n"
                 same += printed == want
@@ -118,6 +125,8 @@ def main():
                     print(f"{rule}, line {place + 1} as {changed}: {printed.strip()}, not {want.strip()}")
                     failed += 1
     print(f"{len(RULES)} rules: {proved} refuted and accepted; {same} damaged proofs judged alike, {refused} of them refused")
+    if len(sys.argv) > 2:
+        pathlib.Path(sys.argv[2]).write_text(table(entries))
     sys.exit(failed != 0)
 
 
