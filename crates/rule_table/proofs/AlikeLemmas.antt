@@ -1,22 +1,21 @@
 -- Registers of one list in place of those of another.
-use Rattle.std.proofs.Common.{◌≡◌, ◌∙◌, ℕ, zero, suc, ◌<◌, ◌==◌, ◌&&◌, ◌||◌, Bool, true, false, List, [], ◌∷◌, ◌++◌, length, map, refl, sym, ap, subst, arith, Option, Some, None, inl, inr, eqb-true, eq-eqb, cond, slice_get, true≢false}
-use Rattle.std.specs.Prelude.{not, unwrap_or, nat_lt}
-use Rattle.std.specs.List.{flat_map, list_all}
+use Rattle.std.proofs.Common.{◌≡◌, ◌∙◌, ℕ, zero, suc, ◌<◌, ◌==◌, ◌||◌, Bool, true, false, List, [], ◌∷◌, ◌++◌, length, map, refl, sym, ap, subst, arith, Option, Some, None, eqb-true, eq-eqb, cond, slice_get, true≢false}
+use Rattle.std.specs.Prelude.{not, nat_lt}
+use Rattle.std.specs.List.{list_all}
 use Rattle.std.specs.Option.{option_map}
 use Rattle.std.proofs.lemmas.Bool.{and_parts, and_from, ne_eqb, ltb-false}
 use Rattle.std.proofs.lemmas.List.{map-append}
-use Rattle.std.proofs.lemmas.List.Folds.{list_any-append}
 use Rattle.std.proofs.lemmas.Option.{slice_get-map, slice_get_past}
 use Rattle.thumb_instr.specs.declared.instr.Instr.{Instr}
 use Rattle.thumb_instr.specs.declared.instr.Instr.TheVariants as instr
-use Rattle.thumb_instr.specs.Window.{is_in_window, normal_of}
+use Rattle.thumb_instr.specs.Window.{is_in_window}
 use Rattle.thumb_instr.specs.Parts.{parts_of}
 use Rattle.thumb_instr.specs.Renaming.{Low, Reg, named, renamed, AreBelow, low_under, reg_under, both_under, wide_or, number_or, item_under}
-use Rattle.thumb_instr.proofs.Registers.{same_number, same_not_both_sp, widened_number}
+use Rattle.thumb_instr.proofs.Registers.{same_number, same_not_both_sp}
 use Rattle.thumb_instr.proofs.RenamingLemmas.{named_renamed, named_low, window_renamed, low_number, reg_number}
 use Rattle.rule_table.specs.Canonical.{has, numbers_of}
 use Rattle.rule_table.proofs.Backs.{eight_at, windows_normal}
-use Rattle.rule_table.specs.Matching.{registers_in, eight, agrees, are_alike, first_at, or_first, given_for, kind_of, of_window, Renames, Matches, IsMapOf, OneMap}
+use Rattle.rule_table.specs.Matching.{registers_in, eight, agrees, are_alike, first_at, or_first, given_for, kind_of, of_window, Renames, Matches, OneMap}
 
 -- an instruction of windows has such a kind
 pub window_kind : (i : Instr) → is_in_window i ≡ true → of_window (parts_of i).kind ≡ true

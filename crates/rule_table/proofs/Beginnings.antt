@@ -1,8 +1,7 @@
 -- Lines that can be read so far begin a table, and only those do.
-use Rattle.std.proofs.Common.{◌≡◌, ℕ, suc, ◌+◌, ◌<◌, ◌≤◌, ◌^◌, ◌&&◌, Bool, true, false, List, [], ◌∷◌, ◌++◌, length, map, nat_le, nat_lt, refl, sym, ◌∙◌, ap, arith, Option, Some, None, append_assoc, append-nil, length-append, lt-ltb, le-leb, ltb-true, leb-true, subst}
-use Rattle.std.specs.Option.{option_and_then}
+use Rattle.std.proofs.Common.{◌≡◌, ℕ, suc, ◌<◌, ◌≤◌, ◌^◌, ◌&&◌, Bool, true, false, List, [], ◌∷◌, ◌++◌, length, map, nat_le, nat_lt, refl, sym, ◌∙◌, ap, arith, Some, append_assoc, append-nil, length-append, lt-ltb, le-leb, ltb-true, subst}
 use Rattle.std.specs.List.{flat_map, All}
-use Rattle.std.proofs.lemmas.Bool.{and_parts, and_from}
+use Rattle.std.proofs.lemmas.Bool.{and_parts}
 use Rattle.std.proofs.lemmas.Nat.Bits.{bit_at-zero}
 use Rattle.std.specs.Prelude.{◌==◌}
 use Rattle.std.proofs.lemmas.Option.{cond_some, same_Some, option_and_then_some}
@@ -14,12 +13,10 @@ use Rattle.seq_enum.specs.Pools.{is_pool}
 use Rattle.thumb_instr.specs.declared.instr.Instr.{Instr}
 use Rattle.thumb_instr.specs.declared.instr.Instr.TheVariants as instr
 use Rattle.thumb_instr.specs.declared.within.Within.{Within}
-use Rattle.thumb_instr.specs.Window.{is_in_window}
-use Rattle.thumb_instr.specs.Renaming.{named, AreBelow}
 use Rattle.lrat_check.specs.Content.{Content}
 use Rattle.lrat_check.specs.Text.{IsLine}
 use Rattle.rule_table.specs.Table.{Opened, Rule, Table}
-use Rattle.rule_table.specs.Text.{Item, Version, Regs, Longest, Seed, Budget, Pool, State, Entry, Left, Right, Mask, Proof, Logged, Open, End, open_items, rule_items, header_items, items_of}
+use Rattle.rule_table.specs.Text.{Item, Version, Regs, Longest, Seed, Budget, Pool, State, Entry, Left, Right, Mask, Proof, Logged, Open, End, rule_items, header_items, items_of}
 use Rattle.rule_table.specs.Valid.{IsState, IsInstr, IsMask, IsOpened, IsRule, IsTable, numbers_of}
 use Rattle.rule_table.specs.Items.{IsItem}
 use Rattle.rule_table.specs.Grammar.{Stage, Start, Versioned, HasRegs, HasLeft, HasSeed, HasBudget, Stated, Sided, Masked, Proved, Opening, Done, with_state, with_rule, with_opened, is_empty, step, run}

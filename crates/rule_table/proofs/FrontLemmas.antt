@@ -1,10 +1,9 @@
 -- What a line begins with is determined by the line.
-use Rattle.std.proofs.Common.{◌≡◌, ℕ, ◌+◌, ◌<◌, ◌≤◌, ◌^◌, ◌==◌, Bool, true, false, List, [], ◌∷◌, ◌++◌, length, take, drop, map, refl, sym, ◌∙◌, ap, arith, Option, Some, None, eqb-true, eq-eqb, cond, append-nil, inl, inr, true≢false}
-use Rattle.std.specs.Prelude.{MatchOption, option_map, ◌≢◌, decimal}
+use Rattle.std.proofs.Common.{◌≡◌, ℕ, ◌==◌, List, [], ◌∷◌, ◌++◌, refl, sym, ◌∙◌, ap, Option, Some, None, eqb-true, eq-eqb, inl, inr}
+use Rattle.std.specs.Prelude.{MatchOption, option_map, ◌≢◌}
 use Rattle.std.specs.Borrow.{Bor}
 use Rattle.std.specs.Char.{is_ascii_digit}
-use Rattle.std.specs.Str.{all_ascii_digits}
-use Rattle.std.proofs.lemmas.Bool.{cases_Bool, and_parts}
+use Rattle.std.proofs.lemmas.Bool.{cases_Bool}
 use Rattle.std.proofs.lemmas.Option.{same_Some}
 use Rattle.rule_table.specs.declared.words.Word.{Word}
 use Rattle.rule_table.specs.declared.words.Word.TheVariants as word

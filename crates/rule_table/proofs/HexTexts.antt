@@ -1,11 +1,10 @@
 -- Hexadecimal digits tell their number.
-use Rattle.std.proofs.Common.{◌≡◌, ℕ, zero, suc, ◌+◌, ◌*◌, ◌/◌, ◌%◌, ◌<◌, ◌≤◌, ◌^◌, Bool, true, false, List, [], ◌∷◌, ◌++◌, length, map, get_or, take, drop, refl, sym, ◌∙◌, ap, arith, add-one, length-append, Option, Some, None, is_some, append_assoc}
-use Rattle.std.specs.Prelude.{nat_lt, nat_le, ◌-◌, if◌then◌else◌, ◌&&◌, IfSome, IsSome}
+use Rattle.std.proofs.Common.{◌≡◌, ℕ, zero, suc, ◌+◌, ◌*◌, ◌/◌, ◌%◌, ◌<◌, ◌^◌, Bool, true, false, List, [], ◌∷◌, ◌++◌, length, map, get_or, take, drop, refl, sym, ◌∙◌, ap, arith, add-one, length-append, Some, None, is_some, append_assoc}
+use Rattle.std.specs.Prelude.{◌-◌}
 use Rattle.std.specs.List.{list_all, All}
 use Rattle.std.proofs.Math.Seq.{take-suc, take-append_seam, drop-append_seam}
 use Rattle.std.proofs.Math.Nat.{pow-suc, pow-zero}
-use Rattle.std.proofs.lemmas.Nat.{div-mul-add, mod-mul-add, mod_below, mul-add-lt}
-use Rattle.std.proofs.lemmas.Bool.{and_parts}
+use Rattle.std.proofs.lemmas.Nat.{div-mul-add, mod-mul-add, mod_below}
 use Rattle.std.proofs.lemmas.List.Folds.{list_all-append, list_all_at}
 use Rattle.std.proofs.lemmas.List.Elements.{All-head, All-tail}
 use Rattle.rule_table.specs.Text.{hex_digit, hex_of, after_blanks}

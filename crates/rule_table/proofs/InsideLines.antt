@@ -1,14 +1,14 @@
 -- No newline stands inside a line.
-use Rattle.std.proofs.Common.{◌≡◌, ℕ, ℤ, pos, negsuc, zero, suc, ◌+◌, ◌*◌, ◌%◌, ◌/◌, ◌<◌, ◌≤◌, ◌^◌, ◌==◌, ◌&&◌, Bool, true, false, List, [], ◌∷◌, ◌++◌, length, map, refl, sym, ◌∙◌, ap, arith, subst, cond, w64, Option, Some, None, inl, inr, true≢false, get_or}
-use Rattle.std.specs.Prelude.{not, codes, decimal, nat_lt, nat_le, FitsSigned}
+use Rattle.std.proofs.Common.{◌≡◌, ℕ, ℤ, pos, negsuc, zero, suc, ◌%◌, ◌/◌, ◌<◌, ◌^◌, ◌&&◌, Bool, true, false, List, [], ◌∷◌, ◌++◌, length, map, refl, ◌∙◌, ap, arith, cond, w64}
+use Rattle.std.specs.Prelude.{decimal, nat_lt, nat_le, FitsSigned}
 use Rattle.std.specs.Fmt.{signed_decimal}
-use Rattle.std.specs.List.{flat_map, list_all, join_with_byte, All}
+use Rattle.std.specs.List.{list_all, join_with_byte, All}
 use Rattle.std.specs.Char.{is_ascii_digit}
 use Rattle.std.specs.Str.{all_ascii_digits}
 use Rattle.std.specs.Str.Parse.{digits_value}
 use Rattle.std.proofs.lemmas.Str.Parse.{IsNumeralModel, numerals_by_value, tells_all_ascii_digits}
 use Rattle.std.proofs.lemmas.Fmt.{digits_decimal, decimal_nonempty}
-use Rattle.std.proofs.lemmas.Bool.{cases_Bool, and_parts, and_from, leb-true}
+use Rattle.std.proofs.lemmas.Bool.{and_parts, and_from}
 use Rattle.std.proofs.lemmas.Nat.{mod_below}
 use Rattle.std.proofs.lemmas.List.Folds.{list_all-append}
 use Rattle.std.proofs.lemmas.List.Elements.{All-nil, All-cons, All-head, All-tail, All-append, All-map, All-weaker}
@@ -19,9 +19,9 @@ use Rattle.clause_model.specs.Literals.{number_of}
 use Rattle.lrat_check.specs.Content.{Content, addition, deletion}
 use Rattle.lrat_check.specs.Numbers.{IsId, IsHint}
 use Rattle.lrat_check.specs.Text.{IsLine, HasGoodParts, id_of, middle_of, words_of, literal_text, end_word, deletion_word, text_of as text_of_line}
-use Rattle.lrat_check.proofs.Numerals.{id_fits, hint_fits, literal_fits}
+use Rattle.lrat_check.proofs.Numerals.{hint_fits, literal_fits}
 use Rattle.fingerprints.specs.Seeded.{Seen}
-use Rattle.rule_table.specs.Text.{hex_digit, hex_of, after_blanks, named, instr_text, line_of}
+use Rattle.rule_table.specs.Text.{hex_digit, hex_of, after_blanks, named}
 
 abbrev pub IsInside : List ℕ → Type 0
 IsInside bs = list_all is_inside bs ≡ true

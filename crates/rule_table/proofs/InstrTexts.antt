@@ -1,9 +1,9 @@
 -- The texts of instructions of windows: they begin with a letter, have no newline, and tell the instruction.
-use Rattle.std.proofs.Common.{◌≡◌, ℕ, ◌*◌, ◌<◌, ◌≤◌, ◌^◌, ◌==◌, ◌&&◌, Bool, true, false, List, [], ◌∷◌, ◌++◌, refl, sym, ◌∙◌, ap, arith, cond, Option, Some, None, inl, inr, eqb-true, map, lt-ltb}
-use Rattle.std.specs.Prelude.{codes, decimal, nat_lt, nat_le, if◌then◌else◌}
+use Rattle.std.proofs.Common.{◌≡◌, ℕ, ◌*◌, ◌<◌, ◌^◌, ◌==◌, Bool, true, false, List, [], ◌∷◌, ◌++◌, refl, sym, ◌∙◌, ap, arith, Option, Some, None, inl, inr, eqb-true, map, lt-ltb}
+use Rattle.std.specs.Prelude.{decimal, nat_lt, if◌then◌else◌}
 use Rattle.std.specs.List.{list_all}
 use Rattle.std.specs.Char.{is_ascii_digit}
-use Rattle.std.proofs.lemmas.Bool.{cases_Bool, and_parts, and_from, leb-true, ltb-true}
+use Rattle.std.proofs.lemmas.Bool.{cases_Bool, and_parts, and_from, ltb-true}
 use Rattle.std.proofs.lemmas.Option.{same_Some}
 use Rattle.ascii_scan.specs.FirstLine.{is_inside}
 use Rattle.thumb_instr.specs.declared.instr.Instr.{Instr}
@@ -30,7 +30,7 @@ use Rattle.thumb_syntax.specs.declared.form.Slot.TheVariants as slot
 use Rattle.thumb_syntax.specs.Slots.{Fields, at}
 use Rattle.thumb_syntax.specs.Rows.{Shown, reading}
 use Rattle.thumb_syntax.specs.Canonical.{mnemonic, slots}
-use Rattle.thumb_syntax.specs.Spelling.{register_text, number_text, mark_text, slot_text, slots_text, operands_text, text_of}
+use Rattle.thumb_syntax.specs.Spelling.{register_text, number_text, slot_text, slots_text, operands_text}
 use Rattle.thumb_syntax.specs.Whole.{is_whole, shown_with}
 use Rattle.thumb_syntax.proofs.RoundTrip.{writing_reads_back}
 use Rattle.rule_table.specs.Text.{instr_text}

@@ -1,25 +1,22 @@
 -- A line tells what it says.
-use Rattle.std.proofs.Common.{◌≡◌, ℕ, ◌<◌, ◌≤◌, ◌^◌, Bool, true, false, List, [], ◌∷◌, ◌++◌, length, map, refl, sym, ◌∙◌, ap, arith, Option, Some, None, true≢false}
+use Rattle.std.proofs.Common.{◌≡◌, ℕ, ◌<◌, ◌^◌, true, List, [], ◌∷◌, ◌++◌, map, refl, sym, ◌∙◌, ap, arith, Some, true≢false}
 use Rattle.std.specs.Prelude.{decimal, codes}
 use Rattle.std.specs.Char.{is_ascii_digit}
-use Rattle.std.specs.List.{list_all, All, flat_map}
+use Rattle.std.specs.List.{list_all, flat_map}
 use Rattle.std.proofs.lemmas.Bool.{and_parts}
 use Rattle.std.proofs.lemmas.Fmt.{decimal_injective}
-use Rattle.std.proofs.lemmas.Option.{same_Some}
 use Rattle.ascii_scan.specs.FirstLine.{is_inside}
-use Rattle.lrat_check.specs.Content.{Content}
-use Rattle.lrat_check.specs.Text.{IsLine, text_of as text_of_line}
+use Rattle.lrat_check.specs.Text.{text_of as text_of_line}
 use Rattle.lrat_check.proofs.Outcomes.{text_of-injective}
 use Rattle.fingerprints.specs.Seeded.{Seen}
-use Rattle.rule_table.specs.declared.words.Word.{Word}
 use Rattle.rule_table.specs.declared.words.Word.TheVariants as word
 use Rattle.rule_table.specs.Text.{Item, Version, Regs, Longest, Seed, Budget, Pool, State, Entry, Left, Right, Mask, Proof, Logged, Open, End, line_of, instr_text, after_blanks, hex_of, mask_text, mask_rows, named}
-use Rattle.rule_table.specs.Valid.{IsState, IsInstr, IsMask}
+use Rattle.rule_table.specs.Valid.{IsState, IsInstr}
 use Rattle.rule_table.specs.Items.{IsItem}
-use Rattle.rule_table.specs.Fronts.{words, word_text, front_in, front, word_of, tail_of}
+use Rattle.rule_table.specs.Fronts.{words, front, word_of, tail_of}
 use Rattle.rule_table.proofs.FrontLemmas.{same_pair}
 use Rattle.rule_table.proofs.InsideLines.{IsInside, inside_both, decimal_inside, logged_inside, state_inside, pool_inside, named_inside, Digital, decimal_digital, logged_digital}
-use Rattle.rule_table.proofs.InstrTexts.{instr_inside, instr_tells, Lettered, instr_lettered}
+use Rattle.rule_table.proofs.InstrTexts.{instr_inside, instr_tells, instr_lettered}
 use Rattle.rule_table.proofs.MaskTexts.{mask_tells}
 use Rattle.rule_table.proofs.HexTexts.{state_tells}
 use Rattle.rule_table.proofs.PoolTexts.{pools_tell}

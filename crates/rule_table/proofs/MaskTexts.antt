@@ -1,16 +1,16 @@
 -- The items of masks in their texts.
-use Rattle.std.proofs.Common.{◌≡◌, ℕ, zero, suc, ◌+◌, ◌<◌, ◌≤◌, ◌==◌, ◌&&◌, ◌||◌, Bool, true, false, List, [], ◌∷◌, ◌++◌, length, map, refl, sym, ◌∙◌, ap, arith, cond, Option, Some, None, inl, inr, eqb-true, eq-eqb, append_assoc, append-nil, leb-true, nat_le}
+use Rattle.std.proofs.Common.{◌≡◌, ℕ, zero, suc, ◌<◌, ◌≤◌, ◌==◌, ◌&&◌, ◌||◌, Bool, true, false, List, [], ◌∷◌, ◌++◌, length, map, refl, sym, ◌∙◌, ap, arith, cond, Option, Some, None, inl, inr, eqb-true, eq-eqb, append_assoc, append-nil, leb-true, nat_le}
 use Rattle.std.specs.Prelude.{nat_lt}
 use Rattle.std.specs.List.{flat_map, list_all}
 use Rattle.std.specs.Int.{bit_at}
-use Rattle.std.proofs.lemmas.Bool.{cases_Bool, and_parts, and_from, ne_eqb}
+use Rattle.std.proofs.lemmas.Bool.{cases_Bool, and_parts, ne_eqb}
 use Rattle.std.proofs.lemmas.Bool.Decides.{nat_tests}
 use Rattle.std.proofs.lemmas.Nat.Bits.{same_from_bits, bit_at-lt}
 use Rattle.seq_enum.specs.Lists.{ascends_from}
 use Rattle.thumb_instr.specs.Items.{has, is_in_masks, one_of}
 use Rattle.rule_table.specs.declared.tails.MaskItem.{MaskItem}
 use Rattle.rule_table.specs.MaskView.{row_of}
-use Rattle.rule_table.specs.Text.{named, mask_rows, mask_text}
+use Rattle.rule_table.specs.Text.{mask_rows, mask_text}
 use Rattle.rule_table.specs.Valid.{IsMask}
 use Rattle.rule_table.specs.Fronts.{strip, left_of, is_taken, and_taken, taken}
 use Rattle.rule_table.proofs.FrontLemmas.{strip_front, strip_sound}

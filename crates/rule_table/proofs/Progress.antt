@@ -1,18 +1,16 @@
 -- What has been read of a text, and what comes of it.
-use Rattle.std.proofs.Common.{◌≡◌, ◌∙◌, ℕ, suc, ◌+◌, ◌<◌, ◌≤◌, ◌^◌, ◌==◌, Bool, true, false, List, [], ◌∷◌, ◌++◌, length, map, refl, sym, ap, subst, arith, Option, Some, None, append_assoc, append-nil, length-append, add-one, inl, inr, true≢false, cond, Ok, Err}
+use Rattle.std.proofs.Common.{◌≡◌, ◌∙◌, ℕ, ◌+◌, ◌≤◌, ◌==◌, true, false, List, [], ◌∷◌, ◌++◌, length, map, refl, sym, ap, subst, arith, Option, Some, None, append_assoc, append-nil, length-append, inl, inr, true≢false, Ok, Err}
 use Rattle.std.specs.Option.{option_and_then}
-use Rattle.std.specs.List.{flat_map, list_all, All, concat}
-use Rattle.std.proofs.lemmas.Bool.{cases_Bool, and_parts}
-use Rattle.std.proofs.lemmas.Option.{same_Some, option_and_then_some}
+use Rattle.std.specs.List.{flat_map, All, concat}
+use Rattle.std.proofs.lemmas.Bool.{cases_Bool}
+use Rattle.std.proofs.lemmas.Option.{same_Some}
 use Rattle.std.proofs.lemmas.List.{map-append, length-map}
-use Rattle.std.proofs.lemmas.List.Elements.{All-nil, All-cons, All-head, All-tail, All-append, All-map, All-push, All-weaker}
-use Rattle.ascii_scan.specs.FirstLine.{is_inside}
+use Rattle.std.proofs.lemmas.List.Elements.{All-nil, All-cons, All-head, All-tail, All-append, All-map, All-push}
 use Rattle.ascii_scan.specs.Lines.{lines_of, onto_first, content_of, is_ended, Placed, placed, placed_from, lines_in, whole}
 use Rattle.ascii_scan.proofs.LineLemmas.{lines_nil, lines_newline, lines_other, lines_join, map-whole, length-lines_in}
 use Rattle.rule_table.specs.Table.{Opened, Rule, Table}
 use Rattle.rule_table.specs.Text.{Item, Version, Regs, Longest, Seed, Budget, Pool, State, Entry, Left, Right, Mask, Proof, Logged, Open, End, line_of, text_of_items, text_of, open_items, rule_items, items_of}
-use Rattle.rule_table.specs.Valid.{IsState, IsInstr, IsOpened, IsRule, IsTable}
-use Rattle.lrat_check.specs.Text.{IsLine}
+use Rattle.rule_table.specs.Valid.{IsOpened, IsRule, IsTable}
 use Rattle.rule_table.specs.Items.{IsItem}
 use Rattle.rule_table.specs.Grammar.{Stage, Start, Done, step, run}
 use Rattle.rule_table.specs.Steps.{Follows, StepsTo}

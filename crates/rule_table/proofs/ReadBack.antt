@@ -1,5 +1,5 @@
 -- A table's lines are read as the table.
-use Rattle.std.proofs.Common.{◌≡◌, ℕ, suc, ◌+◌, ◌<◌, ◌≤◌, ◌&&◌, Bool, true, false, List, [], ◌∷◌, ◌++◌, length, map, nat_le, nat_lt, refl, sym, ◌∙◌, ap, arith, Option, Some, None, append_assoc, append-nil, length-append, lt-ltb, ltb-true, leb-true}
+use Rattle.std.proofs.Common.{◌≡◌, suc, ◌+◌, ◌<◌, ◌≤◌, true, List, [], ◌∷◌, ◌++◌, length, map, nat_le, nat_lt, refl, sym, ◌∙◌, ap, arith, Option, Some, None, append_assoc, append-nil, length-append, lt-ltb, leb-true}
 use Rattle.std.specs.Option.{option_and_then}
 use Rattle.std.specs.List.{flat_map, All}
 use Rattle.std.proofs.lemmas.Bool.{and_parts}
@@ -9,9 +9,9 @@ use Rattle.lrat_check.specs.Content.{Content}
 use Rattle.fingerprints.specs.Seeded.{Seen}
 use Rattle.thumb_instr.specs.declared.instr.Instr.{Instr}
 use Rattle.rule_table.specs.Table.{Opened, Rule, Table}
-use Rattle.rule_table.specs.Text.{Item, Version, Regs, Longest, Seed, Budget, Pool, State, Entry, Left, Right, Mask, Proof, Logged, Open, End, open_items, rule_items, header_items, items_of}
+use Rattle.rule_table.specs.Text.{Item, State, Entry, Left, Right, Mask, Proof, Logged, End, open_items, rule_items, items_of}
 use Rattle.rule_table.specs.Valid.{IsRule, IsTable, numbers_of}
-use Rattle.rule_table.specs.Grammar.{Stage, Start, Stated, Sided, Masked, Proved, Opening, Done, with_state, with_rule, with_opened, step, run}
+use Rattle.rule_table.specs.Grammar.{Stage, Start, Stated, Sided, Proved, Opening, Done, with_state, with_rule, with_opened, step, run}
 
 pub run-append : (s : Stage) (p q : List Item) → run s (p ++ q) ≡ option_and_then (λ t. run t q) (run s p)
 unfolding run

@@ -1,5 +1,5 @@
 -- The lines of a table one after the other: what has been read so far, and which line may follow.
-use Rattle.std.specs.Prelude.{◌≡◌, ℕ, ◌&&◌, Bool, true, false, List, [], ◌∷◌, ◌++◌, length, nat_lt, Option, Some, None, if◌then◌else◌}
+use Rattle.std.specs.Prelude.{ℕ, ◌&&◌, Bool, true, false, List, [], ◌∷◌, ◌++◌, length, nat_lt, Option, Some, None, if◌then◌else◌}
 use Rattle.std.specs.Option.{option_and_then}
 use Rattle.thumb_instr.specs.declared.instr.Instr.{Instr}
 use Rattle.fingerprints.specs.Seeded.{Seen}

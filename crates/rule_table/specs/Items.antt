@@ -1,5 +1,5 @@
 -- Which lines there are, each by what it says.
-use Rattle.std.specs.Prelude.{◌≡◌, ℕ, ◌<◌, ◌≤◌, ◌^◌, true}
+use Rattle.std.specs.Prelude.{◌≡◌, ◌<◌, ◌≤◌, ◌^◌, true}
 use Rattle.seq_enum.specs.Pools.{is_pool}
 use Rattle.lrat_check.specs.Text.{IsLine}
 use Rattle.rule_table.specs.Text.{Item, Version, Regs, Longest, Seed, Budget, Pool, State, Entry, Left, Right, Mask, Proof, Logged, Open, End}

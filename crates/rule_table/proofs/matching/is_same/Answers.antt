@@ -1,4 +1,4 @@
-use Rattle.std.proofs.Common.{◌≡◌, ◌∙◌, ap, sym, refl, Bool, true}
+use Rattle.std.proofs.Common.{◌≡◌, ◌∙◌, ap, sym, refl}
 use Rattle.thumb_instr.specs.declared.kind.Parts.{Parts}
 use Rattle.thumb_instr.specs.Parts.{parts_of}
 use Rattle.thumb_instr.proofs.PartLemmas.{same_parts, same_fields}

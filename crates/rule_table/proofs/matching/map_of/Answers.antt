@@ -1,11 +1,11 @@
-use Rattle.std.proofs.Common.{◌≡◌, ◌∙◌, ap, sym, refl, true, false, List, map, ℕ, Option}
+use Rattle.std.proofs.Common.{◌≡◌, ◌∙◌, ap, sym, refl, List, map, ℕ, Option}
 use Rattle.std.specs.List.{list_all}
 use Rattle.std.proofs.lemmas.Bool.{false≢true}
 use Rattle.thumb_instr.specs.declared.instr.Instr.{Instr}
 use Rattle.thumb_instr.specs.Window.{is_in_window}
 use Rattle.thumb_instr.specs.Renaming.{Low, renamed}
 use Rattle.rule_table.specs.Canonical.{numbers_of}
-use Rattle.rule_table.specs.Matching.{are_alike, first_at, or_first, given_for, eight, registers_in}
+use Rattle.rule_table.specs.Matching.{are_alike, first_at, or_first, given_for, eight}
 use Rattle.rule_table.proofs.AlikeLemmas.{filled, same_kinds, unlike, found_renames, is_map, all_given, windows_renamed}
 use Rattle.rule_table.proofs.matching.map_of.Goals as goal
 

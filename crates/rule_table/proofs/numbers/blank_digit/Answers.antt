@@ -1,4 +1,4 @@
-use Rattle.std.proofs.Common.{◌≡◌, ap, sym, ◌∙◌, arith, length, get_or}
+use Rattle.std.proofs.Common.{ap, sym, ◌∙◌, arith, length}
 use Rattle.rule_table.proofs.HexTexts.{no_digit, some_digit, length-hex}
 use Rattle.rule_table.proofs.numbers.blank_digit.Goals as goal
 

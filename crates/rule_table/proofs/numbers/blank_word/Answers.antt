@@ -1,6 +1,5 @@
-use Rattle.std.proofs.Common.{◌≡◌, ◌++◌, ◌∷◌, ap, sym, ◌∙◌, arith, length, take, drop, List, ℕ, refl}
+use Rattle.std.proofs.Common.{◌≡◌, ap, sym, ◌∙◌, arith, length, take, drop}
 use Rattle.std.proofs.lemmas.Bool.{false≢true}
-use Rattle.rule_table.specs.Text.{hex_of}
 use Rattle.rule_table.proofs.HexTexts.{no_word, short_word}
 use Rattle.rule_table.proofs.numbers.blank_word.Goals as goal
 

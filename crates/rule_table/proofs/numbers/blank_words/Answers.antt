@@ -1,4 +1,4 @@
-use Rattle.std.proofs.Common.{◌≡◌, ◌++◌, ◌∷◌, sym, ◌∙◌}
+use Rattle.std.proofs.Common.{◌++◌, ◌∷◌, sym, ◌∙◌}
 use Rattle.rule_table.specs.Text.{hex_of}
 use Rattle.rule_table.proofs.HexTexts.{word_tells}
 use Rattle.rule_table.proofs.numbers.blank_words.Goals as goal

@@ -1,8 +1,7 @@
-use Rattle.std.proofs.Common.{◌≡◌, ◌∙◌, ◌≤◌, ◌+◌, ap, sym, subst, arith, refl, length, Option, Some, None}
+use Rattle.std.proofs.Common.{◌∙◌, ◌≤◌, ◌+◌, ap, subst, arith, refl, length, Option}
 use Rattle.std.specs.Prelude.{option_map}
 use Rattle.ascii_scan.specs.Source.{lines_left, line_view}
 use Rattle.rule_table.specs.declared.stages.Reading.{Reading}
-use Rattle.rule_table.specs.Grammar.{Stage}
 use Rattle.rule_table.specs.StageView.{stage_of}
 use Rattle.rule_table.specs.Steps.{StepsTo}
 use Rattle.rule_table.specs.Views.{table_of}

@@ -1,4 +1,4 @@
-use Rattle.std.proofs.Common.{◌≡◌, sym, ◌∙◌, true, Option}
+use Rattle.std.proofs.Common.{◌≡◌, Option}
 use Rattle.std.specs.Prelude.{option_map}
 use Rattle.ascii_scan.specs.Source.{line_view}
 use Rattle.rule_table.specs.Grammar.{step}

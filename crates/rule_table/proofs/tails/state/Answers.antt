@@ -1,4 +1,4 @@
-use Rattle.std.proofs.Common.{◌≡◌, ◌∙◌, ◌∷◌, ap, sym}
+use Rattle.std.proofs.Common.{◌∙◌, ◌∷◌, sym}
 use Rattle.rule_table.specs.Text.{hex_of}
 use Rattle.rule_table.specs.Digits.{pair_text}
 use Rattle.rule_table.proofs.HexTexts.{four, pair_tells}

@@ -1,0 +1,34 @@
+#!/usr/bin/env bash
+# Measures reading a table's text of MEGABYTES and writing it back, with the proved crates beside a plain Rust program of the same grammar; both have to write
+# the text back byte for byte. Also at twice the size: where time is linear the factor is about 2.
+# Use: bench/table_texts.sh [MEGABYTES [TURNS]]
+. "$(dirname "$0")/common.sh"
+megabytes=${1:-25}
+turns=${2:-3}
+take_crates rule_table
+proved=$(build_proved table_texts "$top/bench/table_texts/proved.rs" rule_table anyhow)
+plain=$(build_plain "$top/bench/table_texts/plain.rs")
+
+# run_both FILE: runs both programs on a text in turn.
+run_both() {
+    local program
+    rm -f "$work"/*.times
+    for _ in $(seq "$turns"); do
+        for program in proved plain; do
+            "${!program}" < "$1" 2> "$work/$program.told" > "$work/written"
+            cmp "$work/written" "$1" || { cat "$work/$program.told" >&2; exit 1; }
+            cat "$work/$program.told" >> "$work/$program.times"
+        done
+    done
+}
+
+# shortest PROGRAM FIELD: the least of a time over the last runs of a program. 1 is reading, 2 writing.
+shortest() { awk "{ print \$$2 }" "$work/$1.times" | sort -n | head -n 1; }
+
+for size in "$megabytes" $((2 * megabytes)); do
+    python3 "$top/bench/tables.py" $((size * 1000000)) > "$work/table"
+    run_both "$work/table"
+    said="a table's text of $(wc -l < "$work/table") lines, $(wc -c < "$work/table") bytes"
+    print_times "reading $said" us "$(shortest proved 1)" "$(shortest plain 1)"
+    print_times "writing $said" us "$(shortest proved 2)" "$(shortest plain 2)"
+done
