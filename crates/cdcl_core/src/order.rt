@@ -1,10 +1,12 @@
-//! The order of decisions, which only proposes: every second search goes by the numbers of the
-//! variables, and the others by the latest conflicts, the variables of the last one first. Each
-//! variable takes the value that it had last.
+//! The order of decisions, which only proposes: some searches go by the numbers of the variables, the
+//! others by the latest conflicts, the variables of the last one first. Each variable takes the value
+//! that it had last.
 //!
-//! Neither order is good for all formulas: by their numbers variables refute a product against
-//! shifts and sums in a fifth of the conflicts, and by the latest conflicts a difference in turn in
-//! a tenth and less. In turn they take about twice the better one's.
+//! Neither order is good for all formulas: the one by numbers needs a fifth of the conflicts where a
+//! product is compared with shifts and sums, and twenty times as many where sums are. So both take
+//! part. What a conflict costs grows with the square of the length of the clause that it teaches,
+//! since shortening it is most of the work; the searches by number may cost twice as much as the
+//! others in all, so that an order whose clauses are long gets few conflicts.
 
 ghost use Rattle.std.specs.Prelude.{ℕ, ◌*◌, ◌<◌, ◌≤◌, IfSome, IsTrue, ◌↔◌, ◌≡◌, ◌+◌, ◌^◌, ◌⊎◌};
 ghost use Rattle.clause_model.specs.Clauses.{IsUnset};
@@ -25,6 +27,10 @@ pub struct Order {
     is_involved: Vec<bool>,
     /// Whether this search goes by the numbers of the variables.
     by_number: bool,
+    /// What the searches by number cost so far.
+    number_cost: u64,
+    /// What the others cost so far.
+    rank_cost: u64,
     /// How many variables were looked at in this search.
     next: u32,
     /// Whether a variable was false when it had a value last.
@@ -69,6 +75,8 @@ impl Order {
             spare: Vec::with_capacity(alloc, variables as usize)?,
             is_involved: vec![in alloc; false; variables as usize]?,
             by_number: false,
+            number_cost: 0,
+            rank_cost: 0,
             next: 0,
             phases: vec![in alloc; true; variables as usize]?,
         })
@@ -77,7 +85,7 @@ impl Order {
     /// Begins another search.
     pub fn begin(&mut self) {
         self.next = 0;
-        self.by_number = !self.by_number;
+        self.by_number = self.number_cost < self.rank_cost.saturating_mul(2);
     }
 
     fn literal(&self, variable: u32) -> Literal
@@ -137,9 +145,8 @@ impl Order {
         }
     }
 
-    /// Brings the variables of a conflict's literals to the front. Both they and the others keep
-    /// their order.
-    pub fn bring_forward(&mut self, literals: &[Literal]) -> Result<(), Memory> {
+    /// Brings the variables of the literals to the front. Both they and the others keep their order.
+    fn bring_forward(&mut self, literals: &[Literal]) -> Result<(), Memory> {
         self.mark(literals, true);
         self.spare.clear();
         rank(&mut self.spare, &self.ranked, &self.is_involved, true)?;
@@ -147,5 +154,16 @@ impl Order {
         swap(&mut self.ranked, &mut self.spare);
         self.mark(literals, false);
         Ok(())
+    }
+
+    /// A conflict involved these literals, and taught a clause of so many.
+    pub fn note(&mut self, literals: &[Literal], length: usize) -> Result<(), Memory> {
+        let cost = (length as u64).saturating_mul(length as u64);
+        if self.by_number {
+            self.number_cost = self.number_cost.saturating_add(cost);
+        } else {
+            self.rank_cost = self.rank_cost.saturating_add(cost);
+        }
+        self.bring_forward(literals)
     }
 }

@@ -113,7 +113,7 @@ fn decide<L: Ledger>(
                         let line = learn(
                             alloc, arena, refs, trail, reasons, seen, low, start, conflict, id,
                         )?;
-                        order.bring_forward(seen.literals())?;
+                        order.note(seen.literals(), line.literals.len())?;
                         back(trail, reasons, low);
                         return Ok(Ending::Taught(line));
                     }
