@@ -91,11 +91,11 @@ module _ (arena : Content) (ra : List (Option ℕ)) (a denied : List ℕ) (arena
           let same2 : clauses_of arena2 ≡ clauses_of arena = ap (λ (cs : List Clause). map (λ (c : Clause). c.literals) cs) l.clauses ∙ same_clauses in
           let g : IsRefutable (clauses_of arena) (xs ++ (first ++ second)) = subst (λ (ys : List ℕ). IsRefutable (clauses_of arena) (xs ++ ys)) (sym w) r in
           let one : AreNeeded (clauses_of arena) (xs ++ second) part = subst (λ (cs : List (List ℕ)). AreNeeded cs (xs ++ second) part) same_clauses
-              (n1 xs (d.justified others j) (all_false others f) (subst (λ (cs : List (List ℕ)). IsRefutable cs ((xs ++ second) ++ first)) (sym same_clauses) (first_refutable (clauses_of arena) xs first second g))) in
+          (n1 xs (d.justified others j) (all_false others f) (subst (λ (cs : List (List ℕ)). IsRefutable cs ((xs ++ second) ++ first)) (sym same_clauses) (first_refutable (clauses_of arena) xs first second g))) in
           let h : IsRefutable (clauses_of arena) ((xs ++ part) ++ second) = second_refutable (clauses_of arena) xs first second g part one in
           let two : AreNeeded (clauses_of arena) (xs ++ part) rest = subst (λ (cs : List (List ℕ)). AreNeeded cs (xs ++ part) rest) same2 (subst (λ (ys : List ℕ). AreNeeded (clauses_of arena2) (xs ++ ys) rest) es
-              (n2 xs (justified_there arena1 arena2 r1 r2 t1 t2 l et er xs (d.justified others j)) (subst (λ (t : List ℕ). AllFalse t xs) (sym et) (all_false others f))
-              (subst (λ (ys : List ℕ). IsRefutable (clauses_of arena2) ((xs ++ ys) ++ second)) (sym es) (subst (λ (cs : List (List ℕ)). IsRefutable cs ((xs ++ part) ++ second)) (sym same2) h)))) in
+          (n2 xs (justified_there arena1 arena2 r1 r2 t1 t2 l et er xs (d.justified others j)) (subst (λ (t : List ℕ). AllFalse t xs) (sym et) (all_false others f))
+          (subst (λ (ys : List ℕ). IsRefutable (clauses_of arena2) ((xs ++ ys) ++ second)) (sym es) (subst (λ (cs : List (List ℕ)). IsRefutable cs ((xs ++ part) ++ second)) (sym same2) h)))) in
           subst (AreNeeded (clauses_of arena) xs) (sym ek) (halves_needed (clauses_of arena) xs first second g part one rest v two)
 
 -- a clause of literals that can be false together

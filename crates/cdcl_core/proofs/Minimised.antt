@@ -95,8 +95,8 @@ module _ (clauses : List (List ℕ)) (others first second : List ℕ) (r : IsRef
         let all : List ℕ = (others ++ second) ++ part in
         let front : Within (others ++ second) all = within_left (others ++ second) part in
         let there : Within whole all =
-            All-append (Contains all) others (part ++ rest) (All-left (Contains all) others second front)
-            (All-append (Contains all) part rest (within_right (others ++ second) part) (within_trans rest second all w (All-right (Contains all) others second front))) in
+        All-append (Contains all) others (part ++ rest) (All-left (Contains all) others second front)
+        (All-append (Contains all) part rest (within_right (others ++ second) part) (within_trans rest second all w (All-right (Contains all) others second front))) in
         let here : Within whole ((others ++ part) ++ rest) = subst (λ (xs : List ℕ). Within whole xs) (sym (append_assoc others part rest)) (All-contains_itself whole) in
         record {
           refutable = subst (IsRefutable clauses) (append_assoc others part rest) k.refutable;

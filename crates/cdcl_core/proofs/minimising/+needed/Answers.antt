@@ -34,8 +34,8 @@ needed-requires-2 t c =
     let l = c.in_ok-part-2.ensures in
     let m : ℕ = length c.args.literals.now / 2 in
     let k : All (HasLiteral c.needed.new.arena) c.args.literals.now =
-        known_there c.deny.new.arena c.needed.new.arena c.deny.new.reasons.items c.deny.new.reasons.items c.deny.new.trail c.deny.new.trail l.watches refl refl c.args.literals.now
-        (known_there c.args.arena.now c.deny.new.arena c.args.reasons.now.items c.args.reasons.now.items c.args.trail.now c.args.trail.now d.watches refl refl c.args.literals.now c.requires.known) in (
+    known_there c.deny.new.arena c.needed.new.arena c.deny.new.reasons.items c.deny.new.reasons.items c.deny.new.trail c.deny.new.trail l.watches refl refl c.args.literals.now
+    (known_there c.args.arena.now c.deny.new.arena c.args.reasons.now.items c.args.reasons.now.items c.args.trail.now c.args.trail.now d.watches refl refl c.args.literals.now c.requires.known) in (
       omega (arith, length-take {A = ℕ}, length-drop {A = ℕ}, c.if-literals-le1.false),
       (
         (c.requires.ground.0, ground_there c.deny.new.arena c.needed.new.arena c.deny.new.reasons.items c.needed.new.reasons.items c.deny.new.trail c.needed.new.trail l.watches l.trail l.reasons c.requires.ground.0 (d.ground c.requires.ground.0 c.requires.ground.1)),
