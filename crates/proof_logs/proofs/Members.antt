@@ -1,17 +1,16 @@
 -- The literals of a clause as members, and the clauses that are part of it.
-use Rattle.std.proofs.Common.{◌≡◌, ℕ, ◌+◌, ◌<◌, ◌≤◌, List, [], ◌∷◌, ◌++◌, length, get_or, take, sym, ◌∙◌, ap, subst, arith, Vec, refl, true, false}
+use Rattle.std.proofs.Common.{◌≡◌, ℕ, ◌+◌, ◌<◌, ◌≤◌, List, [], ◌∷◌, ◌++◌, length, get_or, take, sym, ◌∙◌, ap, subst, arith, refl, true, false, Bool, Option, Some, None}
 use Rattle.std.specs.Prelude.{All, Contains, sum_by, IsTrue, ◌↔◌}
-use Rattle.std.specs.Global.{Global}
+use Rattle.std.specs.Option.{option_to_list}
 use Rattle.std.proofs.Math.Seq.{get_or-take}
-use Rattle.std.proofs.lemmas.List.{length-take, length-map, get_or_default, get_or-map, take_all, take_more, map_push}
-use Rattle.std.proofs.lemmas.List.Elements.{All-more}
+use Rattle.std.proofs.lemmas.List.{length-take, get_or_default, take_all, take_more}
+use Rattle.std.proofs.lemmas.List.Elements.{All-more, All-cons, All-tail}
 use Rattle.std.proofs.lemmas.Bool.{false≢true}
 use Rattle.std.proofs.lemmas.List.Sums.{sum_by_more}
 use Rattle.clause_model.specs.Literals.{negated, variable_of, HasDistinctVariables}
 use Rattle.clause_model.specs.Clauses.{IsUnset}
 use Rattle.clause_model.specs.Asserting.{IsNew}
 use Rattle.clause_model.proofs.LiteralLaws.{variable_of-negated}
-use Rattle.proof_logs.specs.Checked.{lists_of}
 
 -- the literals before a place don't have the variable of the one there
 pub members_unset : (clause : List ℕ) (i l : ℕ) → i < length clause → l ≡ get_or clause i l → HasDistinctVariables clause → IsUnset (take i clause) l
@@ -27,14 +26,6 @@ members_unset clause i l b e h = (λ p. apart l p refl, λ p. apart (negated l) 
 -- a literal that is no member leaves the clause no part
 pub part_missing : (members clause : List ℕ) (i l : ℕ) → i < length clause → l ≡ get_or clause i l → (Contains members l → ⊥) → All (Contains members) clause → ⊥
 part_missing members clause i l b e n h = n (subst (Contains members) (sym e) (h i l b))
-
--- the list at a place of the clauses
-pub list_at : (clauses : List (Vec ℕ Global)) (i : ℕ) (clause : Vec ℕ Global) → i < length clauses → clause ≡ get_or clauses i clause → (i < length (lists_of clauses)) × (get_or (lists_of clauses) i clause.items ≡ clause.items)
-list_at clauses i clause b e =
-    let v = λ (c : Vec ℕ Global). c.items in (
-      rw (length-map clauses v) b,
-      get_or-map v clauses i clause clause.items b ∙ ap v (sym e),
-    )
 
 -- the lengths of the clauses up to one that was looked at
 pub lengths_next : (lists : List (List ℕ)) (before after start i : ℕ) (clause : List ℕ) → i < length lists → get_or lists i clause ≡ clause → before ≤ start + sum_by length (take i lists) → after ≤ before + length clause → after ≤ start + sum_by length (take (i + 1) lists)
@@ -69,7 +60,18 @@ pub part_all : (members clause : List ℕ) (i : ℕ) → length clause ≤ i →
 part_all members clause i b h = subst (All (Contains members)) (take_all i clause b) h
 
 -- one more clause of the formula
-pub lists_push : (before after : List (Vec ℕ Global)) (clause : Vec ℕ Global) (codes : List (List ℕ)) (i : ℕ) → after ≡ before ++ clause ∷ [] → lists_of before ≡ take i codes → i < length codes → get_or codes i clause.items ≡ clause.items → lists_of after ≡ take (i + 1) codes
-lists_push before after clause codes i p h b e =
-    let v = λ (c : Vec ℕ Global). c.items in
-    ap lists_of p ∙ map_push v before clause ∙ ap (λ xs. xs ++ clause.items ∷ []) h ∙ ap (λ (c : List ℕ). take i codes ++ c ∷ []) (sym e) ∙ sym (take_more codes i clause.items b)
+pub clauses_push : (before after codes : List (List ℕ)) (clause : List ℕ) (i : ℕ) → after ≡ before ++ clause ∷ [] → before ≡ take i codes → i < length codes → get_or codes i clause ≡ clause → after ≡ take (i + 1) codes
+clauses_push before after codes clause i p h b e = p ∙ ap (λ xs. xs ++ clause ∷ []) h ∙ ap (λ (c : List ℕ). take i codes ++ c ∷ []) (sym e) ∙ sym (take_more codes i clause b)
+
+-- a clause whose first literal is a member is a part where the others are members, and so is one without literals
+pub part_first : (members whole rest : List ℕ) (first : Option ℕ) (l : ℕ) (result : Bool) → first ≡ Some l → option_to_list first ++ rest ≡ whole → Contains members l → IsTrue result ↔ All (Contains members) rest → IsTrue result ↔ All (Contains members) whole
+part_first members whole rest first l result e view p h =
+    let is : l ∷ rest ≡ whole = ap (λ (o : Option ℕ). option_to_list o ++ rest) (sym e) ∙ view in (
+      λ t. subst (All (Contains members)) is (All-cons (Contains members) l rest p (h.0 t)),
+      λ a. h.1 (All-tail (Contains members) l rest (subst (All (Contains members)) (sym is) a)),
+    )
+
+pub part_none : (members whole rest : List ℕ) (first : Option ℕ) (result : Bool) → first ≡ None → option_to_list first ++ rest ≡ whole → IsTrue result ↔ All (Contains members) rest → IsTrue result ↔ All (Contains members) whole
+part_none members whole rest first result e view h =
+    let is : rest ≡ whole = ap (λ (o : Option ℕ). option_to_list o ++ rest) (sym e) ∙ view in
+    subst (λ (xs : List ℕ). IsTrue result ↔ All (Contains members) xs) is h

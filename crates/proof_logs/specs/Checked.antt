@@ -1,6 +1,5 @@
 -- What a checker that holds the lines so far knows.
-use Rattle.std.specs.Prelude.{ℕ, List, Vec, map}
-use Rattle.std.specs.Global.{Global}
+use Rattle.std.specs.Prelude.{List, map}
 use Rattle.lrat_check.specs.declared.line.Line.{Line}
 use Rattle.lrat_check.specs.Content.{Content, content_of}
 use Rattle.lrat_check.specs.Checking.{State, live_at}
@@ -12,6 +11,3 @@ known_of state = record { live = live_at state; last = state.last }
 -- what the lines say
 abbrev pub contents_of : List Line → List Content
 contents_of lines = map content_of lines
-
-abbrev pub lists_of : List (Vec ℕ Global) → List (List ℕ)
-lists_of clauses = map (λ (c : Vec ℕ Global). c.items) clauses

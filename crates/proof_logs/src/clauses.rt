@@ -1,7 +1,6 @@
 ghost use Rattle.std.specs.Prelude.{◌≡◌, ℕ, ◌+◌, ◌≤◌, ◌++◌, ◌∷◌, ◌↔◌, List, [], All, Contains, IsTrue, IfOk, OnOk, length, map, sum_by};
 ghost use Rattle.clause_model.specs.Literals.{codes_of, code_of, HasDistinctVariables};
 ghost use Rattle.clause_model.specs.Asserting.{IsNew};
-ghost use Rattle.proof_logs.specs.Checked.{lists_of};
 
 use clause_model::{Assignment, Literal};
 use cnf_gates::{Formula, Memory};
@@ -9,21 +8,69 @@ use std::alloc::{AllocError, Global};
 use std::marker::Model;
 use step_ledger::{Ledger, Steps};
 
+/// A clause. Its first literal stands beside the others, so that most clauses are seen to be no
+/// part of another without a look at the rest.
+#[derive(Drop)]
+struct Clause {
+    first: Option<Literal>,
+    rest: Vec<Literal>,
+}
+
+impl Model for Clause {
+    ghost use Rattle.std.specs.Prelude.{ℕ, List, ◌++◌};
+    ghost use Rattle.std.specs.Option.{option_to_list};
+
+    ghost Value = { List ℕ };
+
+    ghost view = { λ c. option_to_list c.first ++ c.rest.items };
+}
+
+impl Clause {
+    /// The clause of some literals.
+    fn of(alloc: Global, literals: &[Literal]) -> Result<Clause, AllocError>
+        ensures { IfOk result (λ clause. clause ≡ literals.now) }
+    {
+        match literals.split_first() {
+            None => Ok(Clause {
+                first: None,
+                rest: Vec::new(alloc),
+            }),
+            Some((first, rest)) => Ok(Clause {
+                first: Some(*first),
+                rest: Vec::from_slice(alloc, rest)?,
+            }),
+        }
+    }
+
+    /// Whether each literal is a member, with a step for each that is looked at.
+    fn is_part<L: Ledger>(&self, members: &Assignment, steps: &mut Steps<L>) -> bool
+        ensures part { IsTrue result ↔ All (Contains members.now) self.now }
+        ensures cost { steps.new ≤ steps.old + length self.now }
+    {
+        if let Some(first) = self.first {
+            steps.tick();
+            if !members.is_true(first) {
+                return false;
+            }
+        }
+        are_members(&self.rest, members, steps)
+    }
+}
+
 /// The clauses so far, those that were deleted included.
 #[derive(Drop)]
 pub struct Clauses {
     alloc: Global,
-    clauses: Vec<Vec<Literal>>,
+    clauses: Vec<Clause>,
     members: Assignment,
 }
 
 impl Model for Clauses {
     ghost use Rattle.std.specs.Prelude.{◌≡◌, ℕ, List, []};
-    ghost use Rattle.proof_logs.specs.Checked.{lists_of};
 
     ghost Value = { List (List ℕ) };
 
-    ghost view = { λ c. lists_of c.clauses.items };
+    ghost view = { λ c. c.clauses.items };
 
     ghost invariant = { λ c. c.members ≡ [] };
 }
@@ -35,7 +82,8 @@ impl Clauses {
     {
         let mut clauses = Vec::new(alloc);
         for i in 0..formula.clauses() {
-            clauses.push(literals_of(alloc, formula.clause(i + 1))?)?;
+            let literals = literals_of(alloc, formula.clause(i + 1))?;
+            clauses.push(Clause::of(alloc, &literals)?)?;
         }
         Ok(Clauses {
             alloc,
@@ -59,7 +107,7 @@ impl Clauses {
         self.members.truncate(0);
         let is_new = outcome?;
         if is_new {
-            self.clauses.push(Vec::from_slice(self.alloc, clause)?)?;
+            self.clauses.push(Clause::of(self.alloc, clause)?)?;
         }
         Ok(is_new)
     }
@@ -77,15 +125,15 @@ fn literals_of(alloc: Global, numbers: &[i32]) -> Result<Vec<Literal>, AllocErro
 
 /// Whether the clause contains none of the others, begun with no member.
 fn is_new<L: Ledger>(
-    clauses: &[Vec<Literal>],
+    clauses: &[Clause],
     clause: &[Literal],
     members: &mut Assignment,
     steps: &mut Steps<L>,
 ) -> Result<bool, AllocError>
     requires empty { members.old ≡ [] }
     requires distinct { HasDistinctVariables clause.now }
-    ensures new { IfOk result (λ is_new. IsTrue is_new ↔ IsNew (lists_of clauses.now) clause.now) }
-    ensures cost { steps.new ≤ steps.old + sum_by length (lists_of clauses.now) }
+    ensures new { IfOk result (λ is_new. IsTrue is_new ↔ IsNew clauses.now clause.now) }
+    ensures cost { steps.new ≤ steps.old + sum_by length clauses.now }
 {
     take_members(clause, members)?;
     Ok(is_none_part(clauses, members, steps))
@@ -104,28 +152,24 @@ fn take_members(clause: &[Literal], members: &mut Assignment) -> Result<(), Allo
 }
 
 /// Whether each of the clauses has a literal that is no member.
-fn is_none_part<L: Ledger>(
-    clauses: &[Vec<Literal>],
-    members: &Assignment,
-    steps: &mut Steps<L>,
-) -> bool
-    ensures new { IsTrue result ↔ IsNew (lists_of clauses.now) members.now }
-    ensures cost { steps.new ≤ steps.old + sum_by length (lists_of clauses.now) }
+fn is_none_part<L: Ledger>(clauses: &[Clause], members: &Assignment, steps: &mut Steps<L>) -> bool
+    ensures new { IsTrue result ↔ IsNew clauses.now members.now }
+    ensures cost { steps.new ≤ steps.old + sum_by length clauses.now }
 {
     for clause in clauses {
-        if is_part(clause, members, steps) {
+        if clause.is_part(members, steps) {
             return false;
         }
     }
     true
 }
 
-/// Whether each literal of the clause is a member, with a step for each that is looked at.
-fn is_part<L: Ledger>(clause: &[Literal], members: &Assignment, steps: &mut Steps<L>) -> bool
-    ensures part { IsTrue result ↔ All (Contains members.now) clause.now }
-    ensures cost { steps.new ≤ steps.old + length clause.now }
+/// Whether each literal is a member, with a step for each that is looked at.
+fn are_members<L: Ledger>(literals: &[Literal], members: &Assignment, steps: &mut Steps<L>) -> bool
+    ensures part { IsTrue result ↔ All (Contains members.now) literals.now }
+    ensures cost { steps.new ≤ steps.old + length literals.now }
 {
-    for literal in clause {
+    for literal in literals {
         steps.tick();
         if !members.is_true(*literal) {
             return false;

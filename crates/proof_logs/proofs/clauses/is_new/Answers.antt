@@ -1,8 +1,7 @@
 use Rattle.std.proofs.Common.{List, ℕ, subst}
 use Rattle.std.specs.Prelude.{IsTrue, ◌↔◌}
 use Rattle.clause_model.specs.Asserting.{IsNew}
-use Rattle.proof_logs.specs.Checked.{lists_of}
 use Rattle.proof_logs.proofs.clauses.is_new.Goals as goal
 
 pub returns-clause-new : goal.returns-clause-new
-returns-clause-new g c = subst (λ (members : List ℕ). IsTrue c.is_none_part.result ↔ IsNew (lists_of c.args.clauses.now) members) c.in_ok-take_members.ensures c.is_none_part.ensures.new
+returns-clause-new g c = subst (λ (members : List ℕ). IsTrue c.is_none_part.result ↔ IsNew c.args.clauses.now members) c.in_ok-take_members.ensures c.is_none_part.ensures.new

@@ -1,11 +1,10 @@
 use Rattle.std.proofs.Common.{◌≤◌, ◌+◌, take, length}
 use Rattle.std.specs.Prelude.{sum_by}
 use Rattle.clause_model.specs.Asserting.{IsNew}
-use Rattle.proof_logs.specs.Checked.{lists_of}
 use Rattle.proof_logs.proofs.clauses.is_none_part.Given as goal
 
 abbrev pub invariant-loop-clause : goal.invariant-loop-clause
 invariant-loop-clause g l = record {
-  new : IsNew (take l.clause-index (lists_of l.clauses)) l.members;
-  cost : l.steps ≤ l.initial.steps + sum_by length (take l.clause-index (lists_of l.clauses));
+  new : IsNew (take l.clause-index l.clauses) l.members;
+  cost : l.steps ≤ l.initial.steps + sum_by length (take l.clause-index l.clauses);
 }

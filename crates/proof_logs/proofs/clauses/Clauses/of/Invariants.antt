@@ -1,7 +1,6 @@
 use Rattle.std.proofs.Common.{◌≡◌, take}
 use Rattle.clause_model.specs.Literals.{codes_of}
-use Rattle.proof_logs.specs.Checked.{lists_of}
 use Rattle.proof_logs.proofs.clauses.Clauses.of.Given as goal
 
 abbrev pub invariant-loop-i : goal.invariant-loop-i
-invariant-loop-i l = lists_of l.clauses.items ≡ take l.i (codes_of l.formula.clauses)
+invariant-loop-i l = l.clauses.items ≡ take l.i (codes_of l.formula.clauses)

@@ -1,9 +1,9 @@
 use Rattle.std.proofs.Common.{◌≤◌, ◌+◌, take}
 use Rattle.std.specs.Prelude.{All, Contains}
-use Rattle.proof_logs.proofs.clauses.is_part.Given as goal
+use Rattle.proof_logs.proofs.clauses.are_members.Given as goal
 
 abbrev pub invariant-loop-literal : goal.invariant-loop-literal
 invariant-loop-literal g l = record {
-  part : All (Contains l.members) (take l.literal-index l.clause);
+  part : All (Contains l.members) (take l.literal-index l.literals);
   cost : l.steps ≤ l.initial.steps + l.literal-index;
 }
