@@ -6,7 +6,7 @@ use std::alloc::Global;
 use std::test::Fail;
 
 /// The text of a table of these entries, with one line less for what ends it.
-pub fn table(alloc: Global, entries: &[u8]) -> Result<Vec<u8>, Fail> {
+pub(crate) fn table(alloc: Global, entries: &[u8]) -> Result<Vec<u8>, Fail> {
     let bare = Table {
         regs: 2,
         left: 2,
