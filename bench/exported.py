@@ -9,6 +9,7 @@ text, which `peep audit` has to accept; and with one literal or one hint damaged
 just what a second checker refuses, at the same line.
 """
 
+import os
 import pathlib
 import random
 import subprocess
@@ -18,7 +19,7 @@ from check_lrat import Checker, damaged, proof
 from lrat_lines import text
 
 TOP = pathlib.Path(__file__).resolve().parent.parent
-PEEP = TOP / "peep"
+PEEP = pathlib.Path(os.environ.get("PEEP", TOP / "peep"))
 
 # left side, right side, mask
 RULES = [
