@@ -29,5 +29,6 @@ measure "" bash prints.sh
 measure "" bash machine_steps.sh
 measure python3 bash listing_lines.sh --all "$listings"
 measure python3 bash rewrite.sh
+measure python3 bash table_texts.sh
 measure cadical python3 measure_lrat.py "$work/lrat"
 exit "$failed"
