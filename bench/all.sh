@@ -26,6 +26,7 @@ measure python3 bash codes.sh
 measure "" bash window_steps.sh
 measure "" bash formulas.sh
 measure "" bash prints.sh
+measure python3 bash audit.sh
 measure "" bash machine_steps.sh
 measure python3 bash listing_lines.sh --all "$listings"
 measure python3 bash rewrite.sh
