@@ -28,5 +28,6 @@ measure "" bash formulas.sh
 measure "" bash machine_steps.sh
 measure python3 bash listing_lines.sh --all "$listings"
 measure python3 bash rewrite.sh
+measure python3 bash live_items.sh "$listings"
 measure cadical python3 measure_lrat.py "$work/lrat"
 exit "$failed"
