@@ -25,11 +25,14 @@ measure() {
 measure python3 bash codes.sh
 measure "" bash window_steps.sh
 measure "" bash formulas.sh
+measure "" bash sequences.sh
 measure "" bash prints.sh
 measure python3 bash audit.sh
 measure "" bash machine_steps.sh
 measure python3 bash listing_lines.sh --all "$listings"
 measure python3 bash rewrite.sh
 measure python3 bash table_texts.sh
+measure python3 bash live_items.sh "$listings"
 measure cadical python3 measure_lrat.py "$work/lrat"
+measure cadical python3 exported.py "$work/rules"
 exit "$failed"

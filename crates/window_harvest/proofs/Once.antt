@@ -1,12 +1,12 @@
 -- A window has one canonical form.
-use Rattle.std.proofs.Common.{◌≡◌, ℕ, zero, suc, ◌+◌, ◌<◌, ◌≤◌, ◌==◌, ◌&&◌, ◌||◌, Bool, true, false, min, List, [], ◌∷◌, ◌++◌, length, map, Option, Some, None, refl, sym, ap, ◌∙◌, subst, ◌⊎◌, inl, inr, arith, lt-ltb, eq-eqb, eqb-true, cond}
+use Rattle.std.proofs.Common.{◌≡◌, ℕ, zero, suc, ◌<◌, ◌≤◌, ◌==◌, ◌||◌, Bool, true, false, min, List, [], ◌∷◌, ◌++◌, length, map, Option, Some, None, refl, sym, ap, ◌∙◌, subst, arith, lt-ltb, eq-eqb, eqb-true}
 use Rattle.std.specs.Prelude.{slice_get, nat_lt, if◌then◌else◌}
 use Rattle.std.specs.Int.{bit_at}
-use Rattle.std.specs.List.{flat_map, list_any, list_all}
+use Rattle.std.specs.List.{flat_map, list_all}
 use Rattle.std.specs.Option.{option_map}
-use Rattle.std.proofs.lemmas.Bool.{and_parts, and_from, cases_Bool}
+use Rattle.std.proofs.lemmas.Bool.{and_parts, and_from}
 use Rattle.std.proofs.lemmas.Nat.Bits.{bit_at-lt, same_from_bits}
-use Rattle.std.proofs.lemmas.Option.{slice_get-map, slice_get_within}
+use Rattle.std.proofs.lemmas.Option.{slice_get-map}
 use Rattle.std.proofs.lemmas.List.{length-map}
 use Rattle.std.proofs.lemmas.List.Folds.{list_any-append}
 use Rattle.thumb_instr.specs.declared.instr.Instr.{Instr}

@@ -1,19 +1,16 @@
 -- The windows that begin at a place.
-use Rattle.std.proofs.Common.{◌≡◌, ℕ, zero, suc, ◌+◌, ◌-◌, ◌<◌, ◌≤◌, ◌&&◌, Bool, true, false, List, [], ◌∷◌, ◌++◌, length, take, drop, map, Option, Some, None, refl, sym, ap, ◌∙◌, subst, arith, ◌↔◌, length-append}
-use Rattle.std.specs.List.{list_any}
-use Rattle.std.specs.Prelude.{Contains, if◌then◌else◌}
+use Rattle.std.proofs.Common.{◌≡◌, ℕ, zero, suc, ◌+◌, ◌-◌, ◌<◌, ◌≤◌, ◌&&◌, Bool, true, false, List, [], ◌∷◌, length, take, drop, map, Option, Some, None, refl, sym, ap, ◌∙◌, subst, arith, ◌↔◌, length-append}
 use Rattle.thumb_instr.specs.declared.instr.Instr.{Instr}
 use Rattle.thumb_instr.specs.Items.{has}
-use Rattle.thumb_model.specs.Listing.{Value, Statement, Nothing, Runs, Words, Aligns, Sets, Line, Place, Word, places_in, places_of, code_of}
+use Rattle.thumb_model.specs.Listing.{Statement, Nothing, Runs, Words, Aligns, Sets, Line, Word, places_in, places_of, code_of}
 use Rattle.thumb_model.specs.Flow.{LiveAfter}
 use Rattle.liveness.specs.Live.{Sets as LiveSets}
 use Rattle.window_harvest.specs.declared.rows.Row.{Row}
-use Rattle.window_harvest.specs.declared.keys.Key.{Key}
 use Rattle.window_harvest.specs.Windows.{IsWindow}
 use Rattle.window_harvest.specs.Rows.{is_unlabelled, rows_of, stays_joined, rows_from}
 use Rattle.window_harvest.specs.Runs.{letter_at, before, run}
 use Rattle.window_harvest.specs.Harvest.{Pair, Limits, spot_of, StandsThere, IsPairAt}
-use Rattle.window_harvest.specs.Keys.{key_eq, IsKey, AreSeen}
+use Rattle.window_harvest.specs.Keys.{AreSeen}
 use Rattle.window_harvest.specs.LimitsOf.{AreOf}
 use Rattle.window_harvest.proofs.Joined.{run_window, window_in_run}
 

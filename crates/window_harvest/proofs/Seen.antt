@@ -1,13 +1,12 @@
 -- Keys of the pairs that were seen.
-use Rattle.std.proofs.Common.{◌≡◌, ℕ, ◌==◌, ◌&&◌, Bool, true, false, not, cond, List, [], ◌∷◌, ◌++◌, Option, Some, refl, sym, ap, ◌∙◌, subst, ◌⊎◌, inl, inr, ◌↔◌, eq-eqb, eqb-true}
+use Rattle.std.proofs.Common.{◌≡◌, ℕ, ◌==◌, ◌&&◌, Bool, true, false, not, cond, List, [], ◌∷◌, ◌++◌, Some, refl, sym, ap, ◌∙◌, subst, ◌⊎◌, inl, inr, ◌↔◌, eq-eqb, eqb-true}
 use Rattle.std.specs.Prelude.{slice_get, Contains}
 use Rattle.std.specs.List.{list_any}
 use Rattle.std.proofs.lemmas.Bool.{and_parts, and_from}
 use Rattle.std.proofs.lemmas.Option.{same_Some}
-use Rattle.seq_enum.specs.Lists.{IsPlace}
 use Rattle.seq_enum.specs.Alphabet.{sequences}
 use Rattle.window_harvest.specs.Harvest.{Pair}
-use Rattle.window_harvest.specs.Keys.{IsKey, key_eq, AreSeen, IsPut}
+use Rattle.window_harvest.specs.Keys.{IsKey, key_eq, AreSeen}
 use Rattle.window_harvest.specs.declared.keys.Key.{Key}
 use Rattle.window_harvest.proofs.Lists.{In, contains_in, in_contains, in_left, in_right, in_parts, in_one}
 

@@ -1,4 +1,4 @@
-use Rattle.std.proofs.Common.{◌≡◌, ◌∙◌, ◌++◌, [], ◌∷◌, List, map, ap, sym, subst, inl, inr, true, false, refl}
+use Rattle.std.proofs.Common.{◌≡◌, ◌∙◌, ◌++◌, [], ◌∷◌, map, ap, sym, subst, inl, inr, refl}
 use Rattle.window_harvest.specs.Harvest.{Pair, pair_of}
 use Rattle.window_harvest.specs.Keys.{AreSeen}
 use Rattle.window_harvest.proofs.Added.{pairs_more}

@@ -1,7 +1,6 @@
-use Rattle.std.proofs.Common.{◌≡◌, ◌<◌, ◌≤◌, ◌+◌, ◌∙◌, true, List, length, take, drop, map, subst, sym, ap, arith}
+use Rattle.std.proofs.Common.{◌≡◌, ◌≤◌, ◌+◌, true, List, length, take, drop, map, subst, sym, ap, arith}
 use Rattle.thumb_instr.specs.declared.instr.Instr.{Instr}
 use Rattle.thumb_model.specs.Listing.{code_of}
-use Rattle.window_harvest.specs.Runs.{run}
 use Rattle.window_harvest.specs.Harvest.{pair_of, spot_of, StandsThere}
 use Rattle.window_harvest.specs.LimitsOf.{limits_of}
 use Rattle.window_harvest.proofs.Added.{spots_none, spots_more, spots_end}

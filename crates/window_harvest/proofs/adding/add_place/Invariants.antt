@@ -1,4 +1,4 @@
-use Rattle.std.proofs.Common.{◌≡◌, List, map}
+use Rattle.std.proofs.Common.{List, map}
 use Rattle.thumb_model.specs.Listing.{Line}
 use Rattle.seq_enum.specs.Lists.{numbers_from}
 use Rattle.window_harvest.specs.Harvest.{pair_of, spot_of, AreAdded}

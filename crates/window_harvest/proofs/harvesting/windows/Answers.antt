@@ -1,10 +1,9 @@
-use Rattle.std.proofs.Common.{◌≡◌, ◌<◌, ◌∙◌, [], List, map, length, false, subst, sym, ap, arith}
+use Rattle.std.proofs.Common.{◌≡◌, ◌∙◌, [], List, map, length, false, subst, sym, ap, arith}
 use Rattle.thumb_model.specs.Listing.{Line, places_of}
-use Rattle.listing_parser.specs.Views.{line_view}
 use Rattle.window_harvest.specs.declared.keys.Key.{Key}
 use Rattle.window_harvest.specs.declared.rows.Row.{Row}
 use Rattle.window_harvest.specs.Rows.{rows_from}
-use Rattle.window_harvest.specs.Harvest.{Pair, pair_of, spots, AreAdded}
+use Rattle.window_harvest.specs.Harvest.{pair_of}
 use Rattle.window_harvest.specs.Keys.{AreSeen}
 use Rattle.window_harvest.specs.LimitsOf.{AreOf}
 use Rattle.window_harvest.proofs.Added.{places_none, places_more}

@@ -1,4 +1,4 @@
-use Rattle.std.proofs.Common.{◌≡◌, ◌∙◌, ◌≤◌, ℕ, None, Some, refl, sym, ap, subst, arith}
+use Rattle.std.proofs.Common.{◌≡◌, ◌∙◌, None, Some, refl, sym, ap, subst, arith}
 use Rattle.thumb_model.specs.Rewrite.{register_count}
 use Rattle.seq_enum.specs.Lists.{IsPlace}
 use Rattle.seq_enum.specs.Alphabet.{IsOver, sequences}

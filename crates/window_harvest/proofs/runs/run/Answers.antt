@@ -1,4 +1,4 @@
-use Rattle.std.proofs.Common.{◌≡◌, ◌∙◌, ◌<◌, ◌≤◌, ◌+◌, ◌-◌, ◌++◌, [], ◌∷◌, List, Some, None, length, drop, true, sym, ap, subst, arith, length-append}
+use Rattle.std.proofs.Common.{◌≡◌, ◌∙◌, ◌<◌, ◌+◌, ◌-◌, ◌++◌, [], ◌∷◌, List, Some, None, length, drop, true, sym, ap, arith, length-append}
 use Rattle.std.specs.Prelude.{nat_eq}
 use Rattle.thumb_instr.specs.declared.instr.Instr.{Instr}
 use Rattle.window_harvest.specs.Runs.{letter_at, run}

@@ -1,0 +1,44 @@
+#!/usr/bin/env bash
+# Measures finding the live items of a listing and harvesting its windows with the proved crates beside a plain Rust program with the same rules: on one listing of about 65,000
+# lines made by repeating the files of a folder, and on a chain of branches backward, each to the one before, where each pass comes one branch further.
+# Use: bench/live_items.sh FOLDER [TURNS]
+. "$(dirname "$0")/common.sh"
+folder=${1:-} turns=${2:-9}
+[ -d "$folder" ] || { sed -n '2,4s/^# //p' "$0" >&2; exit 2; }
+take_crates window_harvest
+proved=$(build_proved live_items "$top/bench/live_items/proved.rs" listing_parser liveness window_harvest seq_enum step_ledger anyhow)
+plain=$(build_plain "$top/bench/live_items/plain.rs")
+
+# run_both LISTING TURNS: runs both programs in turn; they have to tell the same beside times.
+run_both() {
+    local program
+    rm -f "$work"/*.times
+    for _ in $(seq "$2"); do
+        for program in proved plain; do
+            "${!program}" < "$1" 2> "$work/$program.told"
+            cat "$work/$program.told" >> "$work/$program.times"
+        done
+        cmp <(cut -d' ' -f3- "$work/proved.told") <(cut -d' ' -f3- "$work/plain.told") || { cat "$work"/*.told >&2; exit 1; }
+    done
+}
+
+# shortest PROGRAM COLUMN: the least time of the last runs.
+shortest() { cut -d' ' -f"$2" "$work/$1.times" | sort -n | head -n 1; }
+
+# chain N: N branches backward, each to the one before, and a return.
+chain() {
+    echo "x0: bx lr"
+    for n in $(seq "$1"); do echo "x$n: b x$((n - 1))"; done
+}
+
+python3 "$top/bench/repeated.py" "$folder" > "$work/listing.s"
+run_both "$work/listing.s" "$turns"
+read -r _ _ places visits _ pairs _ < "$work/proved.told"
+print_times "live items of $places places, $visits visits" us "$(shortest proved 1)" "$(shortest plain 1)"
+print_times "windows of $places places, $pairs pairs" us "$(shortest proved 2)" "$(shortest plain 2)"
+for count in 2000 4000; do
+    chain "$count" > "$work/chain.s"
+    run_both "$work/chain.s" 3
+    read -r _ _ _ visits _ < "$work/proved.told"
+    print_times "live items of a chain of $count branches backward, $visits visits" us "$(shortest proved 1)" "$(shortest plain 1)"
+done
