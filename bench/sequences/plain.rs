@@ -112,7 +112,7 @@ fn main() {
     let mut sum = 0u64;
     for _ in 0..5_000_000 {
         let last = word.last().map_or(0, |instr| u64::from(encode(instr)));
-        sum = sum.rotate_left(5) ^ (last + word.len() as u64 * 65536);
+        sum = sum.rotate_left(5) ^ last ^ (word.len() as u64).rotate_left(16);
         next(&mut places, &mut word, &letters);
     }
     eprintln!("{} ms", start.elapsed().as_millis());

@@ -30,7 +30,7 @@ fn digest(letters: &[Instr], count: u32) -> u64
             None => 0,
             Some(instr) => code(instr),
         };
-        sum = sum.rotate_left(5) ^ (last + instrs.len() as u64 * 65536);
+        sum = sum.rotate_left(5) ^ last ^ (instrs.len() as u64).rotate_left(16);
         walk.next();
     }
     sum
