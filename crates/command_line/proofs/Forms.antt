@@ -3,8 +3,8 @@ use Rattle.std.proofs.Common.{◌≡◌, ◌∙◌, ◌<◌, true, List, [], ◌
 use Rattle.std.specs.Prelude.{option_and_then}
 use Rattle.std.specs.List.{list_all}
 use Rattle.clap.specs.Words.{Row, fault_of, first_of, subcommand_of}
-use Rattle.command_line.specs.App.{all_given, asked, asked_by, form_of, peep_app, words_for}
-use Rattle.command_line.specs.CommandLine.{AskFor, Form, rewrites, audits, exports, traces, Given, IsCommand, Request, rewrite, Text, base_of, is_one_of, name_of, options_of, request_by, value_of}
+use Rattle.command_line.specs.App.{asked, asked_by, form_of, peep_app, words_for}
+use Rattle.command_line.specs.CommandLine.{AskFor, Form, rewrites, audits, learns, exports, traces, Given, IsCommand, Request, rewrite, learn, Text, all_given, base_of, settings_of, settings_by, number_from, pool_of, is_one_of, name_of, options_of, request_by, value_of}
 use Rattle.command_line.proofs.Items.{is_name}
 use Rattle.command_line.proofs.Law.{rows}
 use Rattle.command_line.proofs.Views.{AreTexts}
@@ -12,6 +12,7 @@ use Rattle.command_line.proofs.NamedValues.{are_apart, first_row, values}
 use Rattle.command_line.proofs.Exact.{command_agrees}
 use Rattle.command_line.proofs.Commands.{Finds, command_finds, finds_command}
 use Rattle.command_line.proofs.Top.{enters}
+use Rattle.command_line.proofs.Pools.{all_some}
 
 -- what clap's matches ask for
 abbrev pub meaning : List Text → Option Request
@@ -31,8 +32,19 @@ pub record IsForm (form : Form) : Type 0 where
 is_form : (form : Form) → IsForm form
 is_form rewrites = record { few = omega arith; names = refl; apart = refl; named = refl }
 is_form audits = record { few = omega arith; names = refl; apart = refl; named = refl }
+is_form learns = record { few = omega arith; names = refl; apart = refl; named = refl }
 is_form exports = record { few = omega arith; names = refl; apart = refl; named = refl }
 is_form traces = record { few = omega arith; names = refl; apart = refl; named = refl }
+
+-- the settings are told by the values of their options
+same_settings : (f g : Text → Option Text) → ((n : Text) → is_one_of (options_of learns) n ≡ true → f n ≡ g n) → settings_of f ≡ settings_of g
+same_settings f g e =
+    let regs : f (codes "regs") ≡ g (codes "regs") = e (codes "regs") refl in
+    let left : f (codes "left") ≡ g (codes "left") = e (codes "left") refl in
+    let budget : f (codes "budget") ≡ g (codes "budget") = e (codes "budget") refl in
+    let seed : f (codes "seed") ≡ g (codes "seed") = e (codes "seed") refl in
+    let pool : f (codes "pool") ≡ g (codes "pool") = e (codes "pool") refl in
+    λ i. settings_by (number_from 1 4 3 (regs i)) (number_from 1 5 3 (left i)) (number_from 1 1000000 20000 (budget i)) (number_from 0 4294967295 42 (seed i)) (pool_of (pool i))
 
 -- only the values of the options are looked at
 pub same_options : (form : Form) (ps : List Text) (f g : Text → Option Text) → ((n : Text) → is_one_of (options_of form) n ≡ true → f n ≡ g n)
@@ -41,6 +53,8 @@ same_options rewrites (t ∷ l ∷ o ∷ i ∷ []) f g e = ap (λ (v : Option Te
 same_options rewrites ps f g e = refl
 same_options audits (t ∷ []) f g e = refl
 same_options audits ps f g e = refl
+same_options learns (l ∷ o ∷ []) f g e = ap (option_map (λ settings. learn l o settings)) (same_settings f g e)
+same_options learns ps f g e = refl
 same_options exports (t ∷ n ∷ c ∷ l ∷ []) f g e = refl
 same_options exports ps f g e = refl
 same_options traces (l ∷ n ∷ s ∷ []) f g e = refl
@@ -52,16 +66,14 @@ counted rewrites (t ∷ l ∷ o ∷ i ∷ []) value r e = refl
 counted rewrites ps value r e = absurd (let bad : None ≡ Some r = e in cc)
 counted audits (t ∷ []) value r e = refl
 counted audits ps value r e = absurd (let bad : None ≡ Some r = e in cc)
+counted learns (l ∷ o ∷ []) value r e = refl
+counted learns ps value r e = absurd (let bad : None ≡ Some r = e in cc)
 counted exports (t ∷ n ∷ c ∷ l ∷ []) value r e = refl
 counted exports ps value r e = absurd (let bad : None ≡ Some r = e in cc)
 counted traces (l ∷ n ∷ s ∷ []) value r e = refl
 counted traces ps value r e = absurd (let bad : None ≡ Some r = e in cc)
 
 -- ---- of all ----
-
-all_some : (ps : List Text) → all_given (map (λ p. Some p) ps) ≡ Some ps
-all_some [] = refl
-all_some (p ∷ ps) = ap (option_map (λ (k : List Text). p ∷ k)) (all_some ps)
 
 row_values : (ids : List Text) (us : List Given) → map (λ id. first_of id (rows us)) ids ≡ values ids us
 row_values [] us = refl

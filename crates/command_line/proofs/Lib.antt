@@ -10,6 +10,8 @@ pub mod NamedValues
 pub mod Exact
 pub mod Top
 pub mod Added
+pub mod Simple
+pub mod Pools
 pub mod Commands
 pub mod Forms
 pub mod Requests

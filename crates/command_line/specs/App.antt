@@ -1,8 +1,8 @@
 -- The program and its commands, as clap's definitions see them.
-use Rattle.std.specs.Prelude.{true, List, [], ◌∷◌, Option, Some, codes, find, fold, map, option_map, option_and_then}
+use Rattle.std.specs.Prelude.{true, List, [], ◌∷◌, Option, Some, codes, find, fold, map, option_and_then}
 use Rattle.std.specs.Str.{bytes_eq}
 use Rattle.clap.specs.Words.{App, Row, first_of, Rule, Text, new_app, new_rule, with_rule, with_subcommand}
-use Rattle.command_line.specs.CommandLine.{Request, Form, rewrites, audits, exports, traces, name_of, options_of, request_by}
+use Rattle.command_line.specs.CommandLine.{Request, Form, rewrites, audits, learns, exports, traces, all_given, name_of, options_of, request_by}
 
 -- a positional word
 abbrev pub positional : Text → Rule
@@ -19,12 +19,13 @@ command_app name words options =
 
 -- the commands
 abbrev pub forms : List Form
-forms = rewrites ∷ audits ∷ exports ∷ traces ∷ []
+forms = rewrites ∷ audits ∷ learns ∷ exports ∷ traces ∷ []
 
 -- the names of a command's positional words
 abbrev pub words_for : Form → List Text
 words_for rewrites = codes "table" ∷ codes "listing" ∷ codes "out" ∷ codes "image" ∷ []
 words_for audits = codes "table" ∷ []
+words_for learns = codes "listing" ∷ codes "out" ∷ []
 words_for exports = codes "table" ∷ codes "entry" ∷ codes "cnf" ∷ codes "lrat" ∷ []
 words_for traces = codes "listing" ∷ codes "label" ∷ codes "steps" ∷ []
 
@@ -43,11 +44,6 @@ bare_app = let a = new_app (codes "peep") in record a {
 
 abbrev pub peep_app : App
 peep_app = fold (λ a form. with_subcommand a (app_for form).top) bare_app forms
-
--- all of these values, or none where one of them is none
-abbrev pub all_given : List (Option Text) → Option (List Text)
-all_given [] = Some []
-all_given (v ∷ vs) = option_and_then (λ w. option_map (λ ws. w ∷ ws) (all_given vs)) v
 
 -- what a command asks for, by the values of its words and options
 abbrev pub asked_by : Form → (Text → Option Text) → Option Request

@@ -1,8 +1,9 @@
 -- Command lines: what the words after the program's name ask for. A word is a list of bytes.
-use Rattle.std.specs.Prelude.{◌≡◌, ◌++◌, ◌&&◌, ◌==◌, ◌%◌, ℕ, Bool, true, false, not, All, List, [], ◌∷◌, Option, Some, None, if◌then◌else◌, codes, find, nat_le, option_and_then, option_map, unwrap_or}
-use Rattle.std.specs.List.{flat_map, list_all, list_any}
+use Rattle.std.specs.Prelude.{◌≡◌, ◌++◌, ◌&&◌, ◌==◌, ◌%◌, ℕ, Bool, true, false, not, All, List, [], ◌∷◌, Option, Some, None, if◌then◌else◌, codes, find, map, nat_le, option_and_then, option_map, unwrap_or}
+use Rattle.std.specs.List.{flat_map, list_all, list_any, slice_split}
 use Rattle.std.specs.Str.{bytes_eq, IsUtf8}
-use Rattle.ascii_scan.specs.Numeral.{numeral}
+use Rattle.ascii_scan.specs.Numeral.{numeral, decimal}
+use Rattle.seq_enum.specs.Pools.{is_pool}
 
 abbrev pub Text : Type 0
 Text = List ℕ
@@ -90,10 +91,54 @@ base_of (Some v) = option_and_then (λ b. if is_base b then Some b else None) (n
 abbrev pub steps_of : Text → Option ℕ
 steps_of v = option_and_then (λ n. if nat_le n 1000000 then Some n else None) (numeral v)
 
+-- all of these values, or none where one of them is none
+abbrev pub all_given : {A : Type 0} → List (Option A) → Option (List A)
+all_given [] = Some []
+all_given (v ∷ vs) = option_and_then (λ w. option_map (λ ws. w ∷ ws) (all_given vs)) v
+
+-- a number from a least to a greatest, as a given value, and another without one
+abbrev pub number_from : (least greatest other : ℕ) → Option Text → Option ℕ
+number_from least greatest other None = Some other
+number_from least greatest other (Some v) = option_and_then (λ n. if nat_le least n && nat_le n greatest then Some n else None) (numeral v)
+
+-- the parts of a text between its commas (44)
+abbrev pub between_commas : Text → List Text
+between_commas v = slice_split (λ b. b == 44) v
+
+-- a pool is decimal numerals joined by single commas
+abbrev pub pool_of : Option Text → Option (List ℕ)
+pool_of None = Some (0 ∷ 1 ∷ 2 ∷ 4 ∷ 8 ∷ 16 ∷ 24 ∷ 31 ∷ 255 ∷ [])
+pool_of (Some v) = option_and_then (λ ns. if is_pool ns then Some ns else None) (all_given (map decimal (between_commas v)))
+
+-- the settings of a learner
+pub record Settings : Type 0 where
+  -- the most registers and the most instructions of a left side
+  pub regs : ℕ
+  pub left : ℕ
+  -- the clauses of a query
+  pub budget : ℕ
+  pub seed : ℕ
+  pub pool : List ℕ
+
+-- settings of these parts, or none where one of them is none
+abbrev pub settings_by : (regs left budget seed : Option ℕ) → Option (List ℕ) → Option Settings
+settings_by regs left budget seed pool = option_and_then (λ r. option_and_then (λ l. option_and_then (λ b. option_and_then (λ s.
+    option_map (λ p. record { regs = r; left = l; budget = b; seed = s; pool = p }) pool) seed) budget) left) regs
+
+-- the settings by the values of the options
+abbrev pub settings_of : (Text → Option Text) → Option Settings
+settings_of value = settings_by
+    (number_from 1 4 3 (value (codes "regs")))
+    (number_from 1 5 3 (value (codes "left")))
+    (number_from 1 1000000 20000 (value (codes "budget")))
+    (number_from 0 4294967295 42 (value (codes "seed")))
+    (pool_of (value (codes "pool")))
+
 -- what a command line asks for
 pub data Request : Type 0 where
   rewrite : (table listing out image : Text) → ℕ → Request
   audit : (table : Text) → Request
+  learn : (listing out : Text) → Settings → Request
   export : (table : Text) (entry : ℕ) (cnf lrat : Text) → Request
   trace : (listing label : Text) → ℕ → Request
 
@@ -102,23 +147,27 @@ pub data Request : Type 0 where
 pub data Form : Type 0 where
   rewrites : Form
   audits : Form
+  learns : Form
   exports : Form
   traces : Form
 
 abbrev pub name_of : Form → Text
 name_of rewrites = codes "rewrite"
 name_of audits = codes "audit"
+name_of learns = codes "learn"
 name_of exports = codes "export"
 name_of traces = codes "trace"
 
 abbrev pub options_of : Form → List Text
 options_of rewrites = codes "base" ∷ []
+options_of learns = codes "regs" ∷ codes "left" ∷ codes "budget" ∷ codes "seed" ∷ codes "pool" ∷ []
 options_of form = []
 
 -- what a command asks for, by its positional words and the values of its options
 abbrev pub request_by : Form → List Text → (Text → Option Text) → Option Request
 request_by rewrites (table ∷ listing ∷ out ∷ image ∷ []) value = option_map (λ base. rewrite table listing out image base) (base_of (value (codes "base")))
 request_by audits (table ∷ []) value = Some (audit table)
+request_by learns (listing ∷ out ∷ []) value = option_map (λ settings. learn listing out settings) (settings_of value)
 request_by exports (table ∷ entry ∷ cnf ∷ lrat ∷ []) value = option_map (λ number. export table number cnf lrat) (numeral entry)
 request_by traces (listing ∷ label ∷ count ∷ []) value = option_map (λ steps. trace listing label steps) (steps_of count)
 request_by form words value = None

@@ -4,7 +4,7 @@ ghost use Rattle.std.specs.Prelude.{◌≡◌, IfOk, false};
 ghost use Rattle.clap.specs.Words.{app_of, with_rule};
 ghost use Rattle.clap.specs.declared.builder.Command.TheViews.{out-Command as fields_of};
 ghost use Rattle.command_line.specs.App.{positional, option, app_for, peep_app};
-ghost use Rattle.command_line.specs.CommandLine.{rewrites, audits, exports, traces};
+ghost use Rattle.command_line.specs.CommandLine.{rewrites, audits, learns, exports, traces};
 
 use clap::{Arg, Command};
 use std::alloc::{AllocError, Global};
@@ -57,6 +57,21 @@ fn audit<'a>(alloc: Global) -> Result<Command<'a>, AllocError>
     with_word(alloc, command, "table")
 }
 
+/// `learn LISTING OUT [--regs N] [--left N] [--budget N] [--seed N] [--pool LIST]`
+fn learn<'a>(alloc: Global) -> Result<Command<'a>, AllocError>
+    ensures app { IfOk result (λ c. app_of c ≡ app_for learns) }
+    ensures own { IfOk result (λ c. (fields_of c).has_globals ≡ false) }
+{
+    let command = Command::new(alloc, "learn");
+    let command = with_word(alloc, command, "listing")?;
+    let command = with_word(alloc, command, "out")?;
+    let command = with_option(alloc, command, "regs")?;
+    let command = with_option(alloc, command, "left")?;
+    let command = with_option(alloc, command, "budget")?;
+    let command = with_option(alloc, command, "seed")?;
+    with_option(alloc, command, "pool")
+}
+
 /// `export TABLE ENTRY CNF LRAT`
 fn export<'a>(alloc: Global) -> Result<Command<'a>, AllocError>
     ensures app { IfOk result (λ c. app_of c ≡ app_for exports) }
@@ -86,6 +101,7 @@ pub fn peep<'a>(alloc: Global) -> Result<Command<'a>, AllocError>
 {
     let rewrite = rewrite(alloc)?;
     let audit = audit(alloc)?;
+    let learn = learn(alloc)?;
     let export = export(alloc)?;
     let trace = trace(alloc)?;
     let command = Command::new(alloc, "peep")
@@ -95,6 +111,7 @@ pub fn peep<'a>(alloc: Global) -> Result<Command<'a>, AllocError>
         .subcommand_required(true)
         .subcommand(rewrite)?
         .subcommand(audit)?
+        .subcommand(learn)?
         .subcommand(export)?
         .subcommand(trace)?;
     Ok(command)

@@ -1,15 +1,20 @@
 //! The values of a command, read from what clap found.
 
-ghost use Rattle.std.specs.Prelude.{◌≡◌, IfOk, option_map, option_and_then, string_bytes};
+ghost use Rattle.std.specs.Prelude.{◌≡◌, ◌-◌, ◌≤◌, ℕ, List, All, IfOk, MatchOption, Some, true, length, map, option_map, option_and_then, string_bytes};
 ghost use Rattle.clap.specs.Words.{first_of, first_value, found_of, rows_of, subcommand_rows_of};
 ghost use Rattle.command_line.specs.App.{asked_by, asked};
-ghost use Rattle.command_line.specs.CommandLine.{rewrites, audits, exports, traces, base_of, is_base, steps_of};
+ghost use Rattle.command_line.specs.CommandLine.{rewrites, audits, learns, exports, traces, base_of, between_commas, is_base, number_from, pool_of, steps_of};
 ghost use Rattle.command_line.specs.Request.{request_of};
+ghost use Rattle.ascii_scan.specs.Numeral.{decimal};
+ghost use Rattle.seq_enum.specs.Pools.{is_pool};
 
 use super::command::Command;
+use arrayvec::ArrayVec;
 use ascii_scan::number;
 use clap::ArgMatches;
+use seq_enum::Pool;
 use std::alloc::{AllocError, Global};
+use thumb_instr::Within;
 
 /// The greatest base of an image.
 const BASE_LIMIT: u32 = 268_435_456;
@@ -32,6 +37,93 @@ fn steps(word: &str) -> Option<u32>
     ensures { result ≡ steps_of word.now }
 {
     number(word.as_bytes()).filter(|steps| *steps <= STEPS_LIMIT)
+}
+
+/// The number from LEAST to below END that an option has, or `other` where it isn't given; None where its value is no such number.
+fn number_from<const LEAST: u32, const END: u32>(
+    given: Option<&str>,
+    other: Within<LEAST, END>,
+) -> Option<Within<LEAST, END>>
+    ensures { option_map (λ n. n.number) result ≡ number_from LEAST (END - 1) other.entry.number (option_map (λ t. t.now) given.entry) }
+{
+    match given {
+        None => Some(other),
+        Some(text) => match number(text.as_bytes()) {
+            None => None,
+            Some(number) => Within::new(number),
+        },
+    }
+}
+
+/// The seed that the option has, or 42 where it isn't given; None where its value is no numeral.
+fn seed(given: Option<&str>) -> Option<u32>
+    ensures { result ≡ number_from 0 4294967295 42 (option_map (λ t. t.now) given.entry) }
+{
+    match given {
+        None => Some(42),
+        Some(text) => number(text.as_bytes()),
+    }
+}
+
+/// The number of a decimal numeral, where it is at most 255.
+fn byte(word: &[u8]) -> Option<u8>
+    ensures { MatchOption result ((n : ℕ) → n ≤ 255 → decimal word.now ≡ Some n → ⊥) (λ n. decimal word.now ≡ Some n) }
+{
+    if word.starts_with(b"0x") {
+        return None;
+    }
+    match number(word) {
+        None => None,
+        Some(number) => {
+            if number > 255 {
+                return None;
+            }
+            Some(number as u8)
+        }
+    }
+}
+
+/// The numbers of at most 16 decimal numerals, each at most 255.
+fn bytes_of(words: &[&[u8]]) -> Option<ArrayVec<u8, 16>>
+    ensures { MatchOption result ((ns : List ℕ) → length ns ≤ 16 → All (λ n. n ≤ 255) ns → map (λ n. Some n) ns ≡ map (λ w. decimal w.now) words.entry.now → ⊥) (λ v. map (λ n. Some n) v.items ≡ map (λ w. decimal w.now) words.entry.now) }
+{
+    if words.len() > 16 {
+        return None;
+    }
+    let mut bytes = ArrayVec::new();
+    for word in words {
+        match byte(word) {
+            None => return None,
+            Some(number) => bytes.push(number),
+        }
+    }
+    Some(bytes)
+}
+
+/// The parts of a text between its commas.
+fn between_commas(alloc: Global, bytes: &[u8]) -> Result<Vec<&[u8]>, AllocError>
+    ensures { IfOk result (λ words. map (λ w. w.now) words.items ≡ between_commas bytes.entry.now) }
+{
+    bytes.split(|b| *b == b',').collect(alloc)
+}
+
+/// The pool of numbers where none is given.
+static DEFAULT_POOL: [u8; 9] = [0, 1, 2, 4, 8, 16, 24, 31, 255];
+
+/// The pool that the option has, or the default one where it isn't given; None where its value is no pool.
+fn pool(alloc: Global, given: Option<&str>) -> Result<Option<Pool>, AllocError>
+    ensures { IfOk result (λ o. option_map (λ p. p) o ≡ pool_of (option_map (λ t. t.now) given.entry)) }
+{
+    match given {
+        None => Ok(Pool::new(&DEFAULT_POOL)),
+        Some(text) => {
+            let words = between_commas(alloc, text.as_bytes())?;
+            match bytes_of(&words) {
+                None => Ok(None),
+                Some(numbers) => Ok(Pool::new(&numbers)),
+            }
+        }
+    }
 }
 
 /// The values of `rewrite`.
@@ -65,6 +157,34 @@ fn audit(alloc: Global, given: &ArgMatches<'_>) -> Result<Option<Command>, Alloc
     };
     Ok(Some(Command::Audit {
         table: String::from_str(alloc, table)?,
+    }))
+}
+
+/// The values of `learn`.
+fn learn(alloc: Global, given: &ArgMatches<'_>) -> Result<Option<Command>, AllocError>
+    ensures { IfOk result (λ o. option_map request_of o ≡ asked_by learns (first_value (found_of given.now))) }
+{
+    let (Some(listing), Some(out), Some(regs), Some(left), Some(budget), Some(seed)) = (
+        given.get_str("listing"),
+        given.get_str("out"),
+        number_from(given.get_str("regs"), Within::<1, 5>::of(3)),
+        number_from(given.get_str("left"), Within::<1, 6>::of(3)),
+        number_from(given.get_str("budget"), Within::<1, 1_000_001>::of(20_000)),
+        seed(given.get_str("seed")),
+    ) else {
+        return Ok(None);
+    };
+    let Some(pool) = pool(alloc, given.get_str("pool"))? else {
+        return Ok(None);
+    };
+    Ok(Some(Command::Learn {
+        listing: String::from_str(alloc, listing)?,
+        out: String::from_str(alloc, out)?,
+        regs,
+        left,
+        budget,
+        seed,
+        pool,
     }))
 }
 
@@ -119,6 +239,7 @@ pub fn command_of(alloc: Global, matches: &ArgMatches<'_>) -> Result<Option<Comm
     match matches.subcommand() {
         Some(("rewrite", given)) => rewrite(alloc, given),
         Some(("audit", given)) => audit(alloc, given),
+        Some(("learn", given)) => learn(alloc, given),
         Some(("export", given)) => export(alloc, given),
         Some(("trace", given)) => trace(alloc, given),
         _ => Ok(None),

@@ -1,7 +1,7 @@
 use Rattle.std.proofs.Common.{◌≡◌, rules, subst, sym, Option}
 use Rattle.std.specs.Prelude.{IfOk, option_map}
 use Rattle.clap.specs.Words.{found_of}
-use Rattle.command_line.specs.CommandLine.{Request, rewrites, audits, exports, traces, name_of}
+use Rattle.command_line.specs.CommandLine.{Request, rewrites, audits, learns, exports, traces, name_of}
 use Rattle.command_line.specs.Request.{request_of}
 use Rattle.command_line.proofs.Usage.{asked_met}
 use Rattle.command_line.proofs.values.command_of.Goals as goal
@@ -17,6 +17,12 @@ returns-in-Some-audit-default c =
     let name : c.in-Some-audit-default.field-0-0.now ≡ name_of audits = search rules in
     let asks = asked_met audits c.args.matches.now (found_of c.in-Some-audit-default.given.now) c.in-Some-audit-default.field-0-0.now c.in-Some-audit-default.ensures.name c.in-Some-audit-default.ensures.rows name in
     subst (λ (v : Option Request). IfOk c.audit.result (λ o. option_map request_of o ≡ v)) (sym asks) c.audit.ensures
+
+pub returns-in-Some-learn-default : goal.returns-in-Some-learn-default
+returns-in-Some-learn-default c =
+    let name : c.in-Some-learn-default.field-0-0.now ≡ name_of learns = search rules in
+    let asks = asked_met learns c.args.matches.now (found_of c.in-Some-learn-default.given.now) c.in-Some-learn-default.field-0-0.now c.in-Some-learn-default.ensures.name c.in-Some-learn-default.ensures.rows name in
+    subst (λ (v : Option Request). IfOk c.learn.result (λ o. option_map request_of o ≡ v)) (sym asks) c.learn.ensures
 
 pub returns-in-Some-export-default : goal.returns-in-Some-export-default
 returns-in-Some-export-default c =
