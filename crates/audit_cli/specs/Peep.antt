@@ -1,12 +1,13 @@
 -- The whole contract of the top call: what the words ask for, and what the run of it has done.
 use Rattle.std.specs.Prelude.{ℕ, ◌⊎◌, List, [], ◌∷◌}
-use Rattle.command_line.specs.CommandLine.{Request, rewrite, audit, export, trace, AskFor}
+use Rattle.command_line.specs.CommandLine.{Request, rewrite, audit, learn, export, trace, AskFor}
 use Rattle.outer_store.specs.Outside.{Seen, SameHeld, Sunk, WroteNone}
 use Rattle.command_runs.specs.declared.status.Status.{Status}
 use Rattle.command_runs.specs.declared.status.Status.TheVariants as status
 use Rattle.command_runs.specs.Plans.{Plan, Runs}
 use Rattle.audit_cli.specs.FirstForm.{RewriteComesTo}
 use Rattle.audit_cli.specs.Audit.{AuditComesTo}
+use Rattle.audit_cli.specs.Learn.{LearnComesTo}
 use Rattle.audit_cli.specs.Export.{ExportComesTo}
 use Rattle.audit_cli.specs.Trace.{TraceComesTo}
 
@@ -14,6 +15,10 @@ use Rattle.audit_cli.specs.Trace.{TraceComesTo}
 abbrev pub plan_of : Request → Plan
 plan_of (rewrite table listing out image base) = record { names = table ∷ listing ∷ []; comes = RewriteComesTo (record { out = out; image = image; base = base }) }
 plan_of (audit table) = record { names = table ∷ []; comes = AuditComesTo }
+plan_of (learn listing out s) = record { names = listing ∷ []; comes = LearnComesTo (record {
+  out = out;
+  settings = record { regs = s.regs; left = s.left; budget = s.budget; seed = s.seed; pool = s.pool };
+}) }
 plan_of (export table entry cnf lrat) = record { names = table ∷ []; comes = ExportComesTo (record { entry = entry; cnf = cnf; lrat = lrat }) }
 plan_of (trace listing label steps) = record { names = listing ∷ []; comes = TraceComesTo (record { label = label; most = steps }) }
 

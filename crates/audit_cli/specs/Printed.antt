@@ -22,6 +22,10 @@ image_line bytes = printed (codes "image" ++ and_number bytes)
 abbrev pub entries_line : ℕ → ℕ → List ℕ
 entries_line entries opens = printed (codes "entries" ++ and_number entries ++ codes " open" ++ and_number opens)
 
+-- `entries E open O states S`
+abbrev pub learnt_line : ℕ → ℕ → ℕ → List ℕ
+learnt_line entries opens states = printed (codes "entries" ++ and_number entries ++ codes " open" ++ and_number opens ++ codes " states" ++ and_number states)
+
 -- `variables V clauses C lines P`
 abbrev pub formula_line : ℕ → ℕ → ℕ → List ℕ
 formula_line variables clauses lines = printed (codes "variables" ++ and_number variables ++ codes " clauses" ++ and_number clauses ++ codes " lines" ++ and_number lines)

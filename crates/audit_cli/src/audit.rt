@@ -17,7 +17,7 @@ use step_ledger::{Ledger, Steps};
 pub(crate) struct Audit;
 
 /// How many numbers entries name open.
-fn open_count(entries: &[Entry]) -> u64
+pub(crate) fn open_count(entries: &[Entry]) -> u64
     requires { sum_by open_count (map rule_of entries.now) < 2 ^ 63 }
     ensures { result ≡ sum_by open_count (map rule_of entries.now) }
 {

@@ -4,6 +4,7 @@
 mod audit;
 mod export;
 mod first_form;
+mod learn;
 mod printing;
 mod refusal;
 mod rewrite;

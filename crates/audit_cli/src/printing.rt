@@ -2,7 +2,7 @@
 ghost use Rattle.std.specs.Prelude.{◌≡◌, ◌∷◌, [], IfOk, map};
 ghost use Rattle.listing_parser.specs.Parsing.{text_of_lines};
 ghost use Rattle.listing_parser.specs.Views.{line_view};
-ghost use Rattle.audit_cli.specs.Printed.{report_of, image_line, entries_line, formula_line};
+ghost use Rattle.audit_cli.specs.Printed.{report_of, image_line, entries_line, learnt_line, formula_line};
 ghost use Rattle.command_runs.specs.Outcomes.{deed_view, outcome_view};
 ghost use Rattle.command_runs.specs.Plans.{Does};
 
@@ -42,6 +42,19 @@ pub fn entries_report(alloc: Global, entries: u64, opens: u64) -> Result<Vec<u8>
     ensures { IfOk result (λ v. v.items ≡ entries_line entries opens) }
 {
     let text = format!(in alloc; "entries {entries} open {opens}\n")?;
+    Ok(text.into_bytes())
+}
+
+/// What is printed of a learnt table: how many entries it has, how many numbers these name open, and how many states it lists.
+pub fn learnt_report(
+    alloc: Global,
+    entries: u64,
+    opens: u64,
+    states: u64,
+) -> Result<Vec<u8>, AllocError>
+    ensures { IfOk result (λ v. v.items ≡ learnt_line entries opens states) }
+{
+    let text = format!(in alloc; "entries {entries} open {opens} states {states}\n")?;
     Ok(text.into_bytes())
 }
 

@@ -30,6 +30,8 @@ pub(crate) enum Refusal {
     Align { line: u64, address: u64 },
     /// The label is no code label.
     Label,
+    /// The text of a table has so many bytes, which are too many.
+    Full { bytes: u64 },
 }
 
 /// The number of a kind of refusal.
@@ -128,6 +130,14 @@ fn label_line(alloc: Global) -> Result<Vec<u8>, AllocError>
     b"refused label\n".to_vec(alloc)
 }
 
+/// `refused full BYTES`
+fn full_line(alloc: Global, bytes: u64) -> Result<Vec<u8>, AllocError>
+    ensures { IfOk result (λ v. v.items ≡ refusal_line (Refusal.Full bytes)) }
+{
+    let text = format!(in alloc; "refused full {bytes}\n")?;
+    Ok(text.into_bytes())
+}
+
 /// The line that tells a refusal.
 fn refusal_line(alloc: Global, refusal: Refusal) -> Result<Vec<u8>, AllocError>
     ensures { IfOk result (λ v. v.items ≡ refusal_line refusal) }
@@ -142,6 +152,7 @@ fn refusal_line(alloc: Global, refusal: Refusal) -> Result<Vec<u8>, AllocError>
         Refusal::Range { line, distance } => range_line(alloc, line, distance),
         Refusal::Align { line, address } => align_line(alloc, line, address),
         Refusal::Label => label_line(alloc),
+        Refusal::Full { bytes } => full_line(alloc, bytes),
     }
 }
 

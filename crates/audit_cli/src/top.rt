@@ -7,6 +7,7 @@ ghost use Rattle.audit_cli.specs.Peep.{plan_of, Peeps};
 
 use crate::audit::Audit;
 use crate::export::Export;
+use crate::learn::Learn;
 use crate::rewrite::Rewrite;
 use crate::trace::Trace;
 use command_line::{Command, usage_of};
@@ -46,6 +47,26 @@ fn run_command<S: Store, O: Sink, L: Ledger>(
         Command::Audit { table } => {
             let names = [table.as_str()];
             return run(alloc, &Audit, &names, store, sink, steps);
+        }
+        Command::Learn {
+            listing,
+            out,
+            regs,
+            left,
+            budget,
+            seed,
+            pool,
+        } => {
+            let learn = Learn {
+                out: out.as_str(),
+                regs: *regs,
+                left: *left,
+                budget: *budget,
+                seed: *seed,
+                pool,
+            };
+            let names = [listing.as_str()];
+            return run(alloc, &learn, &names, store, sink, steps);
         }
         Command::Export {
             table,

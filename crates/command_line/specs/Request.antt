@@ -7,7 +7,7 @@ use Rattle.command_line.specs.declared.command.Command.TheVariants.{Rewrite, Aud
 -- the request of a command
 abbrev pub request_of : Command → Request
 request_of (Rewrite table listing out image base) =
-    rewrite (string_bytes table) (string_bytes listing) (string_bytes out) (string_bytes image) base
+    rewrite (string_bytes table) (string_bytes listing) (string_bytes out) (string_bytes image) base.address
 request_of (Audit table) = audit (string_bytes table)
 request_of (Learn listing out regs left budget seed pool) =
     learn (string_bytes listing) (string_bytes out) (record { regs = regs.number; left = left.number; budget = budget.number; seed = seed; pool = pool })

@@ -1,9 +1,35 @@
 //! What a command line asks for.
+ghost use Rattle.std.specs.Prelude.{◌≡◌, ◌≤◌, ◌%◌, Some, None, if◌then◌else◌, option_map};
+ghost use Rattle.command_line.specs.CommandLine.{is_base};
 
 use seq_enum::Pool;
 use std::alloc::AllocError;
 use thiserror::Error;
 use thumb_instr::Within;
+
+/// The greatest base of an image.
+const BASE_LIMIT: u32 = 268_435_456;
+
+/// An address that an image may begin at: a multiple of 4 up to 268,435,456.
+#[derive(Clone, Copy)]
+pub struct Base {
+    pub address: u32,
+    pub ghost aligned: { address % 4 ≡ 0 },
+    pub ghost small: { address ≤ 268435456 },
+}
+
+impl Base {
+    /// The base of this address, where it is one.
+    pub fn new(address: u32) -> Option<Base>
+        ensures { option_map (λ b. b.address) result ≡ (if is_base address then Some address else None) }
+    {
+        if address % 4 == 0 && address <= BASE_LIMIT {
+            Some(Base { address })
+        } else {
+            None
+        }
+    }
+}
 
 /// A command, with the values of its words and options.
 #[derive(Drop)]
@@ -14,8 +40,7 @@ pub enum Command {
         listing: String,
         out: String,
         image: String,
-        /// An address: a multiple of 4 up to 268,435,456.
-        base: u32,
+        base: Base,
     },
     /// Read and audit the table.
     Audit {

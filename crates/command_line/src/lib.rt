@@ -21,7 +21,7 @@ mod values;
 
 use clap::ArgMatches;
 use clap::error::ErrorKind;
-pub use command::{Command, Memory};
+pub use command::{Base, Command, Memory};
 use std::alloc::{AllocError, Global};
 
 /// The words as texts.

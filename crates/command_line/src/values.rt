@@ -8,7 +8,7 @@ ghost use Rattle.command_line.specs.Request.{request_of};
 ghost use Rattle.ascii_scan.specs.Numeral.{decimal};
 ghost use Rattle.seq_enum.specs.Pools.{is_pool};
 
-use super::command::Command;
+use super::command::{Base, Command};
 use arrayvec::ArrayVec;
 use ascii_scan::number;
 use clap::ArgMatches;
@@ -16,16 +16,16 @@ use seq_enum::Pool;
 use std::alloc::{AllocError, Global};
 use thumb_instr::Within;
 
-/// The greatest base of an image.
-const BASE_LIMIT: u32 = 268_435_456;
-
 /// The base of an image by the value of `--base`, or None where the value is none.
-fn base(given: Option<&str>) -> Option<u32>
-    ensures { result ≡ base_of (option_map (λ t. t.now) given.entry) }
+fn base(given: Option<&str>) -> Option<Base>
+    ensures { option_map (λ b. b.address) result ≡ base_of (option_map (λ t. t.now) given.entry) }
 {
     match given {
-        None => Some(0),
-        Some(text) => number(text.as_bytes()).filter(|base| *base % 4 == 0 && *base <= BASE_LIMIT),
+        None => Base::new(0),
+        Some(text) => match number(text.as_bytes()) {
+            None => None,
+            Some(address) => Base::new(address),
+        },
     }
 }
 

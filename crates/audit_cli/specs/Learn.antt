@@ -1,0 +1,56 @@
+-- What `learn` comes to.
+use Rattle.std.specs.Prelude.{◌≡◌, ◌<◌, ◌≤◌, ℕ, List, [], ◌∷◌, length, map}
+use Rattle.thumb_model.specs.Listing.{Line}
+use Rattle.listing_parser.specs.Parsing.{IsListing}
+use Rattle.window_harvest.specs.Harvest.{Pair, Limits, AreHarvest}
+use Rattle.rule_table.specs.Table.{Table}
+use Rattle.rule_table.specs.Text.{text_of}
+use Rattle.table_learn.specs.Settings.{Settings, Window}
+use Rattle.table_learn.specs.Learnt.{Learnt, IsFull, text_length, text_limit, width_of}
+use Rattle.command_runs.specs.Plans.{Outcome, Refuses, Does}
+use Rattle.audit_cli.specs.declared.refusal.Refusal.{Refusal}
+use Rattle.audit_cli.specs.declared.refusal.Refusal.TheVariants as refusal
+use Rattle.audit_cli.specs.Refusals.{refusal_line}
+use Rattle.audit_cli.specs.Steps.{IsUnread}
+use Rattle.audit_cli.specs.Printed.{learnt_line}
+use Rattle.audit_cli.specs.Audit.{opens_of}
+
+-- the name that a table is kept under, and the settings that it is learnt with
+pub record Lesson : Type 0 where
+  pub out : List ℕ
+  pub settings : Settings
+
+abbrev pub limits_of : Settings → Limits
+limits_of s = record { regs = s.regs; left = s.left; pool = s.pool }
+
+-- a listing's window, as it is learnt from
+abbrev pub window_for : Pair → Window
+window_for pair = record { seq = pair.seq; mask = pair.mask }
+
+-- the windows of lines, each with the items that are live after it, in order of first appearance
+pub record AreWindowsOf (s : Settings) (lines : List Line) (windows : List Window) : Type 0 where
+  pub pairs : List Pair
+  pub harvest : AreHarvest (limits_of s) lines pairs
+  pub same : windows ≡ map window_for pairs
+
+-- the table's text is kept, and its numbers are told
+abbrev pub kept_table : List ℕ → Table → Outcome
+kept_table out t = Does ((out, text_of t) ∷ []) (learnt_line (length t.rules) (opens_of t) (length t.states))
+
+-- what the lines of a listing come to: more than 5,000,000 sequences are shorter than the longest windows, or the table of the first windows has a text
+-- that is too long, or the table that is learnt from all windows is kept
+pub data LinesLearn (to : Lesson) (lines : List Line) : Outcome → Type 0 where
+  too_wide : 5000000 < width_of to.settings → LinesLearn to lines (Refuses (refusal_line (refusal.Wide (width_of to.settings))))
+  too_long : (windows : List Window) → AreWindowsOf to.settings lines windows → (t : Table) (bytes : ℕ) → IsFull to.settings windows t bytes
+      → LinesLearn to lines (Refuses (refusal_line (refusal.Full bytes)))
+  learnt : (windows : List Window) → AreWindowsOf to.settings lines windows → (t : Table) → Learnt to.settings windows t → text_length t ≤ text_limit
+      → LinesLearn to lines (kept_table to.out t)
+
+-- what a text comes to: it is no listing, or a table is learnt from its lines
+pub data Learns (to : Lesson) (text : List ℕ) : Outcome → Type 0 where
+  unread : (r : Refusal) → IsUnread text r → Learns to text (Refuses (refusal_line r))
+  read : (lines : List Line) → IsListing text lines → (o : Outcome) → LinesLearn to lines o → Learns to text o
+
+-- `learn` goes by one text
+abbrev pub LearnComesTo : Lesson → List (List ℕ) → Outcome → Type 0
+LearnComesTo to texts o = (text : List ℕ) × (texts ≡ text ∷ []) × Learns to text o
