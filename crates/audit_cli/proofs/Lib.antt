@@ -1,8 +1,8 @@
-pub mod Lists
 pub mod PrintLemmas
 pub mod RefusalLemmas
 pub mod StepLemmas
 pub mod TableTexts
+pub mod WellFormed
 pub mod RewriteLemmas
 pub mod PeepLemmas
 pub mod TraceLineLemmas
@@ -10,4 +10,3 @@ pub mod StayLemmas
 pub mod RunningLemmas
 pub mod StartLemmas
 pub mod TraceLemmas
-pub mod FirstForm

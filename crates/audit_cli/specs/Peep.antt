@@ -5,7 +5,7 @@ use Rattle.outer_store.specs.Outside.{Seen, SameHeld, Sunk, WroteNone}
 use Rattle.command_runs.specs.declared.status.Status.{Status}
 use Rattle.command_runs.specs.declared.status.Status.TheVariants as status
 use Rattle.command_runs.specs.Plans.{Plan, Runs}
-use Rattle.audit_cli.specs.FirstForm.{RewriteComesTo}
+use Rattle.audit_cli.specs.Rewrite.{RewriteComesTo}
 use Rattle.audit_cli.specs.Audit.{AuditComesTo}
 use Rattle.audit_cli.specs.Learn.{LearnComesTo}
 use Rattle.audit_cli.specs.Export.{ExportComesTo}

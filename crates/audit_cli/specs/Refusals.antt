@@ -25,7 +25,8 @@ fault_words (fault.Untold sequence) = codes " 4" ++ and_number sequence
 fault_words (fault.Open sequence) = codes " 5" ++ and_number sequence
 
 -- `refused table LINE`, `refused states PLACE`, `refused wide COUNT`, `refused entry NUMBER KIND ..`, `refused number`,
--- `refused listing LINE KIND`, `refused listing LINE 4 DISTANCE`, `refused listing LINE 5 ADDRESS`, `refused label` and `refused full BYTES`
+-- `refused listing LINE KIND`, `refused listing LINE 4 DISTANCE`, `refused listing LINE 5 ADDRESS`, `refused label`, `refused address LINE`,
+-- `refused inside LINE` and `refused full BYTES`
 abbrev pub refusal_line : Refusal → List ℕ
 refusal_line (refusal.Table line) = printed (codes "refused table" ++ and_number line)
 refusal_line (refusal.States place) = printed (codes "refused states" ++ and_number place)
@@ -36,6 +37,8 @@ refusal_line (refusal.Listing line k) = printed (codes "refused listing" ++ and_
 refusal_line (refusal.Range line distance) = printed (codes "refused listing" ++ and_number line ++ codes " 4 " ++ signed_decimal distance)
 refusal_line (refusal.Align line address) = printed (codes "refused listing" ++ and_number line ++ codes " 5" ++ and_number address)
 refusal_line refusal.Label = printed (codes "refused label")
+refusal_line (refusal.Address line) = printed (codes "refused address" ++ and_number line)
+refusal_line (refusal.Inside line) = printed (codes "refused inside" ++ and_number line)
 refusal_line (refusal.Full bytes) = printed (codes "refused full" ++ and_number bytes)
 
 -- the refusal of a line that can't be laid out

@@ -11,6 +11,9 @@ use Rattle.listing_parser.specs.declared.errors.Kind.{Kind}
 use Rattle.listing_parser.specs.Parsing.{IsListing, IsRefused}
 use Rattle.label_layout.specs.Refusals.{first_fault}
 use Rattle.label_layout.specs.Addresses.{Addresses, AreAddresses}
+use Rattle.thumb_assembler.specs.declared.errors.Flaw.TheVariants as flaw
+use Rattle.thumb_assembler.specs.Refusals.{first_flaw}
+use Rattle.thumb_assembler.specs.Images.{AreImage}
 use Rattle.audit_cli.specs.declared.refusal.Refusal.{Refusal}
 use Rattle.audit_cli.specs.declared.refusal.Refusal.TheVariants as refusal
 use Rattle.audit_cli.specs.Refusals.{unlaid_refusal}
@@ -34,6 +37,11 @@ pub data IsUnread (text : List ℕ) : Refusal → Type 0 where
 pub data IsUnlaid (base : ℕ) (lines : List Line) : Refusal → Type 0 where
   unlaid : (line : ℕ) (fault : Fault) → first_fault base lines ≡ Some (line, fault) → IsUnlaid base lines (unlaid_refusal line fault)
 
+-- lines have no image because of the first that mentions in `b`, `bl` or `.word` a name with no address, or sets an address in the image
+pub data HasNoImage (base : ℕ) (lines : List Line) : Refusal → Type 0 where
+  no_address : (line : ℕ) → first_flaw base lines ≡ Some (line, flaw.NoAddress) → HasNoImage base lines (refusal.Address line)
+  inside : (line : ℕ) → first_flaw base lines ≡ Some (line, flaw.Inside) → HasNoImage base lines (refusal.Inside line)
+
 -- the text is that of an accepted table
 pub record IsAudited (text : List ℕ) (t : Table) : Type 0 where
   pub is : IsText text t
@@ -52,6 +60,11 @@ AuditsTable text (Err r) = IsUnaudited text r
 abbrev pub ReadsListing : List ℕ → Result (List Line) Refusal → Type 0
 ReadsListing text (Ok lines) = IsListing text lines
 ReadsListing text (Err r) = IsUnread text r
+
+-- what comes of making an image of lines
+abbrev pub MakesImage : ℕ → List Line → Result (List ℕ) Refusal → Type 0
+MakesImage base lines (Ok bytes) = AreImage base lines bytes
+MakesImage base lines (Err r) = HasNoImage base lines r
 
 -- what comes of laying lines out
 abbrev pub LaysOut : ℕ → List Line → Result Addresses Refusal → Type 0

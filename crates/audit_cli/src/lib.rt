@@ -3,7 +3,6 @@
 
 mod audit;
 mod export;
-mod first_form;
 mod learn;
 mod printing;
 mod refusal;

@@ -1,25 +1,11 @@
 //! What is kept and printed, as bytes.
-ghost use Rattle.std.specs.Prelude.{◌≡◌, ◌∷◌, [], IfOk, map};
-ghost use Rattle.listing_parser.specs.Parsing.{text_of_lines};
-ghost use Rattle.listing_parser.specs.Views.{line_view};
+ghost use Rattle.std.specs.Prelude.{◌≡◌, ◌∷◌, [], IfOk};
 ghost use Rattle.audit_cli.specs.Printed.{report_of, image_line, entries_line, learnt_line, formula_line};
 ghost use Rattle.command_runs.specs.Outcomes.{deed_view, outcome_view};
 ghost use Rattle.command_runs.specs.Plans.{Does};
 
 use command_runs::{Deed, Outcome};
-use listing_parser::Line;
 use std::alloc::{AllocError, Global};
-
-/// The text of lines: their bytes, joined.
-pub fn print(alloc: Global, lines: &[&Line]) -> Result<Vec<u8>, AllocError>
-    ensures { IfOk result (λ v. v.items ≡ text_of_lines (map (λ l. line_view l.now) lines.now)) }
-{
-    let mut text = Vec::new(alloc);
-    for line in lines {
-        text.extend_from_slice(&line.text)?;
-    }
-    Ok(text)
-}
 
 /// What is printed of a rewritten listing: how many replacements were made, and how many instructions there were before and after.
 pub fn report(alloc: Global, replaced: u64, before: u64, after: u64) -> Result<Vec<u8>, AllocError>

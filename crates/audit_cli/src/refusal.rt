@@ -30,6 +30,10 @@ pub(crate) enum Refusal {
     Align { line: u64, address: u64 },
     /// The label is no code label.
     Label,
+    /// The line mentions a name that has no address.
+    Address { line: u64 },
+    /// The line sets an address that lies in the image.
+    Inside { line: u64 },
     /// The text of a table has so many bytes, which are too many.
     Full { bytes: u64 },
 }
@@ -130,6 +134,22 @@ fn label_line(alloc: Global) -> Result<Vec<u8>, AllocError>
     b"refused label\n".to_vec(alloc)
 }
 
+/// `refused address LINE`
+fn address_line(alloc: Global, line: u64) -> Result<Vec<u8>, AllocError>
+    ensures { IfOk result (λ v. v.items ≡ refusal_line (Refusal.Address line)) }
+{
+    let text = format!(in alloc; "refused address {line}\n")?;
+    Ok(text.into_bytes())
+}
+
+/// `refused inside LINE`
+fn inside_line(alloc: Global, line: u64) -> Result<Vec<u8>, AllocError>
+    ensures { IfOk result (λ v. v.items ≡ refusal_line (Refusal.Inside line)) }
+{
+    let text = format!(in alloc; "refused inside {line}\n")?;
+    Ok(text.into_bytes())
+}
+
 /// `refused full BYTES`
 fn full_line(alloc: Global, bytes: u64) -> Result<Vec<u8>, AllocError>
     ensures { IfOk result (λ v. v.items ≡ refusal_line (Refusal.Full bytes)) }
@@ -152,6 +172,8 @@ fn refusal_line(alloc: Global, refusal: Refusal) -> Result<Vec<u8>, AllocError>
         Refusal::Range { line, distance } => range_line(alloc, line, distance),
         Refusal::Align { line, address } => align_line(alloc, line, address),
         Refusal::Label => label_line(alloc),
+        Refusal::Address { line } => address_line(alloc, line),
+        Refusal::Inside { line } => inside_line(alloc, line),
         Refusal::Full { bytes } => full_line(alloc, bytes),
     }
 }

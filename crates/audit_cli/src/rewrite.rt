@@ -1,81 +1,48 @@
 //! The command `rewrite`: what the texts of a table and a listing come to.
-ghost use Rattle.std.specs.Prelude.{◌≡◌, ◌++◌, ◌↔◌, ◌<◌, ◌^◌, ℕ, List, length, map, codes, IfOk, IsTrue};
+ghost use Rattle.std.specs.Prelude.{◌≡◌, ◌∷◌, ◌++◌, ◌↔◌, [], length, map, codes, IfOk, IsTrue};
 ghost use Rattle.listing_parser.specs.Parsing.{IsListing, text_of_lines};
 ghost use Rattle.listing_parser.specs.Views.{line_view};
 ghost use Rattle.command_runs.specs.Outcomes.{outcome_view};
 ghost use Rattle.thumb_model.specs.Layout.{Layable};
-ghost use Rattle.audit_cli.specs.Printed.{report_of, image_line};
-ghost use Rattle.audit_cli.specs.Rewrite.{IsKeptIn, IsRewriting, LinesRewrite, Rewrites, instruction_count};
-ghost use Rattle.audit_cli.specs.FirstForm.{first_table, Comes};
 ghost use Rattle.thumb_model.specs.Rewritten.{is_op};
-ghost use Rattle.audit_cli.specs.Destinations.{destination_of};
-ghost use Rattle.audit_cli.specs.FirstForm.Simple.{AreSimple};
-ghost use Rattle.audit_cli.specs.FirstForm.Straight.{AreStraight};
-ghost use Rattle.audit_cli.specs.FirstForm.Tables.{AreMoves};
-ghost use Rattle.audit_cli.specs.Steps.{IsAudited};
-ghost use Rattle.rule_table.specs.Text.{items_of};
+ghost use Rattle.command_runs.specs.Plans.{Does};
 ghost use Rattle.rule_table.specs.Views.{table_of};
+ghost use Rattle.audit_cli.specs.Destinations.{counts_of, destination_of};
+ghost use Rattle.audit_cli.specs.Printed.{report_of, image_line};
+ghost use Rattle.audit_cli.specs.Rewrite.{Comes, Leaves, LinesRewrite, Rewrites, instruction_count};
 
-use crate::first_form::assembling::assemble;
-use crate::first_form::moves::drop_moves;
-use crate::first_form::straight::first_bad;
-use crate::first_form::tables::first_other;
-use crate::printing::{image_report, keeps_text, keeps_two, print, report};
-use crate::refusal::{Refusal, refused};
-use crate::steps::{lay_out, read_audited, read_listing};
+use crate::printing::{image_report, keeps_text, keeps_two, report};
+use crate::refusal::refused;
+use crate::steps::{image_of, read_audited, read_listing, unlaid};
+use command_line::Base;
 use command_runs::Outcome;
-use listing_parser::{Kind, Line, Listing, Statement};
-use rule_table::Table;
+use listing_parser::{Line, Listing, Memory, Statement, print};
 use std::alloc::{AllocError, Global};
 use step_ledger::{Ledger, Steps};
+use table_audit::Audited;
+use window_rewrite::{RewriteError, Rewritten};
+
+/// The command `rewrite`, with the names that it keeps and the base of its image.
+#[derive(Drop)]
+pub(crate) struct Rewrite<'a> {
+    pub(crate) out: &'a str,
+    pub(crate) image: &'a str,
+    pub(crate) base: Base,
+}
+
+/// How many replacements were made, and how many instructions there were before and after.
+#[derive(Clone, Copy)]
+struct Counts {
+    replaced: u64,
+    before: u64,
+    after: u64,
+}
 
 /// Whether IMAGE names no image.
 fn is_no_image(image: &str) -> bool
     ensures { IsTrue result ↔ (image.now ≡ codes "-") }
 {
     image == "-"
-}
-
-/// The report of a rewritten listing with that of its image.
-fn report_image(
-    alloc: Global,
-    replaced: u64,
-    before: u64,
-    after: u64,
-    bytes: u64,
-) -> Result<Vec<u8>, AllocError>
-    ensures { IfOk result (λ v. v.items ≡ report_of replaced before after ++ image_line bytes) }
-{
-    let mut lines = report(alloc, replaced, before, after)?;
-    let size = image_report(alloc, bytes)?;
-    lines.extend_from_slice(&size)?;
-    Ok(lines)
-}
-
-/// What is kept and printed of the lines that are left.
-#[tactic(auto, using(crate::proofs::RewriteLemmas::kept_alone, crate::proofs::RewriteLemmas::kept_pair))]
-fn kept_listing(
-    alloc: Global,
-    out: &str,
-    image: &str,
-    lines: &[&Line],
-    replaced: u64,
-    before: u64,
-    after: u64,
-) -> Result<Outcome, AllocError>
-    requires { AreSimple (map (λ l. line_view l.now) lines.now) }
-    ensures { (base : ℕ) → IfOk result (λ o. IsKeptIn (record { out = out.now; image = image.now; base = base }) (map (λ l. line_view l.now) lines.now) (record { replaced = replaced; before = before; after = after }) (outcome_view o)) }
-{
-    let text = print(alloc, lines)?;
-    if is_no_image(image) {
-        let printed = report(alloc, replaced, before, after)?;
-        let outcome = keeps_text(alloc, out, text, printed)?;
-        return Ok(outcome);
-    }
-    let bytes = assemble(alloc, lines)?;
-    let printed = report_image(alloc, replaced, before, after, bytes.len() as u64)?;
-    let outcome = keeps_two(alloc, out, text, image, bytes, printed)?;
-    return Ok(outcome);
 }
 
 /// Whether a line holds an instruction.
@@ -98,66 +65,111 @@ fn instruction_count(lines: &[Line]) -> u64
     count
 }
 
-/// Rewrites a straight listing by a table of so many entries.
-fn rewritten(
-    alloc: Global,
-    entries: usize,
-    listing: &Listing,
-    out: &str,
-    image: &str,
-) -> Result<Outcome, AllocError>
-    requires simple { AreSimple listing.now }
-    requires listed { IsListing (text_of_lines listing.now) listing.now }
-    ensures { (pool : List ℕ) (base : ℕ) → Layable base listing.now → IfOk result (λ o. IsRewriting (record { out = out.now; image = image.now; base = base }) (first_table pool entries) listing.now (outcome_view o)) }
+/// The report of a rewritten listing with that of its image.
+fn report_image(alloc: Global, counts: Counts, bytes: u64) -> Result<Vec<u8>, AllocError>
+    ensures { IfOk result (λ v. v.items ≡ report_of counts.replaced counts.before counts.after ++ image_line bytes) }
 {
-    let new = drop_moves(alloc, entries, listing)?;
-    let before = instruction_count(listing.lines());
-    let after = new.instructions as u64;
-    let replaced = new.used.len() as u64;
-    let outcome = kept_listing(alloc, out, image, &new.lines, replaced, before, after)?;
+    let mut lines = report(alloc, counts.replaced, counts.before, counts.after)?;
+    let size = image_report(alloc, bytes)?;
+    lines.extend_from_slice(&size)?;
+    Ok(lines)
+}
+
+/// A listing is kept.
+fn keeps_listing(
+    alloc: Global,
+    out: &str,
+    listing: &Listing,
+    counts: Counts,
+) -> Result<Outcome, Memory>
+    ensures { IfOk result (λ o. outcome_view o ≡ Does ((out.now, text_of_lines listing.now) ∷ []) (report_of counts.replaced counts.before counts.after)) }
+{
+    let text = print(alloc, listing)?;
+    let lines = report(alloc, counts.replaced, counts.before, counts.after)?;
+    let outcome = keeps_text(alloc, out, text, lines)?;
     Ok(outcome)
 }
 
-/// The command `rewrite`, with the names that it keeps and the base of its image.
-#[derive(Drop)]
-pub(crate) struct Rewrite<'a> {
-    pub(crate) out: &'a str,
-    pub(crate) image: &'a str,
-    pub(crate) base: u32,
-}
-
-/// What the lines of a straight listing come to by a table of so many entries.
-fn lines_outcome(
+/// A listing is kept, and then its image.
+fn keeps_both(
     alloc: Global,
     to: &Rewrite<'_>,
-    entries: usize,
     listing: &Listing,
-) -> Result<Outcome, AllocError>
-    requires simple { AreSimple listing.now }
-    requires listed { IsListing (text_of_lines listing.now) listing.now }
-    ensures { (pool : List ℕ) → IfOk result (λ o. LinesRewrite (destination_of to.now) (first_table pool entries) listing.now (outcome_view o)) }
+    image: Vec<u8>,
+    counts: Counts,
+) -> Result<Outcome, Memory>
+    ensures { IfOk result (λ o. outcome_view o ≡ Does ((to.now.out.now, text_of_lines listing.now) ∷ (to.now.image.now, image.items) ∷ []) (report_of counts.replaced counts.before counts.after ++ image_line (length image.items))) }
 {
-    match lay_out(alloc, listing, to.base)? {
-        Err(refusal) => {
-            let outcome = refused(alloc, refusal)?;
-            Ok(outcome)
-        }
-        Ok(_) => {
-            let outcome = rewritten(alloc, entries, listing, to.out, to.image)?;
-            Ok(outcome)
+    let text = print(alloc, listing)?;
+    let lines = report_image(alloc, counts, image.len() as u64)?;
+    let outcome = keeps_two(alloc, to.out, text, to.image, image, lines)?;
+    Ok(outcome)
+}
+
+/// What a rewritten listing comes to.
+fn left(
+    alloc: Global,
+    to: &Rewrite<'_>,
+    listing: &Listing,
+    counts: Counts,
+) -> Result<Outcome, AllocError>
+    requires listed { IsListing (text_of_lines listing.now) listing.now }
+    requires layable { Layable to.now.base.address listing.now }
+    ensures { IfOk result (λ o. Leaves (destination_of to.now) listing.now (counts_of counts) (outcome_view o)) }
+{
+    if is_no_image(to.image) {
+        return match keeps_listing(alloc, to.out, listing, counts) {
+            Err(_) => Err(AllocError),
+            Ok(outcome) => Ok(outcome),
+        };
+    }
+    match image_of(alloc, listing, to.base.address)? {
+        Err(refusal) => refused(alloc, refusal),
+        Ok(image) => match keeps_both(alloc, to, listing, image, counts) {
+            Err(_) => Err(AllocError),
+            Ok(outcome) => Ok(outcome),
+        },
+    }
+}
+
+/// What the lines of a listing come to by an accepted table.
+fn lines_outcome<L: Ledger>(
+    alloc: Global,
+    to: &Rewrite<'_>,
+    table: &Audited,
+    listing: Listing,
+    steps: &mut Steps<L>,
+) -> Result<Outcome, AllocError>
+    requires listed { IsListing (text_of_lines listing) listing }
+    ensures { IfOk result (λ o. LinesRewrite (destination_of to.now) (table_of table.now) listing (outcome_view o)) }
+{
+    let before = instruction_count(listing.lines());
+    match window_rewrite::rewrite(alloc, table, listing, to.base.address, steps) {
+        Err(RewriteError::Memory) => Err(AllocError),
+        Err(RewriteError::Line { number, kind }) => refused(alloc, unlaid(number, kind)),
+        Ok(Rewritten {
+            listing,
+            replacements,
+        }) => {
+            let counts = Counts {
+                replaced: replacements.len() as u64,
+                before,
+                after: instruction_count(listing.lines()),
+            };
+            left(alloc, to, &listing, counts)
         }
     }
 }
 
-/// What the text of a straight listing comes to by a table of so many entries.
-fn text_outcome(
+/// What the text of a listing comes to by an accepted table.
+fn text_outcome<L: Ledger>(
     alloc: Global,
     to: &Rewrite<'_>,
-    entries: usize,
+    table: &Audited,
     text: &[u8],
+    steps: &mut Steps<L>,
 ) -> Result<Outcome, AllocError>
-    requires { AreStraight text.now }
-    ensures { (pool : List ℕ) → IfOk result (λ o. Rewrites (destination_of to.now) (first_table pool entries) text.now (outcome_view o)) }
+    ensures { IfOk result (λ o. Rewrites (destination_of to.now) (table_of table.now) text.now (outcome_view o)) }
 {
     match read_listing(alloc, text)? {
         Err(refusal) => {
@@ -165,57 +177,7 @@ fn text_outcome(
             Ok(outcome)
         }
         Ok(listing) => {
-            let outcome = lines_outcome(alloc, to, entries, &listing)?;
-            Ok(outcome)
-        }
-    }
-}
-
-/// What the text of a listing comes to by a table whose entries each remove a move of r0 to itself.
-fn listing_outcome(
-    alloc: Global,
-    to: &Rewrite<'_>,
-    table: &Table,
-    listing: &[u8],
-) -> Result<Outcome, AllocError>
-    requires { AreMoves (table_of table.now) }
-    ensures { (text : List ℕ) → IsAudited text (table_of table.now) → IfOk result (λ o. Comes (destination_of to.now) text listing.now (outcome_view o)) }
-{
-    match first_bad(alloc, listing)? {
-        None => {
-            let outcome = text_outcome(alloc, to, table.entries.len(), listing)?;
-            Ok(outcome)
-        }
-        Some(line) => {
-            let outcome = refused(
-                alloc,
-                Refusal::Listing {
-                    line,
-                    kind: Kind::Shape,
-                },
-            )?;
-            Ok(outcome)
-        }
-    }
-}
-
-/// What the text of a listing comes to by an accepted table.
-fn table_outcome(
-    alloc: Global,
-    to: &Rewrite<'_>,
-    table: &Table,
-    listing: &[u8],
-) -> Result<Outcome, AllocError>
-    requires { length (items_of (table_of table.now)) < 2 ^ 63 }
-    ensures { (text : List ℕ) → IsAudited text (table_of table.now) → IfOk result (λ o. Comes (destination_of to.now) text listing.now (outcome_view o)) }
-{
-    match first_other(table) {
-        None => {
-            let outcome = listing_outcome(alloc, to, table, listing)?;
-            Ok(outcome)
-        }
-        Some(line) => {
-            let outcome = refused(alloc, Refusal::Table { line })?;
+            let outcome = lines_outcome(alloc, to, table, listing, steps)?;
             Ok(outcome)
         }
     }
@@ -237,14 +199,14 @@ fn outcome<L: Ledger>(
             Ok(outcome)
         }
         Ok(audited) => {
-            let outcome = table_outcome(alloc, to, audited.table(), listing)?;
+            let outcome = text_outcome(alloc, to, &audited, listing, steps)?;
             Ok(outcome)
         }
     }
 }
 
 impl command_runs::Command for Rewrite<'_> {
-    ghost use Rattle.audit_cli.specs.FirstForm.{RewriteComesTo};
+    ghost use Rattle.audit_cli.specs.Rewrite.{RewriteComesTo};
     ghost use Rattle.audit_cli.specs.Destinations.{destination_of};
 
     ghost takes = { 2 };

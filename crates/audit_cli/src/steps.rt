@@ -1,12 +1,14 @@
 //! The steps that commands share: reading a table's text and auditing it, reading a listing's text, and laying it out.
-ghost use Rattle.std.specs.Prelude.{◌≡◌, ℕ, List, IfOk};
+ghost use Rattle.std.specs.Prelude.{◌≡◌, ◌%◌, ℕ, List, IfOk};
 ghost use Rattle.std.specs.Result.{result_map_both};
+ghost use Rattle.thumb_model.specs.Layout.{Layable};
+ghost use Rattle.listing_parser.specs.Parsing.{IsListing, text_of_lines};
 ghost use Rattle.rule_table.specs.Refused.{IsText};
 ghost use Rattle.rule_table.specs.Valid.{IsTable};
 ghost use Rattle.rule_table.specs.Views.{table_of};
 ghost use Rattle.audit_cli.specs.Refusals.{unlaid_refusal};
 ghost use Rattle.label_layout.specs.Refusals.{fault_of};
-ghost use Rattle.audit_cli.specs.Steps.{AuditsTable, LaysOut, ReadsListing, ReadsTable};
+ghost use Rattle.audit_cli.specs.Steps.{AuditsTable, LaysOut, MakesImage, ReadsListing, ReadsTable};
 
 use crate::refusal::Refusal;
 use label_layout::{Kind as LayoutKind, Layout, LayoutError, layout};
@@ -15,6 +17,7 @@ use rule_table::{Table, TableError, read_table};
 use std::alloc::{AllocError, Global};
 use step_ledger::{Ledger, Steps};
 use table_audit::{AuditError, Audited, audit};
+use thumb_assembler::{ImageError, assemble};
 
 /// The table of a text, or why it is none.
 #[tactic(auto, using(crate::proofs::StepLemmas::is_unlisted))]
@@ -79,7 +82,7 @@ pub(crate) fn read_listing(
 }
 
 /// The refusal of a line that cannot be laid out.
-fn unlaid(line: u64, kind: LayoutKind) -> Refusal
+pub(crate) fn unlaid(line: u64, kind: LayoutKind) -> Refusal
     ensures { result ≡ unlaid_refusal line (fault_of kind) }
 {
     match kind {
@@ -101,5 +104,31 @@ pub(crate) fn lay_out(
         Err(LayoutError::Memory) => Err(AllocError),
         Err(LayoutError::Line { number, kind }) => Ok(Err(unlaid(number, kind))),
         Ok(laid) => Ok(Ok(laid)),
+    }
+}
+
+/// The image of a listing that can be laid out, or why it has none.
+pub(crate) fn image_of(
+    alloc: Global,
+    listing: &Listing,
+    base: u32,
+) -> Result<Result<Vec<u8>, Refusal>, AllocError>
+    requires listed { IsListing (text_of_lines listing.now) listing.now }
+    requires layable { Layable base listing.now }
+    requires aligned { base % 4 ≡ 0 }
+    ensures { IfOk result (λ r. MakesImage base listing.now (result_map_both (λ bytes. bytes.items) (λ e. e) r)) }
+{
+    let Ok(layout) = layout(alloc, listing, base) else {
+        return Err(AllocError);
+    };
+    match assemble(alloc, listing, &layout) {
+        Err(ImageError::Memory) => Err(AllocError),
+        Err(ImageError::NoAddress(line)) => Ok(Err(Refusal::Address {
+            line: u64::from(line),
+        })),
+        Err(ImageError::Inside(line)) => Ok(Err(Refusal::Inside {
+            line: u64::from(line),
+        })),
+        Ok(bytes) => Ok(Ok(bytes)),
     }
 }

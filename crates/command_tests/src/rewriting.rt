@@ -7,6 +7,22 @@ use step_ledger::{Counted, Steps};
 
 const MOVES: &[u8] = b"entry\nleft mov r0, r0\nmask r0 n z c v\nproof\n";
 
+const BYTE: &[u8] =
+    b"entry\nleft lsls r0, r0, #24\nleft lsrs r0, r0, #24\nright uxtb r0, r0\nmask r0\nproof\n";
+
+const SWAP: &[u8] =
+    b"entry\nleft mov r0, r1\nleft mov r1, r0\nright mov r0, r1\nmask r0 r1 n z c v\nproof\n";
+
+const SWAP_THEN_MOVES: &[u8] =
+    b"entry\nleft mov r0, r1\nleft mov r1, r0\nright mov r0, r1\nmask r0 r1 n z c v\nproof\nentry\nleft mov r0, r0\nmask r0 n z c v\nproof\n";
+
+/// A function as gcc writes one, which reads a byte of a device.
+const READS: &[u8] =
+    b"\t.cpu cortex-m0\n\t.syntax unified\n\t.code\t16\n\t.thumb_func\n\t.type\tf, %function\nf:\n\t@ args = 0\n\tldr\tr3, .L2\n\tldr\tr0, [r3]\n\tlsls\tr0, r0, #24\n\tlsrs\tr0, r0, #24\n\tbx\tlr\n.L3:\n\t.align\t2\n.L2:\n\t.word\t1073741824\n\t.size\tf, .-f\n";
+
+const READS_LESS: &[u8] =
+    b"\t.cpu cortex-m0\n\t.syntax unified\n\t.code\t16\n\t.thumb_func\n\t.type\tf, %function\nf:\n\t@ args = 0\n\tldr\tr3, .L2\n\tldr\tr0, [r3]\n\tuxtb r0, r0\n\tbx\tlr\n.L3:\n\t.align\t2\n.L2:\n\t.word\t1073741824\n\t.size\tf, .-f\n";
+
 /// A store that holds a table and a listing.
 fn store_of(alloc: Global, entry: &[u8], listing: &[u8], failing: u64) -> Result<MemStore, Fail> {
     let mut held = Vec::new(alloc);
@@ -48,7 +64,7 @@ const SUM: &[u8] = b"f:\nmov r3, r3\nadds r0, r0, r1\nmov r0, r0\nbx lr\n";
 #[test]
 fn rewrites(rt: HostRuntime) -> Result<(), Fail> {
     let alloc = rt.alloc();
-    let cases: [(&[u8], &[u8], &[u8], &[u8]); 9] = [
+    let cases: [(&[u8], &[u8], &[u8], &[u8]); 14] = [
         (
             MOVES,
             SUM,
@@ -93,6 +109,36 @@ fn rewrites(rt: HostRuntime) -> Result<(), Fail> {
             b"x:\nadds r0, r0, r0\n\nmov r1, r0\n",
             b"replaced 2\ninstructions 4 2\n",
         ),
+        (
+            SWAP,
+            b"mov r1, r0\nmov r0, r1\nmov r5, r6\nmov r6, r5\nbx lr\n",
+            b"\tmov r1, r0\n\tmov r5, r6\nbx lr\n",
+            b"replaced 2\ninstructions 5 3\n",
+        ),
+        (
+            SWAP,
+            b"\tmov r1, r0\n\tmov r5, r6\nbx lr\n",
+            b"\tmov r1, r0\n\tmov r5, r6\nbx lr\n",
+            b"replaced 0\ninstructions 3 3\n",
+        ),
+        (
+            SWAP_THEN_MOVES,
+            b"mov r1, r0\nmov r2, r2\nmov r0, r1\nbx lr\n",
+            b"\tmov r1, r0\nbx lr\n",
+            b"replaced 2\ninstructions 4 2\n",
+        ),
+        (
+            BYTE,
+            b"f:\nlsls r0, r0, #24\nlsrs r0, r0, #24\nlsls r1, r1, #24\nlsrs r1, r1, #24\nbeq f\nbx lr\n",
+            b"f:\n\tuxtb r0, r0\nlsls r1, r1, #24\nlsrs r1, r1, #24\nbeq f\nbx lr\n",
+            b"replaced 1\ninstructions 6 5\n",
+        ),
+        (
+            BYTE,
+            READS,
+            READS_LESS,
+            b"replaced 1\ninstructions 5 4\n",
+        ),
     ];
     for (entry, listing, out, lines) in cases {
         let mut store = store_of(alloc, entry, listing, 0)?;
@@ -129,6 +175,28 @@ fn keeps_images(rt: HostRuntime) -> Result<(), Fail> {
     )?;
     assert!(rt; text.as_slice() == b"replaced 0\ninstructions 3 3\nimage 6\n".as_slice());
     assert!(rt; store.held("l") == Some(b"\x88\x18\x48\x43\x70\x47".as_slice()));
+    for (entry, image, lines) in [
+        (
+            b"".as_slice(),
+            b"\x02\x4b\x18\x68\x00\x06\x00\x0e\x70\x47\x00\xbf\x00\x00\x00\x40".as_slice(),
+            b"replaced 0\ninstructions 5 5\nimage 16\n".as_slice(),
+        ),
+        (
+            BYTE,
+            b"\x01\x4b\x18\x68\xc0\xb2\x70\x47\x00\x00\x00\x40".as_slice(),
+            b"replaced 1\ninstructions 5 4\nimage 12\n".as_slice(),
+        ),
+    ] {
+        let mut store = store_of(alloc, entry, READS, 0)?;
+        let text = printed(
+            alloc,
+            &["rewrite", "t", "l", "o", "i"],
+            &mut store,
+            Status::Done,
+        )?;
+        assert!(rt; text.as_slice() == lines);
+        assert!(rt; store.held("i") == Some(image));
+    }
     let mut store = store_of(alloc, b"", b"", 0)?;
     let text = printed(
         alloc,
@@ -145,39 +213,46 @@ fn keeps_images(rt: HostRuntime) -> Result<(), Fail> {
 #[test]
 fn refuses(rt: HostRuntime) -> Result<(), Fail> {
     let alloc = rt.alloc();
-    let cases: [(&[u8], &[u8], &[u8]); 16] = [
-        (MOVES, b"f:\nf:\nmov r0, r0\n", b"refused listing 2 1\n"),
-        (MOVES, b"mov r0, r0\nmov r8, r0\n", b"refused listing 2 1\n"),
-        (MOVES, b"nop\nf:\nf:\n", b"refused listing 1 1\n"),
-        (MOVES, b"mov r8, r0\n", b"refused listing 1 1\n"),
-        (MOVES, b"bx lr\nbx r0\n", b"refused listing 2 1\n"),
-        (MOVES, b"\n\nmuls r0, r1, r1\n", b"refused listing 3 1\n"),
-        (MOVES, b"adds r0, r0, r1 \n", b"refused listing 1 1\n"),
-        (MOVES, b"mov r0, r0\r\n", b"refused listing 1 1\n"),
-        (MOVES, b"f: bx lr\n", b"refused listing 1 1\n"),
+    let cases: [(&[u8], &[u8], &[u8]); 15] = [
+        (MOVES, b"f:\nf:\nmov r0, r0\n", b"refused listing 2 2\n"),
+        (MOVES, b"f:\nf:\nadds r0\n", b"refused listing 3 1\n"),
+        (MOVES, b"nop\nbeq out\n", b"refused listing 2 3\n"),
         (
-            b"entry\nleft lsls r0, r0, #24\nleft lsrs r0, r0, #24\nright uxtb r0, r0\nmask r0\nproof\n",
-            SUM,
-            b"refused table 72\n",
+            MOVES,
+            b"ldr r0, .L1\n.L1:\n.word 5\n",
+            b"refused listing 1 5 2\n",
         ),
         (
-            b"entry\nleft mov r0, r0\nmask r0 n z c v\nproof\nentry\nleft mov r0, r0\nmask r0\nproof\n",
-            SUM,
-            b"refused table 76\n",
+            BYTE,
+            b"g:\npush {r4, lr}\nbl ext\npop {r4, pc}\n",
+            b"refused address 3\n",
+        ),
+        (
+            MOVES,
+            b".set p, 2\nmov r0, r0\nnop\nnop\n",
+            b"refused inside 1\n",
         ),
         (
             b"entry\nleft movs r0, r0\nmask z\nproof\n",
-            SUM,
+            READS,
             b"refused entry 1 3\n",
+        ),
+        (
+            b"entry\nleft mov r0, r0\nright mov r0, r0\nmask r0\nproof\n",
+            READS,
+            b"refused entry 1 4 0\n",
         ),
         (b"end\n", b"?", b"refused table 72\n"),
         (
             b"entry\nleft lsls r0, r0, #32\n",
-            SUM,
+            READS,
             b"refused table 72\n",
         ),
-        (b"entry\n", SUM, b"refused table 72\n"),
-        (b"states\n", SUM, b"refused table 71\n"),
+        (b"entry\n", READS, b"refused table 72\n"),
+        (b"states\n", READS, b"refused table 71\n"),
+        (MOVES, b"?\n", b"refused listing 1 1\n"),
+        (MOVES, b"bx lr\nbx pc\n", b"refused listing 2 1\n"),
+        (MOVES, b".set p, 0\nnop\n", b"refused inside 1\n"),
     ];
     for (entry, listing, line) in cases {
         let mut store = store_of(alloc, entry, listing, 0)?;

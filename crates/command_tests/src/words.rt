@@ -36,7 +36,7 @@ fn assert_rewrite(
     assert_eq!(rt; listing.as_str(), names[1], "{line}");
     assert_eq!(rt; out.as_str(), names[2], "{line}");
     assert_eq!(rt; image.as_str(), names[3], "{line}");
-    assert_eq!(rt; base, at, "{line}");
+    assert_eq!(rt; base.address, at, "{line}");
     Ok(())
 }
 
@@ -126,6 +126,30 @@ fn these_are_no_command(rt: HostRuntime) -> Result<(), Fail> {
         "audit a b",
         "audit a --base 4",
         "audit -a",
+        "learn",
+        "learn a",
+        "learn a b c",
+        "learn a b --base 4",
+        "learn a b --regs 0",
+        "learn a b --regs 5",
+        "learn a b --regs 1 --regs 2",
+        "learn a b --left 0",
+        "learn a b --left=6",
+        "learn a b --budget 0",
+        "learn a b --budget 1000001",
+        "learn a b --seed 4294967296",
+        "learn a b --seed -1",
+        "learn a b --pool=",
+        "learn a b --pool 2,1",
+        "learn a b --pool 1,1",
+        "learn a b --pool 1,,2",
+        "learn a b --pool ,1",
+        "learn a b --pool 1,",
+        "learn a b --pool 1,256",
+        "learn a b --pool 0x1",
+        "learn a b --pool 01",
+        "learn a b --pool 1;2",
+        "learn a b --pool 0,1,2,3,4,5,6,7,8,9,10,11,12,13,14,15,16",
         "export a 1 b",
         "export a 1 b c d",
         "export a b c d",
@@ -181,6 +205,65 @@ fn these_are_audit(rt: HostRuntime) -> Result<(), Fail> {
             return Err(Fail::from("no command"));
         };
         assert_eq!(rt; table.as_str(), name, "{line}");
+    }
+    Ok(())
+}
+
+fn assert_learn(
+    rt: &impl Abort,
+    alloc: Global,
+    line: &str,
+    numbers: [u32; 4],
+    pool_numbers: &[u8],
+) -> Result<(), Fail> {
+    let words = words_of(alloc, line)?;
+    let Some(
+        Command::Learn {
+            listing,
+            out,
+            regs,
+            left,
+            budget,
+            seed,
+            pool,
+        },
+    ) = usage_of(alloc, words.as_slice())?
+    else {
+        return Err(Fail::from("no command"));
+    };
+    assert_eq!(rt; listing.as_str(), "l", "{line}");
+    assert_eq!(rt; out.as_str(), "o", "{line}");
+    assert_eq!(rt; [regs.number, left.number, budget.number, seed], numbers, "{line}");
+    assert!(rt; pool.numbers() == pool_numbers, "{line}");
+    Ok(())
+}
+
+#[test]
+fn these_are_learn(rt: HostRuntime) -> Result<(), Fail> {
+    let usual: &[u8] = &[0, 1, 2, 4, 8, 16, 24, 31, 255];
+    let all: &[u8] = &[0, 1, 2, 3, 4, 5, 6, 7, 8, 9, 10, 11, 12, 13, 14, 15];
+    let rows: [(&str, [u32; 4], &[u8]); 6] = [
+        ("learn l o", [3, 3, 20_000, 42], usual),
+        ("learn l o --pool 7", [3, 3, 20_000, 42], &[7]),
+        (
+            "learn --regs 4 l --left=5 --budget 0xF4240 o --seed 4294967295",
+            [4, 5, 1_000_000, 4_294_967_295],
+            usual,
+        ),
+        (
+            "learn --regs=1 --left 1 --budget=1 --seed=0 -- l o",
+            [1, 1, 1, 0],
+            usual,
+        ),
+        ("learn l o --pool=0,255", [3, 3, 20_000, 42], &[0, 255]),
+        (
+            "learn l o --pool 0,1,2,3,4,5,6,7,8,9,10,11,12,13,14,15",
+            [3, 3, 20_000, 42],
+            all,
+        ),
+    ];
+    for (line, numbers, pool) in rows {
+        assert_learn(&rt, rt.alloc(), line, numbers, pool)?;
     }
     Ok(())
 }

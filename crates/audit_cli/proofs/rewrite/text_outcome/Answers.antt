@@ -1,28 +1,23 @@
 use Rattle.std.proofs.Common.{ℕ, List, subst, sym}
 use Rattle.listing_parser.specs.Parsing.{IsListing}
 use Rattle.listing_parser.proofs.PrintLemmas.{prints_back}
+use Rattle.rule_table.specs.Views.{table_of}
 use Rattle.command_runs.specs.Outcomes.{outcome_view}
 use Rattle.audit_cli.specs.Destinations.{destination_of}
-use Rattle.audit_cli.specs.FirstForm.{first_table}
 use Rattle.audit_cli.specs.Rewrite.{Rewrites, unread, read}
 use Rattle.audit_cli.proofs.StepLemmas.{is_read, not_read, refused_so}
-use Rattle.audit_cli.proofs.FirstForm.StraightLines.{simple_lines}
 use Rattle.audit_cli.proofs.rewrite.text_outcome.Goals as goal
 
-pub lines_outcome-requires-clause-simple : goal.lines_outcome-requires-clause-simple
-lines_outcome-requires-clause-simple c =
-    simple_lines c.args.text.now c.in-Ok.listing c.requires (is_read c.args.text.now c.in_ok-refusal.field-0 c.in-Ok.listing c.in_ok-refusal.ensures c.in-Ok.is)
-
-pub lines_outcome-requires-clause-listed : goal.lines_outcome-requires-clause-listed
-lines_outcome-requires-clause-listed c =
+pub lines_outcome-requires : goal.lines_outcome-requires
+lines_outcome-requires g c =
     let is = is_read c.args.text.now c.in_ok-refusal.field-0 c.in-Ok.listing c.in_ok-refusal.ensures c.in-Ok.is in
     subst (λ (bytes : List ℕ). IsListing bytes c.in-Ok.listing) (sym (prints_back c.args.text.now c.in-Ok.listing is)) is
 
 pub returns-in_ok-outcome-in-Err : goal.returns-in_ok-outcome-in-Err
-returns-in_ok-outcome-in-Err c = λ pool.
-    refused_so (Rewrites (destination_of c.args.to.now) (first_table pool c.args.entries) c.args.text.now) c.in-Err.refusal (outcome_view c.in_ok-outcome-in-Err.outcome) c.in_ok-outcome-in-Err.ensures
+returns-in_ok-outcome-in-Err g c =
+    refused_so (Rewrites (destination_of c.args.to.now) (table_of c.args.table.now) c.args.text.now) c.in-Err.refusal (outcome_view c.in_ok-outcome-in-Err.outcome) c.in_ok-outcome-in-Err.ensures
     (unread c.in-Err.refusal (not_read c.args.text.now c.in_ok-refusal.field-0 c.in-Err.refusal c.in_ok-refusal.ensures c.in-Err.is))
 
 pub returns-in_ok-outcome-in-Ok : goal.returns-in_ok-outcome-in-Ok
-returns-in_ok-outcome-in-Ok c = λ pool.
-    read c.in-Ok.listing (is_read c.args.text.now c.in_ok-refusal.field-0 c.in-Ok.listing c.in_ok-refusal.ensures c.in-Ok.is) (outcome_view c.in_ok-outcome-in-Ok.outcome) (c.in_ok-outcome-in-Ok.ensures pool)
+returns-in_ok-outcome-in-Ok g c =
+    read c.in-Ok.listing (is_read c.args.text.now c.in_ok-refusal.field-0 c.in-Ok.listing c.in_ok-refusal.ensures c.in-Ok.is) (outcome_view c.in_ok-outcome-in-Ok.outcome) c.in_ok-outcome-in-Ok.ensures

@@ -1,13 +1,15 @@
 -- What rewriting leaves is a listing: its text is read as its lines.
-use Rattle.std.proofs.Common.{◌≡◌, ◌∙◌, ℕ, zero, suc, ◌+◌, ◌<◌, ◌≤◌, true, List, [], ◌∷◌, length, map, drop, refl, sym, ap, subst, arith}
+use Rattle.std.proofs.Common.{◌≡◌, ◌∙◌, ◌&&◌, ℕ, zero, suc, ◌+◌, ◌<◌, ◌≤◌, true, false, List, [], ◌∷◌, length, map, drop, refl, sym, ap, subst, arith, true≢false}
 use Rattle.std.specs.Prelude.{slice_get}
 use Rattle.std.specs.List.{list_all}
 use Rattle.std.proofs.lemmas.List.{length-map}
 use Rattle.thumb_instr.specs.declared.instr.Instr.{Instr}
+use Rattle.thumb_instr.specs.declared.instr.Instr.TheVariants as instr
+use Rattle.thumb_instr.specs.Renaming.{Low, renamed}
+use Rattle.thumb_instr.specs.Window.{is_in_window}
 use Rattle.ascii_scan.specs.Lines.{lines_of}
 use Rattle.thumb_model.specs.Listing.{Line, Place, plain, places_of, code_of, is_op_place}
-use Rattle.thumb_instr.specs.Renaming.{renamed}
-use Rattle.thumb_model.specs.Rewrite.{Rule, Applies}
+use Rattle.thumb_model.specs.Rewrite.{Rule, Applies, AreOver, AreSound}
 use Rattle.thumb_model.specs.Rewritten.{Replacement, AppliesIn, AreRewritten, lines_after, lines_after_rule}
 use Rattle.thumb_model.proofs.Lists.{get_drop, get_take}
 use Rattle.thumb_model.proofs.LinesKept.{fewer_lines, one_line_keeps}
@@ -19,9 +21,7 @@ use Rattle.listing_parser.specs.Replacing.{names_no_label}
 use Rattle.listing_parser.proofs.FewLemmas.{all_few}
 use Rattle.listing_parser.proofs.PrintLemmas.{prints_back}
 use Rattle.listing_parser.proofs.ReplacedLines.{replaced_reads_again}
-use Rattle.audit_cli.specs.Rewrite.{setting}
-use Rattle.audit_cli.specs.FirstForm.Moves.{moves_table}
-use Rattle.audit_cli.proofs.FirstForm.MovesRule.{moves_only, moves_are_sound}
+use Rattle.window_rewrite.specs.Rewriting.{setting}
 
 -- a listing has at most 65,536 lines
 few_lines : (bytes : List ℕ) (lines : List Line) → IsListing bytes lines → length lines ≤ 65536
@@ -31,6 +31,19 @@ few_lines bytes lines is =
     omega arith
 
 -- ---- one replacement ----
+
+-- an instruction of a window names no label, whatever its registers
+unlabelled : (registers : List Low) (i : Instr) → is_in_window i ≡ true → names_no_label (renamed registers i) ≡ true
+unlabelled registers (instr.BranchIf c d) e = absurd (true≢false (sym e))
+unlabelled registers (instr.Branch d) e = absurd (true≢false (sym e))
+unlabelled registers (instr.Call d) e = absurd (true≢false (sym e))
+unlabelled registers (instr.Literal t d) e = absurd (true≢false (sym e))
+unlabelled registers (instr.Address t d) e = absurd (true≢false (sym e))
+unlabelled registers i e = refl
+
+all_unlabelled : (registers : List Low) (k : ℕ) (is : List Instr) → AreOver k is → list_all names_no_label (map (renamed registers) is) ≡ true
+all_unlabelled registers k [] over = refl
+all_unlabelled registers k (i ∷ is) over = rw (unlabelled registers i over.0) (all_unlabelled registers k is over.2)
 
 plain_at : (is : List Instr) (k : ℕ) → k < length is → is_op_place (slice_get (map plain is) k) ≡ true
 plain_at [] k lt = absurd (omega arith)
@@ -45,13 +58,13 @@ stand_there rule r ls a k lt =
     sym (get_drop r.place (places_of ls) k (r.place + k) refl) ∙ sym (get_take (length rule.left) (drop r.place (places_of ls)) k lt) ∙ ap (λ (ps : List Place). slice_get ps k) a.stands in
     ap is_op_place there ∙ plain_at a.window k (omega arith)
 
--- by an entry whose right side is empty
-reads_after : (base entries : ℕ) (r : Replacement) (bytes : List ℕ) (ls : List Line) → AppliesIn (setting base (moves_table entries)) r ls → IsListing bytes ls → IsListing (text_of_lines (lines_after (setting base (moves_table entries)) r ls)) (lines_after (setting base (moves_table entries)) r ls)
-reads_after base entries r bytes ls a is =
-    let s = setting base (moves_table entries) in
+reads_after : (base : ℕ) (rules : List Rule) (r : Replacement) (bytes : List ℕ) (ls : List Line) → AreSound rules → AppliesIn (setting base rules) r ls → IsListing bytes ls
+    → IsListing (text_of_lines (lines_after (setting base rules) r ls)) (lines_after (setting base rules) r ls)
+reads_after base rules r bytes ls sound a is =
+    let s = setting base rules in
     let rule = a.rule in
     let instrs = map (renamed r.registers) rule.right in
-    let keeps = one_line_keeps s r ls (moves_are_sound entries) a in
+    let keeps = one_line_keeps s r ls sound a in
     let fewer = fewer_lines s r ls a in
     let few = few_lines bytes ls is in
     replaced_reads_again bytes ls r.place (length rule.left) instrs (lines_after s r ls) is
@@ -59,15 +72,16 @@ reads_after base entries r bytes ls a is =
       are = ap (λ o. lines_after_rule s o r ls) a.is_rule;
       some = (let shorter = a.applies.shorter in omega arith);
       window = stand_there rule r ls a.applies;
-      plain = ap (λ (x : Rule). list_all names_no_label (map (renamed r.registers) x.right)) (moves_only entries r.entry rule a.is_rule);
+      plain = all_unlabelled r.registers _ rule.right (sound r.entry rule a.is_rule).right;
       kept = λ name h. keeps.entry name h;
       few = omega arith;
     })
 
 -- ---- all of them ----
 
-pub still_reads : (base entries : ℕ) (bytes : List ℕ) (given : List Line) (rs : List Replacement) (new : List Line) → AreRewritten (setting base (moves_table entries)) given rs new → IsListing bytes given → IsListing (text_of_lines new) new
-still_reads base entries bytes given [] new h is = subst (λ (ls : List Line). IsListing (text_of_lines ls) ls) (sym h.1) (subst (λ (bs : List ℕ). IsListing bs given) (sym (prints_back bytes given is)) is)
-still_reads base entries bytes given (r ∷ rs) new h is =
-    let next = lines_after (setting base (moves_table entries)) r given in
-    still_reads base entries (text_of_lines next) next rs new h.1 (reads_after base entries r bytes given h.0.applies is)
+pub still_reads : (base : ℕ) (rules : List Rule) (bytes : List ℕ) (given : List Line) (rs : List Replacement) (new : List Line) → AreSound rules → AreRewritten (setting base rules) given rs new → IsListing bytes given
+    → IsListing (text_of_lines new) new
+still_reads base rules bytes given [] new sound h is = subst (λ (ls : List Line). IsListing (text_of_lines ls) ls) (sym h.1) (subst (λ (bs : List ℕ). IsListing bs given) (sym (prints_back bytes given is)) is)
+still_reads base rules bytes given (r ∷ rs) new sound h is =
+    let next = lines_after (setting base rules) r given in
+    still_reads base rules (text_of_lines next) next rs new sound h.1 (reads_after base rules r bytes given sound h.0.applies is)
