@@ -12,3 +12,5 @@ pub mod Openings
 pub mod Names
 pub mod Sound
 pub mod Determined
+pub mod OneToOne
+pub mod CanonicalForms

@@ -1,4 +1,5 @@
 pub mod Sides
+pub mod Canonical
 pub mod Orders
 pub mod Shorter
 pub mod Naming

@@ -7,6 +7,7 @@ ghost use Rattle.proof_logs.specs.Verdicts.{Answers};
 ghost use Rattle.table_audit.specs.declared.errors.AuditError.{AuditError};
 ghost use Rattle.table_audit.specs.Acceptance.{TableVerdict, IsAccepted};
 ghost use Rattle.table_audit.specs.Soundness.{IsSound};
+ghost use Rattle.table_audit.specs.Canonical.{CanonicalFormIsSide};
 
 /// The verdict on a table is one.
 pub fn audit_has_one_answer()
@@ -23,4 +24,9 @@ pub fn accepted_tables_are_not_refused()
 #[tactic(auto, using(crate::proofs::Sound::accepted_sound))]
 pub fn accepted_tables_are_sound()
     ensures { (t : Table) → IsTable t → IsAccepted t → IsSound t }
+{}
+
+/// The canonical form of a window is a canonical side, as long as the window, and its mask has no register but those that it names.
+pub fn canonical_forms_are_sides()
+    ensures { CanonicalFormIsSide }
 {}

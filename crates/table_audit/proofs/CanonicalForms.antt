@@ -1,0 +1,149 @@
+-- The canonical form of a window is a canonical side.
+use Rattle.std.proofs.Common.{◌≡◌, ℕ, ◌<◌, ◌≤◌, ◌⊎◌, ◌==◌, ◌&&◌, ◌||◌, Bool, true, false, inl, inr, List, [], ◌∷◌, ◌++◌, Option, Some, None, slice_get, map, length, cond, refl, sym, ◌∙◌, ap, subst, arith, eq-eqb, nat_lt}
+use Rattle.std.specs.List.{flat_map, list_all}
+use Rattle.std.proofs.lemmas.Bool.{cases_Bool, and_parts, and_from, or_cases, eqb-true, lt-ltb}
+use Rattle.std.proofs.lemmas.List.{map-append, length-map}
+use Rattle.std.proofs.lemmas.Option.{slice_get_within}
+use Rattle.thumb_instr.specs.declared.instr.Instr.{Instr}
+use Rattle.thumb_instr.specs.declared.instr.Instr.TheVariants as instr
+use Rattle.thumb_instr.specs.Items.{has as has_item, is_in_masks}
+use Rattle.thumb_instr.specs.Window.{is_in_window, normal_of, byte_sum, byte_of}
+use Rattle.thumb_instr.specs.Renaming.{Low, named, renamed, AreBelow, low_under, item_under}
+use Rattle.thumb_instr.proofs.RenamingLemmas.{named_renamed, below_parts, low_number}
+use Rattle.rule_table.specs.Canonical.{firsts, appearing, numbers_of, register_has, masked}
+use Rattle.rule_table.proofs.Backs.{windows_normal}
+use Rattle.table_audit.specs.Sides.{named_count, IsCanonicalSide}
+use Rattle.table_audit.specs.Canonical.{CanonicalFormIsSide}
+use Rattle.table_audit.proofs.Names.{count_same}
+use Rattle.table_audit.proofs.OneToOne.{AreDistinct, firsts_distinct, firsts_below, firsts_mapped, one_to_one, counted_under}
+
+-- ---- what may stand in a window when it is renamed may do so itself ----
+
+window_under : (registers : List Low) (k : ℕ) (i : Instr) → k ≤ 8 → AreBelow k (named i) → is_in_window (renamed registers i) ≡ true → is_in_window i ≡ true
+window_under registers k (instr.Mov d m) few b h =
+    and_from (nat_lt d.number 8) (nat_lt m.number 8) (lt-ltb d.number 8 (omega (arith, b.0, few))) (lt-ltb m.number 8 (omega (arith, b.1.0, few)))
+window_under registers k (instr.Add r) few b h =
+    and_from (nat_lt r.target.number 8) (nat_lt r.source.number 8) (lt-ltb r.target.number 8 (omega (arith, b.0, few))) (lt-ltb r.source.number 8 (omega (arith, b.1.0, few)))
+window_under registers k i few b h = h
+
+windows_under : (registers : List Low) (k : ℕ) (is : List Instr) → k ≤ 8 → AreBelow k (flat_map named is) → list_all is_in_window (map (renamed registers) is) ≡ true
+    → list_all is_in_window is ≡ true
+windows_under registers k [] few b h = refl
+windows_under registers k (i ∷ is) few b h =
+    let low = below_parts k (named i) (flat_map named is) b in
+    let both = and_parts (is_in_window (renamed registers i)) (list_all is_in_window (map (renamed registers) is)) h in
+    and_from (is_in_window i) (list_all is_in_window is) (window_under registers k i few low.0 both.0) (windows_under registers k is few low.1 both.1)
+
+-- ---- what is normal when it is renamed is normal itself ----
+
+normal_again : (i : Instr) → normal_of (normal_of i) ≡ normal_of i
+normal_again (instr.ThreeNumber s d n i) =
+    elim (d.number == n.number) as (λ b. (d.number == n.number) ≡ b → normal_of (cond b (instr.TwoNumber (byte_sum s) d (byte_of i)) (instr.ThreeNumber s d n i)) ≡ cond b (instr.TwoNumber (byte_sum s) d (byte_of i)) (instr.ThreeNumber s d n i)) [
+      | true ↦ λ e. refl
+      | false ↦ λ e. rw e refl
+    ] refl
+normal_again i = refl
+
+normals_again : (is : List Instr) → map normal_of (map normal_of is) ≡ map normal_of is
+normals_again [] = refl
+normals_again (i ∷ is) = ap (λ j. j ∷ map normal_of (map normal_of is)) (normal_again i) ∙ ap (λ js. normal_of i ∷ js) (normals_again is)
+
+normal_under : (registers : List Low) (i : Instr) → normal_of (renamed registers i) ≡ renamed registers i → normal_of i ≡ i
+normal_under registers (instr.ThreeNumber s d n i) h = elim (cases_Bool (d.number == n.number)) [
+  | inl same ↦ (
+      let one = low_under registers d in
+      let other = low_under registers n in
+      let equal : one.number ≡ other.number = low_number registers d ∙ ap (item_under registers) (eqb-true d.number n.number same) ∙ sym (low_number registers n) in
+      let second : instr.TwoNumber (byte_sum s) one (byte_of i) ≡ instr.ThreeNumber s one other i =
+      subst (λ b. cond b (instr.TwoNumber (byte_sum s) one (byte_of i)) (instr.ThreeNumber s one other i) ≡ instr.ThreeNumber s one other i) (eq-eqb one.number other.number equal) h in
+      absurd (cc)
+      )
+  | inr apart ↦ rw apart refl
+]
+normal_under registers i h = refl
+
+normals_under : (registers : List Low) (is : List Instr) → map normal_of (map (renamed registers) is) ≡ map (renamed registers) is → map normal_of is ≡ is
+normals_under registers [] h = refl
+normals_under registers (i ∷ is) h =
+    let head : normal_of (renamed registers i) ≡ renamed registers i = cc in
+    let tail : map normal_of (map (renamed registers) is) ≡ map (renamed registers) is = cc in
+    ap (λ j. j ∷ map normal_of is) (normal_under registers i head) ∙ ap (λ js. i ∷ js) (normals_under registers is tail)
+
+-- ---- registers ----
+
+names_under : (registers : List Low) (is : List Instr) → list_all is_in_window is ≡ true → flat_map named (map (renamed registers) is) ≡ map (item_under registers) (flat_map named is)
+names_under registers [] w = refl
+names_under registers (i ∷ is) w =
+    let both = and_parts (is_in_window i) (list_all is_in_window is) w in
+    ap (λ us. us ++ flat_map named (map (renamed registers) is)) (named_renamed registers i both.0)
+    ∙ ap (λ us. map (item_under registers) (named i) ++ us) (names_under registers is both.1)
+    ∙ sym (map-append (item_under registers) (named i) (flat_map named is))
+
+-- ---- masks ----
+
+named_item : (items : ℕ) (order : List ℕ) (n x : ℕ) → (register_has items (slice_get order n) && (x == n)) ≡ true → x < length order
+named_item items order n x h =
+    let parts = and_parts (register_has items (slice_get order n)) (x == n) h in
+    omega (arith, eqb-true x n parts.1, within (slice_get order n) refl parts.0)
+  where
+    within : (o : Option ℕ) → slice_get order n ≡ o → register_has items o ≡ true → n < length order
+    within None e k = absurd (cc)
+    within (Some r) e k = slice_get_within order n r e
+
+flag_item : (b : Bool) (n x : ℕ) → 15 ≤ n → (b && (x == n)) ≡ true → 15 ≤ x
+flag_item b n x high h = omega (arith, high, eqb-true x n (and_parts b (x == n) h).1)
+
+either : {P : Type 0} (b c : Bool) → (b ≡ true → P) → (c ≡ true → P) → (b || c) ≡ true → P
+either b c first second h = elim (or_cases b c h) [ inl x ↦ first x | inr y ↦ second y ]
+
+masked_over : (items : ℕ) (order : List ℕ) (x : ℕ) → masked items order x ≡ true → (x < length order) ⊎ (15 ≤ x)
+masked_over items order x h =
+    either _ _
+    (either _ _ (either _ _ (either _ _ (either _ _ (either _ _ (either _ _ (register 0) (register 1)) (register 2)) (register 3)) (flag 15 (omega arith))) (flag 16 (omega arith))) (flag 17 (omega arith)))
+    (flag 18 (omega arith))
+    (and_parts _ (is_in_masks x) h).0
+  where
+    register : (n : ℕ) → (register_has items (slice_get order n) && (x == n)) ≡ true → (x < length order) ⊎ (15 ≤ x)
+    register n k = inl (named_item items order n x k)
+
+    flag : (n : ℕ) → 15 ≤ n → (has_item items n && (x == n)) ≡ true → (x < length order) ⊎ (15 ≤ x)
+    flag n high k = inr (flag_item (has_item items n) n x high k)
+
+-- ---- the whole ----
+
+pub form_is_side : CanonicalFormIsSide
+form_is_side window items seq given mask w c =
+    let normals = map normal_of window in
+    let registers = c.registers in
+    let order : numbers_of registers ≡ appearing normals = c.order in
+    let size : length (numbers_of registers) ≡ length registers = length-map registers (λ r. r.number) in
+    let few : length registers ≤ 4 = omega (arith, size, ap length order, w.registers) in
+    let distinct : AreDistinct (numbers_of registers) = subst AreDistinct (sym order) (firsts_distinct [] (flat_map named normals) tt) in
+    let windows : list_all is_in_window seq ≡ true =
+    windows_under registers (length registers) seq (omega (arith, few)) c.below (ap (list_all is_in_window) c.under ∙ windows_normal window w.windows) in
+    let normal : map normal_of seq ≡ seq = normals_under registers seq (ap (map normal_of) c.under ∙ normals_again window ∙ sym c.under) in
+    let names : flat_map named normals ≡ map (item_under registers) (flat_map named seq) = ap (flat_map named) (sym c.under) ∙ names_under registers seq windows in
+    let mapped : firsts [] (map (item_under registers) (flat_map named seq)) ≡ map (item_under registers) (appearing seq) =
+    firsts_mapped (length registers) (item_under registers) (one_to_one registers distinct) [] (flat_map named seq) tt c.below in
+    let taken : map (item_under registers) (appearing seq) ≡ numbers_of registers = sym mapped ∙ ap (firsts []) (sym names) ∙ sym order in
+    let as_many : named_count seq ≡ length registers = sym (length-map (appearing seq) (item_under registers)) ∙ ap length taken ∙ size in
+    let as_long : length seq ≡ length window = sym (length-map seq (renamed registers)) ∙ ap length c.under ∙ length-map window normal_of in
+    let side : IsCanonicalSide seq = record {
+      renamable = record {
+        some = omega (arith, as_long, w.some);
+        few = omega (arith, as_long, w.few);
+        windows = windows;
+        registers = subst (λ is. length (appearing is) ≤ 4) (sym normal) (omega (arith, as_many, few));
+      };
+      normal = normal;
+      in_order = counted_under registers (appearing seq) distinct (firsts_below (length registers) [] (flat_map named seq) tt c.below) taken;
+    } in
+    record {
+      canonical = side;
+      counted = sym (count_same seq side);
+      over = λ x h. elim (masked_over items (numbers_of registers) x (sym (c.masks x) ∙ h)) [
+        | inl low ↦ inl (omega (arith, low, size, as_many))
+        | inr high ↦ inr high
+      ];
+      as_long = as_long;
+    }

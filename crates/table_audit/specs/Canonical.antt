@@ -1,0 +1,21 @@
+-- What the canonical form of a window is.
+use Rattle.std.specs.Prelude.{◌≡◌, ℕ, List, Option, length}
+use Rattle.thumb_instr.specs.declared.instr.Instr.{Instr}
+use Rattle.thumb_instr.specs.Renaming.{Low}
+use Rattle.thumb_model.specs.Rewrite.{register_count}
+use Rattle.bit_blast.specs.Exactness.{IsMaskOver}
+use Rattle.rule_table.specs.Canonical.{IsRenamable, IsCanonical}
+use Rattle.table_audit.specs.Sides.{named_count, IsCanonicalSide}
+
+-- the sequence is a side that an entry may have, as long as the window, and the mask has no register but those that it names, which are those below their count
+pub record IsSideOf (window seq : List Instr) (mask : ℕ) : Type 0 where
+  pub canonical : IsCanonicalSide seq
+  pub counted : named_count seq ≡ register_count seq
+  pub over : IsMaskOver (named_count seq) mask
+  pub as_long : length seq ≡ length window
+
+-- a window's canonical form is one
+abbrev pub CanonicalFormIsSide : Type 0
+CanonicalFormIsSide =
+    (window : List Instr) (items : ℕ) (seq : List Instr) (given : List (Option Low)) (mask : ℕ)
+    → IsRenamable window → IsCanonical window items seq given mask → IsSideOf window seq mask
