@@ -4,6 +4,7 @@ pub mod StepLemmas
 pub mod TableTexts
 pub mod WellFormed
 pub mod RewriteLemmas
+pub mod LearnLemmas
 pub mod PeepLemmas
 pub mod TraceLineLemmas
 pub mod StayLemmas

@@ -1,0 +1,98 @@
+-- A listing's windows are windows to learn from.
+use Rattle.std.proofs.Common.{◌≡◌, ◌∙◌, ℕ, zero, suc, ◌+◌, ◌<◌, ◌≤◌, List, [], ◌∷◌, ◌++◌, length, map, refl, sym, ap, subst, arith}
+use Rattle.std.specs.Prelude.{All}
+use Rattle.std.specs.List.{flat_map}
+use Rattle.std.proofs.lemmas.List.Elements.{All-append, All-cons, All-head, All-map, All-tail}
+use Rattle.thumb_instr.specs.declared.instr.Instr.{Instr}
+use Rattle.thumb_instr.specs.declared.items.Mask.{Mask}
+use Rattle.thumb_model.specs.Listing.{Line, places_of}
+use Rattle.seq_enum.specs.Lists.{numbers_from}
+use Rattle.seq_enum.specs.Alphabet.{IsOver}
+use Rattle.window_harvest.specs.Harvest.{Pair, Spot, pair_of, spot_of, spots_at, spots, IsPairAt, ArePairs, none, passed, given, AreFirsts, ended, known, new, AreHarvest}
+use Rattle.table_audit.specs.Canonical.{IsSideOf}
+use Rattle.table_audit.proofs.CanonicalForms.{form_is_side}
+use Rattle.rule_table.specs.Table.{Table}
+use Rattle.table_learn.specs.Settings.{Settings, Window, window_of, IsWindow, AreWindows}
+use Rattle.table_learn.specs.Learnt.{Learnt, IsFull, text_length, text_limit, width_of}
+use Rattle.command_runs.specs.Plans.{Outcome, Refuses}
+use Rattle.audit_cli.specs.declared.refusal.Refusal.TheVariants as refusal
+use Rattle.audit_cli.specs.Refusals.{refusal_line}
+use Rattle.audit_cli.specs.Learn.{Lesson, limits_of, window_for, AreWindowsOf, kept_table, LinesLearn, too_wide, too_long, learnt}
+
+-- ---- windows ----
+
+-- a spot of few instructions
+abbrev IsShort : Settings → Spot → Type 0
+IsShort s spot = spot.count ≤ s.left
+
+counts_short : (first count left : ℕ) → first + count ≤ left + 1 → All (λ n. n ≤ left) (numbers_from first count)
+unfolding numbers_from
+counts_short first zero left few = λ k d lt. absurd (omega arith)
+counts_short first (suc count) left few = All-cons (λ n. n ≤ left) first (numbers_from (suc first) count) (omega arith) (counts_short (suc first) count left (omega arith))
+
+place_short : (s : Settings) (place : ℕ) → All (IsShort s) (spots_at s.left place)
+place_short s place = All-map (IsShort s) (spot_of place) (numbers_from 1 s.left) (counts_short 1 s.left s.left (omega arith))
+
+places_short : (s : Settings) (places : List ℕ) → All (IsShort s) (flat_map (spots_at s.left) places)
+places_short s [] = λ k d lt. absurd (omega arith)
+places_short s (p ∷ ps) = All-append (IsShort s) (spots_at s.left p) (flat_map (spots_at s.left) ps) (place_short s p) (places_short s ps)
+
+pair_is_window : (s : Settings) (lines : List Line) (spot : Spot) (pair : Pair) → IsShort s spot → IsPairAt (limits_of s) lines spot pair → IsWindow s (window_for pair)
+pair_is_window s lines spot pair short at =
+    let side : IsSideOf at.window pair.seq pair.mask = form_is_side at.window at.items pair.seq at.registers pair.mask at.renamable at.canonical in
+    let long = side.as_long in
+    let many = at.stands.as_many in
+    record {
+      canonical = side.canonical;
+      short = omega arith;
+      few = subst (λ (n : ℕ). n ≤ s.regs) (sym side.counted) at.few;
+      over = subst (λ (n : ℕ). IsOver n s.pool pair.seq) (sym side.counted) at.over;
+      mask = side.over;
+    }
+
+abbrev IsGood : Settings → Pair → Type 0
+IsGood s pair = IsWindow s (window_for pair)
+
+pairs_are : (s : Settings) (lines : List Line) (places : List Spot) (pairs : List Pair) → All (IsShort s) places → ArePairs (limits_of s) lines places pairs → All (IsGood s) pairs
+pairs_are s lines _ _ short none = λ k d lt. absurd (omega arith)
+pairs_are s lines _ _ short (passed spot rest pairs no are) = pairs_are s lines rest pairs (All-tail (IsShort s) spot rest short) are
+pairs_are s lines _ _ short (given spot rest pair pairs at are) =
+    All-cons (IsGood s) pair pairs (pair_is_window s lines spot pair (All-head (IsShort s) spot rest short) at) (pairs_are s lines rest pairs (All-tail (IsShort s) spot rest short) are)
+
+firsts_are : (s : Settings) (seen pairs firsts : List Pair) → All (IsGood s) seen → All (IsGood s) pairs → AreFirsts seen pairs firsts → All (IsGood s) firsts
+firsts_are s _ _ _ good more (ended seen) = good
+firsts_are s _ _ _ good more (known seen pair pairs firsts there are) = firsts_are s seen pairs firsts good (All-tail (IsGood s) pair pairs more) are
+firsts_are s _ _ _ good more (new seen pair pairs firsts other are) =
+    firsts_are s (seen ++ pair ∷ []) pairs firsts
+    (All-append (IsGood s) seen (pair ∷ []) good (All-cons (IsGood s) pair [] (All-head (IsGood s) pair pairs more) (λ k d lt. absurd (omega arith))))
+    (All-tail (IsGood s) pair pairs more) are
+
+harvest_good : (s : Settings) (lines : List Line) (pairs : List Pair) → AreHarvest (limits_of s) lines pairs → All (IsGood s) pairs
+harvest_good s lines pairs h =
+    firsts_are s [] h.pairs pairs (λ k d lt. absurd (omega arith))
+    (pairs_are s lines (spots s.left (length (places_of lines))) h.pairs (places_short s (numbers_from 0 (length (places_of lines)))) h.are) h.once
+
+-- ---- as the code has them ----
+
+windows_are : (ps : List (List Instr × Mask)) → map window_of ps ≡ map window_for (map pair_of ps)
+windows_are [] = refl
+windows_are (p ∷ ps) = ap (λ (ws : List Window). window_of p ∷ ws) (windows_are ps)
+
+pub harvest_windows : (s : Settings) (lines : List Line) (ps : List (List Instr × Mask)) → AreHarvest (limits_of s) lines (map pair_of ps) → AreWindows s (map window_of ps)
+harvest_windows s lines ps h =
+    subst (λ (ws : List Window). All (IsWindow s) ws) (sym (windows_are ps)) (All-map (IsWindow s) window_for (map pair_of ps) (harvest_good s lines (map pair_of ps) h))
+
+pub are_windows_of : (s : Settings) (lines : List Line) (ps : List (List Instr × Mask)) → AreHarvest (limits_of s) lines (map pair_of ps) → AreWindowsOf s lines (map window_of ps)
+are_windows_of s lines ps h = record { pairs = map pair_of ps; harvest = h; same = windows_are ps }
+
+-- ---- outcomes ----
+
+pub is_too_wide : (to : Lesson) (lines : List Line) (count : ℕ) (o : Outcome) → count ≡ width_of to.settings → 5000000 < count → o ≡ Refuses (refusal_line (refusal.Wide count)) → LinesLearn to lines o
+is_too_wide to lines count o e wide is =
+    subst (LinesLearn to lines) (sym (is ∙ ap (λ n. Refuses (refusal_line (refusal.Wide n))) e)) (too_wide (subst (λ n. 5000000 < n) e wide))
+
+pub is_too_long : (to : Lesson) (lines : List Line) (windows : List Window) (t : Table) (bytes : ℕ) (o : Outcome) → AreWindowsOf to.settings lines windows → IsFull to.settings windows t bytes → o ≡ Refuses (refusal_line (refusal.Full bytes)) → LinesLearn to lines o
+is_too_long to lines windows t bytes o are full is = subst (LinesLearn to lines) (sym is) (too_long windows are t bytes full)
+
+pub is_learnt : (to : Lesson) (lines : List Line) (windows : List Window) (t : Table) (o : Outcome) → AreWindowsOf to.settings lines windows → Learnt to.settings windows t → text_length t ≤ text_limit → o ≡ kept_table to.out t → LinesLearn to lines o
+is_learnt to lines windows t o are l fits is = subst (LinesLearn to lines) (sym is) (learnt windows are t l fits)
