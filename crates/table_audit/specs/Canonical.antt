@@ -7,7 +7,7 @@ use Rattle.bit_blast.specs.Exactness.{IsMaskOver}
 use Rattle.rule_table.specs.Canonical.{IsRenamable, IsCanonical}
 use Rattle.table_audit.specs.Sides.{named_count, IsCanonicalSide}
 
--- the sequence is a side that an entry may have, as long as the window, and the mask has no register but those that it names, which are those below their count
+-- the sequence is a canonical side as long as the window, its registers are counted alike in both ways, and the mask has no register but those that it names, which are those below their count
 pub record IsSideOf (window seq : List Instr) (mask : ℕ) : Type 0 where
   pub canonical : IsCanonicalSide seq
   pub counted : named_count seq ≡ register_count seq
