@@ -8,7 +8,8 @@ use Rattle.rule_table.specs.Table.{Table}
 use Rattle.table_audit.specs.Soundness.{IsSound, rules_of}
 use Rattle.listing_parser.specs.Parsing.{IsListing, text_of_lines}
 use Rattle.window_rewrite.specs.Rewriting.{setting}
-use Rattle.thumb_assembler.specs.Images.{AreImage}
+use Rattle.thumb_assembler.specs.Following.{IsAssembled}
+use Rattle.thumb_assembler.proofs.Meeting.{images_follow_given}
 use Rattle.command_runs.specs.Plans.{Outcome, Does, Refuses}
 use Rattle.audit_cli.specs.declared.refusal.Refusal.{Refusal}
 use Rattle.audit_cli.specs.Refusals.{refusal_line}
@@ -22,7 +23,7 @@ pub kept_alone : (to : Destination) (lines : List Line) (c : Counts) (o : Outcom
 kept_alone to lines c o none e = subst (Leaves to lines c) (sym e) (alone none)
 
 -- the listing and its image
-pub kept_pair : (to : Destination) (lines : List Line) (c : Counts) (bytes : List ℕ) (o : Outcome) → (WantsNone to → ⊥) → AreImage to.base lines bytes
+pub kept_pair : (to : Destination) (lines : List Line) (c : Counts) (bytes : List ℕ) (o : Outcome) → (WantsNone to → ⊥) → IsAssembled to.base lines bytes
     → o ≡ Does ((to.out, text_of_lines lines) ∷ (to.image, bytes) ∷ []) (report_of c.replaced c.before c.after ++ image_line (length bytes)) → Leaves to lines c o
 kept_pair to lines c bytes o some i e = subst (Leaves to lines c) (sym e) (pair some bytes i)
 
@@ -44,6 +45,7 @@ is_rewriting to t given lines replacements c o sound is laid r e k =
       no_longer = no_more_lines s given replacements lines r;
       layable = still_layable s given replacements lines laid r;
       same = lines_same s given replacements lines sound.sound r;
+      runs = λ bytes assembled set is_set fits fits_given. images_follow_given to.base set lines given bytes assembled is_set fits fits_given (lines_same s given replacements lines sound.sound r);
       finished = none_left s given replacements lines r;
       applied = all_applied s given replacements lines r;
       sound = sound;

@@ -1,14 +1,17 @@
 -- What the command `rewrite` comes to: the program's headline, but for its store and sink.
 use Rattle.std.specs.Prelude.{◌≡◌, ◌≤◌, ◌+◌, ℕ, List, [], ◌∷◌, ◌++◌, length, codes, if◌then◌else◌}
-use Rattle.thumb_model.specs.Listing.{Line, code_of}
+use Rattle.thumb_model.specs.Listing.{Name, Line, code_of}
 use Rattle.thumb_model.specs.Layout.{Layable}
+use Rattle.thumb_model.specs.Machine.{Fits}
+use Rattle.thumb_model.specs.Image.{laid}
 use Rattle.thumb_model.specs.Same.{Same}
 use Rattle.thumb_model.specs.Rewritten.{Replacement, AreRewritten, AllApplied, NoneApplies, is_op}
 use Rattle.rule_table.specs.Table.{Table}
 use Rattle.table_audit.specs.Soundness.{IsSound, rules_of}
 use Rattle.listing_parser.specs.Parsing.{IsListing, text_of_lines}
 use Rattle.window_rewrite.specs.Rewriting.{setting}
-use Rattle.thumb_assembler.specs.Images.{AreImage}
+use Rattle.thumb_assembler.specs.Images.{IsSetBy}
+use Rattle.thumb_assembler.specs.Following.{IsAssembled, Follows}
 use Rattle.command_runs.specs.Plans.{Outcome, Refuses, Does}
 use Rattle.audit_cli.specs.Printed.{report_of, image_line}
 use Rattle.audit_cli.specs.declared.refusal.Refusal.{Refusal}
@@ -41,11 +44,16 @@ pub record Counts : Type 0 where
 -- the listing is kept, and then its image if one is asked for, and the counts and the image's size are told; where it has no image, that is refused
 pub data Leaves (to : Destination) (lines : List Line) (c : Counts) : Outcome → Type 0 where
   alone : WantsNone to → Leaves to lines c (Does ((to.out, text_of_lines lines) ∷ []) (report_of c.replaced c.before c.after))
-  pair : (WantsNone to → ⊥) → (bytes : List ℕ) → AreImage to.base lines bytes
+  pair : (WantsNone to → ⊥) → (bytes : List ℕ) → IsAssembled to.base lines bytes
       → Leaves to lines c (Does ((to.out, text_of_lines lines) ∷ (to.image, bytes) ∷ []) (report_of c.replaced c.before c.after ++ image_line (length bytes)))
   no_image : (WantsNone to → ⊥) → (r : Refusal) → HasNoImage to.base lines r → Leaves to lines c (Refuses (refusal_line r))
 
 -- ---- the headline ----
+
+-- where the naming of the lines that are left fits them and the given ones, the run of an image of theirs meets that of the given lines
+abbrev pub RunsAsGiven : ℕ → List Line → List Line → List ℕ → Type 0
+RunsAsGiven base given lines bytes =
+    (set : Name → ℕ) → IsSetBy lines set → Fits (laid base set lines) (code_of lines) → Fits (laid base set lines) (code_of given) → Follows base set lines bytes given
 
 -- a listing is rewritten by a table
 pub record IsRewriting (to : Destination) (t : Table) (given : List Line) (o : Outcome) : Type 0 where
@@ -65,6 +73,8 @@ pub record IsRewriting (to : Destination) (t : Table) (given : List Line) (o : O
   -- does, save those that it names open, each of which has its log
   pub applied : AllApplied (setting to.base (rules_of t)) given replacements
   pub sound : IsSound t
+  -- and so has its image
+  pub runs : (bytes : List ℕ) → IsAssembled to.base lines bytes → RunsAsGiven to.base given lines bytes
   -- it is kept, and its image
   pub left : Leaves to lines (record { replaced = length replacements; before = instruction_count given; after = instruction_count lines }) o
 

@@ -11,9 +11,9 @@ use Rattle.listing_parser.specs.declared.errors.Kind.{Kind}
 use Rattle.listing_parser.specs.Parsing.{IsListing, IsRefused}
 use Rattle.label_layout.specs.Refusals.{first_fault}
 use Rattle.label_layout.specs.Addresses.{Addresses, AreAddresses}
-use Rattle.thumb_assembler.specs.declared.errors.Flaw.TheVariants as flaw
-use Rattle.thumb_assembler.specs.Refusals.{first_flaw}
-use Rattle.thumb_assembler.specs.Images.{AreImage}
+use Rattle.thumb_assembler.specs.declared.errors.ImageError.TheVariants as image
+use Rattle.thumb_assembler.specs.Refusals.{IsRefusal}
+use Rattle.thumb_assembler.specs.Following.{IsAssembled}
 use Rattle.audit_cli.specs.declared.refusal.Refusal.{Refusal}
 use Rattle.audit_cli.specs.declared.refusal.Refusal.TheVariants as refusal
 use Rattle.audit_cli.specs.Refusals.{unlaid_refusal}
@@ -39,8 +39,8 @@ pub data IsUnlaid (base : ℕ) (lines : List Line) : Refusal → Type 0 where
 
 -- lines have no image because of the first that mentions in `b`, `bl` or `.word` a name with no address, or sets an address in the image
 pub data HasNoImage (base : ℕ) (lines : List Line) : Refusal → Type 0 where
-  no_address : (line : ℕ) → first_flaw base lines ≡ Some (line, flaw.NoAddress) → HasNoImage base lines (refusal.Address line)
-  inside : (line : ℕ) → first_flaw base lines ≡ Some (line, flaw.Inside) → HasNoImage base lines (refusal.Inside line)
+  no_address : (line : ℕ) → IsRefusal base lines (image.NoAddress line) → HasNoImage base lines (refusal.Address line)
+  inside : (line : ℕ) → IsRefusal base lines (image.Inside line) → HasNoImage base lines (refusal.Inside line)
 
 -- the text is that of an accepted table
 pub record IsAudited (text : List ℕ) (t : Table) : Type 0 where
@@ -63,7 +63,7 @@ ReadsListing text (Err r) = IsUnread text r
 
 -- what comes of making an image of lines
 abbrev pub MakesImage : ℕ → List Line → Result (List ℕ) Refusal → Type 0
-MakesImage base lines (Ok bytes) = AreImage base lines bytes
+MakesImage base lines (Ok bytes) = IsAssembled base lines bytes
 MakesImage base lines (Err r) = HasNoImage base lines r
 
 -- what comes of laying lines out
