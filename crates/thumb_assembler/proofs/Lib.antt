@@ -1,0 +1,5 @@
+pub mod Fairness
+pub mod Codes
+pub mod Places
+pub mod Pushing
+pub mod Assembled

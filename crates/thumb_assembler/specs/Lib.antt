@@ -1,0 +1,4 @@
+pub mod Images
+pub mod Refusals
+pub mod Fair
+pub mod Pushes

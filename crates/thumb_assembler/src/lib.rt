@@ -1,0 +1,11 @@
+//! The image of a listing: the bytes of its instructions and data words where they lie, with padding between them.
+#![tactic(auto)]
+
+mod aiming;
+mod assembling;
+mod errors;
+mod naming;
+mod pushing;
+
+pub use assembling::assemble;
+pub use errors::ImageError;
