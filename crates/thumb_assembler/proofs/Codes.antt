@@ -1,5 +1,5 @@
 -- The bytes of codes and of padding.
-use Rattle.std.proofs.Common.{◌≡◌, ◌∙◌, ◌<◌, ℕ, zero, suc, ◌+◌, ◌*◌, ◌/◌, ◌%◌, List, [], ◌∷◌, ◌++◌, length, Some, None, sym, refl, ap, arith, append_assoc}
+use Rattle.std.proofs.Common.{◌≡◌, ◌∙◌, ◌<◌, ◌≤◌, ℕ, zero, suc, ◌+◌, ◌-◌, ◌*◌, ◌/◌, ◌%◌, List, [], ◌∷◌, ◌++◌, length, Some, None, sym, refl, ap, arith, append_assoc, append-nil}
 use Rattle.thumb_instr.specs.declared.instr.Instr.{Instr}
 use Rattle.thumb_instr.specs.declared.instr.Instr.TheVariants as instr
 use Rattle.thumb_table.specs.Rows.{width, packed}
@@ -48,22 +48,22 @@ two_halves w old mid new e f =
     let c : w / 65536 / 256 % 256 ≡ w / 16777216 % 256 = omega arith in
     f ∙ ap (λ (x : List ℕ). x ++ half_bytes (w / 65536)) e ∙ append_assoc old (half_bytes (w % 65536)) (half_bytes (w / 65536)) ∙ ap (λ (x : List ℕ). old ++ x) (rw (a, b, c) refl)
 
--- one `nop` more
-pub nops_more : (n k : ℕ) → k ≡ 2 * n → nops k ++ half_bytes 48896 ≡ nops (suc (suc k))
-nops_more zero zero e = refl
-nops_more zero (suc k) e = absurd (omega arith)
-nops_more (suc n) zero e = absurd (omega arith)
-nops_more (suc n) (suc zero) e = absurd (omega arith)
-nops_more (suc n) (suc (suc k)) e = ap (λ (x : List ℕ). 0 ∷ 191 ∷ x) (nops_more n k (omega arith))
+-- a `nop`, and those that are left
+pub nops_step : (k : ℕ) → 1 < k → nops k ≡ half_bytes 48896 ++ nops (k - 2)
+nops_step zero h = absurd (omega arith)
+nops_step (suc zero) h = absurd (omega arith)
+nops_step (suc (suc k)) h = ap (λ (x : ℕ). 0 ∷ 191 ∷ nops x) (let e : k ≡ suc (suc k) - 2 = omega arith in e)
 
--- an odd byte is not padded
-pub nops_odd : (n k : ℕ) → k / 2 ≡ n → nops (2 * n) ≡ nops k
-nops_odd zero zero e = refl
-nops_odd zero (suc zero) e = refl
-nops_odd zero (suc (suc k)) e = absurd (omega arith)
-nops_odd (suc n) zero e = absurd (omega arith)
-nops_odd (suc n) (suc zero) e = absurd (omega arith)
-nops_odd (suc n) (suc (suc k)) e = ap nops (let h : 2 * suc n ≡ suc (suc (2 * n)) = omega arith in h) ∙ ap (λ (x : List ℕ). 0 ∷ 191 ∷ x) (nops_odd n k (omega arith))
+pub nops_none : (k : ℕ) → k ≤ 1 → nops k ≡ []
+nops_none zero h = refl
+nops_none (suc zero) h = refl
+nops_none (suc (suc k)) h = absurd (omega arith)
+
+pub nops_more : (k : ℕ) (old now new : List ℕ) → 1 < k → now ++ nops k ≡ old → new ≡ now ++ half_bytes 48896 → new ++ nops (k - 2) ≡ old
+nops_more k old now new h e f = ap (λ (x : List ℕ). x ++ nops (k - 2)) f ∙ append_assoc now (half_bytes 48896) (nops (k - 2)) ∙ ap (λ (x : List ℕ). now ++ x) (sym (nops_step k h)) ∙ e
+
+pub nops_end : (k : ℕ) (old now : List ℕ) → k ≤ 1 → now ++ nops k ≡ old → now ≡ old
+nops_end k old now h e = sym (append-nil now) ∙ ap (λ (x : List ℕ). now ++ x) (sym (nops_none k h)) ∙ e
 
 pub nops_length : (n k : ℕ) → k ≡ 2 * n → length (nops k) ≡ k
 nops_length zero zero e = refl

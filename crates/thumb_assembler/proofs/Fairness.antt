@@ -135,10 +135,9 @@ sound_directed_by None bs = sound_none
 sound_directed_by (Some d) bs = sound_directed d bs
 
 sound_instruction : (bs : List ℕ) → Sound (instruction bs)
-unfolding instruction
+unfolding instruction WellSaid
 sound_instruction bs = by (reading bs) refl where
   by : (o : Option Shown) → reading bs ≡ o → Sound (option_map (λ (s : Shown). (let x : Told = record { said = Instruction s; mark = Unmarked } in x)) o)
-  unfolding WellSaid
   by None e = sound_none
   by (Some s) e = sound_some _ (read_as bs e)
 
@@ -146,7 +145,7 @@ sound_said : (bs : List ℕ) → Sound (said bs)
 sound_said [] = sound_some (says Nothing) nothing_well
 sound_said (b ∷ bs) = by (b == 46) where
   by : (is : Bool) → Sound (if is then directed_by (directive_named (front is_word_byte (b ∷ bs))) (rest is_word_byte (b ∷ bs)) else instruction (b ∷ bs))
-  by true = sound_directed_by _ _
+  by true = sound_directed_by (directive_named (front is_word_byte (b ∷ bs))) (rest is_word_byte (b ∷ bs))
   by false = sound_instruction (b ∷ bs)
 
 sound_statement : (bs : List ℕ) → Sound (statement bs)

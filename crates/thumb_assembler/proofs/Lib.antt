@@ -1,5 +1,12 @@
 pub mod Fairness
 pub mod Codes
 pub mod Places
-pub mod Pushing
+pub mod Pushed
 pub mod Assembled
+pub mod Cuts
+pub mod Fetched
+pub mod Loose
+pub mod Slides
+pub mod Around
+pub mod Meeting
+pub mod Stepping

@@ -10,7 +10,7 @@ use Rattle.thumb_syntax.specs.Operands.{is_name}
 use Rattle.thumb_instr.specs.declared.instr.Instr.{Instr}
 use Rattle.thumb_instr.specs.declared.instr.Instr.TheVariants as instr
 use Rattle.thumb_model.specs.Listing.{Name, Mention, Value, Number, OfName, Statement, Nothing, Runs, Words, Aligns, Sets, Line, Place, Label, places_in, places_of, labels_at, labels_from, place_among, place_of, code_of, is_code}
-use Rattle.thumb_model.specs.Layout.{less, instr_size, padding, size_at, end_of, is_among, label_address, set_address, cleared, or_else, lies_in, literal_base, branch_fault, literal_fault, aim_fault, Fault, Range, Align}
+use Rattle.thumb_model.specs.Layout.{less, distance, branch_base, instr_fault, instr_size, padding, size_at, end_of, is_among, label_address, set_address, cleared, or_else, lies_in, literal_base, branch_fault, literal_fault, aim_fault, Fault, Range, Align}
 use Rattle.thumb_model.specs.Machine.{Naming}
 use Rattle.thumb_model.specs.Image.{word_by, laid, lies_at, mention_lies}
 use Rattle.listing_parser.specs.Targets.{from_label, reaches, is_literal, is_code_label, is_aimed, is_aimed_at}
@@ -112,7 +112,7 @@ lies_even base all name to f h e = lies_even_by (label_address name base all) (s
 
 -- ---- what an instruction mentions is there ----
 
-unlabelled : (name : Name) (at : ℕ) (ls : List Line) → label_address name at ls ≡ None → from_label name ls ≡ []
+pub unlabelled : (name : Name) (at : ℕ) (ls : List Line) → label_address name at ls ≡ None → from_label name ls ≡ []
 unlabelled name at [] e = refl
 unlabelled name at (l ∷ ls) e = elim (cases_Bool (is_among name l.names)) [
   | inl t ↦ absurd (let bad : Some at ≡ None = rw t at e in cc)
@@ -201,18 +201,33 @@ no_plus b name plus e =
     let a = and_parts b (is_label (Some (name, plus))) e in
     eqb-true plus 0 (and_parts (is_name name) (plus == 0) a.1).1
 
-branch_reach : (at to plus : ℕ) (i : Instr) → to % 2 ≡ 0 → to < 2 ^ 32 → plus ≡ 0 → aim_fault at i (Some to) 0 ≡ None → Reach at (to + plus) i
-branch_reach at to plus i even small z e =
+branch_limit : (half at to : ℕ) → branch_fault half at (Some to) ≡ None → to < at + 4 + 2 * half
+branch_limit half at to e = elim (cases_Bool (nat_lt to (branch_base at + 2 * half) && nat_le (branch_base at) (to + 2 * half))) [
+  | inr g ↦ absurd (let bad : Some (Range (distance at to)) ≡ None = rw g at e in cc)
+  | inl g ↦ ltb-true to (branch_base at + 2 * half) (and_parts (nat_lt to (branch_base at + 2 * half)) (nat_le (branch_base at) (to + 2 * half)) g).0
+]
+
+branch_reach : (half at to plus : ℕ) (i : Instr) → half ≤ 8388608 → at ≤ 2 ^ 29 → to % 2 ≡ 0 → plus ≡ 0 → branch_fault half at (Some to) ≡ None → aim_fault at i (Some to) 0 ≡ None → Reach at (to + plus) i
+branch_reach half at to plus i few low even z e f =
     let same : to ≡ to + plus = omega arith in
-    record { fault = subst (λ (n : ℕ). aim_fault at i (Some n) 0 ≡ None) same e; even = omega arith; small = omega arith }
+    let limit = branch_limit half at to e in
+    record { fault = subst (λ (n : ℕ). aim_fault at i (Some n) 0 ≡ None) same f; even = omega arith; small = omega arith }
 
 -- what a fair instruction mentions is reached, where the layout refuses nothing
-pub reach : (all : List Line) (at to : ℕ) (i : Instr) (m : Mention) → at ≤ 2 ^ 29 → to % 2 ≡ 0 → to < 2 ^ 32 → is_fair all (Runs i (Some m)) ≡ true → aim_fault at i (Some to) m.plus ≡ None → Reach at (to + m.plus) i
-reach all at to i m low even small f e = by i f e where
+reach : (all : List Line) (at to : ℕ) (i : Instr) (m : Mention) → at ≤ 2 ^ 29 → to % 2 ≡ 0 → is_fair all (Runs i (Some m)) ≡ true → aim_fault at i (Some to) m.plus ≡ None → Reach at (to + m.plus) i
+reach all at to i m low even f e = by i f e where
   by : (j : Instr) → is_fair all (Runs j (Some m)) ≡ true → aim_fault at j (Some to) m.plus ≡ None → Reach at (to + m.plus) j
   by (instr.Literal t d) g h = literal_reach at to m.plus (instr.Literal t d) low h refl
   by (instr.Address t d) g h = literal_reach at to m.plus (instr.Address t d) low h refl
-  by (instr.BranchIf c d) g h = branch_reach at to m.plus (instr.BranchIf c d) even small (no_plus (d.field == 0) m.name m.plus (and_parts (is_whole (instr.BranchIf c d) (label_in (Some m))) (is_code_label all m.name) g).0) h
-  by (instr.Branch d) g h = branch_reach at to m.plus (instr.Branch d) even small (no_plus (d.field == 0) m.name m.plus (and_parts (is_whole (instr.Branch d) (label_in (Some m))) (is_aimed all (instr.Branch d) m) g).0) h
-  by (instr.Call d) g h = branch_reach at to m.plus (instr.Call d) even small (no_plus (d.field == 0) m.name m.plus (and_parts (is_whole (instr.Call d) (label_in (Some m))) (is_aimed all (instr.Call d) m) g).0) h
+  by (instr.BranchIf c d) g h = branch_reach 128 at to m.plus (instr.BranchIf c d) (omega arith) low even (no_plus (d.field == 0) m.name m.plus (and_parts (is_whole (instr.BranchIf c d) (label_in (Some m))) (is_code_label all m.name) g).0) h h
+  by (instr.Branch d) g h = branch_reach 1024 at to m.plus (instr.Branch d) (omega arith) low even (no_plus (d.field == 0) m.name m.plus (and_parts (is_whole (instr.Branch d) (label_in (Some m))) (is_aimed all (instr.Branch d) m) g).0) h h
+  by (instr.Call d) g h = branch_reach 8388608 at to m.plus (instr.Call d) (omega arith) low even (no_plus (d.field == 0) m.name m.plus (and_parts (is_whole (instr.Call d) (label_in (Some m))) (is_aimed all (instr.Call d) m) g).0) h h
   by j g h = absurd (true≢false (sym g))
+
+-- the name's bytes, and where it was found
+pub found_there : (base : ℕ) (all : List Line) (m : Mention) (name : Name) (o : Option ℕ) → name ≡ m.name → o ≡ lies_in base all name → lies_in base all m.name ≡ o
+found_there base all m name o e f = ap (lies_in base all) (sym e) ∙ sym f
+
+pub reach_found : (base : ℕ) (all : List Line) (at to : ℕ) (i : Instr) (m : Mention) → are_fair all all ≡ true → base % 2 ≡ 0 → at ≤ 2 ^ 29 → is_fair all (Runs i (Some m)) ≡ true → instr_fault (lies_in base all) at i (Some m) ≡ None → lies_in base all m.name ≡ Some to
+    → Reach at (to + m.plus) i
+reach_found base all at to i m fair even low here fault found = reach all at to i m low (lies_even base all m.name to fair even found) here (ap (λ (o : Option ℕ). aim_fault at i o m.plus) (sym found) ∙ fault)

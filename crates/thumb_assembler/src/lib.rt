@@ -4,8 +4,12 @@
 mod aiming;
 mod assembling;
 mod errors;
+mod image;
+pub mod laws;
+mod machine;
 mod naming;
 mod pushing;
 
 pub use assembling::assemble;
 pub use errors::ImageError;
+pub use machine::{At, ImageMachine};

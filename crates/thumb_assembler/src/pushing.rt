@@ -58,11 +58,14 @@ fn push_code(bytes: &mut Vec<u8>, instr: &Instr) -> Result<(), AllocError>
 }
 
 /// Puts `nop` behind the bytes for each two bytes of padding.
+#[tactic(auto, using(crate::proofs::Codes::nops_more, crate::proofs::Codes::nops_end))]
 fn push_nops(bytes: &mut Vec<u8>, padding: u32) -> Result<(), AllocError>
     ensures { OnOk result (bytes.new.items ≡ bytes.old.items ++ nops padding) }
 {
-    for _ in 0..padding / 2 {
+    let mut left = padding;
+    while left > 1 {
         push_half(bytes, NOP)?;
+        left -= 2;
     }
     Ok(())
 }

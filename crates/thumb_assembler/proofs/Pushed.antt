@@ -32,7 +32,7 @@ code_pushed base all at i old new p =
       long = omega arith;
     }
 
-aims_size : (at to : ℕ) (i j : Instr) → Aims at to i j → instr_size j ≡ instr_size i
+pub aims_size : (at to : ℕ) (i j : Instr) → Aims at to i j → instr_size j ≡ instr_size i
 aims_size at to (instr.Literal t d) j a = ap instr_size a.2
 aims_size at to (instr.Address t d) j a = ap instr_size a.2
 aims_size at to (instr.BranchIf c d) j a = ap instr_size a.2
