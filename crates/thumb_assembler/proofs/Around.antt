@@ -1,37 +1,35 @@
 -- What an instruction finds around it in the listing and in the image.
-use Rattle.std.proofs.Common.{◌≡◌, ◌∙◌, ◌⊎◌, inl, inr, ℕ, zero, suc, ◌+◌, ◌-◌, ◌*◌, ◌/◌, ◌%◌, ◌^◌, ◌<◌, ◌≤◌, ◌==◌, ◌&&◌, ◌||◌, not, Bool, true, false, List, [], ◌∷◌, ◌++◌, length, map, take, refl, sym, ap, subst, arith, true≢false, Option, Some, None, eqb-true}
-use Rattle.std.specs.Prelude.{slice_get, nat_lt, nat_le, if◌then◌else◌, is_some, ℤ, pos, negsuc}
-use Rattle.std.specs.Str.{bytes_eq}
-use Rattle.std.proofs.lemmas.Bool.{cases_Bool, cases_lt, and_from, and_parts, le-leb, lt-ltb, ltb-true, leb-true, le-ltb}
+use Rattle.std.proofs.Common.{◌≡◌, ◌∙◌, ◌⊎◌, inl, inr, ℕ, zero, suc, ◌+◌, ◌-◌, ◌*◌, ◌/◌, ◌%◌, ◌^◌, ◌<◌, ◌≤◌, ◌==◌, ◌&&◌, ◌||◌, not, Bool, true, false, List, [], ◌∷◌, ◌++◌, length, take, refl, sym, ap, subst, arith, true≢false, Option, Some, None, eqb-true}
+use Rattle.std.specs.Prelude.{slice_get, nat_lt, nat_le, if◌then◌else◌, is_some, ℤ}
+use Rattle.std.proofs.lemmas.Bool.{cases_Bool, cases_lt, and_from, and_parts, le-leb, lt-ltb, ltb-true, leb-true}
 use Rattle.std.proofs.lemmas.Slice.Eq.{bytes_eq-Decides}
 use Rattle.thumb_instr.specs.declared.instr.Instr.{Instr}
 use Rattle.thumb_instr.specs.declared.instr.Instr.TheVariants as instr
 use Rattle.thumb_instr.specs.Distance.{bytes_of}
-use Rattle.thumb_syntax.specs.Operands.{is_name}
-use Rattle.thumb_syntax.specs.Whole.{is_whole, is_label as is_plain}
-use Rattle.thumb_model.specs.Listing.{Name, Mention, Value, Statement, Nothing, Runs, Words, Aligns, Sets, Line, Place, Op, Word, Label, Code, places_in, places_of, labels_from, code_of, place_of, is_op_place, has_label, mentions, place_mentions, is_mentioned, is_call_instr, call_count}
-use Rattle.thumb_model.specs.Layout.{instr_size, size_at, end_of, is_among, label_address, set_address, cleared, or_else, lies_in, less, distance, branch_base, literal_base}
-use Rattle.thumb_model.specs.Machine.{Naming, Fits, label_place, points, point_among, is_in_range, set_bit, World, Act, Around, Target, Inside, External, Goes, landing, word_of_mention, word_of_place, word_of_value, word_behind, literal_word, literal_at, target_at, aim_of, around_of, act}
+use Rattle.thumb_syntax.specs.Whole.{is_whole}
+use Rattle.thumb_model.specs.Listing.{Name, Mention, Statement, Runs, Line, Place, Op, Code, places_in, places_of, labels_from, code_of, place_of, is_op_place, has_label, place_mentions, is_mentioned, is_call_instr, call_count}
+use Rattle.thumb_model.specs.Layout.{instr_size, size_at, end_of, is_among, label_address, set_address, cleared, or_else, lies_in, distance, literal_base}
+use Rattle.thumb_model.specs.Machine.{Naming, Fits, label_place, points, point_among, is_in_range, set_bit, World, Around, Inside, External, landing, word_of_mention, word_of_place, word_behind, literal_word, target_at, around_of, act}
 use Rattle.thumb_model.specs.Image.{laid, word_by, lies_at, mention_lies, Aims}
 use Rattle.thumb_model.proofs.Tied.{TargetTied}
 use Rattle.listing_parser.specs.TableWords.{words_from}
-use Rattle.listing_parser.specs.Targets.{from_label, reaches, is_literal, is_code_label, is_label, is_aimed, is_aimed_at}
-use Rattle.listing_parser.proofs.LabelLemmas.{one_label, code_place, label_among}
+use Rattle.listing_parser.specs.Targets.{from_label, reaches, is_literal, is_code_label, is_label}
+use Rattle.listing_parser.proofs.LabelLemmas.{code_place, label_among}
 use Rattle.listing_parser.proofs.RunLemmas.{reaches_by_count}
 use Rattle.label_layout.proofs.Sums.{at_end}
 use Rattle.thumb_assembler.specs.declared.errors.Flaw.{Flaw}
 use Rattle.thumb_assembler.specs.declared.errors.Flaw.TheVariants as flaw
 use Rattle.thumb_assembler.specs.Images.{IsSetBy}
 use Rattle.thumb_assembler.specs.Fair.{label_in, is_fair}
-use Rattle.thumb_assembler.specs.Refusals.{lies_nowhere, may_leave, branch_lost, flaw_of, flaws_from, or_first}
-use Rattle.thumb_assembler.specs.Runs.{Loaded, byte_at, half_at, word_at, is_code_address, aim_from, goes_to, target_in, literal_in, following, around_in, lands_at}
+use Rattle.thumb_assembler.specs.Refusals.{lies_nowhere, branch_lost, flaw_of, flaws_from, or_first}
+use Rattle.thumb_assembler.specs.Runs.{Loaded, word_at, is_code_address, aim_from, goes_to, target_in, literal_in, following, around_in, lands_at}
 use Rattle.thumb_assembler.specs.Following.{IsAssembled, loaded}
-use Rattle.thumb_assembler.proofs.Places.{unlabelled}
+use Rattle.thumb_assembler.proofs.Places.{no_plus, unlabelled}
 use Rattle.thumb_assembler.proofs.Loose.{LandingLoose, LooksLoose}
 use Rattle.thumb_assembler.proofs.Pushed.{aims_size}
-use Rattle.thumb_assembler.proofs.Cuts.{end_append, two_or_four, or_right, first_behind, LabelCut, label_cut, no_label}
-use Rattle.thumb_assembler.proofs.Fetched.{fair_here, even_here, fetched_here, FetchedHere, Coded, DataAt, data_from}
-use Rattle.thumb_assembler.proofs.Slides.{Arrives, CodeLabel, label_found, label_is, arrives_within, code_address, lands_tied, place_here, return_here}
+use Rattle.thumb_assembler.proofs.Cuts.{end_append, two_or_four, or_right, LabelCut, label_cut}
+use Rattle.thumb_assembler.proofs.Fetched.{fair_here, even_here, Coded, DataAt, data_from}
+use Rattle.thumb_assembler.proofs.Slides.{Arrives, label_found, label_is, arrives_within, code_address, lands_tied, place_here, return_here}
 
 -- a distance leads back to where it was measured
 pub aim_back : (at to : ℕ) → at ≤ 2 ^ 29 → to < 2 ^ 32 → aim_from at (distance at to) ≡ to
@@ -73,11 +71,6 @@ mentioned_at name (p ∷ ps) zero i m e s =
     let is : p ≡ Op i (Some m) = cc in
     ap (λ (x : Place). place_mentions name x || is_mentioned name ps) is ∙ ap (λ (b : Bool). b || is_mentioned name ps) ((bytes_eq-Decides name m.name).1 s)
 mentioned_at name (p ∷ ps) (suc q) i m e s = or_right (place_mentions name p) (is_mentioned name ps) (mentioned_at name ps q i m e s)
-
-no_plus : (b : Bool) (name : Name) (plus : ℕ) → (b && is_plain (Some (name, plus))) ≡ true → plus ≡ 0
-no_plus b name plus e =
-    let a = and_parts b (is_plain (Some (name, plus))) e in
-    eqb-true plus 0 (and_parts (is_name name) (plus == 0) a.1).1
 
 no_sum : (b : Bool) → (b && false) ≡ false
 no_sum true = refl
@@ -254,9 +247,9 @@ module _ (base : ℕ) (set : Name → ℕ) (all : List Line) (bytes : List ℕ) 
   link_at before after l i mention e s c j size =
       return_here base set all bytes made given before after l i mention e s c
       ∙ behind (end_of base before) (instr_size i) (instr_size j) size (two_or_four i) (even_here base set all bytes made given before (l ∷ after) e) (low before (l ∷ after) e) where
-    behind : (a m n : ℕ) → n ≡ m → (m ≡ 2) ⊎ (m ≡ 4) → a % 2 ≡ 0 → a ≤ 2 ^ 29 → a + m + 1 ≡ set_bit ((a + n) % 2 ^ 32)
-    behind a m n same (inl e) even small = omega arith
-    behind a m n same (inr e) even small = omega arith
+        behind : (a m n : ℕ) → n ≡ m → (m ≡ 2) ⊎ (m ≡ 4) → a % 2 ≡ 0 → a ≤ 2 ^ 29 → a + m + 1 ≡ set_bit ((a + n) % 2 ^ 32)
+        behind a m n same (inl e) even small = omega arith
+        behind a m n same (inr e) even small = omega arith
 
   pub coded_size : (at : ℕ) (i : Instr) (mention : Option Mention) (j : Instr) → Coded base set all bytes made given at i mention j → instr_size j ≡ instr_size i
   coded_size at i None j c = ap instr_size (c.plain refl)
@@ -304,11 +297,10 @@ module _ (base : ℕ) (set : Name → ℕ) (all : List Line) (bytes : List ℕ) 
   looks before after l (instr.Call d) None e s j c = absurd (true≢false (sym (and_parts (is_whole (instr.Call d) None) true (fair_at before after l (instr.Call d) None e s)).0 ∙ no_sum (d.field == 0)))
   looks before after l (instr.Call d) (Some m) e s j c =
       let f = and_parts (is_whole (instr.Call d) (label_in (Some m))) (is_code_label all m.name || not (is_label all m.name)) (fair_at before after l (instr.Call d) (Some m) e s) in
-      let a = c.aims m refl in
-      (
+      let a = c.aims m refl in (
         subst (λ (z : Instr). TargetTied ArrivesAt (target_at names (Some m) (place_of code m.name)) (target_in image (end_of base before) z)) (sym a.2)
-        (branch_tied (end_of base before) m (bytes_of 8388608 a.0.field) (low before (l ∷ after) e) a.1
-        (branch_aimed (length (places_of before)) (instr.Call d) m (place_here base set all bytes made given before after l (instr.Call d) (Some m) e s) (no_plus (d.field == 0) m.name m.plus f.0) f.1 (sound_at before after l (instr.Call d) (Some m) e s))),
+            (branch_tied (end_of base before) m (bytes_of 8388608 a.0.field) (low before (l ∷ after) e) a.1
+            (branch_aimed (length (places_of before)) (instr.Call d) m (place_here base set all bytes made given before after l (instr.Call d) (Some m) e s) (no_plus (d.field == 0) m.name m.plus f.0) f.1 (sound_at before after l (instr.Call d) (Some m) e s))),
         link_at before after l (instr.Call d) (Some m) e s refl j (coded_size (end_of base before) (instr.Call d) (Some m) j c),
       )
   looks before after l i mention e s j c = tt

@@ -1,5 +1,5 @@
 -- Lines, one after the other.
-use Rattle.std.proofs.Common.{◌≡◌, ◌∙◌, ℕ, ◌+◌, ◌%◌, ◌<◌, ◌≤◌, ◌^◌, ◌&&◌, Bool, true, List, [], ◌∷◌, ◌++◌, length, map, drop, get_or, refl, sym, ap, subst, arith, Option, Some, None, append_assoc, append-nil, length-append}
+use Rattle.std.proofs.Common.{◌≡◌, ◌∙◌, ℕ, ◌+◌, ◌%◌, ◌<◌, ◌≤◌, true, List, [], ◌∷◌, ◌++◌, length, map, drop, get_or, refl, sym, ap, subst, arith, Option, Some, None, append_assoc, append-nil}
 use Rattle.std.proofs.lemmas.Bool.{and_parts}
 use Rattle.thumb_model.specs.Listing.{Name, Line}
 use Rattle.thumb_model.specs.Layout.{Fault, Layable, size_at, end_of, lies_in, fault_at, faults_from}
@@ -10,11 +10,9 @@ use Rattle.listing_parser.specs.declared.line.Line.{Line as Lines}
 use Rattle.listing_parser.specs.Views.{line_view}
 use Rattle.label_layout.proofs.Sums.{at_end, next_line}
 use Rattle.thumb_assembler.specs.declared.errors.Flaw.{Flaw}
-use Rattle.thumb_assembler.specs.declared.errors.Flaw.TheVariants as flaw
-use Rattle.thumb_assembler.specs.declared.errors.ImageError.{ImageError}
 use Rattle.thumb_assembler.specs.Images.{IsSetBy, AreImage}
 use Rattle.thumb_assembler.specs.Fair.{is_fair, are_fair}
-use Rattle.thumb_assembler.specs.Refusals.{flaw_of, flaws_from, first_flaw, or_first, told_at, IsRefusal}
+use Rattle.thumb_assembler.specs.Refusals.{flaw_of, flaws_from, first_flaw, or_first}
 use Rattle.thumb_assembler.specs.Pushes.{placed, PushedLaid}
 use Rattle.thumb_assembler.proofs.Places.{size_even}
 

@@ -1,20 +1,19 @@
 -- Lines in two parts: places, addresses and bytes of the second begin where the first end.
-use Rattle.std.proofs.Common.{◌≡◌, ◌∙◌, ◌⊎◌, inl, inr, ℕ, zero, suc, ◌+◌, ◌-◌, ◌*◌, ◌/◌, ◌%◌, ◌^◌, ◌<◌, ◌≤◌, ◌&&◌, ◌||◌, Bool, true, false, List, [], ◌∷◌, ◌++◌, length, map, take, refl, sym, ap, subst, arith, true≢false, Option, Some, None, append_assoc, append-nil, length-append}
-use Rattle.std.specs.Prelude.{slice_get, slice_index, if◌then◌else◌}
-use Rattle.std.specs.Str.{bytes_eq}
+use Rattle.std.proofs.Common.{◌≡◌, ◌∙◌, ◌⊎◌, inl, inr, ℕ, zero, suc, ◌+◌, ◌*◌, ◌/◌, ◌%◌, ◌<◌, ◌||◌, Bool, true, false, List, [], ◌∷◌, ◌++◌, length, take, refl, sym, ap, subst, arith, true≢false, Option, Some, None, append_assoc, append-nil, length-append}
+use Rattle.std.specs.Prelude.{slice_get, slice_index}
 use Rattle.std.proofs.lemmas.Bool.{cases_Bool, and_from, and_parts}
 use Rattle.thumb_instr.specs.declared.instr.Instr.{Instr}
 use Rattle.thumb_instr.specs.declared.instr.Instr.TheVariants as instr
-use Rattle.thumb_model.specs.Listing.{Name, Mention, Value, Statement, Nothing, Runs, Words, Aligns, Sets, Line, Place, Op, Word, places_in, places_of, labels_from, call_count}
+use Rattle.thumb_model.specs.Listing.{Name, Mention, Value, Statement, Nothing, Runs, Words, Aligns, Sets, Line, Place, places_in, places_of, labels_from}
 use Rattle.thumb_model.specs.Layout.{instr_size, padding, size_at, end_of, is_among, label_address}
 use Rattle.thumb_model.specs.Machine.{label_place}
-use Rattle.thumb_model.specs.Image.{Laid, words_bytes, nops, IsInstrBytes, IsEncoded, IsStatementBytes, AreLineBytes, half_bytes, word_bytes}
-use Rattle.thumb_model.proofs.Lists.{get_front, get_back}
+use Rattle.thumb_model.specs.Image.{Laid, words_bytes, IsInstrBytes, IsEncoded, IsStatementBytes, AreLineBytes, half_bytes}
+use Rattle.thumb_model.proofs.Lists.{get_back}
 use Rattle.listing_parser.specs.TableWords.{first_twice, defined_in, set_names, is_again}
 use Rattle.listing_parser.specs.Targets.{from_label}
 use Rattle.listing_parser.proofs.LabelLemmas.{label_at, not_again, again_front, among_append, among_front}
 use Rattle.label_layout.specs.Addresses.{addresses_in, addresses_from}
-use Rattle.label_layout.proofs.Sums.{places_counted, places_counted_in}
+use Rattle.label_layout.proofs.Sums.{places_counted}
 use Rattle.thumb_assembler.specs.Fair.{is_fair, are_fair}
 use Rattle.thumb_assembler.proofs.Codes.{nops_length}
 use Rattle.thumb_assembler.proofs.Places.{size_even, padding_even}

@@ -1,27 +1,25 @@
 -- The lines of a text are fair, and few.
-use Rattle.std.proofs.Common.{◌≡◌, ◌∙◌, ◌⊎◌, inl, inr, ℕ, zero, suc, ◌+◌, ◌*◌, ◌%◌, ◌^◌, ◌<◌, ◌≤◌, ◌==◌, ◌&&◌, ◌||◌, Bool, true, false, List, [], ◌∷◌, map, length, refl, sym, ap, subst, arith, true≢false, Option, Some, None, Ok, option_map}
+use Rattle.std.proofs.Common.{◌≡◌, ◌∙◌, inl, inr, ℕ, zero, suc, ◌+◌, ◌*◌, ◌%◌, ◌^◌, ◌≤◌, ◌==◌, ◌&&◌, ◌||◌, Bool, true, false, List, [], ◌∷◌, map, length, refl, sym, ap, subst, arith, Option, Some, None, Ok, option_map}
 use Rattle.std.specs.Prelude.{nat_lt, if◌then◌else◌, codes, option_and_then}
 use Rattle.std.specs.Str.{bytes_eq}
-use Rattle.std.specs.List.{list_all}
-use Rattle.std.proofs.lemmas.Bool.{cases_Bool, and_from, and_parts}
+use Rattle.std.proofs.lemmas.Bool.{cases_Bool, and_from}
 use Rattle.std.proofs.lemmas.Nat.{pow-add}
-use Rattle.ascii_scan.specs.Lines.{Placed, placed, placed_from, lines_of, lines_in}
+use Rattle.ascii_scan.specs.Lines.{placed, placed_from, lines_of}
 use Rattle.ascii_scan.specs.Numeral.{numeral}
-use Rattle.ascii_scan.specs.Tokens.{Token, front, rest, is_blank, tokens}
+use Rattle.ascii_scan.specs.Tokens.{front, rest, is_blank, tokens}
 use Rattle.ascii_scan.specs.Names.{is_name_byte}
 use Rattle.thumb_syntax.specs.Operands.{is_name}
 use Rattle.thumb_syntax.specs.Rows.{Shown, reading}
 use Rattle.thumb_syntax.specs.Whole.{is_whole}
 use Rattle.thumb_syntax.proofs.ReadWhole.{reading_is_whole}
-use Rattle.thumb_instr.specs.declared.instr.Instr.{Instr}
-use Rattle.thumb_model.specs.Listing.{Name, Mention, Value, Statement, Nothing, Runs, Words, Aligns, Sets, Line}
+use Rattle.thumb_model.specs.Listing.{Name, Value, Statement, Nothing, Runs, Words, Aligns, Sets, Line}
 use Rattle.listing_parser.specs.declared.directive.Directive.{Directive}
 use Rattle.listing_parser.specs.declared.directive.Directive.TheVariants as directive
-use Rattle.listing_parser.specs.Grammar.{Said, Plain, Instruction, Told, Bare, Read, Unmarked, NextMarked, NameMarked, says, says_if, marks, values, size_of, aligns_at_most, whole_size, aligned, alone, gapped, pair, sets, sets_by, typed_by, directed, directed_by, directive_named, is_word_byte, is_bare, is_alone, is_code_section, instruction, said, statement, labels_at_front, body, code, read_lines}
-use Rattle.listing_parser.specs.Bare.{said_of, shown_of, bare}
-use Rattle.listing_parser.specs.Parsing.{IsListing}
+use Rattle.listing_parser.specs.Grammar.{Said, Plain, Instruction, Told, Bare, Read, Unmarked, NextMarked, NameMarked, says, says_if, marks, values, size_of, aligns_at_most, aligned, alone, gapped, pair, sets, sets_by, typed_by, directed, directed_by, directive_named, is_word_byte, is_bare, is_alone, is_code_section, instruction, said, statement, labels_at_front, body, code, read_lines}
+use Rattle.listing_parser.specs.Bare.{said_of, bare}
+use Rattle.listing_parser.specs.Parsing.{IsListing, text_of_lines}
 use Rattle.listing_parser.specs.Targets.{is_aimed_at, is_on_target, first_target}
-use Rattle.listing_parser.proofs.PrintLemmas.{of_checked, cut, none_read}
+use Rattle.listing_parser.proofs.PrintLemmas.{of_checked, cut, none_read, prints_back}
 use Rattle.listing_parser.proofs.FewLemmas.{all_few}
 use Rattle.thumb_assembler.specs.Fair.{label_in, keeps_even, is_fair, are_fair}
 
@@ -207,3 +205,7 @@ few_lines bytes lines h =
     let few = all_few 1 0 (lines_of bytes) h.reads h.are.read (omega arith) in
     let same = length_lines h.reads lines h.are.same in
     omega (arith, few.0)
+
+-- the text of a listing that was read is that of its lines
+pub of_its_text : (bytes : List ℕ) (lines : List Line) → IsListing bytes lines → IsListing (text_of_lines lines) lines
+of_its_text bytes lines h = subst (λ (text : List ℕ). IsListing text lines) (sym (prints_back bytes lines h)) h

@@ -1,13 +1,13 @@
 -- What the image's machine finds where a line lies.
-use Rattle.std.proofs.Common.{◌≡◌, ◌∙◌, ◌⊎◌, inl, inr, ℕ, zero, suc, ◌+◌, ◌-◌, ◌*◌, ◌/◌, ◌%◌, ◌^◌, ◌<◌, ◌≤◌, ◌&&◌, Bool, true, false, List, [], ◌∷◌, ◌++◌, length, map, take, refl, sym, ap, subst, arith, true≢false, Option, Some, None, append_assoc, length-append}
-use Rattle.std.specs.Prelude.{slice_index, slice_get, nat_lt, nat_le, if◌then◌else◌}
-use Rattle.std.proofs.lemmas.Bool.{cases_Bool, cases_lt, and_from, and_parts, le-leb, lt-ltb, le-ltb, ltb-true, leb-true}
+use Rattle.std.proofs.Common.{◌≡◌, ◌∙◌, ◌⊎◌, inl, inr, ℕ, zero, suc, ◌+◌, ◌-◌, ◌*◌, ◌/◌, ◌%◌, ◌^◌, ◌<◌, ◌≤◌, ◌&&◌, true, List, [], ◌∷◌, ◌++◌, length, map, take, refl, sym, ap, subst, arith, true≢false, Option, Some, None, append_assoc}
+use Rattle.std.specs.Prelude.{slice_index, slice_get, nat_lt, nat_le}
+use Rattle.std.proofs.lemmas.Bool.{cases_lt, and_from, and_parts, le-leb, lt-ltb, le-ltb, ltb-true, leb-true}
 use Rattle.thumb_instr.specs.declared.instr.Instr.{Instr}
 use Rattle.thumb_instr.specs.declared.instr.Instr.TheVariants as instr
 use Rattle.thumb_instr.specs.declared.operation.Hint.TheVariants as hint
 use Rattle.thumb_table.specs.Rows.{width, packed}
-use Rattle.thumb_table.specs.Table.{pieces, form_of, values_of, whole, Encodes}
-use Rattle.thumb_model.specs.Listing.{Name, Mention, Value, Number, OfName, Statement, Nothing, Runs, Words, Aligns, Sets, Line, Place, Op, Word, places_in, places_of}
+use Rattle.thumb_table.specs.Table.{pieces, form_of, values_of, Encodes}
+use Rattle.thumb_model.specs.Listing.{Name, Mention, Value, Number, OfName, Statement, Nothing, Runs, Words, Aligns, Sets, Line, Place, Word, places_in, places_of}
 use Rattle.thumb_model.specs.Layout.{instr_size, padding, size_at, end_of}
 use Rattle.thumb_model.specs.Machine.{Naming, word_of_value}
 use Rattle.thumb_model.specs.Image.{Laid, laid, Aims, mention_lies, half_bytes, word_bytes, words_bytes, nops, IsInstrBytes, IsEncoded, IsStatementBytes, AreLineBytes}
@@ -21,7 +21,7 @@ use Rattle.thumb_assembler.specs.Following.{IsAssembled, loaded}
 use Rattle.thumb_assembler.proofs.Fairness.{listed_fair}
 use Rattle.thumb_assembler.proofs.Places.{padding_even}
 use Rattle.thumb_assembler.proofs.Codes.{eight_bits}
-use Rattle.thumb_assembler.proofs.Cuts.{end_append, next_end, next_cut, next_places, places_append, place_behind, split, lines_long, two_or_four, index_back, index_front, fair_front, fair_back, end_even}
+use Rattle.thumb_assembler.proofs.Cuts.{end_append, next_end, next_cut, next_places, place_behind, split, lines_long, two_or_four, index_back, fair_front, fair_back, end_even}
 
 nops_at : (p j k : ℕ) (rest : List ℕ) → p % 2 ≡ 0 → k ≡ 2 * j → k < p → (slice_index (nops p ++ rest) k ≡ 0) × (slice_index (nops p ++ rest) (suc k) ≡ 191)
 nops_at zero j k rest e is l = absurd (omega arith)
@@ -277,32 +277,32 @@ module _ (base : ℕ) (set : Name → ℕ) (all : List Line) (bytes : List ℕ) 
 
   data_by : (before after : List Line) (l : Line) (n : ℕ) → all ≡ before ++ l ∷ after → ((k : ℕ) → reaches after k ≡ true → DataAt (before ++ l ∷ []) after k) → (s : Statement) → l.statement ≡ s → onward n s (reaches after) ≡ true → DataAt before (l ∷ after) n
   data_by before after l n e next Nothing is h =
-        let p : length (places_in l.statement) ≡ 0 = ap (λ (t : Statement). length (places_in t)) is in
-        let z : size_at l.statement (end_of base before) ≡ 0 = ap (λ (t : Statement). size_at t (end_of base before)) is in
-        data_moved before after l n n e (omega arith) (omega arith) (next n h)
+      let p : length (places_in l.statement) ≡ 0 = ap (λ (t : Statement). length (places_in t)) is in
+      let z : size_at l.statement (end_of base before) ≡ 0 = ap (λ (t : Statement). size_at t (end_of base before)) is in
+      data_moved before after l n n e (omega arith) (omega arith) (next n h)
   data_by before after l n e next (Runs i m) is h = absurd (true≢false (sym h))
   data_by before after l n e next (Aligns size most) is h = absurd (true≢false (sym h))
   data_by before after l n e next (Sets name address) is h =
-        let p : length (places_in l.statement) ≡ 0 = ap (λ (t : Statement). length (places_in t)) is in
-        let z : size_at l.statement (end_of base before) ≡ 0 = ap (λ (t : Statement). size_at t (end_of base before)) is in
-        data_moved before after l n n e (omega arith) (omega arith) (next n h)
+      let p : length (places_in l.statement) ≡ 0 = ap (λ (t : Statement). length (places_in t)) is in
+      let z : size_at l.statement (end_of base before) ≡ 0 = ap (λ (t : Statement). size_at t (end_of base before)) is in
+      data_moved before after l n n e (omega arith) (omega arith) (next n h)
   data_by before after l n e next (Words vs) is h = elim (cases_lt n (length vs)) [
-      | inl below ↦
-          let b = here_is before after l e in
-          let g = got_word vs n below in
-          let words : b.here ≡ words_bytes names vs = subst (λ (t : Statement). IsStatementBytes site (end_of base before) t b.here) is b.are in
-          let first : slice_get (places_of (l ∷ after)) n ≡ Some (Word g.0) = ap (λ (t : Statement). slice_get (places_in t ++ places_of after) n) is ∙ front_of (map Word vs) (places_of after) n (Word g.0) g.2 in
-          record {
-            value = g.0;
-            place = ap (λ (ls : List Line). slice_get (places_of ls) (length (places_of before) + n)) e ∙ place_behind before (l ∷ after) n ∙ first;
-            word = value_at (end_of base before) vs b.rest (b.here ++ b.rest) n (ap (λ (x : List ℕ). x ++ b.rest) words) b.byte g.0 g.1;
-          }
-      | inr above ↦
-          let p : length (places_in l.statement) ≡ length vs = ap (λ (t : Statement). length (places_in t)) is ∙ map_long vs in
-          let z : size_at l.statement (end_of base before) ≡ 4 * length vs = ap (λ (t : Statement). size_at t (end_of base before)) is in
-          data_moved before after l n (n - length vs) e (omega arith) (omega arith)
-          (next (n - length vs) (rw (le-ltb n (length vs) above) at h))
-    ]
+    | inl below ↦
+        let b = here_is before after l e in
+        let g = got_word vs n below in
+        let words : b.here ≡ words_bytes names vs = subst (λ (t : Statement). IsStatementBytes site (end_of base before) t b.here) is b.are in
+        let first : slice_get (places_of (l ∷ after)) n ≡ Some (Word g.0) = ap (λ (t : Statement). slice_get (places_in t ++ places_of after) n) is ∙ front_of (map Word vs) (places_of after) n (Word g.0) g.2 in
+        record {
+          value = g.0;
+          place = ap (λ (ls : List Line). slice_get (places_of ls) (length (places_of before) + n)) e ∙ place_behind before (l ∷ after) n ∙ first;
+          word = value_at (end_of base before) vs b.rest (b.here ++ b.rest) n (ap (λ (x : List ℕ). x ++ b.rest) words) b.byte g.0 g.1;
+        }
+    | inr above ↦
+        let p : length (places_in l.statement) ≡ length vs = ap (λ (t : Statement). length (places_in t)) is ∙ map_long vs in
+        let z : size_at l.statement (end_of base before) ≡ 4 * length vs = ap (λ (t : Statement). size_at t (end_of base before)) is in
+        data_moved before after l n (n - length vs) e (omega arith) (omega arith)
+        (next (n - length vs) (rw (le-ltb n (length vs) above) at h))
+  ]
 
   pub data_from : (after before : List Line) (n : ℕ) → all ≡ before ++ after → reaches after n ≡ true → DataAt before after n
   data_from [] before n e r = absurd (true≢false (sym r))

@@ -10,3 +10,4 @@ pub mod Slides
 pub mod Around
 pub mod Meeting
 pub mod Stepping
+pub mod Determined

@@ -1,15 +1,15 @@
 -- One instruction in two surroundings, of which the first may lead nowhere where the second goes on: it is lost, or does the same.
-use Rattle.std.proofs.Common.{◌≡◌, ◌∙◌, ◌⊎◌, inl, inr, ℕ, ◌%◌, ◌==◌, Bool, true, false, List, [], ◌∷◌, ◌++◌, length, refl, sym, ap, subst, true≢false}
-use Rattle.std.specs.Prelude.{nat_le, if◌then◌else◌}
+use Rattle.std.proofs.Common.{◌≡◌, ◌⊎◌, inl, inr, ℕ, ◌%◌, ◌==◌, true, List, [], ◌∷◌, ◌++◌, length, refl, sym, subst, true≢false}
+use Rattle.std.specs.Prelude.{nat_le}
 use Rattle.std.proofs.lemmas.Bool.{cases_Bool}
 use Rattle.thumb_instr.specs.declared.instr.Instr.{Instr}
 use Rattle.thumb_instr.specs.declared.instr.Instr.TheVariants as instr
 use Rattle.thumb_instr.specs.Items.{has}
 use Rattle.thumb_instr.specs.Shape.{registers_in}
 use Rattle.thumb_model.specs.Items.{sp}
-use Rattle.thumb_model.specs.Machine.{World, Event, Fault, Astray, Around, Act, Landing, Goes, Leaves, Strays, Next, On, Stay, To, Over, puts, ends, branches, aligned, enough, device_words, with_pc, load_events, pops_to, pops, calls_by, popped_word, act}
-use Rattle.thumb_model.proofs.Tied.{TargetTied, LandingTied, NextTied, ActTied, LooksTied, act_tied}
-use Rattle.thumb_assembler.specs.Following.{is_loss, ends_in_loss}
+use Rattle.thumb_model.specs.Machine.{World, Event, Astray, Around, Act, Landing, Goes, Leaves, Strays, Over, branches, device_words, with_pc, load_events, pops, calls_by, popped_word, act}
+use Rattle.thumb_model.proofs.Tied.{TargetTied, LandingTied, ActTied, act_tied}
+use Rattle.thumb_assembler.specs.Following.{ends_in_loss}
 
 -- the run ends where no code is
 pub record IsLostAct (a : Act) : Type 0 where

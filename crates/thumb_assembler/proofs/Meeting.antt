@@ -1,24 +1,23 @@
 -- The image's run meets the listing's.
-use Rattle.std.proofs.Common.{◌≡◌, ◌∙◌, ◌⊎◌, inl, inr, ℕ, zero, suc, ◌+◌, ◌%◌, ◌^◌, ◌<◌, ◌≤◌, true, false, Bool, List, [], ◌∷◌, ◌++◌, length, refl, sym, ap, subst, arith, true≢false, Option, Some, None, IsSome, append_assoc, append-nil, length-append}
+use Rattle.std.proofs.Common.{◌≡◌, ◌∙◌, ◌⊎◌, inl, inr, ℕ, zero, suc, ◌+◌, ◌%◌, ◌^◌, ◌≤◌, true, false, List, [], ◌∷◌, ◌++◌, length, refl, sym, ap, subst, arith, true≢false, Option, Some, None, IsSome, append-nil}
 use Rattle.std.specs.Prelude.{slice_get}
-use Rattle.std.proofs.lemmas.Bool.{cases_Bool}
 use Rattle.thumb_instr.specs.declared.instr.Instr.{Instr}
 use Rattle.thumb_instr.specs.declared.instr.Instr.TheVariants as instr
 use Rattle.thumb_instr.specs.declared.operation.Hint.TheVariants as hint
 use Rattle.thumb_model.specs.Items.{assigned}
 use Rattle.thumb_model.specs.Listing.{Name, Mention, Runs, Line, Place, Op, Word, Code, places_in, places_of, code_of, place_of, is_op_place}
-use Rattle.thumb_model.specs.Layout.{instr_size, size_at, end_of, label_address}
-use Rattle.thumb_model.specs.Machine.{Naming, Fits, Answer, World, IsWorld, Event, Fell, Act, Next, On, Stay, To, Over, At, Here, Ended, State, Around, around_of, act, arrives, does, falls, step, step_at, step_on, times}
+use Rattle.thumb_model.specs.Layout.{instr_size, size_at, end_of}
+use Rattle.thumb_model.specs.Machine.{Naming, Fits, Answer, World, Event, Fell, Act, Next, On, Stay, To, Over, At, Here, Ended, State, Around, around_of, act, arrives, does, falls, step, step_at, step_on, times}
 use Rattle.thumb_model.specs.Image.{laid}
-use Rattle.thumb_model.specs.Same.{Alike, has_ended, here_or_ended, begun, Same}
+use Rattle.thumb_model.specs.Same.{Alike, has_ended, here_or_ended, begun}
 use Rattle.thumb_model.proofs.Tied.{NextTied, ActTied}
 use Rattle.thumb_assembler.specs.Images.{IsSetBy}
-use Rattle.thumb_assembler.specs.Runs.{Loaded, around_in, following, act_in, IsFetched, ImageStep, stays, acts, ImageSteps, none, more}
-use Rattle.thumb_assembler.specs.Following.{IsAssembled, loaded, is_loss, ends_in_loss, IsLost, Meets, begun_in, Follows, ImagesFollow, ImagesFollowGiven}
+use Rattle.thumb_assembler.specs.Runs.{Loaded, around_in, following, ImageStep, acts, ImageSteps, none, more}
+use Rattle.thumb_assembler.specs.Following.{IsAssembled, loaded, ends_in_loss, IsLost, Meets, begun_in, Follows, ImagesFollow, ImagesFollowGiven}
 use Rattle.thumb_assembler.proofs.Loose.{IsLostAct, ends_behind, act_loose}
 use Rattle.thumb_assembler.proofs.Cuts.{next_end, next_places, next_cut, two_or_four}
-use Rattle.thumb_assembler.proofs.Fetched.{FetchedHere, fetched_here, out_of_image}
-use Rattle.thumb_assembler.proofs.Slides.{Slides, there, slid, Arrives, slides_from, CodeLabel, label_found, arrives_within, place_here}
+use Rattle.thumb_assembler.proofs.Fetched.{fetched_here, out_of_image}
+use Rattle.thumb_assembler.proofs.Slides.{Slides, there, slid, Arrives, slides_from, label_found, arrives_within, place_here}
 use Rattle.thumb_assembler.proofs.Around.{coded_size, coded_act, looks}
 
 abbrev state : World → At → List Event → State
@@ -196,11 +195,11 @@ module _ (base : ℕ) (set : Name → ℕ) (all : List Line) (bytes : List ℕ) 
   met s start c live = elim c.tied [
     | inl l ↦ absurd (live l)
     | inr t ↦ record {
-        steps = c.steps;
-        state = c.to;
-        run = c.run;
-        alike = record { events = t.events; memory = ap (λ (v : World). v.memory) t.world; answers = ap (λ (v : World). v.answers) t.world; ended = ended_alike s.at c.to.at t.at };
-      }
+      steps = c.steps;
+      state = c.to;
+      run = c.run;
+      alike = record { events = t.events; memory = ap (λ (v : World). v.memory) t.world; answers = ap (λ (v : World). v.answers) t.world; ended = ended_alike s.at c.to.at t.at };
+    }
   ]
 
   pub follows : Follows base set all bytes all

@@ -1,19 +1,18 @@
 -- Where names lie, and what they stand for.
-use Rattle.std.proofs.Common.{◌≡◌, ◌∙◌, inl, inr, ℕ, zero, suc, ◌+◌, ◌-◌, ◌*◌, ◌/◌, ◌%◌, ◌^◌, ◌<◌, ◌≤◌, ◌==◌, ◌&&◌, ◌||◌, Bool, true, false, not, List, [], ◌∷◌, ◌++◌, length, refl, sym, ap, subst, arith, true≢false, Option, Some, None, is_some, eqb-true, if◌then◌else◌}
-use Rattle.std.specs.Prelude.{nat_le, nat_lt, unwrap_or}
+use Rattle.std.proofs.Common.{◌≡◌, ◌∙◌, inl, inr, ℕ, ◌+◌, ◌-◌, ◌*◌, ◌/◌, ◌%◌, ◌^◌, ◌<◌, ◌≤◌, ◌==◌, ◌&&◌, Bool, true, false, not, List, [], ◌∷◌, ◌++◌, length, refl, sym, ap, subst, arith, true≢false, Option, Some, None, is_some, eqb-true, if◌then◌else◌}
+use Rattle.std.specs.Prelude.{nat_le, nat_lt}
 use Rattle.std.specs.Str.{bytes_eq}
-use Rattle.std.specs.List.{list_all}
-use Rattle.std.proofs.lemmas.Bool.{cases_Bool, and_from, and_parts, leb-true, ltb-true, or_cases}
+use Rattle.std.proofs.lemmas.Bool.{cases_Bool, and_parts, leb-true, ltb-true}
 use Rattle.std.proofs.Math.Nat.{div-add-mod, mul_assoc}
 use Rattle.thumb_syntax.specs.Whole.{is_whole, is_label}
 use Rattle.thumb_syntax.specs.Operands.{is_name}
 use Rattle.thumb_instr.specs.declared.instr.Instr.{Instr}
 use Rattle.thumb_instr.specs.declared.instr.Instr.TheVariants as instr
-use Rattle.thumb_model.specs.Listing.{Name, Mention, Value, Number, OfName, Statement, Nothing, Runs, Words, Aligns, Sets, Line, Place, Label, places_in, places_of, labels_at, labels_from, place_among, place_of, code_of, is_code}
-use Rattle.thumb_model.specs.Layout.{less, distance, branch_base, instr_fault, instr_size, padding, size_at, end_of, is_among, label_address, set_address, cleared, or_else, lies_in, literal_base, branch_fault, literal_fault, aim_fault, Fault, Range, Align}
+use Rattle.thumb_model.specs.Listing.{Name, Mention, Statement, Nothing, Runs, Words, Aligns, Sets, Line, Place, Label, places_in, places_of, labels_at, labels_from, place_among, place_of, code_of}
+use Rattle.thumb_model.specs.Layout.{less, distance, branch_base, instr_fault, instr_size, padding, size_at, is_among, label_address, set_address, cleared, or_else, lies_in, literal_base, branch_fault, literal_fault, aim_fault, Fault, Range, Align}
 use Rattle.thumb_model.specs.Machine.{Naming}
 use Rattle.thumb_model.specs.Image.{word_by, laid, lies_at, mention_lies}
-use Rattle.listing_parser.specs.Targets.{from_label, reaches, is_literal, is_code_label, is_aimed, is_aimed_at}
+use Rattle.listing_parser.specs.Targets.{from_label, reaches, is_literal, is_code_label, is_aimed}
 use Rattle.thumb_machine.specs.Words.{fixed_by, fixed_word}
 use Rattle.thumb_assembler.specs.Images.{IsSetBy}
 use Rattle.thumb_assembler.specs.Fair.{label_in, keeps_even, is_fair, are_fair}
@@ -196,7 +195,7 @@ literal_reach at to plus i small e is =
       small = omega arith;
     }
 
-no_plus : (b : Bool) (name : Name) (plus : ℕ) → (b && is_label (Some (name, plus))) ≡ true → plus ≡ 0
+pub no_plus : (b : Bool) (name : Name) (plus : ℕ) → (b && is_label (Some (name, plus))) ≡ true → plus ≡ 0
 no_plus b name plus e =
     let a = and_parts b (is_label (Some (name, plus))) e in
     eqb-true plus 0 (and_parts (is_name name) (plus == 0) a.1).1

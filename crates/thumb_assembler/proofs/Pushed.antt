@@ -1,19 +1,18 @@
 -- What comes behind the bytes at each statement.
-use Rattle.std.proofs.Common.{◌≡◌, ◌∙◌, inl, inr, ℕ, zero, suc, ◌+◌, ◌-◌, ◌*◌, ◌/◌, ◌%◌, ◌^◌, ◌<◌, ◌≤◌, ◌==◌, ◌&&◌, ◌||◌, Bool, true, false, not, List, [], ◌∷◌, ◌++◌, length, refl, sym, ap, subst, arith, true≢false, Option, Some, None, Result, Ok, Err, is_some, append_assoc, length-append, append-nil, if◌then◌else◌}
-use Rattle.std.proofs.lemmas.Bool.{cases_Bool}
+use Rattle.std.proofs.Common.{◌≡◌, ◌∙◌, ℕ, ◌+◌, ◌*◌, ◌/◌, ◌%◌, ◌^◌, ◌<◌, ◌&&◌, ◌||◌, Bool, true, false, not, List, [], ◌∷◌, ◌++◌, length, refl, sym, ap, subst, arith, Option, Some, None, Result, Ok, Err, is_some, append_assoc, length-append, append-nil, if◌then◌else◌}
 use Rattle.thumb_instr.specs.declared.instr.Instr.{Instr}
 use Rattle.thumb_instr.specs.declared.instr.Instr.TheVariants as instr
-use Rattle.thumb_model.specs.Listing.{Name, Mention, Value, Number, OfName, Statement, Nothing, Runs, Words, Aligns, Sets, Line}
-use Rattle.thumb_model.specs.Layout.{instr_size, padding, size_at, lies_in}
+use Rattle.thumb_model.specs.Listing.{Name, Mention, Value, Number, OfName, Nothing, Runs, Words, Aligns, Sets, Line}
+use Rattle.thumb_model.specs.Layout.{instr_size, padding, lies_in}
 use Rattle.thumb_model.specs.Machine.{word_of_value}
 use Rattle.thumb_model.specs.Image.{laid, nops, word_bytes, words_bytes, Aims}
 use Rattle.thumb_machine.specs.Words.{fixed_word}
 use Rattle.thumb_assembler.specs.declared.errors.Flaw.{Flaw}
 use Rattle.thumb_assembler.specs.declared.errors.Flaw.TheVariants as flaw
 use Rattle.thumb_assembler.specs.Images.{IsSetBy}
-use Rattle.thumb_assembler.specs.Fair.{keeps_even, is_fair}
-use Rattle.thumb_assembler.specs.Refusals.{lies_nowhere, lies_inside, may_leave, branch_lost, value_lost, values_lost, flaw_of}
-use Rattle.thumb_assembler.specs.Pushes.{placed, PushedCode, Pushed, PushedLaid, Pushes, PushedValue, PushesValue, PushedValues, PushesValues}
+use Rattle.thumb_assembler.specs.Fair.{is_fair}
+use Rattle.thumb_assembler.specs.Refusals.{lies_inside, may_leave, branch_lost, value_lost, values_lost, flaw_of}
+use Rattle.thumb_assembler.specs.Pushes.{PushedCode, PushedLaid, Pushes, PushedValue, PushedValues, PushesValues}
 use Rattle.thumb_assembler.proofs.Codes.{nops_length}
 use Rattle.thumb_assembler.proofs.Places.{word_is, word_lost, word_found, lies_there, lost_leaves, padding_even}
 

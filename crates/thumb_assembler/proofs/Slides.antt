@@ -1,6 +1,6 @@
 -- From an address the image's machine comes to a place of the listing, past padding.
-use Rattle.std.proofs.Common.{◌≡◌, ◌∙◌, ◌⊎◌, inl, inr, ℕ, zero, suc, ◌+◌, ◌-◌, ◌*◌, ◌/◌, ◌%◌, ◌^◌, ◌<◌, ◌≤◌, ◌==◌, ◌&&◌, ◌||◌, not, Bool, true, false, List, [], ◌∷◌, ◌++◌, length, map, take, refl, sym, ap, subst, arith, true≢false, Option, Some, None, append_assoc, append-nil, length-append, eqb-true, min}
-use Rattle.std.specs.Prelude.{slice_get, nat_lt, nat_le, if◌then◌else◌, is_some, IsSome}
+use Rattle.std.proofs.Common.{◌≡◌, ◌∙◌, ◌⊎◌, inl, inr, ℕ, zero, suc, ◌+◌, ◌-◌, ◌*◌, ◌/◌, ◌%◌, ◌<◌, ◌≤◌, ◌==◌, ◌&&◌, not, Bool, true, false, List, [], ◌∷◌, ◌++◌, length, map, take, refl, sym, ap, subst, arith, true≢false, Option, Some, None, append_assoc, append-nil, eqb-true, min}
+use Rattle.std.specs.Prelude.{slice_get, nat_lt, nat_le, if◌then◌else◌}
 use Rattle.std.specs.Str.{bytes_eq}
 use Rattle.std.proofs.lemmas.Bool.{cases_Bool, cases_lt, and_from, and_parts, le-leb, lt-ltb, ltb-true, leb-true}
 use Rattle.std.proofs.lemmas.Slice.Eq.{bytes_eq-Decides}
@@ -9,20 +9,18 @@ use Rattle.thumb_instr.specs.declared.instr.Instr.TheVariants as instr
 use Rattle.thumb_instr.specs.declared.operation.Hint.TheVariants as hint
 use Rattle.thumb_model.specs.Listing.{Name, Mention, Value, Statement, Nothing, Runs, Words, Aligns, Sets, Line, Place, Op, Word, Label, Code, places_in, places_of, labels_at, labels_from, code_of, place_of, is_op_place, is_code, is_call, is_call_instr, call_count}
 use Rattle.thumb_model.specs.Layout.{instr_size, padding, size_at, end_of, is_among, label_address}
-use Rattle.thumb_model.specs.Machine.{Naming, Fits, label_place, points_of, returns_from, points, least_or, point_among, is_odd, is_in_range, Landing, Goes, Leaves, Strays, landing}
-use Rattle.thumb_model.specs.Image.{laid, return_address, word_by}
-use Rattle.thumb_model.proofs.Lists.{get_front, get_back}
+use Rattle.thumb_model.specs.Machine.{Naming, Fits, label_place, points_of, returns_from, points, least_or, point_among, is_odd, is_in_range, landing}
+use Rattle.thumb_model.specs.Image.{laid, word_by}
 use Rattle.listing_parser.proofs.LabelLemmas.{one_label, code_place}
 use Rattle.label_layout.specs.Addresses.{addresses_in, addresses_from}
-use Rattle.label_layout.proofs.Sums.{at_end}
-use Rattle.label_layout.proofs.Calls.{return_point, place_size}
+use Rattle.label_layout.proofs.Calls.{return_point}
 use Rattle.thumb_assembler.specs.Images.{IsSetBy}
 use Rattle.thumb_assembler.specs.Fair.{is_fair}
 use Rattle.thumb_assembler.specs.Runs.{Loaded, IsFetched, lands_at, is_code_address}
 use Rattle.thumb_assembler.specs.Following.{IsAssembled, loaded}
 use Rattle.thumb_assembler.proofs.Places.{padding_even}
 use Rattle.thumb_assembler.proofs.Loose.{LandingLoose}
-use Rattle.thumb_assembler.proofs.Cuts.{next_end, next_places, next_cut, places_append, first_behind, address_behind, places_taken, LabelCut, label_cut, no_label, first_label, first_place, or_right}
+use Rattle.thumb_assembler.proofs.Cuts.{next_end, next_places, next_cut, places_append, first_behind, address_behind, places_taken, label_cut, no_label, first_label, first_place, or_right}
 use Rattle.listing_parser.specs.TableWords.{first_twice}
 use Rattle.thumb_assembler.proofs.Fetched.{fair_here, even_here, padding_here, fetched_here, out_of_image}
 
@@ -135,11 +133,14 @@ module _ (base : ℕ) (set : Name → ℕ) (all : List Line) (bytes : List ℕ) 
         let c = label_cut name base a all f in
         let same : Some (0 + length (places_of c.before)) ≡ Some p = sym (c.place 0) ∙ at.0 in
         let is : 0 + length (places_of c.before) ≡ p = cc in
-        let s = slides_from c.after c.before c.cut in
-        (a, f, record {
-          arrives = subst (λ (q : ℕ). Arrives q a) (let h : length (places_of c.before) ≡ p = omega arith in h) (subst (Arrives (length (places_of c.before))) (sym c.address) s);
-          op = at.1;
-        })
+        let s = slides_from c.after c.before c.cut in (
+          a,
+          f,
+          record {
+            arrives = subst (λ (q : ℕ). Arrives q a) (let h : length (places_of c.before) ≡ p = omega arith in h) (subst (Arrives (length (places_of c.before))) (sym c.address) s);
+            op = at.1;
+          },
+        )
 
   -- ---- code points ----
 
@@ -272,8 +273,7 @@ module _ (base : ℕ) (set : Name → ℕ) (all : List Line) (bytes : List ℕ) 
       let count : call_count (take (length (places_of before)) (places_of all)) ≡ call_count (places_of before) = ap call_count (ap (λ (ls : List Line). take (length (places_of before)) (places_of ls)) e ∙ places_taken before (l ∷ after)) in
       let word : names.return_word (call_count (places_of before)) ≡ end_of base before + instr_size i + 1 = ap names.return_word (sym count) ∙ return_here before after l i mention e is c in
       let ends : end_of base (before ++ l ∷ []) ≡ end_of base before + instr_size i = next_end base before l ∙ ap (λ (t : Statement). end_of base before + size_at t (end_of base before)) is in
-      let places : length (places_of (before ++ l ∷ [])) ≡ length (places_of before) + 1 = next_places before l ∙ ap (λ (t : Statement). length (places_of before) + length (places_in t)) is in
-      (
+      let places : length (places_of (before ++ l ∷ [])) ≡ length (places_of before) + 1 = next_places before l ∙ ap (λ (t : Statement). length (places_of before) + length (places_in t)) is in (
         end_of base before + instr_size i,
         sym (ap (λ (z : ℕ × ℕ). z.0) pair) ∙ word,
         subst (λ (n : ℕ). Arrives n (end_of base before + instr_size i)) (places ∙ ap (λ (z : ℕ × ℕ). z.1) pair) (subst (Arrives (length (places_of (before ++ l ∷ [])))) ends (slides_from after (before ++ l ∷ []) (next_cut all before after l e))),

@@ -1,5 +1,5 @@
 -- A step at an instruction of an image is the definition's.
-use Rattle.std.proofs.Common.{◌≡◌, ℕ, ◌∙◌, List, [], ◌∷◌, ◌++◌, Option, Some, None, Result, Ok, Err, refl, sym, ap, subst, append_assoc}
+use Rattle.std.proofs.Common.{◌≡◌, ℕ, ◌∙◌, List, [], ◌∷◌, ◌++◌, Some, Result, Ok, Err, refl, sym, ap, subst, append_assoc}
 use Rattle.std.specs.Prelude.{IfOk, OnErr}
 use Rattle.thumb_instr.specs.declared.instr.Instr.{Instr}
 use Rattle.thumb_machine.specs.declared.answers.Answer.{Answer}
@@ -21,8 +21,8 @@ use Rattle.thumb_model.specs.Machine as model
 use Rattle.thumb_assembler.specs.declared.machine.At.{At}
 use Rattle.thumb_assembler.specs.declared.machine.At.TheVariants as at
 use Rattle.thumb_assembler.specs.declared.machine.ImageMachine.{ImageMachine}
-use Rattle.thumb_assembler.specs.Machines.{EndedBy, IsStage, LeadsTo, Stands, Stepped, Steps, at_of, loaded_of, state_of}
-use Rattle.thumb_assembler.specs.Runs.{Loaded, ImageStep, stays, acts, falls_out, IsFetched, act_in, around_in, following, literal_in, lands_at, target_in}
+use Rattle.thumb_assembler.specs.Machines.{EndedBy, IsStage, LeadsTo, Stepped, Steps, at_of, loaded_of, state_of}
+use Rattle.thumb_assembler.specs.Runs.{Loaded, stays, acts, falls_out, IsFetched, act_in, around_in, following, literal_in, lands_at, target_in}
 
 -- what is around an instruction, as the code has it
 pub around_is : (m : Loaded) (a : ℕ) (i : Instr) (around : Around) → target_of around.target ≡ target_in m a i → around.literal ≡ literal_in m a i → around.link ≡ set_bit (following a i) → around_of around (lands_at m) ≡ around_in m a i

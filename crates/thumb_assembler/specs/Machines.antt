@@ -4,7 +4,6 @@ use Rattle.thumb_machine.specs.declared.answers.Answer.{Answer}
 use Rattle.thumb_machine.specs.declared.machine.Stage.{Stage}
 use Rattle.thumb_machine.specs.declared.machine.Stage.TheVariants as stage
 use Rattle.thumb_machine.specs.declared.machine.State.{State as Start}
-use Rattle.thumb_machine.specs.declared.world.End.{End}
 use Rattle.thumb_machine.specs.declared.world.Next.{Next}
 use Rattle.thumb_machine.specs.declared.world.Next.TheVariants as next
 use Rattle.thumb_machine.specs.declared.world.Target.{Target}

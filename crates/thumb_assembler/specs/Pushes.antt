@@ -1,5 +1,5 @@
 -- The bytes of statements, put behind others.
-use Rattle.std.specs.Prelude.{◌≡◌, ℕ, ◌+◌, ◌*◌, ◌%◌, ◌^◌, Bool, true, false, List, ◌++◌, length, Result, Ok, Err, None, Some}
+use Rattle.std.specs.Prelude.{◌≡◌, ℕ, ◌+◌, ◌*◌, true, false, List, ◌++◌, length, Result, Ok, Err, None, Some}
 use Rattle.thumb_instr.specs.declared.instr.Instr.{Instr}
 use Rattle.thumb_model.specs.Listing.{Name, Value, Statement, Line}
 use Rattle.thumb_model.specs.Layout.{instr_size, size_at}

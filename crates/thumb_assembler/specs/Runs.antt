@@ -5,7 +5,7 @@ use Rattle.thumb_instr.specs.declared.instr.Instr.TheVariants as instr
 use Rattle.thumb_instr.specs.Distance.{bytes_of}
 use Rattle.thumb_table.specs.Table.{Encodes}
 use Rattle.thumb_model.specs.Layout.{instr_size, literal_base}
-use Rattle.thumb_model.specs.Machine.{is_odd, set_bit, Target, Inside, External, Landing, Goes, Leaves, Strays, Around, Act, act, Next, Over, At, Here, Ended, State, does, falls}
+use Rattle.thumb_model.specs.Machine.{is_odd, set_bit, Target, Inside, External, Landing, Goes, Leaves, Strays, Around, Act, act, Next, Over, Here, Ended, State, does, falls}
 
 -- an image in memory, and where its code ends
 pub record Loaded : Type 0 where
@@ -79,7 +79,15 @@ pub data ImageStep (m : Loaded) (s : State) : Next → State → Type 0 where
   acts : (a : ℕ) (i : Instr) → s.at ≡ Here a → IsFetched m a i → ImageStep m s (act_in m a i s).next (does a (following a i) (act_in m a i s) s)
   falls_out : (a : ℕ) → s.at ≡ Here a → ((i : Instr) → IsFetched m a i → ⊥) → ImageStep m s Over (falls s)
 
--- so many steps
+-- so many steps, each going on as it does
 pub data ImageSteps (m : Loaded) : ℕ → State → State → Type 0 where
   none : (s : State) → ImageSteps m zero s s
   more : (n : ℕ) (next : Next) (r s t : State) → ImageStep m r next s → ImageSteps m n s t → ImageSteps m (suc n) r t
+
+-- its bytes are bytes
+abbrev pub HasBytes : Loaded → Type 0
+HasBytes m = (a : ℕ) → byte_at m a < 256
+
+-- a state has one way on, and so a run has one state after so many steps
+abbrev pub RunsAreDetermined : Type 0
+RunsAreDetermined = (m : Loaded) (n : ℕ) (s t u : State) → HasBytes m → ImageSteps m n s t → ImageSteps m n s u → t ≡ u

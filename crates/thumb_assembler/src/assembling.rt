@@ -5,6 +5,7 @@ ghost use Rattle.listing_parser.specs.Parsing.{IsListing, text_of_lines};
 ghost use Rattle.label_layout.specs.Addresses.{AreAddresses};
 ghost use Rattle.thumb_assembler.specs.Images.{AreImage};
 ghost use Rattle.thumb_assembler.specs.Refusals.{first_flaw, IsRefusal};
+ghost use Rattle.thumb_assembler.specs.Following.{IsAssembled};
 
 use crate::errors::ImageError;
 use crate::pushing::push_statement;
@@ -25,6 +26,7 @@ pub fn assemble(alloc: Global, listing: &Listing, layout: &Layout) -> Result<Vec
     requires even { layout.now.base % 2 ≡ 0 }
     ensures image { IfOk result (λ bytes. AreImage layout.now.base listing.now bytes.items) }
     ensures verdict { MatchResult result (λ _. first_flaw layout.now.base listing.now ≡ None) (IsRefusal layout.now.base listing.now) }
+    ensures assembled { IfOk result (λ bytes. IsAssembled layout.now.base listing.now bytes.items) }
     ensures size { IfOk result (λ bytes. layout.now.base + length bytes.items ≡ layout.now.end) }
 {
     let base = layout.base();

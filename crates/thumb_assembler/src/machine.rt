@@ -1,5 +1,5 @@
 //! The machine over an image.
-ghost use Rattle.std.specs.Prelude.{◌≡◌, ◌+◌, ◌<◌, ◌^◌, [], ◌∷◌, ℕ, length, IfOk, OnErr};
+ghost use Rattle.std.specs.Prelude.{◌≡◌, [], ◌∷◌, ℕ, IfOk, OnErr};
 ghost use Rattle.thumb_instr.specs.declared.instr.Instr.{Instr};
 ghost use Rattle.thumb_model.specs.Machine.{Fell, arrives};
 ghost use Rattle.thumb_machine.specs.Acting.{Changes, next_of};
@@ -108,7 +108,6 @@ impl ImageMachine {
         start: State,
         at: u32,
     ) -> Result<ImageMachine, AllocError>
-        requires { base + length image.now < 2 ^ 32 }
         ensures image { IfOk result (λ m. loaded_of m.image ≡ record { base = base; bytes = image.now; high = hi }) }
         ensures start { IfOk result (Starts start at) }
     {

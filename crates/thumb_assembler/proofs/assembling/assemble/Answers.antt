@@ -1,4 +1,4 @@
-use Rattle.std.proofs.Common.{◌≡◌, ◌∙◌, ◌+◌, ◌≤◌, ℕ, List, length, map, sym, ap, subst, arith, true, None}
+use Rattle.std.proofs.Common.{◌≡◌, ◌∙◌, ◌+◌, ◌≤◌, ℕ, List, length, map, sym, ap, subst, arith, None}
 use Rattle.thumb_model.specs.Listing.{Line}
 use Rattle.thumb_model.specs.Layout.{fault_at, lies_in, end_of}
 use Rattle.listing_parser.specs.Parsing.{text_of_lines}
@@ -7,6 +7,7 @@ use Rattle.label_layout.proofs.Sums.{at_end}
 use Rattle.thumb_model.proofs.Lists.{length_map}
 use Rattle.thumb_assembler.specs.Images.{AreImage}
 use Rattle.thumb_assembler.specs.Pushes.{PushedLaid}
+use Rattle.thumb_assembler.specs.Refusals.{first_flaw}
 use Rattle.thumb_assembler.proofs.Fairness.{listed_fair, few_lines}
 use Rattle.thumb_assembler.proofs.Assembled.{progress_first, next_here, progress_next, progress_ends, ends_here}
 use Rattle.thumb_assembler.proofs.assembling.assemble.Goals as goal
@@ -95,3 +96,18 @@ returns-clause-image c =
     subst (λ (b : ℕ). AreImage b c.args.listing.now c.loop-line.bytes.items) c.base-base.ensures
     (progress_ends c.base-base.result c.args.listing.now c.loop-line.number (c.base-base.result + length c.loop-line.bytes.items) c.loop-line.bytes.items
     (ends_here c.base-base.result c.args.listing.now c.loop-line.number (c.base-base.result + length c.loop-line.bytes.items) c.lines-line-items.result.now c.loop-line.line-index c.loop-line.bytes.items c.loop-line-test.false c.loop-line.invariant.progress))
+
+pub returns-clause-assembled : goal.returns-clause-assembled
+returns-clause-assembled c = record {
+  listed = c.requires.listed;
+  layable = c.requires.layable;
+  even = c.requires.even;
+  low = (let end = c.requires.laid.end in omega arith);
+  sound =
+      subst (λ (b : ℕ). first_flaw b c.args.listing.now ≡ None) c.base-base.ensures
+      (sym (ends_here c.base-base.result c.args.listing.now c.loop-line.number (c.base-base.result + length c.loop-line.bytes.items) c.lines-line-items.result.now c.loop-line.line-index c.loop-line.bytes.items c.loop-line-test.false c.loop-line.invariant.progress).flaws);
+  image =
+      subst (λ (b : ℕ). AreImage b c.args.listing.now c.loop-line.bytes.items) c.base-base.ensures
+      (progress_ends c.base-base.result c.args.listing.now c.loop-line.number (c.base-base.result + length c.loop-line.bytes.items) c.loop-line.bytes.items
+      (ends_here c.base-base.result c.args.listing.now c.loop-line.number (c.base-base.result + length c.loop-line.bytes.items) c.lines-line-items.result.now c.loop-line.line-index c.loop-line.bytes.items c.loop-line-test.false c.loop-line.invariant.progress));
+}

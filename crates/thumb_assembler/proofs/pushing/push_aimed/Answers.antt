@@ -1,5 +1,4 @@
-use Rattle.std.proofs.Common.{◌≡◌, Some, None, arith}
-use Rattle.thumb_model.specs.Layout.{lies_in}
+use Rattle.std.proofs.Common.{Some, None, arith}
 use Rattle.listing_parser.specs.Views.{mention_view}
 use Rattle.thumb_assembler.proofs.Places.{found_there, reach_found}
 use Rattle.thumb_assembler.proofs.Pushed.{aimed_lost, aimed_pushed}

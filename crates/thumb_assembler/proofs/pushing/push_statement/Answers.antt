@@ -1,5 +1,4 @@
 use Rattle.std.proofs.Common.{◌≡◌, ◌∙◌, ◌++◌, List, true, map, sym, ap, subst}
-use Rattle.thumb_model.specs.Listing.{Aligns}
 use Rattle.thumb_model.specs.Image.{nops}
 use Rattle.listing_parser.specs.declared.line.Statement.{Statement as Statements}
 use Rattle.listing_parser.specs.declared.line.Value.{Value as Values}

@@ -1,8 +1,7 @@
-use Rattle.std.proofs.Common.{◌≡◌, ◌∙◌, ℕ, sym, ap, subst}
+use Rattle.std.proofs.Common.{◌∙◌, ℕ, ap, subst}
 use Rattle.thumb_model.specs.Machine.{Around, act, arrives}
-use Rattle.thumb_machine.specs.Acting.{Acted, around_of, next_of, world_of}
-use Rattle.thumb_assembler.specs.Machines.{at_of, loaded_of}
-use Rattle.thumb_assembler.specs.Runs.{lands_at}
+use Rattle.thumb_machine.specs.Acting.{Acted, next_of, world_of}
+use Rattle.thumb_assembler.specs.Machines.{loaded_of}
 use Rattle.thumb_assembler.proofs.Stepping.{around_is, does_step}
 use Rattle.thumb_assembler.proofs.machine.ImageMachine.run.Goals as goal
 

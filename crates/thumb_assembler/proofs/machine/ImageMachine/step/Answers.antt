@@ -1,4 +1,3 @@
-use Rattle.std.proofs.Common.{sym}
 use Rattle.thumb_assembler.proofs.Stepping.{ended_step, fall_steps}
 use Rattle.thumb_assembler.proofs.machine.ImageMachine.step.Goals as goal
 
