@@ -1,0 +1,13 @@
+pub mod Fairness
+pub mod Codes
+pub mod Places
+pub mod Pushed
+pub mod Assembled
+pub mod Cuts
+pub mod Fetched
+pub mod Loose
+pub mod Slides
+pub mod Around
+pub mod Meeting
+pub mod Stepping
+pub mod Determined

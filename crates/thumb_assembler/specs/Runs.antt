@@ -1,0 +1,93 @@
+-- The machine that runs an image: the listing's acts, with addresses for places.
+use Rattle.std.specs.Prelude.{◌≡◌, ℕ, zero, suc, ◌+◌, ◌-◌, ◌*◌, ◌%◌, ◌^◌, ◌<◌, ◌&&◌, Bool, true, nat_le, nat_lt, List, length, slice_index, ℤ, pos, negsuc, if◌then◌else◌}
+use Rattle.thumb_instr.specs.declared.instr.Instr.{Instr}
+use Rattle.thumb_instr.specs.declared.instr.Instr.TheVariants as instr
+use Rattle.thumb_instr.specs.Distance.{bytes_of}
+use Rattle.thumb_table.specs.Table.{Encodes}
+use Rattle.thumb_model.specs.Layout.{instr_size, literal_base}
+use Rattle.thumb_model.specs.Machine.{is_odd, set_bit, Target, Inside, External, Landing, Goes, Leaves, Strays, Around, Act, act, Next, Over, Here, Ended, State, does, falls}
+
+-- an image in memory, and where its code ends
+pub record Loaded : Type 0 where
+  pub base : ℕ
+  pub bytes : List ℕ
+  pub high : ℕ
+
+-- ---- what stands in it: a byte outside is 0 ----
+
+abbrev pub byte_at : Loaded → ℕ → ℕ
+byte_at m a = if nat_le m.base a then slice_index m.bytes (a - m.base) else 0
+
+abbrev pub half_at : Loaded → ℕ → ℕ
+half_at m a = byte_at m a + 256 * byte_at m (a + 1)
+
+abbrev pub word_at : Loaded → ℕ → ℕ
+word_at m a = half_at m a + 65536 * half_at m (a + 2)
+
+-- ---- where branches go ----
+
+-- the addresses of code
+abbrev pub is_code_address : Loaded → ℕ → Bool
+is_code_address m a = nat_le m.base a && nat_lt a m.high
+
+-- a branch by a word: an odd word goes to its even part where code is, and else out; an even one leads nowhere
+abbrev pub lands_at : Loaded → ℕ → Landing
+lands_at m word = if is_odd word then (if is_code_address m (word - 1) then Goes (word - 1) else Leaves) else Strays
+
+-- where a distance leads from an instruction
+abbrev pub aim_from : ℕ → ℤ → ℕ
+aim_from a (pos n) = (a + 4 + n) % 2 ^ 32
+aim_from a (negsuc n) = (a + 4 + (2 ^ 32 - (n + 1))) % 2 ^ 32
+
+-- a direct branch goes to the word of its target, which is its address with bit 0 set
+abbrev pub goes_to : Loaded → ℕ → Target
+goes_to m a = if is_code_address m a then Inside a else External (set_bit a)
+
+abbrev pub target_in : Loaded → ℕ → Instr → Target
+target_in m a (instr.BranchIf c d) = goes_to m (aim_from a (bytes_of 128 d.field))
+target_in m a (instr.Branch d) = goes_to m (aim_from a (bytes_of 1024 d.field))
+target_in m a (instr.Call d) = goes_to m (aim_from a (bytes_of 8388608 d.field))
+target_in m a i = External 0
+
+-- ---- steps ----
+
+-- a literal is read from the image, and ADR gives its address
+abbrev pub literal_in : Loaded → ℕ → Instr → ℕ
+literal_in m a (instr.Literal t d) = word_at m (literal_base a + 4 * d.number)
+literal_in m a (instr.Address t d) = (literal_base a + 4 * d.number) % 2 ^ 32
+literal_in m a i = 0
+
+-- the address behind an instruction
+abbrev pub following : ℕ → Instr → ℕ
+following a i = (a + instr_size i) % 2 ^ 32
+
+abbrev pub around_in : Loaded → ℕ → Instr → Around
+around_in m a i = record { target = target_in m a i; literal = literal_in m a i; link = set_bit (following a i); lands = lands_at m }
+
+-- an instruction's code stands at an address of the image
+pub record IsFetched (m : Loaded) (a : ℕ) (i : Instr) : Type 0 where
+  pub within : (nat_le m.base a && nat_lt a (m.base + length m.bytes)) ≡ true
+  pub encoded : Encodes i (half_at m a) (half_at m (a + 2))
+
+-- what an instruction does at an address
+abbrev pub act_in : Loaded → ℕ → Instr → State → Act
+act_in m a i s = act (around_in m a i) i s.world
+
+-- one step, and how it goes on: an instruction acts, or there is none
+pub data ImageStep (m : Loaded) (s : State) : Next → State → Type 0 where
+  stays : s.at ≡ Ended → ImageStep m s Over s
+  acts : (a : ℕ) (i : Instr) → s.at ≡ Here a → IsFetched m a i → ImageStep m s (act_in m a i s).next (does a (following a i) (act_in m a i s) s)
+  falls_out : (a : ℕ) → s.at ≡ Here a → ((i : Instr) → IsFetched m a i → ⊥) → ImageStep m s Over (falls s)
+
+-- so many steps, each going on as it does
+pub data ImageSteps (m : Loaded) : ℕ → State → State → Type 0 where
+  none : (s : State) → ImageSteps m zero s s
+  more : (n : ℕ) (next : Next) (r s t : State) → ImageStep m r next s → ImageSteps m n s t → ImageSteps m (suc n) r t
+
+-- its bytes are bytes
+abbrev pub HasBytes : Loaded → Type 0
+HasBytes m = (a : ℕ) → byte_at m a < 256
+
+-- a state has one way on, and so a run has one state after so many steps
+abbrev pub RunsAreDetermined : Type 0
+RunsAreDetermined = (m : Loaded) (n : ℕ) (s t u : State) → HasBytes m → ImageSteps m n s t → ImageSteps m n s u → t ≡ u

@@ -1,0 +1,62 @@
+//! Instructions with the distance to what they mention.
+ghost use Rattle.std.specs.Prelude.{◌≡◌, ◌+◌, ◌*◌, ◌%◌, ◌<◌, ◌≤◌, ◌^◌, Some, None};
+ghost use Rattle.thumb_model.specs.Layout.{aim_fault, branch_fault, distance as distance_of, literal_base, literal_fault};
+ghost use Rattle.thumb_model.specs.Image.{Aims};
+ghost use Rattle.thumb_instr.specs.Distance.{bytes_of};
+
+use thumb_instr::{Byte, Distance, Instr};
+
+/// How many words a literal lies behind the instruction's address and 4, rounded down to a multiple of 4.
+fn words_to(at: u32, to: u32) -> Byte
+    requires reached { literal_fault at (Some to) 0 ≡ None }
+    requires in_code { at ≤ 2 ^ 29 }
+    ensures { to ≡ literal_base at + 4 * result.number }
+{
+    Byte::of((to - (at + 4) / 4 * 4) / 4)
+}
+
+/// How far a branch goes from its address and 4, which its encoding reaches.
+fn distance_to<const HALF: u32>(at: u32, to: u32) -> Distance<HALF>
+    requires reached { branch_fault HALF at (Some to) ≡ None }
+    requires at_even { at % 2 ≡ 0 }
+    requires to_even { to % 2 ≡ 0 }
+    requires in_code { at ≤ 2 ^ 29 }
+    requires half { HALF ≤ 2 ^ 23 }
+    ensures { distance_of at to ≡ bytes_of HALF result.field }
+{
+    match Distance::new(to as i32 - (at as i32 + 4)) {
+        Some(distance) => distance,
+        None => unreachable!(),
+    }
+}
+
+/// The instruction at an address with its distance to what it mentions, where the distance reaches it. Another instruction stays.
+pub(crate) fn aimed(instr: &Instr, at: u32, to: u32) -> Instr
+    requires reached { aim_fault at instr.now (Some to) 0 ≡ None }
+    requires at_even { at % 2 ≡ 0 }
+    requires to_even { to % 2 ≡ 0 }
+    requires in_code { at ≤ 2 ^ 29 }
+    ensures { Aims at to instr.now result }
+{
+    match *instr {
+        Instr::Literal { target, .. } => Instr::Literal {
+            target,
+            distance: words_to(at, to),
+        },
+        Instr::Address { target, .. } => Instr::Address {
+            target,
+            distance: words_to(at, to),
+        },
+        Instr::BranchIf { condition, .. } => Instr::BranchIf {
+            condition,
+            distance: distance_to(at, to),
+        },
+        Instr::Branch { .. } => Instr::Branch {
+            distance: distance_to(at, to),
+        },
+        Instr::Call { .. } => Instr::Call {
+            distance: distance_to(at, to),
+        },
+        other => other,
+    }
+}

@@ -1,0 +1,45 @@
+//! The image of a listing.
+ghost use Rattle.std.specs.Prelude.{◌≡◌, ◌+◌, ◌%◌, IfOk, MatchResult, None, length};
+ghost use Rattle.thumb_model.specs.Layout.{Layable};
+ghost use Rattle.listing_parser.specs.Parsing.{IsListing, text_of_lines};
+ghost use Rattle.label_layout.specs.Addresses.{AreAddresses};
+ghost use Rattle.thumb_assembler.specs.Images.{AreImage};
+ghost use Rattle.thumb_assembler.specs.Refusals.{first_flaw, IsRefusal};
+ghost use Rattle.thumb_assembler.specs.Following.{IsAssembled};
+
+use crate::errors::ImageError;
+use crate::pushing::push_statement;
+use label_layout::Layout;
+use listing_parser::Listing;
+use std::alloc::Global;
+
+/// The image of a listing: its bytes from the layout's base to its end. The layout is the listing's, and its base is even.
+///
+/// Instructions and data words stand where the layout has them, lowest byte first, each branch and literal load with its distance; padding is `nop`
+/// (BF00) for each two bytes. A word of a name is a code label's address and 1, another label's address, or the address that the listing sets, with the
+/// number added. A listing has no image where a name in `b`, `bl` or `.word` has no address, or where a `.set` gives one that lies in the image; it is
+/// the first such line that is told. Time is linear in the listing's length.
+pub fn assemble(alloc: Global, listing: &Listing, layout: &Layout) -> Result<Vec<u8>, ImageError>
+    requires listed { IsListing (text_of_lines listing.now) listing.now }
+    requires laid { AreAddresses listing.now layout.now }
+    requires layable { Layable layout.now.base listing.now }
+    requires even { layout.now.base % 2 ≡ 0 }
+    ensures image { IfOk result (λ bytes. AreImage layout.now.base listing.now bytes.items) }
+    ensures verdict { MatchResult result (λ _. first_flaw layout.now.base listing.now ≡ None) (IsRefusal layout.now.base listing.now) }
+    ensures assembled { IfOk result (λ bytes. IsAssembled layout.now.base listing.now bytes.items) }
+    ensures size { IfOk result (λ bytes. layout.now.base + length bytes.items ≡ layout.now.end) }
+{
+    let base = layout.base();
+    let Ok(mut bytes) = Vec::with_capacity(alloc, (layout.end() - base) as usize) else {
+        return Err(ImageError::Memory);
+    };
+    let mut number = 0;
+    for line in listing.lines() {
+        let at = base + bytes.len() as u32;
+        number += 1;
+        if let Err(flaw) = push_statement(&mut bytes, listing, layout, at, &line.statement) {
+            return Err(flaw.at(number));
+        }
+    }
+    Ok(bytes)
+}

@@ -1,0 +1,54 @@
+use std::alloc::AllocError;
+use thiserror::Error;
+
+/// Why a listing has no image.
+#[derive(Clone, Copy, Debug, PartialEq, Eq, Error)]
+pub enum ImageError {
+    /// The first line that has no place in an image, by its number from 1, mentions in `b`, `bl` or `.word` a name that no label has and no line sets.
+    #[error("line {0}: a name has no address")]
+    NoAddress(u32),
+    /// The first line that has no place in an image, by its number from 1, sets an address from the base up to and not including the image's end.
+    #[error("line {0}: the address lies in the image")]
+    Inside(u32),
+    /// Want of memory.
+    #[error("out of memory")]
+    Memory,
+}
+
+/// Why a line has no bytes.
+#[derive(Clone, Copy, Debug, PartialEq, Eq)]
+pub(crate) enum Flaw {
+    /// It mentions a name that has no address.
+    NoAddress,
+    /// It sets an address that lies in the image.
+    Inside,
+    /// Want of memory.
+    Memory,
+}
+
+impl From<AllocError> for Flaw {
+    ghost use Rattle.std.specs.Prelude.{◌≡◌};
+    ghost use Rattle.thumb_assembler.specs.declared.errors.Flaw.TheVariants.{Memory};
+
+    ghost from_gives = { λ _ e. e ≡ Memory };
+
+    fn from(_: AllocError) -> Flaw {
+        Flaw::Memory
+    }
+}
+
+impl Flaw {
+    ghost use Rattle.thumb_assembler.specs.Refusals.{told_at};
+    ghost use Rattle.std.specs.Prelude.{◌≡◌};
+
+    /// What is told of it at the line of a number.
+    pub(crate) fn at(self, line: u32) -> ImageError
+        ensures { result ≡ told_at self line }
+    {
+        match self {
+            Flaw::NoAddress => ImageError::NoAddress(line),
+            Flaw::Inside => ImageError::Inside(line),
+            Flaw::Memory => ImageError::Memory,
+        }
+    }
+}

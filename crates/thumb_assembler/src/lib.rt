@@ -1,0 +1,15 @@
+//! The image of a listing: the bytes of its instructions and data words where they lie, with padding between them.
+#![tactic(auto)]
+
+mod aiming;
+mod assembling;
+mod errors;
+mod image;
+pub mod laws;
+mod machine;
+mod naming;
+mod pushing;
+
+pub use assembling::assemble;
+pub use errors::ImageError;
+pub use machine::{At, ImageMachine};

@@ -1,0 +1,206 @@
+//! The machine over an image.
+ghost use Rattle.std.specs.Prelude.{◌≡◌, [], ◌∷◌, ℕ, IfOk, OnErr};
+ghost use Rattle.thumb_instr.specs.declared.instr.Instr.{Instr};
+ghost use Rattle.thumb_model.specs.Machine.{Fell, arrives};
+ghost use Rattle.thumb_machine.specs.Acting.{Changes, next_of};
+ghost use Rattle.thumb_machine.specs.Memory.{memory_of};
+ghost use Rattle.thumb_machine.specs.Registers.{values_of};
+ghost use Rattle.thumb_machine.specs.Running.{stage_of};
+ghost use Rattle.thumb_machine.specs.Starting.{start_values};
+ghost use Rattle.thumb_model.specs.Machine.{with_bytes};
+ghost use Rattle.thumb_assembler.specs.Machines.{IsStage, LeadsTo, Starts, Steps, at_of, loaded_of};
+ghost use Rattle.thumb_assembler.specs.Runs.{IsFetched, following};
+
+use crate::image::{Image, behind};
+use std::alloc::{AllocError, Global};
+use thumb_instr::{Distance, Instr};
+use thumb_machine::{
+    Answer, Answers, Around, End, Event, Memory, Next, Registers, Stage, State, Target, World,
+};
+
+/// Where a machine over an image is.
+#[derive(Clone, Copy, Debug, PartialEq, Eq)]
+pub enum At {
+    /// At an address.
+    Here { address: u32 },
+    /// At the end of its run.
+    Ended { end: End },
+}
+
+/// A machine that runs an image: it reads code and literals there, and data in a memory of its own.
+#[derive(Drop)]
+pub struct ImageMachine {
+    pub(crate) image: Image,
+    pub(crate) world: World,
+    pub(crate) at: At,
+}
+
+/// The stage of a run that ended so.
+fn stage_of(end: End) -> Stage
+    ensures { result ≡ stage_of end }
+{
+    match end {
+        End::Left => Stage::Left,
+        End::Fault => Stage::Fault,
+        End::Astray => Stage::Astray,
+        End::Fell => Stage::Fell,
+    }
+}
+
+/// The registers of a state.
+fn registers_of(state: &State) -> Registers
+    ensures { values_of result ≡ start_values state.now }
+{
+    let r = &state.r;
+    Registers {
+        r: [
+            r[0], r[1], r[2], r[3], r[4], r[5], r[6], r[7], r[8], r[9], r[10], r[11], r[12],
+            state.sp, state.lr,
+        ],
+        nzcv: state.nzcv,
+    }
+}
+
+/// What a run changes, at its beginning. A memory is written by stores and by the outside alone, so the first bytes come as the answer to a call.
+fn first_world(alloc: Global, image: &Image, state: State) -> Result<World, AllocError>
+    ensures values { IfOk result (λ w. values_of w.registers ≡ start_values state) }
+    ensures memory { IfOk result (λ w. memory_of w.memory ≡ with_bytes state.bytes (λ (a : ℕ). 0)) }
+    ensures events { IfOk result (λ w. w.events.items ≡ []) }
+{
+    let registers = registers_of(&state);
+    let mut world = World {
+        registers,
+        memory: Memory::new(alloc),
+        events: Vec::new(alloc),
+    };
+    let mut list = Vec::new(alloc);
+    list.push(Answer {
+        words: [0; 6],
+        nzcv: 0,
+        bytes: state.bytes,
+    })?;
+    let mut answers = Answers::new(list);
+    let around = Around {
+        target: Target::External { word: 0 },
+        literal: 0,
+        link: 0,
+    };
+    let call = Instr::Call {
+        distance: Distance::of(0),
+    };
+    world.act(&mut answers, &around, image, &call)?;
+    let World { memory, .. } = world;
+    Ok(World {
+        registers,
+        memory,
+        events: Vec::new(alloc),
+    })
+}
+
+impl ImageMachine {
+    /// A machine that runs an image from an address on, where the run of a code label begins. The image lies from `base` on, and its code ends at `hi`,
+    /// which for the image of a listing is its naming's. The state's place isn't looked at.
+    pub fn new(
+        alloc: Global,
+        image: &[u8],
+        base: u32,
+        hi: u32,
+        start: State,
+        at: u32,
+    ) -> Result<ImageMachine, AllocError>
+        ensures image { IfOk result (λ m. loaded_of m.image ≡ record { base = base; bytes = image.now; high = hi }) }
+        ensures start { IfOk result (Starts start at) }
+    {
+        let image = Image {
+            bytes: Vec::from_slice(alloc, image)?,
+            base,
+            high: hi,
+        };
+        let world = first_world(alloc, &image, start)?;
+        Ok(ImageMachine {
+            image,
+            world,
+            at: At::Here { address: at },
+        })
+    }
+
+    /// Takes a step. Where memory is refused, or more answers are needed than are left, nothing changes; an ended machine tells its end again.
+    pub fn step(&mut self, answers: &mut Answers) -> Result<Stage, AllocError>
+        ensures image { self.new.image ≡ self.old.image }
+        ensures kept { OnErr result (self.new.at ≡ self.old.at) }
+        ensures step { Steps self.old answers.old self.new answers.new result }
+    {
+        let address = match self.at {
+            At::Here { address } => address,
+            At::Ended { end } => return Ok(stage_of(end)),
+        };
+        match self.image.fetch(address) {
+            None => self.fall(),
+            Some(instr) => self.run(answers, address, instr),
+        }
+    }
+
+    /// Takes a step at an instruction.
+    fn run(
+        &mut self,
+        answers: &mut Answers,
+        address: u32,
+        instr: Instr,
+    ) -> Result<Stage, AllocError>
+        requires here { self.old.at ≡ At.Here address }
+        requires fetched { IsFetched (loaded_of self.old.image) address instr }
+        ensures image { self.new.image ≡ self.old.image }
+        ensures kept { OnErr result (self.new.at ≡ self.old.at) }
+        ensures step { Steps self.old answers.old self.new answers.new result }
+    {
+        let around = self.image.around(address, &instr);
+        let image = &mut self.image;
+        let next = self.world.act(answers, &around, &*image, &instr)?;
+        Ok(self.arrive(address, behind(address, &instr), next))
+    }
+
+    /// Ends the run where no instruction is.
+    fn fall(&mut self) -> Result<Stage, AllocError>
+        ensures image { self.new.image ≡ self.old.image }
+        ensures told { Changes [] (memory_of self.old.world.memory) (Fell ∷ []) self.old.world self.new.world result }
+        ensures ended { IfOk result (λ s. (s ≡ Stage.Fell) × (self.new.at ≡ At.Ended End.Fell)) }
+        ensures kept { OnErr result (self.new.at ≡ self.old.at) }
+    {
+        self.world.events.push(Event::Fell)?;
+        self.at = At::Ended { end: End::Fell };
+        Ok(Stage::Fell)
+    }
+
+    /// Goes on after an instruction at an address, behind which another stands.
+    fn arrive(&mut self, address: u32, following: u32, next: Next) -> Stage
+        requires { self.old.at ≡ At.Here address }
+        ensures image { self.new.image ≡ self.old.image }
+        ensures world { self.new.world ≡ self.old.world }
+        ensures at { at_of self.new.at ≡ arrives address following (next_of next) }
+        ensures stage { IsStage result (next_of next) self.new.at }
+        ensures ends { LeadsTo next self.new.at }
+    {
+        match next {
+            Next::On => {
+                self.at = At::Here { address: following };
+                Stage::Going
+            }
+            Next::Stay => Stage::Wants,
+            Next::To { at } => {
+                self.at = At::Here { address: at };
+                Stage::Going
+            }
+            Next::Over { end } => {
+                self.at = At::Ended { end };
+                stage_of(end)
+            }
+        }
+    }
+
+    /// The events of the run so far.
+    pub fn events(&self) -> &[Event]
+        ensures { result.now ≡ self.now.world.events.items }
+    {
+        self.world.events.as_slice()
+    }
+}
