@@ -6,8 +6,6 @@ mod encodings;
 #[cfg(test)]
 mod harvests;
 #[cfg(test)]
-mod images;
-#[cfg(test)]
 mod instructions;
 #[cfg(test)]
 mod layouts;

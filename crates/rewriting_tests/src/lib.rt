@@ -1,0 +1,5 @@
+//! Tests of the crates that learn tables, rewrite listings and make images, over their public names.
+#![tactic(auto)]
+
+#[cfg(test)]
+mod images;
