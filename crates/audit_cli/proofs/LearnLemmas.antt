@@ -55,7 +55,7 @@ IsGood s pair = IsWindow s (window_for pair)
 
 pairs_are : (s : Settings) (lines : List Line) (places : List Spot) (pairs : List Pair) → All (IsShort s) places → ArePairs (limits_of s) lines places pairs → All (IsGood s) pairs
 pairs_are s lines _ _ short none = λ k d lt. absurd (omega arith)
-pairs_are s lines _ _ short (passed spot rest pairs no are) = pairs_are s lines rest pairs (All-tail (IsShort s) spot rest short) are
+pairs_are s lines _ _ short (passed spot rest pairs lacks are) = pairs_are s lines rest pairs (All-tail (IsShort s) spot rest short) are
 pairs_are s lines _ _ short (given spot rest pair pairs at are) =
     All-cons (IsGood s) pair pairs (pair_is_window s lines spot pair (All-head (IsShort s) spot rest short) at) (pairs_are s lines rest pairs (All-tail (IsShort s) spot rest short) are)
 

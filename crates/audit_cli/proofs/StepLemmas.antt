@@ -16,7 +16,10 @@ use Rattle.command_runs.specs.Plans.{Outcome, Refuses}
 use Rattle.audit_cli.specs.declared.refusal.Refusal.{Refusal}
 use Rattle.audit_cli.specs.declared.refusal.Refusal.TheVariants as refusal
 use Rattle.audit_cli.specs.Refusals.{unlaid_refusal, refusal_line}
-use Rattle.audit_cli.specs.Steps.{AuditsTable, IsAudited, IsUnaudited, ReadsTable, IsUnlisted, unlisted, IsUnread, unread, IsUnlaid, unlaid, ReadsListing, LaysOut}
+use Rattle.thumb_assembler.specs.declared.errors.ImageError.TheVariants as image
+use Rattle.thumb_assembler.specs.Refusals.{IsRefusal}
+use Rattle.thumb_assembler.specs.Following.{IsAssembled}
+use Rattle.audit_cli.specs.Steps.{HasNoImage, MakesImage, no_address, inside, AuditsTable, IsAudited, IsUnaudited, ReadsTable, IsUnlisted, unlisted, IsUnread, unread, IsUnlaid, unlaid, ReadsListing, LaysOut}
 
 pub is_unlisted : (text : List ℕ) (line : ℕ) → IsRefusedTable text line → IsUnlisted text (refusal.Table line)
 is_unlisted text line h = unlisted line h
@@ -36,6 +39,19 @@ is_unread text line k h = unread line k h
 
 pub is_unlaid : (base : ℕ) (lines : List Line) (line : ℕ) (fault : Fault) (r : Refusal) → first_fault base lines ≡ Some (line, fault) → r ≡ unlaid_refusal line fault → IsUnlaid base lines r
 is_unlaid base lines line fault r h e = subst (IsUnlaid base lines) (sym e) (unlaid line fault h)
+
+-- what the assembler answered
+pub is_no_address : (base : ℕ) (lines : List Line) (line : ℕ) → IsRefusal base lines (image.NoAddress line) → HasNoImage base lines (refusal.Address line)
+is_no_address base lines line h = no_address line h
+
+pub is_inside : (base : ℕ) (lines : List Line) (line : ℕ) → IsRefusal base lines (image.Inside line) → HasNoImage base lines (refusal.Inside line)
+is_inside base lines line h = inside line h
+
+pub is_made : {A : Type 0} (view : A → List ℕ) (base : ℕ) (lines : List Line) (x : Result A Refusal) (a : A) → MakesImage base lines (result_map_both view (λ e. e) x) → x ≡ Ok a → IsAssembled base lines (view a)
+is_made {A} view base lines x a h e = subst (λ (y : Result A Refusal). MakesImage base lines (result_map_both view (λ r. r) y)) e h
+
+pub not_made : {A : Type 0} (view : A → List ℕ) (base : ℕ) (lines : List Line) (x : Result A Refusal) (r : Refusal) → MakesImage base lines (result_map_both view (λ e. e) x) → x ≡ Err r → HasNoImage base lines r
+not_made {A} view base lines x r h e = subst (λ (y : Result A Refusal). MakesImage base lines (result_map_both view (λ s. s) y)) e h
 
 -- what holds of the refusal's line holds of an outcome that is it
 pub refused_so : (P : Outcome → Type 0) (r : Refusal) (o : Outcome) → o ≡ Refuses (refusal_line r) → P (Refuses (refusal_line r)) → P o

@@ -105,8 +105,14 @@ fn listing_outcome<L: Ledger>(
     };
     match table_learn::learn(alloc, windows, settings, steps) {
         Err(LearnError::Memory) => Err(AllocError),
-        Err(LearnError::Wide(count)) => refused(alloc, Refusal::Wide { count }),
-        Err(LearnError::Full { bytes, .. }) => refused(alloc, Refusal::Full { bytes }),
+        Err(LearnError::Wide(count)) => {
+            let outcome = refused(alloc, Refusal::Wide { count })?;
+            Ok(outcome)
+        }
+        Err(LearnError::Full { bytes, .. }) => {
+            let outcome = refused(alloc, Refusal::Full { bytes })?;
+            Ok(outcome)
+        }
         Ok(table) => match kept(alloc, to.out, &table) {
             Err(_) => Err(AllocError),
             Ok(outcome) => Ok(outcome),

@@ -7,6 +7,7 @@ ghost use Rattle.thumb_model.specs.Layout.{Layable};
 ghost use Rattle.thumb_model.specs.Rewritten.{is_op};
 ghost use Rattle.command_runs.specs.Plans.{Does};
 ghost use Rattle.rule_table.specs.Views.{table_of};
+ghost use Rattle.table_audit.specs.Soundness.{IsSound};
 ghost use Rattle.audit_cli.specs.Destinations.{counts_of, destination_of};
 ghost use Rattle.audit_cli.specs.Printed.{report_of, image_line};
 ghost use Rattle.audit_cli.specs.Rewrite.{Comes, Leaves, LinesRewrite, Rewrites, instruction_count};
@@ -124,7 +125,10 @@ fn left(
         };
     }
     match image_of(alloc, listing, to.base.address)? {
-        Err(refusal) => refused(alloc, refusal),
+        Err(refusal) => {
+            let outcome = refused(alloc, refusal)?;
+            Ok(outcome)
+        }
         Ok(image) => match keeps_both(alloc, to, listing, image, counts) {
             Err(_) => Err(AllocError),
             Ok(outcome) => Ok(outcome),
@@ -140,13 +144,17 @@ fn lines_outcome<L: Ledger>(
     listing: Listing,
     steps: &mut Steps<L>,
 ) -> Result<Outcome, AllocError>
+    requires sound { IsSound (table_of table.now) }
     requires listed { IsListing (text_of_lines listing) listing }
     ensures { IfOk result (λ o. LinesRewrite (destination_of to.now) (table_of table.now) listing (outcome_view o)) }
 {
     let before = instruction_count(listing.lines());
     match window_rewrite::rewrite(alloc, table, listing, to.base.address, steps) {
         Err(RewriteError::Memory) => Err(AllocError),
-        Err(RewriteError::Line { number, kind }) => refused(alloc, unlaid(number, kind)),
+        Err(RewriteError::Line { number, kind }) => {
+            let outcome = refused(alloc, unlaid(number, kind))?;
+            Ok(outcome)
+        }
         Ok(Rewritten {
             listing,
             replacements,
@@ -156,7 +164,8 @@ fn lines_outcome<L: Ledger>(
                 before,
                 after: instruction_count(listing.lines()),
             };
-            left(alloc, to, &listing, counts)
+            let outcome = left(alloc, to, &listing, counts)?;
+            Ok(outcome)
         }
     }
 }
@@ -169,6 +178,7 @@ fn text_outcome<L: Ledger>(
     text: &[u8],
     steps: &mut Steps<L>,
 ) -> Result<Outcome, AllocError>
+    requires { IsSound (table_of table.now) }
     ensures { IfOk result (λ o. Rewrites (destination_of to.now) (table_of table.now) text.now (outcome_view o)) }
 {
     match read_listing(alloc, text)? {

@@ -8,8 +8,8 @@ use Rattle.audit_cli.specs.Rewrite.{Rewrites, unread, read}
 use Rattle.audit_cli.proofs.StepLemmas.{is_read, not_read, refused_so}
 use Rattle.audit_cli.proofs.rewrite.text_outcome.Goals as goal
 
-pub lines_outcome-requires : goal.lines_outcome-requires
-lines_outcome-requires g c =
+pub lines_outcome-requires-clause-listed : goal.lines_outcome-requires-clause-listed
+lines_outcome-requires-clause-listed g c =
     let is = is_read c.args.text.now c.in_ok-refusal.field-0 c.in-Ok.listing c.in_ok-refusal.ensures c.in-Ok.is in
     subst (λ (bytes : List ℕ). IsListing bytes c.in-Ok.listing) (sym (prints_back c.args.text.now c.in-Ok.listing is)) is
 

@@ -1,0 +1,15 @@
+use Rattle.std.proofs.Common.{◌≡◌, ◌<◌, ◌^◌, rules, arith, refl, map}
+use Rattle.std.specs.Prelude.{sum_by}
+use Rattle.rule_table.specs.Views.{rule_of, table_of}
+use Rattle.rule_table.specs.Text.{text_of}
+use Rattle.audit_cli.specs.Audit.{open_count, opens_of}
+use Rattle.audit_cli.proofs.TableTexts.{opens_within}
+use Rattle.audit_cli.proofs.learn.kept.Goals as goal
+
+pub open_count-requires : goal.open_count-requires
+open_count-requires c =
+    let t = table_of c.args.table.now in
+    let few = opens_within (text_of t) t (record { valid = c.requires.valid; whole = refl }) in
+    let fits = c.requires.fits in
+    let small : opens_of t < 2 ^ 63 = omega arith in
+    search (rules, small)
