@@ -1,0 +1,118 @@
+//! The first replacement that can be made.
+use crate::choice::{Choice, Replacement};
+use crate::errors::RewriteError;
+use crate::fitting::{fitting, side_of};
+use crate::index::Index;
+use crate::replacing::replaced;
+use listing_parser::Listing;
+use liveness::Live;
+use rule_table::Entry;
+use std::alloc::Global;
+use step_ledger::{Ledger, Steps};
+use thumb_instr::Instr;
+use window_harvest::rows::Row;
+use window_harvest::runs::run;
+
+/// A table as the finder goes by it.
+pub(crate) struct Rules<'a> {
+    pub(crate) entries: &'a [Entry],
+    pub(crate) index: &'a Index,
+    /// How many instructions a left side has at most.
+    pub(crate) longest: u8,
+    /// Where the image begins.
+    pub(crate) base: u32,
+}
+
+/// What an entry leaves at a place where it applies. The window stands there.
+fn try_entry<L: Ledger>(
+    alloc: Global,
+    rules: &Rules<'_>,
+    listing: &Listing,
+    live: &Live,
+    place: u32,
+    window: &[Instr],
+    number: usize,
+    steps: &mut Steps<L>,
+) -> Result<Option<Choice>, RewriteError> {
+    steps.tick();
+    let entry = &rules.entries[number];
+    let items = live.after(place + window.len() as u32 - 1);
+    match fitting(entry, window, items) {
+        None => Ok(None),
+        Some(map) => match replaced(alloc, entry, &map, listing, place, rules.base)? {
+            None => Ok(None),
+            Some(new) => Ok(Some(Choice {
+                replacement: Replacement {
+                    place,
+                    entry: number as u64 + 1,
+                    map,
+                },
+                listing: new,
+            })),
+        },
+    }
+}
+
+/// The lowest entry that applies to a window.
+fn lowest<L: Ledger>(
+    alloc: Global,
+    rules: &Rules<'_>,
+    listing: &Listing,
+    live: &Live,
+    place: u32,
+    window: &[Instr],
+    steps: &mut Steps<L>,
+) -> Result<Option<Choice>, RewriteError> {
+    let mut at = match side_of(window) {
+        None => None,
+        Some(side) => rules.index.first(side.as_slice()),
+    };
+    while let Some(number) = at {
+        if let Some(choice) = try_entry(
+            alloc, rules, listing, live, place, window, number, steps,
+        )? {
+            return Ok(Some(choice));
+        }
+        at = rules.index.next(number);
+    }
+    Ok(None)
+}
+
+/// The best entry at a place: of those that apply there the lowest with the longest left side.
+fn best_at<L: Ledger>(
+    alloc: Global,
+    rules: &Rules<'_>,
+    listing: &Listing,
+    rows: &[Row],
+    live: &Live,
+    place: u32,
+    steps: &mut Steps<L>,
+) -> Result<Option<Choice>, RewriteError> {
+    let run = run(rows, place as usize, usize::from(rules.longest));
+    let mut count = run.len();
+    while count > 0 {
+        let window = &run.as_slice()[..count];
+        if let Some(choice) = lowest(alloc, rules, listing, live, place, window, steps)? {
+            return Ok(Some(choice));
+        }
+        count -= 1;
+    }
+    Ok(None)
+}
+
+/// The first replacement that can be made: at the least place, by the best entry there.
+pub(crate) fn first<L: Ledger>(
+    alloc: Global,
+    rules: &Rules<'_>,
+    listing: &Listing,
+    rows: &[Row],
+    live: &Live,
+    steps: &mut Steps<L>,
+) -> Result<Option<Choice>, RewriteError> {
+    for place in 0..listing.place_count() {
+        if let Some(choice) = best_at(alloc, rules, listing, rows, live, place, steps)? {
+            return Ok(Some(choice));
+        }
+    }
+    Ok(None)
+}

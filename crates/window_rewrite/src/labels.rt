@@ -1,0 +1,33 @@
+//! Whether code labels are still code after a replacement.
+use listing_parser::{Line, Listing, Statement};
+
+/// Where a place comes to when so many places behind another go.
+fn moved(place: u32, gone: u32, at: u32) -> u32 {
+    at.min(place).max(at.saturating_sub(gone))
+}
+
+/// How many places a statement has.
+fn places_in(statement: &Statement) -> usize {
+    match statement {
+        Statement::Runs { .. } => 1,
+        Statement::Words(values) => values.len(),
+        _ => 0,
+    }
+}
+
+/// Whether the labels of a line that stand at a place are still code, where they were.
+fn label_stays(line: &Line, old: &Listing, new: &Listing, place: u32, gone: u32, at: u32) -> bool {
+    line.names.is_empty() || !old.is_op(at) || new.is_op(moved(place, gone, at))
+}
+
+/// Whether each code label of the old listing is code in the new one, where so many places behind a place are gone.
+pub(crate) fn labels_stay(old: &Listing, new: &Listing, place: u32, gone: u32) -> bool {
+    let mut at = 0usize;
+    for line in old.lines() {
+        if !label_stays(line, old, new, place, gone, at as u32) {
+            return false;
+        }
+        at += places_in(&line.statement);
+    }
+    true
+}

@@ -1,0 +1,50 @@
+//! The listing that a replacement leaves, where it may be made.
+use crate::errors::RewriteError;
+use crate::items::registers_of;
+use crate::labels::labels_stay;
+use label_layout::{LayoutError, layout};
+use listing_parser::Listing;
+use rule_table::{Entry, Map};
+use std::alloc::Global;
+use thumb_instr::{Instr, Low, Seq, renamed};
+
+/// The instructions under a map.
+fn renamed_all(instrs: &[Instr], registers: &[Low]) -> Seq {
+    let mut seq = Seq::new();
+    for instr in instrs {
+        seq.push(renamed(instr, registers));
+    }
+    seq
+}
+
+/// Whether a listing can be laid out from the base.
+fn is_layable(alloc: Global, listing: &Listing, base: u32) -> Result<bool, RewriteError> {
+    match layout(alloc, listing, base) {
+        Ok(_) => Ok(true),
+        Err(LayoutError::Line { .. }) => Ok(false),
+        Err(LayoutError::Memory) => Err(RewriteError::Memory),
+    }
+}
+
+/// The listing with an entry's right side under a map in place of its left side, where each code label is still code and no line is refused.
+pub(crate) fn replaced(
+    alloc: Global,
+    entry: &Entry,
+    map: &Map,
+    listing: &Listing,
+    place: u32,
+    base: u32,
+) -> Result<Option<Listing>, RewriteError> {
+    let right = renamed_all(entry.right.as_slice(), &registers_of(map));
+    let count = entry.left.len() as u32;
+    let gone = count - right.len() as u32;
+    let new = listing.replaced(alloc, place, count, right.as_slice())?;
+    if !labels_stay(listing, &new, place, gone) {
+        return Ok(None);
+    }
+    if is_layable(alloc, &new, base)? {
+        Ok(Some(new))
+    } else {
+        Ok(None)
+    }
+}

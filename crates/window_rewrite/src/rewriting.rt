@@ -1,0 +1,73 @@
+//! Replacing until no entry applies.
+ghost use Rattle.std.specs.Prelude.{◌≡◌, ◌+◌, ◌≤◌, length, map, IfOk, MatchResult};
+ghost use Rattle.rule_table.specs.Views.{table_of};
+ghost use Rattle.table_audit.specs.Soundness.{rules_of};
+ghost use Rattle.thumb_model.specs.Layout.{Layable};
+ghost use Rattle.thumb_model.specs.Rewritten.{AreRewritten};
+ghost use Rattle.window_rewrite.specs.Rewriting.{setting, replacement_of, rewriting_cost, IsRefusal};
+
+use crate::choice::{Choice, Rewritten};
+use crate::errors::RewriteError;
+use crate::finding::{Rules, first};
+use crate::index::Index;
+use label_layout::layout;
+use listing_parser::Listing;
+use liveness::live;
+use rule_table::Entry;
+use std::alloc::Global;
+use step_ledger::{Ledger, Steps};
+use table_audit::Audited;
+use window_harvest::rows::rows;
+
+/// Rewrites a listing by an accepted table, for an image that begins at the base: at the least place where some entry applies, the one with the longest
+/// left side, then the lowest, until none applies. A listing that cannot be laid out from the base is refused at its first such line.
+///
+/// A step is a match tried, or a visit of a place for its live items.
+pub fn rewrite<L: Ledger>(
+    alloc: Global,
+    table: &Audited,
+    listing: Listing,
+    base: u32,
+    steps: &mut Steps<L>,
+) -> Result<Rewritten, RewriteError>
+    ensures rewritten { IfOk result (λ new. AreRewritten (setting base (rules_of (table_of table.now))) listing (map replacement_of new.replacements.items) new.listing) }
+    ensures verdict { MatchResult result (λ _. Layable base listing) (IsRefusal base listing) }
+    ensures cost { IfOk result (λ new. steps.new ≤ steps.old + rewriting_cost listing (rules_of (table_of table.now)) (length new.replacements.items)) }
+{
+    let _laid = layout(alloc, &listing, base)?;
+    let table = table.table();
+    let index = Index::of(alloc, &table.entries)?;
+    let rules = Rules {
+        entries: &table.entries,
+        index: &index,
+        longest: table.left,
+        base,
+    };
+    let mut current = listing;
+    let mut replacements = Vec::new(alloc);
+    while let Some(choice) = next(alloc, &rules, &current, steps)? {
+        let Choice {
+            replacement,
+            listing,
+        } = choice;
+        current = listing;
+        replacements.push(replacement)?;
+    }
+    Ok(Rewritten {
+        listing: current,
+        replacements,
+    })
+}
+
+/// The next replacement.
+fn next<L: Ledger>(
+    alloc: Global,
+    rules: &Rules<'_>,
+    listing: &Listing,
+    steps: &mut Steps<L>,
+) -> Result<Option<Choice>, RewriteError> {
+    let live = live(alloc, listing, steps)?;
+    let rows = rows(alloc, listing.lines())?;
+    let choice = first(alloc, rules, listing, &rows, &live, steps)?;
+    Ok(choice)
+}
