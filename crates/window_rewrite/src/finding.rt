@@ -1,4 +1,15 @@
 //! The first replacement that can be made.
+ghost use Rattle.std.specs.Prelude.{◌≡◌, ◌+◌, ◌*◌, ◌<◌, ◌≤◌, List, length, true, IfOk, IfSome, IfNone};
+ghost use Rattle.std.specs.List.{list_all};
+ghost use Rattle.thumb_instr.specs.Renaming.{Low};
+ghost use Rattle.thumb_instr.specs.Window.{is_in_window};
+ghost use Rattle.thumb_model.specs.Listing.{places_of};
+ghost use Rattle.thumb_model.specs.Rewritten.{AppliesIn, NoneApplies, left_length};
+ghost use Rattle.window_harvest.specs.Harvest.{spot_of, StandsThere};
+ghost use Rattle.window_harvest.specs.LimitsOf.{AreOf};
+ghost use Rattle.window_rewrite.specs.Rules.{rules_in};
+ghost use Rattle.window_rewrite.specs.Choices.{setting_of, choice_of, of_length, AreReady, Begins, IsBest, IsChoice, IsFirstChoice, IsLowest, NoneAt, NoneOf};
+
 use crate::choice::{Choice, Replacement};
 use crate::errors::RewriteError;
 use crate::fitting::{fitting, side_of};
@@ -9,11 +20,12 @@ use liveness::Live;
 use rule_table::Entry;
 use std::alloc::Global;
 use step_ledger::{Ledger, Steps};
-use thumb_instr::Instr;
+use thumb_instr::{Instr, Items};
 use window_harvest::rows::Row;
 use window_harvest::runs::run;
 
 /// A table as the finder goes by it.
+#[derive(Drop)]
 pub(crate) struct Rules<'a> {
     pub(crate) entries: &'a [Entry],
     pub(crate) index: &'a Index,
@@ -50,6 +62,18 @@ fn try_entry<L: Ledger>(
                 listing: new,
             })),
         },
+    }
+}
+
+/// The first entry whose left side may match a window.
+fn first_number(rules: &Rules<'_>, window: &[Instr]) -> Option<usize>
+    requires ready { AreReady rules.now }
+    requires windows { list_all is_in_window window.now ≡ true }
+    ensures { Begins (rules_in rules.now.entries.now) window.now result }
+{
+    match side_of(window) {
+        None => None,
+        Some(side) => rules.index.first(side.as_slice(), rules.entries),
     }
 }
 
@@ -92,7 +116,8 @@ fn best_at<L: Ledger>(
     let mut count = run.len();
     while count > 0 {
         let window = &run.as_slice()[..count];
-        if let Some(choice) = lowest(alloc, rules, listing, live, place, window, steps)? {
+        let items = live.after(place + (count - 1) as u32);
+        if let Some(choice) = lowest(alloc, rules, listing, place, window, items, steps)? {
             return Ok(Some(choice));
         }
         count -= 1;

@@ -1,4 +1,14 @@
 //! Whether an entry fits a window, as far as the window and the live items tell.
+ghost use Rattle.std.specs.Prelude.{◌≡◌, List, Some, length, true, IfSome, MatchOption};
+ghost use Rattle.std.specs.List.{list_all};
+ghost use Rattle.thumb_instr.specs.Renaming.{Low};
+ghost use Rattle.thumb_instr.specs.Window.{is_in_window};
+ghost use Rattle.thumb_model.specs.Rewrite.{Rule, IsSoundRule};
+ghost use Rattle.table_audit.specs.Sides.{IsCanonicalSide};
+ghost use Rattle.window_rewrite.specs.Rewriting.{registers_of};
+ghost use Rattle.window_rewrite.specs.Rules.{entry_rule};
+ghost use Rattle.window_rewrite.specs.Fitting.{Fits, Stands};
+
 use crate::items::{are_allowed, registers_of};
 use rule_table::{Entry, Map, canonical, matches};
 use thumb_instr::{Instr, Items, Seq};

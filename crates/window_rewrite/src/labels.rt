@@ -1,4 +1,10 @@
 //! Whether code labels are still code after a replacement.
+ghost use Rattle.std.specs.Prelude.{◌≡◌, length};
+ghost use Rattle.listing_parser.specs.Views.{line_view, statement_view};
+ghost use Rattle.thumb_model.specs.Listing.{places_in, places_of};
+ghost use Rattle.thumb_model.specs.Rewrite.{moved};
+ghost use Rattle.window_rewrite.specs.Fitting.{stays_at, stay_from};
+
 use listing_parser::{Line, Listing, Statement};
 
 /// Where a place comes to when so many places behind another go.

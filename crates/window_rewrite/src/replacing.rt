@@ -1,4 +1,15 @@
 //! The listing that a replacement leaves, where it may be made.
+ghost use Rattle.std.specs.Prelude.{◌≡◌, ℕ, ◌+◌, ◌-◌, ◌<◌, ◌≤◌, ◌↔◌, List, length, map, slice_get, true, false, IfOk, IfSome, IfNone};
+ghost use Rattle.listing_parser.specs.Replacing.{own_line};
+ghost use Rattle.thumb_instr.specs.Renaming.{renamed};
+ghost use Rattle.thumb_model.specs.Layout.{Layable};
+ghost use Rattle.thumb_model.specs.Listing.{Line, is_op_place, places_of};
+ghost use Rattle.thumb_model.specs.Rewrite.{IsSoundRule};
+ghost use Rattle.thumb_model.specs.Rewritten.{replaced_lines};
+ghost use Rattle.window_rewrite.specs.Rewriting.{registers_of};
+ghost use Rattle.window_rewrite.specs.Rules.{entry_rule};
+ghost use Rattle.window_rewrite.specs.Fitting.{IsLeft, Stay};
+
 use crate::errors::RewriteError;
 use crate::items::registers_of;
 use crate::labels::labels_stay;

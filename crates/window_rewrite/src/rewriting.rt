@@ -1,10 +1,13 @@
 //! Replacing until no entry applies.
-ghost use Rattle.std.specs.Prelude.{◌≡◌, ◌+◌, ◌≤◌, length, map, IfOk, MatchResult};
+ghost use Rattle.std.specs.Prelude.{◌≡◌, ◌+◌, ◌≤◌, length, map, IfOk, IfSome, IfNone, MatchResult};
 ghost use Rattle.rule_table.specs.Views.{table_of};
 ghost use Rattle.table_audit.specs.Soundness.{rules_of};
 ghost use Rattle.thumb_model.specs.Layout.{Layable};
-ghost use Rattle.thumb_model.specs.Rewritten.{AreRewritten};
-ghost use Rattle.window_rewrite.specs.Rewriting.{setting, replacement_of, rewriting_cost, IsRefusal};
+ghost use Rattle.thumb_model.specs.Listing.{places_of};
+ghost use Rattle.thumb_model.specs.Rewritten.{AreRewritten, NoneApplies};
+ghost use Rattle.window_rewrite.specs.Rewriting.{setting, replacement_of, rewriting_cost, round_cost, IsRefusal};
+ghost use Rattle.window_rewrite.specs.Rules.{rules_in};
+ghost use Rattle.window_rewrite.specs.Choices.{setting_of, AreReady, IsFirstChoice};
 
 use crate::choice::{Choice, Rewritten};
 use crate::errors::RewriteError;
