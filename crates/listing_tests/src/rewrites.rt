@@ -10,16 +10,19 @@ use table_audit::{Audited, audit};
 use window_rewrite::{RewriteError, rewrite};
 
 /// A byte is kept by two shifts: in shorter, it is extended.
-const BYTE: &str = "entry\nleft lsls r0, r0, #24\nleft lsrs r0, r0, #24\nright uxtb r0, r0\nmask r0\nproof\n";
+const BYTE: &str =
+    "entry\nleft lsls r0, r0, #24\nleft lsrs r0, r0, #24\nright uxtb r0, r0\nmask r0\nproof\n";
 
 /// A move of a register to itself.
 const MOVE: &str = "entry\nleft mov r0, r0\nmask r0 n z c v\nproof\n";
 
 /// A move there and back.
-const COPY: &str = "entry\nleft mov r0, r1\nleft mov r1, r0\nright mov r0, r1\nmask r0 r1 n z c v\nproof\n";
+const COPY: &str =
+    "entry\nleft mov r0, r1\nleft mov r1, r0\nright mov r0, r1\nmask r0 r1 n z c v\nproof\n";
 
 /// The same by a mask that has no flag.
-const COPY_ALONE: &str = "entry\nleft mov r0, r1\nleft mov r1, r0\nright mov r0, r1\nmask r0 r1\nproof\n";
+const COPY_ALONE: &str =
+    "entry\nleft mov r0, r1\nleft mov r1, r0\nright mov r0, r1\nmask r0 r1\nproof\n";
 
 /// The table with these entries, as it is audited.
 fn table(alloc: Global, entries: &[&str]) -> Result<Audited, Fail> {
@@ -65,7 +68,7 @@ fn gives(
 
 /// A branch over `nops` places, with a move in front and a padding behind them.
 fn far(alloc: Global, nops: usize) -> Result<String, Fail> {
-    let mut text = String::from_str_in("\tmov r0, r0\n\tbeq out\n", alloc)?;
+    let mut text = String::from_str(alloc, "\tmov r0, r0\n\tbeq out\n")?;
     for _ in 0..nops {
         text.push_str("\tnop\n")?;
     }
@@ -156,7 +159,10 @@ fn rewrites(rt: HostRuntime) -> Result<(), Fail> {
         ),
     ];
     for (number, (entries, text, wanted, made)) in rows.iter().enumerate() {
-        assert!(rt; gives(alloc, *entries, *text, *wanted, *made)?, "row {number}");
+        assert!(rt;
+            gives(alloc, *entries, *text, *wanted, *made)?,
+            "row {number}"
+        );
     }
     // a padding would take the branch's target out of its reach
     let text = far(alloc, 128)?;
@@ -172,7 +178,11 @@ fn refusals(rt: HostRuntime) -> Result<(), Fail> {
     let alloc = rt.alloc();
     let table = table(alloc, &[MOVE])?;
     let rows = [
-        ("\tldr r0, w\nw:\t.word 1\n\tmov r0, r0\n", 1, Kind::Align(2)),
+        (
+            "\tldr r0, w\nw:\t.word 1\n\tmov r0, r0\n",
+            1,
+            Kind::Align(2),
+        ),
         (
             "w:\t.word 1\n\tldr r0, w\n\tmov r0, r0\n",
             2,

@@ -111,8 +111,7 @@ applied base rules lines place number rule registers window live new at there fi
       live = λ x h. allowed_true rule.mask registers x (fits.allowed x ((there.live x).1 (subst (λ k. LiveAfter (code_of lines) (place + k - 1) x) (sym n) h)));
       labels_stay = λ k l e h. subst (λ (c : Code). is_code c.places (move_label place (length rule.left - length rule.right) l) ≡ true) code (left.stay k l e h);
     } in
-    let after : lines_after s r lines ≡ new = ap (λ o. lines_after_rule s o r lines) at ∙ sym left.is in
-    (
+    let after : lines_after s r lines ≡ new = ap (λ o. lines_after_rule s o r lines) at ∙ sym left.is in (
       record {
         rule = rule;
         is_rule = at;

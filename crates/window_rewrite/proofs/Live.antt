@@ -21,9 +21,28 @@ pub one_of_map : (f : Low → ℕ) (x : ℕ) (xs : List Low) → list_any (λ r.
 one_of_map f x [] = refl
 one_of_map f x (r ∷ rs) = ap (λ t. (x == f r) || t) (one_of_map f x rs)
 
-pub masked_is : (mask : ℕ) (registers : List Low) (x : ℕ) (xs : List ℕ) → xs ≡ 0 ∷ 1 ∷ 2 ∷ 3 ∷ 15 ∷ 16 ∷ 17 ∷ 18 ∷ [] → list_any (λ y. has mask y && (x == item_under registers y)) xs ≡ one_of x (map (item_under registers) (items_in mask))
+-- a chain to the left as one to the right
+chained : (a b c d e f g h : Bool) → (((((((a || b) || c) || d) || e) || f) || g) || h) ≡ (a || (b || (c || (d || (e || (f || (g || (h || false))))))))
+chained true b c d e f g h = refl
+chained false true c d e f g h = refl
+chained false false true d e f g h = refl
+chained false false false true e f g h = refl
+chained false false false false true f g h = refl
+chained false false false false false true g h = refl
+chained false false false false false false true h = refl
+chained false false false false false false false true = refl
+chained false false false false false false false false = refl
+
+abbrev kept : ℕ → List Low → ℕ → ℕ → Bool
+kept mask registers x y = has mask y && (x == item_under registers y)
+
+pub masked_is : (mask : ℕ) (registers : List Low) (x : ℕ)
+    → (((((((kept mask registers x 0 || kept mask registers x 1) || kept mask registers x 2) || kept mask registers x 3) || kept mask registers x 15) || kept mask registers x 16) || kept mask registers x 17) || kept mask registers x 18)
+    ≡ one_of x (map (item_under registers) (items_in mask))
 unfolding items_in
-masked_is mask registers x xs e = ap (list_any (λ y. has mask y && (x == item_under registers y))) e ∙ one_of_passed (has mask) (item_under registers) x (0 ∷ 1 ∷ 2 ∷ 3 ∷ 15 ∷ 16 ∷ 17 ∷ 18 ∷ [])
+masked_is mask registers x =
+    chained (kept mask registers x 0) (kept mask registers x 1) (kept mask registers x 2) (kept mask registers x 3) (kept mask registers x 15) (kept mask registers x 16) (kept mask registers x 17) (kept mask registers x 18)
+    ∙ one_of_passed (has mask) (item_under registers) x (0 ∷ 1 ∷ 2 ∷ 3 ∷ 15 ∷ 16 ∷ 17 ∷ 18 ∷ [])
 
 -- items below n that are live may be
 abbrev pub AreAllowed : ℕ → ℕ → (ℕ → Bool) → Type 0

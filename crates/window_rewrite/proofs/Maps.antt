@@ -166,8 +166,7 @@ stands_matches rule registers window s w h =
     let few = s.few in
     let n = h.as_many in
     let r : List Low = registers ++ fill (8 - k) in
-    let alike : AreAlike k r registers = λ x l. get_front registers (fill (8 - k)) x (omega arith) in
-    (
+    let alike : AreAlike k r registers = λ x l. get_front registers (fill (8 - k)) x (omega arith) in (
       r,
       record {
         windows = w;

@@ -2,7 +2,6 @@
 use Rattle.std.proofs.Common.{◌≡◌, ℕ, zero, suc, ◌+◌, ◌-◌, ◌<◌, ◌≤◌, ◌&&◌, ◌||◌, not, Bool, true, false, List, [], ◌∷◌, ◌++◌, length, map, drop, take, Some, refl, sym, ap, ◌∙◌, subst, arith, get_or, add-one, drop-cons}
 use Rattle.std.specs.Prelude.{slice_get}
 use Rattle.std.proofs.lemmas.Bool.{and_parts, and_from}
-
 use Rattle.thumb_model.specs.Listing.{Name, Line, Label, Place, places_in, places_of, labels_at, labels_from, is_op_place, is_code}
 use Rattle.thumb_model.specs.Rewrite.{moved, move_label}
 use Rattle.listing_parser.specs.declared.line.Line.{Line as Lines}

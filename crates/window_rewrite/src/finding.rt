@@ -35,21 +35,28 @@ pub(crate) struct Rules<'a> {
     pub(crate) base: u32,
 }
 
-/// What an entry leaves at a place where it applies. The window stands there.
+/// What an entry leaves at a place where it applies. The window stands there, after which these items are live.
 fn try_entry<L: Ledger>(
     alloc: Global,
     rules: &Rules<'_>,
     listing: &Listing,
-    live: &Live,
     place: u32,
     window: &[Instr],
+    live: Items,
     number: usize,
     steps: &mut Steps<L>,
-) -> Result<Option<Choice>, RewriteError> {
+) -> Result<Option<Choice>, RewriteError>
+    requires ready { AreReady rules.now }
+    requires stands { StandsThere listing.now (spot_of place (length window.now)) window.now live.bits }
+    requires number { number < length rules.now.entries.now }
+    requires long { left_length (rules_in rules.now.entries.now) number ≡ length window.now }
+    ensures some { IfOk result (λ o. IfSome o (λ c. IsChoice (setting_of rules.now) listing.now c × ((choice_of c).place ≡ place) × ((choice_of c).entry ≡ number))) }
+    ensures none { IfOk result (λ o. IfNone o ((registers : List Low) → AppliesIn (setting_of rules.now) (record { place = place; entry = number; registers = registers }) listing.now → ⊥)) }
+    ensures cost { steps.new ≤ steps.old + 1 }
+{
     steps.tick();
     let entry = &rules.entries[number];
-    let items = live.after(place + window.len() as u32 - 1);
-    match fitting(entry, window, items) {
+    match fitting(entry, window, live) {
         None => Ok(None),
         Some(map) => match replaced(alloc, entry, &map, listing, place, rules.base)? {
             None => Ok(None),
@@ -65,7 +72,7 @@ fn try_entry<L: Ledger>(
     }
 }
 
-/// The first entry whose left side may match a window.
+/// The first entry whose left side may stand in a window.
 fn first_number(rules: &Rules<'_>, window: &[Instr]) -> Option<usize>
     requires ready { AreReady rules.now }
     requires windows { list_all is_in_window window.now ≡ true }
@@ -77,27 +84,30 @@ fn first_number(rules: &Rules<'_>, window: &[Instr]) -> Option<usize>
     }
 }
 
-/// The lowest entry that applies to a window.
+/// The lowest entry that applies to a window, after which these items are live.
 fn lowest<L: Ledger>(
     alloc: Global,
     rules: &Rules<'_>,
     listing: &Listing,
-    live: &Live,
     place: u32,
     window: &[Instr],
+    live: Items,
     steps: &mut Steps<L>,
-) -> Result<Option<Choice>, RewriteError> {
-    let mut at = match side_of(window) {
-        None => None,
-        Some(side) => rules.index.first(side.as_slice()),
-    };
+) -> Result<Option<Choice>, RewriteError>
+    requires ready { AreReady rules.now }
+    requires stands { StandsThere listing.now (spot_of place (length window.now)) window.now live.bits }
+    ensures some { IfOk result (λ o. IfSome o (IsLowest (setting_of rules.now) listing.now place (length window.now))) }
+    ensures none { IfOk result (λ o. IfNone o (NoneOf (setting_of rules.now) listing.now place (length window.now))) }
+    ensures cost { steps.new ≤ steps.old + of_length (length window.now) (rules_in rules.now.entries.now) }
+{
+    let mut at = first_number(rules, window);
     while let Some(number) = at {
         if let Some(choice) = try_entry(
-            alloc, rules, listing, live, place, window, number, steps,
+            alloc, rules, listing, place, window, live, number, steps,
         )? {
             return Ok(Some(choice));
         }
-        at = rules.index.next(number);
+        at = rules.index.next(number, rules.entries);
     }
     Ok(None)
 }
@@ -111,7 +121,14 @@ fn best_at<L: Ledger>(
     live: &Live,
     place: u32,
     steps: &mut Steps<L>,
-) -> Result<Option<Choice>, RewriteError> {
+) -> Result<Option<Choice>, RewriteError>
+    requires ready { AreReady rules.now }
+    requires of { AreOf listing.now rows.now live.now }
+    requires place { place < length (places_of listing.now) }
+    ensures some { IfOk result (λ o. IfSome o (IsBest (setting_of rules.now) listing.now place)) }
+    ensures none { IfOk result (λ o. IfNone o (NoneAt (setting_of rules.now) listing.now place)) }
+    ensures cost { steps.new ≤ steps.old + length (rules_in rules.now.entries.now) }
+{
     let run = run(rows, place as usize, usize::from(rules.longest));
     let mut count = run.len();
     while count > 0 {
@@ -133,7 +150,13 @@ pub(crate) fn first<L: Ledger>(
     rows: &[Row],
     live: &Live,
     steps: &mut Steps<L>,
-) -> Result<Option<Choice>, RewriteError> {
+) -> Result<Option<Choice>, RewriteError>
+    requires ready { AreReady rules.now }
+    requires of { AreOf listing.now rows.now live.now }
+    ensures some { IfOk result (λ o. IfSome o (IsFirstChoice (setting_of rules.now) listing.now)) }
+    ensures none { IfOk result (λ o. IfNone o (NoneApplies (setting_of rules.now) listing.now)) }
+    ensures cost { steps.new ≤ steps.old + length (places_of listing.now) * length (rules_in rules.now.entries.now) }
+{
     for place in 0..listing.place_count() {
         if let Some(choice) = best_at(alloc, rules, listing, rows, live, place, steps)? {
             return Ok(Some(choice));

@@ -13,8 +13,12 @@ use crate::items::{are_allowed, registers_of};
 use rule_table::{Entry, Map, canonical, matches};
 use thumb_instr::{Instr, Items, Seq};
 
-/// The left side that an entry has where it matches the window: its canonical form. None where no entry can match it.
-pub(crate) fn side_of(window: &[Instr]) -> Option<Seq> {
+/// The left side that an entry has where it matches the window: the window's canonical form. None where no entry can match it.
+pub(crate) fn side_of(window: &[Instr]) -> Option<Seq>
+    requires windows { list_all is_in_window window.now ≡ true }
+    ensures side { (rule : Rule) (registers : List Low) → IsSoundRule rule → IsCanonicalSide rule.left → Stands rule registers window.now → result ≡ Some rule.left }
+    ensures long { IfSome result (λ side. length side ≡ length window.now) }
+{
     match canonical(window, Items::none()) {
         None => None,
         Some((side, _, _)) => Some(side),
@@ -22,7 +26,11 @@ pub(crate) fn side_of(window: &[Instr]) -> Option<Seq> {
 }
 
 /// The map under which an entry that leaves fewer instructions matches a window after which these items are live and may be.
-pub(crate) fn fitting(entry: &Entry, window: &[Instr], live: Items) -> Option<Map> {
+pub(crate) fn fitting(entry: &Entry, window: &[Instr], live: Items) -> Option<Map>
+    requires sound { IsSoundRule (entry_rule entry.now) }
+    requires windows { list_all is_in_window window.now ≡ true }
+    ensures { MatchOption result ((registers : List Low) → Fits (entry_rule entry.now) registers window.now live.bits → ⊥) (λ map. Fits (entry_rule entry.now) (registers_of map) window.now live.bits × (length map ≡ 8)) }
+{
     if entry.left.len() <= entry.right.len() {
         return None;
     }

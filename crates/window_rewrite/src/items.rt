@@ -11,13 +11,13 @@ use arrayvec::ArrayVec;
 use rule_table::Map;
 use thumb_instr::{Items, Low, Mask};
 
-/// The items that may be in a mask: r0 to r3, N, Z, C and V.
-const IN_MASKS: [u8; 8] = [0, 1, 2, 3, 15, 16, 17, 18];
-
 /// The registers that a map has, in order.
-pub(crate) fn registers_of(map: &Map) -> ArrayVec<Low, 8> {
+pub(crate) fn registers_of(map: &Map) -> ArrayVec<Low, 8>
+    requires { length map.now ≡ 8 }
+    ensures { result.items ≡ registers_of map.now }
+{
     let mut registers = ArrayVec::new();
-    for canonical in 0..8 {
+    for canonical in 0..8u8 {
         if let Some(register) = map.get(canonical) {
             registers.push(register);
         }
@@ -26,35 +26,56 @@ pub(crate) fn registers_of(map: &Map) -> ArrayVec<Low, 8> {
 }
 
 /// The item in place of an item.
-fn item_under(registers: &[Low], item: u8) -> u32 {
+fn item_under(registers: &[Low], item: u8) -> u32
+    ensures { result ≡ item_under registers.now item }
+{
     match registers.get(usize::from(item)) {
         Some(register) => register.number,
         None => u32::from(item),
     }
 }
 
-/// Whether an item of the mask becomes this one.
-fn is_masked(mask: Mask, registers: &[Low], item: u32) -> bool {
-    for masked in IN_MASKS {
-        if mask.has(masked) && item_under(registers, masked) == item {
-            return true;
-        }
-    }
-    false
+/// Whether the mask has an item that becomes this one.
+fn is_kept(mask: Mask, registers: &[Low], masked: u8, item: u32) -> bool
+    requires { masked < 19 }
+    ensures { result ≡ (has mask.items.bits masked && (item == item_under registers.now masked)) }
+{
+    mask.has(masked) && item == item_under(registers, masked)
+}
+
+/// Whether some item of the mask becomes this one.
+#[tactic(auto, using(crate::proofs::Live::masked_is))]
+fn is_masked(mask: Mask, registers: &[Low], item: u32) -> bool
+    ensures { result ≡ one_of item (map (item_under registers.now) (items_in mask.items.bits)) }
+{
+    is_kept(mask, registers, 0, item)
+        || is_kept(mask, registers, 1, item)
+        || is_kept(mask, registers, 2, item)
+        || is_kept(mask, registers, 3, item)
+        || is_kept(mask, registers, 15, item)
+        || is_kept(mask, registers, 16, item)
+        || is_kept(mask, registers, 17, item)
+        || is_kept(mask, registers, 18, item)
 }
 
 /// Whether an item is among the registers.
-fn is_among(registers: &[Low], item: u32) -> bool {
-    registers.iter().any(|register| register.number == item)
+fn is_among(registers: &[Low], item: u32) -> bool
+    ensures { result ≡ one_of item (map (λ r. r.number) registers.now) }
+{
+    registers.iter().any(|register| item == register.number)
 }
 
 /// Whether an item may be live: one that the mask has under the map, or a register outside the map.
-fn is_allowed(mask: Mask, registers: &[Low], item: u32) -> bool {
+fn is_allowed(mask: Mask, registers: &[Low], item: u32) -> bool
+    ensures { result ≡ is_allowed (items_in mask.items.bits) registers.now item }
+{
     is_masked(mask, registers, item) || (item < 15 && !is_among(registers, item))
 }
 
 /// Whether each of the live items may be live.
-pub(crate) fn are_allowed(mask: Mask, registers: &[Low], live: Items) -> bool {
+pub(crate) fn are_allowed(mask: Mask, registers: &[Low], live: Items) -> bool
+    ensures { (result ≡ true) ↔ ((x : ℕ) → has live.bits x ≡ true → is_allowed (items_in mask.items.bits) registers.now x ≡ true) }
+{
     for item in 0..19u8 {
         if live.has(item) && !is_allowed(mask, registers, u32::from(item)) {
             return false;

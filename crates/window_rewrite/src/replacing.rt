@@ -20,7 +20,10 @@ use std::alloc::Global;
 use thumb_instr::{Instr, Low, Seq, renamed};
 
 /// The instructions under a map.
-fn renamed_all(instrs: &[Instr], registers: &[Low]) -> Seq {
+fn renamed_all(instrs: &[Instr], registers: &[Low]) -> Seq
+    requires { length instrs.now ≤ 5 }
+    ensures { result ≡ map (renamed registers.now) instrs.now }
+{
     let mut seq = Seq::new();
     for instr in instrs {
         seq.push(renamed(instr, registers));
@@ -29,7 +32,9 @@ fn renamed_all(instrs: &[Instr], registers: &[Low]) -> Seq {
 }
 
 /// Whether a listing can be laid out from the base.
-fn is_layable(alloc: Global, listing: &Listing, base: u32) -> Result<bool, RewriteError> {
+fn is_layable(alloc: Global, listing: &Listing, base: u32) -> Result<bool, RewriteError>
+    ensures { IfOk result (λ b. (b ≡ true) ↔ Layable base listing.now) }
+{
     match layout(alloc, listing, base) {
         Ok(_) => Ok(true),
         Err(LayoutError::Line { .. }) => Ok(false),
@@ -45,7 +50,14 @@ pub(crate) fn replaced(
     listing: &Listing,
     place: u32,
     base: u32,
-) -> Result<Option<Listing>, RewriteError> {
+) -> Result<Option<Listing>, RewriteError>
+    requires sound { IsSoundRule (entry_rule entry.now) }
+    requires map { length map.now ≡ 8 }
+    requires shorter { length entry.now.right < length entry.now.left }
+    requires window { (k : ℕ) → k < length entry.now.left → is_op_place (slice_get (places_of listing.now) (place + k)) ≡ true }
+    ensures some { IfOk result (λ o. IfSome o (λ new. IsLeft (entry_rule entry.now) (registers_of map.now) listing.now place base new)) }
+    ensures none { IfOk result (λ o. IfNone o ((new : List Line) → IsLeft (entry_rule entry.now) (registers_of map.now) listing.now place base new → ⊥)) }
+{
     let right = renamed_all(entry.right.as_slice(), &registers_of(map));
     let count = entry.left.len() as u32;
     let gone = count - right.len() as u32;

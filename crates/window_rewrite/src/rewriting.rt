@@ -38,12 +38,12 @@ pub fn rewrite<L: Ledger>(
     ensures cost { IfOk result (λ new. steps.new ≤ steps.old + rewriting_cost listing (rules_of (table_of table.now)) (length new.replacements.items)) }
 {
     let _laid = layout(alloc, &listing, base)?;
-    let table = table.table();
-    let index = Index::of(alloc, &table.entries)?;
+    let accepted = table.table();
+    let index = Index::of(alloc, &accepted.entries)?;
     let rules = Rules {
-        entries: &table.entries,
+        entries: &accepted.entries,
         index: &index,
-        longest: table.left,
+        longest: accepted.left,
         base,
     };
     let mut current = listing;
@@ -68,7 +68,12 @@ fn next<L: Ledger>(
     rules: &Rules<'_>,
     listing: &Listing,
     steps: &mut Steps<L>,
-) -> Result<Option<Choice>, RewriteError> {
+) -> Result<Option<Choice>, RewriteError>
+    requires ready { AreReady rules.now }
+    ensures some { IfOk result (λ o. IfSome o (IsFirstChoice (setting_of rules.now) listing.now)) }
+    ensures none { IfOk result (λ o. IfNone o (NoneApplies (setting_of rules.now) listing.now)) }
+    ensures cost { steps.new ≤ steps.old + round_cost (length (places_of listing.now)) (length (rules_in rules.now.entries.now)) }
+{
     let live = live(alloc, listing, steps)?;
     let rows = rows(alloc, listing.lines())?;
     let choice = first(alloc, rules, listing, &rows, &live, steps)?;
