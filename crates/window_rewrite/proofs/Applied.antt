@@ -5,19 +5,21 @@ use Rattle.std.specs.List.{list_all}
 use Rattle.std.proofs.lemmas.Bool.{and_parts, and_from, or_cases}
 use Rattle.std.proofs.lemmas.List.{length-map}
 use Rattle.thumb_instr.specs.declared.instr.Instr.{Instr}
+use Rattle.thumb_instr.specs.declared.instr.Instr.TheVariants as instr
 use Rattle.thumb_instr.specs.Items.{has}
 use Rattle.thumb_instr.specs.Window.{is_in_window}
 use Rattle.thumb_instr.specs.Renaming.{Low, renamed, item_under}
 use Rattle.thumb_model.specs.Items.{one_of}
 use Rattle.thumb_model.specs.Listing.{Place, Op, Word, plain, Label, Line, Code, places_of, labels_from, code_of, is_op_place, is_code}
 use Rattle.thumb_model.specs.Flow.{LiveAfter}
-use Rattle.thumb_model.specs.Rewrite.{Rule, Applies, IsSoundRule, register_count, normalised, replaced, move_label}
+use Rattle.thumb_model.specs.Rewrite.{Rule, Applies, AreOver, normalised, replaced, move_label}
 use Rattle.thumb_model.specs.Rewritten.{Setting, Replacement, replaced_lines, lines_after_rule, lines_after, are_joined_from, AppliesIn}
 use Rattle.thumb_model.specs.Layout.{Layable}
 use Rattle.thumb_model.proofs.Lists.{get_drop, get_take}
 use Rattle.thumb_model.proofs.LinesReplaced.{AreOps, AllOutside, code_replaced}
 use Rattle.thumb_model.proofs.LinesKept.{code_of_replaced}
-use Rattle.listing_parser.specs.Replacing.{own_line}
+use Rattle.thumb_instr.proofs.RenamingLemmas.{window_renamed}
+use Rattle.listing_parser.specs.Replacing.{own_line, names_no_label}
 use Rattle.window_harvest.specs.Windows.{IsWindow}
 use Rattle.window_harvest.specs.Harvest.{spot_of, StandsThere}
 use Rattle.window_rewrite.specs.Rewriting.{setting}
@@ -68,6 +70,21 @@ code_left lines place (suc n) window is w e s =
     code_replaced own_line place n is lines s
     (ops_of window (suc n) (drop place (places_of lines)) e (ap (λ k. take k (drop place (places_of lines))) e ∙ w.stands))
     (outside_of place (suc n) (labels_from 0 lines) (subst (λ k. (j : ℕ) (l : Label) → slice_get (labels_from 0 lines) j ≡ Some l → (l.place ≤ place) ⊎ (place + k ≤ l.place)) (sym e) w.unlabelled))
+
+-- ---- the new instructions ----
+
+-- what may stand in a window has no label in its text
+plain_letter : (i : Instr) → is_in_window i ≡ true → names_no_label i ≡ true
+plain_letter (instr.BranchIf c d) w = absurd (cc)
+plain_letter (instr.Branch d) w = absurd (cc)
+plain_letter (instr.Call d) w = absurd (cc)
+plain_letter (instr.Literal t d) w = absurd (cc)
+plain_letter (instr.Address t d) w = absurd (cc)
+plain_letter i w = refl
+
+pub plain_all : (k : ℕ) (r : List Low) (is : List Instr) → AreOver k is → list_all names_no_label (map (renamed r) is) ≡ true
+plain_all k r [] h = refl
+plain_all k r (i ∷ is) h = and_from (names_no_label (renamed r i)) (list_all names_no_label (map (renamed r) is)) (plain_letter (renamed r i) (window_renamed r i h.0)) (plain_all k r is h.2)
 
 -- each place of a window is an instruction
 pub window_ops : (lines : List Line) (place n : ℕ) (window : List Instr) → IsWindow lines place window → n ≡ length window → (k : ℕ) → k < n → is_op_place (slice_get (places_of lines) (place + k)) ≡ true

@@ -1,5 +1,5 @@
 -- Which choice comes first: the lowest of a length, the longest of a place, and the least place.
-use Rattle.std.proofs.Common.{◌≡◌, ℕ, zero, suc, ◌+◌, ◌-◌, ◌*◌, ◌<◌, ◌≤◌, ◌==◌, Bool, true, false, List, [], ◌∷◌, length, take, drop, map, Option, Some, None, refl, sym, ap, ◌∙◌, subst, arith, ◌⊎◌, inl, inr, eq-eqb, mul-le-mul_right}
+use Rattle.std.proofs.Common.{◌≡◌, ℕ, zero, suc, ◌+◌, ◌-◌, ◌*◌, ◌<◌, ◌≤◌, ◌==◌, Bool, true, false, List, [], ◌∷◌, length, take, drop, map, Option, Some, None, refl, sym, ap, ◌∙◌, subst, arith, ◌⊎◌, ◌↔◌, inl, inr, eq-eqb, mul-le-mul_right}
 use Rattle.std.specs.Prelude.{slice_get, nat_lt}
 use Rattle.std.specs.Int.{from_bool}
 use Rattle.std.specs.List.{list_all}
@@ -7,19 +7,31 @@ use Rattle.std.proofs.lemmas.Grind.{common_steps}
 use Rattle.std.proofs.lemmas.Option.{slice_get_within}
 use Rattle.std.proofs.lemmas.Bool.{cases_lt, cases_Bool, eqb-true, ltb-true, lt-ltb}
 use Rattle.thumb_instr.specs.declared.instr.Instr.{Instr}
+use Rattle.thumb_instr.specs.Items.{has}
 use Rattle.thumb_instr.specs.Window.{is_in_window}
 use Rattle.thumb_instr.specs.Renaming.{Low}
 use Rattle.thumb_model.specs.Listing.{plain, Place, Label, Line, places_of, labels_from, code_of}
 use Rattle.thumb_model.specs.Rewrite.{Rule, IsSoundRule}
 use Rattle.thumb_model.specs.Rewritten.{Setting, Replacement, AppliesIn, IsFirst, NoneApplies, are_joined_from, left_length, left_length_of}
-use Rattle.thumb_model.proofs.Lists.{length_map, take_short, length_drop}
+use Rattle.thumb_model.specs.Flow.{LiveAfter}
+use Rattle.thumb_model.proofs.Lists.{length_map, take_all, take_short, length_drop}
 use Rattle.thumb_model.proofs.Window.{AreStraight}
 use Rattle.thumb_model.proofs.Table.{window_length, applies_sound}
 use Rattle.window_harvest.specs.Windows.{IsWindow}
+use Rattle.liveness.specs.Live.{Sets}
+use Rattle.rule_table.specs.declared.table.Entry.{Entry}
+use Rattle.rule_table.specs.Views.{rule_of}
+use Rattle.table_audit.specs.Soundness.{rewriting_rule}
+use Rattle.window_harvest.specs.declared.rows.Row.{Row}
+use Rattle.window_harvest.specs.Rows.{rows_from}
+use Rattle.window_harvest.specs.Runs.{run}
+use Rattle.window_harvest.specs.LimitsOf.{AreOf}
 use Rattle.window_harvest.specs.Harvest.{spot_of, StandsThere}
+use Rattle.window_harvest.proofs.Joined.{window_in_run}
+use Rattle.window_harvest.proofs.Places.{stands_there}
 use Rattle.window_rewrite.specs.declared.choice.Choice.{Choice}
 use Rattle.window_rewrite.specs.Rewriting.{setting}
-use Rattle.window_rewrite.specs.Rules.{IsFit, AreFit, codes_of, first_with}
+use Rattle.window_rewrite.specs.Rules.{rules_in, IsFit, AreFit, codes_of, first_with}
 use Rattle.window_rewrite.specs.Fitting.{Stands}
 use Rattle.window_rewrite.specs.Choices.{Awaits, Begins, choice_of, IsChoice, IsLowest, NoneOf, IsBest, NoneAt, IsFirstChoice, of_length, longer}
 use Rattle.window_rewrite.proofs.Applied.{made, back}
@@ -111,7 +123,7 @@ longer_all m (r ∷ rs) =
 
 -- ---- the lowest entry of a length ----
 
-length_at : (rules : List Rule) (k : ℕ) (rule : Rule) → slice_get rules k ≡ Some rule → left_length rules k ≡ length rule.left
+pub length_at : (rules : List Rule) (k : ℕ) (rule : Rule) → slice_get rules k ≡ Some rule → left_length rules k ≡ length rule.left
 length_at rules k rule e = ap left_length_of e
 
 -- a choice at the place by a left side of the window's length stands in the window
@@ -184,13 +196,13 @@ search_next base rules lines place window live n at next start steps after there
     }
 
 -- how far the search is from its end
-pub left_of : List Rule → Option ℕ → ℕ
+abbrev pub left_of : List Rule → Option ℕ → ℕ
 left_of rules None = 0
 left_of rules (Some n) = length rules - n
 
-pub search_smaller : (base : ℕ) (rules : List Rule) (lines : List Line) (place : ℕ) (window : List Instr) (n : ℕ) (at next : Option ℕ) (start steps later : ℕ)
+pub search_smaller : (base : ℕ) (rules : List Rule) (lines : List Line) (place : ℕ) (window : List Instr) (n : ℕ) (at next : Option ℕ) (start steps : ℕ)
     → IsSearch base rules lines place window at start steps → at ≡ Some n → (k : ℕ) → n + 1 ≤ k → Awaits rules window k next → left_of rules next < left_of rules at
-search_smaller base rules lines place window n at next start steps later s is k h a =
+search_smaller base rules lines place window n at next start steps s is k h a =
     let i = awaited rules window s.k n at s.awaits is in
     let inside : n < length rules = slice_get_within rules n i.rule i.at in
     subst (λ o. left_of rules next < left_of rules o) (sym is) (by next refl inside)
@@ -238,6 +250,14 @@ search_none base rules lines place window live at start steps there s is o a e l
 pub none_cost : (base : ℕ) (rules : List Rule) (lines : List Line) (place : ℕ) (window : List Instr) (at : Option ℕ) (start steps : ℕ) → IsSearch base rules lines place window at start steps → steps ≤ start + of_length (length window) rules
 none_cost base rules lines place window at start steps s = let c = s.cost in let all = taken_all (length window) rules s.k in omega arith
 
+pub next_within : (entries : List Entry) (window : List Instr) (k n : ℕ) (o : Option ℕ) → Awaits (rules_in entries) window k o → o ≡ Some n → n < length entries
+next_within entries window k n o a e =
+    let i = awaited (rules_in entries) window k n o a e in
+    omega (arith, slice_get_within (rules_in entries) n i.rule i.at, length_map rewriting_rule (map rule_of entries), length_map rule_of entries)
+
+pub next_long : (rules : List Rule) (window : List Instr) (k n : ℕ) (o : Option ℕ) → Awaits rules window k o → o ≡ Some n → left_length rules n ≡ length window
+next_long rules window k n o a e = let i = awaited rules window k n o a e in length_at rules n i.rule i.at ∙ i.long
+
 -- ---- the best entry of a place ----
 
 straight_letters : (is : List Instr) → AreStraight is → list_all is_in_window is ≡ true
@@ -281,9 +301,32 @@ place_within base longest rules lines o fit a =
     let rest = length_drop o.place (places_of lines) in
     omega arith
 
+-- the front of the run from a place stands there
+pub front_stands : (lines : List Line) (rows : List Row) (sets : Sets) (place most count items : ℕ) (is slice : List Instr) → AreOf lines rows sets → is ≡ run true most (drop place rows) → slice ≡ is → 0 < count → count ≤ length is
+    → ((x : ℕ) → (has items x ≡ true) ↔ LiveAfter (code_of lines) (place + (count - 1)) x) → StandsThere lines (spot_of place (length (take count slice))) (take count slice) items
+front_stands lines rows sets place most zero items is slice of e f some few live = absurd (omega arith)
+front_stands lines rows sets place most (suc n) items is slice of e f some few live =
+    let one : n + 1 ≡ suc n = omega arith in
+    let there : StandsThere lines (spot_of place (n + 1)) (take (n + 1) is) items =
+    stands_there lines rows sets place most n items is of e (omega arith) (λ x. subst (λ k. (has items x ≡ true) ↔ LiveAfter (code_of lines) (place + k) x) (let g : suc n - 1 ≡ n = omega arith in g) (live x)) in
+    let here : StandsThere lines (spot_of place (suc n)) (take (suc n) is) items = subst (λ k. StandsThere lines (spot_of place k) (take k is) items) one there in
+    let all : length (take (suc n) is) ≡ suc n = take_all (suc n) is few in
+    subst (λ (l : List Instr). StandsThere lines (spot_of place (length (take (suc n) l))) (take (suc n) l) items) (sym f) (subst (λ k. StandsThere lines (spot_of place k) (take (suc n) is) items) (sym all) here)
+
 -- no choice at the place has a left side of more than so many instructions
 abbrev pub NoneLonger : Setting → List Line → ℕ → ℕ → Type 0
 NoneLonger s lines place count = (o : Replacement) → AppliesIn s o lines → o.place ≡ place → count < left_length s.table o.entry → ⊥
+
+-- none has one that is longer than the run from there
+pub none_beyond : (base longest : ℕ) (rules : List Rule) (lines : List Line) (rows : List Row) (sets : Sets) (place : ℕ) (is : List Instr) → AreFit longest rules → AreOf lines rows sets → is ≡ run true longest (drop place rows)
+    → NoneLonger (setting base rules) lines place (length is)
+none_beyond base longest rules lines rows sets place is fit of e o a at h =
+    let w = applicable base longest rules lines o fit a in
+    let long = w.long in
+    let there : IsWindow lines place w.window = subst (λ p. IsWindow lines p w.window) at w.is_window in
+    let within : length w.window ≤ length (run true longest (drop place (rows_from false lines))) = window_in_run lines place longest w.window w.some w.few there in
+    let same : is ≡ run true longest (drop place (rows_from false lines)) = e ∙ ap (λ (rs : List Row). run true longest (drop place rs)) of.rows_are in
+    omega (arith, within, long, h, ap (λ (l : List Instr). length l) same)
 
 pub none_longer : (s : Setting) (lines : List Line) (place count : ℕ) → NoneLonger s lines place (suc count) → NoneOf s lines place (suc count) → NoneLonger s lines place count
 none_longer s lines place count n none o a at h = elim (cases_lt (suc count) (left_length s.table o.entry)) [

@@ -1,6 +1,6 @@
 -- Rules by the codes of their left sides.
 use Rattle.std.proofs.Common.{◌≡◌, ℕ, zero, suc, ◌+◌, ◌-◌, ◌<◌, ◌≤◌, Bool, true, false, List, [], ◌∷◌, length, map, drop, Option, Some, None, refl, sym, ap, ◌∙◌, subst, arith, inl, inr, if◌then◌else◌, eq-eqb, eqb-true}
-use Rattle.std.specs.Prelude.{slice_get, nat_eq}
+use Rattle.std.specs.Prelude.{slice_get, slice_set, nat_eq}
 use Rattle.std.specs.Cmp.Lexicographic.{pointwise}
 use Rattle.std.specs.Map.{lookup}
 use Rattle.std.specs.declared.alloc.Global.{Global}
@@ -63,7 +63,7 @@ rule_head a b e = cc
 drop_rule : (rules : List Rule) (k : ℕ) (rule : Rule) → slice_get rules k ≡ Some rule → drop k rules ≡ rule ∷ drop (k + 1) rules
 drop_rule [] k rule e = absurd (cc)
 drop_rule (r ∷ rs) zero rule e = ap (λ (x : Rule). x ∷ rs) (rule_head r rule e)
-drop_rule (r ∷ rs) (suc k) rule e = drop_rule rs k rule e
+drop_rule (r ∷ rs) (suc k) rule e = drop_rule rs k rule e ∙ ap (λ n. rule ∷ drop n (r ∷ rs)) (let f : suc (k + 1) ≡ suc k + 1 = omega arith in f)
 
 -- one rule more in front
 pub first_more : (rules : List Rule) (codes : List ℕ) (k : ℕ) (rule : Rule) → slice_get rules k ≡ Some rule
@@ -153,22 +153,65 @@ nothing_ahead : (rules : List Rule) (codes : List ℕ) (m : ℕ) → first_with 
 nothing_ahead [] codes m e j other f s = absurd (cc)
 nothing_ahead (r ∷ rs) codes m e j other f s = elim (cases_Bool (same_codes codes (codes_of r.left))) [
   | inl h ↦ absurd (let z : (let o : Option ℕ = Some m in o) ≡ None = sym (ap (λ t. if t then Some m else first_with codes (m + 1) rs) h) ∙ e in cc)
-  | inr h ↦ later (sym (ap (λ t. if t then Some m else first_with codes (m + 1) rs) h) ∙ e) h j f
+  | inr h ↦ later (λ i g. nothing_ahead rs codes (m + 1) (sym (ap (λ t. if t then Some m else first_with codes (m + 1) rs) h) ∙ e) i other g s) h j f
 ]
   where
-    later : first_with codes (m + 1) rs ≡ None → same_codes codes (codes_of r.left) ≡ false → (j : ℕ) → slice_get (r ∷ rs) j ≡ Some other → ⊥
+    later : ((i : ℕ) → slice_get rs i ≡ Some other → ⊥) → same_codes codes (codes_of r.left) ≡ false → (j : ℕ) → slice_get (r ∷ rs) j ≡ Some other → ⊥
     later rest h zero f =
         let is : r ≡ other = rule_head r other f in
         let z : true ≡ false = sym (same_by codes (codes_of r.left) (sym s ∙ ap (λ (x : Rule). codes_of x.left) (sym is))) ∙ h in
         absurd (cc)
-    later rest h (suc j) f = nothing_ahead rs codes (m + 1) rest j other f s
+    later rest h (suc j) f = rest j f
 
 pub nothing : (rules : List Rule) (codes : List ℕ) (k : ℕ) → first_with codes k (drop k rules) ≡ None → (j : ℕ) (other : Rule) → k ≤ j → slice_get rules j ≡ Some other → codes_of other.left ≡ codes → ⊥
 nothing rules codes k e j other h f s = nothing_ahead (drop k rules) codes k e (j - k) other (get_drop k rules (j - k) j (omega arith) ∙ f) s
 
+-- ---- building the index ----
+
+set_here : {A : Type 0} (xs : List A) (p : ℕ) (y : A) → p < length xs → slice_get (slice_set xs p y) p ≡ Some y
+set_here [] p y h = absurd (omega arith)
+set_here (x ∷ xs) zero y h = refl
+set_here (x ∷ xs) (suc p) y h = set_here xs p y (omega arith)
+
+set_else : {A : Type 0} (xs : List A) (p q : ℕ) (y : A) → p < q → slice_get (slice_set xs p y) q ≡ slice_get xs q
+set_else [] p q y h = refl
+set_else (x ∷ xs) p zero y h = absurd (omega arith)
+set_else (x ∷ xs) zero (suc q) y h = refl
+set_else (x ∷ xs) (suc p) (suc q) y h = set_else xs p q y (omega arith)
+
+-- what is found from n on, once the n-th rule was put in
+pub firsts_more : (rules : List Rule) (n : ℕ) (rule : Rule) (es more : List (Vec ℕ Global × ℕ)) (key : Vec ℕ Global) → slice_get rules n ≡ Some rule → key.items ≡ codes_of rule.left
+    → ((codes : List ℕ) → lookup (is_key codes) es ≡ first_with codes (n + 1) (drop (n + 1) rules)) → more ≡ insert_entry (λ x y. pointwise nat_eq x.items y.items) es key n
+    → (codes : List ℕ) → lookup (is_key codes) more ≡ first_with codes n (drop n rules)
+firsts_more rules n rule es more key at is h e codes =
+    ap (lookup (is_key codes)) e
+    ∙ inserted codes es key n
+    ∙ ap (λ (xs : List ℕ). if same_codes codes xs then Some n else lookup (is_key codes) es) is
+    ∙ ap (λ o. if same_codes codes (codes_of rule.left) then Some n else o) (h codes)
+    ∙ sym (first_more rules codes n rule at)
+
+-- the next rules from a rule on
+abbrev pub AreNexts : List Rule → List (Option ℕ) → ℕ → Type 0
+AreNexts rules nexts n = (k : ℕ) (rule : Rule) (next : Option ℕ) → n ≤ k → slice_get rules k ≡ Some rule → slice_get nexts k ≡ Some next → next ≡ first_with (codes_of rule.left) (k + 1) (drop (k + 1) rules)
+
+pub nexts_more : (rules : List Rule) (nexts more : List (Option ℕ)) (n : ℕ) (rule : Rule) (o : Option ℕ) → n < length nexts → slice_get rules n ≡ Some rule → more ≡ slice_set nexts n o
+    → o ≡ first_with (codes_of rule.left) (n + 1) (drop (n + 1) rules) → AreNexts rules nexts (n + 1) → AreNexts rules more n
+nexts_more rules nexts more n rule o within at e is h k own next l f g = elim (cases_lt n k) [
+  | inl m ↦ h k own next (omega arith) f (sym (set_else nexts n k o m) ∙ ap (λ (xs : List (Option ℕ)). slice_get xs k) (sym e) ∙ g)
+  | inr m ↦ (
+      let same : k ≡ n = omega arith in
+      let here : next ≡ o = option_head next o (sym g ∙ ap (λ (xs : List (Option ℕ)). slice_get xs k) e ∙ ap (slice_get (slice_set nexts n o)) same ∙ set_here nexts n o within) in
+      let rule_is : own ≡ rule = rule_head own rule (sym f ∙ ap (slice_get rules) same ∙ at) in
+      here ∙ is ∙ ap (λ (r : Rule). first_with (codes_of r.left) (n + 1) (drop (n + 1) rules)) (sym rule_is) ∙ ap (λ m. first_with (codes_of own.left) (m + 1) (drop (m + 1) rules)) (sym same)
+      )
+]
+  where
+    option_head : (a b : Option ℕ) → (let x : Option (Option ℕ) = Some a in x) ≡ Some b → a ≡ b
+    option_head a b e = cc
+
 -- ---- what is awaited ----
 
-codes_length : (is : List Instr) → length (codes_of is) ≡ length is
+pub codes_length : (is : List Instr) → length (codes_of is) ≡ length is
 codes_length is = length-map is code_number
 
 -- the next rule, its left side's length, and that none before it stands

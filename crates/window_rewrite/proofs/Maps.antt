@@ -1,7 +1,8 @@
 -- The map under which a rule's left side stands in a window.
-use Rattle.std.proofs.Common.{◌≡◌, ℕ, zero, suc, ◌+◌, ◌-◌, ◌<◌, ◌≤◌, ◌==◌, ◌||◌, Bool, true, false, List, [], ◌∷◌, ◌++◌, length, length-append, map, take, Option, Some, None, refl, sym, ap, ◌∙◌, subst, arith, lt-ltb, le-ltb, eqb-true, eq-eqb}
+use Rattle.std.proofs.Common.{◌≡◌, ℕ, zero, suc, ◌+◌, ◌-◌, ◌<◌, ◌≤◌, ◌==◌, ◌||◌, Bool, true, false, List, [], ◌∷◌, ◌++◌, length, length-append, append_assoc, map, take, drop, Option, Some, None, refl, sym, ap, ◌∙◌, subst, arith, inl, inr, lt-ltb, le-ltb, eqb-true, eq-eqb}
 use Rattle.std.specs.Prelude.{slice_get, nat_lt, if◌then◌else◌}
 use Rattle.std.specs.List.{flat_map, list_all}
+use Rattle.std.specs.Option.{option_and_then}
 use Rattle.std.proofs.Common.{lit≤, lit<}
 use Rattle.std.proofs.lemmas.Bool.{and_parts, cases_Bool, cases_lt}
 use Rattle.std.proofs.lemmas.Option.{slice_get_within}
@@ -157,6 +158,7 @@ fill zero = []
 fill (suc n) = zero_low ∷ fill n
 
 length-fill : (n : ℕ) → length (fill n) ≡ n
+unfolding fill
 length-fill zero = refl
 length-fill (suc n) = ap suc (length-fill n)
 
@@ -180,3 +182,23 @@ stands_matches rule registers window s w h =
         };
       },
     )
+
+-- ---- the registers of a map, one by one ----
+
+registers_append : (xs ys : List (Option Low)) → registers_of (xs ++ ys) ≡ registers_of xs ++ registers_of ys
+registers_append [] ys = refl
+registers_append (None ∷ xs) ys = registers_append xs ys
+registers_append (Some r ∷ xs) ys = ap (λ rs. r ∷ rs) (registers_append xs ys)
+
+drop_given : (m : List (Option Low)) (k : ℕ) → k < length m → drop k m ≡ option_and_then (λ o. o) (slice_get m k) ∷ drop (k + 1) m
+drop_given [] k h = absurd (omega arith)
+drop_given (o ∷ os) zero h = refl
+drop_given (o ∷ os) (suc k) h = drop_given os k (omega arith) ∙ ap (λ n. option_and_then (λ p. p) (slice_get os k) ∷ drop n (o ∷ os)) (let f : suc (k + 1) ≡ suc k + 1 = omega arith in f)
+
+pub next_registers : (m : List (Option Low)) (k : ℕ) (given : Option Low) (registers more all : List Low) → k < length m → given ≡ option_and_then (λ o. o) (slice_get m k) → more ≡ registers ++ registers_of (given ∷ [])
+    → registers ++ registers_of (drop k m) ≡ all → more ++ registers_of (drop (k + 1) m) ≡ all
+next_registers m k given registers more all h g e a =
+    ap (λ rs. rs ++ registers_of (drop (k + 1) m)) e
+    ∙ append_assoc registers (registers_of (given ∷ [])) (registers_of (drop (k + 1) m))
+    ∙ ap (λ rs. registers ++ rs) (sym (registers_append (given ∷ []) (drop (k + 1) m)) ∙ ap (λ (o : Option Low). registers_of (o ∷ drop (k + 1) m)) g ∙ ap registers_of (sym (drop_given m k h)))
+    ∙ a

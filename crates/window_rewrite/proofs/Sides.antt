@@ -1,5 +1,5 @@
 -- A canonical left side is the canonical form of each window that it stands in.
-use Rattle.std.proofs.Common.{◌≡◌, ℕ, zero, suc, ◌+◌, ◌<◌, ◌≤◌, ◌==◌, ◌||◌, Bool, true, false, List, [], ◌∷◌, ◌++◌, length, map, drop, Option, Some, None, refl, sym, ap, ◌∙◌, subst, arith, cond, eqb-true, eq-eqb}
+use Rattle.std.proofs.Common.{◌≡◌, ℕ, zero, suc, ◌+◌, ◌<◌, ◌≤◌, ◌==◌, ◌||◌, Bool, true, false, List, [], ◌∷◌, ◌++◌, length, map, drop, Option, Some, None, refl, sym, ap, ◌∙◌, subst, arith, cond, inl, inr, eqb-true, eq-eqb}
 use Rattle.std.specs.Prelude.{slice_get}
 use Rattle.std.specs.List.{flat_map, list_all, list_any}
 use Rattle.std.proofs.lemmas.Bool.{and_parts, cases_Bool}
@@ -8,6 +8,7 @@ use Rattle.thumb_instr.specs.declared.instr.Instr.{Instr}
 use Rattle.thumb_instr.specs.Items.{has as has_item}
 use Rattle.thumb_instr.specs.Window.{is_in_window, normal_of}
 use Rattle.thumb_instr.specs.Renaming.{Low, named, renamed, AreBelow, item_under, number_or}
+use Rattle.thumb_instr.proofs.Registers.{low_is}
 use Rattle.thumb_instr.proofs.RenamingLemmas.{named_renamed}
 use Rattle.thumb_model.specs.Rewrite.{Rule, AreOver, IsOneToOne, IsSoundRule, register_count, normalised}
 use Rattle.seq_enum.specs.Lists.{numbers_from}
@@ -26,11 +27,11 @@ below_both k (x ∷ xs) ys g h = (g.0, below_both k xs ys g.1 h)
 -- instructions over so many registers name those below their count
 pub names_below : (k : ℕ) (is : List Instr) → AreOver k is → AreBelow k (flat_map named is)
 names_below k [] h = tt
-names_below k (i ∷ is) h = below_both k (named i) (flat_map named is) h.1.0 (names_below k is h.1.1)
+names_below k (i ∷ is) h = below_both k (named i) (flat_map named is) h.1 (names_below k is h.2)
 
 pub windows_over : (k : ℕ) (is : List Instr) → AreOver k is → list_all is_in_window is ≡ true
 windows_over k [] h = refl
-windows_over k (i ∷ is) h = rw (h.0) (windows_over k is h.1.1)
+windows_over k (i ∷ is) h = rw (h.0) (windows_over k is h.2)
 
 -- renamed instructions name the renamed registers
 names_renamed : (r : List Low) (is : List Instr) → list_all is_in_window is ≡ true → flat_map named (map (renamed r) is) ≡ map (item_under r) (flat_map named is)
@@ -157,3 +158,16 @@ side_is rule registers window items seq given mask s c h r a =
       masks = λ x. a.masks x ∙ ap (λ ns. masked items ns x) (a.order ∙ sym o);
     } in
     (canonical_once window items seq rule.left given (map Some registers) mask mask r.windows r.registers a own).0
+
+same_numbers : (f g : List Low) → numbers_of f ≡ numbers_of g → f ≡ g
+same_numbers [] [] e = refl
+same_numbers [] (y ∷ g) e = absurd (cc)
+same_numbers (x ∷ f) [] e = absurd (cc)
+same_numbers (x ∷ f) (y ∷ g) e =
+    let head : x.number ≡ y.number = cc in
+    let tail : numbers_of f ≡ numbers_of g = cc in
+    ap (λ z. z ∷ f) (low_is x y head) ∙ ap (λ zs. y ∷ zs) (same_numbers f g tail)
+
+-- a left side stands in a window under one map at most
+pub stands_once : (rule : Rule) (f g : List Low) (window : List Instr) → IsSoundRule rule → IsCanonicalSide rule.left → Stands rule f window → Stands rule g window → f ≡ g
+stands_once rule f g window s c a b = same_numbers f g (order rule f window s c a ∙ sym (order rule g window s c b))

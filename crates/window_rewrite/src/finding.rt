@@ -132,9 +132,16 @@ fn best_at<L: Ledger>(
     let run = run(rows, place as usize, usize::from(rules.longest));
     let mut count = run.len();
     while count > 0 {
-        let window = &run.as_slice()[..count];
         let items = live.after(place + (count - 1) as u32);
-        if let Some(choice) = lowest(alloc, rules, listing, place, window, items, steps)? {
+        if let Some(choice) = lowest(
+            alloc,
+            rules,
+            listing,
+            place,
+            &run.as_slice()[..count],
+            items,
+            steps,
+        )? {
             return Ok(Some(choice));
         }
         count -= 1;

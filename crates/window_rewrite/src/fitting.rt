@@ -15,7 +15,7 @@ use thumb_instr::{Instr, Items, Seq};
 
 /// The left side that an entry has where it matches the window: the window's canonical form. None where no entry can match it.
 pub(crate) fn side_of(window: &[Instr]) -> Option<Seq>
-    requires windows { list_all is_in_window window.now ≡ true }
+    requires { list_all is_in_window window.now ≡ true }
     ensures side { (rule : Rule) (registers : List Low) → IsSoundRule rule → IsCanonicalSide rule.left → Stands rule registers window.now → result ≡ Some rule.left }
     ensures long { IfSome result (λ side. length side ≡ length window.now) }
 {
@@ -28,6 +28,7 @@ pub(crate) fn side_of(window: &[Instr]) -> Option<Seq>
 /// The map under which an entry that leaves fewer instructions matches a window after which these items are live and may be.
 pub(crate) fn fitting(entry: &Entry, window: &[Instr], live: Items) -> Option<Map>
     requires sound { IsSoundRule (entry_rule entry.now) }
+    requires canonical { IsCanonicalSide (entry_rule entry.now).left }
     requires windows { list_all is_in_window window.now ≡ true }
     ensures { MatchOption result ((registers : List Low) → Fits (entry_rule entry.now) registers window.now live.bits → ⊥) (λ map. Fits (entry_rule entry.now) (registers_of map) window.now live.bits × (length map ≡ 8)) }
 {

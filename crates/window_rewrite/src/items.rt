@@ -1,5 +1,5 @@
 //! Whether the items that are live after a window may be.
-ghost use Rattle.std.specs.Prelude.{◌≡◌, ℕ, ◌<◌, ◌==◌, ◌&&◌, length, map, true, IsTrue, ◌↔◌};
+ghost use Rattle.std.specs.Prelude.{◌≡◌, ℕ, ◌+◌, ◌<◌, ◌≤◌, ◌==◌, ◌&&◌, [], ◌∷◌, ◌++◌, length, map, true, ◌↔◌};
 ghost use Rattle.thumb_instr.specs.Items.{has};
 ghost use Rattle.thumb_instr.specs.Renaming.{item_under};
 ghost use Rattle.thumb_model.specs.Items.{one_of};
@@ -11,6 +11,22 @@ use arrayvec::ArrayVec;
 use rule_table::Map;
 use thumb_instr::{Items, Low, Mask};
 
+/// The registers, and what a map gives, if it is one.
+fn and_given(registers: ArrayVec<Low, 8>, given: Option<Low>) -> ArrayVec<Low, 8>
+    requires { length registers.items < 8 }
+    ensures registers { result.items ≡ registers.items ++ registers_of (given ∷ []) }
+    ensures few { length result.items ≤ length registers.items + 1 }
+{
+    match given {
+        None => registers,
+        Some(register) => {
+            let mut more = registers;
+            more.push(register);
+            more
+        }
+    }
+}
+
 /// The registers that a map has, in order.
 pub(crate) fn registers_of(map: &Map) -> ArrayVec<Low, 8>
     requires { length map.now ≡ 8 }
@@ -18,9 +34,7 @@ pub(crate) fn registers_of(map: &Map) -> ArrayVec<Low, 8>
 {
     let mut registers = ArrayVec::new();
     for canonical in 0..8u8 {
-        if let Some(register) = map.get(canonical) {
-            registers.push(register);
-        }
+        registers = and_given(registers, map.get(canonical));
     }
     registers
 }
@@ -49,20 +63,25 @@ fn is_masked(mask: Mask, registers: &[Low], item: u32) -> bool
     ensures { result ≡ one_of item (map (item_under registers.now) (items_in mask.items.bits)) }
 {
     is_kept(mask, registers, 0, item)
-        || is_kept(mask, registers, 1, item)
-        || is_kept(mask, registers, 2, item)
-        || is_kept(mask, registers, 3, item)
-        || is_kept(mask, registers, 15, item)
-        || is_kept(mask, registers, 16, item)
-        || is_kept(mask, registers, 17, item)
-        || is_kept(mask, registers, 18, item)
+        | is_kept(mask, registers, 1, item)
+        | is_kept(mask, registers, 2, item)
+        | is_kept(mask, registers, 3, item)
+        | is_kept(mask, registers, 15, item)
+        | is_kept(mask, registers, 16, item)
+        | is_kept(mask, registers, 17, item)
+        | is_kept(mask, registers, 18, item)
 }
 
 /// Whether an item is among the registers.
 fn is_among(registers: &[Low], item: u32) -> bool
     ensures { result ≡ one_of item (map (λ r. r.number) registers.now) }
 {
-    registers.iter().any(|register| item == register.number)
+    for register in registers {
+        if item == register.number {
+            return true;
+        }
+    }
+    false
 }
 
 /// Whether an item may be live: one that the mask has under the map, or a register outside the map.

@@ -69,7 +69,7 @@ fn next<L: Ledger>(
     listing: &Listing,
     steps: &mut Steps<L>,
 ) -> Result<Option<Choice>, RewriteError>
-    requires ready { AreReady rules.now }
+    requires { AreReady rules.now }
     ensures some { IfOk result (λ o. IfSome o (IsFirstChoice (setting_of rules.now) listing.now)) }
     ensures none { IfOk result (λ o. IfNone o (NoneApplies (setting_of rules.now) listing.now)) }
     ensures cost { steps.new ≤ steps.old + round_cost (length (places_of listing.now)) (length (rules_in rules.now.entries.now)) }

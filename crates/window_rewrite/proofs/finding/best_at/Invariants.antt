@@ -10,3 +10,6 @@ invariant-loop-count g l = record {
   none : NoneLonger (setting_of l.rules) l.listing l.place l.count;
   cost : l.steps ≤ l.initial.steps + longer l.count (rules_in l.rules.entries.now);
 }
+
+abbrev pub decreases-loop-count : goal.decreases-loop-count
+decreases-loop-count g l = l.count
