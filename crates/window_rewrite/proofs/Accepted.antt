@@ -1,6 +1,7 @@
 -- The rules of an accepted table fit.
 use Rattle.std.proofs.Common.{◌≡◌, ℕ, zero, suc, ◌+◌, ◌<◌, ◌≤◌, List, [], ◌∷◌, length, map, Option, Some, None, refl, sym, ap, ◌∙◌, subst, arith, slice_get}
 use Rattle.std.specs.Option.{option_map}
+use Rattle.std.proofs.lemmas.List.{length-map}
 use Rattle.std.proofs.lemmas.Option.{slice_get-map, same_Some}
 use Rattle.thumb_model.specs.Rewrite as model
 use Rattle.rule_table.specs.Table.{Rule, Table}
@@ -44,6 +45,9 @@ are_fit t p s k rule at =
       canonical = subst (λ (r : model.Rule). IsCanonicalSide r.left) m.is sides.canonical;
       short = subst (λ (r : model.Rule). length r.left ≤ t.left) m.is sides.short;
     }
+
+pub rules_length : (entries : List Entry) → length (rules_in entries) ≡ length entries
+rules_length entries = length-map (map rule_of entries) rewriting_rule ∙ length-map entries rule_of
 
 -- an entry's rule stands at its place
 pub entry_at : (entries : List Entry) (k : ℕ) (e : Entry) → slice_get entries k ≡ Some e → slice_get (rules_in entries) k ≡ Some (entry_rule e)

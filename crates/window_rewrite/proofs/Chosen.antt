@@ -340,6 +340,19 @@ longer_cost rules count start before after b a = omega (arith, longer_split coun
 pub all_cost : (rules : List Rule) (count start after : ℕ) → after ≤ start + longer count rules → after ≤ start + length rules
 all_cost rules count start after a = omega (arith, longer_all count rules)
 
+pub count_cost : (rules : List Rule) (count : ℕ) (slice : List Instr) (start before after : ℕ) → 0 < count → count ≤ length slice → before ≤ start + longer count rules → after ≤ before + of_length (length (take count slice)) rules
+    → after ≤ start + longer (count - 1) rules
+count_cost rules zero slice start before after some few b a = absurd (omega arith)
+count_cost rules (suc n) slice start before after some few b a =
+    let all : length (take (suc n) slice) ≡ suc n = take_all (suc n) slice few in
+    subst (λ k. after ≤ start + longer k rules) (let e : n ≡ suc n - 1 = omega arith in e) (longer_cost rules n start before after b (subst (λ k. after ≤ before + of_length k rules) all a))
+
+pub none_shorter : (s : Setting) (lines : List Line) (place count : ℕ) (slice : List Instr) → 0 < count → count ≤ length slice → NoneLonger s lines place count → NoneOf s lines place (length (take count slice)) → NoneLonger s lines place (count - 1)
+none_shorter s lines place zero slice some few n h = absurd (omega arith)
+none_shorter s lines place (suc m) slice some few n h =
+    let all : length (take (suc m) slice) ≡ suc m = take_all (suc m) slice few in
+    subst (λ k. NoneLonger s lines place k) (let e : m ≡ suc m - 1 = omega arith in e) (none_longer s lines place m n (subst (λ k. NoneOf s lines place k) all h))
+
 pub is_best : (s : Setting) (lines : List Line) (place count : ℕ) (c : Choice) → NoneLonger s lines place count → IsLowest s lines place count c → IsBest s lines place c
 is_best s lines place count c none l =
     let long = l.long in

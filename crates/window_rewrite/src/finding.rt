@@ -11,11 +11,10 @@ ghost use Rattle.window_rewrite.specs.Rules.{rules_in};
 ghost use Rattle.window_rewrite.specs.Choices.{setting_of, choice_of, of_length, AreReady, Begins, IsBest, IsChoice, IsFirstChoice, IsLowest, NoneAt, NoneOf};
 
 use crate::choice::{Choice, Replacement};
-use crate::errors::RewriteError;
 use crate::fitting::{fitting, side_of};
 use crate::index::Index;
 use crate::replacing::replaced;
-use listing_parser::Listing;
+use listing_parser::{Listing, Memory};
 use liveness::Live;
 use rule_table::Entry;
 use std::alloc::Global;
@@ -45,7 +44,7 @@ fn try_entry<L: Ledger>(
     live: Items,
     number: usize,
     steps: &mut Steps<L>,
-) -> Result<Option<Choice>, RewriteError>
+) -> Result<Option<Choice>, Memory>
     requires ready { AreReady rules.now }
     requires stands { StandsThere listing.now (spot_of place (length window.now)) window.now live.bits }
     requires number { number < length rules.now.entries.now }
@@ -93,7 +92,7 @@ fn lowest<L: Ledger>(
     window: &[Instr],
     live: Items,
     steps: &mut Steps<L>,
-) -> Result<Option<Choice>, RewriteError>
+) -> Result<Option<Choice>, Memory>
     requires ready { AreReady rules.now }
     requires stands { StandsThere listing.now (spot_of place (length window.now)) window.now live.bits }
     ensures some { IfOk result (λ o. IfSome o (IsLowest (setting_of rules.now) listing.now place (length window.now))) }
@@ -121,7 +120,7 @@ fn best_at<L: Ledger>(
     live: &Live,
     place: u32,
     steps: &mut Steps<L>,
-) -> Result<Option<Choice>, RewriteError>
+) -> Result<Option<Choice>, Memory>
     requires ready { AreReady rules.now }
     requires of { AreOf listing.now rows.now live.now }
     requires place { place < length (places_of listing.now) }
@@ -129,6 +128,7 @@ fn best_at<L: Ledger>(
     ensures none { IfOk result (λ o. IfNone o (NoneAt (setting_of rules.now) listing.now place)) }
     ensures cost { steps.new ≤ steps.old + length (rules_in rules.now.entries.now) }
 {
+    let _count = listing.place_count();
     let run = run(rows, place as usize, usize::from(rules.longest));
     let mut count = run.len();
     while count > 0 {
@@ -157,7 +157,7 @@ pub(crate) fn first<L: Ledger>(
     rows: &[Row],
     live: &Live,
     steps: &mut Steps<L>,
-) -> Result<Option<Choice>, RewriteError>
+) -> Result<Option<Choice>, Memory>
     requires ready { AreReady rules.now }
     requires of { AreOf listing.now rows.now live.now }
     ensures some { IfOk result (λ o. IfSome o (IsFirstChoice (setting_of rules.now) listing.now)) }

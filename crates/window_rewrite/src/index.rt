@@ -3,9 +3,9 @@ ghost use Rattle.std.specs.Prelude.{◌≡◌, ◌+◌, ◌<◌, ◌≤◌, leng
 ghost use Rattle.thumb_model.specs.Rewrite.{Rule};
 ghost use Rattle.window_rewrite.specs.Rules.{code_number, codes_of, first_with, rules_in, IsIndex};
 
-use crate::errors::RewriteError;
 use arrayvec::ArrayVec;
 use indexmap::IndexMap;
+use listing_parser::Memory;
 use rule_table::Entry;
 use std::alloc::Global;
 use thumb_instr::Instr;
@@ -42,7 +42,7 @@ fn codes_of(side: &[Instr]) -> ArrayVec<u32, 5>
 
 impl Index {
     /// The index of these entries.
-    pub(crate) fn of(alloc: Global, entries: &[Entry]) -> Result<Index, RewriteError>
+    pub(crate) fn of(alloc: Global, entries: &[Entry]) -> Result<Index, Memory>
         ensures { IfOk result (λ index. IsIndex (rules_in entries.now) index) }
     {
         let mut firsts = IndexMap::new(alloc);

@@ -10,11 +10,10 @@ ghost use Rattle.window_rewrite.specs.Rewriting.{registers_of};
 ghost use Rattle.window_rewrite.specs.Rules.{entry_rule};
 ghost use Rattle.window_rewrite.specs.Fitting.{IsLeft, Stay};
 
-use crate::errors::RewriteError;
 use crate::items::registers_of;
 use crate::labels::labels_stay;
 use label_layout::{LayoutError, layout};
-use listing_parser::Listing;
+use listing_parser::{Listing, Memory};
 use rule_table::{Entry, Map};
 use std::alloc::Global;
 use thumb_instr::{Instr, Low, Seq, renamed};
@@ -32,13 +31,13 @@ fn renamed_all(instrs: &[Instr], registers: &[Low]) -> Seq
 }
 
 /// Whether a listing can be laid out from the base.
-fn is_layable(alloc: Global, listing: &Listing, base: u32) -> Result<bool, RewriteError>
+fn is_layable(alloc: Global, listing: &Listing, base: u32) -> Result<bool, Memory>
     ensures { IfOk result (λ b. (b ≡ true) ↔ Layable base listing.now) }
 {
     match layout(alloc, listing, base) {
         Ok(_) => Ok(true),
         Err(LayoutError::Line { .. }) => Ok(false),
-        Err(LayoutError::Memory) => Err(RewriteError::Memory),
+        Err(LayoutError::Memory) => Err(Memory),
     }
 }
 
@@ -50,7 +49,7 @@ pub(crate) fn replaced(
     listing: &Listing,
     place: u32,
     base: u32,
-) -> Result<Option<Listing>, RewriteError>
+) -> Result<Option<Listing>, Memory>
     requires sound { IsSoundRule (entry_rule entry.now) }
     requires map { length map.now ≡ 8 }
     requires shorter { length entry.now.right < length entry.now.left }

@@ -14,9 +14,8 @@ use crate::errors::RewriteError;
 use crate::finding::{Rules, first};
 use crate::index::Index;
 use label_layout::layout;
-use listing_parser::Listing;
+use listing_parser::{Listing, Memory};
 use liveness::live;
-use rule_table::Entry;
 use std::alloc::Global;
 use step_ledger::{Ledger, Steps};
 use table_audit::Audited;
@@ -39,16 +38,32 @@ pub fn rewrite<L: Ledger>(
 {
     let _laid = layout(alloc, &listing, base)?;
     let accepted = table.table();
-    let index = Index::of(alloc, &accepted.entries)?;
+    let entries = accepted.entries.as_slice();
+    let index = Index::of(alloc, entries)?;
     let rules = Rules {
-        entries: &accepted.entries,
+        entries,
         index: &index,
         longest: accepted.left,
         base,
     };
+    let new = rewritten(alloc, &rules, listing, steps)?;
+    Ok(new)
+}
+
+/// What is left of a listing once no entry applies any more.
+fn rewritten<L: Ledger>(
+    alloc: Global,
+    rules: &Rules<'_>,
+    listing: Listing,
+    steps: &mut Steps<L>,
+) -> Result<Rewritten, Memory>
+    requires { AreReady rules.now }
+    ensures rewritten { IfOk result (λ new. AreRewritten (setting_of rules.now) listing (map replacement_of new.replacements.items) new.listing) }
+    ensures cost { IfOk result (λ new. steps.new ≤ steps.old + rewriting_cost listing (rules_in rules.now.entries.now) (length new.replacements.items)) }
+{
     let mut current = listing;
     let mut replacements = Vec::new(alloc);
-    while let Some(choice) = next(alloc, &rules, &current, steps)? {
+    while let Some(choice) = next(alloc, rules, &current, steps)? {
         let Choice {
             replacement,
             listing,
@@ -68,7 +83,7 @@ fn next<L: Ledger>(
     rules: &Rules<'_>,
     listing: &Listing,
     steps: &mut Steps<L>,
-) -> Result<Option<Choice>, RewriteError>
+) -> Result<Option<Choice>, Memory>
     requires { AreReady rules.now }
     ensures some { IfOk result (λ o. IfSome o (IsFirstChoice (setting_of rules.now) listing.now)) }
     ensures none { IfOk result (λ o. IfNone o (NoneApplies (setting_of rules.now) listing.now)) }

@@ -34,7 +34,7 @@ loop-at-smaller g c =
 
 pub loop-at-preserved : goal.loop-at-preserved
 loop-at-preserved g c =
-    let none = rw c.in_default.is at c.in_ok-choice.ensures.none in
+    let none = rw c.in_default-2.is at c.in_ok-choice.ensures.none in
     search_next c.args.rules.now.base (rules_in c.args.rules.now.entries.now) c.args.listing.now c.args.place c.args.window.now c.args.live.bits c.in-Some.number c.loop-at.at c.next-at.result _ _ _ c.requires.stands c.loop-at.invariant c.in-Some.is none c.next-at.ensures c.in_ok-choice.ensures.cost
 
 pub returns-clause-none : goal.returns-clause-none
