@@ -1,4 +1,4 @@
-use Rattle.std.proofs.Common.{◌≡◌, ◌∙◌, ℕ, ◌+◌, ◌-◌, ◌<◌, ◌≤◌, List, false, length, drop, ap, arith, sym, subst}
+use Rattle.std.proofs.Common.{◌≡◌, ◌∙◌, ℕ, ◌+◌, ◌-◌, ◌<◌, ◌≤◌, List, true, false, length, drop, ap, arith, sym, subst}
 use Rattle.thumb_instr.specs.declared.instr.Instr.{Instr}
 use Rattle.thumb_model.specs.Listing.{code_of, places_of}
 use Rattle.window_harvest.specs.declared.rows.Row.{Row}
@@ -23,7 +23,7 @@ pub overflow_add-place : goal.overflow_add-place
 overflow_add-place g c =
     let rows : length c.args.rows.now ≡ length (places_of c.args.listing.now) = ap (λ (rs : List Row). length rs) c.requires.of.rows_are ∙ rows_length false c.args.listing.now in
     let within = run_within c.from.result c.args.place (c.loop-count.count - 1) c.args.rows.now c.run-run.result c.run-run.ensures (omega (arith, rows, c.requires.place)) (omega (arith, c.loop-count-test.true, c.loop-count.invariant.within)) in
-    omega (arith, rows, within, c.place_count-_count.ensures, c.place_count-_count.type_inv)
+    omega (arith, rows, within, c.place_count-count.ensures, c.place_count-count.type_inv)
 
 pub after-items-requires : goal.after-items-requires
 after-items-requires g c =

@@ -1,8 +1,8 @@
-use Rattle.std.proofs.Common.{◌≡◌, ◌∙◌, ℕ, ◌+◌, ◌-◌, ◌≤◌, ◌<◌, List, Some, length, length-set, drop, slice_index_or, ap, arith, refl, sym}
+use Rattle.std.proofs.Common.{◌≡◌, ◌∙◌, ℕ, ◌+◌, ◌-◌, ◌≤◌, ◌<◌, List, Some, length, drop, slice_index_or, ap, arith, refl, sym}
 use Rattle.std.specs.Prelude.{slice_get}
 use Rattle.std.specs.Map.{lookup}
 use Rattle.std.proofs.lemmas.Option.{slice_get_read, slice_get_within}
-use Rattle.std.proofs.lemmas.List.{length-map}
+use Rattle.std.proofs.lemmas.List.{length-map, length-set}
 use Rattle.thumb_model.specs.Rewrite.{Rule}
 use Rattle.rule_table.specs.declared.table.Entry.{Entry}
 use Rattle.rule_table.specs.Views.{rule_of}
@@ -16,7 +16,7 @@ pub loop-number-init : goal.loop-number-init
 loop-number-init c = record {
   within = omega arith;
   firsts = λ codes. ap (lookup (is_key codes)) c.new-firsts.ensures.empty ∙ sym (first_past (rules_in c.args.entries.now) codes (length c.args.entries.now) (omega (arith, rules_length c.args.entries.now)));
-  as_many = c.in_ok-nexts.ensures.len;
+  as_many = sym c.in_ok-nexts.nexts.ok.0 ∙ c.in_ok-nexts.ensures.len;
   nexts = λ k rule next l at f. absurd (omega (arith, l, slice_get_within (rules_in c.args.entries.now) k rule at, rules_length c.args.entries.now));
 }
 
@@ -32,7 +32,7 @@ loop-number-preserved c =
     let at : slice_get entries n ≡ Some e = slice_get_read entries _ _ c.index-entries-number.result refl (omega arith) c.index-entries-number.is ∙ ap Some c.index-entries-number.is in
     let rule : slice_get (rules_in entries) n ≡ Some (entry_rule e) = entry_at entries n e at in
     let key : c.in_ok-key.key.items ≡ codes_of e.left =
-    c.in_ok-key.ensures.items_if_clones_equal (λ y e. e) ∙ c.as_slice-in-loop-number.ensures.value ∙ c.codes_of-codes.ensures ∙ ap codes_of c.as_slice.ensures.value in
+    c.in_ok-key.ensures.items_if_clones_equal (λ y e h. h) ∙ c.as_slice-in-loop-number.ensures.value ∙ c.codes_of-codes.ensures ∙ ap codes_of c.as_slice.ensures.value in
     let firsts : (codes : List ℕ) → lookup (is_key codes) c.loop-number.firsts.entries ≡ first_with codes (n + 1) (drop (n + 1) (rules_in entries)) =
     λ codes. c.loop-number.invariant.firsts codes ∙ ap (λ k. first_with codes k (drop k (rules_in entries))) number in
     let old = c.in_ok-nexts-2.ensures.old ∙ firsts c.in_ok-key.key.items ∙ ap (λ (xs : List ℕ). first_with xs (n + 1) (drop (n + 1) (rules_in entries))) key in
