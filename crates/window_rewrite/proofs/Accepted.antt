@@ -1,5 +1,5 @@
 -- The rules of an accepted table fit.
-use Rattle.std.proofs.Common.{◌≡◌, ℕ, zero, suc, ◌+◌, ◌<◌, ◌≤◌, List, [], ◌∷◌, length, map, Option, Some, None, refl, sym, ap, ◌∙◌, subst, arith, slice_get}
+use Rattle.std.proofs.Common.{◌≡◌, ℕ, zero, suc, ◌+◌, ◌≤◌, List, [], ◌∷◌, length, map, Option, Some, None, refl, ap, ◌∙◌, subst, arith, slice_get}
 use Rattle.std.specs.Option.{option_map}
 use Rattle.std.proofs.lemmas.List.{length-map}
 use Rattle.std.proofs.lemmas.Option.{slice_get-map, same_Some}
@@ -11,7 +11,7 @@ use Rattle.table_audit.specs.Acceptance.{EntryVerdict, IsAccepted}
 use Rattle.table_audit.specs.Soundness.{rewriting_rule, rules_of, IsSound}
 use Rattle.rule_table.specs.declared.table.Entry.{Entry}
 use Rattle.rule_table.specs.Views.{rule_of}
-use Rattle.window_rewrite.specs.Rules.{entry_rule, rules_in, IsFit, AreFit}
+use Rattle.window_rewrite.specs.Rules.{entry_rule, rules_in, AreFit}
 
 -- where all pass, each does
 turn_each : {X F : Type 0} (test : ℕ → X → Option F → Type 0) (m : ℕ) (xs : List X) (i : ℕ) (x : X) → InTurn test m xs None → slice_get xs i ≡ Some x → test (m + i) x None

@@ -6,7 +6,6 @@ use Rattle.std.proofs.lemmas.Bool.{and_parts, and_from, or_cases}
 use Rattle.std.proofs.lemmas.List.{length-map}
 use Rattle.thumb_instr.specs.declared.instr.Instr.{Instr}
 use Rattle.thumb_instr.specs.declared.instr.Instr.TheVariants as instr
-use Rattle.thumb_instr.specs.Items.{has}
 use Rattle.thumb_instr.specs.Window.{is_in_window}
 use Rattle.thumb_instr.specs.Renaming.{Low, renamed, item_under}
 use Rattle.thumb_model.specs.Items.{one_of}
@@ -23,7 +22,7 @@ use Rattle.listing_parser.specs.Replacing.{own_line, names_no_label}
 use Rattle.window_harvest.specs.Windows.{IsWindow}
 use Rattle.window_harvest.specs.Harvest.{spot_of, StandsThere}
 use Rattle.window_rewrite.specs.Rewriting.{setting}
-use Rattle.window_rewrite.specs.Fitting.{Stands, Fits, Stay, IsLeft, is_allowed}
+use Rattle.window_rewrite.specs.Fitting.{Fits, IsLeft, is_allowed}
 use Rattle.window_rewrite.proofs.Sides.{window_count}
 
 -- ---- items ----

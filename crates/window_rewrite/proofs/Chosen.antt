@@ -5,14 +5,14 @@ use Rattle.std.specs.Int.{from_bool}
 use Rattle.std.specs.List.{list_all}
 use Rattle.std.proofs.lemmas.Grind.{common_steps}
 use Rattle.std.proofs.lemmas.Option.{slice_get_within}
-use Rattle.std.proofs.lemmas.Bool.{cases_lt, cases_Bool, eqb-true, ltb-true, lt-ltb}
+use Rattle.std.proofs.lemmas.Bool.{cases_lt, eqb-true, ltb-true, lt-ltb}
 use Rattle.thumb_instr.specs.declared.instr.Instr.{Instr}
 use Rattle.thumb_instr.specs.Items.{has}
 use Rattle.thumb_instr.specs.Window.{is_in_window}
 use Rattle.thumb_instr.specs.Renaming.{Low}
 use Rattle.thumb_model.specs.Listing.{plain, Place, Label, Line, places_of, labels_from, code_of}
-use Rattle.thumb_model.specs.Rewrite.{Rule, IsSoundRule}
-use Rattle.thumb_model.specs.Rewritten.{Setting, Replacement, AppliesIn, IsFirst, NoneApplies, are_joined_from, left_length, left_length_of}
+use Rattle.thumb_model.specs.Rewrite.{Rule}
+use Rattle.thumb_model.specs.Rewritten.{Setting, Replacement, AppliesIn, NoneApplies, are_joined_from, left_length, left_length_of}
 use Rattle.thumb_model.specs.Flow.{LiveAfter}
 use Rattle.thumb_model.proofs.Lists.{length_map, take_all, take_short, length_drop}
 use Rattle.thumb_model.proofs.Window.{AreStraight}
@@ -31,11 +31,11 @@ use Rattle.window_harvest.proofs.Joined.{window_in_run}
 use Rattle.window_harvest.proofs.Places.{stands_there}
 use Rattle.window_rewrite.specs.declared.choice.Choice.{Choice}
 use Rattle.window_rewrite.specs.Rewriting.{setting}
-use Rattle.window_rewrite.specs.Rules.{rules_in, IsFit, AreFit, codes_of, first_with}
+use Rattle.window_rewrite.specs.Rules.{rules_in, AreFit, codes_of, first_with}
 use Rattle.window_rewrite.specs.Fitting.{Stands}
 use Rattle.window_rewrite.specs.Choices.{Awaits, Begins, choice_of, IsChoice, IsLowest, NoneOf, IsBest, NoneAt, IsFirstChoice, of_length, longer}
 use Rattle.window_rewrite.proofs.Applied.{made, back}
-use Rattle.window_rewrite.proofs.Keys.{IsNext, awaited, none_awaited}
+use Rattle.window_rewrite.proofs.Keys.{awaited, none_awaited}
 
 -- ---- counts of rules ----
 

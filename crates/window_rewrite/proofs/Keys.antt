@@ -1,12 +1,11 @@
 -- Rules by the codes of their left sides.
-use Rattle.std.proofs.Common.{◌≡◌, ℕ, zero, suc, ◌+◌, ◌-◌, ◌<◌, ◌≤◌, Bool, true, false, List, [], ◌∷◌, length, map, drop, Option, Some, None, refl, sym, ap, ◌∙◌, subst, arith, inl, inr, if◌then◌else◌, eq-eqb, eqb-true}
+use Rattle.std.proofs.Common.{◌≡◌, ℕ, zero, suc, ◌+◌, ◌-◌, ◌<◌, ◌≤◌, true, false, List, [], ◌∷◌, length, drop, Option, Some, None, refl, sym, ap, ◌∙◌, subst, arith, inl, inr, if◌then◌else◌, eq-eqb, eqb-true}
 use Rattle.std.specs.Prelude.{slice_get, slice_set, nat_eq}
 use Rattle.std.specs.Cmp.Lexicographic.{pointwise}
 use Rattle.std.specs.Map.{lookup}
 use Rattle.std.specs.declared.alloc.Global.{Global}
 use Rattle.std.specs.declared.vec.Vec.{Vec}
 use Rattle.std.proofs.lemmas.Bool.{and_parts, cases_Bool, cases_lt}
-use Rattle.std.proofs.lemmas.Option.{slice_get_within, same_Some}
 use Rattle.std.proofs.lemmas.List.{length-map}
 use Rattle.indexmap.specs.IndexMap.{insert_entry}
 use Rattle.thumb_instr.specs.declared.instr.Instr.{Instr}
@@ -15,7 +14,7 @@ use Rattle.thumb_model.specs.Rewrite.{Rule}
 use Rattle.thumb_model.proofs.Lists.{get_drop, length_drop}
 use Rattle.window_rewrite.specs.Rules.{code_number, codes_of, same_codes, is_key, first_with}
 use Rattle.window_rewrite.specs.Fitting.{Stands}
-use Rattle.window_rewrite.specs.Choices.{AreCodes, Awaits}
+use Rattle.window_rewrite.specs.Choices.{Awaits}
 
 -- ---- codes ----
 

@@ -8,18 +8,18 @@ use Rattle.std.proofs.lemmas.Bool.{and_parts, cases_Bool, cases_lt}
 use Rattle.std.proofs.lemmas.Option.{slice_get_within}
 use Rattle.thumb_instr.specs.declared.instr.Instr.{Instr}
 use Rattle.thumb_instr.specs.declared.instr.Instr.TheVariants as instr
-use Rattle.thumb_instr.specs.Window.{is_in_window, normal_of}
-use Rattle.thumb_instr.specs.Renaming.{Low, named, renamed, AreBelow, low_under, reg_under, both_under, wide_or, item_under, number_or}
+use Rattle.thumb_instr.specs.Window.{is_in_window}
+use Rattle.thumb_instr.specs.Renaming.{Low, named, renamed, AreBelow, both_under, wide_or, number_or}
 use Rattle.thumb_instr.proofs.Registers.{same_not_both_sp}
 use Rattle.thumb_instr.proofs.RenamingLemmas.{below_parts}
 use Rattle.thumb_model.specs.Items.{one_of}
-use Rattle.thumb_model.specs.Rewrite.{Rule, IsOneToOne, IsSoundRule, register_count, is_named, normalised}
+use Rattle.thumb_model.specs.Rewrite.{Rule, IsSoundRule, register_count, is_named}
 use Rattle.thumb_model.proofs.Lists.{get_front, get_take, take_all}
 use Rattle.rule_table.specs.Canonical.{has}
 use Rattle.rule_table.specs.Matching.{Matches, IsMapOf, registers_in, eight, given_for}
 use Rattle.window_rewrite.specs.Rewriting.{registers_of}
 use Rattle.window_rewrite.specs.Fitting.{Stands}
-use Rattle.window_rewrite.proofs.Sides.{names_below, windows_over, register_at, apart}
+use Rattle.window_rewrite.proofs.Sides.{names_below, windows_over, apart}
 
 -- ---- maps that begin alike ----
 

@@ -1,15 +1,14 @@
 -- One replacement more.
-use Rattle.std.proofs.Common.{◌≡◌, ℕ, suc, ◌+◌, ◌*◌, ◌<◌, ◌≤◌, List, [], ◌∷◌, ◌++◌, length, map, refl, sym, ap, ◌∙◌, subst, arith, append_assoc, append-nil, mul-le-mul_right}
+use Rattle.std.proofs.Common.{◌≡◌, ℕ, suc, ◌+◌, ◌*◌, ◌≤◌, List, [], ◌∷◌, ◌++◌, length, map, refl, sym, ap, ◌∙◌, subst, arith, append_assoc, append-nil, mul-le-mul_right}
 use Rattle.std.proofs.lemmas.Grind.{common_steps}
 use Rattle.std.proofs.lemmas.List.{map-append}
 use Rattle.std.proofs.Math.Nat.{mul-le-mul}
 use Rattle.thumb_model.specs.Listing.{Line, places_of}
-use Rattle.thumb_model.specs.Rewrite.{Rule}
-use Rattle.thumb_model.specs.Rewritten.{Setting, Replacement, AppliesIn, IsFirst, NoneApplies, AreRewritten, lines_after}
+use Rattle.thumb_model.specs.Rewritten.{Setting, Replacement, IsFirst, NoneApplies, AreRewritten, lines_after}
 use Rattle.thumb_model.proofs.LinesKept.{fewer_after}
 use Rattle.window_rewrite.specs.declared.choice.Replacement.{Replacement as Made}
 use Rattle.window_rewrite.specs.declared.choice.Choice.{Choice}
-use Rattle.window_rewrite.specs.Rewriting.{replacement_of, round_cost, rewriting_cost}
+use Rattle.window_rewrite.specs.Rewriting.{replacement_of, round_cost}
 use Rattle.window_rewrite.specs.Choices.{choice_of, IsFirstChoice}
 
 -- what completes the replacements from the current lines completes them from the start

@@ -1,12 +1,12 @@
 -- Labels that stay code.
-use Rattle.std.proofs.Common.{◌≡◌, ℕ, zero, suc, ◌+◌, ◌-◌, ◌<◌, ◌≤◌, ◌&&◌, ◌||◌, not, Bool, true, false, List, [], ◌∷◌, ◌++◌, length, map, drop, take, Some, refl, sym, ap, ◌∙◌, subst, arith, get_or, add-one, drop-cons}
+use Rattle.std.proofs.Common.{◌≡◌, ℕ, zero, suc, ◌+◌, ◌<◌, ◌||◌, not, Bool, true, false, List, [], ◌∷◌, ◌++◌, length, map, drop, Some, refl, sym, ap, ◌∙◌, subst, get_or, add-one, drop-cons}
 use Rattle.std.specs.Prelude.{slice_get}
 use Rattle.std.proofs.lemmas.Bool.{and_parts, and_from}
 use Rattle.thumb_model.specs.Listing.{Name, Line, Label, Place, places_in, places_of, labels_at, labels_from, is_op_place, is_code}
 use Rattle.thumb_model.specs.Rewrite.{moved, move_label}
 use Rattle.listing_parser.specs.declared.line.Line.{Line as Lines}
 use Rattle.listing_parser.specs.Views.{line_view}
-use Rattle.window_rewrite.specs.Fitting.{Stay, is_unnamed, stays_at, stay_from}
+use Rattle.window_rewrite.specs.Fitting.{Stay, stays_at, stay_from}
 
 -- a code label of the old places is code in the new ones
 abbrev StaysCode : List Place → List Place → ℕ → ℕ → Label → Type 0

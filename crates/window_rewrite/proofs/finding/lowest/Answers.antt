@@ -1,4 +1,4 @@
-use Rattle.std.proofs.Common.{◌+◌, ◌≤◌, ℕ, arith, subst}
+use Rattle.std.proofs.Common.{◌+◌, arith}
 use Rattle.window_rewrite.specs.Rules.{rules_in}
 use Rattle.window_rewrite.proofs.Keys.{awaited}
 use Rattle.window_rewrite.proofs.Chosen.{search_begins, search_next, search_smaller, search_found, search_cost, search_none, none_cost, next_within, next_long}

@@ -1,8 +1,7 @@
-use Rattle.std.proofs.Common.{◌≡◌, ◌∙◌, ℕ, ◌+◌, ◌-◌, List, Some, length, slice_index_or, ap, arith, refl, sym, subst}
+use Rattle.std.proofs.Common.{◌≡◌, ◌∙◌, ◌+◌, ◌-◌, List, Some, length, slice_index_or, ap, arith, refl, sym, subst}
 use Rattle.std.specs.Prelude.{slice_get}
 use Rattle.std.proofs.lemmas.Option.{slice_get_read}
 use Rattle.thumb_instr.specs.Renaming.{Low}
-use Rattle.thumb_model.specs.Listing.{Line}
 use Rattle.thumb_model.specs.Rewritten.{AppliesIn, lines_after}
 use Rattle.rule_table.specs.declared.table.Entry.{Entry}
 use Rattle.window_rewrite.specs.Rewriting.{registers_of}

@@ -1,4 +1,4 @@
-use Rattle.std.proofs.Common.{◌≡◌, ℕ, arith, refl, subst}
+use Rattle.std.proofs.Common.{◌≡◌, arith, refl, subst}
 use Rattle.table_audit.specs.Soundness.{items_in}
 use Rattle.window_rewrite.specs.Fitting.{is_allowed}
 use Rattle.window_rewrite.proofs.Live.{AreAllowed, allowed_all}

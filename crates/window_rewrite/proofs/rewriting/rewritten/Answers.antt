@@ -1,4 +1,4 @@
-use Rattle.std.proofs.Common.{◌≡◌, ◌∙◌, length, length-append, ap, arith, refl}
+use Rattle.std.proofs.Common.{◌∙◌, length, length-append, ap, arith, refl}
 use Rattle.thumb_model.specs.Listing.{places_of}
 use Rattle.window_rewrite.specs.Rules.{rules_in}
 use Rattle.window_rewrite.specs.Choices.{setting_of}

@@ -1,12 +1,9 @@
-use Rattle.std.proofs.Common.{◌≡◌, ◌∙◌, ℕ, ◌+◌, ◌-◌, ◌≤◌, ◌<◌, List, Some, length, drop, slice_index_or, ap, arith, refl, sym}
+use Rattle.std.proofs.Common.{◌≡◌, ◌∙◌, ℕ, ◌+◌, ◌-◌, List, Some, length, drop, slice_index_or, ap, arith, refl, sym}
 use Rattle.std.specs.Prelude.{slice_get}
 use Rattle.std.specs.Map.{lookup}
 use Rattle.std.proofs.lemmas.Option.{slice_get_read, slice_get_within}
-use Rattle.std.proofs.lemmas.List.{length-map, length-set}
-use Rattle.thumb_model.specs.Rewrite.{Rule}
+use Rattle.std.proofs.lemmas.List.{length-set}
 use Rattle.rule_table.specs.declared.table.Entry.{Entry}
-use Rattle.rule_table.specs.Views.{rule_of}
-use Rattle.table_audit.specs.Soundness.{rewriting_rule}
 use Rattle.window_rewrite.specs.Rules.{rules_in, codes_of, first_with, is_key, entry_rule}
 use Rattle.window_rewrite.proofs.Accepted.{entry_at, rules_length}
 use Rattle.window_rewrite.proofs.Keys.{first_past, firsts_more, nexts_more}
