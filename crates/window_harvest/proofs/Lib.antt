@@ -1,8 +1,8 @@
-mod Joined
+pub mod Joined
 mod Lists
 mod Alphabet
-mod Once
+pub mod Once
 mod Pairs
 mod Added
 mod Seen
-mod Places
+pub mod Places

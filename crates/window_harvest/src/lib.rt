@@ -4,7 +4,7 @@
 mod adding;
 mod harvesting;
 mod keys;
-mod rows;
-mod runs;
+pub mod rows;
+pub mod runs;
 
 pub use harvesting::windows;

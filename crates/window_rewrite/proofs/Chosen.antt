@@ -1,0 +1,408 @@
+-- Which choice comes first: the lowest of a length, the longest of a place, and the least place.
+use Rattle.std.proofs.Common.{◌≡◌, ℕ, zero, suc, ◌+◌, ◌-◌, ◌*◌, ◌<◌, ◌≤◌, ◌==◌, Bool, true, false, List, [], ◌∷◌, length, take, drop, map, Option, Some, None, refl, sym, ap, ◌∙◌, subst, arith, ◌⊎◌, ◌↔◌, inl, inr, eq-eqb, mul-le-mul_right}
+use Rattle.std.specs.Prelude.{slice_get, nat_lt}
+use Rattle.std.specs.Int.{from_bool}
+use Rattle.std.specs.List.{list_all}
+use Rattle.std.proofs.lemmas.Grind.{common_steps}
+use Rattle.std.proofs.lemmas.Option.{slice_get_within}
+use Rattle.std.proofs.lemmas.Bool.{cases_lt, eqb-true, ltb-true, lt-ltb}
+use Rattle.thumb_instr.specs.declared.instr.Instr.{Instr}
+use Rattle.thumb_instr.specs.Items.{has}
+use Rattle.thumb_instr.specs.Window.{is_in_window}
+use Rattle.thumb_instr.specs.Renaming.{Low}
+use Rattle.thumb_model.specs.Listing.{plain, Place, Label, Line, places_of, labels_from, code_of}
+use Rattle.thumb_model.specs.Rewrite.{Rule}
+use Rattle.thumb_model.specs.Rewritten.{Setting, Replacement, AppliesIn, NoneApplies, are_joined_from, left_length, left_length_of}
+use Rattle.thumb_model.specs.Flow.{LiveAfter}
+use Rattle.thumb_model.proofs.Lists.{length_map, take_all, take_short, length_drop}
+use Rattle.thumb_model.proofs.Window.{AreStraight}
+use Rattle.thumb_model.proofs.Table.{window_length, applies_sound}
+use Rattle.window_harvest.specs.Windows.{IsWindow}
+use Rattle.liveness.specs.Live.{Sets}
+use Rattle.rule_table.specs.declared.table.Entry.{Entry}
+use Rattle.rule_table.specs.Views.{rule_of}
+use Rattle.table_audit.specs.Soundness.{rewriting_rule}
+use Rattle.window_harvest.specs.declared.rows.Row.{Row}
+use Rattle.window_harvest.specs.Rows.{rows_from}
+use Rattle.window_harvest.specs.Runs.{run}
+use Rattle.window_harvest.specs.LimitsOf.{AreOf}
+use Rattle.window_harvest.specs.Harvest.{spot_of, StandsThere}
+use Rattle.window_harvest.proofs.Joined.{window_in_run}
+use Rattle.window_harvest.proofs.Places.{stands_there}
+use Rattle.window_rewrite.specs.declared.choice.Choice.{Choice}
+use Rattle.window_rewrite.specs.Rewriting.{setting}
+use Rattle.window_rewrite.specs.Rules.{rules_in, AreFit, codes_of, first_with}
+use Rattle.window_rewrite.specs.Fitting.{Stands}
+use Rattle.window_rewrite.specs.Choices.{Awaits, Begins, choice_of, IsChoice, IsLowest, NoneOf, IsBest, NoneAt, IsFirstChoice, of_length, longer}
+use Rattle.window_rewrite.proofs.Applied.{made, back}
+use Rattle.window_rewrite.proofs.Keys.{awaited, none_awaited}
+
+-- ---- counts of rules ----
+
+none_taken : (c : ℕ) (rules : List Rule) → of_length c (take 0 rules) ≡ 0
+unfolding of_length
+none_taken c [] = refl
+none_taken c (r ∷ rs) = refl
+
+taken_more : (c : ℕ) (rules : List Rule) (k n : ℕ) → k ≤ n → of_length c (take k rules) ≤ of_length c (take n rules)
+unfolding of_length
+taken_more c [] zero zero h = omega arith
+taken_more c [] zero (suc n) h = omega arith
+taken_more c [] (suc k) zero h = omega arith
+taken_more c [] (suc k) (suc n) h = omega arith
+taken_more c (r ∷ rs) zero zero h = omega arith
+taken_more c (r ∷ rs) zero (suc n) h = omega arith
+taken_more c (r ∷ rs) (suc k) zero h = absurd (omega arith)
+taken_more c (r ∷ rs) (suc k) (suc n) h = let t = taken_more c rs k n (omega arith) in omega arith
+
+taken_all : (c : ℕ) (rules : List Rule) (k : ℕ) → of_length c (take k rules) ≤ of_length c rules
+unfolding of_length
+taken_all c [] zero = omega arith
+taken_all c [] (suc k) = omega arith
+taken_all c (r ∷ rs) zero = omega arith
+taken_all c (r ∷ rs) (suc k) = let t = taken_all c rs k in omega arith
+
+taken_one : (c : ℕ) (rules : List Rule) (n : ℕ) (rule : Rule) → slice_get rules n ≡ Some rule → length rule.left ≡ c → of_length c (take n rules) + 1 ≤ of_length c (take (suc n) rules)
+unfolding of_length
+taken_one c [] n rule e l = absurd (cc)
+taken_one c (r ∷ rs) zero rule e l =
+    let same : r ≡ rule = cc in
+    let long : length r.left ≡ c = ap (λ (x : Rule). length x.left) same ∙ l in
+    let one : from_bool (length r.left == c) ≡ 1 = ap from_bool (eq-eqb (length r.left) c long) in
+    omega (arith, one)
+taken_one c (r ∷ rs) (suc n) rule e l = let t = taken_one c rs n rule e l in omega arith
+
+longer_split : (m : ℕ) (rules : List Rule) → longer (suc m) rules + of_length (suc m) rules ≡ longer m rules
+unfolding of_length longer
+longer_split m [] = refl
+longer_split m (r ∷ rs) =
+    let t = longer_split m rs in
+    let one : from_bool (nat_lt (suc m) (length r.left)) + from_bool (length r.left == suc m) ≡ from_bool (nat_lt m (length r.left)) = split (length r.left) in
+    omega (arith, t, one)
+  where
+    of_true : (b : Bool) → b ≡ true → from_bool b ≡ 1
+    of_true b e = ap from_bool e
+
+    of_false : (b : Bool) → (b ≡ true → ⊥) → from_bool b ≡ 0
+    of_false true h = absurd (h refl)
+    of_false false h = refl
+
+    split : (n : ℕ) → from_bool (nat_lt (suc m) n) + from_bool (n == suc m) ≡ from_bool (nat_lt m n)
+    split n = elim (cases_lt (suc m) n) [
+      | inl l ↦ (
+          let a = of_true (nat_lt (suc m) n) (lt-ltb (suc m) n l) in
+          let b = of_false (n == suc m) (λ e. let s = eqb-true n (suc m) e in omega (arith, s, l)) in
+          let c = of_true (nat_lt m n) (lt-ltb m n (omega arith)) in
+          omega (arith, a, b, c)
+          )
+      | inr g ↦ elim (cases_lt m n) [
+        | inl k ↦ (
+            let a = of_false (nat_lt (suc m) n) (λ e. let s = ltb-true (suc m) n e in omega (arith, s, g)) in
+            let b = of_true (n == suc m) (eq-eqb n (suc m) (let e : n ≡ suc m = omega arith in e)) in
+            let c = of_true (nat_lt m n) (lt-ltb m n k) in
+            omega (arith, a, b, c)
+            )
+        | inr k ↦ (
+            let a = of_false (nat_lt (suc m) n) (λ e. let s = ltb-true (suc m) n e in omega (arith, s, g)) in
+            let b = of_false (n == suc m) (λ e. let s = eqb-true n (suc m) e in omega (arith, s, k)) in
+            let c = of_false (nat_lt m n) (λ e. let s = ltb-true m n e in omega (arith, s, k)) in
+            omega (arith, a, b, c)
+            )
+      ]
+    ]
+
+longer_all : (m : ℕ) (rules : List Rule) → longer m rules ≤ length rules
+unfolding longer
+longer_all m [] = omega arith
+longer_all m (r ∷ rs) =
+    let t = longer_all m rs in
+    elim (nat_lt m (length r.left)) as (λ b. from_bool b + longer m rs ≤ suc (length rs)) [
+      | true ↦ omega arith
+      | false ↦ omega arith
+    ]
+
+-- ---- the lowest entry of a length ----
+
+pub length_at : (rules : List Rule) (k : ℕ) (rule : Rule) → slice_get rules k ≡ Some rule → left_length rules k ≡ length rule.left
+length_at rules k rule e = ap left_length_of e
+
+-- a choice at the place by a left side of the window's length stands in the window
+pub record StandsIn (rules : List Rule) (window : List Instr) (o : Replacement) : Type 0 where
+  pub rule : Rule
+  pub at : slice_get rules o.entry ≡ Some rule
+  pub stands : Stands rule o.registers window
+
+stands_in : (base : ℕ) (rules : List Rule) (lines : List Line) (place : ℕ) (window : List Instr) (live : ℕ) (o : Replacement) → StandsThere lines (spot_of place (length window)) window live
+    → AppliesIn (setting base rules) o lines → o.place ≡ place → left_length rules o.entry ≡ length window → StandsIn rules window o
+stands_in base rules lines place window live o there a at long =
+    let moved : AppliesIn (setting base rules) (made place o.entry o.registers) lines = subst (λ p. AppliesIn (setting base rules) (made p o.entry o.registers) lines) at a in
+    let n : length a.rule.left ≡ length window = sym (length_at rules o.entry a.rule a.is_rule) ∙ long in
+    record {
+      rule = a.rule;
+      at = a.is_rule;
+      stands = (back base rules lines place o.entry a.rule o.registers window live a.is_rule n there moved).fits.stands;
+    }
+
+-- the search through the rules that may stand in a window: those below k don't apply
+pub record IsSearch (base : ℕ) (rules : List Rule) (lines : List Line) (place : ℕ) (window : List Instr) (at : Option ℕ) (start steps : ℕ) : Type 0 where
+  pub k : ℕ
+  pub awaits : Awaits rules window k at
+  pub none : (o : Replacement) → AppliesIn (setting base rules) o lines → o.place ≡ place → left_length rules o.entry ≡ length window → o.entry < k → ⊥
+  pub cost : steps ≤ start + of_length (length window) (take k rules)
+
+pub search_begins : (base : ℕ) (rules : List Rule) (lines : List Line) (place : ℕ) (window : List Instr) (live : ℕ) (at : Option ℕ) (start : ℕ) → StandsThere lines (spot_of place (length window)) window live
+    → Begins rules window at → IsSearch base rules lines place window at start start
+search_begins base rules lines place window live at start there b = record {
+  k = b.k;
+  awaits = b.awaits;
+  none = λ o a e l h. let s = stands_in base rules lines place window live o there a e l in b.passed o.entry s.rule o.registers h s.at s.stands;
+  cost = omega arith;
+}
+
+-- none applies below the next rule
+none_before : (base : ℕ) (rules : List Rule) (lines : List Line) (place : ℕ) (window : List Instr) (live n : ℕ) (at : Option ℕ) (start steps : ℕ) → StandsThere lines (spot_of place (length window)) window live
+    → IsSearch base rules lines place window at start steps → at ≡ Some n
+    → (o : Replacement) → AppliesIn (setting base rules) o lines → o.place ≡ place → left_length rules o.entry ≡ length window → o.entry < n → ⊥
+none_before base rules lines place window live n at start steps there s is o a e l h = elim (cases_lt o.entry s.k) [
+  | inl b ↦ s.none o a e l b
+  | inr b ↦ (
+      let next = awaited rules window s.k n at s.awaits is in
+      let i = stands_in base rules lines place window live o there a e l in
+      next.none o.entry i.rule o.registers b h i.at i.stands
+      )
+]
+
+pub search_next : (base : ℕ) (rules : List Rule) (lines : List Line) (place : ℕ) (window : List Instr) (live n : ℕ) (at next : Option ℕ) (start steps after : ℕ) → StandsThere lines (spot_of place (length window)) window live
+    → IsSearch base rules lines place window at start steps → at ≡ Some n
+    → ((registers : List Low) → AppliesIn (setting base rules) (made place n registers) lines → ⊥)
+    → ((rule : Rule) → slice_get rules n ≡ Some rule → next ≡ first_with (codes_of rule.left) (n + 1) (drop (n + 1) rules)) → after ≤ steps + 1
+    → IsSearch base rules lines place window next start after
+search_next base rules lines place window live n at next start steps after there s is none more cost =
+    let i = awaited rules window s.k n at s.awaits is in
+    let one : of_length (length window) (take n rules) + 1 ≤ of_length (length window) (take (suc n) rules) = taken_one (length window) rules n i.rule i.at i.long in
+    let before : of_length (length window) (take s.k rules) ≤ of_length (length window) (take n rules) = taken_more (length window) rules s.k n i.from in
+    let here = s.cost in
+    record {
+      k = n + 1;
+      awaits = i.more next (more i.rule i.at);
+      none = λ o a e l h. elim (cases_lt o.entry n) [
+        | inl b ↦ none_before base rules lines place window live n at start steps there s is o a e l b
+        | inr b ↦ (
+            let same : o.entry ≡ n = omega arith in
+            none o.registers (subst (λ m. AppliesIn (setting base rules) (made place m o.registers) lines) same (subst (λ p. AppliesIn (setting base rules) (made p o.entry o.registers) lines) e a))
+            )
+      ];
+      cost = subst (λ m. after ≤ start + of_length (length window) (take m rules)) (let e : suc n ≡ n + 1 = omega arith in e) (omega arith);
+    }
+
+-- how far the search is from its end
+abbrev pub left_of : List Rule → Option ℕ → ℕ
+left_of rules None = 0
+left_of rules (Some n) = length rules - n
+
+pub search_smaller : (base : ℕ) (rules : List Rule) (lines : List Line) (place : ℕ) (window : List Instr) (n : ℕ) (at next : Option ℕ) (start steps : ℕ)
+    → IsSearch base rules lines place window at start steps → at ≡ Some n → (k : ℕ) → n + 1 ≤ k → Awaits rules window k next → left_of rules next < left_of rules at
+search_smaller base rules lines place window n at next start steps s is k h a =
+    let i = awaited rules window s.k n at s.awaits is in
+    let inside : n < length rules = slice_get_within rules n i.rule i.at in
+    subst (λ o. left_of rules next < left_of rules o) (sym is) (by next refl inside)
+  where
+    by : (o : Option ℕ) → next ≡ o → n < length rules → left_of rules o < length rules - n
+    by None e g = omega arith
+    by (Some m) e g =
+        let j = awaited rules window k m next a e in
+        let from = j.from in
+        let inside : m < length rules = slice_get_within rules m j.rule j.at in
+        omega arith
+
+pub search_found : (base : ℕ) (rules : List Rule) (lines : List Line) (place : ℕ) (window : List Instr) (live n : ℕ) (at : Option ℕ) (start steps : ℕ) (c : Choice) → StandsThere lines (spot_of place (length window)) window live
+    → IsSearch base rules lines place window at start steps → at ≡ Some n
+    → IsChoice (setting base rules) lines c → (choice_of c).place ≡ place → (choice_of c).entry ≡ n → IsLowest (setting base rules) lines place (length window) c
+search_found base rules lines place window live n at start steps c there s is choice here entry =
+    let i = awaited rules window s.k n at s.awaits is in
+    record {
+      is = choice;
+      at = here;
+      long = ap (left_length rules) entry ∙ length_at rules n i.rule i.at ∙ i.long;
+      lowest = λ o a e l. elim (cases_lt o.entry n) [
+        | inl b ↦ absurd (none_before base rules lines place window live n at start steps there s is o a e l b)
+        | inr b ↦ omega arith
+      ];
+    }
+
+pub search_cost : (base : ℕ) (rules : List Rule) (lines : List Line) (place : ℕ) (window : List Instr) (n : ℕ) (at : Option ℕ) (start steps after : ℕ) → IsSearch base rules lines place window at start steps → at ≡ Some n
+    → after ≤ steps + 1 → after ≤ start + of_length (length window) rules
+search_cost base rules lines place window n at start steps after s is cost =
+    let i = awaited rules window s.k n at s.awaits is in
+    let one : of_length (length window) (take n rules) + 1 ≤ of_length (length window) (take (suc n) rules) = taken_one (length window) rules n i.rule i.at i.long in
+    let before : of_length (length window) (take s.k rules) ≤ of_length (length window) (take n rules) = taken_more (length window) rules s.k n i.from in
+    let all : of_length (length window) (take (suc n) rules) ≤ of_length (length window) rules = taken_all (length window) rules (suc n) in
+    let here = s.cost in
+    omega arith
+
+pub search_none : (base : ℕ) (rules : List Rule) (lines : List Line) (place : ℕ) (window : List Instr) (live : ℕ) (at : Option ℕ) (start steps : ℕ) → StandsThere lines (spot_of place (length window)) window live
+    → IsSearch base rules lines place window at start steps → at ≡ None → NoneOf (setting base rules) lines place (length window)
+search_none base rules lines place window live at start steps there s is o a e l = elim (cases_lt o.entry s.k) [
+  | inl b ↦ s.none o a e l b
+  | inr b ↦ (let i = stands_in base rules lines place window live o there a e l in none_awaited rules window s.k at s.awaits is o.entry i.rule o.registers b i.at i.stands)
+]
+
+pub none_cost : (base : ℕ) (rules : List Rule) (lines : List Line) (place : ℕ) (window : List Instr) (at : Option ℕ) (start steps : ℕ) → IsSearch base rules lines place window at start steps → steps ≤ start + of_length (length window) rules
+none_cost base rules lines place window at start steps s = let c = s.cost in let all = taken_all (length window) rules s.k in omega arith
+
+pub next_within : (entries : List Entry) (window : List Instr) (k n : ℕ) (o : Option ℕ) → Awaits (rules_in entries) window k o → o ≡ Some n → n < length entries
+next_within entries window k n o a e =
+    let i = awaited (rules_in entries) window k n o a e in
+    omega (arith, slice_get_within (rules_in entries) n i.rule i.at, length_map rewriting_rule (map rule_of entries), length_map rule_of entries)
+
+pub next_long : (rules : List Rule) (window : List Instr) (k n : ℕ) (o : Option ℕ) → Awaits rules window k o → o ≡ Some n → left_length rules n ≡ length window
+next_long rules window k n o a e = let i = awaited rules window k n o a e in length_at rules n i.rule i.at ∙ i.long
+
+-- ---- the best entry of a place ----
+
+straight_letters : (is : List Instr) → AreStraight is → list_all is_in_window is ≡ true
+straight_letters [] h = refl
+straight_letters (i ∷ is) h = rw (h.0) (straight_letters is h.1)
+
+-- where an entry applies stands a window as long as its left side, which is no longer than the longest
+pub record IsApplicable (lines : List Line) (longest : ℕ) (rules : List Rule) (o : Replacement) : Type 0 where
+  pub window : List Instr
+  pub is_window : IsWindow lines o.place window
+  pub long : left_length rules o.entry ≡ length window
+  pub some : 1 ≤ length window
+  pub few : length window ≤ longest
+
+pub applicable : (base longest : ℕ) (rules : List Rule) (lines : List Line) (o : Replacement) → AreFit longest rules → AppliesIn (setting base rules) o lines → IsApplicable lines longest rules o
+applicable base longest rules lines o fit a =
+    let f = fit o.entry a.rule a.is_rule in
+    let n : length a.applies.window ≡ length a.rule.left = window_length a.rule o.registers (code_of lines) o.place a.applies in
+    let shorter = a.applies.shorter in
+    let short = f.short in
+    record {
+      window = a.applies.window;
+      is_window = record {
+        stands = ap (λ k. take k (drop o.place (places_of lines))) n ∙ a.applies.stands;
+        letters = straight_letters a.applies.window (applies_sound a.rule o.registers (code_of lines) o.place f.sound a.applies).left_straight;
+        unlabelled = subst (λ k. (j : ℕ) (l : Label) → slice_get (labels_from 0 lines) j ≡ Some l → (l.place ≤ o.place) ⊎ (o.place + k ≤ l.place)) (sym n) a.applies.unlabelled;
+        joined = subst (λ k. are_joined_from o.place k lines ≡ true) (sym n) a.joined;
+      };
+      long = length_at rules o.entry a.rule a.is_rule ∙ sym n;
+      some = omega arith;
+      few = omega arith;
+    }
+
+pub place_within : (base longest : ℕ) (rules : List Rule) (lines : List Line) (o : Replacement) → AreFit longest rules → AppliesIn (setting base rules) o lines → o.place < length (places_of lines)
+place_within base longest rules lines o fit a =
+    let w = applicable base longest rules lines o fit a in
+    let some = w.some in
+    let k = length_map plain w.window in
+    let e = ap (λ (ps : List Place). length ps) w.is_window.stands in
+    let short = take_short (length w.window) (drop o.place (places_of lines)) in
+    let rest = length_drop o.place (places_of lines) in
+    omega arith
+
+-- the front of the run from a place stands there
+pub front_stands : (lines : List Line) (rows : List Row) (sets : Sets) (place most count items : ℕ) (is slice : List Instr) → AreOf lines rows sets → is ≡ run true most (drop place rows) → slice ≡ is → 0 < count → count ≤ length is
+    → ((x : ℕ) → (has items x ≡ true) ↔ LiveAfter (code_of lines) (place + (count - 1)) x) → StandsThere lines (spot_of place (length (take count slice))) (take count slice) items
+front_stands lines rows sets place most zero items is slice of e f some few live = absurd (omega arith)
+front_stands lines rows sets place most (suc n) items is slice of e f some few live =
+    let one : n + 1 ≡ suc n = omega arith in
+    let there : StandsThere lines (spot_of place (n + 1)) (take (n + 1) is) items =
+    stands_there lines rows sets place most n items is of e (omega arith) (λ x. subst (λ k. (has items x ≡ true) ↔ LiveAfter (code_of lines) (place + k) x) (let g : suc n - 1 ≡ n = omega arith in g) (live x)) in
+    let here : StandsThere lines (spot_of place (suc n)) (take (suc n) is) items = subst (λ k. StandsThere lines (spot_of place k) (take k is) items) one there in
+    let all : length (take (suc n) is) ≡ suc n = take_all (suc n) is few in
+    subst (λ (l : List Instr). StandsThere lines (spot_of place (length (take (suc n) l))) (take (suc n) l) items) (sym f) (subst (λ k. StandsThere lines (spot_of place k) (take (suc n) is) items) (sym all) here)
+
+-- no choice at the place has a left side of more than so many instructions
+abbrev pub NoneLonger : Setting → List Line → ℕ → ℕ → Type 0
+NoneLonger s lines place count = (o : Replacement) → AppliesIn s o lines → o.place ≡ place → count < left_length s.table o.entry → ⊥
+
+-- none has one that is longer than the run from there
+pub none_beyond : (base longest : ℕ) (rules : List Rule) (lines : List Line) (rows : List Row) (sets : Sets) (place : ℕ) (is : List Instr) → AreFit longest rules → AreOf lines rows sets → is ≡ run true longest (drop place rows)
+    → NoneLonger (setting base rules) lines place (length is)
+none_beyond base longest rules lines rows sets place is fit of e o a at h =
+    let w = applicable base longest rules lines o fit a in
+    let long = w.long in
+    let there : IsWindow lines place w.window = subst (λ p. IsWindow lines p w.window) at w.is_window in
+    let within : length w.window ≤ length (run true longest (drop place (rows_from false lines))) = window_in_run lines place longest w.window w.some w.few there in
+    let same : is ≡ run true longest (drop place (rows_from false lines)) = e ∙ ap (λ (rs : List Row). run true longest (drop place rs)) of.rows_are in
+    omega (arith, within, long, h, ap (λ (l : List Instr). length l) same)
+
+pub none_longer : (s : Setting) (lines : List Line) (place count : ℕ) → NoneLonger s lines place (suc count) → NoneOf s lines place (suc count) → NoneLonger s lines place count
+none_longer s lines place count n none o a at h = elim (cases_lt (suc count) (left_length s.table o.entry)) [
+  | inl l ↦ n o a at l
+  | inr l ↦ none o a at (let e : left_length s.table o.entry ≡ suc count = omega arith in e)
+]
+
+pub longer_cost : (rules : List Rule) (count start before after : ℕ) → before ≤ start + longer (suc count) rules → after ≤ before + of_length (suc count) rules → after ≤ start + longer count rules
+longer_cost rules count start before after b a = omega (arith, longer_split count rules)
+
+pub all_cost : (rules : List Rule) (count start after : ℕ) → after ≤ start + longer count rules → after ≤ start + length rules
+all_cost rules count start after a = omega (arith, longer_all count rules)
+
+pub count_cost : (rules : List Rule) (count : ℕ) (slice : List Instr) (start before after : ℕ) → 0 < count → count ≤ length slice → before ≤ start + longer count rules → after ≤ before + of_length (length (take count slice)) rules
+    → after ≤ start + longer (count - 1) rules
+count_cost rules zero slice start before after some few b a = absurd (omega arith)
+count_cost rules (suc n) slice start before after some few b a =
+    let all : length (take (suc n) slice) ≡ suc n = take_all (suc n) slice few in
+    subst (λ k. after ≤ start + longer k rules) (let e : n ≡ suc n - 1 = omega arith in e) (longer_cost rules n start before after b (subst (λ k. after ≤ before + of_length k rules) all a))
+
+pub none_shorter : (s : Setting) (lines : List Line) (place count : ℕ) (slice : List Instr) → 0 < count → count ≤ length slice → NoneLonger s lines place count → NoneOf s lines place (length (take count slice)) → NoneLonger s lines place (count - 1)
+none_shorter s lines place zero slice some few n h = absurd (omega arith)
+none_shorter s lines place (suc m) slice some few n h =
+    let all : length (take (suc m) slice) ≡ suc m = take_all (suc m) slice few in
+    subst (λ k. NoneLonger s lines place k) (let e : m ≡ suc m - 1 = omega arith in e) (none_longer s lines place m n (subst (λ k. NoneOf s lines place k) all h))
+
+pub is_best : (s : Setting) (lines : List Line) (place count : ℕ) (c : Choice) → NoneLonger s lines place count → IsLowest s lines place count c → IsBest s lines place c
+is_best s lines place count c none l =
+    let long = l.long in
+    record {
+      is = l.is;
+      at = l.at;
+      longest = λ o a e. elim (cases_lt count (left_length s.table o.entry)) [
+        | inl h ↦ absurd (none o a e h)
+        | inr h ↦ omega arith
+      ];
+      lowest = λ o a e h. l.lowest o a e (h ∙ long);
+    }
+
+pub none_at : (base longest : ℕ) (rules : List Rule) (lines : List Line) (place : ℕ) → AreFit longest rules → NoneLonger (setting base rules) lines place 0 → NoneAt (setting base rules) lines place
+none_at base longest rules lines place fit none o a at =
+    let w = applicable base longest rules lines o fit a in
+    let some = w.some in
+    let long = w.long in
+    none o a at (omega arith)
+
+-- ---- the least place ----
+
+pub is_first : (s : Setting) (lines : List Line) (place : ℕ) (c : Choice) → ((o : Replacement) → AppliesIn s o lines → o.place < place → ⊥) → IsBest s lines place c → IsFirstChoice s lines c
+is_first s lines place c none b =
+    let here = b.at in
+    record {
+      first = record {
+        applies = b.is.applies;
+        least_place = λ o a. elim (cases_lt o.place place) [
+          | inl l ↦ absurd (none o a l)
+          | inr l ↦ omega arith
+        ];
+        longest = λ o a e. b.longest o a (e ∙ here);
+        lowest = λ o a e l. b.lowest o a (e ∙ here) l;
+      };
+      leaves = b.is.leaves;
+    }
+
+pub none_more : (s : Setting) (lines : List Line) (place : ℕ) → ((o : Replacement) → AppliesIn s o lines → o.place < place → ⊥) → NoneAt s lines place → (o : Replacement) → AppliesIn s o lines → o.place < place + 1 → ⊥
+none_more s lines place none here o a l = elim (cases_lt o.place place) [
+  | inl k ↦ none o a k
+  | inr k ↦ here o a (let e : o.place ≡ place = omega arith in e)
+]
+
+pub none_applies : (base longest : ℕ) (rules : List Rule) (lines : List Line) (place : ℕ) → AreFit longest rules → length (places_of lines) ≤ place
+    → ((o : Replacement) → AppliesIn (setting base rules) o lines → o.place < place → ⊥) → NoneApplies (setting base rules) lines
+none_applies base longest rules lines place fit h none o a = let w = place_within base longest rules lines o fit a in none o a (omega arith)
+
+pub place_cost : (entries place start before after : ℕ) → before ≤ start + place * entries → after ≤ before + entries → after ≤ start + (place + 1) * entries
+place_cost entries place start before after b a = grind (arith, common_steps)
+
+pub places_cost : (entries place count start after : ℕ) → after ≤ start + place * entries → place ≤ count → after ≤ start + count * entries
+places_cost entries place count start after a h = let m = mul-le-mul_right entries h in omega arith

@@ -1,0 +1,9 @@
+use Rattle.std.proofs.Common.{◌≡◌, ◌≤◌, ◌++◌, drop, length}
+use Rattle.window_rewrite.specs.Rewriting.{registers_of}
+use Rattle.window_rewrite.proofs.items.registers_of.Given as goal
+
+abbrev pub invariant-loop-canonical : goal.invariant-loop-canonical
+invariant-loop-canonical l = record {
+  few : length l.registers.items ≤ l.canonical;
+  registers : l.registers.items ++ registers_of (drop l.canonical l.map) ≡ registers_of l.map;
+}

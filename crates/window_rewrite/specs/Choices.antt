@@ -1,0 +1,85 @@
+-- Replacements that can be made, and which of them comes first.
+use Rattle.std.specs.Prelude.{◌≡◌, ℕ, ◌+◌, ◌<◌, ◌≤◌, ◌==◌, nat_lt, List, [], ◌∷◌, length, drop, slice_get, Option, Some}
+use Rattle.std.specs.Int.{from_bool}
+use Rattle.thumb_instr.specs.declared.instr.Instr.{Instr}
+use Rattle.thumb_instr.specs.Renaming.{Low}
+use Rattle.thumb_model.specs.Listing.{Line}
+use Rattle.thumb_model.specs.Rewrite.{Rule}
+use Rattle.thumb_model.specs.Rewritten.{Setting, Replacement, AppliesIn, IsFirst, lines_after, left_length}
+use Rattle.window_rewrite.specs.declared.choice.Choice.{Choice}
+use Rattle.window_rewrite.specs.declared.finding.Rules.{Rules}
+use Rattle.window_rewrite.specs.Rewriting.{setting, replacement_of}
+use Rattle.window_rewrite.specs.Rules.{rules_in, codes_of, first_with, AreFit, IsIndex}
+use Rattle.window_rewrite.specs.Fitting.{Stands}
+
+-- the table of a finder, whose index is that of its entries
+abbrev pub setting_of : Rules → Setting
+setting_of r = setting r.base (rules_in r.entries.now)
+
+pub record AreReady (r : Rules) : Type 0 where
+  pub few : r.longest ≤ 5
+  pub fit : AreFit r.longest (rules_in r.entries.now)
+  pub index : IsIndex (rules_in r.entries.now) r.index.now
+
+-- the codes of each left side that stands in the window are these
+abbrev pub AreCodes : List Rule → List Instr → List ℕ → Type 0
+AreCodes rules window codes = (k : ℕ) (rule : Rule) (registers : List Low) → slice_get rules k ≡ Some rule → Stands rule registers window → codes_of rule.left ≡ codes
+
+-- of the rules from the k-th on, the next one whose left side may stand in the window is this
+pub record Awaits (rules : List Rule) (window : List Instr) (k : ℕ) (next : Option ℕ) : Type 0 where
+  pub codes : List ℕ
+  pub are : AreCodes rules window codes
+  pub long : length codes ≡ length window
+  pub is : next ≡ first_with codes k (drop k rules)
+
+-- the first one whose left side may stand in the window
+pub record Begins (rules : List Rule) (window : List Instr) (next : Option ℕ) : Type 0 where
+  pub k : ℕ
+  pub passed : (j : ℕ) (rule : Rule) (registers : List Low) → j < k → slice_get rules j ≡ Some rule → Stands rule registers window → ⊥
+  pub awaits : Awaits rules window k next
+
+-- ---- choices ----
+
+abbrev pub choice_of : Choice → Replacement
+choice_of c = replacement_of c.replacement
+
+-- it applies, and leaves those lines
+pub record IsChoice (s : Setting) (lines : List Line) (c : Choice) : Type 0 where
+  pub applies : AppliesIn s (choice_of c) lines
+  pub leaves : c.listing ≡ lines_after s (choice_of c) lines
+
+-- of the choices at a place by left sides of so many instructions it has the lowest entry
+pub record IsLowest (s : Setting) (lines : List Line) (place count : ℕ) (c : Choice) : Type 0 where
+  pub is : IsChoice s lines c
+  pub at : (choice_of c).place ≡ place
+  pub long : left_length s.table (choice_of c).entry ≡ count
+  pub lowest : (o : Replacement) → AppliesIn s o lines → o.place ≡ place → left_length s.table o.entry ≡ count → (choice_of c).entry ≤ o.entry
+
+abbrev pub NoneOf : Setting → List Line → ℕ → ℕ → Type 0
+NoneOf s lines place count = (o : Replacement) → AppliesIn s o lines → o.place ≡ place → left_length s.table o.entry ≡ count → ⊥
+
+-- of the choices at a place it is the best
+pub record IsBest (s : Setting) (lines : List Line) (place : ℕ) (c : Choice) : Type 0 where
+  pub is : IsChoice s lines c
+  pub at : (choice_of c).place ≡ place
+  pub longest : (o : Replacement) → AppliesIn s o lines → o.place ≡ place → left_length s.table o.entry ≤ left_length s.table (choice_of c).entry
+  pub lowest : (o : Replacement) → AppliesIn s o lines → o.place ≡ place → left_length s.table o.entry ≡ left_length s.table (choice_of c).entry → (choice_of c).entry ≤ o.entry
+
+abbrev pub NoneAt : Setting → List Line → ℕ → Type 0
+NoneAt s lines place = (o : Replacement) → AppliesIn s o lines → o.place ≡ place → ⊥
+
+-- of all choices it is the first
+pub record IsFirstChoice (s : Setting) (lines : List Line) (c : Choice) : Type 0 where
+  pub first : IsFirst s (choice_of c) lines
+  pub leaves : c.listing ≡ lines_after s (choice_of c) lines
+
+-- ---- how many rules there are ----
+
+-- with left sides of n instructions, and with longer ones
+unfoldable pub of_length : ℕ → List Rule → ℕ
+of_length n [] = 0
+of_length n (r ∷ rs) = from_bool (length r.left == n) + of_length n rs
+
+unfoldable pub longer : ℕ → List Rule → ℕ
+longer n [] = 0
+longer n (r ∷ rs) = from_bool (nat_lt n (length r.left)) + longer n rs

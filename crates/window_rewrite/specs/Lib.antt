@@ -1,0 +1,4 @@
+pub mod Rewriting
+pub mod Rules
+pub mod Fitting
+pub mod Choices

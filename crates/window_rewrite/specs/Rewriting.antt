@@ -1,0 +1,45 @@
+-- What rewriting a listing by a table gives, as the code holds it.
+use Rattle.std.specs.Prelude.{◌≡◌, ℕ, ◌-◌, ◌+◌, ◌*◌, List, [], ◌∷◌, length, Option, Some, None}
+use Rattle.thumb_instr.specs.Renaming.{Low}
+use Rattle.thumb_model.specs.Listing.{Line, places_of}
+use Rattle.thumb_model.specs.Rewrite.{Rule}
+use Rattle.thumb_model.specs.Rewritten.{Setting, Replacement}
+use Rattle.label_layout.specs.declared.errors.LayoutError.{LayoutError}
+use Rattle.label_layout.specs.declared.errors.LayoutError.TheVariants as layout
+use Rattle.label_layout.specs.Refusals.{fault_of, first_fault}
+use Rattle.listing_parser.specs.Replacing.{own_line}
+use Rattle.window_rewrite.specs.declared.choice.Replacement.{Replacement as Made}
+use Rattle.window_rewrite.specs.declared.errors.RewriteError.{RewriteError}
+use Rattle.window_rewrite.specs.declared.errors.RewriteError.TheVariants as error
+
+-- rewriting by these rules, for an image that begins at the base; a new instruction has a line of its own: a tab, its canonical text and a newline
+abbrev pub setting : ℕ → List Rule → Setting
+setting base rules = record { table = rules; base = base; write = own_line }
+
+-- the registers that a map has, in order
+abbrev pub registers_of : List (Option Low) → List Low
+registers_of [] = []
+registers_of (None ∷ os) = registers_of os
+registers_of (Some r ∷ os) = r ∷ registers_of os
+
+-- a replacement that was made: its entry is counted from 0
+abbrev pub replacement_of : Made → Replacement
+replacement_of m = record { place = m.place; entry = m.entry - 1; registers = registers_of m.map }
+
+-- why the given lines are refused: the first of them that cannot be laid out, by what its first fault is
+abbrev pub IsRefusal : ℕ → List Line → RewriteError → Type 0
+IsRefusal base lines (error.Line number k) = first_fault base lines ≡ Some (number, fault_of k)
+IsRefusal base lines error.Memory = Unit {0}
+
+-- a layout's error as one of rewriting
+abbrev pub of_layout : LayoutError → RewriteError
+of_layout (layout.Line number k) = error.Line number k
+of_layout layout.Memory = error.Memory
+
+-- how many matches are tried and places visited for one replacement, in a listing of so many places by a table of so many entries
+abbrev pub round_cost : ℕ → ℕ → ℕ
+round_cost places entries = places * entries + (19 * places + 1) * places
+
+-- the cost of some replacements, and of finding that there is no more
+abbrev pub rewriting_cost : List Line → List Rule → ℕ → ℕ
+rewriting_cost lines rules replacements = (replacements + 1) * round_cost (length (places_of lines)) (length rules)

@@ -1,0 +1,28 @@
+use listing_parser::Listing;
+use rule_table::Map;
+
+/// An entry was used: its right side stands in place of its left side.
+#[derive(Drop)]
+pub struct Replacement {
+    /// The place of the first instruction that was replaced, counted from 0 in the listing as it then was.
+    pub place: u32,
+    /// The entry of the table, counted from 1.
+    pub entry: u64,
+    /// The registers that stood in place of the entry's own.
+    pub map: Map,
+}
+
+/// What rewriting leaves.
+#[derive(Drop)]
+pub struct Rewritten {
+    pub listing: Listing,
+    /// The replacements in the order in which they were made.
+    pub replacements: Vec<Replacement>,
+}
+
+/// A replacement that can be made, and the listing that it leaves.
+#[derive(Drop)]
+pub(crate) struct Choice {
+    pub(crate) replacement: Replacement,
+    pub(crate) listing: Listing,
+}
