@@ -16,8 +16,6 @@ mod live_items;
 #[cfg(test)]
 mod namings;
 #[cfg(test)]
-mod rewrites;
-#[cfg(test)]
 mod runs;
 #[cfg(test)]
 mod scanning;

@@ -3,3 +3,5 @@
 
 #[cfg(test)]
 mod images;
+#[cfg(test)]
+mod rewrites;
