@@ -14,6 +14,8 @@ mod prints;
 #[cfg(test)]
 mod proofs_checked;
 #[cfg(test)]
+mod propagation;
+#[cfg(test)]
 mod sequences;
 #[cfg(test)]
 mod solving;
