@@ -34,5 +34,6 @@ measure python3 bash rewrite.sh
 measure python3 bash table_texts.sh
 measure python3 bash live_items.sh "$listings"
 measure cadical python3 measure_lrat.py "$work/lrat"
+measure "python3 cadical" bash solver.sh
 measure cadical python3 exported.py "$work/rules"
 exit "$failed"

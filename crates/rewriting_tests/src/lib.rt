@@ -4,4 +4,6 @@
 #[cfg(test)]
 mod images;
 #[cfg(test)]
+mod propagation;
+#[cfg(test)]
 mod rewrites;
