@@ -155,10 +155,12 @@ fn lines_outcome<L: Ledger>(
             let outcome = refused(alloc, unlaid(number, kind))?;
             Ok(outcome)
         }
-        Ok(Rewritten {
-            listing,
-            replacements,
-        }) => {
+        Ok(
+            Rewritten {
+                listing,
+                replacements,
+            },
+        ) => {
             let counts = Counts {
                 replaced: replacements.len() as u64,
                 before,

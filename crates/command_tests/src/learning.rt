@@ -70,16 +70,8 @@ fn refuses(rt: HostRuntime) -> Result<(), Fail> {
     let alloc = rt.alloc();
     let rows: [(&[u8], &str, &[u8]); 3] = [
         (b"nop\nf:\nf:\n", "learn l t", b"refused listing 3 2\n"),
-        (
-            b"nop\n",
-            "learn l t --left 4",
-            b"refused wide 254037460\n",
-        ),
-        (
-            b"addz r0\n",
-            "learn l t --left 4",
-            b"refused listing 1 1\n",
-        ),
+        (b"nop\n", "learn l t --left 4", b"refused wide 254037460\n"),
+        (b"addz r0\n", "learn l t --left 4", b"refused listing 1 1\n"),
     ];
     for (listing, words, line) in rows {
         let mut store = store_of(alloc, listing)?;

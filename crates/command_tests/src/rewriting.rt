@@ -133,12 +133,7 @@ fn rewrites(rt: HostRuntime) -> Result<(), Fail> {
             b"f:\n\tuxtb r0, r0\nlsls r1, r1, #24\nlsrs r1, r1, #24\nbeq f\nbx lr\n",
             b"replaced 1\ninstructions 6 5\n",
         ),
-        (
-            BYTE,
-            READS,
-            READS_LESS,
-            b"replaced 1\ninstructions 5 4\n",
-        ),
+        (BYTE, READS, READS_LESS, b"replaced 1\ninstructions 5 4\n"),
     ];
     for (entry, listing, out, lines) in cases {
         let mut store = store_of(alloc, entry, listing, 0)?;

@@ -233,7 +233,11 @@ fn assert_learn(
     };
     assert_eq!(rt; listing.as_str(), "l", "{line}");
     assert_eq!(rt; out.as_str(), "o", "{line}");
-    assert_eq!(rt; [regs.number, left.number, budget.number, seed], numbers, "{line}");
+    assert_eq!(rt;
+        [regs.number, left.number, budget.number, seed],
+        numbers,
+        "{line}"
+    );
     assert!(rt; pool.numbers() == pool_numbers, "{line}");
     Ok(())
 }

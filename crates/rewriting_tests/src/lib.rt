@@ -4,6 +4,8 @@
 #[cfg(test)]
 mod images;
 #[cfg(test)]
+mod learning;
+#[cfg(test)]
 mod propagation;
 #[cfg(test)]
 mod rewrites;

@@ -65,7 +65,10 @@ fn units_follow_with_their_reasons(rt: HostRuntime) -> Result<(), Fail> {
     let second = add(&mut arena, &[0, 5])?;
     let (conflict, found) = follow(alloc, &mut arena, 1)?;
     assert!(rt; conflict.is_none());
-    assert_eq!(rt; found.as_slice(), [(1, None), (5, Some(second)), (2, Some(first))].as_slice());
+    assert_eq!(rt;
+        found.as_slice(),
+        [(1, None), (5, Some(second)), (2, Some(first))].as_slice()
+    );
     Ok(())
 }
 

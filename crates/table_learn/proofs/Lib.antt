@@ -1,0 +1,15 @@
+pub mod Telling
+pub mod Certificates
+pub mod Fit
+pub mod Steps
+pub mod Monotone
+pub mod Gains
+pub mod Candidates
+pub mod TextLengths
+pub mod Passing
+pub mod Costs
+pub mod Asking
+pub mod Rounds
+pub mod Places
+pub mod Dropped
+pub mod Searched
