@@ -55,4 +55,5 @@ def main():
                 sys.stdout.writelines(line + "\n" for line in copied(lines, names, number))
 
 
-main()
+if __name__ == "__main__":
+    main()

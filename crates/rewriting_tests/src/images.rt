@@ -179,7 +179,7 @@ fn runs_what_was_assembled(rt: HostRuntime) -> Result<(), Fail> {
     assert_eq!(rt; steps(alloc, &mut waiting, &[], 3)?, Stage::Wants);
     assert!(rt; waiting.events().is_empty());
     // a run falls out of an image that ends
-    let mut ending = machine_of(alloc, &bytes[..2], 2)?;
+    let mut ending = machine_of(alloc, &[0x00, 0xbf], 2)?;
     assert_eq!(rt; steps(alloc, &mut ending, &[], 2)?, Stage::Fell);
     assert!(rt; ending.events() == [Event::Fell].as_slice());
     Ok(())

@@ -1,0 +1,93 @@
+#!/usr/bin/env python3
+"""Compares images with those of GNU as and ld, and adds addresses to listings. In both, each external name gets an odd address from 0xc00001 on.
+
+Use: bench/images.py compare PROGRAM LISTING.., where PROGRAM reads a listing and writes its image from 0,
+or   bench/images.py addressed < LISTING > LISTING.
+
+Two halfwords count as the same where one is a `nop` (BF00, or 46C0 of GNU as), or padding of GNU as by zeros, or where one is the 3-bit form of an addition to a
+register's own value and the other its 8-bit form; GNU as also fills the end up to a multiple of 4."""
+import re
+import subprocess
+import sys
+import tempfile
+from pathlib import Path
+
+from repeated import NAME, defined, parts
+
+NOPS = {0xBF00, 0x46C0, 0}
+
+
+def mentioned(lines):
+    """The names that branches, calls and data words mention, in order."""
+    for line in lines:
+        _, word, rest, _ = parts(line)
+        if word.strip() in ("b", "bl"):
+            yield rest.strip()
+        elif word.strip() == ".word":
+            yield from re.findall(rf"(?<![0-9])({NAME})", rest)
+
+
+def addressed(text):
+    """The text behind lines that set the addresses of its external names."""
+    lines = text.splitlines()
+    known = defined(lines)
+    names = dict.fromkeys(name for name in mentioned(lines) if name not in known)
+    sets = [f"\t.set {name}, {0xC00001 + 16 * n:#x}\n" for n, name in enumerate(names)]
+    return "".join(sets) + text
+
+
+def image(program, text):
+    run = subprocess.run([program], input=text.encode(), capture_output=True)
+    return run.stdout, run.stderr.decode().strip()
+
+
+def gnu_image(text, folder):
+    """The bytes that GNU as and ld make of a text: in one section, with external names of functions."""
+    source = re.sub(r"(?m)^\s*\.section.*$", "\t.text", text)
+    source = re.sub(r"(?m)^\t\.set (\S+), (0x\S+)$", r"\t.thumb_set \1, \2", source)
+    (folder / "in.s").write_text(".syntax unified\n.thumb\n" + source)
+    subprocess.run(["arm-none-eabi-as", "-mcpu=cortex-m0", "-mthumb", folder / "in.s", "-o", folder / "in.o"], check=True)
+    subprocess.run(["arm-none-eabi-ld", "-Ttext=0", "-e", "0", folder / "in.o", "-o", folder / "in.elf"], check=True)
+    subprocess.run(["arm-none-eabi-objcopy", "-O", "binary", "-j", ".text", folder / "in.elf", folder / "in.bin"], check=True)
+    return (folder / "in.bin").read_bytes()
+
+
+def short_form(half):
+    """An addition of a 3-bit number to the register's own value, in its 8-bit form."""
+    if half >> 10 == 0b000111 and half & 7 == half >> 3 & 7:
+        return (0b00110 | half >> 9 & 1) << 11 | (half & 7) << 8 | half >> 6 & 7
+    return half
+
+
+def differences(ours, theirs):
+    """The offsets of halfwords that are no other form of one another."""
+    if len(ours) != len(theirs) and theirs[len(ours) :] not in (b"\x00\x00", b"\xc0\x46"):
+        yield min(len(ours), len(theirs)) // 2 * 2
+    for at in range(0, min(len(ours), len(theirs)) - 1, 2):
+        a, b = (int.from_bytes(bytes[at : at + 2], "little") for bytes in (ours, theirs))
+        if a != b and not (a in NOPS and b in NOPS) and short_form(a) != short_form(b):
+            yield at
+
+
+def compare(program, paths):
+    failed = False
+    with tempfile.TemporaryDirectory() as folder:
+        for path in paths:
+            text = addressed(Path(path).read_text())
+            ours, told = image(program, text)
+            if told.startswith("refused"):
+                print(f"{path}: {told}")
+                continue
+            theirs = gnu_image(text, Path(folder))
+            wrong = list(differences(ours, theirs))
+            failed |= bool(wrong)
+            print(f"{path}: {len(ours)} bytes, " + (f"others at {wrong[:5]}" if wrong else "the same"))
+    return failed
+
+
+if sys.argv[1:] == ["addressed"]:
+    sys.stdout.write(addressed(sys.stdin.read()))
+elif sys.argv[1:2] == ["compare"]:
+    sys.exit(compare(sys.argv[2], sys.argv[3:]))
+else:
+    sys.exit(__doc__)

@@ -1,0 +1,27 @@
+#!/usr/bin/env bash
+# Measures assembling a listing of about 65,000 lines, made by repeating the files of a folder, with the proved crates beside a plain Rust program and GNU as,
+# and compares the images of the files with those of GNU as and ld.
+# Use: bench/images.sh FOLDER [TURNS]
+. "$(dirname "$0")/common.sh"
+folder=${1:-} turns=${2:-9}
+[ -d "$folder" ] || { sed -n '2,4s/^# //p' "$0" >&2; exit 2; }
+take_crates thumb_assembler
+proved=$(build_proved images "$top/bench/images/proved.rs" listing_parser label_layout thumb_assembler anyhow)
+plain=$(build_plain "$top/bench/images/plain.rs")
+python3 "$top/bench/images.py" compare "$proved" "$folder"/*
+python3 "$top/bench/repeated.py" "$folder" 64000 | python3 "$top/bench/images.py" addressed > "$work/listing.s"
+
+# shortest PROGRAM COLUMN: the least time of a program's runs. $1 is assembling, $2 reading, laying out and assembling.
+shortest() { cut -d' ' -f"$2" "$work/$1.times" | sort -n | head -n 1; }
+
+for _ in $(seq "$turns"); do
+    for program in proved plain; do
+        "${!program}" < "$work/listing.s" 2>> "$work/$program.times" > "$work/$program.image"
+    done
+    cmp "$work/proved.image" "$work/plain.image"
+    clocked arm-none-eabi-as -mcpu=cortex-m0 -mthumb "$work/listing.s" -o "$work/listing.o" 2>> "$work/gnu.times"
+done
+said="$(wc -l < "$work/listing.s") lines to $(wc -c < "$work/proved.image") bytes"
+print_times "assembling $said" us "$(shortest proved 1)" "$(shortest plain 1)"
+print_times "reading, laying out and assembling $said" us "$(shortest proved 2)" "$(shortest plain 2)"
+print_times "reading, laying out and assembling $said" us "$(shortest proved 2)" "$(shortest gnu 1)" "GNU as"
