@@ -1,0 +1,121 @@
+-- Tables that are learnt from windows.
+use Rattle.std.specs.Prelude.{ℕ, ◌≡◌, ◌<◌, ◌≤◌, ◌+◌, ◌*◌, ◌⊎◌, List, Some, All, Vec, length, map, slice_get, take}
+use Rattle.thumb_instr.specs.declared.instr.Instr.{Instr}
+use Rattle.window_exec.specs.Telling.{Tells}
+use Rattle.seq_enum.specs.Alphabet.{IsOver}
+use Rattle.fingerprints.specs.Seeded.{Seen}
+use Rattle.cnf_gates.specs.Cnf.{Cnf}
+use Rattle.lrat_check.specs.declared.line.Line.{Line}
+use Rattle.lrat_check.specs.Content.{Content, content_of}
+use Rattle.cdcl_core.specs.declared.solving.Verdict.TheVariants.{Unsat, Spent}
+use Rattle.cdcl_core.specs.Solved.{VerdictOf}
+use Rattle.rule_table.specs.Table.{Opened, Rule, Table}
+use Rattle.rule_table.specs.Text.{text_of}
+use Rattle.rule_table.specs.Views.{table_of}
+use Rattle.table_audit.specs.Sides.{named_count, formula_of, formula_against}
+use Rattle.table_audit.specs.Shorter.{IsTold, sequences_below, shorter, values_in}
+use Rattle.table_audit.specs.Acceptance.{IsAccepted}
+use Rattle.table_learn.specs.declared.errors.LearnError.{LearnError}
+use Rattle.table_learn.specs.declared.errors.LearnError.TheVariants.{Wide, Full, Memory}
+use Rattle.table_learn.specs.Settings.{Settings, Window}
+
+-- ---- entries ----
+
+-- the window that an entry is of
+abbrev pub learnt_from : Rule → Window
+learnt_from e = record { seq = e.left; mask = e.mask }
+
+abbrev pub KeepsOrShortens : Rule → Type 0
+KeepsOrShortens e = (e.right ≡ e.left) ⊎ (length e.right < length e.left)
+
+-- the lines are the log by which the solver refutes a formula
+pub record IsRefutation (budget : ℕ) (formula : Cnf) (lines : List Content) : Type 0 where
+  pub log : Vec Line Global
+  pub refutes : VerdictOf formula budget (Unsat log)
+  pub says : map content_of log.items ≡ lines
+
+-- the lines are the log of a search in which the solver spent its budget on a formula
+pub record IsSpentSearch (budget : ℕ) (formula : Cnf) (lines : List Content) : Type 0 where
+  pub log : Vec Line Global
+  pub spends : VerdictOf formula budget (Spent log)
+  pub says : map content_of log.items ≡ lines
+
+-- the proof is the solver's, of the formula of the two sides
+abbrev pub IsProvedBySolver : ℕ → Rule → Type 0
+IsProvedBySolver budget e = IsRefutation budget (formula_of e) e.proof
+
+-- a number's log is the solver's, of the formula of the left side and the number's sequence
+abbrev pub IsOpenBySolver : Table → Rule → Opened → Type 0
+IsOpenBySolver t e o = (seq : List Instr) → slice_get (shorter t e) o.number ≡ Some seq → IsSpentSearch t.budget (formula_against e seq) o.log
+
+-- ---- states ----
+
+-- a state tells a window from a sequence of its alphabet that is shorter and that no state before tells from it
+pub record TellsFirst (pool : List ℕ) (before : List Seen) (s : Seen) (w : Window) : Type 0 where
+  pub other : List Instr
+  pub over : IsOver (named_count w.seq) pool other
+  pub is_shorter : length other < length w.seq
+  pub tells : Tells (values_in s) w.seq other w.mask
+  pub first : IsTold before w.seq other w.mask → ⊥
+
+-- it does so for some window of the list
+pub record IsEarned (pool : List ℕ) (windows : List Window) (before : List Seen) (s : Seen) : Type 0 where
+  pub place : ℕ
+  pub window : Window
+  pub is_window : slice_get windows place ≡ Some window
+  pub found : TellsFirst pool before s window
+
+-- each state past the seed's 64
+abbrev pub AreEarned : List ℕ → List Window → List Seen → Type 0
+AreEarned pool windows states = (i : ℕ) (s : Seen) → 64 ≤ i → slice_get states i ≡ Some s → IsEarned pool windows (take i states) s
+
+-- ---- tables ----
+
+-- the table's header is the settings', it has an entry for each window in order, whose right side is the left side or shorter, no state past the
+-- seed's that isn't needed, and the audit accepts it; proofs and logs are the solver's
+pub record Learnt (s : Settings) (windows : List Window) (t : Table) : Type 0 where
+  pub regs : t.regs ≡ s.regs
+  pub left : t.left ≡ s.left
+  pub seed : t.seed ≡ s.seed
+  pub budget : t.budget ≡ s.budget
+  pub pool : t.pool ≡ s.pool
+  pub entries : map learnt_from t.rules ≡ windows
+  pub rights : All KeepsOrShortens t.rules
+  pub states : AreEarned t.pool windows t.states
+  pub accepted : IsAccepted t
+  pub proofs : All (IsProvedBySolver t.budget) t.rules
+  pub logs : All (λ e. All (IsOpenBySolver t e) e.opens) t.rules
+
+-- ---- refusals ----
+
+-- how many bytes a table's text has at most
+abbrev pub text_limit : ℕ
+text_limit = 67108864
+
+abbrev pub text_length : Table → ℕ
+text_length t = length (text_of t)
+
+-- how many sequences are shorter than the longest windows
+abbrev pub width_of : Settings → ℕ
+width_of s = length (sequences_below s.regs s.pool s.left)
+
+-- the first windows, at least one, give a table whose text is too long
+pub record IsFull (s : Settings) (windows : List Window) (t : Table) (bytes : ℕ) : Type 0 where
+  pub count : ℕ
+  pub some : 1 ≤ count
+  pub within : count ≤ length windows
+  pub learnt : Learnt s (take count windows) t
+  pub is_length : bytes ≡ text_length t
+  pub long : text_limit < bytes
+
+-- when each error comes
+abbrev pub FailsAs : Settings → List Window → LearnError → Type 0
+FailsAs s windows (Wide count) = (count ≡ width_of s) × (5000000 < count)
+FailsAs s windows (Full t bytes) = IsFull s windows (table_of t) bytes
+FailsAs s windows Memory = Unit {0}
+
+-- ---- steps ----
+
+-- with so many windows and listed states: runs on states, and decisions and conflicts of the solver, which has 200,000 variables at most
+abbrev pub learn_cost : Settings → ℕ → ℕ → ℕ
+learn_cost s windows states = 4 * (windows * (width_of s * (states * s.left))) + windows * (width_of s * ((s.budget + 1) * 200001))
