@@ -1,1 +1,10 @@
-
+pub mod Telling
+pub mod Certificates
+pub mod Fit
+pub mod Steps
+pub mod Widths
+pub mod Gains
+pub mod Candidates
+pub mod TextLengths
+pub mod Passing
+pub mod Costs

@@ -1,2 +1,12 @@
 pub mod Settings
 pub mod Learnt
+pub mod Tellings
+pub mod Fitness
+pub mod Searching
+pub mod Found
+pub mod Lengths
+pub mod Dropping
+pub mod Keeping
+pub mod Tried
+pub mod Progress
+pub mod Passing

@@ -1,26 +1,158 @@
 //! A table, window by window.
-ghost use Rattle.std.specs.Prelude.{◌≤◌, ◌+◌, IfErr, IfOk, length, map};
+ghost use Rattle.std.specs.Prelude.{◌≡◌, ◌<◌, ◌≤◌, ◌+◌, ◌-◌, ◌∷◌, ◌++◌, [], ℕ, List, IfErr, IfOk, OnOk, length, map};
 ghost use Rattle.rule_table.specs.Valid.{IsTable};
-ghost use Rattle.rule_table.specs.Views.{table_of};
-ghost use Rattle.table_learn.specs.Settings.{settings_of, window_of, AreInLimits, AreWindows};
-ghost use Rattle.table_learn.specs.Learnt.{Learnt, FailsAs, text_limit, text_length, learn_cost};
+ghost use Rattle.fingerprints.specs.Seeded.{seen};
+ghost use Rattle.rule_table.specs.Views.{rule_of, table_of};
+ghost use Rattle.table_audit.specs.Sides.{named_count};
+ghost use Rattle.table_learn.specs.Settings.{Window as Model, settings_of, window_of, AreInLimits, AreWindows, IsWindow};
+ghost use Rattle.table_learn.specs.Found.{window_in};
+ghost use Rattle.table_learn.specs.Learnt.{Learnt, FailsAs, text_limit, text_length, learn_cost, width_of};
+ghost use Rattle.table_learn.specs.Progress.{HasLearnt, table_with, states_in, rules_in, search_cost, drop_cost};
 
-use crate::errors::LearnError;
+use crate::dropping::drop_all_told;
+use crate::errors::{LearnError, Memory};
+use crate::keeping::{Kept, candidates, index_for};
+use crate::lengths::{entry_length, plus, times};
+use crate::searching::search;
 use crate::settings::Settings;
-use rule_table::Table;
+use crate::widths::count_shorter;
+use crate::window::Window;
+use fingerprints::{States, seeded};
+use rule_table::{Entry, Table, write_table};
 use std::alloc::Global;
 use step_ledger::{Ledger, Steps};
 use thumb_instr::{Mask, Seq};
+use window_exec::WState;
+
+/// The greatest number of sequences that may be shorter than the longest windows.
+const WIDEST: u64 = 5_000_000;
+
+/// The greatest number of bytes of a table's text.
+const TEXT_LIMIT: u64 = 67_108_864;
+
+/// How many bytes the line of a state has.
+const STATE_LINE: u64 = 44;
+
+/// What the windows so far gave: the listed states, the entries, how many bytes their table's text has, and the last index.
+#[derive(Drop)]
+pub(crate) struct Learner {
+    pub states: Vec<WState>,
+    pub entries: Vec<Entry>,
+    pub bytes: u64,
+    pub kept: Option<Kept>,
+}
+
+/// The table of states and entries.
+fn table_of(settings: Settings, states: Vec<WState>, entries: Vec<Entry>) -> Table
+    ensures { table_of result ≡ table_with (settings_of settings) (map seen states.items) (map rule_of entries.items) }
+{
+    Table {
+        regs: settings.regs,
+        left: settings.left,
+        seed: settings.seed,
+        budget: settings.budget,
+        pool: settings.pool,
+        states: States::new(states),
+        entries,
+    }
+}
+
+/// Before the first window there are the states of the seed alone.
+fn begin(alloc: Global, settings: Settings) -> Result<(Settings, Learner), Memory>
+    requires { AreInLimits (settings_of settings) }
+    ensures same { IfOk result (λ r. settings_of r.0 ≡ settings_of settings) }
+    ensures begun { IfOk result (λ r. HasLearnt (settings_of settings) [] r.1) }
+    ensures short { IfOk result (λ r. r.1.bytes ≤ text_limit) }
+{
+    let states = seeded(alloc, settings.seed)?.into_vec();
+    let table = table_of(settings, states, Vec::new(alloc));
+    let bytes = write_table(alloc, &table)?.len() as u64;
+    let Table {
+        regs,
+        left,
+        seed,
+        budget,
+        pool,
+        states,
+        entries,
+    } = table;
+    let settings = Settings {
+        regs,
+        left,
+        budget,
+        seed,
+        pool,
+    };
+    let learner = Learner {
+        states: states.into_vec(),
+        entries,
+        bytes,
+        kept: None,
+    };
+    Ok((settings, learner))
+}
+
+/// Learns one more window.
+fn learn_window<L: Ledger>(
+    alloc: Global,
+    settings: &Settings,
+    learner: Learner,
+    window: Window,
+    steps: &mut Steps<L>,
+) -> Result<Learner, Memory>
+    requires some { 0 < window.k }
+    requires few { window.k ≤ 4 }
+    requires named { window.k ≡ named_count window.left }
+    requires window { IsWindow (settings_of settings.now) (window_in window) }
+    requires before { (windows : List Model) × HasLearnt (settings_of settings.now) windows learner }
+    ensures learnt { (windows : List Model) → HasLearnt (settings_of settings.now) windows learner → IfOk result (HasLearnt (settings_of settings.now) (windows ++ window_in window ∷ [])) }
+    ensures grown { IfOk result (λ l. length learner.states.items ≤ length l.states.items) }
+    ensures cost { IfOk result (λ l. steps.new ≤ steps.old + search_cost (settings_of settings.now) (length l.states.items)
+        + drop_cost (settings_of settings.now) (length l.entries.items) (length l.states.items - length learner.states.items)) }
+{
+    let Learner {
+        mut states,
+        mut entries,
+        bytes,
+        kept,
+    } = learner;
+    let before = states.len();
+    let kept = index_for(alloc, kept, &window, &settings.pool, &states)?;
+    let numbers = candidates(alloc, &kept, &window, &settings.pool, &states)?;
+    let entry = search(alloc, settings, window, &numbers, &mut states, steps)?;
+    let lines = plus(
+        entry_length(alloc, &entry)?,
+        times((states.len() - before) as u64, STATE_LINE)?,
+    )?;
+    let whole = plus(bytes, lines)?;
+    entries.push(entry)?;
+    if states.len() == before {
+        return Ok(Learner {
+            states,
+            entries,
+            bytes: whole,
+            kept: Some(kept),
+        });
+    }
+    let (entries, freed) = drop_all_told(alloc, &settings.pool, entries, &states[before..], steps)?;
+    Ok(Learner {
+        states,
+        entries,
+        bytes: whole - freed,
+        kept: Some(kept),
+    })
+}
 
 /// Learns a table from windows, each with the items that may be live after it.
 ///
 /// For each window in turn, the sequences of the alphabet of the registers that it names and the pool that are shorter than it are gone
-/// through by number. One that a listed state tells from the window is passed; of any other the solver finds a state that tells it, which is
+/// through by number. One that a listed state tells from the window is passed. Of any other the solver finds a state that tells it, which is
 /// listed from then on, or a proof that none does, and then the sequence is the right side, or it spends its budget, and then the
-/// sequence is named open. Where none is left, the right side is the window itself.
+/// sequence is named open. Where none is left, the right side is the window itself. Open numbers that aren't those of sequences shorter than the
+/// right side, or that a state listed later tells, are dropped.
 ///
 /// `Wide` comes where more than 5,000,000 sequences are shorter than the longest windows, `Full` at the first window after which the table's text
-/// has more than 67,108,864 bytes. A step is an instruction that is run, or a decision or a conflict of the solver.
+/// has more than 67,108,864 bytes. A step is an instruction that is run on a listed state, or a decision or a conflict of the solver.
 pub fn learn<L: Ledger>(
     alloc: Global,
     windows: Vec<(Seq, Mask)>,
@@ -35,5 +167,19 @@ pub fn learn<L: Ledger>(
     ensures fails { IfErr result (FailsAs (settings_of settings) (map window_of windows.items)) }
     ensures cost { IfOk result (λ t. steps.new ≤ steps.old + learn_cost (settings_of settings) (length windows.items) (length (table_of t).states)) }
 {
-    Err(LearnError::Memory)
+    let width = count_shorter(settings.regs, &settings.pool, settings.left);
+    if width > WIDEST {
+        return Err(LearnError::Wide(width));
+    }
+    let (settings, mut learner) = begin(alloc, settings)?;
+    for (left, mask) in &windows {
+        let window = Window::new(left, *mask);
+        learner = learn_window(alloc, &settings, learner, window, steps)?;
+        if learner.bytes > TEXT_LIMIT {
+            let bytes = learner.bytes;
+            let table = table_of(settings, learner.states, learner.entries);
+            return Err(LearnError::Full { table, bytes });
+        }
+    }
+    Ok(table_of(settings, learner.states, learner.entries))
 }

@@ -1,9 +1,17 @@
 //! The learning of a table of rules from windows: for each window the shortest sequence that leaves the same, with its proof.
 #![tactic(auto)]
 
+mod dropping;
 mod errors;
+mod keeping;
+pub mod laws;
 mod learning;
+mod lengths;
+mod searching;
 mod settings;
+mod trying;
+mod widths;
+mod window;
 
 pub use errors::LearnError;
 pub use learning::learn;

@@ -1,0 +1,174 @@
+-- Entries fit as more states are found, and pass the audit.
+use Rattle.std.proofs.Common.{◌≡◌, ℕ, zero, suc, ◌+◌, ◌<◌, ◌≤◌, ◌⊎◌, ◌==◌, ◌||◌, inl, inr, Bool, true, false, not, List, [], ◌∷◌, ◌++◌, Option, Some, None, All, cond, filter, length, map, slice_get, refl, sym, ◌∙◌, ap, subst, arith, eqb-true, zero-add, nat_le}
+use Rattle.std.proofs.lemmas.Bool.{cases_Bool, or_cases, or_left, or_right, false≢true, and_parts, leb-true, le-leb}
+use Rattle.thumb_instr.specs.declared.instr.Instr.{Instr}
+use Rattle.seq_enum.specs.Lists.{ascends_from}
+use Rattle.fingerprints.specs.Seeded.{Seen}
+use Rattle.clause_model.specs.Literals.{codes_of}
+use Rattle.rule_table.specs.Table.{Opened, Rule, Table}
+use Rattle.rule_table.specs.Valid.{numbers_of}
+use Rattle.proof_logs.specs.Verdicts.{InTurn}
+use Rattle.table_audit.specs.declared.errors.EntryFault.TheVariants.{Proof, Unfinished}
+use Rattle.table_audit.specs.declared.errors.AuditError.TheVariants.{Entry}
+use Rattle.table_audit.specs.Sides.{named_count, formula_of, formula_against}
+use Rattle.table_audit.specs.Shorter.{shorter, is_named}
+use Rattle.table_audit.specs.Acceptance.{EntryVerdict, ToldTest, OpenTest}
+use Rattle.table_learn.specs.Settings.{Settings}
+use Rattle.table_learn.specs.Learnt.{KeepsOrShortens}
+use Rattle.table_learn.specs.Tellings.{told}
+use Rattle.table_learn.specs.Fitness.{IsFit, IsFitName, shorter_of, tells_number, stays_open, without_told}
+use Rattle.table_learn.proofs.Certificates.{refutation_passes, search_spends}
+use Rattle.table_learn.proofs.Telling.{told_is, untold, told_more, told-append, untold_both}
+
+-- ---- the audit ----
+
+pub turn_all : {X F : Type 0} (test : ℕ → X → Option F → Type 0) (m : ℕ) (xs : List X) → ((i : ℕ) (x : X) → slice_get xs i ≡ Some x → test (m + i) x None) → InTurn test m xs None
+turn_all test m [] h = tt
+turn_all test m (x ∷ xs) h =
+    let first : m + 0 ≡ m = omega arith in (
+      subst (λ j. test j x None) first (h 0 x refl),
+      turn_all test (m + 1) xs (λ i y e. let k : m + suc i ≡ m + 1 + i = omega arith in subst (λ j. test j y None) k (h (suc i) y e)),
+    )
+
+no_longer : (e : Rule) → KeepsOrShortens e → length e.right ≤ length e.left
+no_longer e (inl same) = let l : length e.right ≡ length e.left = ap length same in omega (arith, l)
+no_longer e (inr less) = omega (arith, less)
+
+-- a table with the settings' header
+pub table_with : Settings → List Seen → List Rule → Table
+table_with s states rules = record { regs = s.regs; left = s.left; seed = s.seed; budget = s.budget; pool = s.pool; states = states; rules = rules }
+
+pub fit_passes : (s : Settings) (states : List Seen) (rules : List Rule) (n : ℕ) (e : Rule) → IsFit s states states e → EntryVerdict (table_with s states rules) n e None
+unfolding EntryVerdict table_with
+fit_passes s states rules n e f =
+    let t : Table = table_with s states rules in (
+      record {
+        canonical = f.window.canonical;
+        short = f.window.short;
+        few = f.window.few;
+        left = f.window.over;
+        right = f.right;
+        no_longer = no_longer e f.keeps;
+        mask = f.window.mask;
+      },
+      (
+        refutation_passes (λ line. Entry n (Proof line)) (Entry n Unfinished) s.budget (formula_of e) e.proof f.proved,
+        (
+          turn_all (ToldTest t n e) 0 (shorter t e) (λ i seq at. subst (λ j. ToldTest t n e j seq None) (sym (zero-add i)) (elim (f.settles i seq at) [
+            | inl named ↦ inl named
+            | inr yes ↦ inr (told_is states e.left seq e.mask yes)
+          ])),
+          turn_all (OpenTest t n e) 0 e.opens (λ i o at. let name = f.names i o at in record {
+            seq = name.seq;
+            is_shorter = name.is_shorter;
+            untold = untold states e.left name.seq e.mask f.mask name.untold;
+            spent = search_spends s.budget (formula_against e name.seq) o.log name.log;
+          }),
+        ),
+      ),
+    )
+
+-- ---- more states ----
+
+pub fit_more : (s : Settings) (tellers more silent : List Seen) (e : Rule) → IsFit s tellers silent e → IsFit s (tellers ++ more) silent e
+fit_more s tellers more silent e f = record {
+  window = f.window;
+  mask = f.mask;
+  right = f.right;
+  keeps = f.keeps;
+  proved = f.proved;
+  lines = f.lines;
+  settles = λ q seq at. elim (f.settles q seq at) [
+    | inl named ↦ inl named
+    | inr yes ↦ inr (told_more tellers more e.left seq e.mask yes)
+  ];
+  names = f.names;
+  ascending = f.ascending;
+}
+
+-- ---- filters ----
+
+at_cons : {X : Type 0} (x : X) (ys : List X) (i : ℕ) (o : X) → slice_get (x ∷ ys) i ≡ Some o → (x ≡ o) ⊎ ((k : ℕ) × (slice_get ys k ≡ Some o))
+at_cons x ys zero o h = let e : x ≡ o = cc in inl e
+at_cons x ys (suc i) o h = inr (i, h)
+
+-- what a filter keeps passes, and is an element
+pub filter_at : {X : Type 0} (p : X → Bool) (xs : List X) (i : ℕ) (o : X) → slice_get (filter p xs) i ≡ Some o → (p o ≡ true) × ((j : ℕ) × (slice_get xs j ≡ Some o))
+filter_at p [] i o h = absurd (cc)
+filter_at p (x ∷ xs) i o h =
+    elim (p x) as (λ b. p x ≡ b → slice_get (cond b (x ∷ filter p xs) (filter p xs)) i ≡ Some o → (p o ≡ true) × ((j : ℕ) × (slice_get (x ∷ xs) j ≡ Some o))) [
+      | true ↦ λ e k. elim (at_cons x (filter p xs) i o k) [
+        | inl q ↦ (ap p (sym q) ∙ e, (0, ap (λ z. Some z) q))
+        | inr r ↦ (let later = filter_at p xs r.0 o r.1 in (later.0, (suc later.1.0, later.1.1)))
+      ]
+      | false ↦ λ e k. let later = filter_at p xs i o k in (later.0, (suc later.1.0, later.1.1))
+    ] refl h
+
+-- a filter that passes all of a number's names keeps the number named
+pub named-filter : (p : Opened → Bool) (opens : List Opened) (q : ℕ) → ((o : Opened) → o.number ≡ q → p o ≡ true) → is_named opens q ≡ true → is_named (filter p opens) q ≡ true
+named-filter p [] q h k = absurd (cc)
+named-filter p (o ∷ opens) q h k =
+    elim (p o) as (λ b. p o ≡ b → is_named (cond b (o ∷ filter p opens) (filter p opens)) q ≡ true) [
+      | true ↦ λ e. elim (or_cases (o.number == q) (is_named opens q) k) [
+        | inl r ↦ or_left _ _ r
+        | inr r ↦ or_right (o.number == q) _ (named-filter p opens q h r)
+      ]
+      | false ↦ λ e. elim (or_cases (o.number == q) (is_named opens q) k) [
+        | inl r ↦ absurd (false≢true (sym e ∙ h o (eqb-true o.number q r)))
+        | inr r ↦ named-filter p opens q h r
+      ]
+    ] refl
+
+pub ascends_lower : (low high : ℕ) (xs : List ℕ) → low ≤ high → ascends_from high xs ≡ true → ascends_from low xs ≡ true
+ascends_lower low high [] h a = refl
+ascends_lower low high (x ∷ xs) h a =
+    let parts = and_parts (nat_le high x) (ascends_from (suc x) xs) a in
+    let least : low ≤ x = (let k = leb-true high x parts.0 in omega (arith, h, k)) in
+    rw (le-leb low x least) parts.1
+
+pub ascends-filter : (p : Opened → Bool) (low : ℕ) (opens : List Opened) → ascends_from low (numbers_of opens) ≡ true → ascends_from low (numbers_of (filter p opens)) ≡ true
+ascends-filter p low [] a = refl
+ascends-filter p low (o ∷ opens) a =
+    let parts = and_parts (nat_le low o.number) (ascends_from (suc o.number) (numbers_of opens)) a in
+    elim (p o) as (λ b. ascends_from low (numbers_of (cond b (o ∷ filter p opens) (filter p opens))) ≡ true) [
+      | true ↦ rw parts.0 (ascends-filter p (suc o.number) opens parts.1)
+      | false ↦ (let k : low ≤ o.number = leb-true low o.number parts.0 in ascends-filter p low opens (ascends_lower low (suc o.number) (numbers_of opens) (omega (arith, k)) parts.1))
+    ]
+
+-- ---- without what the found states tell ----
+
+not_flip : (b : Bool) → not b ≡ true → b ≡ false
+not_flip true h = sym h
+not_flip false h = refl
+
+pub fit_without : (s : Settings) (silent found : List Seen) (e : Rule) → IsFit s (silent ++ found) silent e → IsFit s (silent ++ found) (silent ++ found) (without_told s.pool found e)
+fit_without s silent found e f = record {
+  window = record { canonical = f.window.canonical; short = f.window.short; few = f.window.few; over = f.window.over; mask = f.window.mask };
+  mask = f.mask;
+  right = f.right;
+  keeps = f.keeps;
+  proved = record { log = f.proved.log; refutes = f.proved.refutes; says = f.proved.says };
+  lines = f.lines;
+  settles = λ q seq at.
+      elim (told found e.left seq e.mask) as (λ b. told found e.left seq e.mask ≡ b → (is_named (without_told s.pool found e).opens q ≡ true) ⊎ (told (silent ++ found) e.left seq e.mask ≡ true)) [
+        | true ↦ λ k. inr (told-append silent found e.left seq e.mask ∙ or_right (told silent e.left seq e.mask) _ k)
+        | false ↦ λ k. elim (f.settles q seq at) [
+          | inl r ↦ inl (named-filter (stays_open s.pool found e) e.opens q
+              (λ o same. let here : slice_get (shorter_of s.pool e) o.number ≡ Some seq = subst (λ j. slice_get (shorter_of s.pool e) j ≡ Some seq) (sym same) at in
+              ap not (ap (tells_number found e) here ∙ k)) r)
+          | inr r ↦ inr r
+        ]
+      ] refl;
+  names = λ i o at.
+      let kept = filter_at (stays_open s.pool found e) e.opens i o at in
+      let name = f.names kept.1.0 o kept.1.1 in
+      let quiet : told found e.left name.seq e.mask ≡ false = sym (ap (tells_number found e) name.is_shorter) ∙ not_flip (tells_number found e (slice_get (shorter_of s.pool e) o.number)) kept.0 in
+      record {
+        seq = name.seq;
+        is_shorter = name.is_shorter;
+        untold = untold_both silent found e.left name.seq e.mask name.untold quiet;
+        log = name.log;
+        lines = name.lines;
+      };
+  ascending = ascends-filter (stays_open s.pool found e) 0 e.opens f.ascending;
+}

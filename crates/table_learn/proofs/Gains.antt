@@ -1,0 +1,222 @@
+-- One more window, and the table in the end.
+use Rattle.std.proofs.Common.{◌≡◌, ℕ, zero, suc, ◌+◌, ◌-◌, ◌<◌, ◌≤◌, ◌⊎◌, ◌^◌, ◌%◌, inl, inr, List, [], ◌∷◌, ◌++◌, Option, Some, None, All, length, map, slice_get, take, drop, get_or, filter, refl, sym, ◌∙◌, ap, subst, arith, zero-add, append-nil, length-append, true}
+use Rattle.std.proofs.lemmas.List.{take-append-le, take_all, length-map}
+use Rattle.std.proofs.lemmas.List.Elements.{All-nil, All-cons, All-append, All-from_get_or}
+use Rattle.std.proofs.lemmas.Bool.{cases_lt}
+use Rattle.std.proofs.lemmas.Option.{slice_get_within, slice_get-get_or, slice_get-map, same_Some}
+use Rattle.thumb_instr.specs.declared.instr.Instr.{Instr}
+use Rattle.thumb_instr.specs.Window.{is_in_window}
+use Rattle.thumb_model.specs.Rewrite.{AreOver}
+use Rattle.seq_enum.specs.Pools.{is_pool}
+use Rattle.seq_enum.specs.Alphabet.{IsOver}
+use Rattle.seq_enum.proofs.Numbered.{get_front}
+use Rattle.rand_pcg.specs.Lcg.{Lcg}
+use Rattle.rand_pcg.specs.Pcg.{pcg32}
+use Rattle.fingerprints.specs.Seeded.{Seen, next_state, seeded_states, states_from}
+use Rattle.rule_table.specs.Table.{Opened, Rule, Table}
+use Rattle.rule_table.specs.Valid.{IsState, IsInstr, IsOpened, IsRule, IsTable}
+use Rattle.table_audit.specs.Sides.{named_count, formula_against}
+use Rattle.table_audit.specs.Acceptance.{StateTest, EntryVerdict, IsAccepted}
+use Rattle.table_audit.proofs.Appearing.{names_register}
+use Rattle.table_audit.proofs.Fitting.{are_over, ordered_of}
+use Rattle.table_audit.proofs.Walking.{over_more}
+use Rattle.table_learn.specs.Settings.{Settings, Window, AreInLimits}
+use Rattle.table_learn.specs.Learnt.{Learnt, TellsFirst, IsEarned, AreEarned, learnt_from, width_of, KeepsOrShortens, IsProvedBySolver, IsOpenBySolver, IsSpentSearch}
+use Rattle.table_learn.specs.Fitness.{IsFit, shorter_of, without_told}
+use Rattle.table_learn.specs.Searching.{EarnedFrom}
+use Rattle.table_learn.specs.Progress.{Progress, table_with}
+use Rattle.table_learn.proofs.Fit.{turn_all, fit_passes, fit_more, fit_without, no_longer}
+use Rattle.table_learn.proofs.Steps.{push_cases}
+use Rattle.table_learn.proofs.Widths.{shorter_more}
+
+-- ---- lists ----
+
+map_at : {X Y : Type 0} (f : X → Y) (xs : List X) (i : ℕ) (y : Y) → slice_get (map f xs) i ≡ Some y → (x : X) × (slice_get xs i ≡ Some x) × (f x ≡ y)
+map_at f [] i y h = absurd (cc)
+map_at f (x ∷ xs) zero y h = let e : f x ≡ y = cc in (x, refl, e)
+map_at f (x ∷ xs) (suc i) y h = map_at f xs i y h
+
+take_at : {X : Type 0} (n : ℕ) (xs : List X) (i : ℕ) (x : X) → slice_get (take n xs) i ≡ Some x → slice_get xs i ≡ Some x
+take_at zero xs i x h = absurd (cc)
+take_at (suc n) [] i x h = absurd (cc)
+take_at (suc n) (y ∷ xs) zero x h = h
+take_at (suc n) (y ∷ xs) (suc i) x h = take_at n xs i x h
+
+push_at : {X : Type 0} (xs : List X) (x : X) → slice_get (xs ++ x ∷ []) (length xs) ≡ Some x
+push_at [] x = refl
+push_at (y ∷ ys) x = push_at ys x
+
+map-push : {X Y : Type 0} (f : X → Y) (xs : List X) (x : X) → map f (xs ++ x ∷ []) ≡ map f xs ++ f x ∷ []
+map-push f [] x = refl
+map-push f (y ∷ ys) x = ap (λ zs. f y ∷ zs) (map-push f ys x)
+
+pub all_of : {X : Type 0} (P : X → Type 0) (xs : List X) → ((i : ℕ) (x : X) → slice_get xs i ≡ Some x → P x) → All P xs
+all_of P xs h k d low = h k (get_or xs k d) (slice_get-get_or xs k d low)
+
+-- ---- one more window ----
+
+kept_windows : (pool : List ℕ) (found : List Seen) (rules : List Rule) → map learnt_from (map (without_told pool found) rules) ≡ map learnt_from rules
+kept_windows pool found [] = refl
+kept_windows pool found (e ∷ es) = ap (λ ws. learnt_from e ∷ ws) (kept_windows pool found es)
+
+earned_later : (s : Settings) (windows : List Window) (w : Window) (states more : List Seen) → AreEarned s.pool windows states → EarnedFrom s.pool (length states) (states ++ more) w → AreEarned s.pool (windows ++ w ∷ []) (states ++ more)
+earned_later s windows w states more old new i x from at =
+    elim (cases_lt i (length states)) [
+      | inl k ↦
+          let there : slice_get states i ≡ Some x = sym (get_front states more i k) ∙ at in
+          let g = old i x from there in
+          let within : g.place < length windows = slice_get_within windows g.place g.window g.is_window in
+          record {
+            place = g.place;
+            window = g.window;
+            is_window = get_front windows (w ∷ []) g.place within ∙ g.is_window;
+            found = subst (λ before. TellsFirst s.pool before x g.window) (sym (take-append-le i states more (omega (arith, k)))) g.found;
+          }
+      | inr k ↦ record { place = length windows; window = w; is_window = push_at windows w; found = new i x k at }
+    ]
+
+-- no state was found: nothing is dropped
+pub gain_quiet : (s : Settings) (windows : List Window) (w : Window) (states : List Seen) (rules : List Rule) (e : Rule) → Progress s windows states rules → learnt_from e ≡ w → IsFit s states states e → Progress s (windows ++ w ∷ []) states (rules ++ e ∷ [])
+gain_quiet s windows w states rules e g same fit = record {
+  long = g.long;
+  begins = g.begins;
+  valid = g.valid;
+  matched = map-push learnt_from rules e ∙ ap (λ ws. ws ++ learnt_from e ∷ []) g.matched ∙ ap (λ (v : Window). windows ++ v ∷ []) same;
+  fits = λ n z at. elim (push_cases rules e n z at) [
+    | inl k ↦ g.fits n z k
+    | inr k ↦ subst (λ y. IsFit s states states y) k.1 fit
+  ];
+  earned = λ i x from at.
+      let o = g.earned i x from at in
+      let within : o.place < length windows = slice_get_within windows o.place o.window o.is_window in
+      record { place = o.place; window = o.window; is_window = get_front windows (w ∷ []) o.place within ∙ o.is_window; found = o.found };
+}
+
+-- states were found: what they tell is dropped
+pub gain : (s : Settings) (windows : List Window) (w : Window) (states more : List Seen) (rules : List Rule) (e : Rule) → Progress s windows states rules → All IsState more → EarnedFrom s.pool (length states) (states ++ more) w → learnt_from e ≡ w → IsFit s (states ++ more) states e
+    → Progress s (windows ++ w ∷ []) (states ++ more) (map (without_told s.pool more) (rules ++ e ∷ []))
+gain s windows w states more rules e g valid earned same fit = record {
+  long = let l : length (states ++ more) ≡ length states + length more = length-append states more in omega (arith, l, g.long);
+  begins = take-append-le 64 states more g.long ∙ g.begins;
+  valid = All-append IsState states more g.valid valid;
+  matched = kept_windows s.pool more (rules ++ e ∷ []) ∙ map-push learnt_from rules e ∙ ap (λ ws. ws ++ learnt_from e ∷ []) g.matched ∙ ap (λ (v : Window). windows ++ v ∷ []) same;
+  fits = λ n z at.
+      let from = map_at (without_told s.pool more) (rules ++ e ∷ []) n z at in
+      subst (λ y. IsFit s (states ++ more) (states ++ more) y) from.2
+      (elim (push_cases rules e n from.0 from.1) [
+        | inl k ↦ fit_without s states more from.0 (fit_more s states more states from.0 (g.fits n from.0 k))
+        | inr k ↦ subst (λ y. IsFit s (states ++ more) (states ++ more) (without_told s.pool more y)) k.1 (fit_without s states more e fit)
+      ]);
+  earned = earned_later s windows w states more g.earned earned;
+}
+
+-- ---- before the first window ----
+
+length-states_from : (n : ℕ) (g : Lcg) → length (states_from n g) ≡ n
+unfolding states_from
+length-states_from zero g = refl
+length-states_from (suc n) g = ap suc (length-states_from n (next_state g).1)
+
+flags_low : (x : ℕ) → x % 16 < 16
+flags_low x = omega arith
+
+pub small_flags : (n : ℕ) (g : Lcg) → All (λ (x : Seen). x.nzcv < 16) (states_from n g)
+unfolding states_from
+small_flags zero g = All-nil _
+small_flags (suc n) g = All-cons (λ (x : Seen). x.nzcv < 16) (next_state g).0 (states_from n (next_state g).1) (flags_low _) (small_flags n (next_state g).1)
+
+pub start : (s : Settings) (states : List Seen) → states ≡ seeded_states s.seed → All IsState states → Progress s [] states []
+start s states e valid =
+    let l : length states ≡ 64 = ap length e ∙ length-states_from 64 _ in
+    record {
+      long = omega (arith, l);
+      begins = take_all 64 states (omega (arith, l)) ∙ e;
+      valid = valid;
+      matched = refl;
+      fits = λ n z at. absurd (cc);
+      earned = λ i x from at. let within : i < length states = slice_get_within states i x at in absurd (omega (arith, from, within, l));
+    }
+
+-- ---- the table ----
+
+accepted : (s : Settings) (windows : List Window) (states : List Seen) (rules : List Rule) → Progress s windows states rules → width_of s ≤ 5000000 → IsAccepted (table_with s states rules)
+accepted s windows states rules g narrow = (
+  turn_all (StateTest (table_with s states rules)) 0 (seeded_states s.seed) (λ i x at.
+      let there : slice_get states i ≡ Some x = take_at 64 states i x (subst (λ ys. slice_get ys i ≡ Some x) (sym g.begins) at) in
+      subst (λ j. slice_get states j ≡ Some x) (sym (zero-add i)) there),
+  (
+    narrow,
+    turn_all (EntryVerdict (table_with s states rules)) 1 rules (λ i e at. fit_passes s states rules (1 + i) e (g.fits i e at)),
+  ),
+)
+
+pub learnt : (s : Settings) (windows : List Window) (states : List Seen) (rules : List Rule) → Progress s windows states rules → width_of s ≤ 5000000 → Learnt s windows (table_with s states rules)
+learnt s windows states rules g narrow = record {
+  regs = refl;
+  left = refl;
+  seed = refl;
+  budget = refl;
+  pool = refl;
+  entries = g.matched;
+  rights = all_of KeepsOrShortens rules (λ i e at. (g.fits i e at).keeps);
+  states = g.earned;
+  accepted = accepted s windows states rules g narrow;
+  proofs = all_of (IsProvedBySolver s.budget) rules (λ i e at. (g.fits i e at).proved);
+  logs = all_of (λ e. All (IsOpenBySolver (table_with s states rules) e) e.opens) rules (λ i e at.
+      all_of (IsOpenBySolver (table_with s states rules) e) e.opens (λ j o here seq there.
+      let name = (g.fits i e at).names j o here in
+      let same : name.seq ≡ seq = same_Some name.seq seq (sym name.is_shorter ∙ there) in
+      subst (λ z. IsSpentSearch s.budget (formula_against e z) o.log) same name.log));
+}
+
+-- ---- it has a text ----
+
+over_instrs : (is : List Instr) → AreOver 4 is → All IsInstr is
+over_instrs [] over = All-nil IsInstr
+over_instrs (i ∷ is) over = All-cons IsInstr i is (record { window = over.0; low = over.1 }) (over_instrs is over.2)
+
+side_instrs : (pool : List ℕ) (k : ℕ) (is : List Instr) → k ≤ 4 → IsOver k pool is → All IsInstr is
+side_instrs pool k is few over = over_instrs is (over_more k 4 is few (are_over k pool is (omega (arith, few)) over))
+
+pub few_shorter : (s : Settings) (silent tellers : List Seen) (e : Rule) → AreInLimits s → IsFit s tellers silent e → length (shorter_of s.pool e) ≤ width_of s
+few_shorter s silent tellers e l f =
+    let k : ℕ = named_count e.left in
+    let some : 0 < k = names_register e.left f.window.canonical.renamable.some f.window.canonical.renamable.windows in
+    let n = no_longer e f.keeps in
+    shorter_more k s.regs s.pool (length e.right) s.left some f.window.few l.few_regs (omega (arith, n, f.window.short))
+
+valid_rule : (s : Settings) (states : List Seen) (e : Rule) → AreInLimits s → width_of s ≤ 5000000 → IsFit s states states e → IsRule e
+valid_rule s states e l narrow f =
+    let k : ℕ = named_count e.left in
+    let o = ordered_of e.left f.window.canonical in
+    let n = no_longer e f.keeps in
+    let five : length e.left ≤ 5 = f.window.canonical.renamable.few in
+    record {
+      some = f.window.canonical.renamable.some;
+      few_left = five;
+      few_right = omega (arith, n, five);
+      left = side_instrs s.pool k e.left o.few f.window.over;
+      right = side_instrs s.pool k e.right o.few f.right;
+      mask = f.mask;
+      proof = f.lines;
+      opens = all_of IsOpened e.opens (λ i z at.
+          let name = f.names i z at in
+          let low : z.number < length (shorter_of s.pool e) = slice_get_within (shorter_of s.pool e) z.number name.seq name.is_shorter in
+          let few = few_shorter s states states e l f in
+          record { small = omega (arith, low, few, narrow); log = name.lines });
+      ascending = f.ascending;
+    }
+
+pub valid : (s : Settings) (windows : List Window) (states : List Seen) (rules : List Rule) → AreInLimits s → s.seed < 2 ^ 32 → is_pool s.pool ≡ true → width_of s ≤ 5000000 → Progress s windows states rules → IsTable (table_with s states rules)
+valid s windows states rules l seed pool narrow g = record {
+  some_regs = l.some_regs;
+  few_regs = l.few_regs;
+  some_left = l.some_left;
+  few_left = l.few_left;
+  seed = seed;
+  some_budget = l.some_budget;
+  few_budget = l.few_budget;
+  pool = pool;
+  states = g.valid;
+  rules = all_of IsRule rules (λ i e at. valid_rule s states e l narrow (g.fits i e at));
+}

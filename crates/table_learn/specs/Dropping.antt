@@ -1,0 +1,19 @@
+-- Entries before and after numbers are dropped.
+use Rattle.std.specs.Prelude.{ℕ, ◌≡◌, ◌≤◌, ◌+◌, List, [], ◌∷◌, length}
+use Rattle.fingerprints.specs.Seeded.{Seen}
+use Rattle.thumb_model.specs.Rewrite.{AreOver}
+use Rattle.rule_table.specs.Table.{Rule}
+use Rattle.table_audit.specs.Sides.{IsCanonicalSide}
+use Rattle.table_learn.specs.Fitness.{without_told}
+use Rattle.table_learn.specs.Lengths.{opens_length}
+
+-- the left side is canonical, of instructions over r0 to r3, and no shorter than the right side
+pub record IsSided (e : Rule) : Type 0 where
+  pub canonical : IsCanonicalSide e.left
+  pub over : AreOver 4 e.left
+  pub no_longer : length e.right ≤ length e.left
+
+-- without what the found states tell, an entry's open numbers have so many bytes fewer
+pub record Dropped (pool : List ℕ) (found : List Seen) (before after : Rule) (freed : ℕ) : Type 0 where
+  pub rest : after ≡ without_told pool found before
+  pub less : opens_length after.opens + freed ≡ opens_length before.opens

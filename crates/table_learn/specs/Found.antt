@@ -1,0 +1,32 @@
+-- What becomes of a shorter sequence.
+use Rattle.std.specs.Prelude.{ℕ, ◌≡◌, true, false, List, All, map}
+use Rattle.thumb_instr.specs.declared.instr.Instr.{Instr}
+use Rattle.fingerprints.specs.Seeded.{Seen, seen}
+use Rattle.lrat_check.specs.Content.{content_of}
+use Rattle.lrat_check.specs.Text.{IsLine}
+use Rattle.bit_blast.specs.Differences.{sides_formula}
+use Rattle.rule_table.specs.Valid.{IsState}
+use Rattle.table_learn.specs.declared.window.Window as code
+use Rattle.table_learn.specs.declared.trying.Finding.{Finding}
+use Rattle.table_learn.specs.declared.trying.Finding.TheVariants.{Told, State, Proof, Log}
+use Rattle.table_learn.specs.Settings.{Window}
+use Rattle.table_learn.specs.Learnt.{IsRefutation, IsSpentSearch}
+use Rattle.table_learn.specs.Tellings.{told, tells_apart}
+use Rattle.table_learn.specs.Searching.{formula_for}
+
+abbrev pub window_in : code.Window → Window
+window_in w = record { seq = w.left; mask = w.mask.items.bits }
+
+-- a state tells a sequence from the window, or the solver's log refutes that any does, or the log spends the budget
+abbrev pub IsAnswer : ℕ → code.Window → List Instr → Finding → Type 0
+IsAnswer budget w seq Told = ⊥
+IsAnswer budget w seq (State s) = (tells_apart w.left seq w.mask.items.bits (seen s) ≡ true) × IsState (seen s)
+IsAnswer budget w seq (Proof log) = IsRefutation budget (sides_formula w.left seq w.mask.items.bits w.k) (map content_of log.items) × All IsLine (map content_of log.items)
+IsAnswer budget w seq (Log log) = IsSpentSearch budget (sides_formula w.left seq w.mask.items.bits w.k) (map content_of log.items) × All IsLine (map content_of log.items)
+
+-- a listed state tells it, or none does and the solver answers so
+abbrev pub IsFinding : ℕ → List Seen → Window → List Instr → Finding → Type 0
+IsFinding budget states w seq Told = told states w.seq seq w.mask ≡ true
+IsFinding budget states w seq (State s) = (told states w.seq seq w.mask ≡ false) × (tells_apart w.seq seq w.mask (seen s) ≡ true) × IsState (seen s)
+IsFinding budget states w seq (Proof log) = IsRefutation budget (formula_for w seq) (map content_of log.items) × All IsLine (map content_of log.items)
+IsFinding budget states w seq (Log log) = (told states w.seq seq w.mask ≡ false) × IsSpentSearch budget (formula_for w seq) (map content_of log.items) × All IsLine (map content_of log.items)

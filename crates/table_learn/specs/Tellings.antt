@@ -1,0 +1,21 @@
+-- Whether states tell sequences apart, as tests.
+use Rattle.std.specs.Prelude.{ℕ, ◌==◌, Bool, not, List}
+use Rattle.std.specs.List.{list_any}
+use Rattle.thumb_instr.specs.declared.instr.Instr.{Instr}
+use Rattle.thumb_model.specs.Items.{Values}
+use Rattle.thumb_model.specs.Effect.{after_all}
+use Rattle.fingerprints.specs.Seeded.{Seen}
+use Rattle.table_audit.specs.Soundness.{items_in}
+use Rattle.table_audit.specs.Shorter.{values_in}
+
+-- whether an item of the mask has another value
+unfoldable pub differ : Values → Values → ℕ → Bool
+differ v w mask = list_any (λ x. not (v x == w x)) (items_in mask)
+
+-- whether it has another value after the two sequences
+abbrev pub tells_apart : List Instr → List Instr → ℕ → Seen → Bool
+tells_apart left right mask s = differ (after_all left (values_in s)) (after_all right (values_in s)) mask
+
+-- whether some state tells the sequences apart under a mask
+abbrev pub told : List Seen → List Instr → List Instr → ℕ → Bool
+told states left right mask = list_any (tells_apart left right mask) states

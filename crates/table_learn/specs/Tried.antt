@@ -1,0 +1,23 @@
+-- What trying a candidate comes to.
+use Rattle.std.specs.Prelude.{ℕ, ◌≡◌, ◌∷◌, ◌++◌, List, [], All, Option, Some, None, Vec, map, slice_get}
+use Rattle.thumb_instr.specs.declared.instr.Instr.{Instr}
+use Rattle.fingerprints.specs.Seeded.{Seen}
+use Rattle.lrat_check.specs.declared.line.Line.{Line}
+use Rattle.lrat_check.specs.Content.{content_of}
+use Rattle.lrat_check.specs.Text.{IsLine}
+use Rattle.rule_table.specs.Table.{Opened}
+use Rattle.table_learn.specs.Settings.{Settings, Window}
+use Rattle.table_learn.specs.Learnt.{IsRefutation}
+use Rattle.table_learn.specs.Searching.{shorter_than, formula_for, IsSearching}
+
+-- the sequence of a number, with the solver's proof that no state tells it from the window
+pub record IsRightSide (s : Settings) (w : Window) (number : ℕ) (right : List Instr × Vec Line Global) : Type 0 where
+  pub at : slice_get (shorter_than s.pool w) number ≡ Some right.0
+  pub proof : IsRefutation s.budget (formula_for w right.0) (map content_of right.1.items)
+  pub lines : All IsLine (map content_of right.1.items)
+
+-- the candidate is the right side, and nothing changed, or the search goes on behind it
+abbrev pub Tried : Settings → Window → List Seen → List Opened → List Seen → List Opened → ℕ → Option (List Instr × Vec Line Global) → Type 0
+Tried s w states opens later more number None =
+    (old : List Seen) (passed rest : List ℕ) → IsSearching s w old states opens passed (number ∷ rest) → IsSearching s w old later more (passed ++ number ∷ []) rest
+Tried s w states opens later more number (Some right) = (later ≡ states) × (more ≡ opens) × IsRightSide s w number right

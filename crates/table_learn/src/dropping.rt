@@ -1,0 +1,120 @@
+//! Open numbers that a later state tells are dropped, with their logs.
+ghost use Rattle.std.specs.Prelude.{◌≡◌, ◌<◌, ◌≤◌, ◌+◌, ◌*◌, ℕ, true, All, IfOk, OnOk, filter, length, map, slice_get, sum_by};
+ghost use Rattle.fingerprints.specs.Seeded.{seen};
+ghost use Rattle.thumb_model.specs.Rewrite.{AreOver};
+ghost use Rattle.rule_table.specs.Table.{Rule};
+ghost use Rattle.rule_table.specs.Views.{opened_of, rule_of};
+ghost use Rattle.table_audit.specs.Sides.{named_count, IsCanonicalSide};
+ghost use Rattle.table_learn.specs.Fitness.{shorter_of, tells_number, stays_open, without_told};
+ghost use Rattle.table_learn.specs.Lengths.{opens_length, rules_length};
+ghost use Rattle.table_learn.specs.Searching.{is_below};
+ghost use Rattle.table_learn.specs.Dropping.{IsSided, Dropped};
+
+use crate::errors::Memory;
+use crate::lengths::{open_length, plus};
+use crate::trying::is_told;
+use crate::window::Window;
+use rule_table::{Entry, Open};
+use seq_enum::{Pool, seq_at};
+use std::alloc::Global;
+use step_ledger::{Ledger, Steps};
+use window_exec::WState;
+
+/// The open numbers that are below a limit.
+pub(crate) fn keep_below(alloc: Global, opens: Vec<Open>, limit: u64) -> Result<Vec<Open>, Memory>
+    ensures { IfOk result (λ kept. map opened_of kept.items ≡ filter (is_below limit) (map opened_of opens.items)) }
+{
+    let mut kept = Vec::new(alloc);
+    for name in opens {
+        if name.number < limit {
+            kept.push(name)?;
+        }
+    }
+    Ok(kept)
+}
+
+/// Whether one of the states tells the window from the sequence of a number, where that has fewer than `count` instructions.
+fn tells_open<L: Ledger>(
+    pool: &Pool,
+    found: &[WState],
+    window: &Window,
+    count: usize,
+    number: u64,
+    steps: &mut Steps<L>,
+) -> bool
+    requires some { 0 < window.now.k }
+    requires few { window.now.k ≤ 4 }
+    requires named { window.now.k ≡ named_count window.now.left }
+    requires left { AreOver 4 window.now.left }
+    requires short { count ≤ length window.now.left }
+    ensures told { (e : Rule) → e.left ≡ window.now.left → e.mask ≡ window.now.mask.items.bits → length e.right ≡ count → result ≡ tells_number (map seen found.now) e (slice_get (shorter_of pool.now e) number) }
+    ensures cost { steps.new ≤ steps.old + length found.now * (length window.now.left + length window.now.left) }
+{
+    match seq_at(window.k, pool, number) {
+        Some(seq) if seq.len() < count => { is_told(found, &window.left, &seq, window.mask, steps) }
+        _ => false,
+    }
+}
+
+/// The entry without the open numbers that one of the states tells, and how many bytes shorter its text is.
+fn drop_told<L: Ledger>(
+    alloc: Global,
+    pool: &Pool,
+    entry: Entry,
+    found: &[WState],
+    steps: &mut Steps<L>,
+) -> Result<(Entry, u64), Memory>
+    requires { IsSided (rule_of entry) }
+    ensures dropped { IfOk result (λ r. Dropped pool.now (map seen found.now) (rule_of entry) (rule_of r.0) r.1) }
+    ensures cost { OnOk result (steps.new ≤ steps.old + length entry.opens.items * (length found.now * (length entry.left + length entry.left))) }
+{
+    let Entry {
+        left,
+        right,
+        mask,
+        opens,
+        proof,
+    } = entry;
+    let window = Window::new(&left, mask);
+    let count = right.len();
+    let mut kept = Vec::new(alloc);
+    let mut freed = 0;
+    for name in opens {
+        if tells_open(pool, found, &window, count, name.number, steps) {
+            freed = plus(freed, open_length(alloc, &name)?)?;
+        } else {
+            kept.push(name)?;
+        }
+    }
+    let entry = Entry {
+        left,
+        right,
+        mask,
+        opens: kept,
+        proof,
+    };
+    Ok((entry, freed))
+}
+
+/// The entries without the open numbers that one of the states tells, and how many bytes shorter their text is.
+pub(crate) fn drop_all_told<L: Ledger>(
+    alloc: Global,
+    pool: &Pool,
+    entries: Vec<Entry>,
+    found: &[WState],
+    steps: &mut Steps<L>,
+) -> Result<(Vec<Entry>, u64), Memory>
+    requires { All IsSided (map rule_of entries.items) }
+    ensures kept { IfOk result (λ r. map rule_of r.0.items ≡ map (without_told pool.now (map seen found.now)) (map rule_of entries.items)) }
+    ensures freed { IfOk result (λ r. rules_length (map rule_of r.0.items) + r.1 ≡ rules_length (map rule_of entries.items)) }
+    ensures cost { OnOk result (steps.new ≤ steps.old + sum_by (λ (e : Rule). length e.opens * (length found.now * (length e.left + length e.left))) (map rule_of entries.items)) }
+{
+    let mut kept = Vec::with_capacity(alloc, entries.len())?;
+    let mut freed = 0;
+    for entry in entries {
+        let (entry, less) = drop_told(alloc, pool, entry, found, steps)?;
+        freed = plus(freed, less)?;
+        kept.push(entry)?;
+    }
+    Ok((kept, freed))
+}

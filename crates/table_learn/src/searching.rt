@@ -1,0 +1,99 @@
+//! The right side of a window: the first of the shorter sequences that no state tells from it.
+ghost use Rattle.std.specs.Prelude.{◌≡◌, ◌<◌, ◌≤◌, ◌+◌, ◌*◌, ◌++◌, List, All, Some, IfOk, OnOk, length, map, slice_get};
+ghost use Rattle.fingerprints.specs.Seeded.{Seen, seen};
+ghost use Rattle.rule_table.specs.Views.{opened_of, rule_of};
+ghost use Rattle.table_audit.specs.Sides.{named_count};
+ghost use Rattle.table_learn.specs.Settings.{settings_of, AreInLimits, IsWindow};
+ghost use Rattle.table_learn.specs.Learnt.{learnt_from};
+ghost use Rattle.table_learn.specs.Fitness.{IsFit};
+ghost use Rattle.table_learn.specs.Found.{window_in};
+ghost use Rattle.table_learn.specs.Searching.{shorter_than, AreCandidates, IsGrown, EarnedFrom, query_cost};
+ghost use Rattle.table_learn.specs.Tried.{Tried};
+
+use crate::dropping::keep_below;
+use crate::errors::Memory;
+use crate::settings::Settings;
+use crate::trying::{Finding, try_sequence};
+use crate::widths::{count_shorter, shorter_at};
+use crate::window::{Window, copied};
+use lrat_check::Line;
+use rule_table::{Entry, Open};
+use std::alloc::Global;
+use step_ledger::{Ledger, Steps};
+use thumb_instr::Seq;
+use window_exec::WState;
+
+/// Tries the sequence of a number: a state that tells it is listed, and where the solver spends its budget the number is named open. The
+/// sequence with its proof, where no state tells it.
+fn try_number<L: Ledger>(
+    alloc: Global,
+    settings: &Settings,
+    window: &Window,
+    number: u64,
+    states: &mut Vec<WState>,
+    opens: &mut Vec<Open>,
+    steps: &mut Steps<L>,
+) -> Result<Option<(Seq, Vec<Line>)>, Memory>
+    requires some { 0 < window.now.k }
+    requires few { window.now.k ≤ 4 }
+    requires named { window.now.k ≡ named_count window.now.left }
+    requires window { IsWindow (settings_of settings.now) (window_in window.now) }
+    requires number { number < length (shorter_than settings.now.pool (window_in window.now)) }
+    ensures tried { IfOk result (Tried (settings_of settings.now) (window_in window.now) (map seen states.old.items) (map opened_of opens.old.items) (map seen states.new.items) (map opened_of opens.new.items) number) }
+    ensures more { OnOk result (length states.old.items ≤ length states.new.items) }
+    ensures cost { OnOk result (steps.new ≤ steps.old + query_cost settings.now.budget (length states.new.items) (length window.now.left)) }
+{
+    let seq = shorter_at(window.k, &settings.pool, window.len(), number);
+    match try_sequence(alloc, states, window, &seq, settings.budget, steps)? {
+        Finding::Told => {}
+        Finding::State(state) => states.push(state)?,
+        Finding::Log(log) => opens.push(Open { number, log })?,
+        Finding::Proof(proof) => return Ok(Some((seq, proof))),
+    }
+    Ok(None)
+}
+
+/// The entry of a window, of whose shorter sequences but the candidates a listed state tells each. The states that the solver finds are put
+/// behind the listed ones.
+pub(crate) fn search<L: Ledger>(
+    alloc: Global,
+    settings: &Settings,
+    window: Window,
+    candidates: &[u64],
+    states: &mut Vec<WState>,
+    steps: &mut Steps<L>,
+) -> Result<Entry, Memory>
+    requires some { 0 < window.k }
+    requires few { window.k ≤ 4 }
+    requires named { window.k ≡ named_count window.left }
+    requires window { IsWindow (settings_of settings.now) (window_in window) }
+    requires candidates { AreCandidates settings.now.pool (map seen states.old.items) (window_in window) candidates.now }
+    ensures grown { OnOk result (IsGrown (map seen states.old.items) (map seen states.new.items)) }
+    ensures earned { OnOk result (EarnedFrom settings.now.pool (length states.old.items) (map seen states.new.items) (window_in window)) }
+    ensures window { IfOk result (λ e. learnt_from (rule_of e) ≡ window_in window) }
+    ensures fits { IfOk result (λ e. IsFit (settings_of settings.now) (map seen states.new.items) (map seen states.old.items) (rule_of e)) }
+    ensures cost { OnOk result (steps.new ≤ steps.old + length candidates.now * query_cost settings.now.budget (length states.new.items) (length window.left)) }
+{
+    let mut opens = Vec::new(alloc);
+    for number in candidates {
+        if let Some((right, proof)) = try_number(
+            alloc, settings, &window, *number, states, &mut opens, steps,
+        )? {
+            let limit = count_shorter(window.k, &settings.pool, right.len() as u8);
+            return Ok(Entry {
+                left: window.left,
+                right,
+                mask: window.mask,
+                opens: keep_below(alloc, opens, limit)?,
+                proof,
+            });
+        }
+    }
+    Ok(Entry {
+        right: copied(&window.left),
+        left: window.left,
+        mask: window.mask,
+        opens,
+        proof: Vec::new(alloc),
+    })
+}

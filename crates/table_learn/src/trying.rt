@@ -1,0 +1,112 @@
+//! One shorter sequence: the listed states, and then the solver.
+ghost use Rattle.std.specs.Prelude.{◌≡◌, ◌<◌, ◌≤◌, ◌+◌, ◌*◌, OnOk, IfOk, length, map};
+ghost use Rattle.std.specs.List.{list_any};
+ghost use Rattle.thumb_model.specs.Rewrite.{AreOver};
+ghost use Rattle.bit_blast.specs.Exactness.{IsMaskOver};
+ghost use Rattle.fingerprints.specs.Seeded.{seen};
+ghost use Rattle.table_learn.specs.Tellings.{tells_apart};
+ghost use Rattle.table_learn.specs.Searching.{query_cost};
+ghost use Rattle.table_learn.specs.Found.{IsAnswer, IsFinding, window_in};
+
+use crate::errors::Memory;
+use crate::window::Window;
+use bit_blast::{formula, state_of};
+use cdcl_core::{Verdict, solve};
+use lrat_check::Line;
+use std::alloc::Global;
+use step_ledger::{Ledger, Steps};
+use thumb_instr::{Mask, Seq};
+use window_exec::{WState, tells};
+
+/// What becomes of a shorter sequence.
+#[derive(Drop)]
+pub(crate) enum Finding {
+    /// A listed state tells it from the window.
+    Told,
+    /// This state does.
+    State(WState),
+    /// None does, by the proof.
+    Proof(Vec<Line>),
+    /// The solver spent its budget on it.
+    Log(Vec<Line>),
+}
+
+/// So many steps.
+pub(crate) fn count_steps<L: Ledger>(count: usize, steps: &mut Steps<L>)
+    ensures { steps.new ≤ steps.old + count }
+{
+    for _step in 0..count {
+        steps.tick();
+    }
+}
+
+/// Whether some of the states tells two sequences apart under a mask.
+pub(crate) fn is_told<L: Ledger>(
+    states: &[WState],
+    left: &Seq,
+    right: &Seq,
+    mask: Mask,
+    steps: &mut Steps<L>,
+) -> bool
+    requires left { AreOver 4 left.now }
+    requires right { AreOver 4 right.now }
+    ensures told { result ≡ list_any (λ s. tells_apart left.now right.now mask.items.bits (seen s)) states.now }
+    ensures cost { steps.new ≤ steps.old + length states.now * (length left.now + length right.now) }
+{
+    for state in states {
+        count_steps(left.len() + right.len(), steps);
+        if tells(state, left, right, mask) {
+            return true;
+        }
+    }
+    false
+}
+
+/// What the solver finds of a sequence that no listed state tells from the window.
+fn ask<L: Ledger>(
+    alloc: Global,
+    window: &Window,
+    seq: &Seq,
+    budget: u32,
+    steps: &mut Steps<L>,
+) -> Result<Finding, Memory>
+    requires few { window.now.k ≤ 4 }
+    requires left { AreOver window.now.k window.now.left }
+    requires right { AreOver window.now.k seq.now }
+    requires mask { IsMaskOver window.now.k window.now.mask.items.bits }
+    ensures answer { IfOk result (IsAnswer budget window.now seq.now) }
+    ensures cost { OnOk result (steps.new ≤ steps.old + (budget + 1) * 200001) }
+{
+    let formula = formula(alloc, &window.left, seq, window.mask, window.k)?;
+    if formula.clauses() + u64::from(budget) > u64::from(u32::MAX) {
+        return Err(Memory);
+    }
+    match solve(alloc, &formula, budget, steps)? {
+        Verdict::Sat(model) => Ok(Finding::State(state_of(&model, window.k))),
+        Verdict::Unsat(log) => Ok(Finding::Proof(log)),
+        Verdict::Spent(log) => Ok(Finding::Log(log)),
+    }
+}
+
+/// What becomes of a shorter sequence: the listed states are run on it, and where none tells it the solver is asked.
+pub(crate) fn try_sequence<L: Ledger>(
+    alloc: Global,
+    states: &[WState],
+    window: &Window,
+    seq: &Seq,
+    budget: u32,
+    steps: &mut Steps<L>,
+) -> Result<Finding, Memory>
+    requires few { window.now.k ≤ 4 }
+    requires left { AreOver window.now.k window.now.left }
+    requires right { AreOver window.now.k seq.now }
+    requires shorter { length seq.now < length window.now.left }
+    requires mask { IsMaskOver window.now.k window.now.mask.items.bits }
+    ensures found { IfOk result (IsFinding budget (map seen states.now) (window_in window.now) seq.now) }
+    ensures cost { OnOk result (steps.new ≤ steps.old + query_cost budget (length states.now) (length window.now.left)) }
+{
+    if is_told(states, &window.left, seq, window.mask, steps) {
+        return Ok(Finding::Told);
+    }
+    ask(alloc, window, seq, budget, steps)
+}
