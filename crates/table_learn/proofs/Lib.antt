@@ -8,3 +8,5 @@ pub mod Candidates
 pub mod TextLengths
 pub mod Passing
 pub mod Costs
+pub mod Asking
+pub mod Rounds

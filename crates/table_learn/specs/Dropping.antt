@@ -1,5 +1,5 @@
 -- Entries before and after numbers are dropped.
-use Rattle.std.specs.Prelude.{ℕ, ◌≡◌, ◌≤◌, ◌+◌, List, [], ◌∷◌, length}
+use Rattle.std.specs.Prelude.{ℕ, ◌≡◌, ◌≤◌, ◌+◌, ◌*◌, List, length, sum_by}
 use Rattle.fingerprints.specs.Seeded.{Seen}
 use Rattle.thumb_model.specs.Rewrite.{AreOver}
 use Rattle.rule_table.specs.Table.{Rule}
@@ -17,3 +17,7 @@ pub record IsSided (e : Rule) : Type 0 where
 pub record Dropped (pool : List ℕ) (found : List Seen) (before after : Rule) (freed : ℕ) : Type 0 where
   pub rest : after ≡ without_told pool found before
   pub less : opens_length after.opens + freed ≡ opens_length before.opens
+
+-- the runs of both sides of open numbers on so many states
+abbrev pub runs_on : ℕ → List Rule → ℕ
+runs_on found rules = sum_by (λ (e : Rule). length e.opens * (found * (length e.left + length e.left))) rules

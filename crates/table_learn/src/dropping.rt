@@ -1,5 +1,5 @@
 //! Open numbers that a later state tells are dropped, with their logs.
-ghost use Rattle.std.specs.Prelude.{◌≡◌, ◌<◌, ◌≤◌, ◌+◌, ◌*◌, ℕ, true, All, IfOk, OnOk, filter, length, map, slice_get, sum_by};
+ghost use Rattle.std.specs.Prelude.{◌≡◌, ◌<◌, ◌≤◌, ◌+◌, ◌*◌, ℕ, true, All, IfOk, OnOk, filter, length, map, slice_get};
 ghost use Rattle.fingerprints.specs.Seeded.{seen};
 ghost use Rattle.thumb_model.specs.Rewrite.{AreOver};
 ghost use Rattle.rule_table.specs.Table.{Rule};
@@ -8,7 +8,7 @@ ghost use Rattle.table_audit.specs.Sides.{named_count, IsCanonicalSide};
 ghost use Rattle.table_learn.specs.Fitness.{shorter_of, tells_number, stays_open, without_told};
 ghost use Rattle.table_learn.specs.Lengths.{opens_length, rules_length};
 ghost use Rattle.table_learn.specs.Searching.{is_below};
-ghost use Rattle.table_learn.specs.Dropping.{IsSided, Dropped};
+ghost use Rattle.table_learn.specs.Dropping.{IsSided, Dropped, runs_on};
 
 use crate::errors::Memory;
 use crate::lengths::{open_length, plus};
@@ -97,6 +97,29 @@ fn drop_told<L: Ledger>(
 }
 
 /// The entries without the open numbers that one of the states tells, and how many bytes shorter their text is.
+fn drop_each<L: Ledger>(
+    alloc: Global,
+    pool: &Pool,
+    entries: Vec<Entry>,
+    found: &[WState],
+    steps: &mut Steps<L>,
+) -> Result<(Vec<Entry>, u64), Memory>
+    requires { All IsSided (map rule_of entries.items) }
+    ensures kept { IfOk result (λ r. map rule_of r.0.items ≡ map (without_told pool.now (map seen found.now)) (map rule_of entries.items)) }
+    ensures freed { IfOk result (λ r. rules_length (map rule_of r.0.items) + r.1 ≡ rules_length (map rule_of entries.items)) }
+    ensures cost { OnOk result (steps.new ≤ steps.old + runs_on (length found.now) (map rule_of entries.items)) }
+{
+    let mut kept = Vec::with_capacity(alloc, entries.len())?;
+    let mut freed = 0;
+    for entry in entries {
+        let (entry, less) = drop_told(alloc, pool, entry, found, steps)?;
+        freed = plus(freed, less)?;
+        kept.push(entry)?;
+    }
+    Ok((kept, freed))
+}
+
+/// The entries without the open numbers that one of the found states tells, and how many bytes shorter their text is.
 pub(crate) fn drop_all_told<L: Ledger>(
     alloc: Global,
     pool: &Pool,
@@ -107,14 +130,10 @@ pub(crate) fn drop_all_told<L: Ledger>(
     requires { All IsSided (map rule_of entries.items) }
     ensures kept { IfOk result (λ r. map rule_of r.0.items ≡ map (without_told pool.now (map seen found.now)) (map rule_of entries.items)) }
     ensures freed { IfOk result (λ r. rules_length (map rule_of r.0.items) + r.1 ≡ rules_length (map rule_of entries.items)) }
-    ensures cost { OnOk result (steps.new ≤ steps.old + sum_by (λ (e : Rule). length e.opens * (length found.now * (length e.left + length e.left))) (map rule_of entries.items)) }
+    ensures cost { OnOk result (steps.new ≤ steps.old + runs_on (length found.now) (map rule_of entries.items)) }
 {
-    let mut kept = Vec::with_capacity(alloc, entries.len())?;
-    let mut freed = 0;
-    for entry in entries {
-        let (entry, less) = drop_told(alloc, pool, entry, found, steps)?;
-        freed = plus(freed, less)?;
-        kept.push(entry)?;
+    if found.is_empty() {
+        return Ok((entries, 0));
     }
-    Ok((kept, freed))
+    drop_each(alloc, pool, entries, found, steps)
 }

@@ -103,6 +103,7 @@ fn learn_window<L: Ledger>(
     requires some { 0 < window.k }
     requires few { window.k ≤ 4 }
     requires named { window.k ≡ named_count window.left }
+    requires limits { AreInLimits (settings_of settings.now) }
     requires window { IsWindow (settings_of settings.now) (window_in window) }
     requires before { (windows : List Model) × HasLearnt (settings_of settings.now) windows learner }
     ensures learnt { (windows : List Model) → HasLearnt (settings_of settings.now) windows learner → IfOk result (HasLearnt (settings_of settings.now) (windows ++ window_in window ∷ [])) }
@@ -120,20 +121,10 @@ fn learn_window<L: Ledger>(
     let kept = index_for(alloc, kept, &window, &settings.pool, &states)?;
     let numbers = candidates(alloc, &kept, &window, &settings.pool, &states)?;
     let entry = search(alloc, settings, window, &numbers, &mut states, steps)?;
-    let lines = plus(
-        entry_length(alloc, &entry)?,
-        times((states.len() - before) as u64, STATE_LINE)?,
-    )?;
+    let found = (states.len() - before) as u64;
+    let lines = plus(entry_length(alloc, &entry)?, times(found, STATE_LINE)?)?;
     let whole = plus(bytes, lines)?;
     entries.push(entry)?;
-    if states.len() == before {
-        return Ok(Learner {
-            states,
-            entries,
-            bytes: whole,
-            kept: Some(kept),
-        });
-    }
     let (entries, freed) = drop_all_told(alloc, &settings.pool, entries, &states[before..], steps)?;
     Ok(Learner {
         states,

@@ -1,15 +1,14 @@
-use Rattle.std.proofs.Common.{◌≡◌, ◌≤◌, ◌+◌, ◌*◌, length, map}
-use Rattle.std.specs.Prelude.{sum_by}
+use Rattle.std.proofs.Common.{◌≡◌, ◌≤◌, ◌+◌, length, map}
+use Rattle.table_learn.specs.Dropping.{runs_on}
 use Rattle.fingerprints.specs.Seeded.{seen}
-use Rattle.rule_table.specs.Table.{Rule}
 use Rattle.rule_table.specs.Views.{rule_of}
 use Rattle.table_learn.specs.Fitness.{without_told}
 use Rattle.table_learn.specs.Lengths.{rules_length}
-use Rattle.table_learn.proofs.dropping.drop_all_told.Given as goal
+use Rattle.table_learn.proofs.dropping.drop_each.Given as goal
 
 abbrev pub invariant-loop-entry : goal.invariant-loop-entry
 invariant-loop-entry g l = record {
   kept : map rule_of l.kept.items ≡ map (without_told l.pool (map seen l.found)) (map rule_of l.yielded);
   freed : rules_length (map rule_of l.kept.items) + l.freed ≡ rules_length (map rule_of l.yielded);
-  cost : l.steps ≤ l.initial.steps + sum_by (λ (e : Rule). length e.opens * (length l.found * (length e.left + length e.left))) (map rule_of l.yielded);
+  cost : l.steps ≤ l.initial.steps + runs_on (length l.found) (map rule_of l.yielded);
 }

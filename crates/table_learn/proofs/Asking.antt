@@ -1,0 +1,61 @@
+-- What the solver's verdict says of a sequence.
+use Rattle.std.proofs.Common.{◌≡◌, ℕ, ◌+◌, ◌*◌, ◌<◌, ◌≤◌, ◌^◌, ◌||◌, Bool, true, false, List, [], ◌∷◌, All, length, map, get_or, refl, sym, ap, subst, arith}
+use Rattle.std.specs.Prelude.{ℤ, Vec}
+use Rattle.std.specs.List.{list_any}
+use Rattle.std.proofs.lemmas.List.Elements.{All-nil, All-cons, All-map}
+use Rattle.thumb_instr.specs.declared.instr.Instr.{Instr}
+use Rattle.thumb_model.specs.Rewrite.{AreOver}
+use Rattle.window_exec.specs.declared.state.WState.{WState}
+use Rattle.window_exec.specs.State.{values_of}
+use Rattle.fingerprints.specs.Seeded.{Seen, seen}
+use Rattle.clause_model.specs.Literals.{code_of, codes_of}
+use Rattle.cnf_gates.specs.Cnf.{Cnf, IsLiteral, IsLiteralOf, AreLiteralsOf, AreClausesOf, AreClauses}
+use Rattle.cnf_gates.specs.Meaning.{IsModel, assigned}
+use Rattle.bit_blast.specs.Differences.{sides_formula}
+use Rattle.bit_blast.specs.Values.{start_values}
+use Rattle.bit_blast.specs.Exactness.{IsMask, IsMaskOver, SameOver}
+use Rattle.bit_blast.proofs.Exact.{models_give_states}
+use Rattle.lrat_check.specs.declared.line.Line.{Line}
+use Rattle.lrat_check.specs.Content.{content_of}
+use Rattle.lrat_check.specs.Text.{IsLine}
+use Rattle.cdcl_core.specs.declared.solving.Verdict.TheVariants.{Unsat, Spent}
+use Rattle.cdcl_core.specs.Solved.{AreBelow, VerdictOf}
+use Rattle.cdcl_core.proofs.Statements.{code_below}
+use Rattle.table_learn.specs.Learnt.{IsRefutation, IsSpentSearch}
+use Rattle.table_learn.specs.Tellings.{told, tells_apart}
+use Rattle.table_learn.proofs.Certificates.{refutation_lines, search_lines}
+use Rattle.table_learn.proofs.Telling.{tells_is_apart}
+
+-- a model gives a state that tells
+pub model_tells : (f : Cnf) (left right : List Instr) (mask k : ℕ) (model : List Bool) (s : WState) → f ≡ sides_formula left right mask k → AreOver k left → AreOver k right → IsMask mask → IsMaskOver k mask → k ≤ 4 → IsModel model f
+    → SameOver 4 (values_of s) (start_values (assigned model) k) → tells_apart left right mask (seen s) ≡ true
+model_tells f left right mask k model s e over_left over_right m over few h same =
+    tells_is_apart left right mask (seen s) m (models_give_states left right mask k over_left over_right m over few (assigned model) (subst (IsModel model) e h) (values_of s) same)
+
+-- a log that refutes
+pub refutes : (budget : ℕ) (f g : Cnf) (log : Vec Line Global) → f ≡ g → budget + length f.clauses ≤ 4294967295 → VerdictOf f budget (Unsat log) → IsRefutation budget g (map content_of log.items) × All IsLine (map content_of log.items)
+refutes budget f g log e small v =
+    let r : IsRefutation budget f (map content_of log.items) = record { log = log; refutes = v; says = refl } in
+    (subst (λ h. IsRefutation budget h (map content_of log.items)) e r, refutation_lines budget f (map content_of log.items) small r)
+
+-- a log that spends the budget
+pub spends : (budget : ℕ) (f g : Cnf) (log : Vec Line Global) → f ≡ g → budget + length f.clauses ≤ 4294967295 → VerdictOf f budget (Spent log) → IsSpentSearch budget g (map content_of log.items) × All IsLine (map content_of log.items)
+spends budget f g log e small v =
+    let r : IsSpentSearch budget f (map content_of log.items) = record { log = log; spends = v; says = refl } in
+    (subst (λ h. IsSpentSearch budget h (map content_of log.items)) e r, search_lines budget f (map content_of log.items) small r)
+
+-- ---- the literals are those of 200,000 variables ----
+
+codes_below : (zs : List ℤ) → AreLiteralsOf 200000 zs → All (λ l. l < 400000) (map code_of zs)
+codes_below [] a = All-nil _
+codes_below (z ∷ zs) a = All-cons (λ l. l < 400000) (code_of z) (map code_of zs) (code_below z a.0) (codes_below zs a.1)
+
+pub clauses_below : (cs : List (List ℤ)) → AreClausesOf 200000 cs → AreBelow 200000 (codes_of cs)
+clauses_below [] a = All-nil _
+clauses_below (c ∷ cs) a = All-cons (λ clause. All (λ l. l < 400000) clause) (map code_of c) (codes_of cs) (codes_below c a.0) (clauses_below cs a.1)
+
+-- ---- listed states ----
+
+pub told_seen : (states : List WState) (left right : List Instr) (mask : ℕ) → told (map seen states) left right mask ≡ list_any (λ s. tells_apart left right mask (seen s)) states
+told_seen [] left right mask = refl
+told_seen (s ∷ states) left right mask = ap (λ b. tells_apart left right mask (seen s) || b) (told_seen states left right mask)
