@@ -1,10 +1,14 @@
 -- What the solver's verdict says of a sequence.
-use Rattle.std.proofs.Common.{◌≡◌, ℕ, ◌+◌, ◌*◌, ◌<◌, ◌≤◌, ◌^◌, ◌||◌, Bool, true, false, List, [], ◌∷◌, All, length, map, get_or, refl, sym, ap, subst, arith}
+use Rattle.std.specs.Global.{Global}
+use Rattle.std.proofs.Common.{◌≡◌, ℕ, ◌+◌, ◌*◌, ◌<◌, ◌≤◌, ◌^◌, ◌||◌, Bool, true, false, List, [], ◌∷◌, ◌++◌, All, length, map, get_or, take, drop, refl, sym, ◌∙◌, ap, subst, arith, inl}
 use Rattle.std.specs.Prelude.{ℤ, Vec}
 use Rattle.std.specs.List.{list_any}
 use Rattle.std.proofs.lemmas.List.Elements.{All-nil, All-cons, All-map}
 use Rattle.thumb_instr.specs.declared.instr.Instr.{Instr}
 use Rattle.thumb_model.specs.Rewrite.{AreOver}
+use Rattle.std.proofs.lemmas.List.{get_or_default, map-append, take-append-drop}
+use Rattle.thumb_model.specs.Items.{Values, AreWords}
+use Rattle.table_audit.proofs.Names.{of_four}
 use Rattle.window_exec.specs.declared.state.WState.{WState}
 use Rattle.window_exec.specs.State.{values_of}
 use Rattle.fingerprints.specs.Seeded.{Seen, seen}
@@ -31,6 +35,15 @@ pub model_tells : (f : Cnf) (left right : List Instr) (mask k : ℕ) (model : Li
     → SameOver 4 (values_of s) (start_values (assigned model) k) → tells_apart left right mask (seen s) ≡ true
 model_tells f left right mask k model s e over_left over_right m over few h same =
     tells_is_apart left right mask (seen s) m (models_give_states left right mask k over_left over_right m over few (assigned model) (subst (IsModel model) e h) (values_of s) same)
+
+-- and its registers are words
+pub state_words : (s : WState) (v : Values) → length s.r ≡ 4 → SameOver 4 (values_of s) v → AreWords v → All (λ w. w < 2 ^ 32) s.r
+state_words s v four same words j d low =
+    let at : get_or s.r j 0 < 2 ^ 32 = of_four (λ x. get_or s.r x 0 < 2 ^ 32) (each 0 (omega arith) (same 0 (inl (omega arith, omega arith)))) (each 1 (omega arith) (same 1 (inl (omega arith, omega arith)))) (each 2 (omega arith) (same 2 (inl (omega arith, omega arith)))) (each 3 (omega arith) (same 3 (inl (omega arith, omega arith)))) j (omega (arith, low, four)) in
+    subst (λ z. z < 2 ^ 32) (get_or_default s.r j d 0 low) at
+  where
+    each : (x : ℕ) → x < 15 → get_or s.r x 0 ≡ v x → get_or s.r x 0 < 2 ^ 32
+    each x h e = subst (λ z. z < 2 ^ 32) (sym e) (words.register x h)
 
 -- a log that refutes
 pub refutes : (budget : ℕ) (f g : Cnf) (log : Vec Line Global) → f ≡ g → budget + length f.clauses ≤ 4294967295 → VerdictOf f budget (Unsat log) → IsRefutation budget g (map content_of log.items) × All IsLine (map content_of log.items)
@@ -59,3 +72,6 @@ clauses_below (c ∷ cs) a = All-cons (λ clause. All (λ l. l < 400000) clause)
 pub told_seen : (states : List WState) (left right : List Instr) (mask : ℕ) → told (map seen states) left right mask ≡ list_any (λ s. tells_apart left right mask (seen s)) states
 told_seen [] left right mask = refl
 told_seen (s ∷ states) left right mask = ap (λ b. tells_apart left right mask (seen s) || b) (told_seen states left right mask)
+
+pub first_part : (states listed : List WState) → listed ≡ take 8 states → map seen states ≡ map seen listed ++ map seen (drop 8 states)
+first_part states listed e = sym (ap (λ (ss : List WState). map seen ss ++ map seen (drop 8 states)) e ∙ sym (map-append seen (take 8 states) (drop 8 states)) ∙ ap (map seen) (take-append-drop 8 states))

@@ -35,7 +35,7 @@ use Rattle.table_learn.proofs.Fit.{ascends_lower}
 -- ---- lists of numbers ----
 
 scan_ascends : (print n : ℕ) (ps : List ℕ) → ascends_from n (scanned print n ps) ≡ true
-unfolding scanned
+unfolding scanned ascends_from
 scan_ascends print n [] = refl
 scan_ascends print n (p ∷ ps) =
     let next : suc n ≡ n + 1 = omega arith in
@@ -45,6 +45,7 @@ scan_ascends print n (p ∷ ps) =
     ]
 
 filter_ascends : (p : ℕ → Bool) (low : ℕ) (xs : List ℕ) → ascends_from low xs ≡ true → ascends_from low (filter p xs) ≡ true
+unfolding ascends_from
 filter_ascends p low [] a = refl
 filter_ascends p low (x ∷ xs) a =
     let parts = and_parts (nat_le low x) (ascends_from (suc x) xs) a in
@@ -60,8 +61,8 @@ filter_has p xs q h c = found xs c.0 c.1 c.2
     found [] k low e = absurd (omega (arith, low))
     found (x ∷ xs) zero low e =
         let same : x ≡ q = e in
-        let yes : p x ≡ true = ap p same ∙ h in
-        rw yes (0, omega arith, same)
+        let does : p x ≡ true = ap p same ∙ h in
+        rw does (0, omega arith, same)
     found (x ∷ xs) (suc k) low e =
         let r = found xs k (omega (arith, low)) e in
         elim (p x) as (λ b. Contains (cond b (x ∷ filter p xs) (filter p xs)) q) [
@@ -97,9 +98,9 @@ candidates_are pool listed later states w k mask longest print count pairs found
       within = subst (All (λ q. q < length (shorter_than pool w))) (sym n)
           (All-weaker (λ q. nat_lt q count ≡ true) (λ q. q < length (shorter_than pool w)) (λ q t. let l = ltb-true q count t in omega (arith, l, c)) (filter (λ j. nat_lt j count) found) (filter_passes (λ j. nat_lt j count) found));
       others = λ q seq at. elim (cases_Bool (told (map seen listed) w.seq seq w.mask)) [
-        | inl yes ↦ inr (subst (λ ys. told ys w.seq seq w.mask ≡ true) (sym first) (told_more (map seen listed) later w.seq seq w.mask yes))
-        | inr no ↦ (
-            let quiet = no_teller listed w.seq seq w.mask m no in
+        | inl does ↦ inr (subst (λ ys. told ys w.seq seq w.mask ≡ true) (sym first) (told_more (map seen listed) later w.seq seq w.mask does))
+        | inr never ↦ (
+            let quiet = no_teller listed w.seq seq w.mask m never in
             let alike : print_after w.mask vs w.seq ≡ print_after w.mask vs seq = untold_alike listed w.seq seq w.mask words quiet in
             let place = below_in (named_count w.seq) pool (length w.seq) q seq (omega (arith, short)) at in
             let there : slice_get (sequences k pool) q ≡ Some seq = subst (λ j. slice_get (sequences j pool) q ≡ Some seq) (sym named) place.0 in

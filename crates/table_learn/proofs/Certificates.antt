@@ -1,5 +1,6 @@
 -- The solver's logs are proofs, and logs that spend a budget.
-use Rattle.std.proofs.Common.{◌≡◌, ℕ, zero, suc, ◌+◌, ◌-◌, ◌<◌, ◌≤◌, ◌∷◌, ◌++◌, ◌⊎◌, inl, inr, List, [], Option, Some, None, All, Contains, length, take, get_or, map, slice_get, nat_eq, refl, sym, ◌∙◌, ap, subst, arith, append_assoc, append-nil, length-append, true, false}
+use Rattle.std.specs.Global.{Global}
+use Rattle.std.proofs.Common.{◌≡◌, ℕ, zero, suc, ◌+◌, ◌-◌, ◌<◌, ◌≤◌, ◌^◌, ◌∷◌, ◌++◌, ◌⊎◌, inl, inr, List, [], Option, Some, None, All, Contains, length, take, get_or, map, slice_get, nat_eq, refl, sym, ◌∙◌, ap, subst, arith, append_assoc, append-nil, length-append, true, false}
 use Rattle.std.specs.Prelude.{◌≢◌, ℤ, pos, negsuc, Any, unsigned_abs, cond}
 use Rattle.std.proofs.Math.Seq.{take-append_seam}
 use Rattle.std.proofs.lemmas.Bool.{cases_eq, cases_lt}
@@ -90,20 +91,25 @@ get_last : (cs : List (List ℕ)) (c : List ℕ) → slice_get (cs ++ c ∷ []) 
 get_last [] c = refl
 get_last (x ∷ cs) c = get_last cs c
 
+numbered_suc : (clauses : List (List ℕ)) (h : ℕ) → numbered clauses (suc h) ≡ slice_get clauses h
+numbered_suc clauses h =
+    let z : nat_eq (suc h) 0 ≡ false = grind (arith, nat_tests) in
+    let back : suc h - 1 ≡ h = omega arith in
+    ap (λ b. cond b None (slice_get clauses (suc h - 1))) z ∙ ap (λ i. slice_get clauses i) back
+
 pushed_live : (clauses : List (List ℕ)) (c : List ℕ) (id q : ℕ) → id ≡ length clauses + 1 → with_clause (numbered clauses) id c q ≡ numbered (clauses ++ c ∷ []) q
-pushed_live clauses c id zero e = let z : nat_eq 0 id ≡ false = grind (arith, nat_tests, e) in rw z refl
+pushed_live clauses c id zero e = let z : nat_eq 0 id ≡ false = grind (arith, nat_tests, e) in ap (λ b. cond b (Some c) None) z
 pushed_live clauses c id (suc q) e =
-    let back : suc q - 1 ≡ q = omega arith in
     elim (cases_eq q (length clauses)) [
       | inl h ↦
           let z : nat_eq (suc q) id ≡ true = grind (arith, nat_tests, e, h) in
-          rw (z, back) (sym (subst (λ i. slice_get (clauses ++ c ∷ []) i ≡ Some c) (sym h) (get_last clauses c)))
+          ap (λ b. cond b (Some c) (numbered clauses (suc q))) z ∙ sym (numbered_suc (clauses ++ c ∷ []) q ∙ subst (λ i. slice_get (clauses ++ c ∷ []) i ≡ Some c) (sym h) (get_last clauses c))
       | inr d ↦
           let z : nat_eq (suc q) id ≡ false = grind (arith, nat_tests, e, d) in
-          rw (z, back) (sym (elim (cases_lt q (length clauses)) [
+          ap (λ b. cond b (Some c) (numbered clauses (suc q))) z ∙ numbered_suc clauses q ∙ sym (numbered_suc (clauses ++ c ∷ []) q ∙ elim (cases_lt q (length clauses)) [
             | inl k ↦ get_before clauses c q k
             | inr k ↦ get_past clauses c q (omega (arith, d, k))
-          ]))
+          ])
     ]
 
 known_after : (clauses : List (List ℕ)) (a : Addition) → a.id ≡ length clauses + 1 → after_line (started clauses) (content_of (Adding a)) ≡ started (clauses ++ a.literals.items ∷ [])
@@ -126,8 +132,7 @@ tidy_refutes live a (id ∷ hints) r = (r.0, r.1, elim r.3 [ inl f ↦ inl f.0 |
 numbered_within : (clauses : List (List ℕ)) (h : ℕ) (clause : List ℕ) → numbered clauses h ≡ Some clause → (0 < h) × (h ≤ length clauses)
 numbered_within clauses zero clause e = absurd (cc)
 numbered_within clauses (suc h) clause e =
-    let back : suc h - 1 ≡ h = omega arith in
-    let low : h < length clauses = slice_get_within clauses h clause (subst (λ i. slice_get clauses i ≡ Some clause) back e) in
+    let low : h < length clauses = slice_get_within clauses h clause (sym (numbered_suc clauses h) ∙ e) in
     (omega arith, omega (arith, low))
 
 tidy_hints : (clauses : List (List ℕ)) (a hints : List ℕ) → length clauses < 2 ^ 32 → RefutesTidily (numbered clauses) a hints → All IsHint (map pos hints)
@@ -175,8 +180,8 @@ log_some : (clauses : List (List ℕ)) (log : List Line) → AllTeach clauses lo
 log_some clauses [] t = All-nil _
 log_some clauses (Adding a ∷ log) t =
     let some : 0 < length a.literals.items = asserting_some clauses a.literals.items a.literals.items refl t.0.1 in
-    let no : a.literals.items ≢ [] = λ e. (let l : length a.literals.items ≡ 0 = ap length e in omega (arith, l, some)) in
-    All-cons (λ clause. clause ≢ []) a.literals.items (additions (map content_of log)) no (log_some (clauses ++ a.literals.items ∷ []) log t.1)
+    let never : a.literals.items ≢ [] = λ e. (let l : length a.literals.items ≡ 0 = ap length e in omega (arith, l, some)) in
+    All-cons (λ clause. clause ≢ []) a.literals.items (additions (map content_of log)) never (log_some (clauses ++ a.literals.items ∷ []) log t.1)
 log_some clauses (Deleting d ∷ log) t = absurd t.0
 
 log_count : (clauses : List (List ℕ)) (log : List Line) → AllTeach clauses log → length (additions (map content_of log)) ≡ length log

@@ -17,6 +17,7 @@ use Rattle.table_learn.specs.Progress.{search_cost, drop_cost}
 
 -- ascending numbers below a limit are no more than it
 pub few_numbers : (low n : ℕ) (xs : List ℕ) → low ≤ n → ascends_from low xs ≡ true → All (λ q. q < n) xs → low + length xs ≤ n
+unfolding ascends_from
 few_numbers low n [] h a all = omega (arith, h)
 few_numbers low n (x ∷ xs) h a all =
     let parts = and_parts (nat_le low x) (ascends_from (suc x) xs) a in
@@ -26,6 +27,7 @@ few_numbers low n (x ∷ xs) h a all =
     omega (arith, least, r)
 
 pub few_opens : (low n : ℕ) (opens : List Opened) → low ≤ n → ascends_from low (numbers_of opens) ≡ true → ((i : ℕ) (o : Opened) → slice_get opens i ≡ Some o → o.number < n) → low + length opens ≤ n
+unfolding ascends_from
 few_opens low n [] h a each = omega (arith, h)
 few_opens low n (o ∷ opens) h a each =
     let parts = and_parts (nat_le low o.number) (ascends_from (suc o.number) (numbers_of opens)) a in
@@ -49,6 +51,9 @@ drop_both : (x l w f g : ℕ) → w * (x * ((f + g) * l)) ≡ w * (x * (f * l)) 
 drop_both x l w f g =
     let a : (f + g) * l ≡ f * l + g * l = grind arith in
     ap (λ n. w * (x * n)) a ∙ ap (λ n. w * n) (both (f * l) (g * l) x) ∙ both (x * (f * l)) (x * (g * l)) w
+
+pub next_share : (n unit : ℕ) → (n + 1) * unit ≡ n * unit + unit
+next_share n unit = grind arith
 
 -- one more candidate's runs and query
 pub query_more : (before after start n u v b l : ℕ) → before ≤ start + n * query_cost b u l → after ≤ before + query_cost b v l → u ≤ v → after ≤ start + (n + 1) * query_cost b v l

@@ -17,6 +17,7 @@ use Rattle.table_learn.specs.Settings.{Settings}
 use Rattle.table_learn.specs.Learnt.{KeepsOrShortens}
 use Rattle.table_learn.specs.Tellings.{told}
 use Rattle.table_learn.specs.Fitness.{IsFit, IsFitName, shorter_of, tells_number, stays_open, without_told}
+use Rattle.table_learn.specs.Progress.{table_with}
 use Rattle.table_learn.proofs.Certificates.{refutation_passes, search_spends}
 use Rattle.table_learn.proofs.Telling.{told_is, untold, told_more, told-append, untold_both}
 
@@ -30,16 +31,12 @@ turn_all test m (x ∷ xs) h =
       turn_all test (m + 1) xs (λ i y e. let k : m + suc i ≡ m + 1 + i = omega arith in subst (λ j. test j y None) k (h (suc i) y e)),
     )
 
-no_longer : (e : Rule) → KeepsOrShortens e → length e.right ≤ length e.left
+pub no_longer : (e : Rule) → KeepsOrShortens e → length e.right ≤ length e.left
 no_longer e (inl same) = let l : length e.right ≡ length e.left = ap length same in omega (arith, l)
 no_longer e (inr less) = omega (arith, less)
 
--- a table with the settings' header
-pub table_with : Settings → List Seen → List Rule → Table
-table_with s states rules = record { regs = s.regs; left = s.left; seed = s.seed; budget = s.budget; pool = s.pool; states = states; rules = rules }
-
 pub fit_passes : (s : Settings) (states : List Seen) (rules : List Rule) (n : ℕ) (e : Rule) → IsFit s states states e → EntryVerdict (table_with s states rules) n e None
-unfolding EntryVerdict table_with
+unfolding EntryVerdict
 fit_passes s states rules n e f =
     let t : Table = table_with s states rules in (
       record {
@@ -56,7 +53,7 @@ fit_passes s states rules n e f =
         (
           turn_all (ToldTest t n e) 0 (shorter t e) (λ i seq at. subst (λ j. ToldTest t n e j seq None) (sym (zero-add i)) (elim (f.settles i seq at) [
             | inl named ↦ inl named
-            | inr yes ↦ inr (told_is states e.left seq e.mask yes)
+            | inr does ↦ inr (told_is states e.left seq e.mask does)
           ])),
           turn_all (OpenTest t n e) 0 e.opens (λ i o at. let name = f.names i o at in record {
             seq = name.seq;
@@ -80,7 +77,7 @@ fit_more s tellers more silent e f = record {
   lines = f.lines;
   settles = λ q seq at. elim (f.settles q seq at) [
     | inl named ↦ inl named
-    | inr yes ↦ inr (told_more tellers more e.left seq e.mask yes)
+    | inr does ↦ inr (told_more tellers more e.left seq e.mask does)
   ];
   names = f.names;
   ascending = f.ascending;
@@ -120,6 +117,7 @@ named-filter p (o ∷ opens) q h k =
     ] refl
 
 pub ascends_lower : (low high : ℕ) (xs : List ℕ) → low ≤ high → ascends_from high xs ≡ true → ascends_from low xs ≡ true
+unfolding ascends_from
 ascends_lower low high [] h a = refl
 ascends_lower low high (x ∷ xs) h a =
     let parts = and_parts (nat_le high x) (ascends_from (suc x) xs) a in
@@ -127,6 +125,7 @@ ascends_lower low high (x ∷ xs) h a =
     rw (le-leb low x least) parts.1
 
 pub ascends-filter : (p : Opened → Bool) (low : ℕ) (opens : List Opened) → ascends_from low (numbers_of opens) ≡ true → ascends_from low (numbers_of (filter p opens)) ≡ true
+unfolding ascends_from
 ascends-filter p low [] a = refl
 ascends-filter p low (o ∷ opens) a =
     let parts = and_parts (nat_le low o.number) (ascends_from (suc o.number) (numbers_of opens)) a in

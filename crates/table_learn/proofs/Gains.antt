@@ -27,7 +27,7 @@ use Rattle.table_learn.specs.Searching.{EarnedFrom}
 use Rattle.table_learn.specs.Progress.{Progress, table_with}
 use Rattle.table_learn.proofs.Fit.{turn_all, fit_passes, fit_more, fit_without, no_longer}
 use Rattle.table_learn.proofs.Steps.{push_cases}
-use Rattle.table_learn.proofs.Widths.{shorter_more}
+use Rattle.table_learn.proofs.Monotone.{shorter_more}
 
 -- ---- lists ----
 

@@ -2,7 +2,7 @@ pub mod Telling
 pub mod Certificates
 pub mod Fit
 pub mod Steps
-pub mod Widths
+pub mod Monotone
 pub mod Gains
 pub mod Candidates
 pub mod TextLengths
@@ -10,3 +10,4 @@ pub mod Passing
 pub mod Costs
 pub mod Asking
 pub mod Rounds
+pub mod Places

@@ -36,6 +36,7 @@ push_cases (y ∷ ys) x (suc i) s h = elim (push_cases ys x i s h) [ inl k ↦ i
 
 -- without one in the middle
 ascends_skip : (low n : ℕ) (xs ys : List ℕ) → ascends_from low (xs ++ n ∷ ys) ≡ true → ascends_from low (xs ++ ys) ≡ true
+unfolding ascends_from
 ascends_skip low n [] ys a =
     let parts = and_parts (nat_le low n) (ascends_from (suc n) ys) a in
     let least : low ≤ n = leb-true low n parts.0 in
@@ -46,6 +47,7 @@ ascends_skip low n (x ∷ xs) ys a =
 
 -- the first part
 ascends_front : (low : ℕ) (xs ys : List ℕ) → ascends_from low (xs ++ ys) ≡ true → ascends_from low xs ≡ true
+unfolding ascends_from
 ascends_front low [] ys a = refl
 ascends_front low (x ∷ xs) ys a =
     let parts = and_parts (nat_le low x) (ascends_from (suc x) (xs ++ ys)) a in
@@ -53,6 +55,7 @@ ascends_front low (x ∷ xs) ys a =
 
 -- the second part
 ascends_back : (low : ℕ) (xs ys : List ℕ) → ascends_from low (xs ++ ys) ≡ true → ascends_from low ys ≡ true
+unfolding ascends_from
 ascends_back low [] ys a = a
 ascends_back low (x ∷ xs) ys a =
     let parts = and_parts (nat_le low x) (ascends_from (suc x) (xs ++ ys)) a in
@@ -61,6 +64,7 @@ ascends_back low (x ∷ xs) ys a =
 
 -- each is at least the bound
 ascends_least : (low q : ℕ) (xs : List ℕ) → ascends_from low xs ≡ true → Contains xs q → low ≤ q
+unfolding ascends_from
 ascends_least low q xs a c = least low xs a c.0 c.1 c.2
   where
     least : (low : ℕ) (xs : List ℕ) → ascends_from low xs ≡ true → (k : ℕ) → k < length xs → get_or xs k q ≡ q → low ≤ q
@@ -158,7 +162,7 @@ module _ (s : Settings) (w : Window) (old : List Seen) where
         settles = λ q r c here. elim (Contains-push_cases passed n q c) [
           | inl k ↦ elim (g.settles q r k here) [
             | inl named ↦ inl named
-            | inr yes ↦ inr (told_more states (x ∷ []) w.seq r w.mask yes)
+            | inr does ↦ inr (told_more states (x ∷ []) w.seq r w.mask does)
           ]
           | inr same ↦ (
               let e : seq ≡ r = same_Some seq r (sym at ∙ subst (λ j. slice_get (shorter_than s.pool w) j ≡ Some r) (sym same) here) in
@@ -187,7 +191,7 @@ module _ (s : Settings) (w : Window) (old : List Seen) where
     settles = λ q r c here. elim (Contains-push_cases passed n q c) [
       | inl k ↦ elim (g.settles q r k here) [
         | inl named ↦ inl (named-append opens o q ∙ or_left _ _ named)
-        | inr yes ↦ inr yes
+        | inr does ↦ inr does
       ]
       | inr same ↦ inl (named-append opens o q ∙ or_right (is_named opens q) _ (eq-eqb o.number q (e ∙ same)))
     ];
@@ -208,15 +212,16 @@ module _ (s : Settings) (w : Window) (old : List Seen) where
   -- what is settled so far, also among the numbers that are no candidates
   settled : (states : List Seen) (opens : List Opened) (passed rest candidates : List ℕ) → IsSearching s w old states opens passed rest → AreCandidates s.pool old w candidates → candidates ≡ passed ++ rest
       → (q : ℕ) (r : List Instr) → (Contains rest q → ⊥) → slice_get (shorter_than s.pool w) q ≡ Some r → (is_named opens q ≡ true) ⊎ (told states w.seq r w.mask ≡ true)
-  settled states opens passed rest candidates g are e q r no here = elim (are.others q r here) [
+  settled states opens passed rest candidates g are e q r never here = elim (are.others q r here) [
     | inl c ↦ elim (Contains-append_cases passed rest q (subst (λ ns. Contains ns q) e c)) [
       | inl k ↦ g.settles q r k here
-      | inr k ↦ absurd (no k)
+      | inr k ↦ absurd (never k)
     ]
-    | inr yes ↦ inr (subst (λ ys. told ys w.seq r w.mask ≡ true) (sym g.growth.grown) (told_more old g.growth.more w.seq r w.mask yes))
+    | inr does ↦ inr (subst (λ ys. told ys w.seq r w.mask ≡ true) (sym g.growth.grown) (told_more old g.growth.more w.seq r w.mask does))
   ]
 
   rest_above : (passed rest candidates : List ℕ) (n q : ℕ) → ascends_from 0 candidates ≡ true → candidates ≡ passed ++ n ∷ rest → q < n → Contains (n ∷ rest) q → ⊥
+  unfolding ascends_from
   rest_above passed rest candidates n q up e less c =
       let back : ascends_from 0 (n ∷ rest) ≡ true = ascends_back 0 passed (n ∷ rest) (subst (λ ns. ascends_from 0 ns ≡ true) e up) in
       let parts = and_parts (nat_le 0 n) (ascends_from (suc n) rest) back in
@@ -246,7 +251,7 @@ search_proves s e old states opens passed rest candidates n window mask g are sp
           let there : slice_get (shorter_than s.pool (learnt_from e)) q ≡ Some r = below_le k s.pool (length e.right) (length e.left) q r (omega (arith, short)) (omega (arith, few)) here in
           elim (settled s (learnt_from e) old states opens passed (n ∷ rest) candidates g are split q r (rest_above s (learnt_from e) old passed rest candidates n q are.ascending split (omega (arith, within, after))) there) [
             | inl named ↦ inl (subst (λ z. is_named z q ≡ true) (sym o) (named-filter (is_below (length (shorter_of s.pool e))) opens q (λ z same. lt-ltb z.number (length (shorter_of s.pool e)) (omega (arith, same, within))) named))
-            | inr yes ↦ inr yes
+            | inr does ↦ inr does
           ];
       names = λ i z here.
           let kept = filter_at (is_below (length (shorter_of s.pool e))) opens i z (subst (λ zs. slice_get zs i ≡ Some z) o here) in
@@ -273,7 +278,7 @@ search_ends s e old states opens passed candidates window mask g are split r o p
           let there : slice_get (shorter_than s.pool (learnt_from e)) q ≡ Some seq = subst (λ z. slice_get z q ≡ Some seq) to_left here in
           elim (settled s (learnt_from e) old states opens passed [] candidates g are split q seq (λ c. omega (arith, c.1)) there) [
             | inl named ↦ inl (subst (λ z. is_named z q ≡ true) (sym o) named)
-            | inr yes ↦ inr yes
+            | inr does ↦ inr does
           ];
       names = λ i z here.
           let name = g.names i z (subst (λ zs. slice_get zs i ≡ Some z) o here) in

@@ -48,10 +48,10 @@ is_differ v w mask m d = any_of (λ x. not (v x == w x)) (items_in mask) d.0 (on
 -- a test that says whether a state tells is the one
 pub test_is : (r : Bool) (left right : List Instr) (mask : ℕ) (s : Seen) → IsMask mask → IsTrue r ↔ Tells (values_in s) left right mask → r ≡ tells_apart left right mask s
 test_is r left right mask s m h = elim (cases_Bool (tells_apart left right mask s)) [
-  | inl yes ↦ (let t : r ≡ true = h.1 (differ_is (after_all left (values_in s)) (after_all right (values_in s)) mask yes) in t ∙ sym yes)
-  | inr no ↦ elim (cases_Bool r) [
-    | inl yes ↦ absurd (true≢false (sym (is_differ (after_all left (values_in s)) (after_all right (values_in s)) mask m (h.0 yes)) ∙ no))
-    | inr also ↦ also ∙ sym no
+  | inl does ↦ (let t : r ≡ true = h.1 (differ_is (after_all left (values_in s)) (after_all right (values_in s)) mask does) in t ∙ sym does)
+  | inr never ↦ elim (cases_Bool r) [
+    | inl does ↦ absurd (true≢false (sym (is_differ (after_all left (values_in s)) (after_all right (values_in s)) mask m (h.0 does)) ∙ never))
+    | inr also ↦ also ∙ sym never
   ]
 ]
 
@@ -87,7 +87,7 @@ or_first false b h = refl
 pub untold_before : (xs ys : List Seen) (left right : List Instr) (mask : ℕ) → told (xs ++ ys) left right mask ≡ false → told xs left right mask ≡ false
 untold_before xs ys left right mask h = or_first (told xs left right mask) (told ys left right mask) (sym (told-append xs ys left right mask) ∙ h)
 
-or_neither : (a b : Bool) → a ≡ false → b ≡ false → (a || b) ≡ false
+pub or_neither : (a b : Bool) → a ≡ false → b ≡ false → (a || b) ≡ false
 or_neither a b p q = rw (p, q) refl
 
 pub untold_both : (xs ys : List Seen) (left right : List Instr) (mask : ℕ) → told xs left right mask ≡ false → told ys left right mask ≡ false → told (xs ++ ys) left right mask ≡ false

@@ -1,5 +1,5 @@
 -- The length of a table's text, part by part.
-use Rattle.std.proofs.Common.{◌≡◌, ℕ, zero, suc, ◌+◌, ◌*◌, ◌<◌, ◌≤◌, ◌^◌, ◌%◌, ◌/◌, ◌&&◌, List, [], ◌∷◌, ◌++◌, All, map, length, refl, sym, ◌∙◌, ap, subst, arith, length-append, append-nil, true, false, cond, nat_le, nat_lt}
+use Rattle.std.proofs.Common.{◌≡◌, ℕ, zero, suc, ◌+◌, ◌*◌, ◌<◌, ◌≤◌, ◌^◌, ◌%◌, ◌/◌, ◌&&◌, List, [], ◌∷◌, ◌++◌, All, map, length, take, get_or, refl, sym, ◌∙◌, ap, subst, arith, length-append, append-nil, true, false, cond, nat_le, nat_lt}
 use Rattle.std.specs.Prelude.{decimal, sum_by, codes}
 use Rattle.std.specs.List.{flat_map, list_all}
 use Rattle.std.proofs.lemmas.Bool.{and_parts, ltb-true}
@@ -9,7 +9,12 @@ use Rattle.std.proofs.lemmas.List.Elements.{All-head, All-tail}
 use Rattle.std.proofs.lemmas.List.Sums.{sum_by-cons}
 use Rattle.thumb_instr.specs.declared.instr.Instr.{Instr}
 use Rattle.thumb_instr.specs.Items.{has}
-use Rattle.lrat_check.specs.Content.{Content}
+use Rattle.std.proofs.lemmas.List.{map_push, take_more}
+use Rattle.lrat_check.specs.Content.{Content, content_of}
+use Rattle.lrat_check.specs.Text.{text_of as text_of_line}
+use Rattle.lrat_check.specs.declared.line.Line.{Line}
+use Rattle.rule_table.specs.declared.table.Open as code
+use Rattle.rule_table.specs.Views.{opened_of}
 use Rattle.seq_enum.specs.Pools.{inside, is_pool}
 use Rattle.seq_enum.proofs.Bounds.{bounds}
 use Rattle.fingerprints.specs.Seeded.{Seen}
@@ -114,6 +119,30 @@ item_word mask item word = elim (has mask item) as (λ b. length (cond b word []
 pub mask_line : (mask : ℕ) → lines_length (Mask mask ∷ [])
     ≡ 5 + item_length mask 0 3 + item_length mask 1 3 + item_length mask 2 3 + item_length mask 3 3 + item_length mask 15 2 + item_length mask 16 2 + item_length mask 17 2 + item_length mask 18 2
 mask_line mask = one_line (Mask mask) ∙ simp (length-append, item_word) (omega arith)
+
+pub logged_line : (c : Content) (text : List ℕ) (n : ℕ) → n ≡ length text → text ≡ text_of_line c ++ 10 ∷ [] → n ≡ lines_length (Logged c ∷ [])
+unfolding lines_length
+logged_line c text n e f = e ∙ ap length f ∙ sym (ap length (append-nil (text_of_line c ++ 10 ∷ [])))
+
+-- ---- loops ----
+
+pub log_next : (lines : List Line) (i : ℕ) (line : Line) (total more next : ℕ) → i < length lines → line ≡ get_or lines i line → total ≡ log_length (map content_of (take i lines)) → more ≡ lines_length (Logged (content_of line) ∷ []) → next ≡ total + more
+    → next ≡ log_length (map content_of (take (i + 1) lines))
+log_next lines i line total more next low is t m n =
+    let split : take (i + 1) lines ≡ take i lines ++ line ∷ [] = take_more lines i line low ∙ ap (λ l. take i lines ++ l ∷ []) (sym is) in
+    let e : map content_of (take (i + 1) lines) ≡ map content_of (take i lines) ++ content_of line ∷ [] = ap (map content_of) split ∙ map_push content_of (take i lines) line in
+    let f = log_push (map content_of (take i lines)) (content_of line) in
+    let g : log_length (map content_of (take (i + 1) lines)) ≡ log_length (map content_of (take i lines) ++ content_of line ∷ []) = ap (λ (cs : List Content). log_length cs) e in
+    omega (arith, t, m, n, f, g)
+
+pub opens_next : (opens : List code.Open) (i : ℕ) (name : code.Open) (total more next : ℕ) → i < length opens → name ≡ get_or opens i name → total ≡ opens_length (map opened_of (take i opens)) → more ≡ lines_length (open_items (opened_of name)) → next ≡ total + more
+    → next ≡ opens_length (map opened_of (take (i + 1) opens))
+opens_next opens i name total more next low is t m n =
+    let split : take (i + 1) opens ≡ take i opens ++ name ∷ [] = take_more opens i name low ∙ ap (λ l. take i opens ++ l ∷ []) (sym is) in
+    let e : map opened_of (take (i + 1) opens) ≡ map opened_of (take i opens) ++ opened_of name ∷ [] = ap (map opened_of) split ∙ map_push opened_of (take i opens) name in
+    let f = opens_push (map opened_of (take i opens)) (opened_of name) in
+    let g : opens_length (map opened_of (take (i + 1) opens)) ≡ opens_length (map opened_of (take i opens) ++ opened_of name ∷ []) = ap (λ (os : List Opened). opens_length os) e in
+    omega (arith, t, m, n, f, g)
 
 -- ---- states ----
 

@@ -1,4 +1,5 @@
 -- Tables that are learnt from windows.
+use Rattle.std.specs.Global.{Global}
 use Rattle.std.specs.Prelude.{ℕ, ◌≡◌, ◌<◌, ◌≤◌, ◌+◌, ◌*◌, ◌⊎◌, List, Some, All, Vec, length, map, slice_get, take}
 use Rattle.thumb_instr.specs.declared.instr.Instr.{Instr}
 use Rattle.window_exec.specs.Telling.{Tells}

@@ -1,4 +1,5 @@
 -- What trying a candidate comes to.
+use Rattle.std.specs.Global.{Global}
 use Rattle.std.specs.Prelude.{ℕ, ◌≡◌, ◌∷◌, ◌++◌, List, [], All, Option, Some, None, Vec, map, slice_get}
 use Rattle.thumb_instr.specs.declared.instr.Instr.{Instr}
 use Rattle.fingerprints.specs.Seeded.{Seen}

@@ -47,6 +47,7 @@ fn tells_open<L: Ledger>(
     requires named { window.now.k ≡ named_count window.now.left }
     requires left { AreOver 4 window.now.left }
     requires short { count ≤ length window.now.left }
+    requires five { count ≤ 5 }
     ensures told { (e : Rule) → e.left ≡ window.now.left → e.mask ≡ window.now.mask.items.bits → length e.right ≡ count → result ≡ tells_number (map seen found.now) e (slice_get (shorter_of pool.now e) number) }
     ensures cost { steps.new ≤ steps.old + length found.now * (length window.now.left + length window.now.left) }
 {

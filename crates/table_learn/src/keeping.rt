@@ -40,7 +40,7 @@ impl Kept {
     {
         self.k == window.k
             && self.mask.items.bits == window.mask.items.bits
-            && window.len() <= self.longest + 1
+            && u32::from(window.len()) <= u32::from(self.longest) + 1
     }
 }
 

@@ -108,11 +108,11 @@ fn number_length(number: u64) -> u64
 }
 
 /// The lines of an open number with its log.
-pub(crate) fn open_length(alloc: Global, open: &Open) -> Result<u64, Memory>
-    ensures { IfOk result (λ n. n ≡ lines_length (open_items (opened_of open.entry.now))) }
+pub(crate) fn open_length(alloc: Global, name: &Open) -> Result<u64, Memory>
+    ensures { IfOk result (λ n. n ≡ lines_length (open_items (opened_of name.entry.now))) }
 {
-    let log = log_length(alloc, &open.log)?;
-    plus(log, number_length(open.number))
+    let log = log_length(alloc, &name.log)?;
+    plus(log, number_length(name.number))
 }
 
 /// The lines of open numbers with their logs.
@@ -120,8 +120,8 @@ fn opens_length(alloc: Global, opens: &[Open]) -> Result<u64, Memory>
     ensures { IfOk result (λ n. n ≡ opens_length (map opened_of opens.entry.now)) }
 {
     let mut total = 0;
-    for open in opens {
-        total = plus(total, open_length(alloc, open)?)?;
+    for name in opens {
+        total = plus(total, open_length(alloc, name)?)?;
     }
     Ok(total)
 }
