@@ -27,6 +27,14 @@ use Rattle.cdcl_core.specs.Solved.{AreBelow, VerdictOf}
 use Rattle.cdcl_core.proofs.Statements.{code_below}
 use Rattle.table_learn.specs.Learnt.{IsRefutation, IsSpentSearch}
 use Rattle.table_learn.specs.Tellings.{told, tells_apart}
+use Rattle.std.proofs.Common.{Result, Ok, Err}
+use Rattle.std.specs.Prelude.{IfOk}
+use Rattle.table_audit.specs.Sides.{named_count}
+use Rattle.table_learn.specs.declared.errors.Memory.{Memory}
+use Rattle.table_learn.specs.declared.window.Window as code
+use Rattle.table_learn.specs.declared.trying.Finding.{Finding}
+use Rattle.table_learn.specs.declared.trying.Finding.TheVariants.{Told, State, Proof, Log}
+use Rattle.table_learn.specs.Found.{IsAnswer, IsFinding, window_in}
 use Rattle.table_learn.proofs.Certificates.{refutation_lines, search_lines}
 use Rattle.table_learn.proofs.Telling.{tells_is_apart}
 
@@ -40,7 +48,7 @@ model_tells f left right mask k model s e over_left over_right m over few h same
 pub state_words : (s : WState) (v : Values) → length s.r ≡ 4 → SameOver 4 (values_of s) v → AreWords v → All (λ w. w < 2 ^ 32) s.r
 state_words s v four same words j d low =
     let at : get_or s.r j 0 < 2 ^ 32 = of_four (λ x. get_or s.r x 0 < 2 ^ 32) (each 0 (omega arith) (same 0 (inl (omega arith, omega arith)))) (each 1 (omega arith) (same 1 (inl (omega arith, omega arith)))) (each 2 (omega arith) (same 2 (inl (omega arith, omega arith)))) (each 3 (omega arith) (same 3 (inl (omega arith, omega arith)))) j (omega (arith, low, four)) in
-    subst (λ z. z < 2 ^ 32) (get_or_default s.r j d 0 low) at
+    subst (λ z. z < 2 ^ 32) (get_or_default s.r j 0 d low) at
   where
     each : (x : ℕ) → x < 15 → get_or s.r x 0 ≡ v x → get_or s.r x 0 < 2 ^ 32
     each x h e = subst (λ z. z < 2 ^ 32) (sym e) (words.register x h)
@@ -75,3 +83,11 @@ told_seen (s ∷ states) left right mask = ap (λ b. tells_apart left right mask
 
 pub first_part : (states listed : List WState) → listed ≡ take 8 states → map seen states ≡ map seen listed ++ map seen (drop 8 states)
 first_part states listed e = sym (ap (λ (ss : List WState). map seen ss ++ map seen (drop 8 states)) e ∙ sym (map-append seen (take 8 states) (drop 8 states)) ∙ ap (map seen) (take-append-drop 8 states))
+
+-- the solver is asked where no listed state tells
+pub answered : (r : Result Finding Memory) (budget : ℕ) (states : List Seen) (w : code.Window) (seq : List Instr) → w.k ≡ named_count w.left → told states w.left seq w.mask.items.bits ≡ false → IfOk r (IsAnswer budget w seq) → IfOk r (IsFinding budget states (window_in w) seq)
+answered (Ok Told) budget states w seq n u a = absurd a
+answered (Ok (State s)) budget states w seq n u a = (u, a.0, a.1)
+answered (Ok (Proof log)) budget states w seq n u a = (subst (λ k. IsRefutation budget (sides_formula w.left seq w.mask.items.bits k) (map content_of log.items)) n a.0, a.1)
+answered (Ok (Log log)) budget states w seq n u a = (u, subst (λ k. IsSpentSearch budget (sides_formula w.left seq w.mask.items.bits k) (map content_of log.items)) n a.0, a.1)
+answered (Err e) budget states w seq n u a = tt

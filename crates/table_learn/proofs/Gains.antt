@@ -1,5 +1,5 @@
 -- One more window, and the table in the end.
-use Rattle.std.proofs.Common.{◌≡◌, ℕ, zero, suc, ◌+◌, ◌-◌, ◌<◌, ◌≤◌, ◌⊎◌, ◌^◌, ◌%◌, inl, inr, List, [], ◌∷◌, ◌++◌, Option, Some, None, All, length, map, slice_get, take, drop, get_or, filter, refl, sym, ◌∙◌, ap, subst, arith, zero-add, append-nil, length-append, true}
+use Rattle.std.proofs.Common.{◌≡◌, ℕ, zero, suc, ◌+◌, ◌-◌, ◌<◌, ◌≤◌, ◌⊎◌, ◌^◌, ◌%◌, ◌/◌, ◌*◌, inl, inr, List, [], ◌∷◌, ◌++◌, Option, Some, None, All, length, map, slice_get, take, drop, get_or, filter, refl, sym, ◌∙◌, ap, subst, arith, zero-add, append-nil, length-append, true}
 use Rattle.std.proofs.lemmas.List.{take-append-le, take_all, length-map}
 use Rattle.std.proofs.lemmas.List.Elements.{All-nil, All-cons, All-append, All-from_get_or}
 use Rattle.std.proofs.lemmas.Bool.{cases_lt}
@@ -10,6 +10,9 @@ use Rattle.thumb_model.specs.Rewrite.{AreOver}
 use Rattle.seq_enum.specs.Pools.{is_pool}
 use Rattle.seq_enum.specs.Alphabet.{IsOver}
 use Rattle.seq_enum.proofs.Numbered.{get_front}
+use Rattle.std.specs.Int.{w32, rotate_right}
+use Rattle.std.proofs.Math.Nat.{div-le_self}
+use Rattle.std.proofs.lemmas.Nat.{or_of_32}
 use Rattle.rand_pcg.specs.Lcg.{Lcg}
 use Rattle.rand_pcg.specs.Pcg.{pcg32}
 use Rattle.fingerprints.specs.Seeded.{Seen, next_state, seeded_states, states_from}
@@ -112,7 +115,7 @@ gain s windows w states more rules e g valid earned same fit = record {
 
 -- ---- before the first window ----
 
-length-states_from : (n : ℕ) (g : Lcg) → length (states_from n g) ≡ n
+pub length-states_from : (n : ℕ) (g : Lcg) → length (states_from n g) ≡ n
 unfolding states_from
 length-states_from zero g = refl
 length-states_from (suc n) g = ap suc (length-states_from n (next_state g).1)
@@ -120,18 +123,37 @@ length-states_from (suc n) g = ap suc (length-states_from n (next_state g).1)
 flags_low : (x : ℕ) → x % 16 < 16
 flags_low x = omega arith
 
-pub small_flags : (n : ℕ) (g : Lcg) → All (λ (x : Seen). x.nzcv < 16) (states_from n g)
-unfolding states_from
-small_flags zero g = All-nil _
-small_flags (suc n) g = All-cons (λ (x : Seen). x.nzcv < 16) (next_state g).0 (states_from n (next_state g).1) (flags_low _) (small_flags n (next_state g).1)
+word_low : (x k : ℕ) → x < 2 ^ 32 → rotate_right w32 x k < 2 ^ 32
+word_low x k h =
+    let part : x / 2 ^ (k % 32) ≤ x = div-le_self x (2 ^ (k % 32)) in
+    or_of_32 (x / 2 ^ (k % 32)) (x * 2 ^ ((32 - k % 32) % 32) % 2 ^ 32) (omega (arith, part, h)) (omega arith)
 
-pub start : (s : Settings) (states : List Seen) → states ≡ seeded_states s.seed → All IsState states → Progress s [] states []
-start s states e valid =
+pcg_low : (g : Lcg) → (pcg32 g).0 < 2 ^ 32
+pcg_low g = word_low _ _ (omega arith)
+
+-- the states that a generator gives have four words and four flags
+pub valid_from : (n : ℕ) (g : Lcg) → All IsState (states_from n g)
+unfolding states_from
+valid_from zero g = All-nil IsState
+valid_from (suc n) g =
+    let a = pcg32 g in
+    let b = pcg32 a.1 in
+    let c = pcg32 b.1 in
+    let d = pcg32 c.1 in
+    let one : IsState (next_state g).0 = record {
+      four = refl;
+      words = All-cons (λ w. w < 2 ^ 32) a.0 (b.0 ∷ c.0 ∷ d.0 ∷ []) (pcg_low g) (All-cons (λ w. w < 2 ^ 32) b.0 (c.0 ∷ d.0 ∷ []) (pcg_low a.1) (All-cons (λ w. w < 2 ^ 32) c.0 (d.0 ∷ []) (pcg_low b.1) (All-cons (λ w. w < 2 ^ 32) d.0 [] (pcg_low c.1) (All-nil (λ w. w < 2 ^ 32)))));
+      flags = flags_low _;
+    } in
+    All-cons IsState (next_state g).0 (states_from n (next_state g).1) one (valid_from n (next_state g).1)
+
+pub start : (s : Settings) (states : List Seen) → states ≡ seeded_states s.seed → Progress s [] states []
+start s states e =
     let l : length states ≡ 64 = ap length e ∙ length-states_from 64 _ in
     record {
       long = omega (arith, l);
       begins = take_all 64 states (omega (arith, l)) ∙ e;
-      valid = valid;
+      valid = subst (All IsState) (sym e) (valid_from 64 _);
       matched = refl;
       fits = λ n z at. absurd (cc);
       earned = λ i x from at. let within : i < length states = slice_get_within states i x at in absurd (omega (arith, from, within, l));

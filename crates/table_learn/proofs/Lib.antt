@@ -11,3 +11,5 @@ pub mod Costs
 pub mod Asking
 pub mod Rounds
 pub mod Places
+pub mod Dropped
+pub mod Searched

@@ -245,3 +245,11 @@ short_header s l seed pool =
     let q = pool_length s.pool p.bytes in
     let few = p.few in
     omega (arith, a, b, c, d, e, v, r, o, w, x, y, z, q, few)
+
+-- before the first window
+pub text_begins : (s : Settings) (states : List Seen) → AreInLimits s → s.seed < 2 ^ 32 → is_pool s.pool ≡ true → All IsState states → length states ≡ 64 → text_length (table_with s states []) ≤ 67108864
+text_begins s states l seed pool valid many =
+    let a = whole_lines s states [] valid in
+    let b = short_header s l seed pool in
+    let c = no_line in
+    omega (arith, a, b, c, many)

@@ -1,7 +1,8 @@
 //! A table, window by window.
-ghost use Rattle.std.specs.Prelude.{◌≡◌, ◌<◌, ◌≤◌, ◌+◌, ◌-◌, ◌∷◌, ◌++◌, [], ℕ, List, IfErr, IfOk, OnOk, length, map};
+ghost use Rattle.std.specs.Prelude.{◌≡◌, ◌<◌, ◌≤◌, ◌+◌, ◌-◌, ◌^◌, ◌∷◌, ◌++◌, [], ℕ, List, true, IfErr, IfOk, OnOk, length, map};
 ghost use Rattle.rule_table.specs.Valid.{IsTable};
 ghost use Rattle.fingerprints.specs.Seeded.{seen};
+ghost use Rattle.seq_enum.specs.Pools.{is_pool};
 ghost use Rattle.rule_table.specs.Views.{rule_of, table_of};
 ghost use Rattle.table_audit.specs.Sides.{named_count};
 ghost use Rattle.table_learn.specs.Settings.{Window as Model, settings_of, window_of, AreInLimits, AreWindows, IsWindow};
@@ -59,11 +60,14 @@ fn table_of(settings: Settings, states: Vec<WState>, entries: Vec<Entry>) -> Tab
 
 /// Before the first window there are the states of the seed alone.
 fn begin(alloc: Global, settings: Settings) -> Result<(Settings, Learner), Memory>
-    requires { AreInLimits (settings_of settings) }
+    requires limits { AreInLimits (settings_of settings) }
+    ensures seed { IfOk result (λ _. settings.seed < 2 ^ 32) }
+    ensures pool { IfOk result (λ _. is_pool settings.pool ≡ true) }
     ensures same { IfOk result (λ r. settings_of r.0 ≡ settings_of settings) }
     ensures begun { IfOk result (λ r. HasLearnt (settings_of settings) [] r.1) }
     ensures short { IfOk result (λ r. r.1.bytes ≤ text_limit) }
 {
+    settings.hold();
     let states = seeded(alloc, settings.seed)?.into_vec();
     let table = table_of(settings, states, Vec::new(alloc));
     let bytes = write_table(alloc, &table)?.len() as u64;

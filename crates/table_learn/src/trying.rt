@@ -4,6 +4,7 @@ ghost use Rattle.std.specs.List.{list_any};
 ghost use Rattle.thumb_model.specs.Rewrite.{AreOver};
 ghost use Rattle.bit_blast.specs.Exactness.{IsMaskOver};
 ghost use Rattle.fingerprints.specs.Seeded.{seen};
+ghost use Rattle.table_audit.specs.Sides.{named_count};
 ghost use Rattle.table_learn.specs.Tellings.{tells_apart};
 ghost use Rattle.table_learn.specs.Searching.{query_cost};
 ghost use Rattle.table_learn.specs.Found.{IsAnswer, IsFinding, window_in};
@@ -98,6 +99,7 @@ pub(crate) fn try_sequence<L: Ledger>(
     steps: &mut Steps<L>,
 ) -> Result<Finding, Memory>
     requires few { window.now.k ≤ 4 }
+    requires named { window.now.k ≡ named_count window.now.left }
     requires left { AreOver window.now.k window.now.left }
     requires right { AreOver window.now.k seq.now }
     requires shorter { length seq.now < length window.now.left }

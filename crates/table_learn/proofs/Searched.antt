@@ -1,0 +1,71 @@
+-- A search as its loop sees it.
+use Rattle.std.specs.Global.{Global}
+use Rattle.std.proofs.Common.{◌≡◌, ℕ, ◌+◌, ◌<◌, ◌≤◌, List, [], ◌∷◌, ◌++◌, All, Some, filter, length, map, slice_get, get_or, take, drop, refl, sym, ◌∙◌, ap, subst, arith, append-nil}
+use Rattle.std.specs.Prelude.{Vec}
+use Rattle.std.proofs.lemmas.List.{take_more, take_all, drop_all, take-append-drop}
+use Rattle.std.proofs.lemmas.List.Elements.{All-nil}
+use Rattle.std.proofs.lemmas.Option.{slice_get-get_or}
+use Rattle.thumb_instr.specs.declared.instr.Instr.{Instr}
+use Rattle.thumb_model.specs.Rewrite.{AreOver}
+use Rattle.fingerprints.specs.Seeded.{Seen}
+use Rattle.lrat_check.specs.declared.line.Line.{Line}
+use Rattle.lrat_check.specs.Content.{Content, content_of}
+use Rattle.lrat_check.specs.Text.{IsLine}
+use Rattle.proof_logs.proofs.Turns.{drop_got}
+use Rattle.bit_blast.specs.Differences.{sides_formula}
+use Rattle.bit_blast.specs.Exactness.{IsMask}
+use Rattle.rule_table.specs.Table.{Opened, Rule}
+use Rattle.table_audit.specs.Sides.{named_count}
+use Rattle.table_learn.specs.Settings.{Settings, Window, IsWindow}
+use Rattle.table_learn.specs.Learnt.{IsProvedBySolver, IsRefutation, learnt_from}
+use Rattle.table_learn.specs.Fitness.{IsFit, shorter_of}
+use Rattle.table_learn.specs.Searching.{shorter_than, AreCandidates, IsSearching, is_below}
+use Rattle.table_learn.specs.Tried.{IsRightSide}
+use Rattle.table_learn.proofs.Certificates.{nothing_refutes}
+use Rattle.table_learn.proofs.Rounds.{side_over}
+use Rattle.table_learn.proofs.Steps.{search_proves, search_ends}
+
+split_at : (candidates : List ℕ) (i d : ℕ) → i < length candidates → drop i candidates ≡ get_or candidates i d ∷ drop (i + 1) candidates
+split_at candidates i d low = drop_got candidates i (get_or candidates i d) (slice_get-get_or candidates i d low)
+
+-- the candidate at a place is passed
+pub search_next : (s : Settings) (w : Window) (old states later : List Seen) (opens more : List Opened) (candidates : List ℕ) (i d : ℕ) → i < length candidates
+    → ((o : List Seen) (passed rest : List ℕ) → IsSearching s w o states opens passed (get_or candidates i d ∷ rest) → IsSearching s w o later more (passed ++ get_or candidates i d ∷ []) rest)
+    → IsSearching s w old states opens (take i candidates) (drop i candidates) → IsSearching s w old later more (take (i + 1) candidates) (drop (i + 1) candidates)
+search_next s w old states later opens more candidates i d low tried g =
+    subst (λ ps. IsSearching s w old later more ps (drop (i + 1) candidates)) (sym (take_more candidates i d low))
+    (tried old (take i candidates) (drop (i + 1) candidates) (subst (λ rs. IsSearching s w old states opens (take i candidates) rs) (split_at candidates i d low) g))
+
+-- the candidate at a place is the right side
+pub right_found : (s : Settings) (w : Window) (e : Rule) (old states later : List Seen) (opens more kept : List Opened) (candidates : List ℕ) (i d limit : ℕ) (right : List Instr × Vec Line Global) → learnt_from e ≡ w → IsWindow s w → IsMask w.mask → i < length candidates
+    → IsSearching s w old states opens (take i candidates) (drop i candidates) → AreCandidates s.pool old w candidates → (later ≡ states) × (more ≡ opens) × IsRightSide s w (get_or candidates i d) right → e.right ≡ right.0 → e.proof ≡ map content_of right.1.items
+    → e.opens ≡ filter (is_below limit) more → limit ≡ length (shorter_of s.pool e) → IsFit s later old e
+right_found s w e old states later opens more kept candidates i d limit right same window mask low g are tried r p o l =
+    subst (λ ss. IsFit s ss old e) (sym tried.0)
+    (search_proves s e old states opens (take i candidates) (drop (i + 1) candidates) candidates (get_or candidates i d)
+    (subst (IsWindow s) (sym same) window)
+    (subst (λ (v : Window). IsMask v.mask) (sym same) mask)
+    (subst (λ (v : Window). IsSearching s v old states opens (take i candidates) (get_or candidates i d ∷ drop (i + 1) candidates)) (sym same) (subst (λ rs. IsSearching s w old states opens (take i candidates) rs) (split_at candidates i d low) g))
+    (subst (λ (v : Window). AreCandidates s.pool old v candidates) (sym same) are)
+    (sym (take-append-drop i candidates) ∙ ap (λ rs. take i candidates ++ rs) (split_at candidates i d low))
+    (subst (λ (v : Window). slice_get (shorter_than s.pool v) (get_or candidates i d) ≡ Some e.right) (sym same) (tried.2.at ∙ ap (λ z. Some z) (sym r)))
+    (o ∙ ap (λ n. filter (is_below n) more) l ∙ ap (λ os. filter (is_below (length (shorter_of s.pool e))) os) tried.1)
+    (subst (λ (v : Window). IsRefutation s.budget (sides_formula v.seq e.right v.mask (named_count v.seq)) e.proof) (sym same) (subst (λ z. IsRefutation s.budget (sides_formula w.seq z w.mask (named_count w.seq)) e.proof) (sym r) (subst (λ ls. IsRefutation s.budget (sides_formula w.seq right.0 w.mask (named_count w.seq)) ls) (sym p) tried.2.proof)))
+    (subst (All IsLine) (sym p) tried.2.lines))
+
+-- no candidate is left
+pub none_found : (s : Settings) (w : Window) (e : Rule) (old states : List Seen) (opens : List Opened) (candidates : List ℕ) (i : ℕ) (log : Vec Line Global) → learnt_from e ≡ w → IsWindow s w → IsMask w.mask → length candidates ≤ i
+    → IsSearching s w old states opens (take i candidates) (drop i candidates) → AreCandidates s.pool old w candidates → e.right ≡ w.seq → e.opens ≡ opens → log.items ≡ [] → e.proof ≡ map content_of log.items → IsFit s states old e
+none_found s w e old states opens candidates i log same window mask past g are r o n p =
+    let mine : IsWindow s (learnt_from e) = subst (IsWindow s) (sym same) window in
+    let over : AreOver (named_count e.left) e.left = (side_over s (learnt_from e) mine).1 in
+    let right : e.right ≡ e.left = r ∙ ap (λ (v : Window). v.seq) (sym same) in
+    let empty : e.proof ≡ [] = p ∙ ap (map content_of) n in
+    search_ends s e old states opens candidates candidates mine
+    (subst (λ (v : Window). IsMask v.mask) (sym same) mask)
+    (subst (λ (v : Window). IsSearching s v old states opens candidates []) (sym same)
+    (subst (λ rs. IsSearching s w old states opens candidates rs) (drop_all i candidates past) (subst (λ ps. IsSearching s w old states opens ps (drop i candidates)) (take_all i candidates past) g)))
+    (subst (λ (v : Window). AreCandidates s.pool old v candidates) (sym same) are)
+    (sym (append-nil candidates)) right o
+    (subst (λ ls. IsRefutation s.budget (sides_formula e.left e.right e.mask (named_count e.left)) ls) (sym empty) (subst (λ z. IsRefutation s.budget (sides_formula e.left z e.mask (named_count e.left)) []) (sym right) (nothing_refutes e.left e.mask (named_count e.left) s.budget log over n)))
+    (subst (All IsLine) (sym empty) (All-nil IsLine))

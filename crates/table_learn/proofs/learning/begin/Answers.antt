@@ -1,0 +1,47 @@
+use Rattle.std.proofs.Common.{ℕ, ◌≡◌, ◌≤◌, ◌∙◌, [], rules, refl, sym, ap, subst, arith, map, length, List}
+use Rattle.window_exec.specs.declared.state.WState.{WState}
+use Rattle.fingerprints.specs.Seeded.{Seen, seen, seeded_states}
+use Rattle.rule_table.specs.declared.table.Entry.{Entry}
+use Rattle.rule_table.specs.Table.{Rule, Table}
+use Rattle.rule_table.specs.Text.{text_of}
+use Rattle.rule_table.specs.Views.{rule_of, table_of}
+use Rattle.table_learn.specs.Settings.{settings_of}
+use Rattle.table_learn.specs.Learnt.{text_length}
+use Rattle.table_learn.specs.Progress.{Progress, table_with}
+use Rattle.table_learn.proofs.Gains.{start, length-states_from}
+use Rattle.table_learn.proofs.TextLengths.{text_begins}
+use Rattle.table_learn.proofs.learning.begin.Goals as goal
+
+module _ (c : goal.After-into_vec) where
+  states : map seen c.into_vec.result.items ≡ map seen c.into_vec-states.result.items
+  states = ap (λ (ss : List WState). map seen ss) c.into_vec.ensures ∙ ap (λ (t : Table). t.states) c.table_of-table.ensures
+
+  seeds : map seen c.into_vec.result.items ≡ seeded_states c.args.settings.seed
+  seeds = states ∙ ap (λ (ss : List WState). map seen ss) c.into_vec-states.ensures ∙ c.in_ok-seeded.ensures
+
+  none : map rule_of c.table_of-table.result.entries.items ≡ []
+  none = ap (λ (t : Table). t.rules) c.table_of-table.ensures ∙ ap (λ (es : List Entry). map rule_of es) c.new.ensures.items
+
+  progress : Progress (settings_of c.args.settings) [] (map seen c.into_vec.result.items) []
+  progress = start (settings_of c.args.settings) (map seen c.into_vec.result.items) seeds
+
+  bytes : c.len-bytes.result ≡ text_length (table_with (settings_of c.args.settings) (map seen c.into_vec.result.items) [])
+  bytes =
+      let n : c.len-bytes.result ≡ length c.in_ok-write_table.field-0.items = search rules in
+      let w : c.in_ok-write_table.field-0.items ≡ text_of (table_of c.table_of-table.result) = c.in_ok-write_table.ensures in
+      n ∙ ap (λ (t : List ℕ). length t) w ∙ ap (λ (t : Table). text_length t) c.table_of-table.ensures
+      ∙ ap (λ (ss : List Seen). text_length (table_with (settings_of c.args.settings) ss (map rule_of c.new.result.items))) (sym states)
+      ∙ ap (λ (rs : List Rule). text_length (table_with (settings_of c.args.settings) (map seen c.into_vec.result.items) rs)) (ap (λ (es : List Entry). map rule_of es) c.new.ensures.items)
+
+pub returns-clause-begun : goal.returns-clause-begun
+returns-clause-begun c = record {
+  progress = subst (λ (rs : List Rule). Progress (settings_of c.args.settings) [] (map seen c.into_vec.result.items) rs) (sym (none c)) (progress c);
+  bytes = bytes c ∙ ap (λ (rs : List Rule). text_length (table_with (settings_of c.args.settings) (map seen c.into_vec.result.items) rs)) (sym (none c));
+  kept = tt;
+}
+
+pub returns-clause-short : goal.returns-clause-short
+returns-clause-short c =
+    let many : length (map seen c.into_vec.result.items) ≡ 64 = ap (λ (ss : List Seen). length ss) (seeds c) ∙ length-states_from 64 _ in
+    let short = text_begins (settings_of c.args.settings) (map seen c.into_vec.result.items) c.requires.limits c.hold.ensures.seed c.hold.ensures.pool (progress c).valid many in
+    omega (arith, bytes c, short)

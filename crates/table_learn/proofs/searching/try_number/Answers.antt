@@ -1,0 +1,43 @@
+use Rattle.std.proofs.Common.{ℕ, ◌≡◌, ◌∷◌, ◌++◌, [], ◌∙◌, ap, sym, subst, refl, map, length, List, slice_get, Some}
+use Rattle.std.proofs.lemmas.List.{map_push}
+use Rattle.thumb_instr.specs.declared.instr.Instr.{Instr}
+use Rattle.thumb_model.specs.Rewrite.{AreOver}
+use Rattle.fingerprints.specs.Seeded.{Seen, seen}
+use Rattle.lrat_check.specs.Content.{content_of}
+use Rattle.rule_table.specs.Views.{opened_of}
+use Rattle.table_audit.specs.Shorter.{sequences_below}
+use Rattle.table_learn.specs.Settings.{settings_of}
+use Rattle.table_learn.specs.Found.{IsFinding, window_in}
+use Rattle.table_learn.specs.Searching.{shorter_than}
+use Rattle.table_learn.proofs.Rounds.{side_over}
+use Rattle.table_learn.proofs.Steps.{search_passes, search_finds, search_spends}
+use Rattle.table_learn.proofs.searching.try_number.Goals as goal
+use Rattle.table_learn.proofs.searching.try_number.Goals.{in-Told, in-State+in_ok-push-in-State, in-Log+in_ok-push-in-Log}
+
+pub try_sequence-requires-clause-left : goal.try_sequence-requires-clause-left
+try_sequence-requires-clause-left g c =
+    subst (λ k. AreOver k c.args.window.now.left) (sym c.requires.named) (side_over (settings_of c.args.settings.now) (window_in c.args.window.now) c.requires.window).1
+
+pub returns-clause-tried : goal.returns-clause-tried
+returns-clause-tried g c = λ old passed rest is.
+    let s = settings_of c.args.settings.now in
+    let w = window_in c.args.window.now in
+    let seq = c.shorter_at-seq.result in
+    let at : slice_get (shorter_than c.args.settings.now.pool (window_in c.args.window.now)) c.args.number ≡ Some c.shorter_at-seq.result =
+        ap (λ (j : ℕ). slice_get (sequences_below j c.args.settings.now.pool (length c.args.window.now.left)) c.args.number) (sym c.requires.named)
+        ∙ ap (λ (j : ℕ). slice_get (sequences_below c.args.window.now.k c.args.settings.now.pool j) c.args.number) (sym c.len.ensures.value) ∙ c.shorter_at-seq.ensures.value in
+    let found : IsFinding c.args.settings.now.budget (map seen c.args.states.now.items) (window_in c.args.window.now) c.shorter_at-seq.result c.in_ok-try_sequence.field-0 =
+        subst (λ ss. IsFinding c.args.settings.now.budget (map seen ss) (window_in c.args.window.now) c.shorter_at-seq.result c.in_ok-try_sequence.field-0) c.deref.ensures.value c.in_ok-try_sequence.ensures.found in
+    elim c.match-branch-2.branch [
+      | in-Told x ↦
+          let f = rw x.in-Told.is at found in
+          rw (x.states-is, x.opens-is) (search_passes s w old (map seen c.args.states.now.items) (map opened_of c.args.opens.now.items) passed rest c.args.number seq is at f)
+      | in-State+in_ok-push-in-State x ↦
+          let f = rw x.in-State.is at found in
+          rw (x.states-is, x.opens-is, x.in_ok-push-in-State.ensures.items, map_push seen c.args.states.now.items x.in-State.state)
+          (search_finds s w old (map seen c.args.states.now.items) (map opened_of c.args.opens.now.items) passed rest c.args.number seq (seen x.in-State.state) c.requires.window.canonical.renamable.few c.args.window.now.mask.in_masks f.2 is at f.0 f.1)
+      | in-Log+in_ok-push-in-Log x ↦
+          let f = rw x.in-Log.is at found in
+          rw (x.states-is, x.opens-is, x.in_ok-push-in-Log.ensures.items, map_push opened_of c.args.opens.now.items (record { number = c.args.number; log = x.in-Log.log }))
+          (search_spends s w old (map seen c.args.states.now.items) (map opened_of c.args.opens.now.items) passed rest c.args.number seq (record { number = c.args.number; log = map content_of x.in-Log.log.items }) is at f.0 refl f.1 f.2)
+    ]
