@@ -1,12 +1,16 @@
 -- A window more, with the length of the text.
-use Rattle.std.proofs.Common.{◌≡◌, ℕ, ◌+◌, ◌-◌, ◌*◌, ◌<◌, ◌≤◌, ◌||◌, Bool, true, false, not, List, [], ◌∷◌, ◌++◌, Option, Some, None, All, filter, length, map, slice_get, drop, take, refl, sym, ◌∙◌, ap, subst, arith, length-append, length-drop}
+use Rattle.std.proofs.Common.{◌≡◌, ℕ, zero, suc, ◌+◌, ◌-◌, ◌*◌, ◌<◌, ◌≤◌, ◌||◌, Bool, true, false, not, List, [], ◌∷◌, ◌++◌, Option, Some, None, All, filter, length, map, slice_get, drop, take, refl, sym, ◌∙◌, ap, subst, arith, length-append, length-drop, append_assoc, inl, inr}
 use Rattle.std.proofs.Math.Seq.{drop-append_seam}
-use Rattle.std.proofs.lemmas.List.{take_all, length-map}
+use Rattle.std.proofs.lemmas.List.{take_all, length-map, map_push}
 use Rattle.std.proofs.lemmas.List.Elements.{All-nil, All-cons, All-append}
 use Rattle.std.proofs.lemmas.Option.{slice_get_within}
 use Rattle.thumb_instr.specs.declared.instr.Instr.{Instr}
 use Rattle.thumb_model.specs.Rewrite.{AreOver}
-use Rattle.fingerprints.specs.Seeded.{Seen}
+use Rattle.window_exec.specs.declared.state.WState.{WState}
+use Rattle.fingerprints.specs.Seeded.{Seen, seen}
+use Rattle.rule_table.specs.declared.table.Entry.{Entry}
+use Rattle.rule_table.specs.Views.{rule_of}
+use Rattle.table_audit.proofs.Appearing.{names_register}
 use Rattle.rule_table.specs.Table.{Opened, Rule, Table}
 use Rattle.rule_table.specs.Valid.{IsState}
 use Rattle.rule_table.specs.Text.{rule_items}
@@ -16,14 +20,19 @@ use Rattle.table_audit.proofs.Walking.{over_more}
 use Rattle.table_learn.specs.Settings.{Settings, Window, IsWindow, AreInLimits}
 use Rattle.table_learn.specs.Learnt.{learnt_from, text_length, width_of}
 use Rattle.table_learn.specs.Fitness.{IsFit, shorter_of, tells_number, stays_open, without_told}
-use Rattle.table_learn.specs.Searching.{IsGrown, EarnedFrom}
+use Rattle.table_learn.specs.Searching.{shorter_than, AreCandidates, IsGrown, EarnedFrom, query_cost}
 use Rattle.table_learn.specs.Lengths.{lines_length, rules_length}
-use Rattle.table_learn.specs.Progress.{Progress, table_with}
-use Rattle.table_learn.specs.Dropping.{IsSided}
+use Rattle.table_learn.specs.Progress.{Progress, HasLearnt, table_with, states_in, rules_in, search_cost, drop_cost}
+use Rattle.table_learn.specs.Dropping.{IsSided, runs_on}
+use Rattle.table_learn.specs.Keeping.{IsKept}
+use Rattle.table_learn.specs.declared.keeping.Kept.{Kept}
+use Rattle.table_learn.specs.declared.learning.Learner.{Learner}
 use Rattle.table_learn.proofs.Fit.{no_longer}
 use Rattle.table_learn.proofs.Gains.{all_of, gain, few_shorter}
 use Rattle.table_learn.proofs.TextLengths.{text_more}
-use Rattle.table_learn.proofs.Costs.{few_opens}
+use Rattle.table_learn.proofs.Costs.{few_opens, few_numbers, search_within, drop_within}
+use Rattle.table_learn.proofs.Monotone.{shorter_more}
+use Rattle.table_learn.proofs.Steps.{push_cases}
 
 -- ---- nothing found drops nothing ----
 
@@ -82,3 +91,62 @@ few_each s tellers silent e l f =
     let few = few_shorter s silent tellers e l f in
     let opens : 0 + length e.opens ≤ length (shorter_of s.pool e) = few_opens 0 (length (shorter_of s.pool e)) e.opens (omega arith) f.ascending (λ i o at. let name = f.names i o at in slice_get_within (shorter_of s.pool e) o.number name.seq name.is_shorter) in
     (omega (arith, few, opens), f.window.short)
+
+map-drop : {X Y : Type 0} (f : X → Y) (n : ℕ) (xs : List X) → map f (drop n xs) ≡ drop n (map f xs)
+map-drop f zero xs = refl
+map-drop f (suc n) [] = refl
+map-drop f (suc n) (x ∷ xs) = map-drop f n xs
+
+-- the same of what the code has
+pub after_window : (s : Settings) (windows : List Window) (w : Window) (l : Learner) (states found : List WState) (entries later : List Entry) (entry : Entry) (lines whole freed : ℕ) → HasLearnt s windows l → IsGrown (states_in l) (map seen states) → EarnedFrom s.pool (length l.states.items) (map seen states) w
+    → learnt_from (rule_of entry) ≡ w → IsFit s (map seen states) (states_in l) (rule_of entry) → found ≡ drop (length l.states.items) states → entries ≡ l.entries.items ++ entry ∷ [] → map rule_of later ≡ map (without_told s.pool (map seen found)) (map rule_of entries)
+    → rules_length (map rule_of later) + freed ≡ rules_length (map rule_of entries) → lines ≡ lines_length (rule_items (rule_of entry)) + length found * 44 → whole ≡ l.bytes + lines
+    → Progress s (windows ++ w ∷ []) (map seen states) (map rule_of later) × (whole ≡ text_length (table_with s (map seen states) (map rule_of later)) + freed)
+after_window s windows w l states found entries later entry lines whole freed h grown earned same fit f e k less n total =
+    let count : length (states_in l) ≡ length l.states.items = length-map l.states.items seen in
+    let many : length (map seen states) ≡ length states = length-map states seen in
+    let seen_found : map seen found ≡ drop (length (states_in l)) (map seen states) = ap (λ (ss : List WState). map seen ss) f ∙ map-drop seen (length l.states.items) states ∙ ap (λ j. drop j (map seen states)) (sym count) in
+    let rules : map rule_of entries ≡ rules_in l ++ rule_of entry ∷ [] = ap (map rule_of) e ∙ map_push rule_of l.entries.items entry in
+    let size : length found ≡ length (map seen states) - length (states_in l) = ap length f ∙ length-drop (length l.states.items) states ∙ (let z : length states - length l.states.items ≡ length (map seen states) - length (states_in l) = omega (arith, count, many) in z) in
+    let sum : lines ≡ lines_length (rule_items (rule_of entry)) + (length (map seen states) - length (states_in l)) * 44 = n ∙ ap (λ j. lines_length (rule_items (rule_of entry)) + j * 44) size in
+    window_learnt s windows w (states_in l) (map seen states) (map seen found) (rules_in l) (map rule_of later) (rule_of entry) l.bytes lines whole freed h.progress h.bytes grown
+    (subst (λ j. EarnedFrom s.pool j (map seen states) w) (sym count) earned) same fit seen_found
+    (k ∙ ap (map (without_told s.pool (map seen found))) rules)
+    (less ∙ ap (λ (rs : List Rule). rules_length rs) rules) sum total
+
+pub grown_length : (xs ys : List WState) → IsGrown (map seen xs) (map seen ys) → length xs ≤ length ys
+grown_length xs ys g =
+    let a : length (map seen xs) ≡ length xs = length-map xs seen in
+    let b : length (map seen ys) ≡ length ys = length-map ys seen in
+    let c : length (map seen ys) ≡ length (map seen xs) + length g.more = ap length g.grown ∙ length-append (map seen xs) g.more in
+    omega (arith, a, b, c)
+
+-- the index serves later states too
+pub kept_later : (pool : List ℕ) (old new : List Seen) (k : Kept) → IsGrown old new → IsKept pool old k → IsKept pool new k
+kept_later pool old new k g i = record {
+  later = i.later ++ g.more;
+  first = g.grown ∙ ap (λ ys. ys ++ g.more) i.first ∙ append_assoc (map seen k.listed) i.later g.more;
+  short = i.short;
+  index = i.index;
+}
+
+-- the steps of one more window
+pub window_cost : (s : Settings) (windows : List Window) (w : Window) (l : Learner) (states found : List WState) (entries later : List Entry) (entry : Entry) (candidates : List ℕ) (before middle after : ℕ) → AreInLimits s → HasLearnt s windows l → IsWindow s w → AreCandidates s.pool (states_in l) w candidates → IsFit s (map seen states) (states_in l) (rule_of entry)
+    → entries ≡ l.entries.items ++ entry ∷ [] → map rule_of later ≡ map (without_told s.pool (map seen found)) (map rule_of entries) → length found ≡ length states - length l.states.items
+    → middle ≤ before + length candidates * query_cost s.budget (length states) (length w.seq) → after ≤ middle + runs_on (length found) (map rule_of entries)
+    → after ≤ before + search_cost s (length states) + drop_cost s (length later) (length states - length l.states.items)
+window_cost s windows w l states found entries later entry candidates before middle after limits h window are fit e k size m n =
+    let rules : map rule_of entries ≡ rules_in l ++ rule_of entry ∷ [] = ap (map rule_of) e ∙ map_push rule_of l.entries.items entry in
+    let some : 0 < named_count w.seq = names_register w.seq window.canonical.renamable.some window.canonical.renamable.windows in
+    let few : 0 + length candidates ≤ length (shorter_than s.pool w) = few_numbers 0 (length (shorter_than s.pool w)) candidates (omega arith) are.ascending are.within in
+    let wide : length (shorter_than s.pool w) ≤ width_of s = shorter_more (named_count w.seq) s.regs s.pool (length w.seq) s.left some window.few limits.few_regs window.short in
+    let searched : length candidates * query_cost s.budget (length states) (length w.seq) ≤ search_cost s (length states) = search_within s (length candidates) (length states) (length w.seq) (omega (arith, few, wide)) window.short in
+    let dropped : runs_on (length found) (rules_in l ++ rule_of entry ∷ []) ≤ drop_cost s (length (rules_in l ++ rule_of entry ∷ [])) (length found) = drop_within s (length found) (rules_in l ++ rule_of entry ∷ []) (λ i z at. elim (push_cases (rules_in l) (rule_of entry) i z at) [
+      | inl q ↦ few_each s (states_in l) (states_in l) z limits (h.progress.fits i z q)
+      | inr q ↦ subst (λ y. (length y.opens ≤ width_of s) × (length y.left ≤ s.left)) q.1 (few_each s (map seen states) (states_in l) (rule_of entry) limits fit)
+    ]) in
+    let runs : runs_on (length found) (map rule_of entries) ≡ runs_on (length found) (rules_in l ++ rule_of entry ∷ []) = ap (λ (rs : List Rule). runs_on (length found) rs) rules in
+    let many : length (map rule_of later) ≡ length (rules_in l ++ rule_of entry ∷ []) = ap (λ (rs : List Rule). length rs) k ∙ length-map (map rule_of entries) (without_told s.pool (map seen found)) ∙ ap (λ (rs : List Rule). length rs) rules in
+    let mine : length (map rule_of later) ≡ length later = length-map later rule_of in
+    let cost : drop_cost s (length (rules_in l ++ rule_of entry ∷ [])) (length found) ≡ drop_cost s (length later) (length states - length l.states.items) = ap (λ j. drop_cost s j (length found)) (sym many ∙ mine) ∙ ap (λ j. drop_cost s (length later) j) size in
+    omega (arith, m, n, searched, dropped, runs, cost)

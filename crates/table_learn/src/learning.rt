@@ -1,5 +1,5 @@
 //! A table, window by window.
-ghost use Rattle.std.specs.Prelude.{◌≡◌, ◌<◌, ◌≤◌, ◌+◌, ◌-◌, ◌^◌, ◌∷◌, ◌++◌, [], ℕ, List, true, IfErr, IfOk, OnOk, length, map};
+ghost use Rattle.std.specs.Prelude.{◌≡◌, ◌<◌, ◌≤◌, ◌+◌, ◌-◌, ◌^◌, ◌∷◌, ◌++◌, [], ℕ, List, true, IfErr, IfOk, drop, length, map};
 ghost use Rattle.rule_table.specs.Valid.{IsTable};
 ghost use Rattle.fingerprints.specs.Seeded.{seen};
 ghost use Rattle.seq_enum.specs.Pools.{is_pool};
@@ -96,6 +96,15 @@ fn begin(alloc: Global, settings: Settings) -> Result<(Settings, Learner), Memor
     Ok((settings, learner))
 }
 
+/// The states behind so many.
+fn behind(states: &[WState], count: usize) -> &[WState]
+    requires { count ≤ length states.now }
+    ensures { result.now ≡ drop count states.now }
+{
+    let (_, rest) = states.split_at(count);
+    rest
+}
+
 /// Learns one more window.
 fn learn_window<L: Ledger>(
     alloc: Global,
@@ -125,11 +134,11 @@ fn learn_window<L: Ledger>(
     let kept = index_for(alloc, kept, &window, &settings.pool, &states)?;
     let numbers = candidates(alloc, &kept, &window, &settings.pool, &states)?;
     let entry = search(alloc, settings, window, &numbers, &mut states, steps)?;
-    let found = (states.len() - before) as u64;
-    let lines = plus(entry_length(alloc, &entry)?, times(found, STATE_LINE)?)?;
+    let found = behind(&states, before);
+    let lines = plus(entry_length(alloc, &entry)?, times(found.len() as u64, STATE_LINE)?)?;
     let whole = plus(bytes, lines)?;
     entries.push(entry)?;
-    let (entries, freed) = drop_all_told(alloc, &settings.pool, entries, &states[before..], steps)?;
+    let (entries, freed) = drop_all_told(alloc, &settings.pool, entries, found, steps)?;
     Ok(Learner {
         states,
         entries,
