@@ -39,7 +39,7 @@ pub entry_kept : (pool : List ℕ) (found : List Seen) (xs kept new : List Entry
 entry_kept pool found xs kept new x y freed d k n =
     let a : map rule_of new ≡ map rule_of kept ++ rule_of y ∷ [] = ap (map rule_of) n ∙ map_push rule_of kept y in
     let b : map (without_told pool found) (map rule_of (xs ++ x ∷ [])) ≡ map (without_told pool found) (map rule_of xs) ++ without_told pool found (rule_of x) ∷ [] =
-        ap (map (without_told pool found)) (map_push rule_of xs x) ∙ map_push (without_told pool found) (map rule_of xs) (rule_of x) in
+    ap (map (without_told pool found)) (map_push rule_of xs x) ∙ map_push (without_told pool found) (map rule_of xs) (rule_of x) in
     a ∙ ap (λ ys. ys ++ rule_of y ∷ []) k ∙ ap (λ (r : Rule). map (without_told pool found) (map rule_of xs) ++ r ∷ []) d.rest ∙ sym b
 
 pub entries_longer : (xs : List Entry) (x : Entry) → rules_length (map rule_of (xs ++ x ∷ [])) ≡ rules_length (map rule_of xs) + lines_length (rule_items (rule_of x))

@@ -135,7 +135,10 @@ fn learn_window<L: Ledger>(
     let numbers = candidates(alloc, &kept, &window, &settings.pool, &states)?;
     let entry = search(alloc, settings, window, &numbers, &mut states, steps)?;
     let found = behind(&states, before);
-    let lines = plus(entry_length(alloc, &entry)?, times(found.len() as u64, STATE_LINE)?)?;
+    let lines = plus(
+        entry_length(alloc, &entry)?,
+        times(found.len() as u64, STATE_LINE)?,
+    )?;
     let whole = plus(bytes, lines)?;
     entries.push(entry)?;
     let (entries, freed) = drop_all_told(alloc, &settings.pool, entries, found, steps)?;

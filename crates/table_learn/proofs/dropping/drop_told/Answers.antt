@@ -13,7 +13,7 @@ pub loop-name-preserved-then-tells_open : goal.loop-name-preserved-then-tells_op
 loop-name-preserved-then-tells_open g c =
     let p = stays_open c.args.pool.now (map seen c.args.found.now) (rule_of c.args.entry) in
     let tells : c.tells_open.result ≡ tells_number (map seen c.args.found.now) (rule_of c.args.entry) (slice_get (shorter_of c.args.pool.now (rule_of c.args.entry)) c.in-Some.name.number) =
-        c.tells_open.ensures.told (rule_of c.args.entry) (sym c.new-window.ensures.left) (ap (λ (m : Mask). m.items.bits) (sym c.new-window.ensures.mask)) (sym c.len-count.ensures.value) in
+    c.tells_open.ensures.told (rule_of c.args.entry) (sym c.new-window.ensures.left) (ap (λ (m : Mask). m.items.bits) (sym c.new-window.ensures.mask)) (sym c.len-count.ensures.value) in
     let drops : stays_open c.args.pool.now (map seen c.args.found.now) (rule_of c.args.entry) (opened_of c.in-Some.name) ≡ false = ap not (sym tells ∙ c.if-tells_open.true) in
     let more = names_longer c.loop-name.yielded c.in-Some.name in
     let l = length-append c.loop-name.yielded (c.in-Some.name ∷ []) in
@@ -30,7 +30,7 @@ pub loop-name-preserved : goal.loop-name-preserved
 loop-name-preserved g c =
     let p = stays_open c.args.pool.now (map seen c.args.found.now) (rule_of c.args.entry) in
     let tells : c.tells_open.result ≡ tells_number (map seen c.args.found.now) (rule_of c.args.entry) (slice_get (shorter_of c.args.pool.now (rule_of c.args.entry)) c.in-Some.name.number) =
-        c.tells_open.ensures.told (rule_of c.args.entry) (sym c.new-window.ensures.left) (ap (λ (m : Mask). m.items.bits) (sym c.new-window.ensures.mask)) (sym c.len-count.ensures.value) in
+    c.tells_open.ensures.told (rule_of c.args.entry) (sym c.new-window.ensures.left) (ap (λ (m : Mask). m.items.bits) (sym c.new-window.ensures.mask)) (sym c.len-count.ensures.value) in
     let stays : stays_open c.args.pool.now (map seen c.args.found.now) (rule_of c.args.entry) (opened_of c.in-Some.name) ≡ true = ap not (sym tells ∙ c.if-tells_open.false) in
     let more = names_longer c.loop-name.yielded c.in-Some.name in
     let new = new_longer c.loop-name.kept.items c.push.new.self.items c.in-Some.name c.in_ok-push.ensures.items in

@@ -11,8 +11,7 @@ use Rattle.table_learn.proofs.trying.ask.Goals as goal
 pub returns-in-Sat-clause-answer : goal.returns-in-Sat-clause-answer
 returns-in-Sat-clause-answer g c =
     let v = rw c.in-Sat.is at c.in_ok-model.ensures.verdict in
-    let four : length c.state_of.result.r ≡ 4 = search rules in
-    (
+    let four : length c.state_of.result.r ≡ 4 = search rules in (
       model_tells c.in_ok-formula.formula c.args.window.now.left c.args.seq.now c.args.window.now.mask.items.bits c.args.window.now.k c.in-Sat.model c.state_of.result c.in_ok-formula.ensures.stated c.requires.left c.requires.right c.args.window.now.mask.in_masks c.requires.mask c.requires.few v c.state_of.ensures.items,
       record { four = four; words = state_words c.state_of.result _ four c.state_of.ensures.items (c.in_ok-formula.ensures.models_tell (assigned c.in-Sat.model) v).0; flags = c.state_of.ensures.flags },
     )
@@ -46,4 +45,3 @@ returns-clause-cost g c =
     let v : c.in_ok-formula.formula.variables ≤ 200000 = subst (λ (f : Cnf). f.variables ≤ 200000) c.formula-2.view_is c.formula-2.invariant.0 in
     let below : AreBelow 200000 (codes_of c.in_ok-formula.formula.clauses) = clauses_below c.in_ok-formula.formula.clauses (subst (λ (f : Cnf). AreClausesOf 200000 f.clauses) c.formula-2.view_is c.formula-2.invariant.1) in
     c.solve.ensures.cost 200000 v below
-
