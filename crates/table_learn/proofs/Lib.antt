@@ -13,3 +13,4 @@ pub mod Rounds
 pub mod Places
 pub mod Dropped
 pub mod Searched
+pub mod Finished

@@ -6,8 +6,8 @@ use Rattle.table_learn.proofs.learning.learn.Given as goal
 
 abbrev pub invariant-loop-left : goal.invariant-loop-left
 invariant-loop-left g l = record {
-  learnt : HasLearnt (settings_of l.fn.settings) (map window_of (take l.left-index l.windows.items)) l.learner;
+  learnt : HasLearnt (settings_of l.fn.settings) (map window_of (take l.left-index l.fn.windows.items)) l.learner;
   short : l.learner.bytes ≤ text_limit;
   cost : l.steps ≤ l.fn.steps + (l.left-index * search_cost (settings_of l.fn.settings) (length l.learner.states.items)
-      + drop_cost (settings_of l.fn.settings) (length l.windows.items) (length l.learner.states.items - 64));
+      + drop_cost (settings_of l.fn.settings) (length l.fn.windows.items) (length l.learner.states.items - 64));
 }

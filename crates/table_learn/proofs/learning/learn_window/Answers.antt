@@ -33,36 +33,36 @@ drop_all_told-requires g c =
     subst (All IsSided) (sym rules)
     (all_sided (settings_of c.args.settings.now) c.requires.before.0 (map seen c.args.learner.states.items) (map seen c.search.new.states.items) (map rule_of c.args.learner.entries.items) (rule_of c.in_ok-entry.entry) c.requires.before.1.progress c.in_ok-entry.ensures.fits)
 
--- what holds after the window
-module _ (g : goal.Over) (c : goal.In_ok-entries g) where
-  found : c.behind-found.result.now ≡ drop (length c.args.learner.states.items) c.search.new.states.items
-  found =
-      let before : c.len-before.result ≡ length c.args.learner.states.items = search rules in
-      c.behind-found.ensures ∙ ap (λ (j : ℕ). drop j c.deref-4.result.now) before ∙ ap (λ (ss : List WState). drop (length c.args.learner.states.items) ss) c.deref-4.ensures.value
-
-  lines : c.in_ok-lines.lines ≡ lines_length (rule_items (rule_of c.in_ok-entry.entry)) + length c.behind-found.result.now * 44
-  lines =
-      let a : c.in_ok-lines.lines ≡ c.in_ok-entry_length.field-0 + c.in_ok-times.field-0 = c.in_ok-lines.ensures in
-      let b : c.in_ok-entry_length.field-0 ≡ lines_length (rule_items (rule_of c.in_ok-entry.entry)) = c.in_ok-entry_length.ensures in
-      let d : c.in_ok-times.field-0 ≡ length c.behind-found.result.now * 44 = c.in_ok-times.ensures in
-      omega (arith, a, b, d)
-
-  after : (windows : List Window) → HasLearnt (settings_of c.args.settings.now) windows c.args.learner → Progress (settings_of c.args.settings.now) (windows ++ window_in c.args.window ∷ []) (map seen c.search.new.states.items) (map rule_of c.in_ok-entries.entries.items)
-      × (c.in_ok-whole.whole ≡ text_length (table_with (settings_of c.args.settings.now) (map seen c.search.new.states.items) (map rule_of c.in_ok-entries.entries.items)) + c.in_ok-entries.freed)
-  after windows h =
-      after_window (settings_of c.args.settings.now) windows (window_in c.args.window) c.args.learner c.search.new.states.items c.behind-found.result.now c.push.new.self.items c.in_ok-entries.entries.items c.in_ok-entry.entry c.in_ok-lines.lines c.in_ok-whole.whole c.in_ok-entries.freed h
-      c.in_ok-entry.ensures.grown c.in_ok-entry.ensures.earned c.in_ok-entry.ensures.window c.in_ok-entry.ensures.fits found c.in_ok-push.ensures.items c.in_ok-entries.ensures.kept c.in_ok-entries.ensures.freed lines c.in_ok-whole.ensures
-
 pub overflow_sub-result : goal.overflow_sub-result
-overflow_sub-result g c = let a = (after g c c.requires.before.0 c.requires.before.1).1 in omega (arith, a)
+overflow_sub-result g c =
+    let before : c.len-before.result ≡ length c.args.learner.states.items = search rules in
+    let found : c.behind-found.result.now ≡ drop (length c.args.learner.states.items) c.search.new.states.items =
+    c.behind-found.ensures ∙ ap (λ (j : ℕ). drop j c.deref-4.result.now) before ∙ ap (λ (ss : List WState). drop (length c.args.learner.states.items) ss) c.deref-4.ensures.value in
+    let sum : c.in_ok-lines.lines ≡ c.in_ok-entry_length.field-0 + c.in_ok-times.field-0 = c.in_ok-lines.ensures in
+    let line : c.in_ok-entry_length.field-0 ≡ lines_length (rule_items (rule_of c.in_ok-entry.entry)) = c.in_ok-entry_length.ensures in
+    let times : c.in_ok-times.field-0 ≡ length c.behind-found.result.now * 44 = c.in_ok-times.ensures in
+    let lines : c.in_ok-lines.lines ≡ lines_length (rule_items (rule_of c.in_ok-entry.entry)) + length c.behind-found.result.now * 44 = omega (arith, sum, line, times) in
+    let after = after_window (settings_of c.args.settings.now) c.requires.before.0 (window_in c.args.window) c.args.learner c.search.new.states.items c.behind-found.result.now c.push.new.self.items c.in_ok-entries.entries.items c.in_ok-entry.entry c.in_ok-lines.lines c.in_ok-whole.whole c.in_ok-entries.freed c.requires.before.1
+    c.in_ok-entry.ensures.grown c.in_ok-entry.ensures.earned c.in_ok-entry.ensures.window c.in_ok-entry.ensures.fits found c.in_ok-push.ensures.items c.in_ok-entries.ensures.kept c.in_ok-entries.ensures.freed lines c.in_ok-whole.ensures in
+    let text = after.1 in
+    omega (arith, text)
 
 pub returns-clause-learnt : goal.returns-clause-learnt
-returns-clause-learnt g c windows h =
-    let a = after g c windows h in
-    let old : IsKept c.args.settings.now.pool (map seen c.args.learner.states.items) c.in_ok-kept.kept = search rules in
+returns-clause-learnt g c = λ windows h.
+    let before : c.len-before.result ≡ length c.args.learner.states.items = search rules in
+    let found : c.behind-found.result.now ≡ drop (length c.args.learner.states.items) c.search.new.states.items =
+    c.behind-found.ensures ∙ ap (λ (j : ℕ). drop j c.deref-4.result.now) before ∙ ap (λ (ss : List WState). drop (length c.args.learner.states.items) ss) c.deref-4.ensures.value in
+    let sum : c.in_ok-lines.lines ≡ c.in_ok-entry_length.field-0 + c.in_ok-times.field-0 = c.in_ok-lines.ensures in
+    let line : c.in_ok-entry_length.field-0 ≡ lines_length (rule_items (rule_of c.in_ok-entry.entry)) = c.in_ok-entry_length.ensures in
+    let times : c.in_ok-times.field-0 ≡ length c.behind-found.result.now * 44 = c.in_ok-times.ensures in
+    let lines : c.in_ok-lines.lines ≡ lines_length (rule_items (rule_of c.in_ok-entry.entry)) + length c.behind-found.result.now * 44 = omega (arith, sum, line, times) in
+    let after = after_window (settings_of c.args.settings.now) windows (window_in c.args.window) c.args.learner c.search.new.states.items c.behind-found.result.now c.push.new.self.items c.in_ok-entries.entries.items c.in_ok-entry.entry c.in_ok-lines.lines c.in_ok-whole.whole c.in_ok-entries.freed h
+    c.in_ok-entry.ensures.grown c.in_ok-entry.ensures.earned c.in_ok-entry.ensures.window c.in_ok-entry.ensures.fits found c.in_ok-push.ensures.items c.in_ok-entries.ensures.kept c.in_ok-entries.ensures.freed lines c.in_ok-whole.ensures in
+    let text = after.1 in
+    let old : IsKept c.args.settings.now.pool (map seen c.args.learner.states.items) c.in_ok-kept.kept = subst (λ (ss : List WState). IsKept c.args.settings.now.pool (map seen ss) c.in_ok-kept.kept) c.deref.ensures.value c.in_ok-kept.ensures.kept in
     record {
-      progress = a.0;
-      bytes = (let b = a.1 in omega (arith, b));
+      progress = after.0;
+      bytes = omega (arith, text);
       kept = kept_later c.args.settings.now.pool (map seen c.args.learner.states.items) (map seen c.search.new.states.items) c.in_ok-kept.kept c.in_ok-entry.ensures.grown old;
     }
 
@@ -71,8 +71,13 @@ returns-clause-grown g c = grown_length c.args.learner.states.items c.search.new
 
 pub returns-clause-cost : goal.returns-clause-cost
 returns-clause-cost g c =
-    let are : AreCandidates c.args.settings.now.pool (map seen c.args.learner.states.items) (window_in c.args.window) c.in_ok-numbers.numbers.items = search rules in
-    let size : length c.behind-found.result.now ≡ length c.search.new.states.items - length c.args.learner.states.items = ap (λ (ss : List WState). length ss) (found g c) ∙ length-drop (length c.args.learner.states.items) c.search.new.states.items in
-    let searched : c.search.new.steps ≤ c.args.steps.now + length c.in_ok-numbers.numbers.items * query_cost c.args.settings.now.budget (length c.search.new.states.items) (length c.args.window.left) = search rules in
+    let before : c.len-before.result ≡ length c.args.learner.states.items = search rules in
+    let found : c.behind-found.result.now ≡ drop (length c.args.learner.states.items) c.search.new.states.items =
+    c.behind-found.ensures ∙ ap (λ (j : ℕ). drop j c.deref-4.result.now) before ∙ ap (λ (ss : List WState). drop (length c.args.learner.states.items) ss) c.deref-4.ensures.value in
+    let are : AreCandidates c.args.settings.now.pool (map seen c.args.learner.states.items) (window_in c.args.window) c.in_ok-numbers.numbers.items = subst (λ (ss : List WState). AreCandidates c.args.settings.now.pool (map seen ss) (window_in c.args.window) c.in_ok-numbers.numbers.items) c.deref-2.ensures.value c.in_ok-numbers.ensures in
+    let size : length c.behind-found.result.now ≡ length c.search.new.states.items - length c.args.learner.states.items = ap (λ (ss : List WState). length ss) found ∙ length-drop (length c.args.learner.states.items) c.search.new.states.items in
+    let count : length c.deref-3.result.now ≡ length c.in_ok-numbers.numbers.items = ap (λ (ns : List ℕ). length ns) c.deref-3.ensures.value in
+    let searched : c.search.new.steps ≤ c.args.steps.now + length c.in_ok-numbers.numbers.items * query_cost c.args.settings.now.budget (length c.search.new.states.items) (length c.args.window.left) =
+    subst (λ n. c.search.new.steps ≤ c.args.steps.now + n * query_cost c.args.settings.now.budget (length c.search.new.states.items) (length c.args.window.left)) count c.in_ok-entry.ensures.cost in
     window_cost (settings_of c.args.settings.now) c.requires.before.0 (window_in c.args.window) c.args.learner c.search.new.states.items c.behind-found.result.now c.push.new.self.items c.in_ok-entries.entries.items c.in_ok-entry.entry c.in_ok-numbers.numbers.items c.args.steps.now c.search.new.steps c.drop_all_told.new.steps
     c.requires.limits c.requires.before.1 c.requires.window are c.in_ok-entry.ensures.fits c.in_ok-push.ensures.items c.in_ok-entries.ensures.kept size searched c.in_ok-entries.ensures.cost
