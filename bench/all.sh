@@ -33,6 +33,7 @@ measure python3 bash listing_lines.sh --all "$listings"
 measure python3 bash rewrite.sh
 measure python3 bash table_texts.sh
 measure python3 bash live_items.sh "$listings"
+measure arm-none-eabi-as bash images.sh "$listings"
 measure cadical python3 measure_lrat.py "$work/lrat"
 measure "python3 cadical" bash solver.sh
 measure cadical python3 exported.py "$work/rules"
