@@ -1,8 +1,9 @@
 #!/usr/bin/env bash
-# Measures `peep rewrite` beside the same in plain Rust, on one listing of 50,000 lines, in one run. Use: bench/rewrite.sh [LINES [TURNS]]
+# Measures `peep rewrite` beside the same in plain Rust, on one straight listing, in one run. Live items and layout are worked out anew after each
+# replacement, so time grows with the square of the lines: 50,000 of them, with 21,337 replacements, are out of reach. Use: bench/rewrite.sh [LINES [TURNS]]
 . "$(dirname "$0")/common.sh"
-lines=${1:-50000}
-turns=${2:-20}
+lines=${1:-2000}
+turns=${2:-3}
 table=$top/examples/moves.peep
 python3 "$top/bench/straight.py" "$lines" > "$work/listing.s"
 plain=$(build_plain "$top/bench/plain_rewrite.rs")
