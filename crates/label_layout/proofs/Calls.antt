@@ -6,7 +6,7 @@ use Rattle.std.proofs.lemmas.Bool.{cases_Bool, cases_lt}
 use Rattle.thumb_instr.specs.declared.instr.Instr.{Instr}
 use Rattle.thumb_model.specs.Listing.{Mention, Value, Statement, Nothing, Runs, Words, Aligns, Sets, Line, Place, Op, Word, places_in, places_of, is_call, is_call_instr, call_count}
 use Rattle.thumb_model.specs.Layout.{instr_size, size_at}
-use Rattle.thumb_model.specs.Image.{return_address, ends_in_call}
+use Rattle.thumb_model.specs.Laid.{return_address, ends_in_call}
 use Rattle.thumb_model.proofs.Lists.{get_front, get_back}
 use Rattle.label_layout.specs.Addresses.{word_addresses, addresses_in, addresses_from}
 use Rattle.label_layout.proofs.Sums.{places_counted_in}

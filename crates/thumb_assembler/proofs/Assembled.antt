@@ -4,7 +4,7 @@ use Rattle.std.proofs.lemmas.Bool.{and_parts}
 use Rattle.thumb_model.specs.Listing.{Name, Line}
 use Rattle.thumb_model.specs.Layout.{Fault, Layable, size_at, end_of, lies_in, fault_at, faults_from}
 use Rattle.thumb_model.specs.Layout as layout
-use Rattle.thumb_model.specs.Image.{AreLineBytes}
+use Rattle.thumb_assembler.specs.Bytes.{AreLineBytes}
 use Rattle.std.proofs.Math.ListN.{drop_of_length-le}
 use Rattle.listing_parser.specs.declared.line.Line.{Line as Lines}
 use Rattle.listing_parser.specs.Views.{line_view}

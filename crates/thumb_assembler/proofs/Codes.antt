@@ -6,7 +6,7 @@ use Rattle.thumb_table.specs.Rows.{width, packed}
 use Rattle.thumb_table.specs.Table.{pieces, form_of, values_of, whole, IsCode}
 use Rattle.thumb_table.specs.declared.row.Code.TheVariants as code
 use Rattle.thumb_model.specs.Layout.{instr_size}
-use Rattle.thumb_model.specs.Image.{half_bytes, word_bytes, nops}
+use Rattle.thumb_assembler.specs.Bytes.{half_bytes, word_bytes, nops}
 use Rattle.thumb_assembler.specs.Pushes.{PushedCode}
 
 -- an instruction has a byte for each eight bits of its row

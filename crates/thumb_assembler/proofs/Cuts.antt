@@ -7,7 +7,7 @@ use Rattle.thumb_instr.specs.declared.instr.Instr.TheVariants as instr
 use Rattle.thumb_model.specs.Listing.{Name, Mention, Value, Statement, Nothing, Runs, Words, Aligns, Sets, Line, Place, places_in, places_of, labels_from}
 use Rattle.thumb_model.specs.Layout.{instr_size, padding, size_at, end_of, is_among, label_address}
 use Rattle.thumb_model.specs.Machine.{label_place}
-use Rattle.thumb_model.specs.Image.{Laid, words_bytes, IsInstrBytes, IsEncoded, IsStatementBytes, AreLineBytes, half_bytes}
+use Rattle.thumb_assembler.specs.Bytes.{Laid, words_bytes, IsInstrBytes, IsEncoded, IsStatementBytes, AreLineBytes, half_bytes}
 use Rattle.thumb_model.proofs.Lists.{get_back}
 use Rattle.listing_parser.specs.TableWords.{first_twice, defined_in, set_names, is_again}
 use Rattle.listing_parser.specs.Targets.{from_label}

@@ -3,7 +3,7 @@ use Rattle.std.specs.Prelude.{◌≡◌, ℕ, ◌≤◌, ◌%◌, ◌^◌, Bool,
 use Rattle.thumb_model.specs.Listing.{Name, Line, code_of, place_of}
 use Rattle.thumb_model.specs.Layout.{Layable, end_of, label_address}
 use Rattle.thumb_model.specs.Machine.{Fits, World, IsWorld, Event, Load, Store, Call, Sys, Left, Fault, Astray, Fell, Ended, State, step, times}
-use Rattle.thumb_model.specs.Image.{laid}
+use Rattle.thumb_model.specs.Laid.{laid}
 use Rattle.thumb_model.specs.Same.{Alike, here_or_ended, begun, Same}
 use Rattle.listing_parser.specs.Parsing.{IsListing, text_of_lines}
 use Rattle.thumb_assembler.specs.Images.{IsSetBy, AreImage}

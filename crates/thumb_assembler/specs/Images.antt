@@ -2,7 +2,7 @@
 use Rattle.std.specs.Prelude.{◌≡◌, ℕ, List, Some}
 use Rattle.thumb_model.specs.Listing.{Name, Line}
 use Rattle.thumb_model.specs.Layout.{set_address}
-use Rattle.thumb_model.specs.Image.{IsImage}
+use Rattle.thumb_assembler.specs.Bytes.{IsImage}
 
 -- what stands for external names is what the lines set for them, where they set it
 abbrev pub IsSetBy : List Line → (Name → ℕ) → Type 0

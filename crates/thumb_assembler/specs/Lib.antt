@@ -1,3 +1,4 @@
+pub mod Bytes
 pub mod Images
 pub mod Refusals
 pub mod Fair

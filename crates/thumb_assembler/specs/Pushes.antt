@@ -4,7 +4,8 @@ use Rattle.thumb_instr.specs.declared.instr.Instr.{Instr}
 use Rattle.thumb_model.specs.Listing.{Name, Value, Statement, Line}
 use Rattle.thumb_model.specs.Layout.{instr_size, size_at}
 use Rattle.thumb_model.specs.Machine.{word_of_value}
-use Rattle.thumb_model.specs.Image.{Laid, laid, word_bytes, words_bytes, IsInstrBytes, IsStatementBytes}
+use Rattle.thumb_model.specs.Laid.{laid}
+use Rattle.thumb_assembler.specs.Bytes.{Laid, word_bytes, words_bytes, IsInstrBytes, IsStatementBytes}
 use Rattle.thumb_assembler.specs.declared.errors.Flaw.{Flaw}
 use Rattle.thumb_assembler.specs.declared.errors.Flaw.TheVariants as flaw
 use Rattle.thumb_assembler.specs.Images.{IsSetBy}

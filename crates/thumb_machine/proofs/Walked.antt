@@ -5,7 +5,7 @@ use Rattle.std.specs.List.{list_all}
 use Rattle.std.proofs.lemmas.Bool.{cases_Bool}
 use Rattle.std.proofs.lemmas.List.Folds.{list_all-append}
 use Rattle.thumb_model.specs.Listing.{Name, Value, Word, Statement, Nothing, Runs, Words, Aligns, Sets, Line, Place, Label, code_of, is_call_instr, is_op_place, labels_at, labels_from, places_in, places_of}
-use Rattle.thumb_model.specs.Image.{ends_in_call}
+use Rattle.thumb_model.specs.Laid.{ends_in_call}
 use Rattle.thumb_model.specs.Machine.{Naming, points, points_of, returns_from}
 use Rattle.thumb_machine.specs.Walking.{all_pass, label_points, name_points, next_call, points_from, return_points}
 

@@ -12,7 +12,7 @@ use Rattle.std.proofs.lemmas.Slice.Eq.{bytes_eq-Decides}
 use Rattle.indexmap.specs.IndexMap.{insert_entry}
 use Rattle.thumb_model.specs.Listing.{Name, Statement, Nothing, Runs, Words, Aligns, Sets, Line, Place, code_of, place_of, places_of}
 use Rattle.thumb_model.specs.Layout.{cleared, is_among, label_address, lies_in, or_else, set_address, set_in, size_at}
-use Rattle.thumb_model.specs.Image.{word_by}
+use Rattle.thumb_model.specs.Laid.{word_by}
 use Rattle.listing_parser.specs.TableWords.{defined_in, set_names}
 use Rattle.thumb_machine.specs.Laid.{outside_word, own_word, nowhere, place_name, with_name}
 use Rattle.thumb_machine.specs.Words.{AreFixed, AreOwn, Entries, fixed_by, fixed_word, word_in}

@@ -4,7 +4,7 @@ use Rattle.std.specs.Str.{bytes_eq}
 use Rattle.thumb_model.specs.Listing.{Name, Mention, Value, Number, OfName, Place, Op, Word, Line, places_of, call_count}
 use Rattle.thumb_model.specs.Layout.{is_among, lies_in, or_else, set_address}
 use Rattle.thumb_model.specs.Machine.{Naming}
-use Rattle.thumb_model.specs.Image.{laid}
+use Rattle.thumb_model.specs.Laid.{laid}
 
 -- ---- external names without an address ----
 

@@ -1,7 +1,7 @@
 -- The code points of a listing in the order of its lines, and tests of them one after another.
 use Rattle.std.specs.Prelude.{ℕ, ◌+◌, ◌&&◌, Bool, true, List, [], ◌∷◌, ◌++◌, length, slice_get, if◌then◌else◌}
 use Rattle.thumb_model.specs.Listing.{Name, Line, Place, is_op_place, places_in}
-use Rattle.thumb_model.specs.Image.{ends_in_call}
+use Rattle.thumb_model.specs.Laid.{ends_in_call}
 use Rattle.thumb_model.specs.Machine.{Naming}
 
 -- the words of names, at a place

@@ -7,5 +7,5 @@ pub mod Flow
 pub mod Same
 pub mod Rewrite
 pub mod Rewritten
-pub mod Image
+pub mod Laid
 pub mod Laws

@@ -1,7 +1,7 @@
 use Rattle.std.proofs.Common.{refl, sym, subst}
 use Rattle.thumb_instr.specs.declared.instr.Instr.{Instr}
 use Rattle.thumb_instr.specs.declared.instr.Instr.TheVariants as instr
-use Rattle.thumb_model.specs.Image.{Aims}
+use Rattle.thumb_assembler.specs.Bytes.{Aims}
 use Rattle.thumb_assembler.proofs.aiming.aimed.Goals as goal
 
 pub returns-in-Literal : goal.returns-in-Literal

@@ -1,5 +1,5 @@
 use Rattle.std.proofs.Common.{◌≡◌, ◌++◌}
-use Rattle.thumb_model.specs.Image.{nops}
+use Rattle.thumb_assembler.specs.Bytes.{nops}
 use Rattle.thumb_assembler.proofs.pushing.push_nops.Given as goal
 
 abbrev pub invariant-loop-left : goal.invariant-loop-left

@@ -1,5 +1,5 @@
 use Rattle.std.proofs.Common.{◌≡◌, ◌∙◌, ◌++◌, List, true, map, sym, ap, subst}
-use Rattle.thumb_model.specs.Image.{nops}
+use Rattle.thumb_assembler.specs.Bytes.{nops}
 use Rattle.listing_parser.specs.declared.line.Statement.{Statement as Statements}
 use Rattle.listing_parser.specs.declared.line.Value.{Value as Values}
 use Rattle.listing_parser.specs.Views.{statement_view, value_view}
