@@ -1,0 +1,5 @@
+pub mod Cuts
+pub mod Laws
+pub mod Nearer
+pub mod Padding
+pub mod Walks
