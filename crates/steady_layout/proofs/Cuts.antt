@@ -193,9 +193,9 @@ after_nothing here = start_is (here.at + 0) here.at here.aligned here.aligned (o
 alike_split : (l : Line) (ns : List Name) (ls : List Line) → l.names ≡ ns → AreAlike (l ∷ ls) (labels_kept l ns ++ (bare_of l ∷ ls))
 alike_split l [] ls e = record { look = λ name here. rw e refl; steady = λ labels sets base here. refl; ending = λ here. refl; sets = λ name. refl }
 alike_split l (n ∷ ns) ls e = record {
-  look = λ name here. rw (e, after_nothing here) refl;
-  steady = λ labels sets base here. rw (after_nothing here) refl;
-  ending = λ here. rw (after_nothing here) refl;
+  look = λ name here. rw e (ap (λ (s : Start). if is_among name (n ∷ ns) then Some here else look most name (after most s l.statement) ls) (sym (after_nothing here)));
+  steady = λ labels sets base here. ap (λ (s : Start). steady_at labels sets base s l.statement && steady_by most labels sets base (after most s l.statement) ls) (sym (after_nothing here));
+  ending = λ here. ap (λ (s : Start). ending most (after most s l.statement) ls) (sym (after_nothing here));
   sets = λ name. refl;
 }
 

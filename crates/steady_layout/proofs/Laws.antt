@@ -65,7 +65,7 @@ statement_free labels sets lies base here Nothing t is e = refl
 statement_free labels sets lies base here (Runs i None) t is e = refl
 statement_free labels sets lies base here (Runs i (Some m)) t is e = rw (is m.name) (aim_free base here i (labels m.name) (sets m.name) m.plus (t m.name) e)
 statement_free labels sets lies base here (Words vs) t is e = refl
-statement_free labels sets lies base here (Aligns size most) t is e = refl
+statement_free labels sets lies base here (Aligns size limit) t is e = refl
 statement_free labels sets lies base here (Sets name address) t is e = refl
 
 lines_free : (labels : Name → Option Start) (sets lies : Name → Option ℕ) (base : ℕ) → ((name : Name) → AreTold (labels name)) → ((name : Name) → lies name ≡ or_else (address_of (labels name)) (sets name))

@@ -78,7 +78,7 @@ branch_stays half base o n (Some a) (Some b) set h k w m e = reach_nearer half o
 
 pub record IsLiteral (here label : Start) (plus : ℕ) : Type 0 where
   pub aligned : label.aligned ≡ true
-  pub plus : plus % 4 ≡ 0
+  pub whole : plus % 4 ≡ 0
   pub past : here.at < label.at
   pub near : label.at + plus ≤ here.at + 1022
 
@@ -87,15 +87,15 @@ literal_parts here label set plus e =
     let p = and_parts (label.aligned && plus % 4 == 0) (nat_lt here.at label.at && nat_le (label.at + plus) (here.at + 1022)) e in
     let q = and_parts label.aligned (plus % 4 == 0) p.0 in
     let r = and_parts (nat_lt here.at label.at) (nat_le (label.at + plus) (here.at + 1022)) p.1 in
-    record { aligned = q.0; plus = eqb-true _ _ q.1; past = ltb-true _ _ r.0; near = leb-true _ _ r.1 }
+    record { aligned = q.0; whole = eqb-true _ _ q.1; past = ltb-true _ _ r.0; near = leb-true _ _ r.1 }
 
 literal_from : (here label : Start) (set : Option ℕ) (plus : ℕ) → IsLiteral here label plus → steady_literal here (Some label) set plus ≡ true
 literal_from here label set plus h =
-    and_from _ _ (and_from _ _ h.aligned (eq-eqb (plus % 4) 0 h.plus)) (and_from _ _ (lt-ltb here.at label.at h.past) (le-leb (label.at + plus) (here.at + 1022) h.near))
+    and_from _ _ (and_from _ _ h.aligned (eq-eqb (plus % 4) 0 h.whole)) (and_from _ _ (lt-ltb here.at label.at h.past) (le-leb (label.at + plus) (here.at + 1022) h.near))
 
 literal_nearer : (o n a b : Start) (set : Option ℕ) (plus : ℕ) → IsBack o n a b ⊎ IsPast o n a b → IsLiteral o a plus → IsLiteral n b plus
 literal_nearer o n a b set plus (inl k) h = absurd (let r = k.old in let s = h.past in omega arith)
-literal_nearer o n a b set plus (inr k) h = record { aligned = k.aligned h.aligned; plus = h.plus; past = k.new; near = let r = k.nearer in let s = h.near in omega arith }
+literal_nearer o n a b set plus (inr k) h = record { aligned = k.aligned h.aligned; whole = h.whole; past = k.new; near = let r = k.nearer in let s = h.near in omega arith }
 
 literal_stays : (o n : Start) (a b : Option Start) (set : Option ℕ) (plus : ℕ) → Meets o n a b → steady_literal o a set plus ≡ true → steady_literal n b set plus ≡ true
 literal_stays o n None None set plus m e = e
@@ -145,7 +145,7 @@ rounded at = (omega arith, omega arith, omega arith)
 
 literal_reached : (n b : Start) (plus : ℕ) → IsTold b → IsLiteral n b plus → literal_fault n.at (Some b.at) plus ≡ None
 literal_reached n b plus t h =
-    let m = t h.aligned in let p = h.plus in let q = h.past in let r = h.near in
+    let m = t h.aligned in let p = h.whole in let q = h.past in let r = h.near in
     let whole : (b.at + plus) % 4 ≡ 0 = omega arith in
     let above : literal_base n.at ≤ b.at + plus = omega arith in
     let below : b.at + plus ≤ literal_base n.at + 1020 = omega arith in

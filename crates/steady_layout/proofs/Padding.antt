@@ -2,7 +2,8 @@
 use Rattle.std.proofs.Common.{◌≡◌, ◌∙◌, inl, inr, ℕ, zero, suc, ◌+◌, ◌-◌, ◌*◌, ◌%◌, ◌/◌, ◌<◌, ◌≤◌, ◌==◌, ◌&&◌, Bool, true, false, length, min, refl, sym, ap, subst, arith, if◌then◌else◌}
 use Rattle.std.specs.Prelude.{nat_le, nat_lt, Option}
 use Rattle.std.proofs.lemmas.Bool.{cases_Bool, cases_eq, and_parts, ltb-true, leb-true, leb-false, eqb-true, le-leb}
-use Rattle.std.proofs.lemmas.Nat.{mod_below, div-add-mod'}
+use Rattle.std.proofs.lemmas.Nat.{mod_below, div-add-mod', mod-mul-add, mul-mod_second}
+use Rattle.std.proofs.Math.Nat.{mod-eq_of_lt, suc-mul}
 use Rattle.thumb_instr.specs.declared.instr.Instr.{Instr}
 use Rattle.thumb_instr.specs.declared.instr.Instr.TheVariants as instr
 use Rattle.thumb_model.specs.Listing.{Mention, Statement, Nothing, Runs, Words, Aligns, Sets}
@@ -45,18 +46,31 @@ size_most (Sets name address) at = omega arith
 
 -- ---- multiples of 4 ----
 
-four_times : (k q : ℕ) → (4 * k * q) % 4 ≡ 0
-four_times k q = ?
-
--- a sum that is a multiple of a multiple of 4
+-- a multiple of a multiple of 4
 multiple : (size q n : ℕ) → size % 4 ≡ 0 → n ≡ q * size → n % 4 ≡ 0
-multiple size q n h e = ?
+multiple size q n h e =
+    ap (λ (x : ℕ). x % 4) e
+    ∙ sym (mul-mod_second q size 4)
+    ∙ ap (λ (x : ℕ). (q * x) % 4) h
+    ∙ ap (λ (x : ℕ). x % 4) (let z : q * 0 ≡ 0 = omega arith in z)
+
+rest_of : (at size left p n : ℕ) → p + left ≡ at → left ≡ 0 → n ≡ 0 → at + n ≡ p
+rest_of at size left p n e f g = omega arith
+
+next_of : (at size left p n s : ℕ) → p + left ≡ at → left < size → n ≡ size - left → s ≡ p + size → at + n ≡ s
+next_of at size left p n s e f g h = omega arith
 
 -- what is needed leads to a multiple of the size
 reached : (size at : ℕ) → 0 < size → (q : ℕ) × (at + need size at ≡ q * size)
 reached size at h = elim (cases_eq (at % size) 0) [
-  | inl e ↦ (at / size, ?)
-  | inr e ↦ (at / size + 1, ?)
+  | inl e ↦
+      let all : size - at % size ≡ 1 * size + 0 = omega arith in
+      let none : need size at ≡ 0 = ap (λ (x : ℕ). x % size) all ∙ mod-mul-add 1 size 0 h in
+      (at / size, rest_of at size (at % size) (at / size * size) (need size at) (div-add-mod' at size) e none)
+  | inr e ↦
+      let below = mod_below at size h in
+      let some : need size at ≡ size - at % size = mod-eq_of_lt (let z : size - at % size < size = omega arith in z) in
+      (suc (at / size), next_of at size (at % size) (at / size * size) (need size at) (suc (at / size) * size) (div-add-mod' at size) below some (suc-mul (at / size) size))
 ]
 
 padded : (size most at : ℕ) → aligns_surely size most ≡ true → (at + padding size most at) % 4 ≡ 0
