@@ -5,12 +5,7 @@ use std::test::Fail;
 use steady_layout::is_steady;
 
 /// Whether a text with so many `nop`s in it is steady from 0, and whether it can be laid out.
-fn verdicts(
-    alloc: Global,
-    front: &str,
-    nops: usize,
-    back: &str,
-) -> Result<(bool, bool), Fail> {
+fn verdicts(alloc: Global, front: &str, nops: usize, back: &str) -> Result<(bool, bool), Fail> {
     let mut text = front.as_bytes().to_vec(alloc)?;
     for _ in 0..nops {
         text.extend_from_slice(b"nop\n")?;

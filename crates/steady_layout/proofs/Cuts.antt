@@ -1,14 +1,13 @@
 -- What replacing does to lines: what stands before stays, a run without names becomes a shorter one, and what stands behind stays.
-use Rattle.std.proofs.Common.{◌≡◌, ◌∙◌, ◌⊎◌, inl, inr, ℕ, zero, suc, ◌+◌, ◌-◌, ◌*◌, ◌<◌, ◌≤◌, ◌==◌, ◌&&◌, Bool, true, false, List, [], ◌∷◌, ◌++◌, length, drop, map, Option, Some, None, refl, sym, ap, subst, arith, append_assoc, ne_eqb, if◌then◌else◌}
+use Rattle.std.proofs.Common.{◌≡◌, ◌∙◌, inl, inr, ℕ, zero, suc, ◌+◌, ◌-◌, ◌*◌, ◌<◌, ◌≤◌, ◌==◌, ◌&&◌, Bool, true, false, List, [], ◌∷◌, ◌++◌, length, drop, map, Option, Some, None, refl, sym, ap, subst, arith, append_assoc, ne_eqb, if◌then◌else◌}
 use Rattle.std.proofs.lemmas.Bool.{and_parts, and_from, eqb-true}
 use Rattle.thumb_instr.specs.declared.instr.Instr.{Instr}
-use Rattle.thumb_instr.specs.declared.instr.Instr.TheVariants as instr
 use Rattle.thumb_model.specs.Listing.{Name, Mention, Value, Statement, Nothing, Runs, Words, Aligns, Sets, Line, Place, Op, Word, Label, places_in, places_of, labels_at, labels_from}
-use Rattle.thumb_model.specs.Layout.{instr_size, size_at, is_among, set_in, set_address}
+use Rattle.thumb_model.specs.Layout.{instr_size, is_among, set_in, set_address}
 use Rattle.thumb_model.specs.Rewritten.{is_op, without, labels_kept, new_line, replaced_lines}
 use Rattle.thumb_model.proofs.LinesReplaced.{AllOutside}
 use Rattle.steady_layout.specs.declared.starts.Start.{Start}
-use Rattle.steady_layout.specs.Steady.{most_of, ends_aligned, steady_at, reaches}
+use Rattle.steady_layout.specs.Steady.{most_of, ends_aligned, steady_at}
 use Rattle.steady_layout.proofs.Walks.{Sizes, after, look, ending, steady_by, ends_within}
 
 abbrev pub most : Sizes

@@ -1,5 +1,5 @@
 -- A steady listing can be laid out, and stays steady when instructions are replaced by shorter runs.
-use Rattle.std.proofs.Common.{◌≡◌, ◌∙◌, ◌⊎◌, inl, inr, ℕ, zero, suc, ◌+◌, ◌-◌, ◌*◌, ◌%◌, ◌<◌, ◌≤◌, ◌^◌, ◌==◌, ◌&&◌, Bool, true, false, List, [], ◌∷◌, ◌++◌, length, take, drop, map, Option, Some, None, refl, sym, ap, subst, arith, if◌then◌else◌}
+use Rattle.std.proofs.Common.{◌≡◌, ◌∙◌, ◌⊎◌, inl, inr, ℕ, zero, suc, ◌+◌, ◌%◌, ◌<◌, ◌≤◌, ◌&&◌, true, false, List, [], ◌∷◌, ◌++◌, length, take, drop, map, Option, Some, None, refl, sym, ap, subst, arith, if◌then◌else◌}
 use Rattle.std.specs.Prelude.{slice_get}
 use Rattle.std.proofs.lemmas.Bool.{cases_Bool, and_parts, and_from}
 use Rattle.std.proofs.lemmas.List.{append-nil}
@@ -8,8 +8,8 @@ use Rattle.thumb_instr.specs.declared.instr.Instr.TheVariants as instr
 use Rattle.thumb_instr.specs.Renaming.{Low, renamed}
 use Rattle.thumb_instr.specs.Window.{is_in_window}
 use Rattle.thumb_instr.proofs.RenamingLemmas.{window_renamed}
-use Rattle.thumb_model.specs.Listing.{Name, Mention, Statement, Nothing, Runs, Words, Aligns, Sets, Line, Place, Op, Word, plain, Label, code_of, places_of, labels_from}
-use Rattle.thumb_model.specs.Layout.{instr_size, size_at, is_among, label_address, set_in, set_address, cleared, or_else, or_first, lies_in, fault_at, faults_from, Layable}
+use Rattle.thumb_model.specs.Listing.{Name, Statement, Nothing, Runs, Words, Aligns, Sets, Line, Place, Op, Word, plain, Label, code_of, places_of, labels_from}
+use Rattle.thumb_model.specs.Layout.{instr_size, size_at, is_among, label_address, set_in, set_address, cleared, or_else, lies_in, fault_at, faults_from, Layable}
 use Rattle.thumb_model.specs.Rewrite.{Rule, IsSoundRule, AreOver, normalised, Applies}
 use Rattle.thumb_model.specs.Rewritten.{replaced_lines}
 use Rattle.thumb_model.proofs.Lists.{length_map}
@@ -17,11 +17,11 @@ use Rattle.thumb_model.proofs.Table.{window_length}
 use Rattle.thumb_model.proofs.Window.{normal_in_window}
 use Rattle.thumb_model.proofs.LinesReplaced.{AllOutside}
 use Rattle.steady_layout.specs.declared.starts.Start.{Start}
-use Rattle.steady_layout.specs.Steady.{most_of, ends_aligned, first, widest_end, label_start, steady_at, all_steady, labels_in, sets_in, IsSteady}
-use Rattle.steady_layout.proofs.Nearer.{IsWithin, IsBack, IsTold, AreTold, address_of, aim_free}
+use Rattle.steady_layout.specs.Steady.{first, widest_end, label_start, steady_at, all_steady, labels_in, sets_in, IsSteady}
+use Rattle.steady_layout.proofs.Nearer.{IsWithin, IsTold, AreTold, address_of, aim_free}
 use Rattle.steady_layout.proofs.Padding.{some_bytes, size_most, ends_told}
-use Rattle.steady_layout.proofs.Walks.{Sizes, after, look, ending, steady_by, AreLess, IsLater, Ahead, ahead_earlier, Tails, no_tails, ahead, Back, backs_later, Known, IsWalked, walk, ending_append, steady_append}
-use Rattle.steady_layout.proofs.Cuts.{most, AreBare, total, flags, IsShorter, ending_is, look_bare, steady_bare, ArePlain, AreTwos, AreAlike, IsCut, cut}
+use Rattle.steady_layout.proofs.Walks.{after, look, ending, steady_by, AreLess, IsLater, ahead_earlier, Tails, no_tails, ahead, backs_later, Known, IsWalked, walk, ending_append, steady_append}
+use Rattle.steady_layout.proofs.Cuts.{most, IsShorter, ending_is, look_bare, steady_bare, ArePlain, AreTwos, IsCut, cut}
 
 -- ---- the definitions' layout is that of the greatest sizes ----
 
@@ -134,15 +134,15 @@ cut_stays base ls news c h =
     let known : Known most most lo ln start start (c.front ++ olds) (c.front ++ rest) = λ name. inr (labels_so name start ls ∙ c.alike.look name start, labels_so name start news ∙ ap (look most name start) c.is_new) in
     let w = walk most most most_less lo ln zo zn base same olds rest (run_tails c.old c.new c.back r) c.front start start (omega arith) (same_within start) known parts.0 in
     let o : Start = ending most start c.front in
-    let inner = and_parts _ _ (sym (steady_append most lo zo base o c.old c.back) ∙ parts.1) in
-    let end : c.back ++ [] ≡ c.back = append-nil c.back in
     let o2 : Start = ending most o c.old in
     let n2 : Start = ending most o c.new in
+    let inner : (steady_by most lo zo base o c.old ≡ true) × (steady_by most lo zo base o2 c.back ≡ true) = and_parts _ _ (sym (steady_append most lo zo base o c.old c.back) ∙ parts.1) in
+    let end : c.back ++ [] ≡ c.back = append-nil c.back in
     let later = run_later c.old c.new r o o in
     let up : o.at ≤ n2.at = later.new in
     let above = w.above in
     let known2 : Known most most lo ln o2 n2 (c.back ++ []) (c.back ++ []) = subst (λ x. Known most most lo ln o2 n2 x x) (sym end) (run_known c.old c.new c.back r lo ln o o w.known) in
-    let v = walk most most most_less lo ln zo zn base same [] [] (no_tails most most) c.back o2 n2 (omega arith) (run_within c.old c.new r o o (same_within o)) known2 inner.1 in
+    let v : IsWalked most most lo ln zn base o2 n2 c.back [] [] = walk most most most_less lo ln zo zn base same [] [] (no_tails most most) c.back o2 n2 (omega arith) (run_within c.old c.new r o o (same_within o)) known2 inner.1 in
     let old_end : widest_end start ls ≡ ending most o2 c.back = ends_so start ls ∙ c.alike.ending start ∙ ending_append most start c.front olds ∙ ending_append most o c.old c.back in
     let new_end : widest_end start news ≡ ending most n2 c.back = ends_so start news ∙ ap (ending most start) c.is_new ∙ ending_append most start c.front rest ∙ ending_append most o c.new c.back in
     let end_at : (widest_end start ls).at ≡ (ending most o2 c.back).at = ap (λ (s : Start). s.at) old_end in

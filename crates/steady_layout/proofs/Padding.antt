@@ -1,12 +1,12 @@
 -- What alignments pad, and which addresses are multiples of 4.
-use Rattle.std.proofs.Common.{◌≡◌, ◌∙◌, inl, inr, ℕ, zero, suc, ◌+◌, ◌-◌, ◌*◌, ◌%◌, ◌/◌, ◌<◌, ◌≤◌, ◌==◌, ◌&&◌, Bool, true, false, length, min, refl, sym, ap, subst, arith, if◌then◌else◌}
-use Rattle.std.specs.Prelude.{nat_le, nat_lt, Option}
-use Rattle.std.proofs.lemmas.Bool.{cases_Bool, cases_eq, and_parts, ltb-true, leb-true, leb-false, eqb-true, le-leb}
+use Rattle.std.proofs.Common.{◌≡◌, ◌∙◌, inl, inr, ℕ, zero, suc, ◌+◌, ◌-◌, ◌*◌, ◌%◌, ◌/◌, ◌<◌, ◌≤◌, ◌==◌, ◌&&◌, Bool, true, min, sym, ap, arith}
+use Rattle.std.specs.Prelude.{nat_le, nat_lt}
+use Rattle.std.proofs.lemmas.Bool.{cases_Bool, cases_eq, and_parts, ltb-true, leb-true, eqb-true, le-leb}
 use Rattle.std.proofs.lemmas.Nat.{mod_below, div-add-mod', mod-mul-add, mul-mod_second}
 use Rattle.std.proofs.Math.Nat.{mod-eq_of_lt, suc-mul}
 use Rattle.thumb_instr.specs.declared.instr.Instr.{Instr}
 use Rattle.thumb_instr.specs.declared.instr.Instr.TheVariants as instr
-use Rattle.thumb_model.specs.Listing.{Mention, Statement, Nothing, Runs, Words, Aligns, Sets}
+use Rattle.thumb_model.specs.Listing.{Statement, Nothing, Runs, Words, Aligns, Sets}
 use Rattle.thumb_model.specs.Layout.{instr_size, padding, size_at}
 use Rattle.steady_layout.specs.Steady.{most_of, aligns_surely, ends_aligned}
 

@@ -1,13 +1,12 @@
 -- Two layouts of lines side by side: one in which all is nearer than in the other.
-use Rattle.std.proofs.Common.{◌≡◌, ◌∙◌, ◌⊎◌, inl, inr, ℕ, zero, suc, ◌+◌, ◌*◌, ◌<◌, ◌≤◌, ◌==◌, ◌&&◌, Bool, true, false, List, [], ◌∷◌, ◌++◌, Option, Some, None, refl, sym, ap, subst, arith, if◌then◌else◌}
+use Rattle.std.proofs.Common.{◌≡◌, ◌⊎◌, inl, inr, ℕ, ◌+◌, ◌<◌, ◌≤◌, ◌==◌, ◌&&◌, Bool, true, false, List, [], ◌∷◌, ◌++◌, Option, Some, None, refl, arith, if◌then◌else◌}
 use Rattle.std.proofs.lemmas.Bool.{cases_Bool, and_parts, and_from}
 use Rattle.thumb_instr.specs.declared.instr.Instr.{Instr}
-use Rattle.thumb_instr.specs.declared.instr.Instr.TheVariants as instr
 use Rattle.thumb_model.specs.Listing.{Name, Mention, Statement, Nothing, Runs, Words, Aligns, Sets, Line}
 use Rattle.thumb_model.specs.Layout.{instr_size, is_among}
 use Rattle.steady_layout.specs.declared.starts.Start.{Start}
 use Rattle.steady_layout.specs.Steady.{ends_aligned, steady_instr, steady_at}
-use Rattle.steady_layout.proofs.Nearer.{IsWithin, IsBack, IsAhead, IsPast, Meets, aim_stays}
+use Rattle.steady_layout.proofs.Nearer.{IsWithin, IsBack, IsAhead, Meets, aim_stays}
 
 -- ---- layouts by how many bytes a statement takes at an address ----
 

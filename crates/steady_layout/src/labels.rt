@@ -12,7 +12,11 @@ use indexmap::IndexMap;
 use listing_parser::Memory;
 
 /// Notes where a label lies, where none of its name was noted.
-fn add_label(labels: &mut IndexMap<Vec<u8>, Start>, name: &Vec<u8>, here: Start) -> Result<(), Memory>
+fn add_label(
+    labels: &mut IndexMap<Vec<u8>, Start>,
+    name: &Vec<u8>,
+    here: Start,
+) -> Result<(), Memory>
     ensures { OnOk result ((q : Name) → lookup (is_key q) labels.new.entries ≡ or_later (lookup (is_key q) labels.old.entries) (if bytes_eq q name.now.items then Some here else None)) }
 {
     if labels.get(name.as_slice()).is_none() {
@@ -22,7 +26,11 @@ fn add_label(labels: &mut IndexMap<Vec<u8>, Start>, name: &Vec<u8>, here: Start)
 }
 
 /// Notes where a line's labels lie.
-pub fn add_labels(labels: &mut IndexMap<Vec<u8>, Start>, names: &[Vec<u8>], here: Start) -> Result<(), Memory>
+pub fn add_labels(
+    labels: &mut IndexMap<Vec<u8>, Start>,
+    names: &[Vec<u8>],
+    here: Start,
+) -> Result<(), Memory>
     ensures { OnOk result ((q : Name) → lookup (is_key q) labels.new.entries ≡ or_later (lookup (is_key q) labels.old.entries) (if is_among q (map (λ name. name.items) names.now) then Some here else None)) }
 {
     for name in names {

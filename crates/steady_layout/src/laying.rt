@@ -12,7 +12,11 @@ use listing_parser::{Line, Memory};
 use std::alloc::Global;
 
 /// Where labels lie in the widest layout of lines that begin at the base: None exactly where it ends behind the Code region.
-pub fn lay_widest(alloc: Global, lines: &[Line], base: u32) -> Result<Option<IndexMap<Vec<u8>, Start>>, Memory>
+pub fn lay_widest(
+    alloc: Global,
+    lines: &[Line],
+    base: u32,
+) -> Result<Option<IndexMap<Vec<u8>, Start>>, Memory>
     ensures { IfOk result (λ found. MatchOption found ((widest_end (first base) (map line_view lines.now)).at ≤ 2 ^ 29 → ⊥) (λ labels. AreLabels base (map line_view lines.now) labels.entries)) }
 {
     if base > CODE_END {

@@ -2,7 +2,7 @@ use Rattle.std.proofs.Common.{◌+◌, ◌^◌, List, map, drop, ap, arith}
 use Rattle.thumb_model.specs.Listing.{Line}
 use Rattle.listing_parser.specs.Views.{line_view, statement_view}
 use Rattle.steady_layout.specs.declared.starts.Start.{Start}
-use Rattle.steady_layout.specs.Steady.{most_of, behind, widest_end}
+use Rattle.steady_layout.specs.Steady.{behind, widest_end}
 use Rattle.label_layout.proofs.Sums.{next_line}
 use Rattle.steady_layout.proofs.Steps.{at_end, fits}
 use Rattle.steady_layout.proofs.judging.all_steady.Goals as goal

@@ -2,7 +2,7 @@ use Rattle.std.proofs.Common.{◌∙◌, ◌+◌, ◌^◌, List, map, drop, sym,
 use Rattle.thumb_model.specs.Listing.{Line}
 use Rattle.listing_parser.specs.Views.{line_view, statement_view}
 use Rattle.steady_layout.specs.declared.starts.Start.{Start}
-use Rattle.steady_layout.specs.Steady.{most_of, behind, first, widest_end}
+use Rattle.steady_layout.specs.Steady.{behind, first, widest_end}
 use Rattle.label_layout.proofs.Sums.{next_line}
 use Rattle.steady_layout.proofs.Steps.{at_end, fits}
 use Rattle.steady_layout.proofs.laying.lay_widest.Goals as goal
