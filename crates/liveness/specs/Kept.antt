@@ -38,13 +38,13 @@ HasThese None (Some set) = ⊥
 HasThese (Some list) None = ⊥
 
 -- the flow of a place with these ways
-pub record IsFlow (ws : List Way) (f : Flow) : Type 0 where
+pub record FlowOf (ws : List Way) (f : Flow) : Type 0 where
   pub reads : (x : ℕ) → has f.reads.bits x ≡ some_reads ws x
   pub onward : HasThese (onward_writes ws) f.onward
 
 -- the flows of places from q on, and of all
 abbrev pub AreFlowsFrom : Code → ℕ → List Flow → Type 0
-AreFlowsFrom code q fs = (k : ℕ) (f : Flow) → slice_get fs k ≡ Some f → IsFlow (ways code (q + k)) f
+AreFlowsFrom code q fs = (k : ℕ) (f : Flow) → slice_get fs k ≡ Some f → FlowOf (ways code (q + k)) f
 
 pub record AreFlows (code : Code) (fs : List Flow) : Type 0 where
   pub as_many : length fs ≡ length code.places
@@ -52,8 +52,8 @@ pub record AreFlows (code : Code) (fs : List Flow) : Type 0 where
 
 -- ---- a replacement ----
 
--- the window stands from p on, and new instructions, fewer, may stand there for it: no label stands within it, and each code label is still code
-pub record GivesWay (code : Code) (p : ℕ) (window new : List Instr) : Type 0 where
+-- the window stands from p on, and may give way to the new instructions, which are fewer: no label stands within it, and each code label is still code
+pub record KeepsAt (code : Code) (p : ℕ) (window new : List Instr) : Type 0 where
   pub stands : take (length window) (drop p code.places) ≡ map plain window
   pub letters : list_all is_in_window window ≡ true
   pub new_letters : list_all is_in_window new ≡ true
@@ -71,6 +71,6 @@ replaced_sets p count new sets = record {
 -- wherever the window gives way to the new instructions, with these sets before and after it and these flows ahead of it, all other sets of live items stay, and the new instructions have these
 abbrev pub KeepsLive : List Instr → List Instr → Items → Items → List Flow → List NewSets → Type 0
 KeepsLive window new before after ahead kept =
-    (code : Code) (p : ℕ) (sets : Sets) → IsLive code sets → GivesWay code p window new → AreFlowsFrom code (p + length window) ahead
+    (code : Code) (p : ℕ) (sets : Sets) → IsLive code sets → KeepsAt code p window new → AreFlowsFrom code (p + length window) ahead
     → set_at sets.before p ≡ before.bits → set_at sets.after (p + length window - 1) ≡ after.bits
     → IsLive (replaced code p (length window) new) (replaced_sets p (length window) kept sets)

@@ -6,7 +6,7 @@ ghost use Rattle.thumb_model.specs.Machine.{aim_of, answered};
 ghost use Rattle.thumb_model.specs.Flow.{ways, ways_of};
 ghost use Rattle.code_flow.specs.Flow.{way_list};
 ghost use Rattle.listing_parser.specs.Views.{mention_view};
-ghost use Rattle.liveness.specs.Kept.{some_reads, onward_writes, HasThese, IsFlow, AreFlows};
+ghost use Rattle.liveness.specs.Kept.{some_reads, onward_writes, HasThese, FlowOf, AreFlows};
 ghost use Rattle.liveness.specs.Through.{uses_among};
 
 use code_flow::{Ways, ways};
@@ -35,7 +35,7 @@ pub fn flows(alloc: Global, listing: &Listing) -> Result<Vec<Flow>, AllocError>
 
 /// The flow of a place.
 fn flow_at(listing: &Listing, place: u32) -> Flow
-    ensures { IsFlow (ways (code_of listing.now) place) result }
+    ensures { FlowOf (ways (code_of listing.now) place) result }
 {
     Flow {
         reads: reads_of(ways(listing, place)),
