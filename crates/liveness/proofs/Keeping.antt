@@ -18,7 +18,7 @@ use Rattle.liveness.specs.Live.{Sets, word_of, set_at, IsLive}
 use Rattle.liveness.specs.Kept.{some_reads, onward_writes, FlowOf, AreFlowsFrom, KeepsAt, replaced_sets}
 use Rattle.liveness.specs.Through.{live_through, read_along, AreThrough}
 use Rattle.liveness.proofs.Moves.{get_map, map_back, drop_at, drop_whole, move_leads, move_way, Runs, window_runs, new_runs, runs_at, is_within, IsApart, ways_moved, follows_outside, follows_moved, follows_back}
-use Rattle.liveness.proofs.Flows.{reader, passer}
+use Rattle.liveness.proofs.FlowLaws.{reader, passer}
 use Rattle.liveness.proofs.Paths.{or_cases, or_left, or_right}
 
 -- ---- through straight code ----

@@ -267,12 +267,12 @@ same_after : (is : List Instr) (x : ℕ) (a b : ℕ → Bool) → a x ≡ b x �
 same_after [] x a b e = e
 same_after (i ∷ is) x a b e = ap (λ t. one_of x (uses_of i) || (t && not (one_of x (writes_of i)))) (same_after is x a b e)
 
--- nothing is lost where the words of what is read no longer, less what is read ahead, is empty
-pub none_lost : (window new : List Instr) (ahead : List Flow) (n old now gone left read x : ℕ) → has n x ≡ false → has old x ≡ live_through window (λ y. has n y) x → has now x ≡ live_through new (λ y. has n y) x
+-- nothing is lost where what is read no longer, less what is read ahead, is empty
+pub none_lost : (window new : List Instr) (ahead : List Flow) (m n old now gone left read x : ℕ) → has m x ≡ false → has n x ≡ false → has old x ≡ live_through window (λ y. has m y) x → has now x ≡ live_through new (λ y. has n y) x
     → has gone x ≡ (has old x && not (has now x)) → has read x ≡ read_along ahead x → has left x ≡ (has gone x && not (has read x)) → has left x ≡ false
     → live_through window nothing x ≡ true → live_through new nothing x ≡ false → read_along ahead x ≡ true
-none_lost window new ahead n old now gone left read x en eo ew eg er el e hw hn =
-    let o : has old x ≡ true = eo ∙ same_after window x (λ y. has n y) nothing en ∙ hw in
+none_lost window new ahead m n old now gone left read x em en eo ew eg er el e hw hn =
+    let o : has old x ≡ true = eo ∙ same_after window x (λ y. has m y) nothing em ∙ hw in
     let w : has now x ≡ false = ew ∙ same_after new x (λ y. has n y) nothing en ∙ hn in
     let g : has gone x ≡ true = eg ∙ ap (λ b. b && not (has now x)) o ∙ ap not w in
     sym er ∙ is_read (has read x) (sym (el ∙ ap (λ b. b && not (has read x)) g) ∙ e)
@@ -280,3 +280,36 @@ none_lost window new ahead n old now gone left read x en eo ew eg er el e hw hn 
     is_read : (b : Bool) → not b ≡ false → b ≡ true
     is_read true e = refl
     is_read false e = absurd (cc)
+
+-- a slice to the end
+pub to_the_end : {A : Type 0} (xs : List A) (k : ℕ) → take (length xs - k) (drop k xs) ≡ drop k xs
+to_the_end xs k = whole (length xs - k) (drop k xs) (omega (arith, length_drop k xs))
+  where
+    whole : {A : Type 0} (n : ℕ) (xs : List A) → length xs ≤ n → take n xs ≡ xs
+    whole zero [] h = refl
+    whole (suc n) [] h = refl
+    whole zero (x ∷ xs) h = absurd (omega arith)
+    whole (suc n) (x ∷ xs) h = ap (λ ys. x ∷ ys) (whole n xs (omega arith))
+
+-- the sets of one instruction more
+pub push_through : (new : List Instr) (after : Items) (sets more : List NewSets) (n : NewSets) (k : ℕ) → AreThrough new after sets → length sets ≡ k → more ≡ sets ++ n ∷ []
+    → ((x : ℕ) → has n.before.bits x ≡ live_through (drop k new) (λ y. has after.bits y) x) → ((x : ℕ) → has n.after.bits x ≡ live_through (drop (k + 1) new) (λ y. has after.bits y) x) → AreThrough new after more
+push_through new after sets more n k h l e b a j m g x =
+    elim (cases_lt j (length sets)) [
+      | inl t ↦ h j m (sym (ap (λ ss. slice_get ss j) e ∙ get_front sets (n ∷ []) j t) ∙ g) x
+      | inr t ↦
+          let last : slice_get (n ∷ []) (j - length sets) ≡ Some m = sym (ap (λ ss. slice_get ss j) e ∙ get_back sets (n ∷ []) (j - length sets) j (omega arith)) ∙ g in
+          let s = one_only (j - length sets) m last in
+          let f : k ≡ j = omega (arith, s.0) in
+          (
+            ap (λ (o : NewSets). has o.before.bits x) (sym s.1) ∙ b x ∙ ap (λ i. live_through (drop i new) (λ y. has after.bits y) x) f,
+            ap (λ (o : NewSets). has o.after.bits x) (sym s.1) ∙ a x ∙ ap (λ i. live_through (drop (i + 1) new) (λ y. has after.bits y) x) f,
+          )
+    ]
+  where
+    one_only : (i : ℕ) (m : NewSets) → slice_get (n ∷ []) i ≡ Some m → (i ≡ 0) × (n ≡ m)
+    one_only zero m f = (refl, let o : (let a : Option NewSets = Some n in a) ≡ Some m = f in cc)
+    one_only (suc i) m f = absurd (cc)
+
+pub no_through : (new : List Instr) (after : Items) (sets : List NewSets) → sets ≡ [] → AreThrough new after sets
+no_through new after sets e j n g x = absurd (let f : (let o : Option NewSets = None in o) ≡ Some n = ap (λ ss. slice_get ss j) (sym e) ∙ g in cc)

@@ -1,5 +1,5 @@
 pub mod Moves
-pub mod Flows
+pub mod FlowLaws
 mod Keeping
 mod KeptSets
 mod Weights

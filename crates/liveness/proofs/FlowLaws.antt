@@ -32,10 +32,10 @@ reader (w ∷ ws) x h =
 pub passer : (ws : List Way) (o : Option Items) (rest : Bool) (x : ℕ) → HasThese (onward_writes ws) o → passed o rest x ≡ true → (rest ≡ true) × (k : ℕ) × (w : Way) × (slice_get ws k ≡ Some w) × (w.leads ≡ Onward) × (one_of x w.writes ≡ false)
 passer [] None rest x h t = absurd (cc)
 passer [] (Some s) rest x h t = absurd h
-passer (w ∷ ws) o rest x h t = go w.leads refl h
+passer (w ∷ ws) o rest x h t = go (λ g. passer ws o rest x g t) w.leads refl h
   where
-    later : HasThese (onward_writes ws) o → (rest ≡ true) × (k : ℕ) × (v : Way) × (slice_get (w ∷ ws) k ≡ Some v) × (v.leads ≡ Onward) × (one_of x v.writes ≡ false)
-    later g = let r = passer ws o rest x g t in (r.0, suc r.1, r.2, r.3, r.4, r.5)
+    later : (HasThese (onward_writes ws) o → (rest ≡ true) × (k : ℕ) × (v : Way) × (slice_get ws k ≡ Some v) × (v.leads ≡ Onward) × (one_of x v.writes ≡ false)) → HasThese (onward_writes ws) o → (rest ≡ true) × (k : ℕ) × (v : Way) × (slice_get (w ∷ ws) k ≡ Some v) × (v.leads ≡ Onward) × (one_of x v.writes ≡ false)
+    later f g = let r = f g in (r.0, suc r.1, r.2, r.3, r.4, r.5)
 
     both : (a b : Bool) → (a && not b) ≡ true → (a ≡ true) × (b ≡ false)
     both true false e = (refl, refl)
@@ -46,11 +46,11 @@ passer (w ∷ ws) o rest x h t = go w.leads refl h
     here None g u = absurd g
     here (Some s) g u = let b = both rest (has s.bits x) u in (b.0, sym (g x) ∙ b.1)
 
-    go : (l : Leads) → w.leads ≡ l → HasThese (if_onward l w.writes (onward_writes ws)) o → (rest ≡ true) × (k : ℕ) × (v : Way) × (slice_get (w ∷ ws) k ≡ Some v) × (v.leads ≡ Onward) × (one_of x v.writes ≡ false)
-    go Onward e g = let r = here o g t in (r.0, 0, w, refl, e, r.1)
-    go (ToPlace q) e g = later g
-    go AnyPoint e g = later g
-    go Out e g = later g
+    go : (HasThese (onward_writes ws) o → (rest ≡ true) × (k : ℕ) × (v : Way) × (slice_get ws k ≡ Some v) × (v.leads ≡ Onward) × (one_of x v.writes ≡ false)) → (l : Leads) → w.leads ≡ l → HasThese (if_onward l w.writes (onward_writes ws)) o → (rest ≡ true) × (k : ℕ) × (v : Way) × (slice_get (w ∷ ws) k ≡ Some v) × (v.leads ≡ Onward) × (one_of x v.writes ≡ false)
+    go f Onward e g = let r = here o g t in (r.0, 0, w, refl, e, r.1)
+    go f (ToPlace q) e g = later f g
+    go f AnyPoint e g = later f g
+    go f Out e g = later f g
 
 -- ---- flows stay ----
 
@@ -60,13 +60,13 @@ reads_moved f (w ∷ ws) x = ap (λ b. one_of x w.reads || b) (reads_moved f ws 
 
 onward_moved : (f : ℕ → ℕ) (ws : List Way) → onward_writes (map (move_way f) ws) ≡ onward_writes ws
 onward_moved f [] = refl
-onward_moved f (w ∷ ws) = go w.leads
+onward_moved f (w ∷ ws) = go (onward_moved f ws) w.leads
   where
-    go : (l : Leads) → if_onward (move_leads f l) w.writes (onward_writes (map (move_way f) ws)) ≡ if_onward l w.writes (onward_writes ws)
-    go Onward = refl
-    go (ToPlace q) = onward_moved f ws
-    go AnyPoint = onward_moved f ws
-    go Out = onward_moved f ws
+    go : onward_writes (map (move_way f) ws) ≡ onward_writes ws → (l : Leads) → if_onward (move_leads f l) w.writes (onward_writes (map (move_way f) ws)) ≡ if_onward l w.writes (onward_writes ws)
+    go e Onward = refl
+    go e (ToPlace q) = e
+    go e AnyPoint = e
+    go e Out = e
 
 flow_moved : (f : ℕ → ℕ) (ws : List Way) (flow : Flow) → FlowOf ws flow → FlowOf (map (move_way f) ws) flow
 flow_moved f ws flow h = record {
