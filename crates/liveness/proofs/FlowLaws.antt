@@ -13,7 +13,9 @@ use Rattle.thumb_model.specs.Rewrite.{moved, replaced}
 use Rattle.thumb_model.proofs.Lists.{get_drop, get_take, get_front, get_back, length_map, take_all, length_drop}
 use Rattle.liveness.specs.declared.flowing.Flow.{Flow}
 use Rattle.liveness.specs.Kept.{some_reads, if_onward, onward_writes, HasThese, FlowOf, AreFlowsFrom, AreFlows, KeepsAt}
-use Rattle.liveness.specs.Through.{passed}
+use Rattle.code_flow.specs.declared.way.Way.{Way as Ways}
+use Rattle.code_flow.specs.Flow.{AreWays}
+use Rattle.liveness.specs.Through.{uses_among, passed}
 use Rattle.liveness.proofs.Moves.{drop_at, letter_way, letter_at, move_leads, move_way, new_runs, runs_at, is_within, ways_moved}
 use Rattle.liveness.proofs.Paths.{or_cases}
 
@@ -51,6 +53,29 @@ passer (w ∷ ws) o rest x h t = go (λ g. passer ws o rest x g t) w.leads refl 
     go f (ToPlace q) e g = later f g
     go f AnyPoint e g = later f g
     go f Out e g = later f g
+
+-- ---- flows of a listing ----
+
+-- what the ways of the code read
+pub uses_are : (p : ℕ) (ms : List Way) (ws : List Ways) (x : ℕ) → AreWays p ms ws → uses_among ws x ≡ some_reads ms x
+uses_are p [] [] x a = refl
+uses_are p [] (w ∷ ws) x a = absurd a
+uses_are p (m ∷ ms) [] x a = absurd a
+uses_are p (m ∷ ms) (w ∷ ws) x a = ap (λ b. b || uses_among ws x) (a.0.uses x) ∙ ap (λ b. one_of x m.reads || b) (uses_are p ms ws x a.1)
+
+-- the flow of one place more
+pub push_flow : (code : Code) (fs more : List Flow) (f : Flow) (k : ℕ) → AreFlowsFrom code 0 fs → length fs ≡ k → more ≡ fs ++ f ∷ [] → FlowOf (ways code k) f → AreFlowsFrom code 0 more
+push_flow code fs more f k h l e i j g m =
+    elim (cases_lt j (length fs)) [
+      | inl t ↦ h j g (sym (ap (λ ss. slice_get ss j) e ∙ get_front fs (f ∷ []) j t) ∙ m)
+      | inr t ↦
+          let s = one_only (j - length fs) g (sym (ap (λ ss. slice_get ss j) e ∙ get_back fs (f ∷ []) (j - length fs) j (omega arith)) ∙ m) in
+          subst (λ y. FlowOf (ways code y) g) (let z : k ≡ 0 + j = omega (arith, s.0) in z) (subst (λ (a : Flow). FlowOf (ways code k) a) s.1 i)
+    ]
+  where
+    one_only : (i : ℕ) (g : Flow) → slice_get (f ∷ []) i ≡ Some g → (i ≡ 0) × (f ≡ g)
+    one_only zero g u = (refl, let o : (let a : Option Flow = Some f in a) ≡ Some g = u in cc)
+    one_only (suc i) g u = absurd (cc)
 
 -- ---- flows stay ----
 

@@ -1,6 +1,7 @@
 //! What a place reads, and what it writes on its way to the next place.
-ghost use Rattle.std.specs.Prelude.{◌≡◌, ℕ, IfOk, option_map};
+ghost use Rattle.std.specs.Prelude.{◌≡◌, ℕ, true, None, IfOk, option_map};
 ghost use Rattle.thumb_instr.specs.Items.{has, one_of};
+ghost use Rattle.thumb_instr.specs.Window.{is_in_window};
 ghost use Rattle.thumb_model.specs.Listing.{code_of};
 ghost use Rattle.thumb_model.specs.Machine.{aim_of, answered};
 ghost use Rattle.thumb_model.specs.Flow.{ways, ways_of};
@@ -31,6 +32,18 @@ pub fn flows(alloc: Global, listing: &Listing) -> Result<Vec<Flow>, AllocError>
         flows.push(flow_at(listing, place))?;
     }
     Ok(flows)
+}
+
+/// The flow of an instruction that may stand in a window.
+pub fn flow_of(instr: &Instr) -> Flow
+    requires { is_in_window instr.now ≡ true }
+    ensures { FlowOf (ways_of None instr.now) result }
+{
+    let shape = shape(instr);
+    Flow {
+        reads: shape.uses,
+        onward: Some(shape.writes),
+    }
 }
 
 /// The flow of a place.

@@ -13,6 +13,6 @@ mod points;
 mod sets;
 
 pub use finding::live;
-pub use flowing::{Flow, flows};
+pub use flowing::{Flow, flow_of, flows};
 pub use kept::{NewSets, keep};
 pub use sets::Live;
