@@ -1,5 +1,6 @@
 pub mod Moves
 pub mod FlowLaws
+pub mod Applied
 mod Keeping
 mod KeptSets
 mod Weights
