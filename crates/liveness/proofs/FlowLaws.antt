@@ -7,7 +7,7 @@ use Rattle.thumb_instr.specs.declared.items.Items.{Items}
 use Rattle.thumb_instr.specs.Items.{one_of, has}
 use Rattle.thumb_instr.specs.Shape.{uses_of, writes_of}
 use Rattle.thumb_instr.specs.Window.{is_in_window}
-use Rattle.thumb_model.specs.Listing.{Place, plain, Code}
+use Rattle.thumb_model.specs.Listing.{plain, Code}
 use Rattle.thumb_model.specs.Flow.{Way, Leads, Onward, ToPlace, AnyPoint, Out, way, ways_of, ways}
 use Rattle.thumb_model.specs.Rewrite.{moved, replaced}
 use Rattle.thumb_model.proofs.Lists.{get_drop, get_take, get_front, get_back, length_map, take_all, length_drop}
@@ -145,17 +145,17 @@ flows_kept code p window new at fs news all n each = record { as_many = many; fl
 
     flows : AreFlowsFrom (replaced code p (length window) new) 0 (take p fs ++ (news ++ drop (p + length window) fs))
     flows q f e = subst (λ y. FlowOf (ways (replaced code p (length window) new) y) f) (let z : q ≡ 0 + q = omega arith in z) (
-      elim (cases_lt q p) [
-        | inl l ↦
-            let h = front in
-            let g : slice_get fs q ≡ Some f = sym (get_front (take p fs) (news ++ drop (p + length window) fs) q (omega arith) ∙ get_take p fs q l) ∙ e in
-            subst (λ y. FlowOf (ways (replaced code p (length window) new) y) f) (let z : moved p (length window - length new) q ≡ q = omega arith in z) (outside q f (inl l) g)
-        | inr l ↦
-            let h = front in
-            let g : slice_get (news ++ drop (p + length window) fs) (q - p) ≡ Some f = sym (get_back (take p fs) (news ++ drop (p + length window) fs) (q - p) q (omega arith)) ∙ e in
-            behind q f l g
-      ]
-    )
+        elim (cases_lt q p) [
+          | inl l ↦
+              let h = front in
+              let g : slice_get fs q ≡ Some f = sym (get_front (take p fs) (news ++ drop (p + length window) fs) q (omega arith) ∙ get_take p fs q l) ∙ e in
+              subst (λ y. FlowOf (ways (replaced code p (length window) new) y) f) (let z : moved p (length window - length new) q ≡ q = omega arith in z) (outside q f (inl l) g)
+          | inr l ↦
+              let h = front in
+              let g : slice_get (news ++ drop (p + length window) fs) (q - p) ≡ Some f = sym (get_back (take p fs) (news ++ drop (p + length window) fs) (q - p) q (omega arith)) ∙ e in
+              behind q f l g
+        ]
+        )
       where
         behind : (q : ℕ) (f : Flow) → p ≤ q → slice_get (news ++ drop (p + length window) fs) (q - p) ≡ Some f → FlowOf (ways (replaced code p (length window) new) q) f
         behind q f l g =

@@ -1,23 +1,19 @@
 -- Live items where a window gave way.
-use Rattle.std.proofs.Common.{◌≡◌, ◌≢◌, ℕ, zero, suc, ◌+◌, ◌-◌, ◌<◌, ◌≤◌, ◌&&◌, ◌||◌, not, Bool, true, false, List, [], ◌∷◌, ◌++◌, length, length-append, take, drop, map, Option, Some, None, refl, sym, ap, ◌∙◌, subst, ◌⊎◌, inl, inr, arith, ◌↔◌}
+use Rattle.std.proofs.Common.{◌≡◌, ℕ, zero, suc, ◌+◌, ◌-◌, ◌<◌, ◌≤◌, ◌&&◌, not, Bool, true, false, List, [], ◌∷◌, length, drop, Option, Some, refl, sym, ap, ◌∙◌, subst, ◌⊎◌, inl, inr, arith}
 use Rattle.std.specs.Prelude.{slice_get}
-use Rattle.std.proofs.lemmas.Option.{slice_get_past}
 use Rattle.std.proofs.lemmas.Bool.{cases_lt, cases_eq}
 use Rattle.thumb_instr.specs.declared.instr.Instr.{Instr}
-use Rattle.thumb_instr.specs.declared.items.Items.{Items}
-use Rattle.thumb_instr.specs.Items.{one_of, has}
+use Rattle.thumb_instr.specs.Items.{one_of}
 use Rattle.thumb_instr.specs.Shape.{uses_of, writes_of}
-use Rattle.thumb_model.specs.Listing.{Place, plain, Code}
-use Rattle.thumb_model.specs.Flow.{Way, Leads, Onward, way, ways_on, ways, Follows, Reads, now, later, LiveAfter}
+use Rattle.thumb_model.specs.Listing.{Code}
+use Rattle.thumb_model.specs.Flow.{Way, Leads, Onward, way, ways, Follows, Reads, now, later}
 use Rattle.thumb_model.specs.Rewrite.{moved, replaced}
-use Rattle.thumb_model.proofs.Lists.{get_drop, get_take, get_front, get_back, length_map, take_all, length_drop}
+use Rattle.thumb_model.proofs.Lists.{length_drop}
 use Rattle.thumb_model.proofs.Moved.{IsOutside}
 use Rattle.liveness.specs.declared.flowing.Flow.{Flow}
-use Rattle.liveness.specs.declared.kept.NewSets.{NewSets}
-use Rattle.liveness.specs.Live.{Sets, word_of, set_at, IsLive}
-use Rattle.liveness.specs.Kept.{some_reads, onward_writes, FlowOf, AreFlowsFrom, KeepsAt, replaced_sets}
-use Rattle.liveness.specs.Through.{live_through, read_along, AreThrough}
-use Rattle.liveness.proofs.Moves.{get_map, map_back, drop_at, drop_whole, move_leads, move_way, Runs, window_runs, new_runs, runs_at, is_within, IsApart, ways_moved, follows_outside, follows_moved, follows_back}
+use Rattle.liveness.specs.Kept.{FlowOf, AreFlowsFrom, KeepsAt}
+use Rattle.liveness.specs.Through.{live_through, read_along}
+use Rattle.liveness.proofs.Moves.{get_map, map_back, drop_at, drop_whole, move_leads, move_way, Runs, window_runs, new_runs, runs_at, IsApart, ways_moved, follows_outside, follows_moved, follows_back}
 use Rattle.liveness.proofs.FlowLaws.{reader, passer}
 use Rattle.liveness.proofs.Paths.{or_cases, or_left, or_right}
 
@@ -140,7 +136,7 @@ module _ (code : Code) (p : ℕ) (window new : List Instr) (at : KeepsAt code p 
   outside_cases s o =
       elim (cases_eq s p) [
         | inl e ↦ inl e
-        | inr d ↦ inr (elim o [ | inl l ↦ inl (omega (arith, d)) | inr l ↦ inr l ])
+        | inr d ↦ inr (elim o [ inl l ↦ inl (omega (arith, d)) | inr l ↦ inr l ])
       ]
 
   module _ (enter : Reads code x p → Through window x (Reads new_code x end) → Reads new_code x p) where
@@ -190,9 +186,9 @@ module _ (code : Code) (p : ℕ) (window new : List Instr) (at : KeepsAt code p 
 
   -- what enters the window is read from the new instructions
   module _ (after : ℕ → Bool) (ahead : List Flow)
-    (was : Reads code x p → live_through new after x ≡ true)
-    (flows : AreFlowsFrom code (p + length window) ahead)
-    (lost : live_through window nothing x ≡ true → live_through new nothing x ≡ false → read_along ahead x ≡ true) where
+      (was : Reads code x p → live_through new after x ≡ true)
+      (flows : AreFlowsFrom code (p + length window) ahead)
+      (lost : live_through window nothing x ≡ true → live_through new nothing x ≡ false → read_along ahead x ≡ true) where
     pub enters : Reads code x p → Through window x (Reads new_code x end) → Reads new_code x p
     enters r t =
         elim (either new x (after x ≡ true) (Reads new_code x end) (told new x after (was r))) [
@@ -248,22 +244,26 @@ module _ (code : Code) (p : ℕ) (window new : List Instr) (at : KeepsAt code p 
     reads_back : (r : ℕ) → Reads new_code x r → Was r
     reads_back _ (now r k w e t) =
         let out : (q : ℕ) → Apart q → r ≡ to q → Reads code x q = λ q a f.
-            let v = old_way r q k w a f e in
-            now q k v.0 v.1 (ap (λ (u : Way). one_of x u.reads) (sym v.2) ∙ t) in
-        (out, inside r out (λ j f l.
-          let i = drop_at new j l in
-          subst (λ (is : List Instr). Through is x (after x ≡ true)) (sym i.2) (inl (ap (λ (u : Way). one_of x u.reads) (new_way r j k w f i.0 i.1 e) ∙ t))))
+        let v = old_way r q k w a f e in
+        now q k v.0 v.1 (ap (λ (u : Way). one_of x u.reads) (sym v.2) ∙ t) in (
+          out,
+          inside r out (λ j f l.
+              let i = drop_at new j l in
+              subst (λ (is : List Instr). Through is x (after x ≡ true)) (sym i.2) (inl (ap (λ (u : Way). one_of x u.reads) (new_way r j k w f i.0 i.1 e) ∙ t))),
+        )
     reads_back _ (later r k w s e n f t) =
         let was = reads_back s t in
         let out : (q : ℕ) → Apart q → r ≡ to q → Reads code x q = λ q a g.
-            let v = old_way r q k w a g e in
-            let b = follows_back code p window new at q a v.0.leads s (subst (λ y. Follows new_code y (move_leads to v.0.leads) s) g (subst (λ (u : Way). Follows new_code r u.leads s) v.2 f)) in
-            later q k v.0 b.0 v.1 (ap (λ (u : Way). one_of x u.writes) (sym v.2) ∙ n) b.1 (back_at s b.0 b.2 (follows_outside code p window new at q a k v.0 b.0 v.1 b.1) was) in
-        (out, inside r out (λ j g l.
-          let i = drop_at new j l in
-          let one = new_way r j k w g i.0 i.1 e in
-          let next : s ≡ r + 1 = subst (λ (u : Way). Follows new_code r u.leads s) (sym one) f in
-          subst (λ (is : List Instr). Through is x (after x ≡ true)) (sym i.2) (inr (ap (λ (u : Way). one_of x u.writes) one ∙ n, was.1 (j + 1) (omega arith) (omega arith)))))
+        let v = old_way r q k w a g e in
+        let b = follows_back code p window new at q a v.0.leads s (subst (λ y. Follows new_code y (move_leads to v.0.leads) s) g (subst (λ (u : Way). Follows new_code r u.leads s) v.2 f)) in
+        later q k v.0 b.0 v.1 (ap (λ (u : Way). one_of x u.writes) (sym v.2) ∙ n) b.1 (back_at s b.0 b.2 (follows_outside code p window new at q a k v.0 b.0 v.1 b.1) was) in (
+          out,
+          inside r out (λ j g l.
+              let i = drop_at new j l in
+              let one = new_way r j k w g i.0 i.1 e in
+              let next : s ≡ r + 1 = subst (λ (u : Way). Follows new_code r u.leads s) (sym one) f in
+              subst (λ (is : List Instr). Through is x (after x ≡ true)) (sym i.2) (inr (ap (λ (u : Way). one_of x u.writes) one ∙ n, was.1 (j + 1) (omega arith) (omega arith)))),
+        )
 
     pub read_before : (s : ℕ) → IsOutside p (length window) s → Reads new_code x (to s) → Reads code x s
     read_before s o r = back_at (to s) s refl o (reads_back (to s) r)

@@ -16,7 +16,7 @@ use Rattle.liveness.specs.declared.kept.NewSets.{NewSets}
 use Rattle.liveness.specs.Live.{Sets, word_of, set_at, IsLive}
 use Rattle.liveness.specs.Kept.{AreFlowsFrom, KeepsAt, replaced_sets, KeepsLive}
 use Rattle.liveness.specs.Through.{live_through, read_along, AreThrough}
-use Rattle.liveness.proofs.Moves.{get_map, map_back, drop_at, move_leads, move_way, window_runs, new_runs, runs_at, is_within, ways_moved, follows_outside, follows_moved, follows_back}
+use Rattle.liveness.proofs.Moves.{get_map, map_back, drop_at, move_way, window_runs, new_runs, runs_at, is_within, ways_moved, follows_outside, follows_moved, follows_back}
 use Rattle.liveness.proofs.Keeping.{nothing, only, still_read, enters, read_before, read_within, within_read}
 
 -- what `keep` tests, and the sets that it makes
@@ -57,8 +57,8 @@ module _ (p count : ℕ) (old mid : List Items) (within : p + count ≤ length o
 -- ---- the sets ----
 
 module _ (code : Code) (p : ℕ) (window new : List Instr) (sets : Sets) (before after : Items) (ahead : List Flow) (kept : List NewSets)
-  (t : IsTested window new before after ahead kept) (live : IsLive code sets) (at : KeepsAt code p window new) (flows : AreFlowsFrom code (p + length window) ahead)
-  (eb : set_at sets.before p ≡ before.bits) (ea : set_at sets.after (p + length window - 1) ≡ after.bits) where
+    (t : IsTested window new before after ahead kept) (live : IsLive code sets) (at : KeepsAt code p window new) (flows : AreFlowsFrom code (p + length window) ahead)
+    (eb : set_at sets.before p ≡ before.bits) (ea : set_at sets.after (p + length window - 1) ≡ after.bits) where
   abbrev new_code : Code
   new_code = replaced code p (length window) new
 
@@ -93,7 +93,12 @@ module _ (code : Code) (p : ℕ) (window new : List Instr) (sets : Sets) (before
   leave x r =
       let i = last_way in
       sym (ap (λ w. has w x) ea) ∙ (live.after (p + length window - 1) x (omega (arith, inside, some_window))).1 (
-        0, way (uses_of i.0) (writes_of i.0) Onward, p + length window, ap (λ ws. slice_get ws 0) i.1, omega (arith, some_window), r
+        0,
+        way (uses_of i.0) (writes_of i.0) Onward,
+        p + length window,
+        ap (λ ws. slice_get ws 0) i.1,
+        omega (arith, some_window),
+        r,
       )
 
   behind : (x : ℕ) → behind_it x ≡ true → Reads code x (p + length window)
@@ -198,7 +203,9 @@ module _ (code : Code) (p : ℕ) (window new : List Instr) (sets : Sets) (before
 
   after_forth : (x q : ℕ) → Apart q → LiveAfter code q x → LiveAfter new_code (to q) x
   after_forth x q a v = (
-    v.0, move_way to v.1, to v.2,
+    v.0,
+    move_way to v.1,
+    to v.2,
     ap (λ ws. slice_get ws v.0) (ways_moved code p window new at q a) ∙ get_map (move_way to) (ways code q) v.0 v.1 v.3,
     follows_moved code p window new at q a v.1.leads v.2 v.4,
     forth x v.2 (follows_outside code p window new at q a v.0 v.1 v.2 v.3 v.4) v.5,
@@ -213,8 +220,7 @@ module _ (code : Code) (p : ℕ) (window new : List Instr) (sets : Sets) (before
   after_new : (x j : ℕ) → j < length new → LiveAfter new_code (p + j) x ↔ Reads new_code x (p + (j + 1))
   after_new x j l =
       let i = drop_at new j l in
-      let at_j = runs_at new_code p new j i.0 (new_runs code p window new at) i.1 in
-      (
+      let at_j = runs_at new_code p new j i.0 (new_runs code p window new at) i.1 in (
         λ v.
             let one = only (ways new_code (p + j)) _ v.0 v.1 at_j v.3 in
             let next : v.2 ≡ p + j + 1 = subst (λ (w : Way). Follows new_code (p + j) w.leads v.2) (sym one) v.4 in
@@ -300,8 +306,7 @@ push_through new after sets more n k h l e b a j m g x =
       | inr t ↦
           let last : slice_get (n ∷ []) (j - length sets) ≡ Some m = sym (ap (λ ss. slice_get ss j) e ∙ get_back sets (n ∷ []) (j - length sets) j (omega arith)) ∙ g in
           let s = one_only (j - length sets) m last in
-          let f : k ≡ j = omega (arith, s.0) in
-          (
+          let f : k ≡ j = omega (arith, s.0) in (
             ap (λ (o : NewSets). has o.before.bits x) (sym s.1) ∙ b x ∙ ap (λ i. live_through (drop i new) (λ y. has after.bits y) x) f,
             ap (λ (o : NewSets). has o.after.bits x) (sym s.1) ∙ a x ∙ ap (λ i. live_through (drop (i + 1) new) (λ y. has after.bits y) x) f,
           )

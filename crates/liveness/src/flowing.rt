@@ -100,9 +100,17 @@ fn onward(instr: &Instr, target: Option<u32>) -> Option<Items>
         Instr::Bx { .. } => None,
         Instr::Branch { .. } => None,
         Instr::Blx { .. } => Some(answered()),
-        Instr::Pop { list } => if list.number >= 256 { None } else { Some(shape(instr).writes) },
+        Instr::Pop { list } => if list.number >= 256 {
+            None
+        } else {
+            Some(shape(instr).writes)
+        },
         Instr::BranchIf { .. } => Some(Items::none()),
-        Instr::Call { .. } => if target.is_some() { None } else { Some(answered()) },
+        Instr::Call { .. } => if target.is_some() {
+            None
+        } else {
+            Some(answered())
+        },
         _ => Some(shape(instr).writes),
     }
 }

@@ -11,7 +11,7 @@ loop-at-init c = record { len = ap length c.new-sets.ensures; through = no_throu
 pub loop-at-preserved : goal.loop-at-preserved
 loop-at-preserved c = record {
   len = omega (arith, c.push.ensures.len, c.loop-at.invariant.len);
-  through = push_through c.args.new.now c.args.after c.loop-at.sets.items c.push.new.self.items _ c.loop-at.at c.loop-at.invariant.through c.loop-at.invariant.len c.push.ensures.items 
+  through = push_through c.args.new.now c.args.after c.loop-at.sets.items c.push.new.self.items _ c.loop-at.at c.loop-at.invariant.through c.loop-at.invariant.len c.push.ensures.items
       (λ x. c.set_before.ensures x ∙ ap (λ (is : List Instr). live_through is (λ y. has c.args.after.bits y) x) (to_the_end c.args.new.now c.loop-at.at))
       (λ x. c.set_before-in-loop-at.ensures x ∙ ap (λ (is : List Instr). live_through is (λ y. has c.args.after.bits y) x) (to_the_end c.args.new.now (c.loop-at.at + 1)));
 }
