@@ -17,6 +17,7 @@ struct button {
 void reset(void);
 void uart_start(uint32_t baud);
 void uart_put(uint8_t byte);
+uint8_t uart_errors(void);
 uint8_t uart_poll(struct ring *ring);
 int16_t uart_get(struct ring *ring, uint16_t patience);
 void uart_send(const uint8_t *bytes, uint8_t length);

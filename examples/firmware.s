@@ -1013,6 +1013,33 @@ uart_put:
 	.word	1073751324
 	.size	uart_put, .-uart_put
 	.align	1
+	.global	uart_errors
+	.syntax unified
+	.code	16
+	.thumb_func
+	.type	uart_errors, %function
+uart_errors:
+	@ args = 0, pretend = 0, frame = 0
+	@ frame_needed = 0, uses_anonymous_args = 0
+	@ link register save eliminated.
+	ldr	r3, .L124
+	movs	r2, #15
+	ldr	r1, [r3]
+	movs	r0, r1
+	ands	r0, r2
+	tst	r1, r2
+	beq	.L120
+	str	r0, [r3]
+.L120:
+	uxtb	r0, r0
+	@ sp needed
+	bx	lr
+.L125:
+	.align	2
+.L124:
+	.word	1073751168
+	.size	uart_errors, .-uart_errors
+	.align	1
 	.global	uart_poll
 	.syntax unified
 	.code	16
@@ -1021,42 +1048,42 @@ uart_put:
 uart_poll:
 	@ args = 0, pretend = 0, frame = 0
 	@ frame_needed = 0, uses_anonymous_args = 0
-	push	{r4, r5, r6, r7, lr}
-	movs	r5, #15
+	push	{r3, r4, r5, r6, r7, lr}
+	movs	r4, r0
+	bl	uart_errors
 	movs	r7, #0
-	ldr	r2, .L124
 	movs	r3, r0
-	ldr	r0, [r2]
-	ldr	r4, .L124+4
-	ands	r0, r5
-.L120:
+	ldr	r5, .L131
+.L127:
 	movs	r1, #1
-	ldr	r2, [r4]
+	ldr	r2, [r5]
 	tst	r2, r1
-	beq	.L122
-	ldrb	r1, [r3]
-	ldrb	r6, [r3, #1]
+	beq	.L129
+	movs	r6, #15
+	ldrb	r1, [r4]
 	adds	r2, r1, #1
-	ands	r2, r5
+	ands	r2, r6
+	ldrb	r6, [r4, #1]
 	cmp	r6, r2
-	bne	.L121
-	movs	r3, #128
+	bne	.L128
+	movs	r0, #128
+	rsbs	r0, r0, #0
 	orrs	r0, r3
-.L122:
+	uxtb	r0, r0
+.L129:
 	@ sp needed
-	pop	{r4, r5, r6, r7, pc}
-.L121:
-	ldr	r6, .L124+8
-	str	r7, [r4]
+	pop	{r3, r4, r5, r6, r7, pc}
+.L128:
+	ldr	r6, .L131+4
+	str	r7, [r5]
 	ldr	r6, [r6]
-	adds	r1, r3, r1
+	adds	r1, r4, r1
 	strb	r6, [r1, #2]
-	strb	r2, [r3]
-	b	.L120
-.L125:
+	strb	r2, [r4]
+	b	.L127
+.L132:
 	.align	2
-.L124:
-	.word	1073751168
+.L131:
 	.word	1073750280
 	.word	1073751320
 	.size	uart_poll, .-uart_poll
@@ -1072,11 +1099,11 @@ uart_get:
 	push	{r4, r5, r6, lr}
 	movs	r4, r0
 	movs	r5, r1
-.L127:
+.L134:
 	ldrb	r3, [r4, #1]
 	ldrb	r2, [r4]
 	cmp	r2, r3
-	beq	.L129
+	beq	.L136
 	adds	r2, r4, r3
 	ldrb	r0, [r2, #2]
 	movs	r2, #15
@@ -1084,21 +1111,21 @@ uart_get:
 	ands	r3, r2
 	strb	r3, [r4, #1]
 	sxth	r0, r0
-.L128:
+.L135:
 	@ sp needed
 	pop	{r4, r5, r6, pc}
-.L129:
+.L136:
 	cmp	r5, #0
-	beq	.L130
+	beq	.L137
 	movs	r0, r4
 	subs	r5, r5, #1
 	bl	uart_poll
 	uxth	r5, r5
-	b	.L127
-.L130:
+	b	.L134
+.L137:
 	movs	r0, #1
 	rsbs	r0, r0, #0
-	b	.L128
+	b	.L135
 	.size	uart_get, .-uart_get
 	.align	1
 	.global	uart_send
@@ -1117,21 +1144,21 @@ uart_send:
 	movs	r0, r4
 	bl	uart_put
 	adds	r6, r5, r4
-.L132:
+.L139:
 	cmp	r5, r6
-	bne	.L133
+	bne	.L140
 	@ sp needed
 	rsbs	r0, r4, #0
 	uxtb	r0, r0
 	bl	uart_put
 	pop	{r4, r5, r6, pc}
-.L133:
+.L140:
 	ldrb	r0, [r5]
 	bl	uart_put
 	ldrb	r3, [r5]
 	adds	r5, r5, #1
 	adds	r4, r4, r3
 	uxtb	r4, r4
-	b	.L132
+	b	.L139
 	.size	uart_send, .-uart_send
 	.ident	"GCC: (15:12.2.rel1-1) 12.2.1 20221205"

@@ -32,10 +32,19 @@ void uart_put(uint8_t byte)
     }
 }
 
-/* Takes what has come into the ring; answers the errors that the device tells, with bit 7 where the ring is full. */
+/* The errors that the device tells: overrun, parity, frame, break. It forgets those that are written back. */
+uint8_t uart_errors(void)
+{
+    uint32_t errors = ERRORS & 0xf;
+    if (errors != 0)
+        ERRORS = errors;
+    return errors;
+}
+
+/* Takes what has come into the ring; answers the device's errors, with bit 7 where the ring is full. */
 uint8_t uart_poll(struct ring *ring)
 {
-    uint8_t errors = ERRORS & 0xf;
+    uint8_t errors = uart_errors();
     while (RX_READY & 1) {
         uint8_t next = (ring->head + 1) & (sizeof ring->bytes - 1);
         if (next == ring->tail)
