@@ -3,9 +3,9 @@
 
 Use: bench/commands.py [PAGE..], by default README.md and all pages of docs/.
 
-A command is an indented line that begins as one of PROGRAMS; what it prints, nothing without it, stands behind two blanks and `# `, and goes on in indented lines that begin
-with `# `. Lines that are printed are joined by `, `, blanks count as one, and `..` stands for any text. Commands run in a copy of the files that git knows, one
-copy a page, and one that needs a tool that isn't here is told and left out, as is `rt`, which is the gate."""
+A command is an indented line that begins as one of PROGRAMS. What it prints stands behind two blanks and `# `, and goes on in indented lines that begin with `# `;
+without these it prints nothing. Lines that are printed are joined by `, `, blanks count as one, and `..` stands for any text. Commands run in a copy of the files
+that git knows, one copy a page; one that needs a tool that isn't here is told and left out, as is `rt`, which is the gate."""
 import re
 import shutil
 import subprocess

@@ -23,7 +23,8 @@ if has arm-none-eabi-gcc python3; then
     for unit in vectors fixed states text uart main; do
         listing "$unit" "$work/$unit.s"
         cp "$work/$unit.s" "$work/$unit.given.s"
-        echo "$unit: $(peep rewrite "$here/firmware.peep" "$work/$unit.given.s" "$work/$unit.s" - | tr '\n' ' ')"
+        told=$(peep rewrite "$here/firmware.peep" "$work/$unit.given.s" "$work/$unit.s" -)
+        echo "$unit: ${told//$'\n'/, }"
     done
     linked "$work/given" "$work"/{vectors,fixed,states,text,uart,main}.given.s
     linked "$work/units" "$work"/{vectors,fixed,states,text,uart,main}.s
