@@ -69,7 +69,8 @@ def try_page(page, folder):
         if missing:
             print(f"{page}:{number}: left out, for want of {missing[0]}: {command}")
             continue
-        run = subprocess.run(["bash", "-c", command], cwd=folder, capture_output=True, timeout=SECONDS, stdin=subprocess.DEVNULL)
+        # one that takes longer is stopped, and its status is 124
+        run = subprocess.run(["timeout", str(SECONDS), "bash", "-c", command], cwd=folder, capture_output=True, stdin=subprocess.DEVNULL)
         printed = ", ".join(" ".join(line.split()) for line in run.stdout.decode(errors="replace").splitlines() if line.strip())
         if fits(said, printed):
             print(f"{page}:{number}: as said: {command}")
