@@ -9,7 +9,10 @@ failed=0
 # run WHAT IMAGE: runs an image, and compares what it prints.
 run() {
     local said="as expected"
-    emulated "$2" "$work/out" && cmp -s "$work/out" "$here/firmware.out" || { said="differs"; failed=1; }
+    if ! emulated "$2" "$work/out" || ! cmp -s "$work/out" "$here/firmware.out"; then
+        said="unlike what was expected"
+        failed=1
+    fi
     echo "$1: $(wc -c < "$2") bytes, prints $(wc -l < "$work/out") lines $said"
 }
 
