@@ -194,31 +194,29 @@ square_root:
 divide:
 	@ args = 0, pretend = 0, frame = 0
 	@ frame_needed = 0, uses_anonymous_args = 0
+	push	{r4, r5, lr}
+	movs	r2, #16
 	movs	r3, #0
-	push	{r4, r5, r6, lr}
-	movs	r2, #15
-	movs	r4, r0
-	movs	r5, #1
-	movs	r0, r3
+	movs	r4, #1
 .L21:
-	movs	r6, r4
-	asrs	r6, r6, r2
 	lsls	r3, r3, #1
-	ands	r6, r5
-	orrs	r3, r6
-	lsls	r0, r0, #1
+	lsrs	r5, r0, #15
 	uxth	r3, r3
+	lsls	r0, r0, #1
+	orrs	r3, r5
 	uxth	r0, r0
 	cmp	r1, r3
 	bhi	.L20
 	subs	r3, r3, r1
 	uxth	r3, r3
-	orrs	r0, r5
+	orrs	r0, r4
 .L20:
 	subs	r2, r2, #1
-	bcs	.L21
+	uxtb	r2, r2
+	cmp	r2, #0
+	bne	.L21
 	@ sp needed
-	pop	{r4, r5, r6, pc}
+	pop	{r4, r5, pc}
 	.size	divide, .-divide
 	.align	1
 	.syntax unified
@@ -237,20 +235,20 @@ tell:
 	movs	r0, #32
 	bl	uart_put
 	movs	r4, #0
-.L25:
+.L24:
 	mov	r3, sp
 	ldrb	r0, [r3, r4]
 	cmp	r0, #0
-	bne	.L26
+	bne	.L25
 	@ sp needed
 	adds	r0, r0, #10
 	bl	uart_put
 	pop	{r0, r1, r4, pc}
-.L26:
+.L25:
 	adds	r4, r4, #1
 	bl	uart_put
 	uxtb	r4, r4
-	b	.L25
+	b	.L24
 	.size	tell, .-tell
 	.align	1
 	.syntax unified
@@ -317,12 +315,12 @@ tell_bytes:
 	movs	r5, r1
 	movs	r7, r0
 	adds	r3, r1, r0
-	ldr	r6, .L31
+	ldr	r6, .L30
 	str	r3, [sp, #4]
-.L29:
+.L28:
 	ldr	r3, [sp, #4]
 	cmp	r7, r3
-	bne	.L30
+	bne	.L29
 	@ sp needed
 	movs	r1, r5
 	movs	r0, r4
@@ -360,16 +358,16 @@ tell_bytes:
 	movs	r0, #108
 	bl	tell
 	pop	{r0, r1, r2, r4, r5, r6, r7, pc}
-.L30:
+.L29:
 	movs	r0, r6
 	ldrb	r1, [r7]
 	bl	crc16
 	adds	r7, r7, #1
 	movs	r6, r0
-	b	.L29
-.L32:
-	.align	2
+	b	.L28
 .L31:
+	.align	2
+.L30:
 	.word	65535
 	.size	tell_bytes, .-tell_bytes
 	.align	1
@@ -390,10 +388,10 @@ tell_states:
 	movs	r1, #0
 	add	r0, sp, #12
 	bl	memset
-	ldr	r6, .L38
+	ldr	r6, .L37
 	add	r3, sp, #8
 	strh	r4, [r3]
-.L34:
+.L33:
 	movs	r0, r6
 	bl	random_next
 	lsrs	r1, r0, #3
@@ -413,7 +411,7 @@ tell_states:
 	bl	frame_take
 	uxtb	r4, r4
 	cmp	r7, #0
-	bne	.L34
+	bne	.L33
 	movs	r1, r6
 	movs	r0, #109
 	bl	tell
@@ -428,9 +426,9 @@ tell_states:
 	bl	frame_take
 	ldr	r4, [sp, #4]
 	adds	r7, r4, r5
-.L35:
+.L34:
 	cmp	r4, r7
-	bne	.L36
+	bne	.L35
 	rsbs	r1, r5, #0
 	uxtb	r1, r1
 	add	r0, sp, #12
@@ -445,7 +443,7 @@ tell_states:
 	add	sp, sp, #36
 	@ sp needed
 	pop	{r4, r5, r6, r7, pc}
-.L36:
+.L35:
 	ldrb	r6, [r4]
 	add	r0, sp, #12
 	movs	r1, r6
@@ -453,10 +451,10 @@ tell_states:
 	bl	frame_take
 	uxtb	r5, r5
 	adds	r4, r4, #1
-	b	.L35
-.L39:
-	.align	2
+	b	.L34
 .L38:
+	.align	2
+.L37:
 	.word	44257
 	.size	tell_states, .-tell_states
 	.align	1
@@ -480,27 +478,27 @@ reset:
 	add	r0, sp, #8
 	str	r4, [sp, #4]
 	bl	memset
-	ldr	r0, .L48
+	ldr	r0, .L47
 	bl	uart_start
 	movs	r0, #62
 	bl	uart_put
-.L43:
-	ldr	r1, .L48+4
+.L42:
+	ldr	r1, .L47+4
 	add	r0, sp, #20
 	bl	uart_get
 	cmp	r0, #10
-	beq	.L41
+	beq	.L40
 	cmp	r4, #15
-	beq	.L42
+	beq	.L41
 	cmp	r0, #0
-	blt	.L43
+	blt	.L42
 	add	r3, sp, #4
 	strb	r0, [r4, r3]
 	adds	r4, r4, #1
-	b	.L43
-.L41:
+	b	.L42
+.L40:
 	uxtb	r4, r4
-.L42:
+.L41:
 	mov	r1, sp
 	add	r0, sp, #4
 	bl	hex_read
@@ -520,14 +518,14 @@ reset:
 	movs	r1, r4
 	add	r0, sp, #4
 	bl	uart_send
-	ldr	r3, .L48+8
-	ldr	r2, .L48+12
+	ldr	r3, .L47+8
+	ldr	r2, .L47+12
 	str	r2, [r3]
-.L45:
-	b	.L45
-.L49:
-	.align	2
+.L44:
+	b	.L44
 .L48:
+	.align	2
+.L47:
 	.word	30924800
 	.word	65535
 	.word	-536810228
@@ -545,25 +543,25 @@ frame_take:
 	@ link register save eliminated.
 	ldrb	r3, [r0]
 	cmp	r3, #2
-	beq	.L51
-	bhi	.L52
+	beq	.L50
+	bhi	.L51
 	cmp	r3, #0
-	bne	.L63
+	bne	.L62
 	movs	r3, #1
 	cmp	r1, #126
-	bne	.L58
-.L64:
+	bne	.L57
+.L63:
 	strb	r3, [r0]
-	b	.L58
-.L52:
+	b	.L57
+.L51:
 	cmp	r3, #3
-	beq	.L55
-.L58:
+	beq	.L54
+.L57:
 	movs	r0, #0
-.L56:
+.L55:
 	@ sp needed
 	bx	lr
-.L63:
+.L62:
 	movs	r3, #15
 	movs	r2, #0
 	ands	r3, r1
@@ -573,8 +571,8 @@ frame_take:
 	adcs	r3, r3, r2
 	strb	r1, [r0, #3]
 	adds	r3, r3, #2
-	b	.L64
-.L51:
+	b	.L63
+.L50:
 	ldrb	r2, [r0, #2]
 	adds	r3, r2, #1
 	uxtb	r3, r3
@@ -586,10 +584,10 @@ frame_take:
 	strb	r2, [r0, #3]
 	ldrb	r2, [r0, #1]
 	cmp	r2, r3
-	bne	.L58
+	bne	.L57
 	movs	r3, #3
-	b	.L64
-.L55:
+	b	.L63
+.L54:
 	movs	r3, #0
 	strb	r3, [r0]
 	ldrb	r3, [r0, #3]
@@ -597,9 +595,9 @@ frame_take:
 	adds	r1, r1, r3
 	uxtb	r1, r1
 	cmp	r1, #0
-	beq	.L56
+	beq	.L55
 	rsbs	r0, r0, #0
-	b	.L56
+	b	.L55
 	.size	frame_take, .-frame_take
 	.align	1
 	.global	button_take
@@ -623,21 +621,21 @@ button_take:
 	ldrb	r0, [r0, #1]
 	ands	r1, r3
 	cmp	r0, #0
-	bne	.L66
+	bne	.L65
 	cmp	r1, r3
-	bne	.L67
+	bne	.L66
 	movs	r0, r4
 	strb	r4, [r2, #1]
-.L67:
+.L66:
 	@ sp needed
 	pop	{r4, pc}
-.L66:
+.L65:
 	movs	r0, #0
 	cmp	r1, r0
-	bne	.L67
+	bne	.L66
 	strb	r0, [r2, #1]
 	subs	r0, r0, #1
-	b	.L67
+	b	.L66
 	.size	button_take, .-button_take
 	.align	1
 	.global	random_next
@@ -676,15 +674,15 @@ memset:
 	@ link register save eliminated.
 	movs	r3, r0
 	adds	r2, r0, r2
-.L72:
+.L71:
 	cmp	r3, r2
-	bne	.L73
+	bne	.L72
 	@ sp needed
 	bx	lr
-.L73:
+.L72:
 	strb	r1, [r3]
 	adds	r3, r3, #1
-	b	.L72
+	b	.L71
 	.size	memset, .-memset
 	.align	1
 	.global	hex_digit
@@ -701,25 +699,25 @@ hex_digit:
 	uxtb	r3, r3
 	movs	r2, r0
 	cmp	r3, #9
-	bhi	.L75
+	bhi	.L74
 	sxtb	r0, r3
-.L76:
+.L75:
 	@ sp needed
 	bx	lr
-.L75:
+.L74:
 	movs	r0, #32
 	orrs	r0, r2
 	movs	r3, r0
 	subs	r3, r3, #97
 	cmp	r3, #5
-	bhi	.L77
+	bhi	.L76
 	subs	r0, r0, #87
 	sxtb	r0, r0
-	b	.L76
-.L77:
+	b	.L75
+.L76:
 	movs	r0, #1
 	rsbs	r0, r0, #0
-	b	.L76
+	b	.L75
 	.size	hex_digit, .-hex_digit
 	.align	1
 	.global	hex_read
@@ -735,21 +733,21 @@ hex_read:
 	movs	r6, r0
 	movs	r7, r1
 	movs	r4, r5
-.L79:
+.L78:
 	str	r5, [r7]
 	ldrb	r0, [r6, r4]
 	bl	hex_digit
 	cmp	r0, #0
-	bge	.L80
+	bge	.L79
 	@ sp needed
 	movs	r0, r4
 	pop	{r3, r4, r5, r6, r7, pc}
-.L80:
+.L79:
 	lsls	r5, r5, #4
 	adds	r4, r4, #1
 	orrs	r5, r0
 	uxtb	r4, r4
-	b	.L79
+	b	.L78
 	.size	hex_read, .-hex_read
 	.align	1
 	.global	hex_write
@@ -763,28 +761,28 @@ hex_write:
 	push	{r4, r5, lr}
 	movs	r5, #15
 	adds	r3, r0, #3
-.L84:
+.L83:
 	movs	r2, r1
 	ands	r2, r5
 	movs	r4, r2
 	adds	r4, r4, #87
 	cmp	r2, #9
-	bhi	.L83
+	bhi	.L82
 	adds	r2, r2, #48
 	movs	r4, r2
-.L83:
+.L82:
 	strb	r4, [r3]
 	lsrs	r1, r1, #4
 	subs	r2, r3, #1
 	cmp	r0, r3
-	bne	.L85
+	bne	.L84
 	@ sp needed
 	movs	r3, #0
 	strb	r3, [r0, #4]
 	pop	{r4, r5, pc}
-.L85:
+.L84:
 	movs	r3, r2
-	b	.L84
+	b	.L83
 	.size	hex_write, .-hex_write
 	.align	1
 	.global	text_compare
@@ -797,7 +795,7 @@ text_compare:
 	@ frame_needed = 0, uses_anonymous_args = 0
 	push	{r4, r5, r6, lr}
 	movs	r5, #0
-.L92:
+.L91:
 	ldrb	r2, [r0, r5]
 	ldrb	r3, [r1, r5]
 	movs	r6, r2
@@ -805,38 +803,38 @@ text_compare:
 	subs	r6, r6, #65
 	subs	r4, r4, #65
 	cmp	r6, #25
-	bhi	.L87
+	bhi	.L86
 	adds	r2, r2, #32
 	uxtb	r4, r4
 	uxtb	r2, r2
 	cmp	r4, #25
-	bls	.L88
-.L100:
+	bls	.L87
+.L99:
 	cmp	r2, r3
-	bne	.L89
-.L98:
+	bne	.L88
+.L97:
 	adds	r5, r5, #1
-	b	.L92
-.L87:
+	b	.L91
+.L86:
 	uxtb	r4, r4
 	cmp	r4, #25
-	bhi	.L91
-.L88:
+	bhi	.L90
+.L87:
 	adds	r3, r3, #32
 	uxtb	r3, r3
-	b	.L100
-.L91:
+	b	.L99
+.L90:
 	cmp	r2, r3
-	bne	.L89
+	bne	.L88
 	cmp	r2, #0
-	bne	.L98
-.L89:
+	bne	.L97
+.L88:
 	cmp	r3, r2
 	sbcs	r0, r0, r0
 	cmp	r2, r3
-	bcs	.L101
+	bcs	.L100
 	movs	r0, #1
-.L101:
+.L100:
 	@ sp needed
 	rsbs	r0, r0, #0
 	pop	{r4, r5, r6, pc}
@@ -854,27 +852,27 @@ fletcher16:
 	movs	r3, #0
 	movs	r2, #1
 	movs	r5, #255
-	ldr	r6, .L105
-.L103:
+	ldr	r6, .L104
+.L102:
 	subs	r1, r1, #1
 	uxth	r1, r1
 	cmp	r1, r6
-	bne	.L104
+	bne	.L103
 	@ sp needed
 	lsls	r0, r3, #8
 	orrs	r0, r2
 	pop	{r4, r5, r6, pc}
-.L104:
+.L103:
 	ldrb	r4, [r0]
 	adds	r0, r0, #1
 	adds	r2, r2, r4
 	ands	r2, r5
 	adds	r3, r3, r2
 	ands	r3, r5
-	b	.L103
-.L106:
-	.align	2
+	b	.L102
 .L105:
+	.align	2
+.L104:
 	.word	65535
 	.size	fletcher16, .-fletcher16
 	.align	1
@@ -958,25 +956,25 @@ uart_start:
 	@ link register save eliminated.
 	movs	r2, #24
 	@ sp needed
-	ldr	r3, .L111
+	ldr	r3, .L110
 	str	r2, [r3]
-	ldr	r3, .L111+4
+	ldr	r3, .L110+4
 	adds	r2, r2, #1
 	str	r2, [r3]
-	ldr	r3, .L111+8
+	ldr	r3, .L110+8
 	subs	r2, r2, #21
 	str	r0, [r3]
-	ldr	r3, .L111+12
+	ldr	r3, .L110+12
 	str	r2, [r3]
 	movs	r3, #1
-	ldr	r2, .L111+16
+	ldr	r2, .L110+16
 	str	r3, [r2]
-	ldr	r2, .L111+20
+	ldr	r2, .L110+20
 	str	r3, [r2]
 	bx	lr
-.L112:
-	.align	2
 .L111:
+	.align	2
+.L110:
 	.word	1073751308
 	.word	1073751316
 	.word	1073751332
@@ -995,20 +993,20 @@ uart_put:
 	@ frame_needed = 0, uses_anonymous_args = 0
 	@ link register save eliminated.
 	movs	r2, #0
-	ldr	r3, .L117
+	ldr	r3, .L116
 	str	r2, [r3]
-	ldr	r2, .L117+4
+	ldr	r2, .L116+4
 	str	r0, [r2]
 	movs	r2, #1
-.L114:
+.L113:
 	ldr	r1, [r3]
 	tst	r1, r2
-	beq	.L114
+	beq	.L113
 	@ sp needed
 	bx	lr
-.L118:
-	.align	2
 .L117:
+	.align	2
+.L116:
 	.word	1073750300
 	.word	1073751324
 	.size	uart_put, .-uart_put
@@ -1022,21 +1020,21 @@ uart_errors:
 	@ args = 0, pretend = 0, frame = 0
 	@ frame_needed = 0, uses_anonymous_args = 0
 	@ link register save eliminated.
-	ldr	r3, .L124
+	ldr	r3, .L123
 	movs	r2, #15
 	ldr	r1, [r3]
 	movs	r0, r1
 	ands	r0, r2
 	tst	r1, r2
-	beq	.L120
+	beq	.L119
 	str	r0, [r3]
-.L120:
+.L119:
 	uxtb	r0, r0
 	@ sp needed
 	bx	lr
-.L125:
-	.align	2
 .L124:
+	.align	2
+.L123:
 	.word	1073751168
 	.size	uart_errors, .-uart_errors
 	.align	1
@@ -1053,37 +1051,37 @@ uart_poll:
 	bl	uart_errors
 	movs	r7, #0
 	movs	r3, r0
-	ldr	r5, .L131
-.L127:
+	ldr	r5, .L130
+.L126:
 	movs	r1, #1
 	ldr	r2, [r5]
 	tst	r2, r1
-	beq	.L129
+	beq	.L128
 	movs	r6, #15
 	ldrb	r1, [r4]
 	adds	r2, r1, #1
 	ands	r2, r6
 	ldrb	r6, [r4, #1]
 	cmp	r6, r2
-	bne	.L128
+	bne	.L127
 	movs	r0, #128
 	rsbs	r0, r0, #0
 	orrs	r0, r3
 	uxtb	r0, r0
-.L129:
+.L128:
 	@ sp needed
 	pop	{r3, r4, r5, r6, r7, pc}
-.L128:
-	ldr	r6, .L131+4
+.L127:
+	ldr	r6, .L130+4
 	str	r7, [r5]
 	ldr	r6, [r6]
 	adds	r1, r4, r1
 	strb	r6, [r1, #2]
 	strb	r2, [r4]
-	b	.L127
-.L132:
-	.align	2
+	b	.L126
 .L131:
+	.align	2
+.L130:
 	.word	1073750280
 	.word	1073751320
 	.size	uart_poll, .-uart_poll
@@ -1099,11 +1097,11 @@ uart_get:
 	push	{r4, r5, r6, lr}
 	movs	r4, r0
 	movs	r5, r1
-.L134:
+.L133:
 	ldrb	r3, [r4, #1]
 	ldrb	r2, [r4]
 	cmp	r2, r3
-	beq	.L136
+	beq	.L135
 	adds	r2, r4, r3
 	ldrb	r0, [r2, #2]
 	movs	r2, #15
@@ -1111,21 +1109,21 @@ uart_get:
 	ands	r3, r2
 	strb	r3, [r4, #1]
 	sxth	r0, r0
-.L135:
+.L134:
 	@ sp needed
 	pop	{r4, r5, r6, pc}
-.L136:
+.L135:
 	cmp	r5, #0
-	beq	.L137
+	beq	.L136
 	movs	r0, r4
 	subs	r5, r5, #1
 	bl	uart_poll
 	uxth	r5, r5
-	b	.L134
-.L137:
+	b	.L133
+.L136:
 	movs	r0, #1
 	rsbs	r0, r0, #0
-	b	.L135
+	b	.L134
 	.size	uart_get, .-uart_get
 	.align	1
 	.global	uart_send
@@ -1144,21 +1142,21 @@ uart_send:
 	movs	r0, r4
 	bl	uart_put
 	adds	r6, r5, r4
-.L139:
+.L138:
 	cmp	r5, r6
-	bne	.L140
+	bne	.L139
 	@ sp needed
 	rsbs	r0, r4, #0
 	uxtb	r0, r0
 	bl	uart_put
 	pop	{r4, r5, r6, pc}
-.L140:
+.L139:
 	ldrb	r0, [r5]
 	bl	uart_put
 	ldrb	r3, [r5]
 	adds	r5, r5, #1
 	adds	r4, r4, r3
 	uxtb	r4, r4
-	b	.L139
+	b	.L138
 	.size	uart_send, .-uart_send
 	.ident	"GCC: (15:12.2.rel1-1) 12.2.1 20221205"

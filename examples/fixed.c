@@ -57,14 +57,14 @@ uint16_t square_root(uint32_t x)
 /* The whole part of a quotient, on a core without a divider. */
 uint16_t divide(uint16_t x, uint8_t by)
 {
-    uint16_t quotient = 0, rest = 0;
-    for (int8_t i = 15; i >= 0; i--) {
-        rest = rest << 1 | (x >> i & 1);
-        quotient <<= 1;
+    uint16_t rest = 0;
+    for (uint8_t i = 0; i < 16; i++) {
+        rest = rest << 1 | x >> 15;
+        x <<= 1;
         if (rest >= by) {
             rest -= by;
-            quotient |= 1;
+            x |= 1;
         }
     }
-    return quotient;
+    return x;
 }
