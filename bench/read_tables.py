@@ -2,7 +2,7 @@
 """Reads and audits the texts of tables, by a reading of its own of their format.
 
 Usage: python3 bench/read_tables.py TABLE ..
-       python3 bench/read_tables.py --learn FOLDER OUT     for each listing of FOLDER, `peep learn` into the folder OUT, `peep audit`, and this
+       python3 bench/read_tables.py --learn FOLDER OUT [OPTION ..]     for each listing of FOLDER, `peep learn` into the folder OUT, `peep audit`, and this
        python3 bench/read_tables.py --seeded SEED          the digest of the lines of a seed's 64 states
 
 PEEP names another program than the repository's. Of each table are tried: its lines; its first 64 states, by the published generator; the sides of each
@@ -12,6 +12,7 @@ number with its log; that no sequence before the right side was passed over; and
 none before it tells.
 """
 
+import functools
 import os
 import pathlib
 import random
@@ -313,10 +314,10 @@ def read(text):
 class Sequences:
     """The sequences of fewer instructions than `left` over an alphabet by number, and what each leaves of the first state."""
 
-    def __init__(self, k, table):
-        self.letters = alphabet(k, table["pool"])
+    def __init__(self, k, pool, left, first):
+        self.letters = alphabet(k, pool)
         self.numbers = {text: place for place, text in enumerate(self.letters)}
-        self.longest, self.first = table["left"] - 1, table["states"][0]
+        self.longest, self.first = left - 1, first
         self.left_by = None
 
     def count(self, length):
@@ -349,6 +350,11 @@ class Sequences:
                 self.left_by += map(packed, level)
         want, end = packed(run(left, self.first)), self.count(length)
         return [number for number, value in zip(range(end), self.left_by) if not (value ^ want) & bits]
+
+
+@functools.cache
+def sequences(k, pool, left, seed):
+    return Sequences(k, pool, left, seeded(seed)[0])
 
 
 def registers_of(side):
@@ -410,7 +416,6 @@ def is_log(b, lines, budget):
 class Audit:
     def __init__(self, table, others):
         self.table, self.others = table, others
-        self.sequences = {}
         self.earned = set()
         self.counts = dict(told=0, candidates=0, proofs=0, lines=0, logs=0)
 
@@ -424,9 +429,7 @@ class Audit:
         k = len(named)
         if named != list(range(k)) or not 1 <= k <= table["regs"] or not 1 <= len(left) <= table["left"] or len(right) > len(left):
             raise Bad("sides")
-        if k not in self.sequences:
-            self.sequences[k] = Sequences(k, table)
-        over = self.sequences[k]
+        over = sequences(k, tuple(table["pool"]), table["left"], table["seed"])
         if not all(text in over.numbers for text in left + right) or any(f"r{place}" in entry["mask"] for place in range(k, 4)):
             raise Bad("sides over another alphabet")
         return k, over
@@ -509,10 +512,10 @@ def timed(*words):
     return done.stdout.strip(), time.monotonic() - start
 
 
-def learnt(listing, folder):
+def learnt(listing, folder, options):
     """Learns from a listing and audits by the program, and says what each printed."""
     table = folder / (listing.stem + ".peep")
-    said, learning = timed("learn", listing, table)
+    said, learning = timed("learn", listing, table, *options)
     answer, auditing = timed("audit", table)
     print(f"{listing.stem}: {said} in {learning:.2f} s; audit: {answer} in {auditing:.2f} s", flush=True)
     return table, (learning, auditing)
@@ -539,7 +542,7 @@ def main():
     elif sys.argv[1] == "--learn":
         folder = pathlib.Path(sys.argv[3])
         folder.mkdir(parents=True, exist_ok=True)
-        found = [learnt(listing, folder) for listing in sorted(pathlib.Path(sys.argv[2]).glob("*.s"))]
+        found = [learnt(listing, folder, sys.argv[4:]) for listing in sorted(pathlib.Path(sys.argv[2]).glob("*.s"))]
         print(f"learnt in {sum(times[0] for _, times in found):.1f} s, audited in {sum(times[1] for _, times in found):.1f} s", flush=True)
         read_all([table for table, _ in found])
     else:
