@@ -65,6 +65,56 @@ fn shortens_what_it_learnt_from(rt: HostRuntime) -> Result<(), Fail> {
     Ok(())
 }
 
+/// Each listing with a part of the table that is learnt from it: what is live after a window is what the branches and the return behind it read.
+#[test]
+fn right_sides_by_what_is_live(rt: HostRuntime) -> Result<(), Fail> {
+    let alloc = rt.alloc();
+    let cases = [
+        (
+            "lsls r0, r0, #24\nlsrs r0, r0, #24\nbx lr\n",
+            "learn l t",
+            "entry\nleft lsls r0, r0, #24\nleft lsrs r0, r0, #24\nright uxtb r0, r0\nmask r0\nproof\nentry\n",
+        ),
+        (
+            "adds r0, #1\nadds r0, #1\nbeq f\nf: bx lr\n",
+            "learn l t --pool 1,2",
+            "entry\nleft adds r0, #1\nleft adds r0, #1\nright adds r0, #2\nmask r0 z\nproof\n",
+        ),
+        (
+            "adds r0, #1\nadds r0, #1\nbcs f\nf: bx lr\n",
+            "learn l t --pool 1,2",
+            "entry\nleft adds r0, #1\nleft adds r0, #1\nright adds r0, #1\nright adds r0, #1\nmask r0 c\nproof\nentry\n",
+        ),
+        (
+            "adds r0, #1\nadds r0, #1\nbcs f\nf: bx lr\n",
+            "learn l t --pool 1,2",
+            "\nstate ffffffff 00000000 00000000 00000000 ",
+        ),
+        (
+            "movs r0, r0\nbcs f\nf: bx lr\n",
+            "learn l t",
+            "entry\nleft movs r0, r0\nmask r0 c\nproof\nend\n",
+        ),
+        (
+            "movs r0, r0\nbls f\nf: bx lr\n",
+            "learn l t",
+            "entry\nleft movs r0, r0\nright movs r0, r0\nmask r0 z c\nproof\nend\n",
+        ),
+        (
+            "mvns r0, r0\nadds r0, #1\nbhi f\nbge f\nf: bx lr\n",
+            "learn l t --pool 0,1",
+            "entry\nleft mvns r0, r0\nleft adds r0, #1\nright rsbs r0, r0, #0\nmask r0 n z c v\nproof\nentry\n",
+        ),
+    ];
+    for (listing, words, piece) in cases {
+        let mut store = store_of(alloc, listing.as_bytes())?;
+        printed(alloc, &mut store, words, Status::Done)?;
+        let table = str::from_utf8(store.held("t").ok_or("held")?).ok();
+        assert!(rt; table.ok_or("text")?.contains(piece), "{piece}");
+    }
+    Ok(())
+}
+
 #[test]
 fn refuses(rt: HostRuntime) -> Result<(), Fail> {
     let alloc = rt.alloc();

@@ -8,6 +8,8 @@ mod formulas;
 #[cfg(test)]
 mod gates;
 #[cfg(test)]
+mod learning;
+#[cfg(test)]
 mod logs;
 #[cfg(test)]
 mod prints;
