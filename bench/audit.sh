@@ -7,11 +7,7 @@ turns=${2:-3}
 take_crates table_audit
 python3 "$top/bench/audit/table.py" "$entries" > "$work/table"
 proved=$(build_proved audit_times "$top/bench/audit/proved.rs" rule_table table_audit step_ledger anyhow)
-# the instructions and their steps are those of the measure of steps
-{ sed '/^\/\/\/ The instruction of a halfword/,$d' "$top/bench/window_steps/plain.rs"; grep -v '^//!' "$top/bench/audit/search.rs"; } > "$work/plain.rs"
-plain=$(build_plain "$work/plain.rs")
+plain=$(build_plain "$top/bench/audit/search.rs")
 from_table() { "$1" < "$work/table"; }
-plain_time=$(least "$turns" "$work/plain.txt" from_table "$plain")
-proved_time=$(least "$turns" "$work/proved.txt" from_table "$proved")
-cmp "$work/proved.txt" "$work/plain.txt"
+in_turns "$turns" from_table
 print_times "$entries entries" ms "$proved_time" "$plain_time" "the search alone in plain Rust"

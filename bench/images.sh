@@ -11,12 +11,9 @@ plain=$(build_plain "$top/bench/images/plain.rs")
 python3 "$top/bench/images.py" compare "$proved" "$folder"/*
 python3 "$top/bench/repeated.py" "$folder" 64000 | python3 "$top/bench/images.py" addressed > "$work/listing.s"
 
-# shortest PROGRAM COLUMN: the least time of a program's runs. $1 is assembling, $2 reading, laying out and assembling.
-shortest() { cut -d' ' -f"$2" "$work/$1.times" | sort -n | head -n 1; }
-
 for _ in $(seq "$turns"); do
     for program in proved plain; do
-        "${!program}" < "$work/listing.s" 2>> "$work/$program.times" > "$work/$program.image"
+        on_processor "${!program}" < "$work/listing.s" 2>> "$work/$program.times" > "$work/$program.image"
     done
     cmp "$work/proved.image" "$work/plain.image"
     clocked arm-none-eabi-as -mcpu=cortex-m0 -mthumb "$work/listing.s" -o "$work/listing.o" 2>> "$work/gnu.times"

@@ -1,5 +1,14 @@
 //! The search of an audit in plain Rust: each shorter sequence is run on the states until one tells it. Reads the instructions that table.py writes.
 
+#[path = "../plain_letters.rs"]
+mod plain_letters;
+#[path = "../plain_steps.rs"]
+mod plain_steps;
+
+use plain_letters::alphabet;
+use plain_steps::{Instr, Operation, Shift, Sum, WState, step};
+use std::time::Instant;
+
 struct Entry {
     left: Vec<Instr>,
     right: usize,
@@ -21,55 +30,6 @@ fn instr(text: &str) -> Instr {
 fn state(text: &str) -> WState {
     let words: Vec<u32> = text.split(' ').map(|word| u32::from_str_radix(word, 16).unwrap()).collect();
     WState { r: [words[0], words[1], words[2], words[3]], nzcv: words[4] as u8 }
-}
-
-fn alphabet(k: u32, pool: &[u32]) -> Vec<Instr> {
-    let mut list = Vec::new();
-    let within = |least: u32, end: u32| pool.iter().copied().filter(move |n| least <= *n && *n < end);
-    for sum in [Sum::Add, Sum::Sub] {
-        for target in 0..k {
-            for left in 0..k {
-                list.extend((0..k).map(|right| Instr::Three { sum, target, left, right }));
-            }
-        }
-    }
-    for sum in [Sum::Add, Sum::Sub] {
-        for target in 0..k {
-            for source in (0..k).filter(|source| *source != target) {
-                list.extend(within(0, 8).map(|number| Instr::ThreeNumber { sum, target, source, number }));
-            }
-        }
-    }
-    for operation in [ByteOperation::Mov, ByteOperation::Cmp, ByteOperation::Add, ByteOperation::Sub] {
-        for target in 0..k {
-            list.extend(within(0, 256).map(|number| Instr::TwoNumber { operation, target, number }));
-        }
-    }
-    for (kind, end) in [(Shift::Lsl, 32), (Shift::Lsr, 33), (Shift::Asr, 33)] {
-        for target in 0..k {
-            for source in 0..k {
-                list.extend(within(1, end).map(|amount| Instr::Shift { kind, target, source, amount }));
-            }
-        }
-    }
-    let operations = [
-        Operation::And, Operation::Eor, Operation::Lsl, Operation::Lsr, Operation::Asr, Operation::Adc, Operation::Sbc, Operation::Ror,
-        Operation::Tst, Operation::Rsb, Operation::Cmp, Operation::Cmn, Operation::Orr, Operation::Mul, Operation::Bic, Operation::Mvn,
-    ];
-    let pairs: Vec<(u32, u32)> = (0..k).flat_map(|d| (0..k).map(move |m| (d, m))).collect();
-    for operation in operations {
-        list.extend(pairs.iter().map(|&(target, other)| Instr::Two { operation, target, other }));
-    }
-    list.extend(pairs.iter().map(|&(target, source)| Instr::Movs { target, source }));
-    list.extend(pairs.iter().map(|&(target, source)| Instr::Mov { target, source }));
-    list.extend(pairs.iter().map(|&(target, source)| Instr::Add { target, source }));
-    for extension in [Extension::Sxth, Extension::Sxtb, Extension::Uxth, Extension::Uxtb] {
-        list.extend(pairs.iter().map(|&(target, source)| Instr::Extend { extension, target, source }));
-    }
-    for reversal in [Reversal::Rev, Reversal::Rev16, Reversal::Revsh] {
-        list.extend(pairs.iter().map(|&(target, source)| Instr::Reverse { reversal, target, source }));
-    }
-    list
 }
 
 /// The items of the mask, r0 to r2 and the flags, that differ.
