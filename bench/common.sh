@@ -42,9 +42,9 @@ build_proved() {
     echo "$crate/out/$1"
 }
 
-# build_plain SOURCE: builds plain Rust, and prints the program's path; or stops with the last lines of what rustc said.
+# build_plain SOURCE [EDITION]: builds plain Rust, of 2021, and prints the program's path; or stops with the last lines of what rustc said.
 build_plain() {
-    rustc -O "$1" -o "$work/plain" 2> "$work/plain.log" || { tail -n 20 "$work/plain.log" >&2; return 1; }
+    rustc -O --edition "${2:-2021}" "$1" -o "$work/plain" 2> "$work/plain.log" || { tail -n 20 "$work/plain.log" >&2; return 1; }
     echo "$work/plain"
 }
 

@@ -3,7 +3,8 @@
 address, from 0xc00001 behind the base on.
 
 Use: bench/images.py compare PROGRAM LISTING.., where PROGRAM reads a listing and writes its image from 0, or with a word from 0x8000000,
-or   bench/images.py addressed < LISTING > LISTING.
+or   bench/images.py addressed < LISTING > LISTING, where debug lines become comments, for a repeated one has names of theirs twice,
+or   bench/images.py gnu < LISTING > LISTING: in one section, with external names of functions, as GNU as wants them.
 
 Two halfwords count as the same where one is a `nop` (BF00, or 46C0 of GNU as), or padding of GNU as by zeros, or where one is the 3-bit form of an addition to a
 register's own value and the other its 8-bit form; GNU as also fills the end up to a multiple of 4."""
@@ -43,11 +44,16 @@ def image(program, text, base):
     return run.stdout, run.stderr.decode().strip()
 
 
-def gnu_image(text, base, folder):
-    """The bytes that GNU as and ld make of a text: in one section, with external names of functions."""
+def gnu_text(text):
+    """The text for GNU as: in one section, with external names of functions."""
     source = re.sub(r"(?m)^\s*\.section.*$", "\t.text", text)
     source = re.sub(r"(?m)^\t\.set (\S+), (0x\S+)$", r"\t.thumb_set \1, \2", source)
-    (folder / "in.s").write_text(".syntax unified\n.thumb\n" + source)
+    return ".syntax unified\n.thumb\n" + source
+
+
+def gnu_image(text, base, folder):
+    """The bytes that GNU as and ld make of a text."""
+    (folder / "in.s").write_text(gnu_text(text))
     subprocess.run(["arm-none-eabi-as", "-mcpu=cortex-m0", "-mthumb", folder / "in.s", "-o", folder / "in.o"], check=True)
     subprocess.run(["arm-none-eabi-ld", f"-Ttext={base:#x}", "-e", "0", folder / "in.o", "-o", folder / "in.elf"], check=True)
     subprocess.run(["arm-none-eabi-objcopy", "-O", "binary", "-j", ".text", folder / "in.elf", folder / "in.bin"], check=True)
@@ -94,7 +100,9 @@ def compare(program, paths):
 
 
 if sys.argv[1:] == ["addressed"]:
-    sys.stdout.write(addressed(sys.stdin.read()))
+    sys.stdout.write(re.sub(r"(?m)^\t(\.(?:loc|file) )", r"\t@ \1", addressed(sys.stdin.read())))
+elif sys.argv[1:] == ["gnu"]:
+    sys.stdout.write(gnu_text(sys.stdin.read()))
 elif sys.argv[1:2] == ["compare"]:
     sys.exit(compare(sys.argv[2], sys.argv[3:]))
 else:

@@ -1,6 +1,7 @@
 //! Learns a table anew in plain Rust, by the same rules: reads a table's text from standard input, takes its header and the left sides and masks of its
 //! entries for windows, and writes the table that is learnt from them. Tells on standard error the milliseconds of learning, the windows, and the
-//! milliseconds of indexes, of running states, of formulas and of the solver.
+//! milliseconds of indexes, of running states, of formulas and of the solver. With the name of a folder, each formula that the solver is asked is written
+//! there in DIMACS, under a name that begins with the conflicts that it took.
 
 #[path = "formulas.rs"]
 mod formulas;
@@ -13,7 +14,7 @@ mod plain_solver;
 #[path = "../plain_steps.rs"]
 mod plain_steps;
 
-use formulas::formula;
+use formulas::{Builder, formula};
 use plain_lanes::{Column, Mask, columns_of, index, print_of, prints_within};
 use plain_letters::{alphabet, seeded};
 use plain_solver::{Line, Verdict, number, solve};
@@ -211,6 +212,20 @@ fn state_of(values: &[bool], k: usize) -> WState {
     state
 }
 
+/// Writes a formula of the solver's in DIMACS.
+fn write_formula(folder: &str, place: u32, formula: &Builder, verdict: &Verdict) {
+    let conflicts = match verdict {
+        Verdict::Sat(_) => 0,
+        Verdict::Unsat(log) | Verdict::Spent(log) => log.len(),
+    };
+    let mut text = format!("p cnf {} {}\n", formula.variables, formula.clauses.len());
+    for clause in &formula.clauses {
+        clause.iter().for_each(|literal| write!(text, "{} ", number(*literal)).unwrap());
+        text.push_str("0\n");
+    }
+    std::fs::write(format!("{folder}/{conflicts:05}_{place}.cnf"), text).unwrap();
+}
+
 struct Learner {
     settings: Settings,
     letters: Vec<Vec<Instr>>,
@@ -219,6 +234,8 @@ struct Learner {
     bytes: usize,
     kept: Option<Kept>,
     shares: Shares,
+    folder: Option<String>,
+    asked: u32,
 }
 
 impl Learner {
@@ -226,7 +243,7 @@ impl Learner {
         let states = seeded(settings.seed);
         let letters = (0..=4).map(|k| alphabet(k, &settings.pool)).collect();
         let bytes = header_text(&settings).len() + states.len() * STATE_LINE + "end\n".len();
-        Learner { settings, letters, states, entries: Vec::new(), bytes, kept: None, shares: Shares::default() }
+        Learner { settings, letters, states, entries: Vec::new(), bytes, kept: None, shares: Shares::default(), folder: std::env::args().nth(1), asked: 0 }
     }
 
     fn candidates(&mut self, window: &Window) -> Vec<u64> {
@@ -267,6 +284,10 @@ impl Learner {
             let start = Instant::now();
             let verdict = solve(formula.variables as usize, &formula.clauses, self.settings.budget);
             self.shares.solver += start.elapsed();
+            if let Some(folder) = &self.folder {
+                self.asked += 1;
+                write_formula(folder, self.asked, &formula, &verdict);
+            }
             match verdict {
                 Verdict::Sat(values) => self.states.push(state_of(&values, k as usize)),
                 Verdict::Spent(log) => opens.push(Open { number: *number, log: log_text(&log, formula.clauses.len()) }),
