@@ -1,6 +1,6 @@
 //! Eight states side by side in plain Rust, their steps, and the prints of all sequences along the tree of their beginnings.
 
-use crate::plain_steps::{ByteOperation, Extension, Instr, Operation, Reversal, Shift, Sum, WState};
+use crate::plain_steps::{ByteOperation, Extension, Instr, Mask, Operation, Reversal, Shift, Sum, WState};
 
 type Words = [u32; 8];
 
@@ -251,13 +251,6 @@ fn three(sum: Sum, x: Words, y: Words) -> Sums {
         Sum::Add => add_with_carry(x, y, [0; 8]),
         Sum::Sub => add_with_carry(x, one(y, |y| !y), TRUE),
     }
-}
-
-/// Which registers and flags count.
-#[derive(Clone, Copy, PartialEq, Eq)]
-pub struct Mask {
-    pub registers: [bool; 4],
-    pub nzcv: u8,
 }
 
 /// Up to eight states, and how many.

@@ -1,6 +1,8 @@
 //! The alphabet and the states of a seed in plain Rust, which the plain programs of the measures share.
+// not each program needs all of it
+#![allow(dead_code)]
 
-use crate::plain_steps::{ByteOperation, Extension, Instr, Reversal, Shift, Sum, WState};
+use crate::plain_steps::{ByteOperation, Extension, Instr, Operation, Reversal, Shift, Sum, WState};
 
 /// The instructions of the first `k` registers and a pool, in the order of their numbers.
 pub fn alphabet(k: u32, pool: &[u32]) -> Vec<Instr> {
@@ -77,4 +79,65 @@ pub fn seeded(seed: u64) -> Vec<WState> {
         (((old >> 18 ^ old) >> 27) as u32).rotate_right((old >> 59) as u32)
     };
     (0..64).map(|_| WState { r: [word(), word(), word(), word()], nzcv: (word() % 16) as u8 }).collect()
+}
+
+/// The canonical text of an instruction.
+pub fn text_of(instr: &Instr) -> String {
+    let operations = [
+        "ands", "eors", "lsls", "lsrs", "asrs", "adcs", "sbcs", "rors", "tst", "rsbs", "cmp", "cmn", "orrs", "muls", "bics", "mvns",
+    ];
+    let sum_name = |sum| match sum {
+        Sum::Add => "adds",
+        Sum::Sub => "subs",
+    };
+    match *instr {
+        Instr::Mov { target, source } => format!("mov r{target}, r{source}"),
+        Instr::Movs { target, source } => format!("movs r{target}, r{source}"),
+        Instr::Add { target, source } => format!("add r{target}, r{source}"),
+        Instr::Three { sum, target, left, right } => format!("{} r{target}, r{left}, r{right}", sum_name(sum)),
+        Instr::ThreeNumber { sum, target, source, number } => format!("{} r{target}, r{source}, #{number}", sum_name(sum)),
+        Instr::TwoNumber { operation, target, number } => {
+            let name = match operation {
+                ByteOperation::Mov => "movs",
+                ByteOperation::Cmp => "cmp",
+                ByteOperation::Add => "adds",
+                ByteOperation::Sub => "subs",
+            };
+            format!("{name} r{target}, #{number}")
+        }
+        Instr::Shift { kind, target, source, amount } => {
+            let name = match kind {
+                Shift::Lsl => "lsls",
+                Shift::Lsr => "lsrs",
+                Shift::Asr => "asrs",
+                Shift::Ror => "rors",
+            };
+            format!("{name} r{target}, r{source}, #{amount}")
+        }
+        Instr::Two { operation, target, other } => {
+            let name = operations[operation as usize];
+            match operation {
+                Operation::Mul => format!("{name} r{target}, r{other}, r{target}"),
+                Operation::Rsb => format!("{name} r{target}, r{other}, #0"),
+                _ => format!("{name} r{target}, r{other}"),
+            }
+        }
+        Instr::Extend { extension, target, source } => {
+            let name = match extension {
+                Extension::Sxth => "sxth",
+                Extension::Sxtb => "sxtb",
+                Extension::Uxth => "uxth",
+                Extension::Uxtb => "uxtb",
+            };
+            format!("{name} r{target}, r{source}")
+        }
+        Instr::Reverse { reversal, target, source } => {
+            let name = match reversal {
+                Reversal::Rev => "rev",
+                Reversal::Rev16 => "rev16",
+                Reversal::Revsh => "revsh",
+            };
+            format!("{name} r{target}, r{source}")
+        }
+    }
 }

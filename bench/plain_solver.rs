@@ -1,5 +1,7 @@
 //! The solver as plain Rust, which the plain programs of the measures share: it takes the same decisions, propagates in the same order and shortens what it
 //! learns alike, so that its log is the same.
+// not each program needs all of it
+#![allow(dead_code)]
 
 const NONE: u32 = u32::MAX;
 

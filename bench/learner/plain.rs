@@ -3,8 +3,8 @@
 //! milliseconds of indexes, of running states, of formulas and of the solver. With the name of a folder, each formula that the solver is asked is written
 //! there in DIMACS, under a name that begins with the conflicts that it took.
 
-#[path = "formulas.rs"]
-mod formulas;
+#[path = "../plain_formulas.rs"]
+mod plain_formulas;
 #[path = "../plain_lanes.rs"]
 mod plain_lanes;
 #[path = "../plain_letters.rs"]
@@ -14,11 +14,11 @@ mod plain_solver;
 #[path = "../plain_steps.rs"]
 mod plain_steps;
 
-use formulas::{Builder, formula};
-use plain_lanes::{Column, Mask, columns_of, index, print_of, prints_within};
-use plain_letters::{alphabet, seeded};
+use plain_formulas::{Builder, formula};
+use plain_lanes::{Column, columns_of, index, print_of, prints_within};
+use plain_letters::{alphabet, seeded, text_of};
 use plain_solver::{Line, Verdict, number, solve};
-use plain_steps::{ByteOperation, Extension, Instr, Operation, Reversal, Shift, Sum, WState, step};
+use plain_steps::{Instr, Mask, WState, tells};
 use std::collections::HashMap;
 use std::fmt::Write as _;
 use std::io::{self, Read, Write as _};
@@ -73,66 +73,6 @@ struct Shares {
     solver: Duration,
 }
 
-fn text_of(instr: &Instr) -> String {
-    let operations = [
-        "ands", "eors", "lsls", "lsrs", "asrs", "adcs", "sbcs", "rors", "tst", "rsbs", "cmp", "cmn", "orrs", "muls", "bics", "mvns",
-    ];
-    let sum_name = |sum| match sum {
-        Sum::Add => "adds",
-        Sum::Sub => "subs",
-    };
-    match *instr {
-        Instr::Mov { target, source } => format!("mov r{target}, r{source}"),
-        Instr::Movs { target, source } => format!("movs r{target}, r{source}"),
-        Instr::Add { target, source } => format!("add r{target}, r{source}"),
-        Instr::Three { sum, target, left, right } => format!("{} r{target}, r{left}, r{right}", sum_name(sum)),
-        Instr::ThreeNumber { sum, target, source, number } => format!("{} r{target}, r{source}, #{number}", sum_name(sum)),
-        Instr::TwoNumber { operation, target, number } => {
-            let name = match operation {
-                ByteOperation::Mov => "movs",
-                ByteOperation::Cmp => "cmp",
-                ByteOperation::Add => "adds",
-                ByteOperation::Sub => "subs",
-            };
-            format!("{name} r{target}, #{number}")
-        }
-        Instr::Shift { kind, target, source, amount } => {
-            let name = match kind {
-                Shift::Lsl => "lsls",
-                Shift::Lsr => "lsrs",
-                Shift::Asr => "asrs",
-                Shift::Ror => "rors",
-            };
-            format!("{name} r{target}, r{source}, #{amount}")
-        }
-        Instr::Two { operation, target, other } => {
-            let name = operations[operation as usize];
-            match operation {
-                Operation::Mul => format!("{name} r{target}, r{other}, r{target}"),
-                Operation::Rsb => format!("{name} r{target}, r{other}, #0"),
-                _ => format!("{name} r{target}, r{other}"),
-            }
-        }
-        Instr::Extend { extension, target, source } => {
-            let name = match extension {
-                Extension::Sxth => "sxth",
-                Extension::Sxtb => "sxtb",
-                Extension::Uxth => "uxth",
-                Extension::Uxtb => "uxtb",
-            };
-            format!("{name} r{target}, r{source}")
-        }
-        Instr::Reverse { reversal, target, source } => {
-            let name = match reversal {
-                Reversal::Rev => "rev",
-                Reversal::Rev16 => "rev16",
-                Reversal::Revsh => "revsh",
-            };
-            format!("{name} r{target}, r{source}")
-        }
-    }
-}
-
 fn mask_text(mask: Mask) -> String {
     let registers = (0..4).filter(|register| mask.registers[*register]).map(|register| format!(" r{register}"));
     let flags = [(8, " n"), (4, " z"), (2, " c"), (1, " v")].into_iter().filter(|(bit, _)| mask.nzcv & bit != 0);
@@ -178,15 +118,6 @@ fn header_text(settings: &Settings) -> String {
 fn state_text(state: &WState) -> String {
     let [a, b, c, d] = state.r;
     format!("state {a:08x} {b:08x} {c:08x} {d:08x} {:x}\n", state.nzcv)
-}
-
-fn run(sequence: &[Instr], state: WState) -> WState {
-    sequence.iter().fold(state, |state, instr| step(instr, state))
-}
-
-fn tells(state: WState, left: &[Instr], right: &[Instr], mask: Mask) -> bool {
-    let (a, b) = (run(left, state), run(right, state));
-    (a.nzcv ^ b.nzcv) & mask.nzcv != 0 || (0..4).any(|register| mask.registers[register] && a.r[register] != b.r[register])
 }
 
 fn count_below(size: usize, length: usize) -> u64 {

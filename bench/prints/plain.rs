@@ -7,9 +7,9 @@ mod plain_letters;
 #[path = "../plain_steps.rs"]
 mod plain_steps;
 
-use plain_lanes::{Mask, columns_of, index, prints_within};
+use plain_lanes::{columns_of, index, prints_within};
 use plain_letters::{alphabet, seeded};
-use plain_steps::{Instr, WState, step};
+use plain_steps::{Instr, Mask, WState, step};
 use std::time::Instant;
 
 const POOL: [u32; 9] = [0, 1, 2, 4, 8, 16, 24, 31, 255];

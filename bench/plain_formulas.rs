@@ -1,7 +1,6 @@
-//! The formula that two sequences leave something different, in plain Rust.
+//! The formula that two sequences leave something different, in plain Rust, which the plain programs of the measures share.
 
-use crate::plain_lanes::Mask;
-use crate::plain_steps::{ByteOperation, Extension, Instr, Operation, Reversal, Shift, Sum};
+use crate::plain_steps::{ByteOperation, Extension, Instr, Mask, Operation, Reversal, Shift, Sum};
 use std::collections::HashMap;
 
 /// A variable or its contrary: twice the variable, and 1 more where negative.
