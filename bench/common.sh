@@ -42,9 +42,9 @@ build_proved() {
     echo "$crate/out/$1"
 }
 
-# build_plain SOURCE [EDITION]: builds plain Rust, of 2021, and prints the program's path; or stops with the last lines of what rustc said.
+# build_plain SOURCE [EDITION]: builds plain Rust, of 2021 and for the processor that rt builds for, and prints the program's path; or stops with the last lines of what rustc said.
 build_plain() {
-    rustc -O --edition "${2:-2021}" "$1" -o "$work/plain" 2> "$work/plain.log" || { tail -n 20 "$work/plain.log" >&2; return 1; }
+    rustc -O -C target-cpu=x86-64-v2 --edition "${2:-2021}" "$1" -o "$work/plain" 2> "$work/plain.log" || { tail -n 20 "$work/plain.log" >&2; return 1; }
     echo "$work/plain"
 }
 
