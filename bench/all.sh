@@ -33,8 +33,9 @@ measure python3 bash listing_lines.sh --all "$listings"
 measure python3 bash rewrite.sh
 measure python3 bash table_texts.sh
 measure python3 bash live_items.sh "$listings"
-measure arm-none-eabi-as bash images.sh "$listings"
+measure "python3 arm-none-eabi-as" bash images.sh "$listings"
 measure cadical python3 measure_lrat.py "$work/lrat"
-measure "python3 cadical" bash solver.sh
+measure "python3 cadical" bash solver.sh 5 "$listings"
+measure "" bash learner.sh "$listings"
 measure cadical python3 exported.py "$work/rules"
 exit "$failed"

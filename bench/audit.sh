@@ -1,17 +1,21 @@
 #!/usr/bin/env bash
-# Measures the audit of a table of ENTRIES entries with 401,323 shorter sequences each, beside their search alone in plain Rust, without formulas and
-# proofs. Use: bench/audit.sh [ENTRIES] [TURNS]
+# Measures reading and auditing tables beside the same in plain Rust: one of ENTRIES entries with 401,323 shorter sequences each and no proofs, and one with
+# proofs of MEGABYTES. Use: bench/audit.sh [ENTRIES [MEGABYTES [TURNS]]]
 . "$(dirname "$0")/common.sh"
-entries=${1:-1000}
-turns=${2:-3}
+entries=${1:-1000} megabytes=${2:-50} turns=${3:-3}
 take_crates table_audit
-python3 "$top/bench/audit/table.py" "$entries" > "$work/table"
+proofs=$(build_plain "$top/bench/audit/proofs.rs")
+"$proofs" $((megabytes * 1000000)) > "$work/proofs"
+python3 "$top/bench/audit/table.py" "$entries" > "$work/entries"
+plain=$(build_plain "$top/bench/audit/plain.rs")
 proved=$(build_proved audit_times "$top/bench/audit/proved.rs" rule_table table_audit step_ledger anyhow)
-# the instructions and their steps are those of the measure of steps
-{ sed '/^\/\/\/ The instruction of a halfword/,$d' "$top/bench/window_steps/plain.rs"; grep -v '^//!' "$top/bench/audit/search.rs"; } > "$work/plain.rs"
-plain=$(build_plain "$work/plain.rs")
-from_table() { "$1" < "$work/table"; }
-plain_time=$(least "$turns" "$work/plain.txt" from_table "$plain")
-proved_time=$(least "$turns" "$work/proved.txt" from_table "$proved")
-cmp "$work/proved.txt" "$work/plain.txt"
-print_times "$entries entries" ms "$proved_time" "$plain_time" "the search alone in plain Rust"
+
+from_table() { "$1" < "$table"; }
+
+for name in entries proofs; do
+    table=$work/$name
+    in_turns "$turns" from_table
+    said="$(grep -c '^entry' "$table") entries, $(wc -c < "$table") bytes"
+    print_times "auditing a table of $said" us "$proved_time" "$plain_time"
+    print_times "reading it" us "$(shortest proved 2)" "$(shortest plain 2)"
+done

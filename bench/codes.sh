@@ -9,8 +9,7 @@ with_sum "$top/bench/codes/proved.rs" > "$work/proved.rs"
 proved=$(build_proved codes "$work/proved.rs" thumb_instr thumb_table)
 python3 "$top/bench/stripped.py" "$work/plain.rs" thumb_instr thumb_table -- seq laws items accesses window renaming
 with_sum "$top/bench/codes/plain.rs" >> "$work/plain.rs"
-plain=$(build_plain "$work/plain.rs")
-proved_time=$(($(least 1 "$work/proved.txt" clocked "$proved") / 1000))
-plain_time=$(($(least 1 "$work/plain.txt" clocked "$plain") / 1000))
-cmp "$work/proved.txt" "$work/plain.txt"
-print_times "$turns turns over 65,536 halfwords" ms "$proved_time" "$plain_time"
+# its crates name one another as modules, as paths of that edition do
+plain=$(build_plain "$work/plain.rs" 2015)
+in_turns 3 clocked
+print_times "$turns turns over 65,536 halfwords" ms $((proved_time / 1000)) $((plain_time / 1000))

@@ -1,10 +1,15 @@
 # shellcheck shell=bash
 # What the measures share: source it with `. "$(dirname "$0")/common.sh"`.
-# It sets `top`, the top of the repository, and `work`, a folder that is removed when the script ends.
+# It sets `top`, the top of the repository, and `work`, a folder that is removed when the script ends. Times are the processor's, user's and system's
+# together, so that they say the same on a busy machine: what a program measures by its own clock as well as what is measured of it from outside.
 set -eu
 top=$(cd "$(dirname "${BASH_SOURCE[0]}")/.." && pwd)
 work=$(mktemp -d)
 trap 'rm -rf "$work"' EXIT
+cc -O2 -shared -fPIC "$top/bench/processor_clock.c" -o "$work/processor_clock.so"
+
+# on_processor COMMAND..: runs a program, or a function that runs some, whose clocks tell the time of the processor.
+on_processor() { LD_PRELOAD="$work/processor_clock.so" "$@"; }
 
 # take_crates CRATE..: copies crates and those that they stand on into the work folder, each with its line of crates.txt.
 take_crates() {
@@ -37,24 +42,36 @@ build_proved() {
     echo "$crate/out/$1"
 }
 
-# build_plain SOURCE: builds plain Rust, and prints the program's path; or stops with the last lines of what rustc said.
+# build_plain SOURCE [EDITION]: builds plain Rust, of 2021 and for the processor that rt builds for, and prints the program's path; or stops with the last lines of what rustc said.
 build_plain() {
-    rustc -O "$1" -o "$work/plain" 2> "$work/plain.log" || { tail -n 20 "$work/plain.log" >&2; return 1; }
+    rustc -O -C target-cpu=x86-64-v2 --edition "${2:-2021}" "$1" -o "$work/plain" 2> "$work/plain.log" || { tail -n 20 "$work/plain.log" >&2; return 1; }
     echo "$work/plain"
 }
 
-# clocked COMMAND..: runs a command, which tells nothing on standard error, and tells there the microseconds that it took.
+# clocked COMMAND..: runs a command, which tells nothing on standard error, and tells there the microseconds of the processor that it took, to a thousand.
 clocked() {
-    local start
-    start=$(date +%s%N)
-    "$@"
-    echo $((($(date +%s%N) - start) / 1000)) >&2
+    local TIMEFORMAT='%U %S'
+    { time "$@"; } 2> "$work/clocked"
+    awk '{ printf "%d\n", 1000000 * ($1 + $2) }' "$work/clocked" >&2
 }
 
-# least TURNS FILE COMMAND..: the least of the first numbers that the runs of a command tell on standard error. FILE gets what the last run prints.
-least() {
-    for _ in $(seq "$1"); do "${@:3}" 2>&1 > "$2" | cut -d' ' -f1; done | sort -n | head -n 1
+# in_turns TURNS COMMAND..: runs a command with the path of the proved program, `$proved`, and with that of the plain one, `$plain`, in turn. Both have to
+# print the same. `$proved_time` and `$plain_time` are the least of the first numbers that the runs tell on standard error.
+in_turns() {
+    local program
+    rm -f "$work"/*.times
+    for _ in $(seq "$1"); do
+        for program in proved plain; do
+            on_processor "${@:2}" "${!program}" 2>> "$work/$program.times" > "$work/$program.printed"
+        done
+        cmp "$work/proved.printed" "$work/plain.printed"
+    done
+    # shellcheck disable=SC2034 # for the script that sources this one
+    proved_time=$(shortest proved 1) plain_time=$(shortest plain 1)
 }
+
+# shortest PROGRAM COLUMN: the least of the numbers that the runs of a program told in a column.
+shortest() { cut -d' ' -f"$2" "$work/$1.times" | sort -n | head -n 1; }
 
 # print_times WHAT UNIT PROVED PLAIN [NAME]: prints both times and their ratio. NAME is said of the plain program.
 print_times() {

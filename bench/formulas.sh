@@ -5,7 +5,5 @@ turns=${1:-5}
 take_crates bit_blast
 proved=$(build_proved formulas "$top/bench/formulas/proved.rs" thumb_instr cnf_gates bit_blast anyhow)
 plain=$(build_plain "$top/bench/formulas/plain.rs")
-plain_time=$(least "$turns" "$work/plain.txt" "$plain")
-proved_time=$(least "$turns" "$work/proved.txt" "$proved")
-cmp "$work/proved.txt" "$work/plain.txt"
+in_turns "$turns" env
 print_times formulas ms "$proved_time" "$plain_time"

@@ -1,6 +1,6 @@
 #!/usr/bin/env bash
-# Measures assembling a listing of about 65,000 lines, made by repeating the files of a folder, with the proved crates beside a plain Rust program and GNU as,
-# and compares the images of the files with those of GNU as and ld.
+# Compares the images of the files of a folder with those of GNU as and ld and with what objdump reads in them, at the bases 0 and 0x8000000; and measures
+# assembling a listing of about 65,500 lines, made by repeating the files, with the proved crates beside a plain Rust program, and beside GNU as and ld.
 # Use: bench/images.sh FOLDER [TURNS]
 . "$(dirname "$0")/common.sh"
 folder=${1:-} turns=${2:-9}
@@ -9,19 +9,24 @@ take_crates thumb_assembler
 proved=$(build_proved images "$top/bench/images/proved.rs" listing_parser label_layout thumb_assembler anyhow)
 plain=$(build_plain "$top/bench/images/plain.rs")
 python3 "$top/bench/images.py" compare "$proved" "$folder"/*
-python3 "$top/bench/repeated.py" "$folder" 64000 | python3 "$top/bench/images.py" addressed > "$work/listing.s"
+# the limit is 65,536 lines, and those that set addresses come before
+python3 "$top/bench/repeated.py" "$folder" 65392 | python3 "$top/bench/images.py" addressed > "$work/listing.s"
+python3 "$top/bench/images.py" gnu < "$work/listing.s" > "$work/gnu.s"
 
-# shortest PROGRAM COLUMN: the least time of a program's runs. $1 is assembling, $2 reading, laying out and assembling.
-shortest() { cut -d' ' -f"$2" "$work/$1.times" | sort -n | head -n 1; }
+gnu() {
+    arm-none-eabi-as -mcpu=cortex-m0 -mthumb "$work/gnu.s" -o "$work/listing.o"
+    arm-none-eabi-ld -Ttext=0 -e 0 "$work/listing.o" -o "$work/listing.elf"
+}
 
 for _ in $(seq "$turns"); do
     for program in proved plain; do
-        "${!program}" < "$work/listing.s" 2>> "$work/$program.times" > "$work/$program.image"
+        on_processor "${!program}" < "$work/listing.s" 2>> "$work/$program.times" > "$work/$program.image"
     done
     cmp "$work/proved.image" "$work/plain.image"
-    clocked arm-none-eabi-as -mcpu=cortex-m0 -mthumb "$work/listing.s" -o "$work/listing.o" 2>> "$work/gnu.times"
+    clocked gnu 2>> "$work/gnu.times"
 done
+# the first number is assembling's, the second that of reading, laying out and assembling
 said="$(wc -l < "$work/listing.s") lines to $(wc -c < "$work/proved.image") bytes"
 print_times "assembling $said" us "$(shortest proved 1)" "$(shortest plain 1)"
 print_times "reading, laying out and assembling $said" us "$(shortest proved 2)" "$(shortest plain 2)"
-print_times "reading, laying out and assembling $said" us "$(shortest proved 2)" "$(shortest gnu 1)" "GNU as"
+print_times "reading, laying out and assembling $said" us "$(shortest proved 2)" "$(shortest gnu 1)" "GNU as and ld"

@@ -26,7 +26,7 @@ run_both() {
     local program
     for _ in $(seq "$turns"); do
         for program in proved plain; do
-            "${!program}" < "$1" 2> "$work/$program.told" > "$work/printed"
+            on_processor "${!program}" < "$1" 2> "$work/$program.told" > "$work/printed"
             cmp "$work/printed" "$1" || { cat "$work/$program.told" >&2; exit 1; }
             cat "$work/$program.told" >> "$work/$program.times"
         done

@@ -15,15 +15,12 @@ run_both() {
     rm -f "$work"/*.times
     for _ in $(seq "$2"); do
         for program in proved plain; do
-            "${!program}" < "$1" 2> "$work/$program.told"
+            on_processor "${!program}" < "$1" 2> "$work/$program.told"
             cat "$work/$program.told" >> "$work/$program.times"
         done
         cmp <(cut -d' ' -f3- "$work/proved.told") <(cut -d' ' -f3- "$work/plain.told") || { cat "$work"/*.told >&2; exit 1; }
     done
 }
-
-# shortest PROGRAM COLUMN: the least time of the last runs.
-shortest() { cut -d' ' -f"$2" "$work/$1.times" | sort -n | head -n 1; }
 
 # chain N: N branches backward, each to the one before, and a return.
 chain() {

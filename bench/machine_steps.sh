@@ -8,7 +8,5 @@ with_digest() { cat "$top/bench/machine_steps/$1" "$top/bench/machine_steps/dige
 proved=$(build_proved machine_steps "$(with_digest proved.rs)" listing_parser label_layout thumb_machine anyhow)
 plain=$(build_plain "$(with_digest plain.rs)")
 looping() { "$1" < "$top/bench/machine_steps/loop.s"; }
-plain_time=$(least "$turns" "$work/plain.txt" "$plain")
-proved_time=$(least "$turns" "$work/proved.txt" looping "$proved")
-cmp "$work/proved.txt" "$work/plain.txt"
+in_turns "$turns" looping
 print_times "a million steps" ms "$proved_time" "$plain_time"

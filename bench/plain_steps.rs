@@ -1,4 +1,6 @@
 //! The step of windows over r0 to r3 in plain Rust, which the plain programs of the measures share.
+// not each program needs all of it
+#![allow(dead_code)]
 
 #[derive(Clone, Copy)]
 pub enum Sum {
@@ -219,4 +221,21 @@ pub fn step(instr: &Instr, state: WState) -> WState {
             state.with_register(target, reversed(reversal, state.get(source)))
         }
     }
+}
+
+/// Which registers and flags count.
+#[derive(Clone, Copy, PartialEq, Eq)]
+pub struct Mask {
+    pub registers: [bool; 4],
+    pub nzcv: u8,
+}
+
+pub fn run(sequence: &[Instr], state: WState) -> WState {
+    sequence.iter().fold(state, |state, instr| step(instr, state))
+}
+
+/// Whether two sequences leave something different in a state.
+pub fn tells(state: WState, left: &[Instr], right: &[Instr], mask: Mask) -> bool {
+    let (a, b) = (run(left, state), run(right, state));
+    (a.nzcv ^ b.nzcv) & mask.nzcv != 0 || (0..4).any(|register| mask.registers[register] && a.r[register] != b.r[register])
 }

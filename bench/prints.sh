@@ -6,7 +6,5 @@ turns=${1:-5}
 take_crates fingerprints
 proved=$(build_proved prints "$top/bench/prints/proved.rs" thumb_instr seq_enum fingerprints anyhow)
 plain=$(build_plain "$top/bench/prints/plain.rs")
-plain_time=$(least "$turns" "$work/plain.txt" "$plain")
-proved_time=$(least "$turns" "$work/proved.txt" "$proved")
-cmp "$work/proved.txt" "$work/plain.txt"
+in_turns "$turns" env
 print_times "prints of 401,323 sequences" ms "$proved_time" "$plain_time"

@@ -9,8 +9,14 @@ python3 "$top/bench/straight.py" "$lines" > "$work/listing.s"
 plain=$(build_plain "$top/bench/plain_rewrite.rs")
 # builds the proved program where it isn't built yet
 "$top/peep" rewrite "$table" "$work/listing.s" "$work/proved.s" -
-proved_time=$(least "$turns" "$work/proved.txt" clocked "$top/crates/peep/out/peep" rewrite "$table" "$work/listing.s" "$work/proved.s" -)
-plain_time=$(least "$turns" "$work/plain.txt" clocked "$plain" "$table" "$work/listing.s" "$work/plain.s")
+proved=$top/crates/peep/out/peep
+# rewriting PROGRAM: the proved program has a command and an image's name more.
+rewriting() {
+    case $1 in
+        "$proved") clocked "$1" rewrite "$table" "$work/listing.s" "$work/proved.s" - ;;
+        *) clocked "$1" "$table" "$work/listing.s" "$work/plain.s" ;;
+    esac
+}
+in_turns "$turns" rewriting
 cmp "$work/proved.s" "$work/plain.s"
-cmp "$work/proved.txt" "$work/plain.txt"
 print_times "$lines lines" us "$proved_time" "$plain_time"

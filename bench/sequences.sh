@@ -13,7 +13,5 @@ invariant-loop-turn l = IsWalk l.walk
 ANTT
 proved=$(build_proved sequences "$top/bench/sequences/proved.rs" seq_enum thumb_instr thumb_table anyhow)
 plain=$(build_plain "$top/bench/sequences/plain.rs")
-plain_time=$(least "$turns" "$work/plain.txt" "$plain")
-proved_time=$(least "$turns" "$work/proved.txt" "$proved")
-cmp "$work/proved.txt" "$work/plain.txt"
+in_turns "$turns" env
 print_times "5,000,000 sequences" ms "$proved_time" "$plain_time"

@@ -1,11 +1,12 @@
 #!/usr/bin/env bash
 # Measures the proved solver beside one in plain Rust that follows the same rules, and beside CaDiCaL, on pigeons and on pairs of sequences of
-# instructions. Both logs have to be the same, each verdict CaDiCaL's, and each log is checked by `lrat_check` and by a second checker. Times are the
-# processor's, the least of the turns. Where `perf` is there, the share of propagation is told. Use: bench/solver.sh [TURNS]
+# instructions, and on the formulas of the 100 windows of listings that take the most conflicts. Both logs have to be the same, each verdict CaDiCaL's, and each
+# log is checked by `lrat_check` and by a second checker. Times are the processor's, the least of the turns. Where `perf` is there, the share of propagation
+# is told. Use: bench/solver.sh [TURNS [FOLDER]], a folder of listings
 . "$(dirname "$0")/common.sh"
-turns=${1:-5}
+turns=${1:-5} folder=${2:-}
 take_crates cdcl_core
-mkdir -p "$work/crates/solver_times/proofs/clause" "$work/formulas"
+mkdir -p "$work/crates/solver_times/proofs/clause" "$work/formulas" "$work/asked"
 cat > "$work/crates/solver_times/proofs/clause/Invariants.antt" <<'ANTT'
 use Rattle.cnf_gates.specs.Cnf.{AreLiterals}
 use Rattle.solver_times.proofs.clause.Given as goal
@@ -30,36 +31,60 @@ proved=$(build_proved solver_times "$top/bench/solver/proved.rs" cdcl_core cnf_g
 plain=$(build_plain "$top/bench/solver/plain.rs")
 python3 "$top/bench/solver/formulas.py" "$work/formulas"
 
-# processor FORMULA OUT COMMAND..: the milliseconds of the processor that a command takes on a formula, the least of the turns.
-processor() {
-    local TIMEFORMAT=%U
-    for _ in $(seq "$turns"); do
-        { time "${@:3}" < "$1" > "$2" 2> "$2.told" || true; } 2>&1
-    done | sort -n | head -n 1 | awk '{ print $1 * 1000 }'
-}
+# solving PROGRAM, on the formula that is set.
+solving() { "$1" < "$formula"; }
 
-# share FORMULA: which part of the proved solver's time is spent in propagation.
-share() {
-    perf record -q -e cpu-clock -o "$work/perf" "$proved" < "$1" > "$work/proved.txt" 2> "$work/told" || return 0
-    perf report -i "$work/perf" --no-children --stdio 2> "$work/told" | awk '/unit_propagation/ { sum += $1 } END { printf ", propagation %.0f %%", sum }'
-}
+cadical_in() { cadical -q -n "$formula" > "$work/other.txt" || true; }
 
-for formula in "$work"/formulas/*.cnf; do
-    name=$(basename "$formula" .cnf)
-    proved_time=$(processor "$formula" "$work/proved.txt" "$proved")
-    plain_time=$(processor "$formula" "$work/plain.txt" "$plain")
-    other_time=$(processor "$formula" "$work/other.txt" cadical -q -n)
-    cmp "$work/proved.txt" "$work/plain.txt"
-    verdict=$(head -n 1 "$work/proved.txt")
+# try_formula TURNS: solves the formula with all three and compares. Sets verdict, conflicts and the times in microseconds.
+try_formula() {
+    in_turns "$1" solving
+    other_time=$(clocked cadical_in 2>&1)
+    conflicts=$(tail -n 1 "$work/proved.times" | cut -d' ' -f2)
+    verdict=$(head -n 1 "$work/proved.printed")
     case $verdict in
         sat) grep -qx "s SATISFIABLE" "$work/other.txt" ;;
         unsat) grep -qx "s UNSATISFIABLE" "$work/other.txt" ;;
-    esac || { echo "$name: $verdict, and CaDiCaL says $(cat "$work/other.txt")" >&2; exit 1; }
-    python3 "$top/bench/solver/checked.py" "$work" "$formula" "$work/proved.txt" > "$work/build.log" 2>&1 || { tail -n 20 "$work/build.log" >&2; exit 1; }
-    conflicts=$(cut -d' ' -f2 "$work/proved.txt.told")
+    esac || { echo "$formula: $verdict, and CaDiCaL says $(cat "$work/other.txt")" >&2; exit 1; }
+    python3 "$top/bench/solver/checked.py" "$work" "$formula" "$work/proved.printed" > "$work/build.log" 2>&1 || { tail -n 20 "$work/build.log" >&2; exit 1; }
+}
+
+# share FORMULA..: which part of the proved solver's time on formulas is spent in propagation.
+share() {
+    command -v perf > /dev/null || return 0
+    perf record -q -e cpu-clock -o "$work/perf" bash -c 'for formula in "${@:2}"; do "$1" < "$formula" > /dev/null; done' solve "$proved" "$@" 2> "$work/told" || return 0
+    perf report -i "$work/perf" --comm "$(basename "$proved" | cut -c1-15)" --no-children --stdio 2> "$work/told" |
+        awk '/%/ && !/^#/ { all += $1 } /unit_propagation/ { sum += $1 } END { printf ", propagation %.0f %%", 100 * sum / all }'
+}
+
+# a_second CONFLICTS MICROSECONDS
+a_second() { awk "BEGIN { printf \", %d a second\", 1000000 * $1 / ($2 + 1) }"; }
+
+for formula in "$work"/formulas/*.cnf; do
+    name=$(basename "$formula" .cnf)
+    try_formula "$turns"
     head -n 1 "$formula" | sed "s/p cnf \(.*\) \(.*\)/$name, \1 variables, \2 clauses: $verdict, $conflicts conflicts/" | tr -d '\n'
-    awk "BEGIN { if ($conflicts && $proved_time) printf \", %d a second\", 1000 * $conflicts / $proved_time }"
-    if command -v perf > /dev/null && [ "$conflicts" -gt 1000 ]; then share "$formula"; fi
-    echo "; CaDiCaL $other_time ms"
-    [ "$plain_time" = 0 ] || print_times "$name" ms "$proved_time" "$plain_time"
+    [ "$conflicts" -lt 1000 ] || { a_second "$conflicts" "$proved_time"; share "$formula"; }
+    echo "; CaDiCaL $other_time us"
+    print_times "$name" us "$proved_time" "$plain_time"
 done
+[ -d "$folder" ] || exit 0
+
+# the formulas that a learner asks a solver for the listings' windows
+harvest=$(build_plain "$top/bench/live_items/plain.rs") && mv "$harvest" "$work/harvest"
+learner=$(build_plain "$top/bench/learner/plain.rs") && mv "$learner" "$work/learner"
+plain=$(build_plain "$top/bench/solver/plain.rs")
+for listing in "$folder"/*; do
+    mkdir "$work/asked/$(basename "$listing")"
+    "$work/harvest" windows < "$listing" 2> "$work/told" | "$work/learner" "$work/asked/$(basename "$listing")" 2> "$work/told" > "$work/table"
+done
+find "$work/asked" -name '*.cnf' | awk -F/ '{ print $NF, $0 }' | sort -r | head -n 100 | cut -d' ' -f2- > "$work/slowest"
+all_conflicts=0 all_proved=0 all_plain=0 all_other=0 sat=0
+while read -r formula; do
+    try_formula "$turns"
+    [ "$verdict" != sat ] || sat=$((sat + 1))
+    all_conflicts=$((all_conflicts + conflicts)) all_proved=$((all_proved + proved_time)) all_plain=$((all_plain + plain_time)) all_other=$((all_other + other_time))
+done < "$work/slowest"
+mapfile -t slowest < "$work/slowest"
+echo "the ${#slowest[@]} slowest of $(find "$work/asked" -name '*.cnf' | wc -l) formulas of windows, $sat with a model: $all_conflicts conflicts$(a_second "$all_conflicts" "$all_proved")$(share "${slowest[@]}"); CaDiCaL $all_other us"
+print_times "the slowest formulas of windows" us "$all_proved" "$all_plain"

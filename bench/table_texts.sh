@@ -15,19 +15,17 @@ run_both() {
     rm -f "$work"/*.times
     for _ in $(seq "$turns"); do
         for program in proved plain; do
-            "${!program}" < "$1" 2> "$work/$program.told" > "$work/written"
+            on_processor "${!program}" < "$1" 2> "$work/$program.told" > "$work/written"
             cmp "$work/written" "$1" || { cat "$work/$program.told" >&2; exit 1; }
             cat "$work/$program.told" >> "$work/$program.times"
         done
     done
 }
 
-# shortest PROGRAM FIELD: the least of a time over the last runs of a program. 1 is reading, 2 writing.
-shortest() { awk "{ print \$$2 }" "$work/$1.times" | sort -n | head -n 1; }
-
 for size in "$megabytes" $((2 * megabytes)); do
     python3 "$top/bench/tables.py" $((size * 1000000)) > "$work/table"
     run_both "$work/table"
+    # the first number is reading's, the second writing's
     said="a table's text of $(wc -l < "$work/table") lines, $(wc -c < "$work/table") bytes"
     print_times "reading $said" us "$(shortest proved 1)" "$(shortest plain 1)"
     print_times "writing $said" us "$(shortest proved 2)" "$(shortest plain 2)"

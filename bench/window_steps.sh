@@ -15,7 +15,5 @@ are_below k (x ∷ xs) = nat_lt x k && are_below k xs
 ANTT
 proved=$(build_proved window_steps "$top/bench/window_steps/proved.rs" thumb_instr thumb_table thumb_model window_exec anyhow)
 plain=$(build_plain "$top/bench/window_steps/plain.rs")
-plain_time=$(least "$turns" "$work/plain.txt" "$plain")
-proved_time=$(least "$turns" "$work/proved.txt" "$proved")
-cmp "$work/proved.txt" "$work/plain.txt"
+in_turns "$turns" env
 print_times "random steps" ms "$proved_time" "$plain_time"

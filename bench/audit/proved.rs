@@ -1,4 +1,4 @@
-//! Audits the table whose text stands on standard input, and tells the milliseconds. In Rattle; audit.sh builds it.
+//! Audits the table whose text stands on standard input, and tells the microseconds of the audit and those of reading. In Rattle; audit.sh builds it.
 #![tactic(auto)]
 
 ghost use Rattle.std.specs.Prelude.{◌≡◌, ◌<◌};
@@ -17,17 +17,19 @@ fn audited<N: Name>(rt: &HostRuntime, text: &[u8], blank: Blank) -> anyhow::Resu
     requires parts { blank.parts ≡ N.parts }
     requires some { 0 < blank.parts }
 {
+    let start = Instant::now(rt)?;
     let table = read_table(rt.alloc(), text)?;
+    let reading = start.elapsed(rt)?.as_micros();
     let start = Instant::now(rt)?;
     let mut steps = Steps::new(Free::<N>::new(blank));
     let outcome = audit(rt.alloc(), table, &mut steps);
-    let milliseconds = start.elapsed(rt)?.as_millis();
+    let auditing = start.elapsed(rt)?.as_micros();
     match outcome {
         Ok(audited) => println!(rt; "entries {}", audited.table().entries.len())?,
         Err(AuditError::Memory) => println!(rt; "memory")?,
         Err(error) => println!(rt; "{error}")?,
     }
-    eprintln!(rt; "{milliseconds}")?;
+    eprintln!(rt; "{auditing} {reading}")?;
     Ok(())
 }
 

@@ -1,4 +1,5 @@
-//! Reads a listing from standard input in plain Rust, assembles it from 0, and writes its image to standard output.
+//! Reads a listing from standard input in plain Rust, assembles it from 0, or from 0x8000000 where it is given a word, and writes its image to standard
+//! output.
 //! Tells on standard error what the proved program tells.
 
 #[path = "../listing_lines/plain/instruction.rs"]
@@ -130,8 +131,8 @@ fn word(listing: &Listing, laid: &Layout, name: &[u8]) -> Option<u32> {
     }
 }
 
-fn put(bytes: &mut Vec<u8>, instr: Instr, to: u32) {
-    let code = encode(instr, bytes.len() as u32, to);
+fn put(bytes: &mut Vec<u8>, base: u32, instr: Instr, to: u32) {
+    let code = encode(instr, base + bytes.len() as u32, to);
     match instr {
         Instr::Call | Instr::Barrier(_) | Instr::ReadSpecial { .. } | Instr::WriteMask { .. } => {
             bytes.extend_from_slice(&((code >> 16) as u16).to_le_bytes());
@@ -142,18 +143,18 @@ fn put(bytes: &mut Vec<u8>, instr: Instr, to: u32) {
 }
 
 /// The image, or the number of the first line without a place in one.
-fn assemble(listing: &Listing, laid: &Layout) -> Result<Vec<u8>, usize> {
-    let mut bytes = Vec::with_capacity(laid.end as usize);
+fn assemble(listing: &Listing, laid: &Layout, base: u32) -> Result<Vec<u8>, usize> {
+    let mut bytes = Vec::with_capacity((laid.end - base) as usize);
     for (n, line) in listing.lines.iter().enumerate() {
         match &line.statement {
             Statement::Nothing => {}
-            Statement::Runs { instr, mention: None } => put(&mut bytes, *instr, 0),
+            Statement::Runs { instr, mention: None } => put(&mut bytes, base, *instr, 0),
             Statement::Runs { instr, mention: Some(Mention { name, plus }) } => {
                 let to = match laid.labels.get(name.as_slice()) {
                     Some(to) => *to,
                     None => word(listing, laid, name).ok_or(n + 1)? & !1,
                 };
-                put(&mut bytes, *instr, to + plus);
+                put(&mut bytes, base, *instr, to + plus);
             }
             Statement::Words(values) => {
                 for value in values {
@@ -165,7 +166,8 @@ fn assemble(listing: &Listing, laid: &Layout) -> Result<Vec<u8>, usize> {
                 }
             }
             Statement::Aligns { size, most } => {
-                let need = (bytes.len() as u32).next_multiple_of(*size) - bytes.len() as u32;
+                let at = base + bytes.len() as u32;
+                let need = at.next_multiple_of(*size) - at;
                 if need <= *most {
                     for _ in 0..need / 2 {
                         bytes.extend_from_slice(&[0, 0xbf]);
@@ -173,7 +175,7 @@ fn assemble(listing: &Listing, laid: &Layout) -> Result<Vec<u8>, usize> {
                 }
             }
             Statement::Sets { address, .. } => {
-                if *address < laid.end {
+                if (base..laid.end).contains(address) {
                     return Err(n + 1);
                 }
             }
@@ -185,17 +187,18 @@ fn assemble(listing: &Listing, laid: &Layout) -> Result<Vec<u8>, usize> {
 fn main() -> io::Result<()> {
     let mut text = Vec::new();
     io::stdin().read_to_end(&mut text)?;
+    let base = if std::env::args().len() > 1 { 0x0800_0000 } else { 0 };
     let start = Instant::now();
     let Ok(listing) = parse(&text) else {
         eprintln!("refused");
         return Ok(());
     };
-    let Ok(laid) = layout(&listing, 0) else {
+    let Ok(laid) = layout(&listing, base) else {
         eprintln!("refused");
         return Ok(());
     };
     let begun = Instant::now();
-    match black_box(assemble(&listing, &laid)) {
+    match black_box(assemble(&listing, &laid, base)) {
         Err(line) => eprintln!("refused {line}"),
         Ok(image) => {
             let assembling = begun.elapsed().as_micros();

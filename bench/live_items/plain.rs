@@ -1,5 +1,5 @@
 //! Reads a listing from standard input in plain Rust, and finds its live items and its windows by the rules of the proved crates.
-//! Tells on standard error what the proved program tells.
+//! Tells on standard error what the proved program tells. With a word it prints the windows as a table of entries without right sides.
 
 #[path = "../listing_lines/plain/instruction.rs"]
 mod instruction;
@@ -383,6 +383,35 @@ fn windows(listing: &Listing, live: &Live, regs: usize, left: usize, pool: &[u8]
     pairs
 }
 
+/// The mnemonics of the forms, in their order.
+const NAMES: [&str; 37] = [
+    "adds", "subs", "adds", "subs", "movs", "cmp", "adds", "subs", "lsls", "lsrs", "asrs", "ands", "eors", "lsls", "lsrs", "asrs", "adcs", "sbcs", "rors", "tst",
+    "rsbs", "cmp", "cmn", "orrs", "muls", "bics", "mvns", "movs", "mov", "add", "sxth", "sxtb", "uxth", "uxtb", "rev", "rev16", "revsh",
+];
+
+fn letter_text(letter: &Letter) -> String {
+    let mut operands: Vec<String> = letter.registers[..usize::from(letter.count)].iter().map(|register| format!("r{register}")).collect();
+    match letter.form {
+        2..=10 => operands.push(format!("#{}", letter.number)),
+        20 => operands.push(String::from("#0")),
+        24 => operands.push(operands[0].clone()),
+        _ => {}
+    }
+    format!("{} {}", NAMES[usize::from(letter.form)], operands.join(", "))
+}
+
+fn print_windows(pairs: &[(usize, Window)]) {
+    println!("peep 1\nregs 3\nleft 3\nseed 42\nbudget 20000\npool 0 1 2 4 8 16 24 31 255");
+    for (_, (letters, mask)) in pairs {
+        println!("entry");
+        letters.iter().flatten().for_each(|letter| println!("left {}", letter_text(letter)));
+        let names = ["r0", "r1", "r2", "r3"].into_iter().zip(0..).chain([("n", 15), ("z", 16), ("c", 17), ("v", 18)]);
+        let items: String = names.filter(|(_, bit)| mask >> bit & 1 == 1).map(|(name, _)| format!(" {name}")).collect();
+        println!("mask{items}");
+    }
+    println!("end");
+}
+
 fn main() -> io::Result<()> {
     let mut text = Vec::new();
     io::stdin().read_to_end(&mut text)?;
@@ -400,6 +429,9 @@ fn main() -> io::Result<()> {
     let windows_digest = pairs.iter().fold(0u64, |sum, (count, (_, mask))| {
         sum.wrapping_mul(31).wrapping_add(u64::from(*mask)).wrapping_add(*count as u64)
     });
+    if std::env::args().len() > 1 {
+        print_windows(&pairs);
+    }
     eprintln!("{finding} {harvesting} {} {} {digest} {} {windows_digest}", listing.spots.len(), found.visits, pairs.len());
     Ok(())
 }

@@ -1,0 +1,109 @@
+//! Audits the table whose text stands on standard input in plain Rust: each entry's proof is checked over the formula of its sides, and each shorter sequence
+//! is run on the states until one tells it. Tells on standard error the microseconds of the audit and those of reading.
+
+#[path = "../plain_checker.rs"]
+mod plain_checker;
+#[path = "../plain_formulas.rs"]
+mod plain_formulas;
+#[path = "../plain_letters.rs"]
+mod plain_letters;
+#[path = "../plain_steps.rs"]
+mod plain_steps;
+#[path = "../plain_tables.rs"]
+mod plain_tables;
+
+use plain_checker::{Checker, code};
+use plain_formulas::formula;
+use plain_letters::{alphabet, text_of};
+use plain_steps::{Instr, Mask, WState, run};
+use plain_tables::{Entry, Line, read_table, write_instr};
+use std::collections::HashMap;
+use std::io::{self, Read};
+use std::time::Instant;
+
+/// Whether the proof refutes the formula that the sides differ.
+fn is_refuted(left: &[Instr], right: &[Instr], mask: Mask, k: usize, proof: &[Line]) -> bool {
+    let mut checker = Checker::new(formula(left, right, mask, k).clauses);
+    for line in proof {
+        let answer = match line {
+            Line::Addition { id, literals, hints } => checker.add(*id, literals.iter().map(|l| code(i64::from(*l))).collect(), hints),
+            Line::Deletion { ids, .. } => checker.delete(ids),
+        };
+        if answer.is_err() {
+            return false;
+        }
+    }
+    checker.refuted
+}
+
+fn differ(a: &WState, b: &WState, mask: Mask) -> bool {
+    (a.nzcv ^ b.nzcv) & mask.nzcv != 0 || (0..4).any(|register| mask.registers[register] && a.r[register] != b.r[register])
+}
+
+/// Whether some sequence of fewer instructions is told by no state.
+fn has_untold(letters: &[Instr], states: &[WState], left: &[Instr], count: usize, mask: Mask) -> bool {
+    let ends: Vec<WState> = states.iter().map(|state| run(left, *state)).collect();
+    let is_told = |sequence: &[Instr]| states.iter().zip(&ends).any(|(state, end)| differ(end, &run(sequence, *state), mask));
+    (0..count).any(|length| {
+        let mut digits = vec![0; length];
+        let mut sequence = vec![letters[0]; length];
+        loop {
+            if !is_told(&sequence) {
+                return true;
+            }
+            let Some(at) = (0..length).rev().find(|at| digits[*at] + 1 < letters.len()) else {
+                return false;
+            };
+            digits[at] += 1;
+            digits[at + 1..].fill(0);
+            for (letter, digit) in sequence.iter_mut().zip(&digits).skip(at) {
+                *letter = letters[*digit];
+            }
+        }
+    })
+}
+
+/// How many registers a side names: they are named from r0 on.
+fn register_count(side: &[Instr]) -> u32 {
+    let texts: String = side.iter().map(text_of).collect();
+    (0..4).rev().find(|register| texts.contains(&format!("r{register}"))).unwrap_or(0) + 1
+}
+
+fn mask_of(bits: u8) -> Mask {
+    let flags = (bits >> 4).reverse_bits() >> 4;
+    Mask { registers: std::array::from_fn(|register| bits >> register & 1 == 1), nzcv: flags }
+}
+
+fn main() -> io::Result<()> {
+    let mut text = Vec::new();
+    io::stdin().read_to_end(&mut text)?;
+    let start = Instant::now();
+    let Ok(table) = read_table(&text) else {
+        println!("unread");
+        return Ok(());
+    };
+    let reading = start.elapsed().as_micros();
+    let start = Instant::now();
+    let pool: Vec<u32> = table.pool.iter().map(|number| u32::from(*number)).collect();
+    let letters: Vec<Vec<Instr>> = (0..=4).map(|k| alphabet(k, &pool)).collect();
+    let named: HashMap<String, Instr> = letters[4].iter().map(|instr| (text_of(instr), *instr)).collect();
+    let side = |instrs: &[plain_tables::Instr]| -> Vec<Instr> {
+        let mut text = Vec::new();
+        instrs.iter().for_each(|instr| write_instr(&mut text, "", instr));
+        String::from_utf8(text).unwrap().lines().map(|line| named[line]).collect()
+    };
+    let states: Vec<WState> = table.states.iter().map(|(r, nzcv)| WState { r: *r, nzcv: *nzcv }).collect();
+    let is_refused = |entry: &Entry| {
+        let (left, right, mask) = (side(&entry.left), side(&entry.right), mask_of(entry.mask));
+        let k = register_count(&left);
+        !is_refuted(&left, &right, mask, k as usize, &entry.proof) || has_untold(&letters[k as usize], &states, &left, right.len(), mask)
+    };
+    let bad = table.entries.iter().position(is_refused);
+    let auditing = start.elapsed().as_micros();
+    match bad {
+        Some(place) => println!("entry {} is refused", place + 1),
+        None => println!("entries {}", table.entries.len()),
+    }
+    eprintln!("{auditing} {reading}");
+    Ok(())
+}
