@@ -10,6 +10,7 @@ use step_ledger::{Counted, Steps};
 
 /// A run over a table `t` and a listing `l`, in which one call of the store and one of the sink fail, none where the number is 0; how it ends, what it
 /// prints, and what is then held under `o` and `i`.
+#[derive(Drop)]
 struct Case<'a> {
     words: &'a str,
     table: &'a [u8],
