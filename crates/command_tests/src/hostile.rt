@@ -98,9 +98,6 @@ fn assert_case(rt: &impl Abort, alloc: Global, case: &Case<'_>) -> Result<(), Fa
 /// The image of `READS_LESS`.
 const IMAGE: &[u8] = b"\x01\x4b\x18\x68\xc0\xb2\x70\x47\x00\x00\x00\x40";
 
-/// The most bytes that are fetched.
-const MOST: usize = 67_108_864;
-
 #[test]
 fn hostile_runs(rt: HostRuntime) -> Result<(), Fail> {
     let alloc = rt.alloc();
@@ -129,7 +126,7 @@ fn hostile_runs(rt: HostRuntime) -> Result<(), Fail> {
     let five = b"peep 1\nregs 5\nleft 2\nseed 42\nbudget 1\npool 24 255\nend\n".as_slice();
     let comment = vec![in alloc; b'@'; 1025]?;
     let empty_lines = vec![in alloc; b'\n'; 65_536]?;
-    let one_line = vec![in alloc; b'@'; MOST + 1]?;
+    let too_big = vec![in alloc; b'@'; 67_108_865]?;
     let as_given = b"replaced 0\ninstructions 0 0\n".as_slice();
     let bytes = b"@ \x00 \xff\nnop @ \x80\n".as_slice();
     let out = Some(READS_LESS);
@@ -227,13 +224,7 @@ fn hostile_runs(rt: HostRuntime) -> Result<(), Fail> {
             printed: b"replaced 0\ninstructions 0 0\nimage 0\n",
             kept: [Some(&empty_lines), Some(b"")],
         },
-        ends(
-            "learn l o",
-            [b"", &one_line[..MOST]],
-            Status::Refused,
-            b"refused listing 1 6\n",
-        ),
-        ends("learn l o", [b"", &one_line], Status::TooBig, b""),
+        ends("learn l o", [b"", &too_big], Status::TooBig, b""),
         // values beyond their limits, and an option for the second time
         ends("learn l o --budget 0", [b"", b""], Status::Usage, b""),
         ends("learn l o --regs 5", [b"", b""], Status::Usage, b""),
