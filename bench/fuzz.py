@@ -12,7 +12,7 @@ import sys
 PROGRAM, RUNS, SEED, FOLDER = sys.argv[1], int(sys.argv[2]), int(sys.argv[3]), sys.argv[4]
 TOP = os.path.join(os.path.dirname(os.path.abspath(__file__)), "..")
 # runs of one process
-BATCH = 20_000
+BATCH = 5_000
 # no run takes longer, in microseconds
 LONGEST = 10_000_000
 # what a refusal may say, as docs/COMMANDS.md has it
@@ -89,8 +89,8 @@ def changed(rng, text, others):
     return b"".join(lines)
 
 
-def mutated(rng, text, others):
-    for _ in range(rng.choice([0, 1, 1, 1, 2, 3, 5])):
+def mutated(rng, text, others, most):
+    for _ in range(rng.randrange(most + 1)):
         text = changed(rng, text, others)
     return text
 
@@ -156,8 +156,10 @@ def main():
                 words = "learn l o --left 2 --regs 2 --pool 255 --budget 2"
                 if rng.random() < 0.7:
                     words = "learn l o " + " ".join({word.split()[0]: word for word in ["--left 1", *rng.sample(LEARN, 3)]}.values())
-            table = mutated(rng, rng.choice(tables), tables)
-            listing = mutated(rng, rng.choice(listings) if rng.random() < 0.5 else piece(rng, rng.choice(long)), listings)
+            # mostly one of the two is whole, so that runs get beyond it
+            most = rng.choice([(1, 0), (3, 0), (0, 1), (0, 3), (2, 2)])
+            table = mutated(rng, rng.choice(tables), tables, most[0])
+            listing = mutated(rng, rng.choice(listings) if rng.random() < 0.5 else piece(rng, rng.choice(long)), listings, most[1])
             call, put = (rng.randrange(1, 6), rng.randrange(2)) if rng.random() < 0.05 else (0, 0)
             batch.append(f"x{table.hex()} x{listing.hex()} {call} {put} {words}")
         ran = subprocess.run([PROGRAM], input="\n".join(batch).encode() + b"\n", stdout=subprocess.PIPE, stderr=subprocess.PIPE)
@@ -168,7 +170,7 @@ def main():
             key = (line.split()[4], check(line, answer))
             counts[key] = counts.get(key, 0) + 1
         done += len(batch)
-        print(f"{done} runs", file=sys.stderr, flush=True)
+        print(f"{done} runs, {sorted(counts.items())}", file=sys.stderr, flush=True)
     for command in sorted({key[0] for key in counts}):
         said = ", ".join(f"{counts[key]} status {key[1]}" for key in sorted(counts) if key[0] == command)
         print(f"{command}: {said}")

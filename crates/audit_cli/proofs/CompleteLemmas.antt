@@ -7,9 +7,9 @@ use Rattle.command_line.proofs.Usage.{asks_once}
 use Rattle.outer_store.specs.Outside.{Seen, Sunk, Shows, IsTooBig, MissedAt, TooBigAt, limit}
 use Rattle.command_runs.specs.declared.status.Status.{Status}
 use Rattle.command_runs.specs.declared.status.Status.TheVariants as status
-use Rattle.command_runs.specs.Plans.{Refuses, ComesTo, StopsAt, IsRefused, IsStopped}
+use Rattle.command_runs.specs.Plans.{Refuses, ComesTo, StopsAt, IsStopped}
 use Rattle.audit_cli.specs.Peep.{plan_of, Peeps, Ran}
-use Rattle.audit_cli.specs.Complete.{IsWithin, CanBeFetched, CanAllBeFetched, IsUnhindered, IsUnrefused, IsRefusedByFull, TellsFull, IsCarriedOut, IsCarriedOutOrFull, IsComplete, IsCompleteButForFull}
+use Rattle.audit_cli.specs.Complete.{IsWithin, CanBeFetched, CanAllBeFetched, IsUnhindered, IsUnrefused, IsRefusedByFull, IsCarriedOut, IsCarriedOutOrFull, IsComplete, IsCompleteButForFull}
 
 not_both : (a b : ℕ) → a ≤ b → b < a → ⊥
 not_both a b l g = omega arith
