@@ -62,16 +62,16 @@ def run(words, fault=None, **how):
         return Ended(folder, words, fault, **how)
 
 
-def is_promised(kind, ended, whole, keeps):
+def is_promised(ended, whole, keeps):
     """Whether the run left what its status promises."""
-    if ended.told != WORDS.get(ended.status, b"") or ended.status not in WORDS and ended.out != whole.out:
+    if ended.told != WORDS.get(ended.status, b""):
         return False
+    if ended.status == 0:
+        return ended.out == whole.out and ended.files == whole.files
     counts = range(len(keeps) + 1)
     # of the name whose keep failed nothing is told
     but = [{n: t for n, t in ended.files.items() if n != name} for name in keeps]
     begun = [{n: t for n, t in whole.files.items() if n not in keeps[at:]} for at in counts]
-    if kind.startswith("short_"):
-        return ended.status == 0 and ended.files == whole.files
     if ended.status == 3:
         return ended.out == b"" and (ended.files == begun[0] or any(but[at] == begun[at] for at in range(len(keeps))))
     if ended.status == 4:
@@ -81,8 +81,18 @@ def is_promised(kind, ended, whole, keeps):
     return ended.status == 7 and ended.out == b"" and ended.files == begun[0]
 
 
-# which statuses a fault may end with. A name that can't be opened is one that isn't found, whatever it was that stood in the way.
-STATUSES = {"growth": {5, 3, 7}, "open": {3, 7}, "read": {3}, "write": {3, 4}, "no_write": {3, 4}, "short_read": {0}, "short_write": {0}}
+# Which statuses a fault may end with. A vector that is refused twice its size asks for what it needs, so that one refused growth may change nothing; and
+# a name that can't be opened is one that isn't found or can't be kept, whatever it was that stood in the way.
+STATUSES = {
+    "growth": {0, 3, 5, 7},
+    "hunger": {3, 5, 7},
+    "open": {3, 7},
+    "read": {3},
+    "write": {3, 4},
+    "no_write": {3, 4},
+    "short_read": {0},
+    "short_write": {0},
+}
 
 
 def try_faults(command):
@@ -100,7 +110,7 @@ def try_faults(command):
             ended = run(words.split(), f"{kind}:{number}")
             if not ended.met:
                 break
-            if ended.status not in statuses or not is_promised(kind, ended, whole, keeps):
+            if ended.status not in statuses or not is_promised(ended, whole, keeps):
                 fail(f"{words}, {kind} {number}", ended)
             met[ended.status] = met.get(ended.status, 0) + 1
         told = ", ".join(f"{count} status {status}" for status, count in sorted(met.items()))

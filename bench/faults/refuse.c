@@ -1,5 +1,5 @@
 // Makes one call of the C library fail or fall short in a process that loads this before all else. FAULT is KIND:N, and the Nth call of that kind since the
-// start of main is touched: `growth` refuses memory; `open`, `read` and `write` fail; `short_read` and `short_write` move one byte; `no_write` takes nothing.
+// start of main is touched: `growth` refuses memory, and `hunger` from there on; `open`, `read` and `write` fail; `short_read` and `short_write` move one byte; `no_write` takes nothing.
 // The file named by FAULT_MARK is made once the call has come. Standard error is left alone.
 #define _GNU_SOURCE
 #include <errno.h>
@@ -43,7 +43,9 @@ static int is_hit(const char *of) {
 }
 
 static int refuses(void) {
-    if (!is_hit("growth"))
+    static int is_over = 0;
+    is_over |= is_hit("hunger");
+    if (!is_over && !is_hit("growth"))
         return 0;
     errno = ENOMEM;
     return 1;

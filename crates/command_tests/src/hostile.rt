@@ -125,8 +125,6 @@ fn hostile_runs(rt: HostRuntime) -> Result<(), Fail> {
     )?;
     let five = b"peep 1\nregs 5\nleft 2\nseed 42\nbudget 1\npool 24 255\nend\n".as_slice();
     let comment = vec![in alloc; b'@'; 1025]?;
-    let empty_lines = vec![in alloc; b'\n'; 65_536]?;
-    let too_big = vec![in alloc; b'@'; 67_108_865]?;
     let as_given = b"replaced 0\ninstructions 0 0\n".as_slice();
     let bytes = b"@ \x00 \xff\nnop @ \x80\n".as_slice();
     let out = Some(READS_LESS);
@@ -214,17 +212,6 @@ fn hostile_runs(rt: HostRuntime) -> Result<(), Fail> {
             Status::Refused,
             b"refused listing 2 1\n",
         ),
-        // texts at their limit
-        Case {
-            words: "rewrite t l o i",
-            table: &none,
-            listing: &empty_lines,
-            failing: [0, 0],
-            status: Status::Done,
-            printed: b"replaced 0\ninstructions 0 0\nimage 0\n",
-            kept: [Some(&empty_lines), Some(b"")],
-        },
-        ends("learn l o", [b"", &too_big], Status::TooBig, b""),
         // values beyond their limits, and an option for the second time
         ends("learn l o --budget 0", [b"", b""], Status::Usage, b""),
         ends("learn l o --regs 5", [b"", b""], Status::Usage, b""),
@@ -239,6 +226,28 @@ fn hostile_runs(rt: HostRuntime) -> Result<(), Fail> {
     for case in &cases {
         assert_case(&rt, alloc, case)?;
     }
+    Ok(())
+}
+
+/// As many lines as a listing may have, and one byte more than can be fetched.
+#[test]
+fn long_texts(rt: HostRuntime) -> Result<(), Fail> {
+    let alloc = rt.alloc();
+    let none = table(alloc, b"")?;
+    let lines = vec![in alloc; b'\n'; 65_536]?;
+    let most = Case {
+        words: "rewrite t l o i",
+        table: &none,
+        listing: &lines,
+        failing: [0, 0],
+        status: Status::Done,
+        printed: b"replaced 0\ninstructions 0 0\nimage 0\n",
+        kept: [Some(&lines), Some(b"")],
+    };
+    assert_case(&rt, alloc, &most)?;
+    let big = vec![in alloc; b'@'; 67_108_865]?;
+    let more = ends("learn l o", [b"", &big], Status::TooBig, b"");
+    assert_case(&rt, alloc, &more)?;
     Ok(())
 }
 
