@@ -82,10 +82,10 @@ def is_promised(ended, whole, keeps):
 
 
 # Which statuses a fault may end with. A vector that is refused twice its size asks for what it needs, so that one refused growth may change nothing; and
-# a name that can't be opened is one that isn't found or can't be kept, whatever it was that stood in the way.
+# a name that can't be opened is one that isn't found or can't be kept.
 STATUSES = {
-    "growth": {0, 3, 5, 7},
-    "hunger": {3, 5, 7},
+    "growth": {0, 5},
+    "hunger": {5},
     "open": {3, 7},
     "read": {3},
     "write": {3, 4},
