@@ -256,15 +256,16 @@ fn long_texts(rt: HostRuntime) -> Result<(), Fail> {
 fn cut_tables(rt: HostRuntime) -> Result<(), Fail> {
     let alloc = rt.alloc();
     let whole = table(alloc, BYTE)?;
+    let lines = whole.strip_suffix(b"end\n").ok_or("end")?;
     let mut text = Vec::new(alloc);
     let mut number = 1u32;
     let mut line = format!(in alloc; "refused table {number}\n")?;
     let begun = ends("audit t", [&text, b""], Status::Refused, line.as_bytes());
     assert_case(&rt, alloc, &begun)?;
-    for byte in whole[..whole.len() - 4].iter() {
+    for byte in lines {
         text.push(*byte)?;
         if *byte == b'\n' {
-            number += 1;
+            number = number.saturating_add(1);
             line = format!(in alloc; "refused table {number}\n")?;
             let cut = ends("audit t", [&text, b""], Status::Refused, line.as_bytes());
             assert_case(&rt, alloc, &cut)?;
