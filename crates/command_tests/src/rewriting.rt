@@ -295,3 +295,22 @@ fn knows_its_words(rt: HostRuntime) -> Result<(), Fail> {
     }
     Ok(())
 }
+
+#[test]
+fn fetches_no_more_than_the_limit(rt: HostRuntime) -> Result<(), Fail> {
+    let alloc = rt.alloc();
+    let mut held = Vec::new(alloc);
+    held.push((
+        String::from_str(alloc, "t")?,
+        vec![in alloc; 10u8; 67_108_865]?,
+    ))?;
+    let mut store = MemStore::new(alloc, held, Vec::new(alloc));
+    let text = printed(
+        alloc,
+        &["rewrite", "t", "l", "o", "-"],
+        &mut store,
+        Status::TooBig,
+    )?;
+    assert!(rt; text.is_empty());
+    Ok(())
+}
