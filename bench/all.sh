@@ -38,4 +38,6 @@ measure cadical python3 measure_lrat.py "$work/lrat"
 measure "python3 cadical" bash solver.sh 5 "$listings"
 measure "" bash learner.sh "$listings"
 measure cadical python3 exported.py "$work/rules"
+measure "python3 cc" bash faults.sh
+measure python3 bash fuzz.sh "$listings" 100000
 exit "$failed"

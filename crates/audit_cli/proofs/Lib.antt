@@ -11,3 +11,4 @@ pub mod StayLemmas
 pub mod RunningLemmas
 pub mod StartLemmas
 pub mod TraceLemmas
+pub mod CompleteLemmas

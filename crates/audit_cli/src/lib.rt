@@ -3,6 +3,7 @@
 
 mod audit;
 mod export;
+pub mod laws;
 mod learn;
 mod printing;
 mod refusal;
