@@ -181,4 +181,14 @@ impl Listing {
         let lines = replaced_lines(alloc, &self.lines, place as usize, count as usize, instrs)?;
         Listing::of(alloc, lines)
     }
+
+    /// The listing of other lines, made of this one's: they define no name twice if these don't, and have no more places.
+    pub fn remade(&self, alloc: Global, lines: Vec<Line>) -> Result<Listing, Memory>
+        requires once { first_twice 1 [] self.now ≡ None → first_twice 1 [] (map line_view lines.items) ≡ None }
+        requires few { length (places_of (map line_view lines.items)) ≤ length (places_of self.now) }
+        ensures { IfOk result (λ l. l ≡ map line_view lines.items) }
+    {
+        let _lines = &self.lines;
+        Listing::of(alloc, lines)
+    }
 }

@@ -107,7 +107,8 @@ fn copy_mark(alloc: Global, mark: &Mark) -> Result<Mark, AllocError>
     }
 }
 
-fn copy_line(alloc: Global, line: &Line) -> Result<Line, AllocError>
+/// A line like another.
+pub fn copy_line(alloc: Global, line: &Line) -> Result<Line, AllocError>
     ensures line { IfOk result (λ l. line_view l ≡ line_view line.now) }
     ensures mark { IfOk result (λ l. mark_view l.mark ≡ mark_view line.now.mark) }
 {
@@ -146,7 +147,7 @@ fn front_text(alloc: Global, line: &Line) -> Result<Vec<u8>, AllocError>
 }
 
 /// Adds what stays of a line whose instruction goes: its labels.
-fn add_labels(alloc: Global, out: &mut Vec<Line>, line: &Line) -> Result<(), AllocError>
+pub fn add_labels(alloc: Global, out: &mut Vec<Line>, line: &Line) -> Result<(), AllocError>
     ensures { OnOk result (map line_view out.new.items ≡ map line_view out.old.items ++ labels_kept (line_view line.now) (names_view line.now)) }
 {
     if line.names.is_empty() {
@@ -183,7 +184,8 @@ fn own_text(alloc: Global, instr: &Instr) -> Result<Vec<u8>, Memory>
     Ok(text)
 }
 
-fn new_line(alloc: Global, instr: &Instr) -> Result<Line, Memory>
+/// A line of its own for an instruction that mentions nothing: a tab, its canonical text and a newline.
+pub fn new_line(alloc: Global, instr: &Instr) -> Result<Line, Memory>
     ensures { IfOk result (λ l. line_view l ≡ new_line own_line instr.now) }
 {
     let text = own_text(alloc, instr)?;
