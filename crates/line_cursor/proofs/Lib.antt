@@ -1,0 +1,5 @@
+pub mod Looks
+pub mod Edits
+pub mod Settled
+pub mod Nearer
+pub mod Spots

@@ -1,0 +1,35 @@
+-- A cursor in lines: what stands before it and behind it, and what is kept of places.
+use Rattle.std.specs.Prelude.{◌≡◌, ℕ, List, ◌++◌, map, length, reverse}
+use Rattle.thumb_model.specs.Listing.{Line, places_of}
+use Rattle.liveness.specs.Live.{Sets}
+use Rattle.line_cursor.specs.declared.cursor.Cursor.{Cursor}
+use Rattle.line_cursor.specs.declared.cursor.Spot.{Spot}
+use Rattle.line_cursor.specs.declared.kept.Flow.{Flow}
+use Rattle.line_cursor.specs.Pieces.{lines_of}
+
+abbrev pub lines_behind : Cursor → List Line
+lines_behind c = lines_of c.behind.items
+
+abbrev pub lines_ahead : Cursor → List Line
+lines_ahead c = lines_of (reverse c.ahead.items)
+
+abbrev pub lines_at : Cursor → List Line
+lines_at c = lines_behind c ++ lines_ahead c
+
+-- how many places stand before it
+abbrev pub place_at : Cursor → ℕ
+place_at c = length c.passed.items
+
+abbrev pub spots_at : Cursor → List Spot
+spots_at c = c.passed.items ++ reverse c.coming.items
+
+abbrev pub sets_of : List Spot → Sets
+sets_of spots = record { before = map (λ s. s.before) spots; after = map (λ s. s.after) spots }
+
+abbrev pub flows_of : List Spot → List Flow
+flows_of spots = map (λ s. s.flow) spots
+
+-- as many spots as places, before it and behind it
+pub record IsCursor (c : Cursor) : Type 0 where
+  pub passed : length c.passed.items ≡ length (places_of (lines_behind c))
+  pub coming : length c.coming.items ≡ length (places_of (lines_ahead c))

@@ -1,0 +1,182 @@
+//! A cursor in a listing that is being rewritten: what stands before it and behind it, with what is kept of places.
+ghost use Rattle.std.specs.Prelude.{◌≡◌, ◌+◌, ◌-◌, ◌<◌, ◌≤◌, ◌++◌, ◌∷◌, [], List, length, drop, reverse, slice_get, true, false, IfOk, OnOk, Some};
+ghost use Rattle.liveness.specs.Live.{set_at};
+ghost use Rattle.listing_parser.specs.Replacing.{own_line};
+ghost use Rattle.thumb_model.specs.Listing.{is_op_place, places_of};
+ghost use Rattle.thumb_model.specs.Rewritten.{replaced_lines, without};
+ghost use Rattle.thumb_model.proofs.LinesReplaced.{AreOps};
+ghost use Rattle.window_harvest.specs.Rows.{rows_from};
+ghost use Rattle.window_harvest.specs.Runs.{run};
+ghost use Rattle.line_cursor.specs.declared.pieces.Piece.{Piece};
+ghost use Rattle.line_cursor.specs.Pieces.{begins_op, lines_in, lines_of};
+ghost use Rattle.line_cursor.specs.Cursors.{lines_ahead, lines_at, lines_behind, place_at, sets_of, spots_at, IsCursor};
+
+use crate::kept::Flow;
+use crate::pieces::{Look, Piece, give_way, is_op, places_of, seen};
+use arrayvec::ArrayVec;
+use listing_parser::Memory;
+use thumb_instr::{Instr, Items, Seq};
+
+/// What is kept of a place.
+#[derive(Clone, Copy)]
+pub struct Spot {
+    /// The items that are live before it and after it.
+    pub before: Items,
+    pub after: Items,
+    pub flow: Flow,
+}
+
+/// A cursor between two pieces.
+#[derive(Drop)]
+pub struct Cursor<'a> {
+    /// The pieces before it, in order.
+    pub behind: Vec<Piece<'a>>,
+    /// The pieces behind it, backward.
+    pub ahead: Vec<Piece<'a>>,
+    /// The places before it, in order.
+    pub passed: Vec<Spot>,
+    /// The places behind it, backward.
+    pub coming: Vec<Spot>,
+}
+
+/// Moves the last spot behind others.
+fn shift_one(from: &mut Vec<Spot>, to: &mut Vec<Spot>) -> Result<(), Memory>
+    requires { 0 < length from.old.items }
+    ensures same { OnOk result (to.new.items ++ reverse from.new.items ≡ to.old.items ++ reverse from.old.items) }
+    ensures more { OnOk result (length to.new.items ≡ length to.old.items + 1) }
+    ensures fewer { OnOk result (length from.new.items + 1 ≡ length from.old.items) }
+{
+    match from.pop() {
+        None => Ok(()),
+        Some(spot) => {
+            to.push(spot)?;
+            Ok(())
+        }
+    }
+}
+
+/// Moves the last spots, in turn, behind others.
+fn shift(from: &mut Vec<Spot>, to: &mut Vec<Spot>, count: usize) -> Result<(), Memory>
+    requires { count ≤ length from.old.items }
+    ensures same { OnOk result (to.new.items ++ reverse from.new.items ≡ to.old.items ++ reverse from.old.items) }
+    ensures more { OnOk result (length to.new.items ≡ length to.old.items + count) }
+    ensures fewer { OnOk result (length from.new.items + count ≡ length from.old.items) }
+{
+    for _ in 0..count {
+        shift_one(from, to)?;
+    }
+    Ok(())
+}
+
+/// Moves the last piece of one list behind another, where it isn't an instruction. Whether it is.
+fn skip_one<'a>(
+    ahead: &mut Vec<Piece<'a>>,
+    behind: &mut Vec<Piece<'a>>,
+) -> Result<bool, Memory>
+    requires { 0 < length ahead.old.items }
+    ensures op { IfOk result (λ b. b ≡ true → (behind.new.items ≡ behind.old.items) × (x : Piece) × (ahead.old.items ≡ ahead.new.items ++ x ∷ []) × (begins_op (lines_in x) ≡ true)) }
+    ensures other { IfOk result (λ b. b ≡ false → (x : Piece) × (behind.new.items ≡ behind.old.items ++ x ∷ []) × (ahead.old.items ≡ ahead.new.items ++ x ∷ []) × (begins_op (lines_in x) ≡ false)) }
+{
+    match ahead.pop() {
+        None => Ok(true),
+        Some(piece) => {
+            if is_op(piece) {
+                return Ok(true);
+            }
+            behind.push(piece)?;
+            Ok(false)
+        }
+    }
+}
+
+/// Moves the pieces behind a cursor before it, without the first instructions among them.
+fn skip<'a>(
+    ahead: &mut Vec<Piece<'a>>,
+    behind: &mut Vec<Piece<'a>>,
+    count: usize,
+) -> Result<(), Memory>
+    ensures places { OnOk result (AreOps count (places_of (lines_of (reverse ahead.old.items))) → places_of (lines_of (reverse ahead.new.items)) ≡ drop count (places_of (lines_of (reverse ahead.old.items)))) }
+    ensures lines { OnOk result (lines_of behind.new.items ++ lines_of (reverse ahead.new.items) ≡ lines_of behind.old.items ++ without count (lines_of (reverse ahead.old.items))) }
+{
+    let mut left = count;
+    while left > 0 && !ahead.is_empty() {
+        if skip_one(ahead, behind)? {
+            left -= 1;
+        }
+    }
+    Ok(())
+}
+
+/// The instructions that stand one behind the other in pieces, backward, and may stand in a window, with no label and no alignment line between them.
+fn run(ahead: &[Piece<'_>], most: usize) -> Seq
+    requires { most ≤ 5 }
+    ensures { result ≡ run true most (rows_from true (lines_of (reverse ahead.now))) }
+{
+    let mut seq = Seq::new();
+    let mut at = ahead.len();
+    while at > 0 && seq.len() < most {
+        at -= 1;
+        match seen(ahead[at], seq.len() == 0) {
+            Look::Letter(instr) => seq.push(instr),
+            Look::Nothing => {}
+            Look::End => return seq,
+        }
+    }
+    seq
+}
+
+impl<'a> Cursor<'a> {
+    /// The instructions behind it that may stand in a window, as many as there are, and at most so many.
+    pub fn run(&self, most: usize) -> Seq
+        requires { most ≤ 5 }
+        ensures { result ≡ run true most (rows_from true (lines_ahead self.now)) }
+    {
+        run(&self.ahead, most)
+    }
+
+    /// The items that are live after so many places behind it.
+    pub fn after(&self, count: usize) -> Items
+        requires some { 0 < count }
+        requires few { count ≤ length self.now.coming.items }
+        ensures { result.bits ≡ set_at (sets_of (spots_at self.now)).after (place_at self.now + (count - 1)) }
+    {
+        self.coming[self.coming.len() - count].after
+    }
+
+    /// Moves on by a piece.
+    pub fn forward(&mut self) -> Result<(), Memory>
+        requires { IsCursor self.old }
+        ensures is { OnOk result (IsCursor self.new) }
+        ensures lines { OnOk result (lines_at self.new ≡ lines_at self.old) }
+        ensures spots { OnOk result (spots_at self.new ≡ spots_at self.old) }
+        ensures place { OnOk result ((rest : List Piece) (x : Piece) → self.old.ahead.items ≡ rest ++ x ∷ [] → (place_at self.new ≡ place_at self.old + length (places_of (lines_in x))) × (self.new.ahead.items ≡ rest)) }
+    {
+        match self.ahead.pop() {
+            None => Ok(()),
+            Some(piece) => {
+                shift(&mut self.coming, &mut self.passed, places_of(piece))?;
+                self.behind.push(piece)?;
+                Ok(())
+            }
+        }
+    }
+
+    /// Moves back by a piece.
+    fn back(&mut self) -> Result<(), Memory>
+        requires is { IsCursor self.old }
+        requires some { 0 < length self.old.behind.items }
+        ensures is { OnOk result (IsCursor self.new) }
+        ensures lines { OnOk result (lines_at self.new ≡ lines_at self.old) }
+        ensures spots { OnOk result (spots_at self.new ≡ spots_at self.old) }
+        ensures less { OnOk result (length self.new.behind.items + 1 ≤ length self.old.behind.items) }
+    {
+        match self.behind.pop() {
+            None => Ok(()),
+            Some(piece) => {
+                shift(&mut self.passed, &mut self.coming, places_of(piece))?;
+                self.ahead.push(piece)?;
+                Ok(())
+            }
+        }
+    }
+}
