@@ -194,7 +194,7 @@ joined_from_front q n (l ∷ ls) ys h = by (λ r k. joined_from_front r n ls ys 
         → (if b && (q == 0) then are_joined (suc n - 1) (ls ++ ys) else are_joined_from (q - length (places_in l.statement)) (suc n) (ls ++ ys))
         ≡ (if b && (q == 0) then are_joined (suc n - 1) ls else are_joined_from (q - length (places_in l.statement)) (suc n) ls)
     by rec false e q h = rec (q - length (places_in l.statement)) (past q n (places_in l.statement) (places_of ls) h (not_within q n l.statement (places_of ls) e h))
-    by rec true e zero h = joined_front n ls ys (op_line n l.statement (places_of ls) e h)
+    by rec true e zero h = subst (λ k. are_joined k (ls ++ ys) ≡ are_joined k ls) (let z : n ≡ suc n - 1 = omega arith in z) (joined_front n ls ys (op_line n l.statement (places_of ls) e h))
     by rec true e (suc q) h = rec (suc q - length (places_in l.statement)) (past (suc q) n (places_in l.statement) (places_of ls) h (one l.statement e))
       where
         one : (s : Statement) → is_op s ≡ true → length (places_in s) ≤ suc q
@@ -220,7 +220,7 @@ ops_back (suc n) zero (Word w ∷ xs) ys a = absurd a
 ops_back (suc n) (suc q) [] ys a = absurd a
 ops_back (suc n) (suc q) (x ∷ xs) ys a = ops_back (suc n) q xs ys a
 
-places_append : (xs ys : List Line) → places_of (xs ++ ys) ≡ places_of xs ++ places_of ys
+pub places_append : (xs ys : List Line) → places_of (xs ++ ys) ≡ places_of xs ++ places_of ys
 places_append [] ys = refl
 places_append (l ∷ ls) ys = ap (λ ps. places_in l.statement ++ ps) (places_append ls ys) ∙ sym (assoc (places_in l.statement) (places_of ls) (places_of ys))
   where

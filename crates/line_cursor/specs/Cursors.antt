@@ -1,6 +1,7 @@
 -- A cursor in lines: what stands before it and behind it, and what is kept of places.
-use Rattle.std.specs.Prelude.{◌≡◌, ℕ, List, ◌++◌, map, length, reverse}
-use Rattle.thumb_model.specs.Listing.{Line, places_of}
+use Rattle.std.specs.Prelude.{◌≡◌, ℕ, List, ◌++◌, map, length, drop, reverse}
+use Rattle.thumb_model.specs.Listing.{Line, Place, places_of}
+use Rattle.thumb_model.proofs.LinesReplaced.{AreOps}
 use Rattle.liveness.specs.Live.{Sets}
 use Rattle.line_cursor.specs.declared.cursor.Cursor.{Cursor}
 use Rattle.line_cursor.specs.declared.cursor.Spot.{Spot}
@@ -33,3 +34,8 @@ flows_of spots = map (λ s. s.flow) spots
 pub record IsCursor (c : Cursor) : Type 0 where
   pub passed : length c.passed.items ≡ length (places_of (lines_behind c))
   pub coming : length c.coming.items ≡ length (places_of (lines_ahead c))
+
+-- of `count` instructions that stood first among places, the last `left` stand first now, and the same places behind them
+pub record AreAhead (count : ℕ) (was now : List Place) (left : ℕ) : Type 0 where
+  pub ops : AreOps left now
+  pub rest : drop left now ≡ drop count was

@@ -2,7 +2,9 @@
 ghost use Rattle.std.specs.Prelude.{◌≡◌, ◌+◌, ◌-◌, ◌<◌, ◌≤◌, ◌++◌, ◌∷◌, [], List, length, drop, reverse, slice_get, true, false, IfOk, OnOk, Some};
 ghost use Rattle.liveness.specs.Live.{set_at};
 ghost use Rattle.listing_parser.specs.Replacing.{own_line};
-ghost use Rattle.thumb_model.specs.Listing.{is_op_place, places_of};
+ghost use Rattle.std.specs.Prelude.{ℕ};
+ghost use Rattle.thumb_model.specs.Listing.{Place, places_of};
+ghost use Rattle.line_cursor.specs.Cursors.{AreAhead};
 ghost use Rattle.thumb_model.specs.Rewritten.{replaced_lines, without};
 ghost use Rattle.thumb_model.proofs.LinesReplaced.{AreOps};
 ghost use Rattle.window_harvest.specs.Rows.{rows_from};
@@ -89,7 +91,26 @@ fn skip_one<'a>(
     }
 }
 
-/// Moves the pieces behind a cursor before it, without the first instructions among them.
+/// Moves a piece behind another list, where it isn't an instruction. How many instructions are still to be left out.
+fn skip_step<'a>(
+    ahead: &mut Vec<Piece<'a>>,
+    behind: &mut Vec<Piece<'a>>,
+    left: usize,
+) -> Result<usize, Memory>
+    requires some { 0 < length ahead.old.items }
+    requires left { 0 < left }
+    ensures lines { IfOk result (λ n. lines_of behind.new.items ++ without n (lines_of (reverse ahead.new.items)) ≡ lines_of behind.old.items ++ without left (lines_of (reverse ahead.old.items))) }
+    ensures places { IfOk result (λ n. (count : ℕ) (was : List Place) → AreAhead count was (places_of (lines_of (reverse ahead.old.items))) left → AreAhead count was (places_of (lines_of (reverse ahead.new.items))) n) }
+    ensures fewer { OnOk result (length ahead.new.items < length ahead.old.items) }
+{
+    if skip_one(ahead, behind)? {
+        Ok(left - 1)
+    } else {
+        Ok(left)
+    }
+}
+
+/// Moves pieces behind others, without the first instructions among them, until none of these is left.
 fn skip<'a>(
     ahead: &mut Vec<Piece<'a>>,
     behind: &mut Vec<Piece<'a>>,
@@ -99,12 +120,36 @@ fn skip<'a>(
     ensures lines { OnOk result (lines_of behind.new.items ++ lines_of (reverse ahead.new.items) ≡ lines_of behind.old.items ++ without count (lines_of (reverse ahead.old.items))) }
 {
     let mut left = count;
-    while left > 0 && !ahead.is_empty() {
-        if skip_one(ahead, behind)? {
-            left -= 1;
+    while left > 0 {
+        if ahead.len() == 0 {
+            return Ok(());
         }
+        left = skip_step(ahead, behind, left)?;
     }
     Ok(())
+}
+
+/// Puts instructions in place of the first ones of a list.
+fn edit<'a>(
+    ahead: &mut Vec<Piece<'a>>,
+    behind: &mut Vec<Piece<'a>>,
+    count: usize,
+    new: &[Instr],
+) -> Result<(), Memory>
+    requires count { 0 < count }
+    requires some { 0 < length ahead.old.items }
+    requires first { (rest : List Piece) (x : Piece) → ahead.old.items ≡ rest ++ x ∷ [] → begins_op (lines_in x) ≡ true }
+    ensures places { OnOk result (AreOps count (places_of (lines_of (reverse ahead.old.items))) → places_of (lines_of (reverse ahead.new.items)) ≡ drop count (places_of (lines_of (reverse ahead.old.items)))) }
+    ensures lines { OnOk result (lines_of behind.new.items ++ lines_of (reverse ahead.new.items) ≡ replaced_lines own_line (length (places_of (lines_of behind.old.items))) count new.now (lines_of behind.old.items ++ lines_of (reverse ahead.old.items))) }
+{
+    match ahead.pop() {
+        None => Ok(()),
+        Some(first) => {
+            give_way(behind, first, new)?;
+            skip(ahead, behind, count - 1)?;
+            Ok(())
+        }
+    }
 }
 
 /// The instructions that stand one behind the other in pieces, backward, and may stand in a window, with no label and no alignment line between them.
@@ -178,5 +223,39 @@ impl<'a> Cursor<'a> {
                 Ok(())
             }
         }
+    }
+
+    /// Moves back until at most so many places stand before it.
+    pub fn rewind(&mut self, place: usize) -> Result<(), Memory>
+        requires { IsCursor self.old }
+        ensures is { OnOk result (IsCursor self.new) }
+        ensures lines { OnOk result (lines_at self.new ≡ lines_at self.old) }
+        ensures spots { OnOk result (spots_at self.new ≡ spots_at self.old) }
+        ensures place { OnOk result (place_at self.new ≤ place) }
+    {
+        while self.passed.len() > place {
+            self.back()?;
+        }
+        Ok(())
+    }
+
+    /// Puts instructions in place of `count` that stand behind it, the first of them right behind it, with what is kept of them. It is then behind them.
+    pub fn replace(&mut self, count: usize, new: &[Instr], spots: &[Spot]) -> Result<(), Memory>
+        requires is { IsCursor self.old }
+        requires count { 0 < count }
+        requires some { 0 < length self.old.ahead.items }
+        requires first { (rest : List Piece) (x : Piece) → self.old.ahead.items ≡ rest ++ x ∷ [] → begins_op (lines_in x) ≡ true }
+        requires window { AreOps count (places_of (lines_ahead self.old)) }
+        requires spots { length spots.now ≡ length new.now }
+        ensures is { OnOk result (IsCursor self.new) }
+        ensures lines { OnOk result (lines_at self.new ≡ replaced_lines own_line (place_at self.old) count new.now (lines_at self.old)) }
+        ensures spots { OnOk result (spots_at self.new ≡ self.old.passed.items ++ (spots.now ++ drop count (reverse self.old.coming.items))) }
+        ensures place { OnOk result (place_at self.new ≡ place_at self.old + length new.now) }
+    {
+        edit(&mut self.ahead, &mut self.behind, count, new)?;
+        let left = self.coming.len().saturating_sub(count);
+        self.coming.truncate(left);
+        self.passed.extend_from_slice(spots)?;
+        Ok(())
     }
 }

@@ -1,4 +1,4 @@
-use Rattle.std.proofs.Common.{◌≡◌, ◌≤◌, length, reverse, take}
+use Rattle.std.proofs.Common.{◌≡◌, ◌≤◌, true, length, reverse, take}
 use Rattle.window_harvest.specs.Rows.{rows_from}
 use Rattle.window_harvest.specs.Runs.{run}
 use Rattle.line_cursor.specs.Pieces.{lines_of}

@@ -7,7 +7,7 @@ pub returns : goal.returns
 returns c =
     let some = c.requires.some in
     let few = c.requires.few in
-    let len : c.len.result ≡ length c.args.self.now.coming.items = c.len.ensures.value in
+    let len : c.len.result ≡ length c.args.self.now.coming.items = omega (arith, c.len.ensures) in
     let within : c.len.result - c.args.count < length c.args.self.now.coming.items = omega arith in
     let at = slice_get_read c.args.self.now.coming.items _ (c.len.result - c.args.count) c.index.result.now refl within c.index.ensures in
     after_ahead c.args.self.now.passed.items c.args.self.now.coming.items c.args.count c.index.result.now some few (rw len at at)
