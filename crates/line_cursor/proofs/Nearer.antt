@@ -1,5 +1,5 @@
 -- What applies well before a replacement applied there before it.
-use Rattle.std.proofs.Common.{◌≡◌, ℕ, zero, suc, ◌+◌, ◌-◌, ◌<◌, ◌≤◌, ◌==◌, ◌&&◌, Bool, true, false, List, [], ◌∷◌, ◌++◌, length, take, drop, map, Option, Some, None, refl, sym, ap, ◌∙◌, subst, ◌⊎◌, ◌↔◌, inl, inr, arith, min, max, if◌then◌else◌}
+use Rattle.std.proofs.Common.{◌≡◌, ℕ, zero, suc, ◌+◌, ◌-◌, ◌<◌, ◌≤◌, ◌==◌, ◌&&◌, Bool, true, false, List, [], ◌∷◌, ◌++◌, length, take, drop, map, Option, Some, None, refl, sym, ap, ◌∙◌, subst, ◌⊎◌, ◌↔◌, inl, inr, arith, min, max, ne_eqb, if◌then◌else◌}
 use Rattle.std.specs.Prelude.{slice_get}
 use Rattle.std.specs.Option.{option_map}
 use Rattle.std.proofs.lemmas.Bool.{cases_lt}
@@ -195,7 +195,7 @@ joined_from_front q n (l ∷ ls) ys h = by (λ r k. joined_from_front r n ls ys 
         ≡ (if b && (q == 0) then are_joined (suc n - 1) ls else are_joined_from (q - length (places_in l.statement)) (suc n) ls)
     by rec false e q h = rec (q - length (places_in l.statement)) (past q n (places_in l.statement) (places_of ls) h (not_within q n l.statement (places_of ls) e h))
     by rec true e zero h = subst (λ k. are_joined k (ls ++ ys) ≡ are_joined k ls) (let z : n ≡ suc n - 1 = omega arith in z) (joined_front n ls ys (op_line n l.statement (places_of ls) e h))
-    by rec true e (suc q) h = rec (suc q - length (places_in l.statement)) (past (suc q) n (places_in l.statement) (places_of ls) h (one l.statement e))
+    by rec true e (suc q) h = rw (ne_eqb (suc q) 0 (λ z. omega arith)) (rec (suc q - length (places_in l.statement)) (past (suc q) n (places_in l.statement) (places_of ls) h (one l.statement e)))
       where
         one : (s : Statement) → is_op s ≡ true → length (places_in s) ≤ suc q
         one (Runs i m) e = omega arith

@@ -22,4 +22,4 @@ returns-in_ok-push-in-Some-clause-is c =
     record { passed = omega arith; coming = omega arith }
 
 pub returns-in_ok-push-in-Some-clause-spots : goal.returns-in_ok-push-in-Some-clause-spots
-returns-in_ok-push-in-Some-clause-spots c = flipped _ _ _ _ c.in_ok-shift-in-Some.ensures.same
+returns-in_ok-push-in-Some-clause-spots c = flipped c.args.self.now.coming.items c.args.self.now.passed.items c.shift.new.to.items c.shift.new.from.items c.in_ok-shift-in-Some.ensures.same
