@@ -3,3 +3,4 @@ pub mod Edits
 pub mod Settled
 pub mod Nearer
 pub mod Spots
+pub mod Labels

@@ -5,6 +5,7 @@ use Rattle.std.proofs.lemmas.Bool.{cases_lt, cases_Bool}
 use Rattle.thumb_instr.specs.declared.instr.Instr.{Instr}
 use Rattle.thumb_model.specs.Listing.{Place, Op, Word, plain, Label, Code, is_op_place, is_code}
 use Rattle.thumb_model.specs.Rewrite.{moved, move_label, replaced}
+use Rattle.line_cursor.specs.Cursors.{NoLabelAt, IsSettled}
 use Rattle.thumb_model.proofs.Lists.{get_drop, get_take, get_front, get_back, length_map, take_all}
 
 -- what is left of the instructions' places where `count` of them from place p on give way
@@ -33,14 +34,6 @@ behind_window p count is places q r within h e =
     ∙ get_drop (p + count) places (q - (p + count)) q (omega arith)
 
 -- ---- the look ----
-
--- no label stands at the place
-abbrev pub NoLabelAt : List Label → ℕ → Type 0
-NoLabelAt labels p = (k : ℕ) (l : Label) → slice_get labels k ≡ Some l → l.place ≡ p → ⊥
-
--- something stands there, or an instruction follows, or no label needs one
-abbrev pub IsSettled : List Place → List Label → ℕ → ℕ → List Instr → Type 0
-IsSettled places labels p count is = (0 < length is) ⊎ ((is_op_place (slice_get places (p + count)) ≡ true) ⊎ NoLabelAt labels p)
 
 -- labels stay code
 abbrev pub AreCodeStill : List Place → List Label → ℕ → ℕ → List Instr → Type 0

@@ -1,6 +1,7 @@
 -- A cursor in lines: what stands before it and behind it, and what is kept of places.
-use Rattle.std.specs.Prelude.{◌≡◌, ℕ, List, ◌++◌, map, length, drop, reverse}
-use Rattle.thumb_model.specs.Listing.{Line, Place, places_of}
+use Rattle.std.specs.Prelude.{◌≡◌, ◌==◌, ◌||◌, ◌+◌, ◌<◌, ◌⊎◌, true, ℕ, Bool, false, [], ◌∷◌, Some, slice_get, List, ◌++◌, map, length, drop, reverse}
+use Rattle.thumb_model.specs.Listing.{Line, Label, Place, places_of, labels_from, is_op_place}
+use Rattle.thumb_instr.specs.declared.instr.Instr.{Instr}
 use Rattle.thumb_model.proofs.LinesReplaced.{AreOps}
 use Rattle.liveness.specs.Live.{Sets}
 use Rattle.line_cursor.specs.declared.cursor.Cursor.{Cursor}
@@ -39,3 +40,16 @@ pub record IsCursor (c : Cursor) : Type 0 where
 pub record AreAhead (count : ℕ) (was now : List Place) (left : ℕ) : Type 0 where
   pub ops : AreOps left now
   pub rest : drop left now ≡ drop count was
+
+-- whether a label stands at the place
+abbrev pub stands_at : ℕ → List Label → Bool
+stands_at p [] = false
+stands_at p (l ∷ ls) = (l.place == p) || stands_at p ls
+
+-- no label stands at the place
+abbrev pub NoLabelAt : List Label → ℕ → Type 0
+NoLabelAt labels p = (k : ℕ) (l : Label) → slice_get labels k ≡ Some l → l.place ≡ p → ⊥
+
+-- where `count` instructions from p on give way to others, labels stay code: one of these comes to stand there, or an instruction follows, or no label needs one
+abbrev pub IsSettled : List Place → List Label → ℕ → ℕ → List Instr → Type 0
+IsSettled places labels p count is = (0 < length is) ⊎ ((is_op_place (slice_get places (p + count)) ≡ true) ⊎ NoLabelAt labels p)

@@ -3,7 +3,8 @@ ghost use Rattle.std.specs.Prelude.{◌≡◌, ◌+◌, ◌-◌, ◌<◌, ◌≤
 ghost use Rattle.liveness.specs.Live.{set_at};
 ghost use Rattle.listing_parser.specs.Replacing.{own_line};
 ghost use Rattle.std.specs.Prelude.{ℕ};
-ghost use Rattle.thumb_model.specs.Listing.{Place, places_of};
+ghost use Rattle.std.specs.Prelude.{◌↔◌};
+ghost use Rattle.thumb_model.specs.Listing.{Place, is_op_place, labels_from, places_of};
 ghost use Rattle.line_cursor.specs.Cursors.{AreAhead};
 ghost use Rattle.thumb_model.specs.Rewritten.{replaced_lines, without};
 ghost use Rattle.thumb_model.proofs.LinesReplaced.{AreOps};
@@ -11,10 +12,10 @@ ghost use Rattle.window_harvest.specs.Rows.{rows_from};
 ghost use Rattle.window_harvest.specs.Runs.{run};
 ghost use Rattle.line_cursor.specs.declared.pieces.Piece.{Piece};
 ghost use Rattle.line_cursor.specs.Pieces.{begins_op, lines_in, lines_of};
-ghost use Rattle.line_cursor.specs.Cursors.{lines_ahead, lines_at, lines_behind, place_at, sets_of, spots_at, IsCursor};
+ghost use Rattle.line_cursor.specs.Cursors.{lines_ahead, lines_at, lines_behind, place_at, sets_of, spots_at, stands_at, IsCursor, IsSettled};
 
 use crate::kept::Flow;
-use crate::pieces::{Look, Piece, give_way, is_op, places_of, seen};
+use crate::pieces::{Look, Piece, give_way, is_labelled, is_op, places_of, seen};
 use arrayvec::ArrayVec;
 use listing_parser::Memory;
 use thumb_instr::{Instr, Items, Seq};
@@ -170,6 +171,42 @@ fn run(ahead: &[Piece<'_>], most: usize) -> Seq
     seq
 }
 
+/// Whether an instruction stands behind so many places of pieces, backward.
+fn is_op_at(ahead: &[Piece<'_>], count: usize) -> bool
+    ensures { result ≡ is_op_place (slice_get (places_of (lines_of (reverse ahead.now))) count) }
+{
+    let mut left = count;
+    let mut at = ahead.len();
+    while at > 0 {
+        at -= 1;
+        let piece = ahead[at];
+        let places = places_of(piece);
+        if left < places {
+            return is_op(piece);
+        }
+        left -= places;
+    }
+    false
+}
+
+/// Whether a label stands behind the last place of pieces.
+fn ends_labelled(behind: &[Piece<'_>]) -> bool
+    ensures { result ≡ stands_at (length (places_of (lines_of behind.now))) (labels_from 0 (lines_of behind.now)) }
+{
+    let mut at = behind.len();
+    while at > 0 {
+        at -= 1;
+        let piece = behind[at];
+        if places_of(piece) > 0 {
+            return false;
+        }
+        if is_labelled(piece) {
+            return true;
+        }
+    }
+    false
+}
+
 impl<'a> Cursor<'a> {
     /// The instructions behind it that may stand in a window, as many as there are, and at most so many.
     pub fn run(&self, most: usize) -> Seq
@@ -257,5 +294,25 @@ impl<'a> Cursor<'a> {
         self.coming.truncate(left);
         self.passed.extend_from_slice(spots)?;
         Ok(())
+    }
+
+    /// Whether a label stands at the next place, which is an instruction's.
+    fn is_labelled(&self) -> bool
+        requires some { 0 < length self.now.ahead.items }
+        requires first { (rest : List Piece) (x : Piece) → self.now.ahead.items ≡ rest ++ x ∷ [] → begins_op (lines_in x) ≡ true }
+        ensures { result ≡ stands_at (length (places_of (lines_behind self.now))) (labels_from 0 (lines_at self.now)) }
+    {
+        let ahead = self.ahead.as_slice();
+        ends_labelled(&self.behind) || is_labelled(ahead[ahead.len() - 1])
+    }
+
+    /// Whether each code label stays code where so many instructions that come, the first of them right behind the cursor, give way to others.
+    pub fn is_settled(&self, count: usize, new: &[Instr]) -> bool
+        requires is { IsCursor self.now }
+        requires some { 0 < length self.now.ahead.items }
+        requires first { (rest : List Piece) (x : Piece) → self.now.ahead.items ≡ rest ++ x ∷ [] → begins_op (lines_in x) ≡ true }
+        ensures { (result ≡ true) ↔ IsSettled (places_of (lines_at self.now)) (labels_from 0 (lines_at self.now)) (place_at self.now) count new.now }
+    {
+        !new.is_empty() || is_op_at(&self.ahead, count) || !self.is_labelled()
     }
 }
