@@ -2,7 +2,7 @@
 use Rattle.std.proofs.Common.{◌≡◌, ◌≢◌, ℕ, zero, suc, ◌+◌, ◌-◌, ◌<◌, ◌≤◌, ◌==◌, ◌||◌, Bool, true, false, List, [], ◌∷◌, ◌++◌, length, length-append, append_assoc, append-nil, take, drop, map, reverse, Option, Some, None, refl, sym, ap, ◌∙◌, subst, inl, inr, arith, get_or, eq-eqb, ne_eqb, eqb-true}
 use Rattle.std.specs.Prelude.{slice_get}
 use Rattle.std.proofs.lemmas.Bool.{cases_Bool}
-use Rattle.std.proofs.lemmas.List.{take_more}
+use Rattle.std.proofs.lemmas.List.{take_more, take_all}
 use Rattle.thumb_model.specs.Listing.{Name, Value, Statement, Nothing, Runs, Words, Aligns, Sets, Line, Label, Place, Op, Word, places_in, places_of, labels_at, labels_from, is_op_place}
 use Rattle.thumb_model.specs.Rewritten.{is_op}
 use Rattle.thumb_model.proofs.Lists.{get_front, get_back}
@@ -90,7 +90,7 @@ ends_bare xs (l ∷ []) s e =
     let p : ℕ = length (places_of xs) in
     let same : length (places_of (xs ++ l ∷ [])) ≡ p = ap (λ (ps : List Place). length ps) (places_append xs (l ∷ [])) ∙ length-append (places_of xs) (places_of (l ∷ [])) ∙ omega arith in
     ap (λ n. stands_at n (labels_from 0 (xs ++ l ∷ []))) same
-    ∙ ap (stands_at p) (labels_append 0 p xs (l ∷ []) refl)
+    ∙ ap (stands_at p) (labels_append 0 p xs (l ∷ []) (omega arith))
     ∙ stands_append p (labels_from 0 xs) (labels_at p l.names ++ [])
     ∙ ap (λ b. ends_at xs || b) (ap (stands_at p) (append-nil (labels_at p l.names)) ∙ names_here p l.names)
 ends_bare xs (l ∷ m ∷ ms) s e = absurd (omega arith)
@@ -101,7 +101,7 @@ ends_placed xs (l ∷ []) s e =
     let p : ℕ = length (places_of xs) in
     let q : ℕ = length (places_of (xs ++ l ∷ [])) in
     let more : q ≡ p + length (places_of (l ∷ [])) = ap (λ (ps : List Place). length ps) (places_append xs (l ∷ [])) ∙ length-append (places_of xs) (places_of (l ∷ [])) in
-    ap (stands_at q) (labels_append 0 p xs (l ∷ []) refl)
+    ap (stands_at q) (labels_append 0 p xs (l ∷ []) (omega arith))
     ∙ stands_append q (labels_from 0 xs) (labels_at p l.names ++ [])
     ∙ ap (λ b. b || stands_at q (labels_at p l.names ++ [])) (none_past q 0 xs (omega arith))
     ∙ ap (stands_at q) (append-nil (labels_at p l.names)) ∙ names_else q p l.names (λ f. omega arith)
@@ -112,7 +112,7 @@ pub stands_here : (xs here ls : List Line) → length here ≤ 1 → begins_op h
 stands_here xs [] ls s e = absurd (cc)
 stands_here xs (l ∷ []) ls s e =
     let p : ℕ = length (places_of xs) in
-    ap (stands_at p) (labels_append 0 p xs (l ∷ ls) refl)
+    ap (stands_at p) (labels_append 0 p xs (l ∷ ls) (omega arith))
     ∙ stands_append p (labels_from 0 xs) (labels_at p l.names ++ labels_from (p + length (places_in l.statement)) ls)
     ∙ ap (λ b. ends_at xs || b)
       (stands_append p (labels_at p l.names) (labels_from (p + length (places_in l.statement)) ls)
@@ -151,3 +151,23 @@ stands_some p (m ∷ ms) h n = elim (cases_Bool (m.place == p)) [
   | inl e ↦ n 0 m refl (eqb-true m.place p e)
   | inr e ↦ stands_some p ms (sym (ap (λ b. b || stands_at p ms) e) ∙ h) (λ k l f g. n (suc k) l f g)
 ]
+
+-- the piece at a place, behind the others
+pub last_of : (xs : List Piece) (at : ℕ) (x : Piece) → 0 < at → at ≤ length xs → x ≡ get_or xs (at - 1) x → lines_of (take at xs) ≡ lines_of (take (at - 1) xs) ++ lines_in x
+last_of xs at x some within e =
+    let same : at ≡ at - 1 + 1 = omega arith in
+    ap (λ n. lines_of (take n xs)) same ∙ taken_push xs (at - 1) x (omega arith) e
+
+-- a list with its last element
+pub record IsPushed (xs : List Piece) (x : Piece) : Type 0 where
+  pub rest : List Piece
+  pub is : xs ≡ rest ++ x ∷ []
+
+pub pushed : (xs : List Piece) (x : Piece) → 0 < length xs → x ≡ get_or xs (length xs - 1) x → IsPushed xs x
+pushed xs x some e =
+    let n : ℕ = length xs - 1 in
+    let one : length xs ≡ n + 1 = omega arith in
+    record {
+      rest = take n xs;
+      is = sym (take_all (length xs) xs (omega arith)) ∙ ap (λ k. take k xs) one ∙ take_more xs n x (omega arith) ∙ ap (λ (y : Piece). take n xs ++ y ∷ []) (sym e);
+    }

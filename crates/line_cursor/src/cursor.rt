@@ -313,6 +313,12 @@ impl<'a> Cursor<'a> {
         requires first { (rest : List Piece) (x : Piece) → self.now.ahead.items ≡ rest ++ x ∷ [] → begins_op (lines_in x) ≡ true }
         ensures { (result ≡ true) ↔ IsSettled (places_of (lines_at self.now)) (labels_from 0 (lines_at self.now)) (place_at self.now) count new.now }
     {
-        !new.is_empty() || is_op_at(&self.ahead, count) || !self.is_labelled()
+        if !new.is_empty() {
+            return true;
+        }
+        if is_op_at(&self.ahead, count) {
+            return true;
+        }
+        !self.is_labelled()
     }
 }
