@@ -115,9 +115,9 @@ stands_here xs (l ∷ []) ls s e =
     ap (stands_at p) (labels_append 0 p xs (l ∷ ls) (omega arith))
     ∙ stands_append p (labels_from 0 xs) (labels_at p l.names ++ labels_from (p + length (places_in l.statement)) ls)
     ∙ ap (λ b. ends_at xs || b)
-      (stands_append p (labels_at p l.names) (labels_from (p + length (places_in l.statement)) ls)
-      ∙ ap (λ b. stands_at p (labels_at p l.names) || b) (none_later p (p + length (places_in l.statement)) ls (some l.statement e))
-      ∙ or_false (stands_at p (labels_at p l.names)) ∙ names_here p l.names)
+    (stands_append p (labels_at p l.names) (labels_from (p + length (places_in l.statement)) ls)
+    ∙ ap (λ b. stands_at p (labels_at p l.names) || b) (none_later p (p + length (places_in l.statement)) ls (some l.statement e))
+    ∙ or_false (stands_at p (labels_at p l.names)) ∙ names_here p l.names)
   where
     some : (t : Statement) → is_op t ≡ true → length (places_of xs) < length (places_of xs) + length (places_in t)
     some (Runs i m) f = omega arith
@@ -135,10 +135,10 @@ taken_push xs k x h e = ap lines_of (take_more xs k x h ∙ ap (λ (y : Piece). 
 pub none_stands : (p : ℕ) (labels : List Label) → stands_at p labels ≡ false → NoLabelAt labels p
 none_stands p [] h k l e f = absurd (cc)
 none_stands p (m ∷ ms) h zero l e f = absurd (
-  let same : m ≡ l = cc in
-  let here : (m.place == p) ≡ true = eq-eqb m.place p (ap (λ (z : Label). z.place) same ∙ f) in
-  let bad : true ≡ false = sym (ap (λ b. b || stands_at p ms) here) ∙ h in
-  cc)
+    let same : m ≡ l = cc in
+    let here : (m.place == p) ≡ true = eq-eqb m.place p (ap (λ (z : Label). z.place) same ∙ f) in
+    let bad : true ≡ false = sym (ap (λ b. b || stands_at p ms) here) ∙ h in
+    cc)
 none_stands p (m ∷ ms) h (suc k) l e f = none_stands p ms (behind (m.place == p) (stands_at p ms) h) k l e f
   where
     behind : (a b : Bool) → (a || b) ≡ false → b ≡ false

@@ -125,7 +125,7 @@ applied_before rule registers code p count is q g far live a =
     clear : (x : ℕ) → (moved p (count - length is) x ≤ q) ⊎ (q + length rule.left ≤ moved p (count - length is) x) → (x ≤ q) ⊎ (q + length rule.left ≤ x)
     clear x h = elim (cases_lt p x) [
       | inl b ↦ inr (omega arith)
-      | inr b ↦ (let same : moved p (count - length is) x ≡ x = omega arith in elim h [ | inl c ↦ inl (omega arith) | inr c ↦ inr (omega arith) ])
+      | inr b ↦ (let same : moved p (count - length is) x ≡ x = omega arith in elim h [ inl c ↦ inl (omega arith) | inr c ↦ inr (omega arith) ])
     ]
 
     was_settled : IsSettled (replaced code p count is).places (replaced code p count is).labels q (length rule.left) (map (renamed registers) rule.right)

@@ -62,7 +62,7 @@ settled_stay places labels p count is g s k l e h =
           )
       | inr b ↦ elim (cases_lt p l.place) [
         | inl c ↦ (
-            let far : p + count ≤ l.place = elim (g.unlabelled k l e) [ | inl n ↦ absurd (omega arith) | inr n ↦ n ] in
+            let far : p + count ≤ l.place = elim (g.unlabelled k l e) [ inl n ↦ absurd (omega arith) | inr n ↦ n ] in
             let at : moved p (count - length is) l.place + count ≡ l.place + length is = omega arith in
             ap is_op_place (behind_window p count is places l.place (moved p (count - length is) l.place) (omega arith) far at) ∙ h
             )

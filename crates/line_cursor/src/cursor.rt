@@ -1,7 +1,9 @@
 //! A cursor in a listing that is being rewritten: what stands before it and behind it, with what is kept of places.
 ghost use Rattle.std.specs.Prelude.{◌≡◌, ◌+◌, ◌-◌, ◌<◌, ◌≤◌, ◌++◌, ◌∷◌, [], List, length, drop, reverse, slice_get, true, false, IfOk, OnOk, Some};
 ghost use Rattle.liveness.specs.Live.{set_at};
+ghost use Rattle.std.specs.Prelude.{map};
 ghost use Rattle.listing_parser.specs.Replacing.{own_line};
+ghost use Rattle.listing_parser.specs.Views.{line_view};
 ghost use Rattle.std.specs.Prelude.{ℕ};
 ghost use Rattle.std.specs.Prelude.{◌↔◌};
 ghost use Rattle.thumb_model.specs.Listing.{Place, is_op_place, labels_from, places_of};
@@ -15,9 +17,9 @@ ghost use Rattle.line_cursor.specs.Pieces.{begins_op, lines_in, lines_of};
 ghost use Rattle.line_cursor.specs.Cursors.{lines_ahead, lines_at, lines_behind, place_at, sets_of, spots_at, stands_at, IsCursor, IsSettled};
 
 use crate::kept::Flow;
-use crate::pieces::{Look, Piece, give_way, is_labelled, is_op, places_of, seen};
-use arrayvec::ArrayVec;
-use listing_parser::Memory;
+use crate::pieces::{Look, Piece, all_lines, give_way, is_labelled, is_op, places_of, seen};
+use listing_parser::{Line, Memory};
+use std::alloc::Global;
 use thumb_instr::{Instr, Items, Seq};
 
 /// What is kept of a place.
@@ -72,10 +74,7 @@ fn shift(from: &mut Vec<Spot>, to: &mut Vec<Spot>, count: usize) -> Result<(), M
 }
 
 /// Moves the last piece of one list behind another, where it isn't an instruction. Whether it is.
-fn skip_one<'a>(
-    ahead: &mut Vec<Piece<'a>>,
-    behind: &mut Vec<Piece<'a>>,
-) -> Result<bool, Memory>
+fn skip_one<'a>(ahead: &mut Vec<Piece<'a>>, behind: &mut Vec<Piece<'a>>) -> Result<bool, Memory>
     requires { 0 < length ahead.old.items }
     ensures op { IfOk result (λ b. b ≡ true → (behind.new.items ≡ behind.old.items) × (x : Piece) × (ahead.old.items ≡ ahead.new.items ++ x ∷ []) × (begins_op (lines_in x) ≡ true)) }
     ensures other { IfOk result (λ b. b ≡ false → (x : Piece) × (behind.new.items ≡ behind.old.items ++ x ∷ []) × (ahead.old.items ≡ ahead.new.items ++ x ∷ []) × (begins_op (lines_in x) ≡ false)) }
@@ -208,6 +207,57 @@ fn ends_labelled(behind: &[Piece<'_>]) -> bool
 }
 
 impl<'a> Cursor<'a> {
+    /// A cursor before lines, whose places are known so.
+    pub fn start(alloc: Global, lines: &'a [Line], spots: &[Spot]) -> Result<Cursor<'a>, Memory>
+        requires { length spots.now ≡ length (places_of (map line_view lines.now)) }
+        ensures is { IfOk result IsCursor }
+        ensures lines { IfOk result (λ c. lines_at c ≡ map line_view lines.now) }
+        ensures spots { IfOk result (λ c. spots_at c ≡ spots.now) }
+        ensures place { IfOk result (λ c. place_at c ≡ 0) }
+    {
+        let mut ahead = all_lines(alloc, lines)?;
+        ahead.reverse();
+        let mut coming = spots.to_vec(alloc)?;
+        coming.reverse();
+        Ok(Cursor {
+            behind: Vec::new(alloc),
+            ahead,
+            passed: Vec::new(alloc),
+            coming,
+        })
+    }
+
+    /// All pieces, in order.
+    pub fn into_pieces(self) -> Result<Vec<Piece<'a>>, Memory>
+        ensures { IfOk result (λ v. lines_of v.items ≡ lines_at self.entry) }
+    {
+        let mut pieces = self.behind;
+        let mut ahead = self.ahead;
+        while let Some(piece) = ahead.pop() {
+            pieces.push(piece)?;
+        }
+        Ok(pieces)
+    }
+
+    /// How many places stand before it.
+    pub fn place(&self) -> usize
+        ensures { result ≡ place_at self.now }
+    {
+        self.passed.len()
+    }
+
+    /// Whether an instruction stands right behind it.
+    pub fn is_at_op(&self) -> bool
+        ensures op { (rest : List Piece) (x : Piece) → self.now.ahead.items ≡ rest ++ x ∷ [] → result ≡ begins_op (lines_in x) }
+        ensures some { result ≡ true → 0 < length self.now.ahead.items }
+    {
+        let ahead = self.ahead.as_slice();
+        if ahead.len() == 0 {
+            return false;
+        }
+        is_op(ahead[ahead.len() - 1])
+    }
+
     /// The instructions behind it that may stand in a window, as many as there are, and at most so many.
     pub fn run(&self, most: usize) -> Seq
         requires { most ≤ 5 }

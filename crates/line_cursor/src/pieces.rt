@@ -1,6 +1,6 @@
 //! Lines made of a listing's lines.
 ghost use Rattle.std.specs.Prelude.{◌≡◌, ◌++◌, length, map, IfOk, OnOk};
-ghost use Rattle.listing_parser.specs.Views.{statement_view};
+ghost use Rattle.listing_parser.specs.Views.{line_view, statement_view};
 ghost use Rattle.listing_parser.specs.Replacing.{own_line};
 ghost use Rattle.thumb_model.specs.Listing.{places_in, places_of};
 ghost use Rattle.thumb_model.specs.Rewritten.{new_line};
@@ -10,6 +10,7 @@ ghost use Rattle.line_cursor.specs.Pieces.{begins_labelled, begins_op, labels_le
 ghost use Rattle.line_cursor.specs.Looks.{look_letter, look_lines, look_statement};
 
 use listing_parser::{Line, Memory, Statement};
+use std::alloc::Global;
 use thumb_instr::{Instr, in_window};
 
 /// What stands in a listing that is made of another's lines.
@@ -105,13 +106,7 @@ fn look_statement(statement: &Statement, begins: bool) -> Look
                 Look::End
             }
         }
-        Statement::Aligns { .. } => {
-            if begins {
-                Look::Nothing
-            } else {
-                Look::End
-            }
-        }
+        Statement::Aligns { .. } => { if begins { Look::Nothing } else { Look::End } }
         _ => Look::Nothing,
     }
 }
@@ -128,8 +123,8 @@ pub fn seen(piece: Piece<'_>, begins: bool) -> Look
                 Look::End
             }
         }
-        Piece::Labels(line) => {
-            if begins || line.names.is_empty() {
+        Piece::Labels(_) => {
+            if begins || !is_labelled(piece) {
                 Look::Nothing
             } else {
                 Look::End
@@ -140,11 +135,7 @@ pub fn seen(piece: Piece<'_>, begins: bool) -> Look
 }
 
 /// Adds what stays of a piece whose instruction goes, and then new instructions.
-pub fn give_way<'a>(
-    out: &mut Vec<Piece<'a>>,
-    piece: Piece<'a>,
-    new: &[Instr],
-) -> Result<(), Memory>
+pub fn give_way<'a>(out: &mut Vec<Piece<'a>>, piece: Piece<'a>, new: &[Instr]) -> Result<(), Memory>
     ensures { OnOk result (lines_of out.new.items ≡ lines_of out.old.items ++ (labels_left piece.entry ++ map (new_line own_line) new.now)) }
 {
     if let Piece::Line(line) = piece {
@@ -161,4 +152,15 @@ fn add_new(out: &mut Vec<Piece<'_>>, new: &[Instr]) -> Result<(), Memory>
         out.push(Piece::New(*instr))?;
     }
     Ok(())
+}
+
+/// Lines as they stand.
+pub fn all_lines<'a>(alloc: Global, lines: &'a [Line]) -> Result<Vec<Piece<'a>>, Memory>
+    ensures { IfOk result (λ v. lines_of v.items ≡ map line_view lines.now) }
+{
+    let mut out = Vec::with_capacity(alloc, lines.len())?;
+    for line in lines {
+        out.push(Piece::Line(line))?;
+    }
+    Ok(out)
 }

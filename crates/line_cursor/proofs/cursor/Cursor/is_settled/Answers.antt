@@ -1,4 +1,4 @@
-use Rattle.std.proofs.Common.{◌≡◌, ◌∙◌, ◌+◌, ◌-◌, ◌<◌, ◌++◌, not, Bool, true, false, ℕ, List, [], ◌∷◌, length, reverse, inl, inr, ap, sym, subst, arith, refl}
+use Rattle.std.proofs.Common.{◌≡◌, ◌∙◌, ◌+◌, ◌-◌, ◌<◌, ◌++◌, not, Bool, true, false, ℕ, List, [], ◌∷◌, length, reverse, inl, inr, ap, sym, subst, arith, refl, eqb-true}
 use Rattle.std.specs.Prelude.{slice_get}
 use Rattle.thumb_instr.specs.declared.instr.Instr.{Instr}
 use Rattle.thumb_model.specs.Listing.{Line, Label, Place, is_op_place, labels_from, places_of}
@@ -27,3 +27,19 @@ last_look ps labels p q count is o true n same e f s = (
     never (inr (inl k)) = let bad : true ≡ false = sym k ∙ e ∙ f in absurd (cc)
     never (inr (inr k)) = stands_some q labels (sym s) (λ j l g h. k j l g (h ∙ sym same))
 last_look ps labels p q count is o false n same e f s = (λ h. inr (inr (λ j l g h. none_stands q labels (sym s) j l g (h ∙ same))), λ h. refl)
+
+pub returns-then-is_op_at : goal.returns-then-is_op_at
+returns-then-is_op_at c =
+    let behind : List Line = lines_of c.args.self.now.behind.items in
+    let ahead : List Line = lines_of (reverse c.args.self.now.ahead.items) in
+    let here = ap (λ (a : List Piece). is_op_place (slice_get (places_of (lines_of (reverse a))) c.args.count)) (sym c.deref.ensures.value) ∙ sym c.is_op_at.ensures ∙ c.if-is_op_at.true in
+    (λ h. inr (inl (place_ahead behind ahead (length c.args.self.now.passed.items) c.args.count c.requires.is.passed ∙ here)), λ h. refl)
+
+pub returns : goal.returns
+returns c =
+    let behind : List Line = lines_of c.args.self.now.behind.items in
+    let ahead : List Line = lines_of (reverse c.args.self.now.ahead.items) in
+    let here = ap (λ (a : List Piece). is_op_place (slice_get (places_of (lines_of (reverse a))) c.args.count)) (sym c.deref.ensures.value) ∙ sym c.is_op_at.ensures in
+    let none : length c.args.new.now ≡ 0 = eqb-true (length c.args.new.now) 0 (sym c.is_empty.ensures ∙ c.if-not-is_empty.false) in
+    last_look (places_of (behind ++ ahead)) (labels_from 0 (behind ++ ahead)) (length c.args.self.now.passed.items) (length (places_of behind)) c.args.count c.args.new.now c.is_op_at.result c.is_labelled.result none c.requires.is.passed
+    (place_ahead behind ahead (length c.args.self.now.passed.items) c.args.count c.requires.is.passed ∙ here) c.if-is_op_at.false c.is_labelled.ensures
