@@ -1,3 +1,8 @@
+pub mod Moves
+pub mod FlowLaws
+pub mod Applied
+mod Keeping
+mod KeptSets
 mod Weights
 mod Paths
 mod Visits

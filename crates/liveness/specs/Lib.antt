@@ -2,3 +2,5 @@ pub mod Ways
 pub mod Points
 pub mod Passes
 pub mod Live
+pub mod Kept
+pub mod Through

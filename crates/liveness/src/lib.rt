@@ -6,9 +6,13 @@
 #![tactic(auto)]
 
 mod finding;
+mod flowing;
+mod kept;
 mod passes;
 mod points;
 mod sets;
 
 pub use finding::live;
+pub use flowing::{Flow, flow_of, flows};
+pub use kept::{NewSets, keep};
 pub use sets::Live;

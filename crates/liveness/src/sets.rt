@@ -23,6 +23,20 @@ impl Live {
     ghost use Rattle.thumb_model.specs.Flow.{LiveAfter};
     ghost use Rattle.liveness.specs.Live.{IsLive, set_at};
 
+    /// The items that are live before each place.
+    pub fn before_sets(&self) -> &[Items]
+        ensures { result.now ≡ self.now.before }
+    {
+        self.before.as_slice()
+    }
+
+    /// The items that are live after each place.
+    pub fn after_sets(&self) -> &[Items]
+        ensures { result.now ≡ self.now.after }
+    {
+        self.after.as_slice()
+    }
+
     /// The items that are live after a place, which is one of the listing's.
     pub fn after(&self, place: u32) -> Items
         requires { place < length self.now.after }

@@ -1,0 +1,358 @@
+-- Ways, code points and straight code of a listing in which a window gave way.
+use Rattle.std.proofs.Common.{◌≡◌, ◌≢◌, ℕ, zero, suc, ◌+◌, ◌-◌, ◌<◌, ◌≤◌, ◌==◌, ◌&&◌, ◌||◌, Bool, true, false, List, [], ◌∷◌, ◌++◌, length, take, drop, map, Option, Some, None, refl, sym, ap, ◌∙◌, subst, ◌⊎◌, inl, inr, arith, if◌then◌else◌, eq-eqb, ne_eqb}
+use Rattle.std.specs.Prelude.{slice_get}
+use Rattle.std.specs.Option.{option_map}
+use Rattle.std.specs.List.{list_all}
+use Rattle.std.proofs.lemmas.Bool.{cases_eq}
+use Rattle.thumb_instr.specs.declared.instr.Instr.{Instr}
+use Rattle.thumb_instr.specs.declared.instr.Instr.TheVariants as instr
+use Rattle.thumb_instr.specs.Items.{has, sp}
+use Rattle.thumb_instr.specs.Shape.{uses_of, writes_of, registers_in}
+use Rattle.thumb_instr.specs.Window.{is_in_window}
+use Rattle.thumb_model.specs.Items.{one_of}
+use Rattle.thumb_model.specs.Listing.{Mention, Place, Op, Word, plain, Label, Code, is_op_place, is_code, is_call, is_call_instr, label_places, return_places, IsPoint}
+use Rattle.thumb_model.specs.Machine.{Naming, aim_of, points_of, returns_from, points}
+use Rattle.thumb_model.specs.Flow.{Way, Leads, Onward, ToPlace, AnyPoint, Out, way, left_but, ways_of, ways_on, ways, Follows}
+use Rattle.thumb_model.specs.Rewrite.{moved, replaced}
+use Rattle.thumb_model.proofs.Lists.{get_drop, get_take, length_map, take_short, length_drop}
+use Rattle.thumb_model.proofs.Moved.{IsReplacement, IsOutside, AreNoCalls, fetch_window, fetch_outside, place_moved, points_moved, return_outside, one_of_append}
+use Rattle.thumb_model.proofs.Points.{IsLabelsPlace, label_of_name, label_of_place}
+use Rattle.liveness.specs.Kept.{KeepsAt}
+
+-- ---- lists ----
+
+some_same : {A : Type 0} (a b : A) → (let o : Option A = Some a in o) ≡ Some b → a ≡ b
+some_same a b e = cc
+
+pub get_map : {A B : Type 0} (f : A → B) (xs : List A) (k : ℕ) (x : A) → slice_get xs k ≡ Some x → slice_get (map f xs) k ≡ Some (f x)
+get_map f [] k x e = absurd (cc)
+get_map f (y ∷ xs) zero x e = ap (λ z. Some (f z)) (some_same y x e)
+get_map f (y ∷ xs) (suc k) x e = get_map f xs k x e
+
+pub map_back : {A B : Type 0} (f : A → B) (xs : List A) (k : ℕ) (y : B) → slice_get (map f xs) k ≡ Some y → (x : A) × (slice_get xs k ≡ Some x) × (y ≡ f x)
+map_back f [] k y e = absurd (cc)
+map_back f (x ∷ xs) zero y e = (x, refl, sym (some_same (f x) y e))
+map_back f (x ∷ xs) (suc k) y e = map_back f xs k y e
+
+pub get_within : {A : Type 0} (xs : List A) (k : ℕ) (x : A) → slice_get xs k ≡ Some x → k < length xs
+get_within [] k x e = absurd (cc)
+get_within (y ∷ xs) zero x e = omega arith
+get_within (y ∷ xs) (suc k) x e = let h = get_within xs k x e in omega arith
+
+-- the element at a place, and those from it on
+pub drop_at : {A : Type 0} (xs : List A) (k : ℕ) → k < length xs → (x : A) × (slice_get xs k ≡ Some x) × (drop k xs ≡ x ∷ drop (k + 1) xs)
+drop_at [] k h = absurd (omega arith)
+drop_at (x ∷ xs) zero h = (x, refl, refl)
+drop_at (x ∷ xs) (suc k) h =
+    let r = drop_at xs k (omega arith) in
+    (r.0, r.1, r.2 ∙ ap (λ n. r.0 ∷ drop n (x ∷ xs)) (let e : suc (k + 1) ≡ suc k + 1 = omega arith in e))
+
+pub drop_whole : {A : Type 0} (xs : List A) (k : ℕ) → k ≡ length xs → drop k xs ≡ []
+drop_whole [] zero e = refl
+drop_whole [] (suc k) e = refl
+drop_whole (x ∷ xs) zero e = absurd (omega arith)
+drop_whole (x ∷ xs) (suc k) e = drop_whole xs k (omega arith)
+
+and_left : (a b : Bool) → (a && b) ≡ true → a ≡ true
+and_left true b e = refl
+and_left false b e = absurd (cc)
+
+and_right : (a b : Bool) → (a && b) ≡ true → b ≡ true
+and_right true b e = e
+and_right false b e = absurd (cc)
+
+or_right : (a b : Bool) → b ≡ true → (a || b) ≡ true
+or_right true b e = refl
+or_right false b e = e
+
+-- ---- rows ----
+
+-- a row: a letter goes to the next place alone
+pub letter_way : (o : Option ℕ) (i : Instr) → is_in_window i ≡ true → ways_of o i ≡ way (uses_of i) (writes_of i) Onward ∷ []
+letter_way o (instr.Mov d m) h = refl
+letter_way o (instr.Three s d n m) h = refl
+letter_way o (instr.Two t d m) h = refl
+letter_way o (instr.Movs d m) h = refl
+letter_way o (instr.ShiftLeft d m i) h = refl
+letter_way o (instr.ShiftRight s d m i) h = refl
+letter_way o (instr.ThreeNumber s d n i) h = refl
+letter_way o (instr.TwoNumber t d i) h = refl
+letter_way o (instr.Add k) h = refl
+letter_way o (instr.Extend k d m) h = refl
+letter_way o (instr.Reverse r d m) h = refl
+letter_way o i h = absurd (cc)
+
+-- a row: and is no call
+no_call : (i : Instr) → is_in_window i ≡ true → is_call_instr i ≡ false
+no_call (instr.Blx m) h = absurd (cc)
+no_call (instr.Call d) h = absurd (cc)
+no_call i h = refl
+
+-- a way whose place moved
+abbrev pub move_leads : (ℕ → ℕ) → Leads → Leads
+move_leads f Onward = Onward
+move_leads f (ToPlace q) = ToPlace (f q)
+move_leads f AnyPoint = AnyPoint
+move_leads f Out = Out
+
+abbrev pub move_way : (ℕ → ℕ) → Way → Way
+move_way f w = way w.reads w.writes (move_leads f w.leads)
+
+-- a row: the ways of an instruction whose aim moved
+aim_moves : (f : ℕ → ℕ) (o : Option ℕ) (i : Instr) → ways_of (option_map f o) i ≡ map (move_way f) (ways_of o i)
+aim_moves f o (instr.Pop l) =
+    elim (has l.number 8) as (λ b. (if b then way (sp ∷ []) (sp ∷ registers_in l.number) AnyPoint ∷ way (sp ∷ left_but (registers_in l.number)) (sp ∷ registers_in l.number) Out ∷ [] else way (sp ∷ []) (sp ∷ registers_in l.number) Onward ∷ []) ≡ map (move_way f) (if b then way (sp ∷ []) (sp ∷ registers_in l.number) AnyPoint ∷ way (sp ∷ left_but (registers_in l.number)) (sp ∷ registers_in l.number) Out ∷ [] else way (sp ∷ []) (sp ∷ registers_in l.number) Onward ∷ [])) [
+      | true ↦ refl
+      | false ↦ refl
+    ]
+aim_moves f None (instr.BranchIf c d) = refl
+aim_moves f (Some q) (instr.BranchIf c d) = refl
+aim_moves f None (instr.Branch d) = refl
+aim_moves f (Some q) (instr.Branch d) = refl
+aim_moves f None (instr.Call d) = refl
+aim_moves f (Some q) (instr.Call d) = refl
+aim_moves f o i = refl
+
+-- a way that goes to a place goes to what is aimed at
+abbrev IsAimed : Option ℕ → Leads → Type 0
+IsAimed o Onward = Unit {0}
+IsAimed o (ToPlace q) = o ≡ Some q
+IsAimed o AnyPoint = Unit {0}
+IsAimed o Out = Unit {0}
+
+abbrev AreAimed : Option ℕ → List Way → Type 0
+AreAimed o [] = Unit {0}
+AreAimed o (w ∷ ws) = IsAimed o w.leads × AreAimed o ws
+
+-- a row: the ways of an instruction
+are_aimed : (o : Option ℕ) (i : Instr) → AreAimed o (ways_of o i)
+are_aimed o (instr.Bx m) = (tt, (tt, tt))
+are_aimed o (instr.Blx m) = (tt, (tt, tt))
+are_aimed o (instr.Pop l) =
+    elim (has l.number 8) as (λ b. AreAimed o (if b then way (sp ∷ []) (sp ∷ registers_in l.number) AnyPoint ∷ way (sp ∷ left_but (registers_in l.number)) (sp ∷ registers_in l.number) Out ∷ [] else way (sp ∷ []) (sp ∷ registers_in l.number) Onward ∷ [])) [
+      | true ↦ (tt, (tt, tt))
+      | false ↦ (tt, tt)
+    ]
+are_aimed None (instr.BranchIf c d) = (tt, (tt, tt))
+are_aimed (Some q) (instr.BranchIf c d) = (refl, (tt, tt))
+are_aimed None (instr.Branch d) = (tt, tt)
+are_aimed (Some q) (instr.Branch d) = (refl, tt)
+are_aimed None (instr.Call d) = (tt, tt)
+are_aimed (Some q) (instr.Call d) = (refl, tt)
+are_aimed o i = (tt, tt)
+
+aimed_at : (o : Option ℕ) (ws : List Way) (k : ℕ) (w : Way) → AreAimed o ws → slice_get ws k ≡ Some w → IsAimed o w.leads
+aimed_at o [] k w a e = absurd (cc)
+aimed_at o (v ∷ ws) zero w a e = subst (λ (u : Way). IsAimed o u.leads) (some_same v w e) a.0
+aimed_at o (v ∷ ws) (suc k) w a e = aimed_at o ws k w a.1 e
+
+-- ---- straight code ----
+
+-- each place from q on has the one way of its instruction
+abbrev pub Runs : Code → ℕ → List Instr → Type 0
+Runs code q [] = Unit {0}
+Runs code q (i ∷ is) = (ways code q ≡ way (uses_of i) (writes_of i) Onward ∷ []) × Runs code (q + 1) is
+
+pub letter_at : (is : List Instr) (j : ℕ) (i : Instr) → list_all is_in_window is ≡ true → slice_get is j ≡ Some i → is_in_window i ≡ true
+letter_at [] j i h e = absurd (cc)
+letter_at (k ∷ is) zero i h e = ap is_in_window (sym (some_same k i e)) ∙ and_left _ _ h
+letter_at (k ∷ is) (suc j) i h e = letter_at is j i (and_right (is_in_window k) _ h) e
+
+pub runs_from : (code : Code) (q : ℕ) (is : List Instr) → list_all is_in_window is ≡ true → ((j : ℕ) (i : Instr) → slice_get is j ≡ Some i → slice_get code.places (q + j) ≡ Some (plain i)) → Runs code q is
+runs_from code q [] h s = tt
+runs_from code q (i ∷ is) h s = (
+  ap (ways_on code) (ap (slice_get code.places) (let e : q ≡ q + 0 = omega arith in e) ∙ s 0 i refl) ∙ letter_way None i (and_left (is_in_window i) _ h),
+  runs_from code (q + 1) is (and_right (is_in_window i) _ h) (λ j k e. ap (slice_get code.places) (let e : q + 1 + j ≡ q + suc j = omega arith in e) ∙ s (suc j) k e),
+)
+
+pub runs_at : (code : Code) (q : ℕ) (is : List Instr) (j : ℕ) (i : Instr) → Runs code q is → slice_get is j ≡ Some i → ways code (q + j) ≡ way (uses_of i) (writes_of i) Onward ∷ []
+runs_at code q [] j i r e = absurd (cc)
+runs_at code q (k ∷ is) zero i r e = ap (ways code) (let f : q + 0 ≡ q = omega arith in f) ∙ r.0 ∙ ap (λ (x : Instr). way (uses_of x) (writes_of x) Onward ∷ []) (some_same k i e)
+runs_at code q (k ∷ is) (suc j) i r e = ap (ways code) (let f : q + suc j ≡ q + 1 + j = omega arith in f) ∙ runs_at code (q + 1) is j i r.1 e
+
+no_calls : (is : List Instr) → list_all is_in_window is ≡ true → AreNoCalls (map plain is)
+no_calls [] h = tt
+no_calls (i ∷ is) h = (no_call i (and_left _ _ h), no_calls is (and_right (is_in_window i) _ h))
+
+-- ---- where a window gives way ----
+
+module _ (code : Code) (p : ℕ) (window new : List Instr) (at : KeepsAt code p window new) where
+  -- the places of the window
+  pub stands_at : (j : ℕ) (i : Instr) → slice_get window j ≡ Some i → slice_get code.places (p + j) ≡ Some (plain i)
+  stands_at j i e =
+      let l = get_within window j i e in
+      sym (get_drop p code.places j (p + j) refl) ∙ sym (get_take (length window) (drop p code.places) j l) ∙ ap (λ xs. slice_get xs j) at.stands ∙ get_map plain window j i e
+
+  pub is_within : p + length window ≤ length code.places
+  is_within =
+      let s = at.shorter in
+      let n : length (take (length window) (drop p code.places)) ≡ length window = ap length at.stands ∙ length_map plain window in
+      let t = take_short (length window) (drop p code.places) in
+      let d = length_drop p code.places in
+      omega arith
+
+  pub fits_in : IsReplacement code p (length window) new
+  fits_in = record {
+    within = is_within;
+    shorter = at.shorter;
+    first = first_is (drop_at window 0 (let s = at.shorter in omega arith));
+    no_call = subst AreNoCalls (sym at.stands) (no_calls window at.letters);
+    no_new_call = no_calls new at.new_letters;
+    unlabelled = at.unlabelled;
+    labels_stay = at.labels_stay;
+  }
+    where
+      first_is : (i : Instr) × (slice_get window 0 ≡ Some i) × (drop 0 window ≡ i ∷ drop (0 + 1) window) → is_op_place (slice_get code.places p) ≡ true
+      first_is f = ap is_op_place (ap (slice_get code.places) (let e : p ≡ p + 0 = omega arith in e) ∙ stands_at 0 f.0 f.1)
+
+  abbrev new_code : Code
+  new_code = replaced code p (length window) new
+
+  abbrev to : ℕ → ℕ
+  to = moved p (length window - length new)
+
+  pub window_runs : Runs code p window
+  window_runs = runs_from code p window at.letters stands_at
+
+  pub new_runs : Runs new_code p new
+  new_runs = runs_from new_code p new at.new_letters (λ j i e. fetch_window code p (length window) new fits_in j (get_within new j i e) ∙ get_map plain new j i e)
+
+  -- apart from the window
+  abbrev pub IsApart : ℕ → Type 0
+  IsApart q = (q < p) ⊎ (p + length window ≤ q)
+
+  aim_moved : (mention : Option Mention) → aim_of new_code mention ≡ option_map to (aim_of code mention)
+  aim_moved None = refl
+  aim_moved (Some m) = place_moved code p (length window) new fits_in m.name
+
+  on_moved : (o : Option Place) → ways_on new_code o ≡ map (move_way to) (ways_on code o)
+  on_moved None = refl
+  on_moved (Some (Word v)) = refl
+  on_moved (Some (Op i mention)) = ap (λ (a : Option ℕ). ways_of a i) (aim_moved mention) ∙ aim_moves to (aim_of code mention) i
+
+  -- the ways of a place apart from it
+  pub ways_moved : (q : ℕ) → IsApart q → ways new_code (to q) ≡ map (move_way to) (ways code q)
+  ways_moved q a = ap (ways_on new_code) (fetch_outside code p (length window) new fits_in q (wide a) (ne a)) ∙ on_moved (slice_get code.places q)
+    where
+      wide : IsApart q → IsOutside p (length window) q
+      wide (inl h) = inl (omega arith)
+      wide (inr h) = inr h
+
+      ne : IsApart q → q ≢ p
+      ne (inl h) = λ e. omega arith
+      ne (inr h) = λ e. let s = at.shorter in omega arith
+
+  -- ---- code points ----
+
+  abbrev names₀ : Naming
+  names₀ = record { word_of = λ n. 0; return_word = λ k. 0; low = 0; high = 0 }
+
+  abbrev seconds : List (ℕ × ℕ) → List ℕ
+  seconds [] = []
+  seconds (a ∷ ps) = a.1 ∷ seconds ps
+
+  labels_are : (places : List Place) (ls : List Label) → label_places places ls ≡ seconds (points_of names₀ places ls)
+  labels_are places [] = refl
+  labels_are places (l ∷ ls) = pick (is_code places l) _ _ (labels_are places ls)
+    where
+      pick : (b : Bool) (xs : List ℕ) (ys : List (ℕ × ℕ)) → xs ≡ seconds ys → (if b then l.place ∷ xs else xs) ≡ seconds (if b then (0, l.place) ∷ ys else ys)
+      pick true xs ys h = ap (λ zs. l.place ∷ zs) h
+      pick false xs ys h = h
+
+  returns_are : (k q : ℕ) (xs : List Place) → return_places q xs ≡ seconds (returns_from names₀ k q xs)
+  returns_are k q [] = refl
+  returns_are k q (x ∷ xs) = pick (is_call x) _ _ _ (returns_are (k + 1) (q + 1) xs) (returns_are k (q + 1) xs)
+    where
+      pick : (b : Bool) (zs : List ℕ) (us vs : List (ℕ × ℕ)) → zs ≡ seconds us → zs ≡ seconds vs → (if b then (q + 1) ∷ zs else zs) ≡ seconds (if b then (0, q + 1) ∷ us else vs)
+      pick true zs us vs h g = ap (λ zs. (q + 1) ∷ zs) h
+      pick false zs us vs h g = g
+
+  seconds_both : (xs ys : List (ℕ × ℕ)) → seconds (xs ++ ys) ≡ seconds xs ++ seconds ys
+  seconds_both [] ys = refl
+  seconds_both (x ∷ xs) ys = ap (λ l. x.1 ∷ l) (seconds_both xs ys)
+
+  points_are : (c : Code) → label_places c.places c.labels ++ return_places 0 c.places ≡ seconds (points names₀ c)
+  points_are c =
+      ap (λ l. l ++ return_places 0 c.places) (labels_are c.places c.labels)
+      ∙ ap (λ l. seconds (points_of names₀ c.places c.labels) ++ l) (returns_are 0 0 c.places)
+      ∙ sym (seconds_both (points_of names₀ c.places c.labels) (returns_from names₀ 0 0 c.places))
+
+  one_moved : (f : ℕ → ℕ) (q : ℕ) (ps : List (ℕ × ℕ)) → one_of q (seconds ps) ≡ true → one_of (f q) (seconds (map (λ (a : ℕ × ℕ). (a.0, f a.1)) ps)) ≡ true
+  one_moved f q [] h = absurd (cc)
+  one_moved f q (a ∷ ps) h =
+      elim (cases_eq q a.1) [
+        | inl e ↦ ap (λ b. b || one_of (f q) (seconds (map (λ (a : ℕ × ℕ). (a.0, f a.1)) ps))) (eq-eqb (f q) (f a.1) (ap f e))
+        | inr d ↦ or_right (f q == f a.1) _ (one_moved f q ps (sym (ap (λ b. b || one_of q (seconds ps)) (ne_eqb q a.1 d)) ∙ h))
+      ]
+
+  one_back : (f : ℕ → ℕ) (r : ℕ) (ps : List (ℕ × ℕ)) → one_of r (seconds (map (λ (a : ℕ × ℕ). (a.0, f a.1)) ps)) ≡ true → (q : ℕ) × (one_of q (seconds ps) ≡ true) × (r ≡ f q)
+  one_back f r [] h = absurd (cc)
+  one_back f r (a ∷ ps) h =
+      elim (cases_eq r (f a.1)) [
+        | inl e ↦ (a.1, ap (λ b. b || one_of a.1 (seconds ps)) (eq-eqb a.1 a.1 refl), e)
+        | inr d ↦
+            let t = one_back f r ps (sym (ap (λ b. b || one_of r (seconds (map (λ (a : ℕ × ℕ). (a.0, f a.1)) ps))) (ne_eqb r (f a.1) d)) ∙ h) in
+            (t.0, or_right (t.0 == a.1) _ t.1, t.2)
+      ]
+
+  points_same : seconds (points names₀ new_code) ≡ seconds (map (λ (a : ℕ × ℕ). (a.0, to a.1)) (points names₀ code))
+  points_same = ap seconds (points_moved code p (length window) new fits_in names₀)
+
+  point_moved : (q : ℕ) → IsPoint code q → IsPoint new_code (to q)
+  point_moved q h = ap (one_of (to q)) (points_are new_code ∙ points_same) ∙ one_moved to q (points names₀ code) (sym (ap (one_of q) (points_are code)) ∙ h)
+
+  point_back : (r : ℕ) → IsPoint new_code r → (q : ℕ) × IsPoint code q × (r ≡ to q)
+  point_back r h =
+      let t = one_back to r (points names₀ code) (sym (ap (one_of r) (points_are new_code ∙ points_same)) ∙ h) in
+      (t.0, ap (one_of t.0) (points_are code) ∙ t.1, t.2)
+
+  -- ---- where ways lead ----
+
+  outside_label : (q : ℕ) → IsLabelsPlace code.labels q → IsOutside p (length window) q
+  outside_label q f = subst (IsOutside p (length window)) (sym f.3) (at.unlabelled f.0 f.1 f.2)
+
+  outside_point : (q : ℕ) → IsPoint code q → IsOutside p (length window) q
+  outside_point q h =
+      elim (one_of_append q (label_places code.places code.labels) (return_places 0 code.places) h) [
+        | inl l ↦ outside_label q (label_of_place code.places code.labels q l)
+        | inr r ↦ return_outside code p (length window) new fits_in q r
+      ]
+
+  outside_aim : (mention : Option Mention) (r : ℕ) → aim_of code mention ≡ Some r → IsOutside p (length window) r
+  outside_aim None r e = absurd (cc)
+  outside_aim (Some m) r e = outside_label r (label_of_name m.name code.places code.labels r e)
+
+  outside_next : (q : ℕ) → IsApart q → IsOutside p (length window) (q + 1)
+  outside_next q (inl h) = inl (omega arith)
+  outside_next q (inr h) = inr (omega arith)
+
+  -- of what stands at a place
+  lands_outside : (q : ℕ) → IsApart q → (o : Option Place) (k : ℕ) (w : Way) (s : ℕ) → slice_get (ways_on code o) k ≡ Some w → Follows code q w.leads s → IsOutside p (length window) s
+  lands_outside q a None k w s e f = absurd (cc)
+  lands_outside q a (Some (Word v)) k w s e f = absurd (cc)
+  lands_outside q a (Some (Op i mention)) k w s e f = go w.leads (aimed_at (aim_of code mention) (ways_of (aim_of code mention) i) k w (are_aimed (aim_of code mention) i) e) f
+    where
+      go : (l : Leads) → IsAimed (aim_of code mention) l → Follows code q l s → IsOutside p (length window) s
+      go Onward b g = subst (IsOutside p (length window)) (sym g) (outside_next q a)
+      go (ToPlace t) b g = subst (IsOutside p (length window)) (sym g) (outside_aim mention t b)
+      go AnyPoint b g = outside_point s g
+      go Out b g = absurd g
+
+  pub follows_outside : (q : ℕ) → IsApart q → (k : ℕ) (w : Way) (s : ℕ) → slice_get (ways code q) k ≡ Some w → Follows code q w.leads s → IsOutside p (length window) s
+  follows_outside q a k w s e f = lands_outside q a (slice_get code.places q) k w s e f
+
+  next_moved : (q : ℕ) → IsApart q → to (q + 1) ≡ to q + 1
+  next_moved q (inl h) = omega arith
+  next_moved q (inr h) = let s = at.shorter in omega arith
+
+  pub follows_moved : (q : ℕ) → IsApart q → (l : Leads) (s : ℕ) → Follows code q l s → Follows new_code (to q) (move_leads to l) (to s)
+  follows_moved q a Onward s f = ap to f ∙ next_moved q a
+  follows_moved q a (ToPlace t) s f = ap to f
+  follows_moved q a AnyPoint s f = point_moved s f
+  follows_moved q a Out s f = absurd f
+
+  pub follows_back : (q : ℕ) → IsApart q → (l : Leads) (r : ℕ) → Follows new_code (to q) (move_leads to l) r → (s : ℕ) × Follows code q l s × (r ≡ to s)
+  follows_back q a Onward r f = (q + 1, refl, f ∙ sym (next_moved q a))
+  follows_back q a (ToPlace t) r f = (t, refl, f)
+  follows_back q a AnyPoint r f = point_back r f
+  follows_back q a Out r f = absurd f
