@@ -7,3 +7,5 @@ mod images;
 mod propagation;
 #[cfg(test)]
 mod rewrites;
+#[cfg(test)]
+mod steady;

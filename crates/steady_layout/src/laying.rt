@@ -1,0 +1,38 @@
+//! The widest layout: lines one behind the other, each with the most bytes that it takes.
+ghost use Rattle.std.specs.Prelude.{◌≡◌, ◌≤◌, ◌^◌, map, IfOk, MatchOption};
+ghost use Rattle.listing_parser.specs.Views.{line_view};
+ghost use Rattle.steady_layout.specs.Steady.{first, widest_end};
+ghost use Rattle.steady_layout.specs.Labels.{AreLabels};
+
+use crate::labels::add_labels;
+use crate::starts::{Start, next_start};
+use indexmap::IndexMap;
+use label_layout::CODE_END;
+use listing_parser::{Line, Memory};
+use std::alloc::Global;
+
+/// Where labels lie in the widest layout of lines that begin at the base: None exactly where it ends behind the Code region.
+pub fn lay_widest(
+    alloc: Global,
+    lines: &[Line],
+    base: u32,
+) -> Result<Option<IndexMap<Vec<u8>, Start>>, Memory>
+    ensures { IfOk result (λ found. MatchOption found ((widest_end (first base) (map line_view lines.now)).at ≤ 2 ^ 29 → ⊥) (λ labels. AreLabels base (map line_view lines.now) labels.entries)) }
+{
+    if base > CODE_END {
+        return Ok(None);
+    }
+    let mut labels = IndexMap::new(alloc);
+    let mut here = Start {
+        at: base,
+        aligned: true,
+    };
+    for line in lines {
+        let Some(next) = next_start(here, &line.statement) else {
+            return Ok(None);
+        };
+        add_labels(&mut labels, &line.names, here)?;
+        here = next;
+    }
+    Ok(Some(labels))
+}

@@ -1,0 +1,11 @@
+//! Listings whose mentions stay within reach, whichever of their instructions are replaced by shorter runs.
+#![tactic(auto)]
+
+mod aims;
+mod judging;
+mod labels;
+mod laying;
+mod starts;
+
+pub use judging::is_steady;
+pub use starts::Start;
