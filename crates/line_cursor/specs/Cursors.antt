@@ -6,7 +6,7 @@ use Rattle.thumb_model.proofs.LinesReplaced.{AreOps}
 use Rattle.liveness.specs.Live.{Sets}
 use Rattle.line_cursor.specs.declared.cursor.Cursor.{Cursor}
 use Rattle.line_cursor.specs.declared.cursor.Spot.{Spot}
-use Rattle.line_cursor.specs.declared.kept.Flow.{Flow}
+use Rattle.liveness.specs.declared.flowing.Flow.{Flow}
 use Rattle.line_cursor.specs.Pieces.{lines_of}
 
 abbrev pub lines_behind : Cursor → List Line

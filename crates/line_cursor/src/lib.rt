@@ -2,7 +2,6 @@
 #![tactic(auto)]
 
 pub mod cursor;
-pub mod kept;
 pub mod pieces;
 
 pub use cursor::{Cursor, Spot};
