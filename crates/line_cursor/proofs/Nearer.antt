@@ -51,12 +51,12 @@ window_stays p count is places q n within h =
 
 -- ---- places, labels and live items ----
 
-first_op : (window : List Instr) (n : ℕ) (places : List Place) (q : ℕ) → length window ≡ n → 0 < n → take n (drop q places) ≡ map plain window → is_op_place (slice_get places q) ≡ true
+pub first_op : (window : List Instr) (n : ℕ) (places : List Place) (q : ℕ) → length window ≡ n → 0 < n → take n (drop q places) ≡ map plain window → is_op_place (slice_get places q) ≡ true
 first_op [] n places q l h e = absurd (omega arith)
 first_op (i ∷ is) n places q l h e =
     ap is_op_place (sym (get_drop q places 0 q (omega arith)) ∙ sym (get_take n (drop q places) 0 h) ∙ ap (λ (ps : List Place). slice_get ps 0) e)
 
-window_within : (window : List Instr) (n : ℕ) (places : List Place) (q : ℕ) → length window ≡ n → 0 < n → take n (drop q places) ≡ map plain window → q + n ≤ length places
+pub window_within : (window : List Instr) (n : ℕ) (places : List Place) (q : ℕ) → length window ≡ n → 0 < n → take n (drop q places) ≡ map plain window → q + n ≤ length places
 window_within window n places q l h e =
     let k = length_map plain window in
     let w : length (take n (drop q places)) ≡ length (map plain window) = ap (λ (ps : List Place). length ps) e in
