@@ -1,0 +1,6 @@
+pub mod Looks
+pub mod Edits
+pub mod Settled
+pub mod Nearer
+pub mod Spots
+pub mod Labels

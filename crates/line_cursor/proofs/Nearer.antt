@@ -1,0 +1,265 @@
+-- What applies well before a replacement applied there before it.
+use Rattle.std.proofs.Common.{◌≡◌, ℕ, zero, suc, ◌+◌, ◌-◌, ◌<◌, ◌≤◌, ◌==◌, ◌&&◌, Bool, true, false, List, [], ◌∷◌, ◌++◌, length, take, drop, map, Option, Some, None, refl, sym, ap, ◌∙◌, subst, ◌⊎◌, ◌↔◌, inl, inr, arith, min, max, ne_eqb, if◌then◌else◌}
+use Rattle.std.specs.Prelude.{slice_get}
+use Rattle.std.specs.Option.{option_map}
+use Rattle.std.proofs.lemmas.Bool.{cases_lt}
+use Rattle.std.proofs.lemmas.List.{take-take, take-append-le}
+use Rattle.std.proofs.lemmas.Option.{slice_get-map, same_Some}
+use Rattle.thumb_instr.specs.declared.instr.Instr.{Instr}
+use Rattle.thumb_instr.specs.Renaming.{Low, renamed}
+use Rattle.thumb_instr.specs.Items.{has}
+use Rattle.thumb_model.specs.Listing.{Statement, Nothing, Runs, Words, Aligns, Sets, Line, Place, Op, Word, plain, Label, Code, places_in, places_of, labels_from, code_of, is_op_place, is_code}
+use Rattle.thumb_model.specs.Flow.{LiveAfter}
+use Rattle.thumb_model.specs.Layout.{Layable}
+use Rattle.thumb_model.specs.Rewrite.{Rule, Applies, moved, move_label, replaced}
+use Rattle.thumb_model.specs.Rewritten.{Setting, Replacement, is_op, is_align, are_joined, are_joined_from, lines_after_rule, AppliesIn}
+use Rattle.thumb_model.proofs.Lists.{get_drop, get_take, get_front, length_map, take_all, take_short, length_drop}
+use Rattle.thumb_model.proofs.Table.{window_length}
+use Rattle.thumb_model.proofs.LinesReplaced.{AreOps}
+use Rattle.line_cursor.specs.Cursors.{NoLabelAt, IsSettled}
+use Rattle.line_cursor.proofs.Settled.{left_places, before_window, AreCodeStill, IsGap, settled_stay, stay_settled}
+
+-- ---- fronts ----
+
+drop_front : (q p : ℕ) (xs ys : List Place) → q ≤ length xs → drop q (xs ++ ys) ≡ drop q xs ++ ys
+drop_front zero p xs ys h = refl
+drop_front (suc q) p [] ys h = absurd (omega arith)
+drop_front (suc q) p (x ∷ xs) ys h = drop_front q p xs ys (omega arith)
+
+take_front : (n : ℕ) (xs ys : List Place) → n ≤ length xs → take n (xs ++ ys) ≡ take n xs
+take_front zero xs ys h = refl
+take_front (suc n) [] ys h = absurd (omega arith)
+take_front (suc n) (x ∷ xs) ys h = ap (λ l. x ∷ l) (take_front n xs ys (omega arith))
+
+-- what stands in a front stands before whatever follows
+pub front_window : (q n : ℕ) (xs ys zs : List Place) → q + n ≤ length xs → take n (drop q (xs ++ ys)) ≡ take n (drop q (xs ++ zs))
+front_window q n xs ys zs h =
+    let left = length_drop q xs in
+    ap (take n) (drop_front q 0 xs ys (omega arith)) ∙ take_front n (drop q xs) ys (omega arith)
+    ∙ sym (ap (take n) (drop_front q 0 xs zs (omega arith)) ∙ take_front n (drop q xs) zs (omega arith))
+
+cut : (p : ℕ) (xs : List Place) → take p xs ++ drop p xs ≡ xs
+cut zero xs = refl
+cut (suc p) [] = refl
+cut (suc p) (x ∷ xs) = ap (λ l. x ∷ l) (cut p xs)
+
+-- the places before a window stay
+pub window_stays : (p count : ℕ) (is : List Instr) (places : List Place) (q n : ℕ) → p ≤ length places → q + n ≤ p → take n (drop q (left_places p count is places)) ≡ take n (drop q places)
+window_stays p count is places q n within h =
+    let long : length (take p places) ≡ p = take_all p places within in
+    front_window q n (take p places) (map plain is ++ drop (p + count) places) (drop p places) (omega arith) ∙ ap (λ l. take n (drop q l)) (cut p places)
+
+-- ---- places, labels and live items ----
+
+pub first_op : (window : List Instr) (n : ℕ) (places : List Place) (q : ℕ) → length window ≡ n → 0 < n → take n (drop q places) ≡ map plain window → is_op_place (slice_get places q) ≡ true
+first_op [] n places q l h e = absurd (omega arith)
+first_op (i ∷ is) n places q l h e =
+    ap is_op_place (sym (get_drop q places 0 q (omega arith)) ∙ sym (get_take n (drop q places) 0 h) ∙ ap (λ (ps : List Place). slice_get ps 0) e)
+
+pub window_within : (window : List Instr) (n : ℕ) (places : List Place) (q : ℕ) → length window ≡ n → 0 < n → take n (drop q places) ≡ map plain window → q + n ≤ length places
+window_within window n places q l h e =
+    let k = length_map plain window in
+    let w : length (take n (drop q places)) ≡ length (map plain window) = ap (λ (ps : List Place). length ps) e in
+    let short = take_short n (drop q places) in
+    let rest = length_drop q places in
+    omega arith
+
+-- the gap of a rule that applies
+pub applied_gap : (rule : Rule) (registers : List Low) (code : Code) (p : ℕ) → Applies rule registers code p → IsGap code.places code.labels p (length rule.left) (map (renamed registers) rule.right)
+applied_gap rule registers code p a =
+    let n = window_length rule registers code p a in
+    let m = length_map (renamed registers) rule.right in
+    let shorter = a.shorter in
+    record {
+      within = window_within a.window (length rule.left) code.places p n (omega arith) a.stands;
+      shorter = omega arith;
+      first = first_op a.window (length rule.left) code.places p n (omega arith) a.stands;
+      unlabelled = a.unlabelled;
+    }
+
+-- and its labels stay
+pub applied_stay : (rule : Rule) (registers : List Low) (code : Code) (p : ℕ) → Applies rule registers code p → AreCodeStill code.places code.labels p (length rule.left) (map (renamed registers) rule.right)
+applied_stay rule registers code p a k l e h =
+    let m = length_map (renamed registers) rule.right in
+    subst (λ n. is_op_place (slice_get (left_places p (length rule.left) (map (renamed registers) rule.right) code.places) (moved p (length rule.left - n) l.place)) ≡ true) (sym m) (a.labels_stay k l e h)
+
+-- a label where it comes to
+moved_label : (p gone : ℕ) (labels : List Label) (k : ℕ) (l : Label) → slice_get labels k ≡ Some l → slice_get (map (move_label p gone) labels) k ≡ Some (move_label p gone l)
+moved_label p gone labels k l e = slice_get-map (move_label p gone) labels k ∙ ap (option_map (move_label p gone)) e
+
+-- an entry that applies from q on, before a gap at p, in what is left there, applied there before
+pub applied_before : (rule : Rule) (registers : List Low) (code : Code) (p count : ℕ) (is : List Instr) (q : ℕ) → IsGap code.places code.labels p count is → q + length rule.left ≤ p
+    → ((x : ℕ) → LiveAfter code (q + length rule.left - 1) x → LiveAfter (replaced code p count is) (q + length rule.left - 1) x)
+    → Applies rule registers (replaced code p count is) q → Applies rule registers code q
+applied_before rule registers code p count is q g far live a =
+    let new : Code = replaced code p count is in
+    let right : List Instr = map (renamed registers) rule.right in
+    let m = length_map (renamed registers) rule.right in
+    let within = g.within in
+    let shorter = a.shorter in
+    let gap = applied_gap rule registers new q a in
+    let settled = stay_settled new.places new.labels q (length rule.left) right gap (applied_stay rule registers new q a) in
+    let stands : take (length rule.left) (drop q code.places) ≡ map plain a.window = sym (window_stays p count is code.places q (length rule.left) (omega arith) far) ∙ a.stands in
+    let unlabelled : (k : ℕ) (l : Label) → slice_get code.labels k ≡ Some l → (l.place ≤ q) ⊎ (q + length rule.left ≤ l.place) =
+    λ k l e. clear (l.place) (a.unlabelled k (move_label p (count - length is) l) (moved_label p (count - length is) code.labels k l e)) in
+    let n = window_length rule registers new q a in
+    let old : IsGap code.places code.labels q (length rule.left) right = record {
+      within = omega arith;
+      shorter = gap.shorter;
+      first = first_op a.window (length rule.left) code.places q n (omega arith) stands;
+      unlabelled = unlabelled;
+    } in
+    let stay = settled_stay code.places code.labels q (length rule.left) right old (was_settled settled) in
+    record {
+      as_many = a.as_many;
+      one_to_one = a.one_to_one;
+      window = a.window;
+      stands = stands;
+      matches = a.matches;
+      unlabelled = unlabelled;
+      shorter = a.shorter;
+      live = λ x h. a.live x (live x h);
+      labels_stay = λ k l e h. subst (λ n. is_op_place (slice_get (left_places q (length rule.left) right code.places) (moved q (length rule.left - n) l.place)) ≡ true) m (stay k l e h);
+    }
+  where
+    clear : (x : ℕ) → (moved p (count - length is) x ≤ q) ⊎ (q + length rule.left ≤ moved p (count - length is) x) → (x ≤ q) ⊎ (q + length rule.left ≤ x)
+    clear x h = elim (cases_lt p x) [
+      | inl b ↦ inr (omega arith)
+      | inr b ↦ (let same : moved p (count - length is) x ≡ x = omega arith in elim h [ inl c ↦ inl (omega arith) | inr c ↦ inr (omega arith) ])
+    ]
+
+    was_settled : IsSettled (replaced code p count is).places (replaced code p count is).labels q (length rule.left) (map (renamed registers) rule.right)
+        → IsSettled code.places code.labels q (length rule.left) (map (renamed registers) rule.right)
+    was_settled (inl s) = inl s
+    was_settled (inr (inl s)) = elim (cases_lt (q + length rule.left) p) [
+      | inl b ↦ (let w = g.within in inr (inl (sym (ap is_op_place (before_window p count is code.places (q + length rule.left) (omega arith) b)) ∙ s)))
+      | inr b ↦ (let same : q + length rule.left ≡ p = omega arith in inr (inl (ap (λ r. is_op_place (slice_get code.places r)) same ∙ g.first)))
+    ]
+    was_settled (inr (inr s)) = inr (inr (λ k l e here.
+        let same : moved p (count - length is) l.place ≡ q = omega arith in
+        s k (move_label p (count - length is) l) (moved_label p (count - length is) code.labels k l e) same))
+
+-- ---- alignment lines ----
+
+-- a line of a window is an instruction's, or has no place
+other_line : (n : ℕ) (s : Statement) (ps : List Place) → is_op s ≡ false → AreOps (suc n) (places_in s ++ ps) → AreOps (suc n) ps
+other_line n Nothing ps e h = h
+other_line n (Runs i m) ps e h = absurd (cc)
+other_line n (Words []) ps e h = h
+other_line n (Words (v ∷ vs)) ps e h = absurd h
+other_line n (Aligns size most) ps e h = h
+other_line n (Sets name address) ps e h = h
+
+op_line : (n : ℕ) (s : Statement) (ps : List Place) → is_op s ≡ true → AreOps (suc n) (places_in s ++ ps) → AreOps n ps
+op_line n (Runs i m) ps e h = h
+op_line n Nothing ps e h = absurd (cc)
+op_line n (Words vs) ps e h = absurd (cc)
+op_line n (Aligns size most) ps e h = absurd (cc)
+op_line n (Sets name address) ps e h = absurd (cc)
+
+joined_front : (n : ℕ) (xs ys : List Line) → AreOps n (places_of xs) → are_joined n (xs ++ ys) ≡ are_joined n xs
+joined_front zero xs ys h = refl
+joined_front (suc n) [] ys h = absurd h
+joined_front (suc n) (l ∷ ls) ys h = by (λ k. joined_front n ls ys k) (λ k. joined_front (suc n) ls ys k) (is_op l.statement) refl
+  where
+    by : (AreOps n (places_of ls) → are_joined n (ls ++ ys) ≡ are_joined n ls) → (AreOps (suc n) (places_of ls) → are_joined (suc n) (ls ++ ys) ≡ are_joined (suc n) ls) → (b : Bool) → is_op l.statement ≡ b
+        → (if b then are_joined n (ls ++ ys) else (if is_align l.statement then false else are_joined (suc n) (ls ++ ys))) ≡ (if b then are_joined n ls else (if is_align l.statement then false else are_joined (suc n) ls))
+    by less same true e = less (op_line n l.statement (places_of ls) e h)
+    by less same false e = ap (λ b. if is_align l.statement then false else b) (same (other_line n l.statement (places_of ls) e h))
+
+-- the places from q on, past a line
+past : (q n : ℕ) (xs ps : List Place) → AreOps (suc n) (drop q (xs ++ ps)) → length xs ≤ q → AreOps (suc n) (drop (q - length xs) ps)
+past q n [] ps h l = subst (λ k. AreOps (suc n) (drop k ps)) (let e : q ≡ q - 0 = omega arith in e) h
+past zero n (x ∷ xs) ps h l = absurd (omega arith)
+past (suc q) n (x ∷ xs) ps h l = subst (λ k. AreOps (suc n) (drop k ps)) (let e : q - length xs ≡ suc q - suc (length xs) = omega arith in e) (past q n xs ps h (omega arith))
+
+-- the place at q isn't within a line that isn't an instruction's
+not_within : (q n : ℕ) (s : Statement) (ps : List Place) → is_op s ≡ false → AreOps (suc n) (drop q (places_in s ++ ps)) → length (places_in s) ≤ q
+not_within q n Nothing ps e h = omega arith
+not_within q n (Runs i m) ps e h = absurd (cc)
+not_within q n (Aligns size most) ps e h = omega arith
+not_within q n (Sets name address) ps e h = omega arith
+not_within q n (Words []) ps e h = omega arith
+not_within zero n (Words (v ∷ vs)) ps e h = absurd h
+not_within (suc q) n (Words (v ∷ vs)) ps e h = let r = not_within q n (Words vs) ps refl h in omega arith
+
+pub joined_from_front : (q n : ℕ) (xs ys : List Line) → AreOps (suc n) (drop q (places_of xs)) → are_joined_from q (suc n) (xs ++ ys) ≡ are_joined_from q (suc n) xs
+joined_from_front q n [] ys h = absurd (nothing q h)
+  where
+    nothing : (q : ℕ) → AreOps (suc n) (drop q []) → ⊥
+    nothing zero h = h
+    nothing (suc q) h = h
+joined_from_front q n (l ∷ ls) ys h = by (λ r k. joined_from_front r n ls ys k) (is_op l.statement) refl q h
+  where
+    by : ((r : ℕ) → AreOps (suc n) (drop r (places_of ls)) → are_joined_from r (suc n) (ls ++ ys) ≡ are_joined_from r (suc n) ls) → (b : Bool) → is_op l.statement ≡ b → (q : ℕ) → AreOps (suc n) (drop q (places_in l.statement ++ places_of ls))
+        → (if b && (q == 0) then are_joined (suc n - 1) (ls ++ ys) else are_joined_from (q - length (places_in l.statement)) (suc n) (ls ++ ys))
+        ≡ (if b && (q == 0) then are_joined (suc n - 1) ls else are_joined_from (q - length (places_in l.statement)) (suc n) ls)
+    by rec false e q h = rec (q - length (places_in l.statement)) (past q n (places_in l.statement) (places_of ls) h (not_within q n l.statement (places_of ls) e h))
+    by rec true e zero h = subst (λ k. are_joined k (ls ++ ys) ≡ are_joined k ls) (let z : n ≡ suc n - 1 = omega arith in z) (joined_front n ls ys (op_line n l.statement (places_of ls) e h))
+    by rec true e (suc q) h = rw (ne_eqb (suc q) 0 (λ z. omega arith)) (rec (suc q - length (places_in l.statement)) (past (suc q) n (places_in l.statement) (places_of ls) h (one l.statement e)))
+      where
+        one : (s : Statement) → is_op s ≡ true → length (places_in s) ≤ suc q
+        one (Runs i m) e = omega arith
+        one Nothing e = absurd (cc)
+        one (Words vs) e = absurd (cc)
+        one (Aligns size most) e = absurd (cc)
+        one (Sets name address) e = absurd (cc)
+
+ops_front : (n q : ℕ) (xs ys : List Place) → q + n ≤ length xs → AreOps n (drop q (xs ++ ys)) → AreOps n (drop q xs)
+ops_front zero q xs ys h a = tt
+ops_front (suc n) zero [] ys h a = absurd (omega arith)
+ops_front (suc n) zero (Op i m ∷ xs) ys h a = ops_front n 0 xs ys (omega arith) a
+ops_front (suc n) zero (Word w ∷ xs) ys h a = absurd a
+ops_front (suc n) (suc q) [] ys h a = absurd (omega arith)
+ops_front (suc n) (suc q) (x ∷ xs) ys h a = ops_front (suc n) q xs ys (omega arith) a
+
+ops_back : (n q : ℕ) (xs ys : List Place) → AreOps n (drop q xs) → AreOps n (drop q (xs ++ ys))
+ops_back zero q xs ys a = tt
+ops_back (suc n) zero [] ys a = absurd a
+ops_back (suc n) zero (Op i m ∷ xs) ys a = ops_back n 0 xs ys a
+ops_back (suc n) zero (Word w ∷ xs) ys a = absurd a
+ops_back (suc n) (suc q) [] ys a = absurd a
+ops_back (suc n) (suc q) (x ∷ xs) ys a = ops_back (suc n) q xs ys a
+
+pub places_append : (xs ys : List Line) → places_of (xs ++ ys) ≡ places_of xs ++ places_of ys
+places_append [] ys = refl
+places_append (l ∷ ls) ys = ap (λ ps. places_in l.statement ++ ps) (places_append ls ys) ∙ sym (assoc (places_in l.statement) (places_of ls) (places_of ys))
+  where
+    assoc : (a b c : List Place) → (a ++ b) ++ c ≡ a ++ (b ++ c)
+    assoc [] b c = refl
+    assoc (x ∷ a) b c = ap (λ l. x ∷ l) (assoc a b c)
+
+-- whether alignment lines stand between a window's instructions is told by the lines up to its end
+pub joined_stays : (q n : ℕ) (xs ys zs : List Line) → 0 < n → q + n ≤ length (places_of xs) → AreOps n (drop q (places_of (xs ++ ys))) → are_joined_from q n (xs ++ ys) ≡ are_joined_from q n (xs ++ zs)
+joined_stays q zero xs ys zs some h a = absurd (omega arith)
+joined_stays q (suc n) xs ys zs some h a =
+    let inside : AreOps (suc n) (drop q (places_of xs)) = ops_front (suc n) q (places_of xs) (places_of ys) h (subst (λ (ps : List Place). AreOps (suc n) (drop q ps)) (places_append xs ys) a) in
+    joined_from_front q n xs ys inside ∙ sym (joined_from_front q n xs zs inside)
+
+ops_of : (is : List Instr) (n : ℕ) (ps : List Place) → n ≡ length is → take n ps ≡ map plain is → AreOps n ps
+ops_of [] zero ps e h = tt
+ops_of (i ∷ is) zero ps e h = absurd (omega arith)
+ops_of [] (suc n) ps e h = absurd (omega arith)
+ops_of (i ∷ is) (suc n) [] e h = absurd (cc)
+ops_of (i ∷ is) (suc n) (Op j mention ∷ ps) e h = ops_of is n ps (omega arith) (cc)
+ops_of (i ∷ is) (suc n) (Word w ∷ ps) e h = absurd (cc)
+
+-- what applies in the new lines before the gap applied in the old ones, if what it leaves there can be laid out
+pub applies_before : (s : Setting) (xs ys zs : List Line) (count : ℕ) (is : List Instr) (o : Replacement) → code_of (xs ++ zs) ≡ replaced (code_of (xs ++ ys)) (length (places_of xs)) count is
+    → IsGap (places_of (xs ++ ys)) (labels_from 0 (xs ++ ys)) (length (places_of xs)) count is → (a : AppliesIn s o (xs ++ zs)) → o.place + length a.rule.left ≤ length (places_of xs)
+    → ((x : ℕ) → LiveAfter (code_of (xs ++ ys)) (o.place + length a.rule.left - 1) x → LiveAfter (code_of (xs ++ zs)) (o.place + length a.rule.left - 1) x)
+    → (Applies a.rule o.registers (code_of (xs ++ ys)) o.place → Layable s.base (lines_after_rule s (Some a.rule) o (xs ++ ys))) → AppliesIn s o (xs ++ ys)
+applies_before s xs ys zs count is o e g a far live layable =
+    let shorter = a.applies.shorter in
+    let n = window_length a.rule o.registers (code_of (xs ++ zs)) o.place a.applies in
+    let there : Applies a.rule o.registers (replaced (code_of (xs ++ ys)) (length (places_of xs)) count is) o.place = subst (λ (c : Code). Applies a.rule o.registers c o.place) e a.applies in
+    let applies : Applies a.rule o.registers (code_of (xs ++ ys)) o.place =
+    applied_before a.rule o.registers (code_of (xs ++ ys)) (length (places_of xs)) count is o.place g far (λ x h. subst (λ (c : Code). LiveAfter c (o.place + length a.rule.left - 1) x) e (live x h)) there in
+    let ops : AreOps (length a.rule.left) (drop o.place (places_of (xs ++ zs))) = ops_of a.applies.window (length a.rule.left) (drop o.place (places_of (xs ++ zs))) (sym n) a.applies.stands in
+    record {
+      rule = a.rule;
+      is_rule = a.is_rule;
+      applies = applies;
+      joined = sym (joined_stays o.place (length a.rule.left) xs zs ys (omega arith) far ops) ∙ a.joined;
+      layable = layable applies;
+    }

@@ -1,0 +1,13 @@
+use Rattle.std.proofs.Common.{◌≡◌, ◌≤◌, length, take}
+use Rattle.line_cursor.specs.Pieces.{lines_of}
+use Rattle.line_cursor.proofs.Labels.{ends_at}
+use Rattle.line_cursor.proofs.cursor.ends_labelled.Given as goal
+
+abbrev pub invariant-loop-at : goal.invariant-loop-at
+invariant-loop-at l = record {
+  within : l.at ≤ length l.behind;
+  same : ends_at (lines_of (take l.at l.behind)) ≡ ends_at (lines_of l.behind);
+}
+
+abbrev pub decreases-loop-at : goal.decreases-loop-at
+decreases-loop-at l = l.at

@@ -1,0 +1,16 @@
+use Rattle.std.proofs.Common.{◌≡◌, ◌≤◌, true, length, reverse, take}
+use Rattle.window_harvest.specs.Rows.{rows_from}
+use Rattle.window_harvest.specs.Runs.{run}
+use Rattle.line_cursor.specs.Pieces.{lines_of}
+use Rattle.line_cursor.proofs.Looks.{Comes}
+use Rattle.line_cursor.proofs.cursor.run.Given as goal
+
+abbrev pub invariant-loop-at : goal.invariant-loop-at
+invariant-loop-at l = record {
+  within : l.at ≤ length l.ahead;
+  few : length l.seq ≤ l.most;
+  comes : Comes l.seq l.most (lines_of (reverse (take l.at l.ahead))) (run true l.most (rows_from true (lines_of (reverse l.ahead))));
+}
+
+abbrev pub decreases-loop-at : goal.decreases-loop-at
+decreases-loop-at l = l.at

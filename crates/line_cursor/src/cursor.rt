@@ -1,0 +1,375 @@
+//! A cursor in a listing that is being rewritten: what stands before it and behind it, with what is kept of places.
+ghost use Rattle.std.specs.Prelude.{◌≡◌, ◌+◌, ◌-◌, ◌<◌, ◌≤◌, ◌++◌, ◌∷◌, [], List, length, drop, reverse, slice_get, true, false, IfOk, OnOk, Some};
+ghost use Rattle.liveness.specs.Live.{set_at};
+ghost use Rattle.std.specs.Prelude.{map};
+ghost use Rattle.listing_parser.specs.Replacing.{own_line};
+ghost use Rattle.listing_parser.specs.Views.{line_view};
+ghost use Rattle.std.specs.Prelude.{ℕ};
+ghost use Rattle.std.specs.Prelude.{◌↔◌};
+ghost use Rattle.thumb_model.specs.Listing.{Place, is_op_place, labels_from, places_of};
+ghost use Rattle.line_cursor.specs.Cursors.{AreAhead};
+ghost use Rattle.thumb_model.specs.Rewritten.{replaced_lines, without};
+ghost use Rattle.thumb_model.proofs.LinesReplaced.{AreOps};
+ghost use Rattle.window_harvest.specs.Rows.{rows_from};
+ghost use Rattle.window_harvest.specs.Runs.{run};
+ghost use Rattle.line_cursor.specs.declared.pieces.Piece.{Piece};
+ghost use Rattle.line_cursor.specs.Pieces.{begins_op, lines_in, lines_of};
+ghost use Rattle.line_cursor.specs.Cursors.{lines_ahead, lines_at, lines_behind, place_at, sets_of, spots_at, stands_at, IsCursor, IsSettled};
+
+
+use crate::pieces::{Look, Piece, all_lines, give_way, is_labelled, is_op, places_of, seen};
+use listing_parser::{Line, Memory};
+use liveness::Flow;
+use std::alloc::Global;
+use thumb_instr::{Instr, Items, Seq};
+
+/// What is kept of a place.
+#[derive(Clone, Copy)]
+pub struct Spot {
+    /// The items that are live before it and after it.
+    pub before: Items,
+    pub after: Items,
+    pub flow: Flow,
+}
+
+/// A cursor between two pieces.
+#[derive(Drop)]
+pub struct Cursor<'a> {
+    /// The pieces before it, in order.
+    pub behind: Vec<Piece<'a>>,
+    /// The pieces behind it, backward.
+    pub ahead: Vec<Piece<'a>>,
+    /// The places before it, in order.
+    pub passed: Vec<Spot>,
+    /// The places behind it, backward.
+    pub coming: Vec<Spot>,
+}
+
+/// Moves the last spot behind others.
+fn shift_one(from: &mut Vec<Spot>, to: &mut Vec<Spot>) -> Result<(), Memory>
+    requires { 0 < length from.old.items }
+    ensures same { OnOk result (to.new.items ++ reverse from.new.items ≡ to.old.items ++ reverse from.old.items) }
+    ensures more { OnOk result (length to.new.items ≡ length to.old.items + 1) }
+    ensures fewer { OnOk result (length from.new.items + 1 ≡ length from.old.items) }
+{
+    match from.pop() {
+        None => Ok(()),
+        Some(spot) => {
+            to.push(spot)?;
+            Ok(())
+        }
+    }
+}
+
+/// Moves the last spots, in turn, behind others.
+fn shift(from: &mut Vec<Spot>, to: &mut Vec<Spot>, count: usize) -> Result<(), Memory>
+    requires { count ≤ length from.old.items }
+    ensures same { OnOk result (to.new.items ++ reverse from.new.items ≡ to.old.items ++ reverse from.old.items) }
+    ensures more { OnOk result (length to.new.items ≡ length to.old.items + count) }
+    ensures fewer { OnOk result (length from.new.items + count ≡ length from.old.items) }
+{
+    for _ in 0..count {
+        shift_one(from, to)?;
+    }
+    Ok(())
+}
+
+/// Moves the last piece of one list behind another, where it isn't an instruction. Whether it is.
+fn skip_one<'a>(ahead: &mut Vec<Piece<'a>>, behind: &mut Vec<Piece<'a>>) -> Result<bool, Memory>
+    requires { 0 < length ahead.old.items }
+    ensures op { IfOk result (λ b. b ≡ true → (behind.new.items ≡ behind.old.items) × (x : Piece) × (ahead.old.items ≡ ahead.new.items ++ x ∷ []) × (begins_op (lines_in x) ≡ true)) }
+    ensures other { IfOk result (λ b. b ≡ false → (x : Piece) × (behind.new.items ≡ behind.old.items ++ x ∷ []) × (ahead.old.items ≡ ahead.new.items ++ x ∷ []) × (begins_op (lines_in x) ≡ false)) }
+{
+    match ahead.pop() {
+        None => Ok(true),
+        Some(piece) => {
+            if is_op(piece) {
+                return Ok(true);
+            }
+            behind.push(piece)?;
+            Ok(false)
+        }
+    }
+}
+
+/// Moves a piece behind another list, where it isn't an instruction. How many instructions are still to be left out.
+fn skip_step<'a>(
+    ahead: &mut Vec<Piece<'a>>,
+    behind: &mut Vec<Piece<'a>>,
+    left: usize,
+) -> Result<usize, Memory>
+    requires some { 0 < length ahead.old.items }
+    requires left { 0 < left }
+    ensures lines { IfOk result (λ n. lines_of behind.new.items ++ without n (lines_of (reverse ahead.new.items)) ≡ lines_of behind.old.items ++ without left (lines_of (reverse ahead.old.items))) }
+    ensures places { IfOk result (λ n. (count : ℕ) (was : List Place) → AreAhead count was (places_of (lines_of (reverse ahead.old.items))) left → AreAhead count was (places_of (lines_of (reverse ahead.new.items))) n) }
+    ensures fewer { OnOk result (length ahead.new.items < length ahead.old.items) }
+{
+    if skip_one(ahead, behind)? {
+        Ok(left - 1)
+    } else {
+        Ok(left)
+    }
+}
+
+/// Moves pieces behind others, without the first instructions among them, until none of these is left.
+fn skip<'a>(
+    ahead: &mut Vec<Piece<'a>>,
+    behind: &mut Vec<Piece<'a>>,
+    count: usize,
+) -> Result<(), Memory>
+    ensures places { OnOk result (AreOps count (places_of (lines_of (reverse ahead.old.items))) → places_of (lines_of (reverse ahead.new.items)) ≡ drop count (places_of (lines_of (reverse ahead.old.items)))) }
+    ensures lines { OnOk result (lines_of behind.new.items ++ lines_of (reverse ahead.new.items) ≡ lines_of behind.old.items ++ without count (lines_of (reverse ahead.old.items))) }
+{
+    let mut left = count;
+    while left > 0 {
+        if ahead.len() == 0 {
+            return Ok(());
+        }
+        left = skip_step(ahead, behind, left)?;
+    }
+    Ok(())
+}
+
+/// Puts instructions in place of the first ones of a list.
+fn edit<'a>(
+    ahead: &mut Vec<Piece<'a>>,
+    behind: &mut Vec<Piece<'a>>,
+    count: usize,
+    new: &[Instr],
+) -> Result<(), Memory>
+    requires count { 0 < count }
+    requires some { 0 < length ahead.old.items }
+    requires first { (rest : List Piece) (x : Piece) → ahead.old.items ≡ rest ++ x ∷ [] → begins_op (lines_in x) ≡ true }
+    ensures places { OnOk result (AreOps count (places_of (lines_of (reverse ahead.old.items))) → places_of (lines_of (reverse ahead.new.items)) ≡ drop count (places_of (lines_of (reverse ahead.old.items)))) }
+    ensures lines { OnOk result (lines_of behind.new.items ++ lines_of (reverse ahead.new.items) ≡ replaced_lines own_line (length (places_of (lines_of behind.old.items))) count new.now (lines_of behind.old.items ++ lines_of (reverse ahead.old.items))) }
+{
+    match ahead.pop() {
+        None => Ok(()),
+        Some(first) => {
+            give_way(behind, first, new)?;
+            skip(ahead, behind, count - 1)?;
+            Ok(())
+        }
+    }
+}
+
+/// The instructions that stand one behind the other in pieces, backward, and may stand in a window, with no label and no alignment line between them.
+fn run(ahead: &[Piece<'_>], most: usize) -> Seq
+    requires { most ≤ 5 }
+    ensures { result ≡ run true most (rows_from true (lines_of (reverse ahead.now))) }
+{
+    let mut seq = Seq::new();
+    let mut at = ahead.len();
+    while at > 0 && seq.len() < most {
+        at -= 1;
+        match seen(ahead[at], seq.len() == 0) {
+            Look::Letter(instr) => seq.push(instr),
+            Look::Nothing => {}
+            Look::End => return seq,
+        }
+    }
+    seq
+}
+
+/// Whether an instruction stands behind so many places of pieces, backward.
+fn is_op_at(ahead: &[Piece<'_>], count: usize) -> bool
+    ensures { result ≡ is_op_place (slice_get (places_of (lines_of (reverse ahead.now))) count) }
+{
+    let mut left = count;
+    let mut at = ahead.len();
+    while at > 0 {
+        at -= 1;
+        let piece = ahead[at];
+        let places = places_of(piece);
+        if left < places {
+            return is_op(piece);
+        }
+        left -= places;
+    }
+    false
+}
+
+/// Whether a label stands behind the last place of pieces.
+fn ends_labelled(behind: &[Piece<'_>]) -> bool
+    ensures { result ≡ stands_at (length (places_of (lines_of behind.now))) (labels_from 0 (lines_of behind.now)) }
+{
+    let mut at = behind.len();
+    while at > 0 {
+        at -= 1;
+        let piece = behind[at];
+        if places_of(piece) > 0 {
+            return false;
+        }
+        if is_labelled(piece) {
+            return true;
+        }
+    }
+    false
+}
+
+impl<'a> Cursor<'a> {
+    /// A cursor before lines, whose places are known so.
+    pub fn start(alloc: Global, lines: &'a [Line], spots: &[Spot]) -> Result<Cursor<'a>, Memory>
+        requires { length spots.now ≡ length (places_of (map line_view lines.now)) }
+        ensures is { IfOk result IsCursor }
+        ensures lines { IfOk result (λ c. lines_at c ≡ map line_view lines.now) }
+        ensures spots { IfOk result (λ c. spots_at c ≡ spots.now) }
+        ensures place { IfOk result (λ c. place_at c ≡ 0) }
+    {
+        let mut ahead = all_lines(alloc, lines)?;
+        ahead.reverse();
+        let mut coming = spots.to_vec(alloc)?;
+        coming.reverse();
+        Ok(Cursor {
+            behind: Vec::new(alloc),
+            ahead,
+            passed: Vec::new(alloc),
+            coming,
+        })
+    }
+
+    /// All pieces, in order.
+    pub fn into_pieces(self) -> Result<Vec<Piece<'a>>, Memory>
+        ensures { IfOk result (λ v. lines_of v.items ≡ lines_at self.entry) }
+    {
+        let mut pieces = self.behind;
+        let mut ahead = self.ahead;
+        while let Some(piece) = ahead.pop() {
+            pieces.push(piece)?;
+        }
+        Ok(pieces)
+    }
+
+    /// How many places stand before it.
+    pub fn place(&self) -> usize
+        ensures { result ≡ place_at self.now }
+    {
+        self.passed.len()
+    }
+
+    /// Whether an instruction stands right behind it.
+    pub fn is_at_op(&self) -> bool
+        ensures op { (rest : List Piece) (x : Piece) → self.now.ahead.items ≡ rest ++ x ∷ [] → result ≡ begins_op (lines_in x) }
+        ensures some { result ≡ true → 0 < length self.now.ahead.items }
+    {
+        let ahead = self.ahead.as_slice();
+        if ahead.len() == 0 {
+            return false;
+        }
+        is_op(ahead[ahead.len() - 1])
+    }
+
+    /// The instructions behind it that may stand in a window, as many as there are, and at most so many.
+    pub fn run(&self, most: usize) -> Seq
+        requires { most ≤ 5 }
+        ensures { result ≡ run true most (rows_from true (lines_ahead self.now)) }
+    {
+        run(&self.ahead, most)
+    }
+
+    /// The items that are live after so many places behind it.
+    pub fn after(&self, count: usize) -> Items
+        requires some { 0 < count }
+        requires few { count ≤ length self.now.coming.items }
+        ensures { result.bits ≡ set_at (sets_of (spots_at self.now)).after (place_at self.now + (count - 1)) }
+    {
+        self.coming[self.coming.len() - count].after
+    }
+
+    /// Moves on by a piece.
+    pub fn forward(&mut self) -> Result<(), Memory>
+        requires { IsCursor self.old }
+        ensures is { OnOk result (IsCursor self.new) }
+        ensures lines { OnOk result (lines_at self.new ≡ lines_at self.old) }
+        ensures spots { OnOk result (spots_at self.new ≡ spots_at self.old) }
+        ensures place { OnOk result ((rest : List Piece) (x : Piece) → self.old.ahead.items ≡ rest ++ x ∷ [] → (place_at self.new ≡ place_at self.old + length (places_of (lines_in x))) × (self.new.ahead.items ≡ rest)) }
+    {
+        match self.ahead.pop() {
+            None => Ok(()),
+            Some(piece) => {
+                shift(&mut self.coming, &mut self.passed, places_of(piece))?;
+                self.behind.push(piece)?;
+                Ok(())
+            }
+        }
+    }
+
+    /// Moves back by a piece.
+    fn back(&mut self) -> Result<(), Memory>
+        requires is { IsCursor self.old }
+        requires some { 0 < length self.old.behind.items }
+        ensures is { OnOk result (IsCursor self.new) }
+        ensures lines { OnOk result (lines_at self.new ≡ lines_at self.old) }
+        ensures spots { OnOk result (spots_at self.new ≡ spots_at self.old) }
+        ensures less { OnOk result (length self.new.behind.items + 1 ≤ length self.old.behind.items) }
+    {
+        match self.behind.pop() {
+            None => Ok(()),
+            Some(piece) => {
+                shift(&mut self.passed, &mut self.coming, places_of(piece))?;
+                self.ahead.push(piece)?;
+                Ok(())
+            }
+        }
+    }
+
+    /// Moves back until at most so many places stand before it.
+    pub fn rewind(&mut self, place: usize) -> Result<(), Memory>
+        requires { IsCursor self.old }
+        ensures is { OnOk result (IsCursor self.new) }
+        ensures lines { OnOk result (lines_at self.new ≡ lines_at self.old) }
+        ensures spots { OnOk result (spots_at self.new ≡ spots_at self.old) }
+        ensures place { OnOk result (place_at self.new ≤ place) }
+    {
+        while self.passed.len() > place {
+            self.back()?;
+        }
+        Ok(())
+    }
+
+    /// Puts instructions in place of `count` that stand behind it, the first of them right behind it, with what is kept of them. It is then behind them.
+    pub fn replace(&mut self, count: usize, new: &[Instr], spots: &[Spot]) -> Result<(), Memory>
+        requires is { IsCursor self.old }
+        requires count { 0 < count }
+        requires some { 0 < length self.old.ahead.items }
+        requires first { (rest : List Piece) (x : Piece) → self.old.ahead.items ≡ rest ++ x ∷ [] → begins_op (lines_in x) ≡ true }
+        requires window { AreOps count (places_of (lines_ahead self.old)) }
+        requires spots { length spots.now ≡ length new.now }
+        ensures is { OnOk result (IsCursor self.new) }
+        ensures lines { OnOk result (lines_at self.new ≡ replaced_lines own_line (place_at self.old) count new.now (lines_at self.old)) }
+        ensures spots { OnOk result (spots_at self.new ≡ self.old.passed.items ++ (spots.now ++ drop count (reverse self.old.coming.items))) }
+        ensures place { OnOk result (place_at self.new ≡ place_at self.old + length new.now) }
+    {
+        edit(&mut self.ahead, &mut self.behind, count, new)?;
+        let left = self.coming.len().saturating_sub(count);
+        self.coming.truncate(left);
+        self.passed.extend_from_slice(spots)?;
+        Ok(())
+    }
+
+    /// Whether a label stands at the next place, which is an instruction's.
+    fn is_labelled(&self) -> bool
+        requires some { 0 < length self.now.ahead.items }
+        requires first { (rest : List Piece) (x : Piece) → self.now.ahead.items ≡ rest ++ x ∷ [] → begins_op (lines_in x) ≡ true }
+        ensures { result ≡ stands_at (length (places_of (lines_behind self.now))) (labels_from 0 (lines_at self.now)) }
+    {
+        let ahead = self.ahead.as_slice();
+        ends_labelled(&self.behind) || is_labelled(ahead[ahead.len() - 1])
+    }
+
+    /// Whether each code label stays code where so many instructions that come, the first of them right behind the cursor, give way to others.
+    pub fn is_settled(&self, count: usize, new: &[Instr]) -> bool
+        requires is { IsCursor self.now }
+        requires some { 0 < length self.now.ahead.items }
+        requires first { (rest : List Piece) (x : Piece) → self.now.ahead.items ≡ rest ++ x ∷ [] → begins_op (lines_in x) ≡ true }
+        ensures { (result ≡ true) ↔ IsSettled (places_of (lines_at self.now)) (labels_from 0 (lines_at self.now)) (place_at self.now) count new.now }
+    {
+        if !new.is_empty() {
+            return true;
+        }
+        if is_op_at(&self.ahead, count) {
+            return true;
+        }
+        !self.is_labelled()
+    }
+}

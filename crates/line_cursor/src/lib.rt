@@ -1,0 +1,8 @@
+//! A cursor in the lines of a listing that is being rewritten: it moves from line to line, puts instructions in place of others, and keeps what is known of places.
+#![tactic(auto)]
+
+pub mod cursor;
+pub mod pieces;
+
+pub use cursor::{Cursor, Spot};
+pub use pieces::Piece;

@@ -1,0 +1,166 @@
+//! Lines made of a listing's lines.
+ghost use Rattle.std.specs.Prelude.{◌≡◌, ◌++◌, length, map, IfOk, OnOk};
+ghost use Rattle.listing_parser.specs.Views.{line_view, statement_view};
+ghost use Rattle.listing_parser.specs.Replacing.{own_line};
+ghost use Rattle.thumb_model.specs.Listing.{places_in, places_of};
+ghost use Rattle.thumb_model.specs.Rewritten.{new_line};
+ghost use Rattle.window_harvest.specs.Rows.{letter_of};
+ghost use Rattle.std.specs.Prelude.{None};
+ghost use Rattle.line_cursor.specs.Pieces.{begins_labelled, begins_op, labels_left, lines_in, lines_of};
+ghost use Rattle.line_cursor.specs.Looks.{look_letter, look_lines, look_statement};
+
+use listing_parser::{Line, Memory, Statement};
+use std::alloc::Global;
+use thumb_instr::{Instr, in_window};
+
+/// What stands in a listing that is made of another's lines.
+#[derive(Clone, Copy)]
+pub enum Piece<'a> {
+    /// A line as it stood.
+    Line(&'a Line),
+    /// What stays of a line whose instruction goes: its labels. Nothing, where it has none.
+    Labels(&'a Line),
+    /// The line of a new instruction: a tab, its canonical text and a newline.
+    New(Instr),
+}
+
+/// What a piece is to a run of instructions that may stand in a window.
+#[derive(Clone, Copy)]
+pub enum Look {
+    /// The next instruction.
+    Letter(Instr),
+    /// Nothing: the run goes on behind it.
+    Nothing,
+    /// The end.
+    End,
+}
+
+/// How many places a statement has.
+fn places_in(statement: &Statement) -> usize
+    ensures { result ≡ length (places_in (statement_view statement.now)) }
+{
+    match statement {
+        Statement::Runs { .. } => 1,
+        Statement::Words(values) => values.len(),
+        _ => 0,
+    }
+}
+
+/// How many places a piece has.
+pub fn places_of(piece: Piece<'_>) -> usize
+    ensures { result ≡ length (places_of (lines_in piece.entry)) }
+{
+    match piece {
+        Piece::Line(line) => places_in(&line.statement),
+        Piece::Labels(_) => 0,
+        Piece::New(_) => 1,
+    }
+}
+
+/// Whether a piece is an instruction.
+pub fn is_op(piece: Piece<'_>) -> bool
+    ensures { result ≡ begins_op (lines_in piece.entry) }
+{
+    match piece {
+        Piece::Line(line) => matches!(line.statement, Statement::Runs { .. }),
+        Piece::Labels(_) => false,
+        Piece::New(_) => true,
+    }
+}
+
+/// Whether a piece has a label.
+pub fn is_labelled(piece: Piece<'_>) -> bool
+    ensures { result ≡ begins_labelled (lines_in piece.entry) }
+{
+    match piece {
+        Piece::Line(line) => !line.names.is_empty(),
+        Piece::Labels(line) => !line.names.is_empty(),
+        Piece::New(_) => false,
+    }
+}
+
+/// What an instruction that mentions nothing is to a run.
+fn look_instr(instr: &Instr) -> Look
+    ensures { result ≡ look_letter (letter_of instr.now None) }
+{
+    if in_window(instr) {
+        Look::Letter(*instr)
+    } else {
+        Look::End
+    }
+}
+
+/// What a statement is to a run.
+fn look_statement(statement: &Statement, begins: bool) -> Look
+    ensures { result ≡ look_statement begins (statement_view statement.now) }
+{
+    match statement {
+        Statement::Runs { instr, mention } => match mention {
+            Some(_) => Look::End,
+            None => look_instr(instr),
+        },
+        Statement::Words(values) => {
+            if values.is_empty() {
+                Look::Nothing
+            } else {
+                Look::End
+            }
+        }
+        Statement::Aligns { .. } => { if begins { Look::Nothing } else { Look::End } }
+        _ => Look::Nothing,
+    }
+}
+
+/// What a piece is to a run that begins, or has begun.
+pub fn seen(piece: Piece<'_>, begins: bool) -> Look
+    ensures { result ≡ look_lines begins (lines_in piece.entry) }
+{
+    match piece {
+        Piece::Line(line) => {
+            if begins || line.names.is_empty() {
+                look_statement(&line.statement, begins)
+            } else {
+                Look::End
+            }
+        }
+        Piece::Labels(_) => {
+            if begins || !is_labelled(piece) {
+                Look::Nothing
+            } else {
+                Look::End
+            }
+        }
+        Piece::New(instr) => look_instr(&instr),
+    }
+}
+
+/// Adds what stays of a piece whose instruction goes, and then new instructions.
+pub fn give_way<'a>(out: &mut Vec<Piece<'a>>, piece: Piece<'a>, new: &[Instr]) -> Result<(), Memory>
+    ensures { OnOk result (lines_of out.new.items ≡ lines_of out.old.items ++ (labels_left piece.entry ++ map (new_line own_line) new.now)) }
+{
+    if let Piece::Line(line) = piece {
+        out.push(Piece::Labels(line))?;
+    }
+    add_new(out, new)
+}
+
+/// Adds new instructions.
+fn add_new(out: &mut Vec<Piece<'_>>, new: &[Instr]) -> Result<(), Memory>
+    ensures { OnOk result (lines_of out.new.items ≡ lines_of out.old.items ++ map (new_line own_line) new.now) }
+{
+    for instr in new {
+        out.push(Piece::New(*instr))?;
+    }
+    Ok(())
+}
+
+/// Lines as they stand.
+pub fn all_lines<'a>(alloc: Global, lines: &'a [Line]) -> Result<Vec<Piece<'a>>, Memory>
+    ensures { IfOk result (λ v. lines_of v.items ≡ map line_view lines.now) }
+{
+    let mut out = Vec::with_capacity(alloc, lines.len())?;
+    for line in lines {
+        out.push(Piece::Line(line))?;
+    }
+    Ok(out)
+}
