@@ -47,7 +47,10 @@ fn windows(alloc: Global, table: &Table) -> Result<Vec<(Seq, Mask)>, Fail>
 {
     let mut all = Vec::new(alloc);
     for entry in &table.entries {
-        all.push(window(table, entry).ok_or("window")?)?;
+        let Some(window) = window(table, entry) else {
+            return Err("a side that doesn't fit".into());
+        };
+        all.push(window)?;
     }
     Ok(all)
 }
@@ -69,13 +72,19 @@ fn digest(text: &[u8]) -> u32 {
     )
 }
 
+/// The text of a table, from which the audit accepts it.
+fn accepted(alloc: Global, table: &Table) -> Result<Vec<u8>, Fail> {
+    let text = write_table(alloc, table)?;
+    let mut steps = Steps::new(Counted::new());
+    audit(alloc, read_table(alloc, &text)?, &mut steps)?;
+    Ok(text)
+}
+
 /// The lines of a learnt table behind its header and the 64 states of its seed: the text is accepted by the audit, and begins as it has to.
 fn learnt(alloc: Global, header: &str, entries: &str) -> Result<Vec<u8>, Fail> {
     let question = format!(in alloc; "peep 1\n{header}{entries}end\n")?;
     let table = lesson(alloc, question.as_str())??;
-    let text = write_table(alloc, &table)?;
-    let mut steps = Steps::new(Counted::new());
-    audit(alloc, read_table(alloc, &text)?, &mut steps)?;
+    let text = accepted(alloc, &table)?;
     let begin = format!(in alloc; "peep 1\n{header}")?;
     let (first, rest) = text.split_at_checked(begin.len()).ok_or("a header")?;
     let (states, rest) = rest.split_at_checked(64 * 44).ok_or("64 states")?;
@@ -181,8 +190,7 @@ fn searches_that_spend_their_budget(rt: HostRuntime) -> Result<(), Fail> {
     let opens = opened(alloc, &table)?;
     let want = LEFT_ALONE.map(|number| (number, 1));
     assert_eq!(rt; opens.as_slice(), want.as_slice());
-    let mut steps = Steps::new(Counted::new());
-    audit(alloc, table, &mut steps)?;
+    accepted(alloc, &table)?;
     Ok(())
 }
 

@@ -5,4 +5,4 @@ use Rattle.rule_tests.specs.Headers.{header}
 use Rattle.rule_tests.proofs.learning.windows.Given as goal
 
 abbrev pub invariant-loop-entry : goal.invariant-loop-entry
-invariant-loop-entry g l = AreWindows (header (table_of l.table)) (map window_of l.all.items)
+invariant-loop-entry l = AreWindows (header (table_of l.table)) (map window_of l.all.items)
