@@ -11,3 +11,6 @@ pub mod StayLemmas
 pub mod RunningLemmas
 pub mod StartLemmas
 pub mod TraceLemmas
+pub mod MuteLines
+pub mod DemoLines
+pub mod DemoLemmas

@@ -2,6 +2,7 @@
 #![tactic(auto)]
 
 mod audit;
+mod demo;
 mod export;
 mod learn;
 mod printing;
