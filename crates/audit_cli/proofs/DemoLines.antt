@@ -75,8 +75,11 @@ back = instr.Bx link
 abbrev two_instrs : ℕ → Within 0 8 → List Instr
 two_instrs kind d = if kind == 0 then cut_left d ∷ cut_right d ∷ [] else if kind == 1 then inverted d ∷ one_more d ∷ [] else copied d ∷ copied d ∷ []
 
+below_eight : (i : ℕ) → i % 8 < 8
+below_eight i = mod-lt i (omega arith)
+
 target : ℕ → Within 0 8
-target i = low (i % 8) (mod-lt i (omega arith))
+target i = low (i % 8) (below_eight i)
 
 abbrev window_instrs : ℕ → List Instr
 window_instrs i = two_instrs (i % 3) (target i) ++ nothing ∷ []
@@ -155,7 +158,7 @@ pair_texts kind n small = elim (cases_Bool (kind == 0)) [
 window_texts : (i : ℕ) → window_text i ≡ texts (window_instrs i)
 unfolding target
 window_texts i =
-    ap₂ (λ (x y : List ℕ). x ++ y) (pair_texts (i % 3) (i % 8) (mod-lt i (omega arith))) (one_text nothing (codes "nop") spells_nothing)
+    ap₂ (λ (x y : List ℕ). x ++ y) (pair_texts (i % 3) (i % 8) (below_eight i)) (one_text nothing (codes "nop") spells_nothing)
     ∙ sym (texts_append (two_instrs (i % 3) (target i)) (nothing ∷ []))
 
 windows_texts : (n : ℕ) → windows_text n ≡ texts (windows_instrs n)

@@ -1,5 +1,6 @@
 //! The command `demo`: a listing is made, a table learnt from its windows and audited from its own text, the listing rewritten by it and assembled, and all that is told. Nothing is fetched or kept.
-ghost use Rattle.std.specs.Prelude.{◌≡◌, ◌≤◌, ◌++◌, None, IfOk};
+ghost use Rattle.std.specs.Prelude.{◌≡◌, ◌≤◌, ◌∷◌, ◌++◌, None, IfOk, codes, string_bytes};
+ghost use Rattle.std.specs.Fmt.{decimal};
 ghost use Rattle.command_runs.specs.Outcomes.{outcome_view};
 ghost use Rattle.thumb_model.specs.Layout.{Layable};
 ghost use Rattle.listing_parser.specs.Parsing.{IsListing, text_of_lines};
@@ -9,7 +10,7 @@ ghost use Rattle.table_audit.specs.Acceptance.{IsAccepted};
 ghost use Rattle.table_learn.specs.Settings.{settings_of};
 ghost use Rattle.thumb_assembler.specs.Following.{IsAssembled};
 ghost use Rattle.thumb_assembler.specs.Refusals.{first_flaw};
-ghost use Rattle.audit_cli.specs.Demo.{DemoComesTo, IsDemo, IsDemoListing, IsRewritingTold, demo_settings, demo_text, window_text};
+ghost use Rattle.audit_cli.specs.Demo.{DemoComesTo, IsDemo, IsDemoListing, IsRewritingTold, demo_settings, demo_text, own, pair, window_text};
 ghost use Rattle.audit_cli.specs.Learn.{IsLearnt};
 
 use crate::printing::{demo_report, prints};
@@ -35,16 +36,22 @@ pub(crate) struct Demo {
     pub(crate) windows: Within<1, 20_001>,
 }
 
-/// The window of number i: two instructions, and a `nop`.
+/// A window of one of three kinds: two instructions in a register, and a `nop`.
+fn window_in(alloc: Global, kind: u32, d: u32) -> Result<String, AllocError>
+    ensures { IfOk result (λ t. string_bytes t ≡ pair kind (114 ∷ decimal d) ++ own (codes "nop")) }
+{
+    match kind {
+        0 => format!(in alloc; "\tlsls r{d}, r{d}, #24\n\tlsrs r{d}, r{d}, #24\n\tnop\n"),
+        1 => format!(in alloc; "\tmvns r{d}, r{d}\n\tadds r{d}, #1\n\tnop\n"),
+        _ => format!(in alloc; "\tmov r{d}, r{d}\n\tmov r{d}, r{d}\n\tnop\n"),
+    }
+}
+
+/// The window of number i.
 fn window_text(alloc: Global, i: u32) -> Result<Vec<u8>, AllocError>
     ensures { IfOk result (λ v. v.items ≡ window_text i) }
 {
-    let d = i % 8;
-    let text = match i % 3 {
-        0 => format!(in alloc; "\tlsls r{d}, r{d}, #24\n\tlsrs r{d}, r{d}, #24\n\tnop\n")?,
-        1 => format!(in alloc; "\tmvns r{d}, r{d}\n\tadds r{d}, #1\n\tnop\n")?,
-        _ => format!(in alloc; "\tmov r{d}, r{d}\n\tmov r{d}, r{d}\n\tnop\n")?,
-    };
+    let text = window_in(alloc, i % 3, i % 8)?;
     Ok(text.into_bytes())
 }
 

@@ -1,0 +1,3 @@
+use Rattle.audit_cli.proofs.DemoLemmas.{is_demo}
+use Rattle.audit_cli.proofs.demo.told.Goals as goal
+
