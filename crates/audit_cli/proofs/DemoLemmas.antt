@@ -1,5 +1,5 @@
 -- Why what `demo` tells is what its definition says, and why nothing is refused but a text that is too long.
-use Rattle.std.proofs.Common.{◌≡◌, ◌∙◌, ℕ, ◌+◌, ◌<◌, ◌≤◌, true, List, [], ◌∷◌, ◌++◌, append_assoc, add-one, ap₂, codes, length, refl, sym, ap, subst, arith, Option, Some, None, leb-true, Result, Ok, Err}
+use Rattle.std.proofs.Common.{◌≡◌, ◌∙◌, ℕ, ◌+◌, ◌<◌, ◌≤◌, true, List, [], ◌∷◌, ◌++◌, append_assoc, length, refl, sym, ap, subst, arith, Option, Some, None, leb-true, Result, Ok, Err}
 use Rattle.std.specs.Result.{result_map_both}
 use Rattle.thumb_model.specs.Listing.{Line}
 use Rattle.thumb_model.specs.Rewritten.{Replacement, AreRewritten}
@@ -32,18 +32,9 @@ use Rattle.audit_cli.specs.Audit.{opens_of}
 use Rattle.audit_cli.specs.Learn.{IsUnlearnt, IsLearnt, too_wide, too_long as long_text}
 use Rattle.audit_cli.specs.Steps.{IsUnread, unread, IsUnlisted, unlisted, IsUnaudited, no_table, other_state, too_wide as wide_table, bad_entry, HasNoImage, no_address, inside}
 use Rattle.audit_cli.specs.Rewrite.{instruction_count}
-use Rattle.audit_cli.specs.Demo.{own, window_text, windows_text, demo_text, demo_settings, IsDemoListing, IsRewritingTold, IsDemo, DemoComesTo, too_long}
+use Rattle.audit_cli.specs.Demo.{demo_text, demo_settings, IsDemoListing, IsRewritingTold, IsDemo, DemoComesTo, too_long}
 use Rattle.audit_cli.proofs.MuteLines.{AreMute}
 use Rattle.audit_cli.proofs.DemoLines.{demo_lines, demo_listed, demo_mute}
-
--- ---- the text ----
-
-pub one_window_more : (i : ℕ) (text window new : List ℕ) → text ≡ codes "demo:" ++ 10 ∷ windows_text i → window ≡ window_text i → new ≡ text ++ window → new ≡ codes "demo:" ++ 10 ∷ windows_text (i + 1)
-one_window_more i text window new e f g =
-    g ∙ ap₂ (λ (x y : List ℕ). x ++ y) e f ∙ ap (λ (n : ℕ). codes "demo:" ++ 10 ∷ windows_text n) (sym (add-one i))
-
-pub whole_text : (i n : ℕ) (text new : List ℕ) → i ≡ n → text ≡ codes "demo:" ++ 10 ∷ windows_text i → new ≡ text ++ own (codes "bx lr") → new ≡ demo_text n
-whole_text i n text new same e g = g ∙ ap (λ (t : List ℕ). t ++ own (codes "bx lr")) (e ∙ ap (λ (m : ℕ). codes "demo:" ++ 10 ∷ windows_text m) same)
 
 -- ---- what can't come ----
 

@@ -1,9 +1,10 @@
 -- The lines of the listing that `demo` makes: its text is the listing of these, and they mention no name.
-use Rattle.std.proofs.Common.{◌≡◌, ◌∙◌, ◌⊎◌, ℕ, zero, suc, ◌+◌, ◌*◌, ◌<◌, ◌≤◌, ◌%◌, ◌==◌, ◌&&◌, Bool, true, false, List, [], ◌∷◌, ◌++◌, length, map, inl, inr, refl, sym, ap, ap₂, subst, arith, true≢false, codes, append_assoc, append-nil, length-append, Some, None, Ok}
+use Rattle.std.proofs.Common.{◌≡◌, ◌∙◌, ◌⊎◌, ℕ, zero, suc, ◌+◌, ◌*◌, ◌<◌, ◌≤◌, ◌%◌, ◌==◌, ◌&&◌, Bool, true, false, List, [], ◌∷◌, ◌++◌, length, map, inl, inr, refl, sym, ap, ap₂, subst, arith, true≢false, codes, append_assoc, append-nil, length-append, if◌then◌else◌, Some, None, Ok}
 use Rattle.std.specs.List.{list_all}
 use Rattle.std.specs.Fmt.{decimal}
 use Rattle.std.proofs.Math.Nat.{mod-lt}
 use Rattle.std.proofs.lemmas.Bool.{cases_Bool, and_parts, and_from, lt-ltb}
+use Rattle.std.proofs.lemmas.Fmt.{decimal_digit, decimal_step}
 use Rattle.std.proofs.lemmas.List.{length-map}
 use Rattle.std.proofs.lemmas.List.Folds.{list_all-append}
 use Rattle.ascii_scan.specs.Lines.{Placed, content_of, is_ended, placed, placed_from, lines_in, whole}
@@ -99,25 +100,31 @@ Spells i t = text_of (shown_of i None) ≡ t
 is_low : (n : ℕ) → n < 8 → (n < 13)
 is_low n small = omega arith
 
-spells_left : (n : ℕ) (small : n < 8) → Spells (cut_left (low n small)) (codes "lsls " ++ (114 ∷ decimal n) ++ codes ", " ++ (114 ∷ decimal n) ++ codes ", #24")
+twenty_four : decimal 24 ++ [] ≡ codes "24"
+twenty_four = append-nil (decimal 24) ∙ decimal_step 24 (omega arith) (omega arith) ∙ ap (λ (ds : List ℕ). ds ++ 52 ∷ []) (decimal_digit 2 (omega arith))
+
+single : decimal 1 ++ [] ≡ codes "1"
+single = append-nil (decimal 1) ∙ decimal_digit 1 (omega arith)
+
+spells_left : (n : ℕ) (small : n < 8) → Spells (cut_left (low n small)) (codes "lsls " ++ ((114 ∷ decimal n) ++ (codes ", " ++ ((114 ∷ decimal n) ++ codes ", #24"))))
 unfolding low left_by
-spells_left n small = rw (lt-ltb n 13 (is_low n small)) refl
+spells_left n small = rw (lt-ltb n 13 (is_low n small)) (ap (λ (t : List ℕ). codes "lsls " ++ ((114 ∷ decimal n) ++ (codes ", " ++ ((114 ∷ decimal n) ++ (codes ", #" ++ t))))) twenty_four)
 
-spells_right : (n : ℕ) (small : n < 8) → Spells (cut_right (low n small)) (codes "lsrs " ++ (114 ∷ decimal n) ++ codes ", " ++ (114 ∷ decimal n) ++ codes ", #24")
+spells_right : (n : ℕ) (small : n < 8) → Spells (cut_right (low n small)) (codes "lsrs " ++ ((114 ∷ decimal n) ++ (codes ", " ++ ((114 ∷ decimal n) ++ codes ", #24"))))
 unfolding low right_by
-spells_right n small = rw (lt-ltb n 13 (is_low n small)) refl
+spells_right n small = rw (lt-ltb n 13 (is_low n small)) (ap (λ (t : List ℕ). codes "lsrs " ++ ((114 ∷ decimal n) ++ (codes ", " ++ ((114 ∷ decimal n) ++ (codes ", #" ++ t))))) twenty_four)
 
-spells_inverted : (n : ℕ) (small : n < 8) → Spells (inverted (low n small)) (codes "mvns " ++ (114 ∷ decimal n) ++ codes ", " ++ (114 ∷ decimal n))
+spells_inverted : (n : ℕ) (small : n < 8) → Spells (inverted (low n small)) (codes "mvns " ++ ((114 ∷ decimal n) ++ (codes ", " ++ (114 ∷ decimal n))))
 unfolding low
-spells_inverted n small = rw (lt-ltb n 13 (is_low n small)) (ap (λ (t : List ℕ). codes "mvns " ++ (114 ∷ decimal n) ++ codes ", " ++ 114 ∷ t) (append-nil (decimal n)))
+spells_inverted n small = rw (lt-ltb n 13 (is_low n small)) (ap (λ (t : List ℕ). codes "mvns " ++ ((114 ∷ decimal n) ++ (codes ", " ++ (114 ∷ t)))) (append-nil (decimal n)))
 
-spells_more : (n : ℕ) (small : n < 8) → Spells (one_more (low n small)) (codes "adds " ++ (114 ∷ decimal n) ++ codes ", #1")
+spells_more : (n : ℕ) (small : n < 8) → Spells (one_more (low n small)) (codes "adds " ++ ((114 ∷ decimal n) ++ codes ", #1"))
 unfolding low one
-spells_more n small = rw (lt-ltb n 13 (is_low n small)) refl
+spells_more n small = rw (lt-ltb n 13 (is_low n small)) (ap (λ (t : List ℕ). codes "adds " ++ ((114 ∷ decimal n) ++ (codes ", #" ++ t))) single)
 
-spells_copied : (n : ℕ) (small : n < 8) → Spells (copied (low n small)) (codes "mov " ++ (114 ∷ decimal n) ++ codes ", " ++ (114 ∷ decimal n))
+spells_copied : (n : ℕ) (small : n < 8) → Spells (copied (low n small)) (codes "mov " ++ ((114 ∷ decimal n) ++ (codes ", " ++ (114 ∷ decimal n))))
 unfolding low
-spells_copied n small = rw (lt-ltb n 13 (is_low n small)) (ap (λ (t : List ℕ). codes "mov " ++ (114 ∷ decimal n) ++ codes ", " ++ 114 ∷ t) (append-nil (decimal n)))
+spells_copied n small = rw (lt-ltb n 13 (is_low n small)) (ap (λ (t : List ℕ). codes "mov " ++ ((114 ∷ decimal n) ++ (codes ", " ++ (114 ∷ t)))) (append-nil (decimal n)))
 
 spells_nothing : Spells nothing (codes "nop")
 spells_nothing = refl

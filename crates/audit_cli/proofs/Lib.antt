@@ -12,5 +12,6 @@ pub mod RunningLemmas
 pub mod StartLemmas
 pub mod TraceLemmas
 pub mod MuteLines
+pub mod DemoTexts
 pub mod DemoLines
 pub mod DemoLemmas

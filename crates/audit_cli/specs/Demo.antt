@@ -31,9 +31,9 @@ register i = 114 ∷ decimal (i % 8)
 -- two instructions in a register: a byte is cut out, a number is negated, or a register is copied to itself twice
 abbrev pub pair : ℕ → List ℕ → List ℕ
 pair kind d =
-    if kind == 0 then own (codes "lsls " ++ d ++ codes ", " ++ d ++ codes ", #24") ++ own (codes "lsrs " ++ d ++ codes ", " ++ d ++ codes ", #24")
-    else if kind == 1 then own (codes "mvns " ++ d ++ codes ", " ++ d) ++ own (codes "adds " ++ d ++ codes ", #1")
-    else own (codes "mov " ++ d ++ codes ", " ++ d) ++ own (codes "mov " ++ d ++ codes ", " ++ d)
+    if kind == 0 then own (codes "lsls " ++ (d ++ (codes ", " ++ (d ++ codes ", #24")))) ++ own (codes "lsrs " ++ (d ++ (codes ", " ++ (d ++ codes ", #24"))))
+    else if kind == 1 then own (codes "mvns " ++ (d ++ (codes ", " ++ d))) ++ own (codes "adds " ++ (d ++ codes ", #1"))
+    else own (codes "mov " ++ (d ++ (codes ", " ++ d))) ++ own (codes "mov " ++ (d ++ (codes ", " ++ d)))
 
 -- the window of number i, and what ends it
 abbrev pub window_text : ℕ → List ℕ

@@ -40,11 +40,13 @@ pub(crate) struct Demo {
 fn window_in(alloc: Global, kind: u32, d: u32) -> Result<String, AllocError>
     ensures { IfOk result (λ t. string_bytes t ≡ pair kind (114 ∷ decimal d) ++ own (codes "nop")) }
 {
-    match kind {
-        0 => format!(in alloc; "\tlsls r{d}, r{d}, #24\n\tlsrs r{d}, r{d}, #24\n\tnop\n"),
-        1 => format!(in alloc; "\tmvns r{d}, r{d}\n\tadds r{d}, #1\n\tnop\n"),
-        _ => format!(in alloc; "\tmov r{d}, r{d}\n\tmov r{d}, r{d}\n\tnop\n"),
+    if kind == 0 {
+        return format!(in alloc; "\tlsls r{d}, r{d}, #24\n\tlsrs r{d}, r{d}, #24\n\tnop\n");
     }
+    if kind == 1 {
+        return format!(in alloc; "\tmvns r{d}, r{d}\n\tadds r{d}, #1\n\tnop\n");
+    }
+    format!(in alloc; "\tmov r{d}, r{d}\n\tmov r{d}, r{d}\n\tnop\n")
 }
 
 /// The window of number i.
