@@ -17,10 +17,9 @@ use Rattle.table_audit.specs.Acceptance.{TableVerdict, IsAccepted}
 use Rattle.table_audit.specs.Shorter.{sequences_below}
 use Rattle.table_audit.specs.Soundness.{rules_of}
 use Rattle.table_audit.proofs.Determined.{table_same}
+use Rattle.table_learn.specs.Settings.{AreInLimits}
 use Rattle.table_learn.specs.Learnt.{width_of}
 use Rattle.window_rewrite.specs.Rewriting.{setting}
-use Rattle.thumb_assembler.specs.declared.errors.Flaw.{Flaw}
-use Rattle.thumb_assembler.specs.declared.errors.Flaw.TheVariants as flaw
 use Rattle.thumb_assembler.specs.Refusals.{first_flaw}
 use Rattle.thumb_assembler.specs.Following.{IsAssembled}
 use Rattle.command_runs.specs.Plans.{Outcome, Refuses, Does}
@@ -32,7 +31,7 @@ use Rattle.audit_cli.specs.Audit.{opens_of}
 use Rattle.audit_cli.specs.Learn.{IsUnlearnt, IsLearnt, too_wide, too_long as long_text}
 use Rattle.audit_cli.specs.Steps.{IsUnread, unread, IsUnlisted, unlisted, IsUnaudited, no_table, other_state, too_wide as wide_table, bad_entry, HasNoImage, no_address, inside}
 use Rattle.audit_cli.specs.Rewrite.{instruction_count}
-use Rattle.audit_cli.specs.Demo.{demo_text, demo_settings, IsDemoListing, IsRewritingTold, IsDemo, DemoComesTo, too_long}
+use Rattle.audit_cli.specs.Demo.{demo_text, demo_settings, IsDemoListing, IsRewritingTold, IsDemo, DemoComesTo, shown, too_long}
 use Rattle.audit_cli.proofs.MuteLines.{AreMute}
 use Rattle.audit_cli.proofs.DemoLines.{demo_lines, demo_listed, demo_mute}
 
@@ -61,8 +60,8 @@ none_some : {A : Type 0} (o : Option A) (a : A) → o ≡ None → o ≡ Some a 
 none_some {A} o a e f = (let bad : None ≡ Some a = sym e ∙ f in absurd (cc))
 
 pub never_without_image : (base : ℕ) (lines : List Line) (r : Refusal) → first_flaw base lines ≡ None → HasNoImage base lines r → ⊥
-never_without_image base lines _ none (no_address line h) = none_some (first_flaw base lines) (line, flaw.NoAddress) none h
-never_without_image base lines _ none (inside line h) = none_some (first_flaw base lines) (line, flaw.Inside) none h
+never_without_image base lines _ none (no_address line h) = none_some (first_flaw base lines) _ none h
+never_without_image base lines _ none (inside line h) = none_some (first_flaw base lines) _ none h
 
 -- few sequences are shorter than two instructions
 narrow : width_of demo_settings ≤ 5000000
@@ -109,3 +108,11 @@ full_alone n lines _ listing (long_text windows are t bytes full) = too_long lin
 
 pub is_full : (n : ℕ) (lines : List Line) (r : Refusal) (o : Outcome) → IsListing (demo_text n) lines → IsUnlearnt demo_settings lines r → o ≡ Refuses (refusal_line r) → DemoComesTo n o
 is_full n lines r o listing h is = subst (DemoComesTo n) (sym is) (full_alone n lines r listing h)
+
+pub is_shown : (n : ℕ) (told : List ℕ) (o : Outcome) → IsDemo n told → o ≡ Does [] told → DemoComesTo n o
+is_shown n told o h is = subst (DemoComesTo n) (sym is) (shown told h)
+
+-- ---- settings ----
+
+pub demo_limits : AreInLimits demo_settings
+demo_limits = record { some_regs = omega arith; few_regs = omega arith; some_left = omega arith; few_left = omega arith; some_budget = omega arith; few_budget = omega arith }

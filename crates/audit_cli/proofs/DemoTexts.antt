@@ -84,4 +84,3 @@ one_window_more i text window new e f g =
 
 pub whole_text : (i n : ℕ) (text new : List ℕ) → i ≡ n → text ≡ codes "demo:" ++ 10 ∷ windows_text i → new ≡ text ++ own (codes "bx lr") → new ≡ demo_text n
 whole_text i n text new same e g = g ∙ ap (λ (t : List ℕ). t ++ own (codes "bx lr")) (e ∙ ap (λ (m : ℕ). codes "demo:" ++ 10 ∷ windows_text m) same)
-

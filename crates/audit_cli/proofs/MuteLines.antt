@@ -8,8 +8,7 @@ use Rattle.thumb_model.specs.Layout.{Fault, Layable, size_at, fault_at, or_first
 use Rattle.thumb_model.specs.Rewrite.{Rule}
 use Rattle.thumb_model.specs.Rewritten.{Setting, Replacement, AreRewritten, is_op, without, labels_kept, new_line, replaced_lines, lines_after, lines_after_rule}
 use Rattle.listing_parser.specs.Targets.{is_on_target, first_target}
-use Rattle.thumb_assembler.specs.declared.errors.Flaw.{Flaw}
-use Rattle.thumb_assembler.specs.Refusals.{flaw_of, or_first as or_first_flaw, flaws_from, first_flaw}
+use Rattle.thumb_assembler.specs.Refusals.{flaw_of, flaws_from, first_flaw}
 
 abbrev pub is_mute : Statement → Bool
 is_mute Nothing = true
@@ -64,9 +63,7 @@ no_flaw base all (Sets name address) e = absurd (true≢false (sym e))
 
 no_flaws : (base : ℕ) (all : List Line) (n : ℕ) (ls : List Line) → AreMute ls → flaws_from base all n ls ≡ None
 no_flaws base all n [] mute = refl
-no_flaws base all n (l ∷ ls) mute =
-    ap (λ (f : Option Flaw). or_first_flaw n f (flaws_from base all (n + 1) ls)) (no_flaw base all l.statement mute.0)
-    ∙ no_flaws base all (n + 1) ls mute.1
+no_flaws base all n (l ∷ ls) mute = rw (no_flaw base all l.statement mute.0) (no_flaws base all (n + 1) ls mute.1)
 
 pub mute_flawless : (base : ℕ) (ls : List Line) → AreMute ls → first_flaw base ls ≡ None
 mute_flawless base ls mute = no_flaws base ls 1 ls mute

@@ -161,7 +161,8 @@ fn rewriting_report<L: Ledger>(
                 after: instruction_count(listing.lines()),
             };
             let bytes = image(alloc, &listing)?;
-            report_image(alloc, counts, bytes.len() as u64)
+            let lines = report_image(alloc, counts, bytes.len() as u64)?;
+            Ok(lines)
         }
     }
 }

@@ -234,11 +234,7 @@ pub(crate) fn instruction_count(lines: &[Line]) -> u64
 }
 
 /// The report of a rewritten listing with that of its image.
-pub(crate) fn report_image(
-    alloc: Global,
-    counts: Counts,
-    bytes: u64,
-) -> Result<Vec<u8>, AllocError>
+pub(crate) fn report_image(alloc: Global, counts: Counts, bytes: u64) -> Result<Vec<u8>, AllocError>
     ensures { IfOk result (λ v. v.items ≡ report_of counts.replaced counts.before counts.after ++ image_line bytes) }
 {
     let mut lines = report(alloc, counts.replaced, counts.before, counts.after)?;

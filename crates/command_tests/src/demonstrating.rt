@@ -27,12 +27,7 @@ fn demonstrates(rt: HostRuntime) -> Result<(), Fail> {
     let one = b"demo 1\nentries 3 open 0 states 64\nreplaced 1\ninstructions 4 3\nimage 6\n";
     let twenty =
         b"demo 20\nentries 8 open 0 states 64\nreplaced 20\ninstructions 61 35\nimage 70\n";
-    let rows: [(&str, &[u8]); 4] = [
-        ("1", one),
-        ("20", twenty),
-        ("0x14", twenty),
-        ("20", twenty),
-    ];
+    let rows: [(&str, &[u8]); 4] = [("1", one), ("20", twenty), ("0x14", twenty), ("20", twenty)];
     for (word, lines) in rows {
         let text = printed(alloc, word, Status::Done)?;
         assert!(rt; text.as_slice() == lines, "{word}");

@@ -34,12 +34,14 @@ image-requires g c =
       flawless = mute_flawless 0 c.in-Ok.field-0.listing (rewritten_mute s c.args.listing made c.in-Ok.field-0.listing c.in-Ok.ensures.rewritten mute);
     }
 
-pub returns-in-Ok : goal.returns-in-Ok
-returns-in-Ok g c =
+pub returns : goal.returns
+returns g c =
     let made = c.in-Ok.field-0.replacements.items in
     let each : length (map replacement_of made) ≡ length made = length-map made replacement_of in
     let taken = c.len.ensures in
     let replaced : c.len.result ≡ length (map replacement_of made) = search rules in
     let before : c.instruction_count-before.result ≡ instruction_count c.args.listing = c.instruction_count-before.ensures ∙ ap instruction_count c.lines.ensures in
     let after : c.instruction_count.result ≡ instruction_count c.in-Ok.field-0.listing = c.instruction_count.ensures ∙ ap instruction_count c.lines-in-Ok.ensures in
-    ?
+    is_rewriting_told (table_of c.args.table.now) c.args.listing c.in-Ok.field-0.listing (map replacement_of made) c.in_ok-bytes.bytes.items
+    c.len.result c.instruction_count-before.result c.instruction_count.result _ c.in_ok-lines.lines.items
+    c.in-Ok.ensures.rewritten c.in_ok-bytes.ensures replaced before after (search rules) c.in_ok-lines.ensures

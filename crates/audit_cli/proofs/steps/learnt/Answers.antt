@@ -27,8 +27,8 @@ returns-in-Err-Full g c =
     let full : IsFull s windows (table_of c.in-Err-Full.field-0-0) c.in-Err-Full.bytes = subst (λ (e : LearnError). FailsAs s windows e) same c.in-Err-Full.ensures.fails in
     too_long windows (are_windows_of s c.args.listing.now c.in-Ok.windows.items c.in-Ok.ensures) (table_of c.in-Err-Full.field-0-0) c.in-Err-Full.bytes full
 
-pub returns-in-Ok : goal.returns-in-Ok
-returns-in-Ok g c =
+pub returns : goal.returns
+returns g c =
     let s = settings_of c.args.settings in
     record {
       windows = map window_of c.in-Ok.windows.items;
