@@ -17,13 +17,13 @@ returns-in_ok-outcome-in-Err g c =
     (not_taught table_of (settings_of c.settings.result) c.in_ok-listing.listing c.in_ok-refusal.field-0 c.in-Err.refusal c.in_ok-refusal.ensures c.in-Err.is))
     c.in_ok-outcome-in-Err.ensures
 
-pub told-lines-requires : goal.told-lines-requires
-told-lines-requires g c = record {
+pub told-requires : goal.told-requires
+told-requires g c = record {
   few = c.requires;
   made = c.in_ok-listing.ensures;
   learnt = subst (λ (s : Settings). IsLearnt s c.in_ok-listing.listing (table_of c.in-Ok.table)) c.settings.ensures
       (is_taught table_of (settings_of c.settings.result) c.in_ok-listing.listing c.in_ok-refusal.field-0 c.in-Ok.table c.in_ok-refusal.ensures c.in-Ok.is);
 }
 
-pub returns : goal.returns
-returns g c = is_shown c.args.windows c.in_ok-lines.lines.items (outcome_view c.prints.result) c.in_ok-lines.ensures c.prints.ensures
+pub returns-in_ok-lines-in-Ok : goal.returns-in_ok-lines-in-Ok
+returns-in_ok-lines-in-Ok g c = is_shown c.args.windows c.in_ok-lines-in-Ok.lines.items (outcome_view c.prints.result) c.in_ok-lines-in-Ok.ensures c.prints.ensures

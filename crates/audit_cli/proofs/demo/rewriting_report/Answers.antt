@@ -17,9 +17,9 @@ use Rattle.audit_cli.proofs.demo.rewriting_report.Goals as goal
 
 pub unreachable-requires : goal.unreachable-requires
 unreachable-requires g c =
-    let h : first_fault 0 c.args.listing ≡ Some (c.in-Err-Line.field-0, fault_of c.in-Err-Line.field-1) = search rules in
+    let h : first_fault 0 c.args.listing ≡ Some (c.in-Err-Line.field-0-0, fault_of c.in-Err-Line.field-0-1) = search rules in
     let none : first_fault 0 c.args.listing ≡ None = mute_layable 0 c.args.listing (made_mute c.args.listing c.requires.made) in
-    let bad : None ≡ Some (c.in-Err-Line.field-0, fault_of c.in-Err-Line.field-1) = sym none ∙ h in
+    let bad : None ≡ Some (c.in-Err-Line.field-0-0, fault_of c.in-Err-Line.field-0-1) = sym none ∙ h in
     absurd (cc)
 
 pub image-requires : goal.image-requires
@@ -34,14 +34,14 @@ image-requires g c =
       flawless = mute_flawless 0 c.in-Ok.field-0.listing (rewritten_mute s c.args.listing made c.in-Ok.field-0.listing c.in-Ok.ensures.rewritten mute);
     }
 
-pub returns : goal.returns
-returns g c =
+pub returns-in_ok-lines-in-Ok : goal.returns-in_ok-lines-in-Ok
+returns-in_ok-lines-in-Ok g c =
     let made = c.in-Ok.field-0.replacements.items in
     let each : length (map replacement_of made) ≡ length made = length-map made replacement_of in
     let taken = c.len.ensures in
     let replaced : c.len.result ≡ length (map replacement_of made) = search rules in
     let before : c.instruction_count-before.result ≡ instruction_count c.args.listing = c.instruction_count-before.ensures ∙ ap instruction_count c.lines.ensures in
     let after : c.instruction_count.result ≡ instruction_count c.in-Ok.field-0.listing = c.instruction_count.ensures ∙ ap instruction_count c.lines-in-Ok.ensures in
-    is_rewriting_told (table_of c.args.table.now) c.args.listing c.in-Ok.field-0.listing (map replacement_of made) c.in_ok-bytes.bytes.items
-    c.len.result c.instruction_count-before.result c.instruction_count.result _ c.in_ok-lines.lines.items
-    c.in-Ok.ensures.rewritten c.in_ok-bytes.ensures replaced before after (search rules) c.in_ok-lines.ensures
+    is_rewriting_told (table_of c.args.table.now) c.args.listing c.in-Ok.field-0.listing (map replacement_of made) c.in_ok-bytes-in-Ok.bytes.items
+    c.len.result c.instruction_count-before.result c.instruction_count.result _ c.in_ok-lines-in-Ok.lines.items
+    c.in-Ok.ensures.rewritten c.in_ok-bytes-in-Ok.ensures replaced before after (search rules) c.in_ok-lines-in-Ok.ensures

@@ -12,8 +12,8 @@ kept-requires g c =
     let taught = is_taught table_of (settings_of c.settings-settings.result) c.args.listing.now c.in_ok-refusal.field-0 c.in-Ok.table c.in_ok-refusal.ensures c.in-Ok.is in
     record { valid = taught.valid; fits = taught.fits }
 
-pub returns-in_ok-outcome-in-Err : goal.returns-in_ok-outcome-in-Err
-returns-in_ok-outcome-in-Err g c =
+pub returns-in-Err : goal.returns-in-Err
+returns-in-Err g c =
     is_unlearnt (lesson_of c.args.to.now) c.args.listing.now c.in-Err.refusal (outcome_view c.in_ok-outcome-in-Err.outcome)
     (subst (λ (s : Settings). IsUnlearnt s c.args.listing.now c.in-Err.refusal) c.settings-settings.ensures.same
     (not_taught table_of (settings_of c.settings-settings.result) c.args.listing.now c.in_ok-refusal.field-0 c.in-Err.refusal c.in_ok-refusal.ensures c.in-Err.is))
