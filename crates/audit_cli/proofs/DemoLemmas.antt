@@ -1,6 +1,5 @@
 -- Why what `demo` tells is what its definition says, and why nothing is refused but a text that is too long.
-use Rattle.std.proofs.Common.{◌≡◌, ◌∙◌, ℕ, ◌+◌, ◌<◌, ◌≤◌, true, List, [], ◌∷◌, ◌++◌, append_assoc, length, refl, sym, ap, subst, arith, Option, Some, None, leb-true, Result, Ok, Err}
-use Rattle.std.specs.Result.{result_map_both}
+use Rattle.std.proofs.Common.{◌≡◌, ◌∙◌, ℕ, ◌≤◌, List, [], ◌++◌, append_assoc, length, refl, sym, subst, arith, Option, Some, None, leb-true}
 use Rattle.thumb_model.specs.Listing.{Line}
 use Rattle.thumb_model.specs.Rewritten.{Replacement, AreRewritten}
 use Rattle.seq_enum.specs.Lists.{numbers_from, held_in, grid2, grid3}
@@ -24,7 +23,6 @@ use Rattle.thumb_assembler.specs.Refusals.{first_flaw}
 use Rattle.thumb_assembler.specs.Following.{IsAssembled}
 use Rattle.command_runs.specs.Plans.{Outcome, Refuses, Does}
 use Rattle.audit_cli.specs.declared.refusal.Refusal.{Refusal}
-use Rattle.audit_cli.specs.declared.refusal.Refusal.TheVariants as refusal
 use Rattle.audit_cli.specs.Refusals.{refusal_line}
 use Rattle.audit_cli.specs.Printed.{demo_line, learnt_line, report_of, image_line}
 use Rattle.audit_cli.specs.Audit.{opens_of}
@@ -56,7 +54,7 @@ never_unaudited text t _ is accepted (other_state u other place verdict) = two_v
 never_unaudited text t _ is accepted (wide_table u other count verdict) = two_verdicts text t u (audit.Wide count) is accepted other verdict
 never_unaudited text t _ is accepted (bad_entry u other number k verdict) = two_verdicts text t u (audit.Entry number k) is accepted other verdict
 
-none_some : {A : Type 0} (o : Option A) (a : A) → o ≡ None → o ≡ Some a → ⊥
+pub none_some : {A : Type 0} (o : Option A) (a : A) → o ≡ None → o ≡ Some a → ⊥
 none_some {A} o a e f = (let bad : None ≡ Some a = sym e ∙ f in absurd (cc))
 
 pub never_without_image : (base : ℕ) (lines : List Line) (r : Refusal) → first_flaw base lines ≡ None → HasNoImage base lines r → ⊥

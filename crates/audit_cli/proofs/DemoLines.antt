@@ -1,5 +1,5 @@
 -- The lines of the listing that `demo` makes: its text is the listing of these, and they mention no name.
-use Rattle.std.proofs.Common.{◌≡◌, ◌∙◌, ◌⊎◌, ℕ, zero, suc, ◌+◌, ◌*◌, ◌<◌, ◌≤◌, ◌%◌, ◌==◌, ◌&&◌, Bool, true, false, List, [], ◌∷◌, ◌++◌, length, map, inl, inr, refl, sym, ap, ap₂, subst, arith, true≢false, codes, append_assoc, append-nil, length-append, if◌then◌else◌, Some, None, Ok}
+use Rattle.std.proofs.Common.{◌≡◌, ◌∙◌, ℕ, zero, suc, ◌+◌, ◌*◌, ◌<◌, ◌≤◌, ◌%◌, ◌==◌, true, false, List, [], ◌∷◌, ◌++◌, length, map, inl, inr, refl, sym, ap, ap₂, subst, arith, true≢false, codes, append_assoc, append-nil, length-append, if◌then◌else◌, None, Ok}
 use Rattle.std.specs.List.{list_all}
 use Rattle.std.specs.Fmt.{decimal}
 use Rattle.std.proofs.Math.Nat.{mod-lt}
@@ -7,7 +7,7 @@ use Rattle.std.proofs.lemmas.Bool.{cases_Bool, and_parts, and_from, lt-ltb}
 use Rattle.std.proofs.lemmas.Fmt.{decimal_digit, decimal_step}
 use Rattle.std.proofs.lemmas.List.{length-map}
 use Rattle.std.proofs.lemmas.List.Folds.{list_all-append}
-use Rattle.ascii_scan.specs.Lines.{Placed, content_of, is_ended, placed, placed_from, lines_in, whole}
+use Rattle.ascii_scan.specs.Lines.{Placed, content_of, is_ended, placed, placed_from, whole}
 use Rattle.ascii_scan.specs.FirstLine.{is_inside}
 use Rattle.ascii_scan.specs.Names.{registers}
 use Rattle.thumb_instr.specs.declared.instr.Instr.{Instr}
@@ -23,17 +23,17 @@ use Rattle.thumb_syntax.specs.Spelling.{text_of}
 use Rattle.seq_enum.specs.Alphabet.{wide}
 use Rattle.thumb_model.specs.Listing.{Name, Nothing, Line}
 use Rattle.thumb_model.specs.Rewritten.{new_line}
-use Rattle.listing_parser.specs.Grammar.{Read, read_lines, checked_line}
+use Rattle.listing_parser.specs.Grammar.{Read, read_lines}
 use Rattle.listing_parser.specs.Bare.{shown_of}
 use Rattle.listing_parser.specs.TableWords.{first_twice}
 use Rattle.listing_parser.specs.Targets.{functions}
 use Rattle.listing_parser.specs.Parsing.{IsListing, text_of_lines}
 use Rattle.listing_parser.specs.Replacing.{names_no_label, own_line}
 use Rattle.listing_parser.proofs.CanonicalLines.{is_clear, unnamed, told_of, labels_only, canonical_text, canonical_line_checked, label_line_checked}
-use Rattle.listing_parser.proofs.JoinedLines.{Ends, AreEnded, inside_ends, text, joined_split, ReadsAs, IsRead, AreRead, all_same, all_read}
+use Rattle.listing_parser.proofs.JoinedLines.{Ends, AreEnded, inside_ends, text, joined_split, ReadsAs, AreRead, all_same, all_read}
 use Rattle.listing_parser.proofs.OldLines.{content_newline}
-use Rattle.audit_cli.specs.Demo.{own, register, pair, window_text, windows_text, demo_text}
-use Rattle.audit_cli.proofs.MuteLines.{AreMute, new_mute, all_aimed}
+use Rattle.audit_cli.specs.Demo.{own, pair, window_text, windows_text, demo_text}
+use Rattle.audit_cli.proofs.MuteLines.{AreMute, all_aimed}
 
 -- ---- instructions ----
 

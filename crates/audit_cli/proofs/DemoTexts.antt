@@ -1,5 +1,5 @@
 -- The text of the listing that `demo` makes, as the code puts it together.
-use Rattle.std.proofs.Common.{◌≡◌, ◌∙◌, ℕ, ◌+◌, ◌==◌, false, List, [], ◌∷◌, ◌++◌, append_assoc, add-one, ap, ap₂, refl, sym, codes}
+use Rattle.std.proofs.Common.{◌≡◌, ◌∙◌, ℕ, ◌+◌, List, [], ◌∷◌, ◌++◌, append_assoc, add-one, ap, ap₂, sym, codes}
 use Rattle.std.specs.Fmt.{decimal}
 use Rattle.std.proofs.lemmas.Bool.{ne_eqb}
 use Rattle.audit_cli.specs.Demo.{own, pair, window_text, windows_text, demo_text}

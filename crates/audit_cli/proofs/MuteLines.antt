@@ -3,7 +3,7 @@ use Rattle.std.proofs.Common.{◌≡◌, ◌∙◌, ℕ, zero, suc, ◌+◌, ◌
 use Rattle.std.proofs.lemmas.Bool.{cases_Bool}
 use Rattle.thumb_instr.specs.declared.instr.Instr.{Instr}
 use Rattle.thumb_instr.specs.Renaming.{renamed}
-use Rattle.thumb_model.specs.Listing.{Name, Mention, Statement, Nothing, Runs, Words, Aligns, Sets, Line, places_in}
+use Rattle.thumb_model.specs.Listing.{Name, Statement, Nothing, Runs, Words, Aligns, Sets, Line, places_in}
 use Rattle.thumb_model.specs.Layout.{Fault, Layable, size_at, fault_at, or_first as or_first_fault, faults_from, lies_in}
 use Rattle.thumb_model.specs.Rewrite.{Rule}
 use Rattle.thumb_model.specs.Rewritten.{Setting, Replacement, AreRewritten, is_op, without, labels_kept, new_line, replaced_lines, lines_after, lines_after_rule}

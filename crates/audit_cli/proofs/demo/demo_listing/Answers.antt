@@ -1,4 +1,3 @@
-use Rattle.audit_cli.specs.Demo.{demo_text}
 use Rattle.std.proofs.Common.{◌∙◌, List, ℕ, subst}
 use Rattle.audit_cli.specs.Steps.{IsUnread}
 use Rattle.audit_cli.proofs.StepLemmas.{not_read}

@@ -1,9 +1,7 @@
-use Rattle.std.proofs.Common.{◌≡◌, ◌∙◌, rules, map, length, Option, Some, None, ap, sym, subst, ℕ, List}
+use Rattle.std.proofs.Common.{◌≡◌, ◌∙◌, rules, map, length, Some, ap}
 use Rattle.std.proofs.lemmas.List.{length-map}
 use Rattle.thumb_model.proofs.LinesKept.{still_layable}
 use Rattle.label_layout.specs.Refusals.{fault_of, first_fault}
-use Rattle.listing_parser.specs.Parsing.{IsListing}
-use Rattle.listing_parser.proofs.PrintLemmas.{prints_back}
 use Rattle.rule_table.specs.Views.{table_of}
 use Rattle.table_audit.specs.Soundness.{rules_of}
 use Rattle.table_audit.proofs.Sound.{accepted_sound}
@@ -12,15 +10,13 @@ use Rattle.audit_cli.specs.Demo.{demo_text}
 use Rattle.audit_cli.specs.Rewrite.{instruction_count}
 use Rattle.audit_cli.proofs.WellFormed.{still_reads}
 use Rattle.audit_cli.proofs.MuteLines.{mute_flawless, mute_layable, rewritten_mute}
-use Rattle.audit_cli.proofs.DemoLemmas.{is_rewriting_told, made_mute}
+use Rattle.audit_cli.proofs.DemoLemmas.{is_rewriting_told, made_mute, none_some}
 use Rattle.audit_cli.proofs.demo.rewriting_report.Goals as goal
 
 pub unreachable-requires : goal.unreachable-requires
 unreachable-requires g c =
-    let h : first_fault 0 c.args.listing ≡ Some (c.in-Err-Line.field-0-0, fault_of c.in-Err-Line.field-0-1) = search rules in
-    let none : first_fault 0 c.args.listing ≡ None = mute_layable 0 c.args.listing (made_mute c.args.listing c.requires.made) in
-    let bad : None ≡ Some (c.in-Err-Line.field-0-0, fault_of c.in-Err-Line.field-0-1) = sym none ∙ h in
-    absurd (cc)
+    let told : first_fault 0 c.args.listing ≡ Some (c.in-Err-Line.field-0-0, fault_of c.in-Err-Line.field-0-1) = search rules in
+    none_some (first_fault 0 c.args.listing) (c.in-Err-Line.field-0-0, fault_of c.in-Err-Line.field-0-1) (mute_layable 0 c.args.listing (made_mute c.args.listing c.requires.made)) told
 
 pub image-requires : goal.image-requires
 image-requires g c =

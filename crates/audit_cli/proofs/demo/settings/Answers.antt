@@ -1,4 +1,4 @@
-use Rattle.std.proofs.Common.{◌≡◌, true, false, [], ◌∷◌, IsTrue, refl, sym, true≢false}
+use Rattle.std.proofs.Common.{[], ◌∷◌, IsTrue, refl, sym, true≢false}
 use Rattle.seq_enum.specs.Lists.{ascends_from}
 use Rattle.seq_enum.specs.Pools.{is_pool}
 use Rattle.audit_cli.proofs.demo.settings.Goals as goal
