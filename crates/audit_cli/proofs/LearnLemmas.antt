@@ -1,6 +1,7 @@
 -- A listing's windows are windows to learn from.
-use Rattle.std.proofs.Common.{◌≡◌, ◌∙◌, ℕ, zero, suc, ◌+◌, ◌<◌, ◌≤◌, List, [], ◌∷◌, ◌++◌, length, map, refl, sym, ap, subst, arith}
+use Rattle.std.proofs.Common.{◌≡◌, ℕ, zero, suc, ◌+◌, ◌≤◌, List, [], ◌∷◌, ◌++◌, length, map, refl, sym, ap, subst, arith, Result, Ok, Err}
 use Rattle.std.specs.Prelude.{All}
+use Rattle.std.specs.Result.{result_map_both}
 use Rattle.std.specs.List.{flat_map}
 use Rattle.std.proofs.lemmas.List.Elements.{All-append, All-cons, All-head, All-map, All-tail}
 use Rattle.thumb_instr.specs.declared.instr.Instr.{Instr}
@@ -13,11 +14,10 @@ use Rattle.table_audit.specs.Canonical.{IsSideOf}
 use Rattle.table_audit.proofs.CanonicalForms.{form_is_side}
 use Rattle.rule_table.specs.Table.{Table}
 use Rattle.table_learn.specs.Settings.{Settings, Window, window_of, IsWindow, AreWindows}
-use Rattle.table_learn.specs.Learnt.{Learnt, IsFull, text_length, text_limit, width_of}
 use Rattle.command_runs.specs.Plans.{Outcome, Refuses}
-use Rattle.audit_cli.specs.declared.refusal.Refusal.TheVariants as refusal
+use Rattle.audit_cli.specs.declared.refusal.Refusal.{Refusal}
 use Rattle.audit_cli.specs.Refusals.{refusal_line}
-use Rattle.audit_cli.specs.Learn.{Lesson, limits_of, window_for, AreWindowsOf, kept_table, LinesLearn, too_wide, too_long, learnt}
+use Rattle.audit_cli.specs.Learn.{Lesson, limits_of, window_for, AreWindowsOf, kept_table, IsUnlearnt, IsLearnt, Teach, LinesLearn, unlearnt, learnt}
 
 -- ---- windows ----
 
@@ -87,12 +87,16 @@ are_windows_of s lines ps h = record { pairs = map pair_of ps; harvest = h; same
 
 -- ---- outcomes ----
 
-pub is_too_wide : (to : Lesson) (lines : List Line) (count : ℕ) (o : Outcome) → count ≡ width_of to.settings → 5000000 < count → o ≡ Refuses (refusal_line (refusal.Wide count)) → LinesLearn to lines o
-is_too_wide to lines count o e wide is =
-    subst (LinesLearn to lines) (sym (is ∙ ap (λ n. Refuses (refusal_line (refusal.Wide n))) e)) (too_wide (subst (λ n. 5000000 < n) e wide))
+pub is_unlearnt : (to : Lesson) (lines : List Line) (r : Refusal) (o : Outcome) → IsUnlearnt to.settings lines r → o ≡ Refuses (refusal_line r) → LinesLearn to lines o
+is_unlearnt to lines r o h is = subst (LinesLearn to lines) (sym is) (unlearnt r h)
 
-pub is_too_long : (to : Lesson) (lines : List Line) (windows : List Window) (t : Table) (bytes : ℕ) (o : Outcome) → AreWindowsOf to.settings lines windows → IsFull to.settings windows t bytes → o ≡ Refuses (refusal_line (refusal.Full bytes)) → LinesLearn to lines o
-is_too_long to lines windows t bytes o are full is = subst (LinesLearn to lines) (sym is) (too_long windows are t bytes full)
+pub is_learnt : (to : Lesson) (lines : List Line) (t : Table) (o : Outcome) → IsLearnt to.settings lines t → o ≡ kept_table to.out t → LinesLearn to lines o
+is_learnt to lines t o h is = subst (LinesLearn to lines) (sym is) (learnt t h)
 
-pub is_learnt : (to : Lesson) (lines : List Line) (windows : List Window) (t : Table) (o : Outcome) → AreWindowsOf to.settings lines windows → Learnt to.settings windows t → text_length t ≤ text_limit → o ≡ kept_table to.out t → LinesLearn to lines o
-is_learnt to lines windows t o are l fits is = subst (LinesLearn to lines) (sym is) (learnt windows are t l fits)
+-- ---- what learning answered ----
+
+pub is_taught : {A : Type 0} (view : A → Table) (s : Settings) (lines : List Line) (x : Result A Refusal) (a : A) → Teach s lines (result_map_both view (λ e. e) x) → x ≡ Ok a → IsLearnt s lines (view a)
+is_taught {A} view s lines x a h e = subst (λ (y : Result A Refusal). Teach s lines (result_map_both view (λ r. r) y)) e h
+
+pub not_taught : {A : Type 0} (view : A → Table) (s : Settings) (lines : List Line) (x : Result A Refusal) (r : Refusal) → Teach s lines (result_map_both view (λ e. e) x) → x ≡ Err r → IsUnlearnt s lines r
+not_taught {A} view s lines x r h e = subst (λ (y : Result A Refusal). Teach s lines (result_map_both view (λ q. q) y)) e h

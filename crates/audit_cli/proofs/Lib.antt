@@ -12,3 +12,7 @@ pub mod RunningLemmas
 pub mod StartLemmas
 pub mod TraceLemmas
 pub mod CompleteLemmas
+pub mod MuteLines
+pub mod DemoTexts
+pub mod DemoLines
+pub mod DemoLemmas

@@ -1,5 +1,5 @@
 -- Where a command of the code puts its texts, and what it counts.
-use Rattle.audit_cli.specs.declared.rewrite.Counts.{Counts as Counted}
+use Rattle.audit_cli.specs.declared.steps.Counts.{Counts as Counted}
 use Rattle.audit_cli.specs.declared.rewrite.Rewrite.{Rewrite}
 use Rattle.audit_cli.specs.Rewrite.{Counts, Destination}
 

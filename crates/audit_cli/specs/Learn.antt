@@ -1,10 +1,11 @@
 -- What `learn` comes to.
-use Rattle.std.specs.Prelude.{◌≡◌, ◌<◌, ◌≤◌, ℕ, List, [], ◌∷◌, length, map}
+use Rattle.std.specs.Prelude.{◌≡◌, ◌<◌, ◌≤◌, ℕ, List, [], ◌∷◌, length, map, Result, Ok, Err}
 use Rattle.thumb_model.specs.Listing.{Line}
 use Rattle.listing_parser.specs.Parsing.{IsListing}
 use Rattle.window_harvest.specs.Harvest.{Pair, Limits, AreHarvest}
 use Rattle.rule_table.specs.Table.{Table}
 use Rattle.rule_table.specs.Text.{text_of}
+use Rattle.rule_table.specs.Valid.{IsTable}
 use Rattle.table_learn.specs.Settings.{Settings, Window}
 use Rattle.table_learn.specs.Learnt.{Learnt, IsFull, text_length, text_limit, width_of}
 use Rattle.command_runs.specs.Plans.{Outcome, Refuses, Does}
@@ -37,14 +38,28 @@ pub record AreWindowsOf (s : Settings) (lines : List Line) (windows : List Windo
 abbrev pub kept_table : List ℕ → Table → Outcome
 kept_table out t = Does ((out, text_of t) ∷ []) (learnt_line (length t.rules) (opens_of t) (length t.states))
 
--- what the lines of a listing come to: more than 5,000,000 sequences are shorter than the longest windows, or the table of the first windows has a text
--- that is too long, or the table that is learnt from all windows is kept
+-- nothing is learnt from lines: more than 5,000,000 sequences are shorter than the longest windows, or the table of the first windows has a text that is too long
+pub data IsUnlearnt (s : Settings) (lines : List Line) : Refusal → Type 0 where
+  too_wide : 5000000 < width_of s → IsUnlearnt s lines (refusal.Wide (width_of s))
+  too_long : (windows : List Window) → AreWindowsOf s lines windows → (t : Table) (bytes : ℕ) → IsFull s windows t bytes → IsUnlearnt s lines (refusal.Full bytes)
+
+-- a table is learnt from all windows of lines, and its text is not too long
+pub record IsLearnt (s : Settings) (lines : List Line) (t : Table) : Type 0 where
+  pub windows : List Window
+  pub are : AreWindowsOf s lines windows
+  pub learnt : Learnt s windows t
+  pub valid : IsTable t
+  pub fits : text_length t ≤ text_limit
+
+-- what comes of learning from lines
+abbrev pub Teach : Settings → List Line → Result Table Refusal → Type 0
+Teach s lines (Ok t) = IsLearnt s lines t
+Teach s lines (Err r) = IsUnlearnt s lines r
+
+-- what the lines of a listing come to: nothing is learnt from them, or a table, which is kept
 pub data LinesLearn (to : Lesson) (lines : List Line) : Outcome → Type 0 where
-  too_wide : 5000000 < width_of to.settings → LinesLearn to lines (Refuses (refusal_line (refusal.Wide (width_of to.settings))))
-  too_long : (windows : List Window) → AreWindowsOf to.settings lines windows → (t : Table) (bytes : ℕ) → IsFull to.settings windows t bytes
-      → LinesLearn to lines (Refuses (refusal_line (refusal.Full bytes)))
-  learnt : (windows : List Window) → AreWindowsOf to.settings lines windows → (t : Table) → Learnt to.settings windows t → text_length t ≤ text_limit
-      → LinesLearn to lines (kept_table to.out t)
+  unlearnt : (r : Refusal) → IsUnlearnt to.settings lines r → LinesLearn to lines (Refuses (refusal_line r))
+  learnt : (t : Table) → IsLearnt to.settings lines t → LinesLearn to lines (kept_table to.out t)
 
 -- what a text comes to: it is no listing, or a table is learnt from its lines
 pub data Learns (to : Lesson) (text : List ℕ) : Outcome → Type 0 where

@@ -1,6 +1,6 @@
 -- The whole contract of the top call: what the words ask for, and what the run of it has done.
 use Rattle.std.specs.Prelude.{ℕ, ◌⊎◌, List, [], ◌∷◌}
-use Rattle.command_line.specs.CommandLine.{Request, rewrite, audit, learn, export, trace, AskFor}
+use Rattle.command_line.specs.CommandLine.{Request, rewrite, audit, learn, export, trace, demo, AskFor}
 use Rattle.outer_store.specs.Outside.{Seen, SameHeld, Sunk, WroteNone}
 use Rattle.command_runs.specs.declared.status.Status.{Status}
 use Rattle.command_runs.specs.declared.status.Status.TheVariants as status
@@ -10,6 +10,7 @@ use Rattle.audit_cli.specs.Audit.{AuditComesTo}
 use Rattle.audit_cli.specs.Learn.{LearnComesTo}
 use Rattle.audit_cli.specs.Export.{ExportComesTo}
 use Rattle.audit_cli.specs.Trace.{TraceComesTo}
+use Rattle.audit_cli.specs.Demo.{DemoComesTo}
 
 -- what a request fetches, and what comes of it
 abbrev pub plan_of : Request → Plan
@@ -24,6 +25,7 @@ plan_of (learn listing out s) = record {
 }
 plan_of (export table entry cnf lrat) = record { names = table ∷ []; comes = ExportComesTo (record { entry = entry; cnf = cnf; lrat = lrat }) }
 plan_of (trace listing label steps) = record { names = listing ∷ []; comes = TraceComesTo (record { label = label; most = steps }) }
+plan_of (demo windows) = record { names = []; comes = λ texts. DemoComesTo windows }
 
 -- nothing was kept or printed
 pub record IsUntouched (old new : Seen) (before after : Sunk) : Type 0 where

@@ -26,6 +26,10 @@ entries_line entries opens = printed (codes "entries" ++ and_number entries ++ c
 abbrev pub learnt_line : ℕ → ℕ → ℕ → List ℕ
 learnt_line entries opens states = printed (codes "entries" ++ and_number entries ++ codes " open" ++ and_number opens ++ codes " states" ++ and_number states)
 
+-- `demo N`
+abbrev pub demo_line : ℕ → List ℕ
+demo_line windows = printed (codes "demo" ++ and_number windows)
+
 -- `variables V clauses C lines P`
 abbrev pub formula_line : ℕ → ℕ → ℕ → List ℕ
 formula_line variables clauses lines = printed (codes "variables" ++ and_number variables ++ codes " clauses" ++ and_number clauses ++ codes " lines" ++ and_number lines)

@@ -1,28 +1,24 @@
 //! The command `learn`: the table that is learnt from the windows of a listing.
-ghost use Rattle.std.specs.Prelude.{◌≡◌, ◌≤◌, IfOk, map};
+ghost use Rattle.std.specs.Prelude.{◌≡◌, ◌≤◌, IfOk};
 ghost use Rattle.command_runs.specs.Outcomes.{outcome_view};
 ghost use Rattle.rule_table.specs.Valid.{IsTable};
 ghost use Rattle.rule_table.specs.Views.{table_of};
 ghost use Rattle.table_learn.specs.Settings.{settings_of, AreInLimits};
 ghost use Rattle.table_learn.specs.Learnt.{text_length, text_limit};
-ghost use Rattle.window_harvest.specs.Harvest.{AreHarvest, pair_of};
-ghost use Rattle.audit_cli.specs.Learn.{Learns, LinesLearn, kept_table, limits_of};
+ghost use Rattle.audit_cli.specs.Learn.{Learns, LinesLearn, kept_table};
 ghost use Rattle.audit_cli.specs.Lessons.{lesson_of, settings_for};
 
-use crate::audit::open_count;
-use crate::printing::{keeps_text, learnt_report};
-use crate::refusal::{Refusal, refused};
-use crate::steps::read_listing;
+use crate::printing::keeps_text;
+use crate::refusal::refused;
+use crate::steps::{learnt, read_listing, table_report};
 use command_runs::Outcome;
 use listing_parser::Listing;
-use liveness::live;
 use rule_table::{Table, write_table};
 use seq_enum::Pool;
 use std::alloc::{AllocError, Global};
 use step_ledger::{Ledger, Steps};
-use table_learn::{LearnError, Settings};
-use thumb_instr::{Mask, Seq, Within};
-use window_harvest::windows;
+use table_learn::Settings;
+use thumb_instr::Within;
 
 /// The command `learn`, with the name that the table is kept under and the settings.
 #[derive(Drop)]
@@ -52,27 +48,6 @@ fn settings(learn: &Learn<'_>) -> Settings
     }
 }
 
-/// The windows of a listing, each with the mask of what is live after it.
-fn harvest<L: Ledger>(
-    alloc: Global,
-    listing: &Listing,
-    settings: &Settings,
-    steps: &mut Steps<L>,
-) -> Result<Vec<(Seq, Mask)>, listing_parser::Memory>
-    requires { AreInLimits (settings_of settings.now) }
-    ensures { IfOk result (λ pairs. AreHarvest (limits_of (settings_of settings.now)) listing.now (map pair_of pairs.items)) }
-{
-    let live = live(alloc, listing, steps)?;
-    windows(
-        alloc,
-        listing,
-        &live,
-        settings.regs,
-        settings.left,
-        &settings.pool,
-    )
-}
-
 /// What is kept and printed of a table.
 fn kept(alloc: Global, out: &str, table: &Table) -> Result<Outcome, rule_table::Memory>
     requires valid { IsTable (table_of table.now) }
@@ -80,12 +55,7 @@ fn kept(alloc: Global, out: &str, table: &Table) -> Result<Outcome, rule_table::
     ensures { IfOk result (λ o. outcome_view o ≡ kept_table out.now (table_of table.now)) }
 {
     let text = write_table(alloc, table)?;
-    let lines = learnt_report(
-        alloc,
-        table.entries.len() as u64,
-        open_count(&table.entries),
-        table.states.as_slice().len() as u64,
-    )?;
+    let lines = table_report(alloc, table)?;
     let outcome = keeps_text(alloc, out, text, lines)?;
     Ok(outcome)
 }
@@ -100,17 +70,9 @@ fn listing_outcome<L: Ledger>(
     ensures { IfOk result (λ o. LinesLearn (lesson_of to.now) listing.now (outcome_view o)) }
 {
     let settings = settings(to);
-    let Ok(windows) = harvest(alloc, listing, &settings, steps) else {
-        return Err(AllocError);
-    };
-    match table_learn::learn(alloc, windows, settings, steps) {
-        Err(LearnError::Memory) => Err(AllocError),
-        Err(LearnError::Wide(count)) => {
-            let outcome = refused(alloc, Refusal::Wide { count })?;
-            Ok(outcome)
-        }
-        Err(LearnError::Full { bytes, .. }) => {
-            let outcome = refused(alloc, Refusal::Full { bytes })?;
+    match learnt(alloc, listing, settings, steps)? {
+        Err(refusal) => {
+            let outcome = refused(alloc, refusal)?;
             Ok(outcome)
         }
         Ok(table) => match kept(alloc, to.out, &table) {

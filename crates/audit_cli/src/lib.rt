@@ -2,6 +2,7 @@
 #![tactic(auto)]
 
 mod audit;
+mod demo;
 mod export;
 pub mod laws;
 mod learn;

@@ -1,6 +1,6 @@
 //! What is kept and printed, as bytes.
 ghost use Rattle.std.specs.Prelude.{◌≡◌, ◌∷◌, [], IfOk};
-ghost use Rattle.audit_cli.specs.Printed.{report_of, image_line, entries_line, learnt_line, formula_line};
+ghost use Rattle.audit_cli.specs.Printed.{report_of, image_line, entries_line, learnt_line, demo_line, formula_line};
 ghost use Rattle.command_runs.specs.Outcomes.{deed_view, outcome_view};
 ghost use Rattle.command_runs.specs.Plans.{Does};
 
@@ -41,6 +41,14 @@ pub fn learnt_report(
     ensures { IfOk result (λ v. v.items ≡ learnt_line entries opens states) }
 {
     let text = format!(in alloc; "entries {entries} open {opens} states {states}\n")?;
+    Ok(text.into_bytes())
+}
+
+/// What is printed of a demonstration before all else: how many windows it has.
+pub fn demo_report(alloc: Global, windows: u32) -> Result<Vec<u8>, AllocError>
+    ensures { IfOk result (λ v. v.items ≡ demo_line windows) }
+{
+    let text = format!(in alloc; "demo {windows}\n")?;
     Ok(text.into_bytes())
 }
 

@@ -1,23 +1,23 @@
 //! The command `rewrite`: what the texts of a table and a listing come to.
-ghost use Rattle.std.specs.Prelude.{◌≡◌, ◌∷◌, ◌++◌, ◌↔◌, [], length, map, codes, IfOk, IsTrue};
+ghost use Rattle.std.specs.Prelude.{◌≡◌, ◌∷◌, ◌++◌, ◌↔◌, [], length, codes, IfOk, IsTrue};
 ghost use Rattle.listing_parser.specs.Parsing.{IsListing, text_of_lines};
-ghost use Rattle.listing_parser.specs.Views.{line_view};
 ghost use Rattle.command_runs.specs.Outcomes.{outcome_view};
 ghost use Rattle.thumb_model.specs.Layout.{Layable};
-ghost use Rattle.thumb_model.specs.Rewritten.{is_op};
 ghost use Rattle.command_runs.specs.Plans.{Does};
 ghost use Rattle.rule_table.specs.Views.{table_of};
 ghost use Rattle.table_audit.specs.Soundness.{IsSound};
 ghost use Rattle.audit_cli.specs.Destinations.{counts_of, destination_of};
 ghost use Rattle.audit_cli.specs.Printed.{report_of, image_line};
-ghost use Rattle.audit_cli.specs.Rewrite.{Comes, Leaves, LinesRewrite, Rewrites, instruction_count};
+ghost use Rattle.audit_cli.specs.Rewrite.{Comes, Leaves, LinesRewrite, Rewrites};
 
-use crate::printing::{image_report, keeps_text, keeps_two, report};
+use crate::printing::{keeps_text, keeps_two, report};
 use crate::refusal::refused;
-use crate::steps::{image_of, read_audited, read_listing, unlaid};
+use crate::steps::{
+    Counts, image_of, instruction_count, read_audited, read_listing, report_image, unlaid,
+};
 use command_line::Base;
 use command_runs::Outcome;
-use listing_parser::{Line, Listing, Memory, Statement, print};
+use listing_parser::{Listing, Memory, print};
 use std::alloc::{AllocError, Global};
 use step_ledger::{Ledger, Steps};
 use table_audit::Audited;
@@ -31,49 +31,11 @@ pub(crate) struct Rewrite<'a> {
     pub(crate) base: Base,
 }
 
-/// How many replacements were made, and how many instructions there were before and after.
-#[derive(Clone, Copy)]
-struct Counts {
-    replaced: u64,
-    before: u64,
-    after: u64,
-}
-
 /// Whether IMAGE names no image.
 fn is_no_image(image: &str) -> bool
     ensures { IsTrue result ↔ (image.now ≡ codes "-") }
 {
     image == "-"
-}
-
-/// Whether a line holds an instruction.
-fn is_instruction(line: &Line) -> bool
-    ensures { result ≡ is_op (line_view line.now).statement }
-{
-    matches!(line.statement, Statement::Runs { .. })
-}
-
-/// How many instructions the lines hold.
-fn instruction_count(lines: &[Line]) -> u64
-    ensures { result ≡ instruction_count (map line_view lines.now) }
-{
-    let mut count = 0;
-    for line in lines {
-        if is_instruction(line) {
-            count += 1;
-        }
-    }
-    count
-}
-
-/// The report of a rewritten listing with that of its image.
-fn report_image(alloc: Global, counts: Counts, bytes: u64) -> Result<Vec<u8>, AllocError>
-    ensures { IfOk result (λ v. v.items ≡ report_of counts.replaced counts.before counts.after ++ image_line bytes) }
-{
-    let mut lines = report(alloc, counts.replaced, counts.before, counts.after)?;
-    let size = image_report(alloc, bytes)?;
-    lines.extend_from_slice(&size)?;
-    Ok(lines)
 }
 
 /// A listing is kept.

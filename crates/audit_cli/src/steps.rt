@@ -1,23 +1,39 @@
-//! The steps that commands share: reading a table's text and auditing it, reading a listing's text, and laying it out.
-ghost use Rattle.std.specs.Prelude.{◌≡◌, ◌%◌, ℕ, List, IfOk};
+//! The steps that commands share: reading a table's text and auditing it, reading a listing's text, laying it out and making its image, learning from
+//! its windows, and what is told of what was learnt or rewritten.
+ghost use Rattle.std.specs.Prelude.{◌≡◌, ◌≤◌, ◌%◌, ◌++◌, ℕ, List, IfOk, length, map};
 ghost use Rattle.std.specs.Result.{result_map_both};
 ghost use Rattle.thumb_model.specs.Layout.{Layable};
+ghost use Rattle.thumb_model.specs.Rewritten.{is_op};
 ghost use Rattle.listing_parser.specs.Parsing.{IsListing, text_of_lines};
+ghost use Rattle.listing_parser.specs.Views.{line_view};
 ghost use Rattle.rule_table.specs.Refused.{IsText};
 ghost use Rattle.rule_table.specs.Valid.{IsTable};
 ghost use Rattle.rule_table.specs.Views.{table_of};
 ghost use Rattle.audit_cli.specs.Refusals.{unlaid_refusal};
 ghost use Rattle.label_layout.specs.Refusals.{fault_of};
+ghost use Rattle.table_learn.specs.Settings.{settings_of, AreInLimits};
+ghost use Rattle.table_learn.specs.Learnt.{text_length, text_limit};
+ghost use Rattle.window_harvest.specs.Harvest.{AreHarvest, pair_of};
+ghost use Rattle.audit_cli.specs.Audit.{opens_of};
+ghost use Rattle.audit_cli.specs.Learn.{Teach, limits_of};
+ghost use Rattle.audit_cli.specs.Printed.{image_line, learnt_line, report_of};
+ghost use Rattle.audit_cli.specs.Rewrite.{instruction_count};
 ghost use Rattle.audit_cli.specs.Steps.{AuditsTable, LaysOut, MakesImage, ReadsListing, ReadsTable};
 
+use crate::audit::open_count;
+use crate::printing::{image_report, learnt_report, report};
 use crate::refusal::Refusal;
 use label_layout::{Kind as LayoutKind, Layout, LayoutError, layout};
-use listing_parser::{Listing, ListingError, parse};
+use listing_parser::{Line, Listing, ListingError, Statement, parse};
+use liveness::live;
 use rule_table::{Table, TableError, read_table};
 use std::alloc::{AllocError, Global};
 use step_ledger::{Ledger, Steps};
 use table_audit::{AuditError, Audited, audit};
+use table_learn::{LearnError, Settings};
 use thumb_assembler::{ImageError, assemble};
+use thumb_instr::{Mask, Seq};
+use window_harvest::windows;
 
 /// The table of a text, or why it is none.
 #[tactic(auto, using(crate::proofs::StepLemmas::is_unlisted))]
@@ -131,4 +147,98 @@ pub(crate) fn image_of(
         })),
         Ok(bytes) => Ok(Ok(bytes)),
     }
+}
+
+/// The windows of a listing, each with the mask of what is live after it.
+fn harvest<L: Ledger>(
+    alloc: Global,
+    listing: &Listing,
+    settings: &Settings,
+    steps: &mut Steps<L>,
+) -> Result<Vec<(Seq, Mask)>, listing_parser::Memory>
+    requires { AreInLimits (settings_of settings.now) }
+    ensures { IfOk result (λ pairs. AreHarvest (limits_of (settings_of settings.now)) listing.now (map pair_of pairs.items)) }
+{
+    let live = live(alloc, listing, steps)?;
+    windows(
+        alloc,
+        listing,
+        &live,
+        settings.regs,
+        settings.left,
+        &settings.pool,
+    )
+}
+
+/// The table that is learnt from the windows of a listing, or why there is none.
+pub(crate) fn learnt<L: Ledger>(
+    alloc: Global,
+    listing: &Listing,
+    settings: Settings,
+    steps: &mut Steps<L>,
+) -> Result<Result<Table, Refusal>, AllocError>
+    requires { AreInLimits (settings_of settings) }
+    ensures { IfOk result (λ r. Teach (settings_of settings) listing.now (result_map_both table_of (λ e. e) r)) }
+{
+    let Ok(windows) = harvest(alloc, listing, &settings, steps) else {
+        return Err(AllocError);
+    };
+    match table_learn::learn(alloc, windows, settings, steps) {
+        Err(LearnError::Memory) => Err(AllocError),
+        Err(LearnError::Wide(count)) => Ok(Err(Refusal::Wide { count })),
+        Err(LearnError::Full { bytes, .. }) => Ok(Err(Refusal::Full { bytes })),
+        Ok(table) => Ok(Ok(table)),
+    }
+}
+
+/// The report of a learnt table.
+pub(crate) fn table_report(alloc: Global, table: &Table) -> Result<Vec<u8>, AllocError>
+    requires valid { IsTable (table_of table.now) }
+    requires fits { text_length (table_of table.now) ≤ text_limit }
+    ensures { IfOk result (λ v. v.items ≡ learnt_line (length (table_of table.now).rules) (opens_of (table_of table.now)) (length (table_of table.now).states)) }
+{
+    learnt_report(
+        alloc,
+        table.entries.len() as u64,
+        open_count(&table.entries),
+        table.states.as_slice().len() as u64,
+    )
+}
+
+/// How many replacements were made, and how many instructions there were before and after.
+#[derive(Clone, Copy)]
+pub(crate) struct Counts {
+    pub(crate) replaced: u64,
+    pub(crate) before: u64,
+    pub(crate) after: u64,
+}
+
+/// Whether a line holds an instruction.
+fn is_instruction(line: &Line) -> bool
+    ensures { result ≡ is_op (line_view line.now).statement }
+{
+    matches!(line.statement, Statement::Runs { .. })
+}
+
+/// How many instructions the lines hold.
+pub(crate) fn instruction_count(lines: &[Line]) -> u64
+    ensures { result ≡ instruction_count (map line_view lines.now) }
+{
+    let mut count = 0;
+    for line in lines {
+        if is_instruction(line) {
+            count += 1;
+        }
+    }
+    count
+}
+
+/// The report of a rewritten listing with that of its image.
+pub(crate) fn report_image(alloc: Global, counts: Counts, bytes: u64) -> Result<Vec<u8>, AllocError>
+    ensures { IfOk result (λ v. v.items ≡ report_of counts.replaced counts.before counts.after ++ image_line bytes) }
+{
+    let mut lines = report(alloc, counts.replaced, counts.before, counts.after)?;
+    let size = image_report(alloc, bytes)?;
+    lines.extend_from_slice(&size)?;
+    Ok(lines)
 }

@@ -6,6 +6,7 @@ ghost use Rattle.command_runs.specs.Plans.{Runs};
 ghost use Rattle.audit_cli.specs.Peep.{plan_of, Peeps};
 
 use crate::audit::Audit;
+use crate::demo::Demo;
 use crate::export::Export;
 use crate::learn::Learn;
 use crate::rewrite::Rewrite;
@@ -93,6 +94,11 @@ fn run_command<S: Store, O: Sink, L: Ledger>(
             };
             let names = [listing.as_str()];
             return run(alloc, &trace, &names, store, sink, steps);
+        }
+        Command::Demo { windows } => {
+            let demo = Demo { windows: *windows };
+            let names: [&str; 0] = [];
+            return run(alloc, &demo, &names, store, sink, steps);
         }
     }
 }

@@ -4,7 +4,7 @@ use Rattle.std.specs.Prelude.{option_and_then}
 use Rattle.std.specs.List.{list_all}
 use Rattle.clap.specs.Words.{Row, fault_of, first_of, subcommand_of}
 use Rattle.command_line.specs.App.{asked, asked_by, form_of, peep_app, words_for}
-use Rattle.command_line.specs.CommandLine.{AskFor, Form, rewrites, audits, learns, exports, traces, Given, IsCommand, Request, rewrite, learn, Text, all_given, base_of, settings_of, settings_by, number_from, pool_of, is_one_of, name_of, options_of, request_by, value_of}
+use Rattle.command_line.specs.CommandLine.{AskFor, Form, rewrites, audits, learns, exports, traces, demos, Given, IsCommand, Request, rewrite, learn, Text, all_given, base_of, settings_of, settings_by, number_from, pool_of, is_one_of, name_of, options_of, request_by, value_of}
 use Rattle.command_line.proofs.Items.{is_name}
 use Rattle.command_line.proofs.Law.{rows}
 use Rattle.command_line.proofs.Views.{AreTexts}
@@ -35,6 +35,7 @@ is_form audits = record { few = omega arith; names = refl; apart = refl; named =
 is_form learns = record { few = omega arith; names = refl; apart = refl; named = refl }
 is_form exports = record { few = omega arith; names = refl; apart = refl; named = refl }
 is_form traces = record { few = omega arith; names = refl; apart = refl; named = refl }
+is_form demos = record { few = omega arith; names = refl; apart = refl; named = refl }
 
 -- the settings are told by the values of their options
 same_settings : (f g : Text → Option Text) → ((n : Text) → is_one_of (options_of learns) n ≡ true → f n ≡ g n) → settings_of f ≡ settings_of g
@@ -59,6 +60,8 @@ same_options exports (t ∷ n ∷ c ∷ l ∷ []) f g e = refl
 same_options exports ps f g e = refl
 same_options traces (l ∷ n ∷ s ∷ []) f g e = refl
 same_options traces ps f g e = refl
+same_options demos (n ∷ []) f g e = refl
+same_options demos ps f g e = refl
 
 -- a request has a word for each name
 counted : (form : Form) (ps : List Text) (value : Text → Option Text) (r : Request) → request_by form ps value ≡ Some r → length ps ≡ length (words_for form)
@@ -72,6 +75,8 @@ counted exports (t ∷ n ∷ c ∷ l ∷ []) value r e = refl
 counted exports ps value r e = absurd (let bad : None ≡ Some r = e in cc)
 counted traces (l ∷ n ∷ s ∷ []) value r e = refl
 counted traces ps value r e = absurd (let bad : None ≡ Some r = e in cc)
+counted demos (n ∷ []) value r e = refl
+counted demos ps value r e = absurd (let bad : None ≡ Some r = e in cc)
 
 -- ---- of all ----
 

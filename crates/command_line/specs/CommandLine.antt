@@ -91,6 +91,10 @@ base_of (Some v) = option_and_then (λ b. if is_base b then Some b else None) (n
 abbrev pub steps_of : Text → Option ℕ
 steps_of v = option_and_then (λ n. if nat_le n 1000000 then Some n else None) (numeral v)
 
+-- the windows of a demonstration are from 1 to 20,000
+abbrev pub windows_of : Text → Option ℕ
+windows_of v = option_and_then (λ n. if nat_le 1 n && nat_le n 20000 then Some n else None) (numeral v)
+
 -- all of these values, or none where one of them is none
 abbrev pub all_given : {A : Type 0} → List (Option A) → Option (List A)
 all_given [] = Some []
@@ -141,6 +145,7 @@ pub data Request : Type 0 where
   learn : (listing out : Text) → Settings → Request
   export : (table : Text) (entry : ℕ) (cnf lrat : Text) → Request
   trace : (listing label : Text) → ℕ → Request
+  demo : (windows : ℕ) → Request
 
 -- ---- the commands ----
 
@@ -150,6 +155,7 @@ pub data Form : Type 0 where
   learns : Form
   exports : Form
   traces : Form
+  demos : Form
 
 abbrev pub name_of : Form → Text
 name_of rewrites = codes "rewrite"
@@ -157,6 +163,7 @@ name_of audits = codes "audit"
 name_of learns = codes "learn"
 name_of exports = codes "export"
 name_of traces = codes "trace"
+name_of demos = codes "demo"
 
 abbrev pub options_of : Form → List Text
 options_of rewrites = codes "base" ∷ []
@@ -170,6 +177,7 @@ request_by audits (table ∷ []) value = Some (audit table)
 request_by learns (listing ∷ out ∷ []) value = option_map (λ settings. learn listing out settings) (settings_of value)
 request_by exports (table ∷ entry ∷ cnf ∷ lrat ∷ []) value = option_map (λ number. export table number cnf lrat) (numeral entry)
 request_by traces (listing ∷ label ∷ count ∷ []) value = option_map (λ steps. trace listing label steps) (steps_of count)
+request_by demos (count ∷ []) value = option_map (λ windows. demo windows) (windows_of count)
 request_by form words value = None
 
 -- the words are a command that asks for this

@@ -1,8 +1,8 @@
 -- What a command asks for, without its memory.
 use Rattle.std.specs.Prelude.{string_bytes}
-use Rattle.command_line.specs.CommandLine.{Request, rewrite, audit, learn, export, trace}
+use Rattle.command_line.specs.CommandLine.{Request, rewrite, audit, learn, export, trace, demo}
 use Rattle.command_line.specs.declared.command.Command.{Command}
-use Rattle.command_line.specs.declared.command.Command.TheVariants.{Rewrite, Audit, Learn, Export, Trace}
+use Rattle.command_line.specs.declared.command.Command.TheVariants.{Rewrite, Audit, Learn, Export, Trace, Demo}
 
 -- the request of a command
 abbrev pub request_of : Command → Request
@@ -13,3 +13,4 @@ request_of (Learn listing out regs left budget seed pool) =
     learn (string_bytes listing) (string_bytes out) (record { regs = regs.number; left = left.number; budget = budget.number; seed = seed; pool = pool })
 request_of (Export table entry cnf lrat) = export (string_bytes table) entry (string_bytes cnf) (string_bytes lrat)
 request_of (Trace listing label steps) = trace (string_bytes listing) (string_bytes label) steps
+request_of (Demo windows) = demo windows.number

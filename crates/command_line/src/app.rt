@@ -4,7 +4,7 @@ ghost use Rattle.std.specs.Prelude.{◌≡◌, IfOk, false};
 ghost use Rattle.clap.specs.Words.{app_of, with_rule};
 ghost use Rattle.clap.specs.declared.builder.Command.TheViews.{out-Command as fields_of};
 ghost use Rattle.command_line.specs.App.{positional, option, app_for, peep_app};
-ghost use Rattle.command_line.specs.CommandLine.{rewrites, audits, learns, exports, traces};
+ghost use Rattle.command_line.specs.CommandLine.{rewrites, audits, learns, exports, traces, demos};
 
 use clap::{Arg, Command};
 use std::alloc::{AllocError, Global};
@@ -95,6 +95,15 @@ fn trace<'a>(alloc: Global) -> Result<Command<'a>, AllocError>
     with_word(alloc, command, "steps")
 }
 
+/// `demo N`
+fn demo<'a>(alloc: Global) -> Result<Command<'a>, AllocError>
+    ensures app { IfOk result (λ c. app_of c ≡ app_for demos) }
+    ensures own { IfOk result (λ c. (fields_of c).has_globals ≡ false) }
+{
+    let command = Command::new(alloc, "demo");
+    with_word(alloc, command, "windows")
+}
+
 /// The program: a command is required, and there is no help.
 pub fn peep<'a>(alloc: Global) -> Result<Command<'a>, AllocError>
     ensures { IfOk result (λ c. app_of c ≡ peep_app) }
@@ -104,6 +113,7 @@ pub fn peep<'a>(alloc: Global) -> Result<Command<'a>, AllocError>
     let learn = learn(alloc)?;
     let export = export(alloc)?;
     let trace = trace(alloc)?;
+    let demo = demo(alloc)?;
     let command = Command::new(alloc, "peep")
         .no_binary_name(true)
         .disable_help_flag(true)
@@ -113,6 +123,7 @@ pub fn peep<'a>(alloc: Global) -> Result<Command<'a>, AllocError>
         .subcommand(audit)?
         .subcommand(learn)?
         .subcommand(export)?
-        .subcommand(trace)?;
+        .subcommand(trace)?
+        .subcommand(demo)?;
     Ok(command)
 }

@@ -75,6 +75,10 @@ pub enum Command {
         /// Up to 1,000,000.
         steps: u32,
     },
+    /// Learn from a listing of so many windows, made for it, rewrite that listing by what was learnt, and print what came of it.
+    Demo {
+        windows: Within<1, 20_001>,
+    },
 }
 
 /// Memory was refused.

@@ -3,7 +3,7 @@
 ghost use Rattle.std.specs.Prelude.{◌≡◌, ◌-◌, ◌≤◌, ℕ, List, All, IfOk, MatchOption, Some, true, length, map, option_map, option_and_then, string_bytes};
 ghost use Rattle.clap.specs.Words.{first_of, first_value, found_of, rows_of, subcommand_rows_of};
 ghost use Rattle.command_line.specs.App.{asked_by, asked};
-ghost use Rattle.command_line.specs.CommandLine.{rewrites, audits, learns, exports, traces, base_of, between_commas, is_base, number_from, pool_of, steps_of};
+ghost use Rattle.command_line.specs.CommandLine.{rewrites, audits, learns, exports, traces, demos, base_of, between_commas, is_base, number_from, pool_of, steps_of, windows_of};
 ghost use Rattle.command_line.specs.Request.{request_of};
 ghost use Rattle.ascii_scan.specs.Numeral.{decimal};
 ghost use Rattle.seq_enum.specs.Pools.{is_pool};
@@ -37,6 +37,16 @@ fn steps(word: &str) -> Option<u32>
     ensures { result ≡ steps_of word.now }
 {
     number(word.as_bytes()).filter(|steps| *steps <= STEPS_LIMIT)
+}
+
+/// The windows of a demonstration that the word is, or None where it is none.
+fn windows(word: &str) -> Option<Within<1, 20_001>>
+    ensures { option_map (λ n. n.number) result ≡ windows_of word.now }
+{
+    match number(word.as_bytes()) {
+        None => None,
+        Some(count) => Within::new(count),
+    }
 }
 
 /// The number from LEAST to below END that an option has, or `other` where it isn't given; None where its value is no such number.
@@ -232,6 +242,19 @@ fn trace(alloc: Global, given: &ArgMatches<'_>) -> Result<Option<Command>, Alloc
     }))
 }
 
+/// The values of `demo`.
+fn demo(given: &ArgMatches<'_>) -> Option<Command>
+    ensures { option_map request_of result ≡ asked_by demos (first_value (found_of given.now)) }
+{
+    let Some(word) = given.get_str("windows") else {
+        return None;
+    };
+    let Some(windows) = windows(word) else {
+        return None;
+    };
+    Some(Command::Demo { windows })
+}
+
 /// The command that clap found, with its values.
 pub fn command_of(alloc: Global, matches: &ArgMatches<'_>) -> Result<Option<Command>, AllocError>
     ensures { IfOk result (λ o. option_map request_of o ≡ option_and_then asked (subcommand_rows_of matches.now)) }
@@ -242,6 +265,7 @@ pub fn command_of(alloc: Global, matches: &ArgMatches<'_>) -> Result<Option<Comm
         Some(("learn", given)) => learn(alloc, given),
         Some(("export", given)) => export(alloc, given),
         Some(("trace", given)) => trace(alloc, given),
+        Some(("demo", given)) => Ok(demo(given)),
         _ => Ok(None),
     }
 }

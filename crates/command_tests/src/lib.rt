@@ -4,6 +4,8 @@
 #[cfg(test)]
 mod auditing;
 #[cfg(test)]
+mod demonstrating;
+#[cfg(test)]
 mod hostile;
 #[cfg(test)]
 mod learning;

@@ -106,6 +106,11 @@ fn these_are_no_command(rt: HostRuntime) -> Result<(), Fail> {
         "rewrit a b c d",
         "trace",
         "trace a b",
+        "demo",
+        "demo 0",
+        "demo 20001",
+        "demo 1 2",
+        "demo --windows 1",
         "trace a b 1 c",
         "trace a b c",
         "trace a b 1000001",
@@ -312,6 +317,24 @@ fn these_are_trace(rt: HostRuntime) -> Result<(), Fail> {
     ];
     for (line, names, steps) in rows {
         assert_trace(&rt, rt.alloc(), line, names, steps)?;
+    }
+    Ok(())
+}
+
+#[test]
+fn these_are_demo(rt: HostRuntime) -> Result<(), Fail> {
+    let rows = [
+        ("demo 1", 1),
+        ("demo 20000", 20_000),
+        ("demo 0x14", 20),
+        ("demo -- 7", 7),
+    ];
+    for (line, count) in rows {
+        let words = words_of(rt.alloc(), line)?;
+        let Some(Command::Demo { windows }) = usage_of(rt.alloc(), words.as_slice())? else {
+            return Err(Fail::from("no command"));
+        };
+        assert_eq!(rt; windows.number, count, "{line}");
     }
     Ok(())
 }

@@ -1,7 +1,7 @@
-use Rattle.std.proofs.Common.{◌≡◌, rules, subst, sym, Option}
+use Rattle.std.proofs.Common.{◌≡◌, ◌∙◌, rules, subst, sym, Option}
 use Rattle.std.specs.Prelude.{IfOk, option_map}
 use Rattle.clap.specs.Words.{found_of}
-use Rattle.command_line.specs.CommandLine.{Request, rewrites, audits, learns, exports, traces, name_of}
+use Rattle.command_line.specs.CommandLine.{Request, rewrites, audits, learns, exports, traces, demos, name_of}
 use Rattle.command_line.specs.Request.{request_of}
 use Rattle.command_line.proofs.Usage.{asked_met}
 use Rattle.command_line.proofs.values.command_of.Goals as goal
@@ -35,3 +35,9 @@ returns-in-Some-trace-default c =
     let name : c.in-Some-trace-default.field-0-0.now ≡ name_of traces = search rules in
     let asks = asked_met traces c.args.matches.now (found_of c.in-Some-trace-default.given.now) c.in-Some-trace-default.field-0-0.now c.in-Some-trace-default.ensures.name c.in-Some-trace-default.ensures.rows name in
     subst (λ (v : Option Request). IfOk c.trace.result (λ o. option_map request_of o ≡ v)) (sym asks) c.trace.ensures
+
+pub returns-in-Some-demo-default : goal.returns-in-Some-demo-default
+returns-in-Some-demo-default c =
+    let name : c.in-Some-demo-default.field-0-0.now ≡ name_of demos = search rules in
+    let asks = asked_met demos c.args.matches.now (found_of c.in-Some-demo-default.given.now) c.in-Some-demo-default.field-0-0.now c.in-Some-demo-default.ensures.name c.in-Some-demo-default.ensures.rows name in
+    c.demo.ensures ∙ sym asks

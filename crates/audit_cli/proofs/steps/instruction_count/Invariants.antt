@@ -1,7 +1,7 @@
 use Rattle.std.proofs.Common.{◌≡◌, ◌+◌, ◌≤◌, map, drop}
 use Rattle.listing_parser.specs.Views.{line_view}
 use Rattle.audit_cli.specs.Rewrite.{instruction_count}
-use Rattle.audit_cli.proofs.rewrite.instruction_count.Given as goal
+use Rattle.audit_cli.proofs.steps.instruction_count.Given as goal
 
 abbrev pub invariant-loop-line : goal.invariant-loop-line
 invariant-loop-line l = record {

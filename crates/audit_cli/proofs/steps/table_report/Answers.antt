@@ -1,10 +1,9 @@
-use Rattle.std.proofs.Common.{◌≡◌, ◌<◌, ◌^◌, rules, arith, refl, map}
-use Rattle.std.specs.Prelude.{sum_by}
-use Rattle.rule_table.specs.Views.{rule_of, table_of}
+use Rattle.std.proofs.Common.{◌<◌, ◌^◌, rules, arith, refl}
+use Rattle.rule_table.specs.Views.{table_of}
 use Rattle.rule_table.specs.Text.{text_of}
-use Rattle.audit_cli.specs.Audit.{open_count, opens_of}
+use Rattle.audit_cli.specs.Audit.{opens_of}
 use Rattle.audit_cli.proofs.TableTexts.{opens_within}
-use Rattle.audit_cli.proofs.learn.kept.Goals as goal
+use Rattle.audit_cli.proofs.steps.table_report.Goals as goal
 
 pub open_count-requires : goal.open_count-requires
 open_count-requires c =

@@ -1,0 +1,84 @@
+-- What `demo` comes to: a listing is made, a table learnt from its windows, the listing rewritten by that table, and its image made.
+use Rattle.std.specs.Prelude.{◌≡◌, ℕ, zero, suc, ◌≤◌, ◌%◌, ◌==◌, List, [], ◌∷◌, ◌++◌, length, codes, if◌then◌else◌}
+use Rattle.std.specs.Fmt.{decimal}
+use Rattle.thumb_model.specs.Listing.{Line}
+use Rattle.thumb_model.specs.Rewritten.{Replacement, AreRewritten}
+use Rattle.listing_parser.specs.Parsing.{IsListing}
+use Rattle.rule_table.specs.Table.{Table}
+use Rattle.table_audit.specs.Soundness.{rules_of}
+use Rattle.table_learn.specs.Settings.{Settings, Window}
+use Rattle.table_learn.specs.Learnt.{IsFull}
+use Rattle.window_rewrite.specs.Rewriting.{setting}
+use Rattle.thumb_assembler.specs.Following.{IsAssembled}
+use Rattle.command_runs.specs.Plans.{Outcome, Refuses, Does}
+use Rattle.audit_cli.specs.declared.refusal.Refusal.TheVariants as refusal
+use Rattle.audit_cli.specs.Refusals.{refusal_line}
+use Rattle.audit_cli.specs.Printed.{demo_line, learnt_line, report_of, image_line}
+use Rattle.audit_cli.specs.Audit.{opens_of}
+use Rattle.audit_cli.specs.Learn.{AreWindowsOf, IsLearnt}
+use Rattle.audit_cli.specs.Rewrite.{instruction_count}
+
+-- ---- the listing ----
+
+-- an instruction's line: a tab, its text and a newline
+abbrev pub own : List ℕ → List ℕ
+own text = 9 ∷ (text ++ 10 ∷ [])
+
+-- r0 to r7
+abbrev pub register : ℕ → List ℕ
+register i = 114 ∷ decimal (i % 8)
+
+-- two instructions in a register: a byte is cut out, a number is negated, or a register is copied to itself twice
+abbrev pub pair : ℕ → List ℕ → List ℕ
+pair kind d =
+    if kind == 0 then own (codes "lsls " ++ (d ++ (codes ", " ++ (d ++ codes ", #24")))) ++ own (codes "lsrs " ++ (d ++ (codes ", " ++ (d ++ codes ", #24"))))
+    else if kind == 1 then own (codes "mvns " ++ (d ++ (codes ", " ++ d))) ++ own (codes "adds " ++ (d ++ codes ", #1"))
+    else own (codes "mov " ++ (d ++ (codes ", " ++ d))) ++ own (codes "mov " ++ (d ++ (codes ", " ++ d)))
+
+-- the window of number i, and what ends it
+abbrev pub window_text : ℕ → List ℕ
+window_text i = pair (i % 3) (register i) ++ own (codes "nop")
+
+-- the windows of numbers 0 to n - 1
+abbrev pub windows_text : ℕ → List ℕ
+windows_text zero = []
+windows_text (suc n) = windows_text n ++ window_text n
+
+abbrev pub demo_text : ℕ → List ℕ
+demo_text n = codes "demo:" ++ 10 ∷ (windows_text n ++ own (codes "bx lr"))
+
+-- ---- what comes of it ----
+
+-- one register, two instructions, 20,000 clauses, the seed 42, and the numbers 1 and 24
+abbrev pub demo_settings : Settings
+demo_settings = record { regs = 1; left = 2; budget = 20000; seed = 42; pool = 1 ∷ 24 ∷ [] }
+
+-- lines are rewritten by a table, laid out from address 0 on, and made an image; what is told of that
+pub record IsRewritingTold (t : Table) (given : List Line) (told : List ℕ) : Type 0 where
+  pub replacements : List Replacement
+  pub lines : List Line
+  pub rewritten : AreRewritten (setting 0 (rules_of t)) given replacements lines
+  pub bytes : List ℕ
+  pub image : IsAssembled 0 lines bytes
+  pub are_told : told ≡ report_of (length replacements) (instruction_count given) (instruction_count lines) ++ image_line (length bytes)
+
+-- the listing of so many windows, the table that is learnt from it, and its rewriting by that table; what is told of all
+pub record IsDemo (n : ℕ) (told : List ℕ) : Type 0 where
+  pub lines : List Line
+  pub listing : IsListing (demo_text n) lines
+  pub table : Table
+  pub learnt : IsLearnt demo_settings lines table
+  pub rewriting : List ℕ
+  pub rewritten : IsRewritingTold table lines rewriting
+  pub are_told : told ≡ demo_line n ++ (learnt_line (length table.rules) (opens_of table) (length table.states) ++ rewriting)
+
+-- what so many windows come to: nothing is kept, and all that is told is printed; or the table of the first windows has a text that is too long
+pub data DemoComesTo (n : ℕ) : Outcome → Type 0 where
+  shown : (told : List ℕ) → IsDemo n told → DemoComesTo n (Does [] told)
+  too_long : (lines : List Line) → IsListing (demo_text n) lines → (windows : List Window) → AreWindowsOf demo_settings lines windows
+      → (t : Table) (bytes : ℕ) → IsFull demo_settings windows t bytes → DemoComesTo n (Refuses (refusal_line (refusal.Full bytes)))
+
+-- ---- lines of such a listing ----
+
+abbrev pub IsDemoListing : List Line → Type 0
+IsDemoListing lines = (n : ℕ) × (n ≤ 20000) × IsListing (demo_text n) lines
