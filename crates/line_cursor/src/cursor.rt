@@ -16,7 +16,6 @@ ghost use Rattle.line_cursor.specs.declared.pieces.Piece.{Piece};
 ghost use Rattle.line_cursor.specs.Pieces.{begins_op, lines_in, lines_of};
 ghost use Rattle.line_cursor.specs.Cursors.{lines_ahead, lines_at, lines_behind, place_at, sets_of, spots_at, stands_at, IsCursor, IsSettled};
 
-
 use crate::pieces::{Look, Piece, all_lines, give_way, is_labelled, is_op, places_of, seen};
 use listing_parser::{Line, Memory};
 use liveness::Flow;
