@@ -5,9 +5,9 @@ use Rattle.std.specs.List.{flat_map}
 use Rattle.std.proofs.lemmas.List.{take_more, reverse-append, get_or_default}
 use Rattle.thumb_instr.specs.declared.instr.Instr.{Instr}
 use Rattle.thumb_model.specs.Listing.{Name, Mention, Value, Statement, Nothing, Runs, Words, Aligns, Sets, Line, places_in, places_of}
-use Rattle.window_harvest.specs.declared.rows.Row.{Row}
-use Rattle.window_harvest.specs.Rows.{is_unlabelled, letter_of, rows_of, stays_joined, rows_from}
-use Rattle.window_harvest.specs.Runs.{letter_at, before, run}
+use Rattle.window_runs.specs.declared.rows.Row.{Row}
+use Rattle.window_runs.specs.Rows.{is_unlabelled, letter_of, rows_of, stays_joined, rows_from}
+use Rattle.window_runs.specs.Runs.{letter_at, before, run}
 use Rattle.line_cursor.specs.declared.pieces.Piece.{Piece}
 use Rattle.line_cursor.specs.declared.pieces.Piece.TheVariants as piece
 use Rattle.line_cursor.specs.declared.pieces.Look.{Look}

@@ -10,8 +10,8 @@ ghost use Rattle.thumb_model.specs.Listing.{Place, is_op_place, labels_from, pla
 ghost use Rattle.line_cursor.specs.Cursors.{AreAhead};
 ghost use Rattle.thumb_model.specs.Rewritten.{replaced_lines, without};
 ghost use Rattle.thumb_model.proofs.LinesReplaced.{AreOps};
-ghost use Rattle.window_harvest.specs.Rows.{rows_from};
-ghost use Rattle.window_harvest.specs.Runs.{run};
+ghost use Rattle.window_runs.specs.Rows.{rows_from};
+ghost use Rattle.window_runs.specs.Runs.{run};
 ghost use Rattle.line_cursor.specs.declared.pieces.Piece.{Piece};
 ghost use Rattle.line_cursor.specs.Pieces.{begins_op, lines_in, lines_of};
 ghost use Rattle.line_cursor.specs.Cursors.{lines_ahead, lines_at, lines_behind, place_at, sets_of, spots_at, stands_at, IsCursor, IsSettled};

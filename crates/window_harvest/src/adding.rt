@@ -6,8 +6,8 @@ ghost use Rattle.window_harvest.specs.Keys.{IsKey, AreSeen, IsPut};
 ghost use Rattle.window_harvest.specs.LimitsOf.{limits_of, AreOf};
 
 use crate::keys::{Key, key_of};
-use crate::rows::Row;
-use crate::runs::run;
+use window_runs::rows::Row;
+use window_runs::runs::run;
 use listing_parser::Memory;
 use liveness::Live;
 use rule_table::canonical;

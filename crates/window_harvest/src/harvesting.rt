@@ -4,7 +4,7 @@ ghost use Rattle.liveness.specs.Live.{IsLive};
 ghost use Rattle.window_harvest.specs.Harvest.{AreHarvest, pair_of};
 
 use crate::adding::{Limits, add_place};
-use crate::rows::rows;
+use window_runs::rows::rows;
 use listing_parser::{Listing, Memory};
 use liveness::Live;
 use seq_enum::Pool;

@@ -19,7 +19,7 @@ use Rattle.thumb_model.proofs.LinesReplaced.{AreOps, AllOutside, code_replaced}
 use Rattle.thumb_model.proofs.LinesKept.{code_of_replaced}
 use Rattle.thumb_instr.proofs.RenamingLemmas.{window_renamed}
 use Rattle.listing_parser.specs.Replacing.{own_line, names_no_label}
-use Rattle.window_harvest.specs.Windows.{IsWindow}
+use Rattle.window_runs.specs.Windows.{IsWindow}
 use Rattle.window_harvest.specs.Harvest.{spot_of, StandsThere}
 use Rattle.window_rewrite.specs.Rewriting.{setting}
 use Rattle.window_rewrite.specs.Fitting.{Fits, IsLeft, is_allowed}

@@ -17,17 +17,17 @@ use Rattle.thumb_model.specs.Flow.{LiveAfter}
 use Rattle.thumb_model.proofs.Lists.{length_map, take_all, take_short, length_drop}
 use Rattle.thumb_model.proofs.Window.{AreStraight}
 use Rattle.thumb_model.proofs.Table.{window_length, applies_sound}
-use Rattle.window_harvest.specs.Windows.{IsWindow}
+use Rattle.window_runs.specs.Windows.{IsWindow}
 use Rattle.liveness.specs.Live.{Sets}
 use Rattle.rule_table.specs.declared.table.Entry.{Entry}
 use Rattle.rule_table.specs.Views.{rule_of}
 use Rattle.table_audit.specs.Soundness.{rewriting_rule}
-use Rattle.window_harvest.specs.declared.rows.Row.{Row}
-use Rattle.window_harvest.specs.Rows.{rows_from}
-use Rattle.window_harvest.specs.Runs.{run}
+use Rattle.window_runs.specs.declared.rows.Row.{Row}
+use Rattle.window_runs.specs.Rows.{rows_from}
+use Rattle.window_runs.specs.Runs.{run}
 use Rattle.window_harvest.specs.LimitsOf.{AreOf}
 use Rattle.window_harvest.specs.Harvest.{spot_of, StandsThere}
-use Rattle.window_harvest.proofs.Joined.{window_in_run}
+use Rattle.window_runs.proofs.Joined.{window_in_run}
 use Rattle.window_harvest.proofs.Places.{stands_there}
 use Rattle.window_rewrite.specs.declared.choice.Choice.{Choice}
 use Rattle.window_rewrite.specs.Rewriting.{setting}

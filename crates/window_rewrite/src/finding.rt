@@ -20,8 +20,8 @@ use rule_table::Entry;
 use std::alloc::Global;
 use step_ledger::{Ledger, Steps};
 use thumb_instr::{Instr, Items};
-use window_harvest::rows::Row;
-use window_harvest::runs::run;
+use window_runs::rows::Row;
+use window_runs::runs::run;
 
 /// A table as the finder goes by it.
 #[derive(Drop)]

@@ -19,7 +19,7 @@ use liveness::live;
 use std::alloc::Global;
 use step_ledger::{Ledger, Steps};
 use table_audit::Audited;
-use window_harvest::rows::rows;
+use window_runs::rows::rows;
 
 /// Rewrites a listing by an accepted table, for an image that begins at the base: at the least place where some entry applies, the one with the longest
 /// left side, then the lowest, until none applies. A listing that cannot be laid out from the base is refused at its first such line.

@@ -1,9 +1,9 @@
 use Rattle.std.proofs.Common.{◌≡◌, ◌∙◌, ◌-◌, ◌≤◌, List, true, false, length, drop, ap, arith, sym, subst}
 use Rattle.thumb_instr.specs.declared.instr.Instr.{Instr}
 use Rattle.thumb_model.specs.Listing.{code_of, places_of}
-use Rattle.window_harvest.specs.declared.rows.Row.{Row}
-use Rattle.window_harvest.specs.Runs.{run}
-use Rattle.window_harvest.proofs.Places.{run_within, rows_length}
+use Rattle.window_runs.specs.declared.rows.Row.{Row}
+use Rattle.window_runs.specs.Runs.{run}
+use Rattle.window_runs.proofs.Lengths.{run_within, rows_length}
 use Rattle.window_rewrite.specs.Rules.{rules_in}
 use Rattle.window_rewrite.specs.Choices.{setting_of}
 use Rattle.window_rewrite.proofs.Chosen.{NoneLonger, front_stands, none_beyond, none_shorter, count_cost, all_cost}

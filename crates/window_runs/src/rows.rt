@@ -2,7 +2,7 @@
 ghost use Rattle.std.specs.Prelude.{◌≡◌, ◌++◌, ◌&&◌, false, map, IfOk, OnOk, option_map};
 ghost use Rattle.thumb_model.specs.Listing.{Words};
 ghost use Rattle.listing_parser.specs.Views.{line_view, mention_view, statement_view, value_view};
-ghost use Rattle.window_harvest.specs.Rows.{is_unlabelled, letter_of, rows_from, rows_of, stays_joined};
+ghost use Rattle.window_runs.specs.Rows.{is_unlabelled, letter_of, rows_from, rows_of, stays_joined};
 
 use listing_parser::{Line, Mention, Statement, Value};
 use std::alloc::{AllocError, Global};

@@ -1,7 +1,7 @@
 -- Runs of instructions that may stand in a window.
 use Rattle.std.specs.Prelude.{ℕ, zero, suc, ◌||◌, Bool, false, List, [], ◌∷◌, Option, Some, None, if◌then◌else◌}
 use Rattle.thumb_instr.specs.declared.instr.Instr.{Instr}
-use Rattle.window_harvest.specs.declared.rows.Row.{Row}
+use Rattle.window_runs.specs.declared.rows.Row.{Row}
 
 -- the letter of the first row, where a run begins there or it is joined to the row before
 abbrev pub letter_at : Bool → List Row → Option Instr

@@ -3,7 +3,7 @@ use Rattle.std.specs.Prelude.{◌&&◌, Bool, true, false, List, [], ◌∷◌, 
 use Rattle.thumb_instr.specs.declared.instr.Instr.{Instr}
 use Rattle.thumb_instr.specs.Window.{is_in_window}
 use Rattle.thumb_model.specs.Listing.{Name, Mention, Statement, Nothing, Runs, Words, Aligns, Sets, Line}
-use Rattle.window_harvest.specs.declared.rows.Row.{Row}
+use Rattle.window_runs.specs.declared.rows.Row.{Row}
 
 abbrev pub is_unlabelled : List Name → Bool
 is_unlabelled [] = true

@@ -1,7 +1,7 @@
 use Rattle.std.proofs.Common.{◌≡◌, ◌≤◌, ◌+◌, ◌-◌, ◌++◌, length, drop, true}
 use Rattle.std.specs.Prelude.{nat_eq}
-use Rattle.window_harvest.specs.Runs.{run}
-use Rattle.window_harvest.proofs.runs.run.Given as goal
+use Rattle.window_runs.specs.Runs.{run}
+use Rattle.window_runs.proofs.runs.run.Given as goal
 
 abbrev pub invariant-loop-seq : goal.invariant-loop-seq
 invariant-loop-seq l = record {

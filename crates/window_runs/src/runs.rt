@@ -1,6 +1,6 @@
 //! Runs of instructions that may stand in a window.
 ghost use Rattle.std.specs.Prelude.{◌≡◌, ◌≤◌, ◌<◌, ◌^◌, drop, true};
-ghost use Rattle.window_harvest.specs.Runs.{letter_at, run};
+ghost use Rattle.window_runs.specs.Runs.{letter_at, run};
 
 use crate::rows::Row;
 use thumb_instr::{Instr, Seq};
