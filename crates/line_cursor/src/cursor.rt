@@ -12,11 +12,13 @@ ghost use Rattle.thumb_model.specs.Rewritten.{replaced_lines, without};
 ghost use Rattle.thumb_model.proofs.LinesReplaced.{AreOps};
 ghost use Rattle.window_runs.specs.Rows.{rows_from};
 ghost use Rattle.window_runs.specs.Runs.{run};
+ghost use Rattle.liveness.specs.declared.flowing.Flow.{Flow};
 ghost use Rattle.line_cursor.specs.declared.pieces.Piece.{Piece};
 ghost use Rattle.line_cursor.specs.Pieces.{begins_op, lines_in, lines_of};
-ghost use Rattle.line_cursor.specs.Cursors.{lines_ahead, lines_at, lines_behind, place_at, sets_of, spots_at, stands_at, IsCursor, IsSettled};
+ghost use Rattle.line_cursor.specs.Cursors.{lines_ahead, lines_at, lines_behind, place_at, sets_of, flows_of, spots_at, stands_at, IsCursor, IsSettled};
 
 use crate::pieces::{Look, Piece, all_lines, give_way, is_labelled, is_op, places_of, seen};
+use arrayvec::ArrayVec;
 use listing_parser::{Line, Memory};
 use liveness::Flow;
 use std::alloc::Global;
@@ -264,6 +266,35 @@ impl<'a> Cursor<'a> {
         ensures { result ≡ run true most (rows_from true (lines_ahead self.now)) }
     {
         run(&self.ahead, most)
+    }
+
+    /// Whether nothing stands behind it.
+    pub fn is_at_end(&self) -> bool
+        ensures { (result ≡ true) ↔ (self.now.ahead.items ≡ []) }
+    {
+        self.ahead.is_empty()
+    }
+
+    /// The items that are live before the place right behind it.
+    pub fn before(&self) -> Items
+        requires { 0 < length self.now.coming.items }
+        ensures { result.bits ≡ set_at (sets_of (spots_at self.now)).before (place_at self.now) }
+    {
+        self.coming[self.coming.len() - 1].before
+    }
+
+    /// The flows of the places behind so many, in order: 16 of them, or all where fewer are left.
+    pub fn flows(&self, count: usize) -> ArrayVec<Flow, 16>
+        requires { count ≤ length self.now.coming.items }
+        ensures { (k : ℕ) (f : Flow) → slice_get result.items k ≡ Some f → slice_get (flows_of (spots_at self.now)) (place_at self.now + (count + k)) ≡ Some f }
+    {
+        let mut flows = ArrayVec::new();
+        let mut at = self.coming.len() - count;
+        while at > 0 && !flows.is_full() {
+            at -= 1;
+            flows.push(self.coming[at].flow);
+        }
+        flows
     }
 
     /// The items that are live after so many places behind it.

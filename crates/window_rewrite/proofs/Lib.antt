@@ -1,7 +1,6 @@
 pub mod Sides
 pub mod Maps
 pub mod Live
-pub mod Stays
 pub mod Applied
 pub mod Keys
 pub mod Chosen

@@ -10,10 +10,7 @@ use Rattle.window_rewrite.specs.declared.choice.Replacement.{Replacement as Made
 use Rattle.window_rewrite.specs.declared.choice.Choice.{Choice}
 use Rattle.window_rewrite.specs.Rewriting.{replacement_of, round_cost}
 use Rattle.window_rewrite.specs.Choices.{choice_of, IsFirstChoice}
-
--- what completes the replacements from the current lines completes them from the start
-abbrev pub Completes : Setting → List Line → List Made → List Line → Type 0
-Completes s start done current = (rs : List Replacement) (new : List Line) → AreRewritten s current rs new → AreRewritten s start (map replacement_of done ++ rs) new
+use Rattle.window_rewrite.specs.Sweeps.{Completes}
 
 pub one_more : (s : Setting) (start current next : List Line) (done more : List Made) (m : Made) → IsFirst s (replacement_of m) current → next ≡ lines_after s (replacement_of m) current → more ≡ done ++ m ∷ []
     → Completes s start done current → Completes s start more next
