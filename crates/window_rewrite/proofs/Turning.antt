@@ -1,5 +1,5 @@
 -- What a replacement at a cursor leaves, and why no entry applies before a cursor that went back far enough.
-use Rattle.std.proofs.Common.{◌≡◌, ℕ, ◌+◌, ◌-◌, ◌%◌, ◌<◌, ◌≤◌, ◌==◌, ◌&&◌, Bool, true, false, List, [], ◌∷◌, ◌++◌, length, length-append, map, Option, Some, None, refl, sym, ap, ◌∙◌, subst, arith, ne_eqb}
+use Rattle.std.proofs.Common.{◌≡◌, ℕ, ◌+◌, ◌-◌, ◌%◌, ◌<◌, ◌≤◌, ◌==◌, ◌&&◌, Bool, true, false, List, [], ◌∷◌, ◌++◌, length, length-append, map, Option, Some, None, refl, sym, ap, ◌∙◌, subst, arith, ne_eqb, true≢false}
 use Rattle.std.specs.Prelude.{slice_get}
 use Rattle.std.specs.Option.{option_map}
 use Rattle.std.proofs.lemmas.Option.{slice_get-map}
@@ -15,15 +15,20 @@ use Rattle.thumb_model.proofs.LinesKept.{fewer_after, code_of_after}
 use Rattle.listing_parser.specs.TableWords.{first_twice}
 use Rattle.listing_parser.proofs.ReplaceLemmas.{still_once}
 use Rattle.liveness.specs.Live.{word_of, set_at, IsLive}
+use Rattle.liveness.specs.Kept.{AreFlows, KeepsAt}
 use Rattle.steady_layout.specs.Steady.{IsSteady}
 use Rattle.steady_layout.proofs.Laws.{steady_is_layable, steady_stays}
+use Rattle.line_cursor.specs.declared.cursor.Cursor.{Cursor}
 use Rattle.line_cursor.specs.declared.cursor.Spot.{Spot}
-use Rattle.line_cursor.specs.Cursors.{sets_of}
+use Rattle.line_cursor.specs.Cursors.{lines_behind, lines_ahead, lines_at, place_at, spots_at, sets_of, flows_of, IsCursor}
 use Rattle.line_cursor.proofs.Settled.{IsGap}
 use Rattle.line_cursor.proofs.Nearer.{places_append, applied_gap, applies_before}
 use Rattle.window_rewrite.specs.Rules.{AreFit}
-use Rattle.window_rewrite.specs.Choices.{NoneBefore}
-use Rattle.window_rewrite.specs.Sweeps.{MayBecome}
+use Rattle.window_rewrite.specs.declared.choice.Choice.{Choice}
+use Rattle.window_rewrite.specs.declared.finding.Rules.{Rules}
+use Rattle.window_rewrite.specs.declared.ground.Ground.{Ground}
+use Rattle.window_rewrite.specs.Choices.{setting_of, choice_of, AreReady, IsChoice, NoneBefore}
+use Rattle.window_rewrite.specs.Sweeps.{IsKept, MayBecome, AreOver, IsOver}
 
 -- a replacement leaves lines that may become the listing, where the lines before it may
 pub may_become : (given lines : List Line) (s : Setting) (o : Replacement) → AppliesIn s o lines → MayBecome given lines → MayBecome given (lines_after s o lines)
@@ -118,3 +123,60 @@ none_before s longest xs ys new was now r place fit first at is_new old_live new
     let there_before : AppliesIn s o (xs ++ ys) = applies_before s xs ys zs n is o code gap there far live layable in
     let least = first.least_place o there_before in
     absurd (omega arith)
+
+-- ---- a turn ----
+
+-- the choice at a cursor may be made, with its window and its new instructions as slices
+pub keeps_here : (s : Setting) (lines : List Line) (c : Choice) (place : ℕ) (window new : List Instr) → IsChoice s lines c → (choice_of c).place ≡ place → window ≡ c.window → new ≡ c.new
+    → KeepsAt (code_of lines) place window new
+keeps_here s lines c place window new is at e f =
+    let here : KeepsAt (code_of lines) place c.window c.new = subst (λ (p : ℕ). KeepsAt (code_of lines) p c.window c.new) at is.keeps in
+    let there : KeepsAt (code_of lines) place window c.new = subst (λ (w : List Instr). KeepsAt (code_of lines) place w c.new) (sym e) here in
+    subst (λ (n : List Instr). KeepsAt (code_of lines) place window n) (sym f) there
+
+-- and leaves the lines after it
+pub leaves_here : (s : Setting) (lines now : List Line) (c : Choice) (place : ℕ) (window new : List Instr) → IsChoice s lines c → (choice_of c).place ≡ place → window ≡ c.window → new ≡ c.new
+    → now ≡ replaced_lines s.write place (length window) new lines → now ≡ lines_after s (choice_of c) lines
+leaves_here s lines now c place window new is at e f h =
+    h
+    ∙ ap (λ p. replaced_lines s.write p (length window) new lines) (sym at)
+    ∙ ap (λ (w : List Instr). replaced_lines s.write (choice_of c).place (length w) new lines) e
+    ∙ ap (λ (n : List Instr). replaced_lines s.write (choice_of c).place (length c.window) n lines) f
+    ∙ is.leaves
+
+-- what is kept of places is true wherever a cursor stands
+still_kept : (c d : Cursor) → IsKept c → IsCursor d → lines_at d ≡ lines_at c → spots_at d ≡ spots_at c → IsKept d
+still_kept c d k is e f =
+    let live : IsLive (code_of (lines_at c)) (sets_of (spots_at d)) = subst (λ (spots : List Spot). IsLive (code_of (lines_at c)) (sets_of spots)) (sym f) k.live in
+    let flows : AreFlows (code_of (lines_at c)) (flows_of (spots_at d)) = subst (λ (spots : List Spot). AreFlows (code_of (lines_at c)) (flows_of spots)) (sym f) k.flows in
+    record {
+      is = is;
+      live = subst (λ (ls : List Line). IsLive (code_of ls) (sets_of (spots_at d))) (sym e) live;
+      flows = subst (λ (ls : List Line). AreFlows (code_of ls) (flows_of (spots_at d))) (sym e) flows;
+    }
+
+still_over : (r : Rules) (g : Ground) (lines now : List Line) (o : Replacement) → AreReady r → g.steady ≡ true → AppliesIn (setting_of r) o lines → now ≡ lines_after (setting_of r) o lines → AreOver r g lines → AreOver r g now
+still_over r g lines now o ready steady a e over =
+    subst (λ (ls : List Line). AreOver r g ls) (sym e) (record {
+      become = may_become g.listing.now lines (setting_of r) o a over.become;
+      aligned = over.aligned;
+      steady = λ h. still_steady (setting_of r) r.longest o lines ready.fit a (over.steady h);
+      same = λ h. absurd (true≢false (sym steady ∙ h));
+    })
+
+-- a replacement was made at the one cursor, and the other went back from there: it stands in such lines
+pub turned_over : (r : Rules) (g : Ground) (old at new : Cursor) (o : Replacement) → AreReady r → IsOver r g old → g.steady ≡ true → AppliesIn (setting_of r) o (lines_at old)
+    → IsKept at → lines_at at ≡ lines_after (setting_of r) o (lines_at old) → IsCursor new → lines_at new ≡ lines_at at → spots_at new ≡ spots_at at → IsOver r g new
+turned_over r g old at new o ready over steady a kept e is f spots = record {
+  kept = still_kept at new kept is f spots;
+  over = still_over r g (lines_at old) (lines_at new) o ready steady a (f ∙ e) over.over;
+}
+
+-- and no entry applies before it
+pub turned_before : (r : Rules) (g : Ground) (old at new : Cursor) (o : Replacement) → AreReady r → IsOver r g old → g.steady ≡ true → IsFirst (setting_of r) o (lines_at old) → o.place ≡ place_at old
+    → IsKept at → lines_at at ≡ lines_after (setting_of r) o (lines_at old) → ((q : ℕ) → q < place_at old → slice_get (spots_at at) q ≡ slice_get (spots_at old) q)
+    → lines_at new ≡ lines_at at → place_at new ≤ o.place - r.longest → NoneBefore (setting_of r) (lines_at new) (place_at new)
+turned_before r g old at new o ready over steady first here kept e same f back =
+    subst (λ (ls : List Line). NoneBefore (setting_of r) ls (place_at new)) (sym f)
+    (none_before (setting_of r) r.longest (lines_behind old) (lines_ahead old) (lines_at at) (spots_at old) (spots_at at) o (place_at new) ready.fit first (here ∙ over.kept.is.passed) e over.kept.live kept.live
+    (λ q h. same q (omega arith)) (over.over.aligned steady) (over.over.steady steady) back)
