@@ -6,4 +6,6 @@ pub mod Keys
 pub mod Chosen
 pub mod Accepted
 pub mod Rounds
-mod Turning
+pub mod Ways
+pub mod Starts
+pub mod Turning
