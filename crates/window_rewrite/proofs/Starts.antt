@@ -1,5 +1,5 @@
 -- Where a sweep begins.
-use Rattle.std.proofs.Common.{◌≡◌, ℕ, ◌%◌, ◌<◌, ◌≤◌, true, false, List, [], length, map, None, sym, subst, ap, ◌∙◌, arith}
+use Rattle.std.proofs.Common.{◌≡◌, ℕ, ◌%◌, true, List, sym, subst, arith}
 use Rattle.thumb_model.specs.Listing.{Line, code_of, places_of}
 use Rattle.thumb_model.specs.Rewritten.{Setting, Replacement, AppliesIn}
 use Rattle.listing_parser.specs.TableWords.{first_twice}

@@ -1,5 +1,6 @@
 -- What sweeps cost, in numbers.
-use Rattle.std.proofs.Common.{◌≡◌, ℕ, ◌+◌, ◌-◌, ◌*◌, ◌≤◌, ap, arith, mul-le-mul_right}
+use Rattle.std.proofs.Common.{◌≡◌, ℕ, ◌+◌, ◌-◌, ◌*◌, ◌≤◌, Bool, true, false, not, sym, ap, ◌∙◌, subst, arith, mul-le-mul_right}
+use Rattle.std.specs.Int.{from_bool}
 use Rattle.std.proofs.Math.Nat.{mul-le-mul, mul-le-mul_left}
 use Rattle.window_rewrite.specs.Rewriting.{round_cost}
 
@@ -22,6 +23,9 @@ round_less entries now given h =
     let b : (19 * now + 1) * now ≤ (19 * given + 1) * given = mul-le-mul (omega arith) h in
     omega arith
 
+zero_more : (n : ℕ) → n ≡ n + 0
+zero_more n = omega arith
+
 difference : (old n : ℕ) → old ≤ n → (d : ℕ) × (n ≡ old + d)
 difference old n h = (n - old, omega arith)
 
@@ -33,7 +37,20 @@ sweep_less start before after old n now given b a o l =
     let g : d.0 * now ≤ d.0 * given = mul-le-mul_left d.0 l in
     omega arith
 
--- one sweep more, over fewer places
-pub next_sweep : (entries now given start before after old n : ℕ) → now ≤ given → before ≤ start + old * round_cost given entries → after + old * round_cost now entries ≤ before + n * round_cost now entries → old ≤ n
-    → after ≤ start + n * round_cost given entries
-next_sweep entries now given start before after old n l b a o = sweep_less start before after old n (round_cost now entries) (round_cost given entries) b a o (round_less entries now given l)
+-- a sweep more that isn't the last, over fewer places, and the last one
+pub next_sweep : (entries now given start before after old n : ℕ) (is_done : Bool) → is_done ≡ false → now ≤ given → before ≤ start + old * round_cost given entries
+    → after + old * round_cost now entries ≤ before + (n + from_bool is_done) * round_cost now entries → old ≤ n → after ≤ start + n * round_cost given entries
+next_sweep entries now given start before after old n is_done e l b a o =
+    let f : n + from_bool is_done ≡ n = ap (λ d. n + from_bool d) e ∙ sym (zero_more n) in
+    sweep_less start before after old n (round_cost now entries) (round_cost given entries) b (subst (λ k. after + old * round_cost now entries ≤ before + k * round_cost now entries) f a) o (round_less entries now given l)
+
+pub last_sweep : (entries now given start before after old n : ℕ) (is_done : Bool) → is_done ≡ true → now ≤ given → before ≤ start + old * round_cost given entries
+    → after + old * round_cost now entries ≤ before + (n + from_bool is_done) * round_cost now entries → old ≤ n → after ≤ start + (n + 1) * round_cost given entries
+last_sweep entries now given start before after old n is_done e l b a o =
+    sweep_less start before after old (n + 1) (round_cost now entries) (round_cost given entries) b
+    (subst (λ d. after + old * round_cost now entries ≤ before + (n + from_bool d) * round_cost now entries) e a) (omega arith) (round_less entries now given l)
+
+-- a sweep that isn't done makes a replacement
+pub one_or_done : (old n : ℕ) (is_done : Bool) → old + from_bool (not is_done) ≤ n → old + 1 ≤ n + from_bool is_done
+one_or_done old n true h = omega arith
+one_or_done old n false h = omega arith
