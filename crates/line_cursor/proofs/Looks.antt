@@ -6,7 +6,7 @@ use Rattle.thumb_instr.specs.declared.instr.Instr.{Instr}
 use Rattle.thumb_model.specs.Listing.{Name, Statement, Nothing, Runs, Words, Aligns, Sets, Line}
 use Rattle.window_runs.specs.declared.rows.Row.{Row}
 use Rattle.window_runs.specs.Rows.{is_unlabelled, letter_of, rows_of, stays_joined, rows_from}
-use Rattle.window_runs.specs.Runs.{before, run}
+use Rattle.window_runs.specs.Runs.{run}
 use Rattle.line_cursor.specs.declared.pieces.Piece.{Piece}
 use Rattle.line_cursor.specs.declared.pieces.Piece.TheVariants as piece
 use Rattle.line_cursor.specs.declared.pieces.Look.{Look}

@@ -1,4 +1,4 @@
-use Rattle.std.proofs.Common.{◌≡◌, ◌∙◌, ◌-◌, ◌<◌, ◌||◌, ◌++◌, ◌∷◌, [], Bool, true, false, List, length, reverse, refl, ap, sym, arith}
+use Rattle.std.proofs.Common.{◌≡◌, ◌∙◌, ◌<◌, ◌||◌, ◌++◌, ◌∷◌, [], Bool, true, false, List, length, reverse, refl, ap, sym, arith}
 use Rattle.thumb_model.specs.Listing.{Line, labels_from, places_of}
 use Rattle.line_cursor.specs.declared.pieces.Piece.{Piece}
 use Rattle.line_cursor.specs.Pieces.{lines_in, lines_of, begins_labelled, begins_op}
