@@ -8,5 +8,4 @@ pub mod Chosen
 pub mod Accepted
 pub mod Rounds
 pub mod Ways
-pub mod Starts
 pub mod Turning
