@@ -1,11 +1,10 @@
 //! Lines made of a listing's lines.
-ghost use Rattle.std.specs.Prelude.{◌≡◌, ◌++◌, length, map, IfOk, OnOk};
+ghost use Rattle.std.specs.Prelude.{◌≡◌, ◌++◌, length, map, IfOk, None, OnOk};
 ghost use Rattle.listing_parser.specs.Views.{line_view, statement_view};
 ghost use Rattle.listing_parser.specs.Replacing.{own_line};
 ghost use Rattle.thumb_model.specs.Listing.{places_in, places_of};
 ghost use Rattle.thumb_model.specs.Rewritten.{new_line};
 ghost use Rattle.window_runs.specs.Rows.{letter_of};
-ghost use Rattle.std.specs.Prelude.{None};
 ghost use Rattle.line_cursor.specs.Pieces.{begins_labelled, begins_op, labels_left, lines_in, lines_of};
 ghost use Rattle.line_cursor.specs.Looks.{look_letter, look_lines, look_statement};
 

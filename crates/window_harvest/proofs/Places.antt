@@ -1,14 +1,14 @@
 -- The windows that begin at a place.
-use Rattle.std.proofs.Common.{◌≡◌, ℕ, zero, suc, ◌+◌, ◌-◌, ◌<◌, ◌≤◌, ◌&&◌, Bool, true, false, List, [], ◌∷◌, length, take, drop, map, Option, Some, None, refl, sym, ap, ◌∙◌, subst, arith, ◌↔◌, length-append}
+use Rattle.std.proofs.Common.{◌≡◌, ℕ, zero, suc, ◌+◌, ◌-◌, ◌<◌, ◌≤◌, true, false, List, [], ◌∷◌, length, take, drop, refl, sym, ap, ◌∙◌, subst, arith, ◌↔◌}
 use Rattle.thumb_instr.specs.declared.instr.Instr.{Instr}
 use Rattle.thumb_instr.specs.Items.{has}
-use Rattle.thumb_model.specs.Listing.{Statement, Nothing, Runs, Words, Aligns, Sets, Line, Word, places_in, places_of, code_of}
+use Rattle.thumb_model.specs.Listing.{Line, code_of}
 use Rattle.thumb_model.specs.Flow.{LiveAfter}
 use Rattle.liveness.specs.Live.{Sets as LiveSets}
 use Rattle.window_runs.specs.declared.rows.Row.{Row}
 use Rattle.window_runs.specs.Windows.{IsWindow}
-use Rattle.window_runs.specs.Rows.{is_unlabelled, rows_of, stays_joined, rows_from}
-use Rattle.window_runs.specs.Runs.{letter_at, before, run}
+use Rattle.window_runs.specs.Rows.{rows_from}
+use Rattle.window_runs.specs.Runs.{run}
 use Rattle.window_harvest.specs.Harvest.{Pair, Limits, spot_of, StandsThere, IsPairAt}
 use Rattle.window_harvest.specs.Keys.{AreSeen}
 use Rattle.window_harvest.specs.LimitsOf.{AreOf}

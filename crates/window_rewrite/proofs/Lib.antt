@@ -3,7 +3,10 @@ pub mod Maps
 pub mod Live
 pub mod Applied
 pub mod Keys
+pub mod Behind
 pub mod Chosen
 pub mod Accepted
 pub mod Rounds
-mod Turning
+pub mod Ways
+pub mod Starts
+pub mod Turning

@@ -72,7 +72,7 @@ fn go_through<L: Ledger>(
     requires over { IsOver rules.now ground.now cursor.old }
     requires before { NoneBefore (setting_of rules.now) (lines_at cursor.old) (place_at cursor.old) }
     ensures completes { OnOk result ((start : List Line) → Completes (setting_of rules.now) start replacements.old.items (lines_at cursor.old) → Completes (setting_of rules.now) start replacements.new.items (lines_at cursor.new)) }
-    ensures become { OnOk result (MayBecome ground.now.listing.now (lines_at cursor.new)) }
+    ensures becomes { OnOk result (MayBecome ground.now.listing.now (lines_at cursor.new)) }
     ensures none { IfOk result (λ b. b ≡ true → NoneApplies (setting_of rules.now) (lines_at cursor.new)) }
     ensures fewer { IfOk result (λ b. length (places_of (lines_at cursor.new)) + from_bool (not b) ≤ length (places_of (lines_at cursor.old))) }
     ensures more { IfOk result (λ b. length replacements.old.items + from_bool (not b) ≤ length replacements.new.items) }

@@ -1,4 +1,4 @@
-use Rattle.std.proofs.Common.{◌≡◌, ◌≤◌, true, length, reverse, take}
+use Rattle.std.proofs.Common.{◌≤◌, true, length, reverse, take}
 use Rattle.window_runs.specs.Rows.{rows_from}
 use Rattle.window_runs.specs.Runs.{run}
 use Rattle.line_cursor.specs.Pieces.{lines_of}
