@@ -6,3 +6,4 @@ pub mod Keys
 pub mod Chosen
 pub mod Accepted
 pub mod Rounds
+pub mod KeptSpots
