@@ -6,7 +6,7 @@ use Rattle.std.proofs.lemmas.List.{map-append, drop-map, drop_at, take_more}
 use Rattle.std.proofs.lemmas.Option.{slice_get_within, get_or_from_slice_get}
 use Rattle.thumb_instr.specs.declared.instr.Instr.{Instr}
 use Rattle.thumb_instr.specs.declared.items.Items.{Items}
-use Rattle.thumb_model.specs.Listing.{Place, Op, Word, plain, Label, Line, Code, places_of, labels_from, code_of}
+use Rattle.thumb_model.specs.Listing.{Label, Line, Code, places_of, labels_from, code_of}
 use Rattle.thumb_model.specs.Flow.{ways_of, ways}
 use Rattle.thumb_model.specs.Rewrite.{replaced}
 use Rattle.thumb_model.specs.Rewritten.{replaced_lines}
@@ -23,6 +23,7 @@ use Rattle.line_cursor.specs.declared.cursor.Spot.{Spot}
 use Rattle.line_cursor.specs.Cursors.{IsCursor, lines_behind, lines_ahead, lines_at, place_at, spots_at, sets_of, flows_of}
 use Rattle.line_cursor.proofs.Nearer.{places_append}
 use Rattle.window_rewrite.specs.Sweeps.{IsKept}
+use Rattle.window_rewrite.proofs.Applied.{ops_of}
 
 -- ---- the spots of new instructions ----
 
@@ -76,20 +77,12 @@ spots_more sets new spots more n i x are at here b a f e = record {
 
 -- ---- a window at a cursor ----
 
-pub ops_of : (is : List Instr) (n : ℕ) (ps : List Place) → n ≡ length is → take n ps ≡ map plain is → AreOps n ps
-ops_of [] zero ps e h = tt
-ops_of (i ∷ is) zero ps e h = absurd (omega arith)
-ops_of [] (suc n) ps e h = absurd (omega arith)
-ops_of (i ∷ is) (suc n) [] e h = absurd (cc)
-ops_of (i ∷ is) (suc n) (Op j mention ∷ ps) e h = ops_of is n ps (omega arith) (cc)
-ops_of (i ∷ is) (suc n) (Word w ∷ ps) e h = absurd (cc)
-
-pub outside_of : (p count : ℕ) (ls : List Label) → ((k : ℕ) (l : Label) → slice_get ls k ≡ Some l → (l.place ≤ p) ⊎ (p + count ≤ l.place)) → AllOutside p count ls
+outside_of : (p count : ℕ) (ls : List Label) → ((k : ℕ) (l : Label) → slice_get ls k ≡ Some l → (l.place ≤ p) ⊎ (p + count ≤ l.place)) → AllOutside p count ls
 outside_of p count [] h = tt
 outside_of p count (l ∷ ls) h = (h 0 l refl, outside_of p count ls (λ k m e. h (suc k) m e))
 
 -- the places and labels of the lines that are left where a window gives way
-pub code_left : (lines : List Line) (p n : ℕ) (window new : List Instr) → KeepsAt (code_of lines) p window new → n ≡ length window → code_of (replaced_lines own_line p n new lines) ≡ replaced (code_of lines) p n new
+code_left : (lines : List Line) (p n : ℕ) (window new : List Instr) → KeepsAt (code_of lines) p window new → n ≡ length window → code_of (replaced_lines own_line p n new lines) ≡ replaced (code_of lines) p n new
 code_left lines p zero window new at e = let s = at.shorter in absurd (omega arith)
 code_left lines p (suc n) window new at e =
     let s = at.shorter in

@@ -3,7 +3,10 @@ pub mod Maps
 pub mod Live
 pub mod Applied
 pub mod Keys
+pub mod Behind
 pub mod Chosen
 pub mod Accepted
 pub mod Rounds
 pub mod KeptSpots
+pub mod Ways
+pub mod Turning

@@ -1,5 +1,5 @@
 //! The next replacement that can be made.
-ghost use Rattle.std.specs.Prelude.{◌≡◌, ◌+◌, ◌*◌, ◌<◌, ◌≤◌, ◌↔◌, ◌∷◌, [], ◌++◌, List, length, true, false, IfOk, OnOk, IfSome, IfNone};
+ghost use Rattle.std.specs.Prelude.{◌≡◌, ◌+◌, ◌*◌, ◌<◌, ◌≤◌, ◌↔◌, ◌∷◌, [], ◌++◌, List, length, drop, true, false, IfOk, OnOk, IfSome, IfNone};
 ghost use Rattle.std.specs.List.{list_all};
 ghost use Rattle.thumb_instr.specs.Renaming.{Low};
 ghost use Rattle.thumb_instr.specs.Window.{is_in_window};
@@ -66,8 +66,23 @@ fn may_give_way(
     if ground.steady {
         return Ok(true);
     }
-    let left = ground.listing.replaced(alloc, cursor.place() as u32, count as u32, new)?;
+    let _count = ground.listing.place_count();
+    let left = ground
+        .listing
+        .replaced(alloc, cursor.place() as u32, count as u32, new)?;
     is_layable(alloc, &left, base)
+}
+
+/// The instructions of a window, which are few.
+fn copied(window: &[Instr]) -> Seq
+    requires { length window.now ≤ 5 }
+    ensures { result ≡ window.now }
+{
+    let mut seq = Seq::new();
+    for instr in window {
+        seq.push(*instr);
+    }
+    seq
 }
 
 /// What an entry makes of a window behind the cursor, after which these items are live.
@@ -102,13 +117,14 @@ fn try_entry<L: Ledger>(
     if !may_give_way(alloc, rules.base, ground, cursor, window.len(), new.as_slice())? {
         return Ok(None);
     }
+    let _count = ground.listing.place_count();
     Ok(Some(Choice {
         replacement: Replacement {
             place: cursor.place() as u32,
             entry: number as u64 + 1,
             map,
         },
-        window: Seq::from_slice(window),
+        window: copied(window),
         new,
     }))
 }
@@ -206,6 +222,7 @@ fn best<L: Ledger>(
     ensures op { IfOk result (λ o. IfSome o (λ c. (0 < length cursor.now.ahead.items) × ((rest : List Piece) (x : Piece) → cursor.now.ahead.items ≡ rest ++ x ∷ [] → begins_op (lines_in x) ≡ true))) }
     ensures none { IfOk result (λ o. IfNone o ((rest : List Piece) (x : Piece) → cursor.now.ahead.items ≡ rest ++ x ∷ [] → begins_op (lines_in x) ≡ true → NoneAt (setting_of rules.now) (lines_at cursor.now) (place_at cursor.now))) }
     ensures cost { steps.new ≤ steps.old + length (rules_in rules.now.entries.now) }
+    ensures idle { (rest : List Piece) (x : Piece) → cursor.now.ahead.items ≡ rest ++ x ∷ [] → begins_op (lines_in x) ≡ false → steps.new ≤ steps.old }
 {
     if cursor.is_at_op() {
         best_here(alloc, rules, ground, cursor, steps)

@@ -1,6 +1,7 @@
 use listing_parser::Listing;
 
 /// What a sweep goes over.
+#[derive(Drop)]
 pub(crate) struct Ground<'a> {
     /// The listing as it was when the sweep began.
     pub(crate) listing: &'a Listing,

@@ -13,7 +13,7 @@ ghost use Rattle.thumb_instr.specs.declared.instr.Instr.{Instr};
 ghost use Rattle.liveness.specs.declared.flowing.Flow.{Flow};
 ghost use Rattle.line_cursor.specs.declared.pieces.Piece.{Piece};
 ghost use Rattle.line_cursor.specs.Pieces.{begins_op, lines_in};
-ghost use Rattle.line_cursor.specs.Cursors.{flows_of, lines_at, place_at, sets_of};
+ghost use Rattle.line_cursor.specs.Cursors.{flows_of, lines_at, place_at, sets_of, spots_at};
 ghost use Rattle.window_rewrite.specs.Sweeps.{IsKept};
 
 use arrayvec::ArrayVec;
@@ -82,6 +82,7 @@ pub(crate) fn make(cursor: &mut Cursor<'_>, window: &[Instr], new: &[Instr]) -> 
     requires keeps { KeepsAt (code_of (lines_at cursor.old)) (place_at cursor.old) window.now new.now }
     ensures lines { OnOk result (lines_at cursor.new ≡ replaced_lines own_line (place_at cursor.old) (length window.now) new.now (lines_at cursor.old)) }
     ensures kept { IfOk result (λ b. b ≡ true → IsKept cursor.new) }
+    ensures spots { OnOk result ((q : ℕ) → q < place_at cursor.old → slice_get (spots_at cursor.new) q ≡ slice_get (spots_at cursor.old) q) }
 {
     match kept(cursor, window, new) {
         Some(spots) => {

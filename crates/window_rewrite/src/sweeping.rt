@@ -3,7 +3,6 @@ ghost use Rattle.std.specs.Prelude.{◌≡◌, ◌+◌, ◌*◌, ◌%◌, ◌<�
 ghost use Rattle.std.specs.Int.{from_bool};
 ghost use Rattle.thumb_model.specs.Listing.{Line, places_of};
 ghost use Rattle.thumb_model.specs.Rewritten.{NoneApplies, lines_after};
-ghost use Rattle.liveness.specs.Live.{Sets};
 ghost use Rattle.line_cursor.specs.declared.pieces.Piece.{Piece};
 ghost use Rattle.line_cursor.specs.Pieces.{begins_op, lines_in};
 ghost use Rattle.line_cursor.specs.Cursors.{flows_of, lines_at, place_at, sets_of};
@@ -17,8 +16,8 @@ use crate::choice::{Choice, Replacement};
 use crate::finding::{Rules, next};
 use crate::ground::Ground;
 use crate::making::make;
-use line_cursor::{Cursor, Spot};
 use line_cursor::pieces::written;
+use line_cursor::{Cursor, Spot};
 use listing_parser::{Listing, Memory};
 use liveness::{Flow, Live, flows, live};
 use std::alloc::Global;
@@ -72,7 +71,7 @@ fn go_through<L: Ledger>(
     requires over { IsOver rules.now ground.now cursor.old }
     requires before { NoneBefore (setting_of rules.now) (lines_at cursor.old) (place_at cursor.old) }
     ensures completes { OnOk result ((start : List Line) → Completes (setting_of rules.now) start replacements.old.items (lines_at cursor.old) → Completes (setting_of rules.now) start replacements.new.items (lines_at cursor.new)) }
-    ensures become { OnOk result (MayBecome ground.now.listing.now (lines_at cursor.new)) }
+    ensures becomes { OnOk result (MayBecome ground.now.listing.now (lines_at cursor.new)) }
     ensures none { IfOk result (λ b. b ≡ true → NoneApplies (setting_of rules.now) (lines_at cursor.new)) }
     ensures fewer { IfOk result (λ b. length (places_of (lines_at cursor.new)) + from_bool (not b) ≤ length (places_of (lines_at cursor.old))) }
     ensures more { IfOk result (λ b. length replacements.old.items + from_bool (not b) ≤ length replacements.new.items) }

@@ -3,7 +3,7 @@ use Rattle.thumb_model.specs.Listing.{places_of}
 use Rattle.window_rewrite.specs.Rewriting.{round_cost}
 use Rattle.window_rewrite.specs.Rules.{rules_in}
 use Rattle.window_rewrite.specs.Choices.{setting_of}
-use Rattle.window_rewrite.proofs.Rounds.{Completes}
+use Rattle.window_rewrite.specs.Sweeps.{Completes}
 use Rattle.window_rewrite.proofs.rewriting.rewritten.Given as goal
 
 -- what completes the replacements from here completes them from the start
