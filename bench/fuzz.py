@@ -24,6 +24,7 @@ DONE = {
     "audit": re.compile(rb"entries \d+ open \d+\n"),
     "learn": re.compile(rb"entries \d+ open \d+ states \d+\n"),
     "export": re.compile(rb"variables \d+ clauses \d+ lines \d+\n"),
+    "demo": re.compile(rb"demo \d+\nentries \d+ open \d+ states \d+\nreplaced \d+\ninstructions \d+ \d+\nimage \d+\n"),
     "trace": re.compile(
         rb"(load [0-9a-f]{8} [124]\n|store [0-9a-f]{8} [124] [0-9a-f]{8}\n|(call|left|fault|astray)( [0-9a-f]{8})+\n|sys \d+( [0-9a-f]{8})*\n|fell\n)*"
         rb"steps \d+ (going|left|fault|astray|fell|wants)\n"
@@ -156,6 +157,8 @@ def main():
                 words = "learn l o --left 2 --regs 2 --pool 255 --budget 2"
                 if rng.random() < 0.7:
                     words = "learn l o " + " ".join({word.split()[0]: word for word in ["--left 1", *rng.sample(LEARN, 3)]}.values())
+            elif rng.random() < 0.005:
+                words = f"demo {rng.randrange(1, 60)}"
             # mostly one of the two is whole, so that runs get beyond it
             most = rng.choice([(1, 0), (3, 0), (0, 1), (0, 3), (2, 2)])
             table = mutated(rng, rng.choice(tables), tables, most[0])
