@@ -1,5 +1,5 @@
 -- A sweep over a listing: a cursor in lines that come of it by replacements.
-use Rattle.std.specs.Prelude.{◌≡◌, ℕ, ◌%◌, ◌≤◌, ◌++◌, true, false, None, List, [], length, map}
+use Rattle.std.specs.Prelude.{◌≡◌, ◌%◌, ◌≤◌, ◌++◌, true, false, None, List, [], length, map}
 use Rattle.thumb_model.specs.Listing.{Line, code_of, places_of}
 use Rattle.thumb_model.specs.Rewritten.{Setting, Replacement, AreRewritten}
 use Rattle.listing_parser.specs.TableWords.{first_twice}

@@ -1,8 +1,8 @@
-use Rattle.std.proofs.Common.{◌≡◌, ◌∙◌, ◌-◌, ◌≤◌, List, true, false, length, drop, ap, arith, sym, subst}
+use Rattle.std.proofs.Common.{◌≡◌, ◌-◌, ◌≤◌, List, true, false, length, drop, ap, arith, sym, subst}
 use Rattle.thumb_instr.specs.declared.instr.Instr.{Instr}
 use Rattle.window_runs.specs.Rows.{rows_from}
 use Rattle.window_runs.specs.Runs.{run}
-use Rattle.line_cursor.specs.Cursors.{lines_ahead, lines_at, place_at, sets_of, spots_at}
+use Rattle.line_cursor.specs.Cursors.{lines_at, place_at, sets_of, spots_at}
 use Rattle.window_rewrite.specs.Rules.{rules_in}
 use Rattle.window_rewrite.specs.Choices.{setting_of}
 use Rattle.window_rewrite.proofs.Behind.{of_kept, run_here, run_comes, live_behind}

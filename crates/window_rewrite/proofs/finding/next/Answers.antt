@@ -31,7 +31,8 @@ pub loop-alloc-smaller : goal.loop-alloc-smaller
 loop-alloc-smaller g c =
     let p = some_ahead c.loop-alloc.cursor.ahead.items (λ e. let never : true ≡ false = sym (c.is_at_end.ensures.1 e) ∙ c.loop-alloc-test.true in cc) in
     let step = c.in_ok-forward.ensures.place p.rest p.piece p.is in
-    subst (λ (ps : List Piece). length ps < length c.loop-alloc.cursor.ahead.items) (sym step.1) (one_fewer c.loop-alloc.cursor.ahead.items p.rest p.piece p.is)
+    let left : c.forward.new.self.ahead.items ≡ p.rest = step.1 in
+    subst (λ (ps : List Piece). length ps < length c.loop-alloc.cursor.ahead.items) (sym left) (one_fewer c.loop-alloc.cursor.ahead.items p.rest p.piece p.is)
 
 pub loop-alloc-preserved : goal.loop-alloc-preserved
 loop-alloc-preserved g c =
