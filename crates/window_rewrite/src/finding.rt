@@ -114,7 +114,14 @@ fn try_entry<L: Ledger>(
         Some(map) => map,
     };
     let new = renamed_all(entry.right.as_slice(), &registers_of(&map));
-    if !may_give_way(alloc, rules.base, ground, cursor, window.len(), new.as_slice())? {
+    if !may_give_way(
+        alloc,
+        rules.base,
+        ground,
+        cursor,
+        window.len(),
+        new.as_slice(),
+    )? {
         return Ok(None);
     }
     let _count = ground.listing.place_count();
