@@ -7,6 +7,6 @@ pub mod Behind
 pub mod Chosen
 pub mod Accepted
 pub mod Rounds
+pub mod KeptSpots
 pub mod Ways
-pub mod Starts
 pub mod Turning

@@ -74,9 +74,3 @@ some_more s entries from to old new more start now m h f =
     let one : length more ≡ length new + 1 = longer_by_one new more m f in
     let least = h.more in
     omega arith
-
--- the last tries, in vain
-pub last_tries : (s : Setting) (entries : ℕ) (from to : List Line) (old new : List Made) (start now after : ℕ) → HasCome s entries from to old new start now → after ≤ now + length (places_of to) * entries
-    → after + length old * (length (places_of from) * entries) ≤ start + (length new + 1) * (length (places_of from) * entries)
-last_tries s entries from to old new start now after h a =
-    one_try start now after (length old) (length new) (length new + 1) (length (places_of from) * entries) (length (places_of to) * entries) h.cost a (tries s entries from to old new start now h) refl

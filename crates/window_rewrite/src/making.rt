@@ -1,11 +1,16 @@
 //! A replacement made at a cursor, with what is kept of places.
-ghost use Rattle.std.specs.Prelude.{◌≡◌, ℕ, ◌<◌, ◌≤◌, ◌++◌, ◌∷◌, [], List, drop, length, reverse, slice_get, true, IfOk, IfSome, OnOk};
-ghost use Rattle.listing_parser.specs.Replacing.{own_line};
+ghost use Rattle.std.specs.Prelude.{◌≡◌, ◌<◌, ◌≤◌, ◌++◌, ◌∷◌, [], ℕ, List, drop, length, map, reverse, slice_get, true, IfOk, IfSome, None, OnOk, Some};
+ghost use Rattle.std.specs.List.{list_all};
+ghost use Rattle.thumb_instr.specs.Window.{is_in_window};
 ghost use Rattle.thumb_model.specs.Listing.{code_of};
+ghost use Rattle.thumb_model.specs.Flow.{ways_of};
 ghost use Rattle.thumb_model.specs.Rewrite.{replaced};
 ghost use Rattle.thumb_model.specs.Rewritten.{replaced_lines};
+ghost use Rattle.listing_parser.specs.Replacing.{own_line};
 ghost use Rattle.liveness.specs.Live.{IsLive};
-ghost use Rattle.liveness.specs.Kept.{AreFlows, KeepsAt};
+ghost use Rattle.liveness.specs.Kept.{AreFlows, FlowOf, KeepsAt};
+ghost use Rattle.thumb_instr.specs.declared.instr.Instr.{Instr};
+ghost use Rattle.liveness.specs.declared.flowing.Flow.{Flow};
 ghost use Rattle.line_cursor.specs.declared.pieces.Piece.{Piece};
 ghost use Rattle.line_cursor.specs.Pieces.{begins_op, lines_in};
 ghost use Rattle.line_cursor.specs.Cursors.{flows_of, lines_at, place_at, sets_of, spots_at};
@@ -14,8 +19,8 @@ ghost use Rattle.window_rewrite.specs.Sweeps.{IsKept};
 use arrayvec::ArrayVec;
 use line_cursor::{Cursor, Spot};
 use listing_parser::Memory;
-use liveness::{Flow, NewSets, flow_of, keep};
-use thumb_instr::{Instr, Items};
+use liveness::{NewSets, flow_of, keep};
+use thumb_instr::Instr;
 
 /// What is kept of new instructions, which have these sets.
 fn spots_of(sets: &[NewSets], new: &[Instr]) -> ArrayVec<Spot, 5>
@@ -23,15 +28,16 @@ fn spots_of(sets: &[NewSets], new: &[Instr]) -> ArrayVec<Spot, 5>
     requires few { length new.now ≤ 5 }
     requires letters { list_all is_in_window new.now ≡ true }
     ensures as_many { length result.items ≡ length new.now }
-    ensures sets { map (λ s. s.before) result.items ≡ map (λ n. n.before) sets.now }
+    ensures before { map (λ s. s.before) result.items ≡ map (λ n. n.before) sets.now }
     ensures after { map (λ s. s.after) result.items ≡ map (λ n. n.after) sets.now }
     ensures flows { (k : ℕ) (i : Instr) (f : Flow) → slice_get new.now k ≡ Some i → slice_get (flows_of result.items) k ≡ Some f → FlowOf (ways_of None i) f }
 {
     let mut spots = ArrayVec::new();
     for at in 0..new.len() {
+        let found = sets[at];
         spots.push(Spot {
-            before: sets[at].before,
-            after: sets[at].after,
+            before: found.before,
+            after: found.after,
             flow: flow_of(&new[at]),
         });
     }
@@ -62,14 +68,7 @@ fn blank(new: &[Instr]) -> ArrayVec<Spot, 5>
 {
     let mut spots = ArrayVec::new();
     for _ in new {
-        spots.push(Spot {
-            before: Items::none(),
-            after: Items::none(),
-            flow: Flow {
-                reads: Items::none(),
-                onward: None,
-            },
-        });
+        spots.push(Spot::default());
     }
     spots
 }

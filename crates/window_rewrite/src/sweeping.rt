@@ -3,7 +3,6 @@ ghost use Rattle.std.specs.Prelude.{◌≡◌, ◌+◌, ◌*◌, ◌%◌, ◌<�
 ghost use Rattle.std.specs.Int.{from_bool};
 ghost use Rattle.thumb_model.specs.Listing.{Line, places_of};
 ghost use Rattle.thumb_model.specs.Rewritten.{NoneApplies, lines_after};
-ghost use Rattle.liveness.specs.Live.{Sets};
 ghost use Rattle.line_cursor.specs.declared.pieces.Piece.{Piece};
 ghost use Rattle.line_cursor.specs.Pieces.{begins_op, lines_in};
 ghost use Rattle.line_cursor.specs.Cursors.{flows_of, lines_at, place_at, sets_of};
@@ -17,8 +16,8 @@ use crate::choice::{Choice, Replacement};
 use crate::finding::{Rules, next};
 use crate::ground::Ground;
 use crate::making::make;
-use line_cursor::{Cursor, Spot};
 use line_cursor::pieces::written;
+use line_cursor::{Cursor, Spot};
 use listing_parser::{Listing, Memory};
 use liveness::{Flow, Live, flows, live};
 use std::alloc::Global;

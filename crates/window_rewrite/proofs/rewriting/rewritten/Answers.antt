@@ -1,7 +1,5 @@
-use Rattle.std.proofs.Common.{◌≡◌, ◌+◌, ◌*◌, ◌≤◌, length, true, false, ap, subst, arith}
-use Rattle.std.specs.Int.{from_bool}
+use Rattle.std.proofs.Common.{length, arith}
 use Rattle.thumb_model.specs.Listing.{places_of}
-use Rattle.window_rewrite.specs.Rewriting.{round_cost}
 use Rattle.window_rewrite.specs.Rules.{rules_in}
 use Rattle.window_rewrite.specs.Choices.{setting_of}
 use Rattle.window_rewrite.proofs.Ways.{last_sweep, next_sweep}

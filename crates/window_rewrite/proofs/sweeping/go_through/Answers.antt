@@ -1,11 +1,10 @@
-use Rattle.std.proofs.Common.{◌≡◌, ◌+◌, ◌<◌, ◌≤◌, List, length, true, sym, subst, ap, arith}
+use Rattle.std.proofs.Common.{◌<◌, List, length, sym, subst, ap, arith}
 use Rattle.thumb_model.specs.Listing.{Line, places_of}
 use Rattle.thumb_model.proofs.LinesKept.{fewer_after}
 use Rattle.line_cursor.specs.Cursors.{lines_at}
-use Rattle.window_rewrite.specs.Rules.{rules_in}
-use Rattle.window_rewrite.specs.Choices.{setting_of, choice_of, IsFirstChoice}
+use Rattle.window_rewrite.specs.Choices.{setting_of, choice_of}
 use Rattle.window_rewrite.specs.Sweeps.{MayBecome}
-use Rattle.window_rewrite.proofs.Rounds.{HasCome, comes_on, some_more, last_tries}
+use Rattle.window_rewrite.proofs.Rounds.{comes_on, some_more}
 use Rattle.window_rewrite.proofs.Turning.{may_become}
 use Rattle.window_rewrite.proofs.sweeping.go_through.Goals as goal
 

@@ -1,4 +1,4 @@
-use Rattle.std.proofs.Common.{◌≡◌, ℕ, ◌+◌, ◌*◌, ◌≤◌, List, length, sym, ap, ◌∙◌, subst}
+use Rattle.std.proofs.Common.{◌≡◌, ℕ, ◌+◌, ◌*◌, ◌≤◌, List, length, ap, ◌∙◌, subst}
 use Rattle.std.specs.Int.{from_bool}
 use Rattle.thumb_model.specs.Listing.{Line, places_of}
 use Rattle.thumb_model.specs.Rewritten.{AppliesIn}
