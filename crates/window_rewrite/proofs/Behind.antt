@@ -45,7 +45,7 @@ one_place (Aligns size most) e = absurd (cc)
 one_place (Sets name address) e = absurd (cc)
 
 -- an instruction has one place
-op_place : (here : List Line) → length here ≤ 1 → begins_op here ≡ true → length (places_of here) ≡ 1
+pub op_place : (here : List Line) → length here ≤ 1 → begins_op here ≡ true → length (places_of here) ≡ 1
 op_place [] short e = absurd (cc)
 op_place (l ∷ []) short e = one_place l.statement e
 op_place (l ∷ m ∷ ms) short e = absurd (omega arith)

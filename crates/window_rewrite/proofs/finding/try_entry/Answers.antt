@@ -1,20 +1,22 @@
-use Rattle.std.proofs.Common.{◌≡◌, ◌∙◌, ℕ, ◌+◌, ◌-◌, ◌<◌, List, Some, length, map, slice_index_or, ap, arith, refl, sym, subst}
+use Rattle.std.proofs.Common.{◌≡◌, ◌∙◌, ℕ, ◌+◌, ◌-◌, ◌<◌, List, true, false, Some, length, map, slice_index_or, ap, arith, refl, sym, subst}
 use Rattle.std.specs.Prelude.{slice_get}
-use Rattle.std.proofs.lemmas.List.{length-map}
+use Rattle.std.specs.List.{list_all}
 use Rattle.std.proofs.lemmas.Option.{slice_get_read}
 use Rattle.thumb_instr.specs.declared.instr.Instr.{Instr}
 use Rattle.thumb_instr.specs.Renaming.{Low, renamed}
-use Rattle.thumb_model.specs.Listing.{places_of}
+use Rattle.thumb_model.specs.Layout.{Layable}
+use Rattle.thumb_model.specs.Listing.{Line, labels_from, places_of}
 use Rattle.thumb_model.specs.Rewrite.{Rule, register_count}
-use Rattle.thumb_model.specs.Rewritten.{AppliesIn, left_length, lines_after}
+use Rattle.thumb_model.specs.Rewritten.{left_length, replaced_lines}
 use Rattle.rule_table.specs.declared.table.Entry.{Entry}
-use Rattle.line_cursor.specs.Cursors.{lines_at, place_at}
+use Rattle.listing_parser.specs.Replacing.{own_line, names_no_label}
+use Rattle.line_cursor.specs.Cursors.{lines_at, place_at, IsSettled}
 use Rattle.window_rewrite.specs.declared.finding.Rules.{Rules}
 use Rattle.window_rewrite.specs.Rewriting.{registers_of}
 use Rattle.window_rewrite.specs.Rules.{entry_rule, rules_in, IsFit}
 use Rattle.window_rewrite.specs.Choices.{setting_of, AreReady}
-use Rattle.window_rewrite.proofs.Sides.{stands_once, window_count}
-use Rattle.window_rewrite.proofs.Applied.{made, applied, back, laid, ops_of, plain_all}
+use Rattle.window_rewrite.proofs.Sides.{stands_once}
+use Rattle.window_rewrite.proofs.Applied.{applied, back, laid, IsMade, ops_of, plain_all}
 use Rattle.window_rewrite.proofs.Accepted.{entry_at}
 use Rattle.window_rewrite.proofs.Chosen.{length_at}
 use Rattle.window_rewrite.proofs.finding.try_entry.Goals as goal
@@ -52,3 +54,68 @@ returns-in-None-clause-none g c = λ registers a.
     let rule : Rule = entry_rule (slice_index_or c.args.rules.now.entries.now c.args.number c.index-rules-number.result) in
     let b = back c.args.rules.now.base (rules_in c.args.rules.now.entries.now) (lines_at c.args.cursor.now) (place_at c.args.cursor.now) c.args.number rule registers c.args.window.now c.args.live.bits e.at e.long c.requires.stands a in
     c.in-None.ensures registers b.fits
+
+pub may_give_way-requires-clause-plain : goal.may_give_way-requires-clause-plain
+may_give_way-requires-clause-plain g c =
+    let e = entry c.args.rules.now c.args.number c.args.window.now c.index-rules-number.result c.requires.ready c.requires.number c.index-rules-number.is c.requires.long in
+    let rule : Rule = entry_rule (slice_index_or c.args.rules.now.entries.now c.args.number c.index-rules-number.result) in
+    let registers : List Low = registers_of c.in-Some.map in
+    let new : c.renamed_all-new.result ≡ map (renamed registers) rule.right =
+    c.renamed_all-new.ensures ∙ ap (λ (rs : List Low). map (renamed rs) c.as_slice.result.now) (c.deref.ensures.0 ∙ c.registers_of.ensures) ∙ ap (map (renamed registers)) c.as_slice.ensures.value in
+    subst (λ (is : List Instr). list_all names_no_label is ≡ true) (sym (c.as_slice-2.ensures.value ∙ new)) (plain_all (register_count rule.left) registers rule.right e.fit.sound.right)
+
+pub returns-then-not-branch-clause-none : goal.returns-then-not-branch-clause-none
+returns-then-not-branch-clause-none g c = λ given a.
+    let e = entry c.args.rules.now c.args.number c.args.window.now c.index-rules-number.result c.requires.ready c.requires.number c.index-rules-number.is c.requires.long in
+    let rule : Rule = entry_rule (slice_index_or c.args.rules.now.entries.now c.args.number c.index-rules-number.result) in
+    let registers : List Low = registers_of c.in-Some.map in
+    let new : c.renamed_all-new.result ≡ map (renamed registers) rule.right =
+    c.renamed_all-new.ensures ∙ ap (λ (rs : List Low). map (renamed rs) c.as_slice.result.now) (c.deref.ensures.0 ∙ c.registers_of.ensures) ∙ ap (map (renamed registers)) c.as_slice.ensures.value in
+    let b = back c.args.rules.now.base (rules_in c.args.rules.now.entries.now) (lines_at c.args.cursor.now) (place_at c.args.cursor.now) c.args.number rule given c.args.window.now c.args.live.bits e.at e.long c.requires.stands a in
+    let same : given ≡ registers = stands_once rule given registers c.args.window.now e.fit.sound e.fit.canonical b.fits.stands c.in-Some.ensures.0.stands in
+    let is : map (renamed given) rule.right ≡ c.as_slice-2.result.now = ap (λ (rs : List Low). map (renamed rs) rule.right) same ∙ sym (c.as_slice-2.ensures.value ∙ new) in
+    let may : c.in_ok-may_give_way.field-0 ≡ true = c.in_ok-may_give_way.ensures.1
+    (
+      subst (λ (js : List Instr). IsSettled (places_of (lines_at c.args.cursor.now)) (labels_from 0 (lines_at c.args.cursor.now)) (place_at c.args.cursor.now) (length c.args.window.now) js) is b.settled,
+      λ _. subst (λ (js : List Instr). Layable c.args.rules.now.base (replaced_lines own_line (place_at c.args.cursor.now) (length c.args.window.now) js (lines_at c.args.cursor.now))) is b.layable,
+    ) in
+    let never : true ≡ false = sym may ∙ c.if-not-branch.true in
+    cc
+
+pub copied-requires : goal.copied-requires
+copied-requires g c =
+    let e = entry c.args.rules.now c.args.number c.args.window.now c.index-rules-number.result c.requires.ready c.requires.number c.index-rules-number.is c.requires.long in
+    let rule : Rule = entry_rule (slice_index_or c.args.rules.now.entries.now c.args.number c.index-rules-number.result) in
+    let short = e.fit.short in
+    let long = e.long in
+    let few = c.requires.ready.few in
+    omega arith
+
+pub returns-clause-some : goal.returns-clause-some
+returns-clause-some g c =
+    let lines : List Line = lines_at c.args.cursor.now in
+    let place : ℕ = place_at c.args.cursor.now in
+    let e = entry c.args.rules.now c.args.number c.args.window.now c.index-rules-number.result c.requires.ready c.requires.number c.index-rules-number.is c.requires.long in
+    let rule : Rule = entry_rule (slice_index_or c.args.rules.now.entries.now c.args.number c.index-rules-number.result) in
+    let registers : List Low = registers_of c.in-Some.map in
+    let new : c.renamed_all-new.result ≡ map (renamed registers) rule.right =
+    c.renamed_all-new.ensures ∙ ap (λ (rs : List Low). map (renamed rs) c.as_slice.result.now) (c.deref.ensures.0 ∙ c.registers_of.ensures) ∙ ap (map (renamed registers)) c.as_slice.ensures.value in
+    let may = c.in_ok-may_give_way.ensures.0 c.if-not-branch.false in
+    let count : length c.args.window.now ≡ length rule.left = sym e.long in
+    let is : c.as_slice-2.result.now ≡ c.renamed_all-new.result = c.as_slice-2.ensures.value in
+    let settled : IsSettled (places_of lines) (labels_from 0 lines) place (length c.args.window.now) c.renamed_all-new.result =
+    subst (λ (js : List Instr). IsSettled (places_of lines) (labels_from 0 lines) place (length c.args.window.now) js) is may.0 in
+    let asked : c.args.ground.now.steady ≡ false → Layable c.args.rules.now.base (replaced_lines own_line place (length c.args.window.now) (map (renamed registers) rule.right) lines) =
+    λ f. subst (λ (js : List Instr). Layable c.args.rules.now.base (replaced_lines own_line place (length c.args.window.now) js lines)) (is ∙ new) (may.1 f) in
+    let m =
+    applied c.args.rules.now.base (rules_in c.args.rules.now.entries.now) lines place c.args.number rule registers c.args.window.now c.args.live.bits c.renamed_all-new.result e.at e.fit.sound c.requires.stands c.in-Some.ensures.0 new settled
+    (laid c.args.rules.now c.args.ground.now lines place rule registers c.args.window.now c.requires.over.over e.fit.sound count asked) in
+    let number : c.args.number ≡ c.args.number + 1 - 1 = omega arith in
+    let made_at : IsMade (setting_of c.args.rules.now) lines c.place.result (c.args.number + 1 - 1) registers c.copied.result c.renamed_all-new.result =
+    subst (λ p. IsMade (setting_of c.args.rules.now) lines p (c.args.number + 1 - 1) registers c.copied.result c.renamed_all-new.result) (sym c.place.ensures)
+    (subst (λ k. IsMade (setting_of c.args.rules.now) lines place k registers c.copied.result c.renamed_all-new.result) number
+    (subst (λ (js : List Instr). IsMade (setting_of c.args.rules.now) lines place c.args.number registers js c.renamed_all-new.result) (sym c.copied.ensures) m)) in (
+      record { applies = made_at.applies; keeps = made_at.keeps; leaves = made_at.leaves },
+      c.place.ensures,
+      sym number,
+    )
