@@ -33,14 +33,6 @@ pub record HasCome (s : Setting) (entries : ℕ) (from to : List Line) (old new 
   pub more : length old ≤ length new
   pub cost : now + length old * (length (places_of from) * entries) ≤ start + length new * (length (places_of from) * entries)
 
-pub not_yet : (s : Setting) (entries : ℕ) (lines : List Line) (done : List Made) (start : ℕ) → HasCome s entries lines lines done done start start
-not_yet s entries lines done start = record {
-  completes = λ first h. h;
-  fewer = omega arith;
-  more = omega arith;
-  cost = omega arith;
-}
-
 -- no more places than at the beginning
 no_more_places : (s : Setting) (entries : ℕ) (from to : List Line) (old new : List Made) (start now : ℕ) → HasCome s entries from to old new start now → length (places_of to) ≤ length (places_of from)
 no_more_places s entries from to old new start now h = let f = h.fewer in let m = h.more in omega arith
@@ -51,6 +43,7 @@ tries s entries from to old new start now h = mul-le-mul_right entries (no_more_
 longer_by_one : (old new : List Made) (m : Made) → new ≡ old ++ m ∷ [] → length new ≡ length old + 1
 longer_by_one old new m e = ap length e ∙ length-append old (m ∷ [])
 
+-- with one replacement more
 pub comes_on : (s : Setting) (entries : ℕ) (from to here next : List Line) (old new more : List Made) (start now after : ℕ) (m : Made)
     → HasCome s entries from to old new start now → here ≡ to → IsFirst s (replacement_of m) here → next ≡ lines_after s (replacement_of m) here → more ≡ new ++ m ∷ [] → after ≤ now + length (places_of to) * entries
     → HasCome s entries from next old more start after
