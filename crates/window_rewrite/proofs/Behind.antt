@@ -1,5 +1,5 @@
 -- What stands behind a cursor.
-use Rattle.std.proofs.Common.{◌≡◌, ℕ, zero, suc, ◌+◌, ◌-◌, ◌<◌, ◌≤◌, ◌&&◌, Bool, true, false, List, [], ◌∷◌, ◌++◌, length, length-append, append_assoc, drop, refl, sym, ap, ◌∙◌, subst, ◌↔◌, inl, inr, arith}
+use Rattle.std.proofs.Common.{◌≡◌, ℕ, zero, suc, ◌+◌, ◌-◌, ◌<◌, ◌≤◌, ◌&&◌, Bool, true, false, List, [], ◌∷◌, ◌++◌, length, length-append, append_assoc, drop, reverse, refl, sym, ap, ◌∙◌, subst, ◌↔◌, inl, inr, arith}
 use Rattle.std.proofs.lemmas.Bool.{cases_lt}
 use Rattle.thumb_instr.specs.declared.instr.Instr.{Instr}
 use Rattle.thumb_instr.specs.Items.{has}
@@ -15,7 +15,7 @@ use Rattle.window_runs.proofs.Lengths.{run_within, rows_length}
 use Rattle.window_harvest.specs.LimitsOf.{AreOf}
 use Rattle.line_cursor.specs.declared.pieces.Piece.{Piece}
 use Rattle.line_cursor.specs.declared.cursor.Cursor.{Cursor}
-use Rattle.line_cursor.specs.Pieces.{begins_op}
+use Rattle.line_cursor.specs.Pieces.{begins_op, lines_of}
 use Rattle.line_cursor.specs.declared.cursor.Spot.{Spot}
 use Rattle.line_cursor.specs.Cursors.{flows_of, lines_ahead, lines_at, lines_behind, place_at, sets_of, spots_at, IsCursor}
 use Rattle.line_cursor.proofs.Looks.{run_begins}
@@ -99,6 +99,10 @@ pub places_there : (c : Cursor) → IsKept c → length (places_of (lines_at c))
 places_there c k =
     let all = ap (λ (ps : List Place). length ps) (places_append (lines_behind c) (lines_ahead c)) ∙ length-append (places_of (lines_behind c)) (places_of (lines_ahead c)) in
     omega (arith, all, k.is.passed, k.is.coming)
+
+-- at the end no place comes
+pub at_end : (c : Cursor) → IsKept c → c.ahead.items ≡ [] → length (places_of (lines_at c)) ≤ place_at c
+at_end c k e = omega (arith, places_there c k, k.is.coming, ap (λ (ps : List Piece). length (places_of (lines_of (reverse ps)))) e)
 
 -- the set that is kept of a place tells what is live after it
 pub live_behind : (c : Cursor) (count bits : ℕ) → IsKept c → 0 < count → count ≤ length c.coming.items → bits ≡ set_at (sets_of (spots_at c)).after (place_at c + (count - 1))

@@ -30,9 +30,11 @@ use Rattle.window_harvest.specs.Harvest.{spot_of, StandsThere}
 use Rattle.window_runs.proofs.Joined.{window_in_run}
 use Rattle.window_harvest.proofs.Places.{stands_there}
 use Rattle.line_cursor.specs.declared.pieces.Piece.{Piece}
+use Rattle.line_cursor.specs.declared.cursor.Cursor.{Cursor}
 use Rattle.line_cursor.specs.Pieces.{begins_op, lines_in, lines_of}
+use Rattle.line_cursor.specs.Cursors.{lines_at, place_at}
 use Rattle.line_cursor.proofs.Looks.{piece_short}
-use Rattle.line_cursor.proofs.Edits.{lines_back}
+use Rattle.line_cursor.proofs.Edits.{lines_back, ahead_count}
 use Rattle.line_cursor.proofs.Labels.{op_within}
 use Rattle.line_cursor.proofs.Nearer.{first_op, places_append}
 use Rattle.window_rewrite.specs.declared.choice.Choice.{Choice}
@@ -40,9 +42,10 @@ use Rattle.window_rewrite.specs.Rewriting.{setting}
 use Rattle.window_rewrite.specs.Rules.{rules_in, AreFit, codes_of, first_with}
 use Rattle.window_rewrite.specs.Fitting.{Stands}
 use Rattle.window_rewrite.specs.Choices.{Awaits, Begins, choice_of, IsChoice, IsLowest, NoneOf, IsBest, NoneAt, NoneBefore, IsFirstChoice, of_length, longer}
+use Rattle.window_rewrite.specs.Sweeps.{IsKept}
 use Rattle.window_rewrite.proofs.Applied.{made, back}
 use Rattle.window_rewrite.proofs.Keys.{awaited, none_awaited}
-use Rattle.window_rewrite.proofs.Behind.{IsAhead, op_place}
+use Rattle.window_rewrite.proofs.Behind.{IsAhead, op_place, places_there}
 
 -- ---- counts of rules ----
 
@@ -452,3 +455,11 @@ piece_cost entries place next start before after ahead p e b a idle = elim (case
       )
   | inr n ↦ (let i = idle p.rest p.piece p.is n in places_cost entries place next start after (omega arith) (omega arith))
 ]
+
+-- a look at what stands behind a cursor costs no more than the places up to there
+pub look_cost : (entries start before after : ℕ) (c : Cursor) (lines : List Line) (p : IsAhead c.ahead.items) → IsKept c → lines_at c ≡ lines → before ≤ start + place_at c * entries → after ≤ before + entries
+    → ((rest : List Piece) (x : Piece) → c.ahead.items ≡ rest ++ x ∷ [] → begins_op (lines_in x) ≡ false → after ≤ before) → after ≤ start + length (places_of lines) * entries
+look_cost entries start before after c lines p kept same b a idle =
+    let next : ℕ = place_at c + length (places_of (lines_in p.piece)) in
+    places_cost entries next (length (places_of lines)) start after (piece_cost entries (place_at c) next start before after c.ahead.items p refl b a idle)
+    (omega (arith, places_there c kept, ahead_count c.ahead.items p.rest p.piece p.is, kept.is.coming, ap (λ (ls : List Line). length (places_of ls)) same))

@@ -9,12 +9,12 @@ ghost use Rattle.thumb_model.specs.Rewritten.{AppliesIn, NoneApplies, left_lengt
 ghost use Rattle.listing_parser.specs.Replacing.{own_line, names_no_label};
 ghost use Rattle.line_cursor.specs.declared.pieces.Piece.{Piece};
 ghost use Rattle.line_cursor.specs.Pieces.{begins_op, lines_in};
-ghost use Rattle.line_cursor.specs.Cursors.{lines_at, place_at, spots_at, IsCursor, IsSettled};
+ghost use Rattle.line_cursor.specs.Cursors.{lines_at, place_at, IsCursor, IsSettled};
 ghost use Rattle.thumb_model.proofs.LinesReplaced.{AreOps};
 ghost use Rattle.window_harvest.specs.Harvest.{spot_of, StandsThere};
 ghost use Rattle.window_rewrite.specs.Rules.{rules_in};
 ghost use Rattle.window_rewrite.specs.Choices.{setting_of, choice_of, of_length, AreReady, Begins, IsBest, IsChoice, IsFirstChoice, IsLowest, NoneAt, NoneBefore, NoneOf};
-ghost use Rattle.window_rewrite.specs.Sweeps.{AreOver, IsKept, IsOver};
+ghost use Rattle.window_rewrite.specs.Sweeps.{IsOver};
 
 use crate::choice::{Choice, Replacement};
 use crate::fitting::{fitting, side_of};
@@ -114,7 +114,14 @@ fn try_entry<L: Ledger>(
         Some(map) => map,
     };
     let new = renamed_all(entry.right.as_slice(), &registers_of(&map));
-    if !may_give_way(alloc, rules.base, ground, cursor, window.len(), new.as_slice())? {
+    if !may_give_way(
+        alloc,
+        rules.base,
+        ground,
+        cursor,
+        window.len(),
+        new.as_slice(),
+    )? {
         return Ok(None);
     }
     let _count = ground.listing.place_count();

@@ -1,8 +1,8 @@
-use Rattle.std.proofs.Common.{◌≡◌, ◌∙◌, ◌-◌, ◌≤◌, List, true, false, length, drop, ap, arith, sym, subst}
+use Rattle.std.proofs.Common.{◌≡◌, ◌-◌, ◌≤◌, List, true, false, length, drop, ap, arith, sym, subst}
 use Rattle.thumb_instr.specs.declared.instr.Instr.{Instr}
 use Rattle.window_runs.specs.Rows.{rows_from}
 use Rattle.window_runs.specs.Runs.{run}
-use Rattle.line_cursor.specs.Cursors.{lines_ahead, lines_at, place_at, sets_of, spots_at}
+use Rattle.line_cursor.specs.Cursors.{lines_at, place_at, sets_of, spots_at}
 use Rattle.window_rewrite.specs.Rules.{rules_in}
 use Rattle.window_rewrite.specs.Choices.{setting_of}
 use Rattle.window_rewrite.proofs.Behind.{of_kept, run_here, run_comes, live_behind}
@@ -13,7 +13,7 @@ pub loop-count-init : goal.loop-count-init
 loop-count-init g c =
     let kept = c.requires.over.kept in
     let e : c.run-run.result ≡ run true c.args.rules.now.longest (drop (place_at c.args.cursor.now) (rows_from false (lines_at c.args.cursor.now))) =
-    run_here c.args.cursor.now c.args.rules.now.longest c.run-run.result kept (c.run-run.ensures ∙ ap (λ m. run true m (rows_from true (lines_ahead c.args.cursor.now))) c.from.ensures) in
+    subst (λ m. c.run-run.result ≡ run true m (drop (place_at c.args.cursor.now) (rows_from false (lines_at c.args.cursor.now)))) c.from.ensures (run_here c.args.cursor.now c.from.result c.run-run.result kept c.run-run.ensures) in
     let none =
     none_beyond c.args.rules.now.base c.args.rules.now.longest (rules_in c.args.rules.now.entries.now) (lines_at c.args.cursor.now) (rows_from false (lines_at c.args.cursor.now)) (sets_of (spots_at c.args.cursor.now)) (place_at c.args.cursor.now) c.run-run.result
     c.requires.ready.fit (of_kept c.args.cursor.now kept) e in

@@ -1,10 +1,9 @@
-use Rattle.std.proofs.Common.{◌≡◌, ◌∙◌, ℕ, ◌+◌, ◌<◌, ◌≤◌, ◌↔◌, Bool, List, true, false, length, ap, arith, refl, sym, subst}
+use Rattle.std.proofs.Common.{◌≡◌, ◌∙◌, ℕ, ◌+◌, ◌<◌, ◌↔◌, Bool, List, true, false, ap, arith, sym, subst}
 use Rattle.std.specs.Prelude.{slice_get}
 use Rattle.std.proofs.lemmas.Result.{IfOk-weaker}
 use Rattle.thumb_model.specs.Layout.{Layable}
 use Rattle.thumb_model.specs.Listing.{Line, Place, places_of, is_op_place}
 use Rattle.thumb_model.specs.Rewritten.{replaced_lines}
-use Rattle.thumb_model.proofs.LinesReplaced.{AreOps}
 use Rattle.listing_parser.specs.Replacing.{own_line}
 use Rattle.line_cursor.specs.Cursors.{lines_at, place_at}
 use Rattle.window_rewrite.proofs.Applied.{ops_at, ops_within}

@@ -5,13 +5,13 @@ use Rattle.window_rewrite.specs.Choices.{setting_of, NoneBefore}
 use Rattle.window_rewrite.specs.Sweeps.{IsOver}
 use Rattle.window_rewrite.proofs.finding.next.Given as goal
 
-abbrev pub invariant-loop-cursor : goal.invariant-loop-cursor
-invariant-loop-cursor g l = record {
+abbrev pub invariant-loop-alloc : goal.invariant-loop-alloc
+invariant-loop-alloc g l = record {
   over : IsOver l.rules l.ground l.cursor;
   lines : lines_at l.cursor ≡ lines_at l.initial.cursor;
   none : NoneBefore (setting_of l.rules) (lines_at l.cursor) (place_at l.cursor);
   cost : l.steps ≤ l.initial.steps + place_at l.cursor * length (rules_in l.rules.entries.now);
 }
 
-abbrev pub decreases-loop-cursor : goal.decreases-loop-cursor
-decreases-loop-cursor g l = length l.cursor.ahead.items
+abbrev pub decreases-loop-alloc : goal.decreases-loop-alloc
+decreases-loop-alloc g l = length l.cursor.ahead.items

@@ -74,8 +74,7 @@ returns-then-not-branch-clause-none g c = λ given a.
     let b = back c.args.rules.now.base (rules_in c.args.rules.now.entries.now) (lines_at c.args.cursor.now) (place_at c.args.cursor.now) c.args.number rule given c.args.window.now c.args.live.bits e.at e.long c.requires.stands a in
     let same : given ≡ registers = stands_once rule given registers c.args.window.now e.fit.sound e.fit.canonical b.fits.stands c.in-Some.ensures.0.stands in
     let is : map (renamed given) rule.right ≡ c.as_slice-2.result.now = ap (λ (rs : List Low). map (renamed rs) rule.right) same ∙ sym (c.as_slice-2.ensures.value ∙ new) in
-    let may : c.in_ok-may_give_way.field-0 ≡ true = c.in_ok-may_give_way.ensures.1
-    (
+    let may : c.in_ok-may_give_way.field-0 ≡ true = c.in_ok-may_give_way.ensures.1 (
       subst (λ (js : List Instr). IsSettled (places_of (lines_at c.args.cursor.now)) (labels_from 0 (lines_at c.args.cursor.now)) (place_at c.args.cursor.now) (length c.args.window.now) js) is b.settled,
       λ _. subst (λ (js : List Instr). Layable c.args.rules.now.base (replaced_lines own_line (place_at c.args.cursor.now) (length c.args.window.now) js (lines_at c.args.cursor.now))) is b.layable,
     ) in
