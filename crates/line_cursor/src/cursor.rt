@@ -294,11 +294,11 @@ impl<'a> Cursor<'a> {
         self.coming[self.coming.len() - 1].before
     }
 
-    /// The flows of the places behind so many, in order: 16 of them, or all where fewer are left.
-    pub fn flows(&self, count: usize) -> ArrayVec<Flow, 16>
+    /// The flows of the places behind so many, in order: 64 of them, or all where fewer are left.
+    pub fn flows(&self, count: usize) -> ArrayVec<Flow, 64>
         requires { count ≤ length self.now.coming.items }
         ensures are { (k : ℕ) (f : Flow) → slice_get result.items k ≡ Some f → slice_get (flows_of (spots_at self.now)) (place_at self.now + (count + k)) ≡ Some f }
-        ensures many { length result.items ≡ min 16 (length self.now.coming.items - count) }
+        ensures many { length result.items ≡ min 64 (length self.now.coming.items - count) }
     {
         let mut flows = ArrayVec::new();
         let mut at = self.coming.len() - count;
