@@ -9,7 +9,7 @@ use Rattle.thumb_model.specs.Rewrite.{Rule}
 use Rattle.thumb_model.specs.Rewritten.{Setting, Replacement, AppliesIn, IsFirst, replaced_lines, lines_after, left_length}
 use Rattle.window_rewrite.specs.declared.choice.Choice.{Choice}
 use Rattle.window_rewrite.specs.declared.finding.Rules.{Rules}
-use Rattle.window_rewrite.specs.Rewriting.{setting, replacement_of}
+use Rattle.window_rewrite.specs.Rewriting.{setting, replacement_of, IsWhole}
 use Rattle.window_rewrite.specs.Rules.{rules_in, codes_of, first_with, AreFit, IsIndex}
 use Rattle.window_rewrite.specs.Fitting.{Stands}
 
@@ -46,6 +46,7 @@ choice_of c = replacement_of c.replacement
 
 -- it applies: its window gives way to its new instructions
 pub record IsChoice (s : Setting) (lines : List Line) (c : Choice) : Type 0 where
+  pub whole : IsWhole c.replacement
   pub applies : AppliesIn s (choice_of c) lines
   pub keeps : KeepsAt (code_of lines) (choice_of c).place c.window c.new
   pub leaves : replaced_lines s.write (choice_of c).place (length c.window) c.new lines ≡ lines_after s (choice_of c) lines

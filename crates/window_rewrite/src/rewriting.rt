@@ -1,10 +1,10 @@
 //! Replacing until no entry applies.
-ghost use Rattle.std.specs.Prelude.{◌≡◌, ◌+◌, ◌≤◌, length, map, IfOk, MatchResult};
+ghost use Rattle.std.specs.Prelude.{◌≡◌, ◌+◌, ◌≤◌, All, length, map, IfOk, MatchResult};
 ghost use Rattle.rule_table.specs.Views.{table_of};
 ghost use Rattle.table_audit.specs.Soundness.{rules_of};
 ghost use Rattle.thumb_model.specs.Layout.{Layable};
 ghost use Rattle.thumb_model.specs.Rewritten.{AreRewritten};
-ghost use Rattle.window_rewrite.specs.Rewriting.{setting, replacement_of, rewriting_cost, IsRefusal};
+ghost use Rattle.window_rewrite.specs.Rewriting.{setting, replacement_of, rewriting_cost, IsRefusal, IsWhole};
 ghost use Rattle.window_rewrite.specs.Rules.{rules_in};
 ghost use Rattle.window_rewrite.specs.Choices.{setting_of, AreReady};
 
@@ -31,6 +31,7 @@ pub fn rewrite<L: Ledger>(
     steps: &mut Steps<L>,
 ) -> Result<Rewritten, RewriteError>
     ensures rewritten { IfOk result (λ new. AreRewritten (setting base (rules_of (table_of table.now))) listing (map replacement_of new.replacements.items) new.listing) }
+    ensures whole { IfOk result (λ new. All IsWhole new.replacements.items) }
     ensures verdict { MatchResult result (λ _. Layable base listing) (IsRefusal base listing) }
     ensures cost { IfOk result (λ new. steps.new ≤ steps.old + rewriting_cost listing (rules_of (table_of table.now)) (length new.replacements.items)) }
 {
@@ -57,6 +58,7 @@ fn rewritten<L: Ledger>(
 ) -> Result<Rewritten, Memory>
     requires { AreReady rules.now }
     ensures rewritten { IfOk result (λ new. AreRewritten (setting_of rules.now) listing (map replacement_of new.replacements.items) new.listing) }
+    ensures whole { IfOk result (λ new. All IsWhole new.replacements.items) }
     ensures cost { IfOk result (λ new. steps.new ≤ steps.old + rewriting_cost listing (rules_in rules.now.entries.now) (length new.replacements.items)) }
 {
     let mut current = listing;

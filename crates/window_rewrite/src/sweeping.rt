@@ -1,5 +1,5 @@
 //! Sweeps over a listing.
-ghost use Rattle.std.specs.Prelude.{◌≡◌, ◌+◌, ◌*◌, ◌%◌, ◌<◌, ◌≤◌, ◌++◌, ◌∷◌, [], List, length, not, true, false, IfOk, OnOk};
+ghost use Rattle.std.specs.Prelude.{◌≡◌, ◌+◌, ◌*◌, ◌%◌, ◌<◌, ◌≤◌, ◌++◌, ◌∷◌, [], List, All, length, not, true, false, IfOk, OnOk};
 ghost use Rattle.std.specs.Int.{from_bool};
 ghost use Rattle.thumb_model.specs.Listing.{Line, places_of};
 ghost use Rattle.thumb_model.specs.Rewritten.{NoneApplies, lines_after};
@@ -7,7 +7,7 @@ ghost use Rattle.line_cursor.specs.declared.pieces.Piece.{Piece};
 ghost use Rattle.line_cursor.specs.Pieces.{begins_op, lines_in};
 ghost use Rattle.line_cursor.specs.Cursors.{flows_of, lines_at, place_at, sets_of};
 ghost use Rattle.steady_layout.specs.Steady.{IsSteady};
-ghost use Rattle.window_rewrite.specs.Rewriting.{round_cost};
+ghost use Rattle.window_rewrite.specs.Rewriting.{round_cost, IsWhole};
 ghost use Rattle.window_rewrite.specs.Rules.{rules_in};
 ghost use Rattle.window_rewrite.specs.Choices.{setting_of, choice_of, AreReady, IsFirstChoice, NoneBefore};
 ghost use Rattle.window_rewrite.specs.Sweeps.{Completes, IsOver, MayBecome};
@@ -70,6 +70,8 @@ fn go_through<L: Ledger>(
     requires ready { AreReady rules.now }
     requires over { IsOver rules.now ground.now cursor.old }
     requires before { NoneBefore (setting_of rules.now) (lines_at cursor.old) (place_at cursor.old) }
+    requires whole { All IsWhole replacements.old.items }
+    ensures whole { OnOk result (All IsWhole replacements.new.items) }
     ensures completes { OnOk result ((start : List Line) → Completes (setting_of rules.now) start replacements.old.items (lines_at cursor.old) → Completes (setting_of rules.now) start replacements.new.items (lines_at cursor.new)) }
     ensures becomes { OnOk result (MayBecome ground.now.listing.now (lines_at cursor.new)) }
     ensures none { IfOk result (λ b. b ≡ true → NoneApplies (setting_of rules.now) (lines_at cursor.new)) }
@@ -126,6 +128,8 @@ pub(crate) fn sweep<L: Ledger>(
     steps: &mut Steps<L>,
 ) -> Result<Swept, Memory>
     requires ready { AreReady rules.now }
+    requires whole { All IsWhole replacements.old.items }
+    ensures whole { OnOk result (All IsWhole replacements.new.items) }
     ensures completes { IfOk result (λ s. (start : List Line) → Completes (setting_of rules.now) start replacements.old.items listing.now → Completes (setting_of rules.now) start replacements.new.items s.listing) }
     ensures none { IfOk result (λ s. s.is_done ≡ true → NoneApplies (setting_of rules.now) s.listing) }
     ensures fewer { IfOk result (λ s. length (places_of s.listing) + from_bool (not s.is_done) ≤ length (places_of listing.now)) }

@@ -114,7 +114,7 @@ returns-clause-some g c =
     subst (λ p. IsMade (setting_of c.args.rules.now) lines p (c.args.number + 1 - 1) registers c.copied.result c.renamed_all-new.result) (sym c.place.ensures)
     (subst (λ k. IsMade (setting_of c.args.rules.now) lines place k registers c.copied.result c.renamed_all-new.result) number
     (subst (λ (js : List Instr). IsMade (setting_of c.args.rules.now) lines place c.args.number registers js c.renamed_all-new.result) (sym c.copied.ensures) m)) in (
-      record { applies = made_at.applies; keeps = made_at.keeps; leaves = made_at.leaves },
+      record { whole = record { counted = omega arith; in_place = c.in-Some.ensures.2 }; applies = made_at.applies; keeps = made_at.keeps; leaves = made_at.leaves },
       c.place.ensures,
       sym number,
     )

@@ -1,7 +1,9 @@
-use Rattle.std.proofs.Common.{◌<◌, List, length, sym, subst, ap, arith}
+use Rattle.std.proofs.Common.{◌<◌, List, All, length, sym, subst, ap, arith}
+use Rattle.std.proofs.lemmas.List.Elements.{All-push}
 use Rattle.thumb_model.specs.Listing.{Line, places_of}
 use Rattle.thumb_model.proofs.LinesKept.{fewer_after}
 use Rattle.line_cursor.specs.Cursors.{lines_at}
+use Rattle.window_rewrite.specs.Rewriting.{IsWhole}
 use Rattle.window_rewrite.specs.Choices.{setting_of, choice_of}
 use Rattle.window_rewrite.specs.Sweeps.{MayBecome}
 use Rattle.window_rewrite.proofs.Rounds.{comes_on, some_more}
@@ -29,6 +31,11 @@ returns-then-not-goes_on-clause-cost g c =
     let cost = come.cost in
     omega arith
 
+pub returns-then-not-goes_on-clause-whole : goal.returns-then-not-goes_on-clause-whole
+returns-then-not-goes_on-clause-whole g c =
+    let choice = rw c.in-Some.is at c.in_ok-choice.ensures.some in
+    subst (All IsWhole) (sym c.in_ok-push.ensures.items) (All-push IsWhole _ c.in-Some.choice.replacement c.loop-choice.invariant.whole choice.is.whole)
+
 pub loop-choice-smaller : goal.loop-choice-smaller
 loop-choice-smaller g c =
     let choice = rw c.in-Some.is at c.in_ok-choice.ensures.some in
@@ -44,5 +51,6 @@ loop-choice-preserved g c =
     record {
       over = c.in_ok-goes_on.ensures.over c.if-not-goes_on.false;
       before = c.in_ok-goes_on.ensures.before c.if-not-goes_on.false;
+      whole = subst (All IsWhole) (sym c.in_ok-push.ensures.items) (All-push IsWhole _ c.in-Some.choice.replacement c.loop-choice.invariant.whole choice.is.whole);
       come = comes_on _ _ _ _ _ _ _ _ _ _ _ _ c.in-Some.choice.replacement c.loop-choice.invariant.come c.in_ok-choice.ensures.lines choice.first c.in_ok-goes_on.ensures.lines c.in_ok-push.ensures.items c.in_ok-choice.ensures.cost;
     }

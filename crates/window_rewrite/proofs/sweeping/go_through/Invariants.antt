@@ -1,6 +1,7 @@
-use Rattle.std.proofs.Common.{length}
+use Rattle.std.proofs.Common.{All, length}
 use Rattle.thumb_model.specs.Listing.{places_of}
 use Rattle.line_cursor.specs.Cursors.{lines_at, place_at}
+use Rattle.window_rewrite.specs.Rewriting.{IsWhole}
 use Rattle.window_rewrite.specs.Rules.{rules_in}
 use Rattle.window_rewrite.specs.Choices.{setting_of, NoneBefore}
 use Rattle.window_rewrite.specs.Sweeps.{IsOver}
@@ -12,6 +13,7 @@ abbrev pub invariant-loop-choice : goal.invariant-loop-choice
 invariant-loop-choice g l = record {
   over : IsOver l.rules l.ground l.cursor;
   before : NoneBefore (setting_of l.rules) (lines_at l.cursor) (place_at l.cursor);
+  whole : All IsWhole l.replacements.items;
   come : HasCome (setting_of l.rules) (length (rules_in l.rules.entries.now)) (lines_at l.initial.cursor) (lines_at l.cursor) l.initial.replacements.items l.replacements.items l.initial.steps l.steps;
 }
 
