@@ -160,7 +160,11 @@ pub struct Line {
 
 struct Solver {
     arena: Arena,
+    /// The clauses that the arena holds, with their numbers.
     refs: Vec<u32>,
+    ids: Vec<u32>,
+    /// How many literals were true before any decision when clauses were dropped last.
+    swept: usize,
     trail: Trail,
     seen: Seen,
     order: Order,
@@ -178,6 +182,8 @@ impl Solver {
         Solver {
             arena: Arena { words: Vec::new(), heads: vec![NONE; literals] },
             refs: Vec::new(),
+            ids: Vec::new(),
+            swept: 0,
             trail: Trail { marks: vec![false; literals], literals: Vec::new(), reasons: Vec::new(), places: vec![0; variables] },
             seen: Seen { marks: vec![false; literals], literals: Vec::new() },
             order: Order {
@@ -193,9 +199,10 @@ impl Solver {
     }
 
     /// Adds a clause; the answer is whether it is false.
-    fn adopt(&mut self, literals: &[u32]) -> Option<u32> {
+    fn adopt(&mut self, literals: &[u32], id: u32) -> Option<u32> {
         let at = self.arena.push(literals);
         self.refs.push(at);
+        self.ids.push(id);
         let first = literals[0];
         match literals.iter().find(|literal| **literal != first) {
             Some(second) => {
@@ -207,6 +214,48 @@ impl Solver {
             None => self.trail.set(first, at),
         }
         None
+    }
+
+    /// Drops the clauses that are true before any decision and are no reasons, once they have more than half of the words of the proved solver's arena, in
+    /// which a clause has six besides its literals.
+    fn drop_true(&mut self) {
+        let Solver { arena, refs, ids, trail, swept, .. } = self;
+        if trail.literals.len() == *swept {
+            return;
+        }
+        *swept = trail.literals.len();
+        let place = |refs: &[u32], at: u32| refs.binary_search(&at).unwrap();
+        let mut stays = vec![false; refs.len()];
+        for reason in &trail.reasons {
+            stays[place(refs, *reason)] = true;
+        }
+        let (mut words, mut dropped_words) = (0, 0);
+        for (at, stays) in refs.iter().zip(&mut stays) {
+            let literals = arena.literals(*at);
+            *stays = *stays || !literals.iter().any(|literal| trail.is_true(*literal));
+            *(if *stays { &mut words } else { &mut dropped_words }) += literals.len() + 6;
+        }
+        if dropped_words <= words {
+            return;
+        }
+        let mut left = Arena { words: Vec::new(), heads: vec![NONE; arena.heads.len()] };
+        let (mut kept, mut moved, mut names) = (Vec::new(), Vec::new(), Vec::new());
+        for ((at, id), _) in refs.iter().zip(&*ids).zip(&stays).filter(|(_, stays)| **stays) {
+            let copy = left.push(arena.literals(*at));
+            for slot in 0..2 {
+                let literal = arena.words[place_of(2 * at + slot)];
+                if literal != NONE {
+                    left.watch(2 * copy + slot, literal);
+                }
+            }
+            kept.push(*at);
+            moved.push(copy);
+            names.push(*id);
+        }
+        for reason in &mut trail.reasons {
+            *reason = moved[place(&kept, *reason)];
+        }
+        (*arena, *refs, *ids) = (left, moved, names);
     }
 
     fn propagate(&mut self, from: usize) -> Option<u32> {
@@ -303,8 +352,8 @@ impl Solver {
 
     /// The line that adds the contraries of the given literals, which leave a clause false.
     fn derive(&mut self, givens: std::ops::Range<usize>, conflict: u32) -> Line {
-        let Solver { arena, trail, seen, refs, .. } = self;
-        let hint_of = |at: u32| refs.binary_search(&at).unwrap() as u32 + 1;
+        let Solver { arena, trail, seen, refs, ids, .. } = self;
+        let hint_of = |at: u32| ids[refs.binary_search(&at).unwrap()];
         let literals = trail.literals[givens].iter().map(|l| l ^ 1).collect();
         seen.clear();
         seen.see(arena.literals(conflict), trail);
@@ -376,8 +425,8 @@ pub fn solve(variables: usize, clauses: &[Vec<u32>], budget: usize) -> Verdict {
     }
     let mut solver = Solver::new(variables);
     let mut current = None;
-    for clause in clauses {
-        current = solver.adopt(clause).or(current);
+    for (clause, id) in clauses.iter().zip(1..) {
+        current = solver.adopt(clause, id).or(current);
     }
     let mut log = Vec::new();
     while log.len() < budget {
@@ -388,7 +437,8 @@ pub fn solve(variables: usize, clauses: &[Vec<u32>], budget: usize) -> Verdict {
                 return Verdict::Unsat(log);
             }
             Ending::Taught(line) => {
-                current = solver.adopt(&line.literals);
+                solver.drop_true();
+                current = solver.adopt(&line.literals, (clauses.len() + log.len() + 1) as u32);
                 log.push(line);
             }
         }

@@ -2,17 +2,18 @@
 use Rattle.std.proofs.Common.{◌≡◌, ◌≢◌, ℕ, ◌+◌, ◌<◌, ◌⊎◌, List, [], ◌∷◌, ◌++◌, length, length-append, get_or, take, map, refl, sym, ◌∙◌, ap, inl, inr, arith, Option, Some, None, subst, false}
 use Rattle.std.specs.Prelude.{All, Any, Contains, slice_get}
 use Rattle.std.proofs.lemmas.List.{map_push, take_at, get_or_push}
-use Rattle.std.proofs.lemmas.List.Elements.{All-push, All-weaker, Contains-push, Contains-push_cases, Contains-append_left}
+use Rattle.std.proofs.lemmas.List.Elements.{All-push, All-weaker, All-contains_itself, Contains-push, Contains-push_cases, Contains-append_left}
 use Rattle.clause_model.specs.Literals.{negated}
-use Rattle.clause_model.specs.Clauses.{IsFalse, IsUnset, IsUnit, AllFalse}
-use Rattle.clause_arena.specs.Contents.{Clause, Content, HasLiteral, Watches, literals_of, references_of}
+use Rattle.clause_model.specs.Clauses.{IsFalse, IsUnset, IsUnit, AllFalse, IsConsistent}
+use Rattle.clause_arena.specs.Contents.{Clause, Content, HasLiteral, IsWhole, Watches, literals_of, references_of}
 use Rattle.unit_propagation.specs.Watching.{IsWatched, IsReason, IsAdded, IsLater}
 use Rattle.unit_propagation.proofs.Steps.{reason_later, Contains-part}
 use Rattle.unit_propagation.proofs.Walks.{known_later}
-use Rattle.cdcl_core.specs.Implied.{clauses_of, IsConflict, IsJustified, IsCovered, IsGround, Level}
+use Rattle.cdcl_core.specs.Implied.{clauses_of, IsConflict, IsJustified, IsCovered, IsGround, Level, AreSpare}
 use Rattle.cdcl_core.specs.Searched.{IsBase}
 use Rattle.cdcl_core.proofs.Lists.{entry_cases, nothing_in}
 use Rattle.cdcl_core.proofs.Grounds.{covered_later, justified_later, ground_back}
+use Rattle.cdcl_core.proofs.Spare.{spare_added, spare_unit, spare_later}
 
 any_grown : (a b clause : List ℕ) → ((x : ℕ) → Contains a x → Contains b x) → Any (Contains a) clause → Any (Contains b) clause
 any_grown a b clause w t = (t.0, t.1, t.2, t.3, w t.1 t.4)
@@ -21,7 +22,7 @@ pub any_first : (a clause : List ℕ) (l m : ℕ) → l ≡ get_or clause 0 l �
 any_first a clause l m e b f c = (0, l, b, sym e, subst (Contains a) f c)
 
 module _ (clauses : List (List ℕ)) (size : ℕ) (content : Content) (refs : List ℕ) (reasons : List (Option ℕ)) (trail : List ℕ) (conflict : Option ℕ) (b : IsBase clauses size content refs reasons trail conflict)
-    (content' : Content) (at : ℕ) (literals : List ℕ) (d : IsAdded content at literals content') (k : All (HasLiteral content) literals) (refs' : List ℕ) (e : refs' ≡ refs ++ at ∷ []) where
+    (content' : Content) (at : ℕ) (literals : List ℕ) (d : IsAdded content at literals content') (k : All (HasLiteral content) literals) (whole : IsWhole content') (refs' : List ℕ) (e : refs' ≡ refs ++ at ∷ []) where
   clauses_more : clauses_of content' ≡ clauses ++ literals ∷ []
   clauses_more = ap (λ (cs : List Clause). map (λ (c : Clause). c.literals) cs) d.clauses ∙ (map_push (λ (c : Clause). c.literals) content.clauses record { at = at; literals = literals; is_dropped = false } ∙ ap (λ (cs : List (List ℕ)). cs ++ literals ∷ []) b.clauses_are)
 
@@ -66,6 +67,7 @@ module _ (clauses : List (List ℕ)) (size : ℕ) (content : Content) (refs : Li
     literals = literals_then;
     justified = justified_then;
     covered = λ f. covered_then trail (λ x c. c) (b.covered f) n;
+    spare = λ f. spare_added content content' at literals d whole reasons trail (b.spare f);
     falsified = λ r f. old_conflict trail (λ x c. c) r (b.falsified r f);
   }
 
@@ -80,6 +82,7 @@ module _ (clauses : List (List ℕ)) (size : ℕ) (content : Content) (refs : Li
     literals = literals_then;
     justified = justified_then;
     covered = λ f. absurd cc;
+    spare = λ f. absurd cc;
     falsified = λ r f. let g : at ≡ r = cc in subst (IsConflict content' trail) g (d.clause, subst (AllFalse trail) (sym d.new_literals) n);
   }
 
@@ -120,6 +123,7 @@ module _ (clauses : List (List ℕ)) (size : ℕ) (content : Content) (refs : Li
           ];
         };
         covered = λ h. covered_then trail' more (b.covered h) (inr (i.0, l, i.1, i.2, rw g (Contains-push trail l)));
+        spare = λ h. spare_unit content content' at literals d whole reasons trail (b.spare h) l reasons' trail' f g;
         falsified = λ r h. old_conflict trail' more r (b.falsified r h);
       }
     where
@@ -136,14 +140,20 @@ first_in clause l e b = (0, b, sym e)
 pub all_false_one : (trail clause : List ℕ) (l m n : ℕ) → All (λ x. x ≡ l) clause → m ≡ l → n ≡ negated m → Contains trail n → AllFalse trail clause
 all_false_one trail clause l m n h e f c = All-weaker (λ x. x ≡ l) (IsFalse trail) (λ x z. subst (Contains trail) (f ∙ ap negated (e ∙ sym z)) c) clause h
 
+pub same_grows : (a : List ℕ) → All (Contains a) a
+same_grows a = All-contains_itself a
+
+pub push_grows : (a b : List ℕ) (l : ℕ) → b ≡ a ++ l ∷ [] → All (Contains b) a
+push_grows a b l e = rw e (All-weaker (Contains a) (Contains (a ++ l ∷ [])) (λ x c. Contains-append_left a (l ∷ []) x c) a (All-contains_itself a))
+
 -- what follows before any decision
 module _ (clauses : List (List ℕ)) (size : ℕ) (content : Content) (refs : List ℕ) (reasons : List (Option ℕ)) (trail : List ℕ) (b : IsBase clauses size content refs reasons trail None)
     (content' : Content) (reasons' : List (Option ℕ)) (trail' : List ℕ) (l : IsLater content trail reasons content' trail' reasons') where
   same_clauses : clauses_of content' ≡ clauses
   same_clauses = ap (λ (cs : List Clause). map (λ (c : Clause). c.literals) cs) l.clauses ∙ b.clauses_are
 
-  pub base_later : (conflict : Option ℕ) → ((at : ℕ) → conflict ≡ Some at → IsConflict content' trail' at) → IsBase clauses size content' refs reasons' trail' conflict
-  base_later conflict h = record {
+  pub base_later : (conflict : Option ℕ) → (conflict ≡ None → IsConsistent trail') → ((at : ℕ) → conflict ≡ Some at → IsConflict content' trail' at) → IsBase clauses size content' refs reasons' trail' conflict
+  base_later conflict p h = record {
     clauses_are = same_clauses;
     size_is = l.size ∙ b.size_is;
     numbered_by = b.numbered_by ∙ sym (ap (λ (cs : List Clause). map (λ (c : Clause). c.at) cs) l.clauses);
@@ -155,6 +165,7 @@ module _ (clauses : List (List ℕ)) (size : ℕ) (content : Content) (refs : Li
       | inl x ↦ inl x
       | inr t ↦ inr (any_grown trail trail' (literals_of content' r) (λ x p. Contains-part (length trail) trail' x (subst (λ (xs : List ℕ). Contains xs x) (sym l.prefix) p)) t)
     ];
+    spare = λ f. spare_later content content' reasons reasons' trail trail' l (p f) (b.spare refl);
     falsified = h;
   }
 
@@ -169,6 +180,7 @@ base_back level content reasons rb trail tb refs g r e f = rw (e, f) record {
   literals = (ground_back level content reasons trail g).literals;
   justified = subst (IsJustified content [] (take level.low reasons)) (sym g.base) g.justified;
   covered = λ _. subst (IsCovered content) (sym g.base) g.covered;
+  spare = λ _. subst (AreSpare content (take level.low reasons)) (sym g.base) g.spare;
   falsified = λ at z. absurd cc;
 }
 
@@ -194,6 +206,7 @@ base_here clauses size content refs reasons trail conflict b = record {
   literals = b.literals;
   justified = b.justified;
   covered = b.covered;
+  spare = b.spare;
   falsified = b.falsified;
 }
 

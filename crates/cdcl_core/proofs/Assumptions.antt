@@ -8,7 +8,7 @@ use Rattle.clause_model.specs.Clauses.{IsFalse, IsUnset, AllFalse}
 use Rattle.clause_model.proofs.LiteralLaws.{negated-negated}
 use Rattle.clause_model.proofs.Scans.{Contains-take}
 use Rattle.cdcl_core.specs.Assumed.{CanFalsify, IsAssumed}
-use Rattle.cdcl_core.proofs.Lists.{All-left, All-right, replicate_push}
+use Rattle.cdcl_core.proofs.Lists.{replicate_push}
 
 pub assumed_none : (r : List (Option ℕ)) (a : List ℕ) → IsAssumed [] r a r a
 assumed_none r a = record {

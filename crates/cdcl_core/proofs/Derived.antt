@@ -7,13 +7,13 @@ use Rattle.std.proofs.lemmas.Option.{slice_get_within}
 use Rattle.std.proofs.lemmas.List.Elements.{All-map, All-contains, All-weaker, All-contains_itself, Contains-append_right}
 use Rattle.clause_model.specs.Literals.{negated}
 use Rattle.clause_model.specs.Clauses.{IsFalse, IsConsistent}
-use Rattle.clause_model.specs.Propagation.{numbered}
 use Rattle.clause_model.proofs.Asserted.{AllFalse-grown}
 use Rattle.clause_model.proofs.LiteralLaws.{negated-negated}
 use Rattle.clause_model.proofs.Sound.{Contains-negated}
 use Rattle.clause_arena.specs.Contents.{Clause, Content, HasLiteral, IsWhole}
 use Rattle.unit_propagation.specs.Watching.{IsLater, Rule}
 use Rattle.cdcl_core.specs.Implied.{clauses_of, Level, level_of, IsConflict, IsGround, IsJustified, IsRefutable}
+use Rattle.cdcl_core.specs.Held.{AreNumbered}
 use Rattle.cdcl_core.specs.Assumed.{CanFalsify, IsAssumed}
 use Rattle.cdcl_core.specs.Hinted.{HasReasons, RefutesTidily, TidyPropagation}
 use Rattle.cdcl_core.proofs.Lists.{entry_append, entry_replicate, entry_take, grown_from_keeps}
@@ -46,10 +46,13 @@ either [] ys x q = inr q
 either (y ∷ xs) ys x (zero, b, f) = inl (0, omega arith, f)
 either (y ∷ xs) ys x (suc k, b, f) = elim (either xs ys x (k, omega arith, f)) [ inl q ↦ inl (suc q.0, omega (arith, q.1), q.2) | inr q ↦ inr q ]
 
-pub tidy_here : (content content' : Content) (givens added literals : List ℕ) (hints : List ℕ) → content'.clauses ≡ content.clauses → givens ≡ added → literals ≡ map negated givens → RefutesTidily (numbered (clauses_of content')) givens hints → TidyPropagation (numbered (clauses_of content)) literals hints
-tidy_here content content' givens added literals hints e f g r =
+pub tidy_here : (live : ℕ → Option (List ℕ)) (givens literals hints : List ℕ) → literals ≡ map negated givens → RefutesTidily live givens hints → TidyPropagation live literals hints
+tidy_here live givens literals hints g r =
     let n : map negated literals ≡ givens = ap (map negated) g ∙ negated_twice givens in
-    subst (λ (a : List ℕ). RefutesTidily (numbered (clauses_of content)) a hints) (sym n) (subst (λ (cs : List Clause). RefutesTidily (numbered (map (λ (c : Clause). c.literals) cs)) givens hints) e r)
+    subst (λ (a : List ℕ). RefutesTidily live a hints) (sym n) r
+
+pub numbered_there : (live : ℕ → Option (List ℕ)) (content content' : Content) (ids : List ℕ) → content'.clauses ≡ content.clauses → AreNumbered live (clauses_of content) ids → AreNumbered live (clauses_of content') ids
+numbered_there live content content' ids e a = subst (λ (cs : List Clause). AreNumbered live (map (λ (c : Clause). c.literals) cs) ids) (sym e) a
 
 module _ (content : Content) (low : ℕ) (reasons : List (Option ℕ)) (trail : List ℕ) (g : IsGround (level_of content trail low) content reasons trail) (clause : List ℕ) (f : CanFalsify (length content.chains) (take low trail) clause)
     (rb : List (Option ℕ)) (tb : List ℕ) (eb : tb ≡ take low trail) (er : rb ≡ take low reasons) (r1 : List (Option ℕ)) (t1 : List ℕ) (h : IsAssumed clause rb tb r1 t1) where

@@ -8,9 +8,9 @@ use Rattle.clause_model.specs.Clauses.{IsFalse, AllFalse}
 use Rattle.clause_model.proofs.Asserted.{AllFalse-grown}
 use Rattle.clause_model.proofs.LiteralLaws.{negated-negated}
 use Rattle.clause_arena.specs.Contents.{Clause, Content, HasLiteral}
-use Rattle.unit_propagation.specs.Watching.{IsKnown, IsLater, Rule, RuleUpTo, IsOtherTrue}
+use Rattle.unit_propagation.specs.Watching.{IsLater, Rule, RuleUpTo, IsOtherTrue}
 use Rattle.unit_propagation.proofs.Steps.{Contains-part, later_same, part_of_longer}
-use Rattle.cdcl_core.specs.Implied.{clauses_of, Level, IsGround, IsJustified, IsConflict, IsRefutable}
+use Rattle.cdcl_core.specs.Implied.{clauses_of, Level, IsGround, IsJustified, IsConflict}
 use Rattle.cdcl_core.specs.Assumed.{CanFalsify, IsAssumed, IsDenied}
 use Rattle.cdcl_core.proofs.Lists.{grown_from_keeps}
 use Rattle.cdcl_core.proofs.Grounds.{ground_back, ground_assumed, ground_later, justified_later, justified_assumed, justified_more}

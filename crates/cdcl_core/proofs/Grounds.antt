@@ -9,12 +9,12 @@ use Rattle.std.proofs.lemmas.Option.{slice_get_within}
 use Rattle.clause_model.specs.Literals.{negated}
 use Rattle.clause_model.specs.Clauses.{IsOpen, IsUnit}
 use Rattle.clause_model.specs.Asserting.{IsClosed}
-use Rattle.clause_arena.specs.Contents.{Clause, Content, HasClause, HasLiteral, IsWhole, literals_of, literals_in, clause_among, references_of}
+use Rattle.clause_arena.specs.Contents.{Clause, Content, HasClause, HasLiteral, IsWhole, literals_of, literals_in, clause_among, dropped_in, references_of}
 use Rattle.unit_propagation.specs.Watching.{IsWatched, IsReason, IsLater, Rule}
 use Rattle.unit_propagation.proofs.Steps.{reason_later, Contains-part, Contains-cases}
 use Rattle.unit_propagation.proofs.Walks.{known_later}
 use Rattle.unit_propagation.proofs.Opened.{opened}
-use Rattle.cdcl_core.specs.Implied.{clauses_of, IsJustified, IsCovered, IsGround, Level, level_of}
+use Rattle.cdcl_core.specs.Implied.{clauses_of, IsJustified, IsCovered, IsGround, Level, level_of, IsSpare, AreSpare}
 use Rattle.cdcl_core.specs.Assumed.{IsAssumed}
 use Rattle.cdcl_core.proofs.Lists.{nothing_in, entry_append, entry_replicate, entry_take}
 
@@ -75,6 +75,11 @@ reason_same earlier later a k r e h = record {
 pub justified_same : (earlier later : Content) (denied : List ℕ) (reasons : List (Option ℕ)) (trail : List ℕ) → later.clauses ≡ earlier.clauses → IsJustified earlier denied reasons trail → IsJustified later denied reasons trail
 justified_same earlier later denied reasons trail e j = record { aligned = j.aligned; because = λ k r f. reason_same earlier later trail k r e (j.because k r f); given = j.given }
 
+pub spare_same : (earlier later : Content) (reasons : List (Option ℕ)) (a : List ℕ) → later.clauses ≡ earlier.clauses → AreSpare earlier reasons a → AreSpare later reasons a
+spare_same earlier later reasons a e h at c f =
+    let w : IsSpare earlier reasons a at = h at (subst (λ (cs : List Clause). Contains (map (λ (x : Clause). x.at) cs) at) e c) (subst (λ (cs : List Clause). dropped_in (clause_among cs at) ≡ true) e f) in
+    (w.0, subst (λ (cs : List Clause). Any (Contains a) (literals_in (clause_among cs at))) (sym e) w.1)
+
 pub covered_later : (earlier later : Content) (base : List ℕ) → later.clauses ≡ earlier.clauses → ((at : ℕ) → IsWatched earlier at → IsWatched later at) → IsCovered earlier base → IsCovered later base
 covered_later earlier later base e w c at h = elim (c at (subst (λ (cs : List Clause). Contains (map (λ (x : Clause). x.at) cs) at) e h)) [
   | inl x ↦ inl (w at x)
@@ -99,6 +104,7 @@ module _ (level : Level) (content : Content) (reasons : List (Option ℕ)) (trai
     covered = g.covered;
     rule = g.rule;
     justified = subst (λ (r : List (Option ℕ)). IsJustified content [] r level.base) (sym (take_all level.low (take level.low reasons) (omega (arith, length-take {A = Option ℕ})))) g.justified;
+    spare = subst (λ (r : List (Option ℕ)). AreSpare content r level.base) (sym (take_all level.low (take level.low reasons) (omega (arith, length-take {A = Option ℕ})))) g.spare;
   }
 
   pub ground_assumed : (literals : List ℕ) (reasons' : List (Option ℕ)) (trail' : List ℕ) → IsAssumed literals reasons trail reasons' trail' → All (HasLiteral content) trail' → IsGround level content reasons' trail'
@@ -121,6 +127,10 @@ module _ (level : Level) (content : Content) (reasons : List (Option ℕ)) (trai
             let b : level.low ≤ length reasons = omega (arith, g.within, g.aligned) in
             let t : take level.low reasons' ≡ take level.low reasons = ap (λ (xs : List (Option ℕ)). take level.low xs) h.unexplained ∙ take-append-le level.low reasons (replicate (length h.added) None) b in
             subst (λ (r : List (Option ℕ)). IsJustified content [] r level.base) (sym t) g.justified;
+        spare =
+            let b : level.low ≤ length reasons = omega (arith, g.within, g.aligned) in
+            let t : take level.low reasons' ≡ take level.low reasons = ap (λ (xs : List (Option ℕ)). take level.low xs) h.unexplained ∙ take-append-le level.low reasons (replicate (length h.added) None) b in
+            subst (λ (r : List (Option ℕ)). AreSpare content r level.base) (sym t) g.spare;
       }
 
   pub ground_later : (content' : Content) (reasons' : List (Option ℕ)) (trail' : List ℕ) → IsLater content trail reasons content' trail' reasons' → IsGround level content' reasons' trail'
@@ -140,6 +150,7 @@ module _ (level : Level) (content : Content) (reasons : List (Option ℕ)) (trai
         covered = covered_later content content' level.base l.clauses l.watched g.covered;
         rule = subst (Rule content') base' (l.kept level.low g.within (subst (Rule content) (sym g.base) g.rule));
         justified = subst (λ (r : List (Option ℕ)). IsJustified content' [] r level.base) (sym t) (justified_same content content' [] (take level.low reasons) level.base l.clauses g.justified);
+        spare = subst (λ (r : List (Option ℕ)). AreSpare content' r level.base) (sym t) (spare_same content content' (take level.low reasons) level.base l.clauses g.spare);
       }
 
   pub ground_closed : IsWhole content → Rule content trail → IsClosed level.clauses trail

@@ -1,38 +1,39 @@
 -- From a false clause back to what was given.
-use Rattle.std.proofs.Common.{◌≡◌, ◌≢◌, ℕ, ◌+◌, ◌-◌, ◌<◌, ◌≤◌, ◌⊎◌, List, [], ◌∷◌, ◌++◌, length, get_or, take, map, refl, sym, ◌∙◌, ap, inl, inr, arith, Option, Some, None, subst, false, zero, suc, nat_eq, pos, ℤ}
+use Rattle.std.proofs.Common.{◌≡◌, ◌≢◌, ℕ, ◌+◌, ◌<◌, ◌≤◌, ◌⊎◌, List, [], ◌∷◌, ◌++◌, length, get_or, take, map, refl, sym, ◌∙◌, ap, inl, inr, arith, Option, Some, None, subst, false, zero, suc, pos, ℤ}
 use Rattle.std.specs.Prelude.{All, AllPairs, Contains, slice_get, insert}
 use Rattle.std.proofs.lemmas.Bool.{cases_eq}
 use Rattle.std.proofs.lemmas.Bool.Decides.{nat_tests}
 use Rattle.std.proofs.lemmas.List.{take_more, get_or_default, length-map, get_or-map}
-use Rattle.std.proofs.lemmas.Option.{slice_get_within, slice_get-get_or, get_or_from_slice_get}
+use Rattle.std.proofs.lemmas.Option.{slice_get_within, get_or_from_slice_get}
 use Rattle.std.proofs.lemmas.List.Elements.{All-push, All-cons, All-nil, All-contains, All-weaker, All-map, All-contains_itself, Contains-append_left, Contains-append_right, Contains-push, Contains-get_or}
 use Rattle.clause_model.specs.Literals.{negated, HasDistinctVariables}
 use Rattle.clause_model.specs.Clauses.{IsFalse, IsUnit, IsConsistent}
-use Rattle.clause_model.specs.Propagation.{numbered}
 use Rattle.clause_model.proofs.LiteralLaws.{variables_differ, variable_of-negated}
 use Rattle.clause_model.proofs.Scans.{Contains-take}
 use Rattle.clause_arena.specs.Contents.{Clause, Content, IsWhole, literals_of, literals_in, references_of}
 use Rattle.unit_propagation.specs.Watching.{IsReason}
 use Rattle.cdcl_core.specs.Implied.{clauses_of}
+use Rattle.cdcl_core.specs.Held.{AreNumbered}
 use Rattle.cdcl_core.specs.Analysed.{Sees}
 use Rattle.cdcl_core.specs.Hinted.{HasReasons, IsUsed, RefutesTidily}
 use Rattle.cdcl_core.proofs.Grounds.{found_at}
 use Rattle.cdcl_core.proofs.Lists.{place_in, nothing_in}
 
--- the number of a clause is its place among the references, from 1
-pub numbered_at : (content : Content) (whole : IsWhole content) (refs : List ℕ) (k r : ℕ) → refs ≡ references_of content → slice_get refs k ≡ Some r → numbered (clauses_of content) (k + 1) ≡ Some (literals_of content r)
-numbered_at content whole refs k r e f =
+-- the clause at a place is that under the reference there
+pub held_at : (content : Content) → IsWhole content → (k r : ℕ) → slice_get (references_of content) k ≡ Some r → (k < length (clauses_of content)) × (get_or (clauses_of content) k [] ≡ literals_of content r)
+held_at content whole k r g =
     let cs : List Clause = content.clauses in
     let none : Clause = record { at = 0; literals = []; is_dropped = false } in
-    let g : slice_get (references_of content) k ≡ Some r = subst (λ (xs : List ℕ). slice_get xs k ≡ Some r) e f in
     let m : k < length (references_of content) = slice_get_within (references_of content) k r g in
     let b : k < length cs = omega (arith, length-map cs (λ (c : Clause). c.at)) in
     let is : (get_or cs k none).at ≡ r = sym (get_or-map (λ (c : Clause). c.at) cs k none r b) ∙ get_or_from_slice_get (references_of content) k r r g in
     let l : literals_of content r ≡ (get_or cs k none).literals = ap (λ (x : ℕ). literals_of content x) (sym is) ∙ ap literals_in (found_at cs k none whole.apart b) in
-    let n : k < length (clauses_of content) = omega (arith, length-map cs (λ (c : Clause). c.literals)) in
-    let z : nat_eq (k + 1) 0 ≡ false = grind (arith, nat_tests) in
-    let j : k + 1 - 1 ≡ k = omega arith in
-    rw (z, j) (slice_get-get_or (clauses_of content) k [] n ∙ ap (λ (x : List ℕ). Some x) (get_or-map (λ (c : Clause). c.literals) cs k none [] b ∙ sym l))
+    (omega (arith, b, length-map cs (λ (c : Clause). c.literals)), get_or-map (λ (c : Clause). c.literals) cs k none [] b ∙ sym l)
+
+pub named_at : (live : ℕ → Option (List ℕ)) (content : Content) → IsWhole content → (refs ids : List ℕ) (k r : ℕ) → AreNumbered live (clauses_of content) ids → refs ≡ references_of content → slice_get refs k ≡ Some r → live (get_or ids k 0) ≡ Some (literals_of content r)
+named_at live content whole refs ids k r a e f =
+    let w = held_at content whole k r (subst (λ (xs : List ℕ). slice_get xs k ≡ Some r) e f) in
+    a k w.0 ∙ ap (λ (x : List ℕ). Some x) w.1
 
 -- the literal stands in the trail from `at` on
 abbrev pub Pending : List ℕ → ℕ → ℕ → Type 0
@@ -61,10 +62,7 @@ only_place trail d n q t b c e f =
     let j : p.0 < q = omega (arith, p.1) in
     d p.0 q 0 j c (p.3 ∙ sym e)
 
-module _ (content : Content) (reasons : List (Option ℕ)) (trail givens : List ℕ) (conflict : ℕ) (h : HasReasons content reasons trail givens conflict) (consistent : IsConsistent trail) (distinct : AllPairs (λ l m. l ≢ m) trail) where
-  abbrev live : ℕ → Option (List ℕ)
-  live = numbered (clauses_of content)
-
+module _ (live : ℕ → Option (List ℕ)) (content : Content) (reasons : List (Option ℕ)) (trail givens : List ℕ) (conflict : ℕ) (h : HasReasons content reasons trail givens conflict) (consistent : IsConsistent trail) (distinct : AllPairs (λ l m. l ≢ m) trail) where
   -- each literal of a false clause makes its contrary seen
   pub Certified-begun : (seen : List ℕ) (number : ℕ) → Sees trail (literals_of content conflict) [] seen → live number ≡ Some (literals_of content conflict) → Certified live trail givens (length trail) seen (number ∷ [])
   Certified-begun seen number s e =
@@ -236,6 +234,12 @@ pub record Noted (live : ℕ → Option (List ℕ)) (trail givens : List ℕ) (a
   pub numbers : List ℕ
   pub same : hints ≡ map pos numbers
   pub certified : Certified live trail givens at seen numbers
+
+-- whatever the clauses are under whose numbers those of the arena are live
+pub record Noting (held : List (List ℕ)) (ids trail givens : List ℕ) (at : ℕ) (seen : List ℕ) (hints : List ℤ) : Type 0 where
+  pub within : at ≤ length trail
+  pub part : All (Contains trail) seen
+  pub noted : (live : ℕ → Option (List ℕ)) → AreNumbered live held ids → Noted live trail givens at seen hints
 
 pub insert_front : {X : Type 0} (x : X) (xs : List X) → insert xs 0 x ≡ x ∷ xs
 insert_front x [] = refl

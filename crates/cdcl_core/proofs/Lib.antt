@@ -10,6 +10,10 @@ pub mod Hints
 pub mod Places
 pub mod Derived
 pub mod Learned
+pub mod Covered
+pub mod Spare
+pub mod Sparing
+pub mod Moved
 pub mod Adopted
 pub mod Searches
 pub mod Statements

@@ -10,19 +10,24 @@ use Rattle.lrat_check.specs.declared.line.Line.{Line}
 use Rattle.lrat_check.specs.declared.line.Line.TheVariants.{Addition as Adding}
 use Rattle.lrat_check.specs.declared.line.Addition.{Addition}
 use Rattle.cdcl_core.specs.Implied.{clauses_of}
+use Rattle.cdcl_core.specs.Held.{Covers}
 use Rattle.cdcl_core.specs.Searched.{IsBase, IsModelOf, Adds}
 use Rattle.cdcl_core.specs.Solved.{literals_in, with_log, Teaches, IsLog, IsRefutation}
 use Rattle.cdcl_core.proofs.Lists.{All-left}
+use Rattle.cdcl_core.proofs.Covered.{covers_more}
 
 -- what holds after so many lines
-pub record Running (formula : List (List ℕ)) (size : ℕ) (content : Content) (refs : List ℕ) (reasons : List (Option ℕ)) (trail : List ℕ) (conflict : Option ℕ) (log : List Line) (round : ℕ) : Type 0 where
-  pub base : IsBase (with_log formula log) size content refs reasons trail conflict
+pub record Running (formula : List (List ℕ)) (size : ℕ) (content : Content) (refs ids : List ℕ) (reasons : List (Option ℕ)) (trail : List ℕ) (conflict : Option ℕ) (log : List Line) (round : ℕ) : Type 0 where
+  pub base : IsBase (clauses_of content) size content refs reasons trail conflict
+  pub covers : Covers (with_log formula log) (clauses_of content) ids trail
   pub each : IsLog formula log
   pub count : length log ≡ round
 
-pub running_begun : (formula : List (List ℕ)) (size : ℕ) (content : Content) (refs : List ℕ) (reasons : List (Option ℕ)) (trail : List ℕ) (conflict : Option ℕ) (log : List Line) → IsBase formula size content refs reasons trail conflict → log ≡ [] → Running formula size content refs reasons trail conflict log 0
-running_begun formula size content refs reasons trail conflict log b e = rw e record {
-  base = subst (λ (cs : List (List ℕ)). IsBase cs size content refs reasons trail conflict) (sym (append-nil formula)) b;
+pub running_begun : (formula : List (List ℕ)) (size : ℕ) (content : Content) (refs ids : List ℕ) (reasons : List (Option ℕ)) (trail : List ℕ) (conflict : Option ℕ) (log : List Line)
+    → IsBase (clauses_of content) size content refs reasons trail conflict → Covers formula (clauses_of content) ids trail → log ≡ [] → Running formula size content refs ids reasons trail conflict log 0
+running_begun formula size content refs ids reasons trail conflict log b v e = rw e record {
+  base = b;
+  covers = subst (λ (cs : List (List ℕ)). Covers cs (clauses_of content) ids trail) (sym (append-nil formula)) v;
   each = λ k d c. absurd (omega (arith, c));
   count = refl;
 }
@@ -44,27 +49,40 @@ log_more formula log line h t k d b = elim (cases_lt k (length log)) [
       rw (p, q) t
 ]
 
-module _ (formula : List (List ℕ)) (size : ℕ) (content : Content) (refs : List ℕ) (reasons : List (Option ℕ)) (trail : List ℕ) (conflict : Option ℕ) (log : List Line) (round : ℕ) (h : Running formula size content refs reasons trail conflict log round) where
+-- there are as many numbers as references
+pub ids_aligned : (clauses : List (List ℕ)) (size : ℕ) (content : Content) (refs ids : List ℕ) (reasons : List (Option ℕ)) (trail base : List ℕ) (conflict : Option ℕ) → IsBase (clauses_of content) size content refs reasons trail conflict → Covers clauses (clauses_of content) ids base → length ids ≡ length refs
+ids_aligned clauses size content refs ids reasons trail base conflict b v = v.aligned ∙ (length-map content.clauses (λ (c : Clause). c.literals) ∙ (sym (length-map content.clauses (λ (c : Clause). c.at)) ∙ sym (ap length b.numbered_by)))
+
+module _ (formula : List (List ℕ)) (size : ℕ) (content : Content) (refs ids : List ℕ) (reasons : List (Option ℕ)) (trail : List ℕ) (conflict : Option ℕ) (log : List Line) (round : ℕ) (h : Running formula size content refs ids reasons trail conflict log round) where
+  pub running_aligned : length ids ≡ length refs
+  running_aligned = ids_aligned (with_log formula log) size content refs ids reasons trail trail conflict h.base h.covers
+
   -- how many clauses there are
-  pub clause_count : length (clauses_of content) ≡ length formula + round
-  clause_count = ap length h.base.clauses_are ∙ (length-append formula (map literals_in log) ∙ ap (λ (n : ℕ). length formula + n) (length-map log literals_in ∙ h.count))
+  pub clause_count : length (with_log formula log) ≡ length formula + round
+  clause_count = length-append formula (map literals_in log) ∙ ap (λ (n : ℕ). length formula + n) (length-map log literals_in ∙ h.count)
 
-  pub reference_count : length refs ≡ length formula + round
-  reference_count = ap length h.base.numbered_by ∙ (length-map content.clauses (λ (c : Clause). c.at) ∙ (sym (length-map content.clauses (λ (c : Clause). c.literals)) ∙ clause_count))
+  pub next_id : (id : ℕ) → id ≡ length formula + round + 1 → id ≡ length (with_log formula log) + 1
+  next_id id e = e ∙ ap (λ (n : ℕ). n + 1) (sym clause_count)
 
-  pub formula_holds : (a : List ℕ) → IsModelOf (clauses_of content) a → All (λ clause. Any (Contains a) clause) formula
-  formula_holds a m = All-left (λ clause. Any (Contains a) clause) formula (map literals_in log) (subst (λ (cs : List (List ℕ)). All (λ clause. Any (Contains a) clause) cs) h.base.clauses_are m.holds)
+  pub formula_holds : (a : List ℕ) → IsModelOf (with_log formula log) a → All (λ clause. Any (Contains a) clause) formula
+  formula_holds a m = All-left (λ clause. Any (Contains a) clause) formula (map literals_in log) m.holds
 
-  pub refuted : (line : Addition) (log' : List Line) → log' ≡ log ++ Adding line ∷ [] → Adds (clauses_of content) line × (line.literals.items ≡ []) → IsRefutation formula log'
-  refuted line log' e r = (log, Adding line, e, h.each, (subst (λ (cs : List (List ℕ)). Adds cs line) h.base.clauses_are r.0, r.1))
+  pub refuted : (line : Addition) (log' : List Line) → log' ≡ log ++ Adding line ∷ [] → Adds (with_log formula log) line × (line.literals.items ≡ []) → IsRefutation formula log'
+  refuted line log' e r = (log, Adding line, e, h.each, r)
 
-  pub running_more : (line : Addition) (literals : List ℕ) (log' : List Line) (content' : Content) (refs' : List ℕ) (reasons' : List (Option ℕ)) (trail' : List ℕ) (conflict' : Option ℕ) → log' ≡ log ++ Adding line ∷ [] → literals ≡ line.literals.items
-      → Adds (clauses_of content) line × IsAsserting (clauses_of content) line.literals.items → (later : Content) (size' : ℕ) → clauses_of later ≡ clauses_of content → size' ≡ size → IsBase (clauses_of later ++ literals ∷ []) size' content' refs' reasons' trail' conflict' → Running formula size content' refs' reasons' trail' conflict' log' (round + 1)
-  running_more line literals log' content' refs' reasons' trail' conflict' e f t later size' g i b = rw e record {
-    base =
-        let p : clauses_of later ++ literals ∷ [] ≡ with_log formula (log ++ Adding line ∷ []) = ap (λ (cs : List (List ℕ)). cs ++ literals ∷ []) (g ∙ h.base.clauses_are) ∙ (ap (λ (ls : List ℕ). with_log formula log ++ ls ∷ []) f ∙ sym (with_more formula log (Adding line))) in
-        subst (λ (cs : List (List ℕ)). IsBase cs size content' refs' reasons' trail' conflict') p (subst (λ (n : ℕ). IsBase (clauses_of later ++ literals ∷ []) n content' refs' reasons' trail' conflict') i b);
-    each = log_more formula log (Adding line) h.each (subst (λ (cs : List (List ℕ)). Adds cs line) h.base.clauses_are t.0, subst (λ (cs : List (List ℕ)). IsAsserting cs line.literals.items) h.base.clauses_are t.1);
+  pub running_more : (line : Addition) (literals : List ℕ) (log' : List Line) (id : ℕ) → log' ≡ log ++ Adding line ∷ [] → literals ≡ line.literals.items → id ≡ length formula + round + 1
+      → Adds (with_log formula log) line × IsAsserting (with_log formula log) line.literals.items
+      → (held : List (List ℕ)) (names base : List ℕ) → Covers (with_log formula log) held names base
+      → (size' : ℕ) (content' : Content) (refs' ids' : List ℕ) (reasons' : List (Option ℕ)) (trail' : List ℕ) (conflict' : Option ℕ) → size' ≡ size → ids' ≡ names ++ id ∷ [] → All (Contains trail') base
+      → IsBase (held ++ literals ∷ []) size' content' refs' reasons' trail' conflict' → Running formula size content' refs' ids' reasons' trail' conflict' log' (round + 1)
+  running_more line literals log' id e f n t held names base v size' content' refs' ids' reasons' trail' conflict' g i w b = rw e record {
+    base = subst (λ (cs : List (List ℕ)). IsBase cs size content' refs' reasons' trail' conflict') (sym b.clauses_are) (subst (λ (k : ℕ). IsBase (held ++ literals ∷ []) k content' refs' reasons' trail' conflict') g b);
+    covers =
+        let p : with_log formula log ++ literals ∷ [] ≡ with_log formula (log ++ Adding line ∷ []) = ap (λ (ls : List ℕ). with_log formula log ++ ls ∷ []) f ∙ sym (with_more formula log (Adding line)) in
+        subst (λ (cs : List (List ℕ)). Covers (with_log formula (log ++ Adding line ∷ [])) cs ids' trail') (sym b.clauses_are)
+        (subst (λ (ns : List ℕ). Covers (with_log formula (log ++ Adding line ∷ [])) (held ++ literals ∷ []) ns trail') (sym i)
+        (subst (λ (cs : List (List ℕ)). Covers cs (held ++ literals ∷ []) (names ++ id ∷ []) trail') p (covers_more (with_log formula log) held names base v trail' w literals id (next_id id n))));
+    each = log_more formula log (Adding line) h.each t;
     count = omega (arith, h.count, length-append log (Adding line ∷ []));
   }
 

@@ -1,28 +1,31 @@
 -- Decisions, and what they lead to.
-use Rattle.std.proofs.Common.{◌≡◌, ◌≢◌, ℕ, ◌+◌, ◌*◌, ◌<◌, ◌≤◌, List, [], ◌∷◌, ◌++◌, length, length-append, get_or, take, map, refl, sym, ◌∙◌, ap, inl, inr, arith, Option, Some, None, subst, pos}
+use Rattle.std.proofs.Common.{◌≡◌, ◌≢◌, ℕ, ◌+◌, ◌*◌, ◌<◌, ◌≤◌, List, [], ◌∷◌, ◌++◌, length, length-append, get_or, take, map, refl, sym, ◌∙◌, ap, inl, inr, arith, Option, Some, None, subst}
 use Rattle.std.specs.Prelude.{All, AllPairs, Any, Contains}
 use Rattle.std.proofs.lemmas.Bool.{cases_eq}
 use Rattle.std.proofs.lemmas.Bool.Decides.{nat_tests}
 use Rattle.std.proofs.lemmas.List.{length-map, get_or-map, take_all, take_at, take-take}
-use Rattle.std.proofs.lemmas.List.Elements.{All-nil, All-cons, All-map, All-push, All-weaker, All-contains_itself, Contains-push, Contains-append_left, Contains-append_right, Contains-get_or}
+use Rattle.std.proofs.lemmas.List.Elements.{All-nil, All-cons, All-map, All-push, All-weaker, All-contains, All-contains_itself, Contains-push, Contains-append_left, Contains-append_right, Contains-get_or}
 use Rattle.clause_model.specs.Literals.{negated, variable_of}
 use Rattle.clause_model.specs.Clauses.{IsFalse, IsUnset, IsOpen, IsConsistent}
 use Rattle.clause_model.specs.Asserting.{IsClosed}
-use Rattle.clause_model.specs.Propagation.{numbered}
 use Rattle.clause_model.proofs.LiteralLaws.{negated-negated, variables_differ}
 use Rattle.clause_model.proofs.Marks.{Consistent-push, Distinct-push}
 use Rattle.clause_arena.specs.Contents.{Clause, Content, HasClause, HasLiteral, IsWhole, literals_of, literals_in, references_of}
 use Rattle.unit_propagation.specs.Watching.{IsLater, IsOtherTrue, Rule, RuleUpTo}
 use Rattle.unit_propagation.proofs.Heads.{length_below}
-use Rattle.lrat_check.specs.declared.line.Addition.{Addition}
+use Rattle.cdcl_core.specs.declared.search.Ending.{Ending}
+use Rattle.cdcl_core.specs.declared.search.Ending.TheVariants.{Model, Refuted, Taught}
 use Rattle.cdcl_core.specs.Implied.{clauses_of, IsConflict, IsJustified, IsCovered, IsGround, Level, level_of}
 use Rattle.cdcl_core.specs.Assumed.{IsAssumed}
 use Rattle.cdcl_core.specs.Analysed.{AtConflict}
 use Rattle.cdcl_core.specs.Hinted.{HasReasons, RefutesTidily, TidyPropagation}
-use Rattle.cdcl_core.specs.Searched.{IsBase, IsModelOf, Adds}
+use Rattle.cdcl_core.specs.Held.{Covers}
+use Rattle.cdcl_core.specs.Searched.{IsBase, IsModelOf, EndsOver, GoesOn}
 use Rattle.cdcl_core.proofs.Lists.{nothing_in}
 use Rattle.cdcl_core.proofs.Grounds.{found_at, ground_assumed, ground_later, ground_closed, justified_assumed, justified_later, justified_more}
 use Rattle.cdcl_core.proofs.Refuted.{ground_forces}
+use Rattle.cdcl_core.proofs.Assumptions.{part_in}
+use Rattle.cdcl_core.proofs.Covered.{covers_grown}
 
 -- literals of distinct variables are as many as these at most
 pub count_variables : (variables : ℕ) (trail : List ℕ) → IsConsistent trail → AllPairs (λ l m. l ≢ m) trail → All (λ l. l < 2 * variables) trail → length trail ≤ variables
@@ -86,6 +89,7 @@ deciding_begun clauses size content refs reasons trail low b rule e =
         covered = subst (IsCovered content) (sym t) (b.covered refl);
         rule = subst (Rule content) (sym t) rule;
         justified = rw (t, r) b.justified;
+        spare = rw (t, r) (b.spare refl);
       };
       rule = rule;
       denied = [];
@@ -186,13 +190,33 @@ base_reasons clauses size content refs reasons trail at b = record {
 pub tidy_empty : (live : ℕ → Option (List ℕ)) (literals hints : List ℕ) → literals ≡ [] → RefutesTidily live [] hints → TidyPropagation live literals hints
 tidy_empty live literals hints e r = rw e r
 
-pub adds_line : (clauses clauses' : List (List ℕ)) (line : Addition) (id : ℕ) → line.id ≡ id → id ≡ length clauses + 1 → clauses' ≡ clauses → ((hints : List ℕ) × (line.hints.items ≡ map pos hints) × TidyPropagation (numbered clauses') line.literals.items hints) → Adds clauses line
-adds_line clauses clauses' line id e f g w = record {
-  id = e ∙ f;
-  hints = w.0;
-  hints_are = w.1;
-  tidy = subst (λ (cs : List (List ℕ)). TidyPropagation (numbered cs) line.literals.items w.0) g w.2;
-}
+-- what holds over other held clauses, and where more is true before any decision
+pub ends_onto : (held held' : List (List ℕ)) (ids base base' : List ℕ) (id : ℕ) (a : List ℕ) (ending : Ending) → held' ≡ held → All (Contains base') base → EndsOver held' ids base' id a ending → EndsOver held ids base id a ending
+ends_onto held held' ids base base' id a ending e w r clauses v f = r clauses (subst (λ (h : List (List ℕ)). Covers clauses h ids base') (sym e) (covers_grown clauses held ids base v base' w)) f
+
+pub goes_onto : (held held' : List (List ℕ)) (size size' : ℕ) (content : Content) (refs : List ℕ) (reasons : List (Option ℕ)) (base base' a : List ℕ) (ending : Ending) → held' ≡ held → size' ≡ size → All (Contains base') base
+    → GoesOn held' size' content refs reasons base' a ending → GoesOn held size content refs reasons base a ending
+goes_onto held held' size size' content refs reasons base base' a Model e f w r = r
+goes_onto held held' size size' content refs reasons base base' a (Refuted line) e f w r = r
+goes_onto held held' size size' content refs reasons base base' a (Taught line) e f w r = (
+  subst (λ (h : List (List ℕ)). IsBase h size content refs reasons a None) e (subst (λ (n : ℕ). IsBase held' n content refs reasons a None) f r.0),
+  All-weaker (Contains base') (Contains a) (λ x c. All-contains (Contains a) base' x r.1 c) base w,
+  r.2,
+)
+
+-- the trail begins with what was true before any decision
+module _ (content : Content) (a : List ℕ) (low : ℕ) (e : low ≡ length a) where
+  base_is : take low a ≡ a
+  base_is = take_all low a (omega (arith, e))
+
+  pub ground_grows : (content' : Content) (reasons : List (Option ℕ)) (trail : List ℕ) → IsGround (level_of content a low) content' reasons trail → All (Contains trail) a
+  ground_grows content' reasons trail g = subst (All (Contains trail)) (g.base ∙ base_is) (part_in low trail)
+
+  pub back_grows : (content' : Content) (reasons : List (Option ℕ)) (trail tb : List ℕ) → IsGround (level_of content a low) content' reasons trail → tb ≡ take low trail → All (Contains tb) a
+  back_grows content' reasons trail tb g f = subst (λ (xs : List ℕ). All (Contains xs) a) (sym (f ∙ (g.base ∙ base_is))) (All-contains_itself a)
+
+  pub base_forced : (content' : Content) (reasons : List (Option ℕ)) (trail : List ℕ) → IsGround (level_of content a low) content' reasons trail → (b : List ℕ) → IsConsistent b → IsClosed (clauses_of content) b → All (Contains b) a
+  base_forced content' reasons trail g b p o = subst (All (Contains b)) base_is (ground_forces (level_of content a low) content' reasons trail g b p o)
 
 pub bounded_by : (level : Level) (content : Content) (reasons : List (Option ℕ)) (trail : List ℕ) (bound : ℕ) → IsGround level content reasons trail → level.size ≡ bound → All (λ l. l < bound) trail
 bounded_by level content reasons trail bound g e = All-weaker (HasLiteral content) (λ l. l < bound) (λ l b. omega (arith, b, e, g.size)) trail g.literals

@@ -5,7 +5,7 @@ use Rattle.std.proofs.lemmas.Bool.{cases_eq, cases_lt}
 use Rattle.std.proofs.lemmas.Int.{ints}
 use Rattle.std.specs.Int.{w32}
 use Rattle.std.proofs.lemmas.Bool.Decides.{nat_tests}
-use Rattle.std.proofs.lemmas.List.{take_more, map_push, length-replicate, length-map, get_or-map, get_or_push, get_or_append_left}
+use Rattle.std.proofs.lemmas.List.{take_more, map_push, length-take, length-replicate, length-map, get_or-map, get_or_push, get_or_append_left}
 use Rattle.std.proofs.lemmas.List.Elements.{All-nil, All-cons, All-head, All-tail, All-push, All-weaker, All-contains}
 use Rattle.std.proofs.lemmas.Option.{get_or_from_slice_get, slice_get_within}
 use Rattle.clause_model.specs.Literals.{negated, code_of, codes_of, literal_value}
@@ -14,9 +14,11 @@ use Rattle.clause_arena.specs.Contents.{Content, HasLiteral}
 use Rattle.cnf_gates.specs.Cnf.{IsLiteral}
 use Rattle.cnf_gates.specs.Meaning.{number_value, clause_value, all_true, assigned}
 use Rattle.cdcl_core.specs.Implied.{clauses_of}
+use Rattle.cdcl_core.specs.Held.{Covers}
 use Rattle.cdcl_core.specs.Searched.{IsBase}
 use Rattle.cdcl_core.specs.Solved.{AreBelow}
 use Rattle.cdcl_core.proofs.Lists.{nothing_in, All-left, All-right}
+use Rattle.cdcl_core.proofs.Covered.{covers_more}
 
 -- the clause that has a number, from 1
 pub clause_is : {X : Type 0} (xs : List X) (i : ℕ) (x : X) → slice_get xs (i + 1 - 1) ≡ Some x → (i < length xs) × (x ≡ get_or xs i x)
@@ -96,6 +98,7 @@ base_begun variables content refs reasons trail e f g h = rw (e, f, g, h) record
   literals = All-nil (λ l. l < length (replicate {A = List (ℕ × ℕ)} (2 * variables) []));
   justified = record { aligned = refl; because = λ k r z. absurd cc; given = λ k z. absurd cc };
   covered = λ _ at c. absurd (nothing_in at c);
+  spare = λ _ at c. absurd (nothing_in at c);
   falsified = λ at z. absurd cc;
 }
   where
@@ -215,6 +218,14 @@ pub loaded : (clauses : List (List ℤ)) (i : ℕ) (x : List ℤ) (literals show
 loaded clauses i x literals shown size content content' refs refs' reasons reasons' trail trail' conflict conflict' e f g b d =
     base_onto (codes_of (take (i + 1) clauses)) (clauses_of content ++ shown ∷ []) size (length content.chains) content' refs' reasons' trail' conflict'
     (ap (λ (cs : List (List ℕ)). cs ++ shown ∷ []) b.clauses_are ∙ (ap (λ (ls : List ℕ). codes_of (take i clauses) ++ ls ∷ []) (f ∙ g) ∙ sym (codes_next clauses i x e))) b.size_is d
+
+-- and its number is the next one
+pub loaded_covers : (clauses : List (List ℤ)) (i : ℕ) (x : List ℤ) (id : ℕ) (ids ids' trail trail' : List ℕ) → slice_get clauses (i + 1 - 1) ≡ Some x → id ≡ i + 1 → ids' ≡ ids ++ id ∷ [] → All (Contains trail') trail
+    → Covers (codes_of (take i clauses)) (codes_of (take i clauses)) ids trail → Covers (codes_of (take (i + 1) clauses)) (codes_of (take (i + 1) clauses)) ids' trail'
+loaded_covers clauses i x id ids ids' trail trail' e f g w v =
+    let b : i < length clauses = (clause_is clauses i x e).0 in
+    let n : length (codes_of (take i clauses)) ≡ i = omega (arith, b, length-map (take i clauses) (map code_of), length-take {A = List ℤ}) in
+    rw (codes_next clauses i x e, g) (covers_more (codes_of (take i clauses)) (codes_of (take i clauses)) ids trail v trail' w (map code_of x) id (omega (arith, f, n)))
 
 pub loads_known : (clauses : List (List ℤ)) (i : ℕ) (x : List ℤ) (literals shown : List ℕ) (size : ℕ) (content : Content) → slice_get clauses (i + 1 - 1) ≡ Some x → shown ≡ literals → literals ≡ map code_of x → length content.chains ≡ size → All (λ clause. All (λ l. l < size) clause) (codes_of clauses) → All (HasLiteral content) shown
 loads_known clauses i x literals shown size content e f g n h = subst (All (HasLiteral content)) (sym (f ∙ g)) (All-weaker (λ l. l < size) (HasLiteral content) (λ l b. omega (arith, b, n)) (map code_of x) (codes_at (λ clause. All (λ l. l < size) clause) clauses i x e h))

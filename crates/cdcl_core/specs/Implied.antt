@@ -1,9 +1,9 @@
 -- What follows from the clauses of an arena by propagation.
-use Rattle.std.specs.Prelude.{ℕ, ◌≡◌, ◌≤◌, ◌⊎◌, List, [], All, Any, Contains, Option, Some, None, slice_get, get_or, length, take, map}
+use Rattle.std.specs.Prelude.{ℕ, ◌≡◌, ◌≤◌, ◌⊎◌, true, List, [], All, Any, Contains, Option, Some, None, slice_get, get_or, length, take, map}
 use Rattle.clause_model.specs.Literals.{negated}
 use Rattle.clause_model.specs.Clauses.{IsConsistent, AllFalse}
 use Rattle.clause_model.specs.Asserting.{IsClosed}
-use Rattle.clause_arena.specs.Contents.{Clause, Content, HasClause, HasLiteral, literals_of, references_of}
+use Rattle.clause_arena.specs.Contents.{Clause, Content, HasClause, HasLiteral, literals_of, is_dropped_of, references_of}
 use Rattle.unit_propagation.specs.Watching.{IsAttached, IsKnown, IsWatched, IsReason, Rule}
 
 -- the clauses of an arena, in order
@@ -33,6 +33,18 @@ pub record IsJustified (content : Content) (denied : List ℕ) (reasons : List (
 abbrev pub IsCovered : Content → List ℕ → Type 0
 IsCovered content a = (at : ℕ) → HasClause content at → IsWatched content at ⊎ Any (Contains a) (literals_of content at)
 
+-- no literal became true by the clause
+abbrev pub IsNoReason : List (Option ℕ) → ℕ → Type 0
+IsNoReason reasons at = (k : ℕ) → slice_get reasons k ≡ Some (Some at) → ⊥
+
+-- the clause has a true literal, and none became true by it
+abbrev pub IsSpare : Content → List (Option ℕ) → List ℕ → ℕ → Type 0
+IsSpare content reasons a at = IsNoReason reasons at × Any (Contains a) (literals_of content at)
+
+-- each clause that is dropped is spare
+abbrev pub AreSpare : Content → List (Option ℕ) → List ℕ → Type 0
+AreSpare content reasons a = (at : ℕ) → HasClause content at → is_dropped_of content at ≡ true → IsSpare content reasons a at
+
 -- what doesn't change while decisions are made: the clauses with their references, how many literals there are, and those that are true before any decision
 pub record Level : Type 0 where
   pub clauses : List (List ℕ)
@@ -58,3 +70,4 @@ pub record IsGround (level : Level) (content : Content) (reasons : List (Option 
   pub covered : IsCovered content level.base
   pub rule : Rule content level.base
   pub justified : IsJustified content [] (take level.low reasons) level.base
+  pub spare : AreSpare content (take level.low reasons) level.base

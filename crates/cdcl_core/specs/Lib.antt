@@ -1,7 +1,9 @@
 pub mod Implied
+pub mod Held
 pub mod Assumed
 pub mod Minimal
 pub mod Analysed
 pub mod Hinted
+pub mod Dropped
 pub mod Searched
 pub mod Solved

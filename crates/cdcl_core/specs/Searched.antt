@@ -8,10 +8,11 @@ use Rattle.unit_propagation.specs.Watching.{IsAttached, IsKnown}
 use Rattle.lrat_check.specs.declared.line.Addition.{Addition}
 use Rattle.cdcl_core.specs.declared.search.Ending.{Ending}
 use Rattle.cdcl_core.specs.declared.search.Ending.TheVariants.{Model, Refuted, Taught}
-use Rattle.cdcl_core.specs.Implied.{clauses_of, IsConflict, IsJustified, IsCovered}
+use Rattle.cdcl_core.specs.Implied.{clauses_of, IsConflict, IsJustified, IsCovered, AreSpare}
+use Rattle.cdcl_core.specs.Held.{Covers}
 use Rattle.cdcl_core.specs.Hinted.{TidyPropagation}
 
--- the arena has the clauses; what is true follows from them, and either a clause is false, or each watches two literals or has a true one
+-- the arena has the clauses; what is true follows from them, and either a clause is false, or each watches two literals or has a true one, and those that are dropped are spare
 pub record IsBase (clauses : List (List ℕ)) (size : ℕ) (content : Content) (references : List ℕ) (reasons : List (Option ℕ)) (trail : List ℕ) (conflict : Option ℕ) : Type 0 where
   pub clauses_are : clauses_of content ≡ clauses
   pub size_is : length content.chains ≡ size
@@ -21,6 +22,7 @@ pub record IsBase (clauses : List (List ℕ)) (size : ℕ) (content : Content) (
   pub literals : All (HasLiteral content) trail
   pub justified : IsJustified content [] reasons trail
   pub covered : conflict ≡ None → IsCovered content trail
+  pub spare : conflict ≡ None → AreSpare content reasons trail
   pub falsified : (at : ℕ) → conflict ≡ Some at → IsConflict content trail at
 
 -- each clause has a literal that is true
@@ -41,8 +43,13 @@ EndsAs clauses a Model = IsModelOf clauses a
 EndsAs clauses a (Refuted line) = Adds clauses line × (line.literals.items ≡ [])
 EndsAs clauses a (Taught line) = Adds clauses line × IsAsserting clauses line.literals.items
 
--- after a clause was taught, the search may begin anew; its literals are the arena's
-abbrev pub GoesOn : List (List ℕ) → ℕ → Content → List ℕ → List (Option ℕ) → List ℕ → Ending → Type 0
-GoesOn clauses size content references reasons trail Model = Unit {0}
-GoesOn clauses size content references reasons trail (Refuted line) = Unit {0}
-GoesOn clauses size content references reasons trail (Taught line) = IsBase clauses size content references reasons trail None × All (HasLiteral content) line.literals.items
+-- so it ends over any clauses of which these are held, where the line's number is the next one
+abbrev pub EndsOver : List (List ℕ) → List ℕ → List ℕ → ℕ → List ℕ → Ending → Type 0
+EndsOver held ids base id a ending = (clauses : List (List ℕ)) → Covers clauses held ids base → id ≡ length clauses + 1 → EndsAs clauses a ending
+
+-- after a clause was taught, the search may begin anew, and no less is true before any decision; the clause's literals are the arena's
+abbrev pub GoesOn : List (List ℕ) → ℕ → Content → List ℕ → List (Option ℕ) → List ℕ → List ℕ → Ending → Type 0
+GoesOn clauses size content references reasons base trail Model = Unit {0}
+GoesOn clauses size content references reasons base trail (Refuted line) = Unit {0}
+GoesOn clauses size content references reasons base trail (Taught line) =
+    IsBase clauses size content references reasons trail None × All (Contains trail) base × All (HasLiteral content) line.literals.items

@@ -1,12 +1,12 @@
 //! The line that certifies a clause that follows.
 
-ghost use Rattle.std.specs.Prelude.{◌≡◌, ℕ, ◌<◌, ◌≤◌, ◌^◌, OnOk, IfOk, All, List, length, map, take, Contains, pos};
+ghost use Rattle.std.specs.Prelude.{◌≡◌, ℕ, ◌≤◌, OnOk, IfOk, All, List, length, map, take, Contains, Option, pos};
 ghost use Rattle.clause_model.specs.Literals.{negated};
 ghost use Rattle.clause_model.specs.Clauses.{IsFalse};
-ghost use Rattle.clause_model.specs.Propagation.{numbered};
 ghost use Rattle.clause_arena.specs.Contents.{references_of, HasLiteral};
 ghost use Rattle.cdcl_core.specs.Implied.{clauses_of, IsRefutable, IsGround, level_of};
 ghost use Rattle.cdcl_core.specs.Assumed.{CanFalsify};
+ghost use Rattle.cdcl_core.specs.Held.{AreNumbered};
 ghost use Rattle.cdcl_core.specs.Hinted.{TidyPropagation};
 
 use crate::assumption::{assume, back};
@@ -23,6 +23,7 @@ pub fn certify(
     alloc: Global,
     arena: &mut Arena,
     refs: &[Ref],
+    ids: &[Id],
     trail: &mut Assignment,
     reasons: &mut Vec<Option<Ref>>,
     seen: &mut Assignment,
@@ -32,7 +33,7 @@ pub fn certify(
 ) -> Result<Addition, Memory>
     requires ground { IsGround (level_of arena.old trail.old low) arena.old reasons.old.items trail.old }
     requires refs { refs.now ≡ references_of arena.old }
-    requires few { length refs.now < 2 ^ 32 }
+    requires ids { length ids.now ≡ length refs.now }
     requires size { length arena.old.chains ≤ 400000 }
     requires falsifiable { CanFalsify (length arena.old.chains) (take low trail.old) clause.now }
     requires refutable { IsRefutable (clauses_of arena.old) clause.now }
@@ -43,7 +44,7 @@ pub fn certify(
     ensures part { IfOk result (λ line. All (Contains clause.now) line.literals.items) }
     ensures whole { IfOk result (λ line. All (Contains line.literals.items) clause.now) }
     ensures known { IfOk result (λ line. All (HasLiteral arena.old) line.literals.items) }
-    ensures tidy { IfOk result (λ line. (hints : List ℕ) × (line.hints.items ≡ map pos hints) × TidyPropagation (numbered (clauses_of arena.old)) line.literals.items hints) }
+    ensures tidy { IfOk result (λ line. (live : ℕ → Option (List ℕ)) → AreNumbered live (clauses_of arena.old) ids.now → (hints : List ℕ) × (line.hints.items ≡ map pos hints) × TidyPropagation live line.literals.items hints) }
 {
     back(trail, reasons, low);
     let is_true = assume(clause, trail, reasons)?;
@@ -55,7 +56,7 @@ pub fn certify(
         Some(conflict) => {
             let givens = &trail.literals()[low..high];
             let line = derive(
-                alloc, arena, refs, trail, reasons, seen, givens, conflict, id,
+                alloc, arena, refs, ids, trail, reasons, seen, givens, conflict, id,
             )?;
             Ok(line)
         }

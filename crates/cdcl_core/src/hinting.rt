@@ -3,11 +3,11 @@
 //! The hints are read off the trail from its end: the false clause, and before it the reason of each
 //! literal whose contrary stands in a clause of a hint.
 
-ghost use Rattle.std.specs.Prelude.{◌≡◌, ◌≢◌, ℕ, ◌+◌, ◌<◌, ◌^◌, IfOk, All, AllPairs, List, length, map, Contains, Some, slice_get, pos};
+ghost use Rattle.std.specs.Prelude.{◌≡◌, ◌≢◌, ℕ, ◌+◌, ◌<◌, IfOk, All, AllPairs, List, length, map, Contains, Option, Some, slice_get, get_or, pos};
 ghost use Rattle.clause_model.specs.Literals.{negated};
-ghost use Rattle.clause_model.specs.Propagation.{numbered};
 ghost use Rattle.clause_arena.specs.Contents.{references_of};
 ghost use Rattle.cdcl_core.specs.Implied.{clauses_of};
+ghost use Rattle.cdcl_core.specs.Held.{AreNumbered};
 ghost use Rattle.cdcl_core.specs.Hinted.{HasReasons, RefutesTidily};
 
 use crate::analysis::see;
@@ -16,8 +16,8 @@ use clause_model::{Assignment, Literal};
 use lrat_check::{Addition, Hint, Id};
 use std::alloc::Global;
 
-/// The place of a reference among those of all clauses.
-fn place_of(refs: &[Ref], at: Ref) -> usize
+/// The place of a reference among ascending ones.
+pub fn place_of(refs: &[Ref], at: Ref) -> usize
     requires ascending { AllPairs (λ r s. r < s) refs.now }
     requires within { Contains refs.now at }
     ensures { slice_get refs.now result ≡ Some at }
@@ -35,15 +35,14 @@ fn place_of(refs: &[Ref], at: Ref) -> usize
     low
 }
 
-/// The hint that names a clause: they are numbered from 1.
-fn hint_of(refs: &[Ref], at: Ref) -> Hint
+/// The hint that names a clause.
+fn hint_of(refs: &[Ref], ids: &[Id], at: Ref) -> Hint
     requires ascending { AllPairs (λ r s. r < s) refs.now }
     requires within { Contains refs.now at }
-    requires few { length refs.now < 2 ^ 32 }
-    ensures { (k : ℕ) × (slice_get refs.now k ≡ Some at) × (result ≡ pos (k + 1)) }
+    requires ids { length ids.now ≡ length refs.now }
+    ensures { (k : ℕ) × (slice_get refs.now k ≡ Some at) × (result ≡ pos (get_or ids.now k 0)) }
 {
-    let number = place_of(refs, at) as u32 + 1;
-    Hint::new(Id::new(number))
+    Hint::new(ids[place_of(refs, at)])
 }
 
 /// The contraries of literals.
@@ -62,6 +61,7 @@ pub fn derive(
     alloc: Global,
     arena: &Arena,
     refs: &[Ref],
+    ids: &[Id],
     trail: &Assignment,
     reasons: &[Option<Ref>],
     seen: &mut Assignment,
@@ -70,20 +70,20 @@ pub fn derive(
     id: Id,
 ) -> Result<Addition, Memory>
     requires refs { refs.now ≡ references_of arena.now }
-    requires few { length refs.now < 2 ^ 32 }
+    requires ids { length ids.now ≡ length refs.now }
     requires reasons { HasReasons arena.now reasons.now trail.now givens.now conflict }
     requires distinct { AllPairs (λ l m. l ≢ m) givens.now }
     requires bounded { All (λ l. l < 400000) givens.now }
     ensures id { IfOk result (λ line. line.id ≡ id) }
     ensures literals { IfOk result (λ line. line.literals.items ≡ map negated givens.now) }
-    ensures hints { IfOk result (λ line. (hints : List ℕ) × (line.hints.items ≡ map pos hints) × RefutesTidily (numbered (clauses_of arena.now)) givens.now hints) }
+    ensures hints { IfOk result (λ line. (live : ℕ → Option (List ℕ)) → AreNumbered live (clauses_of arena.now) ids.now → (hints : List ℕ) × (line.hints.items ≡ map pos hints) × RefutesTidily live givens.now hints) }
 {
     let _whole = arena.literals();
     let literals = negations(alloc, givens)?;
     seen.truncate(0);
     see(seen, arena.lits(conflict), trail)?;
     let mut hints = Vec::new(alloc);
-    hints.push(hint_of(refs, conflict))?;
+    hints.push(hint_of(refs, ids, conflict))?;
     let trues = trail.literals();
     let mut at = trail.len();
     while at > 0 {
@@ -95,7 +95,7 @@ pub fn derive(
         match reason {
             Some(number) => {
                 see(seen, arena.lits(number), trail)?;
-                hints.insert(0, hint_of(refs, number))?;
+                hints.insert(0, hint_of(refs, ids, number))?;
             }
             None => {}
         }

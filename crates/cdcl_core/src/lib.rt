@@ -5,6 +5,7 @@ mod adopting;
 mod analysis;
 mod assumption;
 mod certifying;
+mod dropping;
 mod formulas;
 mod hinting;
 pub mod laws;

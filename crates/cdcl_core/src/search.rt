@@ -4,7 +4,7 @@ ghost use Rattle.std.specs.Prelude.{◌≡◌, ℕ, ◌+◌, ◌*◌, ◌<◌, �
 ghost use Rattle.clause_model.specs.Clauses.{IsUnset};
 ghost use Rattle.unit_propagation.specs.Watching.{Rule};
 ghost use Rattle.cdcl_core.specs.Implied.{clauses_of, IsConflict};
-ghost use Rattle.cdcl_core.specs.Searched.{IsBase, Adds, EndsAs, GoesOn};
+ghost use Rattle.cdcl_core.specs.Searched.{IsBase, EndsOver, GoesOn};
 
 use crate::assumption::back;
 use crate::hinting::derive;
@@ -55,6 +55,7 @@ fn refute(
     alloc: Global,
     arena: &Arena,
     refs: &[Ref],
+    ids: &[Id],
     trail: &Assignment,
     reasons: &[Option<Ref>],
     seen: &mut Assignment,
@@ -62,12 +63,22 @@ fn refute(
     id: Id,
 ) -> Result<Ending, Memory>
     requires base { IsBase (clauses_of arena.now) (length arena.now.chains) arena.now refs.now reasons.now trail.now (Some conflict) }
-    requires few { length refs.now < 2 ^ 32 }
-    requires id { id ≡ length (clauses_of arena.now) + 1 }
-    ensures ends { IfOk result (EndsAs (clauses_of arena.now) trail.now) }
-    ensures goes_on { IfOk result (GoesOn (clauses_of arena.now) (length arena.now.chains) arena.now refs.now reasons.now trail.now) }
+    requires ids { length ids.now ≡ length refs.now }
+    ensures ends { IfOk result (EndsOver (clauses_of arena.now) ids.now trail.now id trail.now) }
+    ensures goes_on { IfOk result (GoesOn (clauses_of arena.now) (length arena.now.chains) arena.now refs.now reasons.now trail.now trail.now) }
 {
-    let line = derive(alloc, arena, refs, trail, reasons, seen, &[], conflict, id)?;
+    let line = derive(
+        alloc,
+        arena,
+        refs,
+        ids,
+        trail,
+        reasons,
+        seen,
+        &[],
+        conflict,
+        id,
+    )?;
     Ok(Ending::Refuted(line))
 }
 
@@ -76,6 +87,7 @@ fn decide<L: Ledger>(
     alloc: Global,
     arena: &mut Arena,
     refs: &[Ref],
+    ids: &[Id],
     trail: &mut Assignment,
     reasons: &mut Vec<Option<Ref>>,
     seen: &mut Assignment,
@@ -86,12 +98,11 @@ fn decide<L: Ledger>(
 ) -> Result<Ending, Memory>
     requires base { IsBase (clauses_of arena.old) (length arena.old.chains) arena.old refs.now reasons.old.items trail.old None }
     requires rule { Rule arena.old trail.old }
-    requires few { length refs.now < 2 ^ 32 }
+    requires ids { length ids.now ≡ length refs.now }
     requires variables { variables ≤ 200000 }
     requires size { length arena.old.chains ≡ 2 * variables }
-    requires id { id ≡ length (clauses_of arena.old) + 1 }
-    ensures ends { IfOk result (EndsAs (clauses_of arena.old) trail.new) }
-    ensures goes_on { IfOk result (GoesOn (clauses_of arena.old) (length arena.old.chains) arena.new refs.now reasons.new.items trail.new) }
+    ensures ends { IfOk result (EndsOver (clauses_of arena.old) ids.now trail.old id trail.new) }
+    ensures goes_on { IfOk result (GoesOn (clauses_of arena.old) (length arena.old.chains) arena.new refs.now reasons.new.items trail.old trail.new) }
     ensures cost { steps.new ≤ steps.old + variables + 1 }
 {
     let low = trail.len();
@@ -111,7 +122,7 @@ fn decide<L: Ledger>(
                         steps.tick();
                         order.save(trail.literals());
                         let line = learn(
-                            alloc, arena, refs, trail, reasons, seen, low, start, conflict, id,
+                            alloc, arena, refs, ids, trail, reasons, seen, low, start, conflict, id,
                         )?;
                         order.note(seen.literals(), line.literals.len())?;
                         back(trail, reasons, low);
@@ -128,6 +139,7 @@ pub fn search<L: Ledger>(
     alloc: Global,
     arena: &mut Arena,
     refs: &[Ref],
+    ids: &[Id],
     trail: &mut Assignment,
     reasons: &mut Vec<Option<Ref>>,
     seen: &mut Assignment,
@@ -138,30 +150,30 @@ pub fn search<L: Ledger>(
     steps: &mut Steps<L>,
 ) -> Result<Ending, Memory>
     requires base { IsBase (clauses_of arena.old) (length arena.old.chains) arena.old refs.now reasons.old.items trail.old conflict }
-    requires few { length refs.now < 2 ^ 32 }
+    requires ids { length ids.now ≡ length refs.now }
     requires variables { variables ≤ 200000 }
     requires size { length arena.old.chains ≡ 2 * variables }
-    requires id { id ≡ length (clauses_of arena.old) + 1 }
-    ensures ends { IfOk result (EndsAs (clauses_of arena.old) trail.new) }
-    ensures goes_on { IfOk result (GoesOn (clauses_of arena.old) (length arena.old.chains) arena.new refs.now reasons.new.items trail.new) }
+    ensures ends { IfOk result (EndsOver (clauses_of arena.old) ids.now trail.old id trail.new) }
+    ensures goes_on { IfOk result (GoesOn (clauses_of arena.old) (length arena.old.chains) arena.new refs.now reasons.new.items trail.old trail.new) }
     ensures cost { steps.new ≤ steps.old + variables + 1 }
 {
     match conflict {
         Some(at) => {
             steps.tick();
-            let ending = refute(alloc, arena, refs, trail, reasons, seen, at, id)?;
+            let ending = refute(alloc, arena, refs, ids, trail, reasons, seen, at, id)?;
             Ok(ending)
         }
         None => match propagate(arena, trail, reasons, 0)? {
             Some(at) => {
                 steps.tick();
-                let ending = refute(alloc, arena, refs, trail, reasons, seen, at, id)?;
+                let ending = refute(alloc, arena, refs, ids, trail, reasons, seen, at, id)?;
                 Ok(ending)
             }
             None => {
+                let _trues = trail.len();
                 let _literals = arena.literals();
                 let ending = decide(
-                    alloc, arena, refs, trail, reasons, seen, order, variables, id, steps,
+                    alloc, arena, refs, ids, trail, reasons, seen, order, variables, id, steps,
                 )?;
                 Ok(ending)
             }

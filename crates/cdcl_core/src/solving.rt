@@ -4,10 +4,13 @@ ghost use Rattle.std.specs.Prelude.{◌≡◌, ◌≢◌, ℕ, ◌+◌, ◌*◌,
 ghost use Rattle.clause_model.specs.Literals.{codes_of};
 ghost use Rattle.cnf_gates.specs.Cnf.{IsLiteral};
 ghost use Rattle.cnf_gates.specs.Meaning.{assigned};
+ghost use Rattle.cdcl_core.specs.Implied.{clauses_of};
+ghost use Rattle.cdcl_core.specs.Held.{Covers};
 ghost use Rattle.cdcl_core.specs.Searched.{IsBase};
 ghost use Rattle.cdcl_core.specs.Solved.{AreBelow, VerdictOf, literals_in};
 
 use crate::adopting::adopt;
+use crate::dropping::drop_true;
 use crate::formulas::{has_empty, load, reach};
 use crate::order::Order;
 use crate::search::{Ending, search};
@@ -61,6 +64,7 @@ fn run<L: Ledger>(
     budget: u32,
     arena: &mut Arena,
     refs: &mut Vec<Ref>,
+    ids: &mut Vec<Id>,
     trail: &mut Assignment,
     reasons: &mut Vec<Option<Ref>>,
     variables: u32,
@@ -72,7 +76,8 @@ fn run<L: Ledger>(
     requires size { length arena.old.chains ≡ 2 * variables }
     requires literals { All (λ clause. All IsLiteral clause) formula.now.clauses }
     requires below { AreBelow variables (codes_of formula.now.clauses) }
-    requires base { IsBase (codes_of formula.now.clauses) (length arena.old.chains) arena.old refs.old.items reasons.old.items trail.old conflict }
+    requires base { IsBase (clauses_of arena.old) (length arena.old.chains) arena.old refs.old.items reasons.old.items trail.old conflict }
+    requires covers { Covers (codes_of formula.now.clauses) (clauses_of arena.old) ids.old.items trail.old }
     ensures verdict { IfOk result (VerdictOf formula.now budget) }
     ensures cost { steps.new ≤ steps.old + budget * (variables + 1) }
 {
@@ -80,11 +85,13 @@ fn run<L: Ledger>(
     let mut seen = Assignment::new(alloc);
     let mut order = Order::new(alloc, variables)?;
     let mut current = conflict;
+    let mut swept = 0;
     for round in 0..budget {
         let id = Id::new(formula.clauses() as u32 + round + 1);
         let before = current;
         match search(
-            alloc, arena, refs, trail, reasons, &mut seen, &mut order, variables, before, id, steps,
+            alloc, arena, refs, ids, trail, reasons, &mut seen, &mut order, variables, before, id,
+            steps,
         )? {
             Ending::Model => {
                 let _trues = trail.len();
@@ -96,8 +103,9 @@ fn run<L: Ledger>(
                 return Ok(Verdict::Unsat(log));
             }
             Ending::Taught(line) => {
+                drop_true(alloc, arena, refs, ids, trail, reasons, &mut swept)?;
                 let literals = codes_in(alloc, &line)?;
-                current = adopt(arena, refs, trail, reasons, None, &literals)?;
+                current = adopt(arena, refs, ids, trail, reasons, None, &literals, id)?;
                 log.push(Line::Addition(line))?;
             }
         }
@@ -126,6 +134,7 @@ pub fn solve<L: Ledger>(
     let variables = reach(formula);
     let mut arena = Arena::new(alloc, variables)?;
     let mut refs = Vec::new(alloc);
+    let mut ids = Vec::new(alloc);
     let mut trail = Assignment::new(alloc);
     let mut reasons = Vec::new(alloc);
     let conflict = load(
@@ -133,6 +142,7 @@ pub fn solve<L: Ledger>(
         formula,
         &mut arena,
         &mut refs,
+        &mut ids,
         &mut trail,
         &mut reasons,
     )?;
@@ -142,6 +152,7 @@ pub fn solve<L: Ledger>(
         budget,
         &mut arena,
         &mut refs,
+        &mut ids,
         &mut trail,
         &mut reasons,
         variables,

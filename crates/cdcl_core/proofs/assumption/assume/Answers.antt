@@ -1,4 +1,4 @@
-use Rattle.std.proofs.Common.{length, refl, take}
+use Rattle.std.proofs.Common.{refl, take}
 use Rattle.clause_model.proofs.Scans.{never}
 use Rattle.cdcl_core.proofs.Assumptions.{assumed_none, assumed_already, assumed_more, opposite_unset, part_in}
 use Rattle.cdcl_core.proofs.assumption.assume.Goals as goal

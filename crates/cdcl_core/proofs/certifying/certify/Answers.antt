@@ -5,7 +5,7 @@ use Rattle.cdcl_core.specs.Implied.{level_of}
 use Rattle.cdcl_core.specs.Hinted.{HasReasons}
 use Rattle.cdcl_core.proofs.Assumptions.{never_true}
 use Rattle.cdcl_core.proofs.Falsified.{rule_from, back_falsifiable}
-use Rattle.cdcl_core.proofs.Derived.{denied_ground, derived_ground, givens_are, givens_distinct, givens_bounded, givens_reasons, never_settled, part_of_clause, whole_clause, givens_known, tidy_here}
+use Rattle.cdcl_core.proofs.Derived.{denied_ground, derived_ground, givens_are, givens_distinct, givens_bounded, givens_reasons, never_settled, part_of_clause, whole_clause, givens_known, tidy_here, numbered_there}
 use Rattle.cdcl_core.proofs.certifying.certify.Goals as goal
 
 pub propagate-requires-clause-aligned : goal.propagate-requires-clause-aligned
@@ -60,7 +60,9 @@ pub returns-clause-whole : goal.returns-clause-whole
 returns-clause-whole c = whole_clause c.args.arena.now c.args.low c.args.reasons.now.items c.args.trail.now c.requires.ground c.args.clause.now c.requires.falsifiable c.back.new.reasons.items c.back.new.trail c.back.ensures.trail c.back.ensures.reasons c.assume.new.reasons.items c.assume.new.trail (c.in_ok-is_true.ensures.each c.if-is_true.false) _ c.in_ok-line-in-Some.line.literals.items (givens_are c.args.arena.now c.args.low c.args.reasons.now.items c.args.trail.now c.requires.ground c.args.clause.now c.requires.falsifiable c.back.new.reasons.items c.back.new.trail c.back.ensures.trail c.back.ensures.reasons c.assume.new.reasons.items c.assume.new.trail (c.in_ok-is_true.ensures.each c.if-is_true.false) c.propagate.new.arena c.propagate.new.reasons.items c.propagate.new.assignment c.in_ok-conflict.ensures.later c.literals.result.now c.len-high.result c.literals.ensures.value c.len-high.ensures.value) c.in_ok-line-in-Some.ensures.literals c.requires.fresh
 
 pub returns-clause-tidy : goal.returns-clause-tidy
-returns-clause-tidy c = let w = c.in_ok-line-in-Some.ensures.hints in (w.0, w.1, tidy_here c.args.arena.now c.propagate.new.arena _ _ c.in_ok-line-in-Some.line.literals.items w.0 c.in_ok-conflict.ensures.later.clauses (givens_are c.args.arena.now c.args.low c.args.reasons.now.items c.args.trail.now c.requires.ground c.args.clause.now c.requires.falsifiable c.back.new.reasons.items c.back.new.trail c.back.ensures.trail c.back.ensures.reasons c.assume.new.reasons.items c.assume.new.trail (c.in_ok-is_true.ensures.each c.if-is_true.false) c.propagate.new.arena c.propagate.new.reasons.items c.propagate.new.assignment c.in_ok-conflict.ensures.later c.literals.result.now c.len-high.result c.literals.ensures.value c.len-high.ensures.value) c.in_ok-line-in-Some.ensures.literals w.2)
+returns-clause-tidy c = λ live a.
+    let w = c.in_ok-line-in-Some.ensures.hints live (numbered_there live c.args.arena.now c.propagate.new.arena c.args.ids.now c.in_ok-conflict.ensures.later.clauses a) in
+    (w.0, w.1, tidy_here live _ c.in_ok-line-in-Some.line.literals.items w.0 c.in_ok-line-in-Some.ensures.literals w.2)
 
 pub returns-clause-known : goal.returns-clause-known
 returns-clause-known c = givens_known c.args.arena.now c.args.low c.args.reasons.now.items c.args.trail.now c.requires.ground c.args.clause.now c.requires.falsifiable c.back.new.reasons.items c.back.new.trail c.back.ensures.trail c.back.ensures.reasons c.assume.new.reasons.items c.assume.new.trail (c.in_ok-is_true.ensures.each c.if-is_true.false) c.propagate.new.arena c.propagate.new.reasons.items c.propagate.new.assignment c.in_ok-conflict.ensures.later _ c.in_ok-line-in-Some.line.literals.items (givens_are c.args.arena.now c.args.low c.args.reasons.now.items c.args.trail.now c.requires.ground c.args.clause.now c.requires.falsifiable c.back.new.reasons.items c.back.new.trail c.back.ensures.trail c.back.ensures.reasons c.assume.new.reasons.items c.assume.new.trail (c.in_ok-is_true.ensures.each c.if-is_true.false) c.propagate.new.arena c.propagate.new.reasons.items c.propagate.new.assignment c.in_ok-conflict.ensures.later c.literals.result.now c.len-high.result c.literals.ensures.value c.len-high.ensures.value) c.in_ok-line-in-Some.ensures.literals

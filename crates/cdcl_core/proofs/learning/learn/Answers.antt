@@ -1,11 +1,10 @@
 use Rattle.std.proofs.Common.{ℕ, List, [], ◌∷◌, ◌++◌, length, take, refl, sym, ◌∙◌, ap, subst, ◌≤◌, arith}
 use Rattle.std.specs.Prelude.{All, Contains}
 use Rattle.clause_model.specs.Clauses.{IsFalse}
-use Rattle.clause_model.specs.Propagation.{numbered}
 use Rattle.cdcl_core.specs.Implied.{clauses_of, level_of, IsRefutable}
 use Rattle.cdcl_core.specs.Assumed.{CanFalsify}
 use Rattle.cdcl_core.specs.Analysed.{LearnsFrom}
-use Rattle.cdcl_core.specs.Hinted.{TidyPropagation}
+use Rattle.cdcl_core.specs.Held.{AreNumbered}
 use Rattle.cdcl_core.proofs.Grounds.{ground_again, ground_onto}
 use Rattle.cdcl_core.proofs.Minimised.{falsifiable_here}
 use Rattle.cdcl_core.proofs.Learned.{whole_falsifiable, whole_refutable, kept_falsifiable, kept_fresh, learnt_asserting, same_asserting, known_there}
@@ -53,4 +52,4 @@ returns-clause-asserting c = same_asserting (clauses_of c.args.arena.now) c.mini
     (learnt_asserting c.args.arena.now c.args.reasons.now.items c.args.trail.now c.args.low c.args.start c.args.conflict c.requires.ground c.requires.conflict c.len-trues.ensures.consistent c.in_ok-literal.literal c.deref-2.result.now (subst (λ (xs : List ℕ). LearnsFrom (clauses_of c.args.arena.now) c.args.trail.now c.args.low c.args.start c.in_ok-literal.literal xs) (sym c.deref-2.ensures.value) c.in_ok-literal.ensures) c.push.new.self.items (c.in_ok-push.ensures.items ∙ ap (λ (xs : List ℕ). xs ++ c.in_ok-literal.literal ∷ []) c.new-literals.ensures.items) c.minimise.new.kept.items c.in_ok-minimise.ensures.subset c.in_ok-minimise.ensures.freed c.in_ok-minimise.ensures.first)
 
 pub returns-clause-tidy : goal.returns-clause-tidy
-returns-clause-tidy c = let w = c.in_ok-line.ensures.tidy in (w.0, w.1, subst (λ (cs : List (List ℕ)). TidyPropagation (numbered cs) c.in_ok-line.line.literals.items w.0) c.in_ok-minimise.ensures.ground.clauses w.2)
+returns-clause-tidy c = λ live a. c.in_ok-line.ensures.tidy live (subst (λ (cs : List (List ℕ)). AreNumbered live cs c.args.ids.now) (sym c.in_ok-minimise.ensures.ground.clauses) a)

@@ -1,10 +1,9 @@
-use Rattle.std.proofs.Common.{◌≡◌, ℕ, ◌++◌, ◌<◌, ◌≤◌, ◌-◌, ◌/◌, List, length, take, drop, Option, arith, refl, subst, sym, ap, ◌∙◌}
+use Rattle.std.proofs.Common.{ℕ, ◌++◌, ◌≤◌, ◌-◌, ◌/◌, List, length, take, drop, arith, refl, subst, sym, ap, ◌∙◌}
 use Rattle.std.specs.Prelude.{All}
 use Rattle.std.proofs.lemmas.List.{length-take, length-drop}
 use Rattle.clause_arena.specs.Contents.{HasLiteral}
-use Rattle.cdcl_core.specs.Implied.{clauses_of, IsRefutable, IsGround, IsJustified, Level, level_of}
-use Rattle.cdcl_core.specs.Minimal.{AreNeeded}
-use Rattle.cdcl_core.proofs.Minimised.{none_needed, within_trans}
+use Rattle.cdcl_core.specs.Implied.{clauses_of}
+use Rattle.cdcl_core.proofs.Minimised.{none_needed}
 use Rattle.cdcl_core.proofs.Halved.{halves, All-within, within_halves, first_half, second_half, ground_there, rule_there, known_there, one_needed, watches_both, both_needed}
 use Rattle.cdcl_core.proofs.minimising.+needed.Goals as goal
 

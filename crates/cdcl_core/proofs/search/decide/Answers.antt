@@ -3,8 +3,10 @@ use Rattle.clause_model.specs.Asserting.{IsAsserting}
 use Rattle.cdcl_core.specs.Implied.{clauses_of, level_of}
 use Rattle.cdcl_core.proofs.Grounds.{ground_again, ground_onto}
 use Rattle.cdcl_core.proofs.Learned.{known_there}
+use Rattle.cdcl_core.specs.Held.{AreNumbered}
 use Rattle.cdcl_core.proofs.Adopted.{base_back}
-use Rattle.cdcl_core.proofs.Searches.{deciding_begun, model_of, decided_ground, decided_rule, later_ground, deciding_later, at_conflict, adds_line, count_variables, bounded_by, known_below, below_bound}
+use Rattle.cdcl_core.proofs.Covered.{all_true, all_asserting, adds_over}
+use Rattle.cdcl_core.proofs.Searches.{deciding_begun, model_of, decided_ground, decided_rule, later_ground, deciding_later, at_conflict, count_variables, bounded_by, known_below, below_bound, ground_grows, back_grows, base_forced}
 use Rattle.cdcl_core.proofs.search.decide.Goals as goal
 
 pub deciding-init : goal.deciding-init
@@ -14,7 +16,8 @@ pub pick-requires-clause-bounded : goal.pick-requires-clause-bounded
 pick-requires-clause-bounded g c = bounded_by (level_of c.args.arena.now c.args.trail.now c.len-low.result) c.deciding.arena c.deciding.reasons.items c.deciding.trail (2 * c.args.variables) c.deciding.invariant.0.ground c.requires.size
 
 pub returns-in-None-clause-ends : goal.returns-in-None-clause-ends
-returns-in-None-clause-ends g c = model_of (level_of c.args.arena.now c.args.trail.now c.len-low.result) c.deciding.arena c.deciding.reasons.items c.deciding.trail c.deciding.invariant.0 c.literals-literals.ensures.whole c.len-start.ensures.consistent (λ l b u. c.in-None.ensures.none refl l (below_bound (level_of c.args.arena.now c.args.trail.now c.len-low.result) c.deciding.arena c.deciding.reasons.items c.deciding.trail (2 * c.args.variables) l c.deciding.invariant.0.ground c.requires.size b) u)
+returns-in-None-clause-ends g c = λ clauses v e. all_true clauses (clauses_of c.args.arena.now) c.args.ids.now c.args.trail.now v c.deciding.trail (ground_grows c.args.arena.now c.args.trail.now c.len-low.result c.len-low.ensures.value c.deciding.arena c.deciding.reasons.items c.deciding.trail c.deciding.invariant.0.ground)
+    (model_of (level_of c.args.arena.now c.args.trail.now c.len-low.result) c.deciding.arena c.deciding.reasons.items c.deciding.trail c.deciding.invariant.0 c.literals-literals.ensures.whole c.len-start.ensures.consistent (λ l b u. c.in-None.ensures.none refl l (below_bound (level_of c.args.arena.now c.args.trail.now c.len-low.result) c.deciding.arena c.deciding.reasons.items c.deciding.trail (2 * c.args.variables) l c.deciding.invariant.0.ground c.requires.size b) u))
 
 pub returns-in-None-clause-cost : goal.returns-in-None-clause-cost
 returns-in-None-clause-cost g c =
@@ -51,13 +54,18 @@ pub learn-requires-clause-refs : goal.learn-requires-clause-refs
 learn-requires-clause-refs g c = c.requires.base.numbered_by ∙ sym (later_ground (level_of c.args.arena.now c.args.trail.now c.len-low.result) c.deciding.arena c.deciding.reasons.items c.deciding.trail c.deciding.invariant.0 c.in-Some.literal (known_below (level_of c.args.arena.now c.args.trail.now c.len-low.result) c.deciding.arena c.deciding.reasons.items c.deciding.trail (2 * c.args.variables) c.in-Some.literal c.deciding.invariant.0.ground c.requires.size c.in-Some.ensures.some.1) c.push.new.self.items c.set.new.self c.in_ok-push-in-Some.ensures.items c.in_ok-set-in-Some.ensures.ok c.propagate.new.arena c.propagate.new.reasons.items c.propagate.new.assignment c.in_ok-propagate-in-Some.ensures.later).references
 
 pub returns-in-Some-2-clause-ends : goal.returns-in-Some-2-clause-ends
-returns-in-Some-2-clause-ends g c = (
-  adds_line (clauses_of c.args.arena.now) (clauses_of c.propagate.new.arena) c.in_ok-line-in-Some-2.line c.args.id c.in_ok-line-in-Some-2.ensures.id c.requires.id (later_ground (level_of c.args.arena.now c.args.trail.now c.len-low.result) c.deciding.arena c.deciding.reasons.items c.deciding.trail c.deciding.invariant.0 c.in-Some.literal (known_below (level_of c.args.arena.now c.args.trail.now c.len-low.result) c.deciding.arena c.deciding.reasons.items c.deciding.trail (2 * c.args.variables) c.in-Some.literal c.deciding.invariant.0.ground c.requires.size c.in-Some.ensures.some.1) c.push.new.self.items c.set.new.self c.in_ok-push-in-Some.ensures.items c.in_ok-set-in-Some.ensures.ok c.propagate.new.arena c.propagate.new.reasons.items c.propagate.new.assignment c.in_ok-propagate-in-Some.ensures.later).clauses c.in_ok-line-in-Some-2.ensures.tidy,
-  subst (λ (cs : List (List ℕ)). IsAsserting cs c.in_ok-line-in-Some-2.line.literals.items) (later_ground (level_of c.args.arena.now c.args.trail.now c.len-low.result) c.deciding.arena c.deciding.reasons.items c.deciding.trail c.deciding.invariant.0 c.in-Some.literal (known_below (level_of c.args.arena.now c.args.trail.now c.len-low.result) c.deciding.arena c.deciding.reasons.items c.deciding.trail (2 * c.args.variables) c.in-Some.literal c.deciding.invariant.0.ground c.requires.size c.in-Some.ensures.some.1) c.push.new.self.items c.set.new.self c.in_ok-push-in-Some.ensures.items c.in_ok-set-in-Some.ensures.ok c.propagate.new.arena c.propagate.new.reasons.items c.propagate.new.assignment c.in_ok-propagate-in-Some.ensures.later).clauses c.in_ok-line-in-Some-2.ensures.asserting,
-)
+returns-in-Some-2-clause-ends g c =
+    let held : List (List ℕ) = clauses_of c.args.arena.now in
+    let d = (later_ground (level_of c.args.arena.now c.args.trail.now c.len-low.result) c.deciding.arena c.deciding.reasons.items c.deciding.trail c.deciding.invariant.0 c.in-Some.literal (known_below (level_of c.args.arena.now c.args.trail.now c.len-low.result) c.deciding.arena c.deciding.reasons.items c.deciding.trail (2 * c.args.variables) c.in-Some.literal c.deciding.invariant.0.ground c.requires.size c.in-Some.ensures.some.1) c.push.new.self.items c.set.new.self c.in_ok-push-in-Some.ensures.items c.in_ok-set-in-Some.ensures.ok c.propagate.new.arena c.propagate.new.reasons.items c.propagate.new.assignment c.in_ok-propagate-in-Some.ensures.later) in
+    λ clauses v e. (
+      adds_over clauses held c.args.ids.now c.args.trail.now v c.in_ok-line-in-Some-2.line c.args.id c.in_ok-line-in-Some-2.ensures.id e (λ live a. c.in_ok-line-in-Some-2.ensures.tidy live (subst (λ (cs : List (List ℕ)). AreNumbered live cs c.args.ids.now) (sym d.clauses) a)),
+      all_asserting clauses held c.args.ids.now c.args.trail.now v (base_forced c.args.arena.now c.args.trail.now c.len-low.result c.len-low.ensures.value c.propagate.new.arena c.propagate.new.reasons.items c.propagate.new.assignment d) c.in_ok-line-in-Some-2.line.literals.items
+          (subst (λ (cs : List (List ℕ)). IsAsserting cs c.in_ok-line-in-Some-2.line.literals.items) d.clauses c.in_ok-line-in-Some-2.ensures.asserting),
+    )
 
 pub returns-in-Some-2-clause-goes_on : goal.returns-in-Some-2-clause-goes_on
 returns-in-Some-2-clause-goes_on g c = (
   base_back (level_of c.args.arena.now c.args.trail.now c.len-low.result) c.learn.new.arena c.learn.new.reasons.items c.back.new.reasons.items c.learn.new.trail c.back.new.trail c.args.refs.now (ground_onto (level_of c.args.arena.now c.args.trail.now c.len-low.result) c.propagate.new.arena c.propagate.new.reasons.items c.propagate.new.assignment (later_ground (level_of c.args.arena.now c.args.trail.now c.len-low.result) c.deciding.arena c.deciding.reasons.items c.deciding.trail c.deciding.invariant.0 c.in-Some.literal (known_below (level_of c.args.arena.now c.args.trail.now c.len-low.result) c.deciding.arena c.deciding.reasons.items c.deciding.trail (2 * c.args.variables) c.in-Some.literal c.deciding.invariant.0.ground c.requires.size c.in-Some.ensures.some.1) c.push.new.self.items c.set.new.self c.in_ok-push-in-Some.ensures.items c.in_ok-set-in-Some.ensures.ok c.propagate.new.arena c.propagate.new.reasons.items c.propagate.new.assignment c.in_ok-propagate-in-Some.ensures.later) c.learn.new.arena c.learn.new.reasons.items c.learn.new.trail c.in_ok-line-in-Some-2.ensures.ground) c.requires.base.numbered_by c.back.ensures.trail c.back.ensures.reasons,
+  back_grows c.args.arena.now c.args.trail.now c.len-low.result c.len-low.ensures.value c.learn.new.arena c.learn.new.reasons.items c.learn.new.trail c.back.new.trail (ground_onto (level_of c.args.arena.now c.args.trail.now c.len-low.result) c.propagate.new.arena c.propagate.new.reasons.items c.propagate.new.assignment (later_ground (level_of c.args.arena.now c.args.trail.now c.len-low.result) c.deciding.arena c.deciding.reasons.items c.deciding.trail c.deciding.invariant.0 c.in-Some.literal (known_below (level_of c.args.arena.now c.args.trail.now c.len-low.result) c.deciding.arena c.deciding.reasons.items c.deciding.trail (2 * c.args.variables) c.in-Some.literal c.deciding.invariant.0.ground c.requires.size c.in-Some.ensures.some.1) c.push.new.self.items c.set.new.self c.in_ok-push-in-Some.ensures.items c.in_ok-set-in-Some.ensures.ok c.propagate.new.arena c.propagate.new.reasons.items c.propagate.new.assignment c.in_ok-propagate-in-Some.ensures.later) c.learn.new.arena c.learn.new.reasons.items c.learn.new.trail c.in_ok-line-in-Some-2.ensures.ground) c.back.ensures.trail,
   known_there (level_of c.args.arena.now c.args.trail.now c.len-low.result) c.learn.new.arena c.propagate.new.arena c.propagate.new.reasons.items c.propagate.new.assignment c.in_ok-line-in-Some-2.line.literals.items (later_ground (level_of c.args.arena.now c.args.trail.now c.len-low.result) c.deciding.arena c.deciding.reasons.items c.deciding.trail c.deciding.invariant.0 c.in-Some.literal (known_below (level_of c.args.arena.now c.args.trail.now c.len-low.result) c.deciding.arena c.deciding.reasons.items c.deciding.trail (2 * c.args.variables) c.in-Some.literal c.deciding.invariant.0.ground c.requires.size c.in-Some.ensures.some.1) c.push.new.self.items c.set.new.self c.in_ok-push-in-Some.ensures.items c.in_ok-set-in-Some.ensures.ok c.propagate.new.arena c.propagate.new.reasons.items c.propagate.new.assignment c.in_ok-propagate-in-Some.ensures.later) (ground_onto (level_of c.args.arena.now c.args.trail.now c.len-low.result) c.propagate.new.arena c.propagate.new.reasons.items c.propagate.new.assignment (later_ground (level_of c.args.arena.now c.args.trail.now c.len-low.result) c.deciding.arena c.deciding.reasons.items c.deciding.trail c.deciding.invariant.0 c.in-Some.literal (known_below (level_of c.args.arena.now c.args.trail.now c.len-low.result) c.deciding.arena c.deciding.reasons.items c.deciding.trail (2 * c.args.variables) c.in-Some.literal c.deciding.invariant.0.ground c.requires.size c.in-Some.ensures.some.1) c.push.new.self.items c.set.new.self c.in_ok-push-in-Some.ensures.items c.in_ok-set-in-Some.ensures.ok c.propagate.new.arena c.propagate.new.reasons.items c.propagate.new.assignment c.in_ok-propagate-in-Some.ensures.later) c.learn.new.arena c.learn.new.reasons.items c.learn.new.trail c.in_ok-line-in-Some-2.ensures.ground).size c.in_ok-line-in-Some-2.ensures.known,
 )

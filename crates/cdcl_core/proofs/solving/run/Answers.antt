@@ -1,39 +1,52 @@
 use Rattle.std.proofs.Common.{◌≡◌, ℕ, ◌+◌, List, [], ◌∷◌, length, length-append, inr, ap, sym, subst, ◌∙◌, arith}
-use Rattle.std.specs.Prelude.{All, map}
+use Rattle.std.specs.Prelude.{map}
 use Rattle.std.proofs.lemmas.List.{length-map}
-use Rattle.clause_arena.specs.Contents.{HasLiteral}
 use Rattle.clause_model.specs.Literals.{code_of, codes_of}
 use Rattle.lrat_check.specs.declared.line.Line.TheVariants.{Addition as Adding}
+use Rattle.cdcl_core.specs.Implied.{clauses_of}
+use Rattle.cdcl_core.specs.Held.{Covers}
+use Rattle.cdcl_core.specs.Solved.{with_log}
+use Rattle.cdcl_core.proofs.Covered.{covers_grown}
 use Rattle.cdcl_core.proofs.Statements.{model_true}
-use Rattle.cdcl_core.proofs.Logs.{formula_holds, reference_count, refuted, running_more, rounds_more}
+use Rattle.cdcl_core.proofs.Logs.{asserting_some, formula_holds, next_id, refuted, running_aligned, running_more, rounds_more}
 use Rattle.cdcl_core.proofs.solving.run.Goals as goal
 
-pub search-requires-clause-few : goal.search-requires-clause-few
-search-requires-clause-few g c =
-    let n : length c.loop-round.refs.items ≡ length (codes_of c.args.formula.now.clauses) + c.loop-round.round = reference_count (codes_of c.args.formula.now.clauses) (length c.args.arena.now.chains) c.loop-round.arena c.loop-round.refs.items c.loop-round.reasons.items c.loop-round.trail c.loop-round.current c.loop-round.log.items c.loop-round.round c.loop-round.invariant.0 in
-    omega (arith, n, ap length c.deref.ensures.value, length-map c.args.formula.now.clauses (map code_of), c.requires.ids, c.loop-round-test.true)
+pub search-requires-clause-ids : goal.search-requires-clause-ids
+search-requires-clause-ids g c = ap length c.deref-in-loop-round.ensures.value ∙ (running_aligned (codes_of c.args.formula.now.clauses) (length c.args.arena.now.chains) c.loop-round.arena c.loop-round.refs.items c.loop-round.ids.items c.loop-round.reasons.items c.loop-round.trail c.loop-round.current c.loop-round.log.items c.loop-round.round c.loop-round.invariant.0 ∙ sym (ap length c.deref.ensures.value))
 
-pub adopt-requires-clause-known : goal.adopt-requires-clause-known
-adopt-requires-clause-known g c =
-    let w = rw c.in-Taught.is at c.in_ok-search.ensures.goes_on in
-    subst (λ (xs : List ℕ). All (HasLiteral c.search.new.arena) xs) (sym (c.deref-in-Taught.ensures.value ∙ c.in_ok-literals-in-Taught.ensures)) w.1
+pub adopt-requires-clause-some : goal.adopt-requires-clause-some
+adopt-requires-clause-some g c =
+    let clauses : List (List ℕ) = with_log (codes_of c.args.formula.now.clauses) c.loop-round.log.items in
+    let all = rw c.in-Taught.is at c.in_ok-search.ensures.ends in
+    let t = all clauses (subst (λ (ns : List ℕ). Covers (with_log (codes_of c.args.formula.now.clauses) c.loop-round.log.items) (clauses_of c.loop-round.arena) ns c.loop-round.trail) (sym c.deref-in-loop-round.ensures.value) c.loop-round.invariant.0.covers) (next_id (codes_of c.args.formula.now.clauses) (length c.args.arena.now.chains) c.loop-round.arena c.loop-round.refs.items c.loop-round.ids.items c.loop-round.reasons.items c.loop-round.trail c.loop-round.current c.loop-round.log.items c.loop-round.round c.loop-round.invariant.0 c.new-id.result (omega (arith, c.new-id.ensures, c.clauses.ensures, length-map c.args.formula.now.clauses (map code_of)))) in
+    asserting_some clauses c.in-Taught.line.literals.items c.deref-in-Taught.result.now (c.deref-in-Taught.ensures.value ∙ c.in_ok-literals-in-Taught.ensures) t.1
 
 pub returns-in-Model-clause-verdict : goal.returns-in-Model-clause-verdict
 returns-in-Model-clause-verdict g c =
-    let m = rw c.in-Model.is at c.in_ok-search.ensures.ends in
-    model_true c.in_ok-model-in-Model.model c.args.variables c.search.new.trail c.len-trues.ensures.consistent c.in_ok-model-in-Model.ensures c.args.formula.now.clauses c.requires.literals c.requires.below (formula_holds (codes_of c.args.formula.now.clauses) (length c.args.arena.now.chains) c.loop-round.arena c.loop-round.refs.items c.loop-round.reasons.items c.loop-round.trail c.loop-round.current c.loop-round.log.items c.loop-round.round c.loop-round.invariant.0 c.search.new.trail m)
+    let all = rw c.in-Model.is at c.in_ok-search.ensures.ends in
+    let m = all (with_log (codes_of c.args.formula.now.clauses) c.loop-round.log.items) (subst (λ (ns : List ℕ). Covers (with_log (codes_of c.args.formula.now.clauses) c.loop-round.log.items) (clauses_of c.loop-round.arena) ns c.loop-round.trail) (sym c.deref-in-loop-round.ensures.value) c.loop-round.invariant.0.covers) (next_id (codes_of c.args.formula.now.clauses) (length c.args.arena.now.chains) c.loop-round.arena c.loop-round.refs.items c.loop-round.ids.items c.loop-round.reasons.items c.loop-round.trail c.loop-round.current c.loop-round.log.items c.loop-round.round c.loop-round.invariant.0 c.new-id.result (omega (arith, c.new-id.ensures, c.clauses.ensures, length-map c.args.formula.now.clauses (map code_of)))) in
+    model_true c.in_ok-model-in-Model.model c.args.variables c.search.new.trail c.len-trues.ensures.consistent c.in_ok-model-in-Model.ensures c.args.formula.now.clauses c.requires.literals c.requires.below (formula_holds (codes_of c.args.formula.now.clauses) (length c.args.arena.now.chains) c.loop-round.arena c.loop-round.refs.items c.loop-round.ids.items c.loop-round.reasons.items c.loop-round.trail c.loop-round.current c.loop-round.log.items c.loop-round.round c.loop-round.invariant.0 c.search.new.trail m)
 
 pub returns-in-Refuted-clause-verdict : goal.returns-in-Refuted-clause-verdict
 returns-in-Refuted-clause-verdict g c =
-    let r = rw c.in-Refuted.is at c.in_ok-search.ensures.ends in
+    let all = rw c.in-Refuted.is at c.in_ok-search.ensures.ends in
+    let r = all (with_log (codes_of c.args.formula.now.clauses) c.loop-round.log.items) (subst (λ (ns : List ℕ). Covers (with_log (codes_of c.args.formula.now.clauses) c.loop-round.log.items) (clauses_of c.loop-round.arena) ns c.loop-round.trail) (sym c.deref-in-loop-round.ensures.value) c.loop-round.invariant.0.covers) (next_id (codes_of c.args.formula.now.clauses) (length c.args.arena.now.chains) c.loop-round.arena c.loop-round.refs.items c.loop-round.ids.items c.loop-round.reasons.items c.loop-round.trail c.loop-round.current c.loop-round.log.items c.loop-round.round c.loop-round.invariant.0 c.new-id.result (omega (arith, c.new-id.ensures, c.clauses.ensures, length-map c.args.formula.now.clauses (map code_of)))) in
     let n : length c.push.new.self.items ≡ length c.loop-round.log.items + 1 = ap length c.in_ok-push-in-Refuted.ensures.items ∙ length-append c.loop-round.log.items (Adding c.in-Refuted.line ∷ []) in
-    (omega (arith, n, c.loop-round.invariant.0.count, c.loop-round-test.true), inr (refuted (codes_of c.args.formula.now.clauses) (length c.args.arena.now.chains) c.loop-round.arena c.loop-round.refs.items c.loop-round.reasons.items c.loop-round.trail c.loop-round.current c.loop-round.log.items c.loop-round.round c.loop-round.invariant.0 c.in-Refuted.line c.push.new.self.items c.in_ok-push-in-Refuted.ensures.items r))
+    (omega (arith, n, c.loop-round.invariant.0.count, c.loop-round-test.true), inr (refuted (codes_of c.args.formula.now.clauses) (length c.args.arena.now.chains) c.loop-round.arena c.loop-round.refs.items c.loop-round.ids.items c.loop-round.reasons.items c.loop-round.trail c.loop-round.current c.loop-round.log.items c.loop-round.round c.loop-round.invariant.0 c.in-Refuted.line c.push.new.self.items c.in_ok-push-in-Refuted.ensures.items r))
 
 pub loop-round-preserved : goal.loop-round-preserved
 loop-round-preserved g c =
-    let t = rw c.in-Taught.is at c.in_ok-search.ensures.ends in
-    let w = rw c.in-Taught.is at c.in_ok-search.ensures.goes_on in (
-      running_more (codes_of c.args.formula.now.clauses) (length c.args.arena.now.chains) c.loop-round.arena c.loop-round.refs.items c.loop-round.reasons.items c.loop-round.trail c.loop-round.current c.loop-round.log.items c.loop-round.round c.loop-round.invariant.0 c.in-Taught.line c.deref-in-Taught.result.now c.push-in-Taught.new.self.items c.adopt.new.arena c.adopt.new.refs.items c.adopt.new.reasons.items c.adopt.new.trail c.in_ok-current-in-Taught.current c.in_ok-push-in-Taught.ensures.items
-          (c.deref-in-Taught.ensures.value ∙ c.in_ok-literals-in-Taught.ensures) t c.search.new.arena (length c.search.new.arena.chains) w.0.clauses_are (w.0.size_is ∙ c.loop-round.invariant.0.base.size_is) c.in_ok-current-in-Taught.ensures,
+    let formula : List (List ℕ) = codes_of c.args.formula.now.clauses in
+    let clauses : List (List ℕ) = with_log formula c.loop-round.log.items in
+    let all = rw c.in-Taught.is at c.in_ok-search.ensures.ends in
+    let t = all clauses (subst (λ (ns : List ℕ). Covers (with_log (codes_of c.args.formula.now.clauses) c.loop-round.log.items) (clauses_of c.loop-round.arena) ns c.loop-round.trail) (sym c.deref-in-loop-round.ensures.value) c.loop-round.invariant.0.covers) (next_id (codes_of c.args.formula.now.clauses) (length c.args.arena.now.chains) c.loop-round.arena c.loop-round.refs.items c.loop-round.ids.items c.loop-round.reasons.items c.loop-round.trail c.loop-round.current c.loop-round.log.items c.loop-round.round c.loop-round.invariant.0 c.new-id.result (omega (arith, c.new-id.ensures, c.clauses.ensures, length-map c.args.formula.now.clauses (map code_of)))) in
+    let w = rw c.in-Taught.is at c.in_ok-search.ensures.goes_on in
+    let searched : Covers clauses (clauses_of c.search.new.arena) c.loop-round.ids.items c.search.new.trail = subst (λ (cs : List (List ℕ)). Covers clauses cs c.loop-round.ids.items c.search.new.trail) (sym w.0.clauses_are)
+    (covers_grown clauses (clauses_of c.loop-round.arena) c.loop-round.ids.items c.loop-round.trail c.loop-round.invariant.0.covers c.search.new.trail w.1) in
+    let dropped : Covers clauses (clauses_of c.drop_true.new.arena) c.drop_true.new.ids.items c.search.new.trail = c.in_ok-drop_true-in-Taught.ensures.covers clauses searched in
+    let size : length c.drop_true.new.arena.chains ≡ length c.args.arena.now.chains = c.in_ok-drop_true-in-Taught.ensures.base.size_is ∙ (w.0.size_is ∙ c.loop-round.invariant.0.base.size_is) in (
+      running_more (codes_of c.args.formula.now.clauses) (length c.args.arena.now.chains) c.loop-round.arena c.loop-round.refs.items c.loop-round.ids.items c.loop-round.reasons.items c.loop-round.trail c.loop-round.current c.loop-round.log.items c.loop-round.round c.loop-round.invariant.0 c.in-Taught.line c.deref-in-Taught.result.now c.push-in-Taught.new.self.items c.new-id.result c.in_ok-push-in-Taught.ensures.items
+          (c.deref-in-Taught.ensures.value ∙ c.in_ok-literals-in-Taught.ensures) (omega (arith, c.new-id.ensures, c.clauses.ensures, length-map c.args.formula.now.clauses (map code_of))) t (clauses_of c.drop_true.new.arena) c.drop_true.new.ids.items c.search.new.trail dropped
+          (length c.drop_true.new.arena.chains) c.adopt.new.arena c.adopt.new.refs.items c.adopt.new.ids.items c.adopt.new.reasons.items c.adopt.new.trail c.in_ok-current-in-Taught.current size c.in_ok-current-in-Taught.ensures.ids c.in_ok-current-in-Taught.ensures.grows c.in_ok-current-in-Taught.ensures.base,
       omega (arith, c.search.ensures.cost, c.loop-round.invariant.1, rounds_more c.loop-round.round (c.args.variables + 1)),
     )

@@ -5,5 +5,5 @@ use Rattle.cdcl_core.proofs.solving.run.Given as goal
 
 abbrev pub invariant-loop-round : goal.invariant-loop-round
 invariant-loop-round g l =
-    Running (codes_of l.formula.clauses) (length l.initial.arena.chains) l.arena l.refs.items l.reasons.items l.trail l.current l.log.items l.round
+    Running (codes_of l.formula.clauses) (length l.initial.arena.chains) l.arena l.refs.items l.ids.items l.reasons.items l.trail l.current l.log.items l.round
     × (l.steps ≤ l.initial.steps + l.round * (l.variables + 1))

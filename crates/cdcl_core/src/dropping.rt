@@ -1,0 +1,194 @@
+//! Clauses that are true before any decision.
+//!
+//! Such a clause is dropped, unless a literal is true by it: nothing follows from it any more. The
+//! arena is compacted once dropped clauses have more than half of its words.
+
+ghost use Rattle.std.specs.Prelude.{◌≡◌, ◌≢◌, ℕ, ◌+◌, ◌<◌, OnOk, IfOk, IsTrue, ◌↔◌, All, AllPairs, Any, List, length, Contains, Option, Some, None, slice_get, get_or, false, true};
+ghost use Rattle.clause_arena.specs.Contents.{references_of};
+ghost use Rattle.cdcl_core.specs.Implied.{clauses_of, IsNoReason};
+ghost use Rattle.cdcl_core.specs.Held.{Covers};
+ghost use Rattle.cdcl_core.specs.Dropped.{Remains, AreDropped, IsMarkedAt, IsRenamed};
+ghost use Rattle.cdcl_core.specs.Searched.{IsBase};
+
+use crate::hinting::place_of;
+use clause_arena::{Arena, Memory, Ref};
+use clause_model::{Assignment, Literal};
+use lrat_check::Id;
+use std::alloc::Global;
+
+/// Whether a literal of the clause is true.
+fn has_true(literals: &[u32], trail: &Assignment) -> bool
+    ensures { IsTrue result ↔ Any (Contains trail.now) literals.now }
+{
+    for literal in literals {
+        if trail.is_true(Literal::from_code(*literal)) {
+            return true;
+        }
+    }
+    false
+}
+
+/// Whether a clause may be dropped.
+fn is_spare(literals: &[u32], trail: &Assignment, is_reason: bool) -> bool
+    ensures { IsTrue result ↔ (is_reason ≡ false) × Any (Contains trail.now) literals.now }
+{
+    if is_reason {
+        return false;
+    }
+    has_true(literals, trail)
+}
+
+/// Marks the clauses by which literals are true.
+fn mark_reasons(alloc: Global, refs: &[Ref], reasons: &[Option<Ref>]) -> Result<Vec<bool>, Memory>
+    requires ascending { AllPairs (λ r s. r < s) refs.now }
+    requires within { (k r : ℕ) → slice_get reasons.now k ≡ Some (Some r) → Contains refs.now r }
+    ensures length { IfOk result (λ v. length v.items ≡ length refs.now) }
+    ensures marked { IfOk result (λ v. (k r : ℕ) → slice_get reasons.now k ≡ Some (Some r) → IsMarkedAt refs.now v.items r) }
+    ensures only { IfOk result (λ v. (j : ℕ) → get_or v.items j false ≡ true → IsNoReason reasons.now (get_or refs.now j 0) → ⊥) }
+{
+    let mut marks = vec![in alloc; false; refs.len()]?;
+    for reason in reasons {
+        match *reason {
+            Some(at) => {
+                let place = place_of(refs, at);
+                marks[place] = true;
+            }
+            None => {}
+        }
+    }
+    Ok(marks)
+}
+
+/// Drops the clauses that have a true literal, unless a literal is true by them.
+fn drop_spare(
+    alloc: Global,
+    arena: &mut Arena,
+    refs: &[Ref],
+    trail: &Assignment,
+    reasons: &[Option<Ref>],
+) -> Result<(), Memory>
+    requires base { IsBase (clauses_of arena.old) (length arena.old.chains) arena.old refs.now reasons.now trail.now None }
+    ensures base { OnOk result (IsBase (clauses_of arena.old) (length arena.old.chains) arena.new refs.now reasons.now trail.now None) }
+    ensures dropped { OnOk result (AreDropped arena.new refs.now reasons.now trail.now (length refs.now)) }
+{
+    let _whole = arena.literals();
+    let marks = mark_reasons(alloc, refs, reasons)?;
+    for place in 0..refs.len() {
+        let at = refs[place];
+        let is_reason = marks[place];
+        if is_spare(arena.lits(at), trail, is_reason) {
+            arena.drop_clause(at);
+        }
+    }
+    Ok(())
+}
+
+/// The clauses that aren't dropped.
+#[derive(Drop)]
+struct Remaining {
+    refs: Vec<Ref>,
+    ids: Vec<Id>,
+    /// How many words the arena has for them.
+    words: usize,
+    /// How many words it has for the others.
+    dropped_words: usize,
+}
+
+/// The clauses that aren't dropped, with their numbers.
+fn live_clauses(alloc: Global, arena: &Arena, refs: &[Ref], ids: &[Id]) -> Result<Remaining, Memory>
+    requires refs { refs.now ≡ references_of arena.now }
+    requires ids { length ids.now ≡ length refs.now }
+    ensures { IfOk result (λ v. Remains arena.now refs.now ids.now (length refs.now) v.refs.items v.ids.items) }
+{
+    let _whole = arena.literals();
+    let mut kept = Vec::new(alloc);
+    let mut names = Vec::new(alloc);
+    let mut words: usize = 0;
+    let mut dropped_words: usize = 0;
+    for place in 0..refs.len() {
+        let at = refs[place];
+        let size = arena.lits(at).len().saturating_add(6);
+        if arena.is_dropped(at) {
+            dropped_words = dropped_words.saturating_add(size);
+            continue;
+        }
+        words = words.saturating_add(size);
+        kept.push(at)?;
+        names.push(ids[place])?;
+    }
+    Ok(Remaining {
+        refs: kept,
+        ids: names,
+        words,
+        dropped_words,
+    })
+}
+
+/// The new reference of a clause.
+fn moved_to(kept: &[Ref], moved: &[Ref], at: Ref) -> Ref
+    requires ascending { AllPairs (λ r s. r < s) kept.now }
+    requires within { Contains kept.now at }
+    requires as_many { length moved.now ≡ length kept.now }
+    ensures { (j : ℕ) × (slice_get kept.now j ≡ Some at) × (slice_get moved.now j ≡ Some result) }
+{
+    moved[place_of(kept, at)]
+}
+
+/// The reasons by their new references.
+fn rename(
+    alloc: Global,
+    kept: &[Ref],
+    moved: &[Ref],
+    reasons: &[Option<Ref>],
+) -> Result<Vec<Option<Ref>>, Memory>
+    requires ascending { AllPairs (λ r s. r < s) kept.now }
+    requires within { (k r : ℕ) → slice_get reasons.now k ≡ Some (Some r) → Contains kept.now r }
+    requires as_many { length moved.now ≡ length kept.now }
+    ensures { IfOk result (λ v. IsRenamed kept.now moved.now reasons.now (length reasons.now) v.items) }
+{
+    let mut renamed = Vec::new(alloc);
+    for reason in reasons {
+        match *reason {
+            Some(at) => renamed.push(Some(moved_to(kept, moved, at)))?,
+            None => renamed.push(None)?,
+        }
+    }
+    Ok(renamed)
+}
+
+/// Drops clauses that are true before any decision, where nothing is decided and more is true than
+/// when this was done last. Where dropped clauses have more than half of the arena's words, they go.
+pub fn drop_true(
+    alloc: Global,
+    arena: &mut Arena,
+    refs: &mut Vec<Ref>,
+    ids: &mut Vec<Id>,
+    trail: &Assignment,
+    reasons: &mut Vec<Option<Ref>>,
+    swept: &mut usize,
+) -> Result<(), Memory>
+    requires base { IsBase (clauses_of arena.old) (length arena.old.chains) arena.old refs.old.items reasons.old.items trail.now None }
+    requires ids { length ids.old.items ≡ length refs.old.items }
+    ensures base { OnOk result (IsBase (clauses_of arena.new) (length arena.old.chains) arena.new refs.new.items reasons.new.items trail.now None) }
+    ensures swept { swept.new ≡ length trail.now }
+    ensures dropped { OnOk result (swept.old ≢ length trail.now → AreDropped arena.new refs.new.items reasons.new.items trail.now (length refs.new.items)) }
+    ensures covers { OnOk result ((clauses : List (List ℕ)) → Covers clauses (clauses_of arena.old) ids.old.items trail.now → Covers clauses (clauses_of arena.new) ids.new.items trail.now) }
+{
+    if trail.len() == *swept {
+        return Ok(());
+    }
+    *swept = trail.len();
+    drop_spare(alloc, arena, refs, trail, reasons)?;
+    let rest = live_clauses(alloc, arena, refs, ids)?;
+    if rest.dropped_words <= rest.words {
+        return Ok(());
+    }
+    let _whole = arena.literals();
+    let mut moved = Vec::from_slice(alloc, &rest.refs)?;
+    arena.compact(&mut moved)?;
+    let _compacted = arena.literals();
+    *reasons = rename(alloc, &rest.refs, &moved, reasons)?;
+    *refs = moved;
+    *ids = rest.ids;
+    Ok(())
+}
