@@ -23,7 +23,10 @@ proved=$(build_proved learner_times "$top/bench/learner/proved.rs" listing_parse
 peep=$top/crates/peep/out/peep
 
 mapfile -t listings < <(find "$folder" -type f | sort | head -n "$count")
-for listing in "${listings[@]}"; do "$work/harvest" windows < "$listing" > "$work/tables/$(basename "$listing")" 2> "$work/told"; done
+for listing in "${listings[@]}"; do
+    table=$work/tables/$(basename "$listing")
+    "$work/harvest" windows < "$listing" > "$table" 2> "$work/told"
+done
 
 # learning PROGRAM LISTING: the proved program reads the listing, the plain one its windows.
 learning() {
@@ -46,7 +49,7 @@ for listing in "${listings[@]}"; do
     cmp "$work/peep.table" "$work/plain.table"
     proved_sum=$((proved_sum + $(shortest proved 1))) plain_sum=$((plain_sum + $(shortest plain 1))) peep_sum=$((peep_sum + $(shortest peep 1) / 1000))
     tail -n 1 "$work/plain.times" >> "$work/shares"
-    echo "$(basename "$listing"): $(cat "$work/printed" | tr '\n' ' ')proved $(shortest proved 1) ms, plain Rust $(shortest plain 1) ms"
+    echo "$(basename "$listing"): $(tr '\n' ' ' < "$work/printed")proved $(shortest proved 1) ms, plain Rust $(shortest plain 1) ms"
 done
 windows=$(awk '{ sum += $2 } END { print sum }' "$work/shares")
 print_times "learning $windows windows of ${#listings[@]} listings" ms "$proved_sum" "$plain_sum"
