@@ -3,15 +3,13 @@
 //! and how many instructions there were before and after. In Rattle; rewriting.sh builds it.
 #![tactic(auto)]
 
-ghost use Rattle.std.specs.Prelude.{◌≡◌, ◌<◌, ◌≤◌, length};
+ghost use Rattle.std.specs.Prelude.{◌≤◌, length};
 
 use listing_parser::{Line, Statement, parse, print};
 use rule_table::read_table;
 use std::io::{Read, Write};
-use std::marker::Brand;
-use std::sync::ledger::{Blank, Ledger as Name};
 use std::time::Instant;
-use step_ledger::{Free, Ledger, Steps};
+use step_ledger::{Counted, Ledger, Steps};
 use table_audit::{Audited, audit};
 use window_rewrite::{Rewritten, rewrite};
 
@@ -78,24 +76,19 @@ fn rewriting<L: Ledger>(
     Ok(())
 }
 
-/// Reads and audits the table, with steps that are counted in contracts alone, and rewrites the listing by it.
-fn audited<N: Name>(
+/// Reads and audits the table, and rewrites the listing by it.
+fn audited<L: Ledger>(
     rt: &HostRuntime,
     table: &[u8],
     listing: &[u8],
-    blank: Blank,
-) -> anyhow::Result<()>
-    requires name { blank.name ≡ N.name }
-    requires parts { blank.parts ≡ N.parts }
-    requires some { 0 < blank.parts }
-{
+    steps: &mut Steps<L>,
+) -> anyhow::Result<()> {
     let start = Instant::now(rt)?;
     let table = read_table(rt.alloc(), table)?;
     let reading = start.elapsed(rt)?.as_micros();
-    let mut steps = Steps::new(Free::<N>::new(blank));
-    match audit(rt.alloc(), table, &mut steps) {
+    match audit(rt.alloc(), table, steps) {
         Err(error) => eprintln!(rt; "refused {error}")?,
-        Ok(audited) => rewriting(rt, &audited, listing, reading, &mut steps)?,
+        Ok(audited) => rewriting(rt, &audited, listing, reading, steps)?,
     }
     Ok(())
 }
@@ -104,5 +97,5 @@ fn main(rt: HostRuntime) -> anyhow::Result<()> {
     let mut text = Vec::new(rt.alloc());
     rt.stdin().read_to_end(&mut text)?;
     let (table, listing) = text.split_at(end_of_table(&text));
-    audited::<Brand>(&rt, table, listing, Blank::new(1))
+    audited(&rt, table, listing, &mut Steps::new(Counted::new()))
 }
