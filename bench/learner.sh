@@ -60,6 +60,7 @@ awk '{ all += $1; i += $3; s += $4; f += $5; o += $6 } END { printf "plain Rust:
 share() { awk -v names="$1" '$0 ~ names { sum += $1 } END { printf "%.0f %%", sum }' "$work/seen"; }
 
 if command -v perf > /dev/null; then
+    number=0
     # those that take longest say most
     for listing in "${listings[@]}"; do perf record -q -e cpu-clock -o "$work/perf.$((number += 1))" "$proved" < "$listing" > "$work/proved.table" 2> "$work/told" || true; done
     for n in $(seq "$number"); do perf report -i "$work/perf.$n" --no-children --stdio -n 2> "$work/told"; done | grep -v '^#' | awk 'NF > 3 { $1 = $2; print }' > "$work/counts"
