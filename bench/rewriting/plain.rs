@@ -23,7 +23,7 @@ mod reach;
 #[path = "../listing_lines/plain/words.rs"]
 mod words;
 
-use crate::instruction::{instruction, Instr};
+use crate::instruction::instruction;
 use crate::layout::{layout, Fault, LayoutError};
 use crate::line::Statement;
 use crate::listing::{parse, Listing};
