@@ -1,6 +1,6 @@
 //! Formulas as the clauses of an arena.
 
-ghost use Rattle.std.specs.Prelude.{◌≡◌, ◌≢◌, ℕ, ◌<◌, ◌≤◌, ◌*◌, ◌^◌, IfOk, All, Any, None, true, false, List, [], map, length};
+ghost use Rattle.std.specs.Prelude.{◌≡◌, ◌≢◌, ℕ, ◌<◌, ◌≤◌, ◌*◌, ◌^◌, IfOk, OnOk, All, Any, None, true, false, List, [], map, length};
 ghost use Rattle.clause_model.specs.Literals.{code_of, codes_of};
 ghost use Rattle.cnf_gates.specs.Cnf.{IsLiteral};
 ghost use Rattle.cdcl_core.specs.Searched.{IsBase};
@@ -59,16 +59,16 @@ pub fn reach(formula: &Formula) -> u32
     reach
 }
 
-/// The codes of the literals that the numbers name.
-fn codes(alloc: Global, numbers: &[i32]) -> Result<Vec<u32>, Memory>
-    ensures { IfOk result (λ v. v.items ≡ map code_of numbers.now) }
+/// Makes the codes of the literals that the numbers name all that a vector holds.
+fn write_codes(numbers: &[i32], codes: &mut Vec<u32>) -> Result<(), Memory>
+    ensures { OnOk result (codes.new.items ≡ map code_of numbers.now) }
 {
-    let mut found = Vec::new(alloc);
+    codes.clear();
     for number in numbers {
         let literal = Literal::from_number(*number);
-        found.push(literal.code())?;
+        codes.push(literal.code())?;
     }
-    Ok(found)
+    Ok(())
 }
 
 /// Gives the arena the formula's clauses; the answer is a clause that is false at once.
@@ -86,8 +86,9 @@ pub fn load(
     ensures { IfOk result (IsBase (codes_of formula.now.clauses) (length arena.old.chains) arena.new refs.new.items reasons.new.items trail.new) }
 {
     let mut conflict: Option<Ref> = None;
+    let mut literals = Vec::new(alloc);
     for i in 0..formula.clauses() {
-        let literals = codes(alloc, formula.clause(i + 1))?;
+        write_codes(formula.clause(i + 1), &mut literals)?;
         let before = conflict;
         conflict = adopt(arena, refs, trail, reasons, before, &literals)?;
     }

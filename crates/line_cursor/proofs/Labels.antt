@@ -1,11 +1,11 @@
 -- Labels at a cursor, and what stands behind it.
-use Rattle.std.proofs.Common.{◌≡◌, ◌≢◌, ℕ, zero, suc, ◌+◌, ◌-◌, ◌<◌, ◌≤◌, ◌==◌, ◌||◌, Bool, true, false, List, [], ◌∷◌, ◌++◌, length, length-append, append_assoc, append-nil, take, drop, map, reverse, Option, Some, None, refl, sym, ap, ◌∙◌, subst, inl, inr, arith, get_or, eq-eqb, ne_eqb, eqb-true}
+use Rattle.std.proofs.Common.{◌≡◌, ◌≢◌, ℕ, zero, suc, ◌+◌, ◌-◌, ◌<◌, ◌≤◌, ◌==◌, ◌||◌, Bool, true, false, List, [], ◌∷◌, ◌++◌, length, length-append, append_assoc, append-nil, take, map, refl, sym, ap, ◌∙◌, inl, inr, arith, get_or, eq-eqb, ne_eqb, eqb-true}
 use Rattle.std.specs.Prelude.{slice_get}
 use Rattle.std.proofs.lemmas.Bool.{cases_Bool}
 use Rattle.std.proofs.lemmas.List.{take_more, take_all}
-use Rattle.thumb_model.specs.Listing.{Name, Value, Statement, Nothing, Runs, Words, Aligns, Sets, Line, Label, Place, Op, Word, places_in, places_of, labels_at, labels_from, is_op_place}
+use Rattle.thumb_model.specs.Listing.{Name, Value, Statement, Nothing, Runs, Words, Aligns, Sets, Line, Label, Place, Word, places_in, places_of, labels_at, labels_from, is_op_place}
 use Rattle.thumb_model.specs.Rewritten.{is_op}
-use Rattle.thumb_model.proofs.Lists.{get_front, get_back}
+use Rattle.thumb_model.proofs.Lists.{get_back}
 use Rattle.line_cursor.specs.declared.pieces.Piece.{Piece}
 use Rattle.line_cursor.specs.Pieces.{lines_in, lines_of, begins_op, some_name, begins_labelled}
 use Rattle.line_cursor.specs.Cursors.{stands_at, NoLabelAt}

@@ -1,13 +1,12 @@
 -- Runs, line by line.
-use Rattle.std.proofs.Common.{◌≡◌, ℕ, zero, suc, ◌+◌, ◌-◌, ◌<◌, ◌≤◌, ◌&&◌, ◌||◌, Bool, true, false, List, [], ◌∷◌, ◌++◌, length, length-append, append_assoc, append-nil, take, drop, map, reverse, Option, Some, None, refl, sym, ap, ◌∙◌, subst, arith, get_or, ne_eqb, if◌then◌else◌}
+use Rattle.std.proofs.Common.{◌≡◌, ℕ, zero, suc, ◌+◌, ◌-◌, ◌<◌, ◌≤◌, ◌&&◌, ◌||◌, Bool, true, false, List, [], ◌∷◌, ◌++◌, length, length-append, append_assoc, append-nil, take, reverse, Option, Some, None, refl, sym, ap, ◌∙◌, subst, arith, get_or, ne_eqb, if◌then◌else◌}
 use Rattle.std.specs.Prelude.{nat_eq}
-use Rattle.std.specs.List.{flat_map}
-use Rattle.std.proofs.lemmas.List.{take_more, reverse-append, get_or_default}
+use Rattle.std.proofs.lemmas.List.{take_more, reverse-append}
 use Rattle.thumb_instr.specs.declared.instr.Instr.{Instr}
-use Rattle.thumb_model.specs.Listing.{Name, Mention, Value, Statement, Nothing, Runs, Words, Aligns, Sets, Line, places_in, places_of}
-use Rattle.window_harvest.specs.declared.rows.Row.{Row}
-use Rattle.window_harvest.specs.Rows.{is_unlabelled, letter_of, rows_of, stays_joined, rows_from}
-use Rattle.window_harvest.specs.Runs.{letter_at, before, run}
+use Rattle.thumb_model.specs.Listing.{Name, Statement, Nothing, Runs, Words, Aligns, Sets, Line}
+use Rattle.window_runs.specs.declared.rows.Row.{Row}
+use Rattle.window_runs.specs.Rows.{is_unlabelled, letter_of, rows_of, stays_joined, rows_from}
+use Rattle.window_runs.specs.Runs.{run}
 use Rattle.line_cursor.specs.declared.pieces.Piece.{Piece}
 use Rattle.line_cursor.specs.declared.pieces.Piece.TheVariants as piece
 use Rattle.line_cursor.specs.declared.pieces.Look.{Look}
@@ -15,7 +14,7 @@ use Rattle.line_cursor.specs.declared.pieces.Look.TheVariants as look
 use Rattle.thumb_model.specs.Rewritten.{labels_kept}
 use Rattle.listing_parser.specs.Views.{line_view, names_view}
 use Rattle.line_cursor.specs.Pieces.{lines_in, lines_of}
-use Rattle.line_cursor.specs.Looks.{look_letter, look_statement, look_line, look_lines}
+use Rattle.line_cursor.specs.Looks.{look_letter, look_statement, look_lines}
 
 abbrev rows_at : Bool → Statement → List Line → List Row
 rows_at b s ls = rows_of b s ++ rows_from (stays_joined b s) ls

@@ -1,22 +1,20 @@
 -- What applies well before a replacement applied there before it.
-use Rattle.std.proofs.Common.{◌≡◌, ℕ, zero, suc, ◌+◌, ◌-◌, ◌<◌, ◌≤◌, ◌==◌, ◌&&◌, Bool, true, false, List, [], ◌∷◌, ◌++◌, length, take, drop, map, Option, Some, None, refl, sym, ap, ◌∙◌, subst, ◌⊎◌, ◌↔◌, inl, inr, arith, min, max, ne_eqb, if◌then◌else◌}
+use Rattle.std.proofs.Common.{◌≡◌, ℕ, zero, suc, ◌+◌, ◌-◌, ◌<◌, ◌≤◌, ◌==◌, ◌&&◌, Bool, true, false, List, [], ◌∷◌, ◌++◌, length, take, drop, map, Some, refl, sym, ap, ◌∙◌, subst, ◌⊎◌, inl, inr, arith, ne_eqb, if◌then◌else◌}
 use Rattle.std.specs.Prelude.{slice_get}
 use Rattle.std.specs.Option.{option_map}
 use Rattle.std.proofs.lemmas.Bool.{cases_lt}
-use Rattle.std.proofs.lemmas.List.{take-take, take-append-le}
-use Rattle.std.proofs.lemmas.Option.{slice_get-map, same_Some}
+use Rattle.std.proofs.lemmas.Option.{slice_get-map}
 use Rattle.thumb_instr.specs.declared.instr.Instr.{Instr}
 use Rattle.thumb_instr.specs.Renaming.{Low, renamed}
-use Rattle.thumb_instr.specs.Items.{has}
-use Rattle.thumb_model.specs.Listing.{Statement, Nothing, Runs, Words, Aligns, Sets, Line, Place, Op, Word, plain, Label, Code, places_in, places_of, labels_from, code_of, is_op_place, is_code}
+use Rattle.thumb_model.specs.Listing.{Statement, Nothing, Runs, Words, Aligns, Sets, Line, Place, Op, Word, plain, Label, Code, places_in, places_of, labels_from, code_of, is_op_place}
 use Rattle.thumb_model.specs.Flow.{LiveAfter}
 use Rattle.thumb_model.specs.Layout.{Layable}
 use Rattle.thumb_model.specs.Rewrite.{Rule, Applies, moved, move_label, replaced}
 use Rattle.thumb_model.specs.Rewritten.{Setting, Replacement, is_op, is_align, are_joined, are_joined_from, lines_after_rule, AppliesIn}
-use Rattle.thumb_model.proofs.Lists.{get_drop, get_take, get_front, length_map, take_all, take_short, length_drop}
+use Rattle.thumb_model.proofs.Lists.{get_drop, get_take, length_map, take_all, take_short, length_drop}
 use Rattle.thumb_model.proofs.Table.{window_length}
 use Rattle.thumb_model.proofs.LinesReplaced.{AreOps}
-use Rattle.line_cursor.specs.Cursors.{NoLabelAt, IsSettled}
+use Rattle.line_cursor.specs.Cursors.{IsSettled}
 use Rattle.line_cursor.proofs.Settled.{left_places, before_window, AreCodeStill, IsGap, settled_stay, stay_settled}
 
 -- ---- fronts ----

@@ -1,11 +1,11 @@
 -- Labels that stay code where a window goes: a look at what stands there and behind it tells.
-use Rattle.std.proofs.Common.{◌≡◌, ◌≢◌, ℕ, zero, suc, ◌+◌, ◌-◌, ◌<◌, ◌≤◌, ◌==◌, Bool, true, false, List, [], ◌∷◌, ◌++◌, length, take, drop, map, Option, Some, None, refl, sym, ap, ◌∙◌, subst, ◌⊎◌, inl, inr, arith, min, max}
+use Rattle.std.proofs.Common.{◌≡◌, ℕ, ◌+◌, ◌-◌, ◌<◌, ◌≤◌, true, false, List, [], ◌∷◌, ◌++◌, length, take, drop, map, Some, refl, sym, ap, ◌∙◌, ◌⊎◌, inl, inr, arith}
 use Rattle.std.specs.Prelude.{slice_get}
 use Rattle.std.proofs.lemmas.Bool.{cases_lt, cases_Bool}
 use Rattle.thumb_instr.specs.declared.instr.Instr.{Instr}
-use Rattle.thumb_model.specs.Listing.{Place, Op, Word, plain, Label, Code, is_op_place, is_code}
-use Rattle.thumb_model.specs.Rewrite.{moved, move_label, replaced}
-use Rattle.line_cursor.specs.Cursors.{NoLabelAt, IsSettled}
+use Rattle.thumb_model.specs.Listing.{Place, plain, Label, is_op_place}
+use Rattle.thumb_model.specs.Rewrite.{moved}
+use Rattle.line_cursor.specs.Cursors.{IsSettled}
 use Rattle.thumb_model.proofs.Lists.{get_drop, get_take, get_front, get_back, length_map, take_all}
 
 -- what is left of the instructions' places where `count` of them from place p on give way

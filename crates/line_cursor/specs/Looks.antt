@@ -2,7 +2,7 @@
 use Rattle.std.specs.Prelude.{◌||◌, Bool, List, [], ◌∷◌, Option, Some, None, if◌then◌else◌}
 use Rattle.thumb_instr.specs.declared.instr.Instr.{Instr}
 use Rattle.thumb_model.specs.Listing.{Statement, Nothing, Runs, Words, Aligns, Sets, Line}
-use Rattle.window_harvest.specs.Rows.{is_unlabelled, letter_of}
+use Rattle.window_runs.specs.Rows.{is_unlabelled, letter_of}
 use Rattle.line_cursor.specs.declared.pieces.Look.{Look}
 use Rattle.line_cursor.specs.declared.pieces.Look.TheVariants as look
 

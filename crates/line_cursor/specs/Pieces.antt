@@ -1,7 +1,6 @@
 -- The lines of pieces.
-use Rattle.std.specs.Prelude.{◌+◌, ℕ, Bool, true, false, List, [], ◌∷◌, ◌++◌, reverse, map, length}
+use Rattle.std.specs.Prelude.{Bool, true, false, List, [], ◌∷◌}
 use Rattle.std.specs.List.{flat_map}
-use Rattle.thumb_instr.specs.declared.instr.Instr.{Instr}
 use Rattle.thumb_model.specs.Listing.{Name, Line}
 use Rattle.thumb_model.specs.Rewritten.{is_op, labels_kept, new_line}
 use Rattle.listing_parser.specs.Views.{line_view, names_view}

@@ -1,22 +1,20 @@
 //! A cursor in a listing that is being rewritten: what stands before it and behind it, with what is kept of places.
-ghost use Rattle.std.specs.Prelude.{◌≡◌, ◌+◌, ◌-◌, ◌<◌, ◌≤◌, ◌++◌, ◌∷◌, [], List, length, drop, reverse, slice_get, true, false, IfOk, OnOk, Some};
-ghost use Rattle.liveness.specs.Live.{set_at};
-ghost use Rattle.std.specs.Prelude.{map};
-ghost use Rattle.listing_parser.specs.Replacing.{own_line};
-ghost use Rattle.listing_parser.specs.Views.{line_view};
-ghost use Rattle.std.specs.Prelude.{ℕ};
-ghost use Rattle.std.specs.Prelude.{◌↔◌};
+ghost use Rattle.std.specs.Prelude.{◌≡◌, ◌+◌, ◌-◌, ◌<◌, ◌≤◌, ◌↔◌, ◌++◌, ◌∷◌, [], ℕ, List, length, min, drop, map, reverse, slice_get, true, false, IfOk, OnOk, Some};
 ghost use Rattle.thumb_model.specs.Listing.{Place, is_op_place, labels_from, places_of};
-ghost use Rattle.line_cursor.specs.Cursors.{AreAhead};
 ghost use Rattle.thumb_model.specs.Rewritten.{replaced_lines, without};
 ghost use Rattle.thumb_model.proofs.LinesReplaced.{AreOps};
-ghost use Rattle.window_harvest.specs.Rows.{rows_from};
-ghost use Rattle.window_harvest.specs.Runs.{run};
+ghost use Rattle.listing_parser.specs.Replacing.{own_line};
+ghost use Rattle.listing_parser.specs.Views.{line_view};
+ghost use Rattle.liveness.specs.Live.{set_at};
+ghost use Rattle.liveness.specs.declared.flowing.Flow.{Flow};
+ghost use Rattle.window_runs.specs.Rows.{rows_from};
+ghost use Rattle.window_runs.specs.Runs.{run};
 ghost use Rattle.line_cursor.specs.declared.pieces.Piece.{Piece};
 ghost use Rattle.line_cursor.specs.Pieces.{begins_op, lines_in, lines_of};
-ghost use Rattle.line_cursor.specs.Cursors.{lines_ahead, lines_at, lines_behind, place_at, sets_of, spots_at, stands_at, IsCursor, IsSettled};
+ghost use Rattle.line_cursor.specs.Cursors.{flows_of, lines_ahead, lines_at, lines_behind, place_at, sets_of, spots_at, stands_at, AreAhead, IsCursor, IsSettled};
 
 use crate::pieces::{Look, Piece, all_lines, give_way, is_labelled, is_op, places_of, seen};
+use arrayvec::ArrayVec;
 use listing_parser::{Line, Memory};
 use liveness::Flow;
 use std::alloc::Global;
@@ -29,6 +27,21 @@ pub struct Spot {
     pub before: Items,
     pub after: Items,
     pub flow: Flow,
+}
+
+impl Default for Spot {
+    ghost use Rattle.std.specs.Prelude.{◌≡◌, None};
+
+    ghost is_default = { λ s. (s.before.bits ≡ 0) × (s.after.bits ≡ 0) × (s.flow.reads.bits ≡ 0) × (s.flow.onward ≡ None) };
+
+    /// No item is live, nothing is read, and no way goes on.
+    fn default() -> Self {
+        Spot {
+            before: Items { bits: 0 },
+            after: Items { bits: 0 },
+            flow: Flow::default(),
+        }
+    }
 }
 
 /// A cursor between two pieces.
@@ -264,6 +277,36 @@ impl<'a> Cursor<'a> {
         ensures { result ≡ run true most (rows_from true (lines_ahead self.now)) }
     {
         run(&self.ahead, most)
+    }
+
+    /// Whether nothing stands behind it.
+    pub fn is_at_end(&self) -> bool
+        ensures { (result ≡ true) ↔ (self.now.ahead.items ≡ []) }
+    {
+        self.ahead.is_empty()
+    }
+
+    /// The items that are live before the place right behind it.
+    pub fn before(&self) -> Items
+        requires { 0 < length self.now.coming.items }
+        ensures { result.bits ≡ set_at (sets_of (spots_at self.now)).before (place_at self.now) }
+    {
+        self.coming[self.coming.len() - 1].before
+    }
+
+    /// The flows of the places behind so many, in order: 64 of them, or all where fewer are left.
+    pub fn flows(&self, count: usize) -> ArrayVec<Flow, 64>
+        requires { count ≤ length self.now.coming.items }
+        ensures are { (k : ℕ) (f : Flow) → slice_get result.items k ≡ Some f → slice_get (flows_of (spots_at self.now)) (place_at self.now + (count + k)) ≡ Some f }
+        ensures many { length result.items ≡ min 64 (length self.now.coming.items - count) }
+    {
+        let mut flows = ArrayVec::new();
+        let mut at = self.coming.len() - count;
+        while at > 0 && !flows.is_full() {
+            at -= 1;
+            flows.push(self.coming[at].flow);
+        }
+        flows
     }
 
     /// The items that are live after so many places behind it.

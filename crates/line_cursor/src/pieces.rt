@@ -1,15 +1,14 @@
 //! Lines made of a listing's lines.
-ghost use Rattle.std.specs.Prelude.{◌≡◌, ◌++◌, length, map, IfOk, OnOk};
+ghost use Rattle.std.specs.Prelude.{◌≡◌, ◌++◌, length, map, IfOk, None, OnOk};
 ghost use Rattle.listing_parser.specs.Views.{line_view, statement_view};
 ghost use Rattle.listing_parser.specs.Replacing.{own_line};
 ghost use Rattle.thumb_model.specs.Listing.{places_in, places_of};
 ghost use Rattle.thumb_model.specs.Rewritten.{new_line};
-ghost use Rattle.window_harvest.specs.Rows.{letter_of};
-ghost use Rattle.std.specs.Prelude.{None};
+ghost use Rattle.window_runs.specs.Rows.{letter_of};
 ghost use Rattle.line_cursor.specs.Pieces.{begins_labelled, begins_op, labels_left, lines_in, lines_of};
 ghost use Rattle.line_cursor.specs.Looks.{look_letter, look_lines, look_statement};
 
-use listing_parser::{Line, Memory, Statement};
+use listing_parser::{Line, Memory, Statement, add_labels, copy_line, new_line};
 use std::alloc::Global;
 use thumb_instr::{Instr, in_window};
 
@@ -163,4 +162,27 @@ pub fn all_lines<'a>(alloc: Global, lines: &'a [Line]) -> Result<Vec<Piece<'a>>,
         out.push(Piece::Line(line))?;
     }
     Ok(out)
+}
+
+/// Adds the line of a piece, where it has one.
+fn add_line(alloc: Global, out: &mut Vec<Line>, piece: Piece<'_>) -> Result<(), Memory>
+    ensures { OnOk result (map line_view out.new.items ≡ map line_view out.old.items ++ lines_in piece.entry) }
+{
+    match piece {
+        Piece::Line(line) => out.push(copy_line(alloc, line)?)?,
+        Piece::Labels(line) => add_labels(alloc, out, line)?,
+        Piece::New(instr) => out.push(new_line(alloc, &instr)?)?,
+    }
+    Ok(())
+}
+
+/// The lines of pieces.
+pub fn written(alloc: Global, pieces: &[Piece<'_>]) -> Result<Vec<Line>, Memory>
+    ensures { IfOk result (λ v. map line_view v.items ≡ lines_of pieces.now) }
+{
+    let mut lines = Vec::with_capacity(alloc, pieces.len())?;
+    for piece in pieces {
+        add_line(alloc, &mut lines, *piece)?;
+    }
+    Ok(lines)
 }

@@ -23,6 +23,20 @@ pub struct Flow {
     pub onward: Option<Items>,
 }
 
+impl Default for Flow {
+    ghost use Rattle.std.specs.Prelude.{◌≡◌, None};
+
+    ghost is_default = { λ f. (f.reads.bits ≡ 0) × (f.onward ≡ None) };
+
+    /// Nothing read, and no way on.
+    fn default() -> Self {
+        Flow {
+            reads: Items { bits: 0 },
+            onward: None,
+        }
+    }
+}
+
 /// The flow of each place of a listing.
 pub fn flows(alloc: Global, listing: &Listing) -> Result<Vec<Flow>, AllocError>
     ensures { IfOk result (λ flows. AreFlows (code_of listing.now) flows.items) }

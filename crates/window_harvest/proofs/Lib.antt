@@ -1,4 +1,3 @@
-pub mod Joined
 mod Lists
 mod Alphabet
 pub mod Once

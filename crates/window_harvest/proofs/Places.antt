@@ -1,51 +1,23 @@
 -- The windows that begin at a place.
-use Rattle.std.proofs.Common.{◌≡◌, ℕ, zero, suc, ◌+◌, ◌-◌, ◌<◌, ◌≤◌, ◌&&◌, Bool, true, false, List, [], ◌∷◌, length, take, drop, map, Option, Some, None, refl, sym, ap, ◌∙◌, subst, arith, ◌↔◌, length-append}
+use Rattle.std.proofs.Common.{◌≡◌, ℕ, zero, suc, ◌+◌, ◌-◌, ◌<◌, ◌≤◌, true, false, List, [], ◌∷◌, length, take, drop, refl, sym, ap, ◌∙◌, subst, arith, ◌↔◌}
 use Rattle.thumb_instr.specs.declared.instr.Instr.{Instr}
 use Rattle.thumb_instr.specs.Items.{has}
-use Rattle.thumb_model.specs.Listing.{Statement, Nothing, Runs, Words, Aligns, Sets, Line, Word, places_in, places_of, code_of}
+use Rattle.thumb_model.specs.Listing.{Line, code_of}
 use Rattle.thumb_model.specs.Flow.{LiveAfter}
 use Rattle.liveness.specs.Live.{Sets as LiveSets}
-use Rattle.window_harvest.specs.declared.rows.Row.{Row}
-use Rattle.window_harvest.specs.Windows.{IsWindow}
-use Rattle.window_harvest.specs.Rows.{is_unlabelled, rows_of, stays_joined, rows_from}
-use Rattle.window_harvest.specs.Runs.{letter_at, before, run}
+use Rattle.window_runs.specs.declared.rows.Row.{Row}
+use Rattle.window_runs.specs.Windows.{IsWindow}
+use Rattle.window_runs.specs.Rows.{rows_from}
+use Rattle.window_runs.specs.Runs.{run}
 use Rattle.window_harvest.specs.Harvest.{Pair, Limits, spot_of, StandsThere, IsPairAt}
 use Rattle.window_harvest.specs.Keys.{AreSeen}
 use Rattle.window_harvest.specs.LimitsOf.{AreOf}
-use Rattle.window_harvest.proofs.Joined.{run_window, window_in_run}
+use Rattle.window_runs.proofs.Joined.{run_window, window_in_run}
 
 length-take : {A : Type 0} (n : ℕ) (xs : List A) → n ≤ length xs → length (take n xs) ≡ n
 length-take zero xs h = refl
 length-take (suc n) [] h = absurd (omega arith)
 length-take (suc n) (x ∷ xs) h = ap suc (length-take n xs (omega arith))
-
--- a run is no longer than the rows
-run_less : (begins : Bool) (n : ℕ) (rows : List Row) → length (run begins n rows) ≤ length rows
-run_less begins zero rows = omega arith
-run_less begins (suc n) [] = omega arith
-run_less begins (suc n) (r ∷ rs) = go (letter_at begins (r ∷ rs)) (run_less false n rs)
-  where
-    go : (o : Option Instr) → length (run false n rs) ≤ length rs → length (before o (run false n rs)) ≤ suc (length rs)
-    go None h = omega arith
-    go (Some i) h = omega arith
-
--- nor longer than asked for
-pub run_short : (begins : Bool) (n : ℕ) (rows : List Row) → length (run begins n rows) ≤ n
-run_short begins zero rows = omega arith
-run_short begins (suc n) [] = omega arith
-run_short begins (suc n) (r ∷ rs) = go (letter_at begins (r ∷ rs)) (run_short false n rs)
-  where
-    go : (o : Option Instr) → length (run false n rs) ≤ n → length (before o (run false n rs)) ≤ suc n
-    go None h = omega arith
-    go (Some i) h = omega arith
-
-length-drop : {A : Type 0} (n : ℕ) (xs : List A) → length (drop n xs) ≡ length xs - n
-length-drop zero xs = omega arith
-length-drop (suc n) [] = omega arith
-length-drop (suc n) (x ∷ xs) = length-drop n xs ∙ omega arith
-
-pub run_within : (most place last : ℕ) (rows : List Row) (is : List Instr) → is ≡ run true most (drop place rows) → place < length rows → last < length is → place + last < length rows
-run_within most place last rows is e h k = omega (arith, ap (λ (l : List Instr). length l) e, run_less true most (drop place rows), length-drop place rows)
 
 -- the front of the run from a place is a window there
 pub stands_there : (lines : List Line) (rows : List Row) (sets : LiveSets) (place most last items : ℕ) (is : List Instr) → AreOf lines rows sets → is ≡ run true most (drop place rows) → last < length is
@@ -67,29 +39,6 @@ none_beyond limits lines rows sets place most m is of e h k pair p =
     let same : is ≡ run true most (drop place (rows_from false lines)) = e ∙ ap (λ (rs : List Row). run true most (drop place rs)) of.rows_are in
     let within = window_in_run lines place most p.window (omega (arith, p.stands.as_many)) (omega (arith, p.stands.as_many)) p.stands.is_window in
     omega (arith, within, p.stands.as_many, ap (λ (l : List Instr). length l) same)
-
-map_length : {A B : Type 0} (f : A → B) (xs : List A) → length (map f xs) ≡ length xs
-map_length f [] = refl
-map_length f (x ∷ xs) = ap suc (map_length f xs)
-
--- a row for each place
-statement_length : (b : Bool) (s : Statement) → length (rows_of b s) ≡ length (places_in s)
-statement_length b Nothing = refl
-statement_length b (Runs i m) = refl
-statement_length b (Words vs) = map_length _ vs ∙ sym (map_length Word vs)
-statement_length b (Aligns size most) = refl
-statement_length b (Sets name address) = refl
-
-pub rows_length : (b : Bool) (lines : List Line) → length (rows_from b lines) ≡ length (places_of lines)
-rows_length b [] = refl
-rows_length b (l ∷ ls) =
-    omega (
-      arith,
-      length-append (rows_of (b && is_unlabelled l.names) l.statement) (rows_from (stays_joined (b && is_unlabelled l.names) l.statement) ls),
-      length-append (places_in l.statement) (places_of ls),
-      statement_length (b && is_unlabelled l.names) l.statement,
-      rows_length (stays_joined (b && is_unlabelled l.names) l.statement) ls,
-    )
 
 -- at first no pair was seen
 pub none_seen : (pool : List ℕ) → AreSeen pool [] []

@@ -11,7 +11,7 @@ use Rattle.thumb_model.specs.Rewrite.{register_count}
 use Rattle.seq_enum.specs.Lists.{numbers_from}
 use Rattle.seq_enum.specs.Alphabet.{IsOver}
 use Rattle.rule_table.specs.Canonical.{IsRenamable, IsCanonical}
-use Rattle.window_harvest.specs.Windows.{IsWindow}
+use Rattle.window_runs.specs.Windows.{IsWindow}
 
 -- a canonical window, and the items that may be live after it, as the bits of their numbers
 pub record Pair : Type 0 where

@@ -3,8 +3,8 @@ use Rattle.std.specs.Prelude.{◌≡◌, false, List}
 use Rattle.thumb_model.specs.Listing.{Line, code_of}
 use Rattle.liveness.specs.Live.{Sets, IsLive}
 use Rattle.window_harvest.specs.declared.adding.Limits.{Limits as CodeLimits}
-use Rattle.window_harvest.specs.declared.rows.Row.{Row}
-use Rattle.window_harvest.specs.Rows.{rows_from}
+use Rattle.window_runs.specs.declared.rows.Row.{Row}
+use Rattle.window_runs.specs.Rows.{rows_from}
 use Rattle.window_harvest.specs.Harvest.{Limits}
 
 abbrev pub limits_of : CodeLimits → Limits

@@ -1,19 +1,19 @@
 //! The pairs found so far, each once, in order of first appearance.
-ghost use Rattle.std.specs.Prelude.{◌≡◌, ◌≤◌, ◌<◌, ◌^◌, [], ◌∷◌, ℕ, List, false, length, map, MatchOption, OnOk};
+ghost use Rattle.std.specs.Prelude.{◌≡◌, ◌≤◌, ◌<◌, ◌^◌, [], ◌∷◌, ℕ, List, length, map, MatchOption, OnOk};
 ghost use Rattle.thumb_model.specs.Listing.{Line};
 ghost use Rattle.window_harvest.specs.Harvest.{Pair, Spot, pair_of, StandsThere, IsPairAt, spots_at, AreAdded};
 ghost use Rattle.window_harvest.specs.Keys.{IsKey, AreSeen, IsPut};
 ghost use Rattle.window_harvest.specs.LimitsOf.{limits_of, AreOf};
 
 use crate::keys::{Key, key_of};
-use crate::rows::Row;
-use crate::runs::run;
 use listing_parser::Memory;
 use liveness::Live;
 use rule_table::canonical;
 use seq_enum::Pool;
 use std::collections::HashSet;
 use thumb_instr::{Instr, Items, Mask, Seq};
+use window_runs::rows::Row;
+use window_runs::runs::run;
 
 /// How many registers and instructions a window has at most, and the numbers that it may have.
 #[derive(Clone, Copy)]

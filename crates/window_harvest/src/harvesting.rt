@@ -4,13 +4,13 @@ ghost use Rattle.liveness.specs.Live.{IsLive};
 ghost use Rattle.window_harvest.specs.Harvest.{AreHarvest, pair_of};
 
 use crate::adding::{Limits, add_place};
-use crate::rows::rows;
 use listing_parser::{Listing, Memory};
 use liveness::Live;
 use seq_enum::Pool;
 use std::alloc::Global;
 use std::collections::HashSet;
 use thumb_instr::{Mask, Seq};
+use window_runs::rows::rows;
 
 /// The distinct pairs of a canonical window and the mask of the items that are live after it, for every window of 1 to `left` instructions that names
 /// at most `regs` registers and lies in the alphabet of the registers that it names and the pool: in order of first appearance by place, then by length.

@@ -4,7 +4,5 @@
 mod adding;
 mod harvesting;
 mod keys;
-pub mod rows;
-pub mod runs;
 
 pub use harvesting::windows;

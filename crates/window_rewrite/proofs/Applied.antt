@@ -1,28 +1,36 @@
--- A rule applies in lines where it fits a window and what it leaves can stand.
+-- A rule applies in lines where it fits a window, labels stay code and what it leaves can be laid out.
 use Rattle.std.proofs.Common.{◌≡◌, ℕ, zero, suc, ◌+◌, ◌-◌, ◌<◌, ◌≤◌, ◌||◌, ◌&&◌, not, Bool, true, false, List, [], ◌∷◌, length, take, drop, map, Option, Some, refl, sym, ap, ◌∙◌, subst, ◌⊎◌, inl, inr, arith, ltb-true, lt-ltb}
 use Rattle.std.specs.Prelude.{slice_get, nat_lt}
 use Rattle.std.specs.List.{list_all}
-use Rattle.std.proofs.lemmas.Bool.{and_parts, and_from, or_cases}
+use Rattle.std.proofs.lemmas.Bool.{and_parts, and_from, or_cases, cases_Bool}
 use Rattle.std.proofs.lemmas.List.{length-map}
 use Rattle.thumb_instr.specs.declared.instr.Instr.{Instr}
 use Rattle.thumb_instr.specs.declared.instr.Instr.TheVariants as instr
 use Rattle.thumb_instr.specs.Window.{is_in_window}
 use Rattle.thumb_instr.specs.Renaming.{Low, renamed, item_under}
-use Rattle.thumb_model.specs.Items.{one_of}
-use Rattle.thumb_model.specs.Listing.{Place, Op, Word, plain, Label, Line, Code, places_of, labels_from, code_of, is_op_place, is_code}
-use Rattle.thumb_model.specs.Flow.{LiveAfter}
-use Rattle.thumb_model.specs.Rewrite.{Rule, Applies, AreOver, normalised, replaced, move_label}
-use Rattle.thumb_model.specs.Rewritten.{Setting, Replacement, replaced_lines, lines_after_rule, lines_after, are_joined_from, AppliesIn}
-use Rattle.thumb_model.specs.Layout.{Layable}
-use Rattle.thumb_model.proofs.Lists.{get_drop, get_take}
-use Rattle.thumb_model.proofs.LinesReplaced.{AreOps, AllOutside, code_replaced}
-use Rattle.thumb_model.proofs.LinesKept.{code_of_replaced}
 use Rattle.thumb_instr.proofs.RenamingLemmas.{window_renamed}
+use Rattle.thumb_model.specs.Items.{one_of}
+use Rattle.thumb_model.specs.Listing.{Place, Op, Word, plain, Label, Line, places_of, labels_from, code_of, is_op_place}
+use Rattle.thumb_model.specs.Flow.{LiveAfter}
+use Rattle.thumb_model.specs.Layout.{Layable}
+use Rattle.thumb_model.specs.Rewrite.{Rule, Applies, AreOver, IsSoundRule, moved, normalised}
+use Rattle.thumb_model.specs.Rewritten.{Setting, Replacement, replaced_lines, lines_after_rule, lines_after, are_joined_from, AppliesIn}
+use Rattle.thumb_model.proofs.Lists.{get_drop, length_drop}
+use Rattle.thumb_model.proofs.LinesReplaced.{AreOps}
 use Rattle.listing_parser.specs.Replacing.{own_line, names_no_label}
-use Rattle.window_harvest.specs.Windows.{IsWindow}
+use Rattle.liveness.specs.Kept.{KeepsAt}
+use Rattle.liveness.proofs.Applied.{applies_keeps}
+use Rattle.steady_layout.proofs.Laws.{steady_is_layable, steady_stays}
+use Rattle.window_runs.specs.Windows.{IsWindow}
 use Rattle.window_harvest.specs.Harvest.{spot_of, StandsThere}
+use Rattle.line_cursor.specs.Cursors.{IsSettled}
+use Rattle.line_cursor.proofs.Settled.{left_places, IsGap, settled_stay, stay_settled}
+use Rattle.line_cursor.proofs.Nearer.{first_op, window_within, applied_gap, applied_stay}
+use Rattle.window_rewrite.specs.declared.finding.Rules.{Rules}
+use Rattle.window_rewrite.specs.declared.ground.Ground.{Ground}
 use Rattle.window_rewrite.specs.Rewriting.{setting}
-use Rattle.window_rewrite.specs.Fitting.{Fits, IsLeft, is_allowed}
+use Rattle.window_rewrite.specs.Fitting.{Fits, is_allowed}
+use Rattle.window_rewrite.specs.Sweeps.{AreOver as AreLaid}
 use Rattle.window_rewrite.proofs.Sides.{window_count}
 
 -- ---- items ----
@@ -48,9 +56,10 @@ true_allowed mask registers x (inr o) = behind (one_of x (map (item_under regist
     behind true b e = refl
     behind false b e = e
 
--- ---- the lines that are left ----
+-- ---- the window ----
 
-ops_of : (is : List Instr) (n : ℕ) (ps : List Place) → n ≡ length is → take n ps ≡ map plain is → AreOps n ps
+-- a window's places are instructions
+pub ops_of : (is : List Instr) (n : ℕ) (ps : List Place) → n ≡ length is → take n ps ≡ map plain is → AreOps n ps
 ops_of [] zero ps e h = tt
 ops_of (i ∷ is) zero ps e h = absurd (omega arith)
 ops_of [] (suc n) ps e h = absurd (omega arith)
@@ -58,17 +67,47 @@ ops_of (i ∷ is) (suc n) [] e h = absurd (cc)
 ops_of (i ∷ is) (suc n) (Op j mention ∷ ps) e h = ops_of is n ps (omega arith) (cc)
 ops_of (i ∷ is) (suc n) (Word w ∷ ps) e h = absurd (cc)
 
-outside_of : (p count : ℕ) (ls : List Label) → ((k : ℕ) (l : Label) → slice_get ls k ≡ Some l → (l.place ≤ p) ⊎ (p + count ≤ l.place)) → AllOutside p count ls
-outside_of p count [] h = tt
-outside_of p count (l ∷ ls) h = (h 0 l refl, outside_of p count ls (λ k m e. h (suc k) m e))
+-- instructions among places, by their numbers
+pub ops_at : (n p : ℕ) (ps : List Place) → AreOps n (drop p ps) → (k : ℕ) → k < n → is_op_place (slice_get ps (p + k)) ≡ true
+ops_at n p ps a k h = ap is_op_place (sym (get_drop p ps k (p + k) refl)) ∙ among n (drop p ps) a k h
+  where
+    among : (n : ℕ) (ps : List Place) → AreOps n ps → (k : ℕ) → k < n → is_op_place (slice_get ps k) ≡ true
+    among zero ps a k h = absurd (omega arith)
+    among (suc n) [] a k h = absurd a
+    among (suc n) (Word w ∷ ps) a k h = absurd a
+    among (suc n) (Op i m ∷ ps) a zero h = refl
+    among (suc n) (Op i m ∷ ps) a (suc k) h = among n ps a k (omega arith)
 
--- the places and labels of the lines that are left where a window goes
-code_left : (lines : List Line) (place n : ℕ) (window is : List Instr) → IsWindow lines place window → n ≡ length window → length is < n → code_of (replaced_lines own_line place n is lines) ≡ replaced (code_of lines) place n is
-code_left lines place zero window is w e s = absurd (omega arith)
-code_left lines place (suc n) window is w e s =
-    code_replaced own_line place n is lines s
-    (ops_of window (suc n) (drop place (places_of lines)) e (ap (λ k. take k (drop place (places_of lines))) e ∙ w.stands))
-    (outside_of place (suc n) (labels_from 0 lines) (subst (λ k. (j : ℕ) (l : Label) → slice_get (labels_from 0 lines) j ≡ Some l → (l.place ≤ place) ⊎ (place + k ≤ l.place)) (sym e) w.unlabelled))
+pub ops_within : (n p : ℕ) (ps : List Place) → 0 < n → AreOps n (drop p ps) → p + n ≤ length ps
+ops_within n p ps some a = let m = many n (drop p ps) a in let d = length_drop p ps in omega arith
+  where
+    many : (n : ℕ) (ps : List Place) → AreOps n ps → n ≤ length ps
+    many zero ps a = omega arith
+    many (suc n) [] a = absurd a
+    many (suc n) (Word w ∷ ps) a = absurd a
+    many (suc n) (Op i m ∷ ps) a = let r = many n ps a in omega arith
+
+window_gap : (lines : List Line) (place : ℕ) (window is : List Instr) → IsWindow lines place window → length is < length window → IsGap (places_of lines) (labels_from 0 lines) place (length window) is
+window_gap lines place window is w shorter = record {
+  within = window_within window (length window) (places_of lines) place refl (omega arith) w.stands;
+  shorter = shorter;
+  first = first_op window (length window) (places_of lines) place refl (omega arith) w.stands;
+  unlabelled = w.unlabelled;
+}
+
+plain_same : (is js : List Instr) → map plain is ≡ map plain js → is ≡ js
+plain_same [] [] e = refl
+plain_same [] (j ∷ js) e = absurd (cc)
+plain_same (i ∷ is) [] e = absurd (cc)
+plain_same (i ∷ is) (j ∷ js) e =
+    let here : i ≡ j = cc in
+    let there : map plain is ≡ map plain js = cc in
+    ap (λ k. k ∷ is) here ∙ ap (λ ks. j ∷ ks) (plain_same is js there)
+
+-- the window that gives way where a rule applies is the one that stands there
+same_window : (rule : Rule) (registers : List Low) (lines : List Line) (place : ℕ) (window : List Instr) → length rule.left ≡ length window → IsWindow lines place window
+    → (a : Applies rule registers (code_of lines) place) → a.window ≡ window
+same_window rule registers lines place window n w a = plain_same a.window window (sym a.stands ∙ ap (λ k. take k (drop place (places_of lines))) n ∙ w.stands)
 
 -- ---- the new instructions ----
 
@@ -85,38 +124,23 @@ pub plain_all : (k : ℕ) (r : List Low) (is : List Instr) → AreOver k is → 
 plain_all k r [] h = refl
 plain_all k r (i ∷ is) h = and_from (names_no_label (renamed r i)) (list_all names_no_label (map (renamed r) is)) (plain_letter (renamed r i) (window_renamed r i h.0)) (plain_all k r is h.2)
 
--- each place of a window is an instruction
-pub window_ops : (lines : List Line) (place n : ℕ) (window : List Instr) → IsWindow lines place window → n ≡ length window → (k : ℕ) → k < n → is_op_place (slice_get (places_of lines) (place + k)) ≡ true
-window_ops lines place n window w e k h =
-    let here : slice_get (places_of lines) (place + k) ≡ slice_get (map plain window) k =
-    sym (get_drop place (places_of lines) k (place + k) refl) ∙ sym (get_take (length window) (drop place (places_of lines)) k (omega arith)) ∙ ap (λ (ps : List Place). slice_get ps k) w.stands in
-    ap is_op_place here ∙ among window k (omega arith)
-  where
-    among : (is : List Instr) (k : ℕ) → k < length is → is_op_place (slice_get (map plain is) k) ≡ true
-    among [] k h = absurd (omega arith)
-    among (i ∷ is) zero h = refl
-    among (i ∷ is) (suc k) h = among is k (omega arith)
-
 -- the replacement by a rule of a number under a map
 abbrev pub made : ℕ → ℕ → List Low → Replacement
 made place number registers = record { place = place; entry = number; registers = registers }
 
 -- ---- forth ----
 
-pub applied : (base : ℕ) (rules : List Rule) (lines : List Line) (place number : ℕ) (rule : Rule) (registers : List Low) (window : List Instr) (live : ℕ) (new : List Line)
-    → slice_get rules number ≡ Some rule → StandsThere lines (spot_of place (length window)) window live → Fits rule registers window live → IsLeft rule registers lines place base new
-    → AppliesIn (setting base rules) (made place number registers) lines × (new ≡ lines_after (setting base rules) (made place number registers) lines)
-applied base rules lines place number rule registers window live new at there fits left =
-    let s : Setting = setting base rules in
-    let r : Replacement = made place number registers in
+-- a rule that fits a window applies there, where labels stay code
+pub fitted : (lines : List Line) (place : ℕ) (rule : Rule) (registers : List Low) (window : List Instr) (live : ℕ) → StandsThere lines (spot_of place (length window)) window live → Fits rule registers window live
+    → IsSettled (places_of lines) (labels_from 0 lines) place (length window) (map (renamed registers) rule.right) → Applies rule registers (code_of lines) place
+fitted lines place rule registers window live there fits settled =
     let is : List Instr = map (renamed registers) rule.right in
     let w = there.is_window in
     let n : length window ≡ length rule.left = window_count rule registers window fits.stands in
     let m : length is ≡ length rule.right = length-map rule.right (renamed registers) in
     let shorter = fits.shorter in
-    let code : code_of new ≡ replaced (code_of lines) place (length rule.left) is =
-    ap code_of left.is ∙ code_left lines place (length rule.left) window is w (sym n) (omega arith) in
-    let applies : Applies rule registers (code_of lines) place = record {
+    let stay = settled_stay (places_of lines) (labels_from 0 lines) place (length window) is (window_gap lines place window is w (omega arith)) settled in
+    record {
       as_many = fits.stands.as_many;
       one_to_one = fits.stands.one_to_one;
       window = window;
@@ -125,49 +149,76 @@ applied base rules lines place number rule registers window live new at there fi
       unlabelled = subst (λ k. (j : ℕ) (l : Label) → slice_get (labels_from 0 lines) j ≡ Some l → (l.place ≤ place) ⊎ (place + k ≤ l.place)) n w.unlabelled;
       shorter = shorter;
       live = λ x h. allowed_true rule.mask registers x (fits.allowed x ((there.live x).1 (subst (λ k. LiveAfter (code_of lines) (place + k - 1) x) (sym n) h)));
-      labels_stay = λ k l e h. subst (λ (c : Code). is_code c.places (move_label place (length rule.left - length rule.right) l) ≡ true) code (left.stay k l e h);
-    } in
-    let after : lines_after s r lines ≡ new = ap (λ o. lines_after_rule s o r lines) at ∙ sym left.is in (
-      record {
+      labels_stay = λ k l e h.
+          subst (λ c. is_op_place (slice_get (left_places place c is (places_of lines)) (moved place (c - length rule.right) l.place)) ≡ true) n
+          (subst (λ c. is_op_place (slice_get (left_places place (length window) is (places_of lines)) (moved place (length window - c) l.place)) ≡ true) m (stay k l e h));
+    }
+
+-- in the lines of a sweep, what a rule leaves can be laid out: where its ground isn't steady, that is asked for
+pub laid : (r : Rules) (g : Ground) (lines : List Line) (place : ℕ) (rule : Rule) (registers : List Low) (window : List Instr) → AreLaid r g lines → IsSoundRule rule → length window ≡ length rule.left
+    → (g.steady ≡ false → Layable r.base (replaced_lines own_line place (length window) (map (renamed registers) rule.right) lines)) → Applies rule registers (code_of lines) place
+    → Layable r.base (replaced_lines own_line place (length rule.left) (map (renamed registers) rule.right) lines)
+laid r g lines place rule registers window over sound n asked a =
+    let is : List Instr = map (renamed registers) rule.right in
+    elim (cases_Bool g.steady) [
+      | inl s ↦ steady_is_layable r.base (replaced_lines own_line place (length rule.left) is lines) (over.aligned s) (steady_stays r.base own_line rule registers place lines sound a (over.steady s))
+      | inr s ↦ subst (λ c. Layable r.base (replaced_lines own_line place c is lines)) n (asked s)
+    ]
+
+-- a rule puts new instructions in place of a window
+pub record IsMade (s : Setting) (lines : List Line) (place number : ℕ) (registers : List Low) (window new : List Instr) : Type 0 where
+  pub applies : AppliesIn s (made place number registers) lines
+  pub keeps : KeepsAt (code_of lines) place window new
+  pub leaves : replaced_lines s.write place (length window) new lines ≡ lines_after s (made place number registers) lines
+
+pub applied : (base : ℕ) (rules : List Rule) (lines : List Line) (place number : ℕ) (rule : Rule) (registers : List Low) (window : List Instr) (live : ℕ) (new : List Instr)
+    → slice_get rules number ≡ Some rule → IsSoundRule rule → StandsThere lines (spot_of place (length window)) window live → Fits rule registers window live → new ≡ map (renamed registers) rule.right
+    → IsSettled (places_of lines) (labels_from 0 lines) place (length window) new
+    → (Applies rule registers (code_of lines) place → Layable base (replaced_lines own_line place (length rule.left) (map (renamed registers) rule.right) lines))
+    → IsMade (setting base rules) lines place number registers window new
+applied base rules lines place number rule registers window live new at sound there fits same settled layable =
+    let s : Setting = setting base rules in
+    let r : Replacement = made place number registers in
+    let is : List Instr = map (renamed registers) rule.right in
+    let n : length window ≡ length rule.left = window_count rule registers window fits.stands in
+    let a = fitted lines place rule registers window live there fits (subst (λ (js : List Instr). IsSettled (places_of lines) (labels_from 0 lines) place (length window) js) same settled) in
+    let after : lines_after s r lines ≡ replaced_lines own_line place (length rule.left) is lines = ap (λ o. lines_after_rule s o r lines) at in
+    record {
+      applies = record {
         rule = rule;
         is_rule = at;
-        applies = applies;
-        joined = subst (λ k. are_joined_from place k lines ≡ true) n w.joined;
-        layable = subst (Layable base) left.is left.layable;
-      },
-      sym after,
-    )
+        applies = a;
+        joined = subst (λ k. are_joined_from place k lines ≡ true) n there.is_window.joined;
+        layable = layable a;
+      };
+      keeps =
+          subst (λ (js : List Instr). KeepsAt (code_of lines) place window js) (sym same)
+          (subst (λ (js : List Instr). KeepsAt (code_of lines) place js is) (same_window rule registers lines place window (sym n) there.is_window a) (applies_keeps rule registers (code_of lines) place sound a));
+      leaves = ap (λ (js : List Instr). replaced_lines own_line place (length window) js lines) same ∙ ap (λ k. replaced_lines own_line place k is lines) n ∙ sym after;
+    }
 
 -- ---- back ----
-
-plain_same : (is js : List Instr) → map plain is ≡ map plain js → is ≡ js
-plain_same [] [] e = refl
-plain_same [] (j ∷ js) e = absurd (cc)
-plain_same (i ∷ is) [] e = absurd (cc)
-plain_same (i ∷ is) (j ∷ js) e =
-    let here : i ≡ j = cc in
-    let there : map plain is ≡ map plain js = cc in
-    ap (λ k. k ∷ is) here ∙ ap (λ ks. j ∷ ks) (plain_same is js there)
 
 same_rule : (a b : Rule) (o : Option Rule) → o ≡ Some a → o ≡ Some b → a ≡ b
 same_rule a b o e f = let g : (let x : Option Rule = Some a in x) ≡ Some b = sym e ∙ f in cc
 
 -- what a rule's applying says of the window that stands there
-pub record IsApplied (base : ℕ) (rules : List Rule) (lines : List Line) (place number : ℕ) (registers : List Low) (window : List Instr) (live : ℕ) (rule : Rule) : Type 0 where
+pub record IsApplied (base : ℕ) (lines : List Line) (place : ℕ) (rule : Rule) (registers : List Low) (window : List Instr) (live : ℕ) : Type 0 where
   pub fits : Fits rule registers window live
-  pub new : List Line
-  pub left : IsLeft rule registers lines place base new
+  pub settled : IsSettled (places_of lines) (labels_from 0 lines) place (length window) (map (renamed registers) rule.right)
+  pub layable : Layable base (replaced_lines own_line place (length window) (map (renamed registers) rule.right) lines)
 
 pub back : (base : ℕ) (rules : List Rule) (lines : List Line) (place number : ℕ) (rule : Rule) (registers : List Low) (window : List Instr) (live : ℕ)
     → slice_get rules number ≡ Some rule → length rule.left ≡ length window → StandsThere lines (spot_of place (length window)) window live → AppliesIn (setting base rules) (made place number registers) lines
-    → IsApplied base rules lines place number registers window live rule
+    → IsApplied base lines place rule registers window live
 back base rules lines place number rule registers window live at n there a =
     let s : Setting = setting base rules in
     let r : Replacement = made place number registers in
+    let is : List Instr = map (renamed registers) rule.right in
     let same : a.rule ≡ rule = same_rule a.rule rule (slice_get rules number) a.is_rule at in
     let applies : Applies rule registers (code_of lines) place = subst (λ (k : Rule). Applies k registers (code_of lines) place) same a.applies in
     let layable : Layable base (lines_after_rule s (Some rule) r lines) = subst (λ (k : Rule). Layable base (lines_after_rule s (Some k) r lines)) same a.layable in
-    let w : applies.window ≡ window = plain_same applies.window window (sym applies.stands ∙ ap (λ k. take k (drop place (places_of lines))) n ∙ there.is_window.stands) in
+    let w : applies.window ≡ window = same_window rule registers lines place window n there.is_window applies in
     record {
       fits = record {
         stands = record {
@@ -178,10 +229,8 @@ back base rules lines place number rule registers window live at n there a =
         shorter = applies.shorter;
         allowed = λ x h. true_allowed rule.mask registers x (applies.live x (subst (λ k. LiveAfter (code_of lines) (place + k - 1) x) (sym n) ((there.live x).0 h)));
       };
-      new = lines_after_rule s (Some rule) r lines;
-      left = record {
-        is = refl;
-        stay = λ k l e h. subst (λ (c : Code). is_code c.places (move_label place (length rule.left - length rule.right) l) ≡ true) (sym (code_of_replaced s rule r lines applies)) (applies.labels_stay k l e h);
-        layable = layable;
-      };
+      settled =
+          subst (λ k. IsSettled (places_of lines) (labels_from 0 lines) place k is) n
+          (stay_settled (places_of lines) (labels_from 0 lines) place (length rule.left) is (applied_gap rule registers (code_of lines) place applies) (applied_stay rule registers (code_of lines) place applies));
+      layable = subst (λ k. Layable base (replaced_lines own_line place k is lines)) n layable;
     }

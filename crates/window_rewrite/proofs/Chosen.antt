@@ -1,41 +1,51 @@
 -- Which choice comes first: the lowest of a length, the longest of a place, and the least place.
-use Rattle.std.proofs.Common.{◌≡◌, ℕ, zero, suc, ◌+◌, ◌-◌, ◌*◌, ◌<◌, ◌≤◌, ◌==◌, Bool, true, false, List, [], ◌∷◌, length, take, drop, map, Option, Some, None, refl, sym, ap, ◌∙◌, subst, arith, ◌⊎◌, ◌↔◌, inl, inr, eq-eqb, mul-le-mul_right}
+use Rattle.std.proofs.Common.{◌≡◌, ℕ, zero, suc, ◌+◌, ◌-◌, ◌*◌, ◌<◌, ◌≤◌, ◌==◌, Bool, true, false, List, [], ◌∷◌, length, take, drop, map, Option, Some, None, refl, sym, ap, ◌∙◌, subst, arith, ◌⊎◌, ◌↔◌, inl, inr, eq-eqb, mul-le-mul_right, ◌++◌, reverse}
 use Rattle.std.specs.Prelude.{slice_get, nat_lt}
 use Rattle.std.specs.Int.{from_bool}
 use Rattle.std.specs.List.{list_all}
 use Rattle.std.proofs.lemmas.Grind.{common_steps}
 use Rattle.std.proofs.lemmas.Option.{slice_get_within}
-use Rattle.std.proofs.lemmas.Bool.{cases_lt, eqb-true, ltb-true, lt-ltb}
+use Rattle.std.proofs.lemmas.Bool.{cases_lt, cases_Bool, eqb-true, ltb-true, lt-ltb}
 use Rattle.thumb_instr.specs.declared.instr.Instr.{Instr}
 use Rattle.thumb_instr.specs.Items.{has}
 use Rattle.thumb_instr.specs.Window.{is_in_window}
 use Rattle.thumb_instr.specs.Renaming.{Low}
-use Rattle.thumb_model.specs.Listing.{plain, Place, Label, Line, places_of, labels_from, code_of}
+use Rattle.thumb_model.specs.Listing.{plain, Place, Label, Line, places_of, labels_from, code_of, is_op_place}
 use Rattle.thumb_model.specs.Rewrite.{Rule}
 use Rattle.thumb_model.specs.Rewritten.{Setting, Replacement, AppliesIn, NoneApplies, are_joined_from, left_length, left_length_of}
 use Rattle.thumb_model.specs.Flow.{LiveAfter}
-use Rattle.thumb_model.proofs.Lists.{length_map, take_all, take_short, length_drop}
+use Rattle.thumb_model.proofs.Lists.{get_back, length_map, take_all, take_short, length_drop}
 use Rattle.thumb_model.proofs.Window.{AreStraight}
 use Rattle.thumb_model.proofs.Table.{window_length, applies_sound}
-use Rattle.window_harvest.specs.Windows.{IsWindow}
-use Rattle.liveness.specs.Live.{Sets}
+use Rattle.window_runs.specs.Windows.{IsWindow}
+use Rattle.liveness.specs.Live.{Sets as LiveSets}
 use Rattle.rule_table.specs.declared.table.Entry.{Entry}
 use Rattle.rule_table.specs.Views.{rule_of}
 use Rattle.table_audit.specs.Soundness.{rewriting_rule}
-use Rattle.window_harvest.specs.declared.rows.Row.{Row}
-use Rattle.window_harvest.specs.Rows.{rows_from}
-use Rattle.window_harvest.specs.Runs.{run}
+use Rattle.window_runs.specs.declared.rows.Row.{Row}
+use Rattle.window_runs.specs.Rows.{rows_from}
+use Rattle.window_runs.specs.Runs.{run}
 use Rattle.window_harvest.specs.LimitsOf.{AreOf}
 use Rattle.window_harvest.specs.Harvest.{spot_of, StandsThere}
-use Rattle.window_harvest.proofs.Joined.{window_in_run}
+use Rattle.window_runs.proofs.Joined.{window_in_run}
 use Rattle.window_harvest.proofs.Places.{stands_there}
+use Rattle.line_cursor.specs.declared.pieces.Piece.{Piece}
+use Rattle.line_cursor.specs.declared.cursor.Cursor.{Cursor}
+use Rattle.line_cursor.specs.Pieces.{begins_op, lines_in, lines_of}
+use Rattle.line_cursor.specs.Cursors.{lines_at, place_at}
+use Rattle.line_cursor.proofs.Looks.{piece_short}
+use Rattle.line_cursor.proofs.Edits.{lines_back, ahead_count}
+use Rattle.line_cursor.proofs.Labels.{op_within}
+use Rattle.line_cursor.proofs.Nearer.{first_op, places_append}
 use Rattle.window_rewrite.specs.declared.choice.Choice.{Choice}
 use Rattle.window_rewrite.specs.Rewriting.{setting}
 use Rattle.window_rewrite.specs.Rules.{rules_in, AreFit, codes_of, first_with}
 use Rattle.window_rewrite.specs.Fitting.{Stands}
-use Rattle.window_rewrite.specs.Choices.{Awaits, Begins, choice_of, IsChoice, IsLowest, NoneOf, IsBest, NoneAt, IsFirstChoice, of_length, longer}
+use Rattle.window_rewrite.specs.Choices.{Awaits, Begins, choice_of, IsChoice, IsLowest, NoneOf, IsBest, NoneAt, NoneBefore, IsFirstChoice, of_length, longer}
+use Rattle.window_rewrite.specs.Sweeps.{IsKept}
 use Rattle.window_rewrite.proofs.Applied.{made, back}
 use Rattle.window_rewrite.proofs.Keys.{awaited, none_awaited}
+use Rattle.window_rewrite.proofs.Behind.{IsAhead, op_place, places_there}
 
 -- ---- counts of rules ----
 
@@ -302,7 +312,7 @@ place_within base longest rules lines o fit a =
     omega arith
 
 -- the front of the run from a place stands there
-pub front_stands : (lines : List Line) (rows : List Row) (sets : Sets) (place most count items : ℕ) (is slice : List Instr) → AreOf lines rows sets → is ≡ run true most (drop place rows) → slice ≡ is → 0 < count → count ≤ length is
+pub front_stands : (lines : List Line) (rows : List Row) (sets : LiveSets) (place most count items : ℕ) (is slice : List Instr) → AreOf lines rows sets → is ≡ run true most (drop place rows) → slice ≡ is → 0 < count → count ≤ length is
     → ((x : ℕ) → (has items x ≡ true) ↔ LiveAfter (code_of lines) (place + (count - 1)) x) → StandsThere lines (spot_of place (length (take count slice))) (take count slice) items
 front_stands lines rows sets place most zero items is slice of e f some few live = absurd (omega arith)
 front_stands lines rows sets place most (suc n) items is slice of e f some few live =
@@ -318,7 +328,7 @@ abbrev pub NoneLonger : Setting → List Line → ℕ → ℕ → Type 0
 NoneLonger s lines place count = (o : Replacement) → AppliesIn s o lines → o.place ≡ place → count < left_length s.table o.entry → ⊥
 
 -- none has one that is longer than the run from there
-pub none_beyond : (base longest : ℕ) (rules : List Rule) (lines : List Line) (rows : List Row) (sets : Sets) (place : ℕ) (is : List Instr) → AreFit longest rules → AreOf lines rows sets → is ≡ run true longest (drop place rows)
+pub none_beyond : (base longest : ℕ) (rules : List Rule) (lines : List Line) (rows : List Row) (sets : LiveSets) (place : ℕ) (is : List Instr) → AreFit longest rules → AreOf lines rows sets → is ≡ run true longest (drop place rows)
     → NoneLonger (setting base rules) lines place (length is)
 none_beyond base longest rules lines rows sets place is fit of e o a at h =
     let w = applicable base longest rules lines o fit a in
@@ -375,7 +385,7 @@ none_at base longest rules lines place fit none o a at =
 
 -- ---- the least place ----
 
-pub is_first : (s : Setting) (lines : List Line) (place : ℕ) (c : Choice) → ((o : Replacement) → AppliesIn s o lines → o.place < place → ⊥) → IsBest s lines place c → IsFirstChoice s lines c
+pub is_first : (s : Setting) (lines : List Line) (place : ℕ) (c : Choice) → NoneBefore s lines place → IsBest s lines place c → IsFirstChoice s lines c
 is_first s lines place c none b =
     let here = b.at in
     record {
@@ -388,21 +398,68 @@ is_first s lines place c none b =
         longest = λ o a e. b.longest o a (e ∙ here);
         lowest = λ o a e l. b.lowest o a (e ∙ here) l;
       };
-      leaves = b.is.leaves;
+      is = b.is;
     }
 
-pub none_more : (s : Setting) (lines : List Line) (place : ℕ) → ((o : Replacement) → AppliesIn s o lines → o.place < place → ⊥) → NoneAt s lines place → (o : Replacement) → AppliesIn s o lines → o.place < place + 1 → ⊥
-none_more s lines place none here o a l = elim (cases_lt o.place place) [
+-- where no entry applies before lines, nor at an instruction that they are, none applies before what follows them
+none_past : (base longest : ℕ) (rules : List Rule) (xs here ys : List Line) (place next : ℕ) → AreFit longest rules → place ≡ length (places_of xs) → next ≡ place + length (places_of here) → length here ≤ 1
+    → NoneBefore (setting base rules) (xs ++ (here ++ ys)) place → (begins_op here ≡ true → NoneAt (setting base rules) (xs ++ (here ++ ys)) place) → NoneBefore (setting base rules) (xs ++ (here ++ ys)) next
+none_past base longest rules xs here ys place next fit e f short none at o a l = elim (cases_lt o.place place) [
   | inl k ↦ none o a k
-  | inr k ↦ here o a (let e : o.place ≡ place = omega arith in e)
+  | inr k ↦ elim (cases_Bool (begins_op here)) [
+    | inl t ↦ (let one = op_place here short t in at t o a (let g : o.place ≡ place = omega arith in g))
+    | inr n ↦ absurd (
+        let lines : List Line = xs ++ (here ++ ys) in
+        let w = applicable base longest rules lines o fit a in
+        let some = w.some in
+        let op : is_op_place (slice_get (places_of lines) o.place) ≡ true = first_op w.window (length w.window) (places_of lines) o.place refl (omega arith) w.is_window.stands in
+        let there : slice_get (places_of lines) o.place ≡ slice_get (places_of (here ++ ys)) (o.place - place) =
+        ap (λ (ps : List Place). slice_get ps o.place) (places_append xs (here ++ ys)) ∙ get_back (places_of xs) (places_of (here ++ ys)) (o.place - place) o.place (omega arith) in
+        let bad : true ≡ false = sym op ∙ ap is_op_place there ∙ op_within here ys (o.place - place) short (omega arith) ∙ n in
+        cc)
+  ]
 ]
 
-pub none_applies : (base longest : ℕ) (rules : List Rule) (lines : List Line) (place : ℕ) → AreFit longest rules → length (places_of lines) ≤ place
-    → ((o : Replacement) → AppliesIn (setting base rules) o lines → o.place < place → ⊥) → NoneApplies (setting base rules) lines
+-- the same where a cursor moves on by a piece
+pub none_on : (base longest : ℕ) (rules : List Rule) (behind ahead : List Piece) (p : IsAhead ahead) (place next : ℕ) → AreFit longest rules → place ≡ length (places_of (lines_of behind)) → next ≡ place + length (places_of (lines_in p.piece))
+    → NoneBefore (setting base rules) (lines_of behind ++ lines_of (reverse ahead)) place
+    → ((rest : List Piece) (x : Piece) → ahead ≡ rest ++ x ∷ [] → begins_op (lines_in x) ≡ true → NoneAt (setting base rules) (lines_of behind ++ lines_of (reverse ahead)) place)
+    → NoneBefore (setting base rules) (lines_of behind ++ lines_of (reverse ahead)) next
+none_on base longest rules behind ahead p place next fit e f none at =
+    let here : List Line = lines_in p.piece in
+    let ys : List Line = lines_of (reverse p.rest) in
+    let same : lines_of (reverse ahead) ≡ here ++ ys = ap (λ (ps : List Piece). lines_of (reverse ps)) p.is ∙ lines_back p.rest p.piece in
+    subst (λ (ls : List Line). NoneBefore (setting base rules) (lines_of behind ++ ls) next) (sym same)
+    (none_past base longest rules (lines_of behind) here ys place next fit e f (piece_short p.piece)
+    (subst (λ (ls : List Line). NoneBefore (setting base rules) (lines_of behind ++ ls) place) same none)
+    (λ t. subst (λ (ls : List Line). NoneAt (setting base rules) (lines_of behind ++ ls) place) same (at p.rest p.piece p.is t)))
+
+pub none_applies : (base longest : ℕ) (rules : List Rule) (lines : List Line) (place : ℕ) → AreFit longest rules → length (places_of lines) ≤ place → NoneBefore (setting base rules) lines place → NoneApplies (setting base rules) lines
 none_applies base longest rules lines place fit h none o a = let w = place_within base longest rules lines o fit a in none o a (omega arith)
 
-pub place_cost : (entries place start before after : ℕ) → before ≤ start + place * entries → after ≤ before + entries → after ≤ start + (place + 1) * entries
+-- ---- what it costs ----
+
+place_cost : (entries place start before after : ℕ) → before ≤ start + place * entries → after ≤ before + entries → after ≤ start + (place + 1) * entries
 place_cost entries place start before after b a = grind (arith, common_steps)
 
 pub places_cost : (entries place count start after : ℕ) → after ≤ start + place * entries → place ≤ count → after ≤ start + count * entries
 places_cost entries place count start after a h = let m = mul-le-mul_right entries h in omega arith
+
+-- a piece that isn't an instruction costs nothing
+pub piece_cost : (entries place next start before after : ℕ) (ahead : List Piece) (p : IsAhead ahead) → next ≡ place + length (places_of (lines_in p.piece)) → before ≤ start + place * entries → after ≤ before + entries
+    → ((rest : List Piece) (x : Piece) → ahead ≡ rest ++ x ∷ [] → begins_op (lines_in x) ≡ false → after ≤ before) → after ≤ start + next * entries
+piece_cost entries place next start before after ahead p e b a idle = elim (cases_Bool (begins_op (lines_in p.piece))) [
+  | inl t ↦ (
+      let one = op_place (lines_in p.piece) (piece_short p.piece) t in
+      places_cost entries (place + 1) next start after (place_cost entries place start before after b a) (omega arith)
+      )
+  | inr n ↦ (let i = idle p.rest p.piece p.is n in places_cost entries place next start after (omega arith) (omega arith))
+]
+
+-- a look at what stands behind a cursor costs no more than the places up to there
+pub look_cost : (entries start before after : ℕ) (c : Cursor) (lines : List Line) (p : IsAhead c.ahead.items) → IsKept c → lines_at c ≡ lines → before ≤ start + place_at c * entries → after ≤ before + entries
+    → ((rest : List Piece) (x : Piece) → c.ahead.items ≡ rest ++ x ∷ [] → begins_op (lines_in x) ≡ false → after ≤ before) → after ≤ start + length (places_of lines) * entries
+look_cost entries start before after c lines p kept same b a idle =
+    let next : ℕ = place_at c + length (places_of (lines_in p.piece)) in
+    places_cost entries next (length (places_of lines)) start after (piece_cost entries (place_at c) next start before after c.ahead.items p refl b a idle)
+    (omega (arith, places_there c kept, ahead_count c.ahead.items p.rest p.piece p.is, kept.is.coming, ap (λ (ls : List Line). length (places_of ls)) same))

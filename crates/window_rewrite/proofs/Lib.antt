@@ -1,9 +1,12 @@
 pub mod Sides
 pub mod Maps
 pub mod Live
-pub mod Stays
 pub mod Applied
 pub mod Keys
+pub mod Behind
 pub mod Chosen
 pub mod Accepted
 pub mod Rounds
+pub mod KeptSpots
+pub mod Ways
+pub mod Turning

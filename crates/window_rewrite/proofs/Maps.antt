@@ -17,7 +17,7 @@ use Rattle.thumb_model.specs.Rewrite.{Rule, IsSoundRule, register_count, is_name
 use Rattle.thumb_model.proofs.Lists.{get_front, get_take, take_all}
 use Rattle.rule_table.specs.Canonical.{has}
 use Rattle.rule_table.specs.Matching.{Matches, IsMapOf, registers_in, eight, given_for}
-use Rattle.window_rewrite.specs.Rewriting.{registers_of}
+use Rattle.window_rewrite.specs.Rewriting.{map_of, registers_of}
 use Rattle.window_rewrite.specs.Fitting.{Stands}
 use Rattle.window_rewrite.proofs.Sides.{names_below, windows_over, apart}
 
@@ -112,27 +112,28 @@ given_same k names r [] h = refl
 given_same k names r (x ∷ xs) h =
     ap (λ t. (if t then slice_get r x else None) ∷ map (given_for names r) xs) (h x) ∙ ap (λ os. given_low k r x ∷ os) (given_same k names r xs h)
 
-registers_given : (k : ℕ) (r : List Low) → length r ≡ 8 → k ≤ 4 → registers_of (map (given_low k r) eight) ≡ take k r
+registers_given : (k : ℕ) (r : List Low) → length r ≡ 8 → k ≤ 4 → (registers_of (map (given_low k r) eight) ≡ take k r) × (map (given_low k r) eight ≡ map_of 8 (take k r))
 registers_given k [] e h = absurd (omega (arith, e))
 registers_given k (a ∷ []) e h = absurd (omega (arith, e))
 registers_given k (a ∷ b ∷ []) e h = absurd (omega (arith, e))
 registers_given k (a ∷ b ∷ c ∷ []) e h = absurd (omega (arith, e))
-registers_given zero (a ∷ b ∷ c ∷ d ∷ rs) e h = refl
-registers_given (suc zero) (a ∷ b ∷ c ∷ d ∷ rs) e h = refl
-registers_given (suc (suc zero)) (a ∷ b ∷ c ∷ d ∷ rs) e h = refl
-registers_given (suc (suc (suc zero))) (a ∷ b ∷ c ∷ d ∷ rs) e h = refl
-registers_given (suc (suc (suc (suc zero)))) (a ∷ b ∷ c ∷ d ∷ rs) e h = refl
+registers_given zero (a ∷ b ∷ c ∷ d ∷ rs) e h = (refl, refl)
+registers_given (suc zero) (a ∷ b ∷ c ∷ d ∷ rs) e h = (refl, refl)
+registers_given (suc (suc zero)) (a ∷ b ∷ c ∷ d ∷ rs) e h = (refl, refl)
+registers_given (suc (suc (suc zero))) (a ∷ b ∷ c ∷ d ∷ rs) e h = (refl, refl)
+registers_given (suc (suc (suc (suc zero)))) (a ∷ b ∷ c ∷ d ∷ rs) e h = (refl, refl)
 registers_given (suc (suc (suc (suc (suc k))))) (a ∷ b ∷ c ∷ d ∷ rs) e h = absurd (omega arith)
 
--- the map that was found makes the left side stand
-pub map_stands : (rule : Rule) (window : List Instr) (given : List (Option Low)) → IsSoundRule rule → IsMapOf rule.left window given → Stands rule (registers_of given) window × (length given ≡ 8)
+-- the map that was found makes the left side stand, and has its registers in place of the first
+pub map_stands : (rule : Rule) (window : List Instr) (given : List (Option Low)) → IsSoundRule rule → IsMapOf rule.left window given → Stands rule (registers_of given) window × (length given ≡ 8) × (given ≡ map_of 8 (registers_of given))
 map_stands rule window given s m =
     let k = register_count rule.left in
     let r = m.registers in
     let all : length r ≡ 8 = m.matches.renames.all in
     let few = s.few in
-    let is : registers_of given ≡ take k r =
-    ap registers_of (m.is ∙ given_same k (registers_in rule.left) r eight (λ x. has_low rule x s)) ∙ registers_given k r all s.few in
+    let low : given ≡ map (given_low k r) eight = m.is ∙ given_same k (registers_in rule.left) r eight (λ x. has_low rule x s) in
+    let first = registers_given k r all s.few in
+    let is : registers_of given ≡ take k r = ap registers_of low ∙ first.0 in
     let count : length (take k r) ≡ k = take_all k r (omega arith) in
     let alike : AreAlike k r (take k r) = λ x l. sym (get_take k r x l) in
     let stands : Stands rule (take k r) window = record {
@@ -146,7 +147,7 @@ map_stands rule window given s m =
       };
       matches = sym m.matches.renames.under ∙ all_alike k r (take k r) rule.left alike (windows_over k rule.left s.left) (names_below k rule.left s.left);
     } in
-    (subst (λ (l : List Low). Stands rule l window) (sym is) stands, ap (λ (l : List (Option Low)). length l) m.is)
+    (subst (λ (l : List Low). Stands rule l window) (sym is) stands, ap (λ (l : List (Option Low)). length l) m.is, low ∙ first.1 ∙ ap (map_of 8) (sym is))
 
 -- ---- a map for all registers ----
 

@@ -1,21 +1,17 @@
 -- One replacement more.
-use Rattle.std.proofs.Common.{◌≡◌, ℕ, suc, ◌+◌, ◌*◌, ◌≤◌, List, [], ◌∷◌, ◌++◌, length, map, refl, sym, ap, ◌∙◌, subst, arith, append_assoc, append-nil, mul-le-mul_right}
-use Rattle.std.proofs.lemmas.Grind.{common_steps}
+use Rattle.std.proofs.Common.{◌≡◌, ℕ, ◌+◌, ◌*◌, ◌≤◌, List, [], ◌∷◌, ◌++◌, length, length-append, map, refl, sym, ap, ◌∙◌, subst, arith, append_assoc, append-nil, mul-le-mul_right}
 use Rattle.std.proofs.lemmas.List.{map-append}
-use Rattle.std.proofs.Math.Nat.{mul-le-mul}
 use Rattle.thumb_model.specs.Listing.{Line, places_of}
 use Rattle.thumb_model.specs.Rewritten.{Setting, Replacement, IsFirst, NoneApplies, AreRewritten, lines_after}
 use Rattle.thumb_model.proofs.LinesKept.{fewer_after}
 use Rattle.window_rewrite.specs.declared.choice.Replacement.{Replacement as Made}
-use Rattle.window_rewrite.specs.declared.choice.Choice.{Choice}
-use Rattle.window_rewrite.specs.Rewriting.{replacement_of, round_cost}
-use Rattle.window_rewrite.specs.Choices.{choice_of, IsFirstChoice}
+use Rattle.window_rewrite.specs.Rewriting.{replacement_of}
+use Rattle.window_rewrite.specs.Sweeps.{Completes}
+use Rattle.window_rewrite.proofs.Ways.{one_try}
 
--- what completes the replacements from the current lines completes them from the start
-abbrev pub Completes : Setting → List Line → List Made → List Line → Type 0
-Completes s start done current = (rs : List Replacement) (new : List Line) → AreRewritten s current rs new → AreRewritten s start (map replacement_of done ++ rs) new
+-- ---- what completes the replacements ----
 
-pub one_more : (s : Setting) (start current next : List Line) (done more : List Made) (m : Made) → IsFirst s (replacement_of m) current → next ≡ lines_after s (replacement_of m) current → more ≡ done ++ m ∷ []
+one_more : (s : Setting) (start current next : List Line) (done more : List Made) (m : Made) → IsFirst s (replacement_of m) current → next ≡ lines_after s (replacement_of m) current → more ≡ done ++ m ∷ []
     → Completes s start done current → Completes s start more next
 one_more s start current next done more m first e f h rs new w =
     let r : Replacement = replacement_of m in
@@ -28,24 +24,46 @@ one_more s start current next done more m first e f h rs new w =
 pub no_more : (s : Setting) (start current : List Line) (done : List Made) → NoneApplies s current → Completes s start done current → AreRewritten s start (map replacement_of done) current
 no_more s start current done none h = subst (λ (l : List Replacement). AreRewritten s start l current) (append-nil (map replacement_of done)) (h [] current (none, refl))
 
-pub fewer_places : (s : Setting) (current next : List Line) (c : Choice) → IsFirstChoice s current c → next ≡ c.listing → suc (length (places_of next)) ≤ length (places_of current)
-fewer_places s current next c f e =
-    subst (λ (l : List Line). suc (length (places_of l)) ≤ length (places_of current)) (sym (e ∙ f.leaves)) (fewer_after s (choice_of c) current f.first.applies)
+-- ---- replacements on the way ----
 
--- a round takes no more steps than one in the given listing
-round_less : (entries now given : ℕ) → now ≤ given → round_cost now entries ≤ round_cost given entries
-round_less entries now given h =
-    let a : now * entries ≤ given * entries = mul-le-mul_right entries h in
-    let b : (19 * now + 1) * now ≤ (19 * given + 1) * given = mul-le-mul (omega arith) h in
+-- lines came from others by the replacements that are new, each the first that could be made, and each took no more tries than all entries at all places
+pub record HasCome (s : Setting) (entries : ℕ) (from to : List Line) (old new : List Made) (start now : ℕ) : Type 0 where
+  pub completes : (first : List Line) → Completes s first old from → Completes s first new to
+  pub fewer : length (places_of to) + length new ≤ length (places_of from) + length old
+  pub more : length old ≤ length new
+  pub cost : now + length old * (length (places_of from) * entries) ≤ start + length new * (length (places_of from) * entries)
+
+-- no more places than at the beginning
+no_more_places : (s : Setting) (entries : ℕ) (from to : List Line) (old new : List Made) (start now : ℕ) → HasCome s entries from to old new start now → length (places_of to) ≤ length (places_of from)
+no_more_places s entries from to old new start now h = let f = h.fewer in let m = h.more in omega arith
+
+tries : (s : Setting) (entries : ℕ) (from to : List Line) (old new : List Made) (start now : ℕ) → HasCome s entries from to old new start now → length (places_of to) * entries ≤ length (places_of from) * entries
+tries s entries from to old new start now h = mul-le-mul_right entries (no_more_places s entries from to old new start now h)
+
+longer_by_one : (old new : List Made) (m : Made) → new ≡ old ++ m ∷ [] → length new ≡ length old + 1
+longer_by_one old new m e = ap length e ∙ length-append old (m ∷ [])
+
+-- with one replacement more
+pub comes_on : (s : Setting) (entries : ℕ) (from to here next : List Line) (old new more : List Made) (start now after : ℕ) (m : Made)
+    → HasCome s entries from to old new start now → here ≡ to → IsFirst s (replacement_of m) here → next ≡ lines_after s (replacement_of m) here → more ≡ new ++ m ∷ [] → after ≤ now + length (places_of to) * entries
+    → HasCome s entries from next old more start after
+comes_on s entries from to here next old new more start now after m h same first e f a =
+    let there : length (places_of here) ≡ length (places_of to) = ap (λ (l : List Line). length (places_of l)) same in
+    let less = fewer_after s (replacement_of m) here first.applies in
+    let then : length (places_of next) ≡ length (places_of (lines_after s (replacement_of m) here)) = ap (λ (l : List Line). length (places_of l)) e in
+    let one : length more ≡ length new + 1 = longer_by_one new more m f in
+    let places = h.fewer in
+    let least = h.more in
+    record {
+      completes = λ first_lines c. one_more s first_lines here next new more m first e f (subst (λ (l : List Line). Completes s first_lines new l) (sym same) (h.completes first_lines c));
+      fewer = omega arith;
+      more = omega arith;
+      cost = one_try start now after (length old) (length new) (length more) (length (places_of from) * entries) (length (places_of to) * entries) h.cost a (tries s entries from to old new start now h) one;
+    }
+
+-- there is one more than before
+pub some_more : (s : Setting) (entries : ℕ) (from to : List Line) (old new more : List Made) (start now : ℕ) (m : Made) → HasCome s entries from to old new start now → more ≡ new ++ m ∷ [] → length old + 1 ≤ length more
+some_more s entries from to old new more start now m h f =
+    let one : length more ≡ length new + 1 = longer_by_one new more m f in
+    let least = h.more in
     omega arith
-
-one_time : (n x : ℕ) → (n + 1) * x ≡ n * x + x
-one_time n x = grind (arith, common_steps)
-
-pub one_round : (entries now given start before after n m : ℕ) → now ≤ given → before ≤ start + n * round_cost given entries → after ≤ before + round_cost now entries → m ≡ n + 1 → after ≤ start + m * round_cost given entries
-one_round entries now given start before after n m h b a e = go (round_cost now entries) (round_cost given entries) (round_less entries now given h) b a
-  where
-    go : (x y : ℕ) → x ≤ y → before ≤ start + n * y → after ≤ before + x → after ≤ start + m * y
-    go x y l b a =
-        let c : m * y ≡ n * y + y = ap (λ k. k * y) e ∙ one_time n y in
-        omega arith

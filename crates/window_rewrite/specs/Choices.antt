@@ -3,12 +3,13 @@ use Rattle.std.specs.Prelude.{◌≡◌, ℕ, ◌+◌, ◌<◌, ◌≤◌, ◌==
 use Rattle.std.specs.Int.{from_bool}
 use Rattle.thumb_instr.specs.declared.instr.Instr.{Instr}
 use Rattle.thumb_instr.specs.Renaming.{Low}
-use Rattle.thumb_model.specs.Listing.{Line}
+use Rattle.thumb_model.specs.Listing.{Line, code_of}
+use Rattle.liveness.specs.Kept.{KeepsAt}
 use Rattle.thumb_model.specs.Rewrite.{Rule}
-use Rattle.thumb_model.specs.Rewritten.{Setting, Replacement, AppliesIn, IsFirst, lines_after, left_length}
+use Rattle.thumb_model.specs.Rewritten.{Setting, Replacement, AppliesIn, IsFirst, replaced_lines, lines_after, left_length}
 use Rattle.window_rewrite.specs.declared.choice.Choice.{Choice}
 use Rattle.window_rewrite.specs.declared.finding.Rules.{Rules}
-use Rattle.window_rewrite.specs.Rewriting.{setting, replacement_of}
+use Rattle.window_rewrite.specs.Rewriting.{setting, replacement_of, IsWhole}
 use Rattle.window_rewrite.specs.Rules.{rules_in, codes_of, first_with, AreFit, IsIndex}
 use Rattle.window_rewrite.specs.Fitting.{Stands}
 
@@ -43,10 +44,12 @@ pub record Begins (rules : List Rule) (window : List Instr) (next : Option ℕ) 
 abbrev pub choice_of : Choice → Replacement
 choice_of c = replacement_of c.replacement
 
--- it applies, and leaves those lines
+-- it applies: its window gives way to its new instructions
 pub record IsChoice (s : Setting) (lines : List Line) (c : Choice) : Type 0 where
+  pub whole : IsWhole c.replacement
   pub applies : AppliesIn s (choice_of c) lines
-  pub leaves : c.listing ≡ lines_after s (choice_of c) lines
+  pub keeps : KeepsAt (code_of lines) (choice_of c).place c.window c.new
+  pub leaves : replaced_lines s.write (choice_of c).place (length c.window) c.new lines ≡ lines_after s (choice_of c) lines
 
 -- of the choices at a place by left sides of so many instructions it has the lowest entry
 pub record IsLowest (s : Setting) (lines : List Line) (place count : ℕ) (c : Choice) : Type 0 where
@@ -71,7 +74,11 @@ NoneAt s lines place = (o : Replacement) → AppliesIn s o lines → o.place ≡
 -- of all choices it is the first
 pub record IsFirstChoice (s : Setting) (lines : List Line) (c : Choice) : Type 0 where
   pub first : IsFirst s (choice_of c) lines
-  pub leaves : c.listing ≡ lines_after s (choice_of c) lines
+  pub is : IsChoice s lines c
+
+-- no entry applies before the place
+abbrev pub NoneBefore : Setting → List Line → ℕ → Type 0
+NoneBefore s lines place = (o : Replacement) → AppliesIn s o lines → o.place < place → ⊥
 
 -- ---- how many rules there are ----
 

@@ -2,3 +2,4 @@ pub mod Rewriting
 pub mod Rules
 pub mod Fitting
 pub mod Choices
+pub mod Sweeps

@@ -1,5 +1,5 @@
 -- What rewriting a listing by a table gives, as the code holds it.
-use Rattle.std.specs.Prelude.{◌≡◌, ℕ, ◌-◌, ◌+◌, ◌*◌, List, [], ◌∷◌, length, Option, Some, None}
+use Rattle.std.specs.Prelude.{◌≡◌, ℕ, zero, suc, ◌≤◌, ◌-◌, ◌+◌, ◌*◌, List, [], ◌∷◌, length, Option, Some, None}
 use Rattle.thumb_instr.specs.Renaming.{Low}
 use Rattle.thumb_model.specs.Listing.{Line, places_of}
 use Rattle.thumb_model.specs.Rewrite.{Rule}
@@ -25,6 +25,17 @@ registers_of (Some r ∷ os) = r ∷ registers_of os
 -- a replacement that was made: its entry is counted from 0
 abbrev pub replacement_of : Made → Replacement
 replacement_of m = record { place = m.place; entry = m.entry - 1; registers = registers_of m.map }
+
+-- the map of so many registers that gives these in place of r0, r1, .. , and none in place of those behind
+abbrev pub map_of : ℕ → List Low → List (Option Low)
+map_of zero rs = []
+map_of (suc n) [] = None ∷ map_of n []
+map_of (suc n) (r ∷ rs) = Some r ∷ map_of n rs
+
+-- a replacement that was made says its entry as counted from 1, and its registers in place of r0, r1, .. and of no others of the eight
+pub record IsWhole (m : Made) : Type 0 where
+  pub counted : 1 ≤ m.entry
+  pub in_place : m.map ≡ map_of 8 (registers_of m.map)
 
 -- why the given lines are refused: the first of them that cannot be laid out, by what its first fault is
 abbrev pub IsRefusal : ℕ → List Line → RewriteError → Type 0

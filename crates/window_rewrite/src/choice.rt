@@ -1,5 +1,6 @@
 use listing_parser::Listing;
 use rule_table::Map;
+use thumb_instr::Seq;
 
 /// An entry was used: its right side stands in place of its left side.
 #[derive(Drop)]
@@ -20,9 +21,12 @@ pub struct Rewritten {
     pub replacements: Vec<Replacement>,
 }
 
-/// A replacement that can be made, and the listing that it leaves.
+/// A replacement that can be made, and what it puts in place of what.
 #[derive(Drop)]
 pub(crate) struct Choice {
     pub(crate) replacement: Replacement,
-    pub(crate) listing: Listing,
+    /// The instructions that go.
+    pub(crate) window: Seq,
+    /// The instructions that come.
+    pub(crate) new: Seq,
 }

@@ -1,27 +1,33 @@
-//! The first replacement that can be made.
-ghost use Rattle.std.specs.Prelude.{◌≡◌, ◌+◌, ◌*◌, ◌<◌, ◌≤◌, List, length, true, IfOk, IfSome, IfNone};
+//! The next replacement that can be made.
+ghost use Rattle.std.specs.Prelude.{◌≡◌, ◌+◌, ◌*◌, ◌<◌, ◌≤◌, ◌↔◌, ◌∷◌, [], ◌++◌, List, length, drop, true, false, IfOk, OnOk, IfSome, IfNone};
 ghost use Rattle.std.specs.List.{list_all};
 ghost use Rattle.thumb_instr.specs.Renaming.{Low};
 ghost use Rattle.thumb_instr.specs.Window.{is_in_window};
-ghost use Rattle.thumb_model.specs.Listing.{places_of};
-ghost use Rattle.thumb_model.specs.Rewritten.{AppliesIn, NoneApplies, left_length};
+ghost use Rattle.thumb_model.specs.Layout.{Layable};
+ghost use Rattle.thumb_model.specs.Listing.{labels_from, places_of};
+ghost use Rattle.thumb_model.specs.Rewritten.{AppliesIn, NoneApplies, left_length, replaced_lines};
+ghost use Rattle.listing_parser.specs.Replacing.{own_line, names_no_label};
+ghost use Rattle.line_cursor.specs.declared.pieces.Piece.{Piece};
+ghost use Rattle.line_cursor.specs.Pieces.{begins_op, lines_in};
+ghost use Rattle.line_cursor.specs.Cursors.{lines_at, place_at, IsCursor, IsSettled};
+ghost use Rattle.thumb_model.proofs.LinesReplaced.{AreOps};
 ghost use Rattle.window_harvest.specs.Harvest.{spot_of, StandsThere};
-ghost use Rattle.window_harvest.specs.LimitsOf.{AreOf};
 ghost use Rattle.window_rewrite.specs.Rules.{rules_in};
-ghost use Rattle.window_rewrite.specs.Choices.{setting_of, choice_of, of_length, AreReady, Begins, IsBest, IsChoice, IsFirstChoice, IsLowest, NoneAt, NoneOf};
+ghost use Rattle.window_rewrite.specs.Choices.{setting_of, choice_of, of_length, AreReady, Begins, IsBest, IsChoice, IsFirstChoice, IsLowest, NoneAt, NoneBefore, NoneOf};
+ghost use Rattle.window_rewrite.specs.Sweeps.{IsOver};
 
 use crate::choice::{Choice, Replacement};
 use crate::fitting::{fitting, side_of};
+use crate::ground::Ground;
 use crate::index::Index;
-use crate::replacing::replaced;
-use listing_parser::{Listing, Memory};
-use liveness::Live;
+use crate::items::registers_of;
+use crate::replacing::{is_layable, renamed_all};
+use line_cursor::Cursor;
+use listing_parser::Memory;
 use rule_table::Entry;
 use std::alloc::Global;
 use step_ledger::{Ledger, Steps};
-use thumb_instr::{Instr, Items};
-use window_harvest::rows::Row;
-use window_harvest::runs::run;
+use thumb_instr::{Instr, Items, Seq};
 
 /// A table as the finder goes by it.
 #[derive(Drop)]
@@ -34,41 +40,100 @@ pub(crate) struct Rules<'a> {
     pub(crate) base: u32,
 }
 
-/// What an entry leaves at a place where it applies. The window stands there, after which these items are live.
+/// Whether each code label stays code, and lines of a ground that isn't steady can be laid out, where so many instructions behind the cursor give way to
+/// others.
+fn may_give_way(
+    alloc: Global,
+    base: u32,
+    ground: &Ground<'_>,
+    cursor: &Cursor<'_>,
+    count: usize,
+    new: &[Instr],
+) -> Result<bool, Memory>
+    requires is { IsCursor cursor.now }
+    requires same { ground.now.steady ≡ false → lines_at cursor.now ≡ ground.now.listing.now }
+    requires few { length (places_of (lines_at cursor.now)) ≤ length (places_of ground.now.listing.now) }
+    requires some { 0 < length cursor.now.ahead.items }
+    requires first { (rest : List Piece) (x : Piece) → cursor.now.ahead.items ≡ rest ++ x ∷ [] → begins_op (lines_in x) ≡ true }
+    requires window { AreOps count (drop (place_at cursor.now) (places_of (lines_at cursor.now))) }
+    requires shorter { length new.now < count }
+    requires plain { list_all names_no_label new.now ≡ true }
+    ensures { IfOk result (λ b. (b ≡ true) ↔ (IsSettled (places_of (lines_at cursor.now)) (labels_from 0 (lines_at cursor.now)) (place_at cursor.now) count new.now × (ground.now.steady ≡ false → Layable base (replaced_lines own_line (place_at cursor.now) count new.now (lines_at cursor.now))))) }
+{
+    if !cursor.is_settled(count, new) {
+        return Ok(false);
+    }
+    if ground.steady {
+        return Ok(true);
+    }
+    let _count = ground.listing.place_count();
+    let left = ground
+        .listing
+        .replaced(alloc, cursor.place() as u32, count as u32, new)?;
+    is_layable(alloc, &left, base)
+}
+
+/// The instructions of a window, which are few.
+fn copied(window: &[Instr]) -> Seq
+    requires { length window.now ≤ 5 }
+    ensures { result ≡ window.now }
+{
+    let mut seq = Seq::new();
+    for instr in window {
+        seq.push(*instr);
+    }
+    seq
+}
+
+/// What an entry makes of a window behind the cursor, after which these items are live.
 fn try_entry<L: Ledger>(
     alloc: Global,
     rules: &Rules<'_>,
-    listing: &Listing,
-    place: u32,
+    ground: &Ground<'_>,
+    cursor: &Cursor<'_>,
     window: &[Instr],
     live: Items,
     number: usize,
     steps: &mut Steps<L>,
 ) -> Result<Option<Choice>, Memory>
     requires ready { AreReady rules.now }
-    requires stands { StandsThere listing.now (spot_of place (length window.now)) window.now live.bits }
+    requires over { IsOver rules.now ground.now cursor.now }
+    requires some { 0 < length cursor.now.ahead.items }
+    requires first { (rest : List Piece) (x : Piece) → cursor.now.ahead.items ≡ rest ++ x ∷ [] → begins_op (lines_in x) ≡ true }
+    requires stands { StandsThere (lines_at cursor.now) (spot_of (place_at cursor.now) (length window.now)) window.now live.bits }
     requires number { number < length rules.now.entries.now }
     requires long { left_length (rules_in rules.now.entries.now) number ≡ length window.now }
-    ensures some { IfOk result (λ o. IfSome o (λ c. IsChoice (setting_of rules.now) listing.now c × ((choice_of c).place ≡ place) × ((choice_of c).entry ≡ number))) }
-    ensures none { IfOk result (λ o. IfNone o ((registers : List Low) → AppliesIn (setting_of rules.now) (record { place = place; entry = number; registers = registers }) listing.now → ⊥)) }
+    ensures some { IfOk result (λ o. IfSome o (λ c. IsChoice (setting_of rules.now) (lines_at cursor.now) c × ((choice_of c).place ≡ place_at cursor.now) × ((choice_of c).entry ≡ number))) }
+    ensures none { IfOk result (λ o. IfNone o ((registers : List Low) → AppliesIn (setting_of rules.now) (record { place = place_at cursor.now; entry = number; registers = registers }) (lines_at cursor.now) → ⊥)) }
     ensures cost { steps.new ≤ steps.old + 1 }
 {
     steps.tick();
     let entry = &rules.entries[number];
-    match fitting(entry, window, live) {
-        None => Ok(None),
-        Some(map) => match replaced(alloc, entry, &map, listing, place, rules.base)? {
-            None => Ok(None),
-            Some(new) => Ok(Some(Choice {
-                replacement: Replacement {
-                    place,
-                    entry: number as u64 + 1,
-                    map,
-                },
-                listing: new,
-            })),
-        },
+    let map = match fitting(entry, window, live) {
+        None => return Ok(None),
+        Some(map) => map,
+    };
+    let new = renamed_all(entry.right.as_slice(), &registers_of(&map));
+    if !may_give_way(
+        alloc,
+        rules.base,
+        ground,
+        cursor,
+        window.len(),
+        new.as_slice(),
+    )? {
+        return Ok(None);
     }
+    let _count = ground.listing.place_count();
+    Ok(Some(Choice {
+        replacement: Replacement {
+            place: cursor.place() as u32,
+            entry: number as u64 + 1,
+            map,
+        },
+        window: copied(window),
+        new,
+    }))
 }
 
 /// The first entry whose left side may stand in a window.
@@ -83,26 +148,29 @@ fn first_number(rules: &Rules<'_>, window: &[Instr]) -> Option<usize>
     }
 }
 
-/// The lowest entry that applies to a window, after which these items are live.
+/// The lowest entry that applies to a window behind the cursor, after which these items are live.
 fn lowest<L: Ledger>(
     alloc: Global,
     rules: &Rules<'_>,
-    listing: &Listing,
-    place: u32,
+    ground: &Ground<'_>,
+    cursor: &Cursor<'_>,
     window: &[Instr],
     live: Items,
     steps: &mut Steps<L>,
 ) -> Result<Option<Choice>, Memory>
     requires ready { AreReady rules.now }
-    requires stands { StandsThere listing.now (spot_of place (length window.now)) window.now live.bits }
-    ensures some { IfOk result (λ o. IfSome o (IsLowest (setting_of rules.now) listing.now place (length window.now))) }
-    ensures none { IfOk result (λ o. IfNone o (NoneOf (setting_of rules.now) listing.now place (length window.now))) }
+    requires over { IsOver rules.now ground.now cursor.now }
+    requires some { 0 < length cursor.now.ahead.items }
+    requires first { (rest : List Piece) (x : Piece) → cursor.now.ahead.items ≡ rest ++ x ∷ [] → begins_op (lines_in x) ≡ true }
+    requires stands { StandsThere (lines_at cursor.now) (spot_of (place_at cursor.now) (length window.now)) window.now live.bits }
+    ensures some { IfOk result (λ o. IfSome o (IsLowest (setting_of rules.now) (lines_at cursor.now) (place_at cursor.now) (length window.now))) }
+    ensures none { IfOk result (λ o. IfNone o (NoneOf (setting_of rules.now) (lines_at cursor.now) (place_at cursor.now) (length window.now))) }
     ensures cost { steps.new ≤ steps.old + of_length (length window.now) (rules_in rules.now.entries.now) }
 {
     let mut at = first_number(rules, window);
     while let Some(number) = at {
         if let Some(choice) = try_entry(
-            alloc, rules, listing, place, window, live, number, steps,
+            alloc, rules, ground, cursor, window, live, number, steps,
         )? {
             return Ok(Some(choice));
         }
@@ -111,33 +179,31 @@ fn lowest<L: Ledger>(
     Ok(None)
 }
 
-/// The best entry at a place: of those that apply there the lowest with the longest left side.
-fn best_at<L: Ledger>(
+/// The best entry at an instruction right behind the cursor: of those that apply there the lowest with the longest left side.
+fn best_here<L: Ledger>(
     alloc: Global,
     rules: &Rules<'_>,
-    listing: &Listing,
-    rows: &[Row],
-    live: &Live,
-    place: u32,
+    ground: &Ground<'_>,
+    cursor: &Cursor<'_>,
     steps: &mut Steps<L>,
 ) -> Result<Option<Choice>, Memory>
     requires ready { AreReady rules.now }
-    requires of { AreOf listing.now rows.now live.now }
-    requires place { place < length (places_of listing.now) }
-    ensures some { IfOk result (λ o. IfSome o (IsBest (setting_of rules.now) listing.now place)) }
-    ensures none { IfOk result (λ o. IfNone o (NoneAt (setting_of rules.now) listing.now place)) }
+    requires over { IsOver rules.now ground.now cursor.now }
+    requires some { 0 < length cursor.now.ahead.items }
+    requires first { (rest : List Piece) (x : Piece) → cursor.now.ahead.items ≡ rest ++ x ∷ [] → begins_op (lines_in x) ≡ true }
+    ensures some { IfOk result (λ o. IfSome o (IsBest (setting_of rules.now) (lines_at cursor.now) (place_at cursor.now))) }
+    ensures none { IfOk result (λ o. IfNone o (NoneAt (setting_of rules.now) (lines_at cursor.now) (place_at cursor.now))) }
     ensures cost { steps.new ≤ steps.old + length (rules_in rules.now.entries.now) }
 {
-    let _count = listing.place_count();
-    let run = run(rows, place as usize, usize::from(rules.longest));
+    let run = cursor.run(usize::from(rules.longest));
     let mut count = run.len();
     while count > 0 {
-        let items = live.after(place + (count - 1) as u32);
+        let items = cursor.after(count);
         if let Some(choice) = lowest(
             alloc,
             rules,
-            listing,
-            place,
+            ground,
+            cursor,
             &run.as_slice()[..count],
             items,
             steps,
@@ -149,25 +215,53 @@ fn best_at<L: Ledger>(
     Ok(None)
 }
 
-/// The first replacement that can be made: at the least place, by the best entry there.
-pub(crate) fn first<L: Ledger>(
+/// The best entry right behind the cursor, if an instruction stands there.
+fn best<L: Ledger>(
     alloc: Global,
     rules: &Rules<'_>,
-    listing: &Listing,
-    rows: &[Row],
-    live: &Live,
+    ground: &Ground<'_>,
+    cursor: &Cursor<'_>,
     steps: &mut Steps<L>,
 ) -> Result<Option<Choice>, Memory>
     requires ready { AreReady rules.now }
-    requires of { AreOf listing.now rows.now live.now }
-    ensures some { IfOk result (λ o. IfSome o (IsFirstChoice (setting_of rules.now) listing.now)) }
-    ensures none { IfOk result (λ o. IfNone o (NoneApplies (setting_of rules.now) listing.now)) }
-    ensures cost { steps.new ≤ steps.old + length (places_of listing.now) * length (rules_in rules.now.entries.now) }
+    requires over { IsOver rules.now ground.now cursor.now }
+    ensures some { IfOk result (λ o. IfSome o (IsBest (setting_of rules.now) (lines_at cursor.now) (place_at cursor.now))) }
+    ensures op { IfOk result (λ o. IfSome o (λ c. (0 < length cursor.now.ahead.items) × ((rest : List Piece) (x : Piece) → cursor.now.ahead.items ≡ rest ++ x ∷ [] → begins_op (lines_in x) ≡ true))) }
+    ensures none { IfOk result (λ o. IfNone o ((rest : List Piece) (x : Piece) → cursor.now.ahead.items ≡ rest ++ x ∷ [] → begins_op (lines_in x) ≡ true → NoneAt (setting_of rules.now) (lines_at cursor.now) (place_at cursor.now))) }
+    ensures cost { steps.new ≤ steps.old + length (rules_in rules.now.entries.now) }
+    ensures idle { (rest : List Piece) (x : Piece) → cursor.now.ahead.items ≡ rest ++ x ∷ [] → begins_op (lines_in x) ≡ false → steps.new ≤ steps.old }
 {
-    for place in 0..listing.place_count() {
-        if let Some(choice) = best_at(alloc, rules, listing, rows, live, place, steps)? {
+    if cursor.is_at_op() {
+        best_here(alloc, rules, ground, cursor, steps)
+    } else {
+        Ok(None)
+    }
+}
+
+/// Moves the cursor on to the first replacement that can be made: at the least place, by the best entry there. None can be made before the cursor.
+pub(crate) fn next<L: Ledger>(
+    alloc: Global,
+    rules: &Rules<'_>,
+    ground: &Ground<'_>,
+    cursor: &mut Cursor<'_>,
+    steps: &mut Steps<L>,
+) -> Result<Option<Choice>, Memory>
+    requires ready { AreReady rules.now }
+    requires over { IsOver rules.now ground.now cursor.old }
+    requires before { NoneBefore (setting_of rules.now) (lines_at cursor.old) (place_at cursor.old) }
+    ensures over { OnOk result (IsOver rules.now ground.now cursor.new) }
+    ensures lines { OnOk result (lines_at cursor.new ≡ lines_at cursor.old) }
+    ensures some { IfOk result (λ o. IfSome o (IsFirstChoice (setting_of rules.now) (lines_at cursor.new))) }
+    ensures here { IfOk result (λ o. IfSome o (λ c. (choice_of c).place ≡ place_at cursor.new)) }
+    ensures op { IfOk result (λ o. IfSome o (λ c. (0 < length cursor.new.ahead.items) × ((rest : List Piece) (x : Piece) → cursor.new.ahead.items ≡ rest ++ x ∷ [] → begins_op (lines_in x) ≡ true))) }
+    ensures none { IfOk result (λ o. IfNone o (NoneApplies (setting_of rules.now) (lines_at cursor.new))) }
+    ensures cost { steps.new ≤ steps.old + length (places_of (lines_at cursor.old)) * length (rules_in rules.now.entries.now) }
+{
+    while !cursor.is_at_end() {
+        if let Some(choice) = best(alloc, rules, ground, cursor, steps)? {
             return Ok(Some(choice));
         }
+        cursor.forward()?;
     }
     Ok(None)
 }

@@ -5,7 +5,7 @@ ghost use Rattle.thumb_instr.specs.Renaming.{Low};
 ghost use Rattle.thumb_instr.specs.Window.{is_in_window};
 ghost use Rattle.thumb_model.specs.Rewrite.{Rule, IsSoundRule};
 ghost use Rattle.table_audit.specs.Sides.{IsCanonicalSide};
-ghost use Rattle.window_rewrite.specs.Rewriting.{registers_of};
+ghost use Rattle.window_rewrite.specs.Rewriting.{map_of, registers_of};
 ghost use Rattle.window_rewrite.specs.Rules.{entry_rule};
 ghost use Rattle.window_rewrite.specs.Fitting.{Fits, Stands};
 
@@ -30,7 +30,7 @@ pub(crate) fn fitting(entry: &Entry, window: &[Instr], live: Items) -> Option<Ma
     requires sound { IsSoundRule (entry_rule entry.now) }
     requires canonical { IsCanonicalSide (entry_rule entry.now).left }
     requires windows { list_all is_in_window window.now ≡ true }
-    ensures { MatchOption result ((registers : List Low) → Fits (entry_rule entry.now) registers window.now live.bits → ⊥) (λ map. Fits (entry_rule entry.now) (registers_of map) window.now live.bits × (length map ≡ 8)) }
+    ensures { MatchOption result ((registers : List Low) → Fits (entry_rule entry.now) registers window.now live.bits → ⊥) (λ map. Fits (entry_rule entry.now) (registers_of map) window.now live.bits × (length map ≡ 8) × (map ≡ map_of 8 (registers_of map))) }
 {
     if entry.left.len() <= entry.right.len() {
         return None;

@@ -1,20 +1,24 @@
 //! Rewriting a listing by a table of rules, until no rule applies.
 //!
 //! In turn, at the least place where some entry of the table applies, its left side is replaced: of those that apply there the one with the longest left
-//! side, and of these the lowest. What may be replaced is decided by the items that are live, by the labels and by the layout that would come of it, each
-//! worked out anew for the listing as it then is. A place is compared with few entries: those whose left side is the canonical form of a window there,
-//! found by its code.
+//! side, and of these the lowest. What may be replaced is decided by the items that are live, by the labels and by the layout that would come of it. A place
+//! is compared with few entries: those whose left side is the canonical form of a window there, found by its code.
+//!
+//! A sweep goes over the listing by a cursor that keeps the live items of all places, and after a replacement goes back no further than a window can
+//! reach. It ends where a replacement may leave fewer live items elsewhere, or where the layout must be asked each time; then another begins.
 #![tactic(auto)]
 
 mod choice;
 mod errors;
 mod finding;
 mod fitting;
+mod ground;
 mod index;
 mod items;
-mod labels;
+mod making;
 mod replacing;
 mod rewriting;
+mod sweeping;
 
 pub use choice::{Replacement, Rewritten};
 pub use errors::RewriteError;

@@ -1,25 +1,23 @@
 //! Replacing until no entry applies.
-ghost use Rattle.std.specs.Prelude.{◌≡◌, ◌+◌, ◌≤◌, length, map, IfOk, IfSome, IfNone, MatchResult};
+ghost use Rattle.std.specs.Prelude.{◌≡◌, ◌+◌, ◌≤◌, All, length, map, IfOk, MatchResult};
 ghost use Rattle.rule_table.specs.Views.{table_of};
 ghost use Rattle.table_audit.specs.Soundness.{rules_of};
 ghost use Rattle.thumb_model.specs.Layout.{Layable};
-ghost use Rattle.thumb_model.specs.Listing.{places_of};
-ghost use Rattle.thumb_model.specs.Rewritten.{AreRewritten, NoneApplies};
-ghost use Rattle.window_rewrite.specs.Rewriting.{setting, replacement_of, rewriting_cost, round_cost, IsRefusal};
+ghost use Rattle.thumb_model.specs.Rewritten.{AreRewritten};
+ghost use Rattle.window_rewrite.specs.Rewriting.{setting, replacement_of, rewriting_cost, IsRefusal, IsWhole};
 ghost use Rattle.window_rewrite.specs.Rules.{rules_in};
-ghost use Rattle.window_rewrite.specs.Choices.{setting_of, AreReady, IsFirstChoice};
+ghost use Rattle.window_rewrite.specs.Choices.{setting_of, AreReady};
 
-use crate::choice::{Choice, Rewritten};
+use crate::choice::Rewritten;
 use crate::errors::RewriteError;
-use crate::finding::{Rules, first};
+use crate::finding::Rules;
 use crate::index::Index;
+use crate::sweeping::{Swept, sweep};
 use label_layout::layout;
 use listing_parser::{Listing, Memory};
-use liveness::live;
 use std::alloc::Global;
 use step_ledger::{Ledger, Steps};
 use table_audit::Audited;
-use window_harvest::rows::rows;
 
 /// Rewrites a listing by an accepted table, for an image that begins at the base: at the least place where some entry applies, the one with the longest
 /// left side, then the lowest, until none applies. A listing that cannot be laid out from the base is refused at its first such line.
@@ -33,6 +31,7 @@ pub fn rewrite<L: Ledger>(
     steps: &mut Steps<L>,
 ) -> Result<Rewritten, RewriteError>
     ensures rewritten { IfOk result (λ new. AreRewritten (setting base (rules_of (table_of table.now))) listing (map replacement_of new.replacements.items) new.listing) }
+    ensures whole { IfOk result (λ new. All IsWhole new.replacements.items) }
     ensures verdict { MatchResult result (λ _. Layable base listing) (IsRefusal base listing) }
     ensures cost { IfOk result (λ new. steps.new ≤ steps.old + rewriting_cost listing (rules_of (table_of table.now)) (length new.replacements.items)) }
 {
@@ -59,38 +58,19 @@ fn rewritten<L: Ledger>(
 ) -> Result<Rewritten, Memory>
     requires { AreReady rules.now }
     ensures rewritten { IfOk result (λ new. AreRewritten (setting_of rules.now) listing (map replacement_of new.replacements.items) new.listing) }
+    ensures whole { IfOk result (λ new. All IsWhole new.replacements.items) }
     ensures cost { IfOk result (λ new. steps.new ≤ steps.old + rewriting_cost listing (rules_in rules.now.entries.now) (length new.replacements.items)) }
 {
     let mut current = listing;
     let mut replacements = Vec::new(alloc);
-    while let Some(choice) = next(alloc, rules, &current, steps)? {
-        let Choice {
-            replacement,
-            listing,
-        } = choice;
+    loop {
+        let Swept { listing, is_done } = sweep(alloc, rules, &current, &mut replacements, steps)?;
+        if is_done {
+            return Ok(Rewritten {
+                listing,
+                replacements,
+            });
+        }
         current = listing;
-        replacements.push(replacement)?;
     }
-    Ok(Rewritten {
-        listing: current,
-        replacements,
-    })
-}
-
-/// The next replacement.
-fn next<L: Ledger>(
-    alloc: Global,
-    rules: &Rules<'_>,
-    listing: &Listing,
-    steps: &mut Steps<L>,
-) -> Result<Option<Choice>, Memory>
-    requires { AreReady rules.now }
-    ensures some { IfOk result (λ o. IfSome o (IsFirstChoice (setting_of rules.now) listing.now)) }
-    ensures none { IfOk result (λ o. IfNone o (NoneApplies (setting_of rules.now) listing.now)) }
-    ensures cost { steps.new ≤ steps.old + round_cost (length (places_of listing.now)) (length (rules_in rules.now.entries.now)) }
-{
-    let live = live(alloc, listing, steps)?;
-    let rows = rows(alloc, listing.lines())?;
-    let choice = first(alloc, rules, listing, &rows, &live, steps)?;
-    Ok(choice)
 }

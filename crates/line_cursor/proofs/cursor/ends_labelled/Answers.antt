@@ -1,5 +1,5 @@
-use Rattle.std.proofs.Common.{◌≡◌, ◌∙◌, ◌-◌, ◌||◌, ◌++◌, Bool, true, false, List, length, take, ap, sym, refl, arith}
-use Rattle.thumb_model.specs.Listing.{Line, places_of}
+use Rattle.std.proofs.Common.{◌≡◌, ◌∙◌, ◌-◌, ◌||◌, Bool, true, false, List, take, ap, sym, refl, arith}
+use Rattle.thumb_model.specs.Listing.{Line}
 use Rattle.line_cursor.specs.declared.pieces.Piece.{Piece}
 use Rattle.line_cursor.specs.Pieces.{lines_in, lines_of, begins_labelled}
 use Rattle.line_cursor.proofs.Looks.{piece_short}

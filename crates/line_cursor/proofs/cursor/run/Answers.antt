@@ -2,8 +2,8 @@ use Rattle.std.proofs.Common.{◌≡◌, ◌∙◌, ◌+◌, ◌-◌, ◌<◌, �
 use Rattle.std.specs.Prelude.{nat_eq}
 use Rattle.thumb_instr.specs.declared.instr.Instr.{Instr}
 use Rattle.thumb_model.specs.Listing.{Line}
-use Rattle.window_harvest.specs.Rows.{rows_from}
-use Rattle.window_harvest.specs.Runs.{run}
+use Rattle.window_runs.specs.Rows.{rows_from}
+use Rattle.window_runs.specs.Runs.{run}
 use Rattle.line_cursor.specs.declared.pieces.Piece.{Piece}
 use Rattle.line_cursor.specs.Pieces.{lines_in, lines_of}
 use Rattle.line_cursor.specs.Looks.{look_lines}

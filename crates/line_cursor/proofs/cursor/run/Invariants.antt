@@ -1,6 +1,6 @@
-use Rattle.std.proofs.Common.{◌≡◌, ◌≤◌, true, length, reverse, take}
-use Rattle.window_harvest.specs.Rows.{rows_from}
-use Rattle.window_harvest.specs.Runs.{run}
+use Rattle.std.proofs.Common.{◌≤◌, true, length, reverse, take}
+use Rattle.window_runs.specs.Rows.{rows_from}
+use Rattle.window_runs.specs.Runs.{run}
 use Rattle.line_cursor.specs.Pieces.{lines_of}
 use Rattle.line_cursor.proofs.Looks.{Comes}
 use Rattle.line_cursor.proofs.cursor.run.Given as goal

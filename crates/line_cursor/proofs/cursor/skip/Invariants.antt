@@ -1,4 +1,4 @@
-use Rattle.std.proofs.Common.{◌≡◌, ◌+◌, ◌++◌, length, reverse}
+use Rattle.std.proofs.Common.{◌≡◌, ◌++◌, length, reverse}
 use Rattle.thumb_model.specs.Listing.{places_of}
 use Rattle.thumb_model.specs.Rewritten.{without}
 use Rattle.thumb_model.proofs.LinesReplaced.{AreOps}

@@ -4,7 +4,8 @@ use Rattle.thumb_model.specs.Listing.{code_of}
 use Rattle.window_harvest.specs.Harvest.{pair_of, spot_of, StandsThere}
 use Rattle.window_harvest.specs.LimitsOf.{limits_of}
 use Rattle.window_harvest.proofs.Added.{spots_none, spots_more, spots_end}
-use Rattle.window_harvest.proofs.Places.{run_within, run_short, stands_there, none_beyond}
+use Rattle.window_harvest.proofs.Places.{stands_there, none_beyond}
+use Rattle.window_runs.proofs.Lengths.{run_within, run_short}
 use Rattle.window_harvest.proofs.adding.add_place.Goals as goal
 
 pub loop-last-init : goal.loop-last-init

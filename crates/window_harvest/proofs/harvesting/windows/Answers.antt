@@ -1,13 +1,14 @@
 use Rattle.std.proofs.Common.{◌≡◌, ◌∙◌, [], List, map, length, false, subst, sym, ap, arith}
 use Rattle.thumb_model.specs.Listing.{Line, places_of}
 use Rattle.window_harvest.specs.declared.keys.Key.{Key}
-use Rattle.window_harvest.specs.declared.rows.Row.{Row}
-use Rattle.window_harvest.specs.Rows.{rows_from}
+use Rattle.window_runs.specs.declared.rows.Row.{Row}
+use Rattle.window_runs.specs.Rows.{rows_from}
 use Rattle.window_harvest.specs.Harvest.{pair_of}
 use Rattle.window_harvest.specs.Keys.{AreSeen}
 use Rattle.window_harvest.specs.LimitsOf.{AreOf}
 use Rattle.window_harvest.proofs.Added.{places_none, places_more}
-use Rattle.window_harvest.proofs.Places.{rows_length, none_seen}
+use Rattle.window_harvest.proofs.Places.{none_seen}
+use Rattle.window_runs.proofs.Lengths.{rows_length}
 use Rattle.window_harvest.proofs.harvesting.windows.Goals as goal
 
 pub loop-place-init : goal.loop-place-init

@@ -1,94 +1,120 @@
-use Rattle.std.proofs.Common.{◌≡◌, ◌∙◌, ◌+◌, ◌-◌, List, Some, length, slice_index_or, ap, arith, refl, sym, subst}
+use Rattle.std.proofs.Common.{◌≡◌, ◌∙◌, ℕ, ◌+◌, ◌-◌, ◌<◌, List, true, false, Some, length, map, slice_index_or, ap, arith, refl, sym, subst}
 use Rattle.std.specs.Prelude.{slice_get}
+use Rattle.std.specs.List.{list_all}
 use Rattle.std.proofs.lemmas.Option.{slice_get_read}
-use Rattle.thumb_instr.specs.Renaming.{Low}
-use Rattle.thumb_model.specs.Rewritten.{AppliesIn, lines_after}
+use Rattle.thumb_instr.specs.declared.instr.Instr.{Instr}
+use Rattle.thumb_instr.specs.Renaming.{Low, renamed}
+use Rattle.thumb_model.specs.Layout.{Layable}
+use Rattle.thumb_model.specs.Listing.{Line, labels_from, places_of}
+use Rattle.thumb_model.specs.Rewrite.{Rule, register_count}
+use Rattle.thumb_model.specs.Rewritten.{left_length, replaced_lines}
 use Rattle.rule_table.specs.declared.table.Entry.{Entry}
+use Rattle.listing_parser.specs.Replacing.{own_line, names_no_label}
+use Rattle.line_cursor.specs.Cursors.{lines_at, place_at, IsSettled}
+use Rattle.window_rewrite.specs.declared.finding.Rules.{Rules}
 use Rattle.window_rewrite.specs.Rewriting.{registers_of}
-use Rattle.window_rewrite.specs.Rules.{entry_rule, rules_in}
-use Rattle.window_rewrite.specs.Fitting.{IsLeft}
-use Rattle.window_rewrite.specs.Choices.{setting_of}
+use Rattle.window_rewrite.specs.Rules.{entry_rule, rules_in, IsFit}
+use Rattle.window_rewrite.specs.Choices.{setting_of, AreReady}
 use Rattle.window_rewrite.proofs.Sides.{stands_once}
-use Rattle.window_rewrite.proofs.Applied.{made, applied, back, window_ops}
+use Rattle.window_rewrite.proofs.Applied.{applied, back, laid, IsMade, ops_of, plain_all}
 use Rattle.window_rewrite.proofs.Accepted.{entry_at}
 use Rattle.window_rewrite.proofs.Chosen.{length_at}
 use Rattle.window_rewrite.proofs.finding.try_entry.Goals as goal
 
+-- what is known of the entry that was read
+record IsEntry (r : Rules) (number : ℕ) (window : List Instr) (rule : Rule) : Type 0 where
+  at : slice_get (rules_in r.entries.now) number ≡ Some rule
+  fit : IsFit r.longest rule
+  long : length rule.left ≡ length window
+
+entry : (r : Rules) (number : ℕ) (window : List Instr) (read : Entry) → AreReady r → number < length r.entries.now → read ≡ slice_index_or r.entries.now number read → left_length (rules_in r.entries.now) number ≡ length window
+    → IsEntry r number window (entry_rule (slice_index_or r.entries.now number read))
+entry r number window read ready within is long =
+    let e : Entry = slice_index_or r.entries.now number read in
+    let there : slice_get r.entries.now number ≡ Some e = slice_get_read r.entries.now _ _ read refl within is ∙ ap Some is in
+    let at : slice_get (rules_in r.entries.now) number ≡ Some (entry_rule e) = entry_at r.entries.now number e there in
+    record { at = at; fit = ready.fit number (entry_rule e) at; long = sym (length_at (rules_in r.entries.now) number (entry_rule e) at) ∙ long }
+
 pub fitting-requires-clause-sound : goal.fitting-requires-clause-sound
 fitting-requires-clause-sound g c =
-    let entries : List Entry = c.args.rules.now.entries.now in
-    let e : Entry = slice_index_or entries c.args.number c.index-rules-number.result in
-    let at : slice_get entries c.args.number ≡ Some e = slice_get_read entries _ _ c.index-rules-number.result refl c.requires.number c.index-rules-number.is ∙ ap Some c.index-rules-number.is in
-    let rule : slice_get (rules_in entries) c.args.number ≡ Some (entry_rule e) = entry_at entries c.args.number e at in
-    let fit = c.requires.ready.fit c.args.number (entry_rule e) rule in
-    fit.sound
+    let e = entry c.args.rules.now c.args.number c.args.window.now c.index-rules-number.result c.requires.ready c.requires.number c.index-rules-number.is c.requires.long in
+    e.fit.sound
 
 pub fitting-requires-clause-canonical : goal.fitting-requires-clause-canonical
 fitting-requires-clause-canonical g c =
-    let entries : List Entry = c.args.rules.now.entries.now in
-    let e : Entry = slice_index_or entries c.args.number c.index-rules-number.result in
-    let at : slice_get entries c.args.number ≡ Some e = slice_get_read entries _ _ c.index-rules-number.result refl c.requires.number c.index-rules-number.is ∙ ap Some c.index-rules-number.is in
-    let rule : slice_get (rules_in entries) c.args.number ≡ Some (entry_rule e) = entry_at entries c.args.number e at in
-    let fit = c.requires.ready.fit c.args.number (entry_rule e) rule in
-    fit.canonical
+    let e = entry c.args.rules.now c.args.number c.args.window.now c.index-rules-number.result c.requires.ready c.requires.number c.index-rules-number.is c.requires.long in
+    e.fit.canonical
 
-pub replaced-requires-clause-sound : goal.replaced-requires-clause-sound
-replaced-requires-clause-sound g c =
-    let entries : List Entry = c.args.rules.now.entries.now in
-    let e : Entry = slice_index_or entries c.args.number c.index-rules-number.result in
-    let at : slice_get entries c.args.number ≡ Some e = slice_get_read entries _ _ c.index-rules-number.result refl c.requires.number c.index-rules-number.is ∙ ap Some c.index-rules-number.is in
-    let rule : slice_get (rules_in entries) c.args.number ≡ Some (entry_rule e) = entry_at entries c.args.number e at in
-    let fit = c.requires.ready.fit c.args.number (entry_rule e) rule in
-    fit.sound
-
-pub replaced-requires-clause-window : goal.replaced-requires-clause-window
-replaced-requires-clause-window g c =
-    let entries : List Entry = c.args.rules.now.entries.now in
-    let e : Entry = slice_index_or entries c.args.number c.index-rules-number.result in
-    let at : slice_get entries c.args.number ≡ Some e = slice_get_read entries _ _ c.index-rules-number.result refl c.requires.number c.index-rules-number.is ∙ ap Some c.index-rules-number.is in
-    let rule : slice_get (rules_in entries) c.args.number ≡ Some (entry_rule e) = entry_at entries c.args.number e at in
-    let n : length (entry_rule e).left ≡ length c.args.window.now = sym (length_at (rules_in entries) c.args.number (entry_rule e) rule) ∙ c.requires.long in
-    window_ops c.args.listing.now c.args.place (length (entry_rule e).left) c.args.window.now c.requires.stands.is_window n
+pub may_give_way-requires-clause-window : goal.may_give_way-requires-clause-window
+may_give_way-requires-clause-window g c = ops_of c.args.window.now (length c.args.window.now) _ refl c.requires.stands.is_window.stands
 
 pub returns-in-None-clause-none : goal.returns-in-None-clause-none
-returns-in-None-clause-none g c =
-    let entries : List Entry = c.args.rules.now.entries.now in
-    let e : Entry = slice_index_or entries c.args.number c.index-rules-number.result in
-    let at : slice_get entries c.args.number ≡ Some e = slice_get_read entries _ _ c.index-rules-number.result refl c.requires.number c.index-rules-number.is ∙ ap Some c.index-rules-number.is in
-    let rule : slice_get (rules_in entries) c.args.number ≡ Some (entry_rule e) = entry_at entries c.args.number e at in
-    let n : length (entry_rule e).left ≡ length c.args.window.now = sym (length_at (rules_in entries) c.args.number (entry_rule e) rule) ∙ c.requires.long in
-    λ registers a.
-    let b = back c.args.rules.now.base (rules_in entries) c.args.listing.now c.args.place c.args.number (entry_rule e) registers c.args.window.now c.args.live.bits rule n c.requires.stands a in
+returns-in-None-clause-none g c = λ registers a.
+    let e = entry c.args.rules.now c.args.number c.args.window.now c.index-rules-number.result c.requires.ready c.requires.number c.index-rules-number.is c.requires.long in
+    let rule : Rule = entry_rule (slice_index_or c.args.rules.now.entries.now c.args.number c.index-rules-number.result) in
+    let b = back c.args.rules.now.base (rules_in c.args.rules.now.entries.now) (lines_at c.args.cursor.now) (place_at c.args.cursor.now) c.args.number rule registers c.args.window.now c.args.live.bits e.at e.long c.requires.stands a in
     c.in-None.ensures registers b.fits
 
-pub returns-in-None-2-clause-none : goal.returns-in-None-2-clause-none
-returns-in-None-2-clause-none g c =
-    let entries : List Entry = c.args.rules.now.entries.now in
-    let e : Entry = slice_index_or entries c.args.number c.index-rules-number.result in
-    let at : slice_get entries c.args.number ≡ Some e = slice_get_read entries _ _ c.index-rules-number.result refl c.requires.number c.index-rules-number.is ∙ ap Some c.index-rules-number.is in
-    let rule : slice_get (rules_in entries) c.args.number ≡ Some (entry_rule e) = entry_at entries c.args.number e at in
-    let fit = c.requires.ready.fit c.args.number (entry_rule e) rule in
-    let n : length (entry_rule e).left ≡ length c.args.window.now = sym (length_at (rules_in entries) c.args.number (entry_rule e) rule) ∙ c.requires.long in
-    let none = rw c.in-None-2.is at c.in_ok-replaced-in-Some.ensures.none in
-    λ registers a.
-    let b = back c.args.rules.now.base (rules_in entries) c.args.listing.now c.args.place c.args.number (entry_rule e) registers c.args.window.now c.args.live.bits rule n c.requires.stands a in
-    let same : registers ≡ registers_of c.in-Some.map = stands_once (entry_rule e) registers (registers_of c.in-Some.map) c.args.window.now fit.sound fit.canonical b.fits.stands c.in-Some.ensures.0.stands in
-    none b.new (subst (λ (l : List Low). IsLeft (entry_rule e) l c.args.listing.now c.args.place c.args.rules.now.base b.new) same b.left)
-
-pub returns-in-Some-2-clause-some : goal.returns-in-Some-2-clause-some
-returns-in-Some-2-clause-some g c =
-    let entries : List Entry = c.args.rules.now.entries.now in
-    let e : Entry = slice_index_or entries c.args.number c.index-rules-number.result in
-    let at : slice_get entries c.args.number ≡ Some e = slice_get_read entries _ _ c.index-rules-number.result refl c.requires.number c.index-rules-number.is ∙ ap Some c.index-rules-number.is in
-    let rule : slice_get (rules_in entries) c.args.number ≡ Some (entry_rule e) = entry_at entries c.args.number e at in
-    let left = rw c.in-Some-2.is at c.in_ok-replaced-in-Some.ensures.some in
+pub may_give_way-requires-clause-plain : goal.may_give_way-requires-clause-plain
+may_give_way-requires-clause-plain g c =
+    let e = entry c.args.rules.now c.args.number c.args.window.now c.index-rules-number.result c.requires.ready c.requires.number c.index-rules-number.is c.requires.long in
+    let rule : Rule = entry_rule (slice_index_or c.args.rules.now.entries.now c.args.number c.index-rules-number.result) in
     let registers : List Low = registers_of c.in-Some.map in
-    let a = applied c.args.rules.now.base (rules_in entries) c.args.listing.now c.args.place c.args.number (entry_rule e) registers c.args.window.now c.args.live.bits c.in-Some-2.new rule c.requires.stands c.in-Some.ensures.0 left in
-    let number : c.args.number ≡ c.args.number + 1 - 1 = omega arith in (
-      record {
-        applies = subst (λ k. AppliesIn (setting_of c.args.rules.now) (made c.args.place k registers) c.args.listing.now) number a.0;
-        leaves = subst (λ k. c.in-Some-2.new ≡ lines_after (setting_of c.args.rules.now) (made c.args.place k registers) c.args.listing.now) number a.1;
-      },
-      refl,
+    let new : c.renamed_all-new.result ≡ map (renamed registers) rule.right =
+    c.renamed_all-new.ensures ∙ ap (λ (rs : List Low). map (renamed rs) c.as_slice.result.now) (c.deref.ensures.0 ∙ c.registers_of.ensures) ∙ ap (map (renamed registers)) c.as_slice.ensures.value in
+    subst (λ (is : List Instr). list_all names_no_label is ≡ true) (sym (c.as_slice-2.ensures.value ∙ new)) (plain_all (register_count rule.left) registers rule.right e.fit.sound.right)
+
+pub returns-then-not-branch-clause-none : goal.returns-then-not-branch-clause-none
+returns-then-not-branch-clause-none g c = λ given a.
+    let e = entry c.args.rules.now c.args.number c.args.window.now c.index-rules-number.result c.requires.ready c.requires.number c.index-rules-number.is c.requires.long in
+    let rule : Rule = entry_rule (slice_index_or c.args.rules.now.entries.now c.args.number c.index-rules-number.result) in
+    let registers : List Low = registers_of c.in-Some.map in
+    let new : c.renamed_all-new.result ≡ map (renamed registers) rule.right =
+    c.renamed_all-new.ensures ∙ ap (λ (rs : List Low). map (renamed rs) c.as_slice.result.now) (c.deref.ensures.0 ∙ c.registers_of.ensures) ∙ ap (map (renamed registers)) c.as_slice.ensures.value in
+    let b = back c.args.rules.now.base (rules_in c.args.rules.now.entries.now) (lines_at c.args.cursor.now) (place_at c.args.cursor.now) c.args.number rule given c.args.window.now c.args.live.bits e.at e.long c.requires.stands a in
+    let same : given ≡ registers = stands_once rule given registers c.args.window.now e.fit.sound e.fit.canonical b.fits.stands c.in-Some.ensures.0.stands in
+    let is : map (renamed given) rule.right ≡ c.as_slice-2.result.now = ap (λ (rs : List Low). map (renamed rs) rule.right) same ∙ sym (c.as_slice-2.ensures.value ∙ new) in
+    let may : c.in_ok-may_give_way.field-0 ≡ true = c.in_ok-may_give_way.ensures.1 (
+      subst (λ (js : List Instr). IsSettled (places_of (lines_at c.args.cursor.now)) (labels_from 0 (lines_at c.args.cursor.now)) (place_at c.args.cursor.now) (length c.args.window.now) js) is b.settled,
+      λ _. subst (λ (js : List Instr). Layable c.args.rules.now.base (replaced_lines own_line (place_at c.args.cursor.now) (length c.args.window.now) js (lines_at c.args.cursor.now))) is b.layable,
+    ) in
+    let never : true ≡ false = sym may ∙ c.if-not-branch.true in
+    cc
+
+pub copied-requires : goal.copied-requires
+copied-requires g c =
+    let e = entry c.args.rules.now c.args.number c.args.window.now c.index-rules-number.result c.requires.ready c.requires.number c.index-rules-number.is c.requires.long in
+    let rule : Rule = entry_rule (slice_index_or c.args.rules.now.entries.now c.args.number c.index-rules-number.result) in
+    let short = e.fit.short in
+    let long = e.long in
+    let few = c.requires.ready.few in
+    omega arith
+
+pub returns-clause-some : goal.returns-clause-some
+returns-clause-some g c =
+    let lines : List Line = lines_at c.args.cursor.now in
+    let place : ℕ = place_at c.args.cursor.now in
+    let e = entry c.args.rules.now c.args.number c.args.window.now c.index-rules-number.result c.requires.ready c.requires.number c.index-rules-number.is c.requires.long in
+    let rule : Rule = entry_rule (slice_index_or c.args.rules.now.entries.now c.args.number c.index-rules-number.result) in
+    let registers : List Low = registers_of c.in-Some.map in
+    let new : c.renamed_all-new.result ≡ map (renamed registers) rule.right =
+    c.renamed_all-new.ensures ∙ ap (λ (rs : List Low). map (renamed rs) c.as_slice.result.now) (c.deref.ensures.0 ∙ c.registers_of.ensures) ∙ ap (map (renamed registers)) c.as_slice.ensures.value in
+    let may = c.in_ok-may_give_way.ensures.0 c.if-not-branch.false in
+    let count : length c.args.window.now ≡ length rule.left = sym e.long in
+    let is : c.as_slice-2.result.now ≡ c.renamed_all-new.result = c.as_slice-2.ensures.value in
+    let settled : IsSettled (places_of lines) (labels_from 0 lines) place (length c.args.window.now) c.renamed_all-new.result =
+    subst (λ (js : List Instr). IsSettled (places_of lines) (labels_from 0 lines) place (length c.args.window.now) js) is may.0 in
+    let asked : c.args.ground.now.steady ≡ false → Layable c.args.rules.now.base (replaced_lines own_line place (length c.args.window.now) (map (renamed registers) rule.right) lines) =
+    λ f. subst (λ (js : List Instr). Layable c.args.rules.now.base (replaced_lines own_line place (length c.args.window.now) js lines)) (is ∙ new) (may.1 f) in
+    let m =
+    applied c.args.rules.now.base (rules_in c.args.rules.now.entries.now) lines place c.args.number rule registers c.args.window.now c.args.live.bits c.renamed_all-new.result e.at e.fit.sound c.requires.stands c.in-Some.ensures.0 new settled
+    (laid c.args.rules.now c.args.ground.now lines place rule registers c.args.window.now c.requires.over.over e.fit.sound count asked) in
+    let number : c.args.number ≡ c.args.number + 1 - 1 = omega arith in
+    let made_at : IsMade (setting_of c.args.rules.now) lines c.place.result (c.args.number + 1 - 1) registers c.copied.result c.renamed_all-new.result =
+    subst (λ p. IsMade (setting_of c.args.rules.now) lines p (c.args.number + 1 - 1) registers c.copied.result c.renamed_all-new.result) (sym c.place.ensures)
+    (subst (λ k. IsMade (setting_of c.args.rules.now) lines place k registers c.copied.result c.renamed_all-new.result) number
+    (subst (λ (js : List Instr). IsMade (setting_of c.args.rules.now) lines place c.args.number registers js c.renamed_all-new.result) (sym c.copied.ensures) m)) in (
+      record { whole = record { counted = omega arith; in_place = c.in-Some.ensures.2 }; applies = made_at.applies; keeps = made_at.keeps; leaves = made_at.leaves },
+      c.place.ensures,
       sym number,
     )

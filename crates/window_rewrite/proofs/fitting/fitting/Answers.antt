@@ -24,6 +24,7 @@ returns-then-are_allowed c =
         allowed = λ x h. subst (λ (l : List Low). is_allowed (items_in c.args.entry.now.mask.items.bits) l x ≡ true) registers (c.are_allowed.ensures.0 c.if-are_allowed.true x h);
       },
       m.1,
+      m.2,
     )
 
 pub returns-else-are_allowed : goal.returns-else-are_allowed

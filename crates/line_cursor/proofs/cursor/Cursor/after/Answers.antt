@@ -1,4 +1,4 @@
-use Rattle.std.proofs.Common.{◌-◌, arith, refl, length, ◌≡◌, ◌<◌, ◌∙◌, ap, subst, sym}
+use Rattle.std.proofs.Common.{◌-◌, arith, refl, length, ◌≡◌, ◌<◌}
 use Rattle.std.proofs.lemmas.Option.{slice_get_read}
 use Rattle.line_cursor.proofs.Spots.{after_ahead}
 use Rattle.line_cursor.proofs.cursor.Cursor.after.Goals as goal

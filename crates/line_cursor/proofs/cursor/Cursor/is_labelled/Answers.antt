@@ -1,11 +1,11 @@
-use Rattle.std.proofs.Common.{◌≡◌, ◌∙◌, ◌-◌, ◌<◌, ◌||◌, ◌++◌, ◌∷◌, [], Bool, true, false, List, length, reverse, get_or, refl, ap, sym, subst, arith}
+use Rattle.std.proofs.Common.{◌≡◌, ◌∙◌, ◌<◌, ◌||◌, ◌++◌, ◌∷◌, [], Bool, true, false, List, length, reverse, refl, ap, sym, arith}
 use Rattle.thumb_model.specs.Listing.{Line, labels_from, places_of}
 use Rattle.line_cursor.specs.declared.pieces.Piece.{Piece}
 use Rattle.line_cursor.specs.Pieces.{lines_in, lines_of, begins_labelled, begins_op}
 use Rattle.line_cursor.specs.Cursors.{stands_at}
 use Rattle.line_cursor.proofs.Looks.{piece_short}
 use Rattle.line_cursor.proofs.Edits.{lines_back}
-use Rattle.line_cursor.proofs.Labels.{ends_at, stands_here, IsPushed, pushed}
+use Rattle.line_cursor.proofs.Labels.{ends_at, stands_here, pushed}
 use Rattle.line_cursor.proofs.cursor.Cursor.is_labelled.Goals as goal
 
 -- what stands at the cursor's place

@@ -1,4 +1,4 @@
-use Rattle.std.proofs.Common.{◌≡◌, ◌∙◌, ◌+◌, ◌-◌, ◌<◌, ◌++◌, not, Bool, true, false, ℕ, List, [], ◌∷◌, length, reverse, inl, inr, ap, sym, subst, arith, refl, eqb-true}
+use Rattle.std.proofs.Common.{◌≡◌, ◌∙◌, ◌+◌, ◌++◌, not, Bool, true, false, ℕ, List, length, reverse, inl, inr, ap, sym, arith, refl, eqb-true}
 use Rattle.std.specs.Prelude.{slice_get}
 use Rattle.thumb_instr.specs.declared.instr.Instr.{Instr}
 use Rattle.thumb_model.specs.Listing.{Line, Label, Place, is_op_place, labels_from, places_of}

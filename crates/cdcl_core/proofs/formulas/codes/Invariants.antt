@@ -1,6 +1,0 @@
-use Rattle.std.proofs.Common.{◌≡◌, take, map}
-use Rattle.clause_model.specs.Literals.{code_of}
-use Rattle.cdcl_core.proofs.formulas.codes.Given as goal
-
-abbrev pub invariant-loop-number : goal.invariant-loop-number
-invariant-loop-number l = l.found.items ≡ map code_of (take l.number-index l.numbers)

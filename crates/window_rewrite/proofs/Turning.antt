@@ -1,0 +1,182 @@
+-- What a replacement at a cursor leaves, and why no entry applies before a cursor that went back far enough.
+use Rattle.std.proofs.Common.{◌≡◌, ℕ, ◌+◌, ◌-◌, ◌%◌, ◌<◌, ◌≤◌, ◌==◌, ◌&&◌, Bool, true, false, List, [], ◌∷◌, ◌++◌, length, length-append, map, Option, Some, None, refl, sym, ap, ◌∙◌, subst, arith, ne_eqb, true≢false}
+use Rattle.std.specs.Prelude.{slice_get}
+use Rattle.std.specs.Option.{option_map}
+use Rattle.std.proofs.lemmas.Option.{slice_get-map}
+use Rattle.thumb_instr.specs.declared.instr.Instr.{Instr}
+use Rattle.thumb_instr.specs.Items.{has}
+use Rattle.thumb_instr.specs.Renaming.{renamed}
+use Rattle.thumb_model.specs.Listing.{Statement, Nothing, Runs, Words, Aligns, Sets, Line, Code, places_in, places_of, labels_from, code_of}
+use Rattle.thumb_model.specs.Flow.{LiveAfter}
+use Rattle.thumb_model.specs.Layout.{Layable}
+use Rattle.thumb_model.specs.Rewrite.{Rule, Applies, replaced}
+use Rattle.thumb_model.specs.Rewritten.{Setting, Replacement, AppliesIn, IsFirst, is_op, replaced_lines, lines_after_rule, lines_after}
+use Rattle.thumb_model.proofs.LinesKept.{fewer_after, code_of_after}
+use Rattle.listing_parser.specs.TableWords.{first_twice}
+use Rattle.listing_parser.proofs.ReplaceLemmas.{still_once}
+use Rattle.liveness.specs.Live.{word_of, set_at, IsLive}
+use Rattle.liveness.specs.Kept.{AreFlows, KeepsAt}
+use Rattle.steady_layout.specs.Steady.{IsSteady}
+use Rattle.steady_layout.proofs.Laws.{steady_is_layable, steady_stays}
+use Rattle.line_cursor.specs.declared.cursor.Cursor.{Cursor}
+use Rattle.line_cursor.specs.declared.cursor.Spot.{Spot}
+use Rattle.line_cursor.specs.Cursors.{lines_behind, lines_ahead, lines_at, place_at, spots_at, sets_of, flows_of, IsCursor}
+use Rattle.line_cursor.proofs.Settled.{IsGap}
+use Rattle.line_cursor.proofs.Nearer.{places_append, applied_gap, applies_before}
+use Rattle.window_rewrite.specs.Rules.{AreFit}
+use Rattle.window_rewrite.specs.declared.choice.Choice.{Choice}
+use Rattle.window_rewrite.specs.declared.finding.Rules.{Rules}
+use Rattle.window_rewrite.specs.declared.ground.Ground.{Ground}
+use Rattle.window_rewrite.specs.Choices.{setting_of, choice_of, AreReady, IsChoice, NoneBefore}
+use Rattle.window_rewrite.specs.Sweeps.{IsKept, MayBecome, AreOver, IsOver}
+
+-- a replacement leaves lines that may become the listing, where the lines before it may
+pub may_become : (given lines : List Line) (s : Setting) (o : Replacement) → AppliesIn s o lines → MayBecome given lines → MayBecome given (lines_after s o lines)
+may_become given lines s o a h =
+    let fewer = fewer_after s o lines a in
+    let few = h.few in
+    record {
+      few = omega arith;
+      once = λ e. subst (λ (r : Option Rule). first_twice 1 [] (lines_after_rule s r o lines) ≡ None) (sym a.is_rule)
+          (still_once s.write o.place (length a.rule.left) (map (renamed o.registers) a.rule.right) lines (h.once e));
+    }
+
+-- steady lines stay steady
+pub still_steady : (s : Setting) (longest : ℕ) (o : Replacement) (lines : List Line) → AreFit longest s.table → AppliesIn s o lines → IsSteady s.base lines → IsSteady s.base (lines_after s o lines)
+still_steady s longest o lines fit a h =
+    let f = fit o.entry a.rule a.is_rule in
+    subst (λ (r : Option Rule). IsSteady s.base (lines_after_rule s r o lines)) (sym a.is_rule) (steady_stays s.base s.write a.rule o.registers o.place lines f.sound a.applies h)
+
+-- ---- lines before the place of a replacement ----
+
+op_place : (s : Statement) → is_op s ≡ true → length (places_in s) ≡ 1
+op_place (Runs i m) e = refl
+op_place Nothing e = absurd (cc)
+op_place (Words vs) e = absurd (cc)
+op_place (Aligns size most) e = absurd (cc)
+op_place (Sets name address) e = absurd (cc)
+
+-- they stay
+replaced_behind : (write : Instr → List ℕ) (p count : ℕ) (is : List Instr) (xs ys : List Line) → length (places_of xs) ≤ p
+    → replaced_lines write p count is (xs ++ ys) ≡ xs ++ replaced_lines write (p - length (places_of xs)) count is ys
+replaced_behind write p count is [] ys h = ap (λ q. replaced_lines write q count is ys) (let e : p ≡ p - 0 = omega arith in e)
+replaced_behind write p count is (x ∷ xs) ys h =
+    let all = length-append (places_in x.statement) (places_of xs) in
+    let left : p - length (places_in x.statement) - length (places_of xs) ≡ p - length (places_in x.statement ++ places_of xs) = omega arith in
+    rw (not_here (is_op x.statement) refl)
+    (ap (λ ls. x ∷ ls) (replaced_behind write (p - length (places_in x.statement)) count is xs ys (omega arith) ∙ ap (λ q. xs ++ replaced_lines write q count is ys) left))
+  where
+    not_here : (b : Bool) → is_op x.statement ≡ b → (is_op x.statement && (p == 0)) ≡ false
+    not_here false f = ap (λ c. c && (p == 0)) f
+    not_here true f =
+        let all = length-append (places_in x.statement) (places_of xs) in
+        let one = op_place x.statement f in
+        ap (λ c. c && (p == 0)) f ∙ ne_eqb p 0 (λ z. omega arith)
+
+left_behind : (s : Setting) (o : Replacement) (xs ys : List Line) → AppliesIn s o (xs ++ ys) → length (places_of xs) ≤ o.place → (zs : List Line) × (lines_after s o (xs ++ ys) ≡ xs ++ zs)
+left_behind s o xs ys a h =
+    let is : List Instr = map (renamed o.registers) a.rule.right in
+    let n : ℕ = length a.rule.left in (
+      replaced_lines s.write (o.place - length (places_of xs)) n is ys,
+      ap (λ (r : Option Rule). lines_after_rule s r o (xs ++ ys)) a.is_rule ∙ replaced_behind s.write o.place n is xs ys h,
+    )
+
+-- ---- live items before the place of a replacement ----
+
+same_after : (was now : List Spot) (q : ℕ) → slice_get now q ≡ slice_get was q → set_at (sets_of now).after q ≡ set_at (sets_of was).after q
+same_after was now q e = ap word_of (slice_get-map (λ (s : Spot). s.after) now q ∙ ap (option_map (λ (s : Spot). s.after)) e ∙ sym (slice_get-map (λ (s : Spot). s.after) was q))
+
+-- what is kept of a place tells its live items
+still_live : (old new : Code) (was now : List Spot) (q x : ℕ) → IsLive old (sets_of was) → IsLive new (sets_of now) → q < length old.places → q < length new.places → slice_get now q ≡ slice_get was q
+    → LiveAfter old q x → LiveAfter new q x
+still_live old new was now q x a b h k e l = (b.after q x k).0 (subst (λ w. has w x ≡ true) (sym (same_after was now q e)) ((a.after q x h).1 l))
+
+-- ---- before the cursor ----
+
+-- what no rule applies before in the old lines none applies before in the new ones, as far back as a left side is long
+pub none_before : (s : Setting) (longest : ℕ) (xs ys new : List Line) (was now : List Spot) (r : Replacement) (place : ℕ) → AreFit longest s.table → IsFirst s r (xs ++ ys) → r.place ≡ length (places_of xs)
+    → new ≡ lines_after s r (xs ++ ys) → IsLive (code_of (xs ++ ys)) (sets_of was) → IsLive (code_of new) (sets_of now) → ((q : ℕ) → q < r.place → slice_get now q ≡ slice_get was q)
+    → s.base % 4 ≡ 0 → IsSteady s.base (xs ++ ys) → place ≤ r.place - longest → NoneBefore s new place
+none_before s longest xs ys new was now r place fit first at is_new old_live new_live same aligned steady back = λ o a before.
+    let rule : Rule = first.applies.rule in
+    let is : List Instr = map (renamed r.registers) rule.right in
+    let n : ℕ = length rule.left in
+    let left = left_behind s r xs ys first.applies (omega arith) in
+    let zs : List Line = left.0 in
+    let is_now : new ≡ xs ++ zs = is_new ∙ left.1 in
+    let there : AppliesIn s o (xs ++ zs) = subst (λ (ls : List Line). AppliesIn s o ls) is_now a in
+    let f = fit o.entry there.rule there.is_rule in
+    let short = f.short in
+    let far : o.place + length there.rule.left ≤ length (places_of xs) = omega arith in
+    let shorter = there.applies.shorter in
+    let q : ℕ = o.place + length there.rule.left - 1 in
+    let old_places = ap (λ ps. length ps) (places_append xs ys) ∙ length-append (places_of xs) (places_of ys) in
+    let new_places = ap (λ (ls : List Line). length (places_of ls)) is_now ∙ ap (λ ps. length ps) (places_append xs zs) ∙ length-append (places_of xs) (places_of zs) in
+    let code : code_of (xs ++ zs) ≡ replaced (code_of (xs ++ ys)) (length (places_of xs)) n is =
+    ap code_of (sym left.1) ∙ code_of_after s r (xs ++ ys) first.applies ∙ ap (λ p. replaced (code_of (xs ++ ys)) p n is) at in
+    let gap : IsGap (places_of (xs ++ ys)) (labels_from 0 (xs ++ ys)) (length (places_of xs)) n is =
+    subst (λ p. IsGap (places_of (xs ++ ys)) (labels_from 0 (xs ++ ys)) p n is) at (applied_gap rule r.registers (code_of (xs ++ ys)) r.place first.applies.applies) in
+    let live : (x : ℕ) → LiveAfter (code_of (xs ++ ys)) q x → LiveAfter (code_of (xs ++ zs)) q x =
+    λ x h. subst (λ (ls : List Line). LiveAfter (code_of ls) q x) is_now (still_live (code_of (xs ++ ys)) (code_of new) was now q x old_live new_live (omega arith) (omega arith) (same q (omega arith)) h) in
+    let layable : Applies there.rule o.registers (code_of (xs ++ ys)) o.place → Layable s.base (lines_after_rule s (Some there.rule) o (xs ++ ys)) =
+    λ applies. steady_is_layable s.base (lines_after_rule s (Some there.rule) o (xs ++ ys)) aligned (steady_stays s.base s.write there.rule o.registers o.place (xs ++ ys) f.sound applies steady) in
+    let there_before : AppliesIn s o (xs ++ ys) = applies_before s xs ys zs n is o code gap there far live layable in
+    let least = first.least_place o there_before in
+    absurd (omega arith)
+
+-- ---- a turn ----
+
+-- the choice at a cursor may be made, with its window and its new instructions as slices
+pub keeps_here : (s : Setting) (lines : List Line) (c : Choice) (place : ℕ) (window new : List Instr) → IsChoice s lines c → (choice_of c).place ≡ place → window ≡ c.window → new ≡ c.new
+    → KeepsAt (code_of lines) place window new
+keeps_here s lines c place window new is at e f =
+    let here : KeepsAt (code_of lines) place c.window c.new = subst (λ (p : ℕ). KeepsAt (code_of lines) p c.window c.new) at is.keeps in
+    let there : KeepsAt (code_of lines) place window c.new = subst (λ (w : List Instr). KeepsAt (code_of lines) place w c.new) (sym e) here in
+    subst (λ (n : List Instr). KeepsAt (code_of lines) place window n) (sym f) there
+
+-- and leaves the lines after it
+pub leaves_here : (s : Setting) (lines now : List Line) (c : Choice) (place : ℕ) (window new : List Instr) → IsChoice s lines c → (choice_of c).place ≡ place → window ≡ c.window → new ≡ c.new
+    → now ≡ replaced_lines s.write place (length window) new lines → now ≡ lines_after s (choice_of c) lines
+leaves_here s lines now c place window new is at e f h =
+    h
+    ∙ ap (λ p. replaced_lines s.write p (length window) new lines) (sym at)
+    ∙ ap (λ (w : List Instr). replaced_lines s.write (choice_of c).place (length w) new lines) e
+    ∙ ap (λ (n : List Instr). replaced_lines s.write (choice_of c).place (length c.window) n lines) f
+    ∙ is.leaves
+
+-- what is kept of places is true wherever a cursor stands
+still_kept : (c d : Cursor) → IsKept c → IsCursor d → lines_at d ≡ lines_at c → spots_at d ≡ spots_at c → IsKept d
+still_kept c d k is e f =
+    let live : IsLive (code_of (lines_at c)) (sets_of (spots_at d)) = subst (λ (spots : List Spot). IsLive (code_of (lines_at c)) (sets_of spots)) (sym f) k.live in
+    let flows : AreFlows (code_of (lines_at c)) (flows_of (spots_at d)) = subst (λ (spots : List Spot). AreFlows (code_of (lines_at c)) (flows_of spots)) (sym f) k.flows in
+    record {
+      is = is;
+      live = subst (λ (ls : List Line). IsLive (code_of ls) (sets_of (spots_at d))) (sym e) live;
+      flows = subst (λ (ls : List Line). AreFlows (code_of ls) (flows_of (spots_at d))) (sym e) flows;
+    }
+
+still_over : (r : Rules) (g : Ground) (lines now : List Line) (o : Replacement) → AreReady r → g.steady ≡ true → AppliesIn (setting_of r) o lines → now ≡ lines_after (setting_of r) o lines → AreOver r g lines → AreOver r g now
+still_over r g lines now o ready steady a e over =
+    subst (λ (ls : List Line). AreOver r g ls) (sym e) (record {
+      become = may_become g.listing.now lines (setting_of r) o a over.become;
+      aligned = over.aligned;
+      steady = λ h. still_steady (setting_of r) r.longest o lines ready.fit a (over.steady h);
+      same = λ h. absurd (true≢false (sym steady ∙ h));
+    })
+
+-- a replacement was made at the one cursor, and the other went back from there: it stands in such lines
+pub turned_over : (r : Rules) (g : Ground) (old at new : Cursor) (o : Replacement) → AreReady r → IsOver r g old → g.steady ≡ true → AppliesIn (setting_of r) o (lines_at old)
+    → IsKept at → lines_at at ≡ lines_after (setting_of r) o (lines_at old) → IsCursor new → lines_at new ≡ lines_at at → spots_at new ≡ spots_at at → IsOver r g new
+turned_over r g old at new o ready over steady a kept e is f spots = record {
+  kept = still_kept at new kept is f spots;
+  over = still_over r g (lines_at old) (lines_at new) o ready steady a (f ∙ e) over.over;
+}
+
+-- and no entry applies before it
+pub turned_before : (r : Rules) (g : Ground) (old at new : Cursor) (o : Replacement) → AreReady r → IsOver r g old → g.steady ≡ true → IsFirst (setting_of r) o (lines_at old) → o.place ≡ place_at old
+    → IsKept at → lines_at at ≡ lines_after (setting_of r) o (lines_at old) → ((q : ℕ) → q < place_at old → slice_get (spots_at at) q ≡ slice_get (spots_at old) q)
+    → lines_at new ≡ lines_at at → place_at new ≤ o.place - r.longest → NoneBefore (setting_of r) (lines_at new) (place_at new)
+turned_before r g old at new o ready over steady first here kept e same f back =
+    subst (λ (ls : List Line). NoneBefore (setting_of r) ls (place_at new)) (sym f)
+    (none_before (setting_of r) r.longest (lines_behind old) (lines_ahead old) (lines_at at) (spots_at old) (spots_at at) o (place_at new) ready.fit first (here ∙ over.kept.is.passed) e over.kept.live kept.live
+    (λ q h. same q (omega arith)) (over.over.aligned steady) (over.over.steady steady) back)

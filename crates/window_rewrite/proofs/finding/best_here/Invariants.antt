@@ -1,0 +1,16 @@
+use Rattle.std.proofs.Common.{◌+◌, ◌≤◌, length}
+use Rattle.line_cursor.specs.Cursors.{lines_at, place_at}
+use Rattle.window_rewrite.specs.Rules.{rules_in}
+use Rattle.window_rewrite.specs.Choices.{setting_of, longer}
+use Rattle.window_rewrite.proofs.Chosen.{NoneLonger}
+use Rattle.window_rewrite.proofs.finding.best_here.Given as goal
+
+abbrev pub invariant-loop-count : goal.invariant-loop-count
+invariant-loop-count g l = record {
+  within : l.count ≤ length l.run;
+  none : NoneLonger (setting_of l.rules) (lines_at l.cursor) (place_at l.cursor) l.count;
+  cost : l.steps ≤ l.initial.steps + longer l.count (rules_in l.rules.entries.now);
+}
+
+abbrev pub decreases-loop-count : goal.decreases-loop-count
+decreases-loop-count g l = l.count

@@ -1,0 +1,17 @@
+use Rattle.std.proofs.Common.{◌≡◌, ◌+◌, ◌*◌, ◌≤◌, length}
+use Rattle.line_cursor.specs.Cursors.{lines_at, place_at}
+use Rattle.window_rewrite.specs.Rules.{rules_in}
+use Rattle.window_rewrite.specs.Choices.{setting_of, NoneBefore}
+use Rattle.window_rewrite.specs.Sweeps.{IsOver}
+use Rattle.window_rewrite.proofs.finding.next.Given as goal
+
+abbrev pub invariant-loop-alloc : goal.invariant-loop-alloc
+invariant-loop-alloc g l = record {
+  over : IsOver l.rules l.ground l.cursor;
+  lines : lines_at l.cursor ≡ lines_at l.initial.cursor;
+  none : NoneBefore (setting_of l.rules) (lines_at l.cursor) (place_at l.cursor);
+  cost : l.steps ≤ l.initial.steps + place_at l.cursor * length (rules_in l.rules.entries.now);
+}
+
+abbrev pub decreases-loop-alloc : goal.decreases-loop-alloc
+decreases-loop-alloc g l = length l.cursor.ahead.items

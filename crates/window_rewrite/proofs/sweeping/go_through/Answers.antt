@@ -1,0 +1,56 @@
+use Rattle.std.proofs.Common.{◌<◌, List, All, length, sym, subst, ap, arith}
+use Rattle.std.proofs.lemmas.List.Elements.{All-push}
+use Rattle.thumb_model.specs.Listing.{Line, places_of}
+use Rattle.thumb_model.proofs.LinesKept.{fewer_after}
+use Rattle.line_cursor.specs.Cursors.{lines_at}
+use Rattle.window_rewrite.specs.Rewriting.{IsWhole}
+use Rattle.window_rewrite.specs.Choices.{setting_of, choice_of}
+use Rattle.window_rewrite.specs.Sweeps.{MayBecome}
+use Rattle.window_rewrite.proofs.Rounds.{comes_on, some_more}
+use Rattle.window_rewrite.proofs.Turning.{may_become}
+use Rattle.window_rewrite.proofs.sweeping.go_through.Goals as goal
+
+pub returns-then-not-goes_on-clause-becomes : goal.returns-then-not-goes_on-clause-becomes
+returns-then-not-goes_on-clause-becomes g c =
+    let choice = rw c.in-Some.is at c.in_ok-choice.ensures.some in
+    subst (MayBecome c.args.ground.now.listing.now) (sym c.in_ok-goes_on.ensures.lines)
+    (may_become c.args.ground.now.listing.now (lines_at c.next.new.cursor) (setting_of c.args.rules.now) (choice_of c.in-Some.choice) choice.first.applies c.in_ok-choice.ensures.over.over.become)
+
+pub returns-then-not-goes_on-clause-fewer : goal.returns-then-not-goes_on-clause-fewer
+returns-then-not-goes_on-clause-fewer g c =
+    let choice = rw c.in-Some.is at c.in_ok-choice.ensures.some in
+    let come = comes_on _ _ _ _ _ _ _ _ _ _ _ _ c.in-Some.choice.replacement c.loop-choice.invariant.come c.in_ok-choice.ensures.lines choice.first c.in_ok-goes_on.ensures.lines c.in_ok-push.ensures.items c.in_ok-choice.ensures.cost in
+    let more = some_more _ _ _ _ _ _ _ _ _ c.in-Some.choice.replacement c.loop-choice.invariant.come c.in_ok-push.ensures.items in
+    let fewer = come.fewer in
+    omega arith
+
+pub returns-then-not-goes_on-clause-cost : goal.returns-then-not-goes_on-clause-cost
+returns-then-not-goes_on-clause-cost g c =
+    let choice = rw c.in-Some.is at c.in_ok-choice.ensures.some in
+    let come = comes_on _ _ _ _ _ _ _ _ _ _ _ _ c.in-Some.choice.replacement c.loop-choice.invariant.come c.in_ok-choice.ensures.lines choice.first c.in_ok-goes_on.ensures.lines c.in_ok-push.ensures.items c.in_ok-choice.ensures.cost in
+    let cost = come.cost in
+    omega arith
+
+pub returns-then-not-goes_on-clause-whole : goal.returns-then-not-goes_on-clause-whole
+returns-then-not-goes_on-clause-whole g c =
+    let choice = rw c.in-Some.is at c.in_ok-choice.ensures.some in
+    subst (All IsWhole) (sym c.in_ok-push.ensures.items) (All-push IsWhole _ c.in-Some.choice.replacement c.loop-choice.invariant.whole choice.is.whole)
+
+pub loop-choice-smaller : goal.loop-choice-smaller
+loop-choice-smaller g c =
+    let choice = rw c.in-Some.is at c.in_ok-choice.ensures.some in
+    let less = fewer_after (setting_of c.args.rules.now) (choice_of c.in-Some.choice) (lines_at c.next.new.cursor) choice.first.applies in
+    let here = ap (λ (l : List Line). length (places_of l)) c.in_ok-choice.ensures.lines in
+    let there = ap (λ (l : List Line). length (places_of l)) c.in_ok-goes_on.ensures.lines in
+    let all : length (places_of (lines_at c.turn.new.cursor)) < length (places_of (lines_at c.loop-choice.cursor)) = omega arith in
+    all
+
+pub loop-choice-preserved : goal.loop-choice-preserved
+loop-choice-preserved g c =
+    let choice = rw c.in-Some.is at c.in_ok-choice.ensures.some in
+    record {
+      over = c.in_ok-goes_on.ensures.over c.if-not-goes_on.false;
+      before = c.in_ok-goes_on.ensures.before c.if-not-goes_on.false;
+      whole = subst (All IsWhole) (sym c.in_ok-push.ensures.items) (All-push IsWhole _ c.in-Some.choice.replacement c.loop-choice.invariant.whole choice.is.whole);
+      come = comes_on _ _ _ _ _ _ _ _ _ _ _ _ c.in-Some.choice.replacement c.loop-choice.invariant.come c.in_ok-choice.ensures.lines choice.first c.in_ok-goes_on.ensures.lines c.in_ok-push.ensures.items c.in_ok-choice.ensures.cost;
+    }

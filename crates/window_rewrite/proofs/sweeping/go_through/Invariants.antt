@@ -1,0 +1,21 @@
+use Rattle.std.proofs.Common.{All, length}
+use Rattle.thumb_model.specs.Listing.{places_of}
+use Rattle.line_cursor.specs.Cursors.{lines_at, place_at}
+use Rattle.window_rewrite.specs.Rewriting.{IsWhole}
+use Rattle.window_rewrite.specs.Rules.{rules_in}
+use Rattle.window_rewrite.specs.Choices.{setting_of, NoneBefore}
+use Rattle.window_rewrite.specs.Sweeps.{IsOver}
+use Rattle.window_rewrite.proofs.Rounds.{HasCome}
+use Rattle.window_rewrite.proofs.sweeping.go_through.Given as goal
+
+-- the cursor stands in lines that have come from those where it began
+abbrev pub invariant-loop-choice : goal.invariant-loop-choice
+invariant-loop-choice g l = record {
+  over : IsOver l.rules l.ground l.cursor;
+  before : NoneBefore (setting_of l.rules) (lines_at l.cursor) (place_at l.cursor);
+  whole : All IsWhole l.replacements.items;
+  come : HasCome (setting_of l.rules) (length (rules_in l.rules.entries.now)) (lines_at l.initial.cursor) (lines_at l.cursor) l.initial.replacements.items l.replacements.items l.initial.steps l.steps;
+}
+
+abbrev pub decreases-loop-choice : goal.decreases-loop-choice
+decreases-loop-choice g l = length (places_of (lines_at l.cursor))

@@ -1,0 +1,41 @@
+-- A sweep over a listing: a cursor in lines that come of it by replacements.
+use Rattle.std.specs.Prelude.{◌≡◌, ◌%◌, ◌≤◌, ◌++◌, true, false, None, List, [], length, map}
+use Rattle.thumb_model.specs.Listing.{Line, code_of, places_of}
+use Rattle.thumb_model.specs.Rewritten.{Setting, Replacement, AreRewritten}
+use Rattle.listing_parser.specs.TableWords.{first_twice}
+use Rattle.liveness.specs.Live.{IsLive}
+use Rattle.liveness.specs.Kept.{AreFlows}
+use Rattle.steady_layout.specs.Steady.{IsSteady}
+use Rattle.line_cursor.specs.declared.cursor.Cursor.{Cursor}
+use Rattle.line_cursor.specs.Cursors.{IsCursor, lines_at, spots_at, sets_of, flows_of}
+use Rattle.window_rewrite.specs.declared.choice.Replacement.{Replacement as Made}
+use Rattle.window_rewrite.specs.declared.finding.Rules.{Rules}
+use Rattle.window_rewrite.specs.declared.ground.Ground.{Ground}
+use Rattle.window_rewrite.specs.Rewriting.{replacement_of}
+
+-- what is kept of places is true of the lines
+pub record IsKept (c : Cursor) : Type 0 where
+  pub is : IsCursor c
+  pub live : IsLive (code_of (lines_at c)) (sets_of (spots_at c))
+  pub flows : AreFlows (code_of (lines_at c)) (flows_of (spots_at c))
+
+-- other lines may become a listing where these are one
+pub record MayBecome (given lines : List Line) : Type 0 where
+  pub few : length (places_of lines) ≤ length (places_of given)
+  pub once : first_twice 1 [] given ≡ None → first_twice 1 [] lines ≡ None
+
+-- the lines are steady, if the ground is; otherwise they are still the ground's
+pub record AreOver (r : Rules) (g : Ground) (lines : List Line) : Type 0 where
+  pub become : MayBecome g.listing.now lines
+  pub aligned : g.steady ≡ true → r.base % 4 ≡ 0
+  pub steady : g.steady ≡ true → IsSteady r.base lines
+  pub same : g.steady ≡ false → lines ≡ g.listing.now
+
+-- the cursor stands in such lines
+pub record IsOver (r : Rules) (g : Ground) (c : Cursor) : Type 0 where
+  pub kept : IsKept c
+  pub over : AreOver r g (lines_at c)
+
+-- what completes the replacements from the current lines completes them from the start
+abbrev pub Completes : Setting → List Line → List Made → List Line → Type 0
+Completes s start done current = (rs : List Replacement) (new : List Line) → AreRewritten s current rs new → AreRewritten s start (map replacement_of done ++ rs) new

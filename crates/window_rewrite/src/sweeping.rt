@@ -1,0 +1,152 @@
+//! Sweeps over a listing.
+ghost use Rattle.std.specs.Prelude.{◌≡◌, ◌+◌, ◌*◌, ◌%◌, ◌<◌, ◌≤◌, ◌++◌, ◌∷◌, [], List, All, length, not, true, false, IfOk, OnOk};
+ghost use Rattle.std.specs.Int.{from_bool};
+ghost use Rattle.thumb_model.specs.Listing.{Line, places_of};
+ghost use Rattle.thumb_model.specs.Rewritten.{NoneApplies, lines_after};
+ghost use Rattle.line_cursor.specs.declared.pieces.Piece.{Piece};
+ghost use Rattle.line_cursor.specs.Pieces.{begins_op, lines_in};
+ghost use Rattle.line_cursor.specs.Cursors.{flows_of, lines_at, place_at, sets_of};
+ghost use Rattle.steady_layout.specs.Steady.{IsSteady};
+ghost use Rattle.window_rewrite.specs.Rewriting.{round_cost, IsWhole};
+ghost use Rattle.window_rewrite.specs.Rules.{rules_in};
+ghost use Rattle.window_rewrite.specs.Choices.{setting_of, choice_of, AreReady, IsFirstChoice, NoneBefore};
+ghost use Rattle.window_rewrite.specs.Sweeps.{Completes, IsOver, MayBecome};
+
+use crate::choice::{Choice, Replacement};
+use crate::finding::{Rules, next};
+use crate::ground::Ground;
+use crate::making::make;
+use line_cursor::pieces::written;
+use line_cursor::{Cursor, Spot};
+use listing_parser::{Listing, Memory};
+use liveness::{Flow, Live, flows, live};
+use std::alloc::Global;
+use steady_layout::is_steady;
+use step_ledger::{Ledger, Steps};
+
+/// What a sweep leaves.
+#[derive(Drop)]
+pub(crate) struct Swept {
+    pub(crate) listing: Listing,
+    /// Whether no entry applies any more.
+    pub(crate) is_done: bool,
+}
+
+/// Makes a replacement that was found, and goes back to where others may be possible now. Whether the sweep can go on.
+fn turn(
+    rules: &Rules<'_>,
+    ground: &Ground<'_>,
+    cursor: &mut Cursor<'_>,
+    choice: &Choice,
+) -> Result<bool, Memory>
+    requires ready { AreReady rules.now }
+    requires over { IsOver rules.now ground.now cursor.old }
+    requires choice { IsFirstChoice (setting_of rules.now) (lines_at cursor.old) choice.now }
+    requires here { (choice_of choice.now).place ≡ place_at cursor.old }
+    requires some { 0 < length cursor.old.ahead.items }
+    requires first { (rest : List Piece) (x : Piece) → cursor.old.ahead.items ≡ rest ++ x ∷ [] → begins_op (lines_in x) ≡ true }
+    ensures lines { OnOk result (lines_at cursor.new ≡ lines_after (setting_of rules.now) (choice_of choice.now) (lines_at cursor.old)) }
+    ensures over { IfOk result (λ b. b ≡ true → IsOver rules.now ground.now cursor.new) }
+    ensures before { IfOk result (λ b. b ≡ true → NoneBefore (setting_of rules.now) (lines_at cursor.new) (place_at cursor.new)) }
+{
+    let kept = make(cursor, choice.window.as_slice(), choice.new.as_slice())?;
+    if !kept || !ground.steady {
+        return Ok(false);
+    }
+    let place = choice.replacement.place as usize;
+    cursor.rewind(place.saturating_sub(usize::from(rules.longest)))?;
+    Ok(true)
+}
+
+/// Makes replacements from the cursor on, as long as the sweep can go on. Whether no entry applies any more.
+fn go_through<L: Ledger>(
+    alloc: Global,
+    rules: &Rules<'_>,
+    ground: &Ground<'_>,
+    cursor: &mut Cursor<'_>,
+    replacements: &mut Vec<Replacement>,
+    steps: &mut Steps<L>,
+) -> Result<bool, Memory>
+    requires ready { AreReady rules.now }
+    requires over { IsOver rules.now ground.now cursor.old }
+    requires before { NoneBefore (setting_of rules.now) (lines_at cursor.old) (place_at cursor.old) }
+    requires whole { All IsWhole replacements.old.items }
+    ensures whole { OnOk result (All IsWhole replacements.new.items) }
+    ensures completes { OnOk result ((start : List Line) → Completes (setting_of rules.now) start replacements.old.items (lines_at cursor.old) → Completes (setting_of rules.now) start replacements.new.items (lines_at cursor.new)) }
+    ensures becomes { OnOk result (MayBecome ground.now.listing.now (lines_at cursor.new)) }
+    ensures none { IfOk result (λ b. b ≡ true → NoneApplies (setting_of rules.now) (lines_at cursor.new)) }
+    ensures fewer { IfOk result (λ b. length (places_of (lines_at cursor.new)) + from_bool (not b) ≤ length (places_of (lines_at cursor.old))) }
+    ensures more { IfOk result (λ b. length replacements.old.items + from_bool (not b) ≤ length replacements.new.items) }
+    ensures cost { IfOk result (λ b. steps.new + length replacements.old.items * (length (places_of (lines_at cursor.old)) * length (rules_in rules.now.entries.now)) ≤ steps.old + (length replacements.new.items + from_bool b) * (length (places_of (lines_at cursor.old)) * length (rules_in rules.now.entries.now))) }
+{
+    while let Some(choice) = next(alloc, rules, ground, cursor, steps)? {
+        let goes_on = turn(rules, ground, cursor, &choice)?;
+        replacements.push(choice.replacement)?;
+        if !goes_on {
+            return Ok(false);
+        }
+    }
+    Ok(true)
+}
+
+/// What is kept of all places.
+fn spots_of(alloc: Global, live: &Live, flows: &[Flow]) -> Result<Vec<Spot>, Memory>
+    requires before { length live.now.before ≡ length flows.now }
+    requires after { length live.now.after ≡ length flows.now }
+    ensures sets { IfOk result (λ v. sets_of v.items ≡ live.now) }
+    ensures flows { IfOk result (λ v. flows_of v.items ≡ flows.now) }
+{
+    let before = live.before_sets();
+    let after = live.after_sets();
+    let mut spots = Vec::with_capacity(alloc, flows.len())?;
+    for at in 0..flows.len() {
+        spots.push(Spot {
+            before: before[at],
+            after: after[at],
+            flow: flows[at],
+        })?;
+    }
+    Ok(spots)
+}
+
+/// Whether each listing that comes of this one by replacements can surely be laid out from the base.
+fn is_steady_from(alloc: Global, listing: &Listing, base: u32) -> Result<bool, Memory>
+    ensures { IfOk result (λ b. b ≡ true → (base % 4 ≡ 0) × IsSteady base listing.now) }
+{
+    if base % 4 != 0 {
+        return Ok(false);
+    }
+    is_steady(alloc, listing, base)
+}
+
+/// Goes over a listing once, with what is kept of its places. Each replacement is the first that can be made.
+pub(crate) fn sweep<L: Ledger>(
+    alloc: Global,
+    rules: &Rules<'_>,
+    listing: &Listing,
+    replacements: &mut Vec<Replacement>,
+    steps: &mut Steps<L>,
+) -> Result<Swept, Memory>
+    requires ready { AreReady rules.now }
+    requires whole { All IsWhole replacements.old.items }
+    ensures whole { OnOk result (All IsWhole replacements.new.items) }
+    ensures completes { IfOk result (λ s. (start : List Line) → Completes (setting_of rules.now) start replacements.old.items listing.now → Completes (setting_of rules.now) start replacements.new.items s.listing) }
+    ensures none { IfOk result (λ s. s.is_done ≡ true → NoneApplies (setting_of rules.now) s.listing) }
+    ensures fewer { IfOk result (λ s. length (places_of s.listing) + from_bool (not s.is_done) ≤ length (places_of listing.now)) }
+    ensures more { IfOk result (λ s. length replacements.old.items ≤ length replacements.new.items) }
+    ensures cost { IfOk result (λ s. steps.new + length replacements.old.items * round_cost (length (places_of listing.now)) (length (rules_in rules.now.entries.now)) ≤ steps.old + (length replacements.new.items + from_bool s.is_done) * round_cost (length (places_of listing.now)) (length (rules_in rules.now.entries.now))) }
+{
+    let live = live(alloc, listing, steps)?;
+    let flows = flows(alloc, listing)?;
+    let spots = spots_of(alloc, &live, flows.as_slice())?;
+    let ground = Ground {
+        listing,
+        steady: is_steady_from(alloc, listing, rules.base)?,
+    };
+    let mut cursor = Cursor::start(alloc, listing.lines(), spots.as_slice())?;
+    let is_done = go_through(alloc, rules, &ground, &mut cursor, replacements, steps)?;
+    let pieces = cursor.into_pieces()?;
+    let lines = written(alloc, pieces.as_slice())?;
+    let listing = listing.remade(alloc, lines)?;
+    Ok(Swept { listing, is_done })
+}

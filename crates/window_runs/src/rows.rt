@@ -1,0 +1,89 @@
+//! The places of a listing as windows see them.
+ghost use Rattle.std.specs.Prelude.{◌≡◌, ◌++◌, ◌&&◌, false, map, IfOk, OnOk, option_map};
+ghost use Rattle.thumb_model.specs.Listing.{Words};
+ghost use Rattle.listing_parser.specs.Views.{line_view, mention_view, statement_view, value_view};
+ghost use Rattle.window_runs.specs.Rows.{is_unlabelled, letter_of, rows_from, rows_of, stays_joined};
+
+use listing_parser::{Line, Mention, Statement, Value};
+use std::alloc::{AllocError, Global};
+use thumb_instr::{Instr, in_window};
+
+/// A place as windows see it.
+#[derive(Clone, Copy)]
+pub struct Row {
+    /// The instruction that stands there, where it may stand in a window.
+    pub letter: Option<Instr>,
+    /// Whether neither a label nor an alignment line stands between it and the place before.
+    pub is_joined: bool,
+}
+
+/// The places of lines.
+pub fn rows(alloc: Global, lines: &[Line]) -> Result<Vec<Row>, AllocError>
+    ensures { IfOk result (λ rows. rows.items ≡ rows_from false (map line_view lines.now)) }
+{
+    let mut rows = Vec::new(alloc);
+    let mut joined = false;
+    for line in lines {
+        joined = add_line(&mut rows, line, joined)?;
+    }
+    Ok(rows)
+}
+
+/// Adds the places of a line. Whether what follows the line is joined to what stands before.
+fn add_line(rows: &mut Vec<Row>, line: &Line, joined: bool) -> Result<bool, AllocError>
+    ensures rows { OnOk result (rows.new.items ≡ rows.old.items ++ rows_of (joined && is_unlabelled (line_view line.now).names) (line_view line.now).statement) }
+    ensures joined { IfOk result (λ j. j ≡ stays_joined (joined && is_unlabelled (line_view line.now).names) (line_view line.now).statement) }
+{
+    let joined = joined & line.names.is_empty();
+    add_places(rows, &line.statement, joined)?;
+    Ok(stays_joined(&line.statement, joined))
+}
+
+/// Adds the places of a statement.
+fn add_places(rows: &mut Vec<Row>, statement: &Statement, is_joined: bool) -> Result<(), AllocError>
+    ensures { OnOk result (rows.new.items ≡ rows.old.items ++ rows_of is_joined (statement_view statement.now)) }
+{
+    match statement {
+        Statement::Runs { instr, mention } => {
+            let letter = letter(instr, mention.as_ref());
+            rows.push(Row { letter, is_joined })?;
+            Ok(())
+        }
+        Statement::Words(values) => add_words(rows, values),
+        _ => Ok(()),
+    }
+}
+
+/// Adds data words.
+fn add_words(rows: &mut Vec<Row>, values: &[Value]) -> Result<(), AllocError>
+    ensures { OnOk result (rows.new.items ≡ rows.old.items ++ rows_of false (Words (map value_view values.now))) }
+{
+    for _ in values {
+        rows.push(Row {
+            letter: None,
+            is_joined: false,
+        })?;
+    }
+    Ok(())
+}
+
+/// Whether the place behind a statement is joined to what stands before it.
+fn stays_joined(statement: &Statement, joined: bool) -> bool
+    ensures { result ≡ stays_joined joined (statement_view statement.now) }
+{
+    match statement {
+        Statement::Runs { .. } => true,
+        Statement::Aligns { .. } => false,
+        _ => joined,
+    }
+}
+
+/// An instruction that mentions nothing and may stand in a window.
+fn letter(instr: &Instr, mention: Option<&Mention>) -> Option<Instr>
+    ensures { result ≡ letter_of instr.now (option_map (λ r. mention_view r.now) mention.entry) }
+{
+    match mention {
+        Some(_) => None,
+        None => { if in_window(instr) { Some(*instr) } else { None } }
+    }
+}

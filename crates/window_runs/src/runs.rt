@@ -1,0 +1,40 @@
+//! Runs of instructions that may stand in a window.
+ghost use Rattle.std.specs.Prelude.{◌≡◌, ◌≤◌, ◌<◌, ◌^◌, drop, true};
+ghost use Rattle.window_runs.specs.Runs.{letter_at, run};
+
+use crate::rows::Row;
+use thumb_instr::{Instr, Seq};
+
+/// The instruction of a place that a run goes on with, or begins with.
+fn letter_at(rows: &[Row], at: usize, begins: bool) -> Option<Instr>
+    ensures { result ≡ letter_at begins (drop at rows.now) }
+{
+    match rows.get(at) {
+        None => None,
+        Some(row) => {
+            if begins || row.is_joined {
+                row.letter
+            } else {
+                None
+            }
+        }
+    }
+}
+
+/// The instructions that stand one behind the other from a place on and may stand in a window, with no label and no alignment line between them:
+/// as many as there are, and at most so many.
+pub fn run(rows: &[Row], place: usize, most: usize) -> Seq
+    requires place { place < 2 ^ 32 }
+    requires most { most ≤ 5 }
+    ensures { result ≡ run true most (drop place rows.now) }
+{
+    let mut seq = Seq::new();
+    while seq.len() < most {
+        let count = seq.len();
+        match letter_at(rows, place + count, count == 0) {
+            None => return seq,
+            Some(instr) => seq.push(instr),
+        }
+    }
+    seq
+}
