@@ -23,7 +23,10 @@ proved=$(build_proved learner_times "$top/bench/learner/proved.rs" listing_parse
 peep=$top/crates/peep/out/peep
 
 mapfile -t listings < <(find "$folder" -type f | sort | head -n "$count")
-for listing in "${listings[@]}"; do "$work/harvest" windows < "$listing" > "$work/tables/$(basename "$listing")" 2> "$work/told"; done
+for listing in "${listings[@]}"; do
+    table=$work/tables/$(basename "$listing")
+    "$work/harvest" windows < "$listing" > "$table" 2> "$work/told"
+done
 
 # learning PROGRAM LISTING: the proved program reads the listing, the plain one its windows.
 learning() {
@@ -46,7 +49,7 @@ for listing in "${listings[@]}"; do
     cmp "$work/peep.table" "$work/plain.table"
     proved_sum=$((proved_sum + $(shortest proved 1))) plain_sum=$((plain_sum + $(shortest plain 1))) peep_sum=$((peep_sum + $(shortest peep 1) / 1000))
     tail -n 1 "$work/plain.times" >> "$work/shares"
-    echo "$(basename "$listing"): $(cat "$work/printed" | tr '\n' ' ')proved $(shortest proved 1) ms, plain Rust $(shortest plain 1) ms"
+    echo "$(basename "$listing"): $(tr '\n' ' ' < "$work/printed")proved $(shortest proved 1) ms, plain Rust $(shortest plain 1) ms"
 done
 windows=$(awk '{ sum += $2 } END { print sum }' "$work/shares")
 print_times "learning $windows windows of ${#listings[@]} listings" ms "$proved_sum" "$plain_sum"
@@ -57,6 +60,7 @@ awk '{ all += $1; i += $3; s += $4; f += $5; o += $6 } END { printf "plain Rust:
 share() { awk -v names="$1" '$0 ~ names { sum += $1 } END { printf "%.0f %%", sum }' "$work/seen"; }
 
 if command -v perf > /dev/null; then
+    number=0
     # those that take longest say most
     for listing in "${listings[@]}"; do perf record -q -e cpu-clock -o "$work/perf.$((number += 1))" "$proved" < "$listing" > "$work/proved.table" 2> "$work/told" || true; done
     for n in $(seq "$number"); do perf report -i "$work/perf.$n" --no-children --stdio -n 2> "$work/told"; done | grep -v '^#' | awk 'NF > 3 { $1 = $2; print }' > "$work/counts"

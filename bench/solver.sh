@@ -75,8 +75,9 @@ harvest=$(build_plain "$top/bench/live_items/plain.rs") && mv "$harvest" "$work/
 learner=$(build_plain "$top/bench/learner/plain.rs") && mv "$learner" "$work/learner"
 plain=$(build_plain "$top/bench/solver/plain.rs")
 for listing in "$folder"/*; do
-    mkdir "$work/asked/$(basename "$listing")"
-    "$work/harvest" windows < "$listing" 2> "$work/told" | "$work/learner" "$work/asked/$(basename "$listing")" 2> "$work/told" > "$work/table"
+    asked=$work/asked/$(basename "$listing")
+    mkdir "$asked"
+    "$work/harvest" windows < "$listing" 2> "$work/told" | "$work/learner" "$asked" 2> "$work/told" > "$work/table"
 done
 find "$work/asked" -name '*.cnf' | awk -F/ '{ print $NF, $0 }' | sort -r | head -n 100 | cut -d' ' -f2- > "$work/slowest"
 all_conflicts=0 all_proved=0 all_plain=0 all_other=0 sat=0

@@ -3,7 +3,7 @@
 //! Tells on standard error: the microseconds of assembling, those of reading, laying out and assembling, and the number of lines; or what is refused.
 #![tactic(auto, using(thumb_assembler::proofs::Fairness::of_its_text))]
 
-ghost use Rattle.std.specs.Prelude.{◌≡◌};
+ghost use Rattle.std.specs.Prelude.{◌≡◌, ◌%◌};
 
 use label_layout::layout;
 use listing_parser::parse;

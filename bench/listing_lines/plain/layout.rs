@@ -27,7 +27,7 @@ pub enum LayoutError {
 const CODE_END: u64 = 0x2000_0000;
 
 /// How many bytes a statement takes at an address.
-fn size(statement: &Statement, at: u32) -> u64 {
+pub fn size(statement: &Statement, at: u32) -> u64 {
     match statement {
         Statement::Nothing | Statement::Sets { .. } => 0,
         Statement::Runs { instr, .. } => match instr {
@@ -55,6 +55,16 @@ fn literal_fault(at: u32, to: u32, plus: u32) -> Option<Fault> {
         Some(Fault::Align(target))
     } else {
         (!(0..=1020).contains(&distance)).then_some(Fault::Range(distance))
+    }
+}
+
+/// What is wrong with an instruction at an address, where what it mentions lies at another.
+pub fn aim_fault(at: u32, instr: Instr, to: u32, plus: u32) -> Option<Fault> {
+    match instr {
+        Instr::BranchIf(_) => branch_fault(128, at, to),
+        Instr::Branch => branch_fault(1024, at, to),
+        Instr::Call => branch_fault(8_388_608, at, to),
+        _ => literal_fault(at, to, plus),
     }
 }
 
@@ -87,12 +97,7 @@ impl<'a> Layout<'a> {
                 _ => return None,
             },
         };
-        match instr {
-            Instr::BranchIf(_) => branch_fault(128, at, to),
-            Instr::Branch => branch_fault(1024, at, to),
-            Instr::Call => branch_fault(8_388_608, at, to),
-            _ => literal_fault(at, to, mention.plus),
-        }
+        aim_fault(at, instr, to, mention.plus)
     }
 }
 

@@ -1,0 +1,154 @@
+//! The instructions of windows in plain Rust, their names by first appearance and their texts, which the plain programs of the measures share.
+// not each program needs all of it
+#![allow(dead_code)]
+
+use crate::instruction::{ByteOperation, Extension, Instr, Reversal, Right, Sum};
+use crate::line::Statement;
+use crate::listing::Listing;
+
+/// An instruction of a window: its form and operation as one number, its registers in the order of its text, and its number.
+#[derive(Clone, Copy, PartialEq, Eq, Hash)]
+pub struct Letter {
+    pub form: u8,
+    pub registers: [u8; 3],
+    pub count: u8,
+    pub number: u8,
+}
+
+/// The instruction as a letter, where it may stand in a window: one of both encodings of an effect.
+pub fn letter_of(instr: &Instr) -> Option<Letter> {
+    let letter = |form: u8, registers: &[u8], number: u8| {
+        let mut all = [0; 3];
+        all[..registers.len()].copy_from_slice(registers);
+        Some(Letter { form, registers: all, count: registers.len() as u8, number }).filter(|_| registers.iter().all(|r| *r < 8))
+    };
+    let sum = |sum: Sum| match sum {
+        Sum::Add => 0,
+        Sum::Sub => 1,
+    };
+    let byte = |operation: ByteOperation| match operation {
+        ByteOperation::Mov => 4,
+        ByteOperation::Cmp => 5,
+        ByteOperation::Add => 6,
+        ByteOperation::Sub => 7,
+    };
+    match *instr {
+        Instr::Three { sum: s, target, left, right } => letter(sum(s), &[target, left, right], 0),
+        Instr::ThreeNumber { sum: s, target, source, number } if target == source => letter(6 + sum(s), &[target], number),
+        Instr::ThreeNumber { sum: s, target, source, number } => letter(2 + sum(s), &[target, source], number),
+        Instr::TwoNumber { operation, target, number } => letter(byte(operation), &[target], number),
+        Instr::ShiftLeft { target, source, amount } => letter(8, &[target, source], amount),
+        Instr::ShiftRight { shift: Right::Lsr, target, source, amount } => letter(9, &[target, source], amount),
+        Instr::ShiftRight { shift: Right::Asr, target, source, amount } => letter(10, &[target, source], amount),
+        Instr::Two { operation, target, other } => letter(11 + operation as u8, &[target, other], 0),
+        Instr::Movs { target, source } => letter(27, &[target, source], 0),
+        Instr::Mov { target, source } => letter(28, &[target, source], 0),
+        Instr::Add { target, source } => letter(29, &[target, source], 0),
+        Instr::Extend { extension, target, source } => letter(30 + extension_number(extension), &[target, source], 0),
+        Instr::Reverse { reversal, target, source } => letter(34 + reversal_number(reversal), &[target, source], 0),
+        _ => None,
+    }
+}
+
+fn extension_number(extension: Extension) -> u8 {
+    match extension {
+        Extension::Sxth => 0,
+        Extension::Sxtb => 1,
+        Extension::Uxth => 2,
+        Extension::Uxtb => 3,
+    }
+}
+
+fn reversal_number(reversal: Reversal) -> u8 {
+    match reversal {
+        Reversal::Rev => 0,
+        Reversal::Rev16 => 1,
+        Reversal::Revsh => 2,
+    }
+}
+
+/// The names that registers get by first appearance.
+pub struct Naming {
+    names: [u8; 8],
+    /// The registers, by their names.
+    pub order: [u8; 8],
+    pub count: u8,
+}
+
+impl Naming {
+    pub fn new() -> Naming {
+        Naming { names: [u8::MAX; 8], order: [0; 8], count: 0 }
+    }
+
+    /// The letter with its registers' names.
+    #[inline]
+    pub fn named(&mut self, letter: &Letter) -> Letter {
+        letter.with(|register| {
+            let name = &mut self.names[usize::from(register)];
+            if *name == u8::MAX {
+                *name = self.count;
+                self.order[usize::from(self.count)] = register;
+                self.count += 1;
+            }
+            *name
+        })
+    }
+}
+
+impl Letter {
+    /// The letter with other registers.
+    #[inline]
+    pub fn with(&self, mut other: impl FnMut(u8) -> u8) -> Letter {
+        let mut letter = *self;
+        for register in &mut letter.registers[..usize::from(self.count)] {
+            *register = other(*register);
+        }
+        letter
+    }
+
+    /// Puts its canonical text behind others.
+    pub fn write(&self, text: &mut Vec<u8>) {
+        let put = |text: &mut Vec<u8>, register: u8| text.extend_from_slice(&[b'r', b'0' + register]);
+        text.extend_from_slice(NAMES[usize::from(self.form)].as_bytes());
+        for (n, register) in self.registers[..usize::from(self.count)].iter().enumerate() {
+            text.extend_from_slice(if n == 0 { b" " } else { b", " });
+            put(text, *register);
+        }
+        match self.form {
+            2..=10 => text.extend_from_slice(format!(", #{}", self.number).as_bytes()),
+            20 => text.extend_from_slice(b", #0"),
+            24 => {
+                text.extend_from_slice(b", ");
+                put(text, self.registers[0]);
+            }
+            _ => {}
+        }
+    }
+}
+
+/// The places of a listing: the letter that stands there, and whether it is behind the letter before with nothing between that ends a window.
+pub fn rows(listing: &Listing) -> Vec<(Option<Letter>, bool)> {
+    let mut rows = Vec::with_capacity(listing.spots.len());
+    let mut joined = false;
+    for line in &listing.lines {
+        joined = joined && line.names.is_empty();
+        match &line.statement {
+            Statement::Runs { instr, mention: None } => rows.push((letter_of(instr), joined)),
+            Statement::Runs { .. } => rows.push((None, joined)),
+            Statement::Words(values) => rows.extend(values.iter().map(|_| (None, false))),
+            _ => {}
+        }
+        joined = match &line.statement {
+            Statement::Runs { .. } => true,
+            Statement::Aligns { .. } => false,
+            _ => joined,
+        };
+    }
+    rows
+}
+
+/// The mnemonics of the forms, in their order.
+const NAMES: [&str; 37] = [
+    "adds", "subs", "adds", "subs", "movs", "cmp", "adds", "subs", "lsls", "lsrs", "asrs", "ands", "eors", "lsls", "lsrs", "asrs", "adcs", "sbcs", "rors", "tst",
+    "rsbs", "cmp", "cmn", "orrs", "muls", "bics", "mvns", "movs", "mov", "add", "sxth", "sxtb", "uxth", "uxtb", "rev", "rev16", "revsh",
+];

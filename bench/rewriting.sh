@@ -1,0 +1,51 @@
+#!/usr/bin/env bash
+# Measures rewriting listings with the proved crates beside a plain Rust program of the same rules, by a table of 500 entries that is learnt from the files of
+# a folder: one of about LINES (65,536) lines made by repeating the files, and as many of its lines as leave room for WINDOWS (20,000) windows that may be
+# replaced, with these. Both at half the size, too: where time is linear the factor is about 2. Both programs have to write the same listings.
+# Use: bench/rewriting.sh FOLDER [LINES [WINDOWS [TURNS]]]
+. "$(dirname "$0")/common.sh"
+folder=${1:-} lines=${2:-65536} windows=${3:-20000} turns=${4:-3}
+[ -d "$folder" ] || { sed -n '2,5s/^# //p' "$0" >&2; exit 2; }
+harvest=$(build_plain "$top/bench/live_items/plain.rs") && mv "$harvest" "$work/harvest"
+learner=$(build_plain "$top/bench/learner/plain.rs") && mv "$learner" "$work/learner"
+plain=$(build_plain "$top/bench/rewriting/plain.rs")
+take_crates window_rewrite
+proved=$(build_proved rewriting "$top/bench/rewriting/proved.rs" rule_table table_audit listing_parser window_rewrite step_ledger anyhow)
+
+# taught: the windows that are put in, each once, and each file of the folder once.
+taught() {
+    printf '\t%s\n' 'lsls r0, r0, #24' 'lsrs r0, r0, #24' nop 'mvns r0, r0' 'adds r0, #1' nop 'mov r0, r0' 'bx lr'
+    python3 "$top/bench/repeated.py" "$folder" "$(cat "$folder"/* | wc -l)"
+}
+taught | "$work/harvest" windows 2> "$work/told" | "$work/learner" 2> "$work/told" | python3 "$top/bench/rewriting/table.py" 500 > "$work/table"
+
+# listing LINES WINDOWS: writes a listing. Two of three windows take two lines.
+listing() { python3 "$top/bench/repeated.py" "$folder" $(($1 - $2 * 5 / 3 - 1)) | python3 "$top/bench/rewriting/salted.py" "$2"; }
+
+# run_both LINES WINDOWS: runs both programs in turn on the table and a listing. `$said` tells what it was.
+run_both() {
+    local program replaced
+    listing "$1" "$2" > "$work/listing.s"
+    cat "$work/table" "$work/listing.s" > "$work/input"
+    rm -f "$work"/*.times
+    for _ in $(seq "$turns"); do
+        for program in proved plain; do
+            on_processor "${!program}" < "$work/input" 2> "$work/$program.told" > "$work/$program.s"
+            cat "$work/$program.told" >> "$work/$program.times"
+        done
+        cmp "$work/proved.s" "$work/plain.s"
+        cmp <(cut -d' ' -f3- "$work/proved.told") <(cut -d' ' -f3- "$work/plain.told") || { cat "$work"/*.told >&2; exit 1; }
+    done
+    replaced=$(cut -d' ' -f3 "$work/plain.told")
+    said="$(wc -l < "$work/listing.s") lines by $(grep -c '^entry' "$work/table") entries, $replaced windows replaced"
+}
+
+for salt in 0 "$windows"; do
+    run_both $((lines / 2)) $((salt / 2))
+    half_proved=$(shortest proved 1) half_plain=$(shortest plain 1)
+    run_both "$lines" "$salt"
+    print_times "rewriting $said" us "$(shortest proved 1)" "$(shortest plain 1)"
+    print_times "reading, rewriting and printing $said" us "$(shortest proved 2)" "$(shortest plain 2)"
+    print_factor "from half the size on: proved" us "$half_proved" "$(shortest proved 1)"
+    print_factor "from half the size on: plain Rust" us "$half_plain" "$(shortest plain 1)"
+done

@@ -1,0 +1,392 @@
+//! Rewrites a listing by a table in plain Rust, by the rules of the proved crates. Standard input has the table's text, which isn't audited, and behind its
+//! last line that of the listing; the new listing goes to standard output. Tells on standard error the microseconds of rewriting, those of reading both,
+//! rewriting and printing, how many windows were replaced, and how many instructions there were before and after.
+
+#[path = "../listing_lines/plain/instruction.rs"]
+mod instruction;
+#[path = "../listing_lines/plain/layout.rs"]
+mod layout;
+#[path = "../listing_lines/plain/line.rs"]
+mod line;
+#[path = "../listing_lines/plain/listing.rs"]
+mod listing;
+mod live;
+#[path = "../listing_lines/plain/operands.rs"]
+mod operands;
+#[path = "../plain_flows.rs"]
+mod plain_flows;
+#[path = "../plain_tables.rs"]
+mod plain_tables;
+#[path = "../plain_windows.rs"]
+mod plain_windows;
+mod reach;
+#[path = "../listing_lines/plain/words.rs"]
+mod words;
+
+use crate::instruction::instruction;
+use crate::layout::{layout, Fault, LayoutError};
+use crate::line::Statement;
+use crate::listing::{parse, Listing};
+use crate::live::Live;
+use crate::plain_flows::{shape, N};
+use crate::plain_tables::{read_table, write_instr, Table};
+use crate::plain_windows::{letter_of, rows, Letter, Naming};
+use crate::reach::Reach;
+use std::collections::HashMap;
+use std::hash::{BuildHasherDefault, Hasher};
+use std::hint::black_box;
+use std::io::{self, Read, Write};
+use std::time::Instant;
+
+/// The most instructions of a left side.
+const LONGEST: usize = 5;
+
+/// The place behind the last one.
+const END: u32 = u32::MAX;
+
+/// A letter as it stands in keys: never 0.
+fn code(letter: &Letter) -> u128 {
+    let [a, b, c] = letter.registers.map(u128::from);
+    u128::from(letter.form) + 1 | a << 6 | b << 8 | c << 10 | u128::from(letter.number) << 12
+}
+
+/// A key with a letter more.
+fn longer(key: u128, letter: &Letter) -> u128 {
+    key << 20 | code(letter)
+}
+
+#[derive(Default)]
+struct Mixed(u64);
+
+impl Hasher for Mixed {
+    fn write(&mut self, _: &[u8]) {
+        unreachable!();
+    }
+
+    fn write_u128(&mut self, key: u128) {
+        let mixed = (key as u64 ^ ((key >> 64) as u64).rotate_left(29)).wrapping_mul(0x9E37_79B9_7F4A_7C15);
+        self.0 = mixed ^ mixed >> 32;
+    }
+
+    fn finish(&self) -> u64 {
+        self.0
+    }
+}
+
+/// An entry that takes instructions away.
+struct Rule {
+    /// The right side, each with the items that it reads and writes.
+    right: Vec<(Letter, u32, u32)>,
+    /// The registers that its left side names and its mask doesn't have, and the flags that its mask doesn't have.
+    dead: u32,
+}
+
+/// The entries of a table by the keys of their left sides, each key's in their order.
+struct Rules {
+    by_left: HashMap<u128, Vec<Rule>, BuildHasherDefault<Mixed>>,
+    longest: usize,
+}
+
+/// A side's instructions, each with the items that it reads and writes.
+fn letters_of(side: &[plain_tables::Instr]) -> Vec<(Letter, u32, u32)> {
+    let letter = |instr| {
+        let mut text = Vec::new();
+        write_instr(&mut text, "", instr);
+        let (instr, _) = instruction(text.trim_ascii_end()).unwrap();
+        let (uses, writes) = shape(&instr);
+        (letter_of(&instr).unwrap(), uses, writes)
+    };
+    side.iter().map(letter).collect()
+}
+
+/// Items by other names, those of r0 to r3.
+fn under(order: &[u8; 8], items: u32) -> u32 {
+    (0..4).filter(|name| items >> name & 1 == 1).fold(items & !0xf, |all, name| all | 1 << order[name])
+}
+
+impl Rules {
+    fn of(table: &Table) -> Rules {
+        let mut rules = Rules { by_left: HashMap::default(), longest: 0 };
+        for entry in table.entries.iter().filter(|entry| entry.right.len() < entry.left.len()) {
+            let left = letters_of(&entry.left);
+            let mut naming = Naming::new();
+            let key = left.iter().fold(0, |key, (letter, ..)| longer(key, &naming.named(letter)));
+            let dead_registers = !entry.mask & ((1 << naming.count) - 1);
+            let dead = u32::from(dead_registers) | u32::from(!entry.mask >> 4) * N;
+            rules.by_left.entry(key).or_default().push(Rule { right: letters_of(&entry.right), dead });
+            rules.longest = rules.longest.max(left.len());
+        }
+        rules
+    }
+}
+
+/// A window of instructions, by their places, and the registers that the names r0, r1 and so on stand for.
+#[derive(Clone, Copy)]
+struct Window {
+    places: [u32; LONGEST],
+    count: usize,
+    order: [u8; 8],
+}
+
+/// A listing that is being rewritten. Places are those of the given listing: a window's new instructions stand at its first ones, and its others are gone.
+struct Rewriter<'a> {
+    rules: &'a Rules,
+    listing: &'a Listing,
+    live: Live,
+    reach: Reach,
+    /// The letter of each place, and whether nothing stands before it that ends a window.
+    rows: Vec<(Option<Letter>, bool)>,
+    is_labelled: Vec<bool>,
+    next: Vec<u32>,
+    previous: Vec<u32>,
+    first: u32,
+    is_gone: Vec<bool>,
+    /// The line in which each instruction stands, and whether a line's own instruction is gone.
+    home: Vec<u32>,
+    is_changed: Vec<bool>,
+    /// The least place where an entry would apply but for its layout.
+    held: u32,
+    replaced: u64,
+    taken: usize,
+}
+
+impl<'a> Rewriter<'a> {
+    fn of(rules: &'a Rules, listing: &'a Listing, reach: Reach) -> Rewriter<'a> {
+        let count = listing.spots.len();
+        let mut is_labelled = vec![false; count + 1];
+        for (line, place) in listing.lines.iter().zip(&listing.passed) {
+            is_labelled[*place as usize] |= !line.names.is_empty();
+        }
+        let mut next: Vec<u32> = (1..=count as u32).collect();
+        if let Some(last) = next.last_mut() {
+            *last = END;
+        }
+        Rewriter {
+            rules,
+            listing,
+            live: Live::of(listing),
+            reach,
+            rows: rows(listing),
+            is_labelled,
+            next,
+            previous: (0..count as u32).map(|place| place.wrapping_sub(1)).collect(),
+            first: if count > 0 { 0 } else { END },
+            is_gone: vec![false; count],
+            home: listing.spots.iter().map(|(line, _)| *line).collect(),
+            is_changed: vec![false; listing.lines.len()],
+            held: END,
+            replaced: 0,
+            taken: 0,
+        }
+    }
+
+    /// Whether code labels stay code where a window gives way to so many instructions.
+    fn are_labels_kept(&self, window: &Window, count: usize) -> bool {
+        let behind = self.next[window.places[window.count - 1] as usize];
+        count > 0 || !self.is_labelled[window.places[0] as usize] || behind != END && self.live.is_op(behind as usize)
+    }
+
+    /// Gives and takes the bytes of a window's lines.
+    fn change_bytes(&mut self, window: &Window, new: usize, sign: i32) {
+        for place in &window.places[..window.count] {
+            self.reach.change(self.home[*place as usize] as usize, -2 * sign);
+        }
+        self.reach.change(self.home[window.places[0] as usize] as usize, 2 * new as i32 * sign);
+    }
+
+    /// Whether no mention is out of reach once a window has given way to so many instructions. Then its lines' bytes are those of after.
+    fn is_reached(&mut self, window: &Window, new: usize) -> bool {
+        if self.reach.is_steady() {
+            return true;
+        }
+        self.change_bytes(window, new, 1);
+        let is_kept = self.reach.is_kept(self.listing);
+        if !is_kept {
+            self.change_bytes(window, new, -1);
+            self.held = self.held.min(window.places[0]);
+        }
+        is_kept
+    }
+
+    fn applies(&mut self, rule: &Rule, window: &Window) -> bool {
+        let after = self.live.after(window.places[window.count - 1] as usize);
+        after & under(&window.order, rule.dead) == 0
+            && self.are_labels_kept(window, rule.right.len())
+            && self.is_reached(window, rule.right.len())
+    }
+
+    /// The best entry at a place: of those that apply there the lowest with the longest left side.
+    fn best(&mut self, place: u32) -> Option<(Window, &'a Rule)> {
+        let rules = self.rules;
+        let mut window = Window { places: [0; LONGEST], count: 0, order: [0; 8] };
+        let mut keys = [0; LONGEST];
+        let mut naming = Naming::new();
+        let (mut at, mut key) = (place, 0);
+        while at != END && window.count < rules.longest {
+            let (Some(letter), is_joined) = self.rows[at as usize] else { break };
+            if !is_joined && window.count > 0 {
+                break;
+            }
+            let named = naming.named(&letter);
+            if naming.count > 4 {
+                break;
+            }
+            key = longer(key, &named);
+            keys[window.count] = key;
+            window.places[window.count] = at;
+            window.count += 1;
+            at = self.next[at as usize];
+        }
+        window.order = naming.order;
+        while window.count > 0 {
+            if let Some(found) = rules.by_left.get(&keys[window.count - 1]) {
+                if let Some(rule) = found.iter().find(|rule| self.applies(rule, &window)) {
+                    return Some((window, rule));
+                }
+            }
+            window.count -= 1;
+        }
+        None
+    }
+
+    /// Takes a place away.
+    fn leave(&mut self, place: u32) {
+        let (before, behind) = (self.previous[place as usize], self.next[place as usize]);
+        self.is_gone[place as usize] = true;
+        if before == END { self.first = behind } else { self.next[before as usize] = behind }
+        if behind != END {
+            self.previous[behind as usize] = before;
+            self.rows[behind as usize].1 &= self.rows[place as usize].1;
+            self.is_labelled[behind as usize] |= self.is_labelled[place as usize];
+        }
+    }
+
+    /// Puts an entry's right side in place of a window. The place from where another entry may apply now.
+    fn replace(&mut self, window: &Window, rule: &Rule) -> u32 {
+        let places = window.places.map(|place| place as usize);
+        let places = &places[..window.count];
+        let home = self.home[places[0]];
+        let mut effects = [(0, 0); LONGEST];
+        for (n, ((letter, uses, writes), place)) in rule.right.iter().zip(places).enumerate() {
+            effects[n] = (under(&window.order, *uses), under(&window.order, *writes));
+            self.rows[*place].0 = Some(letter.with(|name| window.order[usize::from(name)]));
+        }
+        for place in places {
+            self.is_changed[self.home[*place] as usize] = true;
+            self.home[*place] = home;
+        }
+        let shrunk = self.live.replace(places, &effects[..rule.right.len()]);
+        for place in &places[rule.right.len()..] {
+            self.leave(*place as u32);
+        }
+        self.replaced += 1;
+        self.taken += places.len() - rule.right.len();
+        let least = shrunk.min(self.held as usize);
+        self.held = END;
+        self.back(least)
+    }
+
+    /// A place before which no window comes to a place, which may be gone.
+    fn back(&self, place: usize) -> u32 {
+        let mut at = place as u32;
+        let mut left = self.rules.longest - 1;
+        while left > 0 || self.is_gone[at as usize] {
+            let before = self.previous[at as usize];
+            if before == END {
+                return self.first;
+            }
+            at = before;
+            left -= usize::from(left > 0 && !self.is_gone[at as usize]);
+        }
+        at
+    }
+
+    fn rewrite(&mut self) {
+        let mut at = self.first;
+        while at != END {
+            at = match self.best(at) {
+                Some((window, rule)) => self.replace(&window, rule),
+                None => self.next[at as usize],
+            };
+        }
+    }
+
+    fn print(&self) -> Vec<u8> {
+        let mut text = Vec::new();
+        let mut at = self.first;
+        for (n, line) in self.listing.lines.iter().enumerate() {
+            let is_here = |at: u32| at != END && self.home[at as usize] == n as u32;
+            if self.is_changed[n] {
+                if !line.names.is_empty() {
+                    text.extend_from_slice(&line.text[..line.front]);
+                    text.push(b'\n');
+                }
+                while is_here(at) {
+                    if let (Some(letter), _) = self.rows[at as usize] {
+                        text.push(b'\t');
+                        letter.write(&mut text);
+                        text.push(b'\n');
+                    }
+                    at = self.next[at as usize];
+                }
+            } else {
+                text.extend_from_slice(&line.text);
+                while is_here(at) {
+                    at = self.next[at as usize];
+                }
+            }
+        }
+        text
+    }
+}
+
+/// Whether the listing can be laid out from 0; or what a refusal says.
+fn refusal(listing: &Listing, reach: &Reach) -> Option<String> {
+    if reach.is_steady() {
+        return None;
+    }
+    match layout(listing, 0) {
+        Ok(_) => None,
+        Err(LayoutError::Line { number, fault: Fault::Range(distance) }) => Some(format!("refused listing {number} 4 {distance}")),
+        Err(LayoutError::Line { number, fault: Fault::Align(address) }) => Some(format!("refused listing {number} 5 {address}")),
+        Err(LayoutError::Memory) => Some(String::from("memory")),
+    }
+}
+
+/// The text of the table, up to its last line, and what is behind it.
+fn parted(text: &[u8]) -> (&[u8], &[u8]) {
+    let last = b"\nend\n";
+    let end = text.windows(last.len()).position(|bytes| bytes == last).map_or(text.len(), |at| at + last.len());
+    text.split_at(end)
+}
+
+fn main() -> io::Result<()> {
+    let mut text = Vec::new();
+    io::stdin().read_to_end(&mut text)?;
+    let (table, text) = parted(&text);
+    let start = Instant::now();
+    let Ok(table) = read_table(table) else {
+        eprintln!("no table");
+        return Ok(());
+    };
+    let Ok(listing) = parse(text) else {
+        eprintln!("no listing");
+        return Ok(());
+    };
+    let begun = Instant::now();
+    let rules = Rules::of(&table);
+    let reach = Reach::of(&listing, 0);
+    if let Some(refusal) = refusal(&listing, &reach) {
+        eprintln!("{refusal}");
+        return Ok(());
+    }
+    let mut rewriter = Rewriter::of(&rules, &listing, reach);
+    rewriter.rewrite();
+    let rewriting = black_box(begun.elapsed().as_micros());
+    let text = black_box(rewriter.print());
+    let all = start.elapsed().as_micros();
+    io::stdout().write_all(&text)?;
+    let before = listing.lines.iter().filter(|line| matches!(line.statement, Statement::Runs { .. })).count();
+    eprintln!("{rewriting} {all} {} {before} {}", rewriter.replaced, before - rewriter.taken);
+    Ok(())
+}
