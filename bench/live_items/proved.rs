@@ -2,13 +2,41 @@
 //! Tells on standard error: the microseconds of the live items, those of the windows, the number of places, the number of pairs, and a digest of each.
 #![tactic(auto)]
 
-use listing_parser::parse;
-use liveness::live;
+ghost use Rattle.std.specs.Prelude.{◌≡◌, ◌<◌, IfOk, IfSome};
+ghost use Rattle.thumb_model.specs.Listing.{code_of};
+ghost use Rattle.liveness.specs.Live.{IsLive};
+
+use listing_parser::{Listing, parse};
+use liveness::{Live, live};
 use seq_enum::Pool;
 use std::io::Read;
+use std::marker::Brand;
+use std::sync::ledger::{Blank, Ledger as Name};
 use std::time::Instant;
-use step_ledger::{Counted, Steps};
+use step_ledger::{Counted, Free, Steps};
 use window_harvest::windows;
+
+/// The live items, and the microseconds that they take where visits are counted in contracts alone, as the program does.
+fn timed<N: Name>(
+    rt: &HostRuntime,
+    listing: &Listing,
+    blank: Blank,
+) -> anyhow::Result<Option<(u128, Live)>>
+    requires name { blank.name ≡ N.name }
+    requires parts { blank.parts ≡ N.parts }
+    requires some { 0 < blank.parts }
+    ensures { IfOk result (λ o. IfSome o (λ f. IsLive (code_of listing.now) f.1)) }
+{
+    let mut steps = Steps::new(Free::<N>::new(blank));
+    let start = Instant::now(rt)?;
+    match live(rt.alloc(), listing, &mut steps) {
+        Err(_) => Ok(None),
+        Ok(found) => {
+            let finding = start.elapsed(rt)?.as_micros();
+            Ok(Some((finding, found)))
+        }
+    }
+}
 
 fn main(rt: HostRuntime) -> anyhow::Result<()> {
     let mut text = Vec::new(rt.alloc());
@@ -20,13 +48,15 @@ fn main(rt: HostRuntime) -> anyhow::Result<()> {
         eprintln!(rt; "refused")?;
         return Ok(());
     };
-    let mut steps = Steps::new(Counted::new());
-    let start = Instant::now(&rt)?;
-    let Ok(found) = live(rt.alloc(), &listing, &mut steps) else {
+    let Some((finding, found)) = timed::<Brand>(&rt, &listing, Blank::new(1))? else {
         eprintln!(rt; "memory")?;
         return Ok(());
     };
-    let finding = start.elapsed(&rt)?.as_micros();
+    let mut steps = Steps::new(Counted::new());
+    if live(rt.alloc(), &listing, &mut steps).is_err() {
+        eprintln!(rt; "memory")?;
+        return Ok(());
+    }
     let start = Instant::now(&rt)?;
     let Ok(pairs) = windows(rt.alloc(), &listing, &found, 3, 3, &pool) else {
         eprintln!(rt; "memory")?;
