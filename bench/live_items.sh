@@ -6,7 +6,15 @@
 folder=${1:-} turns=${2:-9}
 [ -d "$folder" ] || { sed -n '2,4s/^# //p' "$0" >&2; exit 2; }
 take_crates window_harvest
-proved=$(build_proved live_items "$top/bench/live_items/proved.rs" listing_parser liveness window_harvest seq_enum step_ledger anyhow)
+# the ledger of which contracts alone see the count has the name of the blank that it is made of
+mkdir -p "$work/crates/live_items/proofs/main"
+cat > "$work/crates/live_items/proofs/main/Invariants.antt" <<'ANTT'
+use Rattle.live_items.proofs.main.Given as goal
+
+abbrev pub ghosts-timed : goal.ghosts-timed
+ghosts-timed a = record { name = a.blank.name; parts = a.blank.parts }
+ANTT
+proved=$(build_proved live_items "$top/bench/live_items/proved.rs" thumb_model listing_parser liveness window_harvest seq_enum step_ledger anyhow)
 plain=$(build_plain "$top/bench/live_items/plain.rs")
 
 # run_both LISTING TURNS: runs both programs in turn; they have to tell the same beside times.
