@@ -7,6 +7,7 @@ use Rattle.thumb_model.proofs.LinesKept.{lines_same, none_left, all_applied, no_
 use Rattle.rule_table.specs.Table.{Table}
 use Rattle.table_audit.specs.Soundness.{IsSound, rules_of}
 use Rattle.listing_parser.specs.Parsing.{IsListing, text_of_lines}
+use Rattle.listing_parser.proofs.Literals.{literals_stand}
 use Rattle.window_rewrite.specs.Rewriting.{setting}
 use Rattle.thumb_assembler.specs.Following.{IsAssembled}
 use Rattle.thumb_assembler.proofs.Meeting.{images_follow_given}
@@ -37,6 +38,7 @@ pub is_rewriting : (to : Destination) (t : Table) (given lines : List Line) (rep
     → IsRewriting to t given o
 is_rewriting to t given lines replacements c o sound is laid r e k =
     let s = setting to.base (rules_of t) in
+    let same = lines_same s given replacements lines sound.sound (literals_stand (text_of_lines given) given is) r in
     record {
       replacements = replacements;
       lines = lines;
@@ -44,8 +46,8 @@ is_rewriting to t given lines replacements c o sound is laid r e k =
       listed = still_reads to.base (rules_of t) (text_of_lines given) given replacements lines sound.sound r is;
       no_longer = no_more_lines s given replacements lines r;
       layable = still_layable s given replacements lines laid r;
-      same = lines_same s given replacements lines sound.sound r;
-      runs = λ bytes assembled set is_set fits fits_given. images_follow_given to.base set lines given bytes assembled is_set fits fits_given (lines_same s given replacements lines sound.sound r);
+      same = same;
+      runs = λ bytes assembled set is_set fits fits_given. images_follow_given to.base set lines given bytes assembled is_set fits fits_given same;
       finished = none_left s given replacements lines r;
       applied = all_applied s given replacements lines r;
       sound = sound;

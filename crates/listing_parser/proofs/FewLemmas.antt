@@ -261,6 +261,18 @@ counts_places f g (x ∷ xs) same =
     let next = counts_places f g xs same in
     omega (arith, length-append (places_in (f x).statement) (places_of (map f xs)))
 
+pub counts_bare : (rs : List Read) (ls : List Line) → map (λ r. r.line) rs ≡ map bare ls → counts rs ≡ length (places_of ls)
+unfolding counts
+counts_bare [] [] e = refl
+counts_bare [] (l ∷ ls) e = absurd (cc)
+counts_bare (r ∷ rs) [] e = absurd (cc)
+counts_bare (r ∷ rs) (l ∷ ls) e =
+    let first : r.line ≡ bare l = cc in
+    let others : map (λ r. r.line) rs ≡ map bare ls = cc in
+    let here = ap (λ (b : Bare). count b.said) first ∙ count_said l.statement in
+    let next = counts_bare rs ls others in
+    omega (arith, length-append (places_in l.statement) (places_of ls))
+
 pub few_places : {A : Type 0} (f : A → Line) (g : A → Read) (bytes : List ℕ) (xs : List A) → ((x : A) → (g x).line ≡ bare (f x)) → read_lines (lines_in bytes) ≡ Ok (map g xs) → length (places_of (map f xs)) < 2 ^ 32
 few_places f g bytes xs same e =
     let few = all_few 1 0 (lines_of bytes) (map g xs) e (omega arith) in

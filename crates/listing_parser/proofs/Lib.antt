@@ -19,3 +19,5 @@ pub mod ReplacedLines
 pub mod MadeLemmas
 pub mod RunLemmas
 pub mod VerdictLemmas
+pub mod Literals
+pub mod Namings

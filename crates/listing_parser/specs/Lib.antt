@@ -10,3 +10,4 @@ pub mod Parsing
 pub mod Replacing
 pub mod Results
 pub mod ReadAgain
+pub mod Namings

@@ -1,4 +1,5 @@
 //! What holds of every listing that is read.
+ghost use Rattle.listing_parser.specs.Namings.{LiteralsStand, SomeNamingFits};
 ghost use Rattle.listing_parser.specs.Parsing.{OneListing, OneVerdict, PrintsBack};
 ghost use Rattle.listing_parser.specs.ReadAgain.{ReplacedReadsAgain};
 
@@ -21,4 +22,14 @@ pub fn a_text_has_one_verdict()
 /// by it, as one that stood before an instruction that is gone, and there may be at most 65,536 lines.
 pub fn replaced_listings_read_again()
     ensures { ReplacedReadsAgain }
+{}
+
+/// From the label that a literal load mentions on there are words of data, up to the one that it loads: so rewriting moves no literal away from its label.
+pub fn literals_stand_behind_their_labels()
+    ensures { LiteralsStand }
+{}
+
+/// There is a naming that fits: so what is said of every naming that fits is said of some.
+pub fn some_naming_fits()
+    ensures { SomeNamingFits }
 {}

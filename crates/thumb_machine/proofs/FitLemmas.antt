@@ -8,10 +8,9 @@ use Rattle.std.specs.declared.alloc.Global.{Global}
 use Rattle.std.specs.declared.vec.Vec.{Vec}
 use Rattle.std.proofs.lemmas.Bool.{cases_Bool}
 use Rattle.std.proofs.lemmas.Slice.Eq.{bytes_eq-Decides}
-use Rattle.thumb_instr.specs.declared.instr.Instr.{Instr}
-use Rattle.thumb_model.specs.Listing.{Name, Mention, Number, OfName, Place, Op, Word, Label, Code, has_label, is_mentioned, place_mentions}
-use Rattle.thumb_model.specs.Machine.{Naming, Fits, HasLiterals, is_in_range, label_place, loads_literal, points}
-use Rattle.thumb_machine.specs.Fitting.{HasLiteral, IsLiteral, all_apart, apart, is_code_word, is_outside}
+use Rattle.thumb_model.specs.Listing.{Name, Number, OfName, Place, Op, Word, Label, Code, has_label, is_mentioned, place_mentions}
+use Rattle.thumb_model.specs.Machine.{Naming, Fits, is_in_range, label_place, points}
+use Rattle.thumb_machine.specs.Fitting.{all_apart, apart, is_code_word, is_outside}
 use Rattle.thumb_machine.specs.Laid.{place_name}
 use Rattle.thumb_machine.proofs.PointsMade.{drop_at}
 use Rattle.thumb_machine.proofs.RisingLemmas.{both}
@@ -103,17 +102,6 @@ pub labelled : (n : Name) (ls : List Label) → is_some (label_place n ls) ≡ h
 labelled n [] = refl
 labelled n (l ∷ ls) = elim (cases_Bool (bytes_eq n l.name)) [ inl h ↦ rw h refl | inr h ↦ rw h (labelled n ls) ]
 
--- ---- literals ----
-
--- an instruction that loads the literal of a mention
-pub loads_here : (code : Code) (b : Bool) (i : Instr) (m : Mention) → loads_literal i ≡ true → Decides b (IsLiteral code m) → Decides b (HasLiteral code (Some (Op i (Some m))))
-loads_here code b i m loads (found, tells) = (
-  λ e j n same h. let both_are : Some (Op i (Some m)) ≡ Some (Op j (Some n)) = same in
-      let mentions : m ≡ n = cc in
-      subst (IsLiteral code) mentions (found e),
-  λ has. tells (has i m refl loads),
-)
-
 -- ---- one place after another ----
 
 pub tests_more : {X : Type 0} (f : X → Bool) (xs : List X) (p : ℕ) (x : X) → slice_get xs p ≡ Some x → list_all f (drop p xs) ≡ (f x && list_all f (drop (p + 1) xs))
@@ -131,14 +119,12 @@ word_fits t (e ∷ es) small = elim (cases_Bool (t e.0)) [
 
 -- ---- all together ----
 
-pub fits : (names : Naming) (code : Code) → ((n : Name) → names.word_of n < 2 ^ 32) → ((k : ℕ) → names.return_word k < 2 ^ 32) → names.low % 2 ≡ 0 → names.high % 2 ≡ 0 → HasLiterals code
-    → list_all (λ x. is_code_word names x.0) (points names code) ≡ true → all_apart (points names code) ≡ true → list_all (λ x. is_outside names code.labels (place_name x)) code.places ≡ true → Fits names code
-fits names code words returns low high literals code_words distinct outside = record {
+pub fits : (names : Naming) (code : Code) → ((n : Name) → names.word_of n < 2 ^ 32) → ((k : ℕ) → names.return_word k < 2 ^ 32) → names.low % 2 ≡ 0 → names.high % 2 ≡ 0 → list_all (λ x. is_code_word names x.0) (points names code) ≡ true → all_apart (points names code) ≡ true → list_all (λ x. is_outside names code.labels (place_name x)) code.places ≡ true → Fits names code
+fits names code words returns low high code_words distinct outside = record {
   words = words;
   return_words = returns;
   low_even = low;
   high_even = high;
-  literals = literals;
   are_code = λ k w p e. all_at (λ x. is_code_word names x.0) (points names code) code_words k (w, p) e;
   distinct = λ j k v w p q e h. apart_is v p w q (all_at (apart (v, p)) (points names code) (all_at (λ x. list_all (apart x) (points names code)) (points names code) distinct j (v, p) e) k (w, q) h);
   outside = are_outside names code.labels code.places outside;

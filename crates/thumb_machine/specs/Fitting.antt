@@ -1,24 +1,9 @@
 -- What a naming has to be beside a listing, condition by condition.
-use Rattle.std.specs.Prelude.{◌≡◌, ℕ, ◌+◌, ◌/◌, ◌≤◌, ◌==◌, ◌&&◌, ◌||◌, not, max, nat_lt, Bool, true, List, Option, Some, None, slice_get, if◌then◌else◌}
+use Rattle.std.specs.Prelude.{ℕ, ◌==◌, ◌&&◌, ◌||◌, not, max, nat_lt, Bool, true, List, Option, Some, None, if◌then◌else◌}
 use Rattle.std.specs.List.{list_all}
-use Rattle.thumb_instr.specs.declared.instr.Instr.{Instr}
 use Rattle.thumb_machine.specs.declared.distinct.Rising.{Rising}
-use Rattle.thumb_model.specs.Listing.{Name, Mention, Place, Op, Label, Code, has_label}
-use Rattle.thumb_model.specs.Machine.{Naming, is_in_range, is_odd, is_word_place, label_place, loads_literal}
-
--- ---- literals ----
-
--- words of data stand from a place on up to one so many behind it
-abbrev pub AreData : List Place → ℕ → ℕ → Type 0
-AreData places q n = (j : ℕ) → j ≤ n → is_word_place (slice_get places (q + j)) ≡ true
-
--- they do from the label of that name on, if there is one
-abbrev pub IsLiteral : Code → Mention → Type 0
-IsLiteral code m = (q : ℕ) → label_place m.name code.labels ≡ Some q → AreData code.places q (m.plus / 4)
-
--- what stands at a place has its literal, if it loads one
-abbrev pub HasLiteral : Code → Option Place → Type 0
-HasLiteral code x = (i : Instr) (m : Mention) → x ≡ Some (Op i (Some m)) → loads_literal i ≡ true → IsLiteral code m
+use Rattle.thumb_model.specs.Listing.{Name, Label, has_label}
+use Rattle.thumb_model.specs.Machine.{Naming, is_in_range, is_odd}
 
 -- ---- code points ----
 

@@ -15,7 +15,7 @@ use Rattle.thumb_model.proofs.Simulation.{times_add, Advance, sooner, reached}
 use Rattle.thumb_model.proofs.Tied.{TargetTied, LandingTied, NextTied, ActTied, AroundTied, looks_tied, act_tied}
 use Rattle.thumb_model.proofs.Held.{IsSafe, held_of, act_safe, world_after}
 use Rattle.thumb_model.proofs.Worlds.{around_words}
-use Rattle.thumb_model.proofs.Moved.{IsReplacement, data_moved, label_place_moved, name_outside, IsOutside, fetch_window, fetch_outside, point_at_moved, count_stays, place_moved, fits_stays, return_outside, one_of_append}
+use Rattle.thumb_model.proofs.Moved.{IsReplacement, data_moved, label_place_moved, name_outside, IsOutside, fetch_window, fetch_outside, point_at_moved, count_stays, place_moved, fits_stays, literals_stay, return_outside, one_of_append}
 use Rattle.thumb_model.proofs.Points.{IsLabelsPlace, label_of_name, label_of_place, point_is}
 use Rattle.thumb_model.proofs.Window.{StandsAt, AreStraight, went, straight_run, straight_part, GoesTo, Flows, flows, flows_on, held_after}
 
@@ -311,9 +311,10 @@ module _ (names : Naming) (small : AreSmall names) (code : Code) (literals : Has
 
 -- ---- the theorem for one replacement ----
 
--- the same runs; and the namings and labels that one has, the other has
+-- the same runs, where literals stand behind their labels; and the literals, namings and labels that one has, the other has
 pub record Keeps (a b : Code) : Type 0 where
-  pub same : Same a b
+  pub same : HasLiterals a → Same a b
+  pub literals : HasLiterals a → HasLiterals b
   pub fits : (names : Naming) → Fits names a → Fits names b
   pub entry : (label : Name) → IsSome (place_of a label) → IsSome (place_of b label)
 
@@ -325,10 +326,11 @@ is_some_moved f (Some x) h = h
 pub replaced_keeps : (code : Code) (p : ℕ) (left right : List Instr) → IsSound code p left right → Keeps code (replaced code p (length left) right)
 replaced_keeps code p left right sound =
     record {
-      same = record {
-        sooner = λ names fits label some w words es n. runs_sooner names fits.return_words code fits.literals p left right sound n _ _ (begun_related names fits.return_words code fits.literals p left right sound label w es words);
-        reached = λ names fits label some w words es m. runs_reached names fits.return_words code fits.literals p left right sound m _ _ (begun_related names fits.return_words code fits.literals p left right sound label w es words);
+      same = λ literals. record {
+        sooner = λ names fits label some w words es n. runs_sooner names fits.return_words code literals p left right sound n _ _ (begun_related names fits.return_words code literals p left right sound label w es words);
+        reached = λ names fits label some w words es m. runs_reached names fits.return_words code literals p left right sound m _ _ (begun_related names fits.return_words code literals p left right sound label w es words);
       };
+      literals = literals_stay code p (length left) right sound.fits_in;
       fits = fits_stays code p (length left) right sound.fits_in;
       entry = λ label h. subst (λ (o : Option ℕ). IsSome o) (sym (place_moved code p (length left) right sound.fits_in label)) (is_some_moved _ _ h);
     }
@@ -343,10 +345,11 @@ alike_on s t w a b = record { events = a.events ∙ b.events; memory = a.memory 
 pub keeps_refl : (a : Code) → Keeps a a
 keeps_refl a =
     record {
-      same = record {
+      same = λ l. record {
         sooner = λ names fits label some w words es n. (n, omega arith, alike_here _);
         reached = λ names fits label some w words es m. (m, omega arith, alike_here _);
       };
+      literals = λ l. l;
       fits = λ names f. f;
       entry = λ label h. h;
     }
@@ -355,16 +358,17 @@ keeps_refl a =
 pub keeps_trans : (a b c : Code) → Keeps a b → Keeps b c → Keeps a c
 keeps_trans a b c h k =
     record {
-      same = record {
+      same = λ l. record {
         sooner = λ names fits label some w words es n.
-            let x = h.same.sooner names fits label some w words es n in
-            let y = k.same.sooner names (h.fits names fits) label (h.entry label some) w words es x.0 in
+            let x = (h.same l).sooner names fits label some w words es n in
+            let y = (k.same (h.literals l)).sooner names (h.fits names fits) label (h.entry label some) w words es x.0 in
             (y.0, omega (arith, x.1, y.1), alike_on _ _ _ x.2 y.2);
         reached = λ names fits label some w words es m.
-            let y = k.same.reached names (h.fits names fits) label (h.entry label some) w words es m in
-            let x = h.same.reached names fits label some w words es y.0 in
+            let y = (k.same (h.literals l)).reached names (h.fits names fits) label (h.entry label some) w words es m in
+            let x = (h.same l).reached names fits label some w words es y.0 in
             (x.0, omega (arith, x.1, y.1), alike_on _ _ _ x.2 y.2);
       };
+      literals = λ l. k.literals (h.literals l);
       fits = λ names f. k.fits names (h.fits names f);
       entry = λ label s. k.entry label (h.entry label s);
     }

@@ -4,6 +4,7 @@ use Rattle.std.specs.Prelude.{slice_get}
 use Rattle.thumb_instr.specs.declared.instr.Instr.{Instr}
 use Rattle.thumb_model.specs.Listing.{Place, Op, Word, plain, Label, Line, Code, places_of, labels_from, code_of}
 use Rattle.thumb_model.specs.Layout.{Layable}
+use Rattle.thumb_model.specs.Machine.{HasLiterals}
 use Rattle.thumb_model.specs.Same.{Same}
 use Rattle.thumb_instr.specs.Renaming.{renamed}
 use Rattle.thumb_model.specs.Rewrite.{Rule, AreSound, Applies, replaced}
@@ -86,8 +87,8 @@ lines_keep s ls (r ∷ rs) new sound h =
     keeps_trans (code_of ls) (code_of (lines_after s r ls)) (code_of new) (one_line_keeps s r ls sound h.0.applies) (lines_keep s (lines_after s r ls) rs new sound h.1)
 
 -- the lines that are left run the same
-pub lines_same : (s : Setting) (ls : List Line) (rs : List Replacement) (new : List Line) → AreSound s.table → AreRewritten s ls rs new → Same (code_of ls) (code_of new)
-lines_same s ls rs new sound h = (lines_keep s ls rs new sound h).same
+pub lines_same : (s : Setting) (ls : List Line) (rs : List Replacement) (new : List Line) → AreSound s.table → HasLiterals (code_of ls) → AreRewritten s ls rs new → Same (code_of ls) (code_of new)
+lines_same s ls rs new sound literals h = (lines_keep s ls rs new sound h).same literals
 
 -- no entry applies any more
 pub none_left : (s : Setting) (ls : List Line) (rs : List Replacement) (new : List Line) → AreRewritten s ls rs new → NoneApplies s new

@@ -273,7 +273,7 @@ module _ (code : Code) (p count : ℕ) (is : List Instr) where
           ]
         ]
 
-    literals_stay : HasLiterals code → HasLiterals (replaced code p count is)
+    pub literals_stay : HasLiterals code → HasLiterals (replaced code p count is)
     literals_stay f at i m e t q g j l =
         let was = mention_back at i m e in
         let from = option_back to (label_place m.name code.labels) q (sym (label_place_moved m.name code.labels) ∙ g) in
@@ -441,7 +441,6 @@ module _ (code : Code) (p count : ℕ) (is : List Instr) where
           return_words = f.return_words;
           low_even = f.low_even;
           high_even = f.high_even;
-          literals = literals_stay f.literals;
           are_code = λ k w q e. let b = point_back (points names code) k w q (ap (λ (l : List (ℕ × ℕ)). slice_get l k) (sym (points_moved names)) ∙ e) in f.are_code k w b.0 b.1;
           distinct = λ j k v w q s e e' ne.
               let b = point_back (points names code) j v q (ap (λ (l : List (ℕ × ℕ)). slice_get l j) (sym (points_moved names)) ∙ e) in

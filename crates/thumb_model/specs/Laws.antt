@@ -2,7 +2,7 @@
 use Rattle.std.specs.Prelude.{ℕ, ◌+◌, ◌<◌, ◌≤◌, List, length}
 use Rattle.thumb_model.specs.Listing.{Line, Code, places_of, code_of}
 use Rattle.thumb_model.specs.Layout.{Layable}
-use Rattle.thumb_model.specs.Machine.{Naming, Fits, State, IsWorld, step}
+use Rattle.thumb_model.specs.Machine.{Naming, Fits, HasLiterals, State, IsWorld, step}
 use Rattle.thumb_model.specs.Flow.{LiveAfter}
 use Rattle.thumb_model.specs.Same.{Same}
 use Rattle.thumb_model.specs.Rewrite.{AreSound}
@@ -16,13 +16,13 @@ StepsKeepWorlds = (names : Naming) (code : Code) → Fits names code → (s : St
 abbrev pub OnlyItemsAreLive : Type 0
 OnlyItemsAreLive = (code : Code) (p x : ℕ) → LiveAfter code p x → x < 19
 
--- one replacement by a sound table keeps the runs
+-- one replacement by a sound table keeps the runs of lines whose literals stand behind their labels
 abbrev pub ReplacingKeepsRuns : Type 0
-ReplacingKeepsRuns = (s : Setting) (r : Replacement) (ls : List Line) → AreSound s.table → AppliesIn s r ls → Same (code_of ls) (code_of (lines_after s r ls))
+ReplacingKeepsRuns = (s : Setting) (r : Replacement) (ls : List Line) → AreSound s.table → HasLiterals (code_of ls) → AppliesIn s r ls → Same (code_of ls) (code_of (lines_after s r ls))
 
 -- so does rewriting
 abbrev pub RewritingKeepsRuns : Type 0
-RewritingKeepsRuns = (s : Setting) (ls : List Line) (rs : List Replacement) (new : List Line) → AreSound s.table → AreRewritten s ls rs new → Same (code_of ls) (code_of new)
+RewritingKeepsRuns = (s : Setting) (ls : List Line) (rs : List Replacement) (new : List Line) → AreSound s.table → HasLiterals (code_of ls) → AreRewritten s ls rs new → Same (code_of ls) (code_of new)
 
 -- each replacement applied in the lines as they then were, and none applies in those that are left
 abbrev pub RewritingIsComplete : Type 0

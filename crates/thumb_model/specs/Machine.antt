@@ -69,7 +69,7 @@ abbrev pub loads_literal : Instr → Bool
 loads_literal (instr.Literal t d) = true
 loads_literal i = false
 
--- from the label that a literal load mentions on there are words of data, up to the one that it loads
+-- from the label that a literal load mentions on there are words of data, up to the one that it loads: so it is in each listing that was read
 abbrev pub HasLiterals : Code → Type 0
 HasLiterals code = (p : ℕ) (i : Instr) (m : Mention) → slice_get code.places p ≡ Some (Op i (Some m)) → loads_literal i ≡ true →
     (q : ℕ) → label_place m.name code.labels ≡ Some q → (j : ℕ) → j ≤ m.plus / 4 → is_word_place (slice_get code.places (q + j)) ≡ true
@@ -80,7 +80,6 @@ pub record Fits (names : Naming) (code : Code) : Type 0 where
   pub return_words : (k : ℕ) → names.return_word k < 2 ^ 32
   pub low_even : names.low % 2 ≡ 0
   pub high_even : names.high % 2 ≡ 0
-  pub literals : HasLiterals code
   -- a code point's word is odd and in the range
   pub are_code : (k : ℕ) (w p : ℕ) → slice_get (points names code) k ≡ Some (w, p) → (is_odd w && is_in_range names w) ≡ true
   -- code points at different places have different words

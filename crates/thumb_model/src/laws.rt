@@ -13,7 +13,7 @@ pub fn only_items_are_live()
     ensures { OnlyItemsAreLive }
 {}
 
-/// One replacement by a table of entries with equal sides keeps the runs.
+/// One replacement by a table of entries with equal sides keeps the runs of lines whose literals stand behind their labels.
 pub fn replacing_keeps_runs()
     ensures { ReplacingKeepsRuns }
 {}

@@ -21,7 +21,7 @@ pub returns : goal.returns
 returns c = (
   λ e.
       let evens = both _ _ (sym c.is_even.ensures ∙ c.if-not-is_even.false) in
-      fits (naming_of c.args.self.now) (code_of c.args.listing.now) c.words_fit.ensures.names c.words_fit.ensures.calls (eqb-true _ _ evens.0) (eqb-true _ _ evens.1) (c.has_literals.ensures.0 c.if-not-has_literals.false)
+      fits (naming_of c.args.self.now) (code_of c.args.listing.now) c.words_fit.ensures.names c.words_fit.ensures.calls (eqb-true _ _ evens.0) (eqb-true _ _ evens.1)
       (sym c.are_code.ensures ∙ c.if-not-are_code.false) (sym c.are_distinct.ensures ∙ c.if-not-are_distinct.false) (sym c.are_outside.ensures ∙ e),
   λ fit. c.are_outside.ensures ∙ fit_outside (naming_of c.args.self.now) (code_of c.args.listing.now) fit,
 )
