@@ -8,13 +8,14 @@ use Rattle.std.proofs.lemmas.List.{length-append}
 use Rattle.std.proofs.lemmas.Option.{slice_get_within}
 use Rattle.std.proofs.lemmas.Slice.Eq.{bytes_eq-Decides}
 use Rattle.ascii_scan.specs.Lines.{lines_of}
-use Rattle.thumb_model.specs.Listing.{Name, Line, Place, Label, Code, places_in, places_of, labels_at, labels_from, code_of, has_label, is_call, is_code, is_op_place, return_places}
+use Rattle.thumb_model.specs.Listing.{Name, Line, Place, Label, Code, places_in, places_of, labels_at, labels_from, code_of, has_label, is_call, is_code, is_op_place, place_of, return_places}
 use Rattle.thumb_model.specs.Layout.{is_among}
 use Rattle.thumb_model.specs.Machine.{Naming, Fits, is_in_range, is_odd, label_place, points, points_of, returns_from}
 use Rattle.listing_parser.specs.Parsing.{IsListing}
+use Rattle.listing_parser.specs.Namings.{if_op}
 use Rattle.listing_parser.specs.TableWords.{defined_in, first_twice, is_again, set_names}
 use Rattle.listing_parser.proofs.FewLemmas.{all_few, counts_bare}
-use Rattle.listing_parser.proofs.LabelLemmas.{again_front, among_append, label_at, not_again, or_false}
+use Rattle.listing_parser.proofs.LabelLemmas.{again_front, among_append, code_place, label_at, not_again, one_label, or_false}
 use Rattle.listing_parser.proofs.Literals.{first_label, later_label}
 
 -- ---- no name is defined twice, so each label is its name's ----
@@ -78,6 +79,14 @@ own n p known (x ∷ ls) e k l at = elim (cases_Bool (is_again known (defined_in
         label_at l.name p x.names _ ∙ rw other (own (n + 1) (p + length (places_in x.statement)) (known ++ defined_in x) ls (rw h at e) a.0 l a.1)
   ]
 ]
+
+op_same : (places : List Place) (o : Option ℕ) → code_place places o ≡ if_op places o
+unfolding code_place
+op_same places None = refl
+op_same places (Some p) = refl
+
+pub code_labels_are_labels : (bytes : List ℕ) (lines : List Line) → IsListing bytes lines → (name : Name) → place_of (code_of lines) name ≡ if_op (places_of lines) (label_place name (labels_from 0 lines))
+code_labels_are_labels bytes lines is name = one_label name (places_of lines) 1 0 [] lines is.once ∙ op_same (places_of lines) (label_place name (labels_from 0 lines))
 
 -- ---- the naming ----
 

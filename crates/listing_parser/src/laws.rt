@@ -1,5 +1,5 @@
 //! What holds of every listing that is read.
-ghost use Rattle.listing_parser.specs.Namings.{LiteralsStand, SomeNamingFits};
+ghost use Rattle.listing_parser.specs.Namings.{CodeLabelsAreLabels, LiteralsStand, SomeNamingFits};
 ghost use Rattle.listing_parser.specs.Parsing.{OneListing, OneVerdict, PrintsBack};
 ghost use Rattle.listing_parser.specs.ReadAgain.{ReplacedReadsAgain};
 
@@ -32,4 +32,9 @@ pub fn literals_stand_behind_their_labels()
 /// There is a naming that fits: so what is said of every naming that fits is said of some.
 pub fn some_naming_fits()
     ensures { SomeNamingFits }
+{}
+
+/// The code label of a name is its one label, where that is code.
+pub fn code_labels_are_labels()
+    ensures { CodeLabelsAreLabels }
 {}

@@ -1,4 +1,5 @@
 pub mod Bytes
+pub mod Sizes
 pub mod Images
 pub mod Refusals
 pub mod Fair

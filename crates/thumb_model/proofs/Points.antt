@@ -55,14 +55,16 @@ second_append : (xs ys : List (ℕ × ℕ)) → map (λ a. a.1) (xs ++ ys) ≡ m
 second_append [] ys = refl
 second_append (x ∷ xs) ys = ap (λ l. x.1 ∷ l) (second_append xs ys)
 
--- the place that a word leads to is a code point's
-pub point_is : (names : Naming) (code : Code) (word q : ℕ) → point_among word (points names code) ≡ Some q → IsPoint code q
-point_is names code word q e =
-    let all : map (λ a. a.1) (points names code) ≡ label_places code.places code.labels ++ return_places 0 code.places =
+-- the places to which words lead are those of the code points
+pub point_places : (names : Naming) (code : Code) → map (λ a. a.1) (points names code) ≡ label_places code.places code.labels ++ return_places 0 code.places
+point_places names code =
     second_append (points_of names code.places code.labels) (returns_from names 0 0 code.places)
     ∙ ap (λ l. l ++ map (λ a. a.1) (returns_from names 0 0 code.places)) (label_places_are names code.places code.labels)
-    ∙ ap (λ l. label_places code.places code.labels ++ l) (return_places_are names 0 0 code.places) in
-    ap (one_of q) (sym all) ∙ point_place word q (points names code) e
+    ∙ ap (λ l. label_places code.places code.labels ++ l) (return_places_are names 0 0 code.places)
+
+-- the place that a word leads to is a code point's
+pub point_is : (names : Naming) (code : Code) (word q : ℕ) → point_among word (points names code) ≡ Some q → IsPoint code q
+point_is names code word q e = ap (one_of q) (sym (point_places names code)) ∙ point_place word q (points names code) e
 
 -- the place of a name is a label's
 abbrev pub IsLabelsPlace : List Label → ℕ → Type 0

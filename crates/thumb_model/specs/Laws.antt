@@ -1,11 +1,12 @@
 -- What holds of runs, of live items and of rewriting.
-use Rattle.std.specs.Prelude.{ℕ, ◌+◌, ◌<◌, ◌≤◌, List, length}
-use Rattle.thumb_model.specs.Listing.{Line, Code, places_of, code_of}
+use Rattle.std.specs.Prelude.{◌≡◌, ℕ, ◌+◌, ◌<◌, ◌≤◌, List, ◌++◌, length, map}
+use Rattle.thumb_instr.specs.Renaming.{renamed}
+use Rattle.thumb_model.specs.Listing.{Line, Code, places_of, code_of, label_places, return_places}
 use Rattle.thumb_model.specs.Layout.{Layable}
-use Rattle.thumb_model.specs.Machine.{Naming, Fits, HasLiterals, State, IsWorld, step}
+use Rattle.thumb_model.specs.Machine.{Naming, Fits, HasLiterals, points, State, IsWorld, step}
 use Rattle.thumb_model.specs.Flow.{LiveAfter}
 use Rattle.thumb_model.specs.Same.{Same}
-use Rattle.thumb_model.specs.Rewrite.{AreSound}
+use Rattle.thumb_model.specs.Rewrite.{AreSound, replaced}
 use Rattle.thumb_model.specs.Rewritten.{Setting, Replacement, lines_after, AppliesIn, NoneApplies, AreRewritten, AllApplied}
 
 -- a step leaves each number in its range
@@ -35,3 +36,11 @@ RewritingStaysLayable = (s : Setting) (ls : List Line) (rs : List Replacement) (
 -- each replacement takes a place away, and there are no more lines
 abbrev pub RewritingShortens : Type 0
 RewritingShortens = (s : Setting) (ls : List Line) (rs : List Replacement) (new : List Line) → AreRewritten s ls rs new → (length (places_of new) + length rs ≤ length (places_of ls)) × (length new ≤ length ls)
+
+-- the places to which the words of code points lead are those of code labels and return points
+abbrev pub PointsArePlaces : Type 0
+PointsArePlaces = (names : Naming) (code : Code) → map (λ a. a.1) (points names code) ≡ label_places code.places code.labels ++ return_places 0 code.places
+
+-- replacing lines replaces their places and labels
+abbrev pub LinesAreReplacedAsPlaces : Type 0
+LinesAreReplacedAsPlaces = (s : Setting) (r : Replacement) (ls : List Line) (a : AppliesIn s r ls) → code_of (lines_after s r ls) ≡ replaced (code_of ls) r.place (length a.rule.left) (map (renamed r.registers) a.rule.right)

@@ -1,6 +1,6 @@
 //! The laws of runs and of rewriting. Each is the contract of a function that does nothing.
 
-ghost use Rattle.thumb_model.specs.Laws.{StepsKeepWorlds, OnlyItemsAreLive, ReplacingKeepsRuns, RewritingKeepsRuns, RewritingIsComplete, RewritingStaysLayable, RewritingShortens};
+ghost use Rattle.thumb_model.specs.Laws.{StepsKeepWorlds, OnlyItemsAreLive, ReplacingKeepsRuns, RewritingKeepsRuns, RewritingIsComplete, RewritingStaysLayable, RewritingShortens, PointsArePlaces, LinesAreReplacedAsPlaces};
 ghost use Rattle.thumb_model.specs.Rewritten.{IsDetermined};
 
 /// A step leaves each number in its range, under a naming that fits.
@@ -41,4 +41,14 @@ pub fn rewriting_stays_layable()
 /// Each replacement takes a place away, and there are no more lines.
 pub fn rewriting_shortens()
     ensures { RewritingShortens }
+{}
+
+/// A code point is the same as a place and as what its word leads to.
+pub fn points_are_places()
+    ensures { PointsArePlaces }
+{}
+
+/// A replacement is the same of lines and of their places and labels.
+pub fn lines_are_replaced_as_places()
+    ensures { LinesAreReplacedAsPlaces }
 {}

@@ -1,3 +1,4 @@
 pub mod WindowForms
 pub mod Differences
 pub mod Normal
+pub mod Untold

@@ -2,3 +2,4 @@ pub mod Computes
 pub mod Normal
 pub mod State
 pub mod Telling
+pub mod Untold

@@ -1,8 +1,14 @@
-//! The law of the instruction that stands for two encodings, as the contract of a function that does nothing.
+//! The laws of steps. Each is the contract of a function that does nothing.
 
 ghost use Rattle.window_exec.specs.Normal.{NormalKeepsTheStep};
+ghost use Rattle.window_exec.specs.Untold.{EqualIsUntold};
 
 /// The normal form of an instruction leaves what the instruction leaves.
 pub fn normal_keeps_the_step()
     ensures { NormalKeepsTheStep }
+{}
+
+/// Two sequences leave the same items of a mask exactly where no state tells them apart.
+pub fn equal_sequences_are_untold()
+    ensures { EqualIsUntold }
 {}

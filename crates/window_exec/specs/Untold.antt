@@ -1,0 +1,11 @@
+-- Two sequences are equal exactly where no state tells them apart.
+use Rattle.std.specs.Prelude.{◌≡◌, ◌↔◌, ℕ, List}
+use Rattle.thumb_instr.specs.declared.instr.Instr.{Instr}
+use Rattle.thumb_instr.specs.Items.{has, one_of}
+use Rattle.thumb_model.specs.Items.{Values, AreWords}
+use Rattle.thumb_model.specs.Rewrite.{Equal}
+use Rattle.window_exec.specs.Telling.{Tells}
+
+-- a mask as a list of items, by which equality is said, and as a word, by which states tell
+abbrev pub EqualIsUntold : Type 0
+EqualIsUntold = (left right : List Instr) (items : List ℕ) (mask : ℕ) → ((x : ℕ) → has mask x ≡ one_of x items) → Equal left right items ↔ ((v : Values) → AreWords v → Tells v left right mask → ⊥)
