@@ -1,5 +1,5 @@
 -- Two sequences are equal exactly where no state tells them apart.
-use Rattle.std.proofs.Common.{◌≡◌, ◌∙◌, ◌==◌, ℕ, List, sym, inl, inr, true, false, true≢false, eq-eqb, eqb-true}
+use Rattle.std.proofs.Common.{◌≡◌, ◌∙◌, ◌==◌, ℕ, List, sym, inl, inr, true≢false, eq-eqb, eqb-true}
 use Rattle.std.specs.Prelude.{◌↔◌}
 use Rattle.std.proofs.lemmas.Bool.{cases_Bool}
 use Rattle.thumb_instr.specs.declared.instr.Instr.{Instr}
