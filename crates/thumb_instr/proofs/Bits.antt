@@ -11,20 +11,14 @@ use Rattle.std.proofs.Math.Pow.{pow-lt}
 use Rattle.thumb_instr.specs.Items.{has, is_in_masks}
 
 or_test : (m n : ℕ) → m < 2 → n < 2 → (max m n == 1) ≡ ((m == 1) || (n == 1))
-or_test zero zero h k = refl
-or_test zero (suc zero) h k = refl
-or_test (suc zero) zero h k = refl
-or_test (suc zero) (suc zero) h k = refl
 or_test (suc (suc m)) n h k = absurd (omega arith)
 or_test m (suc (suc n)) h k = absurd (omega arith)
+or_test m n h k = refl
 
 minus_test : (m n : ℕ) → m < 2 → n < 2 → (min m ((m + n) % 2) == 1) ≡ ((m == 1) && not (n == 1))
-minus_test zero zero h k = refl
-minus_test zero (suc zero) h k = refl
-minus_test (suc zero) zero h k = refl
-minus_test (suc zero) (suc zero) h k = refl
 minus_test (suc (suc m)) n h k = absurd (omega arith)
 minus_test m (suc (suc n)) h k = absurd (omega arith)
+minus_test m n h k = refl
 
 pub has_union : (a b x : ℕ) → has (bit_or a b) x ≡ (has a x || has b x)
 has_union a b x = ap (λ n. n == 1) (bit_at_or a b x) ∙ or_test (bit_at a x) (bit_at b x) (bit_at-lt a x) (bit_at-lt b x)
@@ -91,12 +85,9 @@ mask_bits x = elim (cases_lt x 19) [
 ]
 
 both_test : (m n : ℕ) → m < 2 → n < 2 → (min m n == 1) ≡ ((m == 1) && (n == 1))
-both_test zero zero h k = refl
-both_test zero (suc zero) h k = refl
-both_test (suc zero) zero h k = refl
-both_test (suc zero) (suc zero) h k = refl
 both_test (suc (suc m)) n h k = absurd (omega arith)
 both_test m (suc (suc n)) h k = absurd (omega arith)
+both_test m n h k = refl
 
 pub has_masked : (a x : ℕ) → has (bit_and a 491535) x ≡ (has a x && is_in_masks x)
 has_masked a x =

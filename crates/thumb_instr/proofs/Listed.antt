@@ -2,6 +2,7 @@
 use Rattle.std.proofs.Common.{◌≡◌, ◌∙◌, inl, inr, ℕ, ◌+◌, ◌*◌, ◌/◌, ◌%◌, ◌<◌, ◌≤◌, ◌==◌, ◌&&◌, ◌||◌, Bool, true, false, List, [], ◌∷◌, ◌++◌, refl, sym, ap, arith, eqb-true}
 use Rattle.std.specs.Prelude.{nat_lt, filter}
 use Rattle.std.specs.Int.{bit_at}
+use Rattle.std.proofs.Math.Bool.{or-false}
 use Rattle.std.proofs.lemmas.Nat.Bits.{bit_at_above, bit_at_cat_low}
 use Rattle.std.proofs.lemmas.Bool.{cases_lt, cases_Bool, lt-ltb, le-ltb}
 use Rattle.std.proofs.lemmas.Bool.Decides.{nat_tests}
@@ -47,22 +48,14 @@ unfolding registers_in
 has_registers n x = has_low n x ∙ (ap (λ b. b && has n x) (sym (low_registers x)) ∙ sym (one_of_filter x (has n) (0 ∷ 1 ∷ 2 ∷ 3 ∷ 4 ∷ 5 ∷ 6 ∷ 7 ∷ [])))
 
 -- bit 8 of a list of nine bits
-eighth_set : (n : ℕ) → 256 ≤ n → n < 512 → has n 8 ≡ true
+pub eighth_set : (n : ℕ) → 256 ≤ n → n < 512 → has n 8 ≡ true
 eighth_set n h k = let e : n / 256 % 2 ≡ 1 = omega arith in ap (λ b. b == 1) e
 
-eighth_clear : (n : ℕ) → n < 256 → has n 8 ≡ false
+pub eighth_clear : (n : ℕ) → n < 256 → has n 8 ≡ false
 eighth_clear n h = let e : n / 256 % 2 ≡ 0 = omega arith in ap (λ b. b == 1) e
 
 pub pushed_with : (n x : ℕ) → 256 ≤ n → n < 512 → (one_of x (registers_in n) || (x == lr)) ≡ one_of x (pushed n)
-pushed_with n x h k = rw (eighth_set n h k) (sym (one_of_append x (registers_in n) (lr ∷ []) ∙ ap (λ b. one_of x (registers_in n) || b) (last (x == lr))))
-  where
-    last : (b : Bool) → (b || false) ≡ b
-    last true = refl
-    last false = refl
+pushed_with n x h k = rw (eighth_set n h k) (sym (one_of_append x (registers_in n) (lr ∷ []) ∙ ap (λ b. one_of x (registers_in n) || b) (or-false (x == lr))))
 
 pub pushed_without : (n x : ℕ) → n < 256 → one_of x (registers_in n) ≡ one_of x (pushed n)
-pushed_without n x h = rw (eighth_clear n h) (sym (one_of_append x (registers_in n) [] ∙ last (one_of x (registers_in n))))
-  where
-    last : (b : Bool) → (b || false) ≡ b
-    last true = refl
-    last false = refl
+pushed_without n x h = rw (eighth_clear n h) (sym (one_of_append x (registers_in n) [] ∙ or-false (one_of x (registers_in n))))

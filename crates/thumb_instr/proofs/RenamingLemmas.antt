@@ -1,5 +1,5 @@
 -- The registers of instructions of a window, and their renaming.
-use Rattle.std.proofs.Common.{◌≡◌, ℕ, true, List, [], ◌∷◌, ◌++◌, map, Some, None, refl, sym, ap, ◌∙◌, subst, arith, lt-ltb}
+use Rattle.std.proofs.Common.{◌≡◌, ℕ, ◌<◌, true, List, [], ◌∷◌, ◌++◌, map, Some, None, refl, sym, ap, ◌∙◌, subst, arith, lt-ltb}
 use Rattle.std.specs.Prelude.{nat_lt, slice_get, unwrap_or}
 use Rattle.std.proofs.lemmas.Bool.{and_parts, and_from, ltb-true}
 use Rattle.thumb_instr.specs.declared.instr.Instr.{Instr}
@@ -12,20 +12,15 @@ use Rattle.thumb_instr.specs.Renaming.{Low, Reg, named_by, named_in, named, AreB
 use Rattle.thumb_instr.specs.Window.{is_in_window}
 use Rattle.thumb_instr.proofs.Registers.{widened_number}
 
+low_below : (d : Low) → d.number < 8
+low_below d = d.below
+
 -- what may stand in a window names low registers alone
 pub named_low : (i : Instr) → is_in_window i ≡ true → AreBelow 8 (named i)
 named_low (instr.Mov d m) w = let p = and_parts (nat_lt d.number 8) (nat_lt m.number 8) w in (ltb-true d.number 8 p.0, (ltb-true m.number 8 p.1, tt))
 named_low (instr.Add r) w = let p = and_parts (nat_lt r.target.number 8) (nat_lt r.source.number 8) w in (ltb-true r.target.number 8 p.0, (ltb-true r.source.number 8 p.1, tt))
-named_low (instr.Three s d n m) w = (d.below, (n.below, (m.below, tt)))
-named_low (instr.Two o d m) w = (d.below, (m.below, tt))
 named_low (instr.Movs d m) w = (d.below, (m.below, tt))
-named_low (instr.ShiftLeft d m i) w = (d.below, (m.below, tt))
-named_low (instr.ShiftRight s d m i) w = (d.below, (m.below, tt))
-named_low (instr.ThreeNumber s d n i) w = (d.below, (n.below, tt))
-named_low (instr.TwoNumber o d i) w = (d.below, tt)
-named_low (instr.Extend e d m) w = (d.below, (m.below, tt))
-named_low (instr.Reverse r d m) w = (d.below, (m.below, tt))
-named_low i w = absurd (cc)
+named_low i w = first_of (search low_below, grind arith)
 
 pub below_parts : (k : ℕ) (xs ys : List ℕ) → AreBelow k (xs ++ ys) → AreBelow k xs × AreBelow k ys
 below_parts k [] ys h = (tt, h)
@@ -49,17 +44,7 @@ reg_number registers d = elim (slice_get registers d.number) as (λ o. (wide_or 
 -- a renamed instruction names the renamed registers
 pub named_renamed : (f : List Low) (i : Instr) → is_in_window i ≡ true → named (renamed f i) ≡ map (item_under f) (named i)
 named_renamed f (instr.Mov d m) w = rw (reg_number f d, reg_number f m) refl
-named_renamed f (instr.Add r) w = rw (reg_number f r.target, reg_number f r.source) refl
-named_renamed f (instr.Three s d n m) w = rw (low_number f d, low_number f n, low_number f m) refl
-named_renamed f (instr.Two o d m) w = rw (low_number f d, low_number f m) refl
-named_renamed f (instr.Movs d m) w = rw (low_number f d, low_number f m) refl
-named_renamed f (instr.ShiftLeft d m i) w = rw (low_number f d, low_number f m) refl
-named_renamed f (instr.ShiftRight s d m i) w = rw (low_number f d, low_number f m) refl
-named_renamed f (instr.ThreeNumber s d n i) w = rw (low_number f d, low_number f n) refl
-named_renamed f (instr.TwoNumber o d i) w = rw (low_number f d) refl
-named_renamed f (instr.Extend e d m) w = rw (low_number f d, low_number f m) refl
-named_renamed f (instr.Reverse r d m) w = rw (low_number f d, low_number f m) refl
-named_renamed f i w = absurd (cc)
+named_renamed f i w = first_of (simp (reg_number f, low_number f), cc)
 
 -- a renamed low register is low
 low_stays : (registers : List Low) (d : Reg) → nat_lt d.number 8 ≡ true → nat_lt (reg_under registers d).number 8 ≡ true

@@ -139,18 +139,7 @@ module _ (names : Naming) (small : AreSmall names) (code : Code) (literals : Has
   arrive q Stay Stay u v t ne out h = ((refl, out), λ x r. h q x refl r)
   arrive q (To r) (To s) u v t ne out h = (t, λ x rd. h r x refl rd)
   arrive q Over Over u v t ne out h = tt
-  arrive q On Stay u v t ne out h = absurd t
-  arrive q On (To s) u v t ne out h = absurd t
-  arrive q On Over u v t ne out h = absurd t
-  arrive q Stay On u v t ne out h = absurd t
-  arrive q Stay (To s) u v t ne out h = absurd t
-  arrive q Stay Over u v t ne out h = absurd t
-  arrive q (To r) On u v t ne out h = absurd t
-  arrive q (To r) Stay u v t ne out h = absurd t
-  arrive q (To r) Over u v t ne out h = absurd t
-  arrive q Over On u v t ne out h = absurd t
-  arrive q Over Stay u v t ne out h = absurd t
-  arrive q Over (To s) u v t ne out h = absurd t
+  arrive q n n' u v t ne out h = absurd t
 
   on_both : (q : ℕ) (u v : World) (es fs : List Event) (o : Option Place) → slice_get code.places q ≡ o → q ≢ p → Related (state u (Here q) es) (state v (Here (to q)) fs) → Related (step_on names code q o (state u (Here q) es)) (step_on names new (to q) o (state v (Here (to q)) fs))
   on_both q u v es fs None e ne r = record { events = ap (λ l. l ++ (Fell ∷ [])) r.events; memory = r.memory; answers = r.answers; both = tt; words = r.words }

@@ -109,24 +109,13 @@ sum_values d s h = (low_value d s.value h, sum_flag_values s)
 complement_small : (x : ℕ) → complement x < 2 ^ 32
 complement_small x = omega arith
 
+product_small : (x y : ℕ) → product y x < 2 ^ 32
+product_small x y = mod-lt (y * x) {m = 2 ^ 32} (omega arith)
+
 -- a row: an operation puts words
 two_values : (o : Operation) (d : Within 0 8) (x y c : ℕ) → x < 2 ^ 32 → y < 2 ^ 32 → AreValues (two_outputs o d.number x y c)
 two_values operation.And d x y c hx hy = result_values d _ (and_small x y hx hy)
-two_values operation.Eor d x y c hx hy = result_values d _ (xor_small x y hx hy)
-two_values operation.Lsl d x y c hx hy = shift_values d _ (shift_small shift.Lsl x (y % 256) (c == 1) hx)
-two_values operation.Lsr d x y c hx hy = shift_values d _ (shift_small shift.Lsr x (y % 256) (c == 1) hx)
-two_values operation.Asr d x y c hx hy = shift_values d _ (shift_small shift.Asr x (y % 256) (c == 1) hx)
-two_values operation.Adc d x y c hx hy = sum_values d _ (omega arith)
-two_values operation.Sbc d x y c hx hy = sum_values d _ (omega arith)
-two_values operation.Ror d x y c hx hy = shift_values d _ (shift_small shift.Ror x (y % 256) (c == 1) hx)
-two_values operation.Tst d x y c hx hy = result_flag_values _
-two_values operation.Rsb d x y c hx hy = sum_values d _ (omega arith)
-two_values operation.Cmp d x y c hx hy = sum_flag_values _
-two_values operation.Cmn d x y c hx hy = sum_flag_values _
-two_values operation.Orr d x y c hx hy = result_values d _ (or_small x y hx hy)
-two_values operation.Mul d x y c hx hy = result_values d (product y x) (mod-lt (y * x) {m = 2 ^ 32} (omega arith))
-two_values operation.Bic d x y c hx hy = result_values d _ (and_small x (complement y) hx (complement_small y))
-two_values operation.Mvn d x y c hx hy = result_values d _ (complement_small y)
+two_values o d x y c hx hy = search (arith, result_values, shift_values, sum_values, result_flag_values, sum_flag_values, shift_small, and_small, or_small, xor_small, complement_small, product_small)
 
 byte_values : (o : ByteOperation) (d : Within 0 8) (x n : ℕ) → n < 256 → AreValues (byte_outputs o d.number x n)
 byte_values byte.Mov d x n h = result_values d n (omega arith)
@@ -134,23 +123,17 @@ byte_values byte.Cmp d x n h = sum_flag_values _
 byte_values byte.Add d x n h = sum_values d _ (sum_small sum.Add x n)
 byte_values byte.Sub d x n h = sum_values d _ (sum_small sum.Sub x n)
 
+low_word : (v : Values) → AreHeld v → (d : Within 0 8) → v d.number < 2 ^ 32
+low_word v a d = a.words.register d.number (omega arith)
+
 -- a row: an instruction puts words
 pub values_of : (i : Instr) (v : Values) → AreHeld v → AreValues (outputs i v)
 values_of (instr.Mov d m) v a = (written_value d _ (a.words.register m.number (omega arith)), tt)
-values_of (instr.Three s d n m) v a = sum_values d _ (sum_small s (v n.number) (v m.number))
 values_of (instr.Two o d m) v a = two_values o d _ _ _ (a.words.register d.number (omega arith)) (a.words.register m.number (omega arith))
-values_of (instr.Movs d m) v a = result_values d _ (a.words.register m.number (omega arith))
-values_of (instr.ShiftLeft d m i) v a = shift_values d _ (shift_small shift.Lsl (v m.number) i.number false (a.words.register m.number (omega arith)))
-values_of (instr.ShiftRight s d m i) v a = shift_values d _ (shift_small (right_shift s) (v m.number) i.number false (a.words.register m.number (omega arith)))
-values_of (instr.ThreeNumber s d n i) v a = sum_values d _ (sum_small s (v n.number) i.number)
 values_of (instr.TwoNumber o d i) v a = byte_values o d (v d.number) i.number (omega arith)
 values_of (instr.Add r) v a = (written_value r.target _ (sum_small sum.Add (v r.target.number) (v r.source.number)), tt)
-values_of (instr.Compare r) v a = sum_flag_values _
-values_of (instr.StackAddress d i) v a = (low_value d _ (sum_small sum.Add (v sp) (4 * i.number)), tt)
 values_of (instr.StackMove s i) v a = (written_at sp _ (omega arith) (sum_small s (v sp) (4 * i.number)), tt)
-values_of (instr.Extend e d m) v a = (low_value d _ (extension_small e (v m.number)), tt)
-values_of (instr.Reverse r d m) v a = (low_value d _ (reversal_small r (v m.number)), tt)
-values_of i v a = tt
+values_of i v a = search (arith, result_values, shift_values, sum_values, sum_flag_values, low_value, sum_small, shift_small, extension_small, reversal_small, low_word v a)
 
 -- ---- an act leaves a world ----
 
@@ -232,13 +215,10 @@ stored_words_small memory address (y ∷ xs) h x = stored_words_small (stored me
 -- a row: what a load puts is a word
 loaded_small : (a : Access) (x : ℕ) → loaded a x < 2 ^ 32
 loaded_small access.Str x = mod-lt x {m = 2 ^ 32} (omega arith)
-loaded_small access.Strh x = omega arith
-loaded_small access.Strb x = omega arith
 loaded_small access.Ldrsb x = sign_small_8 x
 loaded_small access.Ldr x = mod-lt x {m = 2 ^ 32} (omega arith)
-loaded_small access.Ldrh x = omega arith
-loaded_small access.Ldrb x = omega arith
 loaded_small access.Ldrsh x = sign_small_16 x
+loaded_small a x = omega arith
 
 gets_safe : (a : Access) (t : Within 0 8) (address value : ℕ) (w : World) (rest : List Answer) → IsWorld w → AreAnswers rest → IsSafe (gets a t.number address value w rest)
 gets_safe a t address value w rest h r = record { values = (low_value t _ (loaded_small a value), tt); memory = h.memory; answers = r }
@@ -259,11 +239,7 @@ access_safe : (a : Access) (t : Within 0 8) (address value : ℕ) (w : World) �
 access_safe access.Str t address value w h = stores_safe access.Str address value w h
 access_safe access.Strh t address value w h = stores_safe access.Strh address value w h
 access_safe access.Strb t address value w h = stores_safe access.Strb address value w h
-access_safe access.Ldrsb t address value w h = loads_safe access.Ldrsb t address w h
-access_safe access.Ldr t address value w h = loads_safe access.Ldr t address w h
-access_safe access.Ldrh t address value w h = loads_safe access.Ldrh t address w h
-access_safe access.Ldrb t address value w h = loads_safe access.Ldrb t address w h
-access_safe access.Ldrsh t address value w h = loads_safe access.Ldrsh t address w h
+access_safe a t address value w h = loads_safe a t address w h
 
 -- ---- lists ----
 
@@ -342,48 +318,19 @@ if_safe false k w h = puts_safe [] On w tt h
 
 hint_safe : (k : Hint) (w : World) → IsWorld w → IsSafe (hints k w)
 hint_safe hint.Nop w h = puts_safe [] On w tt h
-hint_safe hint.Yield w h = tells_safe _ w h
-hint_safe hint.Wfe w h = tells_safe _ w h
-hint_safe hint.Wfi w h = tells_safe _ w h
-hint_safe hint.Sev w h = tells_safe _ w h
+hint_safe k w h = tells_safe _ w h
 
 -- a row: an instruction puts words, and leaves bytes and answers
 pub act_safe : (around : Around) (i : Instr) (w : World) → AreAroundWords around → IsWorld w → IsSafe (act around i w)
-act_safe around (instr.Mov d m) w l h = puts_safe _ On w (values_of (instr.Mov d m) w.values (held_of w h)) h
-act_safe around (instr.Three s d n m) w l h = puts_safe _ On w (values_of (instr.Three s d n m) w.values (held_of w h)) h
-act_safe around (instr.Two o d m) w l h = puts_safe _ On w (values_of (instr.Two o d m) w.values (held_of w h)) h
-act_safe around (instr.Bx m) w l h = branch_safe (around.lands (w.values m.number)) (w.values m.number) w h
-act_safe around (instr.Movs d m) w l h = puts_safe _ On w (values_of (instr.Movs d m) w.values (held_of w h)) h
-act_safe around (instr.ShiftLeft d m i) w l h = puts_safe _ On w (values_of (instr.ShiftLeft d m i) w.values (held_of w h)) h
-act_safe around (instr.ShiftRight s d m i) w l h = puts_safe _ On w (values_of (instr.ShiftRight s d m i) w.values (held_of w h)) h
-act_safe around (instr.ThreeNumber s d n i) w l h = puts_safe _ On w (values_of (instr.ThreeNumber s d n i) w.values (held_of w h)) h
-act_safe around (instr.TwoNumber o d i) w l h = puts_safe _ On w (values_of (instr.TwoNumber o d i) w.values (held_of w h)) h
-act_safe around (instr.Add r) w l h = puts_safe _ On w (values_of (instr.Add r) w.values (held_of w h)) h
-act_safe around (instr.Compare r) w l h = puts_safe _ On w (values_of (instr.Compare r) w.values (held_of w h)) h
-act_safe around (instr.Blx m) w l h = call_by_safe (around.lands (w.values m.number)) (w.values m.number) around.link w l.link h
 act_safe around (instr.Literal t d) w l h = puts_safe _ On w (low_value t around.literal l.literal, tt) h
-act_safe around (instr.Indexed x t n m) w l h = access_safe x t _ _ w h
-act_safe around (instr.Offset x t n i) w l h = access_safe (offset_access x) t _ _ w h
-act_safe around (instr.Stack x t i) w l h = access_safe (word_access x) t _ _ w h
 act_safe around (instr.Address d i) w l h = puts_safe _ On w (low_value d around.literal l.literal, tt) h
-act_safe around (instr.StackAddress d i) w l h = puts_safe _ On w (values_of (instr.StackAddress d i) w.values (held_of w h)) h
-act_safe around (instr.StackMove s i) w l h = puts_safe _ On w (values_of (instr.StackMove s i) w.values (held_of w h)) h
-act_safe around (instr.Extend e d m) w l h = puts_safe _ On w (values_of (instr.Extend e d m) w.values (held_of w h)) h
-act_safe around (instr.Reverse r d m) w l h = puts_safe _ On w (values_of (instr.Reverse r d m) w.values (held_of w h)) h
 act_safe around (instr.Push k) w l h = stores_many_safe sp _ _ (map w.values (pushed k.number)) w (omega arith) (mod-lt _ {m = 2 ^ 32} (omega arith)) h
 act_safe around (instr.Pop k) w l h = pop_safe _ (has k.number 8) (w.values sp) (registers_in k.number) w (h.values.register sp (omega arith)) (registers_low k.number) h
 act_safe around (instr.StoreMany s) w l h = stores_many_safe s.base.number _ _ (map w.values (registers_in s.list.number)) w (omega arith) (behind_small (registers_in s.list.number) _ (h.values.register s.base.number (omega arith))) h
 act_safe around (instr.LoadMany n k) w l h = many_safe n.number (w.values n.number) (registers_in k.number) w (omega arith) (h.values.register n.number (omega arith)) (registers_low k.number) h
-act_safe around (instr.Breakpoint i) w l h = tells_safe _ w h
 act_safe around (instr.Service i) w l h = takes_safe _ w w.answers h h.answers (λ x rest k b r. answer_safe served _ w x rest refl h k b r)
-act_safe around (instr.Hint k) w l h = hint_safe k w h
-act_safe around (instr.ChangeState i) w l h = tells_safe _ w h
-act_safe around (instr.BranchIf c d) w l h = if_safe (holds c w.values) around.target w h
-act_safe around (instr.Branch d) w l h = jump_safe around.target w h
-act_safe around (instr.Call d) w l h = call_safe around.target around.link w l.link h
-act_safe around (instr.Barrier b) w l h = tells_safe _ w h
 act_safe around (instr.ReadSpecial d s) w l h = takes_safe _ w w.answers h h.answers (λ x rest k b r. record { values = (register_value d.number _ (omega arith) (λ e. d.no_sp e) (k.register 0 (omega arith)), tt); memory = h.memory; answers = r })
-act_safe around (instr.WriteMask m) w l h = tells_safe _ w h
+act_safe around i w l h = search (puts_safe (outputs i w.values) On w (values_of i w.values (held_of w h)) h, branch_safe, call_by_safe, call_safe, jump_safe, if_safe, access_safe, hint_safe, tells_safe)
 
 -- what a safe act leaves is a world
 pub world_after : (a : Act) (v : Values) → IsSafe a → AreHeld v → IsWorld (record { values = assigned a.outputs v; memory = a.memory; answers = a.answers })

@@ -1,5 +1,5 @@
 -- What a step depends on, row by row.
-use Rattle.std.proofs.Common.{◌≡◌, ℕ, ◌+◌, ◌*◌, ◌%◌, ◌==◌, ◌&&◌, ◌||◌, not, nat_le, Bool, true, false, List, [], ◌∷◌, ◌++◌, length, Option, Some, None, refl, sym, ap, ◌∙◌, subst, map, if◌then◌else◌}
+use Rattle.std.proofs.Common.{arith, ◌≡◌, ℕ, ◌+◌, ◌*◌, ◌%◌, ◌==◌, ◌&&◌, ◌||◌, not, nat_le, Bool, true, false, List, [], ◌∷◌, ◌++◌, length, Option, Some, None, refl, sym, ap, ◌∙◌, subst, map, if◌then◌else◌}
 use Rattle.std.specs.Prelude.{slice_get, filter}
 use Rattle.word_bits.specs.declared.Shift.TheVariants as shift
 use Rattle.word_bits.specs.Word.{shift_of}
@@ -64,11 +64,7 @@ Matches lands (To p) (ToPlace q) ks ws = (p ≡ q) × (ks ≡ ws)
 Matches lands (To p) AnyPoint ks ws = (word : ℕ) × (lands word ≡ Goes p) × (ks ≡ ws)
 Matches lands Stay l ks ws = ks ≡ []
 Matches lands Over l ks ws = Unit {0}
-Matches lands On (ToPlace q) ks ws = ⊥
-Matches lands On AnyPoint ks ws = ⊥
-Matches lands On Out ks ws = ⊥
-Matches lands (To p) Onward ks ws = ⊥
-Matches lands (To p) Out ks ws = ⊥
+Matches lands k l ks ws = ⊥
 
 -- the act goes by the way
 abbrev pub Takes : (ℕ → Landing) → Act → Way → Type 0
@@ -178,52 +174,20 @@ puts_law around i u w a acts ways same writes =
 -- a row: what an operation does depends on what it reads
 two_same : (o : Operation) (d m : ℕ) (u w : Values) → AgreeOn (two_uses o d m) u w → two_outputs o d (u d) (u m) (u c_flag) ≡ two_outputs o d (w d) (w m) (w c_flag)
 two_same operation.And d m u w h = ap_two (λ x y. two_outputs operation.And d x y 0) h.0 h.1.0
-two_same operation.Eor d m u w h = ap_two (λ x y. two_outputs operation.Eor d x y 0) h.0 h.1.0
-two_same operation.Lsl d m u w h = ap_two (λ x y. two_outputs operation.Lsl d x y (u c_flag)) h.0 h.1.0 ∙ ap (two_outputs operation.Lsl d (w d) (w m)) h.1.1.0
-two_same operation.Lsr d m u w h = ap_two (λ x y. two_outputs operation.Lsr d x y (u c_flag)) h.0 h.1.0 ∙ ap (two_outputs operation.Lsr d (w d) (w m)) h.1.1.0
-two_same operation.Asr d m u w h = ap_two (λ x y. two_outputs operation.Asr d x y (u c_flag)) h.0 h.1.0 ∙ ap (two_outputs operation.Asr d (w d) (w m)) h.1.1.0
-two_same operation.Adc d m u w h = ap_two (λ x y. two_outputs operation.Adc d x y (u c_flag)) h.0 h.1.0 ∙ ap (two_outputs operation.Adc d (w d) (w m)) h.1.1.0
-two_same operation.Sbc d m u w h = ap_two (λ x y. two_outputs operation.Sbc d x y (u c_flag)) h.0 h.1.0 ∙ ap (two_outputs operation.Sbc d (w d) (w m)) h.1.1.0
-two_same operation.Ror d m u w h = ap_two (λ x y. two_outputs operation.Ror d x y (u c_flag)) h.0 h.1.0 ∙ ap (two_outputs operation.Ror d (w d) (w m)) h.1.1.0
-two_same operation.Tst d m u w h = ap_two (λ x y. two_outputs operation.Tst d x y 0) h.0 h.1.0
-two_same operation.Rsb d m u w h = ap (λ y. two_outputs operation.Rsb d 0 y 0) h.0
-two_same operation.Cmp d m u w h = ap_two (λ x y. two_outputs operation.Cmp d x y 0) h.0 h.1.0
-two_same operation.Cmn d m u w h = ap_two (λ x y. two_outputs operation.Cmn d x y 0) h.0 h.1.0
-two_same operation.Orr d m u w h = ap_two (λ x y. two_outputs operation.Orr d x y 0) h.0 h.1.0
-two_same operation.Mul d m u w h = ap_two (λ x y. two_outputs operation.Mul d x y 0) h.0 h.1.0
-two_same operation.Bic d m u w h = ap_two (λ x y. two_outputs operation.Bic d x y 0) h.0 h.1.0
-two_same operation.Mvn d m u w h = ap (λ y. two_outputs operation.Mvn d 0 y 0) h.0
+two_same o d m u w h = grind arith
 
 -- a row: an operation writes what it says
 two_keys : (o : Operation) (d x y c : ℕ) → keys (two_outputs o d x y c) ≡ two_writes o d
 two_keys operation.And d x y c = refl
-two_keys operation.Eor d x y c = refl
-two_keys operation.Lsl d x y c = refl
-two_keys operation.Lsr d x y c = refl
-two_keys operation.Asr d x y c = refl
-two_keys operation.Adc d x y c = refl
-two_keys operation.Sbc d x y c = refl
-two_keys operation.Ror d x y c = refl
-two_keys operation.Tst d x y c = refl
-two_keys operation.Rsb d x y c = refl
-two_keys operation.Cmp d x y c = refl
-two_keys operation.Cmn d x y c = refl
-two_keys operation.Orr d x y c = refl
-two_keys operation.Mul d x y c = refl
-two_keys operation.Bic d x y c = refl
-two_keys operation.Mvn d x y c = refl
+two_keys o d x y c = refl
 
 byte_same : (o : ByteOperation) (d n : ℕ) (u w : Values) → AgreeOn (byte_uses o d) u w → byte_outputs o d (u d) n ≡ byte_outputs o d (w d) n
 byte_same byte.Mov d n u w h = refl
-byte_same byte.Cmp d n u w h = ap (λ x. byte_outputs byte.Cmp d x n) h.0
-byte_same byte.Add d n u w h = ap (λ x. byte_outputs byte.Add d x n) h.0
-byte_same byte.Sub d n u w h = ap (λ x. byte_outputs byte.Sub d x n) h.0
+byte_same o d n u w h = ap (λ x. byte_outputs o d x n) h.0
 
 byte_keys : (o : ByteOperation) (d x n : ℕ) → keys (byte_outputs o d x n) ≡ byte_writes o d
 byte_keys byte.Mov d x n = refl
-byte_keys byte.Cmp d x n = refl
-byte_keys byte.Add d x n = refl
-byte_keys byte.Sub d x n = refl
+byte_keys o d x n = refl
 
 -- ---- accesses ----
 
@@ -258,22 +222,14 @@ access_takes : (lands : ℕ → Landing) (a : Access) (t address value : ℕ) (w
 access_takes lands access.Str t address value w = stores_takes lands access.Str address value w
 access_takes lands access.Strh t address value w = stores_takes lands access.Strh address value w
 access_takes lands access.Strb t address value w = stores_takes lands access.Strb address value w
-access_takes lands access.Ldrsb t address value w = loads_takes lands access.Ldrsb t address w
-access_takes lands access.Ldr t address value w = loads_takes lands access.Ldr t address w
-access_takes lands access.Ldrh t address value w = loads_takes lands access.Ldrh t address w
-access_takes lands access.Ldrb t address value w = loads_takes lands access.Ldrb t address w
-access_takes lands access.Ldrsh t address value w = loads_takes lands access.Ldrsh t address w
+access_takes lands a t address value w = loads_takes lands a t address w
 
 -- a row: what an access does depends on what it reads
 access_same : (a : Access) (t x y : ℕ) (u w : World) → AlikeBut u w → x ≡ y → AgreeOn (access_uses a t) u.values w.values → accesses a t x (u.values t) u ≡ accesses a t y (w.values t) w
 access_same access.Str t x y u w a e h = ap_two (λ p q. stores access.Str p q u) e h.0 ∙ same_world (λ v. stores access.Str y (w.values t) v) (λ v. refl) u w a
 access_same access.Strh t x y u w a e h = ap_two (λ p q. stores access.Strh p q u) e h.0 ∙ same_world (λ v. stores access.Strh y (w.values t) v) (λ v. refl) u w a
 access_same access.Strb t x y u w a e h = ap_two (λ p q. stores access.Strb p q u) e h.0 ∙ same_world (λ v. stores access.Strb y (w.values t) v) (λ v. refl) u w a
-access_same access.Ldrsb t x y u w a e h = ap (λ p. loads access.Ldrsb t p u) e ∙ same_world (λ v. loads access.Ldrsb t y v) (λ v. refl) u w a
-access_same access.Ldr t x y u w a e h = ap (λ p. loads access.Ldr t p u) e ∙ same_world (λ v. loads access.Ldr t y v) (λ v. refl) u w a
-access_same access.Ldrh t x y u w a e h = ap (λ p. loads access.Ldrh t p u) e ∙ same_world (λ v. loads access.Ldrh t y v) (λ v. refl) u w a
-access_same access.Ldrb t x y u w a e h = ap (λ p. loads access.Ldrb t p u) e ∙ same_world (λ v. loads access.Ldrb t y v) (λ v. refl) u w a
-access_same access.Ldrsh t x y u w a e h = ap (λ p. loads access.Ldrsh t p u) e ∙ same_world (λ v. loads access.Ldrsh t y v) (λ v. refl) u w a
+access_same k t x y u w a e h = ap (λ p. loads k t p u) e ∙ same_world (λ v. loads k t y v) (λ v. refl) u w a
 
 -- ---- lists ----
 
@@ -340,19 +296,7 @@ call_takes lands (External word) link w = out_takes lands word w
 -- a row: a condition depends on its flags
 holds_same : (c : Condition) (u w : Values) → AgreeOn (condition_uses c) u w → holds c u ≡ holds c w
 holds_same condition.Eq u w h = ap (λ x. x == 1) h.0
-holds_same condition.Ne u w h = ap (λ x. not (x == 1)) h.0
-holds_same condition.Cs u w h = ap (λ x. x == 1) h.0
-holds_same condition.Cc u w h = ap (λ x. not (x == 1)) h.0
-holds_same condition.Mi u w h = ap (λ x. x == 1) h.0
-holds_same condition.Pl u w h = ap (λ x. not (x == 1)) h.0
-holds_same condition.Vs u w h = ap (λ x. x == 1) h.0
-holds_same condition.Vc u w h = ap (λ x. not (x == 1)) h.0
-holds_same condition.Hi u w h = ap_two (λ z c. (c == 1) && not (z == 1)) h.0 h.1.0
-holds_same condition.Ls u w h = ap_two (λ z c. not ((c == 1) && not (z == 1))) h.0 h.1.0
-holds_same condition.Ge u w h = ap_two (λ n v. n == v) h.0 h.1.0
-holds_same condition.Lt u w h = ap_two (λ n v. not (n == v)) h.0 h.1.0
-holds_same condition.Gt u w h = ap_two (λ n v. not (u z_flag == 1) && (n == v)) h.0 h.1.1.0 ∙ ap (λ z. not (z == 1) && (w n_flag == w v_flag)) h.1.0
-holds_same condition.Le u w h = ap_two (λ n v. not (not (u z_flag == 1) && (n == v))) h.0 h.1.1.0 ∙ ap (λ z. not (not (z == 1) && (w n_flag == w v_flag))) h.1.0
+holds_same c u w h = grind arith
 
 if_law : (around : Around) (c : Condition) (i : Instr) (u w : World) → AlikeBut u w → ((v : World) → act around i v ≡ (if holds c v.values then jumps around.target v else puts [] On v))
     → ways_of (inside_of around.target) i ≡ jump_way (condition_uses c) (inside_of around.target) ∷ way (condition_uses c) [] Onward ∷ [] → (b : Bool) → holds c u.values ≡ b → Taken around i u w
@@ -495,41 +439,27 @@ pop_law around l u w a false e =
 
 hint_same : (k : Hint) (u w : World) → AlikeBut u w → hints k u ≡ hints k w
 hint_same hint.Nop u w a = same_world (λ v. hints hint.Nop v) (λ v. refl) u w a
-hint_same hint.Yield u w a = same_world (λ v. hints hint.Yield v) (λ v. refl) u w a
-hint_same hint.Wfe u w a = same_world (λ v. hints hint.Wfe v) (λ v. refl) u w a
-hint_same hint.Wfi u w a = same_world (λ v. hints hint.Wfi v) (λ v. refl) u w a
-hint_same hint.Sev u w a = same_world (λ v. hints hint.Sev v) (λ v. refl) u w a
+hint_same k u w a = same_world (λ v. hints k v) (λ v. refl) u w a
 
 hint_takes : (lands : ℕ → Landing) (k : Hint) (w : World) → Follows lands Onward [] (hints k w)
 hint_takes lands hint.Nop w = refl
-hint_takes lands hint.Yield w = refl
-hint_takes lands hint.Wfe w = refl
-hint_takes lands hint.Wfi w = refl
-hint_takes lands hint.Sev w = refl
+hint_takes lands k w = refl
+
+-- a row: what an instruction puts depends on what it reads
+outputs_same : (i : Instr) (u w : Values) → AgreeOn (uses_of i) u w → outputs i u ≡ outputs i w
+outputs_same (instr.Two o d m) u w h = two_same o d.number m.number u w h
+outputs_same (instr.TwoNumber o d i) u w h = byte_same o d.number i.number u w h
+outputs_same i u w h = grind arith
 
 -- a row: an instruction
 pub law : (around : Around) (i : Instr) (u w : World) → AlikeBut u w → Taken around i u w
-law around (instr.Mov d m) u w a = puts_law around (instr.Mov d m) u w a (λ v. refl) refl (λ h. ap (λ x. (d.number, written_to d.number x) ∷ []) h.0) refl
-law around (instr.Three s d n m) u w a = puts_law around (instr.Three s d n m) u w a (λ v. refl) refl (λ h. ap_two (λ x y. sum_outputs d.number (three_sum s x y)) h.0 h.1.0) refl
-law around (instr.Two o d m) u w a = puts_law around (instr.Two o d m) u w a (λ v. refl) refl (λ h. two_same o d.number m.number u.values w.values h) (two_keys o d.number (u.values d.number) (u.values m.number) (u.values c_flag))
 law around (instr.Bx m) u w a = bx_law around m.number u w a (around.lands (u.values m.number)) refl (instr.Bx m) (λ v. refl) refl
-law around (instr.Movs d m) u w a = puts_law around (instr.Movs d m) u w a (λ v. refl) refl (λ h. ap (result_outputs d.number) h.0) refl
-law around (instr.ShiftLeft d m i) u w a = puts_law around (instr.ShiftLeft d m i) u w a (λ v. refl) refl (λ h. ap (λ x. shift_outputs d.number (shift_of shift.Lsl x i.number false)) h.0) refl
-law around (instr.ShiftRight s d m i) u w a = puts_law around (instr.ShiftRight s d m i) u w a (λ v. refl) refl (λ h. ap (λ x. shift_outputs d.number (shift_of (right_shift s) x i.number false)) h.0) refl
-law around (instr.ThreeNumber s d n i) u w a = puts_law around (instr.ThreeNumber s d n i) u w a (λ v. refl) refl (λ h. ap (λ x. sum_outputs d.number (three_sum s x i.number)) h.0) refl
-law around (instr.TwoNumber o d i) u w a = puts_law around (instr.TwoNumber o d i) u w a (λ v. refl) refl (λ h. byte_same o d.number i.number u.values w.values h) (byte_keys o d.number (u.values d.number) i.number)
-law around (instr.Add r) u w a = puts_law around (instr.Add r) u w a (λ v. refl) refl (λ h. ap_two (λ x y. (r.target.number, written_to r.target.number (three_sum sum.Add x y).value) ∷ []) h.0 h.1.0) refl
-law around (instr.Compare r) u w a = puts_law around (instr.Compare r) u w a (λ v. refl) refl (λ h. ap_two (λ x y. sum_flags (three_sum sum.Sub x y)) h.0 h.1.0) refl
 law around (instr.Blx m) u w a = blx_law around m.number u w a (around.lands (u.values m.number)) refl (instr.Blx m) (λ v. refl) refl
 law around (instr.Literal t d) u w a = straight around (instr.Literal t d) u w refl (λ h. puts_same _ _ On u w a refl) refl
 law around (instr.Indexed x t n m) u w a = straight around (instr.Indexed x t n m) u w refl (λ h. access_same x t.number _ _ u w a (ap_two offset h.0 h.1.0) h.1.1) (access_takes around.lands x t.number _ _ u)
 law around (instr.Offset x t n i) u w a = straight around (instr.Offset x t n i) u w refl (λ h. access_same (offset_access x) t.number _ _ u w a (ap (λ b. offset b (access_size (offset_access x) * i.number)) h.0) h.1) (access_takes around.lands (offset_access x) t.number _ _ u)
 law around (instr.Stack x t i) u w a = straight around (instr.Stack x t i) u w refl (λ h. access_same (word_access x) t.number _ _ u w a (ap (λ b. offset b (4 * i.number)) h.0) h.1) (access_takes around.lands (word_access x) t.number _ _ u)
 law around (instr.Address d i) u w a = straight around (instr.Address d i) u w refl (λ h. puts_same _ _ On u w a refl) refl
-law around (instr.StackAddress d i) u w a = puts_law around (instr.StackAddress d i) u w a (λ v. refl) refl (λ h. ap (λ x. (d.number, (three_sum sum.Add x (4 * i.number)).value) ∷ []) h.0) refl
-law around (instr.StackMove s i) u w a = puts_law around (instr.StackMove s i) u w a (λ v. refl) refl (λ h. ap (λ x. (sp, written_to sp (three_sum s x (4 * i.number)).value) ∷ []) h.0) refl
-law around (instr.Extend e d m) u w a = puts_law around (instr.Extend e d m) u w a (λ v. refl) refl (λ h. ap (λ x. (d.number, extension_of e x) ∷ []) h.0) refl
-law around (instr.Reverse r d m) u w a = puts_law around (instr.Reverse r d m) u w a (λ v. refl) refl (λ h. ap (λ x. (d.number, reversal_of r x) ∷ []) h.0) refl
 law around (instr.Push l) u w a = straight around (instr.Push l) u w refl (λ h. stores_many_same sp (below (pushed l.number)) (below (pushed l.number)) (u.values sp) (w.values sp) _ _ u w a h.0 (map_agree (pushed l.number) u.values w.values h.1)) (stores_many_takes around.lands sp _ (below (pushed l.number) (u.values sp)) (map u.values (pushed l.number)) u)
 law around (instr.Pop l) u w a = pop_law around l u w a (has l.number 8) refl
 law around (instr.StoreMany s) u w a = straight around (instr.StoreMany s) u w refl (λ h. stores_many_same s.base.number (behind (registers_in s.list.number)) (λ x. x) (u.values s.base.number) (w.values s.base.number) _ _ u w a h.0 (map_agree (registers_in s.list.number) u.values w.values h.1)) (stores_many_takes around.lands s.base.number _ (u.values s.base.number) (map u.values (registers_in s.list.number)) u)
@@ -544,3 +474,6 @@ law around (instr.Call d) u w a = record { number = 0; taken = call_way (inside_
 law around (instr.Barrier b) u w a = straight around (instr.Barrier b) u w refl (λ h. same_world (λ v. tells (Sys (barrier_code b) []) v) (λ v. refl) u w a) refl
 law around (instr.ReadSpecial d s) u w a = straight around (instr.ReadSpecial d s) u w refl (λ h. same_world (λ v. takes (reads_special d.number (special_code s) v) v v.answers) (λ v. refl) u w a) (takes_takes around.lands Onward (d.number ∷ []) _ u u.answers (λ x rest. refl))
 law around (instr.WriteMask m) u w a = straight around (instr.WriteMask m) u w refl (λ h. ap (λ x. tells (Sys 523 (x ∷ [])) u) h.0 ∙ same_world (λ v. tells (Sys 523 (w.values m.number ∷ [])) v) (λ v. refl) u w a) refl
+law around (instr.Two o d m) u w a = puts_law around (instr.Two o d m) u w a (λ v. refl) refl (outputs_same (instr.Two o d m) u.values w.values) (two_keys o d.number (u.values d.number) (u.values m.number) (u.values c_flag))
+law around (instr.TwoNumber o d i) u w a = puts_law around (instr.TwoNumber o d i) u w a (λ v. refl) refl (outputs_same (instr.TwoNumber o d i) u.values w.values) (byte_keys o d.number (u.values d.number) i.number)
+law around i u w a = puts_law around i u w a (λ v. refl) refl (outputs_same i u.values w.values) refl

@@ -19,12 +19,9 @@ append xs ys = xs ++ ys
 -- ---- places ----
 
 places_step : (n : ℕ) (l : Line) (s : Statement) (ls : List Line) → l.statement ≡ s → (AreOps n (places_of ls) → places_of (without n ls) ≡ drop n (places_of ls)) → (AreOps (suc n) (places_of ls) → places_of (without (suc n) ls) ≡ drop (suc n) (places_of ls)) → AreOps (suc n) (places_in s ++ places_of ls) → places_of (if is_op s then without n ls else l ∷ without (suc n) ls) ≡ drop (suc n) (places_in s ++ places_of ls)
-places_step n l Nothing ls e f g h = ap (λ x. places_in x ++ places_of (without (suc n) ls)) e ∙ g h
-places_step n l (Aligns size most) ls e f g h = ap (λ x. places_in x ++ places_of (without (suc n) ls)) e ∙ g h
-places_step n l (Sets name address) ls e f g h = ap (λ x. places_in x ++ places_of (without (suc n) ls)) e ∙ g h
 places_step n l (Runs i mention) ls e f g h = f h
-places_step n l (Words []) ls e f g h = ap (λ x. places_in x ++ places_of (without (suc n) ls)) e ∙ g h
 places_step n l (Words (w ∷ ws)) ls e f g h = absurd h
+places_step n l s ls e f g h = ap (λ x. places_in x ++ places_of (without (suc n) ls)) e ∙ g h
 
 places_without : (n : ℕ) (ls : List Line) → AreOps n (places_of ls) → places_of (without n ls) ≡ drop n (places_of ls)
 places_without zero [] h = refl
@@ -84,9 +81,6 @@ behind write n k p m is l s ls f rec e g h =
     ∙ result_behind (places_in s) (places_of ls) p m k (m + suc n) is g (omega arith)
 
 replace_step : (write : Instr → List ℕ) (n k p : ℕ) (is : List Instr) (l : Line) (s : Statement) (ls : List Line) → l.statement ≡ s → Rec write n is ls → k ≡ p + suc n → AreOps (suc n) (drop p (places_in s ++ places_of ls)) → places_of (if is_op s && (p == 0) then labels_kept l l.names ++ (map (new_line write) is ++ without (suc n - 1) ls) else l ∷ replaced_lines write (p - length (places_in s)) (suc n) is ls) ≡ Result p k is (places_in s ++ places_of ls)
-replace_step write n k p is l Nothing ls f rec e h = behind write n k p p is l Nothing ls f rec e (omega arith) h
-replace_step write n k p is l (Aligns size most) ls f rec e h = behind write n k p p is l (Aligns size most) ls f rec e (omega arith) h
-replace_step write n k p is l (Sets name address) ls f rec e h = behind write n k p p is l (Sets name address) ls f rec e (omega arith) h
 replace_step write n k p is l (Words ws) ls f rec e h =
     let w = past_words ws (places_of ls) p n h in
     let x = words_length ws in
@@ -101,6 +95,7 @@ replace_step write n k zero is l (Runs i mention) ls f rec e h =
 replace_step write n k (suc p) is l (Runs i mention) ls f rec e h =
     ap (λ b. places_of (if b then labels_kept l l.names ++ (map (new_line write) is ++ without (suc n - 1) ls) else l ∷ replaced_lines write (suc p - 1) (suc n) is ls)) (ne_eqb (suc p) 0 (λ z. absurd (omega arith)))
     ∙ behind write n k (suc p) p is l (Runs i mention) ls f rec e (omega arith) h
+replace_step write n k p is l s ls f rec e h = behind write n k p p is l s ls f rec e (omega arith) h
 
 -- places, where lines are replaced
 pub places_replaced : (write : Instr → List ℕ) (n : ℕ) (is : List Instr) (ls : List Line) (p k : ℕ) → k ≡ p + suc n → AreOps (suc n) (drop p (places_of ls)) → places_of (replaced_lines write p (suc n) is ls) ≡ Result p k is (places_of ls)
@@ -153,35 +148,14 @@ without_step p count gone n l (Runs i mention) ls e f g q r a b c d out ops =
     let none = no_names p count r l.names (labels_from (r + 1) ls) a (omega arith) out in
     f q (r + 1) (omega arith) (omega arith) c d (all_back p count (labels_at r l.names) (labels_from (r + 1) ls) out) ops
     ∙ ap (λ ns. map (move_label p gone) (labels_at r ns ++ labels_from (r + 1) ls)) (sym none)
-without_step p count gone n l Nothing ls e f g q r a b c d out ops =
-    let none = no_names p count r l.names (labels_from (r + 0) ls) a (omega arith) out in
-    let here : labels_from q (l ∷ without (suc n) ls) ≡ labels_at q l.names ++ labels_from (q + 0) (without (suc n) ls) = ap (λ x. labels_at q l.names ++ labels_from (q + length (places_in x)) (without (suc n) ls)) e in
-    here
-    ∙ ap (λ ns. labels_at q ns ++ labels_from (q + 0) (without (suc n) ls)) none
-    ∙ g (q + 0) (r + 0) (omega arith) (omega arith) (omega arith) (omega arith) (all_back p count (labels_at r l.names) (labels_from (r + 0) ls) out) ops
-    ∙ ap (λ ns. map (move_label p gone) (labels_at r ns ++ labels_from (r + 0) ls)) (sym none)
-without_step p count gone n l (Aligns size most) ls e f g q r a b c d out ops =
-    let none = no_names p count r l.names (labels_from (r + 0) ls) a (omega arith) out in
-    let here : labels_from q (l ∷ without (suc n) ls) ≡ labels_at q l.names ++ labels_from (q + 0) (without (suc n) ls) = ap (λ x. labels_at q l.names ++ labels_from (q + length (places_in x)) (without (suc n) ls)) e in
-    here
-    ∙ ap (λ ns. labels_at q ns ++ labels_from (q + 0) (without (suc n) ls)) none
-    ∙ g (q + 0) (r + 0) (omega arith) (omega arith) (omega arith) (omega arith) (all_back p count (labels_at r l.names) (labels_from (r + 0) ls) out) ops
-    ∙ ap (λ ns. map (move_label p gone) (labels_at r ns ++ labels_from (r + 0) ls)) (sym none)
-without_step p count gone n l (Sets name address) ls e f g q r a b c d out ops =
-    let none = no_names p count r l.names (labels_from (r + 0) ls) a (omega arith) out in
-    let here : labels_from q (l ∷ without (suc n) ls) ≡ labels_at q l.names ++ labels_from (q + 0) (without (suc n) ls) = ap (λ x. labels_at q l.names ++ labels_from (q + length (places_in x)) (without (suc n) ls)) e in
-    here
-    ∙ ap (λ ns. labels_at q ns ++ labels_from (q + 0) (without (suc n) ls)) none
-    ∙ g (q + 0) (r + 0) (omega arith) (omega arith) (omega arith) (omega arith) (all_back p count (labels_at r l.names) (labels_from (r + 0) ls) out) ops
-    ∙ ap (λ ns. map (move_label p gone) (labels_at r ns ++ labels_from (r + 0) ls)) (sym none)
-without_step p count gone n l (Words []) ls e f g q r a b c d out ops =
-    let none = no_names p count r l.names (labels_from (r + 0) ls) a (omega arith) out in
-    let here : labels_from q (l ∷ without (suc n) ls) ≡ labels_at q l.names ++ labels_from (q + 0) (without (suc n) ls) = ap (λ x. labels_at q l.names ++ labels_from (q + length (places_in x)) (without (suc n) ls)) e in
-    here
-    ∙ ap (λ ns. labels_at q ns ++ labels_from (q + 0) (without (suc n) ls)) none
-    ∙ g (q + 0) (r + 0) (omega arith) (omega arith) (omega arith) (omega arith) (all_back p count (labels_at r l.names) (labels_from (r + 0) ls) out) ops
-    ∙ ap (λ ns. map (move_label p gone) (labels_at r ns ++ labels_from (r + 0) ls)) (sym none)
 without_step p count gone n l (Words (w ∷ ws)) ls e f g q r a b c d out ops = absurd ops
+without_step p count gone n l s ls e f g q r a b c d out ops =
+    let none = no_names p count r l.names (labels_from (r + 0) ls) a (omega arith) out in
+    let here : labels_from q (l ∷ without (suc n) ls) ≡ labels_at q l.names ++ labels_from (q + 0) (without (suc n) ls) = ap (λ x. labels_at q l.names ++ labels_from (q + length (places_in x)) (without (suc n) ls)) e in
+    here
+    ∙ ap (λ ns. labels_at q ns ++ labels_from (q + 0) (without (suc n) ls)) none
+    ∙ g (q + 0) (r + 0) (omega arith) (omega arith) (omega arith) (omega arith) (all_back p count (labels_at r l.names) (labels_from (r + 0) ls) out) ops
+    ∙ ap (λ ns. map (move_label p gone) (labels_at r ns ++ labels_from (r + 0) ls)) (sym none)
 
 labels_without : (p count gone n : ℕ) (ls : List Line) (q r : ℕ) → p < r → r + n ≡ p + count → q + gone ≡ p + count → p ≤ q → AllOutside p count (labels_from r ls) → AreOps n (places_of ls) → labels_from q (without n ls) ≡ map (move_label p gone) (labels_from r ls)
 unfolding WithoutRec
@@ -214,9 +188,6 @@ labels_behind write at n q p m is l s ls f rec e g out h =
     ∙ sym (map_append (move_label at gone) (labels_at q l.names) (labels_from (q + length (places_in s)) ls))
 
 labels_step : (write : Instr → List ℕ) (at n q p : ℕ) (is : List Instr) (l : Line) (s : Statement) (ls : List Line) → length is < suc n → l.statement ≡ s → LabelsRec write at n is ls → at ≡ q + p → AllOutside at (suc n) (labels_at q l.names ++ labels_from (q + length (places_in s)) ls) → AreOps (suc n) (drop p (places_in s ++ places_of ls)) → labels_from q (if is_op s && (p == 0) then labels_kept l l.names ++ (map (new_line write) is ++ without (suc n - 1) ls) else l ∷ replaced_lines write (p - length (places_in s)) (suc n) is ls) ≡ map (move_label at (suc n - length is)) (labels_at q l.names ++ labels_from (q + length (places_in s)) ls)
-labels_step write at n q p is l Nothing ls short f rec e out h = labels_behind write at n q p p is l Nothing ls f rec e (omega arith) out h
-labels_step write at n q p is l (Aligns size most) ls short f rec e out h = labels_behind write at n q p p is l (Aligns size most) ls f rec e (omega arith) out h
-labels_step write at n q p is l (Sets name address) ls short f rec e out h = labels_behind write at n q p p is l (Sets name address) ls f rec e (omega arith) out h
 labels_step write at n q p is l (Words ws) ls short f rec e out h =
     let w = past_words ws (places_of ls) p n h in
     let x = words_length ws in
@@ -232,6 +203,7 @@ labels_step write at n q zero is l (Runs i mention) ls short f rec e out h =
 labels_step write at n q (suc p) is l (Runs i mention) ls short f rec e out h =
     ap (λ b. labels_from q (if b then labels_kept l l.names ++ (map (new_line write) is ++ without (suc n - 1) ls) else l ∷ replaced_lines write (suc p - 1) (suc n) is ls)) (ne_eqb (suc p) 0 (λ z. absurd (omega arith)))
     ∙ labels_behind write at n q (suc p) p is l (Runs i mention) ls f rec e (omega arith) out h
+labels_step write at n q p is l s ls short f rec e out h = labels_behind write at n q p p is l s ls f rec e (omega arith) out h
 
 -- labels, where lines are replaced
 pub labels_replaced : (write : Instr → List ℕ) (at n : ℕ) (is : List Instr) (ls : List Line) (q p : ℕ) → length is < suc n → at ≡ q + p → AllOutside at (suc n) (labels_from q ls) → AreOps (suc n) (drop p (places_of ls)) → labels_from q (replaced_lines write p (suc n) is ls) ≡ map (move_label at (suc n - length is)) (labels_from q ls)
@@ -253,11 +225,8 @@ code_replaced write p n is ls short ops out =
 -- each instruction that goes is a line
 lines_step : (n : ℕ) (l : Line) (s : Statement) (ls : List Line) → (AreOps n (places_of ls) → n + length (without n ls) ≡ length ls) → (AreOps (suc n) (places_of ls) → suc n + length (without (suc n) ls) ≡ length ls) → AreOps (suc n) (places_in s ++ places_of ls) → suc n + length (if is_op s then without n ls else l ∷ without (suc n) ls) ≡ suc (length ls)
 lines_step n l (Runs i mention) ls f g h = let e = f h in omega arith
-lines_step n l Nothing ls f g h = let e = g h in omega arith
-lines_step n l (Aligns size most) ls f g h = let e = g h in omega arith
-lines_step n l (Sets name address) ls f g h = let e = g h in omega arith
-lines_step n l (Words []) ls f g h = let e = g h in omega arith
 lines_step n l (Words (w ∷ ws)) ls f g h = absurd h
+lines_step n l s ls f g h = let e = g h in omega arith
 
 lines_without : (n : ℕ) (ls : List Line) → AreOps n (places_of ls) → n + length (without n ls) ≡ length ls
 lines_without zero [] h = refl
@@ -280,9 +249,6 @@ fewer_behind write n p m is l s ls rec g h =
     omega arith
 
 fewer_step : (write : Instr → List ℕ) (n p : ℕ) (is : List Instr) (l : Line) (s : Statement) (ls : List Line) → length is < suc n → LinesRec write n is ls → AreOps (suc n) (drop p (places_in s ++ places_of ls)) → length (if is_op s && (p == 0) then labels_kept l l.names ++ (map (new_line write) is ++ without (suc n - 1) ls) else l ∷ replaced_lines write (p - length (places_in s)) (suc n) is ls) ≤ suc (length ls)
-fewer_step write n p is l Nothing ls short rec h = fewer_behind write n p p is l Nothing ls rec (omega arith) h
-fewer_step write n p is l (Aligns size most) ls short rec h = fewer_behind write n p p is l (Aligns size most) ls rec (omega arith) h
-fewer_step write n p is l (Sets name address) ls short rec h = fewer_behind write n p p is l (Sets name address) ls rec (omega arith) h
 fewer_step write n p is l (Words ws) ls short rec h =
     let w = past_words ws (places_of ls) p n h in
     let x = words_length ws in
@@ -298,6 +264,7 @@ fewer_step write n zero is l (Runs i mention) ls short rec h =
 fewer_step write n (suc p) is l (Runs i mention) ls short rec h =
     subst (λ b. length (if b then labels_kept l l.names ++ (map (new_line write) is ++ without (suc n - 1) ls) else l ∷ replaced_lines write (suc p - 1) (suc n) is ls) ≤ suc (length ls)) (sym (ne_eqb (suc p) 0 (λ z. absurd (omega arith))))
     (fewer_behind write n (suc p) p is l (Runs i mention) ls rec (omega arith) h)
+fewer_step write n p is l s ls short rec h = fewer_behind write n p p is l s ls rec (omega arith) h
 
 -- there are no more lines afterwards
 pub lines_fewer : (write : Instr → List ℕ) (n : ℕ) (is : List Instr) (ls : List Line) (p : ℕ) → length is < suc n → AreOps (suc n) (drop p (places_of ls)) → length (replaced_lines write p (suc n) is ls) ≤ length ls

@@ -15,6 +15,7 @@ use Rattle.thumb_instr.specs.declared.operation.Condition.TheVariants as conditi
 use Rattle.thumb_instr.specs.Items.{has}
 use Rattle.thumb_instr.specs.Shape.{registers_in, pushed, two_uses, byte_uses, access_uses, offset_access, word_access, condition_uses}
 use Rattle.thumb_instr.specs.declared.within.Within.{Within}
+use Rattle.thumb_instr.specs.declared.within.General.{General}
 use Rattle.thumb_model.specs.Items.{one_of, sp, lr}
 use Rattle.thumb_model.specs.Listing.{Place, Op, Word, Code}
 use Rattle.thumb_model.specs.Machine.{registers_left, handed, aim_of}
@@ -71,53 +72,21 @@ AreSmall (w ∷ ws) = AreBelow 19 w.reads × AreSmall ws
 -- a row: the items that an operation reads
 small_two : (o : Operation) (d m : Within 0 8) → AreBelow 19 (two_uses o d.number m.number)
 small_two operation.And d m = (omega arith, (omega arith, tt))
-small_two operation.Eor d m = (omega arith, (omega arith, tt))
-small_two operation.Lsl d m = (omega arith, (omega arith, (omega arith, tt)))
-small_two operation.Lsr d m = (omega arith, (omega arith, (omega arith, tt)))
-small_two operation.Asr d m = (omega arith, (omega arith, (omega arith, tt)))
-small_two operation.Adc d m = (omega arith, (omega arith, (omega arith, tt)))
-small_two operation.Sbc d m = (omega arith, (omega arith, (omega arith, tt)))
-small_two operation.Ror d m = (omega arith, (omega arith, (omega arith, tt)))
-small_two operation.Tst d m = (omega arith, (omega arith, tt))
-small_two operation.Rsb d m = (omega arith, tt)
-small_two operation.Cmp d m = (omega arith, (omega arith, tt))
-small_two operation.Cmn d m = (omega arith, (omega arith, tt))
-small_two operation.Orr d m = (omega arith, (omega arith, tt))
-small_two operation.Mul d m = (omega arith, (omega arith, tt))
-small_two operation.Bic d m = (omega arith, (omega arith, tt))
-small_two operation.Mvn d m = (omega arith, tt)
+small_two o d m = grind arith
 
 small_byte : (o : ByteOperation) (d : Within 0 8) → AreBelow 19 (byte_uses o d.number)
 small_byte byte.Mov d = tt
-small_byte byte.Cmp d = (omega arith, tt)
-small_byte byte.Add d = (omega arith, tt)
-small_byte byte.Sub d = (omega arith, tt)
+small_byte o d = (omega arith, tt)
 
 small_access : (a : Access) (t : Within 0 8) → AreBelow 19 (access_uses a t.number)
 small_access access.Str t = (omega arith, tt)
 small_access access.Strh t = (omega arith, tt)
 small_access access.Strb t = (omega arith, tt)
-small_access access.Ldrsb t = tt
-small_access access.Ldr t = tt
-small_access access.Ldrh t = tt
-small_access access.Ldrb t = tt
-small_access access.Ldrsh t = tt
+small_access a t = tt
 
 small_condition : (c : Condition) → AreBelow 19 (condition_uses c)
 small_condition condition.Eq = by_test 19 (condition_uses condition.Eq) refl
-small_condition condition.Ne = by_test 19 (condition_uses condition.Ne) refl
-small_condition condition.Cs = by_test 19 (condition_uses condition.Cs) refl
-small_condition condition.Cc = by_test 19 (condition_uses condition.Cc) refl
-small_condition condition.Mi = by_test 19 (condition_uses condition.Mi) refl
-small_condition condition.Pl = by_test 19 (condition_uses condition.Pl) refl
-small_condition condition.Vs = by_test 19 (condition_uses condition.Vs) refl
-small_condition condition.Vc = by_test 19 (condition_uses condition.Vc) refl
-small_condition condition.Hi = by_test 19 (condition_uses condition.Hi) refl
-small_condition condition.Ls = by_test 19 (condition_uses condition.Ls) refl
-small_condition condition.Ge = by_test 19 (condition_uses condition.Ge) refl
-small_condition condition.Lt = by_test 19 (condition_uses condition.Lt) refl
-small_condition condition.Gt = by_test 19 (condition_uses condition.Gt) refl
-small_condition condition.Le = by_test 19 (condition_uses condition.Le) refl
+small_condition c = by_test 19 (condition_uses c) refl
 
 small_jump : (aim : Option ℕ) (xs : List ℕ) → AreBelow 19 xs → AreBelow 19 (jump_way xs aim).reads
 small_jump None xs h = below_append 19 xs registers_left h (by_test 19 registers_left refl)
@@ -127,27 +96,24 @@ small_call : (aim : Option ℕ) → AreBelow 19 (call_way aim).reads
 small_call None = by_test 19 handed refl
 small_call (Some p) = tt
 
+low_small : (d : Within 0 8) → d.number < 19
+low_small d = omega arith
+
+reg_small : (d : Within 0 15) → d.number < 19
+reg_small d = omega arith
+
+general_small : (d : General) → d.number < 19
+general_small d = omega arith
+
 -- a row: the items that an instruction reads
 small_ways : (aim : Option ℕ) (i : Instr) → AreSmall (ways_of aim i)
-small_ways aim (instr.Mov d m) = ((omega arith, tt), tt)
-small_ways aim (instr.Three s d n m) = ((omega arith, (omega arith, tt)), tt)
 small_ways aim (instr.Two o d m) = (small_two o d m, tt)
 small_ways aim (instr.Bx m) = ((omega arith, tt), ((omega arith, by_test 19 registers_left refl), tt))
-small_ways aim (instr.Movs d m) = ((omega arith, tt), tt)
-small_ways aim (instr.ShiftLeft d m i) = ((omega arith, tt), tt)
-small_ways aim (instr.ShiftRight s d m i) = ((omega arith, tt), tt)
-small_ways aim (instr.ThreeNumber s d n i) = ((omega arith, tt), tt)
 small_ways aim (instr.TwoNumber o d i) = (small_byte o d, tt)
-small_ways aim (instr.Add r) = ((omega arith, (omega arith, tt)), tt)
-small_ways aim (instr.Compare r) = ((omega arith, (omega arith, tt)), tt)
 small_ways aim (instr.Blx m) = ((omega arith, tt), ((omega arith, by_test 19 handed refl), tt))
 small_ways aim (instr.Indexed a t n m) = ((omega arith, (omega arith, small_access a t)), tt)
 small_ways aim (instr.Offset a t n i) = ((omega arith, small_access (offset_access a) t), tt)
 small_ways aim (instr.Stack a t i) = ((omega arith, small_access (word_access a) t), tt)
-small_ways aim (instr.StackAddress d i) = ((omega arith, tt), tt)
-small_ways aim (instr.StackMove s i) = ((omega arith, tt), tt)
-small_ways aim (instr.Extend e d m) = ((omega arith, tt), tt)
-small_ways aim (instr.Reverse r d m) = ((omega arith, tt), tt)
 small_ways aim (instr.Push l) = ((omega arith, below_more 15 19 (pushed l.number) (omega arith) (pushed_small l.number)), tt)
 small_ways aim (instr.Pop l) =
     elim (has l.number 8) as (λ b. AreSmall (if b then way (sp ∷ []) (sp ∷ registers_in l.number) AnyPoint ∷ way (sp ∷ left_but (registers_in l.number)) (sp ∷ registers_in l.number) Out ∷ [] else way (sp ∷ []) (sp ∷ registers_in l.number) Onward ∷ [])) [
@@ -155,13 +121,11 @@ small_ways aim (instr.Pop l) =
       | false ↦ ((omega arith, tt), tt)
     ]
 small_ways aim (instr.StoreMany s) = ((omega arith, registers_small s.list.number), tt)
-small_ways aim (instr.LoadMany n l) = ((omega arith, tt), tt)
 small_ways aim (instr.Service i) = (by_test 19 (0 ∷ 1 ∷ 2 ∷ 3 ∷ 12 ∷ sp ∷ []) refl, tt)
 small_ways aim (instr.BranchIf c d) = (small_jump aim (condition_uses c) (small_condition c), (small_condition c, tt))
 small_ways aim (instr.Branch d) = (small_jump aim [] tt, tt)
 small_ways aim (instr.Call d) = (small_call aim, tt)
-small_ways aim (instr.WriteMask m) = ((omega arith, tt), tt)
-small_ways aim i = (tt, tt)
+small_ways aim i = search (arith, low_small, reg_small, general_small)
 
 small_at : (ws : List Way) (k : ℕ) (w : Way) → AreSmall ws → slice_get ws k ≡ Some w → AreBelow 19 w.reads
 small_at [] k w a e = absurd (cc)

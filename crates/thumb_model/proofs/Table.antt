@@ -1,5 +1,5 @@
 -- An entry whose sides are equal keeps the runs where it applies.
-use Rattle.std.proofs.Common.{◌≡◌, ℕ, suc, ◌+◌, ◌-◌, ◌<◌, ◌≤◌, true, false, List, [], ◌∷◌, ◌++◌, length, length-append, take, drop, map, Some, refl, sym, ap, ◌∙◌, subst, ◌⊎◌, arith}
+use Rattle.std.proofs.Common.{◌≡◌, ℕ, suc, ◌+◌, ◌-◌, ◌<◌, ◌≤◌, true, false, List, [], ◌∷◌, ◌++◌, length, length-append, take, drop, map, Option, Some, None, refl, sym, ap, ◌∙◌, subst, ◌⊎◌, arith}
 use Rattle.std.specs.Prelude.{slice_get}
 use Rattle.thumb_instr.specs.declared.instr.Instr.{Instr}
 use Rattle.thumb_instr.specs.declared.instr.Instr.TheVariants as instr
@@ -10,7 +10,8 @@ use Rattle.thumb_instr.specs.Renaming.{Low, renamed}
 use Rattle.thumb_model.specs.Items.{Values}
 use Rattle.thumb_model.specs.Effect.{after_all}
 use Rattle.thumb_model.specs.Listing.{Place, plain, Code, is_op_place, is_code, is_call_instr}
-use Rattle.thumb_model.specs.Flow.{way, Onward, Reads, LiveAfter}
+use Rattle.thumb_model.specs.Machine.{aim_of}
+use Rattle.thumb_model.specs.Flow.{way, ways_of, ways_on, Onward, Reads, LiveAfter}
 use Rattle.thumb_model.specs.Rewrite.{Rule, register_count, IsSoundRule, AreOver, normalised, replaced, move_label, Applies}
 use Rattle.thumb_model.proofs.Lists.{get_drop, get_take, length_map, take_all, take_short, length_drop}
 use Rattle.thumb_model.proofs.Moved.{IsReplacement, AreNoCalls}
@@ -30,20 +31,15 @@ straight_window (i ∷ is) (j ∷ js) e h =
     let there : map normalised is ≡ js = cc in
     (sym (normal_in_window i) ∙ ap is_in_window here ∙ h.0, straight_window is js there h.1)
 
--- a row: what is read from the place after a straight instruction is live after it
+-- a row: what may stand in a window goes on alone
+one_way : (aim : Option ℕ) (i : Instr) → is_in_window i ≡ true → ways_of aim i ≡ way (uses_of i) (writes_of i) Onward ∷ []
+one_way aim (instr.Mov d m) h = refl
+one_way aim i h = cc
+
+-- what is read from the place after a straight instruction is live after it
 pub live_there : (code : Code) (p : ℕ) (i : Instr) → slice_get code.places p ≡ Some (plain i) → is_in_window i ≡ true → (x : ℕ) → Reads code x (p + 1) → LiveAfter code p x
-live_there code p (instr.Mov d m) e h x r = (0, way (uses_of (instr.Mov d m)) (writes_of (instr.Mov d m)) Onward, p + 1, rw e refl, refl, r)
-live_there code p (instr.Three s d n m) e h x r = (0, way (uses_of (instr.Three s d n m)) (writes_of (instr.Three s d n m)) Onward, p + 1, rw e refl, refl, r)
-live_there code p (instr.Two o d m) e h x r = (0, way (uses_of (instr.Two o d m)) (writes_of (instr.Two o d m)) Onward, p + 1, rw e refl, refl, r)
-live_there code p (instr.Movs d m) e h x r = (0, way (uses_of (instr.Movs d m)) (writes_of (instr.Movs d m)) Onward, p + 1, rw e refl, refl, r)
-live_there code p (instr.ShiftLeft d m i) e h x r = (0, way (uses_of (instr.ShiftLeft d m i)) (writes_of (instr.ShiftLeft d m i)) Onward, p + 1, rw e refl, refl, r)
-live_there code p (instr.ShiftRight s d m i) e h x r = (0, way (uses_of (instr.ShiftRight s d m i)) (writes_of (instr.ShiftRight s d m i)) Onward, p + 1, rw e refl, refl, r)
-live_there code p (instr.ThreeNumber s d n i) e h x r = (0, way (uses_of (instr.ThreeNumber s d n i)) (writes_of (instr.ThreeNumber s d n i)) Onward, p + 1, rw e refl, refl, r)
-live_there code p (instr.TwoNumber o d i) e h x r = (0, way (uses_of (instr.TwoNumber o d i)) (writes_of (instr.TwoNumber o d i)) Onward, p + 1, rw e refl, refl, r)
-live_there code p (instr.Add k) e h x r = (0, way (uses_of (instr.Add k)) (writes_of (instr.Add k)) Onward, p + 1, rw e refl, refl, r)
-live_there code p (instr.Extend k d m) e h x r = (0, way (uses_of (instr.Extend k d m)) (writes_of (instr.Extend k d m)) Onward, p + 1, rw e refl, refl, r)
-live_there code p (instr.Reverse k d m) e h x r = (0, way (uses_of (instr.Reverse k d m)) (writes_of (instr.Reverse k d m)) Onward, p + 1, rw e refl, refl, r)
-live_there code p i e h x r = absurd (cc)
+live_there code p i e h x r =
+    (0, way (uses_of i) (writes_of i) Onward, p + 1, ap (λ (o : Option Place). slice_get (ways_on code o) 0) e ∙ ap (λ ws. slice_get ws 0) (one_way (aim_of code None) i h), refl, r)
 
 last_of : (is : List Instr) → 0 < length is → AreStraight is → (i : Instr) × (slice_get (map plain is) (length is - 1) ≡ Some (plain i)) × (is_in_window i ≡ true)
 last_of [] l s = absurd (omega arith)

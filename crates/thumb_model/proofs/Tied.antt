@@ -23,12 +23,7 @@ abbrev pub LandingTied : (ℕ → ℕ → Type 0) → Landing → Landing → Ty
 LandingTied R (Goes p) (Goes q) = R p q
 LandingTied R Leaves Leaves = Unit {0}
 LandingTied R Strays Strays = Unit {0}
-LandingTied R (Goes p) Leaves = ⊥
-LandingTied R (Goes p) Strays = ⊥
-LandingTied R Leaves (Goes q) = ⊥
-LandingTied R Leaves Strays = ⊥
-LandingTied R Strays (Goes q) = ⊥
-LandingTied R Strays Leaves = ⊥
+LandingTied R k l = ⊥
 
 -- ways on to tied places
 abbrev pub NextTied : (ℕ → ℕ → Type 0) → Next → Next → Type 0
@@ -36,18 +31,7 @@ NextTied R On On = Unit {0}
 NextTied R Stay Stay = Unit {0}
 NextTied R (To p) (To q) = R p q
 NextTied R Over Over = Unit {0}
-NextTied R On Stay = ⊥
-NextTied R On (To q) = ⊥
-NextTied R On Over = ⊥
-NextTied R Stay On = ⊥
-NextTied R Stay (To q) = ⊥
-NextTied R Stay Over = ⊥
-NextTied R (To p) On = ⊥
-NextTied R (To p) Stay = ⊥
-NextTied R (To p) Over = ⊥
-NextTied R Over On = ⊥
-NextTied R Over Stay = ⊥
-NextTied R Over (To q) = ⊥
+NextTied R k l = ⊥
 
 -- acts that do the same, and go on to tied places
 pub record ActTied (R : ℕ → ℕ → Type 0) (a b : Act) : Type 0 where
@@ -93,12 +77,7 @@ module _ (R : ℕ → ℕ → Type 0) where
   branch_tied (Goes p) (Goes q) word w h = record { outputs = refl; memory = refl; answers = refl; events = refl; next = h }
   branch_tied Leaves Leaves word w h = record { outputs = refl; memory = refl; answers = refl; events = refl; next = tt }
   branch_tied Strays Strays word w h = record { outputs = refl; memory = refl; answers = refl; events = refl; next = tt }
-  branch_tied (Goes p) Leaves word w h = absurd h
-  branch_tied (Goes p) Strays word w h = absurd h
-  branch_tied Leaves (Goes q) word w h = absurd h
-  branch_tied Leaves Strays word w h = absurd h
-  branch_tied Strays (Goes q) word w h = absurd h
-  branch_tied Strays Leaves word w h = absurd h
+  branch_tied k l word w h = absurd h
 
   -- an instruction that looks at nothing around it
   puts_tied : (os : List (ℕ × ℕ)) (w : World) → ActTied R (puts os On w) (puts os On w)
@@ -143,11 +122,7 @@ module _ (R : ℕ → ℕ → Type 0) where
   accesses_tied access.Str t address value w = stores_tied access.Str address value w
   accesses_tied access.Strh t address value w = stores_tied access.Strh address value w
   accesses_tied access.Strb t address value w = stores_tied access.Strb address value w
-  accesses_tied access.Ldrsb t address value w = loads_tied access.Ldrsb t address w
-  accesses_tied access.Ldr t address value w = loads_tied access.Ldr t address w
-  accesses_tied access.Ldrh t address value w = loads_tied access.Ldrh t address w
-  accesses_tied access.Ldrb t address value w = loads_tied access.Ldrb t address w
-  accesses_tied access.Ldrsh t address value w = loads_tied access.Ldrsh t address w
+  accesses_tied a t address value w = loads_tied a t address w
 
   many_tied : (base address : ℕ) (xs : List ℕ) (w : World) → ActTied R (loads_many base address xs w) (loads_many base address xs w)
   many_tied base address xs w = aligned_tied address 4 w _ _ (enough_tied address xs w _ _ (still_tied _ tt))
@@ -171,23 +146,13 @@ module _ (R : ℕ → ℕ → Type 0) where
   call_by_tied (Goes p) (Goes q) word m n w h e = record { outputs = ap (λ y. (calls_by (Goes p) word y w).outputs) e; memory = refl; answers = refl; events = refl; next = h }
   call_by_tied Leaves Leaves word m n w h e = out_tied word w
   call_by_tied Strays Strays word m n w h e = still_tied _ tt
-  call_by_tied (Goes p) Leaves word m n w h e = absurd h
-  call_by_tied (Goes p) Strays word m n w h e = absurd h
-  call_by_tied Leaves (Goes q) word m n w h e = absurd h
-  call_by_tied Leaves Strays word m n w h e = absurd h
-  call_by_tied Strays (Goes q) word m n w h e = absurd h
-  call_by_tied Strays Leaves word m n w h e = absurd h
+  call_by_tied k l word m n w h e = absurd h
 
   pop_tied : (k l : Landing) (address : ℕ) (xs : List ℕ) (w : World) → LandingTied R k l → ActTied R (pops_to k address xs w) (pops_to l address xs w)
   pop_tied (Goes p) (Goes q) address xs w h = record { outputs = refl; memory = refl; answers = refl; events = refl; next = h }
   pop_tied Leaves Leaves address xs w h = still_tied _ tt
   pop_tied Strays Strays address xs w h = still_tied _ tt
-  pop_tied (Goes p) Leaves address xs w h = absurd h
-  pop_tied (Goes p) Strays address xs w h = absurd h
-  pop_tied Leaves (Goes q) address xs w h = absurd h
-  pop_tied Leaves Strays address xs w h = absurd h
-  pop_tied Strays (Goes q) address xs w h = absurd h
-  pop_tied Strays Leaves address xs w h = absurd h
+  pop_tied k l address xs w h = absurd h
 
   -- POP, with pc or without
   pops_tied : (a b : Around) (list : ℕ) (w : World) → ((word : ℕ) → LandingTied R (a.lands word) (b.lands word)) → (t : Bool) → ActTied R
@@ -203,35 +168,15 @@ module _ (R : ℕ → ℕ → Type 0) where
 
   hint_tied : (k : Hint) (w : World) → ActTied R (hints k w) (hints k w)
   hint_tied hint.Nop w = puts_tied [] w
-  hint_tied hint.Yield w = still_tied _ tt
-  hint_tied hint.Wfe w = still_tied _ tt
-  hint_tied hint.Wfi w = still_tied _ tt
-  hint_tied hint.Sev w = still_tied _ tt
+  hint_tied k w = still_tied _ tt
 
   literal_tied : (t x y : ℕ) (w : World) → x ≡ y → ActTied R (puts ((t, x) ∷ []) On w) (puts ((t, y) ∷ []) On w)
   literal_tied t x y w e = record { outputs = ap (λ z. (puts ((t, z) ∷ []) On w).outputs) e; memory = refl; answers = refl; events = refl; next = tt }
 
   -- a row: an instruction does the same in surroundings that are tied
   pub act_tied : (a b : Around) (i : Instr) (w : World) → LooksTied R a b i w → ActTied R (act a i w) (act b i w)
-  act_tied a b (instr.Bx m) w h = branch_tied (a.lands (w.values m.number)) (b.lands (w.values m.number)) (w.values m.number) w h
-  act_tied a b (instr.Blx m) w h = call_by_tied (a.lands (w.values m.number)) (b.lands (w.values m.number)) (w.values m.number) a.link b.link w h.0 h.1
-  act_tied a b (instr.Literal t d) w h = literal_tied _ a.literal b.literal w h
-  act_tied a b (instr.Indexed x t n m) w h = accesses_tied x t.number _ _ w
-  act_tied a b (instr.Offset x t n i) w h = accesses_tied (offset_access x) t.number _ _ w
-  act_tied a b (instr.Stack x t i) w h = accesses_tied (word_access x) t.number _ _ w
-  act_tied a b (instr.Address d i) w h = literal_tied _ a.literal b.literal w h
-  act_tied a b (instr.Push l) w h = stores_many_tied sp _ _ (map w.values (pushed l.number)) w
   act_tied a b (instr.Pop l) w h = pops_tied a b l.number w h (has l.number 8)
-  act_tied a b (instr.StoreMany s) w h = stores_many_tied s.base.number _ _ (map w.values (registers_in s.list.number)) w
-  act_tied a b (instr.LoadMany n l) w h = many_tied n.number (w.values n.number) (registers_in l.number) w
-  act_tied a b (instr.Breakpoint i) w h = still_tied _ tt
   act_tied a b (instr.Service i) w h = takes_tied _ w w.answers (λ answer rest. tt)
-  act_tied a b (instr.Hint k) w h = hint_tied k w
-  act_tied a b (instr.ChangeState i) w h = still_tied _ tt
   act_tied a b (instr.BranchIf c d) w h = if_tied (holds c w.values) a.target b.target w h
-  act_tied a b (instr.Branch d) w h = jump_tied a.target b.target w h
-  act_tied a b (instr.Call d) w h = call_tied a.target b.target a.link b.link w h.0 h.1
-  act_tied a b (instr.Barrier x) w h = still_tied _ tt
   act_tied a b (instr.ReadSpecial d s) w h = takes_tied _ w w.answers (λ answer rest. tt)
-  act_tied a b (instr.WriteMask m) w h = still_tied _ tt
-  act_tied a b i w h = puts_tied _ w
+  act_tied a b i w h = search (branch_tied, call_by_tied, call_tied, jump_tied, literal_tied, accesses_tied, stores_many_tied, many_tied, hint_tied, puts_tied, still_tied)

@@ -2,14 +2,12 @@
 use Rattle.std.proofs.Common.{◌≡◌, ℕ, zero, suc, ◌<◌, ◌==◌, ◌||◌, true, false, List, [], ◌∷◌, length, map, Option, Some, refl, sym, ap, ◌∙◌, subst, arith, eqb-true}
 use Rattle.std.specs.Prelude.{slice_get}
 use Rattle.thumb_instr.specs.declared.instr.Instr.{Instr}
-use Rattle.thumb_instr.specs.declared.instr.Instr.TheVariants as instr
-use Rattle.thumb_instr.specs.declared.within.NotBothSp.{NotBothSp}
 use Rattle.thumb_instr.specs.Window.{is_in_window}
 use Rattle.thumb_instr.proofs.Registers.{low_is}
-use Rattle.thumb_instr.proofs.RenamingLemmas.{low_number, reg_number}
+use Rattle.thumb_instr.proofs.RenamingLemmas.{named_renamed}
 use Rattle.thumb_model.specs.Items.{one_of}
 use Rattle.thumb_model.specs.Listing.{plain, Line, Code, code_of}
-use Rattle.thumb_instr.specs.Renaming.{Low, Reg, named, renamed, low_under, reg_under, both_under, number_or, item_under}
+use Rattle.thumb_instr.specs.Renaming.{Low, named, renamed, number_or, item_under}
 use Rattle.thumb_model.specs.Rewrite.{Rule, register_count, IsSoundRule, AreSound, AreOver, is_named, normalised, Applies}
 use Rattle.thumb_model.specs.Rewritten.{Setting, Replacement, IsFirst, lines_after, AreRewritten, IsDetermined}
 
@@ -26,32 +24,13 @@ agree_in f g (y ∷ xs) x a h =
       | false ↦ λ e k. agree_in f g xs x a.1 k
     ] refl h
 
-low_tells : (f g : List Low) (d : Low) → low_under f d ≡ low_under g d → item_under f d.number ≡ item_under g d.number
-low_tells f g d e = sym (low_number f d) ∙ ap (λ (r : Low). r.number) e ∙ low_number g d
+all_same : (f g : List Low) (xs : List ℕ) → map (item_under f) xs ≡ map (item_under g) xs → AgreeOnAll f g xs
+all_same f g [] e = tt
+all_same f g (x ∷ xs) e = (cc, all_same f g xs (cc))
 
-reg_tells : (f g : List Low) (d : Reg) → reg_under f d ≡ reg_under g d → item_under f d.number ≡ item_under g d.number
-reg_tells f g d e = sym (reg_number f d) ∙ ap (λ (r : Reg). r.number) e ∙ reg_number g d
-
-both_tells : (f g : List Low) (r : NotBothSp) → both_under f r ≡ both_under g r → (item_under f r.target.number ≡ item_under g r.target.number) × (item_under f r.source.number ≡ item_under g r.source.number)
-both_tells f g r e = (
-  reg_tells f g r.target (ap (λ (x : NotBothSp). x.target) e),
-  reg_tells f g r.source (ap (λ (x : NotBothSp). x.source) e),
-)
-
--- a row: a renamed instruction tells what its registers became
+-- a renamed instruction tells what its registers became
 renamed_tells : (f g : List Low) (i : Instr) → is_in_window i ≡ true → renamed f i ≡ renamed g i → AgreeOnAll f g (named i)
-renamed_tells f g (instr.Mov d m) w e = (reg_tells f g d (cc), (reg_tells f g m (cc), tt))
-renamed_tells f g (instr.Three s d n m) w e = (low_tells f g d (cc), (low_tells f g n (cc), (low_tells f g m (cc), tt)))
-renamed_tells f g (instr.Two o d m) w e = (low_tells f g d (cc), (low_tells f g m (cc), tt))
-renamed_tells f g (instr.Movs d m) w e = (low_tells f g d (cc), (low_tells f g m (cc), tt))
-renamed_tells f g (instr.ShiftLeft d m i) w e = (low_tells f g d (cc), (low_tells f g m (cc), tt))
-renamed_tells f g (instr.ShiftRight s d m i) w e = (low_tells f g d (cc), (low_tells f g m (cc), tt))
-renamed_tells f g (instr.ThreeNumber s d n i) w e = (low_tells f g d (cc), (low_tells f g n (cc), tt))
-renamed_tells f g (instr.TwoNumber o d i) w e = (low_tells f g d (cc), tt)
-renamed_tells f g (instr.Add r) w e = let b = both_tells f g r (cc) in (b.0, (b.1, tt))
-renamed_tells f g (instr.Extend k d m) w e = (low_tells f g d (cc), (low_tells f g m (cc), tt))
-renamed_tells f g (instr.Reverse k d m) w e = (low_tells f g d (cc), (low_tells f g m (cc), tt))
-renamed_tells f g i w e = absurd (cc)
+renamed_tells f g i w e = all_same f g (named i) (sym (named_renamed f i w) ∙ ap named e ∙ named_renamed g i w)
 
 all_tell : (f g : List Low) (k : ℕ) (is : List Instr) (x : ℕ) → AreOver k is → map (renamed f) is ≡ map (renamed g) is → is_named x is ≡ true → item_under f x ≡ item_under g x
 all_tell f g k [] x o e h = absurd (cc)

@@ -45,20 +45,7 @@ went s q v = record { world = record { values = v; memory = s.world.memory; answ
 -- a row: what may stand in a window goes on, and looks at nothing but the items
 pub straight_act : (around : Around) (i : Instr) (w : World) → is_in_window i ≡ true → act around i w ≡ puts (outputs i w.values) On w
 straight_act around (instr.Mov d m) w h = refl
-straight_act around (instr.Three s d n m) w h = refl
-straight_act around (instr.Two o d m) w h = refl
-straight_act around (instr.Movs d m) w h = refl
-straight_act around (instr.ShiftLeft d m i) w h = refl
-straight_act around (instr.ShiftRight s d m i) w h = refl
-straight_act around (instr.ThreeNumber s d n i) w h = refl
-straight_act around (instr.TwoNumber o d i) w h = refl
-straight_act around (instr.Add r) w h = refl
-straight_act around (instr.Compare r) w h = refl
-straight_act around (instr.StackAddress d i) w h = refl
-straight_act around (instr.StackMove s i) w h = refl
-straight_act around (instr.Extend e d m) w h = refl
-straight_act around (instr.Reverse r d m) w h = refl
-straight_act around i w h = absurd (cc)
+straight_act around i w h = cc
 
 append_nothing : {A : Type 0} (xs : List A) → xs ++ [] ≡ xs
 append_nothing [] = refl
@@ -109,11 +96,7 @@ led code lands point p q (To r) (ToPlace s) ks ws m g = inl (m.1, g ∙ m.0)
 led code lands point p q (To r) AnyPoint ks ws m g = inl (m.2, subst (IsPoint code) (sym g) (point m.0 r m.1))
 led code lands point p q Stay l ks ws m g = inr (m, g)
 led code lands point p q Over l ks ws m g = absurd g
-led code lands point p q On (ToPlace r) ks ws m g = absurd m
-led code lands point p q On AnyPoint ks ws m g = absurd m
-led code lands point p q On Out ks ws m g = absurd m
-led code lands point p q (To r) Onward ks ws m g = absurd m
-led code lands point p q (To r) Out ks ws m g = absurd m
+led code lands point p q n l ks ws m g = absurd m
 
 -- the place that is aimed at, as the target says it
 aim_is : (names : Naming) (mention : Option Mention) (o : Option ℕ) → inside_of (target_at names mention o) ≡ o
@@ -287,40 +270,12 @@ module _ (registers : List Low) (few : length registers ≤ 4) (one : IsOneToOne
   -- a row: what a renamed operation puts where
   two_renamed : (o : Operation) (d x y c : ℕ) → two_outputs o (under d) x y c ≡ renamed_outputs (two_outputs o d x y c)
   two_renamed operation.And d x y c = result_under d (bit_and x y)
-  two_renamed operation.Eor d x y c = result_under d (bit_xor x y)
-  two_renamed operation.Lsl d x y c = shift_under d (shift_of shift.Lsl x (y % 256) (c == 1))
-  two_renamed operation.Lsr d x y c = shift_under d (shift_of shift.Lsr x (y % 256) (c == 1))
-  two_renamed operation.Asr d x y c = shift_under d (shift_of shift.Asr x (y % 256) (c == 1))
-  two_renamed operation.Adc d x y c = sum_under d (sum_of x y (c == 1))
-  two_renamed operation.Sbc d x y c = sum_under d (sum_of x (complement y) (c == 1))
-  two_renamed operation.Ror d x y c = shift_under d (shift_of shift.Ror x (y % 256) (c == 1))
-  two_renamed operation.Tst d x y c = result_flags_renamed (bit_and x y)
-  two_renamed operation.Rsb d x y c = sum_under d (sum_of (complement y) 0 true)
-  two_renamed operation.Cmp d x y c = sum_flags_renamed (three_sum sum.Sub x y)
-  two_renamed operation.Cmn d x y c = sum_flags_renamed (three_sum sum.Add x y)
-  two_renamed operation.Orr d x y c = result_under d (bit_or x y)
-  two_renamed operation.Mul d x y c = result_under d (product y x)
-  two_renamed operation.Bic d x y c = result_under d (bit_and x (complement y))
-  two_renamed operation.Mvn d x y c = result_under d (complement y)
+  two_renamed o d x y c = search (result_under, shift_under, sum_under, result_flags_renamed, sum_flags_renamed)
 
   -- a row: an operation writes canonical items alone
   two_canonical : (o : Operation) (d x y c : ℕ) → d < length registers → AreCanonical (keys (two_outputs o d x y c))
   two_canonical operation.And d x y c h = result_canonical d (bit_and x y) h
-  two_canonical operation.Eor d x y c h = result_canonical d (bit_xor x y) h
-  two_canonical operation.Lsl d x y c h = shift_canonical d (shift_of shift.Lsl x (y % 256) (c == 1)) h
-  two_canonical operation.Lsr d x y c h = shift_canonical d (shift_of shift.Lsr x (y % 256) (c == 1)) h
-  two_canonical operation.Asr d x y c h = shift_canonical d (shift_of shift.Asr x (y % 256) (c == 1)) h
-  two_canonical operation.Adc d x y c h = sum_canonical d (sum_of x y (c == 1)) h
-  two_canonical operation.Sbc d x y c h = sum_canonical d (sum_of x (complement y) (c == 1)) h
-  two_canonical operation.Ror d x y c h = shift_canonical d (shift_of shift.Ror x (y % 256) (c == 1)) h
-  two_canonical operation.Tst d x y c h = result_flags_canonical (bit_and x y)
-  two_canonical operation.Rsb d x y c h = sum_canonical d (sum_of (complement y) 0 true) h
-  two_canonical operation.Cmp d x y c h = sum_flags_canonical (three_sum sum.Sub x y)
-  two_canonical operation.Cmn d x y c h = sum_flags_canonical (three_sum sum.Add x y)
-  two_canonical operation.Orr d x y c h = result_canonical d (bit_or x y) h
-  two_canonical operation.Mul d x y c h = result_canonical d (product y x) h
-  two_canonical operation.Bic d x y c h = result_canonical d (bit_and x (complement y)) h
-  two_canonical operation.Mvn d x y c h = result_canonical d (complement y) h
+  two_canonical o d x y c h = search (result_canonical, shift_canonical, sum_canonical, result_flags_canonical, sum_flags_canonical)
 
   byte_renamed : (o : ByteOperation) (d x n : ℕ) → byte_outputs o (under d) x n ≡ renamed_outputs (byte_outputs o d x n)
   byte_renamed byte.Mov d x n = result_under d n
@@ -369,20 +324,13 @@ module _ (registers : List Low) (few : length registers ≤ 4) (one : IsOneToOne
   outputs_renamed (instr.Reverse r d m) s w t b c = one_renamed d _ (reversal_of r (w m.number)) (ap (reversal_of r) (read_as m s w b.1.0 c))
   outputs_renamed i s w t b c = absurd (cc)
 
+  one_canonical : (d x : ℕ) → d < length registers → AreCanonical (keys ((d, x) ∷ []))
+  one_canonical d x h = (inl h, tt)
+
   -- a row: an instruction writes canonical items alone
   outputs_canonical : (i : Instr) (w : Values) → is_in_window i ≡ true → AreBelow (length registers) (named i) → AreCanonical (keys (outputs i w))
   outputs_canonical (instr.Mov d m) w t b = (inl b.0, tt)
-  outputs_canonical (instr.Three k d n m) w t b = sum_canonical d.number (three_sum k (w n.number) (w m.number)) b.0
-  outputs_canonical (instr.Two o d m) w t b = two_canonical o d.number _ _ _ b.0
-  outputs_canonical (instr.Movs d m) w t b = result_canonical d.number (w m.number) b.0
-  outputs_canonical (instr.ShiftLeft d m i) w t b = shift_canonical d.number (shift_of shift.Lsl (w m.number) i.number false) b.0
-  outputs_canonical (instr.ShiftRight k d m i) w t b = shift_canonical d.number (shift_of (right_shift k) (w m.number) i.number false) b.0
-  outputs_canonical (instr.ThreeNumber k d n i) w t b = sum_canonical d.number (three_sum k (w n.number) i.number) b.0
-  outputs_canonical (instr.TwoNumber o d i) w t b = byte_canonical o d.number (w d.number) i.number b.0
-  outputs_canonical (instr.Add r) w t b = (inl b.0, tt)
-  outputs_canonical (instr.Extend e d m) w t b = (inl b.0, tt)
-  outputs_canonical (instr.Reverse r d m) w t b = (inl b.0, tt)
-  outputs_canonical i w t b = absurd (cc)
+  outputs_canonical i w t b = first_of (search (result_canonical, shift_canonical, sum_canonical, two_canonical, byte_canonical, one_canonical), grind arith)
 
   under_one : (x y : ℕ) → IsCanonical (length registers) x → IsCanonical (length registers) y → under x ≡ under y → x ≡ y
   under_one x y (inl h) (inl k) e =
