@@ -15,3 +15,4 @@ pub mod LinesReplaced
 pub mod LinesKept
 pub mod Unique
 pub mod Examples
+pub mod Cuts

@@ -7,5 +7,6 @@ pub mod Flow
 pub mod Same
 pub mod Rewrite
 pub mod Rewritten
+pub mod Cuts
 pub mod Laid
 pub mod Laws

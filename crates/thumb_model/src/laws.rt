@@ -1,5 +1,6 @@
 //! The laws of runs and of rewriting. Each is the contract of a function that does nothing.
 
+ghost use Rattle.thumb_model.specs.Cuts.{ReplacedLinesAreACut};
 ghost use Rattle.thumb_model.specs.Laws.{StepsKeepWorlds, OnlyItemsAreLive, ReplacingKeepsRuns, RewritingKeepsRuns, RewritingIsComplete, RewritingStaysLayable, RewritingShortens, PointsArePlaces, LinesAreReplacedAsPlaces};
 ghost use Rattle.thumb_model.specs.Rewritten.{IsDetermined};
 
@@ -51,4 +52,9 @@ pub fn points_are_places()
 /// A replacement is the same of lines and of their places and labels.
 pub fn lines_are_replaced_as_places()
     ensures { LinesAreReplacedAsPlaces }
+{}
+
+/// What stands before and behind a window stays as it is, and so do its labels and the lines between its instructions.
+pub fn replaced_lines_are_a_cut()
+    ensures { ReplacedLinesAreACut }
 {}

@@ -1,0 +1,19 @@
+-- What a replacement makes of lines that are cut at its window.
+use Rattle.std.specs.Prelude.{◌≡◌, ℕ, ◌+◌, List, [], ◌∷◌, ◌++◌, length, map, true, if◌then◌else◌}
+use Rattle.thumb_instr.specs.declared.instr.Instr.{Instr}
+use Rattle.thumb_model.specs.Listing.{Line, places_of}
+use Rattle.thumb_model.specs.Rewritten.{is_op, labels_kept, new_line, replaced_lines}
+
+-- how many of the lines are instructions, and the others
+abbrev pub op_count : List Line → ℕ
+op_count [] = 0
+op_count (l ∷ ls) = if is_op l.statement then op_count ls + 1 else op_count ls
+
+abbrev pub others : List Line → List Line
+others [] = []
+others (l ∷ ls) = if is_op l.statement then others ls else l ∷ others ls
+
+-- what stands before and behind the window stays, and so do the window's labels and the lines between its instructions, behind the new ones
+abbrev pub ReplacedLinesAreACut : Type 0
+ReplacedLinesAreACut = (write : Instr → List ℕ) (before between after : List Line) (first : Line) (new : List Instr) → is_op first.statement ≡ true
+    → replaced_lines write (length (places_of before)) (op_count between + 1) new (before ++ first ∷ (between ++ after)) ≡ before ++ (labels_kept first first.names ++ (map (new_line write) new ++ (others between ++ after)))
