@@ -16,3 +16,4 @@ pub mod LinesKept
 pub mod Unique
 pub mod Examples
 pub mod Cuts
+pub mod Reaches

@@ -1,7 +1,7 @@
 -- Replacing lines replaces places and labels.
 use Rattle.std.proofs.Common.{◌≡◌, ℕ, zero, suc, ◌+◌, ◌-◌, ◌<◌, ◌≤◌, ◌==◌, ◌&&◌, List, [], ◌∷◌, ◌++◌, length, length-append, take, drop, map, refl, sym, ap, ◌∙◌, subst, ◌⊎◌, inl, inr, arith, append_assoc, ne_eqb, if◌then◌else◌}
 use Rattle.thumb_instr.specs.declared.instr.Instr.{Instr}
-use Rattle.thumb_model.specs.Listing.{Name, Value, Statement, Nothing, Runs, Words, Aligns, Sets, Line, Place, Op, Word, plain, Label, Code, places_in, places_of, labels_at, labels_from, code_of}
+use Rattle.thumb_model.specs.Listing.{Name, Value, Statement, Runs, Words, Line, Place, Op, Word, plain, Label, Code, places_in, places_of, labels_at, labels_from, code_of}
 use Rattle.thumb_model.proofs.Lists.{length_map}
 use Rattle.thumb_model.specs.Rewrite.{moved, move_label, replaced}
 use Rattle.thumb_model.specs.Rewritten.{is_op, without, labels_kept, new_line, replaced_lines}

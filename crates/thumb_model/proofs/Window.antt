@@ -1,10 +1,10 @@
 -- Straight code: what a window does, in a run and under a renaming.
-use Rattle.std.proofs.Common.{◌≡◌, ◌≢◌, ℕ, zero, suc, ◌+◌, ◌*◌, ◌/◌, ◌<◌, ◌≤◌, ◌==◌, ◌||◌, true, false, List, [], ◌∷◌, ◌++◌, length, map, Option, Some, None, refl, sym, ap, ◌∙◌, subst, ◌⊎◌, inl, inr, arith, if◌then◌else◌, eq-eqb, eqb-true, ne_eqb, ◌^◌, ◌%◌, Bool}
-use Rattle.std.specs.Prelude.{slice_get, bit_and, bit_or, bit_xor}
+use Rattle.std.proofs.Common.{◌≡◌, ◌≢◌, ℕ, zero, suc, ◌+◌, ◌*◌, ◌/◌, ◌<◌, ◌≤◌, ◌==◌, ◌||◌, true, false, List, [], ◌∷◌, ◌++◌, length, map, Option, Some, None, refl, sym, ap, ◌∙◌, subst, ◌⊎◌, inl, inr, arith, if◌then◌else◌, eq-eqb, eqb-true, ne_eqb, ◌^◌, Bool}
+use Rattle.std.specs.Prelude.{slice_get, bit_and}
 use Rattle.std.proofs.lemmas.Option.{slice_get_past}
 use Rattle.word_bits.specs.declared.Sum.{Sum as WordSum}
 use Rattle.word_bits.specs.declared.Shift.TheVariants as shift
-use Rattle.word_bits.specs.Word.{sum_of, shift_of}
+use Rattle.word_bits.specs.Word.{shift_of}
 use Rattle.thumb_instr.specs.declared.instr.Instr.{Instr}
 use Rattle.thumb_instr.specs.declared.instr.Instr.TheVariants as instr
 use Rattle.thumb_instr.specs.declared.operation.Sum.{Sum}
@@ -18,10 +18,10 @@ use Rattle.thumb_instr.specs.Window.{is_in_window, byte_sum, byte_of}
 use Rattle.thumb_instr.proofs.RenamingLemmas.{low_number, reg_number}
 use Rattle.thumb_instr.specs.Renaming.{Low, Reg, named, renamed, low_under, reg_under, both_under, number_or, item_under, AreBelow}
 use Rattle.thumb_model.specs.Items.{Values, AreWords, assigned, one_of, sp, written_to, n_flag, z_flag, c_flag, v_flag}
-use Rattle.thumb_model.specs.Effect.{outputs, complement, result_flags, sum_flags, result_outputs, shift_outputs, sum_outputs, three_sum, right_shift, product, extension_of, reversal_of, two_outputs, byte_outputs, after, after_all}
+use Rattle.thumb_model.specs.Effect.{outputs, result_flags, sum_flags, result_outputs, shift_outputs, sum_outputs, three_sum, right_shift, extension_of, reversal_of, two_outputs, byte_outputs, after, after_all}
 use Rattle.thumb_model.specs.Listing.{Mention, Place, Op, plain, Code, IsPoint}
 use Rattle.thumb_model.specs.Machine.{Naming, World, Landing, Goes, Around, Act, Here, State, Next, On, Stay, To, Over, act, puts, around_of, aim_of, target_at, step, times}
-use Rattle.thumb_model.specs.Flow.{ways_on, ways_of, ways, Leads, Onward, ToPlace, AnyPoint, Out, Follows, Reads, now, later}
+use Rattle.thumb_model.specs.Flow.{ways_on, ways_of, ways, Leads, Onward, ToPlace, AnyPoint, Follows, Reads, now, later}
 use Rattle.thumb_model.specs.Rewrite.{IsOneToOne, AreOver, Equal, normalised}
 use Rattle.thumb_model.proofs.Law.{keys, AgreeOn, assigned_agree, assigned_other, inside_of, Matches, Taken, AlikeBut, law, ap_two}
 use Rattle.thumb_model.proofs.Held.{values_of, are_held, AreHeld}

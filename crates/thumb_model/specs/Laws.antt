@@ -1,7 +1,7 @@
 -- What holds of runs, of live items and of rewriting.
-use Rattle.std.specs.Prelude.{◌≡◌, ℕ, ◌+◌, ◌<◌, ◌≤◌, List, ◌++◌, length, map}
+use Rattle.std.specs.Prelude.{◌≡◌, ℕ, ◌+◌, ◌<◌, ◌≤◌, List, ◌++◌, length, map, IsSome}
 use Rattle.thumb_instr.specs.Renaming.{renamed}
-use Rattle.thumb_model.specs.Listing.{Line, Code, places_of, code_of, label_places, return_places}
+use Rattle.thumb_model.specs.Listing.{Name, Line, Code, places_of, code_of, place_of, label_places, return_places}
 use Rattle.thumb_model.specs.Layout.{Layable}
 use Rattle.thumb_model.specs.Machine.{Naming, Fits, HasLiterals, points, State, IsWorld, step}
 use Rattle.thumb_model.specs.Flow.{LiveAfter}
@@ -44,3 +44,7 @@ PointsArePlaces = (names : Naming) (code : Code) → map (λ a. a.1) (points nam
 -- replacing lines replaces their places and labels
 abbrev pub LinesAreReplacedAsPlaces : Type 0
 LinesAreReplacedAsPlaces = (s : Setting) (r : Replacement) (ls : List Line) (a : AppliesIn s r ls) → code_of (lines_after s r ls) ≡ replaced (code_of ls) r.place (length a.rule.left) (map (renamed r.registers) a.rule.right)
+
+-- each code label stays one
+abbrev pub LabelsStayCode : Type 0
+LabelsStayCode = (s : Setting) (r : Replacement) (ls : List Line) → AreSound s.table → AppliesIn s r ls → (label : Name) → IsSome (place_of (code_of ls) label) → IsSome (place_of (code_of (lines_after s r ls)) label)

@@ -2,6 +2,7 @@ pub mod Items
 pub mod Effect
 pub mod Listing
 pub mod Layout
+pub mod Reaches
 pub mod Machine
 pub mod Flow
 pub mod Same

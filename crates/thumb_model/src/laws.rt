@@ -1,7 +1,8 @@
 //! The laws of runs and of rewriting. Each is the contract of a function that does nothing.
 
 ghost use Rattle.thumb_model.specs.Cuts.{ReplacedLinesAreACut};
-ghost use Rattle.thumb_model.specs.Laws.{StepsKeepWorlds, OnlyItemsAreLive, ReplacingKeepsRuns, RewritingKeepsRuns, RewritingIsComplete, RewritingStaysLayable, RewritingShortens, PointsArePlaces, LinesAreReplacedAsPlaces};
+ghost use Rattle.thumb_model.specs.Laws.{StepsKeepWorlds, OnlyItemsAreLive, ReplacingKeepsRuns, RewritingKeepsRuns, RewritingIsComplete, RewritingStaysLayable, RewritingShortens, PointsArePlaces, LabelsStayCode, LinesAreReplacedAsPlaces};
+ghost use Rattle.thumb_model.specs.Reaches.{ReachesAreFields};
 ghost use Rattle.thumb_model.specs.Rewritten.{IsDetermined};
 
 /// A step leaves each number in its range, under a naming that fits.
@@ -57,4 +58,14 @@ pub fn lines_are_replaced_as_places()
 /// What stands before and behind a window stays as it is, and so do its labels and the lines between its instructions.
 pub fn replaced_lines_are_a_cut()
     ensures { ReplacedLinesAreACut }
+{}
+
+/// Each code label stays one where an entry is used.
+pub fn labels_stay_code()
+    ensures { LabelsStayCode }
+{}
+
+/// What the layout lets through is what an encoding's field holds: an even distance of a branch, and words past a literal's rounded address.
+pub fn reaches_are_fields()
+    ensures { ReachesAreFields }
 {}
