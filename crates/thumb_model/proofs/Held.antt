@@ -4,7 +4,6 @@ use Rattle.std.specs.Int.{from_bool}
 use Rattle.std.proofs.lemmas.Nat.Bits.{bit_at-lt}
 use Rattle.std.proofs.Math.Nat.{mod-lt}
 use Rattle.word_bits.specs.declared.Sum.{Sum as WordSum}
-use Rattle.word_bits.specs.declared.Shift.TheVariants as shift
 use Rattle.thumb_instr.specs.declared.instr.Instr.{Instr}
 use Rattle.thumb_instr.specs.declared.instr.Instr.TheVariants as instr
 use Rattle.thumb_instr.specs.declared.operation.Sum.TheVariants as sum
@@ -18,10 +17,10 @@ use Rattle.thumb_instr.specs.declared.operation.Hint.{Hint}
 use Rattle.thumb_instr.specs.declared.operation.Hint.TheVariants as hint
 use Rattle.thumb_instr.specs.declared.within.Within.{Within}
 use Rattle.thumb_instr.specs.Items.{has}
-use Rattle.thumb_instr.specs.Shape.{registers_in, pushed, offset_access, word_access}
+use Rattle.thumb_instr.specs.Shape.{registers_in, pushed}
 use Rattle.thumb_model.specs.Items.{Values, AreWords, assigned, one_of, sp, lr, written_to, n_flag, z_flag, c_flag, v_flag}
-use Rattle.thumb_model.specs.Effect.{outputs, complement, result_flags, sum_flags, result_outputs, shift_outputs, sum_outputs, right_shift, product, two_outputs, byte_outputs}
-use Rattle.thumb_model.specs.Machine.{with_bytes, World, IsWorld, Answer, AreAnswers, AreBytes, Target, Inside, External, Landing, Goes, Leaves, Strays, Around, Act, Event, Fault, Next, On, Stay, To, Over, act, puts, ends, branches, tells, takes, aligned, answered, served, all_at, answers_with, is_device, access_size, value_at, with_value, stored, loaded, gets, loads, stores, accesses, next_word, behind, stored_words, stores_many, word_at, left_at, words_from, left_from, device_words, enough, many_outputs, loads_many, jumps, calls_out, calls, calls_by, with_pc, popping, pops_to, pops, holds, hints}
+use Rattle.thumb_model.specs.Effect.{outputs, complement, result_flags, sum_flags, result_outputs, shift_outputs, sum_outputs, product, two_outputs, byte_outputs}
+use Rattle.thumb_model.specs.Machine.{with_bytes, World, IsWorld, Answer, AreAnswers, AreBytes, Target, Inside, External, Landing, Goes, Leaves, Strays, Around, Act, Event, Fault, Next, On, Stay, To, Over, act, puts, ends, branches, tells, takes, aligned, answered, served, all_at, answers_with, is_device, access_size, value_at, with_value, stored, loaded, gets, loads, stores, accesses, next_word, behind, stored_words, stores_many, word_at, left_at, words_from, left_from, device_words, enough, many_outputs, loads_many, jumps, calls_out, calls, calls_by, with_pc, popping, pops_to, pops, hints}
 use Rattle.thumb_instr.specs.Renaming.{AreBelow}
 use Rattle.thumb_model.proofs.Small.{registers_low}
 use Rattle.thumb_model.proofs.Bounds.{sum_small, shift_small, sign_small_8, sign_small_16, extension_small, reversal_small, and_small, or_small, xor_small}
@@ -79,7 +78,7 @@ low_value d x h = (λ l. h, λ l. absurd (omega arith), λ e. absurd (omega arit
 pub written_value : (d : Within 0 15) (x : ℕ) → x < 2 ^ 32 → IsValueOf (d.number, written_to d.number x)
 written_value d x h = written_at d.number x (omega arith) h
 
-bool_small : (b : Bool) → from_bool b < 2
+pub bool_small : (b : Bool) → from_bool b < 2
 bool_small true = omega arith
 bool_small false = omega arith
 

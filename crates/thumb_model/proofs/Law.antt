@@ -1,11 +1,8 @@
 -- What a step depends on, row by row.
-use Rattle.std.proofs.Common.{arith, ◌≡◌, ℕ, ◌+◌, ◌*◌, ◌%◌, ◌==◌, ◌&&◌, ◌||◌, not, nat_le, Bool, true, false, List, [], ◌∷◌, ◌++◌, length, Option, Some, None, refl, sym, ap, ◌∙◌, subst, map, if◌then◌else◌}
+use Rattle.std.proofs.Common.{arith, ◌≡◌, ℕ, ◌+◌, ◌*◌, ◌%◌, ◌==◌, ◌||◌, not, nat_le, Bool, true, false, List, [], ◌∷◌, ◌++◌, length, Option, Some, None, refl, sym, ap, ◌∙◌, subst, map, if◌then◌else◌}
 use Rattle.std.specs.Prelude.{slice_get, filter}
-use Rattle.word_bits.specs.declared.Shift.TheVariants as shift
-use Rattle.word_bits.specs.Word.{shift_of}
 use Rattle.thumb_instr.specs.declared.instr.Instr.{Instr}
 use Rattle.thumb_instr.specs.declared.instr.Instr.TheVariants as instr
-use Rattle.thumb_instr.specs.declared.operation.Sum.TheVariants as sum
 use Rattle.thumb_instr.specs.declared.operation.Operation.{Operation}
 use Rattle.thumb_instr.specs.declared.operation.Operation.TheVariants as operation
 use Rattle.thumb_instr.specs.declared.operation.ByteOperation.{ByteOperation}
@@ -19,8 +16,8 @@ use Rattle.thumb_instr.specs.declared.operation.Hint.TheVariants as hint
 use Rattle.thumb_instr.specs.declared.within.Within.{Within}
 use Rattle.thumb_instr.specs.Items.{has}
 use Rattle.thumb_instr.specs.Shape.{registers_in, pushed, two_uses, two_writes, byte_uses, byte_writes, access_uses, access_writes, offset_access, word_access, condition_uses, uses_of, writes_of}
-use Rattle.thumb_model.specs.Items.{Values, assigned, one_of, sp, lr, written_to, n_flag, z_flag, c_flag, v_flag}
-use Rattle.thumb_model.specs.Effect.{outputs, result_outputs, shift_outputs, sum_outputs, sum_flags, three_sum, right_shift, extension_of, reversal_of, two_outputs, byte_outputs}
+use Rattle.thumb_model.specs.Items.{Values, assigned, one_of, sp, lr, c_flag}
+use Rattle.thumb_model.specs.Effect.{outputs, two_outputs, byte_outputs}
 use Rattle.thumb_model.specs.Machine.{World, Answer, Target, Inside, External, Landing, Goes, Leaves, Strays, Around, Act, Event, Call, Sys, Left, Fault, Astray, Next, On, Stay, To, Over, act, puts, ends, branches, registers_left, tells, takes, aligned, handed, answered, served, answers_with, is_device, access_size, value_at, gets, loads, stores, accesses, behind, below, stores_many, words_from, left_at, next_word, device_words, enough, many_outputs, loads_many, jumps, calls_out, calls, calls_by, with_pc, popped_word, popping, pops_to, pops, holds, hints, interrupts_code, barrier_code, special_code, reads_special, offset}
 use Rattle.thumb_model.specs.Flow.{Way, way, ways_of, jump_way, call_way, left_but, Leads, Onward, ToPlace, AnyPoint, Out}
 
@@ -233,7 +230,7 @@ access_same k t x y u w a e h = ap (λ p. loads k t p u) e ∙ same_world (λ v.
 
 -- ---- lists ----
 
-keys_words : (memory : ℕ → ℕ) (answers : List Answer) (address : ℕ) (xs : List ℕ) → keys (words_from memory answers address xs) ≡ xs
+pub keys_words : (memory : ℕ → ℕ) (answers : List Answer) (address : ℕ) (xs : List ℕ) → keys (words_from memory answers address xs) ≡ xs
 keys_words memory answers address [] = refl
 keys_words memory answers address (x ∷ xs) = ap (λ l. x ∷ l) (keys_words memory (left_at answers address) (next_word address) xs)
 

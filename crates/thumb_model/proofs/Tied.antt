@@ -1,5 +1,5 @@
 -- One instruction in two surroundings that are tied place by place: it does the same, and goes on to places that are tied.
-use Rattle.std.proofs.Common.{◌≡◌, ℕ, ◌%◌, ◌==◌, nat_le, Bool, true, false, List, [], ◌∷◌, length, map, if◌then◌else◌, refl, ap, subst}
+use Rattle.std.proofs.Common.{◌≡◌, ℕ, ◌%◌, ◌==◌, nat_le, Bool, true, false, List, [], ◌∷◌, length, if◌then◌else◌, refl, ap, subst}
 use Rattle.thumb_instr.specs.declared.instr.Instr.{Instr}
 use Rattle.thumb_instr.specs.declared.instr.Instr.TheVariants as instr
 use Rattle.thumb_instr.specs.declared.operation.Access.{Access}
@@ -7,7 +7,7 @@ use Rattle.thumb_instr.specs.declared.operation.Access.TheVariants as access
 use Rattle.thumb_instr.specs.declared.operation.Hint.{Hint}
 use Rattle.thumb_instr.specs.declared.operation.Hint.TheVariants as hint
 use Rattle.thumb_instr.specs.Items.{has}
-use Rattle.thumb_instr.specs.Shape.{registers_in, pushed, offset_access, word_access}
+use Rattle.thumb_instr.specs.Shape.{registers_in}
 use Rattle.thumb_model.specs.Items.{sp}
 use Rattle.thumb_model.specs.Machine.{World, Answer, Fault, Around, Act, Target, Inside, External, Landing, Goes, Leaves, Strays, Next, On, Stay, To, Over, puts, ends, branches, takes, aligned, is_device, access_size, value_at, gets, loads, stores, accesses, stores_many, device_words, enough, loads_many, jumps, calls_out, calls, calls_by, popped_word, pops_to, pops, holds, hints, act}
 
