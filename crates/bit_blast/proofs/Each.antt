@@ -68,8 +68,7 @@ of_places gate x y a b =
 
 of_nothing : (gate : Connective) → let z : ℕ = 0 in z ≡ of_numbers gate 0 0
 of_nothing And = refl
-of_nothing Or = refl
-of_nothing Xor = refl
+of_nothing gate = refl
 
 pub each_gives : (low : ℕ) (b : Built) (gate : Connective) (xs ys : List Bit) → length xs ≡ length ys → Ready low b → AllBelow b.variables xs → AllBelow b.variables ys
     → WordGives (length xs) b (λ c. each_of gate c xs ys) (length xs) (λ m. of_numbers gate (number_of m xs) (number_of m ys))

@@ -18,6 +18,7 @@ use Rattle.thumb_instr.specs.declared.operation.Operation.{Operation}
 use Rattle.thumb_instr.specs.declared.operation.Operation.TheVariants as operation
 use Rattle.thumb_instr.specs.declared.operation.ByteOperation.{ByteOperation}
 use Rattle.thumb_instr.specs.declared.operation.ByteOperation.TheVariants as byte
+use Rattle.thumb_instr.proofs.RenamingLemmas.{named_low}
 use Rattle.thumb_instr.specs.Window.{is_in_window}
 use Rattle.thumb_model.specs.Items.{Values, assigned, n_flag, z_flag, c_flag, v_flag}
 use Rattle.thumb_model.specs.Effect.{complement, three_sum, product, right_shift, extension_of, reversal_of, after, after_all}
@@ -447,34 +448,13 @@ module _ (low : ℕ) (b : Built) (s : Bits) (k : Ready low b) (are : AreOf b.var
       (λ m. turned_is m r (word s.r t.number) wt ∙ ap (reversal_of r) (register_value m s t.number (omega arith))))
   outcome_gives i w h = absurd cc
 
--- the target is a low register, of those that there are
-target_low : (i : Instr) → is_in_window i ≡ true → target_of i < 8
-target_low (instr.Mov d t) w = ltb-true d.number 8 (and_parts (ltb d.number 8) (ltb t.number 8) w).0
-target_low (instr.Three o d n t) w = d.below
-target_low (instr.Two o d t) w = d.below
-target_low (instr.Movs d t) w = d.below
-target_low (instr.ShiftLeft d t i) w = d.below
-target_low (instr.ShiftRight o d t i) w = d.below
-target_low (instr.ThreeNumber o d n i) w = d.below
-target_low (instr.TwoNumber o d i) w = d.below
-target_low (instr.Add r) w = ltb-true r.target.number 8 (and_parts (ltb r.target.number 8) (ltb r.source.number 8) w).0
-target_low (instr.Extend e d t) w = d.below
-target_low (instr.Reverse r d t) w = d.below
-target_low i w = absurd cc
-
+-- the target is one of the registers that there are, and a low one
 target_there : (i : Instr) (k : ℕ) → is_in_window i ≡ true → AreBelow k (named i) → target_of i < k
 target_there (instr.Mov d t) k w h = h.0
-target_there (instr.Three o d n t) k w h = h.0
-target_there (instr.Two o d t) k w h = h.0
-target_there (instr.Movs d t) k w h = h.0
-target_there (instr.ShiftLeft d t i) k w h = h.0
-target_there (instr.ShiftRight o d t i) k w h = h.0
-target_there (instr.ThreeNumber o d n i) k w h = h.0
-target_there (instr.TwoNumber o d i) k w h = h.0
-target_there (instr.Add r) k w h = h.0
-target_there (instr.Extend e d t) k w h = h.0
-target_there (instr.Reverse r d t) k w h = h.0
-target_there i k w h = absurd cc
+target_there i k w h = grind arith
+
+target_low : (i : Instr) → is_in_window i ≡ true → target_of i < 8
+target_low i w = target_there i 8 w (named_low i w)
 
 -- ---- what is written
 

@@ -52,10 +52,8 @@ AllBelow-constant v x = AllBelow-number_bits v 32 x
 
 -- a shift that drops bits
 abbrev pub IsStraight : Shift → Type 0
-IsStraight Lsl = Unit {0}
-IsStraight Lsr = Unit {0}
-IsStraight Asr = Unit {0}
 IsStraight Ror = ⊥
+IsStraight k = Unit {0}
 
 pub length-moved : (kind : Shift) (n : ℕ) (xs : List Bit) → n ≤ 32 → length xs ≡ 32 → length (moved kind n xs) ≡ 32
 length-moved Lsl n xs h wide = omega (arith, length-append (copies n (Constant false)) (take (32 - n) xs), length-copies n (Constant false), length-take (32 - n) xs)
@@ -71,15 +69,11 @@ AllBelow-moved v Ror n xs h = AllBelow-append v (drop n xs) (take n xs) (AllBelo
 
 pub below-moved_out : (v : ℕ) (kind : Shift) (n : ℕ) (xs : List Bit) → AllBelow v xs → BitBelow v (moved_out kind n xs)
 below-moved_out v Lsl n xs h = bit_below v xs (32 - n) h
-below-moved_out v Lsr n xs h = bit_below v xs (n - 1) h
-below-moved_out v Asr n xs h = bit_below v xs (n - 1) h
-below-moved_out v Ror n xs h = bit_below v xs (n - 1) h
+below-moved_out v kind n xs h = bit_below v xs (n - 1) h
 
 pub below-fill : (v : ℕ) (kind : Shift) (xs : List Bit) → AllBelow v xs → BitBelow v (fill kind xs)
-below-fill v Lsl xs h = tt
-below-fill v Lsr xs h = tt
 below-fill v Asr xs h = bit_below v xs 31 h
-below-fill v Ror xs h = tt
+below-fill v kind xs h = tt
 
 moved-lsl : (m : ℕ → Bool) (xs : List Bit) (n : ℕ) → n ≤ 32 → number_of m (moved Lsl n xs) ≡ shifted Lsl (number_of m xs) n
 moved-lsl m xs n h =

@@ -142,10 +142,8 @@ AllBelow-copies v zero x h = tt
 AllBelow-copies v (suc n) x h = (h, AllBelow-copies v n x h)
 
 pub AllBelow-take : (v n : ℕ) (xs : List Bit) → AllBelow v xs → AllBelow v (take n xs)
-AllBelow-take v zero [] h = tt
-AllBelow-take v zero (x ∷ xs) h = tt
-AllBelow-take v (suc n) [] h = tt
 AllBelow-take v (suc n) (x ∷ xs) h = (h.0, AllBelow-take v n xs h.1)
+AllBelow-take v n xs h = tt
 
 pub AllBelow-drop : (v n : ℕ) (xs : List Bit) → AllBelow v xs → AllBelow v (drop n xs)
 AllBelow-drop v zero [] h = tt

@@ -1,5 +1,5 @@
 -- What an instruction's outputs leave, as a target's value and the four flags.
-use Rattle.std.proofs.Common.{◌≡◌, ℕ, ◌*◌, ◌/◌, ◌%◌, ◌<◌, List, [], ◌∷◌, Bool, true, false, cond, eqb, refl, sym, ap, ◌∙◌, arith, ⊎_elim, bit_and, bit_or, bit_xor}
+use Rattle.std.proofs.Common.{◌≡◌, ℕ, ◌%◌, ◌<◌, List, [], ◌∷◌, Bool, true, false, cond, eqb, refl, sym, ap, ◌∙◌, arith, ⊎_elim, bit_and, bit_or, bit_xor}
 use Rattle.std.proofs.lemmas.Bool.{cond-true, cond-false, ne_eqb, eqb-true, cases_Bool}
 use Rattle.std.specs.Int.{from_bool, bit_at}
 use Rattle.word_bits.specs.declared.Sum.{Sum as WordSum}
@@ -13,7 +13,8 @@ use Rattle.thumb_instr.specs.declared.operation.Operation.TheVariants as operati
 use Rattle.thumb_instr.specs.declared.operation.ByteOperation.{ByteOperation}
 use Rattle.thumb_instr.specs.declared.operation.ByteOperation.TheVariants as byte
 use Rattle.thumb_instr.specs.Window.{is_in_window}
-use Rattle.thumb_model.specs.Items.{Values, assigned, written_to, sp, n_flag, z_flag, c_flag, v_flag}
+use Rattle.thumb_model.proofs.Window.{low_written}
+use Rattle.thumb_model.specs.Items.{Values, assigned, n_flag, z_flag, c_flag, v_flag}
 use Rattle.thumb_model.specs.Effect.{result_flags, sum_flags, result_outputs, shift_outputs, complement, three_sum, product, right_shift, extension_of, reversal_of, two_outputs, byte_outputs, outputs}
 use Rattle.bit_blast.specs.Forming.{target_of}
 
@@ -138,22 +139,10 @@ outputs_of_compare d s v x h = kept_target d (bit_at s.value 31) (from_bool (eqb
 -- ---- by operation, and by instruction
 
 two_is : (o : Operation) (d y : ℕ) (v : Values) (x : ℕ) → d < 15 → assigned (two_outputs o d (v d) y (v c_flag)) v x ≡ assigned (all_outputs d (two_left o (v d) y v)) v x
-two_is operation.And d y v x h = outputs_of_result d (bit_and (v d) y) v x
-two_is operation.Eor d y v x h = outputs_of_result d (bit_xor (v d) y) v x
-two_is operation.Lsl d y v x h = outputs_of_shift d (shift_of shift.Lsl (v d) (y % 256) (eqb (v c_flag) 1)) v x
-two_is operation.Lsr d y v x h = outputs_of_shift d (shift_of shift.Lsr (v d) (y % 256) (eqb (v c_flag) 1)) v x
-two_is operation.Asr d y v x h = outputs_of_shift d (shift_of shift.Asr (v d) (y % 256) (eqb (v c_flag) 1)) v x
-two_is operation.Adc d y v x h = refl
-two_is operation.Sbc d y v x h = refl
-two_is operation.Ror d y v x h = outputs_of_shift d (shift_of shift.Ror (v d) (y % 256) (eqb (v c_flag) 1)) v x
 two_is operation.Tst d y v x h = outputs_of_test d (bit_and (v d) y) v x h
-two_is operation.Rsb d y v x h = refl
 two_is operation.Cmp d y v x h = outputs_of_compare d (three_sum sum.Sub (v d) y) v x h
 two_is operation.Cmn d y v x h = outputs_of_compare d (three_sum sum.Add (v d) y) v x h
-two_is operation.Orr d y v x h = outputs_of_result d (bit_or (v d) y) v x
-two_is operation.Mul d y v x h = outputs_of_result d (product y (v d)) v x
-two_is operation.Bic d y v x h = outputs_of_result d (bit_and (v d) (complement y)) v x
-two_is operation.Mvn d y v x h = outputs_of_result d (complement y) v x
+two_is o d y v x h = search (outputs_of_result, outputs_of_shift)
 
 byte_is : (o : ByteOperation) (d n : ℕ) (v : Values) (x : ℕ) → d < 15 → assigned (byte_outputs o d (v d) n) v x ≡ assigned (all_outputs d (byte_left o (v d) n v)) v x
 byte_is byte.Mov d n v x h = outputs_of_result d n v x
@@ -161,22 +150,9 @@ byte_is byte.Cmp d n v x h = outputs_of_compare d (three_sum sum.Sub (v d) n) v 
 byte_is byte.Add d n v x h = refl
 byte_is byte.Sub d n v x h = refl
 
--- a low register isn't sp
-written_low : (d y : ℕ) → d < 8 → written_to d y ≡ y
-written_low d y h = cond-false (eqb d sp) (y / 4 * 4) y (ne_eqb d 13 (λ e. omega arith))
-
 pub outputs_are : (i : Instr) (v : Values) (x : ℕ) → is_in_window i ≡ true → target_of i < 8 → assigned (outputs i v) v x ≡ assigned (all_outputs (target_of i) (left_by i v)) v x
-outputs_are (instr.Mov d m) v x w h = ap (λ y. assigned ((d.number, y) ∷ []) v x) (written_low d.number (v m.number) h) ∙ plain_outputs d.number (v m.number) v x
-outputs_are (instr.Three s d n m) v x w h = refl
-outputs_are (instr.Two o d m) v x w h = two_is o d.number (v m.number) v x (omega arith)
-outputs_are (instr.Movs d m) v x w h = outputs_of_result d.number (v m.number) v x
-outputs_are (instr.ShiftLeft d m i) v x w h = outputs_of_shift d.number (shift_of shift.Lsl (v m.number) i.number false) v x
-outputs_are (instr.ShiftRight s d m i) v x w h = outputs_of_shift d.number (shift_of (right_shift s) (v m.number) i.number false) v x
-outputs_are (instr.ThreeNumber s d n i) v x w h = refl
-outputs_are (instr.TwoNumber o d i) v x w h = byte_is o d.number i.number v x (omega arith)
+outputs_are (instr.Mov d m) v x w h = ap (λ y. assigned ((d.number, y) ∷ []) v x) (low_written d.number (v m.number) h) ∙ plain_outputs d.number (v m.number) v x
 outputs_are (instr.Add r) v x w h =
-    ap (λ y. assigned ((r.target.number, y) ∷ []) v x) (written_low r.target.number (three_sum sum.Add (v r.target.number) (v r.source.number)).value h)
+    ap (λ y. assigned ((r.target.number, y) ∷ []) v x) (low_written r.target.number (three_sum sum.Add (v r.target.number) (v r.source.number)).value h)
     ∙ plain_outputs r.target.number (three_sum sum.Add (v r.target.number) (v r.source.number)).value v x
-outputs_are (instr.Extend e d m) v x w h = plain_outputs d.number (extension_of e (v m.number)) v x
-outputs_are (instr.Reverse r d m) v x w h = plain_outputs d.number (reversal_of r (v m.number)) v x
-outputs_are i v x w h = absurd cc
+outputs_are i v x w h = first_of (search (arith, outputs_of_result, outputs_of_shift, plain_outputs, two_is, byte_is), cc)

@@ -20,14 +20,7 @@ use Rattle.bit_blast.proofs.Numbers.{from_bool-lt, number_lt, low_places}
 
 -- two bits and a carry make a bit and a carry
 place_adds : (x y c : Bool) → from_bool (differ (differ x y) c) + 2 * from_bool ((x && y) || (differ x y && c)) ≡ from_bool x + from_bool y + from_bool c
-place_adds true true true = refl
-place_adds true true false = refl
-place_adds true false true = refl
-place_adds true false false = refl
-place_adds false true true = refl
-place_adds false true false = refl
-place_adds false false true = refl
-place_adds false false false = refl
+place_adds x y c = grind arith
 
 -- the same of a place's five bits
 place_from_bits : (x y c p s g h n : Bool) → p ≡ differ x y → s ≡ differ p c → g ≡ (x && y) → h ≡ (p && c) → n ≡ (g || h) → from_bool s + 2 * from_bool n ≡ from_bool x + from_bool y + from_bool c

@@ -12,6 +12,7 @@ use Rattle.cnf_gates.proofs.Giving.{xor_gives, later, all_later}
 use Rattle.cnf_gates.proofs.Tables.{or_assoc, or_false}
 use Rattle.thumb_instr.specs.Items.{has, n_flag, z_flag, c_flag, v_flag}
 use Rattle.thumb_model.specs.Items.{Values}
+use Rattle.window_exec.proofs.Differences.{either}
 use Rattle.bit_blast.specs.declared.circuits.Connective.TheVariants.{Xor}
 use Rattle.bit_blast.specs.Circuits.{each_of, before_word}
 use Rattle.bit_blast.specs.Forming.{Bits, word}
@@ -181,10 +182,8 @@ all_differ mask m x y =
     (((words_differ mask m 0 (take 4 x.r) (take 4 y.r) || flag_differs mask n_flag m x.n y.n) || flag_differs mask z_flag m x.z y.z) || flag_differs mask c_flag m x.c y.c) || flag_differs mask v_flag m x.v y.v
 
 AllWords-take : (v n : ℕ) (ws : List (List Bit)) → AllWords v ws → AllWords v (take n ws)
-AllWords-take v zero [] h = tt
-AllWords-take v zero (w ∷ ws) h = tt
-AllWords-take v (suc n) [] h = tt
 AllWords-take v (suc n) (w ∷ ws) h = (h.0, h.1, AllWords-take v n ws h.2)
+AllWords-take v n ws h = tt
 
 pub differences_give : (low : ℕ) (b : Built) (mask : ℕ) (x y : Bits) → Ready low b → AreOf b.variables x → AreOf b.variables y → TellsGives 132 b (λ d. differences d mask x y) (λ m. all_differ mask m x y)
 differences_give low b mask x y k px py =
@@ -280,9 +279,6 @@ words_found mask m i (x ∷ xs) (y ∷ ys) (suc j) p q on h =
 
 word_of_four : (ws : List (List Bit)) (j : ℕ) → j < 4 → word (take 4 ws) j ≡ word ws j
 word_of_four ws j h = get_or-take 4 ws j [] h
-
-either : {D : Type 0} (a b : Bool) → (a ≡ true → D) → (b ≡ true → D) → (a || b) ≡ true → D
-either a b f g h = ⊎_elim f g (or_cases a b h)
 
 -- an item that differs, of those that are looked at
 pub differ_shows : (mask : ℕ) (m : ℕ → Bool) (x y : Bits) → all_differ mask m x y ≡ true → (i : ℕ) × DiffersAt mask (values_at m x) (values_at m y) i

@@ -11,7 +11,8 @@ use Rattle.thumb_instr.specs.declared.instr.Instr.{Instr}
 use Rattle.thumb_instr.specs.Items.{has}
 use Rattle.thumb_model.specs.Items.{Values, n_flag, z_flag, c_flag, v_flag}
 use Rattle.thumb_model.specs.Effect.{outputs, after, after_all}
-use Rattle.thumb_model.proofs.Held.{AreHeld, are_held, values_of as outputs_held}
+use Rattle.thumb_model.proofs.Held.{AreHeld, bool_small}
+use Rattle.thumb_model.proofs.Window.{held_after}
 use Rattle.window_exec.specs.declared.state.WState.{WState}
 use Rattle.window_exec.specs.State.{values_of}
 use Rattle.fingerprints.specs.Print.{mixed, one_if, nzcv_of, in_mask, words_of, with_words, print_from, print_after}
@@ -47,10 +48,6 @@ state_held s h = record {
     flag : (x : ℕ) → 15 ≤ x → values_of s x < 2
     flag x l = within x 2 (omega arith) (rw (past x (omega (arith, h.0))) (omega arith))
 
-after_held : (is : List Instr) (v : Values) → AreHeld v → AreHeld (after_all is v)
-after_held [] v h = h
-after_held (i ∷ is) v h = after_held is (after i v) (are_held (outputs i v) v (outputs_held i v h) h)
-
 -- ---- words of states that are the same under the mask
 
 one_if_alike : (t : Bool) (x y : ℕ) → (t ≡ true → x ≡ y) → one_if t x ≡ one_if t y
@@ -62,11 +59,7 @@ nibble_bits : (n z c v : ℕ) → n < 2 → z < 2 → c < 2 → v < 2 → (bit_a
 nibble_bits n z c v hn hz hc hv = (omega arith, omega arith, omega arith, omega arith)
 
 mask_bit : (mask x : ℕ) → in_mask mask x < 2
-mask_bit mask x = small (has mask x)
-  where
-    small : (b : Bool) → from_bool b < 2
-    small true = omega arith
-    small false = omega arith
+mask_bit mask x = bool_small (has mask x)
 
 -- a bit under a mask's bit
 bit_alike : (mask x a b : ℕ) → (has mask x ≡ true → a ≡ b) → min a (in_mask mask x) ≡ min b (in_mask mask x)
@@ -125,7 +118,7 @@ prints_alike (s ∷ ss) left right mask h are untold =
       | inl e ↦ e
       | inr d ↦ absurd (untold 0 s (omega arith) (x, t, d))
     ] in
-    let first = with_words_alike mask h (after_all left v) (after_all right v) (words_alike mask (after_all left v) (after_all right v) (after_held left v held) (after_held right v held) same) in
+    let first = with_words_alike mask h (after_all left v) (after_all right v) (words_alike mask (after_all left v) (after_all right v) (held_after left v held) (held_after right v held) same) in
     ap (λ p. print_from mask p (map (after_all left) (map values_of ss))) first
     ∙ prints_alike ss left right mask (with_words mask h (after_all right v)) (All-tail IsState s ss are) (λ k d l. untold (suc k) d (omega arith))
 

@@ -60,7 +60,7 @@ place_found print n (p ∷ ps) (suc i) e =
 
 -- ---- the sequences of at most so many instructions come first
 
-numbers_split : (a m n : ℕ) → numbers_from a (m + n) ≡ numbers_from a m ++ numbers_from (a + m) n
+pub numbers_split : (a m n : ℕ) → numbers_from a (m + n) ≡ numbers_from a m ++ numbers_from (a + m) n
 unfolding numbers_from
 numbers_split a zero n =
     let p : 0 + n ≡ n = omega arith in
@@ -85,7 +85,7 @@ sequences_split longest letters h =
     ∙ flat_map-append (words letters) (numbers_from 0 (longest + 1)) (numbers_from (longest + 1) (5 - longest))
 
 -- each word of some lengths has one of them
-length_within : (letters : List Instr) (first count i : ℕ) (seq : List Instr) → slice_get (flat_map (words letters) (numbers_from first count)) i ≡ Some seq → (first ≤ length seq) × (length seq < first + count)
+pub length_within : (letters : List Instr) (first count i : ℕ) (seq : List Instr) → slice_get (flat_map (words letters) (numbers_from first count)) i ≡ Some seq → (first ≤ length seq) × (length seq < first + count)
 length_within letters first count i seq e =
     flat_map_at (words letters) (numbers_from first count) i seq e (λ h n j at there.
     let low : h < count = omega (arith, slice_get_within (numbers_from first count) h n at, length-numbers first count) in

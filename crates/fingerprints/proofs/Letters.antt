@@ -18,6 +18,7 @@ use Rattle.seq_enum.proofs.Numbered.{flat_map_at, flat_map_from}
 use Rattle.seq_enum.proofs.Fields.{register_low}
 use Rattle.std.proofs.Math.Nat.{lt_of_lt_of_le}
 use Rattle.thumb_model.specs.Rewrite.{AreOver}
+use Rattle.thumb_model.proofs.Small.{below_more}
 
 -- what a letter of the registers below k is
 pub record IsLetter (k : ℕ) (i : Instr) : Type 0 where
@@ -32,7 +33,7 @@ at_cons x ys zero o h = inl (same_Some _ _ h)
 at_cons x ys (suc i) o h = inr (i, h)
 
 -- what a filter keeps passes, and is an element
-filter_at : {X : Type 0} (p : X → Bool) (xs : List X) (i : ℕ) (o : X) → slice_get (filter p xs) i ≡ Some o → (p o ≡ true) × ((j : ℕ) × (slice_get xs j ≡ Some o))
+pub filter_at : {X : Type 0} (p : X → Bool) (xs : List X) (i : ℕ) (o : X) → slice_get (filter p xs) i ≡ Some o → (p o ≡ true) × ((j : ℕ) × (slice_get xs j ≡ Some o))
 filter_at p [] i o h = absurd (cc)
 filter_at p (x ∷ xs) i o h =
     elim (p x) as (λ b. p x ≡ b → slice_get (cond b (x ∷ filter p xs) (filter p xs)) i ≡ Some o → (p o ≡ true) × ((j : ℕ) × (slice_get (x ∷ xs) j ≡ Some o))) [
@@ -67,12 +68,9 @@ low_low : (k : ℕ) (d : Within 0 8) → nat_lt (wide d).number 8 ≡ true
 low_low k d = lt-ltb d.number 8 d.below
 
 pair_letter : (k : ℕ) (p : Pair) (d m : Within 0 8) → d.number < k → m.number < k → IsLetter k (pair_of p d m)
-pair_letter k (pair.Two o) d m x y = record { window = refl; below = (x, (y, tt)); normal = refl }
-pair_letter k pair.Movs d m x y = record { window = refl; below = (x, (y, tt)); normal = refl }
 pair_letter k pair.Mov d m x y = record { window = rw (low_low k d, low_low k m) refl; below = (x, (y, tt)); normal = refl }
 pair_letter k pair.Add d m x y = record { window = rw (low_low k d, low_low k m) refl; below = (x, (y, tt)); normal = refl }
-pair_letter k (pair.Extend o) d m x y = record { window = refl; below = (x, (y, tt)); normal = refl }
-pair_letter k (pair.Reverse o) d m x y = record { window = refl; below = (x, (y, tt)); normal = refl }
+pair_letter k p d m x y = record { window = refl; below = (x, (y, tt)); normal = refl }
 
 apart : (a b : ℕ) → (b == a) ≡ false → (a == b) ≡ false
 apart a b h = elim (cases_Bool (a == b)) [
@@ -116,10 +114,6 @@ all_over : (xs : List Instr) → ((i : ℕ) (a : Instr) → slice_get xs i ≡ S
 all_over [] h = tt
 all_over (x ∷ xs) h = ((h 0 x refl).0, (h 0 x refl).1, all_over xs (λ i a e. h (suc i) a e))
 
-below_more : (k : ℕ) (rs : List ℕ) → k ≤ 4 → AreBelow k rs → AreBelow 4 rs
-below_more k [] h b = tt
-below_more k (r ∷ rs) h b = (lt_of_lt_of_le b.0 h, below_more k rs h b.1)
-
 -- the letters of at most four registers may be run on a state
 pub alphabet_over : (k : ℕ) (pool : List ℕ) → k ≤ 4 → AreOver 4 (alphabet k pool)
-alphabet_over k pool few = all_over (alphabet k pool) (λ i a e. let l = letter k pool i a (omega arith) e in (l.window, below_more k (named a) few l.below))
+alphabet_over k pool few = all_over (alphabet k pool) (λ i a e. let l = letter k pool i a (omega arith) e in (l.window, below_more k 4 (named a) few l.below))

@@ -327,7 +327,7 @@ replaced_keeps code p left right sound =
 alike_here : (s : State) → Alike s s
 alike_here s = record { events = refl; memory = refl; answers = refl; ended = refl }
 
-alike_on : (s t w : State) → Alike s t → Alike t w → Alike s w
+pub alike_on : (s t w : State) → Alike s t → Alike t w → Alike s w
 alike_on s t w a b = record { events = a.events ∙ b.events; memory = a.memory ∙ b.memory; answers = a.answers ∙ b.answers; ended = a.ended ∙ b.ended }
 
 -- a listing keeps its own runs

@@ -78,7 +78,7 @@ low_value d x h = (λ l. h, λ l. absurd (omega arith), λ e. absurd (omega arit
 pub written_value : (d : Within 0 15) (x : ℕ) → x < 2 ^ 32 → IsValueOf (d.number, written_to d.number x)
 written_value d x h = written_at d.number x (omega arith) h
 
-bool_small : (b : Bool) → from_bool b < 2
+pub bool_small : (b : Bool) → from_bool b < 2
 bool_small true = omega arith
 bool_small false = omega arith
 

@@ -230,7 +230,7 @@ access_same k t x y u w a e h = ap (λ p. loads k t p u) e ∙ same_world (λ v.
 
 -- ---- lists ----
 
-keys_words : (memory : ℕ → ℕ) (answers : List Answer) (address : ℕ) (xs : List ℕ) → keys (words_from memory answers address xs) ≡ xs
+pub keys_words : (memory : ℕ → ℕ) (answers : List Answer) (address : ℕ) (xs : List ℕ) → keys (words_from memory answers address xs) ≡ xs
 keys_words memory answers address [] = refl
 keys_words memory answers address (x ∷ xs) = ap (λ l. x ∷ l) (keys_words memory (left_at answers address) (next_word address) xs)
 

@@ -14,7 +14,7 @@ use Rattle.thumb_model.proofs.LinesReplaced.{AreOps, AllOutside, code_replaced, 
 use Rattle.thumb_model.proofs.Table.{window_length, one_keeps, fewer_places}
 use Rattle.thumb_model.proofs.Follow.{Keeps, keeps_refl, keeps_trans}
 
-ops_of : (is : List Instr) (n : ℕ) (ps : List Place) → n ≡ length is → take n ps ≡ map plain is → AreOps n ps
+pub ops_of : (is : List Instr) (n : ℕ) (ps : List Place) → n ≡ length is → take n ps ≡ map plain is → AreOps n ps
 ops_of [] zero ps e h = tt
 ops_of (i ∷ is) zero ps e h = absurd (omega arith)
 ops_of [] (suc n) ps e h = absurd (omega arith)
@@ -22,11 +22,11 @@ ops_of (i ∷ is) (suc n) [] e h = absurd (cc)
 ops_of (i ∷ is) (suc n) (Op j mention ∷ ps) e h = ops_of is n ps (omega arith) (cc)
 ops_of (i ∷ is) (suc n) (Word w ∷ ps) e h = absurd (cc)
 
-outside_of : (p count : ℕ) (ls : List Label) → ((k : ℕ) (l : Label) → slice_get ls k ≡ Some l → (l.place ≤ p) ⊎ (p + count ≤ l.place)) → AllOutside p count ls
+pub outside_of : (p count : ℕ) (ls : List Label) → ((k : ℕ) (l : Label) → slice_get ls k ≡ Some l → (l.place ≤ p) ⊎ (p + count ≤ l.place)) → AllOutside p count ls
 outside_of p count [] h = tt
 outside_of p count (l ∷ ls) h = (h 0 l refl, outside_of p count ls (λ k m e. h (suc k) m e))
 
-before : (n : ℕ) → 0 < n → (m : ℕ) × (n ≡ suc m)
+pub before : (n : ℕ) → 0 < n → (m : ℕ) × (n ≡ suc m)
 before zero h = absurd (omega arith)
 before (suc m) h = (m, refl)
 

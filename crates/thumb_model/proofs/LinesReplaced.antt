@@ -1,8 +1,9 @@
 -- Replacing lines replaces places and labels.
 use Rattle.std.proofs.Common.{◌≡◌, ℕ, zero, suc, ◌+◌, ◌-◌, ◌<◌, ◌≤◌, ◌==◌, ◌&&◌, List, [], ◌∷◌, ◌++◌, length, length-append, take, drop, map, refl, sym, ap, ◌∙◌, subst, ◌⊎◌, inl, inr, arith, append_assoc, ne_eqb, if◌then◌else◌}
+use Rattle.std.proofs.lemmas.List.{map-append}
 use Rattle.thumb_instr.specs.declared.instr.Instr.{Instr}
 use Rattle.thumb_model.specs.Listing.{Name, Value, Statement, Runs, Words, Line, Place, Op, Word, plain, Label, Code, places_in, places_of, labels_at, labels_from, code_of}
-use Rattle.thumb_model.proofs.Lists.{length_map}
+use Rattle.thumb_model.proofs.Lists.{length_map, take_back, drop_back}
 use Rattle.thumb_model.specs.Rewrite.{moved, move_label, replaced}
 use Rattle.thumb_model.specs.Rewritten.{is_op, without, labels_kept, new_line, replaced_lines}
 
@@ -37,25 +38,11 @@ kept_places : (l : Line) (ns : List Name) (ls : List Line) → places_of (labels
 kept_places l [] ls = refl
 kept_places l (n ∷ ns) ls = refl
 
-take_back : (xs ys : List Place) (n m : ℕ) → n ≡ length xs + m → take n (xs ++ ys) ≡ xs ++ take m ys
-take_back [] ys n m e = ap (λ j. take j ys) (let f : n ≡ m = omega arith in f)
-take_back (x ∷ xs) ys zero m e = absurd (omega arith)
-take_back (x ∷ xs) ys (suc n) m e = ap (λ l. x ∷ l) (take_back xs ys n m (omega arith))
-
-drop_back : (xs ys : List Place) (n m : ℕ) → n ≡ length xs + m → drop n (xs ++ ys) ≡ drop m ys
-drop_back [] ys n m e = ap (λ j. drop j ys) (let f : n ≡ m = omega arith in f)
-drop_back (x ∷ xs) ys zero m e = absurd (omega arith)
-drop_back (x ∷ xs) ys (suc n) m e = drop_back xs ys n m (omega arith)
-
 -- an instruction doesn't stand among words
 past_words : (ws : List Value) (ps : List Place) (p n : ℕ) → AreOps (suc n) (drop p (map Word ws ++ ps)) → length ws ≤ p
 past_words [] ps p n h = omega arith
 past_words (w ∷ ws) ps zero n h = absurd h
 past_words (w ∷ ws) ps (suc p) n h = let r = past_words ws ps p n h in omega arith
-
-words_length : (ws : List Value) → length (map Word ws) ≡ length ws
-words_length [] = refl
-words_length (w ∷ ws) = ap suc (words_length ws)
 
 -- what replacing does to places, as far as the first lines that it leaves alone
 abbrev Result : ℕ → ℕ → List Instr → List Place → List Place
@@ -83,7 +70,7 @@ behind write n k p m is l s ls f rec e g h =
 replace_step : (write : Instr → List ℕ) (n k p : ℕ) (is : List Instr) (l : Line) (s : Statement) (ls : List Line) → l.statement ≡ s → Rec write n is ls → k ≡ p + suc n → AreOps (suc n) (drop p (places_in s ++ places_of ls)) → places_of (if is_op s && (p == 0) then labels_kept l l.names ++ (map (new_line write) is ++ without (suc n - 1) ls) else l ∷ replaced_lines write (p - length (places_in s)) (suc n) is ls) ≡ Result p k is (places_in s ++ places_of ls)
 replace_step write n k p is l (Words ws) ls f rec e h =
     let w = past_words ws (places_of ls) p n h in
-    let x = words_length ws in
+    let x = length_map Word ws in
     behind write n k p (p - length ws) is l (Words ws) ls f rec e (omega arith) h
 replace_step write n k zero is l (Runs i mention) ls f rec e h =
     let k' : k ≡ suc n = omega arith in
@@ -111,13 +98,9 @@ abbrev pub AllOutside : ℕ → ℕ → List Label → Type 0
 AllOutside p count [] = Unit {0}
 AllOutside p count (l ∷ ls) = ((l.place ≤ p) ⊎ (p + count ≤ l.place)) × AllOutside p count ls
 
-all_back : (p count : ℕ) (xs ys : List Label) → AllOutside p count (xs ++ ys) → AllOutside p count ys
+pub all_back : (p count : ℕ) (xs ys : List Label) → AllOutside p count (xs ++ ys) → AllOutside p count ys
 all_back p count [] ys h = h
 all_back p count (x ∷ xs) ys h = all_back p count xs ys h.1
-
-map_append : (f : Label → Label) (xs ys : List Label) → map f (xs ++ ys) ≡ map f xs ++ map f ys
-map_append f [] ys = refl
-map_append f (x ∷ xs) ys = ap (λ l. f x ∷ l) (map_append f xs ys)
 
 at_moved : (p gone q r : ℕ) (ns : List Name) → q ≡ moved p gone r → labels_at q ns ≡ map (move_label p gone) (labels_at r ns)
 at_moved p gone q r [] e = refl
@@ -133,9 +116,9 @@ behind_moved p gone q r (l ∷ ls) h e =
     let len : ℕ = length (places_in l.statement) in
     ap (λ x. x ++ labels_from (q + len) ls) (at_moved p gone q r l.names (omega arith))
     ∙ ap (λ x. map (move_label p gone) (labels_at r l.names) ++ x) (behind_moved p gone (q + len) (r + len) ls (omega arith) (omega arith))
-    ∙ sym (map_append (move_label p gone) (labels_at r l.names) (labels_from (r + len) ls))
+    ∙ sym (map-append (move_label p gone) (labels_at r l.names) (labels_from (r + len) ls))
 
-no_names : (p count r : ℕ) (ns : List Name) (rest : List Label) → p < r → r < p + count → AllOutside p count (labels_at r ns ++ rest) → ns ≡ []
+pub no_names : (p count r : ℕ) (ns : List Name) (rest : List Label) → p < r → r < p + count → AllOutside p count (labels_at r ns ++ rest) → ns ≡ []
 no_names p count r [] rest h k a = refl
 no_names p count r (n ∷ ns) rest h k a = absurd (elim (a.0) [ inl x ↦ omega arith | inr x ↦ omega arith ])
 
@@ -185,12 +168,12 @@ labels_behind write at n q p m is l s ls f rec e g out h =
     ∙ ap (λ x. labels_at q l.names ++ labels_from (q + length (places_in x)) (replaced_lines write m (suc n) is ls)) f
     ∙ ap (λ x. x ++ labels_from (q + length (places_in s)) (replaced_lines write m (suc n) is ls)) (at_moved at gone q q l.names (omega arith))
     ∙ ap (λ x. map (move_label at gone) (labels_at q l.names) ++ x) r
-    ∙ sym (map_append (move_label at gone) (labels_at q l.names) (labels_from (q + length (places_in s)) ls))
+    ∙ sym (map-append (move_label at gone) (labels_at q l.names) (labels_from (q + length (places_in s)) ls))
 
 labels_step : (write : Instr → List ℕ) (at n q p : ℕ) (is : List Instr) (l : Line) (s : Statement) (ls : List Line) → length is < suc n → l.statement ≡ s → LabelsRec write at n is ls → at ≡ q + p → AllOutside at (suc n) (labels_at q l.names ++ labels_from (q + length (places_in s)) ls) → AreOps (suc n) (drop p (places_in s ++ places_of ls)) → labels_from q (if is_op s && (p == 0) then labels_kept l l.names ++ (map (new_line write) is ++ without (suc n - 1) ls) else l ∷ replaced_lines write (p - length (places_in s)) (suc n) is ls) ≡ map (move_label at (suc n - length is)) (labels_at q l.names ++ labels_from (q + length (places_in s)) ls)
 labels_step write at n q p is l (Words ws) ls short f rec e out h =
     let w = past_words ws (places_of ls) p n h in
-    let x = words_length ws in
+    let x = length_map Word ws in
     labels_behind write at n q p (p - length ws) is l (Words ws) ls f rec e (omega arith) out h
 labels_step write at n q zero is l (Runs i mention) ls short f rec e out h =
     let gone : ℕ = suc n - length is in
@@ -199,7 +182,7 @@ labels_step write at n q zero is l (Runs i mention) ls short f rec e out h =
     ∙ ap (λ m. labels_at q l.names ++ labels_from (q + length is) (without m ls)) (let z : suc n - 1 ≡ n = omega arith in z)
     ∙ ap (λ x. labels_at q l.names ++ x) (labels_without at (suc n) gone n ls (q + length is) (q + 1) (omega arith) (omega arith) (omega arith) (omega arith) (all_back at (suc n) (labels_at q l.names) _ out) h)
     ∙ ap (λ x. x ++ map (move_label at gone) (labels_from (q + 1) ls)) (at_moved at gone q q l.names (omega arith))
-    ∙ sym (map_append (move_label at gone) (labels_at q l.names) (labels_from (q + 1) ls))
+    ∙ sym (map-append (move_label at gone) (labels_at q l.names) (labels_from (q + 1) ls))
 labels_step write at n q (suc p) is l (Runs i mention) ls short f rec e out h =
     ap (λ b. labels_from q (if b then labels_kept l l.names ++ (map (new_line write) is ++ without (suc n - 1) ls) else l ∷ replaced_lines write (suc p - 1) (suc n) is ls)) (ne_eqb (suc p) 0 (λ z. absurd (omega arith)))
     ∙ labels_behind write at n q (suc p) p is l (Runs i mention) ls f rec e (omega arith) out h
@@ -251,7 +234,7 @@ fewer_behind write n p m is l s ls rec g h =
 fewer_step : (write : Instr → List ℕ) (n p : ℕ) (is : List Instr) (l : Line) (s : Statement) (ls : List Line) → length is < suc n → LinesRec write n is ls → AreOps (suc n) (drop p (places_in s ++ places_of ls)) → length (if is_op s && (p == 0) then labels_kept l l.names ++ (map (new_line write) is ++ without (suc n - 1) ls) else l ∷ replaced_lines write (p - length (places_in s)) (suc n) is ls) ≤ suc (length ls)
 fewer_step write n p is l (Words ws) ls short rec h =
     let w = past_words ws (places_of ls) p n h in
-    let x = words_length ws in
+    let x = length_map Word ws in
     fewer_behind write n p (p - length ws) is l (Words ws) ls rec (omega arith) h
 fewer_step write n zero is l (Runs i mention) ls short rec h =
     let e : length (without (suc n - 1) ls) ≡ length (without n ls) = ap (λ m. length (without m ls)) (let z : suc n - 1 ≡ n = omega arith in z) in

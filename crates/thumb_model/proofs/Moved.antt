@@ -3,13 +3,14 @@ use Rattle.std.proofs.Common.{◌≡◌, ◌≢◌, ℕ, zero, suc, ◌+◌, ◌
 use Rattle.std.specs.Prelude.{slice_get}
 use Rattle.std.specs.Str.{bytes_eq}
 use Rattle.std.proofs.lemmas.Bool.{cases_lt}
+use Rattle.std.proofs.lemmas.Option.{same_Some}
 use Rattle.std.specs.Option.{option_map}
 use Rattle.thumb_instr.specs.declared.instr.Instr.{Instr}
 use Rattle.thumb_model.specs.Items.{one_of}
 use Rattle.thumb_model.specs.Listing.{Name, Mention, Place, Op, Word, plain, Label, Code, is_op_place, is_code, place_among, place_of, has_label, place_mentions, is_mentioned, is_call, call_count, return_places}
 use Rattle.thumb_model.specs.Machine.{Naming, Fits, HasLiterals, is_word_place, label_place, points_of, points, least_or, point_among, returns_from}
 use Rattle.thumb_model.specs.Rewrite.{moved, move_label, replaced}
-use Rattle.thumb_model.proofs.Lists.{get_drop, get_take, get_front, get_back, length_map, take_all, length_drop}
+use Rattle.thumb_model.proofs.Lists.{get_drop, get_take, get_front, get_back, length_map, take_all, take_back, length_drop}
 
 -- ---- calls ----
 
@@ -18,7 +19,7 @@ abbrev pub AreNoCalls : List Place → Type 0
 AreNoCalls [] = Unit {0}
 AreNoCalls (x ∷ xs) = (is_call x ≡ false) × AreNoCalls xs
 
-count_append : (xs ys : List Place) → call_count (xs ++ ys) ≡ call_count xs + call_count ys
+pub count_append : (xs ys : List Place) → call_count (xs ++ ys) ≡ call_count xs + call_count ys
 count_append [] ys = omega arith
 count_append (x ∷ xs) ys =
     let h = count_append xs ys in
@@ -78,11 +79,6 @@ take_front : (xs ys : List Place) (n : ℕ) → n ≤ length xs → take n (xs +
 take_front xs ys zero h = refl
 take_front [] ys (suc n) h = absurd (omega arith)
 take_front (x ∷ xs) ys (suc n) h = ap (λ l. x ∷ l) (take_front xs ys n (omega arith))
-
-take_back : (xs ys : List Place) (n m : ℕ) → n ≡ length xs + m → take n (xs ++ ys) ≡ xs ++ take m ys
-take_back [] ys n m e = ap (λ j. take j ys) (let f : n ≡ m = omega arith in f)
-take_back (x ∷ xs) ys zero m e = absurd (omega arith)
-take_back (x ∷ xs) ys (suc n) m e = ap (λ l. x ∷ l) (take_back xs ys n m (omega arith))
 
 -- an item of the second list is one of both
 pub one_of_back : (x : ℕ) (xs ys : List ℕ) → one_of x ys ≡ true → one_of x (xs ++ ys) ≡ true
@@ -186,12 +182,9 @@ plain_none [] j i m e = absurd (cc)
 plain_none (x ∷ is) zero i m e = absurd (cc)
 plain_none (x ∷ is) (suc j) i m e = plain_none is j i m e
 
-some_place : (a b : ℕ) → (let o : Option ℕ = Some a in o) ≡ Some b → a ≡ b
-some_place a b e = cc
-
 option_back : (f : ℕ → ℕ) (o : Option ℕ) (q : ℕ) → option_map f o ≡ Some q → (r : ℕ) × (o ≡ Some r) × (q ≡ f r)
 option_back f None q e = absurd (cc)
-option_back f (Some r) q e = (r, refl, sym (some_place (f r) q e))
+option_back f (Some r) q e = (r, refl, sym (same_Some (f r) q e))
 
 module _ (code : Code) (p count : ℕ) (is : List Instr) where
   abbrev places' : List Place
@@ -255,7 +248,7 @@ module _ (code : Code) (p count : ℕ) (is : List Instr) where
     label_outside name [] h q e = absurd (cc)
     label_outside name (l ∷ ls) h q e =
         elim (bytes_eq name l.name) as (λ b. (if b then Some l.place else label_place name ls) ≡ Some q → IsOutside p count q) [
-          | true ↦ λ f. subst (IsOutside p count) (some_place l.place q f) (h 0 l refl)
+          | true ↦ λ f. subst (IsOutside p count) (same_Some l.place q f) (h 0 l refl)
           | false ↦ λ f. label_outside name ls (λ k m g. h (suc k) m g) q f
         ] e
 

@@ -1,6 +1,7 @@
 -- Only the items below 19 are read.
 use Rattle.std.proofs.Common.{◌≡◌, ℕ, zero, suc, ◌<◌, ◌≤◌, ◌==◌, ◌||◌, ◌&&◌, nat_lt, not, Bool, true, false, List, [], ◌∷◌, ◌++◌, if◌then◌else◌, Option, Some, None, refl, subst, arith, eqb-true, ltb-true}
 use Rattle.std.specs.Prelude.{slice_get, filter}
+use Rattle.std.proofs.lemmas.Option.{same_Some}
 use Rattle.std.specs.List.{list_all}
 use Rattle.thumb_instr.specs.declared.instr.Instr.{Instr}
 use Rattle.thumb_instr.specs.declared.instr.Instr.TheVariants as instr
@@ -129,10 +130,7 @@ small_ways aim i = search (arith, low_small, reg_small, general_small)
 
 small_at : (ws : List Way) (k : ℕ) (w : Way) → AreSmall ws → slice_get ws k ≡ Some w → AreBelow 19 w.reads
 small_at [] k w a e = absurd (cc)
-small_at (v ∷ ws) zero w a e = subst (λ (u : Way). AreBelow 19 u.reads) (some_way v w e) a.0
-  where
-    some_way : (v w : Way) → (let o : Option Way = Some v in o) ≡ Some w → v ≡ w
-    some_way v w e = cc
+small_at (v ∷ ws) zero w a e = subst (λ (u : Way). AreBelow 19 u.reads) (same_Some v w e) a.0
 small_at (v ∷ ws) (suc k) w a e = small_at ws k w a.1 e
 
 small_on : (code : Code) (o : Option Place) → AreSmall (ways_on code o)

@@ -1,6 +1,7 @@
 -- What rewriting leaves is determined.
-use Rattle.std.proofs.Common.{◌≡◌, ℕ, zero, suc, ◌<◌, ◌==◌, ◌||◌, true, false, List, [], ◌∷◌, length, map, Option, Some, refl, sym, ap, ◌∙◌, subst, arith, eqb-true}
+use Rattle.std.proofs.Common.{◌≡◌, ℕ, suc, ◌<◌, ◌==◌, ◌||◌, true, false, List, [], ◌∷◌, length, map, Some, refl, sym, ap, ◌∙◌, subst, arith, eqb-true}
 use Rattle.std.specs.Prelude.{slice_get}
+use Rattle.std.proofs.lemmas.Option.{same_Some}
 use Rattle.thumb_instr.specs.declared.instr.Instr.{Instr}
 use Rattle.thumb_instr.specs.Window.{is_in_window}
 use Rattle.thumb_instr.proofs.Registers.{low_is}
@@ -9,6 +10,7 @@ use Rattle.thumb_model.specs.Items.{one_of}
 use Rattle.thumb_model.specs.Listing.{plain, Line, Code, code_of}
 use Rattle.thumb_instr.specs.Renaming.{Low, named, renamed, number_or, item_under}
 use Rattle.thumb_model.specs.Rewrite.{Rule, register_count, IsSoundRule, AreSound, AreOver, is_named, normalised, Applies}
+use Rattle.thumb_model.proofs.Lists.{present_at, cons_same}
 use Rattle.thumb_model.specs.Rewritten.{Setting, Replacement, IsFirst, lines_after, AreRewritten, IsDetermined}
 
 -- two maps give each of these items the same
@@ -42,26 +44,15 @@ all_tell f g k (i ∷ is) x o e h =
       | false ↦ λ s j. all_tell f g k is x o.2 there j
     ] refl h
 
-some_at : (xs : List Low) (k : ℕ) → k < length xs → (x : Low) × (slice_get xs k ≡ Some x)
-some_at [] k h = absurd (omega arith)
-some_at (x ∷ xs) zero h = (x, refl)
-some_at (x ∷ xs) (suc k) h = some_at xs k (omega arith)
-
 same_list : (xs ys : List Low) → length xs ≡ length ys → ((k : ℕ) → k < length xs → slice_get xs k ≡ slice_get ys k) → xs ≡ ys
 same_list [] [] e h = refl
 same_list [] (y ∷ ys) e h = absurd (omega arith)
 same_list (x ∷ xs) [] e h = absurd (omega arith)
 same_list (x ∷ xs) (y ∷ ys) e h =
-    let head : x ≡ y = some_same x y (h 0 (omega arith)) in
+    let head : x ≡ y = same_Some x y (h 0 (omega arith)) in
     cons_same x y xs ys head (same_list xs ys (omega arith) (λ k l. h (suc k) (omega arith)))
-  where
-    some_same : (a b : Low) → (let o : Option Low = Some a in o) ≡ Some b → a ≡ b
-    some_same a b e = cc
 
-    cons_same : (a b : Low) (l m : List Low) → a ≡ b → l ≡ m → (let n : List Low = a ∷ l in n) ≡ b ∷ m
-    cons_same a b l m e f = cc
-
-plain_same : (is js : List Instr) → map plain is ≡ map plain js → is ≡ js
+pub plain_same : (is js : List Instr) → map plain is ≡ map plain js → is ≡ js
 plain_same [] [] e = refl
 plain_same [] (j ∷ js) e = absurd (cc)
 plain_same (i ∷ is) [] e = absurd (cc)
@@ -69,9 +60,6 @@ plain_same (i ∷ is) (j ∷ js) e =
     let here : i ≡ j = cc in
     let there : map plain is ≡ map plain js = cc in
     cons_same i j is js here (plain_same is js there)
-  where
-    cons_same : (a b : Instr) (l m : List Instr) → a ≡ b → l ≡ m → (let n : List Instr = a ∷ l in n) ≡ b ∷ m
-    cons_same a b l m e f = cc
 
 -- an entry applies at a place under one map at most
 pub same_registers : (rule : Rule) (xs ys : List Low) (code : Code) (p : ℕ) → IsSoundRule rule → Applies rule xs code p → Applies rule ys code p → xs ≡ ys
@@ -82,8 +70,8 @@ same_registers rule xs ys code p s a b =
     let sides : map (renamed xs) rule.left ≡ map (renamed ys) rule.left = sym a.matches ∙ ap (map normalised) window ∙ b.matches in
     same_list xs ys (omega arith) (λ k l.
     let t = all_tell xs ys (register_count rule.left) rule.left k s.left sides (s.all_named k (omega arith)) in
-    let x = some_at xs k l in
-    let y = some_at ys k (omega arith) in
+    let x = present_at xs k l in
+    let y = present_at ys k (omega arith) in
     let ex : item_under xs k ≡ x.0.number = ap (λ o. number_or o k) x.1 in
     let ey : item_under ys k ≡ y.0.number = ap (λ o. number_or o k) y.1 in
     x.1 ∙ ap Some (low_is x.0 y.0 (sym ex ∙ t ∙ ey)) ∙ sym y.1)
@@ -99,14 +87,11 @@ first_same s ls r o sound f g =
     let e1 = f.lowest o g.applies (sym place) (omega arith) in
     let e2 = g.lowest r f.applies place (omega arith) in
     let entry : r.entry ≡ o.entry = omega arith in
-    let rule : f.applies.rule ≡ g.applies.rule = some_rule _ _ (sym f.applies.is_rule ∙ ap (slice_get s.table) entry ∙ g.applies.is_rule) in
+    let rule : f.applies.rule ≡ g.applies.rule = same_Some _ _ (sym f.applies.is_rule ∙ ap (slice_get s.table) entry ∙ g.applies.is_rule) in
     let here : Applies f.applies.rule o.registers (code_of ls) r.place = subst (λ n. Applies f.applies.rule o.registers (code_of ls) n) (sym place) (subst (λ (k : Rule). Applies k o.registers (code_of ls) o.place) (sym rule) g.applies.applies) in
     let registers = same_registers f.applies.rule r.registers o.registers (code_of ls) r.place (sound r.entry f.applies.rule f.applies.is_rule) f.applies.applies here in
     same r o place entry registers
   where
-    some_rule : (a b : Rule) → (let x : Option Rule = Some a in x) ≡ Some b → a ≡ b
-    some_rule a b e = cc
-
     same : (r s : Replacement) → r.place ≡ s.place → r.entry ≡ s.entry → r.registers ≡ s.registers → r ≡ s
     same r s a b c = λ i. record { place = a i; entry = b i; registers = c i }
 
@@ -119,6 +104,3 @@ is_determined s ls sound (r ∷ rs) (o ∷ os) new other a b =
     let here : r ≡ o = first_same s ls r o sound a.0 b.0 in
     let rest = is_determined s (lines_after s r ls) sound rs os new other a.1 (subst (λ t. AreRewritten s (lines_after s t ls) os other) (sym here) b.1) in
     (cons_same r o rs os here rest.0, rest.1)
-  where
-    cons_same : (a b : Replacement) (l m : List Replacement) → a ≡ b → l ≡ m → (let n : List Replacement = a ∷ l in n) ≡ b ∷ m
-    cons_same a b l m e f = cc

@@ -23,6 +23,7 @@ use Rattle.thumb_model.specs.Listing.{Mention, Place, Op, plain, Code, IsPoint}
 use Rattle.thumb_model.specs.Machine.{Naming, World, Landing, Goes, Around, Act, Here, State, Next, On, Stay, To, Over, act, puts, around_of, aim_of, target_at, step, times}
 use Rattle.thumb_model.specs.Flow.{ways_on, ways_of, ways, Leads, Onward, ToPlace, AnyPoint, Follows, Reads, now, later}
 use Rattle.thumb_model.specs.Rewrite.{IsOneToOne, AreOver, Equal, normalised}
+use Rattle.thumb_model.proofs.Lists.{present_at}
 use Rattle.thumb_model.proofs.Law.{keys, AgreeOn, assigned_agree, assigned_other, inside_of, Matches, Taken, AlikeBut, law, ap_two}
 use Rattle.thumb_model.proofs.Held.{values_of, are_held, AreHeld}
 use Rattle.thumb_model.proofs.Points.{landing_is}
@@ -74,13 +75,10 @@ module _ (names : Naming) (code : Code) (s : State) where
 
 -- ---- what is live decides what is live afterwards ----
 
-same_number : (x : ℕ) → (x == x) ≡ true
-same_number x = eq-eqb x x refl
-
 agree_on : (xs : List ℕ) (u v : Values) → ((x : ℕ) → one_of x xs ≡ true → u x ≡ v x) → AgreeOn xs u v
 agree_on [] u v h = tt
 agree_on (x ∷ xs) u v h =
-    (h x (ap (λ b. b || one_of x xs) (same_number x)), agree_on xs u v (λ y e. h y (elim (y == x) as (λ b. (b || one_of y xs) ≡ true) [ true ↦ refl | false ↦ e ])))
+    (h x (ap (λ b. b || one_of x xs) (eq-eqb x x refl)), agree_on xs u v (λ y e. h y (elim (y == x) as (λ b. (b || one_of y xs) ≡ true) [ true ↦ refl | false ↦ e ])))
 
 -- a step from p that goes on so may come to q
 abbrev pub GoesTo : ℕ → Next → ℕ → Type 0
@@ -176,16 +174,11 @@ abbrev pub IsCanonical : ℕ → ℕ → Type 0
 IsCanonical k x = (x < k) ⊎ ((15 ≤ x) × (x < 19))
 
 -- a word goes as it is into a low register
-low_written : (x w : ℕ) → x < 8 → written_to x w ≡ w
+pub low_written : (x w : ℕ) → x < 8 → written_to x w ≡ w
 low_written x w h = ap (λ b. if b then w / 4 * 4 else w) (ne_eqb x sp (λ e. absurd (omega arith)))
 
 pair_same : (a b c d : ℕ) (os ps : List (ℕ × ℕ)) → a ≡ b → c ≡ d → os ≡ ps → (let l : List (ℕ × ℕ) = (a, c) ∷ os in l) ≡ (b, d) ∷ ps
 pair_same a b c d os ps e f g = cc
-
-some_within : (xs : List Low) (i : ℕ) → i < length xs → (x : Low) × (slice_get xs i ≡ Some x)
-some_within [] i h = absurd (omega arith)
-some_within (x ∷ xs) zero h = (x, refl)
-some_within (x ∷ xs) (suc i) h = some_within xs i (omega arith)
 
 module _ (registers : List Low) (few : length registers ≤ 4) (one : IsOneToOne registers) where
   abbrev under : ℕ → ℕ
@@ -196,7 +189,7 @@ module _ (registers : List Low) (few : length registers ≤ 4) (one : IsOneToOne
 
   -- the number of a register of the map
   register_under : (x : ℕ) → x < length registers → (r : Low) × (slice_get registers x ≡ Some r) × (under x ≡ r.number)
-  register_under x h = let a = some_within registers x h in (a.0, a.1, ap (λ o. number_or o x) a.1)
+  register_under x h = let a = present_at registers x h in (a.0, a.1, ap (λ o. number_or o x) a.1)
 
   -- a register of the map is low
   low_item : (x : ℕ) → x < length registers → under x < 8
@@ -387,7 +380,7 @@ module _ (registers : List Low) (few : length registers ≤ 4) (one : IsOneToOne
   among_map [] x h = absurd (cc)
   among_map (y ∷ xs) x h =
       elim (x == under y) as (λ b. (x == under y) ≡ b → (b || one_of x (map under xs)) ≡ true → (z : ℕ) × (one_of z (y ∷ xs) ≡ true) × (x ≡ under z)) [
-        | true ↦ λ e _. (y, ap (λ b. b || one_of y xs) (same_number y), eqb-true x (under y) e)
+        | true ↦ λ e _. (y, ap (λ b. b || one_of y xs) (eq-eqb y y refl), eqb-true x (under y) e)
         | false ↦ λ e f. let a = among_map xs x f in (a.0, elim (a.0 == y) as (λ b. (b || one_of a.0 xs) ≡ true) [ true ↦ refl | false ↦ a.1 ], a.2)
       ] refl h
 

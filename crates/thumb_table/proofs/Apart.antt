@@ -29,44 +29,16 @@ forms_proper : list_all is_proper forms ≡ true
 unfolding forms pieces are_narrow
 forms_proper = refl
 
+-- the place of the first row that may share a code with a form's: its own, since rows are apart
+unfoldable place_in : List Form → Form → ℕ
+place_in [] f = 0
+place_in (g ∷ gs) f = if clash 40 (long (pieces g)) (long (pieces f)) then suc (place_in gs f) else 0
+
 -- the place of a row in the table
 pub listed : (f : Form) → (k : ℕ) × (slice_get forms k ≡ Some f)
-unfolding forms
-listed form.Movs = (0, refl)
-listed form.ShiftLeft = (1, refl)
-listed form.ShiftRight = (2, refl)
-listed form.Three = (3, refl)
-listed form.ThreeNumber = (4, refl)
-listed form.TwoNumber = (5, refl)
-listed form.Two = (6, refl)
-listed form.Add = (7, refl)
-listed form.Compare = (8, refl)
-listed form.Mov = (9, refl)
-listed form.Bx = (10, refl)
-listed form.Blx = (11, refl)
-listed form.Literal = (12, refl)
-listed form.Indexed = (13, refl)
-listed form.Offset = (14, refl)
-listed form.Stack = (15, refl)
-listed form.Address = (16, refl)
-listed form.StackAddress = (17, refl)
-listed form.StackMove = (18, refl)
-listed form.Extend = (19, refl)
-listed form.Reverse = (20, refl)
-listed form.Push = (21, refl)
-listed form.Pop = (22, refl)
-listed form.Breakpoint = (23, refl)
-listed form.Service = (24, refl)
-listed form.Hint = (25, refl)
-listed form.ChangeState = (26, refl)
-listed form.StoreMany = (27, refl)
-listed form.LoadMany = (28, refl)
-listed form.BranchIf = (29, refl)
-listed form.Branch = (30, refl)
-listed form.Call = (31, refl)
-listed form.Barrier = (32, refl)
-listed form.ReadSpecial = (33, refl)
-listed form.WriteMask = (34, refl)
+unfolding forms pieces clash place_in
+listed form.Movs = (place_in forms form.Movs, refl)
+listed f = (place_in forms f, refl)
 
 proper_in : (fs : List Form) (k : ℕ) (f : Form) → list_all is_proper fs ≡ true → slice_get fs k ≡ Some f → is_proper f ≡ true
 proper_in [] k f a e = absurd (cc)

@@ -1,5 +1,5 @@
 -- The fields of an instruction: they fit its row, and its row and they give the instruction again.
-use Rattle.std.proofs.Common.{◌≡◌, ◌≢◌, ◌∙◌, ◌⊎◌, inl, inr, ℕ, ◌+◌, ◌-◌, ◌*◌, ◌/◌, ◌%◌, ◌^◌, ◌<◌, ◌≤◌, ◌==◌, ◌&&◌, Bool, true, false, List, [], ◌∷◌, refl, sym, ap, arith, max, min, lit<}
+use Rattle.std.proofs.Common.{◌≡◌, ◌∙◌, ◌⊎◌, inl, inr, ℕ, ◌+◌, ◌-◌, ◌*◌, ◌/◌, ◌%◌, ◌^◌, ◌<◌, ◌≤◌, ◌==◌, ◌&&◌, Bool, true, false, List, [], ◌∷◌, refl, sym, ap, arith, max, min, lit<}
 use Rattle.std.specs.Prelude.{nat_le, if◌then◌else◌}
 use Rattle.std.proofs.lemmas.Bool.{and_from, le-leb, cases_eq, cases_lt}
 use Rattle.std.proofs.lemmas.Bool.Decides.{nat_tests}
@@ -18,7 +18,7 @@ use Rattle.thumb_table.specs.declared.row.Form.{Form}
 use Rattle.thumb_table.specs.declared.row.Form.TheVariants as form
 use Rattle.thumb_table.specs.declared.row.Piece.{Piece}
 use Rattle.thumb_table.specs.Rows.{fits, fields, at, most_at}
-use Rattle.thumb_table.specs.Numbers.{sum_number, right_number, byte_number, operation_number, extension_number, reversal_number, access_number, offset_number, word_number, condition_number, hint_number, interrupts_number, barrier_number, special_number}
+use Rattle.thumb_table.specs.Numbers.{sum_number, right_number, reversal_number, offset_number, condition_number, special_number}
 use Rattle.thumb_table.specs.Table.{pieces, form_of, values_of, same, call_fields, Makes}
 use Rattle.thumb_table.proofs.Operations.{sum_most, right_least, right_most, byte_most, operation_most, extension_most, reversal_most, access_most, offset_least, offset_most, word_most, condition_most, hint_most, interrupts_most, barrier_least, barrier_most, special_least, special_most, sum_at, right_at, byte_at, operation_at, extension_at, reversal_at, access_at, offset_at, word_at, condition_at, hint_at, interrupts_at, barrier_at, special_at, sum_is, right_is, byte_is, operation_is, extension_is, reversal_is, access_is, offset_is, word_is, condition_is, hint_is, interrupts_is, barrier_is, special_is}
 
@@ -38,6 +38,9 @@ low x r e = up_to 7 x.number r (omega arith) e
 byte : (x : Within 0 256) (r : Bool) → r ≡ true → ((nat_le 0 x.number && nat_le x.number 255) && r) ≡ true
 byte x r e = up_to 255 x.number r (omega arith) e
 
+but_sp : (x : General) (r : Bool) → r ≡ true → ((nat_le 0 x.number && nat_le x.number 14) && r) ≡ true
+but_sp x r e = up_to 14 x.number r (omega arith) e
+
 -- a register whose highest bit stands before the other's four bits
 split : (x y : Within 0 15) → ((nat_le 0 (x.number / 8) && nat_le (x.number / 8) 1) && ((nat_le 0 y.number && nat_le y.number 14) && ((nat_le 0 (x.number % 8) && nat_le (x.number % 8) 7) && true))) ≡ true
 split x y = up_to 1 (x.number / 8) _ (omega arith) (up_to 14 y.number _ (omega arith) (up_to 7 (x.number % 8) _ (omega arith) refl))
@@ -47,33 +50,15 @@ same_most a b = elim (a == b) as (λ t. (if t then 1 else 0) ≤ 1) [ true ↦ o
 
 pub fit : (i : Instr) → fits (pieces (form_of i)) (values_of i) ≡ true
 unfolding pieces fits
-fit (instr.Movs d m) = low m _ (low d _ refl)
 fit (instr.ShiftLeft d m i) = onto 1 31 i.number _ (omega arith) (omega arith) (low m _ (low d _ refl))
 fit (instr.ShiftRight s d m i) = onto 1 2 (right_number s) _ (right_least s) (right_most s) (up_to 31 (i.number % 32) _ (omega arith) (low m _ (low d _ refl)))
-fit (instr.Three s d n m) = up_to 1 (sum_number s) _ (sum_most s) (low m _ (low n _ (low d _ refl)))
-fit (instr.ThreeNumber s d n i) = up_to 1 (sum_number s) _ (sum_most s) (low i _ (low n _ (low d _ refl)))
-fit (instr.TwoNumber o d i) = up_to 3 (byte_number o) _ (byte_most o) (low d _ (byte i _ refl))
-fit (instr.Two o d m) = up_to 15 (operation_number o) _ (operation_most o) (low m _ (low d _ refl))
 fit (instr.Add r) = split r.target r.source
 fit (instr.Compare r) = split r.left r.right
 fit (instr.Mov d m) = split d m
-fit (instr.Bx m) = up_to 14 m.number _ (omega arith) refl
-fit (instr.Blx m) = up_to 14 m.number _ (omega arith) refl
-fit (instr.Literal t i) = low t _ (byte i _ refl)
-fit (instr.Indexed a t n m) = up_to 7 (access_number a) _ (access_most a) (low m _ (low n _ (low t _ refl)))
 fit (instr.Offset a t n i) = onto 12 17 (offset_number a) _ (offset_least a) (offset_most a) (up_to 31 i.number _ (omega arith) (low n _ (low t _ refl)))
-fit (instr.Stack a t i) = up_to 1 (word_number a) _ (word_most a) (low t _ (byte i _ refl))
-fit (instr.Address d i) = low d _ (byte i _ refl)
-fit (instr.StackAddress d i) = low d _ (byte i _ refl)
 fit (instr.StackMove s i) = up_to 1 (sum_number s) _ (sum_most s) (up_to 127 i.number _ (omega arith) refl)
-fit (instr.Extend e d m) = up_to 3 (extension_number e) _ (extension_most e) (low m _ (low d _ refl))
-fit (instr.Reverse r d m) = up_to 3 (reversal_number r) _ (reversal_most r) (low m _ (low d _ refl))
 fit (instr.Push l) = onto 1 511 l.number _ (omega arith) (omega arith) refl
 fit (instr.Pop l) = onto 1 511 l.number _ (omega arith) (omega arith) refl
-fit (instr.Breakpoint i) = byte i _ refl
-fit (instr.Service i) = byte i _ refl
-fit (instr.Hint h) = up_to 4 (hint_number h) _ (hint_most h) refl
-fit (instr.ChangeState i) = up_to 1 (interrupts_number i) _ (interrupts_most i) refl
 fit (instr.StoreMany s) = low s.base _ (let l = s.list in onto 1 255 l.number _ l.least (let h : l.number < 256 = l.below in omega arith) refl)
 fit (instr.LoadMany n l) = low n _ (onto 1 255 l.number _ (omega arith) (omega arith) refl)
 fit (instr.BranchIf c i) = up_to 13 (condition_number c) _ (condition_most c) (up_to 255 i.field _ (omega arith) refl)
@@ -83,9 +68,7 @@ fit (instr.Call i) =
     let l : v < 2 * 8388608 = i.below in
     up_to 1 (v / 2 ^ 23) _ (omega arith) (up_to 1023 (v / 2 ^ 11 % 2 ^ 10) _ (omega arith) (up_to 1 (same (v / 2 ^ 22 % 2) (v / 2 ^ 23)) _ (same_most (v / 2 ^ 22 % 2) (v / 2 ^ 23))
     (up_to 1 (same (v / 2 ^ 21 % 2) (v / 2 ^ 23)) _ (same_most (v / 2 ^ 21 % 2) (v / 2 ^ 23)) (up_to 2047 (v % 2 ^ 11) _ (omega arith) refl))))
-fit (instr.Barrier b) = onto 4 6 (barrier_number b) _ (barrier_least b) (barrier_most b) refl
-fit (instr.ReadSpecial d s) = up_to 14 d.number _ (omega arith) (onto 5 16 (special_number s) _ (special_least s) (special_most s) refl)
-fit (instr.WriteMask m) = up_to 14 m.number _ (omega arith) refl
+fit i = search (low, byte, but_sp, onto, up_to, sum_most, byte_most, operation_most, extension_most, reversal_most, access_most, word_most, hint_most, interrupts_most, barrier_least, barrier_most, special_least, special_most)
 
 -- ---- an instruction from its row and fields ----
 
@@ -246,41 +229,21 @@ whole_register : (x : Within 0 15) → register (x.number / 8 * 8 + x.number % 8
 whole_register x = register_is x (x.number / 8 * 8 + x.number % 8) (omega arith)
 
 pub instr_is : (i : Instr) → instr_of (form_of i) (values_of i) ≡ i
-instr_is (instr.Movs d m) = cc (low_is d, low_is m)
 instr_is (instr.ShiftLeft d m i) = cc (low_is d, low_is m, held_is 1 32 (lit< tt) i i.number refl)
 instr_is (instr.ShiftRight s d m i) = cc (right_is s, low_is d, low_is m, held_is 1 33 (lit< tt) i (if i.number % 32 == 0 then 32 else i.number % 32) (amount_is i.number i.least i.below))
-instr_is (instr.Three s d n m) = cc (sum_is s, low_is d, low_is n, low_is m)
-instr_is (instr.ThreeNumber s d n i) = cc (sum_is s, low_is d, low_is n, low_is i)
-instr_is (instr.TwoNumber o d i) = cc (byte_is o, low_is d, byte_is_number i)
-instr_is (instr.Two o d m) = cc (operation_is o, low_is d, low_is m)
 instr_is (instr.Add r) = ap instr.Add (not_both_sp_is r (register (r.target.number / 8 * 8 + r.target.number % 8)) (register r.source.number) (whole_register r.target) (register_is r.source r.source.number refl))
 instr_is (instr.Compare r) = ap instr.Compare (not_both_low_is r (register (r.left.number / 8 * 8 + r.left.number % 8)) (register r.right.number) (whole_register r.left) (register_is r.right r.right.number refl))
 instr_is (instr.Mov d m) = cc (whole_register d, register_is m m.number refl)
-instr_is (instr.Bx m) = ap instr.Bx (general_is m)
-instr_is (instr.Blx m) = ap instr.Blx (general_is m)
-instr_is (instr.Literal t i) = cc (low_is t, byte_is_number i)
-instr_is (instr.Indexed a t n m) = cc (access_is a, low_is t, low_is n, low_is m)
 instr_is (instr.Offset a t n i) = cc (offset_is a, low_is t, low_is n, held_is 0 32 (lit< tt) i i.number refl)
-instr_is (instr.Stack a t i) = cc (word_is a, low_is t, byte_is_number i)
-instr_is (instr.Address d i) = cc (low_is d, byte_is_number i)
-instr_is (instr.StackAddress d i) = cc (low_is d, byte_is_number i)
 instr_is (instr.StackMove s i) = cc (sum_is s, held_is 0 128 (lit< tt) i i.number refl)
-instr_is (instr.Extend e d m) = cc (extension_is e, low_is d, low_is m)
-instr_is (instr.Reverse r d m) = cc (reversal_is r, low_is d, low_is m)
 instr_is (instr.Push l) = ap instr.Push (held_is 1 512 (lit< tt) l l.number refl)
 instr_is (instr.Pop l) = ap instr.Pop (held_is 1 512 (lit< tt) l l.number refl)
-instr_is (instr.Breakpoint i) = ap instr.Breakpoint (byte_is_number i)
-instr_is (instr.Service i) = ap instr.Service (byte_is_number i)
-instr_is (instr.Hint h) = ap instr.Hint (hint_is h)
-instr_is (instr.ChangeState i) = ap instr.ChangeState (interrupts_is i)
 instr_is (instr.StoreMany s) = ap instr.StoreMany (stored_is s (low_at s.base.number) (held 1 256 (lit< tt) s.list.number) (low_is s.base) (held_is 1 256 (lit< tt) s.list s.list.number refl))
 instr_is (instr.LoadMany n l) = cc (low_is n, held_is 1 256 (lit< tt) l l.number refl)
 instr_is (instr.BranchIf c i) = cc (condition_is c, distance_is 128 (lit< tt) i i.field refl)
 instr_is (instr.Branch i) = ap instr.Branch (distance_is 1024 (lit< tt) i i.field refl)
 instr_is (instr.Call i) = ap instr.Call (distance_is 8388608 (lit< tt) i (call_value (call_fields i.field)) (call_again i.field (let l : i.field < 2 * 8388608 = i.below in omega arith)))
-instr_is (instr.Barrier b) = ap instr.Barrier (barrier_is b)
-instr_is (instr.ReadSpecial d s) = cc (general_is d, special_is s)
-instr_is (instr.WriteMask m) = ap instr.WriteMask (general_is m)
+instr_is i = simp (low_is, byte_is_number, general_is, sum_is, byte_is, operation_is, extension_is, reversal_is, access_is, word_is, hint_is, interrupts_is, barrier_is, special_is)
 
 -- ---- fields that no instruction has ----
 

@@ -1,5 +1,5 @@
 -- The numbers of operations: their limits, and the operation of each number.
-use Rattle.std.proofs.Common.{◌≡◌, ℕ, ◌-◌, ◌≤◌, ◌==◌, List, [], ◌∷◌, refl, arith, lit≤}
+use Rattle.std.proofs.Common.{◌≡◌, ℕ, ◌-◌, ◌≤◌, ◌==◌, [], ◌∷◌, refl, lit≤}
 use Rattle.std.specs.Prelude.{if◌then◌else◌, slice_index_or}
 use Rattle.thumb_instr.specs.declared.operation.Sum.{Sum}
 use Rattle.thumb_instr.specs.declared.operation.Sum.TheVariants as sum
@@ -61,9 +61,7 @@ right_is right.Asr = refl
 
 pub byte_most : (x : ByteOperation) → byte_number x ≤ 3
 byte_most byte.Mov = lit≤ tt
-byte_most byte.Cmp = lit≤ tt
-byte_most byte.Add = lit≤ tt
-byte_most byte.Sub = lit≤ tt
+byte_most x = lit≤ tt
 
 unfoldable pub byte_at : ℕ → ByteOperation
 byte_at n = slice_index_or (byte.Mov ∷ byte.Cmp ∷ byte.Add ∷ byte.Sub ∷ []) n byte.Mov
@@ -71,27 +69,11 @@ byte_at n = slice_index_or (byte.Mov ∷ byte.Cmp ∷ byte.Add ∷ byte.Sub ∷ 
 pub byte_is : (x : ByteOperation) → byte_at (byte_number x) ≡ x
 unfolding byte_at
 byte_is byte.Mov = refl
-byte_is byte.Cmp = refl
-byte_is byte.Add = refl
-byte_is byte.Sub = refl
+byte_is x = refl
 
 pub operation_most : (x : Operation) → operation_number x ≤ 15
 operation_most operation.And = lit≤ tt
-operation_most operation.Eor = lit≤ tt
-operation_most operation.Lsl = lit≤ tt
-operation_most operation.Lsr = lit≤ tt
-operation_most operation.Asr = lit≤ tt
-operation_most operation.Adc = lit≤ tt
-operation_most operation.Sbc = lit≤ tt
-operation_most operation.Ror = lit≤ tt
-operation_most operation.Tst = lit≤ tt
-operation_most operation.Rsb = lit≤ tt
-operation_most operation.Cmp = lit≤ tt
-operation_most operation.Cmn = lit≤ tt
-operation_most operation.Orr = lit≤ tt
-operation_most operation.Mul = lit≤ tt
-operation_most operation.Bic = lit≤ tt
-operation_most operation.Mvn = lit≤ tt
+operation_most x = lit≤ tt
 
 unfoldable pub operation_at : ℕ → Operation
 operation_at n = slice_index_or (operation.And ∷ operation.Eor ∷ operation.Lsl ∷ operation.Lsr ∷ operation.Asr ∷ operation.Adc ∷ operation.Sbc ∷ operation.Ror ∷ operation.Tst ∷ operation.Rsb ∷ operation.Cmp ∷ operation.Cmn ∷ operation.Orr ∷ operation.Mul ∷ operation.Bic ∷ operation.Mvn ∷ []) n operation.And
@@ -99,27 +81,11 @@ operation_at n = slice_index_or (operation.And ∷ operation.Eor ∷ operation.L
 pub operation_is : (x : Operation) → operation_at (operation_number x) ≡ x
 unfolding operation_at
 operation_is operation.And = refl
-operation_is operation.Eor = refl
-operation_is operation.Lsl = refl
-operation_is operation.Lsr = refl
-operation_is operation.Asr = refl
-operation_is operation.Adc = refl
-operation_is operation.Sbc = refl
-operation_is operation.Ror = refl
-operation_is operation.Tst = refl
-operation_is operation.Rsb = refl
-operation_is operation.Cmp = refl
-operation_is operation.Cmn = refl
-operation_is operation.Orr = refl
-operation_is operation.Mul = refl
-operation_is operation.Bic = refl
-operation_is operation.Mvn = refl
+operation_is x = refl
 
 pub extension_most : (x : Extension) → extension_number x ≤ 3
 extension_most extension.Sxth = lit≤ tt
-extension_most extension.Sxtb = lit≤ tt
-extension_most extension.Uxth = lit≤ tt
-extension_most extension.Uxtb = lit≤ tt
+extension_most x = lit≤ tt
 
 unfoldable pub extension_at : ℕ → Extension
 extension_at n = slice_index_or (extension.Sxth ∷ extension.Sxtb ∷ extension.Uxth ∷ extension.Uxtb ∷ []) n extension.Sxth
@@ -127,14 +93,11 @@ extension_at n = slice_index_or (extension.Sxth ∷ extension.Sxtb ∷ extension
 pub extension_is : (x : Extension) → extension_at (extension_number x) ≡ x
 unfolding extension_at
 extension_is extension.Sxth = refl
-extension_is extension.Sxtb = refl
-extension_is extension.Uxth = refl
-extension_is extension.Uxtb = refl
+extension_is x = refl
 
 pub reversal_most : (x : Reversal) → reversal_number x ≤ 3
 reversal_most reversal.Rev = lit≤ tt
-reversal_most reversal.Rev16 = lit≤ tt
-reversal_most reversal.Revsh = lit≤ tt
+reversal_most x = lit≤ tt
 
 unfoldable pub reversal_at : ℕ → Reversal
 reversal_at n = slice_index_or (reversal.Rev ∷ reversal.Rev16 ∷ reversal.Rev ∷ reversal.Revsh ∷ []) n reversal.Rev
@@ -142,18 +105,11 @@ reversal_at n = slice_index_or (reversal.Rev ∷ reversal.Rev16 ∷ reversal.Rev
 pub reversal_is : (x : Reversal) → reversal_at (reversal_number x) ≡ x
 unfolding reversal_at
 reversal_is reversal.Rev = refl
-reversal_is reversal.Rev16 = refl
-reversal_is reversal.Revsh = refl
+reversal_is x = refl
 
 pub access_most : (x : Access) → access_number x ≤ 7
 access_most access.Str = lit≤ tt
-access_most access.Strh = lit≤ tt
-access_most access.Strb = lit≤ tt
-access_most access.Ldrsb = lit≤ tt
-access_most access.Ldr = lit≤ tt
-access_most access.Ldrh = lit≤ tt
-access_most access.Ldrb = lit≤ tt
-access_most access.Ldrsh = lit≤ tt
+access_most x = lit≤ tt
 
 unfoldable pub access_at : ℕ → Access
 access_at n = slice_index_or (access.Str ∷ access.Strh ∷ access.Strb ∷ access.Ldrsb ∷ access.Ldr ∷ access.Ldrh ∷ access.Ldrb ∷ access.Ldrsh ∷ []) n access.Str
@@ -161,29 +117,15 @@ access_at n = slice_index_or (access.Str ∷ access.Strh ∷ access.Strb ∷ acc
 pub access_is : (x : Access) → access_at (access_number x) ≡ x
 unfolding access_at
 access_is access.Str = refl
-access_is access.Strh = refl
-access_is access.Strb = refl
-access_is access.Ldrsb = refl
-access_is access.Ldr = refl
-access_is access.Ldrh = refl
-access_is access.Ldrb = refl
-access_is access.Ldrsh = refl
+access_is x = refl
 
 pub offset_least : (x : OffsetAccess) → 12 ≤ offset_number x
 offset_least offset.Str = lit≤ tt
-offset_least offset.Ldr = lit≤ tt
-offset_least offset.Strb = lit≤ tt
-offset_least offset.Ldrb = lit≤ tt
-offset_least offset.Strh = lit≤ tt
-offset_least offset.Ldrh = lit≤ tt
+offset_least x = lit≤ tt
 
 pub offset_most : (x : OffsetAccess) → offset_number x ≤ 17
 offset_most offset.Str = lit≤ tt
-offset_most offset.Ldr = lit≤ tt
-offset_most offset.Strb = lit≤ tt
-offset_most offset.Ldrb = lit≤ tt
-offset_most offset.Strh = lit≤ tt
-offset_most offset.Ldrh = lit≤ tt
+offset_most x = lit≤ tt
 
 unfoldable pub offset_at : ℕ → OffsetAccess
 offset_at n = slice_index_or (offset.Str ∷ offset.Ldr ∷ offset.Strb ∷ offset.Ldrb ∷ offset.Strh ∷ offset.Ldrh ∷ []) (n - 12) offset.Str
@@ -191,11 +133,7 @@ offset_at n = slice_index_or (offset.Str ∷ offset.Ldr ∷ offset.Strb ∷ offs
 pub offset_is : (x : OffsetAccess) → offset_at (offset_number x) ≡ x
 unfolding offset_at
 offset_is offset.Str = refl
-offset_is offset.Ldr = refl
-offset_is offset.Strb = refl
-offset_is offset.Ldrb = refl
-offset_is offset.Strh = refl
-offset_is offset.Ldrh = refl
+offset_is x = refl
 
 pub word_most : (x : WordAccess) → word_number x ≤ 1
 word_most word.Str = lit≤ tt
@@ -211,19 +149,7 @@ word_is word.Ldr = refl
 
 pub condition_most : (x : Condition) → condition_number x ≤ 13
 condition_most condition.Eq = lit≤ tt
-condition_most condition.Ne = lit≤ tt
-condition_most condition.Cs = lit≤ tt
-condition_most condition.Cc = lit≤ tt
-condition_most condition.Mi = lit≤ tt
-condition_most condition.Pl = lit≤ tt
-condition_most condition.Vs = lit≤ tt
-condition_most condition.Vc = lit≤ tt
-condition_most condition.Hi = lit≤ tt
-condition_most condition.Ls = lit≤ tt
-condition_most condition.Ge = lit≤ tt
-condition_most condition.Lt = lit≤ tt
-condition_most condition.Gt = lit≤ tt
-condition_most condition.Le = lit≤ tt
+condition_most x = lit≤ tt
 
 unfoldable pub condition_at : ℕ → Condition
 condition_at n = slice_index_or (condition.Eq ∷ condition.Ne ∷ condition.Cs ∷ condition.Cc ∷ condition.Mi ∷ condition.Pl ∷ condition.Vs ∷ condition.Vc ∷ condition.Hi ∷ condition.Ls ∷ condition.Ge ∷ condition.Lt ∷ condition.Gt ∷ condition.Le ∷ []) n condition.Eq
@@ -231,26 +157,11 @@ condition_at n = slice_index_or (condition.Eq ∷ condition.Ne ∷ condition.Cs 
 pub condition_is : (x : Condition) → condition_at (condition_number x) ≡ x
 unfolding condition_at
 condition_is condition.Eq = refl
-condition_is condition.Ne = refl
-condition_is condition.Cs = refl
-condition_is condition.Cc = refl
-condition_is condition.Mi = refl
-condition_is condition.Pl = refl
-condition_is condition.Vs = refl
-condition_is condition.Vc = refl
-condition_is condition.Hi = refl
-condition_is condition.Ls = refl
-condition_is condition.Ge = refl
-condition_is condition.Lt = refl
-condition_is condition.Gt = refl
-condition_is condition.Le = refl
+condition_is x = refl
 
 pub hint_most : (x : Hint) → hint_number x ≤ 4
 hint_most hint.Nop = lit≤ tt
-hint_most hint.Yield = lit≤ tt
-hint_most hint.Wfe = lit≤ tt
-hint_most hint.Wfi = lit≤ tt
-hint_most hint.Sev = lit≤ tt
+hint_most x = lit≤ tt
 
 unfoldable pub hint_at : ℕ → Hint
 hint_at n = slice_index_or (hint.Nop ∷ hint.Yield ∷ hint.Wfe ∷ hint.Wfi ∷ hint.Sev ∷ []) n hint.Nop
@@ -258,10 +169,7 @@ hint_at n = slice_index_or (hint.Nop ∷ hint.Yield ∷ hint.Wfe ∷ hint.Wfi �
 pub hint_is : (x : Hint) → hint_at (hint_number x) ≡ x
 unfolding hint_at
 hint_is hint.Nop = refl
-hint_is hint.Yield = refl
-hint_is hint.Wfe = refl
-hint_is hint.Wfi = refl
-hint_is hint.Sev = refl
+hint_is x = refl
 
 pub interrupts_most : (x : Interrupts) → interrupts_number x ≤ 1
 interrupts_most interrupts.Enable = lit≤ tt
@@ -277,13 +185,11 @@ interrupts_is interrupts.Disable = refl
 
 pub barrier_least : (x : Barrier) → 4 ≤ barrier_number x
 barrier_least barrier.Dsb = lit≤ tt
-barrier_least barrier.Dmb = lit≤ tt
-barrier_least barrier.Isb = lit≤ tt
+barrier_least x = lit≤ tt
 
 pub barrier_most : (x : Barrier) → barrier_number x ≤ 6
 barrier_most barrier.Dsb = lit≤ tt
-barrier_most barrier.Dmb = lit≤ tt
-barrier_most barrier.Isb = lit≤ tt
+barrier_most x = lit≤ tt
 
 unfoldable pub barrier_at : ℕ → Barrier
 barrier_at n = slice_index_or (barrier.Dsb ∷ barrier.Dmb ∷ barrier.Isb ∷ []) (n - 4) barrier.Dsb
@@ -291,8 +197,7 @@ barrier_at n = slice_index_or (barrier.Dsb ∷ barrier.Dmb ∷ barrier.Isb ∷ [
 pub barrier_is : (x : Barrier) → barrier_at (barrier_number x) ≡ x
 unfolding barrier_at
 barrier_is barrier.Dsb = refl
-barrier_is barrier.Dmb = refl
-barrier_is barrier.Isb = refl
+barrier_is x = refl
 
 pub special_least : (x : Special) → 5 ≤ special_number x
 special_least special.Primask = lit≤ tt

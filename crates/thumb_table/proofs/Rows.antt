@@ -1,5 +1,5 @@
 -- Rows of bits: what they make, and that no number agrees with two.
-use Rattle.std.proofs.Common.{◌≡◌, ◌∙◌, inl, inr, ℕ, zero, suc, ◌+◌, ◌-◌, ◌*◌, ◌/◌, ◌%◌, ◌^◌, ◌<◌, ◌≤◌, ◌==◌, ◌&&◌, ◌||◌, Bool, true, false, List, [], ◌∷◌, ◌++◌, refl, sym, ap, subst, arith, true≢false, eqb-true}
+use Rattle.std.proofs.Common.{◌≡◌, ◌∙◌, inl, inr, ℕ, suc, ◌+◌, ◌-◌, ◌*◌, ◌/◌, ◌%◌, ◌^◌, ◌<◌, ◌≤◌, ◌==◌, ◌&&◌, ◌||◌, Bool, true, false, List, [], ◌∷◌, ◌++◌, refl, sym, ap, subst, arith, true≢false, eqb-true}
 use Rattle.std.specs.Prelude.{if◌then◌else◌, nat_lt, nat_le}
 use Rattle.std.proofs.Math.Pow.{high, low, split, field, mod-mod-pow}
 use Rattle.std.proofs.Math.Nat.{mod-lt, div-one, div-mul-le_self, le-div_iff_mul-le}
@@ -104,13 +104,11 @@ cut w (Field v a b) ps = Field w (a / 2 ^ (v - w)) (b / 2 ^ (v - w)) ∷ Field (
 
 -- in at most n steps a place is found where the rows differ
 unfoldable pub clash : ℕ → List Piece → List Piece → Bool
-clash zero ps qs = false
-clash (suc n) [] qs = false
-clash (suc n) (p ∷ ps) [] = false
 clash (suc n) (p ∷ ps) (q ∷ qs) =
     if width_of p == width_of q then disjoint p q || clash n ps qs
     else if nat_lt (width_of p) (width_of q) then clash n (p ∷ ps) (cut (width_of p) q qs)
     else clash n (cut (width_of q) p ps) (q ∷ qs)
+clash k l m = false
 
 div_below : (a b k : ℕ) → 0 < k → a ≤ b → a / k ≤ b / k
 div_below a b k h l = let m : a / k * k ≤ a = div-mul-le_self a k in (le-div_iff_mul-le {k = k} {x = a / k} {y = b} h).1 (omega arith)
@@ -163,9 +161,6 @@ no_both p q h d a b =
 
 pub clash_apart : (n : ℕ) (ps qs : List Piece) (c : ℕ) → clash n ps qs ≡ true → width ps ≡ width qs → agrees ps c ≡ true → agrees qs c ≡ true → ⊥
 unfolding clash agrees
-clash_apart zero ps qs c k w a b = true≢false (sym k)
-clash_apart (suc n) [] qs c k w a b = true≢false (sym k)
-clash_apart (suc n) (p ∷ ps) [] c k w a b = true≢false (sym k)
 clash_apart (suc n) (p ∷ ps) (q ∷ qs) c k w a b =
     elim (cases_Bool (width_of p == width_of q)) [
       | inl e ↦
@@ -191,6 +186,7 @@ clash_apart (suc n) (p ∷ ps) (q ∷ qs) c k w a b =
                 clash_apart n (cut (width_of q) p ps) (q ∷ qs) c kb (cut_width (width_of q) p ps lt ∙ w) (cut_agrees (width_of q) p ps c lt a) b)
           ])
     ]
+clash_apart n ps qs c k w a b = true≢false (sym k)
 
 -- ---- rows of one halfword among those of two ----
 

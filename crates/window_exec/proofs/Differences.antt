@@ -1,6 +1,6 @@
 -- Eight tests, of r0 to r3 and the flags, find each item of a mask that differs.
 use Rattle.std.proofs.Common.{◌≡◌, ℕ, zero, suc, ◌+◌, ◌-◌, ◌<◌, ◌≤◌, ◌↔◌, ◌==◌, ◌&&◌, ◌||◌, not, Bool, true, false, IsTrue, inl, inr, refl, subst, arith, nat_lt, nat_le, eq-eqb}
-use Rattle.std.proofs.lemmas.Bool.{cases_Bool, or_cases, or_left, or_right, eqb-true, ltb-true, leb-true}
+use Rattle.std.proofs.lemmas.Bool.{cases_Bool, and_parts, or_cases, or_left, or_right, eqb-true, ltb-true, leb-true}
 use Rattle.thumb_instr.specs.Items.{has, is_in_masks}
 use Rattle.thumb_model.specs.Items.{Values}
 use Rattle.window_exec.specs.Telling.{Differ}
@@ -15,15 +15,12 @@ differs_anywhere mask v w =
     let t = differs_at mask v w in
     t 0 || t 1 || t 2 || t 3 || t 15 || t 16 || t 17 || t 18
 
-both : (a b : Bool) → (a && b) ≡ true → (a ≡ true) × (b ≡ true)
-both true b h = (refl, h)
-both false b h = absurd cc
-
-either : {D : Type 0} (a b : Bool) → (a ≡ true → D) → (b ≡ true → D) → (a || b) ≡ true → D
+-- what follows from each of two tests follows from one of them
+pub either : {D : Type 0} (a b : Bool) → (a ≡ true → D) → (b ≡ true → D) → (a || b) ≡ true → D
 either a b f g h = elim (or_cases a b h) [ inl l ↦ f l | inr r ↦ g r ]
 
 -- what holds of each item of masks
-of_four : (P : ℕ → Type 0) → P 0 → P 1 → P 2 → P 3 → (x : ℕ) → x < 4 → P x
+pub of_four : (P : ℕ → Type 0) → P 0 → P 1 → P 2 → P 3 → (x : ℕ) → x < 4 → P x
 of_four P a b c d zero h = a
 of_four P a b c d (suc zero) h = b
 of_four P a b c d (suc (suc zero)) h = c
@@ -35,7 +32,7 @@ of_eight P a b c d n z k v x =
     either (nat_lt x 4) (nat_le 15 x && nat_lt x 19)
     (λ low. of_four P a b c d x (ltb-true x 4 low))
     (λ flag.
-    let parts = both (nat_le 15 x) (nat_lt x 19) flag in
+    let parts = and_parts (nat_le 15 x) (nat_lt x 19) flag in
     let least : 15 ≤ x = leb-true 15 x parts.0 in
     let below : x < 19 = ltb-true x 19 parts.1 in
     let e : 15 + (x - 15) ≡ x = omega arith in
@@ -45,7 +42,7 @@ of_eight P a b c d n z k v x =
 -- a test that succeeds shows an item that differs
 shows : (mask : ℕ) (v w : Values) (x : ℕ) → differs_at mask v w x ≡ true → Differ v w mask
 shows mask v w x h =
-    let parts = both (has mask x) (not (v x == w x)) h in
+    let parts = and_parts (has mask x) (not (v x == w x)) h in
     (x, parts.0, λ e. let same : (v x == w x) ≡ true = eq-eqb (v x) (w x) e in absurd (cc))
 
 -- and one that differs makes its test succeed
