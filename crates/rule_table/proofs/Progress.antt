@@ -15,10 +15,6 @@ use Rattle.rule_table.specs.Items.{IsItem}
 use Rattle.rule_table.specs.Grammar.{Stage, Start, Done, step, run}
 use Rattle.rule_table.specs.Steps.{Follows, StepsTo}
 use Rattle.rule_table.specs.declared.errors.TableError.TheVariants as error
-use Rattle.rule_table.specs.declared.table.Table.{Table as Code}
-use Rattle.rule_table.specs.declared.stages.Reading.{Reading}
-use Rattle.rule_table.specs.declared.stages.Reading.TheVariants as reading
-use Rattle.rule_table.specs.StageView.{stage_of}
 use Rattle.rule_table.specs.Views.{table_of}
 use Rattle.rule_table.specs.Refused.{IsText, Begins, Stops, IsRefused, OneTable, NotBoth, RefusedOnce, WrittenReadsBack}
 use Rattle.rule_table.proofs.ReadBack.{run-append, reads}
@@ -387,8 +383,3 @@ whole_at bytes left s t n g e done =
     let P : List Placed → Type 0 = λ w. Progress bytes w s n in
     let Q : Stage → Type 0 = λ u. Progress bytes [] u n in
     whole_text bytes t n (subst Q done (subst P e g))
-
--- what isn't done as code isn't done
-pub undone : (r : Reading) → ((x : Code) → r ≡ reading.Done x → ⊥) → (t : Table) → stage_of r ≡ Done t → ⊥
-undone (reading.Done x) h t e = h x refl
-undone r h t e = absurd cc

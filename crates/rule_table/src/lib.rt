@@ -19,6 +19,7 @@
 //! ```
 #![tactic(auto)]
 
+mod draft;
 mod errors;
 mod item;
 pub mod laws;

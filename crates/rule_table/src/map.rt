@@ -45,6 +45,13 @@ impl Map {
         Map { registers }
     }
 
+    /// How many registers it has in place of others, counting those where it has none.
+    pub fn len(&self) -> usize
+        ensures { result ≡ length self.now }
+    {
+        self.registers.len()
+    }
+
     /// The register in place of a canonical one: None exactly where the map doesn't have that.
     pub fn get(&self, canonical: u8) -> Option<Low>
         ensures { result ≡ option_and_then (λ o. o) (slice_get self.now canonical) }

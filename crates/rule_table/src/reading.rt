@@ -1,30 +1,26 @@
 //! The table of a text.
-ghost use Rattle.std.specs.Prelude.{◌≡◌, option_map, IfOk};
+ghost use Rattle.std.specs.Prelude.{IfOk};
 ghost use Rattle.ascii_scan.specs.Source.{line_view};
-ghost use Rattle.rule_table.specs.StageView.{stage_of};
+ghost use Rattle.rule_table.specs.StageView.{stage_of, goes};
 ghost use Rattle.rule_table.specs.Steps.{StepsTo};
 ghost use Rattle.rule_table.specs.Refused.{Reads};
 
 use crate::errors::{Memory, TableError};
-use crate::stages::{Reading, step};
+use crate::stages::{Head, Reading, finished, step};
 use crate::table::Table;
 use crate::telling::read_item;
 use ascii_scan::{Lines, SourceLine};
 use std::alloc::Global;
 
-/// What has been read with one more line; None where it lacks its newline, says nothing, or may not follow.
-fn step_line(
-    alloc: Global,
-    reading: Reading,
-    line: SourceLine<'_>,
-) -> Result<Option<Reading>, Memory>
-    ensures { IfOk result (λ o. StepsTo (stage_of reading) (line_view line.entry) (option_map stage_of o)) }
+/// Goes on by one line; false where it lacks its newline, says nothing, or may not follow.
+fn step_line(alloc: Global, reading: &mut Reading, line: SourceLine<'_>) -> Result<bool, Memory>
+    ensures { IfOk result (λ b. StepsTo (stage_of reading.old) (line_view line.entry) (goes b (stage_of reading.new))) }
 {
     if !line.is_ended {
-        return Ok(None);
+        return Ok(false);
     }
     match read_item(alloc, line.text)? {
-        None => Ok(None),
+        None => Ok(false),
         Some(item) => step(alloc, reading, item),
     }
 }
@@ -35,17 +31,16 @@ fn step_line(
 pub fn read_table(alloc: Global, text: &[u8]) -> Result<Table, TableError>
     ensures { Reads text.now result }
 {
-    let mut reading = Reading::Start;
+    let mut reading = Reading::Head(Head::Start);
     let mut number = 1u64;
     for line in Lines::new(text) {
-        match step_line(alloc, reading, line)? {
-            None => return Err(TableError::Line(number)),
-            Some(next) => reading = next,
+        if !step_line(alloc, &mut reading, line)? {
+            return Err(TableError::Line(number));
         }
         number += 1;
     }
-    match reading {
-        Reading::Done(table) => Ok(table),
-        _ => Err(TableError::Line(number)),
+    match finished(reading) {
+        Some(table) => Ok(table),
+        None => Err(TableError::Line(number)),
     }
 }

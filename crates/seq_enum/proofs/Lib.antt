@@ -7,3 +7,4 @@ pub mod Mnemonics
 pub mod Words
 pub mod Pairs
 pub mod Steps
+pub mod Starts

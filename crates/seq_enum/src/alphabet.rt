@@ -1,17 +1,17 @@
-ghost use Rattle.std.specs.Prelude.{◌≡◌, ◌≢◌, ◌+◌, ◌-◌, ◌≤◌, ◌<◌, ◌*◌, length, slice_get, IfSome, IsNone, MatchOption, take};
+ghost use Rattle.std.specs.Prelude.{◌≡◌, ◌≢◌, ◌+◌, ◌-◌, ◌≤◌, ◌<◌, ◌*◌, length, slice_get, IfSome, MatchOption};
 ghost use Rattle.std.specs.List.{flat_map};
-ghost use Rattle.std.specs.Option.{option_map};
 ghost use Rattle.seq_enum.specs.Lists.{IsPlace, held_in};
-ghost use Rattle.seq_enum.specs.Places.{rank};
-ghost use Rattle.seq_enum.specs.Alphabet.{alphabet, members, rows, pair_of, wide};
+ghost use Rattle.seq_enum.specs.Alphabet.{alphabet, members, pair_of, wide};
+ghost use Rattle.seq_enum.specs.Numberings.{IsNumbering};
 ghost use Rattle.thumb_instr.specs.declared.within.Within.{Within};
 
 use crate::members::{count_of, member};
+use crate::numbering::Numbering;
 use crate::places::{
     place_of_byte, place_of_left, place_of_number, place_of_pair, place_of_right, place_of_three,
 };
 use crate::pool::Pool;
-use crate::rows::{Pair, Row, rank, rows};
+use crate::rows::{Pair, Row, rows};
 use thumb_instr::{Instr, Low, Reg, Within};
 
 /// How many instructions the alphabet of the first `k` registers and a pool has. With p numbers in the pool, p7 of them from 0 to 7,
@@ -39,12 +39,13 @@ pub(crate) fn instr_at(k: u8, pool: &Pool, place: u64) -> Option<Instr>
 }
 
 /// An instruction's place in the alphabet.
-pub(crate) fn place_of(k: u8, pool: &Pool, instr: &Instr) -> Option<u64>
-    requires some { 0 < k }
-    requires few { k ≤ 4 }
-    ensures value { IsPlace result (alphabet k pool.now) instr.now }
+pub(crate) fn place_of(numbering: &Numbering<'_>, instr: &Instr) -> Option<u64>
+    requires { IsNumbering numbering.now }
+    ensures value { IsPlace result (alphabet numbering.now.registers numbering.now.pool.now) instr.now }
     ensures small { IfSome result (λ i. i < 16384) }
 {
+    let k = numbering.registers;
+    let pool = numbering.pool;
     match *instr {
         Instr::Three {
             sum,
@@ -53,7 +54,7 @@ pub(crate) fn place_of(k: u8, pool: &Pool, instr: &Instr) -> Option<u64>
             right,
         } => {
             let place = place_of_three(k, pool, sum, target, left, right);
-            behind(Row::Three(sum), k, pool, place)
+            numbering.behind(Row::Three(sum), place)
         }
         Instr::ThreeNumber {
             sum,
@@ -62,7 +63,7 @@ pub(crate) fn place_of(k: u8, pool: &Pool, instr: &Instr) -> Option<u64>
             number,
         } => {
             let place = place_of_number(k, pool, sum, target, source, number);
-            behind(Row::Number(sum), k, pool, place)
+            numbering.behind(Row::Number(sum), place)
         }
         Instr::TwoNumber {
             operation,
@@ -70,7 +71,7 @@ pub(crate) fn place_of(k: u8, pool: &Pool, instr: &Instr) -> Option<u64>
             number,
         } => {
             let place = place_of_byte(k, pool, operation, target, number);
-            behind(Row::Byte(operation), k, pool, place)
+            numbering.behind(Row::Byte(operation), place)
         }
         Instr::ShiftLeft {
             target,
@@ -78,7 +79,7 @@ pub(crate) fn place_of(k: u8, pool: &Pool, instr: &Instr) -> Option<u64>
             amount,
         } => {
             let place = place_of_left(k, pool, target, source, amount);
-            behind(Row::Left, k, pool, place)
+            numbering.behind(Row::Left, place)
         }
         Instr::ShiftRight {
             shift,
@@ -87,44 +88,44 @@ pub(crate) fn place_of(k: u8, pool: &Pool, instr: &Instr) -> Option<u64>
             amount,
         } => {
             let place = place_of_right(k, pool, shift, target, source, amount);
-            behind(Row::Right(shift), k, pool, place)
+            numbering.behind(Row::Right(shift), place)
         }
         Instr::Two {
             operation,
             target,
             other,
-        } => pair_place(k, pool, Pair::Two(operation), target, other),
-        Instr::Movs { target, source } => pair_place(k, pool, Pair::Movs, target, source),
+        } => pair_place(numbering, Pair::Two(operation), target, other),
+        Instr::Movs { target, source } => pair_place(numbering, Pair::Movs, target, source),
         Instr::Mov { target, source } => match lows(target, source) {
-            Some((target, source)) => pair_place(k, pool, Pair::Mov, target, source),
+            Some((target, source)) => pair_place(numbering, Pair::Mov, target, source),
             None => None,
         },
         Instr::Add { registers } => match lows(registers.target, registers.source) {
-            Some((target, source)) => pair_place(k, pool, Pair::Add, target, source),
+            Some((target, source)) => pair_place(numbering, Pair::Add, target, source),
             None => None,
         },
         Instr::Extend {
             extension,
             target,
             source,
-        } => pair_place(k, pool, Pair::Extend(extension), target, source),
+        } => pair_place(numbering, Pair::Extend(extension), target, source),
         Instr::Reverse {
             reversal,
             target,
             source,
-        } => pair_place(k, pool, Pair::Reverse(reversal), target, source),
+        } => pair_place(numbering, Pair::Reverse(reversal), target, source),
         _ => None,
     }
 }
 
 /// The place of an instruction with two registers.
-fn pair_place(k: u8, pool: &Pool, pair: Pair, target: Low, other: Low) -> Option<u64>
-    requires { k ≤ 4 }
-    ensures value { IsPlace result (alphabet k pool.now) (pair_of pair target other) }
+fn pair_place(numbering: &Numbering<'_>, pair: Pair, target: Low, other: Low) -> Option<u64>
+    requires { IsNumbering numbering.now }
+    ensures value { IsPlace result (alphabet numbering.now.registers numbering.now.pool.now) (pair_of pair target other) }
     ensures small { IfSome result (λ i. i < 16384) }
 {
-    let place = place_of_pair(k, pool, pair, target, other);
-    behind(Row::Pair(pair), k, pool, place)
+    let place = place_of_pair(numbering.registers, numbering.pool, pair, target, other);
+    numbering.behind(Row::Pair(pair), place)
 }
 
 /// Two registers as low ones, where both are.
@@ -135,17 +136,6 @@ fn lows(target: Reg, source: Reg) -> Option<(Low, Low)>
         (Some(d), Some(m)) => Some((d, m)),
         _ => None,
     }
-}
-
-/// The place in the alphabet of what has this place among the instructions of its mnemonic.
-fn behind(row: Row, k: u8, pool: &Pool, place: Option<u64>) -> Option<u64>
-    requires few { k ≤ 4 }
-    requires small { IfSome place (λ i. i < 2048) }
-    ensures value { result ≡ option_map (λ b. length (flat_map (members k pool.now) (take (rank row) rows)) + b) place }
-    ensures small { IfSome result (λ i. i < 16384) }
-{
-    let before = total_of(&rows()[..rank(row)], k, pool);
-    Some(before + place?)
 }
 
 fn total_of(rows: &[Row], k: u8, pool: &Pool) -> u64

@@ -3,6 +3,7 @@
 
 mod alphabet;
 mod members;
+mod numbering;
 mod places;
 mod pool;
 mod registers;
@@ -11,7 +12,8 @@ mod sequences;
 mod walk;
 
 pub use alphabet::size;
+pub use numbering::{Numbering, number_of};
 pub use pool::Pool;
 pub use rows::{Pair, Row};
-pub use sequences::{number_of, seq_at};
+pub use sequences::seq_at;
 pub use walk::{Walk, letters};

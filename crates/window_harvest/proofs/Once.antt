@@ -71,19 +71,19 @@ windows_back f k (i ∷ is) h a w =
 
 -- ---- names of registers ----
 
-abbrev AreDistinct : List ℕ → Type 0
+abbrev pub AreDistinct : List ℕ → Type 0
 AreDistinct [] = Unit {0}
 AreDistinct (x ∷ xs) = (has xs x ≡ false) × AreDistinct xs
 
-or_false : (a b : Bool) → a ≡ false → b ≡ false → (a || b) ≡ false
+pub or_false : (a b : Bool) → a ≡ false → b ≡ false → (a || b) ≡ false
 or_false true b e f = e
 or_false false b e f = f
 
-or_parts : (a b : Bool) → (a || b) ≡ false → (a ≡ false) × (b ≡ false)
+pub or_parts : (a b : Bool) → (a || b) ≡ false → (a ≡ false) × (b ≡ false)
 or_parts true b e = absurd (cc)
 or_parts false b e = (refl, e)
 
-has_append : (xs ys : List ℕ) (x : ℕ) → has (xs ++ ys) x ≡ (has xs x || has ys x)
+pub has_append : (xs ys : List ℕ) (x : ℕ) → has (xs ++ ys) x ≡ (has xs x || has ys x)
 has_append xs ys x = list_any-append (λ y. y == x) xs ys
 
 not_same : (a b : ℕ) → (a == b) ≡ false → (b == a) ≡ false
@@ -99,7 +99,7 @@ distinct_more (x ∷ xs) r d h =
     let p = or_parts (x == r) (has xs r) h in
     (has_append xs (r ∷ []) x ∙ or_false (has xs x) (has (r ∷ []) x) d.0 (or_false (r == x) false (not_same x r p.0) refl), distinct_more xs r d.1 p.1)
 
-distinct_firsts : (seen rs : List ℕ) → AreDistinct seen → AreDistinct (firsts seen rs)
+pub distinct_firsts : (seen rs : List ℕ) → AreDistinct seen → AreDistinct (firsts seen rs)
 unfolding firsts
 distinct_firsts seen [] d = d
 distinct_firsts seen (r ∷ rs) d = distinct_firsts (with_first seen r) rs (go (has seen r) refl)
@@ -108,7 +108,7 @@ distinct_firsts seen (r ∷ rs) d = distinct_firsts (with_first seen r) rs (go (
     go true h = d
     go false h = distinct_more seen r d h
 
-has_at : (xs : List ℕ) (i r : ℕ) → slice_get xs i ≡ Some r → has xs r ≡ true
+pub has_at : (xs : List ℕ) (i r : ℕ) → slice_get xs i ≡ Some r → has xs r ≡ true
 has_at [] i r e = absurd (cc)
 has_at (x ∷ xs) zero r e = let s : x ≡ r = cc in ap (λ b. b || has xs r) (eq-eqb x r s)
 has_at (x ∷ xs) (suc i) r e = go (x == r) (has_at xs i r e)
@@ -118,7 +118,7 @@ has_at (x ∷ xs) (suc i) r e = go (x == r) (has_at xs i r e)
     go false h = h
 
 -- a register's name is the place where it stands
-name_at : (xs : List ℕ) (i r : ℕ) → AreDistinct xs → slice_get xs i ≡ Some r → name_in xs r ≡ i
+pub name_at : (xs : List ℕ) (i r : ℕ) → AreDistinct xs → slice_get xs i ≡ Some r → name_in xs r ≡ i
 unfolding name_in
 name_at [] i r d e = absurd (cc)
 name_at (x ∷ xs) zero r d e = let s : x ≡ r = cc in rw (eq-eqb x r s) refl

@@ -1,3 +1,4 @@
 pub mod Harvest
 pub mod Keys
 pub mod LimitsOf
+pub mod Numberings

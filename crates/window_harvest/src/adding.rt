@@ -4,8 +4,10 @@ ghost use Rattle.thumb_model.specs.Listing.{Line};
 ghost use Rattle.window_harvest.specs.Harvest.{Pair, Spot, pair_of, StandsThere, IsPairAt, spots_at, AreAdded};
 ghost use Rattle.window_harvest.specs.Keys.{IsKey, AreSeen, IsPut};
 ghost use Rattle.window_harvest.specs.LimitsOf.{limits_of, AreOf};
+ghost use Rattle.window_harvest.specs.Numberings.{AreNumberings};
 
 use crate::keys::{Key, key_of};
+use crate::numberings::Numberings;
 use listing_parser::Memory;
 use liveness::Live;
 use rule_table::canonical;
@@ -15,22 +17,24 @@ use thumb_instr::{Instr, Items, Mask, Seq};
 use window_runs::rows::Row;
 use window_runs::runs::run;
 
-/// How many registers and instructions a window has at most, and the numbers that it may have.
+/// How many registers and instructions a window has at most, and the numbers that it may have, with what numbers the sequences over them.
 #[derive(Clone, Copy)]
 pub struct Limits<'a> {
     pub regs: u8,
     pub left: u8,
     pub pool: &'a Pool,
+    pub numberings: &'a Numberings<'a>,
 }
 
 /// The pair of a window after which these items are live, and its key.
 fn pair_at(limits: Limits<'_>, window: &[Instr], items: Items) -> Option<(Seq, Mask, Key)>
-    requires { limits.regs ≤ 4 }
+    requires regs { limits.regs ≤ 4 }
+    requires numberings { AreNumberings limits.pool.now limits.numberings.now }
     ensures { (lines : List Line) (spot : Spot) → StandsThere lines spot window.now items.bits → MatchOption result ((pair : Pair) → IsPairAt (limits_of limits.entry) lines spot pair → ⊥) (λ f. IsPairAt (limits_of limits.entry) lines spot (pair_of (f.0, f.1)) × IsKey limits.entry.pool.now (pair_of (f.0, f.1)) f.2) }
 {
     match canonical(window, items) {
         None => None,
-        Some((seq, _, mask)) => match key_of(&seq, mask, limits.regs, limits.pool) {
+        Some((seq, map, mask)) => match key_of(limits, map.len(), &seq, mask) {
             None => None,
             Some(key) => Some((seq, mask, key)),
         },
@@ -61,7 +65,8 @@ fn add_window(
     window: &[Instr],
     items: Items,
 ) -> Result<(), Memory>
-    requires { limits.regs ≤ 4 }
+    requires regs { limits.regs ≤ 4 }
+    requires numberings { AreNumberings limits.pool.now limits.numberings.now }
     ensures { OnOk result ((lines : List Line) (spot : Spot) → StandsThere lines spot window.now items.bits → AreSeen limits.entry.pool.now seen.old.keys (map pair_of pairs.old.items) → AreSeen limits.entry.pool.now seen.new.keys (map pair_of pairs.new.items) × AreAdded (limits_of limits.entry) lines (spot ∷ []) (map pair_of pairs.old.items) (map pair_of pairs.new.items)) }
 {
     match pair_at(limits, window, items) {
@@ -81,6 +86,7 @@ pub fn add_place(
 ) -> Result<(), Memory>
     requires regs { limits.regs ≤ 4 }
     requires left { limits.left ≤ 5 }
+    requires numberings { AreNumberings limits.pool.now limits.numberings.now }
     requires rows { length rows.now ≡ length live.now.after }
     requires few { length rows.now < 2 ^ 32 }
     requires place { place < length rows.now }

@@ -4,6 +4,7 @@ ghost use Rattle.liveness.specs.Live.{IsLive};
 ghost use Rattle.window_harvest.specs.Harvest.{AreHarvest, pair_of};
 
 use crate::adding::{Limits, add_place};
+use crate::numberings::Numberings;
 use listing_parser::{Listing, Memory};
 use liveness::Live;
 use seq_enum::Pool;
@@ -28,7 +29,13 @@ pub fn windows(
     requires left { left ≤ 5 }
     ensures { IfOk result (λ pairs. AreHarvest (record { regs = regs; left = left; pool = pool.now }) listing.now (map pair_of pairs.items)) }
 {
-    let limits = Limits { regs, left, pool };
+    let numberings = Numberings::new(pool);
+    let limits = Limits {
+        regs,
+        left,
+        pool,
+        numberings: &numberings,
+    };
     let rows = rows(alloc, listing.lines())?;
     let mut seen = HashSet::new(alloc);
     let mut pairs = Vec::new(alloc);

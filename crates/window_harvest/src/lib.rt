@@ -4,5 +4,6 @@
 mod adding;
 mod harvesting;
 mod keys;
+mod numberings;
 
 pub use harvesting::windows;

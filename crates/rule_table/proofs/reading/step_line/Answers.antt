@@ -1,20 +1,18 @@
-use Rattle.std.proofs.Common.{◌≡◌, Option}
-use Rattle.std.specs.Prelude.{option_map}
+use Rattle.std.proofs.Common.{◌≡◌, Bool}
 use Rattle.ascii_scan.specs.Source.{line_view}
 use Rattle.rule_table.specs.Grammar.{step}
 use Rattle.rule_table.specs.ItemView.{item_of}
-use Rattle.rule_table.specs.StageView.{stage_of}
+use Rattle.rule_table.specs.StageView.{stage_of, goes}
 use Rattle.rule_table.specs.Steps.{StepsTo}
-use Rattle.rule_table.specs.declared.stages.Reading.{Reading}
 use Rattle.rule_table.proofs.Progress.{line_steps}
 use Rattle.rule_table.proofs.ToldLemmas.{also}
 use Rattle.rule_table.proofs.reading.step_line.Goals as goal
 
 pub returns-in-Some : goal.returns-in-Some
 returns-in-Some c =
-    let s = stage_of c.args.reading in
+    let s = stage_of c.args.reading.now in
+    let t = stage_of c.step.new.reading in
     let line = line_view c.args.line in
     let i = item_of c.in-Some.item in
     let says = rw c.in-Some.is at c.in_ok-read_item.ensures in
-    also (λ (o : Option Reading). option_map stage_of o ≡ step s i) (λ (o : Option Reading). StepsTo s line (option_map stage_of o))
-    (λ o e. line_steps s line i (option_map stage_of o) c.if-not-line.false says.0 says.1 e) c.step.result c.step.ensures
+    also (λ (b : Bool). goes b t ≡ step s i) (λ (b : Bool). StepsTo s line (goes b t)) (λ b e. line_steps s line i (goes b t) c.if-not-line.false says.0 says.1 e) c.step.result c.step.ensures

@@ -1,0 +1,288 @@
+//! What has been read of a table behind its first lines. A line changes it in place.
+ghost use Rattle.std.specs.Prelude.{◌≡◌, ◌<◌, ◌∷◌, ◌++◌, [], map, length, IfOk, OnOk, MatchOption};
+ghost use Rattle.lrat_check.specs.Content.{content_of};
+ghost use Rattle.fingerprints.specs.Seeded.{seen};
+ghost use Rattle.rule_table.specs.Table.{Table as Held};
+ghost use Rattle.rule_table.specs.Views.{table_of, rule_of, opened_of};
+ghost use Rattle.rule_table.specs.ItemView.{item_of};
+ghost use Rattle.rule_table.specs.StageView.{draft_stage, goes};
+ghost use Rattle.rule_table.specs.Grammar.{step, is_empty, with_state, with_rule, with_opened, Stated as stated, Sided as sided, Masked as masked, Proved as proved, Opening as opening, Done as done};
+ghost use Rattle.rule_table.specs.declared.draft.Part.TheVariants as part;
+
+use crate::errors::Memory;
+use crate::item::Item;
+use crate::table::{Entry, Open, Table};
+use fingerprints::States;
+use std::alloc::{AllocError, Global};
+use std::mem;
+use thumb_instr::{Instr, Items, Mask, Seq};
+use window_exec::WState;
+
+/// How far the lines behind the first ones have come.
+#[derive(Clone, Copy)]
+pub(crate) enum Part {
+    /// states
+    Stated,
+    /// the sides of an entry, its mask, its proof, and a number that it leaves open
+    Sided,
+    Masked,
+    Proved,
+    Opening,
+    /// all
+    Done,
+}
+
+/// The table so far, the entry that is being read, and the number that it opened last. What a part doesn't have yet means nothing.
+#[derive(Drop)]
+pub(crate) struct Draft {
+    part: Part,
+    table: Table,
+    entry: Entry,
+    last: Open,
+}
+
+/// An entry of which nothing was read.
+fn empty(alloc: Global) -> Entry {
+    Entry {
+        left: Seq::new(),
+        right: Seq::new(),
+        mask: Mask::of(Items::none()),
+        opens: Vec::new(alloc),
+        proof: Vec::new(alloc),
+    }
+}
+
+/// A number that is left open, without its log.
+fn opened(alloc: Global, number: u64) -> Open
+    ensures { opened_of result ≡ record { number = number; log = [] } }
+{
+    Open {
+        number,
+        log: Vec::new(alloc),
+    }
+}
+
+/// Whether there is no instruction.
+fn is_empty(instrs: &[Instr]) -> bool
+    ensures { result ≡ is_empty instrs.now }
+{
+    match instrs.split_first() {
+        None => true,
+        Some(_) => false,
+    }
+}
+
+/// Puts one more state into a table.
+fn add_state(alloc: Global, table: &mut Table, state: WState) -> Result<(), Memory>
+    ensures { OnOk result (table_of table.new ≡ with_state (table_of table.old) (seen state)) }
+{
+    let mut states = mem::replace(&mut table.states, States::new(Vec::new(alloc))).into_vec();
+    states.push(state)?;
+    table.states = States::new(states);
+    Ok(())
+}
+
+impl Draft {
+    /// What stands behind the first lines: nothing yet.
+    pub(crate) fn new(alloc: Global, table: Table) -> Self
+        ensures { draft_stage result ≡ stated (table_of table) }
+    {
+        Draft {
+            part: Part::Stated,
+            table,
+            entry: empty(alloc),
+            last: opened(alloc, 0),
+        }
+    }
+
+    /// Goes on to a new entry.
+    fn begin(&mut self)
+        ensures { draft_stage self.new ≡ sided (table_of self.old.table) [] [] }
+    {
+        self.entry.left = Seq::new();
+        self.entry.right = Seq::new();
+        self.part = Part::Sided;
+    }
+
+    /// Puts the entry that was read behind the others.
+    fn keep_entry(&mut self, alloc: Global) -> Result<(), Memory>
+        ensures { OnOk result (table_of self.new.table ≡ with_rule (table_of self.old.table) (rule_of self.old.entry)) }
+    {
+        let entry = mem::replace(&mut self.entry, empty(alloc));
+        self.table.entries.push(entry)?;
+        Ok(())
+    }
+
+    /// Puts the number that was opened last behind the others of its entry.
+    fn keep_open(&mut self, alloc: Global) -> Result<(), Memory>
+        ensures entry { OnOk result (rule_of self.new.entry ≡ with_opened (rule_of self.old.entry) (opened_of self.old.last)) }
+        ensures table { OnOk result (table_of self.new.table ≡ table_of self.old.table) }
+        ensures part { self.new.part ≡ self.old.part }
+    {
+        let last = mem::replace(&mut self.last, opened(alloc, 0));
+        self.entry.opens.push(last)?;
+        Ok(())
+    }
+
+    /// Goes on by one line; false where it may not follow.
+    #[tactic(auto, unfolding(crate::specs::Grammar::step))]
+    pub(crate) fn take(&mut self, alloc: Global, item: Item) -> Result<bool, Memory>
+        ensures { IfOk result (λ b. goes b (draft_stage self.new) ≡ step (draft_stage self.old) (item_of item)) }
+    {
+        match self.part {
+            Part::Stated => self.take_stated(alloc, item),
+            Part::Sided => Ok(self.take_sided(item)),
+            Part::Masked => Ok(self.take_masked(alloc, item)),
+            Part::Proved => self.take_proved(alloc, item),
+            Part::Opening => self.take_opening(alloc, item),
+            Part::Done => Ok(false),
+        }
+    }
+
+    #[tactic(auto, unfolding(crate::specs::Grammar::step))]
+    fn take_stated(&mut self, alloc: Global, item: Item) -> Result<bool, Memory>
+        requires { self.old.part ≡ part.Stated }
+        ensures { IfOk result (λ b. goes b (draft_stage self.new) ≡ step (stated (table_of self.old.table)) (item_of item)) }
+    {
+        match item {
+            Item::State(state) => {
+                add_state(alloc, &mut self.table, state)?;
+                Ok(true)
+            }
+            Item::Entry => {
+                self.begin();
+                Ok(true)
+            }
+            Item::End => {
+                self.part = Part::Done;
+                Ok(true)
+            }
+            _ => Ok(false),
+        }
+    }
+
+    #[tactic(auto, unfolding(crate::specs::Grammar::step))]
+    fn take_sided(&mut self, item: Item) -> bool
+        requires { self.old.part ≡ part.Sided }
+        ensures { goes result (draft_stage self.new) ≡ step (sided (table_of self.old.table) self.old.entry.left self.old.entry.right) (item_of item) }
+    {
+        match item {
+            Item::Left(instr) => {
+                if self.entry.left.len() < 5 && is_empty(self.entry.right.as_slice()) {
+                    self.entry.left.push(instr);
+                    true
+                } else {
+                    false
+                }
+            }
+            Item::Right(instr) => {
+                if 0 < self.entry.left.len() && self.entry.right.len() < 5 {
+                    self.entry.right.push(instr);
+                    true
+                } else {
+                    false
+                }
+            }
+            Item::Mask(mask) => {
+                if 0 < self.entry.left.len() {
+                    self.entry.mask = mask;
+                    self.part = Part::Masked;
+                    true
+                } else {
+                    false
+                }
+            }
+            _ => false,
+        }
+    }
+
+    #[tactic(auto, unfolding(crate::specs::Grammar::step))]
+    fn take_masked(&mut self, alloc: Global, item: Item) -> bool
+        requires { self.old.part ≡ part.Masked }
+        ensures { goes result (draft_stage self.new) ≡ step (masked (table_of self.old.table) self.old.entry.left self.old.entry.right self.old.entry.mask.items.bits) (item_of item) }
+    {
+        match item {
+            Item::Proof => {
+                self.entry.opens = Vec::new(alloc);
+                self.entry.proof = Vec::new(alloc);
+                self.part = Part::Proved;
+                true
+            }
+            _ => false,
+        }
+    }
+
+    #[tactic(auto, unfolding(crate::specs::Grammar::step))]
+    fn take_proved(&mut self, alloc: Global, item: Item) -> Result<bool, Memory>
+        requires { self.old.part ≡ part.Proved }
+        ensures { IfOk result (λ b. goes b (draft_stage self.new) ≡ step (proved (table_of self.old.table) (rule_of self.old.entry)) (item_of item)) }
+    {
+        match item {
+            Item::Logged(line) => {
+                self.entry.proof.push(line)?;
+                Ok(true)
+            }
+            Item::Open(number) => {
+                self.last = opened(alloc, number);
+                self.part = Part::Opening;
+                Ok(true)
+            }
+            Item::Entry => {
+                self.keep_entry(alloc)?;
+                self.begin();
+                Ok(true)
+            }
+            Item::End => {
+                self.keep_entry(alloc)?;
+                self.part = Part::Done;
+                Ok(true)
+            }
+            _ => Ok(false),
+        }
+    }
+
+    #[tactic(auto, unfolding(crate::specs::Grammar::step))]
+    fn take_opening(&mut self, alloc: Global, item: Item) -> Result<bool, Memory>
+        requires { self.old.part ≡ part.Opening }
+        ensures { IfOk result (λ b. goes b (draft_stage self.new) ≡ step (opening (table_of self.old.table) (rule_of self.old.entry) (opened_of self.old.last)) (item_of item)) }
+    {
+        match item {
+            Item::Logged(line) => {
+                self.last.log.push(line)?;
+                Ok(true)
+            }
+            Item::Open(number) => {
+                if self.last.number < number {
+                    self.keep_open(alloc)?;
+                    self.last = opened(alloc, number);
+                    Ok(true)
+                } else {
+                    Ok(false)
+                }
+            }
+            Item::Entry => {
+                self.keep_open(alloc)?;
+                self.keep_entry(alloc)?;
+                self.begin();
+                Ok(true)
+            }
+            Item::End => {
+                self.keep_open(alloc)?;
+                self.keep_entry(alloc)?;
+                self.part = Part::Done;
+                Ok(true)
+            }
+            _ => Ok(false),
+        }
+    }
+
+    /// The table, where all was read.
+    pub(crate) fn finished(self) -> Option<Table>
+        ensures { MatchOption result ((t : Held) → draft_stage self ≡ done t → ⊥) (λ table. draft_stage self ≡ done (table_of table)) }
+    {
+        match self.part {
+            Part::Done => Some(self.table),
+            _ => None,
+        }
+    }
+}

@@ -1,0 +1,12 @@
+use Rattle.std.proofs.Common.{◌≡◌, ◌*◌, ◌≤◌, length, take}
+use Rattle.std.specs.List.{flat_map}
+use Rattle.seq_enum.specs.Alphabet.{members}
+use Rattle.seq_enum.specs.Numberings.{AreStarts}
+use Rattle.seq_enum.proofs.numbering.starts_of.Given as goal
+
+abbrev pub invariant-loop-row : goal.invariant-loop-row
+invariant-loop-row l = record {
+  so_far : AreStarts l.k l.pool (take l.row-index l.rows) l.starts.items;
+  total : l.total ≡ length (flat_map (members l.k l.pool) (take l.row-index l.rows));
+  small : l.total ≤ 256 * l.row-index;
+}

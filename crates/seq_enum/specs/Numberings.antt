@@ -1,0 +1,18 @@
+-- Numberings of sequences, with what lies before each mnemonic worked out.
+use Rattle.std.specs.Prelude.{◌≡◌, ◌≤◌, ◌<◌, ℕ, List, length, take, slice_get, Some}
+use Rattle.std.specs.List.{flat_map}
+use Rattle.seq_enum.specs.Alphabet.{rows, members, alphabet}
+use Rattle.seq_enum.specs.declared.rows.Row.{Row}
+use Rattle.seq_enum.specs.declared.numbering.Numbering.{Numbering}
+
+-- how many instructions lie before each mnemonic of a list
+pub record AreStarts (k : ℕ) (pool : List ℕ) (rows : List Row) (starts : List ℕ) : Type 0 where
+  pub as_many : length starts ≡ length rows
+  pub each : (i : ℕ) → i < length rows → slice_get starts i ≡ Some (length (flat_map (members k pool) (take i rows)))
+
+pub record IsNumbering (n : Numbering) : Type 0 where
+  pub some : 0 < n.registers
+  pub few : n.registers ≤ 4
+  pub starts : AreStarts n.registers n.pool.now rows n.starts.items
+  pub size : n.size ≡ length (alphabet n.registers n.pool.now)
+  pub small : n.size ≤ 1952

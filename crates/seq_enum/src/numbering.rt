@@ -1,0 +1,139 @@
+//! The numbers of sequences. What lies before each mnemonic of an alphabet is worked out once for all sequences that are numbered.
+ghost use Rattle.std.specs.Prelude.{◌≡◌, ◌≤◌, ◌<◌, ◌+◌, ◌*◌, ◌^◌, length, take, IfSome, Some};
+ghost use Rattle.std.specs.List.{flat_map};
+ghost use Rattle.std.specs.Option.{option_map};
+ghost use Rattle.seq_enum.specs.Lists.{IsPlace};
+ghost use Rattle.seq_enum.specs.Places.{rank, sum_below};
+ghost use Rattle.seq_enum.specs.Alphabet.{alphabet, members, rows, words, sequences};
+ghost use Rattle.seq_enum.specs.Numberings.{AreStarts, IsNumbering};
+
+use crate::alphabet::{place_of, size};
+use crate::members::count_of;
+use crate::pool::Pool;
+use crate::rows::{Row, rank, rows};
+use arrayvec::ArrayVec;
+use thumb_instr::{Instr, Seq};
+
+/// The numbering of the sequences over the first registers and a pool.
+#[derive(Drop)]
+pub struct Numbering<'a> {
+    pub(crate) registers: u8,
+    pub(crate) pool: &'a Pool,
+    /// how many instructions of the alphabet lie before each mnemonic
+    starts: ArrayVec<u64, 37>,
+    size: u64,
+}
+
+impl<'a> Numbering<'a> {
+    /// The numbering over the first `k` registers and a pool.
+    pub fn new(k: u8, pool: &'a Pool) -> Self
+        requires some { 0 < k }
+        requires few { k ≤ 4 }
+        ensures is { IsNumbering result }
+        ensures registers { result.registers ≡ k }
+        ensures pool { result.pool.now ≡ pool.now }
+    {
+        Numbering {
+            registers: k,
+            pool,
+            starts: starts_of(rows(), k, pool),
+            size: size(k, pool),
+        }
+    }
+
+    /// The number of a sequence: None exactly where some instruction is not in the alphabet.
+    pub fn number_of(&self, seq: &Seq) -> Option<u64>
+        requires { IsNumbering self.now }
+        ensures { IsPlace result (sequences self.now.registers self.now.pool.now) seq.now }
+    {
+        let instrs = seq.as_slice();
+        let before = shorter(self.size, instrs.len() as u32);
+        moved(before, self.place_of_word(instrs))
+    }
+
+    /// The place of a sequence among those of its length.
+    fn place_of_word(&self, instrs: &[Instr]) -> Option<u64>
+        requires is { IsNumbering self.now }
+        requires short { length instrs.now ≤ 5 }
+        ensures value { IsPlace result (words (alphabet self.now.registers self.now.pool.now) (length instrs.now)) instrs.now }
+        ensures small { IfSome result (λ i. i < 2 ^ 62) }
+    {
+        let size = self.size;
+        let mut place = 0;
+        for instr in instrs {
+            match place_of(self, instr) {
+                None => return None,
+                Some(digit) => place = place * size + digit,
+            }
+        }
+        Some(place)
+    }
+
+    /// The place in the alphabet of what has this place among the instructions of its mnemonic.
+    pub(crate) fn behind(&self, row: Row, place: Option<u64>) -> Option<u64>
+        requires is { IsNumbering self.now }
+        requires small { IfSome place (λ i. i < 2048) }
+        ensures value { result ≡ option_map (λ b. length (flat_map (members self.now.registers self.now.pool.now) (take (rank row) rows)) + b) place }
+        ensures small { IfSome result (λ i. i < 16384) }
+    {
+        let before = self.before(row);
+        Some(before + place?)
+    }
+
+    /// How many instructions of the alphabet lie before those of a mnemonic.
+    fn before(&self, row: Row) -> u64
+        requires { IsNumbering self.now }
+        ensures value { result ≡ length (flat_map (members self.now.registers self.now.pool.now) (take (rank row) rows)) }
+        ensures small { result ≤ 1952 }
+    {
+        self.starts[rank(row)]
+    }
+}
+
+/// The number of a sequence: None exactly where some instruction is not in the alphabet.
+pub fn number_of(k: u8, pool: &Pool, seq: &Seq) -> Option<u64>
+    requires some { 0 < k }
+    requires few { k ≤ 4 }
+    ensures { IsPlace result (sequences k pool.now) seq.now }
+{
+    Numbering::new(k, pool).number_of(seq)
+}
+
+/// How many instructions lie before each mnemonic of a list.
+fn starts_of(rows: &[Row], k: u8, pool: &Pool) -> ArrayVec<u64, 37>
+    requires few { k ≤ 4 }
+    requires short { length rows.now ≤ 37 }
+    ensures { AreStarts k pool.now rows.now result.items }
+{
+    let mut starts = ArrayVec::new();
+    let mut total = 0;
+    for row in rows {
+        starts.push(total);
+        total += count_of(*row, k, pool);
+    }
+    starts
+}
+
+/// A place behind so many others.
+fn moved(before: u64, place: Option<u64>) -> Option<u64>
+    requires few { before < 2 ^ 62 }
+    requires small { IfSome place (λ i. i < 2 ^ 62) }
+    ensures { result ≡ option_map (λ i. before + i) place }
+{
+    Some(before + place?)
+}
+
+/// How many sequences are shorter.
+#[tactic(auto, using(crate::proofs::Words::sums))]
+fn shorter(size: u64, count: u32) -> u64
+    requires few { size ≤ 1952 }
+    requires short { count ≤ 5 }
+    ensures value { result ≡ sum_below (λ n. size ^ n) count }
+    ensures small { result ≤ count * 1952 ^ 4 }
+{
+    let mut total = 0;
+    for n in 0..count {
+        total += size.pow(n);
+    }
+    total
+}
