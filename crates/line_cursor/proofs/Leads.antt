@@ -217,7 +217,7 @@ lead_ahead b a lead p few at leads none = record {
           | inl h ↦ leads.unlabelled k l (sym (ap (λ (ls : List Label). slice_get ls k) (labels_append 0 (length (places_of b)) b a (omega arith)) ∙ get_front (labels_from 0 b) (labels_from (length (places_of b)) a) k h) ∙ e)
           | inr h ↦
               let far = from_place (length (places_of b)) a (k - length (labels_from 0 b)) l
-                  (sym (ap (λ (ls : List Label). slice_get ls k) (labels_append 0 (length (places_of b)) b a (omega arith)) ∙ get_back (labels_from 0 b) (labels_from (length (places_of b)) a) (k - length (labels_from 0 b)) k (omega arith)) ∙ e) in
+              (sym (ap (λ (ls : List Label). slice_get ls k) (labels_append 0 (length (places_of b)) b a (omega arith)) ∙ get_back (labels_from 0 b) (labels_from (length (places_of b)) a) (k - length (labels_from 0 b)) k (omega arith)) ∙ e) in
               elim (cases_lt (length (places_of b)) l.place) [
                 | inl g ↦ inr (omega arith)
                 | inr g ↦ absurd (none k l e (omega arith))

@@ -15,7 +15,9 @@ ghost use Rattle.line_cursor.specs.Pieces.{begins_op, lines_in, lines_of};
 ghost use Rattle.line_cursor.specs.Leads.{mended};
 ghost use Rattle.line_cursor.specs.Cursors.{flows_of, lines_ahead, lines_at, lines_behind, place_at, sets_of, spots_at, stands_at, AreAhead, IsCursor, IsSettled};
 
-use crate::pieces::{Look, Piece, all_lines, give_way, is_labelled, is_op, places_of, seen, straight_in};
+use crate::pieces::{
+    Look, Piece, all_lines, give_way, is_labelled, is_op, places_of, seen, straight_in,
+};
 use arrayvec::ArrayVec;
 use listing_parser::{Line, Memory};
 use liveness::{Flow, NewSets};

@@ -32,7 +32,7 @@ loop-at-preserved-else-is_labelled c =
     let within = c.loop-at.invariant.within in
     let last = last_of c.args.behind.now c.loop-at.at x c.loop-at-test.true within c.index-behind-at.is in
     let on = lead_on (lines_of c.args.behind.now) (lines_of (take c.loop-at.at c.args.behind.now)) (lines_of (take (c.loop-at.at - 1) c.args.behind.now)) (lines_in x) c.in-Some.instr c.loop-at.lead.items last (piece_short x) (sym c.straight_in.ensures ∙ c.in-Some.is)
-        (sym c.is_labelled.ensures ∙ c.if-is_labelled.false) c.loop-at.invariant.is in
+    (sym c.is_labelled.ensures ∙ c.if-is_labelled.false) c.loop-at.invariant.is in
     record { within = omega arith; is = subst (IsLead (lines_of c.args.behind.now) (lines_of (take (c.loop-at.at - 1) c.args.behind.now))) (sym c.insert.ensures.items) on }
 
 pub loop-at-preserved : goal.loop-at-preserved
