@@ -74,7 +74,7 @@ none_past p c (l ∷ ls) h =
     ∙ ap (λ b. b || stands_at p (labels_from (c + length (places_in l.statement)) ls)) (names_else p c l.names (λ e. omega arith))
     ∙ none_past p (c + length (places_in l.statement)) ls (omega arith)
 
-labels_append : (c d : ℕ) (xs ys : List Line) → d ≡ c + length (places_of xs) → labels_from c (xs ++ ys) ≡ labels_from c xs ++ labels_from d ys
+pub labels_append : (c d : ℕ) (xs ys : List Line) → d ≡ c + length (places_of xs) → labels_from c (xs ++ ys) ≡ labels_from c xs ++ labels_from d ys
 labels_append c d [] ys e = ap (λ k. labels_from k ys) (let f : c ≡ d = omega arith in f)
 labels_append c d (l ∷ ls) ys e =
     let n = length-append (places_in l.statement) (places_of ls) in

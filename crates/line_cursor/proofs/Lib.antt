@@ -4,3 +4,4 @@ pub mod Settled
 pub mod Nearer
 pub mod Spots
 pub mod Labels
+pub mod Leads

@@ -38,6 +38,11 @@ before_ahead passed coming x some at =
     let next : slice_get (passed ++ reverse coming) (length passed) ≡ Some x = ap (slice_get (passed ++ reverse coming)) here ∙ spot_ahead passed coming 1 x (omega arith) some at in
     sym (ap word_of (slice_get-map (λ (s : Spot). s.before) (passed ++ reverse coming) (length passed) ∙ ap (option_map (λ (s : Spot). s.before)) next))
 
+-- a spot that was passed
+pub before_behind : (passed coming : List Spot) (p : ℕ) (x : Spot) → p < length passed → slice_get passed p ≡ Some x → x.before.bits ≡ set_at (map (λ (s : Spot). s.before) (passed ++ reverse coming)) p
+before_behind passed coming p x within at =
+    sym (ap word_of (slice_get-map (λ (s : Spot). s.before) (passed ++ reverse coming) p ∙ ap (option_map (λ (s : Spot). s.before)) (get_front passed (reverse coming) p within ∙ at)))
+
 -- the flows are those of spots that come behind so many
 abbrev pub AreNext : List Spot → List Spot → ℕ → List Flow → Type 0
 AreNext passed coming count flows = (k : ℕ) (f : Flow) → slice_get flows k ≡ Some f → slice_get (map (λ (s : Spot). s.flow) (passed ++ reverse coming)) (length passed + (count + k)) ≡ Some f

@@ -1,3 +1,4 @@
 pub mod Pieces
 pub mod Looks
 pub mod Cursors
+pub mod Leads

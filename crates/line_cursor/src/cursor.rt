@@ -1,22 +1,26 @@
 //! A cursor in a listing that is being rewritten: what stands before it and behind it, with what is kept of places.
 ghost use Rattle.std.specs.Prelude.{◌≡◌, ◌+◌, ◌-◌, ◌<◌, ◌≤◌, ◌↔◌, ◌++◌, ◌∷◌, [], ℕ, List, length, min, drop, map, reverse, slice_get, true, false, IfOk, OnOk, Some};
-ghost use Rattle.thumb_model.specs.Listing.{Place, is_op_place, labels_from, places_of};
+ghost use Rattle.thumb_model.specs.Listing.{Place, code_of, is_op_place, labels_from, places_of};
 ghost use Rattle.thumb_model.specs.Rewritten.{replaced_lines, without};
 ghost use Rattle.thumb_model.proofs.LinesReplaced.{AreOps};
 ghost use Rattle.listing_parser.specs.Replacing.{own_line};
 ghost use Rattle.listing_parser.specs.Views.{line_view};
 ghost use Rattle.liveness.specs.Live.{set_at};
+ghost use Rattle.liveness.specs.Kept.{LeadsUp};
 ghost use Rattle.liveness.specs.declared.flowing.Flow.{Flow};
 ghost use Rattle.window_runs.specs.Rows.{rows_from};
 ghost use Rattle.window_runs.specs.Runs.{run};
 ghost use Rattle.line_cursor.specs.declared.pieces.Piece.{Piece};
 ghost use Rattle.line_cursor.specs.Pieces.{begins_op, lines_in, lines_of};
+ghost use Rattle.line_cursor.specs.Leads.{mended};
 ghost use Rattle.line_cursor.specs.Cursors.{flows_of, lines_ahead, lines_at, lines_behind, place_at, sets_of, spots_at, stands_at, AreAhead, IsCursor, IsSettled};
 
-use crate::pieces::{Look, Piece, all_lines, give_way, is_labelled, is_op, places_of, seen};
+use crate::pieces::{
+    Look, Piece, all_lines, give_way, is_labelled, is_op, places_of, seen, straight_in,
+};
 use arrayvec::ArrayVec;
 use listing_parser::{Line, Memory};
-use liveness::Flow;
+use liveness::{Flow, NewSets};
 use std::alloc::Global;
 use thumb_instr::{Instr, Items, Seq};
 
@@ -219,6 +223,47 @@ fn ends_labelled(behind: &[Piece<'_>]) -> bool
     false
 }
 
+/// The straight code that pieces end with, without a label but perhaps at the first of its instructions: 32 of them, or as many as there are.
+fn lead_of(behind: &[Piece<'_>]) -> ArrayVec<Instr, 32>
+    ensures few { length result.items ≤ length (places_of (lines_of behind.now)) }
+    ensures leads { LeadsUp (code_of (lines_of behind.now)) (length (places_of (lines_of behind.now)) - length result.items) result.items }
+{
+    let mut lead = ArrayVec::new();
+    let mut at = behind.len();
+    while at > 0 && !lead.is_full() {
+        at -= 1;
+        let piece = behind[at];
+        match straight_in(piece) {
+            Some(instr) => {
+                lead.insert(0, instr);
+                if is_labelled(piece) {
+                    return lead;
+                }
+            }
+            None => if places_of(piece) > 0 || is_labelled(piece) {
+                return lead;
+            },
+        }
+    }
+    lead
+}
+
+/// Puts other sets in place of those of the spots from one on.
+fn mend(spots: &mut Vec<Spot>, first: usize, sets: &[NewSets])
+    requires { first + length sets.now ≤ length spots.old.items }
+    ensures { spots.new.items ≡ mended first spots.old.items sets.now }
+{
+    for at in 0..sets.len() {
+        let set = sets[at];
+        let flow = spots[first + at].flow;
+        spots[first + at] = Spot {
+            before: set.before,
+            after: set.after,
+            flow,
+        };
+    }
+}
+
 impl<'a> Cursor<'a> {
     /// A cursor before lines, whose places are known so.
     pub fn start(alloc: Global, lines: &'a [Line], spots: &[Spot]) -> Result<Cursor<'a>, Memory>
@@ -286,11 +331,42 @@ impl<'a> Cursor<'a> {
         self.ahead.is_empty()
     }
 
-    /// The items that are live before the place right behind it.
-    pub fn before(&self) -> Items
-        requires { 0 < length self.now.coming.items }
-        ensures { result.bits ≡ set_at (sets_of (spots_at self.now)).before (place_at self.now) }
+    /// The straight code that leads up to the place right behind it, which is an instruction's: 32 instructions, or as many as there are. Where a label stands
+    /// at that place there are none.
+    pub fn lead(&self) -> ArrayVec<Instr, 32>
+        requires is { IsCursor self.now }
+        requires some { 0 < length self.now.ahead.items }
+        requires first { (rest : List Piece) (x : Piece) → self.now.ahead.items ≡ rest ++ x ∷ [] → begins_op (lines_in x) ≡ true }
+        ensures few { length result.items ≤ place_at self.now }
+        ensures leads { LeadsUp (code_of (lines_at self.now)) (place_at self.now - length result.items) result.items }
     {
+        if self.is_labelled() {
+            return ArrayVec::new();
+        }
+        lead_of(&self.behind)
+    }
+
+    /// Puts other sets in place of those that are kept of the last places before it.
+    pub fn mend(&mut self, sets: &[NewSets])
+        requires { length sets.now ≤ place_at self.old }
+        ensures behind { self.new.behind.items ≡ self.old.behind.items }
+        ensures ahead { self.new.ahead.items ≡ self.old.ahead.items }
+        ensures coming { self.new.coming.items ≡ self.old.coming.items }
+        ensures passed { self.new.passed.items ≡ mended (place_at self.old - length sets.now) self.old.passed.items sets.now }
+    {
+        let first = self.passed.len() - sets.len();
+        mend(&mut self.passed, first, sets);
+    }
+
+    /// The items that are live before the place that stands so many before the one right behind it.
+    pub fn before(&self, back: usize) -> Items
+        requires some { 0 < length self.now.coming.items }
+        requires few { back ≤ place_at self.now }
+        ensures { result.bits ≡ set_at (sets_of (spots_at self.now)).before (place_at self.now - back) }
+    {
+        if back > 0 {
+            return self.passed[self.passed.len() - back].before;
+        }
         self.coming[self.coming.len() - 1].before
     }
 

@@ -7,8 +7,10 @@ ghost use Rattle.thumb_model.specs.Rewritten.{new_line};
 ghost use Rattle.window_runs.specs.Rows.{letter_of};
 ghost use Rattle.line_cursor.specs.Pieces.{begins_labelled, begins_op, labels_left, lines_in, lines_of};
 ghost use Rattle.line_cursor.specs.Looks.{look_letter, look_lines, look_statement};
+ghost use Rattle.line_cursor.specs.Leads.{straight, straight_in, straight_of};
 
 use listing_parser::{Line, Memory, Statement, add_labels, copy_line, new_line};
+use liveness::is_straight;
 use std::alloc::Global;
 use thumb_instr::{Instr, in_window};
 
@@ -75,6 +77,38 @@ pub fn is_labelled(piece: Piece<'_>) -> bool
         Piece::Line(line) => !line.names.is_empty(),
         Piece::Labels(line) => !line.names.is_empty(),
         Piece::New(_) => false,
+    }
+}
+
+/// The instruction of a piece, where it is straight.
+pub fn straight_in(piece: Piece<'_>) -> Option<Instr>
+    ensures { result ≡ straight_in (lines_in piece.entry) }
+{
+    match piece {
+        Piece::Line(line) => straight_of(&line.statement),
+        Piece::Labels(_) => None,
+        Piece::New(instr) => straight(&instr),
+    }
+}
+
+/// The instruction of a statement, where it is straight.
+fn straight_of(statement: &Statement) -> Option<Instr>
+    ensures { result ≡ straight_of (statement_view statement.now) }
+{
+    match statement {
+        Statement::Runs { instr, mention: _ } => straight(instr),
+        _ => None,
+    }
+}
+
+/// An instruction, where it is straight.
+fn straight(instr: &Instr) -> Option<Instr>
+    ensures { result ≡ straight instr.now }
+{
+    if is_straight(instr) {
+        Some(*instr)
+    } else {
+        None
     }
 }
 

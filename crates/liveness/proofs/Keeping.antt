@@ -1,5 +1,5 @@
 -- Live items where a window gave way.
-use Rattle.std.proofs.Common.{◌≡◌, ℕ, zero, suc, ◌+◌, ◌-◌, ◌<◌, ◌≤◌, ◌&&◌, not, Bool, true, false, List, [], ◌∷◌, length, drop, Option, Some, refl, sym, ap, ◌∙◌, subst, ◌⊎◌, inl, inr, arith}
+use Rattle.std.proofs.Common.{◌≡◌, ℕ, zero, suc, ◌+◌, ◌<◌, ◌≤◌, ◌&&◌, not, Bool, true, false, List, [], ◌∷◌, length, drop, Option, Some, refl, sym, ap, ◌∙◌, subst, ◌⊎◌, inl, inr, arith}
 use Rattle.std.specs.Prelude.{slice_get}
 use Rattle.std.proofs.lemmas.Bool.{cases_lt, cases_eq}
 use Rattle.thumb_instr.specs.declared.instr.Instr.{Instr}
@@ -7,13 +7,13 @@ use Rattle.thumb_instr.specs.Items.{one_of}
 use Rattle.thumb_instr.specs.Shape.{uses_of, writes_of}
 use Rattle.thumb_model.specs.Listing.{Code}
 use Rattle.thumb_model.specs.Flow.{Way, Leads, Onward, way, ways, Follows, Reads, now, later}
-use Rattle.thumb_model.specs.Rewrite.{moved, replaced}
 use Rattle.thumb_model.proofs.Lists.{length_drop}
 use Rattle.thumb_model.proofs.Moved.{IsOutside}
 use Rattle.liveness.specs.declared.flowing.Flow.{Flow}
-use Rattle.liveness.specs.Kept.{FlowOf, AreFlowsFrom, KeepsAt}
+use Rattle.liveness.specs.Kept.{FlowOf, AreFlowsFrom}
 use Rattle.liveness.specs.Through.{live_through, read_along}
-use Rattle.liveness.proofs.Moves.{get_map, map_back, drop_at, drop_whole, move_leads, move_way, Runs, window_runs, new_runs, runs_at, IsApart, ways_moved, follows_outside, follows_moved, follows_back}
+use Rattle.liveness.proofs.Moves.{get_map, map_back, drop_at, drop_whole, move_leads, move_way, Runs, runs_at}
+use Rattle.liveness.proofs.GivesWay.{GivesWay}
 use Rattle.liveness.proofs.FlowLaws.{reader, passer}
 use Rattle.liveness.proofs.Paths.{or_cases, or_left, or_right}
 
@@ -87,22 +87,16 @@ only ws v k w e g = go k (ap (λ us. slice_get us k) (sym e) ∙ g)
 
 -- ---- an item ----
 
-module _ (code : Code) (p : ℕ) (window new : List Instr) (at : KeepsAt code p window new) (x : ℕ) where
-  abbrev new_code : Code
-  new_code = replaced code p (length window) new
-
-  abbrev to : ℕ → ℕ
-  to = moved p (length window - length new)
-
+module _ (code new_code : Code) (to : ℕ → ℕ) (p : ℕ) (window new : List Instr) (at : GivesWay code new_code to p window new) (x : ℕ) where
   abbrev Apart : ℕ → Type 0
-  Apart = IsApart code p window new at
+  Apart q = (q < p) ⊎ (p + length window ≤ q)
 
   -- what stands behind the window
   abbrev end : ℕ
   end = p + length new
 
   to_end : to (p + length window) ≡ end
-  to_end = let s = at.shorter in omega arith
+  to_end = let b = at.behind (p + length window) (omega arith) in omega arith
 
   -- what the flows behind the window read is read from there still
   along : (fs : List Flow) (q : ℕ) → p + length window ≤ q → AreFlowsFrom code q fs → read_along fs x ≡ true → Reads new_code x (to q)
@@ -114,7 +108,7 @@ module _ (code : Code) (p : ℕ) (window new : List Instr) (at : KeepsAt code p 
             now (to q) r.0 (move_way to r.1) (moved_way r.0 r.1 r.2) r.3
         | inr u ↦
             let r = passer (ways code q) f.onward (read_along fs x) x here.onward u in
-            let next : to (q + 1) ≡ to q + 1 = let s = at.shorter in omega arith in
+            let next : to (q + 1) ≡ to q + 1 = let b = at.behind q l in let c = at.behind (q + 1) (omega arith) in omega arith in
             later (to q) r.1 (move_way to r.2) (to (q + 1)) (moved_way r.1 r.2 r.3) r.5
             (subst (λ (a : Leads). Follows new_code (to q) (move_leads to a) (to (q + 1))) (sym r.4) next)
             (along fs (q + 1) (omega arith) (λ k g e. subst (λ y. FlowOf (ways code y) g) (let z : q + suc k ≡ q + 1 + k = omega arith in z) (h (suc k) g e)) r.0)
@@ -124,7 +118,7 @@ module _ (code : Code) (p : ℕ) (window new : List Instr) (at : KeepsAt code p 
       here = subst (λ y. FlowOf (ways code y) f) (let z : q + 0 ≡ q = omega arith in z) (h 0 f refl)
 
       moved_way : (k : ℕ) (w : Way) → slice_get (ways code q) k ≡ Some w → slice_get (ways new_code (to q)) k ≡ Some (move_way to w)
-      moved_way k w e = ap (λ ws. slice_get ws k) (ways_moved code p window new at q (inr l)) ∙ get_map (move_way to) (ways code q) k w e
+      moved_way k w e = ap (λ ws. slice_get ws k) (at.ways_moved q (inr l)) ∙ get_map (move_way to) (ways code q) k w e
 
   -- ---- from the old listing to the new ----
 
@@ -146,6 +140,7 @@ module _ (code : Code) (p : ℕ) (window new : List Instr) (at : KeepsAt code p 
           | inr a ↦ k.0 a
           | inl e ↦
               let g = at.shorter in
+              let b = at.before s (omega arith) in
               subst (Reads new_code x) (let z : p ≡ to s = omega arith in z) (enter (subst (Reads code x) e r) (k.1 0 (omega arith) (omega arith)))
         ]
 
@@ -155,27 +150,27 @@ module _ (code : Code) (p : ℕ) (window new : List Instr) (at : KeepsAt code p 
         elim (cases_lt (j + 1) (length window)) [
           | inl m ↦ k.1 (j + 1) e m
           | inr m ↦
-              let g = at.shorter in
+              let b = at.behind s (omega arith) in
               subst (λ (is : List Instr). Through is x (Reads new_code x end)) (sym (drop_whole window (j + 1) (omega arith)))
               (subst (Reads new_code x) (let z : to s ≡ end = omega arith in z) (k.0 (inr (omega arith))))
         ]
 
     reads_stay : (q : ℕ) → Reads code x q → Stays q
     reads_stay _ (now q k w e t) = (
-      λ a. now (to q) k (move_way to w) (ap (λ ws. slice_get ws k) (ways_moved code p window new at q a) ∙ get_map (move_way to) (ways code q) k w e) t,
+      λ a. now (to q) k (move_way to w) (ap (λ ws. slice_get ws k) (at.ways_moved q a) ∙ get_map (move_way to) (ways code q) k w e) t,
       λ j f l.
           let i = drop_at window j l in
-          let one : way (uses_of i.0) (writes_of i.0) Onward ≡ w = only (ways code q) _ k w (ap (ways code) f ∙ runs_at code p window j i.0 (window_runs code p window new at) i.1) e in
+          let one : way (uses_of i.0) (writes_of i.0) Onward ≡ w = only (ways code q) _ k w (ap (ways code) f ∙ runs_at code p window j i.0 at.window_runs i.1) e in
           subst (λ (is : List Instr). Through is x (Reads new_code x end)) (sym i.2) (inl (ap (λ (v : Way). one_of x v.reads) one ∙ t)),
     )
     reads_stay _ (later q k w s e n f t) = (
       λ a.
-          later (to q) k (move_way to w) (to s) (ap (λ ws. slice_get ws k) (ways_moved code p window new at q a) ∙ get_map (move_way to) (ways code q) k w e) n
-          (follows_moved code p window new at q a w.leads s f)
-          (arrive s (follows_outside code p window new at q a k w s e f) t (reads_stay s t)),
+          later (to q) k (move_way to w) (to s) (ap (λ ws. slice_get ws k) (at.ways_moved q a) ∙ get_map (move_way to) (ways code q) k w e) n
+          (at.follows_moved q a w.leads s f)
+          (arrive s (at.follows_outside q a k w s e f) t (reads_stay s t)),
       λ j g l.
           let i = drop_at window j l in
-          let one : way (uses_of i.0) (writes_of i.0) Onward ≡ w = only (ways code q) _ k w (ap (ways code) g ∙ runs_at code p window j i.0 (window_runs code p window new at) i.1) e in
+          let one : way (uses_of i.0) (writes_of i.0) Onward ≡ w = only (ways code q) _ k w (ap (ways code) g ∙ runs_at code p window j i.0 at.window_runs i.1) e in
           let next : s ≡ q + 1 = subst (λ (v : Way). Follows code q v.leads s) (sym one) f in
           subst (λ (is : List Instr). Through is x (Reads new_code x end)) (sym i.2) (inr (ap (λ (v : Way). one_of x v.writes) one ∙ n, rest s j (omega arith) l (reads_stay s t))),
     )
@@ -200,7 +195,7 @@ module _ (code : Code) (p : ℕ) (window new : List Instr) (at : KeepsAt code p 
         ]
       where
         reads : Through new x (Reads new_code x end) → Reads new_code x p
-        reads u = through_reads new_code new p end x refl (new_runs code p window new at) u
+        reads u = through_reads new_code new p end x refl at.new_runs u
 
         read_or_ahead : (b : Bool) → live_through new nothing x ≡ b → (Reads new_code x end → Through new x (Reads new_code x end)) → live_through window nothing x ≡ true → Reads new_code x p
         read_or_ahead true e g h = reads (through_map new x (nothing x ≡ true) (Reads new_code x end) (not_nothing x (Reads new_code x end)) (told new x nothing e))
@@ -217,14 +212,14 @@ module _ (code : Code) (p : ℕ) (window new : List Instr) (at : KeepsAt code p 
         elim (outside_cases s o) [
           | inr a ↦ w.0 s a e
           | inl f ↦
-              let g = at.shorter in
+              let b = at.before s (omega arith) in
               subst (Reads code x) (sym f) (first (tested new x after (w.1 0 (omega arith) (omega arith))))
         ]
 
     -- at the end of the new instructions
     at_end : (r j : ℕ) → r ≡ p + j → j ≡ length new → ((q : ℕ) → Apart q → r ≡ to q → Reads code x q) → Through (drop j new) x (after x ≡ true)
     at_end r j e f w =
-        let g = at.shorter in
+        let b = at.behind (p + length window) (omega arith) in
         subst (λ (is : List Instr). Through is x (after x ≡ true)) (sym (drop_whole new j f)) (leave (w (p + length window) (inr (omega arith)) (omega arith)))
 
     -- within them or there
@@ -236,10 +231,10 @@ module _ (code : Code) (p : ℕ) (window new : List Instr) (at : KeepsAt code p 
         ]
 
     old_way : (r q k : ℕ) (w : Way) → Apart q → r ≡ to q → slice_get (ways new_code r) k ≡ Some w → (v : Way) × (slice_get (ways code q) k ≡ Some v) × (w ≡ move_way to v)
-    old_way r q k w a e g = map_back (move_way to) (ways code q) k w (ap (λ ws. slice_get ws k) (sym (ap (ways new_code) e ∙ ways_moved code p window new at q a)) ∙ g)
+    old_way r q k w a e g = map_back (move_way to) (ways code q) k w (ap (λ ws. slice_get ws k) (sym (ap (ways new_code) e ∙ at.ways_moved q a)) ∙ g)
 
     new_way : (r j k : ℕ) (w : Way) → r ≡ p + j → (i : Instr) → slice_get new j ≡ Some i → slice_get (ways new_code r) k ≡ Some w → way (uses_of i) (writes_of i) Onward ≡ w
-    new_way r j k w e i g h = only (ways new_code r) _ k w (ap (ways new_code) e ∙ runs_at new_code p new j i (new_runs code p window new at) g) h
+    new_way r j k w e i g h = only (ways new_code r) _ k w (ap (ways new_code) e ∙ runs_at new_code p new j i at.new_runs g) h
 
     reads_back : (r : ℕ) → Reads new_code x r → Was r
     reads_back _ (now r k w e t) =
@@ -255,8 +250,8 @@ module _ (code : Code) (p : ℕ) (window new : List Instr) (at : KeepsAt code p 
         let was = reads_back s t in
         let out : (q : ℕ) → Apart q → r ≡ to q → Reads code x q = λ q a g.
         let v = old_way r q k w a g e in
-        let b = follows_back code p window new at q a v.0.leads s (subst (λ y. Follows new_code y (move_leads to v.0.leads) s) g (subst (λ (u : Way). Follows new_code r u.leads s) v.2 f)) in
-        later q k v.0 b.0 v.1 (ap (λ (u : Way). one_of x u.writes) (sym v.2) ∙ n) b.1 (back_at s b.0 b.2 (follows_outside code p window new at q a k v.0 b.0 v.1 b.1) was) in (
+        let b = at.follows_back q a v.0.leads s (subst (λ y. Follows new_code y (move_leads to v.0.leads) s) g (subst (λ (u : Way). Follows new_code r u.leads s) v.2 f)) in
+        later q k v.0 b.0 v.1 (ap (λ (u : Way). one_of x u.writes) (sym v.2) ∙ n) b.1 (back_at s b.0 b.2 (at.follows_outside q a k v.0 b.0 v.1 b.1) was) in (
           out,
           inside r out (λ j g l.
               let i = drop_at new j l in
@@ -274,7 +269,7 @@ module _ (code : Code) (p : ℕ) (window new : List Instr) (at : KeepsAt code p 
   -- from a new instruction on
   pub within_read : (after : ℕ → Bool) → (after x ≡ true → Reads new_code x end) → (j : ℕ) → j ≤ length new → live_through (drop j new) after x ≡ true → Reads new_code x (p + j)
   within_read after behind j l h =
-      through_reads new_code (drop j new) (p + j) end x (let d = length_drop j new in omega arith) (runs_drop j new p (new_runs code p window new at)) (through_map (drop j new) x (after x ≡ true) (Reads new_code x end) behind (told (drop j new) x after h))
+      through_reads new_code (drop j new) (p + j) end x (let d = length_drop j new in omega arith) (runs_drop j new p at.new_runs) (through_map (drop j new) x (after x ≡ true) (Reads new_code x end) behind (told (drop j new) x after h))
     where
       runs_drop : (j : ℕ) (is : List Instr) (q : ℕ) → Runs new_code q is → Runs new_code (q + j) (drop j is)
       runs_drop zero is q r = subst (λ y. Runs new_code y is) (let z : q ≡ q + 0 = omega arith in z) r

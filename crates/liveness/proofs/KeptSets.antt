@@ -6,7 +6,7 @@ use Rattle.thumb_instr.specs.declared.instr.Instr.{Instr}
 use Rattle.thumb_instr.specs.declared.items.Items.{Items}
 use Rattle.thumb_instr.specs.Items.{one_of, has}
 use Rattle.thumb_instr.specs.Shape.{uses_of, writes_of}
-use Rattle.thumb_model.specs.Listing.{plain, Code}
+use Rattle.thumb_model.specs.Listing.{Code}
 use Rattle.thumb_model.specs.Flow.{Way, Onward, way, ways, Follows, Reads, LiveAfter}
 use Rattle.thumb_model.specs.Rewrite.{moved, replaced}
 use Rattle.thumb_model.proofs.Lists.{get_drop, get_take, get_front, get_back, length_map, take_all, length_drop}
@@ -14,9 +14,10 @@ use Rattle.thumb_model.proofs.Moved.{IsOutside}
 use Rattle.liveness.specs.declared.flowing.Flow.{Flow}
 use Rattle.liveness.specs.declared.kept.NewSets.{NewSets}
 use Rattle.liveness.specs.Live.{Sets, word_of, set_at, IsLive}
-use Rattle.liveness.specs.Kept.{AreFlowsFrom, KeepsAt, replaced_sets, KeepsLive}
+use Rattle.liveness.specs.Kept.{AreFlowsFrom, replaced_sets, KeepsLive}
 use Rattle.liveness.specs.Through.{live_through, read_along, AreThrough}
-use Rattle.liveness.proofs.Moves.{get_map, map_back, drop_at, move_way, window_runs, new_runs, runs_at, is_within, ways_moved, follows_outside, follows_moved, follows_back}
+use Rattle.liveness.proofs.Moves.{get_map, map_back, drop_at, move_way, runs_at}
+use Rattle.liveness.proofs.GivesWay.{GivesWay, gives_way}
 use Rattle.liveness.proofs.Keeping.{nothing, only, still_read, enters, read_before, read_within, within_read}
 
 -- what `keep` tests, and the sets that it makes
@@ -56,20 +57,14 @@ module _ (p count : ℕ) (old mid : List Items) (within : p + count ≤ length o
 
 -- ---- the sets ----
 
-module _ (code : Code) (p : ℕ) (window new : List Instr) (sets : Sets) (before after : Items) (ahead : List Flow) (kept : List NewSets)
-    (t : IsTested window new before after ahead kept) (live : IsLive code sets) (at : KeepsAt code p window new) (flows : AreFlowsFrom code (p + length window) ahead)
+module _ (code new_code : Code) (to : ℕ → ℕ) (p : ℕ) (window new : List Instr) (sets : Sets) (before after : Items) (ahead : List Flow) (kept : List NewSets)
+    (t : IsTested window new before after ahead kept) (live : IsLive code sets) (at : GivesWay code new_code to p window new) (flows : AreFlowsFrom code (p + length window) ahead)
     (eb : set_at sets.before p ≡ before.bits) (ea : set_at sets.after (p + length window - 1) ≡ after.bits) where
-  abbrev new_code : Code
-  new_code = replaced code p (length window) new
-
-  abbrev to : ℕ → ℕ
-  to = moved p (length window - length new)
-
   abbrev behind_it : ℕ → Bool
   behind_it y = has after.bits y
 
   inside : p + length window ≤ length code.places
-  inside = is_within code p window new at
+  inside = at.within
 
   some_window : 0 < length window
   some_window = let s = at.shorter in omega arith
@@ -87,7 +82,7 @@ module _ (code : Code) (p : ℕ) (window new : List Instr) (sets : Sets) (before
   last_way : (i : Instr) × (ways code (p + length window - 1) ≡ way (uses_of i) (writes_of i) Onward ∷ [])
   last_way =
       let i = drop_at window (length window - 1) (omega (arith, some_window)) in
-      (i.0, ap (ways code) (let e : p + length window - 1 ≡ p + (length window - 1) = omega (arith, some_window) in e) ∙ runs_at code p window (length window - 1) i.0 (window_runs code p window new at) i.1)
+      (i.0, ap (ways code) (let e : p + length window - 1 ≡ p + (length window - 1) = omega (arith, some_window) in e) ∙ runs_at code p window (length window - 1) i.0 at.window_runs i.1)
 
   leave : (x : ℕ) → Reads code x (p + length window) → behind_it x ≡ true
   leave x r =
@@ -110,21 +105,21 @@ module _ (code : Code) (p : ℕ) (window new : List Instr) (sets : Sets) (before
       subst (Reads code x) (let e : v.2 ≡ p + length window = omega (arith, next, some_window) in e) v.5
 
   forth : (x q : ℕ) → IsOutside p (length window) q → Reads code x q → Reads new_code x (to q)
-  forth x q o r = still_read code p window new at x (enters code p window new at x behind_it ahead (was x) flows (t.lost x)) q o r
+  forth x q o r = still_read code new_code to p window new at x (enters code new_code to p window new at x behind_it ahead (was x) flows (t.lost x)) q o r
 
   back : (x q : ℕ) → IsOutside p (length window) q → Reads new_code x (to q) → Reads code x q
-  back x q o r = read_before code p window new at x behind_it (leave x) (first x) q o r
+  back x q o r = read_before code new_code to p window new at x behind_it (leave x) (first x) q o r
 
   behind_new : (x : ℕ) → behind_it x ≡ true → Reads new_code x (p + length new)
   behind_new x h =
-      let s = at.shorter in
+      let b = at.behind (p + length window) (omega arith) in
       subst (Reads new_code x) (let e : to (p + length window) ≡ p + length new = omega arith in e) (forth x (p + length window) (inr (omega arith)) (behind x h))
 
   -- from a new instruction on, or right behind them
   from_new : (x j : ℕ) → j ≤ length new → (live_through (drop j new) behind_it x ≡ true) ↔ Reads new_code x (p + j)
   from_new x j l = (
-    within_read code p window new at x behind_it (behind_new x) j l,
-    read_within code p window new at x behind_it (leave x) (first x) j l,
+    within_read code new_code to p window new at x behind_it (behind_new x) j l,
+    read_within code new_code to p window new at x behind_it (leave x) (first x) j l,
   )
 
   abbrev Apart : ℕ → Type 0
@@ -139,33 +134,23 @@ module _ (code : Code) (p : ℕ) (window new : List Instr) (sets : Sets) (before
   origin r =
       let s = at.shorter in
       elim (cases_lt r p) [
-        | inl l ↦ inl (r, inl l, omega arith)
+        | inl l ↦ inl (r, inl l, let b = at.before r (omega arith) in omega arith)
         | inr l ↦ elim (cases_lt r (p + length new)) [
           | inl m ↦ inr (r - p, omega arith, omega arith)
-          | inr m ↦ inl (r + (length window - length new), inr (omega arith), omega arith)
+          | inr m ↦ inl (r + (length window - length new), inr (omega arith), let b = at.behind (r + (length window - length new)) (omega arith) in omega arith)
         ]
       ]
 
-  length_new : length new_code.places + length window ≡ length code.places + length new
-  length_new =
-      let l = inside in
-      let f : length (take p code.places) ≡ p = take_all p code.places (omega arith) in
-      let a = length-append (take p code.places) (map plain new ++ drop (p + length window) code.places) in
-      let b = length-append (map plain new) (drop (p + length window) code.places) in
-      let c = length_drop (p + length window) code.places in
-      let d = length_map plain new in
-      omega arith
-
   was_within : (r q : ℕ) → Apart q → r ≡ to q → r < length new_code.places → q < length code.places
   was_within r q (inl a) e l = let i = inside in omega arith
-  was_within r q (inr a) e l = let s = at.shorter in let n = length_new in omega arith
+  was_within r q (inr a) e l = let b = at.behind q a in let n = at.as_many in omega arith
 
   -- the set at a place that isn't new
   old_set : (old mid : List Items) → length old ≡ length code.places → length mid ≡ length new → (r q : ℕ) → Apart q → r ≡ to q → set_at (take p old ++ (mid ++ drop (p + length window) old)) r ≡ set_at old q
   old_set old mid n m r q (inl a) e =
-      ap (set_at (take p old ++ (mid ++ drop (p + length window) old))) (let f : r ≡ q = omega arith in f) ∙ before_mid p (length window) old mid (let i = inside in omega arith) q a
+      ap (set_at (take p old ++ (mid ++ drop (p + length window) old))) (let b = at.before q (omega arith) in let f : r ≡ q = omega arith in f) ∙ before_mid p (length window) old mid (let i = inside in omega arith) q a
   old_set old mid n m r q (inr a) e =
-      let s = at.shorter in
+      let b = at.behind q a in
       behind_mid p (length window) old mid (let i = inside in omega arith) r q (omega arith) (omega arith)
 
   -- and at a new one
@@ -206,21 +191,21 @@ module _ (code : Code) (p : ℕ) (window new : List Instr) (sets : Sets) (before
     v.0,
     move_way to v.1,
     to v.2,
-    ap (λ ws. slice_get ws v.0) (ways_moved code p window new at q a) ∙ get_map (move_way to) (ways code q) v.0 v.1 v.3,
-    follows_moved code p window new at q a v.1.leads v.2 v.4,
-    forth x v.2 (follows_outside code p window new at q a v.0 v.1 v.2 v.3 v.4) v.5,
+    ap (λ ws. slice_get ws v.0) (at.ways_moved q a) ∙ get_map (move_way to) (ways code q) v.0 v.1 v.3,
+    at.follows_moved q a v.1.leads v.2 v.4,
+    forth x v.2 (at.follows_outside q a v.0 v.1 v.2 v.3 v.4) v.5,
   )
 
   after_back : (x q : ℕ) → Apart q → LiveAfter new_code (to q) x → LiveAfter code q x
   after_back x q a v =
-      let w = map_back (move_way to) (ways code q) v.0 v.1 (ap (λ ws. slice_get ws v.0) (sym (ways_moved code p window new at q a)) ∙ v.3) in
-      let s = follows_back code p window new at q a w.0.leads v.2 (subst (λ (u : Way). Follows new_code (to q) u.leads v.2) w.2 v.4) in
-      (v.0, w.0, s.0, w.1, s.1, back x s.0 (follows_outside code p window new at q a v.0 w.0 s.0 w.1 s.1) (subst (Reads new_code x) s.2 v.5))
+      let w = map_back (move_way to) (ways code q) v.0 v.1 (ap (λ ws. slice_get ws v.0) (sym (at.ways_moved q a)) ∙ v.3) in
+      let s = at.follows_back q a w.0.leads v.2 (subst (λ (u : Way). Follows new_code (to q) u.leads v.2) w.2 v.4) in
+      (v.0, w.0, s.0, w.1, s.1, back x s.0 (at.follows_outside q a v.0 w.0 s.0 w.1 s.1) (subst (Reads new_code x) s.2 v.5))
 
   after_new : (x j : ℕ) → j < length new → LiveAfter new_code (p + j) x ↔ Reads new_code x (p + (j + 1))
   after_new x j l =
       let i = drop_at new j l in
-      let at_j = runs_at new_code p new j i.0 (new_runs code p window new at) i.1 in (
+      let at_j = runs_at new_code p new j i.0 at.new_runs i.1 in (
         λ v.
             let one = only (ways new_code (p + j)) _ v.0 v.1 at_j v.3 in
             let next : v.2 ≡ p + j + 1 = subst (λ (w : Way). Follows new_code (p + j) w.leads v.2) (sym one) v.4 in
@@ -247,13 +232,13 @@ module _ (code : Code) (p : ℕ) (window new : List Instr) (sets : Sets) (before
   pub is_live : IsLive new_code (replaced_sets p (length window) kept sets)
   is_live = record {
     before_len =
-        let n = length_new in
+        let n = at.as_many in
         let a = length_all p (length window) sets.before befores (let i = inside in let b = live.before_len in omega arith) in
         let m = many_before in
         let b = live.before_len in
         omega arith;
     after_len =
-        let n = length_new in
+        let n = at.as_many in
         let a = length_all p (length window) sets.after afters (let i = inside in let b = live.after_len in omega arith) in
         let m = many_after in
         let b = live.after_len in
@@ -263,8 +248,15 @@ module _ (code : Code) (p : ℕ) (window new : List Instr) (sets : Sets) (before
   }
 
 -- what is tested keeps the sets of live items
-pub keeps_live : (window new : List Instr) (before after : Items) (ahead : List Flow) (kept : List NewSets) → IsTested window new before after ahead kept → KeepsLive window new before after ahead kept
-keeps_live window new before after ahead kept t code p sets live at flows eb ea = is_live code p window new sets before after ahead kept t live at flows eb ea
+pub keeps_live : (lead window new : List Instr) (before after : Items) (ahead : List Flow) (kept : List NewSets) → IsTested (lead ++ window) (lead ++ new) before after ahead kept → KeepsLive lead window new before after ahead kept
+keeps_live lead window new before after ahead kept t code p sets live led at flows eb ea =
+    let n : length lead + length window ≡ length (lead ++ window) = sym (length-append lead window) in
+    let end : p + length lead + length window ≡ p + length (lead ++ window) = let m = n in omega arith in
+    let there : AreFlowsFrom code (p + length (lead ++ window)) ahead = subst (λ y. AreFlowsFrom code y ahead) end flows in
+    let last : set_at sets.after (p + length (lead ++ window) - 1) ≡ after.bits = ap (λ y. set_at sets.after (y - 1)) (sym end) ∙ ea in
+    subst (λ (y : ℕ). IsLive (replaced code (p + length lead) (length window) new) (replaced_sets p y kept sets)) (sym n)
+    (is_live code (replaced code (p + length lead) (length window) new) (moved (p + length lead) (length window - length new)) p (lead ++ window) (lead ++ new) sets before after ahead kept t live
+    (gives_way code p lead window new led at) there eb last)
 
 -- ---- the test ----
 
@@ -272,6 +264,22 @@ keeps_live window new before after ahead kept t code p sets live at flows eb ea 
 same_after : (is : List Instr) (x : ℕ) (a b : ℕ → Bool) → a x ≡ b x → live_through is a x ≡ live_through is b x
 same_after [] x a b e = e
 same_after (i ∷ is) x a b e = ap (λ t. one_of x (uses_of i) || (t && not (one_of x (writes_of i)))) (same_after is x a b e)
+
+-- through straight code and what follows it
+pub through_both : (is js : List Instr) (x : ℕ) (after between : ℕ → Bool) → between x ≡ live_through js after x → live_through is between x ≡ live_through (is ++ js) after x
+through_both [] js x after between e = e
+through_both (i ∷ is) js x after between e = ap (λ t. one_of x (uses_of i) || (t && not (one_of x (writes_of i)))) (through_both is js x after between e)
+
+-- from a place in the first of two lists on, or in the second
+pub drop_first : {A : Type 0} (xs ys : List A) (k : ℕ) → k ≤ length xs → drop k xs ++ ys ≡ drop k (xs ++ ys)
+drop_first xs ys zero h = refl
+drop_first [] ys (suc k) h = absurd (omega arith)
+drop_first (x ∷ xs) ys (suc k) h = drop_first xs ys k (omega arith)
+
+pub drop_second : {A : Type 0} (xs ys : List A) (k j : ℕ) → k ≡ length xs + j → drop j ys ≡ drop k (xs ++ ys)
+drop_second [] ys k j e = ap (λ n. drop n ys) (let f : j ≡ k = omega arith in f)
+drop_second (x ∷ xs) ys zero j e = absurd (omega arith)
+drop_second (x ∷ xs) ys (suc k) j e = drop_second xs ys k j (omega arith)
 
 -- nothing is lost where what is read no longer, less what is read ahead, is empty
 pub none_lost : (window new : List Instr) (ahead : List Flow) (m n old now gone left read x : ℕ) → has m x ≡ false → has n x ≡ false → has old x ≡ live_through window (λ y. has m y) x → has now x ≡ live_through new (λ y. has n y) x

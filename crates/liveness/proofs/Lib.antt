@@ -1,6 +1,7 @@
 pub mod Moves
 pub mod FlowLaws
 pub mod Applied
+mod GivesWay
 mod Keeping
 mod KeptSets
 mod Weights

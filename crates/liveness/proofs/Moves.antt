@@ -21,7 +21,7 @@ use Rattle.liveness.specs.Kept.{KeepsAt}
 
 -- ---- lists ----
 
-some_same : {A : Type 0} (a b : A) → (let o : Option A = Some a in o) ≡ Some b → a ≡ b
+pub some_same : {A : Type 0} (a b : A) → (let o : Option A = Some a in o) ≡ Some b → a ≡ b
 some_same a b e = cc
 
 pub get_map : {A B : Type 0} (f : A → B) (xs : List A) (k : ℕ) (x : A) → slice_get xs k ≡ Some x → slice_get (map f xs) k ≡ Some (f x)
@@ -308,38 +308,41 @@ module _ (code : Code) (p : ℕ) (window new : List Instr) (at : KeepsAt code p 
 
   -- ---- where ways lead ----
 
-  outside_label : (q : ℕ) → IsLabelsPlace code.labels q → IsOutside p (length window) q
+  pub outside_label : (q : ℕ) → IsLabelsPlace code.labels q → IsOutside p (length window) q
   outside_label q f = subst (IsOutside p (length window)) (sym f.3) (at.unlabelled f.0 f.1 f.2)
 
-  outside_point : (q : ℕ) → IsPoint code q → IsOutside p (length window) q
+  pub outside_point : (q : ℕ) → IsPoint code q → IsOutside p (length window) q
   outside_point q h =
       elim (one_of_append q (label_places code.places code.labels) (return_places 0 code.places) h) [
         | inl l ↦ outside_label q (label_of_place code.places code.labels q l)
         | inr r ↦ return_outside code p (length window) new fits_in q r
       ]
 
-  outside_aim : (mention : Option Mention) (r : ℕ) → aim_of code mention ≡ Some r → IsOutside p (length window) r
-  outside_aim None r e = absurd (cc)
-  outside_aim (Some m) r e = outside_label r (label_of_name m.name code.places code.labels r e)
-
   outside_next : (q : ℕ) → IsApart q → IsOutside p (length window) (q + 1)
   outside_next q (inl h) = inl (omega arith)
   outside_next q (inr h) = inr (omega arith)
 
-  -- of what stands at a place
-  lands_outside : (q : ℕ) → IsApart q → (o : Option Place) (k : ℕ) (w : Way) (s : ℕ) → slice_get (ways_on code o) k ≡ Some w → Follows code q w.leads s → IsOutside p (length window) s
-  lands_outside q a None k w s e f = absurd (cc)
-  lands_outside q a (Some (Word v)) k w s e f = absurd (cc)
-  lands_outside q a (Some (Op i mention)) k w s e f = go w.leads (aimed_at (aim_of code mention) (ways_of (aim_of code mention) i) k w (are_aimed (aim_of code mention) i) e) f
+  -- where a way of a place leads, if so it is with the next place, with labels and with code points
+  pub lands : (P : ℕ → Type 0) (q : ℕ) → P (q + 1) → ((s : ℕ) → IsLabelsPlace code.labels s → P s) → ((s : ℕ) → IsPoint code s → P s) → (k : ℕ) (w : Way) (s : ℕ) → slice_get (ways code q) k ≡ Some w → Follows code q w.leads s → P s
+  lands P q next label point k w s e f = on (slice_get code.places q) e
     where
-      go : (l : Leads) → IsAimed (aim_of code mention) l → Follows code q l s → IsOutside p (length window) s
-      go Onward b g = subst (IsOutside p (length window)) (sym g) (outside_next q a)
-      go (ToPlace t) b g = subst (IsOutside p (length window)) (sym g) (outside_aim mention t b)
-      go AnyPoint b g = outside_point s g
-      go Out b g = absurd g
+      aim : (mention : Option Mention) (r : ℕ) → aim_of code mention ≡ Some r → P r
+      aim None r e = absurd (cc)
+      aim (Some m) r e = label r (label_of_name m.name code.places code.labels r e)
+
+      go : (mention : Option Mention) (l : Leads) → IsAimed (aim_of code mention) l → Follows code q l s → P s
+      go mention Onward b g = subst P (sym g) next
+      go mention (ToPlace t) b g = subst P (sym g) (aim mention t b)
+      go mention AnyPoint b g = point s g
+      go mention Out b g = absurd g
+
+      on : (o : Option Place) → slice_get (ways_on code o) k ≡ Some w → P s
+      on None e = absurd (cc)
+      on (Some (Word v)) e = absurd (cc)
+      on (Some (Op i mention)) e = go mention w.leads (aimed_at (aim_of code mention) (ways_of (aim_of code mention) i) k w (are_aimed (aim_of code mention) i) e) f
 
   pub follows_outside : (q : ℕ) → IsApart q → (k : ℕ) (w : Way) (s : ℕ) → slice_get (ways code q) k ≡ Some w → Follows code q w.leads s → IsOutside p (length window) s
-  follows_outside q a k w s e f = lands_outside q a (slice_get code.places q) k w s e f
+  follows_outside q a = lands (IsOutside p (length window)) q (outside_next q a) outside_label outside_point
 
   next_moved : (q : ℕ) → IsApart q → to (q + 1) ≡ to q + 1
   next_moved q (inl h) = omega arith

@@ -1,11 +1,12 @@
 -- Flows of places, and the sets of live items across a replacement.
-use Rattle.std.specs.Prelude.{◌≡◌, ℕ, ◌+◌, ◌-◌, ◌<◌, ◌≤◌, ◌||◌, Bool, true, false, List, [], ◌∷◌, ◌++◌, length, take, drop, map, Option, Some, None, slice_get, ◌⊎◌}
+use Rattle.std.specs.Prelude.{◌≡◌, ℕ, ◌+◌, ◌-◌, ◌<◌, ◌≤◌, ◌||◌, not, Bool, true, false, List, [], ◌∷◌, ◌++◌, length, take, drop, map, Option, Some, None, slice_get, ◌⊎◌}
 use Rattle.std.specs.List.{list_all}
 use Rattle.thumb_instr.specs.declared.instr.Instr.{Instr}
+use Rattle.thumb_instr.specs.declared.instr.Instr.TheVariants as instr
 use Rattle.thumb_instr.specs.declared.items.Items.{Items}
 use Rattle.thumb_instr.specs.Items.{one_of, has}
 use Rattle.thumb_instr.specs.Window.{is_in_window}
-use Rattle.thumb_model.specs.Listing.{plain, Label, Code, is_code}
+use Rattle.thumb_model.specs.Listing.{plain, Mention, Op, Label, Code, is_code}
 use Rattle.thumb_model.specs.Flow.{Way, Leads, Onward, ToPlace, AnyPoint, Out, ways}
 use Rattle.thumb_model.specs.Rewrite.{move_label, replaced}
 use Rattle.liveness.specs.declared.flowing.Flow.{Flow}
@@ -50,6 +51,24 @@ pub record AreFlows (code : Code) (fs : List Flow) : Type 0 where
   pub as_many : length fs ≡ length code.places
   pub flows : AreFlowsFrom code 0 fs
 
+-- ---- straight code ----
+
+-- whether an instruction's one way goes to the next place, and comes back from nowhere
+abbrev pub is_straight : Instr → Bool
+is_straight (instr.Bx m) = false
+is_straight (instr.Blx m) = false
+is_straight (instr.Pop l) = not (has l.number 8)
+is_straight (instr.BranchIf c d) = false
+is_straight (instr.Branch d) = false
+is_straight (instr.Call d) = false
+is_straight i = true
+
+-- straight code from p on leads up to the place behind it: these instructions stand there, and a label at most at the first of them
+pub record LeadsUp (code : Code) (p : ℕ) (lead : List Instr) : Type 0 where
+  pub stands : (k : ℕ) (i : Instr) → slice_get lead k ≡ Some i → (m : Option Mention) × (slice_get code.places (p + k) ≡ Some (Op i m))
+  pub straight : list_all is_straight lead ≡ true
+  pub unlabelled : (k : ℕ) (l : Label) → slice_get code.labels k ≡ Some l → (l.place ≤ p) ⊎ (p + length lead < l.place)
+
 -- ---- a replacement ----
 
 -- the window stands from p on, and may give way to the new instructions, which are fewer: no label stands within it, and each code label is still code
@@ -68,9 +87,10 @@ replaced_sets p count new sets = record {
   after = take p sets.after ++ (map (λ n. n.after) new ++ drop (p + count) sets.after);
 }
 
--- wherever the window gives way to the new instructions, with these sets before and after it and these flows ahead of it, all other sets of live items stay, and the new instructions have these
-abbrev pub KeepsLive : List Instr → List Instr → Items → Items → List Flow → List NewSets → Type 0
-KeepsLive window new before after ahead kept =
-    (code : Code) (p : ℕ) (sets : Sets) → IsLive code sets → KeepsAt code p window new → AreFlowsFrom code (p + length window) ahead
-    → set_at sets.before p ≡ before.bits → set_at sets.after (p + length window - 1) ≡ after.bits
-    → IsLive (replaced code p (length window) new) (replaced_sets p (length window) kept sets)
+-- wherever straight code leads up to the window and it gives way to the new instructions, with these sets before that code and after the window and these flows ahead of it, all other sets of live items stay, and that code and the new instructions
+-- have these
+abbrev pub KeepsLive : List Instr → List Instr → List Instr → Items → Items → List Flow → List NewSets → Type 0
+KeepsLive lead window new before after ahead kept =
+    (code : Code) (p : ℕ) (sets : Sets) → IsLive code sets → LeadsUp code p lead → KeepsAt code (p + length lead) window new → AreFlowsFrom code (p + length lead + length window) ahead
+    → set_at sets.before p ≡ before.bits → set_at sets.after (p + length lead + length window - 1) ≡ after.bits
+    → IsLive (replaced code (p + length lead) (length window) new) (replaced_sets p (length lead + length window) kept sets)

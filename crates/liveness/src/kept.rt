@@ -1,7 +1,7 @@
 //! The sets of live items that stay when a window gives way to fewer instructions.
-ghost use Rattle.std.specs.Prelude.{◌≡◌, ◌≤◌, ◌||◌, ℕ, false, length, IfSome};
+ghost use Rattle.std.specs.Prelude.{◌≡◌, ◌≤◌, ◌||◌, ◌+◌, ◌++◌, ℕ, drop, false, length, IfSome};
 ghost use Rattle.thumb_instr.specs.Items.{has};
-ghost use Rattle.liveness.specs.Kept.{KeepsLive};
+ghost use Rattle.liveness.specs.Kept.{is_straight, KeepsLive};
 ghost use Rattle.liveness.specs.Through.{live_through, passed, read_along, AreThrough};
 
 use crate::flowing::Flow;
@@ -29,32 +29,60 @@ impl Default for NewSets {
     }
 }
 
-/// The sets of the new instructions, where all other sets stay when they replace the window. `before` and `after` are the sets before and after the
-/// window, and `ahead` the flows of places behind it, as many as are to be looked at.
+/// The most instructions of straight code whose sets are worked out anew together with those of new instructions.
+pub const LEAD: usize = 32;
+
+/// Whether control goes on from an instruction to the next place alone, and comes back from nowhere.
+pub fn is_straight(instr: &Instr) -> bool
+    ensures { result ≡ is_straight instr.now }
+{
+    match *instr {
+        Instr::Bx { .. } => false,
+        Instr::Blx { .. } => false,
+        Instr::Pop { list } => list.number < 256,
+        Instr::BranchIf { .. } => false,
+        Instr::Branch { .. } => false,
+        Instr::Call { .. } => false,
+        _ => true,
+    }
+}
+
+/// The sets of straight code that leads up to a window, and of the new instructions, where all other sets stay when they replace the window. `before` is
+/// the set before that code, `after` the one after the window, and `ahead` are the flows of places behind it, as many as are to be looked at.
 ///
-/// None where the new instructions read other items, or where an item that the window reads and they don't is read by none of the flows ahead:
-/// then it may be live no more.
+/// None where other items are read through that code and the new instructions, or where an item is read through it and the window that isn't through it and
+/// them, nor by the flows ahead: then it may be live no more.
 pub fn keep(
+    lead: &[Instr],
     window: &[Instr],
     new: &[Instr],
     before: Items,
     after: Items,
     ahead: &[Flow],
-) -> Option<ArrayVec<NewSets, 5>>
-    ensures as_many { IfSome result (λ sets. length sets.items ≡ length new.now) }
-    ensures kept { IfSome result (λ sets. KeepsLive window.now new.now before after ahead.now sets.items) }
+) -> Option<ArrayVec<NewSets, 37>>
+    ensures as_many { IfSome result (λ sets. length sets.items ≡ length lead.now + length new.now) }
+    ensures few { IfSome result (λ sets. length new.now ≤ 5) }
+    ensures kept { IfSome result (λ sets. KeepsLive lead.now window.now new.now before after ahead.now sets.items) }
 {
-    if new.len() > 5 {
+    if lead.len() > LEAD || new.len() > 5 {
         return None;
     }
-    if set_before(new, after).bits != before.bits {
+    if set_through(lead, new, after).bits != before.bits {
         return None;
     }
-    let no_longer = set_before(window, Items::none()).minus(set_before(new, Items::none()));
+    let read = set_through(lead, window, Items::none());
+    let no_longer = read.minus(set_through(lead, new, Items::none()));
     if no_longer.minus(read_ahead(ahead)).bits != 0 {
         return None;
     }
-    Some(new_sets(new, after))
+    Some(new_sets(lead, new, after))
+}
+
+/// What is live before straight code that other straight code follows, where `after` is live after both.
+fn set_through(lead: &[Instr], instrs: &[Instr], after: Items) -> Items
+    ensures { (x : ℕ) → has result.bits x ≡ live_through (lead.now ++ instrs.now) (λ y. has after.bits y) x }
+{
+    set_before(lead, set_before(instrs, after))
 }
 
 /// What is live before straight code, where `after` is live after it.
@@ -95,17 +123,30 @@ fn read_at(flow: Flow, read: Items) -> Items
     }
 }
 
-/// The sets of new instructions, where `after` is live after them.
-fn new_sets(new: &[Instr], after: Items) -> ArrayVec<NewSets, 5>
-    requires { length new.now ≤ 5 }
-    ensures as_many { length result.items ≡ length new.now }
-    ensures through { AreThrough new.now after result.items }
+/// What is live before the instruction at a place of straight code and of new instructions behind it, or after all of them.
+fn set_from(lead: &[Instr], new: &[Instr], at: usize, after: Items) -> Items
+    requires { at ≤ length lead.now + length new.now }
+    ensures { (x : ℕ) → has result.bits x ≡ live_through (drop at (lead.now ++ new.now)) (λ y. has after.bits y) x }
+{
+    if at < lead.len() {
+        set_through(&lead[at..], new, after)
+    } else {
+        set_before(&new[at - lead.len()..], after)
+    }
+}
+
+/// The sets of straight code and of new instructions behind it, where `after` is live after them.
+fn new_sets(lead: &[Instr], new: &[Instr], after: Items) -> ArrayVec<NewSets, 37>
+    requires few { length lead.now ≤ 32 }
+    requires new { length new.now ≤ 5 }
+    ensures as_many { length result.items ≡ length lead.now + length new.now }
+    ensures through { AreThrough (lead.now ++ new.now) after result.items }
 {
     let mut sets = ArrayVec::new();
-    for at in 0..new.len() {
+    for at in 0..lead.len() + new.len() {
         sets.push(NewSets {
-            before: set_before(&new[at..], after),
-            after: set_before(&new[at + 1..], after),
+            before: set_from(lead, new, at, after),
+            after: set_from(lead, new, at + 1, after),
         });
     }
     sets

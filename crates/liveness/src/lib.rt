@@ -14,5 +14,5 @@ mod sets;
 
 pub use finding::live;
 pub use flowing::{Flow, flow_of, flows};
-pub use kept::{NewSets, keep};
+pub use kept::{LEAD, NewSets, is_straight, keep};
 pub use sets::Live;

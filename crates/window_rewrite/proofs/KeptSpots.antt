@@ -1,8 +1,11 @@
 -- What is kept of places where a window gives way at a cursor.
-use Rattle.std.proofs.Common.{◌≡◌, ℕ, zero, suc, ◌+◌, ◌-◌, ◌≤◌, List, [], ◌∷◌, ◌++◌, length, length-append, take, drop, map, reverse, Option, Some, None, refl, sym, ap, ◌∙◌, subst, ◌⊎◌, inl, inr, arith}
-use Rattle.std.specs.Prelude.{slice_get}
+use Rattle.std.proofs.Common.{◌≡◌, ℕ, zero, suc, ◌+◌, ◌-◌, ◌<◌, ◌≤◌, ◌&&◌, Bool, true, false, List, [], ◌∷◌, ◌++◌, length, length-append, append_assoc, take, drop, map, reverse, Option, Some, None, refl, sym, ap, ◌∙◌, subst, ◌⊎◌, inl, inr, arith}
+use Rattle.std.specs.Prelude.{slice_get, IfSome}
+use Rattle.std.specs.declared.alloc.Global.{Global}
+use Rattle.arrayvec.specs.declared.array_vec.ArrayVec.{ArrayVec}
+use Rattle.std.specs.List.{list_all}
 use Rattle.std.proofs.lemmas.Bool.{cases_lt}
-use Rattle.std.proofs.lemmas.List.{map-append, drop-map, drop_at, take_more}
+use Rattle.std.proofs.lemmas.List.{map-append, drop-map, drop_at, take_more, take-append-drop}
 use Rattle.std.proofs.lemmas.Option.{slice_get_within, get_or_from_slice_get}
 use Rattle.thumb_instr.specs.declared.instr.Instr.{Instr}
 use Rattle.thumb_instr.specs.declared.items.Items.{Items}
@@ -10,19 +13,23 @@ use Rattle.thumb_model.specs.Listing.{Label, Line, Code, places_of, labels_from,
 use Rattle.thumb_model.specs.Flow.{ways_of, ways}
 use Rattle.thumb_model.specs.Rewrite.{replaced}
 use Rattle.thumb_model.specs.Rewritten.{replaced_lines}
-use Rattle.thumb_model.proofs.Lists.{get_front, get_back, length_map}
+use Rattle.thumb_model.proofs.Lists.{get_front, get_back, get_drop, length_map, length_drop, take_all}
 use Rattle.thumb_model.proofs.LinesReplaced.{AreOps, AllOutside, code_replaced}
 use Rattle.listing_parser.specs.Replacing.{own_line}
 use Rattle.liveness.specs.declared.flowing.Flow.{Flow}
 use Rattle.liveness.specs.declared.kept.NewSets.{NewSets}
 use Rattle.liveness.specs.Live.{set_at, IsLive}
-use Rattle.liveness.specs.Kept.{FlowOf, AreFlowsFrom, AreFlows, KeepsAt, KeepsLive, replaced_sets}
+use Rattle.liveness.specs.Kept.{is_straight, FlowOf, AreFlowsFrom, AreFlows, LeadsUp, KeepsAt, KeepsLive, replaced_sets}
 use Rattle.liveness.proofs.FlowLaws.{flows_kept}
+use Rattle.line_cursor.specs.declared.pieces.Piece.{Piece}
 use Rattle.line_cursor.specs.declared.cursor.Cursor.{Cursor}
 use Rattle.line_cursor.specs.declared.cursor.Spot.{Spot}
 use Rattle.line_cursor.specs.Cursors.{IsCursor, lines_behind, lines_ahead, lines_at, place_at, spots_at, sets_of, flows_of}
+use Rattle.line_cursor.specs.Pieces.{lines_of}
+use Rattle.line_cursor.specs.Leads.{with_sets, mended}
+use Rattle.line_cursor.proofs.Leads.{mended_length, mended_get, mended_flows, mended_sets}
 use Rattle.line_cursor.proofs.Nearer.{places_append}
-use Rattle.window_rewrite.specs.Sweeps.{IsKept}
+use Rattle.window_rewrite.specs.Sweeps.{AreKept, IsKept}
 use Rattle.window_rewrite.proofs.Applied.{ops_of}
 
 -- ---- the spots of new instructions ----
@@ -103,18 +110,54 @@ ops_ahead c window new is at =
 
 -- ---- what is kept ----
 
--- new spots in place of those of a window, as something of each
-in_place : {A : Type 0} (f : Spot → A) (coming new : List Spot) (these : List A) (count : ℕ) → these ≡ map f new → (passed : List Spot) (q : ℕ) → q ≡ length passed + count
-    → take (length passed) (map f (passed ++ coming)) ++ (these ++ drop q (map f (passed ++ coming))) ≡ map f (passed ++ (new ++ drop count coming))
-in_place f coming new these count e [] q h =
-    let same : q ≡ count = omega arith in
-    ap (λ l. l ++ drop q (map f coming)) e ∙ ap (λ k. map f new ++ drop k (map f coming)) same ∙ ap (λ l. map f new ++ l) (drop-map f count coming) ∙ sym (map-append f new (drop count coming))
-in_place f coming new these count e (x ∷ xs) zero h = absurd (omega arith)
-in_place f coming new these count e (x ∷ xs) (suc q) h = ap (λ l. f x ∷ l) (in_place f coming new these count e xs q (omega arith))
+take_front : {A : Type 0} (p : ℕ) (xs ys : List A) → p ≤ length xs → take p (xs ++ ys) ≡ take p xs
+take_front zero xs ys h = refl
+take_front (suc p) [] ys h = absurd (omega arith)
+take_front (suc p) (x ∷ xs) ys h = ap (λ l. x ∷ l) (take_front p xs ys (omega arith))
 
--- the spots where new ones stand in place of those of a window
-abbrev pub spots_left : Cursor → ℕ → List Spot → List Spot
-spots_left c count new = c.passed.items ++ (new ++ drop count (reverse c.coming.items))
+drop_front : {A : Type 0} (q k : ℕ) (xs ys : List A) → q ≡ length xs + k → drop q (xs ++ ys) ≡ drop k ys
+drop_front q k [] ys e = ap (λ n. drop n ys) (let f : q ≡ k = omega arith in f)
+drop_front zero k (x ∷ xs) ys e = absurd (omega arith)
+drop_front (suc q) k (x ∷ xs) ys e = drop_front q k xs ys (omega arith)
+
+-- other sets in place of those of a window and of places before it, as something of each
+sets_in_place : {A : Type 0} (f : Spot → A) (g : NewSets → A) → ((s : Spot) (n : NewSets) → f (with_sets s n) ≡ g n) → (passed coming own : List Spot) (sets : List NewSets) (lead count p : ℕ) → p + lead ≡ length passed → lead ≤ length sets → map f own ≡ map g (drop lead sets)
+    → take p (map f (passed ++ coming)) ++ (map g sets ++ drop (p + (lead + count)) (map f (passed ++ coming))) ≡ map f (mended p passed (take lead sets) ++ (own ++ drop count coming))
+sets_in_place f g with passed coming own sets lead count p e few same =
+    let n = length_map f passed in
+    let m : length (take lead sets) ≡ lead = take_all lead sets few in
+    let led : List NewSets = take lead sets in
+    let rest : List NewSets = drop lead sets in
+    let front = ap (take p) (map-append f passed coming) ∙ take_front p (map f passed) (map f coming) (omega arith) in
+    let back = ap (drop (p + (lead + count))) (map-append f passed coming) ∙ drop_front (p + (lead + count)) count (map f passed) (map f coming) (omega arith) in
+    let mid = ap (map g) (sym (take-append-drop lead sets)) ∙ map-append g led rest in
+    ap (λ l. l ++ (map g sets ++ drop (p + (lead + count)) (map f (passed ++ coming)))) front
+    ∙ ap (λ l. take p (map f passed) ++ (l ++ drop (p + (lead + count)) (map f (passed ++ coming)))) mid
+    ∙ ap (λ l. take p (map f passed) ++ ((map g led ++ map g rest) ++ l)) back
+    ∙ ap (λ l. take p (map f passed) ++ l) (append_assoc (map g led) (map g rest) (drop count (map f coming)))
+    ∙ sym (append_assoc (take p (map f passed)) (map g led) (map g rest ++ drop count (map f coming)))
+    ∙ sym (map-append f (mended p passed led) (own ++ drop count coming)
+    ∙ ap (λ l. l ++ map f (own ++ drop count coming)) (mended_sets f g with p passed led (omega arith))
+    ∙ ap (λ l. (take p (map f passed) ++ map g led) ++ l) (map-append f own (drop count coming) ∙ ap (λ l. l ++ map f (drop count coming)) same ∙ ap (λ l. map g rest ++ l) (sym (drop-map f count coming))))
+
+-- and what isn't of their sets stays
+flows_in_place : {A : Type 0} (f : Spot → A) → ((s : Spot) (n : NewSets) → f (with_sets s n) ≡ f s) → (passed coming own : List Spot) (led : List NewSets) (p count : ℕ)
+    → take (length passed) (map f (passed ++ coming)) ++ (map f own ++ drop (length passed + count) (map f (passed ++ coming))) ≡ map f (mended p passed led ++ (own ++ drop count coming))
+flows_in_place f with passed coming own led p count =
+    let n = length_map f passed in
+    let whole : take (length passed) (map f passed) ≡ map f passed = all (length passed) (map f passed) (omega arith) in
+    let front = ap (take (length passed)) (map-append f passed coming) ∙ take_front (length passed) (map f passed) (map f coming) (omega arith) ∙ whole in
+    let back = ap (drop (length passed + count)) (map-append f passed coming) ∙ drop_front (length passed + count) count (map f passed) (map f coming) (omega arith) in
+    ap (λ l. l ++ (map f own ++ drop (length passed + count) (map f (passed ++ coming)))) front
+    ∙ ap (λ l. map f passed ++ (map f own ++ l)) back
+    ∙ sym (map-append f (mended p passed led) (own ++ drop count coming) ∙ ap (λ l. l ++ map f (own ++ drop count coming)) (mended_flows f with p passed led)
+    ∙ ap (λ l. map f passed ++ l) (map-append f own (drop count coming) ∙ ap (λ l. map f own ++ l) (sym (drop-map f count coming))))
+  where
+    all : {A : Type 0} (n : ℕ) (xs : List A) → length xs ≤ n → take n xs ≡ xs
+    all zero [] h = refl
+    all (suc n) [] h = refl
+    all zero (x ∷ xs) h = absurd (omega arith)
+    all (suc n) (x ∷ xs) h = ap (λ ys. x ∷ ys) (all n xs (omega arith))
 
 -- the flows of places behind the window
 flows_ahead : (c : Cursor) (count : ℕ) (ahead : List Flow) → IsKept c → ((k : ℕ) (f : Flow) → slice_get ahead k ≡ Some f → slice_get (flows_of (spots_at c)) (place_at c + (count + k)) ≡ Some f)
@@ -122,45 +165,174 @@ flows_ahead : (c : Cursor) (count : ℕ) (ahead : List Flow) → IsKept c → ((
 flows_ahead c count ahead kept are k f e =
     subst (λ q. FlowOf (ways (code_of (lines_at c)) q) f) (let z : 0 + (place_at c + (count + k)) ≡ place_at c + count + k = omega arith in z) (kept.flows.flows (place_at c + (count + k)) f (are k f e))
 
-pub kept_live : (c : Cursor) (window new : List Instr) (before after : Items) (ahead : List Flow) (sets : List NewSets) (spots : List Spot) → IsKept c → KeepsHere c window new → KeepsLive window new before after ahead sets
-    → before.bits ≡ set_at (sets_of (spots_at c)).before (place_at c) → after.bits ≡ set_at (sets_of (spots_at c)).after (place_at c + (length window - 1))
-    → ((k : ℕ) (f : Flow) → slice_get ahead k ≡ Some f → slice_get (flows_of (spots_at c)) (place_at c + (length window + k)) ≡ Some f)
-    → map (λ (s : Spot). s.before) spots ≡ map (λ (n : NewSets). n.before) sets → map (λ (s : Spot). s.after) spots ≡ map (λ (n : NewSets). n.after) sets
-    → IsLive (replaced (code_of (lines_at c)) (place_at c) (length window) new) (sets_of (spots_left c (length window) spots))
-kept_live c window new before after ahead sets spots kept at keeps b a flows same_before same_after = subst (IsLive (replaced (code_of (lines_at c)) (place_at c) (length window) new)) same live
-  where
-    live : IsLive (replaced (code_of (lines_at c)) (place_at c) (length window) new) (replaced_sets (place_at c) (length window) sets (sets_of (spots_at c)))
-    live =
-        let shorter = at.shorter in
-        let last : place_at c + length window - 1 ≡ place_at c + (length window - 1) = omega arith in
-        keeps (code_of (lines_at c)) (place_at c) (sets_of (spots_at c)) kept.live at (flows_ahead c (length window) ahead kept flows) (sym b) (ap (set_at (sets_of (spots_at c)).after) last ∙ sym a)
+-- ---- straight code that leads up to the window ----
 
-    same : replaced_sets (place_at c) (length window) sets (sets_of (spots_at c)) ≡ sets_of (spots_left c (length window) spots)
-    same = λ i. record { before = befores i; after = afters i }
-      where
-        befores : (replaced_sets (place_at c) (length window) sets (sets_of (spots_at c))).before ≡ (sets_of (spots_left c (length window) spots)).before
-        befores = in_place (λ (s : Spot). s.before) (reverse c.coming.items) spots (map (λ (n : NewSets). n.before) sets) (length window) (sym same_before) c.passed.items (place_at c + length window) refl
+pub no_lead : (c : Code) (p : ℕ) (lead : List Instr) → lead ≡ [] → LeadsUp c p lead
+no_lead c p lead e = subst (LeadsUp c p) (sym e) (record {
+  stands = λ k i f. absurd (cc);
+  straight = refl;
+  unlabelled = λ k l f. elim (cases_lt p l.place) [ inl h ↦ inr (omega arith) | inr h ↦ inl h ];
+})
 
-        afters : (replaced_sets (place_at c) (length window) sets (sets_of (spots_at c))).after ≡ (sets_of (spots_left c (length window) spots)).after
-        afters = in_place (λ (s : Spot). s.after) (reverse c.coming.items) spots (map (λ (n : NewSets). n.after) sets) (length window) (sym same_after) c.passed.items (place_at c + length window) refl
-
-pub kept_flows : (c : Cursor) (window new : List Instr) (spots : List Spot) → IsKept c → KeepsHere c window new → length spots ≡ length new
-    → ((k : ℕ) (i : Instr) (f : Flow) → slice_get new k ≡ Some i → slice_get (flows_of spots) k ≡ Some f → FlowOf (ways_of None i) f)
-    → AreFlows (replaced (code_of (lines_at c)) (place_at c) (length window) new) (flows_of (spots_left c (length window) spots))
-kept_flows c window new spots kept at n each =
-    subst (AreFlows (replaced (code_of (lines_at c)) (place_at c) (length window) new)) (in_place (λ (s : Spot). s.flow) (reverse c.coming.items) spots (flows_of spots) (length window) refl c.passed.items (place_at c + length window) refl)
-    (flows_kept (code_of (lines_at c)) (place_at c) window new at (flows_of (spots_at c)) (flows_of spots) kept.flows (length_map (λ (s : Spot). s.flow) spots ∙ n) each)
-
--- ---- a replacement that is made ----
-
-pub still_kept : (old now : Cursor) (window new : List Instr) (spots : List Spot) → KeepsHere old window new → IsCursor now → lines_at now ≡ replaced_lines own_line (place_at old) (length window) new (lines_at old)
-    → spots_at now ≡ spots_left old (length window) spots
-    → IsLive (replaced (code_of (lines_at old)) (place_at old) (length window) new) (sets_of (spots_left old (length window) spots))
-    → AreFlows (replaced (code_of (lines_at old)) (place_at old) (length window) new) (flows_of (spots_left old (length window) spots)) → IsKept now
-still_kept old now window new spots at is lines all live flows =
-    let code : code_of (lines_at now) ≡ replaced (code_of (lines_at old)) (place_at old) (length window) new = ap code_of lines ∙ code_left (lines_at old) (place_at old) (length window) window new at refl in
+-- what leads up to a place does so from each of its instructions on
+led_from : (c : Code) (p q k : ℕ) (lead : List Instr) → q ≡ p + k → k ≤ length lead → LeadsUp c p lead → LeadsUp c q (drop k lead)
+led_from c p q k lead e h l =
+    let n = length_drop k lead in
     record {
-      is = is;
-      live = subst (λ (k : Code). IsLive k (sets_of (spots_at now))) (sym code) (subst (λ (l : List Spot). IsLive (replaced (code_of (lines_at old)) (place_at old) (length window) new) (sets_of l)) (sym all) live);
-      flows = subst (λ (k : Code). AreFlows k (flows_of (spots_at now))) (sym code) (subst (λ (l : List Spot). AreFlows (replaced (code_of (lines_at old)) (place_at old) (length window) new) (flows_of l)) (sym all) flows);
+      stands = λ j i f.
+          let t = l.stands (k + j) i (sym (get_drop k lead j (k + j) refl) ∙ f) in
+          (t.0, ap (slice_get c.places) (let z : q + j ≡ p + (k + j) = omega arith in z) ∙ t.1);
+      straight = rest k lead l.straight;
+      unlabelled = λ j m f. elim (l.unlabelled j m f) [ inl a ↦ inl (omega arith) | inr a ↦ inr (omega arith) ];
     }
+  where
+    right : (a b : Bool) → (a && b) ≡ true → b ≡ true
+    right true b f = f
+    right false b f = absurd (cc)
+
+    rest : (k : ℕ) (is : List Instr) → list_all is_straight is ≡ true → list_all is_straight (drop k is) ≡ true
+    rest zero is f = f
+    rest (suc k) [] f = f
+    rest (suc k) (i ∷ is) f = rest k is (right (is_straight i) _ f)
+
+-- a slice to the end
+pub to_end : {A : Type 0} (xs : List A) (k : ℕ) → take (length xs - k) (drop k xs) ≡ drop k xs
+to_end xs k = let n = length_drop k xs in whole (length xs - k) (drop k xs) (omega arith)
+  where
+    whole : {A : Type 0} (n : ℕ) (xs : List A) → length xs ≤ n → take n xs ≡ xs
+    whole zero [] f = refl
+    whole (suc n) [] f = refl
+    whole zero (x ∷ xs) f = absurd (omega arith)
+    whole (suc n) (x ∷ xs) f = ap (λ ys. x ∷ ys) (whole n xs (omega arith))
+
+pub led_shorter : (c : Code) (place k : ℕ) (lead slice : List Instr) → slice ≡ take (length lead - k) (drop k lead) → k ≤ length lead → length lead ≤ place → LeadsUp c (place - length lead) lead → (length slice ≤ place) × LeadsUp c (place - length slice) slice
+led_shorter c place k lead slice e h few l =
+    let n = length_drop k lead in
+    let same : slice ≡ drop k lead = e ∙ to_end lead k in
+    subst (λ (is : List Instr). (length is ≤ place) × LeadsUp c (place - length is) is) (sym same) (omega (arith, n), led_from c (place - length lead) (place - length (drop k lead)) k lead (omega arith) h l)
+
+pub kept_sets : (c : Cursor) (lead window new : List Instr) (before after : Items) (ahead : List Flow) (sets : List NewSets) → IsKept c → KeepsHere c window new → length lead ≤ place_at c → LeadsUp (code_of (lines_at c)) (place_at c - length lead) lead
+    → length sets ≡ length lead + length new → length new ≤ 5 → KeepsLive lead window new before after ahead sets
+    → before.bits ≡ set_at (sets_of (spots_at c)).before (place_at c - length lead) → after.bits ≡ set_at (sets_of (spots_at c)).after (place_at c + (length window - 1))
+    → ((k : ℕ) (f : Flow) → slice_get ahead k ≡ Some f → slice_get (flows_of (spots_at c)) (place_at c + (length window + k)) ≡ Some f)
+    → AreKept c window new sets
+kept_sets c lead window new before after ahead sets kept at within leads many few keeps b a flows = record { lead = length lead; within = within; as_many = many; few = few; live = live (place_at c - length lead) here leads b }
+  where
+    here : place_at c - length lead + length lead ≡ place_at c
+    here = omega arith
+
+    live : (p : ℕ) → p + length lead ≡ place_at c → LeadsUp (code_of (lines_at c)) p lead → before.bits ≡ set_at (sets_of (spots_at c)).before p
+        → IsLive (replaced (code_of (lines_at c)) (place_at c) (length window) new) (replaced_sets p (length lead + length window) sets (sets_of (spots_at c)))
+    live p e l f =
+        let shorter = at.shorter in
+        let last : p + length lead + length window - 1 ≡ place_at c + (length window - 1) = omega arith in
+        subst (λ q. IsLive (replaced (code_of (lines_at c)) q (length window) new) (replaced_sets p (length lead + length window) sets (sets_of (spots_at c)))) e
+        (keeps (code_of (lines_at c)) p (sets_of (spots_at c)) kept.live l (subst (λ q. KeepsAt (code_of (lines_at c)) q window new) (sym e) at)
+        (subst (λ q. AreFlowsFrom (code_of (lines_at c)) (q + length window) ahead) (sym e) (flows_ahead c (length window) ahead kept flows)) (sym f) (ap (set_at (sets_of (spots_at c)).after) last ∙ sym a))
+
+-- as an answer that may be none
+pub if_kept : (c : Cursor) (lead window new : List Instr) (before after : Items) (ahead : List Flow) (o : Option (ArrayVec NewSets 37 Global)) → IsKept c → KeepsHere c window new → length lead ≤ place_at c → LeadsUp (code_of (lines_at c)) (place_at c - length lead) lead
+    → IfSome o (λ s. length s.items ≡ length lead + length new) → IfSome o (λ s. length new ≤ 5) → IfSome o (λ s. KeepsLive lead window new before after ahead s.items)
+    → before.bits ≡ set_at (sets_of (spots_at c)).before (place_at c - length lead) → after.bits ≡ set_at (sets_of (spots_at c)).after (place_at c + (length window - 1))
+    → ((k : ℕ) (f : Flow) → slice_get ahead k ≡ Some f → slice_get (flows_of (spots_at c)) (place_at c + (length window + k)) ≡ Some f)
+    → IfSome o (λ s. AreKept c window new s.items)
+if_kept c lead window new before after ahead None kept at within leads many few keeps b a flows = tt
+if_kept c lead window new before after ahead (Some s) kept at within leads many few keeps b a flows = kept_sets c lead window new before after ahead s.items kept at within leads many few keeps b a flows
+
+-- ---- other sets at a cursor ----
+
+-- the one cursor is the other with other sets for the last places before it
+pub record IsMended (old now : Cursor) (led : List NewSets) : Type 0 where
+  pub behind : now.behind.items ≡ old.behind.items
+  pub ahead : now.ahead.items ≡ old.ahead.items
+  pub coming : now.coming.items ≡ old.coming.items
+  pub passed : now.passed.items ≡ mended (place_at old - length led) old.passed.items led
+
+pub mended_place : (old now : Cursor) (led : List NewSets) → IsMended old now led → place_at now ≡ place_at old
+mended_place old now led m = ap (λ (l : List Spot). length l) m.passed ∙ mended_length (place_at old - length led) old.passed.items led
+
+pub mended_lines : (old now : Cursor) (led : List NewSets) → IsMended old now led → lines_at now ≡ lines_at old
+mended_lines old now led m = ap (λ (b : List Piece). lines_of b ++ lines_of (reverse now.ahead.items)) m.behind ∙ ap (λ (a : List Piece). lines_of old.behind.items ++ lines_of (reverse a)) m.ahead
+
+pub mended_is : (old now : Cursor) (led : List NewSets) → IsCursor old → IsMended old now led → IsCursor now
+mended_is old now led is m = record {
+  passed = mended_place old now led m ∙ is.passed ∙ ap (λ (b : List Piece). length (places_of (lines_of b))) (sym m.behind);
+  coming = ap (λ (l : List Spot). length l) m.coming ∙ is.coming ∙ ap (λ (a : List Piece). length (places_of (lines_of (reverse a)))) (sym m.ahead);
+}
+
+pub mended_ops : (old now : Cursor) (led : List NewSets) (window new : List Instr) → IsCursor old → KeepsHere old window new → IsMended old now led → AreOps (length window) (places_of (lines_ahead now))
+mended_ops old now led window new is at m = subst (λ (a : List Piece). AreOps (length window) (places_of (lines_of (reverse a)))) (sym m.ahead) (ops_ahead old window new is at)
+
+-- the spots where new ones stand in place of those of a window
+abbrev pub spots_left : Cursor → ℕ → List Spot → List Spot
+spots_left c count new = c.passed.items ++ (new ++ drop count (reverse c.coming.items))
+
+left_mended : (old m : Cursor) (led : List NewSets) (count : ℕ) (spots : List Spot) → IsMended old m led → spots_left m count spots ≡ mended (place_at old - length led) old.passed.items led ++ (spots ++ drop count (reverse old.coming.items))
+left_mended old m led count spots is = ap (λ (l : List Spot). l ++ (spots ++ drop count (reverse m.coming.items))) is.passed ∙ ap (λ (l : List Spot). mended (place_at old - length led) old.passed.items led ++ (spots ++ drop count (reverse l))) is.coming
+
+-- a replacement that was made, with the sets that are true
+pub put_kept : (old m now : Cursor) (window new : List Instr) (sets led own : List NewSets) (spots : List Spot) (n : ℕ) → IsKept old → KeepsHere old window new → AreKept old window new sets → n ≡ length sets - length new
+    → led ≡ take n sets → own ≡ drop n sets → IsMended old m led → IsCursor now → lines_at now ≡ replaced_lines own_line (place_at m) (length window) new (lines_at m)
+    → spots_at now ≡ spots_left m (length window) spots → length spots ≡ length new
+    → map (λ (s : Spot). s.before) spots ≡ map (λ (n : NewSets). n.before) own → map (λ (s : Spot). s.after) spots ≡ map (λ (n : NewSets). n.after) own
+    → ((k : ℕ) (i : Instr) (f : Flow) → slice_get new k ≡ Some i → slice_get (flows_of spots) k ≡ Some f → FlowOf (ways_of None i) f)
+    → IsKept now
+put_kept old m now window new sets led own spots n kept at k en el eo is cursor lines all many same_before same_after each =
+    record {
+      is = cursor;
+      live = subst (λ (c : Code). IsLive c (sets_of (spots_at now))) (sym code) (subst (λ (l : List Spot). IsLive (replaced (code_of (lines_at old)) (place_at old) (length window) new) (sets_of l)) (sym here) live);
+      flows = subst (λ (c : Code). AreFlows c (flows_of (spots_at now))) (sym code) (subst (λ (l : List Spot). AreFlows (replaced (code_of (lines_at old)) (place_at old) (length window) new) (flows_of l)) (sym here) flows);
+    }
+  where
+    lead_is : n ≡ k.lead
+    lead_is = let a = k.as_many in omega arith
+
+    long : length led ≡ n
+    long = ap (λ (l : List NewSets). length l) el ∙ take_all n sets (omega arith)
+
+    p_is : place_at old - k.lead ≡ place_at old - length led
+    p_is = let a = long in let b = lead_is in omega arith
+
+    code : code_of (lines_at now) ≡ replaced (code_of (lines_at old)) (place_at old) (length window) new
+    code =
+        ap code_of lines
+        ∙ ap (λ p. code_of (replaced_lines own_line p (length window) new (lines_at m))) (mended_place old m led is)
+        ∙ ap (λ (ls : List Line). code_of (replaced_lines own_line (place_at old) (length window) new ls)) (mended_lines old m led is)
+        ∙ code_left (lines_at old) (place_at old) (length window) window new at refl
+
+    here : spots_at now ≡ mended (place_at old - length led) old.passed.items led ++ (spots ++ drop (length window) (reverse old.coming.items))
+    here = all ∙ left_mended old m led (length window) spots is
+
+    sets_are : {A : Type 0} (f : Spot → A) (g : NewSets → A) → ((s : Spot) (n : NewSets) → f (with_sets s n) ≡ g n) → map f spots ≡ map g own
+        → take (place_at old - k.lead) (map f (spots_at old)) ++ (map g sets ++ drop (place_at old - k.lead + (k.lead + length window)) (map f (spots_at old)))
+        ≡ map f (mended (place_at old - length led) old.passed.items led ++ (spots ++ drop (length window) (reverse old.coming.items)))
+    sets_are f g with same =
+        let w = k.within in
+        let a = k.as_many in
+        sets_in_place f g with old.passed.items (reverse old.coming.items) spots sets k.lead (length window) (place_at old - k.lead) (omega arith) (omega arith) (same ∙ ap (map g) (eo ∙ ap (λ j. drop j sets) lead_is))
+        ∙ ap (λ p. map f (mended p old.passed.items (take k.lead sets) ++ (spots ++ drop (length window) (reverse old.coming.items)))) p_is
+        ∙ ap (λ (l : List NewSets). map f (mended (place_at old - length led) old.passed.items l ++ (spots ++ drop (length window) (reverse old.coming.items)))) (ap (λ j. take j sets) (sym lead_is) ∙ sym el)
+
+    live : IsLive (replaced (code_of (lines_at old)) (place_at old) (length window) new) (sets_of (mended (place_at old - length led) old.passed.items led ++ (spots ++ drop (length window) (reverse old.coming.items))))
+    live = subst (IsLive (replaced (code_of (lines_at old)) (place_at old) (length window) new)) (λ i. record { before = befores i; after = afters i }) k.live
+      where
+        befores : (replaced_sets (place_at old - k.lead) (k.lead + length window) sets (sets_of (spots_at old))).before ≡ (sets_of (mended (place_at old - length led) old.passed.items led ++ (spots ++ drop (length window) (reverse old.coming.items)))).before
+        befores = sets_are (λ (s : Spot). s.before) (λ (n : NewSets). n.before) (λ s n. refl) same_before
+
+        afters : (replaced_sets (place_at old - k.lead) (k.lead + length window) sets (sets_of (spots_at old))).after ≡ (sets_of (mended (place_at old - length led) old.passed.items led ++ (spots ++ drop (length window) (reverse old.coming.items)))).after
+        afters = sets_are (λ (s : Spot). s.after) (λ (n : NewSets). n.after) (λ s n. refl) same_after
+
+    flows : AreFlows (replaced (code_of (lines_at old)) (place_at old) (length window) new) (flows_of (mended (place_at old - length led) old.passed.items led ++ (spots ++ drop (length window) (reverse old.coming.items))))
+    flows =
+        subst (AreFlows (replaced (code_of (lines_at old)) (place_at old) (length window) new)) (flows_in_place (λ (s : Spot). s.flow) (λ s n. refl) old.passed.items (reverse old.coming.items) spots led (place_at old - length led) (length window))
+        (flows_kept (code_of (lines_at old)) (place_at old) window new at (flows_of (spots_at old)) (flows_of spots) kept.flows (length_map (λ (s : Spot). s.flow) spots ∙ many) each)
+
+-- well before the window what is kept stays
+pub put_same : (old m now : Cursor) (window : List Instr) (led : List NewSets) (spots : List Spot) (q : ℕ) → IsMended old m led → spots_at now ≡ spots_left m (length window) spots → length led ≤ place_at old → q + length led < place_at old
+    → slice_get (spots_at now) q ≡ slice_get (spots_at old) q
+put_same old m now window led spots q is all few h =
+    let n = mended_length (place_at old - length led) old.passed.items led in
+    ap (λ (l : List Spot). slice_get l q) (all ∙ left_mended old m led (length window) spots is)
+    ∙ get_front (mended (place_at old - length led) old.passed.items led) (spots ++ drop (length window) (reverse old.coming.items)) q (omega arith)
+    ∙ mended_get (place_at old - length led) old.passed.items led q (omega arith)
+    ∙ sym (get_front old.passed.items (reverse old.coming.items) q (omega arith))

@@ -1,13 +1,16 @@
 -- A sweep over a listing: a cursor in lines that come of it by replacements.
-use Rattle.std.specs.Prelude.{◌≡◌, ◌%◌, ◌≤◌, ◌++◌, true, false, None, List, [], length, map}
+use Rattle.std.specs.Prelude.{◌≡◌, ℕ, ◌+◌, ◌-◌, ◌%◌, ◌≤◌, ◌++◌, true, false, None, List, [], length, map}
+use Rattle.thumb_instr.specs.declared.instr.Instr.{Instr}
 use Rattle.thumb_model.specs.Listing.{Line, code_of, places_of}
+use Rattle.thumb_model.specs.Rewrite.{replaced}
 use Rattle.thumb_model.specs.Rewritten.{Setting, Replacement, AreRewritten}
 use Rattle.listing_parser.specs.TableWords.{first_twice}
 use Rattle.liveness.specs.Live.{IsLive}
-use Rattle.liveness.specs.Kept.{AreFlows}
+use Rattle.liveness.specs.declared.kept.NewSets.{NewSets}
+use Rattle.liveness.specs.Kept.{AreFlows, replaced_sets}
 use Rattle.steady_layout.specs.Steady.{IsSteady}
 use Rattle.line_cursor.specs.declared.cursor.Cursor.{Cursor}
-use Rattle.line_cursor.specs.Cursors.{IsCursor, lines_at, spots_at, sets_of, flows_of}
+use Rattle.line_cursor.specs.Cursors.{IsCursor, lines_at, place_at, spots_at, sets_of, flows_of}
 use Rattle.window_rewrite.specs.declared.choice.Replacement.{Replacement as Made}
 use Rattle.window_rewrite.specs.declared.finding.Rules.{Rules}
 use Rattle.window_rewrite.specs.declared.ground.Ground.{Ground}
@@ -18,6 +21,14 @@ pub record IsKept (c : Cursor) : Type 0 where
   pub is : IsCursor c
   pub live : IsLive (code_of (lines_at c)) (sets_of (spots_at c))
   pub flows : AreFlows (code_of (lines_at c)) (flows_of (spots_at c))
+
+-- the sets of new instructions in place of a window right behind a cursor, and before them those of places right before it, are true, with all others that are kept
+pub record AreKept (c : Cursor) (window new : List Instr) (sets : List NewSets) : Type 0 where
+  pub lead : ℕ
+  pub within : lead ≤ place_at c
+  pub as_many : length sets ≡ lead + length new
+  pub few : length new ≤ 5
+  pub live : IsLive (replaced (code_of (lines_at c)) (place_at c) (length window) new) (replaced_sets (place_at c - lead) (lead + length window) sets (sets_of (spots_at c)))
 
 -- other lines may become a listing where these are one
 pub record MayBecome (given lines : List Line) : Type 0 where

@@ -1,25 +1,23 @@
 //! A replacement made at a cursor, with what is kept of places.
-ghost use Rattle.std.specs.Prelude.{◌≡◌, ◌<◌, ◌≤◌, ◌++◌, ◌∷◌, [], ℕ, List, drop, length, map, reverse, slice_get, true, IfOk, IfSome, None, OnOk, Some};
+ghost use Rattle.std.specs.Prelude.{◌≡◌, ◌+◌, ◌-◌, ◌<◌, ◌≤◌, ◌++◌, ◌∷◌, [], ℕ, List, length, map, slice_get, true, IfOk, IfSome, None, OnOk, OnSome, Some};
 ghost use Rattle.std.specs.List.{list_all};
 ghost use Rattle.thumb_instr.specs.Window.{is_in_window};
 ghost use Rattle.thumb_model.specs.Listing.{code_of};
 ghost use Rattle.thumb_model.specs.Flow.{ways_of};
-ghost use Rattle.thumb_model.specs.Rewrite.{replaced};
 ghost use Rattle.thumb_model.specs.Rewritten.{replaced_lines};
 ghost use Rattle.listing_parser.specs.Replacing.{own_line};
-ghost use Rattle.liveness.specs.Live.{IsLive};
-ghost use Rattle.liveness.specs.Kept.{AreFlows, FlowOf, KeepsAt};
+ghost use Rattle.liveness.specs.Kept.{FlowOf, KeepsAt, LeadsUp};
 ghost use Rattle.thumb_instr.specs.declared.instr.Instr.{Instr};
 ghost use Rattle.liveness.specs.declared.flowing.Flow.{Flow};
 ghost use Rattle.line_cursor.specs.declared.pieces.Piece.{Piece};
 ghost use Rattle.line_cursor.specs.Pieces.{begins_op, lines_in};
-ghost use Rattle.line_cursor.specs.Cursors.{flows_of, lines_at, place_at, sets_of, spots_at};
-ghost use Rattle.window_rewrite.specs.Sweeps.{IsKept};
+ghost use Rattle.line_cursor.specs.Cursors.{flows_of, lines_at, place_at, spots_at};
+ghost use Rattle.window_rewrite.specs.Sweeps.{AreKept, IsKept};
 
 use arrayvec::ArrayVec;
 use line_cursor::{Cursor, Spot};
 use listing_parser::Memory;
-use liveness::{NewSets, flow_of, keep};
+use liveness::{Flow, NewSets, flow_of, keep};
 use thumb_instr::Instr;
 
 /// What is kept of new instructions, which have these sets.
@@ -44,21 +42,91 @@ fn spots_of(sets: &[NewSets], new: &[Instr]) -> ArrayVec<Spot, 5>
     spots
 }
 
-/// What is kept of new instructions in place of a window right behind the cursor, where all else that is kept stays true.
-fn kept(cursor: &Cursor<'_>, window: &[Instr], new: &[Instr]) -> Option<ArrayVec<Spot, 5>>
+/// The sets of straight code that leads up to a window right behind the cursor, and of new instructions in its place, where all other sets stay. `ahead` are
+/// the flows of places behind the window.
+fn kept_behind(
+    cursor: &Cursor<'_>,
+    lead: &[Instr],
+    window: &[Instr],
+    new: &[Instr],
+    ahead: &[Flow],
+) -> Option<ArrayVec<NewSets, 37>>
     requires kept { IsKept cursor.now }
     requires keeps { KeepsAt (code_of (lines_at cursor.now)) (place_at cursor.now) window.now new.now }
-    ensures as_many { IfSome result (λ s. length s.items ≡ length new.now) }
-    ensures live { IfSome result (λ s. IsLive (replaced (code_of (lines_at cursor.now)) (place_at cursor.now) (length window.now) new.now) (sets_of (cursor.now.passed.items ++ (s.items ++ drop (length window.now) (reverse cursor.now.coming.items))))) }
-    ensures flows { IfSome result (λ s. AreFlows (replaced (code_of (lines_at cursor.now)) (place_at cursor.now) (length window.now) new.now) (flows_of (cursor.now.passed.items ++ (s.items ++ drop (length window.now) (reverse cursor.now.coming.items))))) }
+    requires few { length lead.now ≤ place_at cursor.now }
+    requires leads { LeadsUp (code_of (lines_at cursor.now)) (place_at cursor.now - length lead.now) lead.now }
+    requires ahead { (k : ℕ) (f : Flow) → slice_get ahead.now k ≡ Some f → slice_get (flows_of (spots_at cursor.now)) (place_at cursor.now + (length window.now + k)) ≡ Some f }
+    ensures { IfSome result (λ s. AreKept cursor.now window.now new.now s.items) }
 {
-    let before = cursor.before();
+    let before = cursor.before(lead.len());
     let after = cursor.after(window.len());
-    let ahead = cursor.flows(window.len());
-    match keep(window, new, before, after, ahead.as_slice()) {
-        None => None,
-        Some(sets) => Some(spots_of(sets.as_slice(), new)),
+    keep(lead, window, new, before, after, ahead)
+}
+
+/// As `kept_behind`, with as little as is needed of the straight code that leads up to the window.
+fn kept_with_lead(
+    cursor: &Cursor<'_>,
+    window: &[Instr],
+    new: &[Instr],
+    ahead: &[Flow],
+) -> Option<ArrayVec<NewSets, 37>>
+    requires kept { IsKept cursor.now }
+    requires some { 0 < length cursor.now.ahead.items }
+    requires first { (rest : List Piece) (x : Piece) → cursor.now.ahead.items ≡ rest ++ x ∷ [] → begins_op (lines_in x) ≡ true }
+    requires keeps { KeepsAt (code_of (lines_at cursor.now)) (place_at cursor.now) window.now new.now }
+    requires ahead { (k : ℕ) (f : Flow) → slice_get ahead.now k ≡ Some f → slice_get (flows_of (spots_at cursor.now)) (place_at cursor.now + (length window.now + k)) ≡ Some f }
+    ensures { IfSome result (λ s. AreKept cursor.now window.now new.now s.items) }
+{
+    let lead = cursor.lead();
+    let mut at = lead.len();
+    while at > 0 {
+        at -= 1;
+        if let Some(sets) = kept_behind(cursor, &lead.as_slice()[at..], window, new, ahead) {
+            return Some(sets);
+        }
     }
+    None
+}
+
+/// The sets of new instructions in place of a window right behind the cursor, where all other sets stay; or, where they don't, those of straight code that leads
+/// up to the window and of the new instructions, if all others stay then.
+fn kept(cursor: &Cursor<'_>, window: &[Instr], new: &[Instr]) -> Option<ArrayVec<NewSets, 37>>
+    requires kept { IsKept cursor.now }
+    requires some { 0 < length cursor.now.ahead.items }
+    requires first { (rest : List Piece) (x : Piece) → cursor.now.ahead.items ≡ rest ++ x ∷ [] → begins_op (lines_in x) ≡ true }
+    requires keeps { KeepsAt (code_of (lines_at cursor.now)) (place_at cursor.now) window.now new.now }
+    ensures { IfSome result (λ s. AreKept cursor.now window.now new.now s.items) }
+{
+    let flows = cursor.flows(window.len());
+    let ahead = flows.as_slice();
+    match kept_behind(cursor, &[], window, new, ahead) {
+        Some(sets) => Some(sets),
+        None => kept_with_lead(cursor, window, new, ahead),
+    }
+}
+
+/// Puts new instructions in place of a window right behind the cursor, with these sets, of which the first ones are of straight code that leads up to it. Of how
+/// many places these are.
+fn put(
+    cursor: &mut Cursor<'_>,
+    window: &[Instr],
+    new: &[Instr],
+    sets: &[NewSets],
+) -> Result<usize, Memory>
+    requires kept { IsKept cursor.old }
+    requires some { 0 < length cursor.old.ahead.items }
+    requires first { (rest : List Piece) (x : Piece) → cursor.old.ahead.items ≡ rest ++ x ∷ [] → begins_op (lines_in x) ≡ true }
+    requires keeps { KeepsAt (code_of (lines_at cursor.old)) (place_at cursor.old) window.now new.now }
+    requires sets { AreKept cursor.old window.now new.now sets.now }
+    ensures lines { OnOk result (lines_at cursor.new ≡ replaced_lines own_line (place_at cursor.old) (length window.now) new.now (lines_at cursor.old)) }
+    ensures kept { OnOk result (IsKept cursor.new) }
+    ensures spots { IfOk result (λ n. (q : ℕ) → q + n < place_at cursor.old → slice_get (spots_at cursor.new) q ≡ slice_get (spots_at cursor.old) q) }
+{
+    let lead = sets.len() - new.len();
+    let spots = spots_of(&sets[lead..], new);
+    cursor.mend(&sets[..lead]);
+    cursor.replace(window.len(), new, spots.as_slice())?;
+    Ok(lead)
 }
 
 /// What stands for new instructions of which nothing is known.
@@ -73,25 +141,29 @@ fn blank(new: &[Instr]) -> ArrayVec<Spot, 5>
     spots
 }
 
-/// Puts new instructions in place of a window right behind the cursor. Whether what is kept of places is still true.
-pub(crate) fn make(cursor: &mut Cursor<'_>, window: &[Instr], new: &[Instr]) -> Result<bool, Memory>
+/// Puts new instructions in place of a window right behind the cursor. The sets of how many places before it changed, where what is kept of places is still true.
+pub(crate) fn make(
+    cursor: &mut Cursor<'_>,
+    window: &[Instr],
+    new: &[Instr],
+) -> Result<Option<usize>, Memory>
     requires kept { IsKept cursor.old }
     requires some { 0 < length cursor.old.ahead.items }
     requires first { (rest : List Piece) (x : Piece) → cursor.old.ahead.items ≡ rest ++ x ∷ [] → begins_op (lines_in x) ≡ true }
     requires few { length window.now ≤ 5 }
     requires keeps { KeepsAt (code_of (lines_at cursor.old)) (place_at cursor.old) window.now new.now }
     ensures lines { OnOk result (lines_at cursor.new ≡ replaced_lines own_line (place_at cursor.old) (length window.now) new.now (lines_at cursor.old)) }
-    ensures kept { IfOk result (λ b. b ≡ true → IsKept cursor.new) }
-    ensures spots { OnOk result ((q : ℕ) → q < place_at cursor.old → slice_get (spots_at cursor.new) q ≡ slice_get (spots_at cursor.old) q) }
+    ensures kept { IfOk result (λ o. OnSome o (IsKept cursor.new)) }
+    ensures spots { IfOk result (λ o. IfSome o (λ n. (q : ℕ) → q + n < place_at cursor.old → slice_get (spots_at cursor.new) q ≡ slice_get (spots_at cursor.old) q)) }
 {
     match kept(cursor, window, new) {
-        Some(spots) => {
-            cursor.replace(window.len(), new, spots.as_slice())?;
-            Ok(true)
+        Some(sets) => {
+            let lead = put(cursor, window, new, sets.as_slice())?;
+            Ok(Some(lead))
         }
         None => {
             cursor.replace(window.len(), new, blank(new).as_slice())?;
-            Ok(false)
+            Ok(None)
         }
     }
 }

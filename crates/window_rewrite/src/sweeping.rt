@@ -49,13 +49,17 @@ fn turn(
     ensures over { IfOk result (λ b. b ≡ true → IsOver rules.now ground.now cursor.new) }
     ensures before { IfOk result (λ b. b ≡ true → NoneBefore (setting_of rules.now) (lines_at cursor.new) (place_at cursor.new)) }
 {
-    let kept = make(cursor, choice.window.as_slice(), choice.new.as_slice())?;
-    if !kept || !ground.steady {
-        return Ok(false);
+    match make(cursor, choice.window.as_slice(), choice.new.as_slice())? {
+        None => Ok(false),
+        Some(lead) => {
+            if !ground.steady {
+                return Ok(false);
+            }
+            let changed = (choice.replacement.place as usize).saturating_sub(lead);
+            cursor.rewind(changed.saturating_sub(usize::from(rules.longest)))?;
+            Ok(true)
+        }
     }
-    let place = choice.replacement.place as usize;
-    cursor.rewind(place.saturating_sub(usize::from(rules.longest)))?;
-    Ok(true)
 }
 
 /// Makes replacements from the cursor on, as long as the sweep can go on. Whether no entry applies any more.
