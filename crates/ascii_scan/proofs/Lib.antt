@@ -1,3 +1,4 @@
 pub mod NumeralLemmas
 pub mod TokenLemmas
 pub mod LineLemmas
+pub mod RegisterLemmas

@@ -30,10 +30,23 @@ fn is_among(word: &[u8], names: &[&[u8]]) -> bool
     names.iter().any(|name| is_spelled(word, name))
 }
 
-fn is_register(word: &[u8]) -> bool
+/// The most bytes of a register's name.
+const LONGEST_REGISTER: usize = 3;
+
+fn is_some_register(word: &[u8]) -> bool
     ensures { result ≡ is_register word.now }
 {
     is_among(word, registers())
+}
+
+fn is_register(word: &[u8]) -> bool
+    ensures { result ≡ is_register word.now }
+{
+    if word.len() > LONGEST_REGISTER {
+        false
+    } else {
+        is_some_register(word)
+    }
 }
 
 fn is_opening(byte: u8) -> bool

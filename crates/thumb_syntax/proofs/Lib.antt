@@ -9,3 +9,6 @@ pub mod WrittenRows
 pub mod Written
 pub mod RoundTrip
 pub mod ReadWhole
+pub mod Named
+pub mod Spelled
+pub mod RegisterTable

@@ -36,7 +36,7 @@ first_append f (x ∷ xs) ys = elim (some_or_none (f x)) [
   | inr some ↦ rw some.1 refl
 ]
 
-all_rows : (w : List ℕ) (os : List Operand) → read_all w os ≡ first_some (read_as w os) rows
+pub all_rows : (w : List ℕ) (os : List Operand) → read_all w os ≡ first_some (read_as w os) rows
 unfolding rows
 all_rows w os =
     ap (or_else (read_in data_rows w os)) (sym (first_append (read_as w os) memory_rows control_rows))

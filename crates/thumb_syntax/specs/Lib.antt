@@ -1,5 +1,6 @@
 pub mod Registers
 pub mod RegisterView
+pub mod RegisterPlaces
 pub mod Operands
 pub mod Views
 pub mod Lists
@@ -12,3 +13,4 @@ pub mod Spelling
 pub mod RowLaws
 pub mod Whole
 pub mod LeftView
+pub mod Mnemonics

@@ -56,3 +56,9 @@ pub struct Form {
     pub slots: &'static [Slot],
     pub kind: Kind,
 }
+
+/// A mnemonic, with all its forms.
+pub struct Mnemonic {
+    pub name: &'static [u8],
+    pub forms: &'static [Form],
+}

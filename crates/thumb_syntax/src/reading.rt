@@ -1,17 +1,19 @@
 //! Which instruction a text is.
-ghost use Rattle.std.specs.Prelude.{◌≡◌, map, option_map};
+ghost use Rattle.std.specs.Prelude.{◌≡◌, ◌<◌, map, option_map};
 ghost use Rattle.ascii_scan.specs.Tokens.{tokens};
 ghost use Rattle.thumb_syntax.specs.Operands.{operand};
 ghost use Rattle.thumb_syntax.specs.FieldViews.{held};
 ghost use Rattle.thumb_syntax.specs.LeftView.{left};
 ghost use Rattle.thumb_syntax.specs.ParsedView.{shown};
-ghost use Rattle.thumb_syntax.specs.Rows.{row_of, shown_by, read_as, read_in, read_all, reading};
+ghost use Rattle.thumb_syntax.specs.Registers.{first_some};
+ghost use Rattle.thumb_syntax.specs.Rows.{row_of, shown_by, read_all, reading};
+ghost use Rattle.thumb_syntax.specs.Mnemonics.{group_of, place_of, rows_in, rows_of, read_by};
 
 use crate::fields::{Fields, Label, filled};
-use crate::form::Form;
+use crate::form::{Form, Mnemonic};
 use crate::left::{Left, read_ahead};
 use crate::registers::is_spelled;
-use crate::table::{control_forms, data_forms, memory_forms};
+use crate::table::mnemonics;
 use ascii_scan::{Token, next_token};
 use thumb_instr::{Instr, Kind, made};
 
@@ -34,48 +36,69 @@ fn with_fields<'a>(kind: Kind, fields: Fields<'a>) -> Option<Parsed<'a>>
     }
 }
 
-/// What a mnemonic and operands are by a form.
-fn read_as<'a>(form: &Form, word: &[u8], operands: Left<'a, '_>) -> Option<Parsed<'a>>
-    ensures { option_map shown result ≡ read_as word.now (left operands.entry) (row_of form.now) }
+/// The forms of the first mnemonic that the word is.
+fn forms_in(mnemonics: &'static [Mnemonic], word: &[u8]) -> &'static [Form]
+    ensures { map row_of result.now ≡ rows_in (map group_of mnemonics.now) word.now }
 {
-    if is_spelled(word, form.mnemonic) {
-        match filled(form.slots, operands) {
-            Some(fields) => with_fields(form.kind, fields),
-            None => None,
+    for mnemonic in mnemonics {
+        if is_spelled(word, mnemonic.name) {
+            return mnemonic.forms;
         }
-    } else {
-        None
+    }
+    &[]
+}
+
+/// The place of a word in the table of mnemonics, by its first letter in either case.
+fn place_of(word: &[u8]) -> usize
+    ensures place { result ≡ place_of word.now }
+    ensures within { result < 32 }
+{
+    match word.split_first() {
+        None => 0,
+        Some((first, _)) => (*first % 32) as usize,
+    }
+}
+
+/// The forms whose mnemonic the word is.
+fn forms_of(word: &[u8]) -> &'static [Form]
+    ensures { map row_of result.now ≡ rows_of word.now }
+{
+    forms_in(mnemonics(place_of(word)), word)
+}
+
+/// What operands are by a form.
+fn read_by<'a>(form: &Form, operands: Left<'a, '_>) -> Option<Parsed<'a>>
+    ensures { option_map shown result ≡ read_by (left operands.entry) (row_of form.now) }
+{
+    match filled(form.slots, operands) {
+        Some(fields) => with_fields(form.kind, fields),
+        None => None,
     }
 }
 
 /// What they are by the first form that they have.
-fn read_in<'a>(forms: &[Form], word: &[u8], operands: Left<'a, '_>) -> Option<Parsed<'a>>
-    ensures { option_map shown result ≡ read_in (map row_of forms.now) word.now (left operands.entry) }
+fn read_in<'a>(forms: &[Form], operands: Left<'a, '_>) -> Option<Parsed<'a>>
+    ensures { option_map shown result ≡ first_some (read_by (left operands.entry)) (map row_of forms.now) }
 {
     for form in forms {
-        if let Some(found) = read_as(form, word, operands) {
+        if let Some(found) = read_by(form, operands) {
             return Some(found);
         }
     }
     None
 }
 
-/// What they are by some form.
+/// What a mnemonic and operands are by some form.
 fn read_all<'a>(word: &[u8], bytes: &'a [u8]) -> Option<Parsed<'a>>
     ensures { option_map shown result ≡ read_all word.now (map operand (tokens bytes.now)) }
 {
+    let forms = forms_of(word);
     let (ahead, bytes) = read_ahead(bytes);
     let operands = Left {
         ahead: &ahead,
         bytes,
     };
-    if let Some(found) = read_in(data_forms(), word, operands) {
-        return Some(found);
-    }
-    if let Some(found) = read_in(memory_forms(), word, operands) {
-        return Some(found);
-    }
-    read_in(control_forms(), word, operands)
+    read_in(forms, operands)
 }
 
 /// The instruction that a text is, in canonical or another spelling, without the listing's labels and comments. None where no form has it.

@@ -1,7 +1,8 @@
 //! The names of registers.
-ghost use Rattle.std.specs.Prelude.{◌≡◌, map};
+ghost use Rattle.std.specs.Prelude.{◌≡◌, ◌<◌, map, length};
 ghost use Rattle.ascii_scan.specs.Names.{is_spelled};
-ghost use Rattle.thumb_syntax.specs.Registers.{register_named, register_in, registers};
+ghost use Rattle.thumb_syntax.specs.Registers.{register_named, register_in};
+ghost use Rattle.thumb_syntax.specs.RegisterPlaces.{named_at, registers_by_place, second_place};
 ghost use Rattle.thumb_syntax.specs.RegisterView.{named};
 
 /// A name of a register, in lower case, and the register's number.
@@ -10,101 +11,79 @@ pub struct Register {
     pub number: u32,
 }
 
-static REGISTERS: [Register; 22] = [
-    Register {
-        name: b"r0",
-        number: 0,
-    },
-    Register {
-        name: b"r1",
-        number: 1,
-    },
-    Register {
-        name: b"r2",
-        number: 2,
-    },
-    Register {
-        name: b"r3",
-        number: 3,
-    },
-    Register {
-        name: b"r4",
-        number: 4,
-    },
-    Register {
-        name: b"r5",
-        number: 5,
-    },
-    Register {
-        name: b"r6",
-        number: 6,
-    },
-    Register {
-        name: b"r7",
-        number: 7,
-    },
-    Register {
-        name: b"r8",
-        number: 8,
-    },
-    Register {
-        name: b"r9",
-        number: 9,
-    },
-    Register {
-        name: b"r10",
-        number: 10,
-    },
-    Register {
-        name: b"r11",
-        number: 11,
-    },
-    Register {
-        name: b"r12",
-        number: 12,
-    },
-    Register {
-        name: b"r13",
-        number: 13,
-    },
-    Register {
-        name: b"r14",
-        number: 14,
-    },
-    Register {
-        name: b"sb",
-        number: 9,
-    },
-    Register {
-        name: b"sl",
-        number: 10,
-    },
-    Register {
-        name: b"fp",
-        number: 11,
-    },
-    Register {
-        name: b"ip",
-        number: 12,
-    },
-    Register {
-        name: b"sp",
-        number: 13,
-    },
-    Register {
-        name: b"lr",
-        number: 14,
-    },
-    Register {
-        name: b"pc",
-        number: 15,
-    },
+macro_rules! register {
+    ($name:literal: $number:literal) => {
+        Register {
+            name: $name,
+            number: $number,
+        }
+    };
+}
+
+/// The registers, each at the place of the second byte of its name: what is left of it modulo 32.
+static REGISTERS: [&[Register]; 32] = [
+    &[],
+    &[],
+    &[register!(b"sb": 9)],
+    &[register!(b"pc": 15)],
+    &[],
+    &[],
+    &[],
+    &[],
+    &[],
+    &[],
+    &[],
+    &[],
+    &[register!(b"sl": 10)],
+    &[],
+    &[],
+    &[],
+    &[
+        register!(b"r0": 0),
+        register!(b"fp": 11),
+        register!(b"ip": 12),
+        register!(b"sp": 13),
+    ],
+    &[
+        register!(b"r1": 1),
+        register!(b"r10": 10),
+        register!(b"r11": 11),
+        register!(b"r12": 12),
+        register!(b"r13": 13),
+        register!(b"r14": 14),
+    ],
+    &[register!(b"r2": 2), register!(b"lr": 14)],
+    &[register!(b"r3": 3)],
+    &[register!(b"r4": 4)],
+    &[register!(b"r5": 5)],
+    &[register!(b"r6": 6)],
+    &[register!(b"r7": 7)],
+    &[register!(b"r8": 8)],
+    &[register!(b"r9": 9)],
+    &[],
+    &[],
+    &[],
+    &[],
+    &[],
+    &[],
 ];
 
-fn registers() -> &'static [Register]
-    ensures { map named result.now ≡ registers }
+fn registers() -> &'static [&'static [Register]]
+    ensures registers { named_at result.now ≡ registers_by_place }
+    ensures places { length result.now ≡ 32 }
 {
     &REGISTERS
+}
+
+/// The place of a word among the registers, by its second byte.
+fn place_of(word: &[u8]) -> usize
+    ensures place { result ≡ second_place word.now }
+    ensures within { result < 32 }
+{
+    match word {
+        [_, second, ..] => (*second % 32) as usize,
+        _ => 0,
+    }
 }
 
 /// Whether the word is the name, in either case.
@@ -127,9 +106,8 @@ fn number_in(registers: &[Register], word: &[u8]) -> Option<u32>
 }
 
 /// The number of the register of this name, in either case.
-#[tactic(auto, unfolding(crate::specs::Registers::register_named))]
 pub fn register_named(word: &[u8]) -> Option<u32>
     ensures { result ≡ register_named word.now }
 {
-    number_in(registers(), word)
+    number_in(registers()[place_of(word)], word)
 }

@@ -1,8 +1,10 @@
 use Rattle.std.proofs.Common.{◌≡◌, map, drop}
 use Rattle.thumb_syntax.specs.LeftView.{left}
-use Rattle.thumb_syntax.specs.Rows.{read_in, row_of}
+use Rattle.thumb_syntax.specs.Registers.{first_some}
+use Rattle.thumb_syntax.specs.Rows.{row_of}
+use Rattle.thumb_syntax.specs.Mnemonics.{read_by}
 use Rattle.thumb_syntax.proofs.reading.read_in.Given as goal
 
 abbrev pub invariant-loop-form : goal.invariant-loop-form
 invariant-loop-form l =
-    read_in (map row_of (drop l.form-index l.forms)) l.word (left l.operands) ≡ read_in (map row_of l.forms) l.word (left l.operands)
+    first_some (read_by (left l.operands)) (map row_of (drop l.form-index l.forms)) ≡ first_some (read_by (left l.operands)) (map row_of l.forms)
