@@ -5,6 +5,7 @@ use Rattle.std.proofs.lemmas.List.{reverse-append, drop_at}
 use Rattle.thumb_instr.specs.declared.instr.Instr.{Instr}
 use Rattle.thumb_model.specs.Listing.{Name, Statement, Nothing, Runs, Words, Aligns, Sets, Line, Place, Op, Word, plain, places_in, places_of}
 use Rattle.thumb_model.specs.Rewritten.{is_op, without, labels_kept, new_line, replaced_lines}
+use Rattle.thumb_model.proofs.Cuts.{without_none}
 use Rattle.thumb_model.proofs.LinesReplaced.{AreOps, places_replaced}
 use Rattle.thumb_model.proofs.Lists.{length_map, take_all, length_drop}
 use Rattle.line_cursor.proofs.Nearer.{places_append}
@@ -75,10 +76,6 @@ op_piece (piece.Labels l) h = absurd (no_op_kept (line_view l.now) (names_view l
 op_piece (piece.New i) h = record { line = new_line own_line i; is = refl; op = refl; left = refl }
 
 -- ---- skipping ----
-
-without_none : (ls : List Line) → without 0 ls ≡ ls
-without_none [] = refl
-without_none (l ∷ ls) = refl
 
 pub skipped_op : (rest : List Piece) (x : Piece) (left : ℕ) → begins_op (lines_in x) ≡ true → 0 < left → without left (lines_of (reverse (rest ++ x ∷ []))) ≡ without (left - 1) (lines_of (reverse rest))
 skipped_op rest x zero h some = absurd (omega arith)

@@ -9,6 +9,7 @@ use Rattle.thumb_model.specs.Listing.{Name, Statement, Nothing, Runs, Words, Ali
 use Rattle.thumb_model.specs.Layout.{is_among}
 use Rattle.thumb_model.specs.Rewritten.{is_op, without, labels_kept, new_line, replaced_lines}
 use Rattle.thumb_model.proofs.Lists.{get_drop, length_map, length_drop}
+use Rattle.thumb_model.proofs.Cuts.{without_none}
 use Rattle.thumb_model.proofs.LinesReplaced.{AreOps, places_replaced}
 use Rattle.listing_parser.specs.TableWords.{set_names, defined_in, is_again, first_twice}
 use Rattle.listing_parser.proofs.LabelLemmas.{or_false, or_true, among_append}
@@ -165,10 +166,6 @@ still_few write p (suc n) is ls one few ops limit =
     omega arith
 
 -- ---- line by line ----
-
-without_none : (ls : List Line) → without 0 ls ≡ ls
-without_none [] = refl
-without_none (l ∷ ls) = refl
 
 pub without_op : (n : ℕ) (l : Line) (ls : List Line) → (nat_lt 0 n && is_op l.statement) ≡ true → without n (l ∷ ls) ≡ without (n - 1) ls
 without_op zero l ls e = absurd (true≢false (sym e))

@@ -7,7 +7,7 @@ use Rattle.thumb_model.specs.Listing.{Statement, Nothing, Runs, Words, Aligns, S
 use Rattle.thumb_model.specs.Rewritten.{is_op, labels_kept, new_line, replaced_lines, without}
 use Rattle.thumb_model.specs.Cuts.{op_count, others}
 
-without_none : (ls : List Line) → without 0 ls ≡ ls
+pub without_none : (ls : List Line) → without 0 ls ≡ ls
 without_none [] = refl
 without_none (l ∷ ls) = refl
 
