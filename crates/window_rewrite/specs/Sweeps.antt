@@ -1,5 +1,5 @@
 -- A sweep over a listing: a cursor in lines that come of it by replacements.
-use Rattle.std.specs.Prelude.{◌≡◌, ℕ, ◌+◌, ◌-◌, ◌%◌, ◌≤◌, ◌++◌, true, false, None, List, [], length, map}
+use Rattle.std.specs.Prelude.{◌≡◌, ℕ, ◌+◌, ◌-◌, ◌%◌, ◌≤◌, ◌++◌, Bool, true, false, None, List, [], length, map}
 use Rattle.thumb_instr.specs.declared.instr.Instr.{Instr}
 use Rattle.thumb_model.specs.Listing.{Line, code_of, places_of}
 use Rattle.thumb_model.specs.Rewrite.{replaced}
@@ -41,6 +41,10 @@ pub record AreOver (r : Rules) (g : Ground) (lines : List Line) : Type 0 where
   pub aligned : g.steady ≡ true → r.base % 4 ≡ 0
   pub steady : g.steady ≡ true → IsSteady r.base lines
   pub same : g.steady ≡ false → lines ≡ g.listing.now
+
+-- where it is said so, the lines and those that come of them by replacements can be laid out from the base
+abbrev pub IsSteadyIf : ℕ → List Line → Bool → Type 0
+IsSteadyIf base lines b = b ≡ true → (base % 4 ≡ 0) × IsSteady base lines
 
 -- the cursor stands in such lines
 pub record IsOver (r : Rules) (g : Ground) (c : Cursor) : Type 0 where

@@ -12,7 +12,7 @@ use crate::choice::Rewritten;
 use crate::errors::RewriteError;
 use crate::finding::Rules;
 use crate::index::Index;
-use crate::sweeping::{Swept, sweep};
+use crate::sweeping::{Swept, is_steady_from, sweep};
 use label_layout::layout;
 use listing_parser::{Listing, Memory};
 use std::alloc::Global;
@@ -61,10 +61,18 @@ fn rewritten<L: Ledger>(
     ensures whole { IfOk result (λ new. All IsWhole new.replacements.items) }
     ensures cost { IfOk result (λ new. steps.new ≤ steps.old + rewriting_cost listing (rules_in rules.now.entries.now) (length new.replacements.items)) }
 {
+    let steady = is_steady_from(alloc, &listing, rules.base)?;
     let mut current = listing;
     let mut replacements = Vec::new(alloc);
     loop {
-        let Swept { listing, is_done } = sweep(alloc, rules, &current, &mut replacements, steps)?;
+        let Swept { listing, is_done } = sweep(
+            alloc,
+            rules,
+            &current,
+            steady,
+            &mut replacements,
+            steps,
+        )?;
         if is_done {
             return Ok(Rewritten {
                 listing,

@@ -10,7 +10,7 @@ ghost use Rattle.steady_layout.specs.Steady.{IsSteady};
 ghost use Rattle.window_rewrite.specs.Rewriting.{round_cost, IsWhole};
 ghost use Rattle.window_rewrite.specs.Rules.{rules_in};
 ghost use Rattle.window_rewrite.specs.Choices.{setting_of, choice_of, AreReady, IsFirstChoice, NoneBefore};
-ghost use Rattle.window_rewrite.specs.Sweeps.{Completes, IsOver, MayBecome};
+ghost use Rattle.window_rewrite.specs.Sweeps.{Completes, IsOver, IsSteadyIf, MayBecome};
 
 use crate::choice::{Choice, Replacement};
 use crate::finding::{Rules, next};
@@ -78,6 +78,7 @@ fn go_through<L: Ledger>(
     ensures whole { OnOk result (All IsWhole replacements.new.items) }
     ensures completes { OnOk result ((start : List Line) → Completes (setting_of rules.now) start replacements.old.items (lines_at cursor.old) → Completes (setting_of rules.now) start replacements.new.items (lines_at cursor.new)) }
     ensures becomes { OnOk result (MayBecome ground.now.listing.now (lines_at cursor.new)) }
+    ensures steady { OnOk result (ground.now.steady ≡ true → IsSteady rules.now.base (lines_at cursor.new)) }
     ensures none { IfOk result (λ b. b ≡ true → NoneApplies (setting_of rules.now) (lines_at cursor.new)) }
     ensures fewer { IfOk result (λ b. length (places_of (lines_at cursor.new)) + from_bool (not b) ≤ length (places_of (lines_at cursor.old))) }
     ensures more { IfOk result (λ b. length replacements.old.items + from_bool (not b) ≤ length replacements.new.items) }
@@ -114,8 +115,8 @@ fn spots_of(alloc: Global, live: &Live, flows: &[Flow]) -> Result<Vec<Spot>, Mem
 }
 
 /// Whether each listing that comes of this one by replacements can surely be laid out from the base.
-fn is_steady_from(alloc: Global, listing: &Listing, base: u32) -> Result<bool, Memory>
-    ensures { IfOk result (λ b. b ≡ true → (base % 4 ≡ 0) × IsSteady base listing.now) }
+pub(crate) fn is_steady_from(alloc: Global, listing: &Listing, base: u32) -> Result<bool, Memory>
+    ensures { IfOk result (IsSteadyIf base listing.now) }
 {
     if base % 4 != 0 {
         return Ok(false);
@@ -123,16 +124,20 @@ fn is_steady_from(alloc: Global, listing: &Listing, base: u32) -> Result<bool, M
     is_steady(alloc, listing, base)
 }
 
-/// Goes over a listing once, with what is kept of its places. Each replacement is the first that can be made.
+/// Goes over a listing once, with what is kept of its places. Each replacement is the first that can be made. `steady` is whether each listing that comes of
+/// this one by replacements can surely be laid out.
 pub(crate) fn sweep<L: Ledger>(
     alloc: Global,
     rules: &Rules<'_>,
     listing: &Listing,
+    steady: bool,
     replacements: &mut Vec<Replacement>,
     steps: &mut Steps<L>,
 ) -> Result<Swept, Memory>
     requires ready { AreReady rules.now }
+    requires steady { IsSteadyIf rules.now.base listing.now steady }
     requires whole { All IsWhole replacements.old.items }
+    ensures steady { IfOk result (λ s. IsSteadyIf rules.now.base s.listing steady) }
     ensures whole { OnOk result (All IsWhole replacements.new.items) }
     ensures completes { IfOk result (λ s. (start : List Line) → Completes (setting_of rules.now) start replacements.old.items listing.now → Completes (setting_of rules.now) start replacements.new.items s.listing) }
     ensures none { IfOk result (λ s. s.is_done ≡ true → NoneApplies (setting_of rules.now) s.listing) }
@@ -143,10 +148,7 @@ pub(crate) fn sweep<L: Ledger>(
     let live = live(alloc, listing, steps)?;
     let flows = flows(alloc, listing)?;
     let spots = spots_of(alloc, &live, flows.as_slice())?;
-    let ground = Ground {
-        listing,
-        steady: is_steady_from(alloc, listing, rules.base)?,
-    };
+    let ground = Ground { listing, steady };
     let mut cursor = Cursor::start(alloc, listing.lines(), spots.as_slice())?;
     let is_done = go_through(alloc, rules, &ground, &mut cursor, replacements, steps)?;
     let pieces = cursor.into_pieces()?;

@@ -2,12 +2,13 @@ use Rattle.std.proofs.Common.{◌<◌, List, All, length, sym, subst, ap, arith}
 use Rattle.std.proofs.lemmas.List.Elements.{All-push}
 use Rattle.thumb_model.specs.Listing.{Line, places_of}
 use Rattle.thumb_model.proofs.LinesKept.{fewer_after}
+use Rattle.steady_layout.specs.Steady.{IsSteady}
 use Rattle.line_cursor.specs.Cursors.{lines_at}
 use Rattle.window_rewrite.specs.Rewriting.{IsWhole}
 use Rattle.window_rewrite.specs.Choices.{setting_of, choice_of}
 use Rattle.window_rewrite.specs.Sweeps.{MayBecome}
 use Rattle.window_rewrite.proofs.Rounds.{comes_on, some_more}
-use Rattle.window_rewrite.proofs.Turning.{may_become}
+use Rattle.window_rewrite.proofs.Turning.{may_become, still_steady}
 use Rattle.window_rewrite.proofs.sweeping.go_through.Goals as goal
 
 pub returns-then-not-goes_on-clause-becomes : goal.returns-then-not-goes_on-clause-becomes
@@ -15,6 +16,12 @@ returns-then-not-goes_on-clause-becomes g c =
     let choice = rw c.in-Some.is at c.in_ok-choice.ensures.some in
     subst (MayBecome c.args.ground.now.listing.now) (sym c.in_ok-goes_on.ensures.lines)
     (may_become c.args.ground.now.listing.now (lines_at c.next.new.cursor) (setting_of c.args.rules.now) (choice_of c.in-Some.choice) choice.first.applies c.in_ok-choice.ensures.over.over.become)
+
+pub returns-then-not-goes_on-clause-steady : goal.returns-then-not-goes_on-clause-steady
+returns-then-not-goes_on-clause-steady g c = λ h.
+    let choice = rw c.in-Some.is at c.in_ok-choice.ensures.some in
+    subst (IsSteady c.args.rules.now.base) (sym c.in_ok-goes_on.ensures.lines)
+    (still_steady (setting_of c.args.rules.now) c.args.rules.now.longest (choice_of c.in-Some.choice) (lines_at c.next.new.cursor) c.requires.ready.fit choice.first.applies (c.in_ok-choice.ensures.over.over.steady h))
 
 pub returns-then-not-goes_on-clause-fewer : goal.returns-then-not-goes_on-clause-fewer
 returns-then-not-goes_on-clause-fewer g c =

@@ -2,6 +2,7 @@ use Rattle.std.proofs.Common.{◌≡◌, ℕ, ◌+◌, ◌*◌, ◌≤◌, List,
 use Rattle.std.specs.Int.{from_bool}
 use Rattle.thumb_model.specs.Listing.{Line, places_of}
 use Rattle.thumb_model.specs.Rewritten.{Setting, AppliesIn}
+use Rattle.steady_layout.specs.Steady.{IsSteady}
 use Rattle.line_cursor.specs.Pieces.{lines_of}
 use Rattle.line_cursor.specs.Cursors.{lines_at}
 use Rattle.window_rewrite.specs.Rules.{rules_in}
@@ -17,6 +18,11 @@ returns-clause-completes g c = λ start before.
     let same : c.in_ok-listing.listing ≡ lines_at c.go_through.new.cursor = c.in_ok-listing.ensures ∙ c.in_ok-lines.ensures ∙ ap lines_of c.as_slice-3.ensures.value ∙ c.in_ok-pieces.ensures in
     subst (λ (l : List Line). Completes s start c.go_through.new.replacements.items l) (sym same)
     (c.in_ok-is_done.ensures.completes start (subst (λ (l : List Line). Completes s start c.args.replacements.now.items l) (sym begin) before))
+
+pub returns-clause-steady : goal.returns-clause-steady
+returns-clause-steady g c = λ h.
+    let same : c.in_ok-listing.listing ≡ lines_at c.go_through.new.cursor = c.in_ok-listing.ensures ∙ c.in_ok-lines.ensures ∙ ap lines_of c.as_slice-3.ensures.value ∙ c.in_ok-pieces.ensures in
+    ((c.requires.steady h).0, subst (IsSteady c.args.rules.now.base) (sym same) (c.in_ok-is_done.ensures.steady h))
 
 pub returns-clause-none : goal.returns-clause-none
 returns-clause-none g c = λ done o applies.
