@@ -65,29 +65,21 @@ fn add_spots(spots: &mut Vec<Spot>, line: usize, statement: &Statement) -> Resul
     Ok(())
 }
 
-/// Where each place stands.
-fn spots(alloc: Global, lines: &[Line]) -> Result<Vec<Spot>, AllocError>
-    ensures { IfOk result (λ v. v.items ≡ spots_from 0 (map line_view lines.now)) }
-{
-    let mut spots = Vec::new(alloc);
-    for (n, line) in lines.iter().enumerate() {
-        add_spots(&mut spots, n, &line.statement)?;
-    }
-    Ok(spots)
-}
-
-/// What stands before each line.
-fn counts_before(alloc: Global, lines: &[Line]) -> Result<Vec<Passed>, AllocError>
+/// Where each place stands, and what stands before each line.
+fn places(alloc: Global, lines: &[Line]) -> Result<(Vec<Spot>, Vec<Passed>), AllocError>
     requires { length (places_of (map line_view lines.now)) < 2 ^ 32 }
-    ensures { IfOk result (λ v. v.items ≡ passed_from 0 (map line_view lines.now)) }
+    ensures spots { IfOk result (λ r. r.0.items ≡ spots_from 0 (map line_view lines.now)) }
+    ensures passed { IfOk result (λ r. r.1.items ≡ passed_from 0 (map line_view lines.now)) }
 {
+    let mut spots = Vec::with_capacity(alloc, lines.len())?;
     let mut passed = Vec::with_capacity(alloc, lines.len())?;
     let mut places = 0;
-    for line in lines {
+    for (n, line) in lines.iter().enumerate() {
         passed.push(Passed { places })?;
         places += places_in(&line.statement);
+        add_spots(&mut spots, n, &line.statement)?;
     }
-    Ok(passed)
+    Ok((spots, passed))
 }
 
 /// How many words of data stand from a statement on, where `behind` stand from the next line on.
@@ -201,8 +193,7 @@ impl Index {
         requires once { first_twice 1 [] (map line_view lines.now) ≡ None }
         ensures { IfOk result (λ i. IsIndex (map line_view lines.now) i) }
     {
-        let spots = spots(alloc, lines)?;
-        let passed = counts_before(alloc, lines)?;
+        let (spots, passed) = places(alloc, lines)?;
         let runs = runs(alloc, lines)?;
         let labels = labels(alloc, lines)?;
         let addresses = addresses(alloc, lines)?;

@@ -126,11 +126,14 @@ fn checked_line(alloc: Global, source: SourceLine<'_>) -> Result<Line, ListingEr
     }
 }
 
+/// The fewest bytes that most lines have. Room is made for as many lines as a text of such lines has.
+const SHORT_LINE: usize = 8;
+
 /// All lines, or the first that can't be read.
 pub fn read_lines(alloc: Global, text: &[u8]) -> Result<Vec<Line>, ListingError>
     ensures { Gives (λ v. map read_view v.items) result (read_lines (lines_in text.now)) }
 {
-    let mut lines = Vec::new(alloc);
+    let mut lines = Vec::with_capacity(alloc, (text.len() / SHORT_LINE).min(MOST_LINES))?;
     for source in Lines::new(text) {
         match checked_line(alloc, source) {
             Ok(line) => lines.push(line)?,

@@ -12,3 +12,4 @@ pub mod ReadWhole
 pub mod Named
 pub mod Spelled
 pub mod RegisterTable
+pub mod Agreeing

@@ -8,7 +8,7 @@ use Rattle.thumb_syntax.specs.Rows.{Row, Shown, read_as, read_in, read_all, read
 use Rattle.thumb_syntax.specs.RowLaws.{rows, by_row, ReadsBySomeRow, RowsAgree}
 use Rattle.thumb_syntax.proofs.Overlap.{rows_alike}
 
-some_or_none : {B : Type 0} → (o : Option B) → (o ≡ None) ⊎ ((y : B) × (o ≡ Some y))
+pub some_or_none : {B : Type 0} → (o : Option B) → (o ≡ None) ⊎ ((y : B) × (o ≡ Some y))
 some_or_none None = inl refl
 some_or_none (Some y) = inr (y, refl)
 

@@ -6,6 +6,7 @@ use Rattle.thumb_syntax.specs.declared.form.Place.{Place}
 use Rattle.thumb_syntax.specs.declared.form.Slot.{Slot}
 use Rattle.thumb_syntax.specs.declared.form.Slot.TheVariants as slot
 use Rattle.thumb_syntax.specs.Operands.{Operand, register, base, range, number, sign, name, sum, stray}
+use Rattle.thumb_syntax.specs.Agreeing.{takes_one}
 use Rattle.thumb_syntax.specs.Slots.{Fields, at, put, kept_if, number_held, held_by, next_held, taken, filled}
 
 pub and_then_some : {A B : Type 0} → (o : Option A) (f : A → Option B) (y : B) → option_and_then f o ≡ Some y → (x : A) × (o ≡ Some x) × (f x ≡ Some y)
@@ -20,15 +21,7 @@ pub kept_some : (b : Bool) (f g : Fields) → kept_if b f ≡ Some g → (b ≡ 
 kept_some true f g e = (refl, cc)
 kept_some false f g e = absurd (cc)
 
--- a slot that takes one operand
-abbrev pub takes_one : Slot → Bool
-takes_one (slot.LowList p) = false
-takes_one (slot.StackList p extra) = false
-takes_one (slot.InList p q) = false
-takes_one (slot.NotInList p q) = false
-takes_one s = true
-
-taken_next : (s : Slot) (f : Fields) (os : List Operand) → takes_one s ≡ true → taken s f os ≡ next_held s f os
+pub taken_next : (s : Slot) (f : Fields) (os : List Operand) → takes_one s ≡ true → taken s f os ≡ next_held s f os
 taken_next (slot.LowList p) f os e = absurd (true≢false (sym e))
 taken_next (slot.StackList p extra) f os e = absurd (true≢false (sym e))
 taken_next (slot.InList p q) f os e = absurd (true≢false (sym e))

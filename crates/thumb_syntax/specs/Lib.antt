@@ -5,6 +5,7 @@ pub mod Operands
 pub mod Views
 pub mod Lists
 pub mod Slots
+pub mod Agreeing
 pub mod FieldViews
 pub mod Rows
 pub mod ParsedView

@@ -1,8 +1,9 @@
 //! What the operands of a form hold.
-ghost use Rattle.std.specs.Prelude.{◌≡◌, option_map};
+ghost use Rattle.std.specs.Prelude.{◌≡◌, map, option_map};
 ghost use Rattle.thumb_syntax.specs.Views.{view};
 ghost use Rattle.thumb_syntax.specs.FieldViews.{held};
 ghost use Rattle.thumb_syntax.specs.LeftView.{left};
+ghost use Rattle.thumb_syntax.specs.Agreeing.{agree, agrees, takes_one};
 ghost use Rattle.thumb_syntax.specs.Slots.{empty, at, put, named, is_in_list, kept_if, number_held, held_by, taken, filled};
 
 use crate::form::{Place, Slot};
@@ -238,9 +239,57 @@ fn filled_from<'a>(slots: &[Slot], fields: Fields<'a>, operands: Left<'a, '_>) -
     }
 }
 
+/// Whether the slot may take the operand, by what the operand stands for.
+fn agrees(slot: &Slot, operand: &Operand<'_>) -> bool
+    ensures { result ≡ agrees slot.now (view operand.now) }
+{
+    match *slot {
+        Slot::Register(_) | Slot::Twice(_, _) | Slot::Same(_) | Slot::Sp => {
+            matches!(operand, Operand::Register(_))
+        }
+        Slot::Base(_) => matches!(operand, Operand::Base(_)),
+        Slot::Number(_, _, _, _) | Slot::Exactly(_) => matches!(operand, Operand::Number(_)),
+        Slot::Mark(mark) => match operand {
+            Operand::Sign(sign) => mark == *sign,
+            _ => false,
+        },
+        _ => true,
+    }
+}
+
+/// Whether the slot takes one operand, and not a list or none.
+fn takes_one(slot: &Slot) -> bool
+    ensures { result ≡ takes_one slot.now }
+{
+    !matches!(
+        slot,
+        Slot::LowList(_) | Slot::StackList(_, _) | Slot::InList(_, _) | Slot::NotInList(_, _)
+    )
+}
+
+/// Whether the slots may take the first operands.
+fn agree(slots: &[Slot], operands: &[Operand<'_>]) -> bool
+    ensures { result ≡ agree slots.now (map view operands.now) }
+{
+    match slots.split_first() {
+        None => operands.is_empty(),
+        Some((slot, slots)) => match operands.split_first() {
+            None => true,
+            Some((operand, operands)) => {
+                !takes_one(slot) || (agrees(slot, operand) && agree(slots, operands))
+            }
+        },
+    }
+}
+
 /// The fields of operands that fill the slots, with none left.
+#[tactic(auto, using(crate::proofs::Agreeing::none_filled))]
 pub fn filled<'a>(slots: &[Slot], operands: Left<'a, '_>) -> Option<Fields<'a>>
     ensures { option_map held result ≡ filled slots.now empty (left operands.entry) }
 {
-    filled_from(slots, empty(), operands)
+    if agree(slots, operands.ahead) {
+        filled_from(slots, empty(), operands)
+    } else {
+        None
+    }
 }
