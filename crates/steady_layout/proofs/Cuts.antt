@@ -5,7 +5,8 @@ use Rattle.thumb_instr.specs.declared.instr.Instr.{Instr}
 use Rattle.thumb_model.specs.Listing.{Name, Mention, Value, Statement, Nothing, Runs, Words, Aligns, Sets, Line, Place, Op, Word, Label, places_in, places_of, labels_at, labels_from}
 use Rattle.thumb_model.specs.Layout.{instr_size, is_among, set_in, set_address}
 use Rattle.thumb_model.specs.Rewritten.{is_op, without, labels_kept, new_line, replaced_lines}
-use Rattle.thumb_model.proofs.LinesReplaced.{AllOutside}
+use Rattle.thumb_model.proofs.LinesReplaced.{AllOutside, all_back, no_names}
+use Rattle.thumb_model.proofs.Lists.{drop_back, length_map}
 use Rattle.steady_layout.specs.declared.starts.Start.{Start}
 use Rattle.steady_layout.specs.Steady.{most_of, ends_aligned, steady_at}
 use Rattle.steady_layout.proofs.Walks.{Sizes, after, look, ending, steady_by, ends_within}
@@ -84,14 +85,6 @@ AreTwos (i ∷ is) = (instr_size i ≡ 2) × AreTwos is
 not_aligned : (x : Bool) (i : Instr) (m : Option Mention) → instr_size i ≡ 2 → ends_aligned x (Runs i m) ≡ true → ⊥
 not_aligned x i m e h = let p = and_parts x (instr_size i == 4) h in let q = eqb-true (instr_size i) 4 p.1 in omega arith
 
-all_back : (p count : ℕ) (xs ys : List Label) → AllOutside p count (xs ++ ys) → AllOutside p count ys
-all_back p count [] ys h = h
-all_back p count (x ∷ xs) ys h = all_back p count xs ys h.1
-
-no_names : (p count r : ℕ) (ns : List Name) (rest : List Label) → p < r → r < p + count → AllOutside p count (labels_at r ns ++ rest) → ns ≡ []
-no_names p count r [] rest h k a = refl
-no_names p count r (n ∷ ns) rest h k a = absurd (elim (a.0) [ inl x ↦ omega arith | inr x ↦ omega arith ])
-
 -- the lines of a window behind its first: what goes, what is left of it, and what stands behind
 pub record IsInner (n : ℕ) (ls : List Line) : Type 0 where
   pub old : List Line
@@ -151,15 +144,9 @@ inner_step : (at count n : ℕ) (l : Line) (s : Statement) (ls : List Line) → 
 inner_step at count n l (Runs i None) ls e f g r a b out h =
     inner_gone n l i ls e h.0 (no_names at count r l.names (labels_from (r + 1) ls) a (omega arith) out) (f (r + 1) (omega arith) (omega arith) (all_back at count (labels_at r l.names) (labels_from (r + 1) ls) out) h.1)
 inner_step at count n l (Runs i (Some m)) ls e f g r a b out h = absurd h
-inner_step at count n l Nothing ls e f g r a b out h =
-    inner_kept n l ls (rw e refl) (bare_line l Nothing e (no_names at count r l.names (labels_from (r + 0) ls) a (omega arith) out) (λ labels sets base here. refl)) (g (r + 0) (omega arith) (omega arith) (all_back at count (labels_at r l.names) (labels_from (r + 0) ls) out) h)
-inner_step at count n l (Aligns size most) ls e f g r a b out h =
-    inner_kept n l ls (rw e refl) (bare_line l (Aligns size most) e (no_names at count r l.names (labels_from (r + 0) ls) a (omega arith) out) (λ labels sets base here. refl)) (g (r + 0) (omega arith) (omega arith) (all_back at count (labels_at r l.names) (labels_from (r + 0) ls) out) h)
-inner_step at count n l (Sets name address) ls e f g r a b out h =
-    inner_kept n l ls (rw e refl) (bare_line l (Sets name address) e (no_names at count r l.names (labels_from (r + 0) ls) a (omega arith) out) (λ labels sets base here. refl)) (g (r + 0) (omega arith) (omega arith) (all_back at count (labels_at r l.names) (labels_from (r + 0) ls) out) h)
-inner_step at count n l (Words []) ls e f g r a b out h =
-    inner_kept n l ls (rw e refl) (bare_line l (Words []) e (no_names at count r l.names (labels_from (r + 0) ls) a (omega arith) out) (λ labels sets base here. refl)) (g (r + 0) (omega arith) (omega arith) (all_back at count (labels_at r l.names) (labels_from (r + 0) ls) out) h)
 inner_step at count n l (Words (w ∷ ws)) ls e f g r a b out h = absurd h
+inner_step at count n l s ls e f g r a b out h =
+    inner_kept n l ls (rw e refl) (bare_line l s e (no_names at count r l.names (labels_from (r + 0) ls) a (omega arith) out) (λ labels sets base here. refl)) (g (r + 0) (omega arith) (omega arith) (all_back at count (labels_at r l.names) (labels_from (r + 0) ls) out) h)
 
 inner : (at count n : ℕ) (ls : List Line) → InnerRec at count n ls
 inner at count zero ls r a b out h = inner_none ls
@@ -268,20 +255,11 @@ cut_window write n is l i ls e two short twos k = record {
 
 -- ---- replaced lines ----
 
-drop_back : (xs ys : List Place) (n m : ℕ) → n ≡ length xs + m → drop n (xs ++ ys) ≡ drop m ys
-drop_back [] ys n m e = ap (λ j. drop j ys) (let f : n ≡ m = omega arith in f)
-drop_back (x ∷ xs) ys zero m e = absurd (omega arith)
-drop_back (x ∷ xs) ys (suc n) m e = drop_back xs ys n m (omega arith)
-
 -- a window doesn't begin among words
 past_words : (ws : List Value) (ps : List Place) (p n : ℕ) → ArePlain (suc n) (drop p (map Word ws ++ ps)) → length ws ≤ p
 past_words [] ps p n h = omega arith
 past_words (w ∷ ws) ps zero n h = absurd h
 past_words (w ∷ ws) ps (suc p) n h = let r = past_words ws ps p n h in omega arith
-
-words_length : (ws : List Value) → length (map Word ws) ≡ length ws
-words_length [] = refl
-words_length (w ∷ ws) = ap suc (words_length ws)
 
 abbrev CutRec : (Instr → List ℕ) → ℕ → ℕ → List Instr → List Line → Type 0
 CutRec write at n is ls = (q p : ℕ) → at ≡ q + p → AllOutside at (suc n) (labels_from q ls) → ArePlain (suc n) (drop p (places_of ls)) → IsCut ls (replaced_lines write p (suc n) is ls)
@@ -295,12 +273,9 @@ cut_behind write at n q p m is l s ls rec e g out h =
 cut_step : (write : Instr → List ℕ) (at n q p : ℕ) (is : List Instr) (l : Line) (s : Statement) (ls : List Line) → length is ≤ n → AreTwos is → l.statement ≡ s → CutRec write at n is ls → at ≡ q + p
     → AllOutside at (suc n) (labels_at q l.names ++ labels_from (q + length (places_in s)) ls) → ArePlain (suc n) (drop p (places_in s ++ places_of ls))
     → IsCut (l ∷ ls) (if is_op s && (p == 0) then labels_kept l l.names ++ (map (new_line write) is ++ without (suc n - 1) ls) else l ∷ replaced_lines write (p - length (places_in s)) (suc n) is ls)
-cut_step write at n q p is l Nothing ls short twos f rec e out h = cut_behind write at n q p p is l Nothing ls rec e (omega arith) out h
-cut_step write at n q p is l (Aligns size most) ls short twos f rec e out h = cut_behind write at n q p p is l (Aligns size most) ls rec e (omega arith) out h
-cut_step write at n q p is l (Sets name address) ls short twos f rec e out h = cut_behind write at n q p p is l (Sets name address) ls rec e (omega arith) out h
 cut_step write at n q p is l (Words ws) ls short twos f rec e out h =
     let w = past_words ws (places_of ls) p n h in
-    let x = words_length ws in
+    let x = length_map Word ws in
     cut_behind write at n q p (p - length ws) is l (Words ws) ls rec e (omega arith) out h
 cut_step write at n q zero is l (Runs i None) ls short twos f rec e out h =
     let k = inner at (suc n) n ls (q + 1) (omega arith) (omega arith) (all_back at (suc n) (labels_at q l.names) (labels_from (q + 1) ls) out) h.1 in
@@ -309,6 +284,7 @@ cut_step write at n q zero is l (Runs i (Some m)) ls short twos f rec e out h = 
 cut_step write at n q (suc p) is l (Runs i mention) ls short twos f rec e out h =
     subst (λ b. IsCut (l ∷ ls) (if b then labels_kept l l.names ++ (map (new_line write) is ++ without (suc n - 1) ls) else l ∷ replaced_lines write (suc p - 1) (suc n) is ls)) (sym (ne_eqb (suc p) 0 (λ z. absurd (omega arith))))
     (cut_behind write at n q (suc p) p is l (Runs i mention) ls rec e (omega arith) out h)
+cut_step write at n q p is l s ls short twos f rec e out h = cut_behind write at n q p p is l s ls rec e (omega arith) out h
 
 pub cut : (write : Instr → List ℕ) (at n : ℕ) (is : List Instr) → length is ≤ n → AreTwos is → (ls : List Line) → CutRec write at n is ls
 cut write at n is short twos [] q zero e out h = absurd h

@@ -3,6 +3,7 @@ use Rattle.std.proofs.Common.{◌≡◌, ◌∙◌, ◌⊎◌, inl, inr, ℕ, ze
 use Rattle.std.specs.Prelude.{slice_get}
 use Rattle.std.proofs.lemmas.Bool.{cases_Bool, and_parts, and_from}
 use Rattle.std.proofs.lemmas.List.{append-nil}
+use Rattle.thumb_model.proofs.LinesKept.{outside_of, before}
 use Rattle.thumb_instr.specs.declared.instr.Instr.{Instr}
 use Rattle.thumb_instr.specs.declared.instr.Instr.TheVariants as instr
 use Rattle.thumb_instr.specs.Renaming.{Low, renamed}
@@ -61,12 +62,8 @@ addresses_so name here (l ∷ ls) = elim (cases_Bool (is_among name l.names)) [
 
 statement_free : (labels : Name → Option Start) (sets lies : Name → Option ℕ) (base : ℕ) (here : Start) (s : Statement) → ((name : Name) → AreTold (labels name)) → ((name : Name) → lies name ≡ or_else (address_of (labels name)) (sets name))
     → steady_at labels sets base here s ≡ true → fault_at lies here.at s ≡ None
-statement_free labels sets lies base here Nothing t is e = refl
-statement_free labels sets lies base here (Runs i None) t is e = refl
 statement_free labels sets lies base here (Runs i (Some m)) t is e = rw (is m.name) (aim_free base here i (labels m.name) (sets m.name) m.plus (t m.name) e)
-statement_free labels sets lies base here (Words vs) t is e = refl
-statement_free labels sets lies base here (Aligns size limit) t is e = refl
-statement_free labels sets lies base here (Sets name address) t is e = refl
+statement_free labels sets lies base here s t is e = refl
 
 lines_free : (labels : Name → Option Start) (sets lies : Name → Option ℕ) (base : ℕ) → ((name : Name) → AreTold (labels name)) → ((name : Name) → lies name ≡ or_else (address_of (labels name)) (sets name))
     → (ls : List Line) (here : Start) (n : ℕ) → steady_by size_at labels sets base here ls ≡ true → faults_from lies n here.at ls ≡ None
@@ -164,11 +161,8 @@ AreIn (i ∷ is) = (is_in_window i ≡ true) × AreIn is
 
 -- what may stand in a window has two bytes: a row
 two_bytes : (i : Instr) → is_in_window i ≡ true → instr_size i ≡ 2
-two_bytes (instr.Call d) h = absurd (let bad : false ≡ true = h in cc)
-two_bytes (instr.Barrier b) h = absurd (let bad : false ≡ true = h in cc)
-two_bytes (instr.ReadSpecial d s) h = absurd (let bad : false ≡ true = h in cc)
-two_bytes (instr.WriteMask m) h = absurd (let bad : false ≡ true = h in cc)
-two_bytes i h = refl
+two_bytes (instr.Mov d m) h = refl
+two_bytes i h = cc
 
 twos_of : (is : List Instr) → AreIn is → AreTwos is
 twos_of [] h = tt
@@ -194,14 +188,6 @@ plain_of (i ∷ is) (suc n) [] e h t = absurd (cc)
 plain_of (i ∷ is) (suc n) (Op j None ∷ ps) e h t = let same : j ≡ i = cc in (ap instr_size same ∙ t.0, plain_of is n ps (omega arith) (cc) t.1)
 plain_of (i ∷ is) (suc n) (Op j (Some m) ∷ ps) e h t = absurd (cc)
 plain_of (i ∷ is) (suc n) (Word w ∷ ps) e h t = absurd (cc)
-
-outside_of : (p count : ℕ) (ls : List Label) → ((k : ℕ) (l : Label) → slice_get ls k ≡ Some l → (l.place ≤ p) ⊎ (p + count ≤ l.place)) → AllOutside p count ls
-outside_of p count [] h = tt
-outside_of p count (l ∷ ls) h = (h 0 l refl, outside_of p count ls (λ k m e. h (suc k) m e))
-
-before : (n : ℕ) → 0 < n → (m : ℕ) × (n ≡ suc m)
-before zero h = absurd (omega arith)
-before (suc m) h = (m, refl)
 
 pub steady_stays : (base : ℕ) (write : Instr → List ℕ) (rule : Rule) (registers : List Low) (place : ℕ) (ls : List Line) → IsSoundRule rule → Applies rule registers (code_of ls) place → IsSteady base ls
     → IsSteady base (replaced_lines write place (length rule.left) (map (renamed registers) rule.right) ls)

@@ -13,9 +13,6 @@ use Rattle.steady_layout.specs.Steady.{most_of, aligns_surely, ends_aligned}
 -- an instruction takes some bytes: a row
 pub some_bytes : (i : Instr) → 0 < instr_size i
 some_bytes (instr.Call d) = omega arith
-some_bytes (instr.Barrier b) = omega arith
-some_bytes (instr.ReadSpecial d s) = omega arith
-some_bytes (instr.WriteMask m) = omega arith
 some_bytes i = omega arith
 
 -- ---- padding ----
@@ -38,11 +35,8 @@ padding_most size most at = elim (cases_Bool (nat_le (need size at) most)) [
 ]
 
 pub size_most : (s : Statement) (at : ℕ) → size_at s at ≤ most_of s
-size_most Nothing at = omega arith
-size_most (Runs i m) at = omega arith
-size_most (Words vs) at = omega arith
 size_most (Aligns size most) at = padding_most size most at
-size_most (Sets name address) at = omega arith
+size_most s at = omega arith
 
 -- ---- multiples of 4 ----
 
@@ -84,12 +78,10 @@ padded size most at e =
     rw (le-leb (need size at) most (omega arith)) (multiple size r.0 (at + need size at) (eqb-true (size % 4) 0 q.0) r.1)
 
 pub ends_told : (s : Statement) (aligned : Bool) (at : ℕ) → (aligned ≡ true → at % 4 ≡ 0) → ends_aligned aligned s ≡ true → (at + size_at s at) % 4 ≡ 0
-ends_told Nothing aligned at h e = let a = h e in omega arith
 ends_told (Runs i m) aligned at h e =
     let p = and_parts aligned (instr_size i == 4) e in
     let a = h p.0 in
     let four = eqb-true (instr_size i) 4 p.1 in
     omega arith
-ends_told (Words vs) aligned at h e = let a = h e in omega arith
 ends_told (Aligns size most) aligned at h e = padded size most at e
-ends_told (Sets name address) aligned at h e = let a = h e in omega arith
+ends_told s aligned at h e = let a = h e in omega arith

@@ -37,11 +37,9 @@ pub record AreLess (so sn : Sizes) : Type 0 where
 -- ---- one line ----
 
 pub ends_within : (s : Statement) (x y : Bool) → (x ≡ true → y ≡ true) → ends_aligned x s ≡ true → ends_aligned y s ≡ true
-ends_within Nothing x y h e = h e
 ends_within (Runs i m) x y h e = let p = and_parts x (instr_size i == 4) e in and_from y (instr_size i == 4) (h p.0) p.1
-ends_within (Words vs) x y h e = h e
 ends_within (Aligns size most) x y h e = e
-ends_within (Sets name address) x y h e = h e
+ends_within s x y h e = h e
 
 pub step_within : (so sn : Sizes) → AreLess so sn → (o n : Start) (s : Statement) → IsWithin o n → IsWithin (after so o s) (after sn n s)
 step_within so sn l o n s w = record {
@@ -175,11 +173,8 @@ instr_stays lo ln zo zn base o n i (Some m) z b w h e = rw (← z m.name) (aim_s
 
 statement_stays : (lo ln : Name → Option Start) (zo zn : Name → Option ℕ) (base : ℕ) (o n : Start) (s : Statement) → ((name : Name) → zo name ≡ zn name) → base ≤ n.at → IsWithin o n
     → ((i : Instr) (m : Option Mention) → s ≡ Runs i m → (name : Name) → Meets o n (lo name) (ln name)) → steady_at lo zo base o s ≡ true → steady_at ln zn base n s ≡ true
-statement_stays lo ln zo zn base o n Nothing z b w h e = refl
 statement_stays lo ln zo zn base o n (Runs i m) z b w h e = instr_stays lo ln zo zn base o n i m z b w (h i m refl) e
-statement_stays lo ln zo zn base o n (Words vs) z b w h e = refl
-statement_stays lo ln zo zn base o n (Aligns size most) z b w h e = refl
-statement_stays lo ln zo zn base o n (Sets name address) z b w h e = refl
+statement_stays lo ln zo zn base o n s z b w h e = refl
 
 -- ---- lines that both have ----
 
