@@ -118,46 +118,18 @@ fn order_of(instrs: &[Instr]) -> Option<ArrayVec<Low, 4>>
     Some(seen)
 }
 
-/// The place of a register in the order; past the end where it has none.
-#[tactic(auto, unfolding(crate::specs::Canonical::name_in))]
-fn name_in(order: &[Low], register: u32) -> u32
-    requires { length order.now ≤ 4 }
-    ensures value { result ≡ name_in (numbers_of order.now) register }
-    ensures small { result ≤ 4 }
-{
-    let mut place = 0;
-    for other in order {
-        if other.number == register {
-            return place;
-        }
-        place += 1;
-    }
-    place
-}
-
-/// The name of r0 to r7 by a place.
-fn name_of(order: &[Low], register: u32) -> Low
-    requires { length order.now ≤ 4 }
-    ensures { result.number ≡ name_in (numbers_of order.now) register }
-{
-    Low::of(name_in(order, register))
-}
-
-/// The names of r0 to r7 by their order.
+/// The names of r0 to r7: each register's place in the order; past the end where it has none.
 fn names_of(order: &[Low]) -> [Low; 8]
     requires { length order.now ≤ 4 }
     ensures { numbers_of result ≡ map (name_in (numbers_of order.now)) (0 ∷ 1 ∷ 2 ∷ 3 ∷ 4 ∷ 5 ∷ 6 ∷ 7 ∷ []) }
 {
-    [
-        name_of(order, 0),
-        name_of(order, 1),
-        name_of(order, 2),
-        name_of(order, 3),
-        name_of(order, 4),
-        name_of(order, 5),
-        name_of(order, 6),
-        name_of(order, 7),
-    ]
+    let count = order.len();
+    let mut names = [Low::of(count as u32); 8];
+    for turn in 0..count {
+        let place = count - 1 - turn;
+        names[order[place].number as usize] = Low::of(place as u32);
+    }
+    names
 }
 
 /// An item under another name, where it is one of these.
