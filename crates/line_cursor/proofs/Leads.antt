@@ -1,5 +1,5 @@
 -- Straight code before a cursor, and its sets of live items.
-use Rattle.std.proofs.Common.{◌≡◌, ℕ, zero, suc, ◌+◌, ◌-◌, ◌<◌, ◌≤◌, ◌||◌, Bool, true, false, List, [], ◌∷◌, ◌++◌, length, length-append, append_assoc, take, drop, map, Option, Some, None, refl, sym, ap, ◌∙◌, subst, ◌⊎◌, inl, inr, arith, if◌then◌else◌}
+use Rattle.std.proofs.Common.{◌≡◌, ℕ, zero, suc, ◌+◌, ◌-◌, ◌<◌, ◌≤◌, ◌||◌, Bool, true, false, List, [], ◌∷◌, ◌++◌, length, length-append, append_assoc, take, map, Option, Some, None, refl, sym, ap, ◌∙◌, subst, ◌⊎◌, inl, inr, arith, if◌then◌else◌}
 use Rattle.std.specs.Prelude.{slice_get, slice_set}
 use Rattle.std.specs.List.{list_all}
 use Rattle.std.proofs.lemmas.Bool.{cases_lt}
@@ -12,7 +12,7 @@ use Rattle.liveness.specs.Kept.{is_straight, LeadsUp}
 use Rattle.line_cursor.specs.declared.cursor.Spot.{Spot}
 use Rattle.line_cursor.specs.Pieces.{begins_op, begins_labelled}
 use Rattle.line_cursor.specs.Cursors.{stands_at, NoLabelAt}
-use Rattle.line_cursor.specs.Leads.{straight, straight_of, straight_in, with_sets, mended}
+use Rattle.line_cursor.specs.Leads.{straight_of, straight_in, with_sets, mended}
 use Rattle.line_cursor.proofs.Nearer.{places_append}
 use Rattle.line_cursor.proofs.Labels.{ends_at, ends_bare, ends_placed, stands_here, labels_append, none_stands}
 

@@ -1,7 +1,5 @@
-use Rattle.std.proofs.Common.{◌≡◌, ◌∙◌, ◌-◌, ◌+◌, ◌≤◌, ◌||◌, Bool, true, false, List, ◌∷◌, length, take, refl, ap, sym, subst, arith}
-use Rattle.thumb_instr.specs.declared.instr.Instr.{Instr}
-use Rattle.thumb_model.specs.Listing.{Line, code_of, places_of}
-use Rattle.liveness.specs.Kept.{LeadsUp}
+use Rattle.std.proofs.Common.{◌≡◌, ◌∙◌, ◌-◌, List, length, take, sym, subst, arith}
+use Rattle.thumb_model.specs.Listing.{places_of}
 use Rattle.line_cursor.specs.declared.pieces.Piece.{Piece}
 use Rattle.line_cursor.specs.Pieces.{lines_in, lines_of}
 use Rattle.line_cursor.proofs.Looks.{piece_short}

@@ -1,4 +1,4 @@
-use Rattle.window_rewrite.proofs.KeptSpots.{kept_sets, if_kept}
+use Rattle.window_rewrite.proofs.KeptSpots.{if_kept}
 use Rattle.window_rewrite.proofs.making.kept_behind.Goals as goal
 
 pub returns : goal.returns

@@ -1,4 +1,4 @@
-use Rattle.std.proofs.Common.{◌≡◌, ◌-◌, ◌≤◌, List, length, sym, ap, subst, refl, arith}
+use Rattle.std.proofs.Common.{◌-◌, ◌≤◌, List, length, sym, ap, subst, refl, arith}
 use Rattle.thumb_instr.specs.declared.instr.Instr.{Instr}
 use Rattle.thumb_model.specs.Listing.{code_of}
 use Rattle.liveness.specs.Kept.{LeadsUp}

@@ -1,11 +1,9 @@
-use Rattle.std.proofs.Common.{◌≡◌, ◌∙◌, ◌-◌, ◌+◌, ◌<◌, ◌++◌, ℕ, List, length, take, drop, map, reverse, sym, ap, refl, arith}
-use Rattle.std.specs.Prelude.{slice_get}
+use Rattle.std.proofs.Common.{◌∙◌, ◌-◌, ℕ, List, length, take, drop, map, ap, refl, arith}
 use Rattle.thumb_model.specs.Listing.{Line}
 use Rattle.thumb_model.specs.Rewritten.{replaced_lines}
 use Rattle.thumb_model.proofs.Lists.{take_all}
 use Rattle.listing_parser.specs.Replacing.{own_line}
 use Rattle.liveness.specs.declared.kept.NewSets.{NewSets}
-use Rattle.line_cursor.specs.declared.cursor.Cursor.{Cursor}
 use Rattle.line_cursor.specs.declared.cursor.Spot.{Spot}
 use Rattle.line_cursor.specs.Cursors.{place_at, lines_at}
 use Rattle.window_rewrite.proofs.KeptSpots.{IsMended, mended_is, mended_place, mended_lines, mended_ops, put_kept, put_same, spots_left, to_end}

@@ -1,4 +1,4 @@
-use Rattle.std.proofs.Common.{◌≡◌, ◌∙◌, ◌-◌, ◌+◌, ◌<◌, ◌≤◌, ℕ, true, arith}
+use Rattle.std.proofs.Common.{◌≡◌, ◌-◌, ◌+◌, ◌<◌, ◌≤◌, ℕ, true, arith}
 use Rattle.std.specs.Prelude.{slice_get}
 use Rattle.thumb_model.specs.Rewritten.{Replacement, lines_after}
 use Rattle.line_cursor.specs.Cursors.{lines_at, place_at, spots_at}

@@ -1,11 +1,11 @@
-use Rattle.std.proofs.Common.{◌≡◌, ◌∙◌, ◌-◌, ◌≤◌, ◌++◌, ℕ, List, length, reverse, ap, sym, subst, arith}
+use Rattle.std.proofs.Common.{◌≡◌, ◌∙◌, ◌-◌, ◌≤◌, ◌++◌, ℕ, List, length, reverse, ap, sym, subst}
 use Rattle.thumb_model.specs.Listing.{Line, code_of, labels_from, places_of}
 use Rattle.liveness.specs.Kept.{LeadsUp}
 use Rattle.line_cursor.specs.declared.pieces.Piece.{Piece}
 use Rattle.line_cursor.specs.Pieces.{lines_of}
-use Rattle.line_cursor.specs.Cursors.{lines_ahead, lines_behind, place_at}
+use Rattle.line_cursor.specs.Cursors.{place_at}
 use Rattle.line_cursor.proofs.Labels.{none_stands}
-use Rattle.line_cursor.proofs.Leads.{no_lead, lead_ahead}
+use Rattle.line_cursor.proofs.Leads.{lead_ahead}
 use Rattle.line_cursor.proofs.cursor.Cursor.lead.Goals as goal
 
 pub returns-clause-leads : goal.returns-clause-leads
