@@ -55,7 +55,8 @@ fn is_opening(byte: u8) -> bool
     byte.is_ascii_alphabetic() || byte == b'_' || byte == b'.' || byte == b'$'
 }
 
-fn is_name_byte(byte: u8) -> bool
+/// Whether the byte may stand in a name.
+pub fn is_name_byte(byte: u8) -> bool
     ensures { result ≡ is_name_byte byte }
 {
     is_opening(byte) || byte.is_ascii_digit()

@@ -8,10 +8,11 @@ ghost use Rattle.listing_parser.specs.Results.{Gives};
 
 use crate::errors::{Kind, ListingError};
 use crate::line::Line;
-use crate::splitting::{code, is_name, split_colon, without_blanks};
+use crate::splitting::{code, split_colon, without_blanks};
 use crate::statement::statement;
 use ascii_scan::{Lines, SourceLine};
 use std::alloc::{AllocError, Global};
+use thumb_syntax::is_name;
 
 /// The most lines of a listing.
 const MOST_LINES: usize = 65536;

@@ -3,20 +3,9 @@ ghost use Rattle.std.specs.Prelude.{◌≡◌, length};
 ghost use Rattle.std.specs.List.{prefix_len};
 ghost use Rattle.ascii_scan.specs.Names.{is_name_byte};
 ghost use Rattle.ascii_scan.specs.Tokens.{front, rest, is_blank};
-ghost use Rattle.thumb_syntax.specs.Operands.{is_name};
 ghost use Rattle.listing_parser.specs.Grammar.{is_word_byte, is_no_colon, is_no_at, begins_hash, code};
 
-use ascii_scan::name;
-
-/// Whether the bytes are a name, all of them.
-pub fn is_name(word: &[u8]) -> bool
-    ensures { result ≡ is_name word.now }
-{
-    match name(word) {
-        Some(length) => length == word.len(),
-        None => false,
-    }
-}
+use ascii_scan::is_name_byte;
 
 fn is_blank(byte: u8) -> bool
     ensures { result ≡ is_blank byte }
@@ -58,16 +47,6 @@ pub fn split_word(bytes: &[u8]) -> (&[u8], &[u8])
     ensures rest { result.1.now ≡ rest is_word_byte bytes.now }
 {
     bytes.split_at(word_len(bytes))
-}
-
-fn is_name_byte(byte: u8) -> bool
-    ensures { result ≡ is_name_byte byte }
-{
-    byte.is_ascii_alphabetic()
-        || byte == b'_'
-        || byte == b'.'
-        || byte == b'$'
-        || byte.is_ascii_digit()
 }
 
 fn name_len(bytes: &[u8]) -> usize

@@ -11,11 +11,11 @@ ghost use Rattle.listing_parser.specs.ToldView.{mark_view, told_view};
 
 use crate::directive::{Directive, directive_named};
 use crate::line::{Mark, Mention, Statement};
-use crate::splitting::{is_name, split_name, split_word, without_blanks};
+use crate::splitting::{split_name, split_word, without_blanks};
 use crate::values::values;
 use ascii_scan::{Token, next_token, number};
 use std::alloc::{AllocError, Global};
-use thumb_syntax::{Label, read_instr};
+use thumb_syntax::{Label, is_name, read_instr};
 
 /// What a statement says, of memory and of functions.
 #[derive(Drop)]

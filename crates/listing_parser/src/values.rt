@@ -8,9 +8,10 @@ ghost use Rattle.listing_parser.specs.Grammar.{added, named_value, first_value, 
 ghost use Rattle.listing_parser.specs.Views.{value_view};
 
 use crate::line::{Mention, Value};
-use crate::splitting::{is_name, split_name};
+use crate::splitting::split_name;
 use ascii_scan::{Token, next_token, number};
 use std::alloc::{AllocError, Global};
+use thumb_syntax::is_name;
 
 /// What is 0 with the number added, modulo 2^32.
 fn negated(number: u32) -> u32

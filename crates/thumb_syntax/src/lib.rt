@@ -18,6 +18,7 @@ mod writing;
 pub use errors::Memory;
 pub use fields::Label;
 pub use laws::{forms_agree, reading_is_whole, some_form_reads, writing_reads_back};
+pub use operands::is_name;
 pub use reading::{Parsed, read_instr};
 pub use whole::is_whole;
 pub use writing::write_instr;
