@@ -39,21 +39,13 @@ pub is_stored : (a : Access) (t address value : ℕ) (w : model.World) → is_st
 is_stored access.Str t address value w h = refl
 is_stored access.Strh t address value w h = refl
 is_stored access.Strb t address value w h = refl
-is_stored access.Ldrsb t address value w h = absurd (cc)
-is_stored access.Ldr t address value w h = absurd (cc)
-is_stored access.Ldrh t address value w h = absurd (cc)
-is_stored access.Ldrb t address value w h = absurd (cc)
-is_stored access.Ldrsh t address value w h = absurd (cc)
+is_stored a t address value w h = absurd (cc)
 
 pub is_loaded : (a : Access) (t address value : ℕ) (w : model.World) → is_store a ≡ false → accesses a t address value w ≡ loads a t address w
 is_loaded access.Str t address value w h = absurd (cc)
 is_loaded access.Strh t address value w h = absurd (cc)
 is_loaded access.Strb t address value w h = absurd (cc)
-is_loaded access.Ldrsb t address value w h = refl
-is_loaded access.Ldr t address value w h = refl
-is_loaded access.Ldrh t address value w h = refl
-is_loaded access.Ldrb t address value w h = refl
-is_loaded access.Ldrsh t address value w h = refl
+is_loaded a t address value w h = refl
 
 -- ---- answers ----
 

@@ -6,21 +6,20 @@ use Rattle.std.specs.Map.{lookup}
 use Rattle.std.specs.Str.{bytes_eq}
 use Rattle.std.specs.declared.alloc.Global.{Global}
 use Rattle.std.specs.declared.vec.Vec.{Vec}
-use Rattle.std.proofs.lemmas.Bool.{cases_Bool}
+use Rattle.std.proofs.lemmas.Bool.{cases_Bool, and_parts, or_cases, or_right}
 use Rattle.std.proofs.lemmas.Slice.Eq.{bytes_eq-Decides}
 use Rattle.thumb_model.specs.Listing.{Name, Number, OfName, Place, Op, Word, Label, Code, has_label, is_mentioned, place_mentions}
 use Rattle.thumb_model.specs.Machine.{Naming, Fits, is_in_range, label_place, points}
 use Rattle.thumb_machine.specs.Fitting.{all_apart, apart, is_code_word, is_outside}
 use Rattle.thumb_machine.specs.Laid.{place_name}
 use Rattle.thumb_machine.proofs.PointsMade.{drop_at}
-use Rattle.thumb_machine.proofs.RisingLemmas.{both}
 
 -- ---- lists ----
 
 all_at : {X : Type 0} (f : X → Bool) (xs : List X) → list_all f xs ≡ true → (k : ℕ) (x : X) → slice_get xs k ≡ Some x → f x ≡ true
 all_at f [] all k x e = absurd (let bad : None ≡ Some x = e in cc)
-all_at f (y ∷ ys) all zero x e = let some : Some y ≡ Some x = e in let same : y ≡ x = cc in ap f (sym same) ∙ (both (f y) (list_all f ys) all).0
-all_at f (y ∷ ys) all (suc k) x e = all_at f ys (both (f y) (list_all f ys) all).1 k x e
+all_at f (y ∷ ys) all zero x e = let some : Some y ≡ Some x = e in let same : y ≡ x = cc in ap f (sym same) ∙ (and_parts (f y) (list_all f ys) all).0
+all_at f (y ∷ ys) all (suc k) x e = all_at f ys (and_parts (f y) (list_all f ys) all).1 k x e
 
 all_from : {X : Type 0} (f : X → Bool) (xs : List X) → ((k : ℕ) (x : X) → slice_get xs k ≡ Some x → f x ≡ true) → list_all f xs ≡ true
 all_from f [] each = refl
@@ -58,14 +57,6 @@ names_place n (Op i (Some m)) = refl
 names_place n (Word (Number v)) = refl
 names_place n (Word (OfName m)) = refl
 
-either_of : (a b : Bool) → (a || b) ≡ true → (a ≡ true) ⊎ (b ≡ true)
-either_of true b e = inl refl
-either_of false b e = inr e
-
-or_more : (a b : Bool) → b ≡ true → (a || b) ≡ true
-or_more true b e = refl
-or_more false b e = e
-
 named_outside : (names : Naming) (labels : List Label) (n : Name) (o : Option Name) → is_name n o ≡ true → is_outside names labels o ≡ true → has_label n labels ≡ false → is_in_range names (names.word_of n) ≡ false
 named_outside names labels n None is out none = absurd (true≢false (sym is))
 named_outside names labels n (Some m) is out none =
@@ -79,8 +70,8 @@ named_outside names labels n (Some m) is out none =
 are_outside : (names : Naming) (labels : List Label) (xs : List Place) → list_all (λ x. is_outside names labels (place_name x)) xs ≡ true → AreOutside names xs labels
 are_outside names labels [] all = λ n e none. absurd (true≢false (sym e))
 are_outside names labels (x ∷ xs) all = λ n e none.
-    let alls = both (is_outside names labels (place_name x)) (list_all (λ y. is_outside names labels (place_name y)) xs) all in
-    elim (either_of (place_mentions n x) (is_mentioned n xs) e) [
+    let alls = and_parts (is_outside names labels (place_name x)) (list_all (λ y. is_outside names labels (place_name y)) xs) all in
+    elim (or_cases (place_mentions n x) (is_mentioned n xs) e) [
       | inl here ↦ named_outside names labels n (place_name x) (sym (names_place n x) ∙ here) alls.0 none
       | inr there ↦ are_outside names labels xs alls.1 n there none
     ]
@@ -96,7 +87,7 @@ all_outside : (names : Naming) (labels : List Label) (xs : List Place) → AreOu
 all_outside names labels [] out = refl
 all_outside names labels (x ∷ xs) out =
     let here : is_outside names labels (place_name x) ≡ true = one_outside names labels (place_name x) (λ n is none. out n (let h : place_mentions n x ≡ true = names_place n x ∙ is in rw h refl) none) in
-    rw here (all_outside names labels xs (λ n e none. out n (or_more (place_mentions n x) (is_mentioned n xs) e) none))
+    rw here (all_outside names labels xs (λ n e none. out n (or_right (place_mentions n x) (is_mentioned n xs) e) none))
 
 pub labelled : (n : Name) (ls : List Label) → is_some (label_place n ls) ≡ has_label n ls
 labelled n [] = refl

@@ -8,7 +8,7 @@ use Rattle.std.proofs.lemmas.List.{map-append}
 use Rattle.thumb_machine.specs.declared.event.Event.{Event}
 use Rattle.thumb_machine.specs.Outside.{event_of, events_of}
 use Rattle.thumb_model.specs.Items.{Values, assigned, one_of}
-use Rattle.thumb_model.proofs.Law.{keys, assigned_agree, assigned_other}
+use Rattle.thumb_model.proofs.Law.{keys, keys_words, assigned_agree, assigned_other}
 use Rattle.thumb_model.specs.Machine.{Answer, Load, behind, device_words, is_device, left_at, left_from, load_events, next_word, stored, stored_words, word_at, words_from}
 use Rattle.thumb_machine.specs.Lists.{AreRegisters}
 
@@ -53,10 +53,6 @@ read_next m left a [] v h = absurd (omega arith)
 read_next m left a (x ∷ xs) v h = rw (rest_is (x ∷ xs)) refl
 
 -- ---- the base ----
-
-keys_words : (m : ℕ → ℕ) (left : List Answer) (a : ℕ) (xs : List ℕ) → keys (words_from m left a xs) ≡ xs
-keys_words m left a [] = refl
-keys_words m left a (x ∷ xs) = ap (λ ks. x ∷ ks) (keys_words m (left_at left a) (next_word a) xs)
 
 -- a base among the registers keeps its word
 pub base_word : (m : ℕ → ℕ) (left : List Answer) (a : ℕ) (xs : List ℕ) (base back : ℕ) (v : Values)

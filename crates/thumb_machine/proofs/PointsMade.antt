@@ -2,6 +2,7 @@
 use Rattle.std.proofs.Common.{◌≡◌, inl, inr, ℕ, zero, suc, ◌+◌, ◌∙◌, Bool, true, false, List, [], ◌∷◌, ◌++◌, Option, Some, None, length, drop, refl, sym, ap, arith, add-one, if◌then◌else◌}
 use Rattle.std.specs.Prelude.{slice_get}
 use Rattle.std.proofs.lemmas.Bool.{cases_Bool}
+use Rattle.std.proofs.lemmas.Option.{same_Some}
 use Rattle.thumb_model.specs.Listing.{Name, Label, Line, Place, is_call, is_op_place, labels_at, labels_from, places_in}
 use Rattle.thumb_model.specs.Machine.{Naming, point_among, points_of, returns_from}
 use Rattle.thumb_machine.specs.Making.{code_points_at, labels_points, merged, return_point_at, returns_points}
@@ -10,12 +11,9 @@ pub merged_none : (o : Option ℕ) → merged o None ≡ o
 merged_none None = refl
 merged_none (Some p) = refl
 
-some_here : {A : Type 0} (x y : A) → Some x ≡ Some y → x ≡ y
-some_here x y e = cc
-
 pub drop_at : {A : Type 0} (xs : List A) (p : ℕ) (x : A) → slice_get xs p ≡ Some x → drop p xs ≡ x ∷ drop (suc p) xs
 drop_at [] p x h = absurd (cc)
-drop_at (y ∷ ys) zero x h = ap (λ z. z ∷ ys) (some_here y x h)
+drop_at (y ∷ ys) zero x h = ap (λ z. z ∷ ys) (same_Some y x h)
 drop_at (y ∷ ys) (suc p) x h = drop_at ys p x h
 
 count_next : (b : Bool) (k : ℕ) → (if b then k + 1 else k) ≡ k + (if b then 1 else 0)

@@ -20,16 +20,13 @@ events_push es e x h = rw map-append (ap (λ y. events_of es ++ y ∷ []) h)
 
 -- a run that is over ends by its last event, whatever came before
 pub ends_behind : (n : Next) (front es : List model.Event) → EndsBy n es → EndsBy n (front ++ es)
-ends_behind next.On front es h = tt
-ends_behind next.Stay front es h = tt
-ends_behind (next.To p) front es h = tt
 ends_behind (next.Over e) front es h = (front ++ h.0, h.1, ap (λ l. front ++ l) h.2 ∙ sym (append_assoc front h.0 (h.1 ∷ [])), h.3)
+ends_behind n front es h = tt
 
 landed_pop : (l : Landing) (address : ℕ) (xs : List ℕ) (w : model.World)
     → pops_to l address xs w ≡ popping address xs (landed_next l) (landed_events l (popped_word address xs w) (assigned (many_outputs sp (behind (with_pc xs) address) address xs w) w.values)) w
 landed_pop (Goes p) address xs w = refl
-landed_pop Leaves address xs w = refl
-landed_pop Strays address xs w = refl
+landed_pop l address xs w = refl
 
 pub popped_acts : (old new : World) (before left : List Answer) (lands : ℕ → Landing) (l : Landing) (address word : ℕ) (xs : List ℕ) (u : Values) (n : Next)
     → word ≡ popped_word address xs (world_of old before) → l ≡ lands word

@@ -2,14 +2,10 @@
 use Rattle.std.proofs.Common.{◌≡◌, ◌∙◌, ◌⊎◌, inl, inr, ℕ, ◌<◌, ◌≤◌, ◌==◌, ◌&&◌, ◌||◌, Bool, true, false, List, [], ◌∷◌, refl, sym, ap₂, arith, true≢false}
 use Rattle.std.specs.Prelude.{nat_lt, not}
 use Rattle.std.specs.List.{list_all}
-use Rattle.std.proofs.lemmas.Bool.{cases_Bool}
+use Rattle.std.proofs.lemmas.Bool.{cases_Bool, and_parts}
 use Rattle.thumb_machine.specs.declared.distinct.Rising.{Rising}
 use Rattle.thumb_machine.specs.Fitting.{all_apart, apart, risen, rises}
 use Rattle.thumb_machine.specs.Walking.{all_pass}
-
-pub both : (a b : Bool) → (a && b) ≡ true → (a ≡ true) × (b ≡ true)
-both true b e = (refl, e)
-both false b e = absurd (true≢false (sym e))
 
 one_of_two : (a b : Bool) → (a ≡ true) ⊎ (b ≡ false) → (a || not b) ≡ true
 one_of_two a b (inl e) = rw e refl
@@ -44,7 +40,7 @@ stays_ordered r w p order = elim (cases_Bool (p == r.place)) [ inl e ↦ rw e (g
 apart_behind : (r : Rising) (v q : ℕ) (xs : List (ℕ × ℕ)) → r.below ≤ r.greatest → all_pass rises risen r xs ≡ true → IsBehind r v q → list_all (apart (v, q)) xs ≡ true
 apart_behind r v q [] order up behind = refl
 apart_behind r v q (x ∷ xs) order up behind =
-    let ups = both (rises r x.0 x.1) (all_pass rises risen (risen r x.0 x.1) xs) up in
+    let ups = and_parts (rises r x.0 x.1) (all_pass rises risen (risen r x.0 x.1) xs) up in
     let more = one_more r v q x.0 x.1 order ups.0 behind in
     rw more.0 (apart_behind (risen r x.0 x.1) v q xs (stays_ordered r x.0 x.1 order) ups.1 more.1)
 
@@ -66,8 +62,8 @@ all_same f g (x ∷ xs) e = ap₂ (λ a b. a && b) (e x) (all_same f g xs e)
 all_both : {X : Type 0} (f g : X → Bool) (xs : List X) → list_all f xs ≡ true → list_all g xs ≡ true → list_all (λ x. f x && g x) xs ≡ true
 all_both f g [] e h = refl
 all_both f g (x ∷ xs) e h =
-    let es = both (f x) (list_all f xs) e in
-    let hs = both (g x) (list_all g xs) h in
+    let es = and_parts (f x) (list_all f xs) e in
+    let hs = and_parts (g x) (list_all g xs) h in
     rw (es.0, hs.0) (all_both f g xs es.1 hs.1)
 
 apart_more : (x : ℕ × ℕ) (xs : List (ℕ × ℕ)) → list_all (apart x) xs ≡ true → all_apart xs ≡ true → all_apart (x ∷ xs) ≡ true
@@ -77,7 +73,7 @@ apart_more x xs first others =
 pub rising_apart : (r : Rising) (xs : List (ℕ × ℕ)) → r.below ≤ r.greatest → all_pass rises risen r xs ≡ true → all_apart xs ≡ true
 rising_apart r [] order up = refl
 rising_apart r (x ∷ xs) order up =
-    let ups = both (rises r x.0 x.1) (all_pass rises risen (risen r x.0 x.1) xs) up in
+    let ups = and_parts (rises r x.0 x.1) (all_pass rises risen (risen r x.0 x.1) xs) up in
     let ordered = stays_ordered r x.0 x.1 order in
     apart_more x xs (apart_behind (risen r x.0 x.1) x.0 x.1 xs ordered ups.1 (inl (refl, grind arith))) (rising_apart (risen r x.0 x.1) xs ordered ups.1)
 

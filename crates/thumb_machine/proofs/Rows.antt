@@ -2,19 +2,16 @@
 use Rattle.std.proofs.Common.{◌≡◌, inl, inr, ℕ, zero, suc, ◌+◌, ◌<◌, List, [], ◌∷◌, ◌++◌, Option, Some, None, length, take, sym, subst, arith, if◌then◌else◌}
 use Rattle.std.specs.Prelude.{slice_get}
 use Rattle.std.proofs.lemmas.Bool.{cases_lt, cases_Bool}
-use Rattle.std.proofs.lemmas.Option.{slice_get_past}
+use Rattle.std.proofs.lemmas.Option.{slice_get_past, same_Some}
 use Rattle.thumb_model.specs.Listing.{Code, Place, call_count, is_call}
 use Rattle.thumb_model.specs.Machine.{Naming}
 use Rattle.thumb_model.proofs.Lists.{get_front, get_back}
 use Rattle.thumb_machine.specs.declared.program.Row.{Row}
 use Rattle.thumb_machine.specs.Running.{IsRow}
 
-same_some : {A : Type 0} (x y : A) → Some x ≡ Some y → x ≡ y
-same_some x y e = cc
-
 pub call_next : (xs : List Place) (p : ℕ) (x : Place) → slice_get xs p ≡ Some x → call_count (take (suc p) xs) ≡ call_count (take p xs) + (if is_call x then 1 else 0)
 call_next [] p x h = absurd (cc)
-call_next (y ∷ ys) zero x h = rw (same_some y x h) (elim (cases_Bool (is_call x)) [ inl e ↦ rw e (omega arith) | inr e ↦ rw e (omega arith) ])
+call_next (y ∷ ys) zero x h = rw (same_Some y x h) (elim (cases_Bool (is_call x)) [ inl e ↦ rw e (omega arith) | inr e ↦ rw e (omega arith) ])
 call_next (y ∷ ys) (suc p) x h =
     let e : call_count (take (suc p) ys) ≡ call_count (take p ys) + (if is_call x then 1 else 0) = call_next ys p x h in
     elim (cases_Bool (is_call y)) [ inl t ↦ rw t (omega (arith, e)) | inr t ↦ rw t e ]

@@ -14,8 +14,5 @@ value_step n k b v e low high = rw (e, pow-succ' 256 k) (omega arith)
 
 -- three bytes
 pub three_bytes : (k v : ℕ) → k ≤ 3 → v < 256 ^ k → v < 16777216
-three_bytes zero v h l = omega arith
-three_bytes (suc zero) v h l = omega arith
-three_bytes (suc (suc zero)) v h l = omega arith
-three_bytes (suc (suc (suc zero))) v h l = omega arith
 three_bytes (suc (suc (suc (suc k)))) v h l = absurd (omega arith)
+three_bytes k v h l = omega arith

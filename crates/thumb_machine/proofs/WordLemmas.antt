@@ -6,13 +6,16 @@ use Rattle.std.specs.Option.{option_copied}
 use Rattle.std.specs.Str.{bytes_eq}
 use Rattle.std.specs.declared.alloc.Global.{Global}
 use Rattle.std.specs.declared.vec.Vec.{Vec}
-use Rattle.std.proofs.lemmas.Bool.{cases_Bool}
+use Rattle.std.proofs.lemmas.Bool.{cases_Bool, or_parts}
+use Rattle.std.proofs.Math.Bool.{or-false, or-true}
 use Rattle.std.proofs.lemmas.List.{take_all}
 use Rattle.std.proofs.lemmas.Slice.Eq.{bytes_eq-Decides}
 use Rattle.indexmap.specs.IndexMap.{insert_entry}
 use Rattle.thumb_model.specs.Listing.{Name, Statement, Nothing, Runs, Words, Aligns, Sets, Line, Place, code_of, place_of, places_of}
 use Rattle.thumb_model.specs.Layout.{cleared, is_among, label_address, lies_in, or_else, set_address, set_in, size_at}
 use Rattle.thumb_model.specs.Laid.{word_by}
+use Rattle.listing_parser.proofs.LabelLemmas.{among_append}
+use Rattle.label_layout.proofs.Labels.{or_none}
 use Rattle.listing_parser.specs.TableWords.{defined_in, set_names}
 use Rattle.thumb_machine.specs.Laid.{outside_word, own_word, nowhere, place_name, with_name}
 use Rattle.thumb_machine.specs.Words.{AreFixed, AreOwn, Entries, fixed_by, fixed_word, word_in}
@@ -43,20 +46,8 @@ put_in q (x ∷ es) k w = elim (cases_Bool (bytes_eq k.items x.0.items)) [
 
 -- ---- lists of names ----
 
-pub among_append : (n : Name) (xs ys : List Name) → is_among n (xs ++ ys) ≡ (is_among n xs || is_among n ys)
-among_append n [] ys = refl
-among_append n (x ∷ xs) ys = elim (cases_Bool (bytes_eq n x)) [ inl h ↦ rw h refl | inr h ↦ rw h (among_append n xs ys) ]
-
-or_false : (b : Bool) → (b || false) ≡ b
-or_false true = refl
-or_false false = refl
-
-or_true : (b : Bool) → (b || true) ≡ true
-or_true true = refl
-or_true false = refl
-
 among_last : (n k : Name) (xs : List Name) → is_among n (xs ++ k ∷ []) ≡ (is_among n xs || bytes_eq n k)
-among_last n k xs = among_append n xs (k ∷ []) ∙ ap (λ b. is_among n xs || b) (or_false (bytes_eq n k))
+among_last n k xs = among_append n xs (k ∷ []) ∙ ap (λ b. is_among n xs || b) (or-false (bytes_eq n k))
 
 -- ---- fixed words ----
 
@@ -65,8 +56,8 @@ pub fixed_more : (base : ℕ) (lines : List Line) (known : List Name) (k : Vec �
     → new ≡ insert_entry (λ x y. bytes_eq x.items y.items) old k w → AreFixed base lines known old → AreFixed base lines (known ++ k.items ∷ []) new
 fixed_more base lines known k w old new is put are = record {
   words = λ n. ap (λ (es : Entries). word_in es n) put ∙ put_in n old k w ∙ elim (cases_Bool (bytes_eq n k.items)) [
-    | inl same ↦ rw (same, among_last n k.items known, same, or_true (is_among n known)) (sym (ap (fixed_word base lines) (same_text n k.items same) ∙ is))
-    | inr other ↦ rw (other, among_last n k.items known, other, or_false (is_among n known)) (are.words n)
+    | inl same ↦ rw (same, among_last n k.items known, same, or-true (is_among n known)) (sym (ap (fixed_word base lines) (same_text n k.items same) ∙ is))
+    | inr other ↦ rw (other, among_last n k.items known, other, or-false (is_among n known)) (are.words n)
   ];
 }
 
@@ -74,11 +65,11 @@ fixed_more base lines known k w old new is put are = record {
 pub fixed_none : (base : ℕ) (lines : List Line) (known : List Name) (k : Name) (old : Entries) → fixed_word base lines k ≡ None → AreFixed base lines known old → AreFixed base lines (known ++ k ∷ []) old
 fixed_none base lines known k old none are = record {
   words = λ n. are.words n ∙ elim (cases_Bool (bytes_eq n k)) [
-    | inl same ↦ rw (among_last n k known, same, or_true (is_among n known)) (elim (cases_Bool (is_among n known)) [
+    | inl same ↦ rw (among_last n k known, same, or-true (is_among n known)) (elim (cases_Bool (is_among n known)) [
       | inl h ↦ rw h refl
       | inr h ↦ rw h (sym (ap (fixed_word base lines) (same_text n k same) ∙ none))
     ])
-    | inr other ↦ rw (among_last n k known, other, or_false (is_among n known)) refl
+    | inr other ↦ rw (among_last n k known, other, or-false (is_among n known)) refl
   ];
 }
 
@@ -86,20 +77,13 @@ fixed_none base lines known k old none are = record {
 undefined : (n : Name) (base : ℕ) (ls : List Line) → is_among n (flat_map defined_in ls) ≡ false → (label_address n base ls ≡ None) × (set_address n ls ≡ None)
 undefined n base [] e = (refl, refl)
 undefined n base (l ∷ ls) e =
-    let p = parts (is_among n (defined_in l)) (is_among n (flat_map defined_in ls)) (sym (among_append n (defined_in l) (flat_map defined_in ls)) ∙ e) in
-    let q = parts (is_among n l.names) (is_among n (set_names l.statement)) (sym (among_append n l.names (set_names l.statement)) ∙ p.0) in
+    let p = or_parts (is_among n (defined_in l)) (is_among n (flat_map defined_in ls)) (sym (among_append n (defined_in l) (flat_map defined_in ls)) ∙ e) in
+    let q = or_parts (is_among n l.names) (is_among n (set_names l.statement)) (sym (among_append n l.names (set_names l.statement)) ∙ p.0) in
     let rest = undefined n (base + size_at l.statement base) ls p.1 in
     (rw q.0 rest.0, unset l.statement (set_address n ls) q.1 rest.1) where
-      parts : (a b : Bool) → (a || b) ≡ false → (a ≡ false) × (b ≡ false)
-      parts true b e = absurd (true≢false e)
-      parts false b e = (refl, e)
-
       unset : (s : Statement) (rest : Option ℕ) → is_among n (set_names s) ≡ false → rest ≡ None → set_in n s rest ≡ None
-      unset Nothing rest e none = none
-      unset (Runs i mention) rest e none = none
-      unset (Words vs) rest e none = none
-      unset (Aligns size most) rest e none = none
-      unset (Sets name address) rest e none = rw (sym (or_false (bytes_eq n name)) ∙ e) none
+      unset (Sets name address) rest e none = rw (sym (or-false (bytes_eq n name)) ∙ e) none
+      unset s rest e none = none
 
 -- once all lines were gone through, each name has its word
 pub all_fixed : (base : ℕ) (lines : List Line) (es : Entries) → AreFixed base lines (flat_map defined_in lines) es → AreOwn base lines [] es
@@ -108,10 +92,7 @@ all_fixed base lines es are = record {
     | inl h ↦ rw h (sym (or_none (fixed_word base lines n)))
     | inr h ↦ let none = undefined n base lines h in rw (h, none.0, none.1) refl
   ];
-} where
-  or_none : (o : Option ℕ) → or_else o None ≡ o
-  or_none None = refl
-  or_none (Some a) = refl
+}
 
 -- ---- own words ----
 
@@ -168,10 +149,6 @@ own_put base lines known k w old new are none is put = record {
     | inr other ↦ rw (other, own_more 0 n k.items known, other) (are.words n ∙ ap (or_else (fixed_word base lines n)) (sym (or_none (own_word 0 n known))))
   ];
 } where
-  or_none : (o : Option ℕ) → or_else o None ≡ o
-  or_none None = refl
-  or_none (Some a) = refl
-
   last : (a b c : Option ℕ) → or_else a b ≡ None → or_else a (or_else b c) ≡ c
   last None None c e = refl
   last None (Some b) c e = absurd (let bad : Some b ≡ None = e in cc)
