@@ -1,5 +1,6 @@
--- Unions of items as lists, and bit 8 of a list of nine bits.
+-- Unions of items as lists.
 use Rattle.std.proofs.Common.{◌≡◌, ◌∙◌, ℕ, ◌/◌, ◌%◌, ◌<◌, ◌≤◌, ◌==◌, ◌&&◌, ◌||◌, not, Bool, true, false, List, [], ◌∷◌, ◌++◌, refl, sym, ap, arith}
+use Rattle.std.proofs.Math.Bool.{or-false}
 use Rattle.thumb_instr.specs.Items.{one_of, has, sp}
 use Rattle.thumb_instr.proofs.Listed.{one_of_append, one_of_filter}
 use Rattle.thumb_model.specs.Machine.{registers_left}
@@ -13,22 +14,11 @@ united a b u x xs ys e f g = e ∙ ap (λ t. t || has b x) f ∙ ap (λ t. one_o
 pub left_over : (a b m w u x : ℕ) (list : List ℕ) → has a x ≡ one_of x (sp ∷ []) → has b x ≡ one_of x registers_left → has w x ≡ one_of x (sp ∷ list) → has m x ≡ (has b x && not (has w x)) → has u x ≡ (has a x || has m x)
     → has u x ≡ one_of x (sp ∷ left_but list)
 left_over a b m w u x list ea eb ew em eu =
-    eu ∙ ap (λ t. t || has m x) (ea ∙ last (x == sp))
+    eu ∙ ap (λ t. t || has m x) (ea ∙ or-false (x == sp))
     ∙ ap (λ t. (x == sp) || t) (em ∙ ap (λ t. t && not (has w x)) eb ∙ ap (λ t. one_of x registers_left && not t) ew)
     ∙ once (x == sp) (one_of x registers_left) (one_of x list)
     ∙ ap (λ t. (x == sp) || t) (sym (one_of_filter x (λ y. not (one_of y list)) registers_left))
   where
-    last : (b : Bool) → (b || false) ≡ b
-    last true = refl
-    last false = refl
-
     once : (s l r : Bool) → (s || (l && not (s || r))) ≡ (s || (l && not r))
     once true l r = refl
     once false l r = refl
-
--- whether pc is in a list of nine bits
-pub pc_in : (n : ℕ) → 256 ≤ n → n < 512 → has n 8 ≡ true
-pc_in n h k = let e : n / 256 % 2 ≡ 1 = omega arith in ap (λ b. b == 1) e
-
-pub no_pc_in : (n : ℕ) → n < 256 → has n 8 ≡ false
-no_pc_in n h = let e : n / 256 % 2 ≡ 0 = omega arith in ap (λ b. b == 1) e

@@ -14,7 +14,7 @@ use Rattle.rule_table.proofs.Orders.{low-step, instr-step, firsts-grows}
 use Rattle.thumb_instr.specs.Window.{is_in_window}
 use Rattle.table_audit.specs.Sides.{named_count}
 use Rattle.table_audit.specs.Orders.{IsAstray, IsInOrder}
-use Rattle.table_audit.proofs.Numbering.{numbers_split}
+use Rattle.fingerprints.proofs.Candidates.{numbers_split}
 
 -- ---- r0, r1 and so on ----
 
@@ -153,17 +153,7 @@ above_zero (suc n) h = omega arith
 -- an instruction that may stand in a window names a register
 names_some : (i : Instr) → is_in_window i ≡ true → 0 < length (named i)
 names_some (instr.Mov d m) h = omega arith
-names_some (instr.Three s d n m) h = omega arith
-names_some (instr.Two o d m) h = omega arith
-names_some (instr.Movs d m) h = omega arith
-names_some (instr.ShiftLeft d m i) h = omega arith
-names_some (instr.ShiftRight s d m i) h = omega arith
-names_some (instr.ThreeNumber s d n i) h = omega arith
-names_some (instr.TwoNumber o d i) h = omega arith
-names_some (instr.Add r) h = omega arith
-names_some (instr.Extend e d m) h = omega arith
-names_some (instr.Reverse r d m) h = omega arith
-names_some _ h = absurd (cc)
+names_some i h = grind arith
 
 firsts_some : (rs : List ℕ) → 0 < length rs → 0 < length (firsts [] rs)
 unfolding firsts

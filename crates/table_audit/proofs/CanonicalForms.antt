@@ -14,6 +14,7 @@ use Rattle.rule_table.specs.Canonical.{firsts, appearing, numbers_of, register_h
 use Rattle.rule_table.proofs.Backs.{windows_normal}
 use Rattle.table_audit.specs.Sides.{named_count, IsCanonicalSide}
 use Rattle.table_audit.specs.Canonical.{CanonicalFormIsSide}
+use Rattle.window_exec.proofs.Differences.{either}
 use Rattle.table_audit.proofs.Names.{count_same}
 use Rattle.table_audit.proofs.OneToOne.{AreDistinct, firsts_distinct, firsts_below, firsts_mapped, one_to_one, counted_under}
 
@@ -92,9 +93,6 @@ named_item items order n x h =
 
 flag_item : (b : Bool) (n x : ℕ) → 15 ≤ n → (b && (x == n)) ≡ true → 15 ≤ x
 flag_item b n x high h = omega (arith, high, eqb-true x n (and_parts b (x == n) h).1)
-
-either : {P : Type 0} (b c : Bool) → (b ≡ true → P) → (c ≡ true → P) → (b || c) ≡ true → P
-either b c first second h = elim (or_cases b c h) [ inl x ↦ first x | inr y ↦ second y ]
 
 masked_over : (items : ℕ) (order : List ℕ) (x : ℕ) → masked items order x ≡ true → (x < length order) ⊎ (15 ≤ x)
 masked_over items order x h =

@@ -12,7 +12,7 @@ use Rattle.rule_table.specs.Table.{Rule, Table}
 use Rattle.table_audit.specs.Sides.{named_count, IsCanonicalSide, SidesFit, HasFormula}
 use Rattle.table_audit.specs.Orders.{IsInOrder, AreWithin}
 use Rattle.table_audit.proofs.Numbering.{over_sequences, has_number}
-use Rattle.table_audit.proofs.Letters.{IsLetter, letter}
+use Rattle.fingerprints.proofs.Letters.{IsLetter, letter}
 
 -- a sequence has a number exactly where each instruction is a letter
 pub has_place : (k : ℕ) (pool : List ℕ) (s : List Instr) (p : Option ℕ) → length s ≤ 5 → IsPlace p (sequences k pool) s → IsTrue (is_some p) ↔ IsOver k pool s

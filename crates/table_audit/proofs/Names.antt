@@ -19,13 +19,7 @@ use Rattle.table_audit.proofs.Appearing.{has_low}
 -- ---- membership, said in two ways ----
 
 eqb_turned : (a b : ℕ) → (a == b) ≡ (b == a)
-eqb_turned a b = elim (cases_Bool (a == b)) [
-  | inl same ↦ (let other : (b == a) ≡ true = eq-eqb b a (sym (eqb-true a b same)) in same ∙ sym other)
-  | inr differ ↦ elim (cases_Bool (b == a)) [
-    | inl same ↦ (let other : (a == b) ≡ true = eq-eqb a b (sym (eqb-true b a same)) in absurd (cc))
-    | inr also ↦ differ ∙ sym also
-  ]
-]
+eqb_turned a b = grind arith
 
 one_of_has : (x : ℕ) (xs : List ℕ) → one_of x xs ≡ has xs x
 one_of_has x [] = refl

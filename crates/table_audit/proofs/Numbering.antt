@@ -13,19 +13,8 @@ use Rattle.seq_enum.specs.Places.{sum_below}
 use Rattle.seq_enum.specs.Alphabet.{alphabet, words, sequences, sequences_of, IsOver}
 use Rattle.seq_enum.proofs.Numbered.{get_front, get_back, numbers_at, length-numbers, flat_map_at, flat_map_from, get-flat_map}
 use Rattle.seq_enum.proofs.Words.{length-words, word_length, words_parts}
+use Rattle.fingerprints.proofs.Candidates.{numbers_split, length_within}
 use Rattle.table_audit.specs.Shorter.{sequences_below}
-
--- numbers up to one, and from there on
-pub numbers_split : (first n m : ℕ) → numbers_from first (n + m) ≡ numbers_from first n ++ numbers_from (first + n) m
-unfolding numbers_from
-numbers_split first zero m =
-    let a : 0 + m ≡ m = omega arith in
-    let b : first + 0 ≡ first = omega arith in
-    rw (a, b) refl
-numbers_split first (suc n) m =
-    let a : suc n + m ≡ suc (n + m) = omega arith in
-    let b : suc first + n ≡ first + suc n = omega arith in
-    rw (a, ← b) (ap (λ ns. first ∷ ns) (numbers_split (suc first) n m))
 
 -- all sequences are those below n instructions and the longer ones behind them
 sequences_split : (k : ℕ) (pool : List ℕ) (n : ℕ) → n ≤ 6 → sequences k pool ≡ sequences_below k pool n ++ flat_map (words (alphabet k pool)) (numbers_from n (6 - n))
@@ -37,23 +26,13 @@ sequences_split k pool n h =
     ap (numbers_from 0) (sym whole) ∙ numbers_split 0 n (6 - n) ∙ ap (λ m. numbers_from 0 n ++ numbers_from m (6 - n)) low in
     ap (flat_map (words (alphabet k pool))) split ∙ flat_map-append (words (alphabet k pool)) (numbers_from 0 n) (numbers_from n (6 - n))
 
--- what stands among sequences of a range of lengths has one of these
-length_in : (letters : List Instr) (first count q : ℕ) (s : List Instr) → slice_get (flat_map (words letters) (numbers_from first count)) q ≡ Some s
-    → (first ≤ length s) × (length s < first + count)
-length_in letters first count q s e =
-    flat_map_at (words letters) (numbers_from first count) q s e (λ h m j at here.
-    let within : h < count = omega (arith, slice_get_within (numbers_from first count) h m at, length-numbers first count) in
-    let is : first + h ≡ m = same_Some _ _ (sym (numbers_at first count h within) ∙ at) in
-    let size : length s ≡ m = word_length letters m j s here in
-    (omega arith, omega arith))
-
 -- the number of a sequence among the shorter ones is its number among all
 pub below_in : (k : ℕ) (pool : List ℕ) (n q : ℕ) (s : List Instr) → n ≤ 6 → slice_get (sequences_below k pool n) q ≡ Some s
     → (slice_get (sequences k pool) q ≡ Some s) × (length s < n)
 unfolding sequences_below
 below_in k pool n q s h e =
     let within : q < length (sequences_below k pool n) = slice_get_within (sequences_below k pool n) q s e in
-    let bounds = length_in (alphabet k pool) 0 n q s e in (
+    let bounds = length_within (alphabet k pool) 0 n q s e in (
       ap (λ xs. slice_get xs q) (sequences_split k pool n h) ∙ get_front (sequences_below k pool n) (flat_map (words (alphabet k pool)) (numbers_from n (6 - n))) q within ∙ e,
       omega (arith, bounds.1),
     )
@@ -68,7 +47,7 @@ below_from k pool n q s h e short =
     elim (leb_tells (length front) q) [
       | inl past ↦ (
           let there : slice_get back (q - length front) ≡ Some s = sym (get_back front back q past.1) ∙ at in
-          let bounds = length_in (alphabet k pool) n (6 - n) (q - length front) s there in
+          let bounds = length_within (alphabet k pool) n (6 - n) (q - length front) s there in
           absurd (omega (arith, bounds.0))
           )
       | inr low ↦ sym (get_front front back q low.1) ∙ at

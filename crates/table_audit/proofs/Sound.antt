@@ -5,7 +5,7 @@ use Rattle.std.proofs.lemmas.Nat.Bits.{bit_at-lt}
 use Rattle.std.proofs.lemmas.List.{get_or_past}
 use Rattle.std.proofs.lemmas.Option.{slice_get-map, slice_get_within, get_or_from_slice_get, same_Some}
 use Rattle.std.proofs.lemmas.Bool.Decides.{leb_tells}
-use Rattle.std.proofs.lemmas.Bool.{false≢true, or_cases, and_parts, ltb-true, cases_Bool, eqb-true}
+use Rattle.std.proofs.lemmas.Bool.{false≢true, or_cases, and_parts, ltb-true, cases_Bool, eqb-true, ne_eqb}
 use Rattle.thumb_instr.specs.declared.instr.Instr.{Instr}
 use Rattle.thumb_model.specs.Items.{AreWords, one_of}
 use Rattle.thumb_model.specs.Rewrite.{Equal, IsSoundRule, AreOver, AreSound, is_named, register_count}
@@ -17,6 +17,7 @@ use Rattle.bit_blast.proofs.Exact.{no_model_is_equal}
 use Rattle.rule_table.specs.Table.{Rule, Table}
 use Rattle.rule_table.specs.Valid.{IsState, IsRule, IsTable}
 use Rattle.proof_logs.specs.Verdicts.{InTurn}
+use Rattle.proof_logs.proofs.Turns.{turn_each}
 use Rattle.proof_logs.proofs.Sound.{proved_unsatisfied}
 use Rattle.table_audit.specs.declared.errors.EntryFault.TheVariants.{Proof, Unfinished}
 use Rattle.table_audit.specs.declared.errors.AuditError.TheVariants.{Entry}
@@ -28,28 +29,14 @@ use Rattle.table_audit.proofs.Numbering.{below_from}
 use Rattle.table_audit.proofs.Fitting.{formula_fits, ordered_of}
 use Rattle.table_audit.proofs.Names.{count_same, all_named, open_is, has_one, one_has, of_four}
 
--- where all pass, each does
-turn_each : {X F : Type 0} (test : ℕ → X → Option F → Type 0) (m : ℕ) (xs : List X) (i : ℕ) (x : X) → InTurn test m xs None → slice_get xs i ≡ Some x → test (m + i) x None
-turn_each test m [] i x p e = absurd (cc)
-turn_each test m (y ∷ xs) zero x p e =
-    let k : m ≡ m + 0 = omega arith in subst (λ j. test j x None) k (subst (λ z. test m z None) (same_Some _ _ e) p.0)
-turn_each test m (y ∷ xs) (suc i) x p e =
-    let k : m + 1 + i ≡ m + suc i = omega arith in subst (λ j. test j x None) k (turn_each test (m + 1) xs i x p.1 e)
-
 -- ---- the words of listed states ----
-
-other : (x n : ℕ) → (x ≡ n → ⊥) → (x == n) ≡ false
-other x n h = elim (cases_Bool (x == n)) [
-  | inl same ↦ absurd (h (eqb-true x n same))
-  | inr differ ↦ differ
-]
 
 register_value : (s : Seen) (x : ℕ) → (x < 15) ⊎ (19 ≤ x) → values_in s x ≡ get_or s.r x 0
 register_value s x h =
-    let n : (x == 15) ≡ false = other x 15 (λ e. elim h [ inl l ↦ omega (arith, e, l) | inr l ↦ omega (arith, e, l) ]) in
-    let z : (x == 16) ≡ false = other x 16 (λ e. elim h [ inl l ↦ omega (arith, e, l) | inr l ↦ omega (arith, e, l) ]) in
-    let c : (x == 17) ≡ false = other x 17 (λ e. elim h [ inl l ↦ omega (arith, e, l) | inr l ↦ omega (arith, e, l) ]) in
-    let v : (x == 18) ≡ false = other x 18 (λ e. elim h [ inl l ↦ omega (arith, e, l) | inr l ↦ omega (arith, e, l) ]) in
+    let n : (x == 15) ≡ false = ne_eqb x 15 (λ e. elim h [ inl l ↦ omega (arith, e, l) | inr l ↦ omega (arith, e, l) ]) in
+    let z : (x == 16) ≡ false = ne_eqb x 16 (λ e. elim h [ inl l ↦ omega (arith, e, l) | inr l ↦ omega (arith, e, l) ]) in
+    let c : (x == 17) ≡ false = ne_eqb x 17 (λ e. elim h [ inl l ↦ omega (arith, e, l) | inr l ↦ omega (arith, e, l) ]) in
+    let v : (x == 18) ≡ false = ne_eqb x 18 (λ e. elim h [ inl l ↦ omega (arith, e, l) | inr l ↦ omega (arith, e, l) ]) in
     rw (n, z, c, v) refl
 
 small_word : (s : Seen) (x : ℕ) → IsState s → get_or s.r x 0 < 2 ^ 32

@@ -2,19 +2,13 @@
 use Rattle.std.proofs.Common.{◌≡◌, ℕ, suc, ◌+◌, ◌<◌, ◌≤◌, ◌==◌, true, false, inl, inr, List, [], ◌∷◌, Some, None, drop, refl, sym, ◌∙◌, ap, subst, arith, nat_le}
 use Rattle.std.proofs.lemmas.List.{drop_all}
 use Rattle.std.proofs.lemmas.Option.{slice_get_cases}
-use Rattle.std.proofs.lemmas.Bool.{eqb-true, eq-eqb, and_parts, cases_Bool, leb-true, le-leb}
+use Rattle.std.proofs.lemmas.Bool.{eqb-true, eq-eqb, and_parts, cases_Bool, leb-true, le-leb, ne_eqb}
 use Rattle.seq_enum.specs.Lists.{ascends_from}
 use Rattle.rule_table.specs.Table.{Opened}
 use Rattle.rule_table.specs.Valid.{numbers_of}
 use Rattle.proof_logs.proofs.Turns.{drop_got}
 use Rattle.table_audit.specs.Shorter.{is_named}
 use Rattle.table_audit.specs.Naming.{is_number, is_number_at, IsUpcoming}
-
-other_number : (a b : ℕ) → (a ≡ b → ⊥) → (a == b) ≡ false
-other_number a b h = elim (cases_Bool (a == b)) [
-  | inl same ↦ absurd (h (eqb-true a b same))
-  | inr other ↦ other
-]
 
 -- the numbers from one on that ascend hold it only in front
 named_high : (opens : List Opened) (low n : ℕ) → n < low → ascends_from low (numbers_of opens) ≡ true → is_named opens n ≡ false
@@ -23,7 +17,7 @@ named_high [] low n h a = refl
 named_high (o ∷ opens) low n h a =
     let parts = and_parts (nat_le low o.number) (ascends_from (suc o.number) (numbers_of opens)) a in
     let least : low ≤ o.number = leb-true low o.number parts.0 in
-    let other : (o.number == n) ≡ false = other_number o.number n (λ e. omega (arith, e, least, h)) in
+    let other : (o.number == n) ≡ false = ne_eqb o.number n (λ e. omega (arith, e, least, h)) in
     rw other (named_high opens (suc o.number) n (omega arith) parts.1)
 
 ascends_more : (low more : ℕ) (o : ℕ) (os : List ℕ) → more ≤ o → ascends_from low (o ∷ os) ≡ true → ascends_from more (o ∷ os) ≡ true
@@ -75,7 +69,7 @@ upcoming_named opens next number u h =
     record {
       ascends = subst (λ low. ascends_from low (numbers_of (drop (next + 1) opens)) ≡ true) later (ascends_rest number o.first.number (numbers_of (drop (next + 1) opens)) a).1;
       passed = λ n past.
-          let other : (o.first.number == n) ≡ false = other_number o.first.number n (λ e. omega (arith, e, o.is, past)) in
+          let other : (o.first.number == n) ≡ false = ne_eqb o.first.number n (λ e. omega (arith, e, o.is, past)) in
           u.passed n (omega arith) ∙ ap (λ os. is_named os n) o.parts ∙ rw other refl;
     }
 

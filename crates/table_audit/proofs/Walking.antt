@@ -6,6 +6,7 @@ use Rattle.std.proofs.Math.Nat.{lt_of_lt_of_le}
 use Rattle.thumb_instr.specs.declared.instr.Instr.{Instr}
 use Rattle.thumb_instr.specs.Renaming.{named, AreBelow}
 use Rattle.thumb_model.specs.Rewrite.{AreOver}
+use Rattle.thumb_model.proofs.Small.{below_more}
 use Rattle.seq_enum.specs.Places.{sum_below}
 use Rattle.seq_enum.specs.Alphabet.{alphabet, sequences, sequences_of}
 use Rattle.table_audit.specs.Shorter.{sequences_below}
@@ -13,10 +14,6 @@ use Rattle.table_audit.proofs.Numbering.{count_is, below_in, over_sequences}
 use Rattle.table_audit.proofs.Fitting.{are_over}
 
 -- ---- registers below k are below more ----
-
-below_more : (k m : ℕ) (rs : List ℕ) → k ≤ m → AreBelow k rs → AreBelow m rs
-below_more k m [] h b = tt
-below_more k m (r ∷ rs) h b = (lt_of_lt_of_le b.0 h, below_more k m rs h b.1)
 
 pub over_more : (k m : ℕ) (s : List Instr) → k ≤ m → AreOver k s → AreOver m s
 over_more k m [] h o = tt

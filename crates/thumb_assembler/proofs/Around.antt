@@ -1,8 +1,9 @@
 -- What an instruction finds around it in the listing and in the image.
 use Rattle.std.proofs.Common.{◌≡◌, ◌∙◌, ◌⊎◌, inl, inr, ℕ, zero, suc, ◌+◌, ◌-◌, ◌*◌, ◌/◌, ◌%◌, ◌^◌, ◌<◌, ◌≤◌, ◌==◌, ◌&&◌, ◌||◌, not, Bool, true, false, List, [], ◌∷◌, ◌++◌, length, take, refl, sym, ap, subst, arith, true≢false, Option, Some, None, eqb-true}
 use Rattle.std.specs.Prelude.{slice_get, nat_lt, nat_le, if◌then◌else◌, is_some, ℤ}
-use Rattle.std.proofs.lemmas.Bool.{cases_Bool, cases_lt, and_from, and_parts, le-leb, lt-ltb, ltb-true, leb-true}
+use Rattle.std.proofs.lemmas.Bool.{cases_Bool, cases_lt, and_from, and_parts, le-leb, lt-ltb, ltb-true, leb-true, or_right}
 use Rattle.std.proofs.lemmas.Slice.Eq.{bytes_eq-Decides}
+use Rattle.std.proofs.Math.Bool.{and-false}
 use Rattle.thumb_instr.specs.declared.instr.Instr.{Instr}
 use Rattle.thumb_instr.specs.declared.instr.Instr.TheVariants as instr
 use Rattle.thumb_instr.specs.Distance.{bytes_of}
@@ -28,7 +29,7 @@ use Rattle.thumb_assembler.specs.Following.{IsAssembled, loaded}
 use Rattle.thumb_assembler.proofs.Places.{no_plus, unlabelled}
 use Rattle.thumb_assembler.proofs.Loose.{LandingLoose, LooksLoose}
 use Rattle.thumb_assembler.proofs.Pushed.{aims_size}
-use Rattle.thumb_assembler.proofs.Cuts.{end_append, two_or_four, or_right, LabelCut, label_cut}
+use Rattle.thumb_assembler.proofs.Cuts.{end_append, two_or_four, LabelCut, label_cut}
 use Rattle.thumb_assembler.proofs.Fetched.{fair_here, even_here, Coded, DataAt, data_from}
 use Rattle.thumb_assembler.proofs.Slides.{Arrives, label_found, label_is, arrives_within, code_address, lands_tied, place_here, return_here}
 
@@ -72,10 +73,6 @@ mentioned_at name (p ∷ ps) zero i m e s =
     let is : p ≡ Op i (Some m) = cc in
     ap (λ (x : Place). place_mentions name x || is_mentioned name ps) is ∙ ap (λ (b : Bool). b || is_mentioned name ps) ((bytes_eq-Decides name m.name).1 s)
 mentioned_at name (p ∷ ps) (suc q) i m e s = or_right (place_mentions name p) (is_mentioned name ps) (mentioned_at name ps q i m e s)
-
-no_sum : (b : Bool) → (b && false) ≡ false
-no_sum true = refl
-no_sum false = refl
 
 module _ (base : ℕ) (set : Name → ℕ) (all : List Line) (bytes : List ℕ) (made : IsAssembled base all bytes) (given : IsSetBy all set) (fits : Fits (laid base set all) (code_of all)) where
   abbrev names : Naming
@@ -269,12 +266,12 @@ module _ (base : ℕ) (set : Name → ℕ) (all : List Line) (bytes : List ℕ) 
   looks before after l (instr.Bx r) mention e s j c = lands
   looks before after l (instr.Blx r) mention e s j c = (lands, link_at before after l (instr.Blx r) mention e s refl j (coded_size (end_of base before) (instr.Blx r) mention j c))
   looks before after l (instr.Pop r) mention e s j c = lands
-  looks before after l (instr.Literal t d) None e s j c = absurd (true≢false (sym (and_parts (is_whole (instr.Literal t d) None) true (fair_at before after l (instr.Literal t d) None e s)).0 ∙ no_sum (d.number == 0)))
+  looks before after l (instr.Literal t d) None e s j c = absurd (true≢false (sym (and_parts (is_whole (instr.Literal t d) None) true (fair_at before after l (instr.Literal t d) None e s)).0 ∙ and-false (d.number == 0)))
   looks before after l (instr.Literal t d) (Some m) e s j c =
       let f = (and_parts (is_whole (instr.Literal t d) (label_in (Some m))) (is_literal all m) (fair_at before after l (instr.Literal t d) (Some m) e s)).1 in
       let a = c.aims m refl in
       literal_tied m f ∙ ap (word_at image) a.1 ∙ sym (ap (literal_in image (end_of base before)) a.2)
-  looks before after l (instr.Address t d) None e s j c = absurd (true≢false (sym (and_parts (is_whole (instr.Address t d) None) true (fair_at before after l (instr.Address t d) None e s)).0 ∙ no_sum (d.number == 0)))
+  looks before after l (instr.Address t d) None e s j c = absurd (true≢false (sym (and_parts (is_whole (instr.Address t d) None) true (fair_at before after l (instr.Address t d) None e s)).0 ∙ and-false (d.number == 0)))
   looks before after l (instr.Address t d) (Some m) e s j c =
       let f = (and_parts (is_whole (instr.Address t d) (label_in (Some m))) (is_literal all m) (fair_at before after l (instr.Address t d) (Some m) e s)).1 in
       let a = c.aims m refl in
@@ -282,20 +279,20 @@ module _ (base : ℕ) (set : Name → ℕ) (all : List Line) (bytes : List ℕ) 
       let reached = a.1 in
       let least = low before (l ∷ after) e in
       address_tied m f (omega arith) ∙ a.1 ∙ (let whole : literal_base (end_of base before) + 4 * a.0.number ≡ (literal_base (end_of base before) + 4 * a.0.number) % 2 ^ 32 = omega arith in whole) ∙ sym (ap (literal_in image (end_of base before)) a.2)
-  looks before after l (instr.BranchIf k d) None e s j c = absurd (true≢false (sym (and_parts (is_whole (instr.BranchIf k d) None) true (fair_at before after l (instr.BranchIf k d) None e s)).0 ∙ no_sum (d.field == 0)))
+  looks before after l (instr.BranchIf k d) None e s j c = absurd (true≢false (sym (and_parts (is_whole (instr.BranchIf k d) None) true (fair_at before after l (instr.BranchIf k d) None e s)).0 ∙ and-false (d.field == 0)))
   looks before after l (instr.BranchIf k d) (Some m) e s j c =
       let f = and_parts (is_whole (instr.BranchIf k d) (label_in (Some m))) (is_code_label all m.name) (fair_at before after l (instr.BranchIf k d) (Some m) e s) in
       let a = c.aims m refl in
       subst (λ (z : Instr). TargetTied ArrivesAt (target_at names (Some m) (place_of code m.name)) (target_in image (end_of base before) z)) (sym a.2)
       (branch_tied (end_of base before) m (bytes_of 128 a.0.field) (low before (l ∷ after) e) a.1 (code_aimed m (no_plus (d.field == 0) m.name m.plus f.0) f.1))
-  looks before after l (instr.Branch d) None e s j c = absurd (true≢false (sym (and_parts (is_whole (instr.Branch d) None) true (fair_at before after l (instr.Branch d) None e s)).0 ∙ no_sum (d.field == 0)))
+  looks before after l (instr.Branch d) None e s j c = absurd (true≢false (sym (and_parts (is_whole (instr.Branch d) None) true (fair_at before after l (instr.Branch d) None e s)).0 ∙ and-false (d.field == 0)))
   looks before after l (instr.Branch d) (Some m) e s j c =
       let f = and_parts (is_whole (instr.Branch d) (label_in (Some m))) (is_code_label all m.name || not (is_label all m.name)) (fair_at before after l (instr.Branch d) (Some m) e s) in
       let a = c.aims m refl in
       subst (λ (z : Instr). TargetTied ArrivesAt (target_at names (Some m) (place_of code m.name)) (target_in image (end_of base before) z)) (sym a.2)
       (branch_tied (end_of base before) m (bytes_of 1024 a.0.field) (low before (l ∷ after) e) a.1
       (branch_aimed (length (places_of before)) (instr.Branch d) m (place_here base set all bytes made given before after l (instr.Branch d) (Some m) e s) (no_plus (d.field == 0) m.name m.plus f.0) f.1 (sound_at before after l (instr.Branch d) (Some m) e s)))
-  looks before after l (instr.Call d) None e s j c = absurd (true≢false (sym (and_parts (is_whole (instr.Call d) None) true (fair_at before after l (instr.Call d) None e s)).0 ∙ no_sum (d.field == 0)))
+  looks before after l (instr.Call d) None e s j c = absurd (true≢false (sym (and_parts (is_whole (instr.Call d) None) true (fair_at before after l (instr.Call d) None e s)).0 ∙ and-false (d.field == 0)))
   looks before after l (instr.Call d) (Some m) e s j c =
       let f = and_parts (is_whole (instr.Call d) (label_in (Some m))) (is_code_label all m.name || not (is_label all m.name)) (fair_at before after l (instr.Call d) (Some m) e s) in
       let a = c.aims m refl in (

@@ -67,7 +67,5 @@ nops_end k old now h e = sym (append-nil now) ∙ ap (λ (x : List ℕ). now ++ 
 
 pub nops_length : (n k : ℕ) → k ≡ 2 * n → length (nops k) ≡ k
 nops_length zero zero e = refl
-nops_length zero (suc k) e = absurd (omega arith)
-nops_length (suc n) zero e = absurd (omega arith)
-nops_length (suc n) (suc zero) e = absurd (omega arith)
 nops_length (suc n) (suc (suc k)) e = let h = nops_length n k (omega arith) in omega arith
+nops_length n k e = absurd (omega arith)

@@ -1,7 +1,7 @@
 -- Lines in two parts: places, addresses and bytes of the second begin where the first end.
-use Rattle.std.proofs.Common.{◌≡◌, ◌∙◌, ◌⊎◌, inl, inr, ℕ, zero, suc, ◌+◌, ◌*◌, ◌/◌, ◌%◌, ◌<◌, ◌||◌, Bool, true, false, List, [], ◌∷◌, ◌++◌, length, take, refl, sym, ap, subst, arith, true≢false, Option, Some, None, append_assoc, append-nil, length-append}
+use Rattle.std.proofs.Common.{◌≡◌, ◌∙◌, ◌⊎◌, inl, inr, ℕ, zero, suc, ◌+◌, ◌*◌, ◌/◌, ◌%◌, ◌<◌, true, List, [], ◌∷◌, ◌++◌, length, take, refl, sym, ap, subst, arith, true≢false, Option, Some, None, append_assoc, append-nil, length-append}
 use Rattle.std.specs.Prelude.{slice_get, slice_index}
-use Rattle.std.proofs.lemmas.Bool.{cases_Bool, and_from, and_parts}
+use Rattle.std.proofs.lemmas.Bool.{cases_Bool, and_from, and_parts, or_right}
 use Rattle.thumb_instr.specs.declared.instr.Instr.{Instr}
 use Rattle.thumb_instr.specs.declared.instr.Instr.TheVariants as instr
 use Rattle.thumb_model.specs.Listing.{Name, Mention, Value, Statement, Nothing, Runs, Words, Aligns, Sets, Line, Place, places_in, places_of, labels_from}
@@ -214,10 +214,6 @@ known_label name n known (b ∷ bs) after l e k t = elim (cases_Bool (is_again k
   | inl h ↦ (let bad : Some n ≡ None = rw h at e in cc)
   | inr h ↦ known_label name (n + 1) (known ++ defined_in b) bs after l (rw h at e) (among_front name known (defined_in b) k) t
 ]
-
-pub or_right : (a b : Bool) → b ≡ true → (a || b) ≡ true
-or_right true b e = refl
-or_right false b e = e
 
 -- the label of a line has the line's address
 pub first_label : (name : Name) (n base : ℕ) (known : List Name) (before after : List Line) (l : Line) → first_twice n known (before ++ l ∷ after) ≡ None → is_among name l.names ≡ true → label_address name base (before ++ l ∷ after) ≡ Some (end_of base before)

@@ -1,5 +1,5 @@
 -- The lines of a text are fair, and few.
-use Rattle.std.proofs.Common.{◌≡◌, ◌∙◌, inl, inr, ℕ, zero, suc, ◌+◌, ◌*◌, ◌%◌, ◌^◌, ◌≤◌, ◌==◌, ◌&&◌, ◌||◌, Bool, true, false, List, [], ◌∷◌, map, length, refl, sym, ap, subst, arith, Option, Some, None, Ok, option_map}
+use Rattle.std.proofs.Common.{◌≡◌, ◌∙◌, inl, inr, ℕ, zero, suc, ◌+◌, ◌*◌, ◌%◌, ◌^◌, ◌≤◌, ◌==◌, ◌&&◌, Bool, true, false, List, [], ◌∷◌, map, length, refl, sym, ap, subst, arith, Option, Some, None, Ok, option_map}
 use Rattle.std.specs.Prelude.{nat_lt, if◌then◌else◌, codes, option_and_then}
 use Rattle.std.specs.Str.{bytes_eq}
 use Rattle.std.proofs.lemmas.Bool.{cases_Bool, and_from}
@@ -8,6 +8,7 @@ use Rattle.ascii_scan.specs.Lines.{placed, placed_from, lines_of}
 use Rattle.ascii_scan.specs.Numeral.{numeral}
 use Rattle.ascii_scan.specs.Tokens.{front, rest, is_blank, tokens}
 use Rattle.ascii_scan.specs.Names.{is_name_byte}
+use Rattle.std.proofs.Math.Bool.{or-true}
 use Rattle.thumb_syntax.specs.Operands.{is_name}
 use Rattle.thumb_syntax.specs.Rows.{Shown, reading}
 use Rattle.thumb_syntax.specs.Whole.{is_whole}
@@ -30,12 +31,9 @@ data IsRead (s : Shown) : Type 0 where
 
 -- an alignment keeps addresses even, and an instruction was read
 WellSaid : Said → Type 0
-WellSaid (Plain Nothing) = Unit {0}
-WellSaid (Plain (Runs i m)) = Unit {0}
-WellSaid (Plain (Words vs)) = Unit {0}
 WellSaid (Plain (Aligns size most)) = keeps_even size ≡ true
-WellSaid (Plain (Sets name address)) = Unit {0}
 WellSaid (Instruction s) = IsRead s
+WellSaid k = Unit {0}
 
 Sound : Option Told → Type 0
 Sound o = (t : Told) → o ≡ Some t → WellSaid t.said
@@ -53,10 +51,7 @@ even_pow n = let e : 2 ^ suc n ≡ 2 ^ n * 2 = ap (λ (j : ℕ). 2 ^ j) (let s :
 
 power_even : (n : ℕ) → keeps_even (2 ^ n) ≡ true
 power_even zero = refl
-power_even (suc n) = rw (even_pow n) (or_right (2 ^ suc n == 1)) where
-  or_right : (b : Bool) → (b || true) ≡ true
-  or_right true = refl
-  or_right false = refl
+power_even (suc n) = rw (even_pow n) (or-true (2 ^ suc n == 1))
 
 size_even : (is_align : Bool) (n size : ℕ) → size_of is_align n ≡ Some size → keeps_even size ≡ true
 size_even is_align n size e = elim (cases_Bool (nat_lt 8 n)) [

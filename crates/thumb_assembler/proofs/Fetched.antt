@@ -2,6 +2,7 @@
 use Rattle.std.proofs.Common.{◌≡◌, ◌∙◌, ◌⊎◌, inl, inr, ℕ, zero, suc, ◌+◌, ◌-◌, ◌*◌, ◌/◌, ◌%◌, ◌^◌, ◌<◌, ◌≤◌, ◌&&◌, true, List, [], ◌∷◌, ◌++◌, length, map, take, refl, sym, ap, subst, arith, true≢false, Option, Some, None, append_assoc}
 use Rattle.std.specs.Prelude.{slice_index, slice_get, nat_lt, nat_le}
 use Rattle.std.proofs.lemmas.Bool.{cases_lt, and_from, and_parts, le-leb, lt-ltb, le-ltb, ltb-true, leb-true}
+use Rattle.thumb_model.proofs.Lists.{length_map}
 use Rattle.thumb_instr.specs.declared.instr.Instr.{Instr}
 use Rattle.thumb_instr.specs.declared.instr.Instr.TheVariants as instr
 use Rattle.thumb_instr.specs.declared.operation.Hint.TheVariants as hint
@@ -25,11 +26,9 @@ use Rattle.thumb_assembler.proofs.Codes.{eight_bits}
 use Rattle.thumb_assembler.proofs.Cuts.{end_append, next_end, next_cut, next_places, place_behind, split, lines_long, two_or_four, index_back, fair_front, fair_back, end_even}
 
 nops_at : (p j k : ℕ) (rest : List ℕ) → p % 2 ≡ 0 → k ≡ 2 * j → k < p → (slice_index (nops p ++ rest) k ≡ 0) × (slice_index (nops p ++ rest) (suc k) ≡ 191)
-nops_at zero j k rest e is l = absurd (omega arith)
-nops_at (suc zero) j k rest e is l = absurd (omega arith)
 nops_at (suc (suc p)) j zero rest e is l = (refl, refl)
-nops_at (suc (suc p)) j (suc zero) rest e is l = absurd (omega arith)
 nops_at (suc (suc p)) j (suc (suc k)) rest e is l = nops_at p (j - 1) k rest (omega arith) (omega arith) (omega arith)
+nops_at p j k rest e is l = absurd (omega arith)
 
 -- what a short code is followed by doesn't matter
 short_code : (i : Instr) (first second k : ℕ) → instr_size i ≡ 2 → Encodes i first second → Encodes i first k
@@ -262,10 +261,6 @@ module _ (base : ℕ) (set : Name → ℕ) (all : List Line) (bytes : List ℕ) 
   front_of (p ∷ ps) qs zero x e = e
   front_of (p ∷ ps) qs (suc n) x e = front_of ps qs n x e
 
-  map_long : (vs : List Value) → length (map Word vs) ≡ length vs
-  map_long [] = refl
-  map_long (v ∷ vs) = ap suc (map_long vs)
-
   data_moved : (before after : List Line) (l : Line) (n k : ℕ) → all ≡ before ++ l ∷ after → n ≡ length (places_in l.statement) + k → 4 * n ≡ size_at l.statement (end_of base before) + 4 * k → DataAt (before ++ l ∷ []) after k → DataAt before (l ∷ after) n
   data_moved before after l n k e p a d =
       let places = next_places before l in
@@ -299,7 +294,7 @@ module _ (base : ℕ) (set : Name → ℕ) (all : List Line) (bytes : List ℕ) 
           word = value_at (end_of base before) vs b.rest (b.here ++ b.rest) n (ap (λ (x : List ℕ). x ++ b.rest) words) b.byte g.0 g.1;
         }
     | inr above ↦
-        let p : length (places_in l.statement) ≡ length vs = ap (λ (t : Statement). length (places_in t)) is ∙ map_long vs in
+        let p : length (places_in l.statement) ≡ length vs = ap (λ (t : Statement). length (places_in t)) is ∙ length_map Word vs in
         let z : size_at l.statement (end_of base before) ≡ 4 * length vs = ap (λ (t : Statement). size_at t (end_of base before)) is in
         data_moved before after l n (n - length vs) e (omega arith) (omega arith)
         (next (n - length vs) (rw (le-ltb n (length vs) above) at h))

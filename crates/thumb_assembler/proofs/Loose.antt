@@ -26,11 +26,8 @@ ends_behind (x ∷ (z ∷ xs)) ys h = ends_behind (z ∷ xs) ys h
 abbrev pub LandingLoose : (ℕ → ℕ → Type 0) → Landing → Landing → Type 0
 LandingLoose R Strays l = Unit {0}
 LandingLoose R (Goes p) (Goes q) = R p q
-LandingLoose R (Goes p) Leaves = ⊥
-LandingLoose R (Goes p) Strays = ⊥
 LandingLoose R Leaves Leaves = Unit {0}
-LandingLoose R Leaves (Goes q) = ⊥
-LandingLoose R Leaves Strays = ⊥
+LandingLoose R k l = ⊥
 
 -- a row: what the instruction looks at around it is tied
 abbrev pub LooksLoose : (ℕ → ℕ → Type 0) → Around → Around → Instr → Type 0
@@ -48,11 +45,8 @@ module _ (R : ℕ → ℕ → Type 0) where
   tighten : (k l : Landing) → LandingLoose R k l → (k ≡ Strays) ⊎ LandingTied R k l
   tighten Strays l h = inl refl
   tighten (Goes p) (Goes q) h = inr h
-  tighten (Goes p) Leaves h = absurd h
-  tighten (Goes p) Strays h = absurd h
   tighten Leaves Leaves h = inr tt
-  tighten Leaves (Goes q) h = absurd h
-  tighten Leaves Strays h = absurd h
+  tighten k l h = absurd h
 
   -- lands at one place, whatever the word
   abbrev landing_at : Around → Landing → Around
@@ -77,8 +71,6 @@ module _ (R : ℕ → ℕ → Type 0) where
     | inl e ↦ inl (subst (λ (l : Landing). IsLostAct (calls_by l (w.values m.number) a.link w)) (sym e) (record { next = refl; last = refl }))
     | inr t ↦ inr (act_tied R a b (instr.Blx m) w (t, h.1))
   ]
-  act_loose a b (instr.Literal t d) w h = inr (act_tied R a b (instr.Literal t d) w h)
-  act_loose a b (instr.Address t d) w h = inr (act_tied R a b (instr.Address t d) w h)
   act_loose a b (instr.Pop l) w h = elim (tighten (a.lands (popped_word (w.values sp) (registers_in l.number) w)) (b.lands (popped_word (w.values sp) (registers_in l.number) w)) (h (popped_word (w.values sp) (registers_in l.number) w))) [
     | inr t ↦ inr (act_tied R (landing_at a (a.lands (popped_word (w.values sp) (registers_in l.number) w))) (landing_at b (b.lands (popped_word (w.values sp) (registers_in l.number) w))) (instr.Pop l) w (λ word. t))
     | inl s ↦ elim (cases_Bool (has l.number 8)) [
@@ -89,7 +81,4 @@ module _ (R : ℕ → ℕ → Type 0) where
           (stray_pop (b.lands (popped_word (w.values sp) (registers_in l.number) w)) (w.values sp) (registers_in l.number) w))
     ]
   ]
-  act_loose a b (instr.BranchIf c d) w h = inr (act_tied R a b (instr.BranchIf c d) w h)
-  act_loose a b (instr.Branch d) w h = inr (act_tied R a b (instr.Branch d) w h)
-  act_loose a b (instr.Call d) w h = inr (act_tied R a b (instr.Call d) w h)
   act_loose a b i w h = inr (act_tied R a b i w h)

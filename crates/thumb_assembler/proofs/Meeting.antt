@@ -1,6 +1,7 @@
 -- The image's run meets the listing's.
 use Rattle.std.proofs.Common.{◌≡◌, ◌∙◌, ◌⊎◌, inl, inr, ℕ, zero, suc, ◌+◌, ◌%◌, ◌^◌, ◌≤◌, true, false, List, [], ◌∷◌, ◌++◌, length, refl, sym, ap, subst, arith, true≢false, Option, Some, None, IsSome, append-nil}
 use Rattle.std.specs.Prelude.{slice_get}
+use Rattle.thumb_model.proofs.Follow.{alike_on}
 use Rattle.thumb_instr.specs.declared.instr.Instr.{Instr}
 use Rattle.thumb_instr.specs.declared.instr.Instr.TheVariants as instr
 use Rattle.thumb_instr.specs.declared.operation.Hint.TheVariants as hint
@@ -74,18 +75,7 @@ module _ (base : ℕ) (set : Name → ℕ) (all : List Line) (bytes : List ℕ) 
   arrive q x y Stay Stay here next h = here
   arrive q x y (To p) (To z) here next h = h
   arrive q x y Over Over here next h = tt
-  arrive q x y On Stay here next h = absurd h
-  arrive q x y On (To z) here next h = absurd h
-  arrive q x y On Over here next h = absurd h
-  arrive q x y Stay On here next h = absurd h
-  arrive q x y Stay (To z) here next h = absurd h
-  arrive q x y Stay Over here next h = absurd h
-  arrive q x y (To p) On here next h = absurd h
-  arrive q x y (To p) Stay here next h = absurd h
-  arrive q x y (To p) Over here next h = absurd h
-  arrive q x y Over On here next h = absurd h
-  arrive q x y Over Stay here next h = absurd h
-  arrive q x y Over (To z) here next h = absurd h
+  arrive q x y n m here next h = absurd h
 
   acts_tied : (q x y : ℕ) (a b : Act) (w : World) (es : List Event) → R q x → R (q + 1) y → ActTied R a b → Tied (does q (q + 1) a (state w (Here q) es)) (does x y b (state w (Here x) es))
   acts_tied q x y a b w es here next h = record {
@@ -226,9 +216,6 @@ is_ended (Here p) e = absurd (true≢false (sym e))
 lost_too : (s t : State) → Alike s t → IsLost t → IsLost s
 lost_too s t a l = record { ended = is_ended s.at (a.ended ∙ ap has_ended l.ended); last = ap ends_in_loss a.events ∙ l.last }
 
-alike_again : (r s t : State) → Alike r s → Alike s t → Alike r t
-alike_again r s t a b = record { events = a.events ∙ b.events; memory = a.memory ∙ b.memory; answers = a.answers ∙ b.answers; ended = a.ended ∙ b.ended }
-
 begins_some : (o : Option ℕ) → has_ended (here_or_ended o) ≡ false → IsSome o
 begins_some None e = absurd (true≢false e)
 begins_some (Some p) e = refl
@@ -245,4 +232,4 @@ images_follow_given base set lines given bytes made set_by fits fits_given same 
     let first : Alike (begun (code_of given) label w es) (begun (code_of lines) label w es) = subst (λ (k : ℕ). Alike (begun (code_of given) label w es) (times (step (laid base set lines) (code_of lines)) k (begun (code_of lines) label w es))) none_left start.2 in
     let found : IsSome (place_of (code_of lines) label) = begins_some _ (sym first.ended ∙ some_begins _ some) in
     let m = images_follow base set lines bytes made set_by fits label found w word es here.0 (λ l. live (lost_too _ _ here.2 l)) in
-    record { steps = m.steps; state = m.state; run = m.run; alike = alike_again _ _ _ here.2 m.alike }
+    record { steps = m.steps; state = m.state; run = m.run; alike = alike_on _ _ _ here.2 m.alike }

@@ -1,5 +1,6 @@
 -- What comes behind the bytes at each statement.
 use Rattle.std.proofs.Common.{◌≡◌, ◌∙◌, ℕ, ◌+◌, ◌*◌, ◌/◌, ◌%◌, ◌^◌, ◌<◌, ◌&&◌, ◌||◌, Bool, true, false, not, List, [], ◌∷◌, ◌++◌, length, refl, sym, ap, subst, arith, Option, Some, None, Result, Ok, Err, is_some, append_assoc, length-append, append-nil, if◌then◌else◌}
+use Rattle.std.proofs.Math.Bool.{and-false}
 use Rattle.thumb_instr.specs.declared.instr.Instr.{Instr}
 use Rattle.thumb_instr.specs.declared.instr.Instr.TheVariants as instr
 use Rattle.thumb_model.specs.Listing.{Name, Mention, Value, Number, OfName, Nothing, Runs, Words, Aligns, Sets, Line}
@@ -40,16 +41,12 @@ aims_size at to (instr.Branch d) j a = ap instr_size a.2
 aims_size at to (instr.Call d) j a = ap instr_size a.2
 aims_size at to i j a = ap instr_size a
 
-and_false : (a : Bool) → (a && false) ≡ false
-and_false true = refl
-and_false false = refl
-
 pub aimed_pushed : (base : ℕ) (all : List Line) (at x : ℕ) (i j : Instr) (m : Mention) (old new : List ℕ) → lies_in base all m.name ≡ Some x → Aims at (x + m.plus) i j → PushedCode j old new → PushedLaid base all at (Runs i (Some m)) old new
 aimed_pushed base all at x i j m old new e a p =
     let size = grown old new p.here p.pushed in
     let long = p.long in
     let same = aims_size at (x + m.plus) i j a in
-    let kept : branch_lost base all i (Some m) ≡ false = ap (λ (o : Option ℕ). may_leave i && not (is_some o)) e ∙ and_false (may_leave i) in
+    let kept : branch_lost base all i (Some m) ≡ false = ap (λ (o : Option ℕ). may_leave i && not (is_some o)) e ∙ and-false (may_leave i) in
     record {
       sound = ap (λ (b : Bool). if b then Some flaw.NoAddress else None) kept;
       pushed = λ set h. record { here = p.here; are = (j, subst (λ (n : ℕ). Aims at n i j) (sym (lies_there base all set m x h e)) a, p.are); pushed = p.pushed };

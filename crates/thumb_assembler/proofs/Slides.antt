@@ -2,12 +2,13 @@
 use Rattle.std.proofs.Common.{◌≡◌, ◌∙◌, ◌⊎◌, inl, inr, ℕ, zero, suc, ◌+◌, ◌-◌, ◌*◌, ◌/◌, ◌%◌, ◌<◌, ◌≤◌, ◌==◌, ◌&&◌, not, Bool, true, false, List, [], ◌∷◌, ◌++◌, length, map, take, refl, sym, ap, subst, arith, true≢false, Option, Some, None, append_assoc, append-nil, eqb-true, min}
 use Rattle.std.specs.Prelude.{slice_get, nat_lt, nat_le, if◌then◌else◌}
 use Rattle.std.specs.Str.{bytes_eq}
-use Rattle.std.proofs.lemmas.Bool.{cases_Bool, cases_lt, and_from, and_parts, le-leb, lt-ltb, ltb-true, leb-true}
+use Rattle.std.proofs.lemmas.Bool.{cases_Bool, cases_lt, and_from, and_parts, le-leb, lt-ltb, ltb-true, leb-true, or_right}
 use Rattle.std.proofs.lemmas.Slice.Eq.{bytes_eq-Decides}
+use Rattle.thumb_model.proofs.Moved.{count_append}
 use Rattle.thumb_instr.specs.declared.instr.Instr.{Instr}
 use Rattle.thumb_instr.specs.declared.instr.Instr.TheVariants as instr
 use Rattle.thumb_instr.specs.declared.operation.Hint.TheVariants as hint
-use Rattle.thumb_model.specs.Listing.{Name, Mention, Value, Statement, Nothing, Runs, Words, Aligns, Sets, Line, Place, Op, Word, Label, Code, places_in, places_of, labels_at, labels_from, code_of, place_of, is_op_place, is_code, is_call, is_call_instr, call_count}
+use Rattle.thumb_model.specs.Listing.{Name, Mention, Value, Statement, Runs, Words, Aligns, Line, Place, Op, Word, Label, Code, places_in, places_of, labels_at, labels_from, code_of, place_of, is_op_place, is_code, is_call_instr, call_count}
 use Rattle.thumb_model.specs.Layout.{instr_size, padding, size_at, end_of, is_among, label_address}
 use Rattle.thumb_model.specs.Machine.{Naming, Fits, label_place, points_of, returns_from, points, least_or, point_among, is_odd, is_in_range, landing}
 use Rattle.thumb_model.specs.Laid.{laid, word_by}
@@ -20,7 +21,7 @@ use Rattle.thumb_assembler.specs.Runs.{Loaded, IsFetched, lands_at, is_code_addr
 use Rattle.thumb_assembler.specs.Following.{IsAssembled, loaded}
 use Rattle.thumb_assembler.proofs.Places.{padding_even}
 use Rattle.thumb_assembler.proofs.Loose.{LandingLoose}
-use Rattle.thumb_assembler.proofs.Cuts.{next_end, next_places, next_cut, places_append, first_behind, address_behind, places_taken, label_cut, no_label, first_label, first_place, or_right}
+use Rattle.thumb_assembler.proofs.Cuts.{next_end, next_places, next_cut, places_append, first_behind, address_behind, places_taken, label_cut, no_label, first_label, first_place}
 use Rattle.listing_parser.specs.TableWords.{first_twice}
 use Rattle.thumb_assembler.proofs.Fetched.{fair_here, even_here, padding_here, fetched_here, out_of_image}
 
@@ -61,9 +62,6 @@ module _ (base : ℕ) (set : Name → ℕ) (all : List Line) (bytes : List ℕ) 
       (subst (Arrives (length (places_of (before ++ l ∷ [])))) (let e : end_of base (before ++ l ∷ []) ≡ end_of base before = omega arith in e) a)
 
   slides_by : (before after : List Line) (l : Line) → all ≡ before ++ l ∷ after → Arrives (length (places_of (before ++ l ∷ []))) (end_of base (before ++ l ∷ [])) → (s : Statement) → l.statement ≡ s → Arrives (length (places_of before)) (end_of base before)
-  slides_by before after l e next Nothing is = pass before l (ap (λ (t : Statement). length (places_in t)) is) (ap (λ (t : Statement). size_at t (end_of base before)) is) next
-  slides_by before after l e next (Sets name address) is = pass before l (ap (λ (t : Statement). length (places_in t)) is) (ap (λ (t : Statement). size_at t (end_of base before)) is) next
-  slides_by before after l e next (Words []) is = pass before l (ap (λ (t : Statement). length (places_in t)) is) (ap (λ (t : Statement). size_at t (end_of base before)) is) next
   slides_by before after l e next (Words (v ∷ vs)) is =
       inl (ap is_op_place (ap (λ (ls : List Line). slice_get (places_of ls) (length (places_of before))) e ∙ first_behind before (l ∷ after) ∙ ap (λ (t : Statement). slice_get (places_in t ++ places_of after) 0) is))
   slides_by before after l e next (Runs i mention) is = inr (there before after l i mention (end_of base before) e is refl refl)
@@ -76,6 +74,7 @@ module _ (base : ℕ) (set : Name → ℕ) (all : List Line) (bytes : List ℕ) 
       let none : length (places_in l.statement) ≡ 0 = ap (λ (t : Statement). length (places_in t)) is in
       arrive_more (length (places_of before)) (p / 2) (end_of base before) (end_of base (before ++ l ∷ [])) (omega arith) (λ k h. padding_here base set all bytes made given before after l size most e is k (omega arith))
       (subst (λ (q : ℕ). Arrives q (end_of base (before ++ l ∷ []))) (let e : length (places_of (before ++ l ∷ [])) ≡ length (places_of before) = omega arith in e) next)
+  slides_by before after l e next s is = pass before l (ap (λ (t : Statement). length (places_in t)) is) (ap (λ (t : Statement). size_at t (end_of base before)) is) next
 
   -- a cut of the lines is one of the places and one of the addresses
   pub slides_from : (after before : List Line) → all ≡ before ++ after → Arrives (length (places_of before)) (end_of base before)
@@ -236,13 +235,6 @@ module _ (base : ℕ) (set : Name → ℕ) (all : List Line) (bytes : List ℕ) 
   count_front : (before : List Line) (l : Line) → call_count (places_of (before ++ l ∷ [])) ≡ call_count (places_of before ++ places_in l.statement)
   count_front before l = ap call_count (places_append before (l ∷ []) ∙ ap (λ (ps : List Place). places_of before ++ ps) (append-nil (places_in l.statement)))
 
-  count_append : (xs ys : List Place) → call_count (xs ++ ys) ≡ call_count xs + call_count ys
-  count_append [] ys = omega arith
-  count_append (x ∷ xs) ys = elim (cases_Bool (is_call x)) [
-    | inl h ↦ rw h (omega (arith, count_append xs ys))
-    | inr h ↦ rw h (count_append xs ys)
-  ]
-
   no_words : (vs : List Value) → call_count (map Word vs) ≡ 0
   no_words [] = refl
   no_words (v ∷ vs) = no_words vs
@@ -283,9 +275,6 @@ module _ (base : ℕ) (set : Name → ℕ) (all : List Line) (bytes : List ℕ) 
       (ap (λ (t : Statement). slice_get (returns_from names (call_count (places_of before) + 1) (length (places_of before) + length (places_in t)) (places_of after)) m) is ∙ f)
 
   returns_by : (before after : List Line) (l : Line) → all ≡ before ++ l ∷ after → ReturnsFrom after (before ++ l ∷ []) → (s : Statement) → l.statement ≡ s → ReturnsFrom (l ∷ after) before
-  returns_by before after l e rest Nothing is j w p g = quiet before after l (ap places_in is) rest j w p g
-  returns_by before after l e rest (Aligns size most) is j w p g = quiet before after l (ap places_in is) rest j w p g
-  returns_by before after l e rest (Sets name address) is j w p g = quiet before after l (ap places_in is) rest j w p g
   returns_by before after l e rest (Words vs) is j w p g =
       returns_next before after l 0 (ap (λ (t : Statement). call_count (places_in t)) is ∙ no_words vs) rest j w p
       (ap (λ (n : ℕ). slice_get (returns_from names n (length (places_of before) + length (places_in l.statement)) (places_of after)) j) (let z : call_count (places_of before) + 0 ≡ call_count (places_of before) = omega arith in z)
@@ -303,6 +292,7 @@ module _ (base : ℕ) (set : Name → ℕ) (all : List Line) (bytes : List ℕ) 
             ∙ ap (λ (t : Statement). slice_get (returns_from names (call_count (places_of before)) (length (places_of before) + length (places_in t)) (places_of after)) j) is
             ∙ (rw c at there))
       ]
+  returns_by before after l e rest s is j w p g = quiet before after l (ap places_in is) rest j w p g
 
   returns_point : (after before : List Line) → all ≡ before ++ after → ReturnsFrom after before
   returns_point [] before e j w p g = absurd (let bad : None ≡ Some (w, p) = g in cc)

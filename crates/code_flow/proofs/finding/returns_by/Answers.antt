@@ -1,10 +1,11 @@
 use Rattle.std.proofs.Common.{refl}
 use Rattle.thumb_instr.specs.Shape.{registers_in}
-use Rattle.code_flow.proofs.Lists.{left_over, pc_in}
+use Rattle.code_flow.proofs.Lists.{left_over}
+use Rattle.thumb_instr.proofs.Listed.{eighth_set}
 use Rattle.code_flow.proofs.finding.returns_by.Goals as goal
 
 pub returns : goal.returns
-returns c = λ p aim. rw (pc_in c.args.list.number c.requires c.args.list.below) (
+returns c = λ p aim. rw (eighth_set c.args.list.number c.requires c.args.list.below) (
   record { uses = c.of-stack.ensures; writes = c.shape.ensures.writes; leads = refl },
   (
     record {
