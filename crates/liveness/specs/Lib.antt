@@ -4,3 +4,4 @@ pub mod Passes
 pub mod Live
 pub mod Kept
 pub mod Through
+pub mod Growing

@@ -7,6 +7,7 @@
 
 mod finding;
 mod flowing;
+mod growing;
 mod kept;
 mod passes;
 mod points;
@@ -14,5 +15,6 @@ mod sets;
 
 pub use finding::live;
 pub use flowing::{Flow, flow_of, flows};
+pub use growing::Source;
 pub use kept::{LEAD, NewSets, is_straight, keep};
 pub use sets::Live;
