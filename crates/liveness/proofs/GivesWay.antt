@@ -201,3 +201,16 @@ module _ (code : Code) (p : ℕ) (lead window new : List Instr) (led : LeadsUp c
     follows_moved = λ q a. follows_moved code start window new at q (apart q a);
     follows_back = λ q a. follows_back code start window new at q (apart q a);
   }
+
+-- with no code that leads up
+pub gives_way_alone : (code : Code) (p : ℕ) (window new : List Instr) → KeepsAt code p window new → GivesWay code (replaced code p (length window) new) (moved p (length window - length new)) p window new
+gives_way_alone code p window new =
+    subst (λ y. KeepsAt code y window new → GivesWay code (replaced code y (length window) new) (moved y (length window - length new)) p window new) (let e : p + 0 ≡ p = omega arith in e)
+    (λ at. gives_way code p [] window new none at)
+  where
+    none : LeadsUp code p []
+    none = record {
+      stands = λ k i e. absurd (cc);
+      straight = refl;
+      unlabelled = λ k l e. elim (cases_lt p l.place) [ inl h ↦ inr (omega arith) | inr h ↦ inl h ];
+    }

@@ -11,7 +11,7 @@ use Rattle.thumb_model.proofs.Lists.{length_drop}
 use Rattle.thumb_model.proofs.Moved.{IsOutside}
 use Rattle.liveness.specs.declared.flowing.Flow.{Flow}
 use Rattle.liveness.specs.Kept.{FlowOf, AreFlowsFrom}
-use Rattle.liveness.specs.Through.{live_through, read_along}
+use Rattle.liveness.specs.Through.{live_through, read_along, nothing}
 use Rattle.liveness.proofs.Moves.{get_map, map_back, drop_at, drop_whole, move_leads, move_way, Runs, runs_at}
 use Rattle.liveness.proofs.GivesWay.{GivesWay}
 use Rattle.liveness.proofs.FlowLaws.{reader, passer}
@@ -39,12 +39,12 @@ either (i ∷ is) x A B (inr t) =
       | inr r ↦ inr (r.0, λ b. inr (t.0, r.1 b))
     ]
 
-passes : (a b : Bool) → (a && not b) ≡ true → (a ≡ true) × (b ≡ false)
+pub passes : (a b : Bool) → (a && not b) ≡ true → (a ≡ true) × (b ≡ false)
 passes true false e = (refl, refl)
 passes true true e = absurd (cc)
 passes false b e = absurd (cc)
 
-passing : (a b : Bool) → a ≡ true → b ≡ false → (a && not b) ≡ true
+pub passing : (a b : Bool) → a ≡ true → b ≡ false → (a && not b) ≡ true
 passing true false e f = refl
 passing true true e f = absurd (cc)
 passing false b e f = absurd (cc)
@@ -62,10 +62,6 @@ told (i ∷ is) x after h =
       | inl u ↦ inl u
       | inr t ↦ let b = passes _ _ t in inr (b.1, told is x after b.0)
     ]
-
--- no item is live at all
-abbrev pub nothing : ℕ → Bool
-nothing x = false
 
 not_nothing : (x : ℕ) (A : Type 0) → nothing x ≡ true → A
 not_nothing x A e = absurd (cc)

@@ -1,13 +1,14 @@
--- The sets that stay and the new ones are those of the listing in which the window gave way.
-use Rattle.std.proofs.Common.{◌≡◌, ℕ, zero, suc, ◌+◌, ◌-◌, ◌<◌, ◌≤◌, ◌&&◌, ◌||◌, not, Bool, true, false, List, [], ◌∷◌, ◌++◌, length, length-append, take, drop, map, Option, Some, None, refl, sym, ap, ◌∙◌, subst, ◌⊎◌, inl, inr, arith, ◌↔◌}
+-- The sets of the listing in which a window gave way: all that is live, or all but what comes by ways to the window's place.
+use Rattle.std.proofs.Common.{◌≡◌, ℕ, ◌+◌, ◌-◌, ◌<◌, ◌≤◌, Bool, true, false, List, [], ◌∷◌, ◌++◌, length, length-append, take, drop, map, Some, sym, ap, ◌∙◌, subst, ◌⊎◌, inl, inr, arith, ◌↔◌, eq-eqb}
 use Rattle.std.specs.Prelude.{slice_get}
-use Rattle.std.proofs.lemmas.Bool.{cases_lt}
+use Rattle.std.proofs.lemmas.Option.{slice_get_past}
+use Rattle.std.proofs.lemmas.Bool.{cases_lt, cases_eq}
 use Rattle.thumb_instr.specs.declared.instr.Instr.{Instr}
 use Rattle.thumb_instr.specs.declared.items.Items.{Items}
 use Rattle.thumb_instr.specs.Items.{one_of, has}
 use Rattle.thumb_instr.specs.Shape.{uses_of, writes_of}
 use Rattle.thumb_model.specs.Listing.{Code}
-use Rattle.thumb_model.specs.Flow.{Way, Onward, way, ways, Follows, Reads, LiveAfter}
+use Rattle.thumb_model.specs.Flow.{Way, Onward, way, ways, Follows, Reads, now, later, LiveAfter}
 use Rattle.thumb_model.specs.Rewrite.{moved, replaced}
 use Rattle.thumb_model.proofs.Lists.{get_drop, get_take, get_front, get_back, length_map, take_all, length_drop}
 use Rattle.thumb_model.proofs.Moved.{IsOutside}
@@ -15,17 +16,19 @@ use Rattle.liveness.specs.declared.flowing.Flow.{Flow}
 use Rattle.liveness.specs.declared.kept.NewSets.{NewSets}
 use Rattle.liveness.specs.Live.{Sets, word_of, set_at, IsLive}
 use Rattle.liveness.specs.Kept.{AreFlowsFrom, replaced_sets, KeepsLive}
-use Rattle.liveness.specs.Through.{live_through, read_along, AreThrough}
-use Rattle.liveness.proofs.Moves.{get_map, map_back, drop_at, move_way, runs_at}
-use Rattle.liveness.proofs.GivesWay.{GivesWay, gives_way}
-use Rattle.liveness.proofs.Keeping.{nothing, only, still_read, enters, read_before, read_within, within_read}
+use Rattle.liveness.specs.Through.{live_through, IsReadStill, AreThrough}
+use Rattle.liveness.specs.Growing.{Carries, IsGrowing, BeginsGrowing}
+use Rattle.liveness.proofs.Moves.{get_map, map_back, drop_at, drop_whole, move_leads, move_way, runs_at}
+use Rattle.liveness.proofs.GivesWay.{GivesWay, gives_way, gives_way_alone}
+use Rattle.liveness.proofs.Keeping.{only, passing, still_read, enters, read_before, read_within, within_read}
+use Rattle.liveness.proofs.Paths.{or_left, or_right, has_zero, within}
 
--- what `keep` tests, and the sets that it makes
+-- what is tested of a window and of new instructions, and the sets that are made
 pub record IsTested (window new : List Instr) (before after : Items) (ahead : List Flow) (kept : List NewSets) : Type 0 where
   pub as_many : length kept ≡ length new
   pub through : AreThrough new after kept
-  pub first : (x : ℕ) → live_through new (λ y. has after.bits y) x ≡ has before.bits x
-  pub lost : (x : ℕ) → live_through window nothing x ≡ true → live_through new nothing x ≡ false → read_along ahead x ≡ true
+  pub was : (x : ℕ) → has before.bits x ≡ true → live_through new (λ y. has after.bits y) x ≡ true
+  pub lost : IsReadStill window new ahead
 
 -- ---- a list of which a part is replaced ----
 
@@ -57,6 +60,13 @@ module _ (p count : ℕ) (old mid : List Items) (within : p + count ≤ length o
 
 -- ---- the sets ----
 
+set_within : (ss : List Items) (q x : ℕ) → has (set_at ss q) x ≡ true → q < length ss
+set_within ss q x h =
+    elim (cases_lt q (length ss)) [
+      | inl l ↦ l
+      | inr l ↦ absurd (let none = ap word_of (slice_get_past ss q l) in let bad : true ≡ false = sym h ∙ ap (λ w. has w x) none ∙ has_zero x in cc)
+    ]
+
 module _ (code new_code : Code) (to : ℕ → ℕ) (p : ℕ) (window new : List Instr) (sets : Sets) (before after : Items) (ahead : List Flow) (kept : List NewSets)
     (t : IsTested window new before after ahead kept) (live : IsLive code sets) (at : GivesWay code new_code to p window new) (flows : AreFlowsFrom code (p + length window) ahead)
     (eb : set_at sets.before p ≡ before.bits) (ea : set_at sets.after (p + length window - 1) ≡ after.bits) where
@@ -73,10 +83,7 @@ module _ (code new_code : Code) (to : ℕ → ℕ) (p : ℕ) (window new : List 
   at_window = omega (arith, inside, some_window)
 
   was : (x : ℕ) → Reads code x p → live_through new behind_it x ≡ true
-  was x r = t.first x ∙ sym (ap (λ w. has w x) eb) ∙ (live.before p x at_window).1 r
-
-  first : (x : ℕ) → live_through new behind_it x ≡ true → Reads code x p
-  first x h = (live.before p x at_window).0 (ap (λ w. has w x) eb ∙ sym (t.first x) ∙ h)
+  was x r = t.was x (sym (ap (λ w. has w x) eb) ∙ (live.before p x at_window).1 r)
 
   -- the last instruction of the window
   last_way : (i : Instr) × (ways code (p + length window - 1) ≡ way (uses_of i) (writes_of i) Onward ∷ [])
@@ -107,20 +114,14 @@ module _ (code new_code : Code) (to : ℕ → ℕ) (p : ℕ) (window new : List 
   forth : (x q : ℕ) → IsOutside p (length window) q → Reads code x q → Reads new_code x (to q)
   forth x q o r = still_read code new_code to p window new at x (enters code new_code to p window new at x behind_it ahead (was x) flows (t.lost x)) q o r
 
-  back : (x q : ℕ) → IsOutside p (length window) q → Reads new_code x (to q) → Reads code x q
-  back x q o r = read_before code new_code to p window new at x behind_it (leave x) (first x) q o r
-
   behind_new : (x : ℕ) → behind_it x ≡ true → Reads new_code x (p + length new)
   behind_new x h =
       let b = at.behind (p + length window) (omega arith) in
       subst (Reads new_code x) (let e : to (p + length window) ≡ p + length new = omega arith in e) (forth x (p + length window) (inr (omega arith)) (behind x h))
 
   -- from a new instruction on, or right behind them
-  from_new : (x j : ℕ) → j ≤ length new → (live_through (drop j new) behind_it x ≡ true) ↔ Reads new_code x (p + j)
-  from_new x j l = (
-    within_read code new_code to p window new at x behind_it (behind_new x) j l,
-    read_within code new_code to p window new at x behind_it (leave x) (first x) j l,
-  )
+  new_reads : (x j : ℕ) → j ≤ length new → live_through (drop j new) behind_it x ≡ true → Reads new_code x (p + j)
+  new_reads x j l = within_read code new_code to p window new at x behind_it (behind_new x) j l
 
   abbrev Apart : ℕ → Type 0
   Apart q = (q < p) ⊎ (p + length window ≤ q)
@@ -169,22 +170,54 @@ module _ (code new_code : Code) (to : ℕ → ℕ) (p : ℕ) (window new : List 
   many_after : length afters ≡ length new
   many_after = length_map (λ (n : NewSets). n.after) kept ∙ t.as_many
 
-  before_is : (r x : ℕ) → r < length new_code.places → (has (set_at (take p sets.before ++ (befores ++ drop (p + length window) sets.before)) r) x ≡ true) ↔ Reads new_code x r
-  before_is r x l =
-      elim (origin r) [
-        | inl o ↦
-            let same = ap (λ w. has w x) (old_set sets.before befores live.before_len many_before r o.0 o.1 o.2) in
-            let iff = live.before o.0 x (was_within r o.0 o.1 o.2 l) in
-            (λ h. subst (Reads new_code x) (sym o.2) (forth x o.0 (wide o.0 o.1) (iff.0 (sym same ∙ h))), λ rd. same ∙ iff.1 (back x o.0 (wide o.0 o.1) (subst (Reads new_code x) o.2 rd)))
-        | inr o ↦
-            let n = drop_at kept o.0 (omega (arith, o.1, t.as_many)) in
-            let found = ap word_of (get_map (λ (n : NewSets). n.before) kept o.0 n.0 n.1) in
-            let same = ap (λ w. has w x) (mid_set sets.before befores live.before_len r o.0 (omega (arith, o.1, many_before)) o.2 ∙ found) ∙ (t.through o.0 n.0 n.1 x).0 in
-            let iff = from_new x o.0 (omega (arith, o.1)) in
-            (λ h. subst (Reads new_code x) (sym o.2) (iff.0 (sym same ∙ h)), λ rd. same ∙ iff.1 (subst (Reads new_code x) o.2 rd))
-      ]
+  abbrev made : Sets
+  made = replaced_sets p (length window) kept sets
 
-  -- ---- after places ----
+  old_before : (r q : ℕ) → Apart q → r ≡ to q → set_at made.before r ≡ set_at sets.before q
+  old_before = old_set sets.before befores live.before_len many_before
+
+  old_after : (r q : ℕ) → Apart q → r ≡ to q → set_at made.after r ≡ set_at sets.after q
+  old_after = old_set sets.after afters live.after_len many_after
+
+  mid_before : (x r j : ℕ) → j < length new → r ≡ p + j → has (set_at made.before r) x ≡ live_through (drop j new) behind_it x
+  mid_before x r j l e =
+      let n = drop_at kept j (omega (arith, l, t.as_many)) in
+      let found = ap word_of (get_map (λ (n : NewSets). n.before) kept j n.0 n.1) in
+      ap (λ w. has w x) (mid_set sets.before befores live.before_len r j (omega (arith, l, many_before)) e ∙ found) ∙ (t.through j n.0 n.1 x).0
+
+  mid_after : (x r j : ℕ) → j < length new → r ≡ p + j → has (set_at made.after r) x ≡ live_through (drop (j + 1) new) behind_it x
+  mid_after x r j l e =
+      let n = drop_at kept j (omega (arith, l, t.as_many)) in
+      let found = ap word_of (get_map (λ (n : NewSets). n.after) kept j n.0 n.1) in
+      ap (λ w. has w x) (mid_set sets.after afters live.after_len r j (omega (arith, l, many_after)) e ∙ found) ∙ (t.through j n.0 n.1 x).1
+
+  made_before_len : length made.before ≡ length new_code.places
+  made_before_len =
+      let n = at.as_many in
+      let a = length_all p (length window) sets.before befores (let i = inside in let b = live.before_len in omega arith) in
+      let m = many_before in
+      let b = live.before_len in
+      omega arith
+
+  made_after_len : length made.after ≡ length new_code.places
+  made_after_len =
+      let n = at.as_many in
+      let a = length_all p (length window) sets.after afters (let i = inside in let b = live.after_len in omega arith) in
+      let m = many_after in
+      let b = live.after_len in
+      omega arith
+
+  -- ---- the sets have only what is live ----
+
+  reads_old : (x q : ℕ) → has (set_at sets.before q) x ≡ true → Reads code x q
+  reads_old x q h = let l = set_within sets.before q x h in (live.before q x (omega (arith, l, live.before_len))).0 h
+
+  made_reads : (r x : ℕ) → has (set_at made.before r) x ≡ true → Reads new_code x r
+  made_reads r x h =
+      elim (origin r) [
+        | inl o ↦ subst (Reads new_code x) (sym o.2) (forth x o.0 (wide o.0 o.1) (reads_old x o.0 (sym (ap (λ w. has w x) (old_before r o.0 o.1 o.2)) ∙ h)))
+        | inr o ↦ subst (Reads new_code x) (sym o.2) (new_reads x o.0 (omega (arith, o.1)) (sym (mid_before x r o.0 o.1 o.2) ∙ h))
+      ]
 
   after_forth : (x q : ℕ) → Apart q → LiveAfter code q x → LiveAfter new_code (to q) x
   after_forth x q a v = (
@@ -195,12 +228,6 @@ module _ (code new_code : Code) (to : ℕ → ℕ) (p : ℕ) (window new : List 
     at.follows_moved q a v.1.leads v.2 v.4,
     forth x v.2 (at.follows_outside q a v.0 v.1 v.2 v.3 v.4) v.5,
   )
-
-  after_back : (x q : ℕ) → Apart q → LiveAfter new_code (to q) x → LiveAfter code q x
-  after_back x q a v =
-      let w = map_back (move_way to) (ways code q) v.0 v.1 (ap (λ ws. slice_get ws v.0) (sym (at.ways_moved q a)) ∙ v.3) in
-      let s = at.follows_back q a w.0.leads v.2 (subst (λ (u : Way). Follows new_code (to q) u.leads v.2) w.2 v.4) in
-      (v.0, w.0, s.0, w.1, s.1, back x s.0 (at.follows_outside q a v.0 w.0 s.0 w.1 s.1) (subst (Reads new_code x) s.2 v.5))
 
   after_new : (x j : ℕ) → j < length new → LiveAfter new_code (p + j) x ↔ Reads new_code x (p + (j + 1))
   after_new x j l =
@@ -213,116 +240,163 @@ module _ (code new_code : Code) (to : ℕ → ℕ) (p : ℕ) (window new : List 
         λ r. (0, way (uses_of i.0) (writes_of i.0) Onward, p + (j + 1), ap (λ ws. slice_get ws 0) at_j, omega arith, r),
       )
 
-  after_is : (r x : ℕ) → r < length new_code.places → (has (set_at (take p sets.after ++ (afters ++ drop (p + length window) sets.after)) r) x ≡ true) ↔ LiveAfter new_code r x
-  after_is r x l =
+  made_live : (r x : ℕ) → has (set_at made.after r) x ≡ true → LiveAfter new_code r x
+  made_live r x h =
       elim (origin r) [
         | inl o ↦
-            let same = ap (λ w. has w x) (old_set sets.after afters live.after_len many_after r o.0 o.1 o.2) in
-            let iff = live.after o.0 x (was_within r o.0 o.1 o.2 l) in
-            (λ h. subst (λ y. LiveAfter new_code y x) (sym o.2) (after_forth x o.0 o.1 (iff.0 (sym same ∙ h))), λ v. same ∙ iff.1 (after_back x o.0 o.1 (subst (λ y. LiveAfter new_code y x) o.2 v)))
-        | inr o ↦
-            let n = drop_at kept o.0 (omega (arith, o.1, t.as_many)) in
-            let found = ap word_of (get_map (λ (n : NewSets). n.after) kept o.0 n.0 n.1) in
-            let same = ap (λ w. has w x) (mid_set sets.after afters live.after_len r o.0 (omega (arith, o.1, many_after)) o.2 ∙ found) ∙ (t.through o.0 n.0 n.1 x).1 in
-            let iff = from_new x (o.0 + 1) (omega (arith, o.1)) in
-            let one = after_new x o.0 o.1 in
-            (λ h. subst (λ y. LiveAfter new_code y x) (sym o.2) (one.1 (iff.0 (sym same ∙ h))), λ v. same ∙ iff.1 (one.0 (subst (λ y. LiveAfter new_code y x) o.2 v)))
+            let was_live = sym (ap (λ w. has w x) (old_after r o.0 o.1 o.2)) ∙ h in
+            let l = set_within sets.after o.0 x was_live in
+            subst (λ y. LiveAfter new_code y x) (sym o.2) (after_forth x o.0 o.1 ((live.after o.0 x (omega (arith, l, live.after_len))).0 was_live))
+        | inr o ↦ subst (λ y. LiveAfter new_code y x) (sym o.2) ((after_new x o.0 o.1).1 (new_reads x (o.0 + 1) (omega (arith, o.1)) (sym (mid_after x r o.0 o.1 o.2) ∙ h)))
       ]
 
-  pub is_live : IsLive new_code (replaced_sets p (length window) kept sets)
-  is_live = record {
-    before_len =
-        let n = at.as_many in
-        let a = length_all p (length window) sets.before befores (let i = inside in let b = live.before_len in omega arith) in
-        let m = many_before in
-        let b = live.before_len in
-        omega arith;
-    after_len =
-        let n = at.as_many in
-        let a = length_all p (length window) sets.after afters (let i = inside in let b = live.after_len in omega arith) in
-        let m = many_after in
-        let b = live.after_len in
-        omega arith;
-    before = before_is;
-    after = after_is;
+  -- ---- and all of it but what comes by ways to the window's place ----
+
+  -- the way of a place that isn't new, where it was
+  old_way : (r q k : ℕ) (w : Way) → Apart q → r ≡ to q → slice_get (ways new_code r) k ≡ Some w → (v : Way) × (slice_get (ways code q) k ≡ Some v) × (w ≡ move_way to v)
+  old_way r q k w a e g = map_back (move_way to) (ways code q) k w (sym (ap (λ ws. slice_get ws k) (ap (ways new_code) e ∙ at.ways_moved q a)) ∙ g)
+
+  -- and that of a new instruction
+  new_way : (r j k : ℕ) (w : Way) (i : Instr) → r ≡ p + j → slice_get new j ≡ Some i → slice_get (ways new_code r) k ≡ Some w → way (uses_of i) (writes_of i) Onward ≡ w
+  new_way r j k w i e g h = only (ways new_code r) _ k w (ap (ways new_code) e ∙ runs_at new_code p new j i at.new_runs g) h
+
+  made_uses : (r k : ℕ) (w : Way) (x : ℕ) → slice_get (ways new_code r) k ≡ Some w → one_of x w.reads ≡ true → has (set_at made.before r) x ≡ true
+  made_uses r k w x e h =
+      elim (origin r) [
+        | inl o ↦
+            let v = old_way r o.0 k w o.1 o.2 e in
+            ap (λ w. has w x) (old_before r o.0 o.1 o.2) ∙ (live.before o.0 x (within code o.0 k v.0 v.1)).1 (now o.0 k v.0 v.1 (ap (λ (u : Way). one_of x u.reads) (sym v.2) ∙ h))
+        | inr o ↦
+            let i = drop_at new o.0 o.1 in
+            let one = new_way r o.0 k w i.0 o.2 i.1 e in
+            mid_before x r o.0 o.1 o.2 ∙ subst (λ (is : List Instr). live_through is behind_it x ≡ true) (sym i.2) (or_left _ _ (ap (λ (u : Way). one_of x u.reads) one ∙ h))
+      ]
+
+  -- along a way of a place that isn't new
+  carries_old : (r q k : ℕ) (w : Way) (s : ℕ) → Apart q → r ≡ to q → slice_get (ways new_code r) k ≡ Some w → Follows new_code r w.leads s → one_of s (p ∷ []) ≡ false → Carries made r w s
+  carries_old r q k w s a e g f n = record {
+    after = λ x h. ap (λ w. has w x) (old_after r q a e) ∙ (live.after q x (within code q k v.0 v.1)).1 (k, v.0, there.0, v.1, there.1, seen x h);
+    before = λ x h m. ap (λ w. has w x) (old_before r q a e) ∙ (live.before q x (within code q k v.0 v.1)).1 (later q k v.0 there.0 v.1 (ap (λ (u : Way). one_of x u.writes) (sym v.2) ∙ m) there.1 (seen x h));
+  }
+    where
+      v : (v : Way) × (slice_get (ways code q) k ≡ Some v) × (w ≡ move_way to v)
+      v = old_way r q k w a e g
+
+      there : (t : ℕ) × Follows code q v.0.leads t × (s ≡ to t)
+      there = at.follows_back q a v.0.leads s (subst (λ y. Follows new_code y (move_leads to v.0.leads) s) e (subst (λ (u : Way). Follows new_code r u.leads s) v.2 f))
+
+      apart : Apart there.0
+      apart =
+          elim (at.follows_outside q a k v.0 there.0 v.1 there.1) [
+            | inr h ↦ inr h
+            | inl h ↦ elim (cases_eq there.0 p) [
+              | inr d ↦ inl (omega (arith, h, d))
+              | inl c ↦
+                  let b = at.before there.0 h in
+                  let here : s ≡ p = there.2 ∙ b ∙ c in
+                  let is : one_of s (p ∷ []) ≡ true = or_left _ _ (eq-eqb s p here) in
+                  absurd (let bad : true ≡ false = sym is ∙ n in cc)
+            ]
+          ]
+
+      seen : (x : ℕ) → has (set_at made.before s) x ≡ true → Reads code x there.0
+      seen x h = reads_old x there.0 (sym (ap (λ w. has w x) (old_before s there.0 apart there.2)) ∙ h)
+
+  -- along that of a new instruction
+  carries_new : (r j k : ℕ) (w : Way) (s : ℕ) → j < length new → r ≡ p + j → slice_get (ways new_code r) k ≡ Some w → Follows new_code r w.leads s → Carries made r w s
+  carries_new r j k w s l e g f = record {
+    after = λ x h. mid_after x r j l e ∙ seen x h;
+    before = λ x h m.
+        mid_before x r j l e
+        ∙ subst (λ (is : List Instr). live_through is behind_it x ≡ true) (sym i.2) (or_right (one_of x (uses_of i.0)) _ (passing _ _ (seen x h) (ap (λ (u : Way). one_of x u.writes) one ∙ m)));
+  }
+    where
+      i : (i : Instr) × (slice_get new j ≡ Some i) × (drop j new ≡ i ∷ drop (j + 1) new)
+      i = drop_at new j l
+
+      one : way (uses_of i.0) (writes_of i.0) Onward ≡ w
+      one = new_way r j k w i.0 e i.1 g
+
+      next : s ≡ r + 1
+      next = subst (λ (u : Way). Follows new_code r u.leads s) (sym one) f
+
+      seen : (x : ℕ) → has (set_at made.before s) x ≡ true → live_through (drop (j + 1) new) behind_it x ≡ true
+      seen x h =
+          elim (cases_lt (j + 1) (length new)) [
+            | inl m ↦ sym (mid_before x s (j + 1) m (omega (arith, next, e))) ∙ h
+            | inr m ↦
+                let b = at.behind (p + length window) (omega arith) in
+                let last : s ≡ to (p + length window) = omega (arith, next, e) in
+                subst (λ (is : List Instr). live_through is behind_it x ≡ true) (sym (drop_whole new (j + 1) (omega (arith, l))))
+                (leave x (reads_old x (p + length window) (sym (ap (λ w. has w x) (old_before s (p + length window) (inr (omega arith)) last)) ∙ h)))
+          ]
+
+  pub is_growing : IsGrowing new_code (p ∷ []) made
+  is_growing = record {
+    before_len = made_before_len;
+    after_len = made_after_len;
+    read = made_reads;
+    live = made_live;
+    uses = made_uses;
+    carries = λ r k w s e f n. elim (origin r) [
+      | inl o ↦ carries_old r o.0 k w s o.1 o.2 e f n
+      | inr o ↦ carries_new r o.0 k w s o.1 o.2 e f
+    ];
   }
 
+  -- ---- and all of it, where the set before the window stays ----
+
+  module _ (stays : (x : ℕ) → live_through new behind_it x ≡ true → has before.bits x ≡ true) where
+    first : (x : ℕ) → live_through new behind_it x ≡ true → Reads code x p
+    first x h = (live.before p x at_window).0 (ap (λ w. has w x) eb ∙ stays x h)
+
+    back : (x q : ℕ) → IsOutside p (length window) q → Reads new_code x (to q) → Reads code x q
+    back x q o r = read_before code new_code to p window new at x behind_it (leave x) (first x) q o r
+
+    reads_new : (x j : ℕ) → j ≤ length new → Reads new_code x (p + j) → live_through (drop j new) behind_it x ≡ true
+    reads_new x j l = read_within code new_code to p window new at x behind_it (leave x) (first x) j l
+
+    reads_made : (r x : ℕ) → r < length new_code.places → Reads new_code x r → has (set_at made.before r) x ≡ true
+    reads_made r x l rd =
+        elim (origin r) [
+          | inl o ↦ ap (λ w. has w x) (old_before r o.0 o.1 o.2) ∙ (live.before o.0 x (was_within r o.0 o.1 o.2 l)).1 (back x o.0 (wide o.0 o.1) (subst (Reads new_code x) o.2 rd))
+          | inr o ↦ mid_before x r o.0 o.1 o.2 ∙ reads_new x o.0 (omega (arith, o.1)) (subst (Reads new_code x) o.2 rd)
+        ]
+
+    after_back : (x q : ℕ) → Apart q → LiveAfter new_code (to q) x → LiveAfter code q x
+    after_back x q a v =
+        let w = map_back (move_way to) (ways code q) v.0 v.1 (ap (λ ws. slice_get ws v.0) (sym (at.ways_moved q a)) ∙ v.3) in
+        let s = at.follows_back q a w.0.leads v.2 (subst (λ (u : Way). Follows new_code (to q) u.leads v.2) w.2 v.4) in
+        (v.0, w.0, s.0, w.1, s.1, back x s.0 (at.follows_outside q a v.0 w.0 s.0 w.1 s.1) (subst (Reads new_code x) s.2 v.5))
+
+    live_made : (r x : ℕ) → r < length new_code.places → LiveAfter new_code r x → has (set_at made.after r) x ≡ true
+    live_made r x l v =
+        elim (origin r) [
+          | inl o ↦ ap (λ w. has w x) (old_after r o.0 o.1 o.2) ∙ (live.after o.0 x (was_within r o.0 o.1 o.2 l)).1 (after_back x o.0 o.1 (subst (λ y. LiveAfter new_code y x) o.2 v))
+          | inr o ↦ mid_after x r o.0 o.1 o.2 ∙ reads_new x (o.0 + 1) (omega (arith, o.1)) ((after_new x o.0 o.1).0 (subst (λ y. LiveAfter new_code y x) o.2 v))
+        ]
+
+    pub is_live : IsLive new_code made
+    is_live = record {
+      before_len = made_before_len;
+      after_len = made_after_len;
+      before = λ r x l. (made_reads r x, reads_made r x l);
+      after = λ r x l. (made_live r x, live_made r x l);
+    }
+
 -- what is tested keeps the sets of live items
-pub keeps_live : (lead window new : List Instr) (before after : Items) (ahead : List Flow) (kept : List NewSets) → IsTested (lead ++ window) (lead ++ new) before after ahead kept → KeepsLive lead window new before after ahead kept
-keeps_live lead window new before after ahead kept t code p sets live led at flows eb ea =
+pub keeps_live : (lead window new : List Instr) (before after : Items) (ahead : List Flow) (kept : List NewSets) → IsTested (lead ++ window) (lead ++ new) before after ahead kept
+    → ((x : ℕ) → live_through (lead ++ new) (λ y. has after.bits y) x ≡ true → has before.bits x ≡ true) → KeepsLive lead window new before after ahead kept
+keeps_live lead window new before after ahead kept t stays code p sets live led at flows eb ea =
     let n : length lead + length window ≡ length (lead ++ window) = sym (length-append lead window) in
     let end : p + length lead + length window ≡ p + length (lead ++ window) = let m = n in omega arith in
     let there : AreFlowsFrom code (p + length (lead ++ window)) ahead = subst (λ y. AreFlowsFrom code y ahead) end flows in
     let last : set_at sets.after (p + length (lead ++ window) - 1) ≡ after.bits = ap (λ y. set_at sets.after (y - 1)) (sym end) ∙ ea in
     subst (λ (y : ℕ). IsLive (replaced code (p + length lead) (length window) new) (replaced_sets p y kept sets)) (sym n)
     (is_live code (replaced code (p + length lead) (length window) new) (moved (p + length lead) (length window - length new)) p (lead ++ window) (lead ++ new) sets before after ahead kept t live
-    (gives_way code p lead window new led at) there eb last)
+    (gives_way code p lead window new led at) there eb last stays)
 
--- ---- the test ----
-
--- an item is live before straight code by whether it is live after it
-same_after : (is : List Instr) (x : ℕ) (a b : ℕ → Bool) → a x ≡ b x → live_through is a x ≡ live_through is b x
-same_after [] x a b e = e
-same_after (i ∷ is) x a b e = ap (λ t. one_of x (uses_of i) || (t && not (one_of x (writes_of i)))) (same_after is x a b e)
-
--- through straight code and what follows it
-pub through_both : (is js : List Instr) (x : ℕ) (after between : ℕ → Bool) → between x ≡ live_through js after x → live_through is between x ≡ live_through (is ++ js) after x
-through_both [] js x after between e = e
-through_both (i ∷ is) js x after between e = ap (λ t. one_of x (uses_of i) || (t && not (one_of x (writes_of i)))) (through_both is js x after between e)
-
--- from a place in the first of two lists on, or in the second
-pub drop_first : {A : Type 0} (xs ys : List A) (k : ℕ) → k ≤ length xs → drop k xs ++ ys ≡ drop k (xs ++ ys)
-drop_first xs ys zero h = refl
-drop_first [] ys (suc k) h = absurd (omega arith)
-drop_first (x ∷ xs) ys (suc k) h = drop_first xs ys k (omega arith)
-
-pub drop_second : {A : Type 0} (xs ys : List A) (k j : ℕ) → k ≡ length xs + j → drop j ys ≡ drop k (xs ++ ys)
-drop_second [] ys k j e = ap (λ n. drop n ys) (let f : j ≡ k = omega arith in f)
-drop_second (x ∷ xs) ys zero j e = absurd (omega arith)
-drop_second (x ∷ xs) ys (suc k) j e = drop_second xs ys k j (omega arith)
-
--- nothing is lost where what is read no longer, less what is read ahead, is empty
-pub none_lost : (window new : List Instr) (ahead : List Flow) (m n old now gone left read x : ℕ) → has m x ≡ false → has n x ≡ false → has old x ≡ live_through window (λ y. has m y) x → has now x ≡ live_through new (λ y. has n y) x
-    → has gone x ≡ (has old x && not (has now x)) → has read x ≡ read_along ahead x → has left x ≡ (has gone x && not (has read x)) → has left x ≡ false
-    → live_through window nothing x ≡ true → live_through new nothing x ≡ false → read_along ahead x ≡ true
-none_lost window new ahead m n old now gone left read x em en eo ew eg er el e hw hn =
-    let o : has old x ≡ true = eo ∙ same_after window x (λ y. has m y) nothing em ∙ hw in
-    let w : has now x ≡ false = ew ∙ same_after new x (λ y. has n y) nothing en ∙ hn in
-    let g : has gone x ≡ true = eg ∙ ap (λ b. b && not (has now x)) o ∙ ap not w in
-    sym er ∙ is_read (has read x) (sym (el ∙ ap (λ b. b && not (has read x)) g) ∙ e)
-  where
-    is_read : (b : Bool) → not b ≡ false → b ≡ true
-    is_read true e = refl
-    is_read false e = absurd (cc)
-
--- a slice to the end
-pub to_the_end : {A : Type 0} (xs : List A) (k : ℕ) → take (length xs - k) (drop k xs) ≡ drop k xs
-to_the_end xs k = whole (length xs - k) (drop k xs) (omega (arith, length_drop k xs))
-  where
-    whole : {A : Type 0} (n : ℕ) (xs : List A) → length xs ≤ n → take n xs ≡ xs
-    whole zero [] h = refl
-    whole (suc n) [] h = refl
-    whole zero (x ∷ xs) h = absurd (omega arith)
-    whole (suc n) (x ∷ xs) h = ap (λ ys. x ∷ ys) (whole n xs (omega arith))
-
--- the sets of one instruction more
-pub push_through : (new : List Instr) (after : Items) (sets more : List NewSets) (n : NewSets) (k : ℕ) → AreThrough new after sets → length sets ≡ k → more ≡ sets ++ n ∷ []
-    → ((x : ℕ) → has n.before.bits x ≡ live_through (drop k new) (λ y. has after.bits y) x) → ((x : ℕ) → has n.after.bits x ≡ live_through (drop (k + 1) new) (λ y. has after.bits y) x) → AreThrough new after more
-push_through new after sets more n k h l e b a j m g x =
-    elim (cases_lt j (length sets)) [
-      | inl t ↦ h j m (sym (ap (λ ss. slice_get ss j) e ∙ get_front sets (n ∷ []) j t) ∙ g) x
-      | inr t ↦
-          let last : slice_get (n ∷ []) (j - length sets) ≡ Some m = sym (ap (λ ss. slice_get ss j) e ∙ get_back sets (n ∷ []) (j - length sets) j (omega arith)) ∙ g in
-          let s = one_only (j - length sets) m last in
-          let f : k ≡ j = omega (arith, s.0) in (
-            ap (λ (o : NewSets). has o.before.bits x) (sym s.1) ∙ b x ∙ ap (λ i. live_through (drop i new) (λ y. has after.bits y) x) f,
-            ap (λ (o : NewSets). has o.after.bits x) (sym s.1) ∙ a x ∙ ap (λ i. live_through (drop (i + 1) new) (λ y. has after.bits y) x) f,
-          )
-    ]
-  where
-    one_only : (i : ℕ) (m : NewSets) → slice_get (n ∷ []) i ≡ Some m → (i ≡ 0) × (n ≡ m)
-    one_only zero m f = (refl, let o : (let a : Option NewSets = Some n in a) ≡ Some m = f in cc)
-    one_only (suc i) m f = absurd (cc)
-
-pub no_through : (new : List Instr) (after : Items) (sets : List NewSets) → sets ≡ [] → AreThrough new after sets
-no_through new after sets e j n g x = absurd (let f : (let o : Option NewSets = None in o) ≡ Some n = ap (λ ss. slice_get ss j) (sym e) ∙ g in cc)
+-- what is tested with no code that leads up makes sets that grow
+pub begins_growing : (window new : List Instr) (before after : Items) (ahead : List Flow) (kept : List NewSets) → IsTested window new before after ahead kept → BeginsGrowing window new before after ahead kept
+begins_growing window new before after ahead kept t code p sets live at flows eb ea =
+    is_growing code (replaced code p (length window) new) (moved p (length window - length new)) p window new sets before after ahead kept t live (gives_way_alone code p window new at) flows eb ea

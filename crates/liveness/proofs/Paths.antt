@@ -123,7 +123,8 @@ gained_reads code p b w x es s a h =
     go k v g (inl r) = now p k v g r
     go k v g (inr r) = let f = goes_to code b w s p x v.leads r.1 in later p k v f.0 g r.0 f.1 f.2
 
-within : (code : Code) (p k : ℕ) (v : ModelWay) → slice_get (ways code p) k ≡ Some v → p < length code.places
+-- a place that has a way is one
+pub within : (code : Code) (p k : ℕ) (v : ModelWay) → slice_get (ways code p) k ≡ Some v → p < length code.places
 within code p k v e =
     elim (cases_lt p (length code.places)) [
       | inl l ↦ l

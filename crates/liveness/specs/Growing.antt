@@ -1,5 +1,5 @@
 -- Sets that grow along the ways that lead to places until they have all that is live.
-use Rattle.std.specs.Prelude.{◌≡◌, ◌≢◌, ℕ, ◌+◌, ◌-◌, ◌≤◌, ◌&&◌, ◌||◌, not, Bool, true, false, List, ◌∷◌, [], length, Some, slice_get}
+use Rattle.std.specs.Prelude.{◌≡◌, ◌≢◌, ℕ, ◌+◌, ◌-◌, ◌<◌, ◌≤◌, ◌&&◌, ◌||◌, not, Bool, true, false, List, ◌∷◌, [], length, Some, slice_get}
 use Rattle.std.specs.Int.{from_bool}
 use Rattle.thumb_instr.specs.declared.instr.Instr.{Instr}
 use Rattle.thumb_instr.specs.declared.items.Items.{Items}
@@ -55,6 +55,11 @@ pub record IsGrowing (code : Code) (pending : List ℕ) (sets : Sets) : Type 0 w
   pub live : (q x : ℕ) → has (set_at sets.after q) x ≡ true → LiveAfter code q x
   pub uses : (q k : ℕ) (w : Way) (x : ℕ) → slice_get (ways code q) k ≡ Some w → one_of x w.reads ≡ true → has (set_at sets.before q) x ≡ true
   pub carries : (q k : ℕ) (w : Way) (s : ℕ) → slice_get (ways code q) k ≡ Some w → Follows code q w.leads s → one_of s pending ≡ false → Carries sets q w s
+
+-- what is read at s is on its way back: of the sources, the first k have it, or s is pending again
+pub record IsCarrying (code : Code) (s : ℕ) (sources : List Source) (k : ℕ) (pending : List ℕ) (sets : Sets) : Type 0 where
+  pub growing : IsGrowing code (s ∷ pending) sets
+  pub carried : one_of s pending ≡ false → (j : ℕ) (c : Source) → j < k → slice_get sources j ≡ Some c → (w : Way) → ((x : ℕ) → has c.writes.bits x ≡ one_of x w.writes) → Carries sets c.place w s
 
 -- ---- where growing begins ----
 

@@ -1,5 +1,5 @@
 -- What is read through straight code, and along flows.
-use Rattle.std.specs.Prelude.{◌≡◌, ℕ, ◌+◌, ◌&&◌, ◌||◌, not, Bool, false, List, [], ◌∷◌, drop, Option, Some, None, slice_get}
+use Rattle.std.specs.Prelude.{◌≡◌, ℕ, ◌+◌, ◌&&◌, ◌||◌, not, Bool, false, true, List, [], ◌∷◌, drop, Option, Some, None, slice_get}
 use Rattle.thumb_instr.specs.declared.instr.Instr.{Instr}
 use Rattle.thumb_instr.specs.declared.items.Items.{Items}
 use Rattle.thumb_instr.specs.Items.{one_of, has}
@@ -26,6 +26,14 @@ passed (Some writes) rest x = rest && not (has writes.bits x)
 abbrev pub read_along : List Flow → ℕ → Bool
 read_along [] x = false
 read_along (f ∷ fs) x = has f.reads.bits x || passed f.onward (read_along fs x) x
+
+-- no item is live at all
+abbrev pub nothing : ℕ → Bool
+nothing x = false
+
+-- what straight code reads, the other reads too, or the flows ahead of both do
+abbrev pub IsReadStill : List Instr → List Instr → List Flow → Type 0
+IsReadStill old new ahead = (x : ℕ) → live_through old nothing x ≡ true → live_through new nothing x ≡ false → read_along ahead x ≡ true
 
 -- the sets of straight code, where these are live after it
 abbrev pub AreThrough : List Instr → Items → List NewSets → Type 0

@@ -1,8 +1,8 @@
 //! The sets of live items that stay when a window gives way to fewer instructions.
-ghost use Rattle.std.specs.Prelude.{◌≡◌, ◌≤◌, ◌||◌, ◌+◌, ◌++◌, ℕ, drop, false, length, IfSome};
+ghost use Rattle.std.specs.Prelude.{◌≡◌, ◌≤◌, ◌||◌, ◌+◌, ◌++◌, ℕ, drop, false, true, length, IfSome};
 ghost use Rattle.thumb_instr.specs.Items.{has};
 ghost use Rattle.liveness.specs.Kept.{is_straight, KeepsLive};
-ghost use Rattle.liveness.specs.Through.{live_through, passed, read_along, AreThrough};
+ghost use Rattle.liveness.specs.Through.{live_through, passed, read_along, IsReadStill, AreThrough};
 
 use crate::flowing::Flow;
 use arrayvec::ArrayVec;
@@ -70,12 +70,19 @@ pub fn keep(
     if set_through(lead, new, after).bits != before.bits {
         return None;
     }
-    let read = set_through(lead, window, Items::none());
-    let no_longer = read.minus(set_through(lead, new, Items::none()));
-    if no_longer.minus(read_ahead(ahead)).bits != 0 {
+    if !is_read_still(lead, window, new, ahead) {
         return None;
     }
     Some(new_sets(lead, new, after))
+}
+
+/// Whether what straight code and a window behind it read, that code and the new instructions read too, or the flows ahead do.
+pub(crate) fn is_read_still(lead: &[Instr], window: &[Instr], new: &[Instr], ahead: &[Flow]) -> bool
+    ensures { result ≡ true → IsReadStill (lead.now ++ window.now) (lead.now ++ new.now) ahead.now }
+{
+    let read = set_through(lead, window, Items::none());
+    let no_longer = read.minus(set_through(lead, new, Items::none()));
+    no_longer.minus(read_ahead(ahead)).bits == 0
 }
 
 /// What is live before straight code that other straight code follows, where `after` is live after both.
@@ -86,7 +93,7 @@ fn set_through(lead: &[Instr], instrs: &[Instr], after: Items) -> Items
 }
 
 /// What is live before straight code, where `after` is live after it.
-fn set_before(instrs: &[Instr], after: Items) -> Items
+pub(crate) fn set_before(instrs: &[Instr], after: Items) -> Items
     ensures { (x : ℕ) → has result.bits x ≡ live_through instrs.now (λ y. has after.bits y) x }
 {
     match instrs {
@@ -136,9 +143,12 @@ fn set_from(lead: &[Instr], new: &[Instr], at: usize, after: Items) -> Items
 }
 
 /// The sets of straight code and of new instructions behind it, where `after` is live after them.
-fn new_sets(lead: &[Instr], new: &[Instr], after: Items) -> ArrayVec<NewSets, 37>
-    requires few { length lead.now ≤ 32 }
-    requires new { length new.now ≤ 5 }
+pub(crate) fn new_sets<const N: usize>(
+    lead: &[Instr],
+    new: &[Instr],
+    after: Items,
+) -> ArrayVec<NewSets, N>
+    requires few { length lead.now + length new.now ≤ N }
     ensures as_many { length result.items ≡ length lead.now + length new.now }
     ensures through { AreThrough (lead.now ++ new.now) after result.items }
 {

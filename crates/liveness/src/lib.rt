@@ -15,6 +15,6 @@ mod sets;
 
 pub use finding::live;
 pub use flowing::{Flow, flow_of, flows};
-pub use growing::Source;
+pub use growing::{Source, grown};
 pub use kept::{LEAD, NewSets, is_straight, keep};
 pub use sets::Live;

@@ -2,7 +2,7 @@ use Rattle.std.proofs.Common.{◌++◌, ◌-◌, ◌∙◌, List, length, ap, ar
 use Rattle.thumb_instr.specs.declared.instr.Instr.{Instr}
 use Rattle.thumb_instr.specs.Items.{has}
 use Rattle.liveness.specs.Through.{live_through}
-use Rattle.liveness.proofs.KeptSets.{drop_first, drop_second, to_the_end}
+use Rattle.liveness.proofs.Through.{drop_first, drop_second, to_the_end}
 use Rattle.liveness.proofs.kept.set_from.Goals as goal
 
 pub returns-then-at-lead : goal.returns-then-at-lead

@@ -1,6 +1,6 @@
 use Rattle.std.proofs.Common.{◌∙◌}
 use Rattle.thumb_instr.specs.Items.{has}
-use Rattle.liveness.proofs.KeptSets.{through_both}
+use Rattle.liveness.proofs.Through.{through_both}
 use Rattle.liveness.proofs.kept.set_through.Goals as goal
 
 pub returns : goal.returns

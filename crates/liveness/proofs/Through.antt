@@ -1,0 +1,84 @@
+-- What is read through straight code, and its sets.
+use Rattle.std.proofs.Common.{◌≡◌, ℕ, zero, suc, ◌+◌, ◌-◌, ◌≤◌, ◌&&◌, ◌||◌, not, Bool, true, false, List, [], ◌∷◌, ◌++◌, length, take, drop, Option, Some, None, refl, sym, ap, ◌∙◌, inl, inr, arith}
+use Rattle.std.specs.Prelude.{slice_get}
+use Rattle.std.proofs.lemmas.Bool.{cases_lt}
+use Rattle.thumb_instr.specs.declared.instr.Instr.{Instr}
+use Rattle.thumb_instr.specs.declared.items.Items.{Items}
+use Rattle.thumb_instr.specs.Items.{one_of, has}
+use Rattle.thumb_instr.specs.Shape.{uses_of, writes_of}
+use Rattle.thumb_model.proofs.Lists.{get_front, get_back, length_drop}
+use Rattle.liveness.specs.declared.flowing.Flow.{Flow}
+use Rattle.liveness.specs.declared.kept.NewSets.{NewSets}
+use Rattle.liveness.specs.Through.{live_through, read_along, nothing, IsReadStill, AreThrough}
+use Rattle.liveness.proofs.Paths.{has_zero}
+
+-- an item is live before straight code by whether it is live after it
+same_after : (is : List Instr) (x : ℕ) (a b : ℕ → Bool) → a x ≡ b x → live_through is a x ≡ live_through is b x
+same_after [] x a b e = e
+same_after (i ∷ is) x a b e = ap (λ t. one_of x (uses_of i) || (t && not (one_of x (writes_of i)))) (same_after is x a b e)
+
+-- through straight code and what follows it
+pub through_both : (is js : List Instr) (x : ℕ) (after between : ℕ → Bool) → between x ≡ live_through js after x → live_through is between x ≡ live_through (is ++ js) after x
+through_both [] js x after between e = e
+through_both (i ∷ is) js x after between e = ap (λ t. one_of x (uses_of i) || (t && not (one_of x (writes_of i)))) (through_both is js x after between e)
+
+-- from a place in the first of two lists on, or in the second
+pub drop_first : {A : Type 0} (xs ys : List A) (k : ℕ) → k ≤ length xs → drop k xs ++ ys ≡ drop k (xs ++ ys)
+drop_first xs ys zero h = refl
+drop_first [] ys (suc k) h = absurd (omega arith)
+drop_first (x ∷ xs) ys (suc k) h = drop_first xs ys k (omega arith)
+
+pub drop_second : {A : Type 0} (xs ys : List A) (k j : ℕ) → k ≡ length xs + j → drop j ys ≡ drop k (xs ++ ys)
+drop_second [] ys k j e = ap (λ n. drop n ys) (let f : j ≡ k = omega arith in f)
+drop_second (x ∷ xs) ys zero j e = absurd (omega arith)
+drop_second (x ∷ xs) ys (suc k) j e = drop_second xs ys k j (omega arith)
+
+-- a set less another is empty only where the other has all of it
+pub is_within : (a b left : ℕ) → ((x : ℕ) → has left x ≡ (has a x && not (has b x))) → left ≡ 0 → (x : ℕ) → has a x ≡ true → has b x ≡ true
+is_within a b left e none x h = held (has a x) (has b x) (sym (e x) ∙ ap (λ w. has w x) none ∙ has_zero x) h
+  where
+    held : (a b : Bool) → (a && not b) ≡ false → a ≡ true → b ≡ true
+    held true true e h = refl
+    held true false e h = absurd (cc)
+    held false b e h = absurd (cc)
+
+-- all is read still where what is read no longer, less what is read ahead, is empty
+pub none_lost : (old new : List Instr) (ahead : List Flow) (m n was is gone read left : ℕ) → ((x : ℕ) → has m x ≡ false) → ((x : ℕ) → has n x ≡ false)
+    → ((x : ℕ) → has was x ≡ live_through old (λ y. has m y) x) → ((x : ℕ) → has is x ≡ live_through new (λ y. has n y) x) → ((x : ℕ) → has gone x ≡ (has was x && not (has is x)))
+    → ((x : ℕ) → has read x ≡ read_along ahead x) → ((x : ℕ) → has left x ≡ (has gone x && not (has read x))) → left ≡ 0 → IsReadStill old new ahead
+none_lost old new ahead m n was is gone read left em en ew ei eg er el e x hw hi =
+    let w : has was x ≡ true = ew x ∙ same_after old x (λ y. has m y) nothing (em x) ∙ hw in
+    let i : has is x ≡ false = ei x ∙ same_after new x (λ y. has n y) nothing (en x) ∙ hi in
+    sym (er x) ∙ is_within gone read left el e x (eg x ∙ ap (λ b. b && not (has is x)) w ∙ ap not i)
+
+-- a slice to the end
+pub to_the_end : {A : Type 0} (xs : List A) (k : ℕ) → take (length xs - k) (drop k xs) ≡ drop k xs
+to_the_end xs k = whole (length xs - k) (drop k xs) (omega (arith, length_drop k xs))
+  where
+    whole : {A : Type 0} (n : ℕ) (xs : List A) → length xs ≤ n → take n xs ≡ xs
+    whole zero [] h = refl
+    whole (suc n) [] h = refl
+    whole zero (x ∷ xs) h = absurd (omega arith)
+    whole (suc n) (x ∷ xs) h = ap (λ ys. x ∷ ys) (whole n xs (omega arith))
+
+-- the sets of one instruction more
+pub push_through : (new : List Instr) (after : Items) (sets more : List NewSets) (n : NewSets) (k : ℕ) → AreThrough new after sets → length sets ≡ k → more ≡ sets ++ n ∷ []
+    → ((x : ℕ) → has n.before.bits x ≡ live_through (drop k new) (λ y. has after.bits y) x) → ((x : ℕ) → has n.after.bits x ≡ live_through (drop (k + 1) new) (λ y. has after.bits y) x) → AreThrough new after more
+push_through new after sets more n k h l e b a j m g x =
+    elim (cases_lt j (length sets)) [
+      | inl t ↦ h j m (sym (ap (λ ss. slice_get ss j) e ∙ get_front sets (n ∷ []) j t) ∙ g) x
+      | inr t ↦
+          let last : slice_get (n ∷ []) (j - length sets) ≡ Some m = sym (ap (λ ss. slice_get ss j) e ∙ get_back sets (n ∷ []) (j - length sets) j (omega arith)) ∙ g in
+          let s = one_only (j - length sets) m last in
+          let f : k ≡ j = omega (arith, s.0) in (
+            ap (λ (o : NewSets). has o.before.bits x) (sym s.1) ∙ b x ∙ ap (λ i. live_through (drop i new) (λ y. has after.bits y) x) f,
+            ap (λ (o : NewSets). has o.after.bits x) (sym s.1) ∙ a x ∙ ap (λ i. live_through (drop (i + 1) new) (λ y. has after.bits y) x) f,
+          )
+    ]
+  where
+    one_only : (i : ℕ) (m : NewSets) → slice_get (n ∷ []) i ≡ Some m → (i ≡ 0) × (n ≡ m)
+    one_only zero m f = (refl, let o : (let a : Option NewSets = Some n in a) ≡ Some m = f in cc)
+    one_only (suc i) m f = absurd (cc)
+
+pub no_through : (new : List Instr) (after : Items) (sets : List NewSets) → sets ≡ [] → AreThrough new after sets
+no_through new after sets e j n g x = absurd (let f : (let o : Option NewSets = None in o) ≡ Some n = ap (λ ss. slice_get ss j) (sym e) ∙ g in cc)
