@@ -18,7 +18,7 @@ use Rattle.thumb_model.proofs.Lists.{get_back, length_map, take_all, take_short,
 use Rattle.thumb_model.proofs.Window.{AreStraight}
 use Rattle.thumb_model.proofs.Table.{window_length, applies_sound}
 use Rattle.window_runs.specs.Windows.{IsWindow}
-use Rattle.liveness.specs.Live.{Sets as LiveSets}
+use Rattle.liveness.specs.Live.{Sets as LiveSets, set_at}
 use Rattle.rule_table.specs.declared.table.Entry.{Entry}
 use Rattle.rule_table.specs.Views.{rule_of}
 use Rattle.table_audit.specs.Soundness.{rewriting_rule}
@@ -39,8 +39,8 @@ use Rattle.line_cursor.proofs.Labels.{op_within}
 use Rattle.line_cursor.proofs.Nearer.{first_op, places_append}
 use Rattle.window_rewrite.specs.declared.choice.Choice.{Choice}
 use Rattle.window_rewrite.specs.Rewriting.{setting}
-use Rattle.window_rewrite.specs.Rules.{rules_in, AreFit, codes_of, first_with}
-use Rattle.window_rewrite.specs.Fitting.{Stands}
+use Rattle.window_rewrite.specs.Rules.{rules_in, is_shorter, AreFit, codes_of, first_with}
+use Rattle.window_rewrite.specs.Fitting.{Shortens}
 use Rattle.window_rewrite.specs.Choices.{Awaits, Begins, choice_of, IsChoice, IsLowest, NoneOf, IsBest, NoneAt, NoneBefore, IsFirstChoice, of_length, longer}
 use Rattle.window_rewrite.specs.Sweeps.{IsKept}
 use Rattle.window_rewrite.proofs.Applied.{made, back}
@@ -136,11 +136,11 @@ longer_all m (r ∷ rs) =
 pub length_at : (rules : List Rule) (k : ℕ) (rule : Rule) → slice_get rules k ≡ Some rule → left_length rules k ≡ length rule.left
 length_at rules k rule e = ap left_length_of e
 
--- a choice at the place by a left side of the window's length stands in the window
+-- the rule of a choice at the place by a left side of the window's length stands in the window
 pub record StandsIn (rules : List Rule) (window : List Instr) (o : Replacement) : Type 0 where
   pub rule : Rule
   pub at : slice_get rules o.entry ≡ Some rule
-  pub stands : Stands rule o.registers window
+  pub shortens : Shortens rule o.registers window
 
 stands_in : (base : ℕ) (rules : List Rule) (lines : List Line) (place : ℕ) (window : List Instr) (live : ℕ) (o : Replacement) → StandsThere lines (spot_of place (length window)) window live
     → AppliesIn (setting base rules) o lines → o.place ≡ place → left_length rules o.entry ≡ length window → StandsIn rules window o
@@ -150,7 +150,7 @@ stands_in base rules lines place window live o there a at long =
     record {
       rule = a.rule;
       at = a.is_rule;
-      stands = (back base rules lines place o.entry a.rule o.registers window live a.is_rule n there moved).fits.stands;
+      shortens = let f = (back base rules lines place o.entry a.rule o.registers window live a.is_rule n there moved).fits in record { stands = f.stands; shorter = f.shorter };
     }
 
 -- the search through the rules that may stand in a window: those below k don't apply
@@ -165,7 +165,7 @@ pub search_begins : (base : ℕ) (rules : List Rule) (lines : List Line) (place 
 search_begins base rules lines place window live at start there b = record {
   k = b.k;
   awaits = b.awaits;
-  none = λ o a e l h. let s = stands_in base rules lines place window live o there a e l in b.passed o.entry s.rule o.registers h s.at s.stands;
+  none = λ o a e l h. let s = stands_in base rules lines place window live o there a e l in b.passed o.entry s.rule o.registers h s.at s.shortens;
   cost = omega arith;
 }
 
@@ -178,14 +178,14 @@ none_before base rules lines place window live n at start steps there s is o a e
   | inr b ↦ (
       let next = awaited rules window s.k n at s.awaits is in
       let i = stands_in base rules lines place window live o there a e l in
-      next.none o.entry i.rule o.registers b h i.at i.stands
+      next.none o.entry i.rule o.registers b h i.at i.shortens
       )
 ]
 
 pub search_next : (base : ℕ) (rules : List Rule) (lines : List Line) (place : ℕ) (window : List Instr) (live n : ℕ) (at next : Option ℕ) (start steps after : ℕ) → StandsThere lines (spot_of place (length window)) window live
     → IsSearch base rules lines place window at start steps → at ≡ Some n
     → ((registers : List Low) → AppliesIn (setting base rules) (made place n registers) lines → ⊥)
-    → ((rule : Rule) → slice_get rules n ≡ Some rule → next ≡ first_with (codes_of rule.left) (n + 1) (drop (n + 1) rules)) → after ≤ steps + 1
+    → ((rule : Rule) → slice_get rules n ≡ Some rule → is_shorter rule ≡ true → next ≡ first_with (codes_of rule.left) (n + 1) (drop (n + 1) rules)) → after ≤ steps + 1
     → IsSearch base rules lines place window next start after
 search_next base rules lines place window live n at next start steps after there s is none more cost =
     let i = awaited rules window s.k n at s.awaits is in
@@ -194,7 +194,7 @@ search_next base rules lines place window live n at next start steps after there
     let here = s.cost in
     record {
       k = n + 1;
-      awaits = i.more next (more i.rule i.at);
+      awaits = i.more next (more i.rule i.at i.shorter);
       none = λ o a e l h. elim (cases_lt o.entry n) [
         | inl b ↦ none_before base rules lines place window live n at start steps there s is o a e l b
         | inr b ↦ (
@@ -254,7 +254,7 @@ pub search_none : (base : ℕ) (rules : List Rule) (lines : List Line) (place : 
     → IsSearch base rules lines place window at start steps → at ≡ None → NoneOf (setting base rules) lines place (length window)
 search_none base rules lines place window live at start steps there s is o a e l = elim (cases_lt o.entry s.k) [
   | inl b ↦ s.none o a e l b
-  | inr b ↦ (let i = stands_in base rules lines place window live o there a e l in none_awaited rules window s.k at s.awaits is o.entry i.rule o.registers b i.at i.stands)
+  | inr b ↦ (let i = stands_in base rules lines place window live o there a e l in none_awaited rules window s.k at s.awaits is o.entry i.rule o.registers b i.at i.shortens)
 ]
 
 pub none_cost : (base : ℕ) (rules : List Rule) (lines : List Line) (place : ℕ) (window : List Instr) (at : Option ℕ) (start steps : ℕ) → IsSearch base rules lines place window at start steps → steps ≤ start + of_length (length window) rules
@@ -300,6 +300,15 @@ applicable base longest rules lines o fit a =
       some = omega arith;
       few = omega arith;
     }
+
+-- a window's places are the lines'
+window_end : (lines : List Line) (place : ℕ) (window : List Instr) → 1 ≤ length window → IsWindow lines place window → place + (length window - 1) < length (places_of lines)
+window_end lines place window some w =
+    let k = length_map plain window in
+    let e = ap (λ (ps : List Place). length ps) w.stands in
+    let short = take_short (length window) (drop place (places_of lines)) in
+    let rest = length_drop place (places_of lines) in
+    omega arith
 
 pub place_within : (base longest : ℕ) (rules : List Rule) (lines : List Line) (o : Replacement) → AreFit longest rules → AppliesIn (setting base rules) o lines → o.place < length (places_of lines)
 place_within base longest rules lines o fit a =
@@ -382,6 +391,25 @@ none_at base longest rules lines place fit none o a at =
     let some = w.some in
     let long = w.long in
     none o a at (omega arith)
+
+-- where no left side stands first in the run from a place, none applies there
+pub none_begins : (base longest : ℕ) (rules : List Rule) (lines : List Line) (rows : List Row) (sets : LiveSets) (place : ℕ) (is : List Instr) → AreFit longest rules → AreOf lines rows sets → is ≡ run true longest (drop place rows)
+    → ((n k : ℕ) (rule : Rule) (registers : List Low) → slice_get rules k ≡ Some rule → Shortens rule registers (take n is) → ⊥) → NoneAt (setting base rules) lines place
+none_begins base longest rules lines rows sets place is fit of e none o a at =
+    let w = applicable base longest rules lines o fit a in
+    let some = w.some in
+    let long = w.long in
+    let n : ℕ = length w.window in
+    let few : n ≤ length is = elim (cases_lt (length is) n) [
+      | inl h ↦ absurd (none_beyond base longest rules lines rows sets place is fit of e o a at (omega arith))
+      | inr h ↦ omega arith
+    ] in
+    let items : ℕ = set_at sets.after (place + (n - 1)) in
+    let inside : place + (n - 1) < length (places_of lines) = window_end lines place w.window some (subst (λ p. IsWindow lines p w.window) at w.is_window) in
+    let there = front_stands lines rows sets place longest n items is is of e refl (omega arith) few (λ x. of.live.after (place + (n - 1)) x inside) in
+    let all : length (take n is) ≡ n = take_all n is few in
+    let s = stands_in base rules lines place (take n is) items o there a at (long ∙ sym all) in
+    none n o.entry s.rule o.registers s.at s.shortens
 
 -- ---- the least place ----
 

@@ -1,19 +1,19 @@
 -- Rules by the codes of their left sides.
-use Rattle.std.proofs.Common.{◌≡◌, ℕ, zero, suc, ◌+◌, ◌-◌, ◌<◌, ◌≤◌, true, false, List, [], ◌∷◌, length, drop, Option, Some, None, refl, sym, ap, ◌∙◌, subst, arith, inl, inr, if◌then◌else◌, eq-eqb, eqb-true}
+use Rattle.std.proofs.Common.{◌≡◌, ℕ, zero, suc, ◌+◌, ◌-◌, ◌<◌, ◌≤◌, ◌&&◌, true, false, List, [], ◌∷◌, length, drop, Option, Some, None, refl, sym, ap, ◌∙◌, subst, arith, inl, inr, if◌then◌else◌, eq-eqb, eqb-true}
 use Rattle.std.specs.Prelude.{slice_get, slice_set, nat_eq}
 use Rattle.std.specs.Cmp.Lexicographic.{pointwise}
 use Rattle.std.specs.Map.{lookup}
 use Rattle.std.specs.declared.alloc.Global.{Global}
 use Rattle.std.specs.declared.vec.Vec.{Vec}
-use Rattle.std.proofs.lemmas.Bool.{and_parts, cases_Bool, cases_lt}
+use Rattle.std.proofs.lemmas.Bool.{and_parts, cases_Bool, cases_lt, lt-ltb}
 use Rattle.std.proofs.lemmas.List.{length-map}
 use Rattle.indexmap.specs.IndexMap.{insert_entry}
 use Rattle.thumb_instr.specs.declared.instr.Instr.{Instr}
 use Rattle.thumb_instr.specs.Renaming.{Low}
 use Rattle.thumb_model.specs.Rewrite.{Rule}
 use Rattle.thumb_model.proofs.Lists.{get_drop, length_drop}
-use Rattle.window_rewrite.specs.Rules.{code_number, codes_of, same_codes, is_key, first_with}
-use Rattle.window_rewrite.specs.Fitting.{Stands}
+use Rattle.window_rewrite.specs.Rules.{code_number, codes_of, same_codes, is_key, is_shorter, has_codes, first_with}
+use Rattle.window_rewrite.specs.Fitting.{Shortens}
 use Rattle.window_rewrite.specs.Choices.{Awaits}
 
 -- ---- codes ----
@@ -66,8 +66,12 @@ drop_rule (r ∷ rs) (suc k) rule e = drop_rule rs k rule e ∙ ap (λ n. rule �
 
 -- one rule more in front
 pub first_more : (rules : List Rule) (codes : List ℕ) (k : ℕ) (rule : Rule) → slice_get rules k ≡ Some rule
-    → first_with codes k (drop k rules) ≡ (if same_codes codes (codes_of rule.left) then Some k else first_with codes (k + 1) (drop (k + 1) rules))
+    → first_with codes k (drop k rules) ≡ (if has_codes codes rule then Some k else first_with codes (k + 1) (drop (k + 1) rules))
 first_more rules codes k rule e = ap (first_with codes k) (drop_rule rules k rule e)
+
+-- one that leaves as many makes no difference
+pub first_same : (rules : List Rule) (codes : List ℕ) (k : ℕ) (rule : Rule) → slice_get rules k ≡ Some rule → is_shorter rule ≡ false → first_with codes k (drop k rules) ≡ first_with codes (k + 1) (drop (k + 1) rules)
+first_same rules codes k rule e f = first_more rules codes k rule e ∙ ap (λ b. if b && same_codes codes (codes_of rule.left) then Some k else first_with codes (k + 1) (drop (k + 1) rules)) f
 
 -- past the last rule there is none
 pub first_past : (rules : List Rule) (codes : List ℕ) (k : ℕ) → length rules ≤ k → first_with codes k (drop k rules) ≡ None
@@ -85,29 +89,43 @@ pub record IsFound (rules : List Rule) (codes : List ℕ) (k n : ℕ) : Type 0 w
   pub from : k ≤ n
   pub rule : Rule
   pub at : slice_get rules n ≡ Some rule
+  pub shorter : is_shorter rule ≡ true
   pub same : codes_of rule.left ≡ codes
-  pub none : (j : ℕ) (other : Rule) → k ≤ j → j < n → slice_get rules j ≡ Some other → codes_of other.left ≡ codes → ⊥
+  pub none : (j : ℕ) (other : Rule) → k ≤ j → j < n → slice_get rules j ≡ Some other → is_shorter other ≡ true → codes_of other.left ≡ codes → ⊥
 
 -- in a list of rules that are numbered from m on
 record IsAhead (rules : List Rule) (codes : List ℕ) (m n : ℕ) : Type 0 where
   from : m ≤ n
   rule : Rule
   at : slice_get rules (n - m) ≡ Some rule
+  shorter : is_shorter rule ≡ true
   same : codes_of rule.left ≡ codes
-  none : (j : ℕ) (other : Rule) → j < n - m → slice_get rules j ≡ Some other → codes_of other.left ≡ codes → ⊥
+  none : (j : ℕ) (other : Rule) → j < n - m → slice_get rules j ≡ Some other → is_shorter other ≡ true → codes_of other.left ≡ codes → ⊥
+
+-- a rule that leaves fewer instructions has its codes
+has_own : (codes : List ℕ) (r : Rule) → is_shorter r ≡ true → codes_of r.left ≡ codes → has_codes codes r ≡ true
+has_own codes r f s = ap (λ b. b && same_codes codes (codes_of r.left)) f ∙ same_by codes (codes_of r.left) (sym s)
+
+-- a rule that has other codes is none that has them
+here_none : (codes : List ℕ) (r other : Rule) → has_codes codes r ≡ false → r ≡ other → is_shorter other ≡ true → codes_of other.left ≡ codes → ⊥
+here_none codes r other h is g s =
+    let bad : true ≡ false = sym (has_own codes other g s) ∙ ap (has_codes codes) (sym is) ∙ h in
+    absurd (cc)
 
 ahead : (rules : List Rule) (codes : List ℕ) (m n : ℕ) → first_with codes m rules ≡ Some n → IsAhead rules codes m n
 ahead [] codes m n e = absurd (cc)
-ahead (r ∷ rs) codes m n e = elim (cases_Bool (same_codes codes (codes_of r.left))) [
+ahead (r ∷ rs) codes m n e = elim (cases_Bool (has_codes codes r)) [
   | inl h ↦ (
       let here : m ≡ n = some_same m n (sym (ap (λ t. if t then Some m else first_with codes (m + 1) rs) h) ∙ e) in
       let zero_off : n - m ≡ 0 = omega arith in
+      let both = and_parts (is_shorter r) (same_codes codes (codes_of r.left)) h in
       record {
         from = omega arith;
         rule = r;
         at = ap (slice_get (r ∷ rs)) zero_off;
-        same = sym (codes_same codes (codes_of r.left) h);
-        none = λ j other l _ _. omega arith;
+        shorter = both.0;
+        same = sym (codes_same codes (codes_of r.left) both.1);
+        none = λ j other l _ _ _. omega arith;
       }
       )
   | inr h ↦ (
@@ -118,8 +136,9 @@ ahead (r ∷ rs) codes m n e = elim (cases_Bool (same_codes codes (codes_of r.le
         from = omega arith;
         rule = rest.rule;
         at = ap (slice_get (r ∷ rs)) off ∙ rest.at;
+        shorter = rest.shorter;
         same = rest.same;
-        none = λ j other l f s. earlier rest.none off h j other l f s;
+        none = λ j other l f g s. earlier rest.none off h j other l f g s;
       }
       )
 ]
@@ -127,13 +146,10 @@ ahead (r ∷ rs) codes m n e = elim (cases_Bool (same_codes codes (codes_of r.le
     some_same : (a b : ℕ) → (let o : Option ℕ = Some a in o) ≡ Some b → a ≡ b
     some_same a b e = cc
 
-    earlier : ((j : ℕ) (other : Rule) → j < n - (m + 1) → slice_get rs j ≡ Some other → codes_of other.left ≡ codes → ⊥) → n - m ≡ suc (n - (m + 1)) → same_codes codes (codes_of r.left) ≡ false
-        → (j : ℕ) (other : Rule) → j < n - m → slice_get (r ∷ rs) j ≡ Some other → codes_of other.left ≡ codes → ⊥
-    earlier none off h zero other l f s =
-        let is : r ≡ other = rule_head r other f in
-        let z : true ≡ false = sym (same_by codes (codes_of r.left) (sym s ∙ ap (λ (x : Rule). codes_of x.left) (sym is))) ∙ h in
-        absurd (cc)
-    earlier none off h (suc j) other l f s = none j other (omega arith) f s
+    earlier : ((j : ℕ) (other : Rule) → j < n - (m + 1) → slice_get rs j ≡ Some other → is_shorter other ≡ true → codes_of other.left ≡ codes → ⊥) → n - m ≡ suc (n - (m + 1)) → has_codes codes r ≡ false
+        → (j : ℕ) (other : Rule) → j < n - m → slice_get (r ∷ rs) j ≡ Some other → is_shorter other ≡ true → codes_of other.left ≡ codes → ⊥
+    earlier none off h zero other l f g s = here_none codes r other h (rule_head r other f) g s
+    earlier none off h (suc j) other l f g s = none j other (omega arith) f g s
 
 pub found : (rules : List Rule) (codes : List ℕ) (k n : ℕ) → first_with codes k (drop k rules) ≡ Some n → IsFound rules codes k n
 found rules codes k n e =
@@ -143,27 +159,25 @@ found rules codes k n e =
       from = from;
       rule = a.rule;
       at = sym (get_drop k rules (n - k) n (omega arith)) ∙ a.at;
+      shorter = a.shorter;
       same = a.same;
-      none = λ j other l h f s. a.none (j - k) other (omega arith) (get_drop k rules (j - k) j (omega arith) ∙ f) s;
+      none = λ j other l h f g s. a.none (j - k) other (omega arith) (get_drop k rules (j - k) j (omega arith) ∙ f) g s;
     }
 
 -- where none is found, there is none
-nothing_ahead : (rules : List Rule) (codes : List ℕ) (m : ℕ) → first_with codes m rules ≡ None → (j : ℕ) (other : Rule) → slice_get rules j ≡ Some other → codes_of other.left ≡ codes → ⊥
-nothing_ahead [] codes m e j other f s = absurd (cc)
-nothing_ahead (r ∷ rs) codes m e j other f s = elim (cases_Bool (same_codes codes (codes_of r.left))) [
+nothing_ahead : (rules : List Rule) (codes : List ℕ) (m : ℕ) → first_with codes m rules ≡ None → (j : ℕ) (other : Rule) → slice_get rules j ≡ Some other → is_shorter other ≡ true → codes_of other.left ≡ codes → ⊥
+nothing_ahead [] codes m e j other f g s = absurd (cc)
+nothing_ahead (r ∷ rs) codes m e j other f g s = elim (cases_Bool (has_codes codes r)) [
   | inl h ↦ absurd (let z : (let o : Option ℕ = Some m in o) ≡ None = sym (ap (λ t. if t then Some m else first_with codes (m + 1) rs) h) ∙ e in cc)
-  | inr h ↦ later (λ i g. nothing_ahead rs codes (m + 1) (sym (ap (λ t. if t then Some m else first_with codes (m + 1) rs) h) ∙ e) i other g s) h j f
+  | inr h ↦ later (λ i k. nothing_ahead rs codes (m + 1) (sym (ap (λ t. if t then Some m else first_with codes (m + 1) rs) h) ∙ e) i other k g s) h j f
 ]
   where
-    later : ((i : ℕ) → slice_get rs i ≡ Some other → ⊥) → same_codes codes (codes_of r.left) ≡ false → (j : ℕ) → slice_get (r ∷ rs) j ≡ Some other → ⊥
-    later rest h zero f =
-        let is : r ≡ other = rule_head r other f in
-        let z : true ≡ false = sym (same_by codes (codes_of r.left) (sym s ∙ ap (λ (x : Rule). codes_of x.left) (sym is))) ∙ h in
-        absurd (cc)
+    later : ((i : ℕ) → slice_get rs i ≡ Some other → ⊥) → has_codes codes r ≡ false → (j : ℕ) → slice_get (r ∷ rs) j ≡ Some other → ⊥
+    later rest h zero f = here_none codes r other h (rule_head r other f) g s
     later rest h (suc j) f = rest j f
 
-pub nothing : (rules : List Rule) (codes : List ℕ) (k : ℕ) → first_with codes k (drop k rules) ≡ None → (j : ℕ) (other : Rule) → k ≤ j → slice_get rules j ≡ Some other → codes_of other.left ≡ codes → ⊥
-nothing rules codes k e j other h f s = nothing_ahead (drop k rules) codes k e (j - k) other (get_drop k rules (j - k) j (omega arith) ∙ f) s
+pub nothing : (rules : List Rule) (codes : List ℕ) (k : ℕ) → first_with codes k (drop k rules) ≡ None → (j : ℕ) (other : Rule) → k ≤ j → slice_get rules j ≡ Some other → is_shorter other ≡ true → codes_of other.left ≡ codes → ⊥
+nothing rules codes k e j other h f g s = nothing_ahead (drop k rules) codes k e (j - k) other (get_drop k rules (j - k) j (omega arith) ∙ f) g s
 
 -- ---- building the index ----
 
@@ -179,24 +193,25 @@ set_else (x ∷ xs) zero (suc q) y h = refl
 set_else (x ∷ xs) (suc p) (suc q) y h = set_else xs p q y (omega arith)
 
 -- what is found from n on, once the n-th rule was put in
-pub firsts_more : (rules : List Rule) (n : ℕ) (rule : Rule) (es more : List (Vec ℕ Global × ℕ)) (key : Vec ℕ Global) → slice_get rules n ≡ Some rule → key.items ≡ codes_of rule.left
+pub firsts_more : (rules : List Rule) (n : ℕ) (rule : Rule) (es more : List (Vec ℕ Global × ℕ)) (key : Vec ℕ Global) → slice_get rules n ≡ Some rule → is_shorter rule ≡ true → key.items ≡ codes_of rule.left
     → ((codes : List ℕ) → lookup (is_key codes) es ≡ first_with codes (n + 1) (drop (n + 1) rules)) → more ≡ insert_entry (λ x y. pointwise nat_eq x.items y.items) es key n
     → (codes : List ℕ) → lookup (is_key codes) more ≡ first_with codes n (drop n rules)
-firsts_more rules n rule es more key at is h e codes =
+firsts_more rules n rule es more key at short is h e codes =
     ap (lookup (is_key codes)) e
     ∙ inserted codes es key n
     ∙ ap (λ (xs : List ℕ). if same_codes codes xs then Some n else lookup (is_key codes) es) is
     ∙ ap (λ o. if same_codes codes (codes_of rule.left) then Some n else o) (h codes)
+    ∙ ap (λ b. if b && same_codes codes (codes_of rule.left) then Some n else first_with codes (n + 1) (drop (n + 1) rules)) (sym short)
     ∙ sym (first_more rules codes n rule at)
 
 -- the next rules from a rule on
 abbrev pub AreNexts : List Rule → List (Option ℕ) → ℕ → Type 0
-AreNexts rules nexts n = (k : ℕ) (rule : Rule) (next : Option ℕ) → n ≤ k → slice_get rules k ≡ Some rule → slice_get nexts k ≡ Some next → next ≡ first_with (codes_of rule.left) (k + 1) (drop (k + 1) rules)
+AreNexts rules nexts n = (k : ℕ) (rule : Rule) (next : Option ℕ) → n ≤ k → slice_get rules k ≡ Some rule → is_shorter rule ≡ true → slice_get nexts k ≡ Some next → next ≡ first_with (codes_of rule.left) (k + 1) (drop (k + 1) rules)
 
 pub nexts_more : (rules : List Rule) (nexts more : List (Option ℕ)) (n : ℕ) (rule : Rule) (o : Option ℕ) → n < length nexts → slice_get rules n ≡ Some rule → more ≡ slice_set nexts n o
     → o ≡ first_with (codes_of rule.left) (n + 1) (drop (n + 1) rules) → AreNexts rules nexts (n + 1) → AreNexts rules more n
-nexts_more rules nexts more n rule o within at e is h k own next l f g = elim (cases_lt n k) [
-  | inl m ↦ h k own next (omega arith) f (sym (set_else nexts n k o m) ∙ ap (λ (xs : List (Option ℕ)). slice_get xs k) (sym e) ∙ g)
+nexts_more rules nexts more n rule o within at e is h k own next l f short g = elim (cases_lt n k) [
+  | inl m ↦ h k own next (omega arith) f short (sym (set_else nexts n k o m) ∙ ap (λ (xs : List (Option ℕ)). slice_get xs k) (sym e) ∙ g)
   | inr m ↦ (
       let same : k ≡ n = omega arith in
       let here : next ≡ o = option_head next o (sym g ∙ ap (λ (xs : List (Option ℕ)). slice_get xs k) e ∙ ap (slice_get (slice_set nexts n o)) same ∙ set_here nexts n o within) in
@@ -218,8 +233,9 @@ pub record IsNext (rules : List Rule) (window : List Instr) (k n : ℕ) : Type 0
   pub from : k ≤ n
   pub rule : Rule
   pub at : slice_get rules n ≡ Some rule
+  pub shorter : is_shorter rule ≡ true
   pub long : length rule.left ≡ length window
-  pub none : (j : ℕ) (other : Rule) (registers : List Low) → k ≤ j → j < n → slice_get rules j ≡ Some other → Stands other registers window → ⊥
+  pub none : (j : ℕ) (other : Rule) (registers : List Low) → k ≤ j → j < n → slice_get rules j ≡ Some other → Shortens other registers window → ⊥
   pub more : (next : Option ℕ) → next ≡ first_with (codes_of rule.left) (n + 1) (drop (n + 1) rules) → Awaits rules window (n + 1) next
 
 pub awaited : (rules : List Rule) (window : List Instr) (k n : ℕ) (o : Option ℕ) → Awaits rules window k o → o ≡ Some n → IsNext rules window k n
@@ -229,8 +245,9 @@ awaited rules window k n o a e =
       from = f.from;
       rule = f.rule;
       at = f.at;
+      shorter = f.shorter;
       long = sym (codes_length f.rule.left) ∙ ap (λ (xs : List ℕ). length xs) f.same ∙ a.long;
-      none = λ j other registers l h g s. f.none j other l h g (a.are j other registers g s);
+      none = λ j other registers l h g s. f.none j other l h g (lt-ltb (length other.right) (length other.left) s.shorter) (a.are j other registers g s);
       more = λ next is. record {
         codes = a.codes;
         are = a.are;
@@ -239,11 +256,11 @@ awaited rules window k n o a e =
       };
     }
 
-pub none_awaited : (rules : List Rule) (window : List Instr) (k : ℕ) (o : Option ℕ) → Awaits rules window k o → o ≡ None → (j : ℕ) (other : Rule) (registers : List Low) → k ≤ j → slice_get rules j ≡ Some other → Stands other registers window → ⊥
-none_awaited rules window k o a e j other registers h g s = nothing rules a.codes k (sym a.is ∙ e) j other h g (a.are j other registers g s)
+pub none_awaited : (rules : List Rule) (window : List Instr) (k : ℕ) (o : Option ℕ) → Awaits rules window k o → o ≡ None → (j : ℕ) (other : Rule) (registers : List Low) → k ≤ j → slice_get rules j ≡ Some other → Shortens other registers window → ⊥
+none_awaited rules window k o a e j other registers h g s = nothing rules a.codes k (sym a.is ∙ e) j other h g (lt-ltb (length other.right) (length other.left) s.shorter) (a.are j other registers g s)
 
 -- where no rule can stand, none is awaited
-pub awaits_none : (rules : List Rule) (window : List Instr) → ((k : ℕ) (rule : Rule) (registers : List Low) → slice_get rules k ≡ Some rule → Stands rule registers window → ⊥) → Awaits rules window (length rules) None
+pub awaits_none : (rules : List Rule) (window : List Instr) → ((k : ℕ) (rule : Rule) (registers : List Low) → slice_get rules k ≡ Some rule → Shortens rule registers window → ⊥) → Awaits rules window (length rules) None
 awaits_none rules window h = record {
   codes = codes_of window;
   are = λ k rule registers at s. absurd (h k rule registers at s);

@@ -3,6 +3,7 @@ pub mod Maps
 pub mod Live
 pub mod Applied
 pub mod Keys
+pub mod Heads
 pub mod Behind
 pub mod Chosen
 pub mod Accepted

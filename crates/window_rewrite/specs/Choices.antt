@@ -11,7 +11,7 @@ use Rattle.window_rewrite.specs.declared.choice.Choice.{Choice}
 use Rattle.window_rewrite.specs.declared.finding.Rules.{Rules}
 use Rattle.window_rewrite.specs.Rewriting.{setting, replacement_of, IsWhole}
 use Rattle.window_rewrite.specs.Rules.{rules_in, codes_of, first_with, AreFit, IsIndex}
-use Rattle.window_rewrite.specs.Fitting.{Stands}
+use Rattle.window_rewrite.specs.Fitting.{Shortens}
 
 -- the table of a finder, whose index is that of its entries
 abbrev pub setting_of : Rules → Setting
@@ -22,9 +22,9 @@ pub record AreReady (r : Rules) : Type 0 where
   pub fit : AreFit r.longest (rules_in r.entries.now)
   pub index : IsIndex (rules_in r.entries.now) r.index.now
 
--- the codes of each left side that stands in the window are these
+-- the codes of each left side that may give way in the window are these
 abbrev pub AreCodes : List Rule → List Instr → List ℕ → Type 0
-AreCodes rules window codes = (k : ℕ) (rule : Rule) (registers : List Low) → slice_get rules k ≡ Some rule → Stands rule registers window → codes_of rule.left ≡ codes
+AreCodes rules window codes = (k : ℕ) (rule : Rule) (registers : List Low) → slice_get rules k ≡ Some rule → Shortens rule registers window → codes_of rule.left ≡ codes
 
 -- of the rules from the k-th on, the next one whose left side may stand in the window is this
 pub record Awaits (rules : List Rule) (window : List Instr) (k : ℕ) (next : Option ℕ) : Type 0 where
@@ -36,7 +36,7 @@ pub record Awaits (rules : List Rule) (window : List Instr) (k : ℕ) (next : Op
 -- the first one whose left side may stand in the window
 pub record Begins (rules : List Rule) (window : List Instr) (next : Option ℕ) : Type 0 where
   pub k : ℕ
-  pub passed : (j : ℕ) (rule : Rule) (registers : List Low) → j < k → slice_get rules j ≡ Some rule → Stands rule registers window → ⊥
+  pub passed : (j : ℕ) (rule : Rule) (registers : List Low) → j < k → slice_get rules j ≡ Some rule → Shortens rule registers window → ⊥
   pub awaits : Awaits rules window k next
 
 -- ---- choices ----

@@ -12,6 +12,11 @@ pub record Stands (rule : Rule) (registers : List Low) (window : List Instr) : T
   pub one_to_one : IsOneToOne registers
   pub matches : map normalised window ≡ map (renamed registers) rule.left
 
+-- it stands there, and leaves fewer instructions
+pub record Shortens (rule : Rule) (registers : List Low) (window : List Instr) : Type 0 where
+  pub stands : Stands rule registers window
+  pub shorter : length rule.right < length rule.left
+
 -- the item may be live: the mask has it under the map, or it is a register outside the map
 abbrev pub is_allowed : List ℕ → List Low → ℕ → Bool
 is_allowed mask registers x = one_of x (map (item_under registers) mask) || (nat_lt x 15 && not (one_of x (map (λ r. r.number) registers)))

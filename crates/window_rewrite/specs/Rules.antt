@@ -1,14 +1,16 @@
 -- The rules of a table, and how they are found by their left sides.
-use Rattle.std.specs.Prelude.{◌≡◌, ℕ, ◌+◌, ◌≤◌, Bool, List, [], ◌∷◌, length, map, drop, nat_eq, Option, Some, None, slice_get, if◌then◌else◌}
+use Rattle.std.specs.Prelude.{◌≡◌, ℕ, ◌+◌, ◌%◌, ◌≤◌, ◌&&◌, Bool, true, false, List, [], ◌∷◌, length, map, drop, replicate, nat_eq, nat_lt, Option, Some, None, slice_get, if◌then◌else◌}
 use Rattle.std.specs.Cmp.Lexicographic.{pointwise}
 use Rattle.std.specs.Map.{lookup}
 use Rattle.std.specs.declared.alloc.Global.{Global}
 use Rattle.std.specs.declared.vec.Vec.{Vec}
 use Rattle.thumb_instr.specs.declared.instr.Instr.{Instr}
+use Rattle.thumb_instr.specs.Renaming.{Low, renamed}
 use Rattle.thumb_table.specs.Rows.{packed}
 use Rattle.thumb_table.specs.Table.{pieces, form_of, values_of}
 use Rattle.thumb_model.specs.Rewrite.{Rule, IsSoundRule}
 use Rattle.rule_table.specs.declared.table.Entry.{Entry}
+use Rattle.rule_table.specs.Matching.{or_first}
 use Rattle.rule_table.specs.Views.{rule_of}
 use Rattle.table_audit.specs.Soundness.{rewriting_rule}
 use Rattle.table_audit.specs.Sides.{IsCanonicalSide}
@@ -44,13 +46,46 @@ same_codes xs ys = pointwise nat_eq xs ys
 abbrev pub is_key : List ℕ → Vec ℕ Global → Bool
 is_key codes key = same_codes codes key.items
 
--- the first of the rules, which are numbered from n on, whose left side has these codes
+-- it leaves fewer instructions
+abbrev pub is_shorter : Rule → Bool
+is_shorter r = nat_lt (length r.right) (length r.left)
+
+-- it leaves fewer instructions, and its left side has these codes
+abbrev pub has_codes : List ℕ → Rule → Bool
+has_codes codes r = is_shorter r && same_codes codes (codes_of r.left)
+
+-- the first such rule, where they are numbered from n on
 abbrev pub first_with : List ℕ → ℕ → List Rule → Option ℕ
 first_with codes n [] = None
-first_with codes n (r ∷ rs) = if same_codes codes (codes_of r.left) then Some n else first_with codes (n + 1) rs
+first_with codes n (r ∷ rs) = if has_codes codes r then Some n else first_with codes (n + 1) rs
 
--- the index of rules
-pub record IsIndex (rules : List Rule) (index : Index) : Type 0 where
-  pub firsts : (codes : List ℕ) → lookup (is_key codes) index.firsts.entries ≡ first_with codes 0 rules
+-- ---- left sides by their first instructions ----
+
+-- eight times r0
+abbrev pub first_register : Low
+first_register = or_first None
+
+abbrev pub first_registers : List Low
+first_registers = replicate 8 first_register
+
+-- a number that an instruction shares with all that differ from it in registers alone
+abbrev pub head_number : Instr → ℕ
+head_number i = code_number (renamed first_registers i) % 65536
+
+abbrev pub is_true : Option Bool → Bool
+is_true None = false
+is_true (Some b) = b
+
+abbrev pub is_marked : List Bool → ℕ → Bool
+is_marked marks k = is_true (slice_get marks k)
+
+-- the index of the rules from the n-th on
+pub record IsIndexFrom (rules : List Rule) (n : ℕ) (index : Index) : Type 0 where
+  pub firsts : (codes : List ℕ) → lookup (is_key codes) index.firsts.entries ≡ first_with codes n (drop n rules)
   pub as_many : length index.nexts.items ≡ length rules
-  pub nexts : (k : ℕ) (rule : Rule) (next : Option ℕ) → slice_get rules k ≡ Some rule → slice_get index.nexts.items k ≡ Some next → next ≡ first_with (codes_of rule.left) (k + 1) (drop (k + 1) rules)
+  pub nexts : (k : ℕ) (rule : Rule) (next : Option ℕ) → n ≤ k → slice_get rules k ≡ Some rule → is_shorter rule ≡ true → slice_get index.nexts.items k ≡ Some next → next ≡ first_with (codes_of rule.left) (k + 1) (drop (k + 1) rules)
+  pub many_heads : length index.heads.items ≡ 65536
+  pub heads : (k : ℕ) (rule : Rule) (i : Instr) (is : List Instr) → n ≤ k → slice_get rules k ≡ Some rule → is_shorter rule ≡ true → rule.left ≡ i ∷ is → is_marked index.heads.items (head_number i) ≡ true
+
+abbrev pub IsIndex : List Rule → Index → Type 0
+IsIndex rules index = IsIndexFrom rules 0 index

@@ -1,10 +1,11 @@
 //! The next replacement that can be made.
-ghost use Rattle.std.specs.Prelude.{◌≡◌, ◌+◌, ◌*◌, ◌<◌, ◌≤◌, ◌↔◌, ◌∷◌, [], ◌++◌, List, length, drop, true, false, IfOk, OnOk, IfSome, IfNone};
+ghost use Rattle.std.specs.Prelude.{◌≡◌, ◌+◌, ◌*◌, ◌<◌, ◌≤◌, ◌↔◌, ◌∷◌, [], ◌++◌, ℕ, List, length, drop, take, slice_get, true, false, Some, IfOk, OnOk, IfSome, IfNone};
 ghost use Rattle.std.specs.List.{list_all};
 ghost use Rattle.thumb_instr.specs.Renaming.{Low};
 ghost use Rattle.thumb_instr.specs.Window.{is_in_window};
 ghost use Rattle.thumb_model.specs.Layout.{Layable};
 ghost use Rattle.thumb_model.specs.Listing.{labels_from, places_of};
+ghost use Rattle.thumb_model.specs.Rewrite.{Rule};
 ghost use Rattle.thumb_model.specs.Rewritten.{AppliesIn, NoneApplies, left_length, replaced_lines};
 ghost use Rattle.listing_parser.specs.Replacing.{own_line, names_no_label};
 ghost use Rattle.line_cursor.specs.declared.pieces.Piece.{Piece};
@@ -12,6 +13,7 @@ ghost use Rattle.line_cursor.specs.Pieces.{begins_op, lines_in};
 ghost use Rattle.line_cursor.specs.Cursors.{lines_at, place_at, IsCursor, IsSettled};
 ghost use Rattle.thumb_model.proofs.LinesReplaced.{AreOps};
 ghost use Rattle.window_harvest.specs.Harvest.{spot_of, StandsThere};
+ghost use Rattle.window_rewrite.specs.Fitting.{Shortens};
 ghost use Rattle.window_rewrite.specs.Rules.{rules_in};
 ghost use Rattle.window_rewrite.specs.Choices.{setting_of, choice_of, of_length, AreReady, Begins, IsBest, IsChoice, IsFirstChoice, IsLowest, NoneAt, NoneBefore, NoneOf};
 ghost use Rattle.window_rewrite.specs.Sweeps.{IsOver};
@@ -27,7 +29,7 @@ use listing_parser::Memory;
 use rule_table::Entry;
 use std::alloc::Global;
 use step_ledger::{Ledger, Steps};
-use thumb_instr::{Instr, Items, Seq};
+use thumb_instr::{Instr, Items, Seq, normal};
 
 /// A table as the finder goes by it.
 #[derive(Drop)]
@@ -136,7 +138,18 @@ fn try_entry<L: Ledger>(
     }))
 }
 
-/// The first entry whose left side may stand in a window.
+/// Whether some entry that leaves fewer instructions may have a left side that stands first in a run of instructions. Where none may, none does.
+fn may_begin(rules: &Rules<'_>, run: &[Instr]) -> bool
+    requires ready { AreReady rules.now }
+    ensures { result ≡ false → (n k : ℕ) (rule : Rule) (registers : List Low) → slice_get (rules_in rules.now.entries.now) k ≡ Some rule → Shortens rule registers (take n run.now) → ⊥ }
+{
+    match run {
+        [] => false,
+        [first, ..] => rules.index.has_head(&normal(*first)),
+    }
+}
+
+/// The first entry that leaves fewer instructions and whose left side may stand in a window.
 fn first_number(rules: &Rules<'_>, window: &[Instr]) -> Option<usize>
     requires ready { AreReady rules.now }
     requires windows { list_all is_in_window window.now ≡ true }
@@ -196,6 +209,9 @@ fn best_here<L: Ledger>(
     ensures cost { steps.new ≤ steps.old + length (rules_in rules.now.entries.now) }
 {
     let run = cursor.run(usize::from(rules.longest));
+    if !may_begin(rules, run.as_slice()) {
+        return Ok(None);
+    }
     let mut count = run.len();
     while count > 0 {
         let items = cursor.after(count);

@@ -1,21 +1,24 @@
 //! The entries of a table by their left sides.
-ghost use Rattle.std.specs.Prelude.{◌≡◌, ◌+◌, ◌<◌, ◌≤◌, length, drop, slice_get, Some, IfOk};
+ghost use Rattle.std.specs.Prelude.{◌≡◌, ◌∷◌, ◌+◌, ◌<◌, ◌≤◌, ℕ, List, length, drop, slice_get, true, false, Some, IfOk, OnOk};
+ghost use Rattle.thumb_instr.specs.declared.instr.Instr.{Instr};
 ghost use Rattle.thumb_model.specs.Rewrite.{Rule};
-ghost use Rattle.window_rewrite.specs.Rules.{code_number, codes_of, first_with, rules_in, IsIndex};
+ghost use Rattle.window_rewrite.specs.Rules.{code_number, codes_of, entry_rule, first_registers, first_with, head_number, is_marked, is_shorter, rules_in, IsIndex, IsIndexFrom};
 
 use arrayvec::ArrayVec;
 use indexmap::IndexMap;
 use listing_parser::Memory;
 use rule_table::Entry;
 use std::alloc::Global;
-use thumb_instr::Instr;
+use thumb_instr::{Instr, Low, renamed};
 use thumb_table::{Code, encode};
 
-/// The first entry with a left side, by the codes of its instructions, and of each entry the next one with its left side.
+/// Of the entries that leave fewer instructions: the first with a left side, by the codes of its instructions, and of each the next one with its left side.
 #[derive(Drop)]
 pub(crate) struct Index {
     firsts: IndexMap<Vec<u32>, usize>,
     nexts: Vec<Option<usize>>,
+    /// Whether a left side may begin with an instruction, by what it shares with those that differ from it in registers alone. Others may share it too.
+    heads: Vec<bool>,
 }
 
 /// The code of an instruction as a number.
@@ -40,24 +43,87 @@ fn codes_of(side: &[Instr]) -> ArrayVec<u32, 5>
     codes
 }
 
+/// Eight times r0.
+fn first_registers() -> [Low; 8]
+    ensures { result ≡ first_registers }
+{
+    [Low::of(0); 8]
+}
+
+/// A number that an instruction shares with all that differ from it in registers alone.
+fn head_number(instr: &Instr) -> usize
+    ensures value { result ≡ head_number instr.now }
+    ensures small { result < 65536 }
+{
+    let bare = renamed(instr, &first_registers());
+    (code_number(&bare) % 65536) as usize
+}
+
+/// Whether an entry leaves fewer instructions.
+fn is_shorter(entry: &Entry) -> bool
+    ensures { result ≡ is_shorter (entry_rule entry.now) }
+{
+    entry.right.len() < entry.left.len()
+}
+
 impl Index {
     /// The index of these entries.
     pub(crate) fn of(alloc: Global, entries: &[Entry]) -> Result<Index, Memory>
         ensures { IfOk result (λ index. IsIndex (rules_in entries.now) index) }
     {
-        let mut firsts = IndexMap::new(alloc);
-        let mut nexts = vec![in alloc; None; entries.len()]?;
+        let mut index = Index {
+            firsts: IndexMap::new(alloc),
+            nexts: vec![in alloc; None; entries.len()]?,
+            heads: vec![in alloc; false; 65536]?,
+        };
         let mut number = entries.len();
         while number > 0 {
             number -= 1;
-            let codes = codes_of(entries[number].left.as_slice());
-            let key = codes.as_slice().to_vec(alloc)?;
-            nexts[number] = firsts.insert(key, number)?;
+            if is_shorter(&entries[number]) {
+                index.add(alloc, entries, number)?;
+            }
         }
-        Ok(Index { firsts, nexts })
+        Ok(index)
     }
 
-    /// The first entry that has this left side.
+    /// Puts an entry, which leaves fewer instructions, before those that are behind it.
+    fn add(&mut self, alloc: Global, entries: &[Entry], number: usize) -> Result<(), Memory>
+        requires number { number < length entries.now }
+        requires shorter { (rule : Rule) → slice_get (rules_in entries.now) number ≡ Some rule → is_shorter rule ≡ true }
+        requires index { IsIndexFrom (rules_in entries.now) (number + 1) self.old }
+        ensures { OnOk result (IsIndexFrom (rules_in entries.now) number self.new) }
+    {
+        let left = entries[number].left.as_slice();
+        self.mark(left);
+        let codes = codes_of(left);
+        let key = codes.as_slice().to_vec(alloc)?;
+        self.nexts[number] = self.firsts.insert(key, number)?;
+        Ok(())
+    }
+
+    /// Marks the first instruction of a left side.
+    fn mark(&mut self, left: &[Instr])
+        requires { length self.old.heads.items ≡ 65536 }
+        ensures firsts { self.new.firsts.entries ≡ self.old.firsts.entries }
+        ensures nexts { self.new.nexts.items ≡ self.old.nexts.items }
+        ensures many { length self.new.heads.items ≡ 65536 }
+        ensures heads { (q : ℕ) → is_marked self.old.heads.items q ≡ true → is_marked self.new.heads.items q ≡ true }
+        ensures head { (i : Instr) (is : List Instr) → left.now ≡ i ∷ is → is_marked self.new.heads.items (head_number i) ≡ true }
+    {
+        if let [first, ..] = left {
+            self.heads[head_number(first)] = true;
+        }
+    }
+
+    /// Whether some left side may begin with an instruction, but for registers.
+    pub(crate) fn has_head(&self, instr: &Instr) -> bool
+        requires { length self.now.heads.items ≡ 65536 }
+        ensures { result ≡ is_marked self.now.heads.items (head_number instr.now) }
+    {
+        self.heads[head_number(instr)]
+    }
+
+    /// The first entry that leaves fewer instructions and has this left side.
     pub(crate) fn first(&self, side: &[Instr], _entries: &[Entry]) -> Option<usize>
         requires index { IsIndex (rules_in _entries.now) self.now }
         requires few { length side.now ≤ 5 }
@@ -67,11 +133,11 @@ impl Index {
         self.firsts.get(codes.as_slice()).copied()
     }
 
-    /// The next entry that has the left side of this one.
+    /// The next entry that leaves fewer instructions and has the left side of this one, which does.
     pub(crate) fn next(&self, number: usize, _entries: &[Entry]) -> Option<usize>
         requires index { IsIndex (rules_in _entries.now) self.now }
         requires number { number < length _entries.now }
-        ensures { (rule : Rule) → slice_get (rules_in _entries.now) number ≡ Some rule → result ≡ first_with (codes_of rule.left) (number + 1) (drop (number + 1) (rules_in _entries.now)) }
+        ensures { (rule : Rule) → slice_get (rules_in _entries.now) number ≡ Some rule → is_shorter rule ≡ true → result ≡ first_with (codes_of rule.left) (number + 1) (drop (number + 1) (rules_in _entries.now)) }
     {
         self.nexts[number]
     }

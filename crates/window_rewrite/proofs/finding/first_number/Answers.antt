@@ -4,15 +4,15 @@ use Rattle.thumb_instr.specs.declared.instr.Instr.{Instr}
 use Rattle.thumb_instr.specs.Renaming.{Low}
 use Rattle.thumb_model.specs.Rewrite.{Rule}
 use Rattle.window_rewrite.specs.Rules.{rules_in, codes_of}
-use Rattle.window_rewrite.specs.Fitting.{Stands}
+use Rattle.window_rewrite.specs.Fitting.{Shortens}
 use Rattle.window_rewrite.proofs.Keys.{awaits_none, codes_length}
 use Rattle.window_rewrite.proofs.finding.first_number.Goals as goal
 
 pub returns-in-None : goal.returns-in-None
 returns-in-None c =
     let rules : List Rule = rules_in c.args.rules.now.entries.now in
-    let none : (k : ℕ) (rule : Rule) (registers : List Low) → slice_get rules k ≡ Some rule → Stands rule registers c.args.window.now → ⊥ =
-    λ k rule registers at s. let f = c.requires.ready.fit k rule at in let e = c.in-None.ensures.side rule registers f.sound f.canonical s in absurd (cc) in
+    let none : (k : ℕ) (rule : Rule) (registers : List Low) → slice_get rules k ≡ Some rule → Shortens rule registers c.args.window.now → ⊥ =
+    λ k rule registers at s. let f = c.requires.ready.fit k rule at in let e = c.in-None.ensures.side rule registers f.sound f.canonical s.stands in absurd (cc) in
     record {
       k = length rules;
       passed = λ j rule registers l at s. none j rule registers at s;
@@ -29,7 +29,7 @@ returns-in-Some c =
         codes = codes_of c.as_slice.result.now;
         are = λ k rule registers at s.
             let f = c.requires.ready.fit k rule at in
-            ap codes_of (sym (slice ∙ same_Some c.in-Some.side rule.left (c.in-Some.ensures.side rule registers f.sound f.canonical s)));
+            ap codes_of (sym (slice ∙ same_Some c.in-Some.side rule.left (c.in-Some.ensures.side rule registers f.sound f.canonical s.stands)));
         long = codes_length c.as_slice.result.now ∙ ap (λ (is : List Instr). length is) slice ∙ c.in-Some.ensures.long;
         is = c.first.ensures;
       };

@@ -31,7 +31,7 @@ next-at-requires-clause-number g c = next_within c.args.rules.now.entries.now c.
 pub loop-at-smaller : goal.loop-at-smaller
 loop-at-smaller g c =
     let i = awaited (rules_in c.args.rules.now.entries.now) c.args.window.now c.loop-at.invariant.k c.in-Some.number c.loop-at.at c.loop-at.invariant.awaits c.in-Some.is in
-    search_smaller c.args.rules.now.base (rules_in c.args.rules.now.entries.now) (lines_at c.args.cursor.now) (place_at c.args.cursor.now) c.args.window.now c.in-Some.number c.loop-at.at c.next-at.result _ _ c.loop-at.invariant c.in-Some.is (c.in-Some.number + 1) (omega arith) (i.more c.next-at.result (c.next-at.ensures i.rule i.at))
+    search_smaller c.args.rules.now.base (rules_in c.args.rules.now.entries.now) (lines_at c.args.cursor.now) (place_at c.args.cursor.now) c.args.window.now c.in-Some.number c.loop-at.at c.next-at.result _ _ c.loop-at.invariant c.in-Some.is (c.in-Some.number + 1) (omega arith) (i.more c.next-at.result (c.next-at.ensures i.rule i.at i.shorter))
 
 pub loop-at-preserved : goal.loop-at-preserved
 loop-at-preserved g c =

@@ -1,0 +1,25 @@
+use Rattle.std.proofs.Common.{◌≡◌, ◌∙◌, ℕ, List, Option, Some, slice_index_or, ap, refl}
+use Rattle.std.specs.Prelude.{slice_get, slice_set, nat_eq}
+use Rattle.std.specs.Cmp.Lexicographic.{pointwise}
+use Rattle.std.specs.Map.{lookup}
+use Rattle.std.proofs.lemmas.Option.{slice_get_read}
+use Rattle.indexmap.specs.IndexMap.{insert_entry}
+use Rattle.rule_table.specs.declared.table.Entry.{Entry}
+use Rattle.window_rewrite.specs.Rules.{rules_in, codes_of, is_key, entry_rule}
+use Rattle.window_rewrite.proofs.Accepted.{entry_at}
+use Rattle.window_rewrite.proofs.Heads.{more_index}
+use Rattle.window_rewrite.proofs.index.Index.add.Goals as goal
+
+pub returns : goal.returns
+returns c =
+    let entries : List Entry = c.args.entries.now in
+    let n : ℕ = c.args.number in
+    let e : Entry = slice_index_or entries n c.index-entries-number.result in
+    let at : slice_get entries n ≡ Some e = slice_get_read entries _ _ c.index-entries-number.result refl c.requires.number c.index-entries-number.is ∙ ap Some c.index-entries-number.is in
+    let rule : slice_get (rules_in entries) n ≡ Some (entry_rule e) = entry_at entries n e at in
+    let left : c.as_slice-left.result.now ≡ e.left = c.as_slice-left.ensures.value in
+    let key : c.in_ok-key.key.items ≡ codes_of e.left = c.in_ok-key.ensures.items_if_clones_equal (λ y e h. h) ∙ c.as_slice.ensures.value ∙ c.codes_of-codes.ensures ∙ ap codes_of left in
+    more_index (rules_in entries) n (entry_rule e) c.args.self.now _ c.in_ok-key.key c.in_ok-self.field-0 rule (c.requires.shorter (entry_rule e) rule) c.requires.index key
+    (c.in_ok-self.ensures.entries ∙ ap (λ es. insert_entry (λ x y. pointwise nat_eq x.items y.items) es c.in_ok-key.key n) c.mark.ensures.firsts)
+    (c.in_ok-self.ensures.old ∙ ap (lookup (is_key c.in_ok-key.key.items)) c.mark.ensures.firsts)
+    (ap (λ (l : List (Option ℕ)). slice_set l n c.in_ok-self.field-0) c.mark.ensures.nexts) c.mark.ensures.many c.mark.ensures.heads (λ i is f. c.mark.ensures.head i is (left ∙ f))
