@@ -68,7 +68,7 @@ module _ (sets : Sets) (s : ℕ) (c : Source) (new : Sets) (changed : Bool) (m :
         | inr d ↦ ap (λ (o : Option Items). has (word_of o) x) (m.elsewhere q d) ∙ h
       ]
 
-  after_grows : (q x : ℕ) → has (set_at sets.after q) x ≡ true → has (set_at new.after q) x ≡ true
+  pub after_grows : (q x : ℕ) → has (set_at sets.after q) x ≡ true → has (set_at new.after q) x ≡ true
   after_grows q x h =
       elim (cases_eq q c.place) [
         | inl e ↦ subst (λ y. has (set_at new.after y) x ≡ true) (sym e) (m.after_here x ∙ or_left _ _ (subst (λ y. has (set_at sets.after y) x ≡ true) e h))

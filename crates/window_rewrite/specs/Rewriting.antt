@@ -47,9 +47,13 @@ abbrev pub of_layout : LayoutError → RewriteError
 of_layout (layout.Line number k) = error.Line number k
 of_layout layout.Memory = error.Memory
 
+-- how many places are visited at most for the live items of so many places
+abbrev pub visits : ℕ → ℕ
+visits places = (19 * places + 1) * places
+
 -- how many matches are tried and places visited for one replacement, in a listing of so many places by a table of so many entries
 abbrev pub round_cost : ℕ → ℕ → ℕ
-round_cost places entries = places * entries + (19 * places + 1) * places
+round_cost places entries = places * entries + visits places
 
 -- the cost of some replacements, and of finding that there is no more
 abbrev pub rewriting_cost : List Line → List Rule → ℕ → ℕ

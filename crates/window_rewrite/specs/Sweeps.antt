@@ -1,11 +1,13 @@
 -- A sweep over a listing: a cursor in lines that come of it by replacements.
-use Rattle.std.specs.Prelude.{◌≡◌, ℕ, ◌+◌, ◌-◌, ◌%◌, ◌≤◌, ◌++◌, Bool, true, false, None, List, [], length, map}
+use Rattle.std.specs.Prelude.{◌≡◌, ℕ, ◌+◌, ◌-◌, ◌*◌, ◌%◌, ◌≤◌, ◌++◌, Bool, true, false, None, List, [], ◌∷◌, length, map}
 use Rattle.thumb_instr.specs.declared.instr.Instr.{Instr}
+use Rattle.thumb_instr.specs.Items.{has}
 use Rattle.thumb_model.specs.Listing.{Line, code_of, places_of}
 use Rattle.thumb_model.specs.Rewrite.{replaced}
 use Rattle.thumb_model.specs.Rewritten.{Setting, Replacement, AreRewritten}
 use Rattle.listing_parser.specs.TableWords.{first_twice}
-use Rattle.liveness.specs.Live.{IsLive}
+use Rattle.liveness.specs.Live.{set_at, IsLive}
+use Rattle.liveness.specs.Growing.{IsGrowing}
 use Rattle.liveness.specs.declared.kept.NewSets.{NewSets}
 use Rattle.liveness.specs.Kept.{AreFlows, replaced_sets}
 use Rattle.steady_layout.specs.Steady.{IsSteady}
@@ -29,6 +31,29 @@ pub record AreKept (c : Cursor) (window new : List Instr) (sets : List NewSets) 
   pub as_many : length sets ≡ lead + length new
   pub few : length new ≤ 5
   pub live : IsLive (replaced (code_of (lines_at c)) (place_at c) (length window) new) (replaced_sets (place_at c - lead) (lead + length window) sets (sets_of (spots_at c)))
+
+-- with the sets of new instructions in place of a window right behind a cursor, and all others that are kept, no set lacks what is live but by ways to the window's place
+pub record AreGrowing (c : Cursor) (window new : List Instr) (sets : List NewSets) : Type 0 where
+  pub as_many : length sets ≡ length new
+  pub few : length new ≤ 5
+  pub growing : IsGrowing (replaced (code_of (lines_at c)) (place_at c) (length window) new) (place_at c ∷ []) (replaced_sets (place_at c) (length window) sets (sets_of (spots_at c)))
+
+-- what was live after the place by what one cursor keeps is so by what the other keeps
+abbrev pub LosesNone : Cursor → Cursor → ℕ → Type 0
+LosesNone old now q = (x : ℕ) → has (set_at (sets_of (spots_at old)).after q) x ≡ true → has (set_at (sets_of (spots_at now)).after q) x ≡ true
+
+-- the cursor stands where it stood, in the same lines, and what is kept of live items only grew
+pub record IsGrown (old now : Cursor) : Type 0 where
+  pub behind : now.behind.items ≡ old.behind.items
+  pub ahead : now.ahead.items ≡ old.ahead.items
+  pub passed : length now.passed.items ≡ length old.passed.items
+  pub coming : length now.coming.items ≡ length old.coming.items
+  pub flows : flows_of (spots_at now) ≡ flows_of (spots_at old)
+  pub after : (q : ℕ) → LosesNone old now q
+
+-- how many places are visited at most until sets of so many places grow no more
+abbrev pub growing_cost : ℕ → ℕ
+growing_cost places = (19 * places + 1) * (places + 1)
 
 -- other lines may become a listing where these are one
 pub record MayBecome (given lines : List Line) : Type 0 where

@@ -4,9 +4,9 @@
 //! side, and of these the lowest. What may be replaced is decided by the items that are live, by the labels and by the layout that would come of it. A place
 //! is compared with few entries: those whose left side is the canonical form of a window there, found by its code.
 //!
-//! A sweep goes over the listing by a cursor that keeps the live items of all places. Where a replacement changes those of places before it, and these lie in
-//! straight code, it puts in the new ones; it goes back from there no further than a window can reach. It ends where other items may come to be live elsewhere,
-//! or where the layout must be asked each time; then another begins.
+//! A sweep goes over the listing by a cursor that keeps the live items of all places. Where items are live no more in straight code before a replacement, it
+//! puts in the new sets; where more come to be live, it carries them back along all ways. It goes back from there no further than a window can reach. It ends
+//! where items may be live no more elsewhere, or where the layout must be asked each time; then another begins.
 #![tactic(auto)]
 
 mod choice;
@@ -14,6 +14,7 @@ mod errors;
 mod finding;
 mod fitting;
 mod ground;
+mod growing;
 mod index;
 mod items;
 mod making;

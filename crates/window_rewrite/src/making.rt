@@ -1,8 +1,9 @@
 //! A replacement made at a cursor, with what is kept of places.
-ghost use Rattle.std.specs.Prelude.{◌≡◌, ◌+◌, ◌-◌, ◌<◌, ◌≤◌, ◌++◌, ◌∷◌, [], ℕ, List, length, map, slice_get, true, IfOk, IfSome, None, OnOk, OnSome, Some};
+ghost use Rattle.std.specs.Prelude.{◌≡◌, ◌+◌, ◌-◌, ◌*◌, ◌<◌, ◌≤◌, ◌++◌, ◌∷◌, [], ℕ, List, length, map, slice_get, is_some, true, IfOk, IfSome, None, OnOk, OnSome, Some};
+ghost use Rattle.std.specs.Int.{from_bool};
 ghost use Rattle.std.specs.List.{list_all};
 ghost use Rattle.thumb_instr.specs.Window.{is_in_window};
-ghost use Rattle.thumb_model.specs.Listing.{code_of};
+ghost use Rattle.thumb_model.specs.Listing.{code_of, places_of};
 ghost use Rattle.thumb_model.specs.Flow.{ways_of};
 ghost use Rattle.thumb_model.specs.Rewritten.{replaced_lines};
 ghost use Rattle.listing_parser.specs.Replacing.{own_line};
@@ -11,13 +12,17 @@ ghost use Rattle.thumb_instr.specs.declared.instr.Instr.{Instr};
 ghost use Rattle.liveness.specs.declared.flowing.Flow.{Flow};
 ghost use Rattle.line_cursor.specs.declared.pieces.Piece.{Piece};
 ghost use Rattle.line_cursor.specs.Pieces.{begins_op, lines_in};
-ghost use Rattle.line_cursor.specs.Cursors.{flows_of, lines_at, place_at, spots_at};
-ghost use Rattle.window_rewrite.specs.Sweeps.{AreKept, IsKept};
+ghost use Rattle.line_cursor.specs.Cursors.{flows_of, lines_at, place_at, spots_at, IsCursor};
+ghost use Rattle.window_rewrite.specs.Rewriting.{visits};
+ghost use Rattle.window_rewrite.specs.Sweeps.{AreGrowing, AreKept, IsKept, LosesNone};
 
+use crate::growing::grow;
 use arrayvec::ArrayVec;
 use line_cursor::{Cursor, Spot};
 use listing_parser::Memory;
-use liveness::{Flow, NewSets, flow_of, keep};
+use liveness::{Flow, NewSets, flow_of, grown, keep};
+use std::alloc::Global;
+use step_ledger::{Ledger, Steps};
 use thumb_instr::Instr;
 
 /// What is kept of new instructions, which have these sets.
@@ -129,6 +134,48 @@ fn put(
     Ok(lead)
 }
 
+/// The sets of new instructions in place of a window right behind the cursor, where no item is live no more: these and those that are kept lack nothing but
+/// what comes by ways to the window's place.
+fn grown_behind(
+    cursor: &Cursor<'_>,
+    window: &[Instr],
+    new: &[Instr],
+) -> Option<ArrayVec<NewSets, 5>>
+    requires kept { IsKept cursor.now }
+    requires keeps { KeepsAt (code_of (lines_at cursor.now)) (place_at cursor.now) window.now new.now }
+    ensures { IfSome result (λ s. AreGrowing cursor.now window.now new.now s.items) }
+{
+    let flows = cursor.flows(window.len());
+    let before = cursor.before(0);
+    let after = cursor.after(window.len());
+    grown(window, new, before, after, flows.as_slice())
+}
+
+/// Puts new instructions in place of a window right behind the cursor, with these sets, and works out what they and the others lack.
+fn put_growing<L: Ledger>(
+    alloc: Global,
+    cursor: &mut Cursor<'_>,
+    window: &[Instr],
+    new: &[Instr],
+    sets: &[NewSets],
+    steps: &mut Steps<L>,
+) -> Result<(), Memory>
+    requires kept { IsKept cursor.old }
+    requires some { 0 < length cursor.old.ahead.items }
+    requires first { (rest : List Piece) (x : Piece) → cursor.old.ahead.items ≡ rest ++ x ∷ [] → begins_op (lines_in x) ≡ true }
+    requires keeps { KeepsAt (code_of (lines_at cursor.old)) (place_at cursor.old) window.now new.now }
+    requires sets { AreGrowing cursor.old window.now new.now sets.now }
+    ensures lines { OnOk result (lines_at cursor.new ≡ replaced_lines own_line (place_at cursor.old) (length window.now) new.now (lines_at cursor.old)) }
+    ensures kept { OnOk result (IsKept cursor.new) }
+    ensures after { OnOk result ((q : ℕ) → q < place_at cursor.old → LosesNone cursor.old cursor.new q) }
+    ensures cost { OnOk result (steps.new ≤ steps.old + visits (length (places_of (lines_at cursor.old)))) }
+{
+    let place = cursor.place();
+    let spots = spots_of(sets, new);
+    cursor.replace(window.len(), new, spots.as_slice())?;
+    grow(alloc, cursor, place, steps)
+}
+
 /// What stands for new instructions of which nothing is known.
 fn blank(new: &[Instr]) -> ArrayVec<Spot, 5>
     requires few { length new.now ≤ 5 }
@@ -141,11 +188,31 @@ fn blank(new: &[Instr]) -> ArrayVec<Spot, 5>
     spots
 }
 
-/// Puts new instructions in place of a window right behind the cursor. The sets of how many places before it changed, where what is kept of places is still true.
-pub(crate) fn make(
+/// Puts new instructions in place of a window right behind the cursor, and nothing true of what is kept of places.
+pub(crate) fn put_blank(
     cursor: &mut Cursor<'_>,
     window: &[Instr],
     new: &[Instr],
+) -> Result<(), Memory>
+    requires is { IsCursor cursor.old }
+    requires some { 0 < length cursor.old.ahead.items }
+    requires first { (rest : List Piece) (x : Piece) → cursor.old.ahead.items ≡ rest ++ x ∷ [] → begins_op (lines_in x) ≡ true }
+    requires few { length window.now ≤ 5 }
+    requires keeps { KeepsAt (code_of (lines_at cursor.old)) (place_at cursor.old) window.now new.now }
+    ensures lines { OnOk result (lines_at cursor.new ≡ replaced_lines own_line (place_at cursor.old) (length window.now) new.now (lines_at cursor.old)) }
+{
+    cursor.replace(window.len(), new, blank(new).as_slice())?;
+    Ok(())
+}
+
+/// Puts new instructions in place of a window right behind the cursor. In how many places before it items may be live no more, where what is kept of places is
+/// still true.
+pub(crate) fn make<L: Ledger>(
+    alloc: Global,
+    cursor: &mut Cursor<'_>,
+    window: &[Instr],
+    new: &[Instr],
+    steps: &mut Steps<L>,
 ) -> Result<Option<usize>, Memory>
     requires kept { IsKept cursor.old }
     requires some { 0 < length cursor.old.ahead.items }
@@ -154,15 +221,20 @@ pub(crate) fn make(
     requires keeps { KeepsAt (code_of (lines_at cursor.old)) (place_at cursor.old) window.now new.now }
     ensures lines { OnOk result (lines_at cursor.new ≡ replaced_lines own_line (place_at cursor.old) (length window.now) new.now (lines_at cursor.old)) }
     ensures kept { IfOk result (λ o. OnSome o (IsKept cursor.new)) }
-    ensures spots { IfOk result (λ o. IfSome o (λ n. (q : ℕ) → q + n < place_at cursor.old → slice_get (spots_at cursor.new) q ≡ slice_get (spots_at cursor.old) q)) }
+    ensures after { IfOk result (λ o. IfSome o (λ n. (q : ℕ) → q + n < place_at cursor.old → LosesNone cursor.old cursor.new q)) }
+    ensures cost { IfOk result (λ o. steps.new ≤ steps.old + from_bool (is_some o) * visits (length (places_of (lines_at cursor.old)))) }
 {
-    match kept(cursor, window, new) {
+    if let Some(sets) = kept(cursor, window, new) {
+        let lead = put(cursor, window, new, sets.as_slice())?;
+        return Ok(Some(lead));
+    }
+    match grown_behind(cursor, window, new) {
         Some(sets) => {
-            let lead = put(cursor, window, new, sets.as_slice())?;
-            Ok(Some(lead))
+            put_growing(alloc, cursor, window, new, sets.as_slice(), steps)?;
+            Ok(Some(0))
         }
         None => {
-            cursor.replace(window.len(), new, blank(new).as_slice())?;
+            put_blank(cursor, window, new)?;
             Ok(None)
         }
     }

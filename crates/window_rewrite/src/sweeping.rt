@@ -7,7 +7,7 @@ ghost use Rattle.line_cursor.specs.declared.pieces.Piece.{Piece};
 ghost use Rattle.line_cursor.specs.Pieces.{begins_op, lines_in};
 ghost use Rattle.line_cursor.specs.Cursors.{flows_of, lines_at, place_at, sets_of};
 ghost use Rattle.steady_layout.specs.Steady.{IsSteady};
-ghost use Rattle.window_rewrite.specs.Rewriting.{round_cost, IsWhole};
+ghost use Rattle.window_rewrite.specs.Rewriting.{round_cost, visits, IsWhole};
 ghost use Rattle.window_rewrite.specs.Rules.{rules_in};
 ghost use Rattle.window_rewrite.specs.Choices.{setting_of, choice_of, AreReady, IsFirstChoice, NoneBefore};
 ghost use Rattle.window_rewrite.specs.Sweeps.{Completes, IsOver, IsSteadyIf, MayBecome};
@@ -15,7 +15,7 @@ ghost use Rattle.window_rewrite.specs.Sweeps.{Completes, IsOver, IsSteadyIf, May
 use crate::choice::{Choice, Replacement};
 use crate::finding::{Rules, next};
 use crate::ground::Ground;
-use crate::making::make;
+use crate::making::{make, put_blank};
 use line_cursor::pieces::written;
 use line_cursor::{Cursor, Spot};
 use listing_parser::{Listing, Memory};
@@ -33,11 +33,13 @@ pub(crate) struct Swept {
 }
 
 /// Makes a replacement that was found, and goes back to where others may be possible now. Whether the sweep can go on.
-fn turn(
+fn turn<L: Ledger>(
+    alloc: Global,
     rules: &Rules<'_>,
     ground: &Ground<'_>,
     cursor: &mut Cursor<'_>,
     choice: &Choice,
+    steps: &mut Steps<L>,
 ) -> Result<bool, Memory>
     requires ready { AreReady rules.now }
     requires over { IsOver rules.now ground.now cursor.old }
@@ -48,13 +50,17 @@ fn turn(
     ensures lines { OnOk result (lines_at cursor.new ≡ lines_after (setting_of rules.now) (choice_of choice.now) (lines_at cursor.old)) }
     ensures over { IfOk result (λ b. b ≡ true → IsOver rules.now ground.now cursor.new) }
     ensures before { IfOk result (λ b. b ≡ true → NoneBefore (setting_of rules.now) (lines_at cursor.new) (place_at cursor.new)) }
+    ensures cost { IfOk result (λ b. steps.new ≤ steps.old + from_bool b * visits (length (places_of (lines_at cursor.old)))) }
 {
-    match make(cursor, choice.window.as_slice(), choice.new.as_slice())? {
+    let window = choice.window.as_slice();
+    let new = choice.new.as_slice();
+    if !ground.steady {
+        put_blank(cursor, window, new)?;
+        return Ok(false);
+    }
+    match make(alloc, cursor, window, new, steps)? {
         None => Ok(false),
         Some(lead) => {
-            if !ground.steady {
-                return Ok(false);
-            }
             let changed = (choice.replacement.place as usize).saturating_sub(lead);
             cursor.rewind(changed.saturating_sub(usize::from(rules.longest)))?;
             Ok(true)
@@ -82,10 +88,10 @@ fn go_through<L: Ledger>(
     ensures none { IfOk result (λ b. b ≡ true → NoneApplies (setting_of rules.now) (lines_at cursor.new)) }
     ensures fewer { IfOk result (λ b. length (places_of (lines_at cursor.new)) + from_bool (not b) ≤ length (places_of (lines_at cursor.old))) }
     ensures more { IfOk result (λ b. length replacements.old.items + from_bool (not b) ≤ length replacements.new.items) }
-    ensures cost { IfOk result (λ b. steps.new + length replacements.old.items * (length (places_of (lines_at cursor.old)) * length (rules_in rules.now.entries.now)) ≤ steps.old + (length replacements.new.items + from_bool b) * (length (places_of (lines_at cursor.old)) * length (rules_in rules.now.entries.now))) }
+    ensures cost { IfOk result (λ b. steps.new + visits (length (places_of (lines_at cursor.old))) + length replacements.old.items * round_cost (length (places_of (lines_at cursor.old))) (length (rules_in rules.now.entries.now)) ≤ steps.old + (length replacements.new.items + from_bool b) * round_cost (length (places_of (lines_at cursor.old))) (length (rules_in rules.now.entries.now))) }
 {
     while let Some(choice) = next(alloc, rules, ground, cursor, steps)? {
-        let goes_on = turn(rules, ground, cursor, &choice)?;
+        let goes_on = turn(alloc, rules, ground, cursor, &choice, steps)?;
         replacements.push(choice.replacement)?;
         if !goes_on {
             return Ok(false);
