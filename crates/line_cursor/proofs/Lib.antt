@@ -5,3 +5,6 @@ pub mod Nearer
 pub mod Spots
 pub mod Labels
 pub mod Leads
+mod Carried
+mod Ways
+mod Jumps
