@@ -1,5 +1,5 @@
 -- Sets of spots, of which one grew.
-use Rattle.std.proofs.Common.{◌≡◌, ◌≢◌, ℕ, zero, suc, ◌+◌, ◌-◌, ◌<◌, ◌≤◌, ◌&&◌, ◌||◌, ◌==◌, Bool, true, false, List, [], ◌∷◌, ◌++◌, length, length-append, map, reverse, Option, Some, None, refl, sym, ap, ◌∙◌, subst, ◌⊎◌, inl, inr, arith}
+use Rattle.std.proofs.Common.{◌≡◌, ◌≢◌, ℕ, zero, suc, ◌+◌, ◌-◌, ◌<◌, ◌≤◌, ◌&&◌, ◌||◌, ◌==◌, Bool, true, false, List, [], ◌∷◌, ◌++◌, length, map, reverse, Option, Some, refl, sym, ap, ◌∙◌, subst, ◌⊎◌, inl, inr, arith}
 use Rattle.std.specs.Prelude.{not, slice_get, slice_set}
 use Rattle.std.specs.Int.{bit_at, from_bool}
 use Rattle.std.specs.Option.{option_map}
@@ -10,7 +10,6 @@ use Rattle.std.proofs.lemmas.Option.{slice_get-map, slice_get_within}
 use Rattle.thumb_instr.specs.declared.items.Items.{Items}
 use Rattle.thumb_instr.specs.Items.{has}
 use Rattle.thumb_model.proofs.Lists.{length_map, get_front}
-use Rattle.liveness.specs.declared.flowing.Flow.{Flow}
 use Rattle.liveness.specs.declared.growing.Source.{Source}
 use Rattle.liveness.specs.Live.{word_of, set_at}
 use Rattle.liveness.specs.Passes.{weight_below, total}

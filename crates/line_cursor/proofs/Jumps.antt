@@ -1,21 +1,26 @@
 -- The places from which a way leads to a place, one place more at a time.
-use Rattle.std.proofs.Common.{◌≡◌, ℕ, zero, suc, ◌+◌, ◌-◌, ◌<◌, ◌≤◌, Bool, true, false, List, [], ◌∷◌, ◌++◌, length, length-append, map, Option, Some, None, refl, sym, ap, ◌∙◌, subst, ◌⊎◌, inl, inr, arith, eq-eqb, eqb-true}
+use Rattle.std.proofs.Common.{◌≡◌, ℕ, zero, suc, ◌+◌, ◌-◌, ◌<◌, ◌≤◌, Bool, true, List, [], ◌∷◌, ◌++◌, length, length-append, take, drop, map, get_or, Option, Some, None, refl, sym, ap, ◌∙◌, subst, ◌⊎◌, inl, inr, arith, eq-eqb, eqb-true}
 use Rattle.std.specs.Prelude.{slice_get}
 use Rattle.std.specs.Option.{option_map}
 use Rattle.std.proofs.lemmas.Bool.{cases_lt, cases_eq}
 use Rattle.std.proofs.lemmas.Option.{slice_get_past, slice_get_within, slice_get-map}
 use Rattle.thumb_instr.specs.declared.items.Items.{Items}
 use Rattle.thumb_instr.specs.Items.{one_of, has}
-use Rattle.thumb_model.specs.Listing.{Value, Place, Op, Word, Line, Statement, Nothing, Runs, Words, Aligns, Sets, Code, places_in, places_of, label_places, return_places}
+use Rattle.thumb_model.specs.Listing.{Value, Place, Word, Line, Statement, Nothing, Runs, Words, Aligns, Sets, Code, code_of, places_in, places_of, label_places, return_places}
 use Rattle.thumb_model.specs.Flow.{Way, Leads, Onward, ToPlace, AnyPoint, Out, ways, ways_on, Follows}
-use Rattle.thumb_model.proofs.Lists.{get_front, get_back}
-use Rattle.liveness.specs.declared.flowing.Flow.{Flow}
+use Rattle.thumb_model.proofs.Lists.{get_front, get_back, length_map}
 use Rattle.liveness.specs.declared.growing.Source.{Source}
 use Rattle.liveness.specs.Kept.{onward_writes, HasThese, AreFlows}
 use Rattle.liveness.specs.Growing.{LeadsFrom, AreSources}
 use Rattle.line_cursor.specs.declared.cursor.Spot.{Spot}
+use Rattle.line_cursor.specs.declared.pieces.Piece.{Piece}
+use Rattle.line_cursor.specs.declared.sources.Target.{Target}
+use Rattle.line_cursor.specs.Pieces.{lines_in, lines_of}
 use Rattle.line_cursor.specs.Cursors.{flows_of}
-use Rattle.line_cursor.specs.Sources.{jumps, jumped, IsAdded, IsListed, AreJumps, IsOnward}
+use Rattle.line_cursor.specs.Sources.{jumps, jumped, IsAdded, IsListed, AreJumps, IsOnward, IsTarget}
+use Rattle.line_cursor.proofs.Labels.{taken_push}
+use Rattle.line_cursor.proofs.Nearer.{places_append}
+use Rattle.line_cursor.proofs.Targets.{all_cut}
 use Rattle.line_cursor.proofs.Ways.{jump_is, onward_is, jump_found, onward_found}
 
 -- ---- where ways lead ----
@@ -200,3 +205,49 @@ sources_both code s p n old new c e point js on more = record {
     | inr t ↦ listed_push q w old new c more (js.all q k w (let h = way_within code q k w f in omega arith) f t)
   ];
 }
+
+pub sources_within : (code : Code) (spots : List Spot) (s : ℕ) (sources : List Source) → AreFlows code (flows_of spots) → AreSources code s sources → (k : ℕ) (c : Source) → slice_get sources k ≡ Some c → c.place < length spots
+sources_within code spots s sources h a k c e =
+    let l = a.each k c e in
+    let w = way_within code c.place l.number l.found l.is in
+    omega (arith, w, h.as_many, length_map (λ (t : Spot). t.flow) spots)
+
+pub from_target : (lines : List Line) (t : Target) (place : ℕ) (sources : List Source) → IsTarget (code_of lines) t → t.place ≡ place → AreJumps (code_of lines) t.place t.is_point (length (places_of lines)) sources → IsOnward (code_of lines) place None
+    → AreSources (code_of lines) place sources
+from_target lines t place sources is e js on =
+    subst (λ s. AreSources (code_of lines) s sources) e
+    (sources_jump (code_of lines) t.place t.is_point (length (places_of lines)) sources refl is.is_point js (subst (λ s. IsOnward (code_of lines) s None) (sym e) on))
+
+pub from_both : (lines : List Line) (t : Target) (place : ℕ) (old new : List Source) (c : Source) → IsTarget (code_of lines) t → t.place ≡ place → AreJumps (code_of lines) t.place t.is_point (length (places_of lines)) old → IsOnward (code_of lines) place (Some c)
+    → new ≡ old ++ c ∷ [] → AreSources (code_of lines) place new
+from_both lines t place old new c is e js on more =
+    subst (λ s. AreSources (code_of lines) s new) e
+    (sources_both (code_of lines) t.place t.is_point (length (places_of lines)) old new c refl is.is_point js (subst (λ s. IsOnward (code_of lines) s (Some c)) (sym e) on) more)
+
+-- ---- the loop over pieces ----
+
+pub taken_count : (pieces : List Piece) (i : ℕ) (x : Piece) → i < length pieces → x ≡ get_or pieces i x → length (places_of (lines_of (take (i + 1) pieces))) ≡ length (places_of (lines_of (take i pieces))) + length (places_of (lines_in x))
+taken_count pieces i x h e =
+    ap (λ (ls : List Line). length (places_of ls)) (taken_push pieces i x h e) ∙ ap (λ (ps : List Place). length ps) (places_append (lines_of (take i pieces)) (lines_in x))
+    ∙ length-append (places_of (lines_of (take i pieces))) (places_of (lines_in x))
+
+pub taken_within : (pieces : List Piece) (i : ℕ) (x : Piece) → i < length pieces → x ≡ get_or pieces i x → length (places_of (lines_of (take i pieces))) + length (places_of (lines_in x)) ≤ length (places_of (lines_of pieces))
+taken_within pieces i x h e =
+    let cut = ap (λ (ls : List Line). length (places_of ls)) (all_cut pieces i x h e) in
+    let a = ap (λ (ps : List Place). length ps) (places_append (lines_of (take i pieces)) (lines_in x ++ lines_of (drop (suc i) pieces))) in
+    let b = ap (λ (ps : List Place). length ps) (places_append (lines_in x) (lines_of (drop (suc i) pieces))) in
+    let c = length-append (places_of (lines_of (take i pieces))) (places_of (lines_in x ++ lines_of (drop (suc i) pieces))) in
+    let d = length-append (places_of (lines_in x)) (places_of (lines_of (drop (suc i) pieces))) in
+    omega arith
+
+pub taken_stands : (pieces : List Piece) (i : ℕ) (x : Piece) (at : ℕ) → i < length pieces → x ≡ get_or pieces i x → at ≡ length (places_of (lines_of (take i pieces)))
+    → (j : ℕ) → j < length (places_of (lines_in x)) → slice_get (places_of (lines_of pieces)) (at + j) ≡ slice_get (places_of (lines_in x)) j
+taken_stands pieces i x at h e n j l =
+    ap (λ (ls : List Line). slice_get (places_of ls) (at + j)) (all_cut pieces i x h e)
+    ∙ ap (λ (ps : List Place). slice_get ps (at + j)) (places_append (lines_of (take i pieces)) (lines_in x ++ lines_of (drop (suc i) pieces)) ∙ ap (λ (ps : List Place). places_of (lines_of (take i pieces)) ++ ps) (places_append (lines_in x) (lines_of (drop (suc i) pieces))))
+    ∙ get_back (places_of (lines_of (take i pieces))) (places_of (lines_in x) ++ places_of (lines_of (drop (suc i) pieces))) j (at + j) (omega arith)
+    ∙ get_front (places_of (lines_in x)) (places_of (lines_of (drop (suc i) pieces))) j l
+
+pub added_these : (o : Option (List ℕ)) (at : ℕ) (old new : List Source) (s : Items) → HasThese o (Some s) → new ≡ old ++ record { place = at; writes = s } ∷ [] → IsAdded o at old new
+added_these None at old new s h e = absurd h
+added_these (Some list) at old new s h e = (record { place = at; writes = s }, e, refl, h)

@@ -8,3 +8,4 @@ pub mod Leads
 mod Carried
 mod Ways
 mod Jumps
+mod Targets

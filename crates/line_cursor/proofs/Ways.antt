@@ -1,36 +1,36 @@
 -- The ways of an instruction that jump to a place, and the one that goes straight on.
-use Rattle.std.proofs.Common.{◌≡◌, ℕ, zero, suc, ◌+◌, ◌==◌, ◌&&◌, Bool, true, false, List, [], ◌∷◌, Option, Some, None, refl, sym, ap, ◌∙◌, subst, if◌then◌else◌}
+use Rattle.std.proofs.Common.{◌≡◌, ℕ, zero, suc, Bool, true, false, List, [], ◌∷◌, Option, Some, None, refl, ap, ◌∙◌, if◌then◌else◌}
 use Rattle.std.specs.Prelude.{slice_get}
 use Rattle.thumb_instr.specs.declared.instr.Instr.{Instr}
 use Rattle.thumb_instr.specs.declared.instr.Instr.TheVariants as instr
-use Rattle.thumb_instr.specs.declared.items.Items.{Items}
-use Rattle.thumb_instr.specs.Items.{one_of, has, sp}
+use Rattle.thumb_instr.specs.Items.{has, sp}
 use Rattle.thumb_instr.specs.Shape.{registers_in}
 use Rattle.thumb_model.specs.Listing.{Place, Op, Word, Code}
 use Rattle.thumb_model.specs.Machine.{aim_of}
 use Rattle.thumb_model.specs.Flow.{Way, Leads, Onward, ToPlace, AnyPoint, Out, way, left_but, ways_of, ways_on}
-use Rattle.liveness.specs.Kept.{if_onward, onward_writes, HasThese}
+use Rattle.liveness.specs.Kept.{if_onward, onward_writes}
 use Rattle.line_cursor.specs.Sources.{jumps, jumped}
 
 -- ---- at most one way of each kind ----
 
-abbrev GoesOn : Leads → Type 0
-GoesOn Onward = ⊥
-GoesOn (ToPlace q) = Unit {0}
-GoesOn AnyPoint = Unit {0}
-GoesOn Out = Unit {0}
+-- a way that doesn't go straight on, and one that jumps nowhere
+abbrev IsElsewhere : Leads → Type 0
+IsElsewhere Onward = ⊥
+IsElsewhere (ToPlace q) = Unit {0}
+IsElsewhere AnyPoint = Unit {0}
+IsElsewhere Out = Unit {0}
 
-abbrev Jumps : Leads → Type 0
-Jumps Onward = Unit {0}
-Jumps (ToPlace q) = ⊥
-Jumps AnyPoint = ⊥
-Jumps Out = Unit {0}
+abbrev IsNoJump : Leads → Type 0
+IsNoJump Onward = Unit {0}
+IsNoJump (ToPlace q) = ⊥
+IsNoJump AnyPoint = ⊥
+IsNoJump Out = Unit {0}
 
 -- of two ways the first doesn't go straight on, and the second doesn't jump
 abbrev AreFew : List Way → Type 0
 AreFew [] = Unit {0}
 AreFew (w ∷ []) = Unit {0}
-AreFew (w ∷ v ∷ []) = GoesOn w.leads × Jumps v.leads
+AreFew (w ∷ v ∷ []) = IsElsewhere w.leads × IsNoJump v.leads
 AreFew (w ∷ v ∷ u ∷ us) = ⊥
 
 -- a row: the ways of an instruction
@@ -58,7 +58,7 @@ few_on code (Some (Op i m)) = few_of (aim_of code m) i
 some_way : (v w : Way) → (let o : Option Way = Some v in o) ≡ Some w → v ≡ w
 some_way v w e = cc
 
-none_jumps : (s : ℕ) (p : Bool) (l : Leads) → Jumps l → jumps s p l ≡ true → ⊥
+none_jumps : (s : ℕ) (p : Bool) (l : Leads) → IsNoJump l → jumps s p l ≡ true → ⊥
 none_jumps s p Onward g h = absurd (cc)
 none_jumps s p (ToPlace q) g h = g
 none_jumps s p AnyPoint g h = g
@@ -82,7 +82,7 @@ jump_is code o s p k w e h = one_jumps s p (ways_on code o) (few_on code o) k w 
 onward_here : (v : Way) (vs : List Way) → v.leads ≡ Onward → onward_writes (v ∷ vs) ≡ Some v.writes
 onward_here v vs e = ap (λ l. if_onward l v.writes (onward_writes vs)) e
 
-onward_past : (l : Leads) (list : List ℕ) (rest : Option (List ℕ)) → GoesOn l → if_onward l list rest ≡ rest
+onward_past : (l : Leads) (list : List ℕ) (rest : Option (List ℕ)) → IsElsewhere l → if_onward l list rest ≡ rest
 onward_past Onward list rest g = absurd g
 onward_past (ToPlace q) list rest g = refl
 onward_past AnyPoint list rest g = refl
@@ -143,10 +143,3 @@ onward_found (w ∷ ws) list e = go (onward_found ws list) w.leads refl e
     go f (ToPlace q) h g = later (f g)
     go f AnyPoint h g = later (f g)
     go f Out h g = later (f g)
-
--- ---- rows ----
-
--- what is written where a way leads there has these
-pub has_if : (list : List ℕ) (b : Bool) (s : Items) → ((x : ℕ) → has s.bits x ≡ one_of x list) → HasThese (if b then Some list else None) (if b then Some s else None)
-has_if list true s h = h
-has_if list false s h = tt

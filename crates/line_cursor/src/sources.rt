@@ -1,5 +1,6 @@
 //! The ways that lead to a place, found by one look at each piece.
 ghost use Rattle.std.specs.Prelude.{◌≡◌, ◌<◌, ◌≤◌, ◌^◌, ℕ, List, Option, None, Some, length, map, slice_get, option_map, true, false, IfOk, OnOk, if◌then◌else◌};
+ghost use Rattle.std.specs.List.{list_any};
 ghost use Rattle.std.specs.Str.{bytes_eq};
 ghost use Rattle.thumb_model.specs.Layout.{is_among};
 ghost use Rattle.thumb_model.specs.Listing.{code_of, is_call_instr, places_in, places_of, Code, Name};
@@ -44,14 +45,14 @@ fn is_same(name: &[u8], other: &[u8]) -> bool
 
 /// Whether a name is one of these.
 fn is_one_of(name: &[u8], names: &[&[u8]]) -> bool
-    ensures { result ≡ is_among name.now (map (λ n. n.now) names.now) }
+    ensures { result ≡ list_any (λ n. bytes_eq name.now n.now) names.now }
 {
     names.iter().any(|other| is_same(name, other))
 }
 
 /// Whether a name is one of a line's.
 fn is_label(name: &[u8], names: &[Vec<u8>]) -> bool
-    ensures { result ≡ is_among name.now (map (λ n. n.items) names.now) }
+    ensures { result ≡ list_any (λ n. bytes_eq name.now n.items) names.now }
 {
     names.iter().any(|other| is_same(name, other))
 }
@@ -74,11 +75,7 @@ fn drop_names(known: &mut Vec<&[u8]>, names: &[Vec<u8>])
 }
 
 /// Adds a line's names where it is the place's, and takes them away elsewhere.
-fn see_names<'a>(
-    known: &mut Vec<&'a [u8]>,
-    names: &'a [Vec<u8>],
-    here: bool,
-) -> Result<(), Memory>
+fn see_names<'a>(known: &mut Vec<&'a [u8]>, names: &'a [Vec<u8>], here: bool) -> Result<(), Memory>
     ensures { OnOk result ((q : Name) → is_among q (map (λ n. n.now) known.new.items) ≡ (if is_among q (map (λ n. n.items) names.now) then here else is_among q (map (λ n. n.now) known.old.items))) }
 {
     if here {
@@ -90,11 +87,7 @@ fn see_names<'a>(
 }
 
 /// The same with the names of a piece.
-fn see_labels<'a>(
-    known: &mut Vec<&'a [u8]>,
-    piece: Piece<'a>,
-    here: bool,
-) -> Result<(), Memory>
+fn see_labels<'a>(known: &mut Vec<&'a [u8]>, piece: Piece<'a>, here: bool) -> Result<(), Memory>
     ensures { OnOk result ((q : Name) → is_among q (map (λ n. n.now) known.new.items) ≡ (if is_among q (labels_in (lines_in piece.entry)) then here else is_among q (map (λ n. n.now) known.old.items))) }
 {
     match piece {
@@ -262,11 +255,7 @@ fn add_jump(
 }
 
 /// The places from which a way leads to the target, other than straight on.
-fn jumps(
-    alloc: Global,
-    pieces: &[Piece<'_>],
-    target: &Target<'_>,
-) -> Result<Vec<Source>, Memory>
+fn jumps(alloc: Global, pieces: &[Piece<'_>], target: &Target<'_>) -> Result<Vec<Source>, Memory>
     requires few { length (places_of (lines_of pieces.now)) < 2 ^ 64 }
     requires target { IsTarget (code_of (lines_of pieces.now)) target.now }
     ensures are { IfOk result (λ v. AreJumps (code_of (lines_of pieces.now)) target.now.place target.now.is_point (length (places_of (lines_of pieces.now))) v.items) }

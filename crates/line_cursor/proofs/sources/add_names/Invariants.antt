@@ -1,14 +1,8 @@
-use Rattle.std.proofs.Common.{◌≡◌, ◌<◌, ◌≤◌, ◌^◌, ℕ, List, Option, None, Some, length, map, slice_get, option_map, true, false, IfOk, OnOk, if◌then◌else◌, ◌+◌, ◌-◌, ◌*◌}
-use Rattle.std.specs.Str.{bytes_eq}
+use Rattle.std.proofs.Common.{◌≡◌, true, map, drop, if◌then◌else◌}
+use Rattle.thumb_model.specs.Listing.{Name}
 use Rattle.thumb_model.specs.Layout.{is_among}
-use Rattle.thumb_model.specs.Listing.{code_of, is_call_instr, places_in, places_of, Code, Name}
-use Rattle.thumb_model.specs.Machine.{aim_of}
-use Rattle.thumb_model.specs.Flow.{ways_of, ways_on}
-use Rattle.listing_parser.specs.Views.{mention_view, statement_view}
-use Rattle.liveness.specs.Kept.{HasThese}
-use Rattle.line_cursor.specs.Pieces.{lines_in, lines_of}
-use Rattle.line_cursor.specs.Sources.{calls_first, is_at, jumped, labels_in, names_of, op_first, AreJumps, AreNamesOf, IsAdded, IsSeen, IsTarget}
 use Rattle.line_cursor.proofs.sources.add_names.Given as goal
 
 abbrev pub invariant-loop-name : goal.invariant-loop-name
-invariant-loop-name l = ?
+invariant-loop-name l =
+    (q : Name) → (if is_among q (map (λ n. n.items) (drop l.name-index l.names)) then true else is_among q (map (λ n. n.now) l.known.items)) ≡ (if is_among q (map (λ n. n.items) l.names) then true else is_among q (map (λ n. n.now) l.initial.known.items))

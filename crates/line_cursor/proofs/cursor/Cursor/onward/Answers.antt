@@ -1,22 +1,22 @@
-use Rattle.std.proofs.Common.{rules, ◌≡◌, ◌<◌, ◌≤◌, ◌^◌, ℕ, List, Option, None, Some, length, map, slice_get, option_map, true, false, IfOk, OnOk, if◌then◌else◌, ◌+◌, ◌-◌, ◌*◌, ◌/◌, ◌%◌, Bool, nat_eq, nat_lt, [], ◌∷◌, ◌++◌, slice_index_or, slice_set, bit_and, bit_or, Fits, w8, w32, w64, Bor, MutBor}
-use Rattle.std.specs.Str.{bytes_eq}
-use Rattle.thumb_model.specs.Layout.{is_among}
-use Rattle.thumb_model.specs.Listing.{code_of, is_call_instr, places_in, places_of, Code, Name}
-use Rattle.thumb_model.specs.Machine.{aim_of}
-use Rattle.thumb_model.specs.Flow.{ways_of, ways_on}
-use Rattle.listing_parser.specs.Views.{mention_view, statement_view}
-use Rattle.liveness.specs.Kept.{HasThese, AreFlows}
-use Rattle.line_cursor.specs.Pieces.{lines_in, lines_of}
-use Rattle.line_cursor.specs.Sources.{calls_first, is_at, jumped, labels_in, names_of, op_first, AreJumps, AreNamesOf, IsAdded, IsSeen, IsTarget, IsOnward}
-use Rattle.liveness.specs.declared.growing.Source.{Source}
-use Rattle.liveness.specs.Growing.{AreSources}
-use Rattle.line_cursor.specs.Cursors.{flows_of, lines_at, spots_at, IsCursor}
+use Rattle.std.proofs.Common.{◌≡◌, ◌-◌, ◌∙◌, Option, None, sym, subst, arith}
+use Rattle.thumb_instr.specs.declared.items.Items.{Items}
+use Rattle.thumb_model.specs.Listing.{code_of}
+use Rattle.thumb_model.specs.Flow.{ways}
+use Rattle.liveness.specs.Kept.{onward_writes, HasThese}
+use Rattle.line_cursor.specs.Cursors.{lines_at, spots_at}
+use Rattle.line_cursor.proofs.Jumps.{flow_says, none_these}
 use Rattle.line_cursor.proofs.cursor.Cursor.onward.Goals as goal
 
--- src/sources.rt:306:5
 pub returns-in-None-onward : goal.returns-in-None-onward
-returns-in-None-onward c = ?
+returns-in-None-onward c = λ q e.
+    let here : c.args.place - 1 ≡ q = omega arith in
+    let says = flow_says (code_of (lines_at c.args.self.now)) (spots_at c.args.self.now) (c.args.place - 1) c.in-Some.spot c.requires (sym c.spot.ensures ∙ c.in-Some.is) in
+    none_these _ (subst (λ n. HasThese (onward_writes (ways (code_of (lines_at c.args.self.now)) n)) None) here
+    (subst (λ (o : Option Items). HasThese (onward_writes (ways (code_of (lines_at c.args.self.now)) (c.args.place - 1))) o) c.in-None-onward.is says))
 
--- src/sources.rt:306:5
 pub returns-in-Some-onward : goal.returns-in-Some-onward
-returns-in-Some-onward c = ?
+returns-in-Some-onward c = (
+  omega (arith, c.if-place-eq0.false),
+  subst (λ (o : Option Items). HasThese (onward_writes (ways (code_of (lines_at c.args.self.now)) (c.args.place - 1))) o) c.in-Some-onward.is
+      (flow_says (code_of (lines_at c.args.self.now)) (spots_at c.args.self.now) (c.args.place - 1) c.in-Some.spot c.requires (sym c.spot.ensures ∙ c.in-Some.is)),
+)
