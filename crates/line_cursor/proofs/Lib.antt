@@ -5,3 +5,8 @@ pub mod Nearer
 pub mod Spots
 pub mod Labels
 pub mod Leads
+pub mod Stays
+mod Carried
+mod Ways
+mod Jumps
+mod Targets

@@ -2,3 +2,5 @@ pub mod Pieces
 pub mod Looks
 pub mod Cursors
 pub mod Leads
+pub mod Carrying
+pub mod Sources

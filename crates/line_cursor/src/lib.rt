@@ -1,8 +1,10 @@
 //! A cursor in the lines of a listing that is being rewritten: it moves from line to line, puts instructions in place of others, and keeps what is known of places.
 #![tactic(auto)]
 
+mod carrying;
 pub mod cursor;
 pub mod pieces;
+mod sources;
 
 pub use cursor::{Cursor, Spot};
 pub use pieces::Piece;
