@@ -9,16 +9,17 @@ use Rattle.std.proofs.lemmas.List.{map-append, drop-map, drop_at, take_more, tak
 use Rattle.std.proofs.lemmas.Option.{slice_get_within, get_or_from_slice_get}
 use Rattle.thumb_instr.specs.declared.instr.Instr.{Instr}
 use Rattle.thumb_instr.specs.declared.items.Items.{Items}
-use Rattle.thumb_model.specs.Listing.{Label, Line, Code, places_of, labels_from, code_of}
+use Rattle.thumb_model.specs.Listing.{Label, Line, Code, Place, plain, places_of, labels_from, code_of}
 use Rattle.thumb_model.specs.Flow.{ways_of, ways}
 use Rattle.thumb_model.specs.Rewrite.{replaced}
 use Rattle.thumb_model.specs.Rewritten.{replaced_lines}
-use Rattle.thumb_model.proofs.Lists.{get_front, get_back, get_drop, length_map, length_drop, take_all}
+use Rattle.thumb_model.proofs.Lists.{get_front, get_back, get_drop, length_map, length_drop, take_all, take_short}
 use Rattle.thumb_model.proofs.LinesReplaced.{AreOps, AllOutside, code_replaced}
 use Rattle.listing_parser.specs.Replacing.{own_line}
 use Rattle.liveness.specs.declared.flowing.Flow.{Flow}
 use Rattle.liveness.specs.declared.kept.NewSets.{NewSets}
-use Rattle.liveness.specs.Live.{set_at, IsLive}
+use Rattle.liveness.specs.Live.{Sets, set_at, IsLive}
+use Rattle.liveness.specs.Growing.{BeginsGrowing, IsGrowing}
 use Rattle.liveness.specs.Kept.{is_straight, FlowOf, AreFlowsFrom, AreFlows, LeadsUp, KeepsAt, KeepsLive, replaced_sets}
 use Rattle.liveness.proofs.FlowLaws.{flows_kept}
 use Rattle.line_cursor.specs.declared.pieces.Piece.{Piece}
@@ -29,8 +30,10 @@ use Rattle.line_cursor.specs.Pieces.{lines_of}
 use Rattle.line_cursor.specs.Leads.{with_sets, mended}
 use Rattle.line_cursor.proofs.Leads.{mended_length, mended_get, mended_flows, mended_sets}
 use Rattle.line_cursor.proofs.Nearer.{places_append}
-use Rattle.window_rewrite.specs.Sweeps.{AreKept, IsKept}
+use Rattle.line_cursor.proofs.Stays.{lines_stay, cursor_stays}
+use Rattle.window_rewrite.specs.Sweeps.{AreGrowing, AreKept, IsKept, LosesNone}
 use Rattle.window_rewrite.proofs.Applied.{ops_of}
+use Rattle.window_rewrite.proofs.Turning.{same_loses}
 
 -- ---- the spots of new instructions ----
 
@@ -96,6 +99,20 @@ code_left lines p (suc n) window new at e =
     code_replaced own_line p n new lines (omega arith)
     (ops_of window (suc n) (drop p (places_of lines)) e (ap (λ k. take k (drop p (places_of lines))) e ∙ at.stands))
     (outside_of p (suc n) (labels_from 0 lines) (subst (λ k. (j : ℕ) (l : Label) → slice_get (labels_from 0 lines) j ≡ Some l → (l.place ≤ p) ⊎ (p + k ≤ l.place)) (sym e) at.unlabelled))
+
+-- fewer places are left
+fewer_places : (code : Code) (p : ℕ) (window new : List Instr) → KeepsAt code p window new → length (replaced code p (length window) new).places + 1 ≤ length code.places
+fewer_places code p window new at =
+    let s = at.shorter in
+    let w : length (take (length window) (drop p code.places)) ≡ length window = ap (λ (ps : List Place). length ps) at.stands ∙ length_map plain window in
+    let t = take_short (length window) (drop p code.places) in
+    let d = length_drop p code.places in
+    let f : length (take p code.places) ≡ p = take_all p code.places (omega arith) in
+    let a = length-append (take p code.places) (map plain new ++ drop (p + length window) code.places) in
+    let b = length-append (map plain new) (drop (p + length window) code.places) in
+    let c = length_drop (p + length window) code.places in
+    let n = length_map plain new in
+    omega arith
 
 -- a window right behind a cursor
 abbrev pub KeepsHere : Cursor → List Instr → List Instr → Type 0
@@ -239,6 +256,22 @@ pub if_kept : (c : Cursor) (lead window new : List Instr) (before after : Items)
 if_kept c lead window new before after ahead None kept at within leads many few keeps b a flows = tt
 if_kept c lead window new before after ahead (Some s) kept at within leads many few keeps b a flows = kept_sets c lead window new before after ahead s.items kept at within leads many few keeps b a flows
 
+-- the same of sets that may lack some of what is live
+pub if_growing : (c : Cursor) (window new : List Instr) (before after : Items) (ahead : List Flow) (o : Option (ArrayVec NewSets 5 Global)) → IsKept c → KeepsHere c window new
+    → IfSome o (λ s. length s.items ≡ length new) → IfSome o (λ s. length new ≤ 5) → IfSome o (λ s. BeginsGrowing window new before after ahead s.items)
+    → before.bits ≡ set_at (sets_of (spots_at c)).before (place_at c) → after.bits ≡ set_at (sets_of (spots_at c)).after (place_at c + (length window - 1))
+    → ((k : ℕ) (f : Flow) → slice_get ahead k ≡ Some f → slice_get (flows_of (spots_at c)) (place_at c + (length window + k)) ≡ Some f)
+    → IfSome o (λ s. AreGrowing c window new s.items)
+if_growing c window new before after ahead None kept at many few grown b a flows = tt
+if_growing c window new before after ahead (Some s) kept at many few grown b a flows = record {
+  as_many = many;
+  few = few;
+  growing =
+      let shorter = at.shorter in
+      let last : place_at c + length window - 1 ≡ place_at c + (length window - 1) = omega arith in
+      grown (code_of (lines_at c)) (place_at c) (sets_of (spots_at c)) kept.live at (flows_ahead c (length window) ahead kept flows) (sym b) (ap (set_at (sets_of (spots_at c)).after) last ∙ sym a);
+}
+
 -- ---- other sets at a cursor ----
 
 -- the one cursor is the other with other sets for the last places before it
@@ -252,13 +285,10 @@ pub mended_place : (old now : Cursor) (led : List NewSets) → IsMended old now 
 mended_place old now led m = ap (λ (l : List Spot). length l) m.passed ∙ mended_length (place_at old - length led) old.passed.items led
 
 pub mended_lines : (old now : Cursor) (led : List NewSets) → IsMended old now led → lines_at now ≡ lines_at old
-mended_lines old now led m = ap (λ (b : List Piece). lines_of b ++ lines_of (reverse now.ahead.items)) m.behind ∙ ap (λ (a : List Piece). lines_of old.behind.items ++ lines_of (reverse a)) m.ahead
+mended_lines old now led m = lines_stay old now m.behind m.ahead
 
 pub mended_is : (old now : Cursor) (led : List NewSets) → IsCursor old → IsMended old now led → IsCursor now
-mended_is old now led is m = record {
-  passed = mended_place old now led m ∙ is.passed ∙ ap (λ (b : List Piece). length (places_of (lines_of b))) (sym m.behind);
-  coming = ap (λ (l : List Spot). length l) m.coming ∙ is.coming ∙ ap (λ (a : List Piece). length (places_of (lines_of (reverse a)))) (sym m.ahead);
-}
+mended_is old now led is m = cursor_stays old now m.behind m.ahead (mended_place old now led m) (ap (λ (l : List Spot). length l) m.coming) is
 
 pub mended_ops : (old now : Cursor) (led : List NewSets) (window new : List Instr) → IsCursor old → KeepsHere old window new → IsMended old now led → AreOps (length window) (places_of (lines_ahead now))
 mended_ops old now led window new is at m = subst (λ (a : List Piece). AreOps (length window) (places_of (lines_of (reverse a)))) (sym m.ahead) (ops_ahead old window new is at)
@@ -270,7 +300,49 @@ spots_left c count new = c.passed.items ++ (new ++ drop count (reverse c.coming.
 left_mended : (old m : Cursor) (led : List NewSets) (count : ℕ) (spots : List Spot) → IsMended old m led → spots_left m count spots ≡ mended (place_at old - length led) old.passed.items led ++ (spots ++ drop count (reverse old.coming.items))
 left_mended old m led count spots is = ap (λ (l : List Spot). l ++ (spots ++ drop count (reverse m.coming.items))) is.passed ∙ ap (λ (l : List Spot). mended (place_at old - length led) old.passed.items led ++ (spots ++ drop count (reverse l))) is.coming
 
--- a replacement that was made, with the sets that are true
+-- a replacement that was made, with sets of which the first ones are those of the last places before it
+module _ (old m now : Cursor) (window new : List Instr) (sets led own : List NewSets) (spots : List Spot) (lead : ℕ) (kept : IsKept old) (at : KeepsHere old window new) (within : lead ≤ place_at old) (many : length sets ≡ lead + length new)
+    (el : led ≡ take lead sets) (eo : own ≡ drop lead sets) (is : IsMended old m led) (lines : lines_at now ≡ replaced_lines own_line (place_at m) (length window) new (lines_at m)) (all : spots_at now ≡ spots_left m (length window) spots)
+    (many_spots : length spots ≡ length new) (same_before : map (λ (s : Spot). s.before) spots ≡ map (λ (n : NewSets). n.before) own) (same_after : map (λ (s : Spot). s.after) spots ≡ map (λ (n : NewSets). n.after) own)
+    (each : (k : ℕ) (i : Instr) (f : Flow) → slice_get new k ≡ Some i → slice_get (flows_of spots) k ≡ Some f → FlowOf (ways_of None i) f) where
+  long : length led ≡ lead
+  long = ap (λ (l : List NewSets). length l) el ∙ take_all lead sets (omega (arith, many))
+
+  p_is : place_at old - lead ≡ place_at old - length led
+  p_is = let a = long in omega arith
+
+  pub put_code : code_of (lines_at now) ≡ replaced (code_of (lines_at old)) (place_at old) (length window) new
+  put_code =
+      ap code_of lines
+      ∙ ap (λ p. code_of (replaced_lines own_line p (length window) new (lines_at m))) (mended_place old m led is)
+      ∙ ap (λ (ls : List Line). code_of (replaced_lines own_line (place_at old) (length window) new ls)) (mended_lines old m led is)
+      ∙ code_left (lines_at old) (place_at old) (length window) window new at refl
+
+  here : spots_at now ≡ mended (place_at old - length led) old.passed.items led ++ (spots ++ drop (length window) (reverse old.coming.items))
+  here = all ∙ left_mended old m led (length window) spots is
+
+  sets_are : {A : Type 0} (f : Spot → A) (g : NewSets → A) → ((s : Spot) (n : NewSets) → f (with_sets s n) ≡ g n) → map f spots ≡ map g own
+      → take (place_at old - lead) (map f (spots_at old)) ++ (map g sets ++ drop (place_at old - lead + (lead + length window)) (map f (spots_at old))) ≡ map f (spots_at now)
+  sets_are f g with same =
+      sets_in_place f g with old.passed.items (reverse old.coming.items) spots sets lead (length window) (place_at old - lead) (omega (arith, within)) (omega (arith, many)) (same ∙ ap (map g) eo)
+      ∙ ap (λ p. map f (mended p old.passed.items (take lead sets) ++ (spots ++ drop (length window) (reverse old.coming.items)))) p_is
+      ∙ ap (λ (l : List NewSets). map f (mended (place_at old - length led) old.passed.items l ++ (spots ++ drop (length window) (reverse old.coming.items)))) (sym el)
+      ∙ ap (map f) (sym here)
+
+  pub put_sets : replaced_sets (place_at old - lead) (lead + length window) sets (sets_of (spots_at old)) ≡ sets_of (spots_at now)
+  put_sets = both (sets_are (λ (s : Spot). s.before) (λ (n : NewSets). n.before) (λ s n. refl) same_before) (sets_are (λ (s : Spot). s.after) (λ (n : NewSets). n.after) (λ s n. refl) same_after)
+    where
+      both : {b c d e : List Items} → b ≡ c → d ≡ e → (let s : Sets = record { before = b; after = d } in s) ≡ record { before = c; after = e }
+      both x y = cc
+
+  pub put_flows : AreFlows (code_of (lines_at now)) (flows_of (spots_at now))
+  put_flows =
+      subst (λ (c : Code). AreFlows c (flows_of (spots_at now))) (sym put_code)
+      (subst (λ (l : List Spot). AreFlows (replaced (code_of (lines_at old)) (place_at old) (length window) new) (flows_of l)) (sym here)
+      (subst (AreFlows (replaced (code_of (lines_at old)) (place_at old) (length window) new)) (flows_in_place (λ (s : Spot). s.flow) (λ s n. refl) old.passed.items (reverse old.coming.items) spots led (place_at old - length led) (length window))
+      (flows_kept (code_of (lines_at old)) (place_at old) window new at (flows_of (spots_at old)) (flows_of spots) kept.flows (length_map (λ (s : Spot). s.flow) spots ∙ many_spots) each)))
+
+-- with the sets that are true
 pub put_kept : (old m now : Cursor) (window new : List Instr) (sets led own : List NewSets) (spots : List Spot) (n : ℕ) → IsKept old → KeepsHere old window new → AreKept old window new sets → n ≡ length sets - length new
     → led ≡ take n sets → own ≡ drop n sets → IsMended old m led → IsCursor now → lines_at now ≡ replaced_lines own_line (place_at m) (length window) new (lines_at m)
     → spots_at now ≡ spots_left m (length window) spots → length spots ≡ length new
@@ -278,54 +350,49 @@ pub put_kept : (old m now : Cursor) (window new : List Instr) (sets led own : Li
     → ((k : ℕ) (i : Instr) (f : Flow) → slice_get new k ≡ Some i → slice_get (flows_of spots) k ≡ Some f → FlowOf (ways_of None i) f)
     → IsKept now
 put_kept old m now window new sets led own spots n kept at k en el eo is cursor lines all many same_before same_after each =
+    let lead_is : n ≡ k.lead = let a = k.as_many in omega arith in
+    let first = el ∙ ap (λ j. take j sets) lead_is in
+    let rest = eo ∙ ap (λ j. drop j sets) lead_is in
+    let code = put_code old m now window new sets led own spots k.lead kept at k.within k.as_many first rest is lines all many same_before same_after each in
+    let same = put_sets old m now window new sets led own spots k.lead kept at k.within k.as_many first rest is lines all many same_before same_after each in
     record {
       is = cursor;
-      live = subst (λ (c : Code). IsLive c (sets_of (spots_at now))) (sym code) (subst (λ (l : List Spot). IsLive (replaced (code_of (lines_at old)) (place_at old) (length window) new) (sets_of l)) (sym here) live);
-      flows = subst (λ (c : Code). AreFlows c (flows_of (spots_at now))) (sym code) (subst (λ (l : List Spot). AreFlows (replaced (code_of (lines_at old)) (place_at old) (length window) new) (flows_of l)) (sym here) flows);
+      live = subst (λ (c : Code). IsLive c (sets_of (spots_at now))) (sym code) (subst (IsLive (replaced (code_of (lines_at old)) (place_at old) (length window) new)) same k.live);
+      flows = put_flows old m now window new sets led own spots k.lead kept at k.within k.as_many first rest is lines all many same_before same_after each;
     }
-  where
-    lead_is : n ≡ k.lead
-    lead_is = let a = k.as_many in omega arith
 
-    long : length led ≡ n
-    long = ap (λ (l : List NewSets). length l) el ∙ take_all n sets (omega arith)
+-- no sets more
+mended_none : (k : ℕ) (ss : List Spot) → mended k ss [] ≡ ss
+mended_none zero [] = refl
+mended_none zero (s ∷ ss) = refl
+mended_none (suc k) [] = refl
+mended_none (suc k) (s ∷ ss) = ap (λ (l : List Spot). s ∷ l) (mended_none k ss)
 
-    p_is : place_at old - k.lead ≡ place_at old - length led
-    p_is = let a = long in let b = lead_is in omega arith
+-- with sets that may lack some of what is live
+pub record IsPut (old now : Cursor) (place : ℕ) : Type 0 where
+  pub flows : AreFlows (code_of (lines_at now)) (flows_of (spots_at now))
+  pub growing : IsGrowing (code_of (lines_at now)) (place ∷ []) (sets_of (spots_at now))
+  pub fewer : length (places_of (lines_at now)) + 1 ≤ length (places_of (lines_at old))
 
-    code : code_of (lines_at now) ≡ replaced (code_of (lines_at old)) (place_at old) (length window) new
-    code =
-        ap code_of lines
-        ∙ ap (λ p. code_of (replaced_lines own_line p (length window) new (lines_at m))) (mended_place old m led is)
-        ∙ ap (λ (ls : List Line). code_of (replaced_lines own_line (place_at old) (length window) new ls)) (mended_lines old m led is)
-        ∙ code_left (lines_at old) (place_at old) (length window) window new at refl
-
-    here : spots_at now ≡ mended (place_at old - length led) old.passed.items led ++ (spots ++ drop (length window) (reverse old.coming.items))
-    here = all ∙ left_mended old m led (length window) spots is
-
-    sets_are : {A : Type 0} (f : Spot → A) (g : NewSets → A) → ((s : Spot) (n : NewSets) → f (with_sets s n) ≡ g n) → map f spots ≡ map g own
-        → take (place_at old - k.lead) (map f (spots_at old)) ++ (map g sets ++ drop (place_at old - k.lead + (k.lead + length window)) (map f (spots_at old)))
-        ≡ map f (mended (place_at old - length led) old.passed.items led ++ (spots ++ drop (length window) (reverse old.coming.items)))
-    sets_are f g with same =
-        let w = k.within in
-        let a = k.as_many in
-        sets_in_place f g with old.passed.items (reverse old.coming.items) spots sets k.lead (length window) (place_at old - k.lead) (omega arith) (omega arith) (same ∙ ap (map g) (eo ∙ ap (λ j. drop j sets) lead_is))
-        ∙ ap (λ p. map f (mended p old.passed.items (take k.lead sets) ++ (spots ++ drop (length window) (reverse old.coming.items)))) p_is
-        ∙ ap (λ (l : List NewSets). map f (mended (place_at old - length led) old.passed.items l ++ (spots ++ drop (length window) (reverse old.coming.items)))) (ap (λ j. take j sets) (sym lead_is) ∙ sym el)
-
-    live : IsLive (replaced (code_of (lines_at old)) (place_at old) (length window) new) (sets_of (mended (place_at old - length led) old.passed.items led ++ (spots ++ drop (length window) (reverse old.coming.items))))
-    live = subst (IsLive (replaced (code_of (lines_at old)) (place_at old) (length window) new)) (λ i. record { before = befores i; after = afters i }) k.live
-      where
-        befores : (replaced_sets (place_at old - k.lead) (k.lead + length window) sets (sets_of (spots_at old))).before ≡ (sets_of (mended (place_at old - length led) old.passed.items led ++ (spots ++ drop (length window) (reverse old.coming.items)))).before
-        befores = sets_are (λ (s : Spot). s.before) (λ (n : NewSets). n.before) (λ s n. refl) same_before
-
-        afters : (replaced_sets (place_at old - k.lead) (k.lead + length window) sets (sets_of (spots_at old))).after ≡ (sets_of (mended (place_at old - length led) old.passed.items led ++ (spots ++ drop (length window) (reverse old.coming.items)))).after
-        afters = sets_are (λ (s : Spot). s.after) (λ (n : NewSets). n.after) (λ s n. refl) same_after
-
-    flows : AreFlows (replaced (code_of (lines_at old)) (place_at old) (length window) new) (flows_of (mended (place_at old - length led) old.passed.items led ++ (spots ++ drop (length window) (reverse old.coming.items))))
-    flows =
-        subst (AreFlows (replaced (code_of (lines_at old)) (place_at old) (length window) new)) (flows_in_place (λ (s : Spot). s.flow) (λ s n. refl) old.passed.items (reverse old.coming.items) spots led (place_at old - length led) (length window))
-        (flows_kept (code_of (lines_at old)) (place_at old) window new at (flows_of (spots_at old)) (flows_of spots) kept.flows (length_map (λ (s : Spot). s.flow) spots ∙ many) each)
+pub put_growing : (old now : Cursor) (window new : List Instr) (sets : List NewSets) (spots : List Spot) → IsKept old → KeepsHere old window new → AreGrowing old window new sets
+    → lines_at now ≡ replaced_lines own_line (place_at old) (length window) new (lines_at old) → spots_at now ≡ spots_left old (length window) spots → length spots ≡ length new
+    → map (λ (s : Spot). s.before) spots ≡ map (λ (n : NewSets). n.before) sets → map (λ (s : Spot). s.after) spots ≡ map (λ (n : NewSets). n.after) sets
+    → ((k : ℕ) (i : Instr) (f : Flow) → slice_get new k ≡ Some i → slice_get (flows_of spots) k ≡ Some f → FlowOf (ways_of None i) f)
+    → IsPut old now (place_at old)
+put_growing old now window new sets spots kept at g lines all many same_before same_after each =
+    let is : IsMended old old [] = record { behind = refl; ahead = refl; coming = refl; passed = sym (mended_none (place_at old - 0) old.passed.items) } in
+    let code = put_code old old now window new sets [] sets spots 0 kept at (omega arith) (g.as_many ∙ omega arith) refl refl is lines all many same_before same_after each in
+    let same = put_sets old old now window new sets [] sets spots 0 kept at (omega arith) (g.as_many ∙ omega arith) refl refl is lines all many same_before same_after each in
+    let place : place_at old ≡ place_at old - 0 = omega arith in
+    let count : length window ≡ 0 + length window = omega arith in
+    let sets_are : replaced_sets (place_at old) (length window) sets (sets_of (spots_at old)) ≡ sets_of (spots_at now) =
+    ap (λ p. replaced_sets p (length window) sets (sets_of (spots_at old))) place ∙ ap (λ n. replaced_sets (place_at old - 0) n sets (sets_of (spots_at old))) count ∙ same in
+    record {
+      flows = put_flows old old now window new sets [] sets spots 0 kept at (omega arith) (g.as_many ∙ omega arith) refl refl is lines all many same_before same_after each;
+      growing = subst (λ (c : Code). IsGrowing c (place_at old ∷ []) (sets_of (spots_at now))) (sym code)
+          (subst (IsGrowing (replaced (code_of (lines_at old)) (place_at old) (length window) new) (place_at old ∷ [])) sets_are g.growing);
+      fewer = let n = ap (λ (c : Code). length c.places) code in let l = fewer_places (code_of (lines_at old)) (place_at old) window new at in omega arith;
+    }
 
 -- well before the window what is kept stays
 pub put_same : (old m now : Cursor) (window : List Instr) (led : List NewSets) (spots : List Spot) (q : ℕ) → IsMended old m led → spots_at now ≡ spots_left m (length window) spots → length led ≤ place_at old → q + length led < place_at old
@@ -336,3 +403,9 @@ put_same old m now window led spots q is all few h =
     ∙ get_front (mended (place_at old - length led) old.passed.items led) (spots ++ drop (length window) (reverse old.coming.items)) q (omega arith)
     ∙ mended_get (place_at old - length led) old.passed.items led q (omega arith)
     ∙ sym (get_front old.passed.items (reverse old.coming.items) q (omega arith))
+
+-- nor does what is live after places get lost before a window, where new instructions' spots stand in its place
+pub put_loses : (old now : Cursor) (window : List Instr) (spots : List Spot) (q : ℕ) → spots_at now ≡ spots_left old (length window) spots → q < place_at old → LosesNone old now q
+put_loses old now window spots q all h =
+    let is : IsMended old old [] = record { behind = refl; ahead = refl; coming = refl; passed = sym (mended_none (place_at old - 0) old.passed.items) } in
+    same_loses old now q (put_same old old now window [] spots q is all (omega arith) (omega arith))

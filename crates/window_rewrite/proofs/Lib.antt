@@ -9,5 +9,6 @@ pub mod Chosen
 pub mod Accepted
 pub mod Rounds
 pub mod KeptSpots
+pub mod Grown
 pub mod Ways
 pub mod Turning

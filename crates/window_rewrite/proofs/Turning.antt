@@ -28,7 +28,7 @@ use Rattle.window_rewrite.specs.declared.choice.Choice.{Choice}
 use Rattle.window_rewrite.specs.declared.finding.Rules.{Rules}
 use Rattle.window_rewrite.specs.declared.ground.Ground.{Ground}
 use Rattle.window_rewrite.specs.Choices.{setting_of, choice_of, AreReady, IsChoice, NoneBefore}
-use Rattle.window_rewrite.specs.Sweeps.{IsKept, MayBecome, AreOver, IsOver}
+use Rattle.window_rewrite.specs.Sweeps.{IsKept, LosesNone, MayBecome, AreOver, IsOver}
 
 -- a replacement leaves lines that may become the listing, where the lines before it may
 pub may_become : (given lines : List Line) (s : Setting) (o : Replacement) → AppliesIn s o lines → MayBecome given lines → MayBecome given (lines_after s o lines)
@@ -86,16 +86,20 @@ left_behind s o xs ys a h =
 same_after : (was now : List Spot) (q : ℕ) → slice_get now q ≡ slice_get was q → set_at (sets_of now).after q ≡ set_at (sets_of was).after q
 same_after was now q e = ap word_of (slice_get-map (λ (s : Spot). s.after) now q ∙ ap (option_map (λ (s : Spot). s.after)) e ∙ sym (slice_get-map (λ (s : Spot). s.after) was q))
 
+-- what is kept of a place loses none of them where it stays
+pub same_loses : (old now : Cursor) (q : ℕ) → slice_get (spots_at now) q ≡ slice_get (spots_at old) q → LosesNone old now q
+same_loses old now q e x h = ap (λ w. has w x) (same_after (spots_at old) (spots_at now) q e) ∙ h
+
 -- what is kept of a place tells its live items
-still_live : (old new : Code) (was now : List Spot) (q x : ℕ) → IsLive old (sets_of was) → IsLive new (sets_of now) → q < length old.places → q < length new.places → slice_get now q ≡ slice_get was q
+still_live : (old new : Code) (was now : List Spot) (q x : ℕ) → IsLive old (sets_of was) → IsLive new (sets_of now) → q < length old.places → q < length new.places → (has (set_at (sets_of was).after q) x ≡ true → has (set_at (sets_of now).after q) x ≡ true)
     → LiveAfter old q x → LiveAfter new q x
-still_live old new was now q x a b h k e l = (b.after q x k).0 (subst (λ w. has w x ≡ true) (sym (same_after was now q e)) ((a.after q x h).1 l))
+still_live old new was now q x a b h k e l = (b.after q x k).0 (e ((a.after q x h).1 l))
 
 -- ---- before the cursor ----
 
 -- what no rule applies before in the old lines none applies before in the new ones, as far back from where sets changed as a left side is long
 pub none_before : (s : Setting) (longest back : ℕ) (xs ys new : List Line) (was now : List Spot) (r : Replacement) (place : ℕ) → AreFit longest s.table → IsFirst s r (xs ++ ys) → r.place ≡ length (places_of xs)
-    → new ≡ lines_after s r (xs ++ ys) → IsLive (code_of (xs ++ ys)) (sets_of was) → IsLive (code_of new) (sets_of now) → ((q : ℕ) → q + back < r.place → slice_get now q ≡ slice_get was q)
+    → new ≡ lines_after s r (xs ++ ys) → IsLive (code_of (xs ++ ys)) (sets_of was) → IsLive (code_of new) (sets_of now) → ((q : ℕ) → q + back < r.place → (x : ℕ) → has (set_at (sets_of was).after q) x ≡ true → has (set_at (sets_of now).after q) x ≡ true)
     → s.base % 4 ≡ 0 → IsSteady s.base (xs ++ ys) → place ≤ r.place - back - longest → NoneBefore s new place
 none_before s longest back xs ys new was now r place fit first at is_new old_live new_live same aligned steady far_back = λ o a before.
     let rule : Rule = first.applies.rule in
@@ -117,7 +121,7 @@ none_before s longest back xs ys new was now r place fit first at is_new old_liv
     let gap : IsGap (places_of (xs ++ ys)) (labels_from 0 (xs ++ ys)) (length (places_of xs)) n is =
     subst (λ p. IsGap (places_of (xs ++ ys)) (labels_from 0 (xs ++ ys)) p n is) at (applied_gap rule r.registers (code_of (xs ++ ys)) r.place first.applies.applies) in
     let live : (x : ℕ) → LiveAfter (code_of (xs ++ ys)) q x → LiveAfter (code_of (xs ++ zs)) q x =
-    λ x h. subst (λ (ls : List Line). LiveAfter (code_of ls) q x) is_now (still_live (code_of (xs ++ ys)) (code_of new) was now q x old_live new_live (omega arith) (omega arith) (same q (omega arith)) h) in
+    λ x h. subst (λ (ls : List Line). LiveAfter (code_of ls) q x) is_now (still_live (code_of (xs ++ ys)) (code_of new) was now q x old_live new_live (omega arith) (omega arith) (same q (omega arith) x) h) in
     let layable : Applies there.rule o.registers (code_of (xs ++ ys)) o.place → Layable s.base (lines_after_rule s (Some there.rule) o (xs ++ ys)) =
     λ applies. steady_is_layable s.base (lines_after_rule s (Some there.rule) o (xs ++ ys)) aligned (steady_stays s.base s.write there.rule o.registers o.place (xs ++ ys) f.sound applies steady) in
     let there_before : AppliesIn s o (xs ++ ys) = applies_before s xs ys zs n is o code gap there far live layable in
@@ -174,7 +178,7 @@ turned_over r g old at new o ready over steady a kept e is f spots = record {
 
 -- and no entry applies before it
 pub turned_before : (r : Rules) (g : Ground) (old at new : Cursor) (o : Replacement) (count : ℕ) → AreReady r → IsOver r g old → g.steady ≡ true → IsFirst (setting_of r) o (lines_at old) → o.place ≡ place_at old
-    → IsKept at → lines_at at ≡ lines_after (setting_of r) o (lines_at old) → ((q : ℕ) → q + count < place_at old → slice_get (spots_at at) q ≡ slice_get (spots_at old) q)
+    → IsKept at → lines_at at ≡ lines_after (setting_of r) o (lines_at old) → ((q : ℕ) → q + count < place_at old → LosesNone old at q)
     → lines_at new ≡ lines_at at → place_at new ≤ o.place - count - r.longest → NoneBefore (setting_of r) (lines_at new) (place_at new)
 turned_before r g old at new o count ready over steady first here kept e same f back =
     subst (λ (ls : List Line). NoneBefore (setting_of r) ls (place_at new)) (sym f)

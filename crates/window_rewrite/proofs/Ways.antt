@@ -1,8 +1,8 @@
 -- What sweeps cost, in numbers.
-use Rattle.std.proofs.Common.{◌≡◌, ℕ, ◌+◌, ◌-◌, ◌*◌, ◌≤◌, Bool, true, false, not, sym, ap, ◌∙◌, subst, arith, mul-le-mul_right}
+use Rattle.std.proofs.Common.{◌≡◌, ℕ, ◌+◌, ◌-◌, ◌*◌, ◌≤◌, Bool, true, false, sym, ap, ◌∙◌, subst, arith, mul-le-mul_right}
 use Rattle.std.specs.Int.{from_bool}
 use Rattle.std.proofs.Math.Nat.{mul-le-mul, mul-le-mul_left}
-use Rattle.window_rewrite.specs.Rewriting.{round_cost}
+use Rattle.window_rewrite.specs.Rewriting.{round_cost, visits}
 
 -- one replacement more, with no more tries than the first had
 pub one_try : (start before after old n m each some : ℕ) → before + old * each ≤ start + n * each → after ≤ before + some → some ≤ each → m ≡ n + 1 → after + old * each ≤ start + m * each
@@ -10,14 +10,16 @@ one_try start before after old n m each some h a l e =
     let c : m * each ≡ (n + 1) * each = ap (λ k. k * each) e in
     omega arith
 
--- what is spent before a sweep counts once more than there were replacements
-pub whole_sweep : (start middle last old n each live : ℕ) → middle ≤ start + live → last + old * each ≤ middle + n * each → old + 1 ≤ n → last + old * (each + live) ≤ start + n * (each + live)
-whole_sweep start middle last old n each live a b c =
-    let d : (old + 1) * live ≤ n * live = mul-le-mul_right live c in
-    omega arith
+-- tries alone, where those of a round are no fewer
+pub tried : (start now after old n tries visits some : ℕ) → now + old * (tries + visits) ≤ start + n * (tries + visits) → after ≤ now + some → some ≤ tries → after + visits + old * (tries + visits) ≤ start + (n + 1) * (tries + visits)
+tried start now after old n tries visits some b a l = omega arith
+
+-- what is visited while sets grow, in fewer places than there were
+pub fewer_visits : (now was : ℕ) → now + 1 ≤ was → (19 * now + 1) * (now + 1) ≤ visits was
+fewer_visits now was h = mul-le-mul (let l : 19 * now + 1 ≤ 19 * was + 1 = omega arith in l) h
 
 -- a round takes no more steps than one in a listing with more places
-round_less : (entries now given : ℕ) → now ≤ given → round_cost now entries ≤ round_cost given entries
+pub round_less : (entries now given : ℕ) → now ≤ given → round_cost now entries ≤ round_cost given entries
 round_less entries now given h =
     let a : now * entries ≤ given * entries = mul-le-mul_right entries h in
     let b : (19 * now + 1) * now ≤ (19 * given + 1) * given = mul-le-mul (omega arith) h in
@@ -49,8 +51,3 @@ pub last_sweep : (entries now given start before after old n : ℕ) (is_done : B
 last_sweep entries now given start before after old n is_done e l b a o =
     sweep_less start before after old (n + 1) (round_cost now entries) (round_cost given entries) b
     (subst (λ d. after + old * round_cost now entries ≤ before + (n + from_bool d) * round_cost now entries) e a) (omega arith) (round_less entries now given l)
-
--- a sweep that isn't done makes a replacement
-pub one_or_done : (old n : ℕ) (is_done : Bool) → old + from_bool (not is_done) ≤ n → old + 1 ≤ n + from_bool is_done
-one_or_done old n true h = omega arith
-one_or_done old n false h = omega arith

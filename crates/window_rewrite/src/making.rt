@@ -173,7 +173,8 @@ fn put_growing<L: Ledger>(
     let place = cursor.place();
     let spots = spots_of(sets, new);
     cursor.replace(window.len(), new, spots.as_slice())?;
-    grow(alloc, cursor, place, steps)
+    grow(alloc, cursor, place, steps)?;
+    Ok(())
 }
 
 /// What stands for new instructions of which nothing is known.

@@ -1,5 +1,5 @@
-use Rattle.window_rewrite.proofs.KeptSpots.{ops_ahead}
+use Rattle.window_rewrite.proofs.Turning.{same_loses}
 use Rattle.window_rewrite.proofs.making.make.Goals as goal
 
-pub replace-requires-clause-window : goal.replace-requires-clause-window
-replace-requires-clause-window c = ops_ahead c.args.cursor.now c.args.window.now c.args.new.now c.requires.kept.is c.requires.keeps
+pub returns-in-Some-clause-after : goal.returns-in-Some-clause-after
+returns-in-Some-clause-after g c = λ q h. same_loses c.args.cursor.now c.put.new.cursor q (c.in_ok-lead.ensures.spots q h)

@@ -1,13 +1,15 @@
-use Rattle.std.proofs.Common.{◌<◌, List, All, length, sym, subst, ap, arith}
+use Rattle.std.proofs.Common.{◌≡◌, ◌+◌, ◌*◌, ◌<◌, ◌≤◌, List, All, length, sym, subst, ap, arith}
+use Rattle.std.specs.Int.{from_bool}
 use Rattle.std.proofs.lemmas.List.Elements.{All-push}
 use Rattle.thumb_model.specs.Listing.{Line, places_of}
 use Rattle.thumb_model.proofs.LinesKept.{fewer_after}
 use Rattle.steady_layout.specs.Steady.{IsSteady}
 use Rattle.line_cursor.specs.Cursors.{lines_at}
-use Rattle.window_rewrite.specs.Rewriting.{IsWhole}
+use Rattle.window_rewrite.specs.Rewriting.{round_cost, visits, IsWhole}
+use Rattle.window_rewrite.specs.Rules.{rules_in}
 use Rattle.window_rewrite.specs.Choices.{setting_of, choice_of}
 use Rattle.window_rewrite.specs.Sweeps.{MayBecome}
-use Rattle.window_rewrite.proofs.Rounds.{comes_on, some_more}
+use Rattle.window_rewrite.proofs.Rounds.{comes_on, last_tries, longer_by_one, some_more, turn_cost}
 use Rattle.window_rewrite.proofs.Turning.{may_become, still_steady}
 use Rattle.window_rewrite.proofs.sweeping.go_through.Goals as goal
 
@@ -26,17 +28,25 @@ returns-then-not-goes_on-clause-steady g c = λ h.
 pub returns-then-not-goes_on-clause-fewer : goal.returns-then-not-goes_on-clause-fewer
 returns-then-not-goes_on-clause-fewer g c =
     let choice = rw c.in-Some.is at c.in_ok-choice.ensures.some in
-    let come = comes_on _ _ _ _ _ _ _ _ _ _ _ _ c.in-Some.choice.replacement c.loop-choice.invariant.come c.in_ok-choice.ensures.lines choice.first c.in_ok-goes_on.ensures.lines c.in_ok-push.ensures.items c.in_ok-choice.ensures.cost in
+    let come = comes_on _ _ _ _ _ _ _ _ _ _ _ _ c.in-Some.choice.replacement c.loop-choice.invariant.come c.in_ok-choice.ensures.lines choice.first c.in_ok-goes_on.ensures.lines c.in_ok-push.ensures.items (turn_cost _ _ _ _ _ _ c.in_ok-goes_on.goes_on c.in_ok-choice.ensures.lines c.in_ok-choice.ensures.cost c.in_ok-goes_on.ensures.cost) in
     let more = some_more _ _ _ _ _ _ _ _ _ c.in-Some.choice.replacement c.loop-choice.invariant.come c.in_ok-push.ensures.items in
     let fewer = come.fewer in
     omega arith
 
 pub returns-then-not-goes_on-clause-cost : goal.returns-then-not-goes_on-clause-cost
 returns-then-not-goes_on-clause-cost g c =
-    let choice = rw c.in-Some.is at c.in_ok-choice.ensures.some in
-    let come = comes_on _ _ _ _ _ _ _ _ _ _ _ _ c.in-Some.choice.replacement c.loop-choice.invariant.come c.in_ok-choice.ensures.lines choice.first c.in_ok-goes_on.ensures.lines c.in_ok-push.ensures.items c.in_ok-choice.ensures.cost in
-    let cost = come.cost in
-    omega arith
+    let come = c.loop-choice.invariant.come in
+    let none : from_bool c.in_ok-goes_on.goes_on ≡ 0 = ap from_bool c.if-not-goes_on.true in
+    let visited = ap (λ n. n * visits (length (places_of (lines_at c.next.new.cursor)))) none in
+    let turned = c.in_ok-goes_on.ensures.cost in
+    let tried = c.in_ok-choice.ensures.cost in
+    let one = longer_by_one _ _ c.in-Some.choice.replacement c.in_ok-push.ensures.items in
+    let last = last_tries _ _ _ _ _ _ _ _ c.turn.new.steps come (omega arith) in
+    subst (λ n. c.turn.new.steps + visits (length (places_of (lines_at c.args.cursor.now))) + length c.args.replacements.now.items * round_cost (length (places_of (lines_at c.args.cursor.now))) (length (rules_in c.args.rules.now.entries.now))
+    ≤ c.args.steps.now + n * round_cost (length (places_of (lines_at c.args.cursor.now))) (length (rules_in c.args.rules.now.entries.now))) (omega (arith, one)) last
+
+pub returns-clause-cost : goal.returns-clause-cost
+returns-clause-cost g c = last_tries _ _ _ _ _ _ _ _ _ c.loop-choice.invariant.come c.in_ok-choice.ensures.cost
 
 pub returns-then-not-goes_on-clause-whole : goal.returns-then-not-goes_on-clause-whole
 returns-then-not-goes_on-clause-whole g c =
@@ -59,5 +69,5 @@ loop-choice-preserved g c =
       over = c.in_ok-goes_on.ensures.over c.if-not-goes_on.false;
       before = c.in_ok-goes_on.ensures.before c.if-not-goes_on.false;
       whole = subst (All IsWhole) (sym c.in_ok-push.ensures.items) (All-push IsWhole _ c.in-Some.choice.replacement c.loop-choice.invariant.whole choice.is.whole);
-      come = comes_on _ _ _ _ _ _ _ _ _ _ _ _ c.in-Some.choice.replacement c.loop-choice.invariant.come c.in_ok-choice.ensures.lines choice.first c.in_ok-goes_on.ensures.lines c.in_ok-push.ensures.items c.in_ok-choice.ensures.cost;
+      come = comes_on _ _ _ _ _ _ _ _ _ _ _ _ c.in-Some.choice.replacement c.loop-choice.invariant.come c.in_ok-choice.ensures.lines choice.first c.in_ok-goes_on.ensures.lines c.in_ok-push.ensures.items (turn_cost _ _ _ _ _ _ c.in_ok-goes_on.goes_on c.in_ok-choice.ensures.lines c.in_ok-choice.ensures.cost c.in_ok-goes_on.ensures.cost);
     }

@@ -1,14 +1,14 @@
-use Rattle.std.proofs.Common.{◌≡◌, ℕ, ◌+◌, ◌*◌, ◌≤◌, List, length, sym, ap, ◌∙◌, subst}
+use Rattle.std.proofs.Common.{◌≡◌, ℕ, ◌+◌, ◌*◌, ◌≤◌, List, length, sym, ap, ◌∙◌, subst, arith}
 use Rattle.std.specs.Int.{from_bool}
 use Rattle.thumb_model.specs.Listing.{Line, places_of}
 use Rattle.thumb_model.specs.Rewritten.{Setting, AppliesIn}
 use Rattle.steady_layout.specs.Steady.{IsSteady}
 use Rattle.line_cursor.specs.Pieces.{lines_of}
 use Rattle.line_cursor.specs.Cursors.{lines_at}
+use Rattle.window_rewrite.specs.Rewriting.{round_cost, visits}
 use Rattle.window_rewrite.specs.Rules.{rules_in}
 use Rattle.window_rewrite.specs.Choices.{setting_of}
 use Rattle.window_rewrite.specs.Sweeps.{Completes}
-use Rattle.window_rewrite.proofs.Ways.{whole_sweep, one_or_done}
 use Rattle.window_rewrite.proofs.sweeping.sweep.Goals as goal
 
 pub returns-clause-completes : goal.returns-clause-completes
@@ -36,7 +36,7 @@ returns-clause-cost g c =
     let places : ℕ = length (places_of c.args.listing.now) in
     let entries : ℕ = length (rules_in c.args.rules.now.entries.now) in
     let begin : lines_at c.in_ok-cursor.cursor ≡ c.args.listing.now = c.in_ok-cursor.ensures.lines ∙ c.lines.ensures in
-    let through =
-    subst (λ (l : List Line). c.go_through.new.steps + old * (length (places_of l) * entries) ≤ c.live.new.steps + n * (length (places_of l) * entries)) begin c.in_ok-is_done.ensures.cost in
-    whole_sweep c.args.steps.now c.live.new.steps c.go_through.new.steps old n (places * entries) ((19 * places + 1) * places) c.in_ok-live.ensures.cost through
-    (one_or_done old (length c.go_through.new.replacements.items) c.in_ok-is_done.is_done c.in_ok-is_done.ensures.more)
+    let through : c.go_through.new.steps + visits places + old * round_cost places entries ≤ c.live.new.steps + n * round_cost places entries =
+    subst (λ (l : List Line). c.go_through.new.steps + visits (length (places_of l)) + old * round_cost (length (places_of l)) entries ≤ c.live.new.steps + n * round_cost (length (places_of l)) entries) begin c.in_ok-is_done.ensures.cost in
+    let found : c.live.new.steps ≤ c.args.steps.now + visits places = c.in_ok-live.ensures.cost in
+    omega arith

@@ -1,38 +1,37 @@
 use Rattle.std.proofs.Common.{◌≡◌, ◌-◌, ◌+◌, ◌<◌, ◌≤◌, ℕ, true, arith}
-use Rattle.std.specs.Prelude.{slice_get}
 use Rattle.thumb_model.specs.Rewritten.{Replacement, lines_after}
-use Rattle.line_cursor.specs.Cursors.{lines_at, place_at, spots_at}
+use Rattle.line_cursor.specs.Cursors.{lines_at, place_at}
 use Rattle.window_rewrite.specs.Choices.{setting_of, choice_of}
-use Rattle.window_rewrite.specs.Sweeps.{IsKept}
+use Rattle.window_rewrite.specs.Sweeps.{IsKept, LosesNone}
 use Rattle.window_rewrite.proofs.Turning.{keeps_here, leaves_here, turned_over, turned_before}
 use Rattle.window_rewrite.proofs.sweeping.turn.Goals as goal
 
 pub make-requires-clause-keeps : goal.make-requires-clause-keeps
-make-requires-clause-keeps c =
-    keeps_here (setting_of c.args.rules.now) (lines_at c.args.cursor.now) c.args.choice.now (place_at c.args.cursor.now) c.as_slice.result.now c.as_slice-2.result.now c.requires.choice.is c.requires.here
-    c.as_slice.ensures.value c.as_slice-2.ensures.value
+make-requires-clause-keeps g c =
+    keeps_here (setting_of c.args.rules.now) (lines_at c.args.cursor.now) c.args.choice.now (place_at c.args.cursor.now) c.as_slice-window.result.now c.as_slice-new.result.now c.requires.choice.is c.requires.here
+    c.as_slice-window.ensures.value c.as_slice-new.ensures.value
 
 pub returns-in_ok-rewind-in-Some-clause-over : goal.returns-in_ok-rewind-in-Some-clause-over
-returns-in_ok-rewind-in-Some-clause-over c =
+returns-in_ok-rewind-in-Some-clause-over g c =
     let o : Replacement = choice_of c.args.choice.now in
     let kept : IsKept c.make.new.cursor = rw c.in-Some.is at c.in_ok-make.ensures.kept in
     let steady : c.args.ground.now.steady ≡ true = c.if-not-ground.false in
     let lines : lines_at c.make.new.cursor ≡ lines_after (setting_of c.args.rules.now) o (lines_at c.args.cursor.now) =
-    leaves_here (setting_of c.args.rules.now) (lines_at c.args.cursor.now) (lines_at c.make.new.cursor) c.args.choice.now (place_at c.args.cursor.now) c.as_slice.result.now c.as_slice-2.result.now
-    c.requires.choice.is c.requires.here c.as_slice.ensures.value c.as_slice-2.ensures.value c.in_ok-make.ensures.lines in
+    leaves_here (setting_of c.args.rules.now) (lines_at c.args.cursor.now) (lines_at c.make.new.cursor) c.args.choice.now (place_at c.args.cursor.now) c.as_slice-window.result.now c.as_slice-new.result.now
+    c.requires.choice.is c.requires.here c.as_slice-window.ensures.value c.as_slice-new.ensures.value c.in_ok-make.ensures.lines in
     let back = c.in_ok-rewind-in-Some.ensures in
     λ _. turned_over c.args.rules.now c.args.ground.now c.args.cursor.now c.make.new.cursor c.rewind.new.self o c.requires.ready c.requires.over steady c.requires.choice.is.applies kept lines back.is back.lines
     back.spots
 
 pub returns-in_ok-rewind-in-Some-clause-before : goal.returns-in_ok-rewind-in-Some-clause-before
-returns-in_ok-rewind-in-Some-clause-before c =
+returns-in_ok-rewind-in-Some-clause-before g c =
     let o : Replacement = choice_of c.args.choice.now in
     let kept : IsKept c.make.new.cursor = rw c.in-Some.is at c.in_ok-make.ensures.kept in
-    let same : (q : ℕ) → q + c.in-Some.lead < place_at c.args.cursor.now → slice_get (spots_at c.make.new.cursor) q ≡ slice_get (spots_at c.args.cursor.now) q = rw c.in-Some.is at c.in_ok-make.ensures.spots in
+    let same : (q : ℕ) → q + c.in-Some.lead < place_at c.args.cursor.now → LosesNone c.args.cursor.now c.make.new.cursor q = rw c.in-Some.is at c.in_ok-make.ensures.after in
     let steady : c.args.ground.now.steady ≡ true = c.if-not-ground.false in
     let lines : lines_at c.make.new.cursor ≡ lines_after (setting_of c.args.rules.now) o (lines_at c.args.cursor.now) =
-    leaves_here (setting_of c.args.rules.now) (lines_at c.args.cursor.now) (lines_at c.make.new.cursor) c.args.choice.now (place_at c.args.cursor.now) c.as_slice.result.now c.as_slice-2.result.now
-    c.requires.choice.is c.requires.here c.as_slice.ensures.value c.as_slice-2.ensures.value c.in_ok-make.ensures.lines in
+    leaves_here (setting_of c.args.rules.now) (lines_at c.args.cursor.now) (lines_at c.make.new.cursor) c.args.choice.now (place_at c.args.cursor.now) c.as_slice-window.result.now c.as_slice-new.result.now
+    c.requires.choice.is c.requires.here c.as_slice-window.ensures.value c.as_slice-new.ensures.value c.in_ok-make.ensures.lines in
     let place = c.in_ok-rewind-in-Some.ensures.place in
     let changed = c.saturating_sub-changed.ensures in
     let saturating = c.saturating_sub.ensures in
@@ -40,3 +39,8 @@ returns-in_ok-rewind-in-Some-clause-before c =
     let back : place_at c.rewind.new.self ≤ o.place - c.in-Some.lead - c.args.rules.now.longest = omega arith in
     λ _. turned_before c.args.rules.now c.args.ground.now c.args.cursor.now c.make.new.cursor c.rewind.new.self o c.in-Some.lead c.requires.ready c.requires.over steady c.requires.choice.first c.requires.here kept lines
     same c.in_ok-rewind-in-Some.ensures.lines back
+
+pub put_blank-requires-clause-keeps : goal.put_blank-requires-clause-keeps
+put_blank-requires-clause-keeps g c =
+    keeps_here (setting_of c.args.rules.now) (lines_at c.args.cursor.now) c.args.choice.now (place_at c.args.cursor.now) c.as_slice-window.result.now c.as_slice-new.result.now c.requires.choice.is c.requires.here
+    c.as_slice-window.ensures.value c.as_slice-new.ensures.value
