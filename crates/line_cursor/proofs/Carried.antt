@@ -14,6 +14,7 @@ use Rattle.liveness.specs.declared.growing.Source.{Source}
 use Rattle.liveness.specs.Live.{word_of, set_at}
 use Rattle.liveness.specs.Passes.{weight_below, total}
 use Rattle.liveness.specs.Growing.{IsCarried}
+use Rattle.liveness.proofs.Weights.{below_more, grows, total_set}
 use Rattle.line_cursor.specs.declared.cursor.Spot.{Spot}
 use Rattle.line_cursor.specs.Cursors.{sets_of, flows_of}
 use Rattle.line_cursor.specs.Carrying.{HasGrown}
@@ -47,56 +48,6 @@ set_reverse (y ∷ xs) (suc i) j x e =
     let n = length-reverse xs in
     reverse-append (y ∷ []) (slice_set xs i x) ∙ ap (λ l. l ++ y ∷ []) (set_reverse xs i j x (omega arith))
     ∙ sym (ap (λ l. slice_set l j x) (reverse-append (y ∷ []) xs) ∙ set-append_left (reverse xs) (y ∷ []) j x (omega arith))
-
--- ---- how many items sets have ----
-
-bit_of : (a x : ℕ) → (bit_at a x ≡ 0) × (has a x ≡ false) ⊎ (bit_at a x ≡ 1) × (has a x ≡ true)
-bit_of a x = go (bit_at a x) (bit_at-lt a x)
-  where
-    go : (n : ℕ) → n < 2 → (n ≡ 0) × ((n == 1) ≡ false) ⊎ (n ≡ 1) × ((n == 1) ≡ true)
-    go zero h = inl (refl, refl)
-    go (suc zero) h = inr (refl, refl)
-    go (suc (suc n)) h = absurd (omega arith)
-
-bit_le : (a b x : ℕ) → (has a x ≡ true → has b x ≡ true) → bit_at a x ≤ bit_at b x
-bit_le a b x h =
-    elim (bit_of a x) [
-      | inl p ↦ let e = p.0 in omega arith
-      | inr p ↦ elim (bit_of b x) [
-        | inl q ↦ absurd (let f = h p.1 in let g = q.1 in let t : true ≡ false = sym f ∙ g in cc)
-        | inr q ↦ let e = p.0 in let f = q.0 in omega arith
-      ]
-    ]
-
-below_more : (k a b : ℕ) → ((x : ℕ) → has a x ≡ true → has b x ≡ true) → weight_below k a ≤ weight_below k b
-unfolding weight_below
-below_more zero a b h = omega arith
-below_more (suc k) a b h = let r = below_more k a b h in let l = bit_le a b k (h k) in omega arith
-
-below_same : (k a b : ℕ) → ((x : ℕ) → has a x ≡ true → has b x ≡ true) → weight_below k a ≡ weight_below k b → (x : ℕ) → x < k → bit_at a x ≡ bit_at b x
-unfolding weight_below
-below_same zero a b h e x l = absurd (omega arith)
-below_same (suc k) a b h e x l =
-    let r = below_more k a b h in
-    let m = bit_le a b k (h k) in
-    elim (cases_lt x k) [
-      | inl t ↦ below_same k a b h (omega arith) x t
-      | inr t ↦ let same : x ≡ k = omega arith in subst (λ y. bit_at a y ≡ bit_at b y) (sym same) (let f : bit_at a k ≡ bit_at b k = omega arith in f)
-    ]
-
-grows : (a b : ℕ) → a < 524288 → b < 524288 → ((x : ℕ) → has a x ≡ true → has b x ≡ true) → b ≢ a → weight_below 19 a + 1 ≤ weight_below 19 b
-grows a b la lb h d =
-    let r = below_more 19 a b h in
-    elim (cases_eq (weight_below 19 a) (weight_below 19 b)) [
-      | inl e ↦ absurd (d (sym (same_from_bits_below 19 a b la lb (below_same 19 a b h e))))
-      | inr n ↦ omega (arith, n)
-    ]
-
-total_set : (ss : List Items) (p : ℕ) (s : Items) → p < length ss → total (slice_set ss p s) + weight_below 19 (set_at ss p) ≡ total ss + weight_below 19 s.bits
-unfolding total
-total_set [] p s h = absurd (omega arith)
-total_set (t ∷ ss) zero s h = omega arith
-total_set (t ∷ ss) (suc p) s h = let r = total_set ss p s (omega arith) in omega arith
 
 -- ---- spots ----
 

@@ -7,7 +7,8 @@ use Rattle.thumb_model.specs.Listing.{Name, Value, Statement, Nothing, Runs, Wor
 use Rattle.thumb_model.specs.Rewritten.{is_op}
 use Rattle.thumb_model.proofs.Lists.{get_back}
 use Rattle.line_cursor.specs.declared.pieces.Piece.{Piece}
-use Rattle.line_cursor.specs.Pieces.{lines_in, lines_of, begins_op, some_name, begins_labelled}
+use Rattle.line_cursor.specs.Pieces.{lines_in, lines_of, begins_op, begins_labelled}
+use Rattle.liveness.specs.Points.{some_name}
 use Rattle.line_cursor.specs.Cursors.{stands_at, NoLabelAt}
 use Rattle.line_cursor.proofs.Edits.{lines_push}
 use Rattle.line_cursor.proofs.Nearer.{places_append}

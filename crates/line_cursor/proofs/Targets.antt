@@ -9,9 +9,11 @@ use Rattle.thumb_instr.proofs.Listed.{one_of_append}
 use Rattle.thumb_model.specs.Listing.{Name, Value, Place, Word, Line, Label, Statement, Nothing, Runs, Words, Aligns, Sets, code_of, places_in, places_of, labels_at, labels_from, place_among, label_places, return_places, is_op_place, is_call_instr}
 use Rattle.thumb_model.specs.Layout.{is_among}
 use Rattle.thumb_model.proofs.Lists.{get_back}
+use Rattle.liveness.proofs.Marks.{one_label, labels_here}
 use Rattle.line_cursor.specs.declared.pieces.Piece.{Piece}
 use Rattle.line_cursor.specs.declared.sources.Target.{Target}
-use Rattle.line_cursor.specs.Pieces.{lines_in, lines_of, some_name, begins_op}
+use Rattle.line_cursor.specs.Pieces.{lines_in, lines_of, begins_op}
+use Rattle.liveness.specs.Points.{some_name}
 use Rattle.line_cursor.specs.Sources.{is_at, names_of, op_first, calls_first, IsTarget, IsSeen}
 use Rattle.line_cursor.proofs.Looks.{piece_short}
 use Rattle.line_cursor.proofs.Edits.{lines_append}
@@ -62,35 +64,16 @@ choose true false s p o r e = e
 choose false true s p o r e = e
 choose false false s p o r e = e
 
-points_here : (s p : ℕ) (places : List Place) (names : List Name) (rest : List Label)
-    → one_of s (label_places places (labels_at p names ++ rest)) ≡ (((some_name names && is_op_place (slice_get places p)) && (s == p)) || one_of s (label_places places rest))
-points_here s p places [] rest = refl
-points_here s p places (n ∷ ns) rest = step (is_op_place (slice_get places p)) (some_name ns) (label_places places (labels_at p ns ++ rest)) (one_of s (label_places places rest)) (points_here s p places ns rest)
-  where
-    step : (o b : Bool) (tail : List ℕ) (r : Bool) → one_of s tail ≡ (((b && o) && (s == p)) || r) → one_of s (if o then p ∷ tail else tail) ≡ ((o && (s == p)) || r)
-    step true true tail r e = ap (λ t. (s == p) || t) e ∙ twice (s == p) r
-      where
-        twice : (a b : Bool) → (a || (a || b)) ≡ (a || b)
-        twice true b = refl
-        twice false b = refl
-    step true false tail r e = ap (λ t. (s == p) || t) e
-    step false true tail r e = e
-    step false false tail r e = e
-
 -- ---- calls ----
 
 words_past : (p : ℕ) (vs : List Value) (ps : List Place) → return_places p (map Word vs ++ ps) ≡ return_places (p + length (map Word vs)) ps
 words_past p [] ps = ap (λ n. return_places n ps) (let e : p ≡ p + 0 = omega arith in e)
 words_past p (v ∷ vs) ps = words_past (p + 1) vs ps ∙ ap (λ n. return_places n ps) (let e : p + 1 + length (map Word vs) ≡ p + length (map Word (v ∷ vs)) = omega arith in e)
 
-call_here : (s n : ℕ) (b : Bool) (tail : List ℕ) → one_of s (if b then n ∷ tail else tail) ≡ ((b && (s == n)) || one_of s tail)
-call_here s n true tail = refl
-call_here s n false tail = refl
-
 returns_here : (s p : ℕ) (t : Statement) (ps : List Place)
     → one_of s (return_places p (places_in t ++ ps)) ≡ ((calls_first (places_in t ++ []) && (s == (p + length (places_in t)))) || one_of s (return_places (p + length (places_in t)) ps))
 returns_here s p Nothing ps = ap (λ n. one_of s (return_places n ps)) (let e : p ≡ p + 0 = omega arith in e)
-returns_here s p (Runs i m) ps = call_here s (p + 1) (is_call_instr i) (return_places (p + 1) ps)
+returns_here s p (Runs i m) ps = one_label s (p + 1) (is_call_instr i) (return_places (p + 1) ps)
 returns_here s p (Words []) ps = ap (λ n. one_of s (return_places n ps)) (let e : p ≡ p + 0 = omega arith in e)
 returns_here s p (Words (v ∷ vs)) ps = ap (one_of s) (words_past p (v ∷ vs) ps)
 returns_here s p (Aligns size most) ps = ap (λ n. one_of s (return_places n ps)) (let e : p ≡ p + 0 = omega arith in e)
@@ -153,7 +136,7 @@ one_line all front rest l old new cut k s = record {
       ∙ order new.is_op (some_name l.names) (old.place == new.at) (calls_first (places_in l.statement ++ []) && (old.place == old.at)) _ _
       ∙ ap (λ b. (((some_name l.names && b) && (old.place == new.at)) || one_of old.place (label_places (places_of all) (labels_from old.at rest))) || ((calls_first (places_in l.statement ++ []) && (old.place == old.at)) || one_of old.place (return_places old.at (places_of rest)))) is_op
       ∙ ap (λ n. (((some_name l.names && is_op_place (slice_get (places_of all) new.at)) && (old.place == new.at)) || one_of old.place (label_places (places_of all) (labels_from n rest))) || ((calls_first (places_in l.statement ++ []) && (old.place == n)) || one_of old.place (return_places n (places_of rest)))) (sym next)
-      ∙ ap (λ b. b || ((calls_first (places_in l.statement ++ []) && (old.place == (new.at + length (places_in l.statement)))) || one_of old.place (return_places (new.at + length (places_in l.statement)) (places_of rest)))) (sym (points_here old.place new.at (places_of all) l.names (labels_from (new.at + length (places_in l.statement)) rest)))
+      ∙ ap (λ b. b || ((calls_first (places_in l.statement ++ []) && (old.place == (new.at + length (places_in l.statement)))) || one_of old.place (return_places (new.at + length (places_in l.statement)) (places_of rest)))) (sym (labels_here old.place new.at (places_of all) l.names (labels_from (new.at + length (places_in l.statement)) rest)))
       ∙ ap (λ b. one_of old.place (label_places (places_of all) (labels_from new.at (l ∷ rest))) || b) (sym (returns_here old.place new.at l.statement (places_of rest)))
       ∙ ap (λ n. one_of n (label_places (places_of all) (labels_from new.at (l ∷ rest))) || one_of n (return_places new.at (places_of (l ∷ rest)))) (sym s.place);
   names = λ q.

@@ -5,6 +5,7 @@ use Rattle.thumb_model.specs.Listing.{Name, Line}
 use Rattle.thumb_model.specs.Rewritten.{is_op, labels_kept, new_line}
 use Rattle.listing_parser.specs.Views.{line_view, names_view}
 use Rattle.listing_parser.specs.Replacing.{own_line}
+use Rattle.liveness.specs.Points.{some_name}
 use Rattle.line_cursor.specs.declared.pieces.Piece.{Piece}
 use Rattle.line_cursor.specs.declared.pieces.Piece.TheVariants as piece
 
@@ -27,10 +28,6 @@ labels_left (piece.New i) = []
 abbrev pub begins_op : List Line → Bool
 begins_op [] = false
 begins_op (l ∷ ls) = is_op l.statement
-
-abbrev pub some_name : List Name → Bool
-some_name [] = false
-some_name (n ∷ ns) = true
 
 abbrev pub begins_labelled : List Line → Bool
 begins_labelled [] = false

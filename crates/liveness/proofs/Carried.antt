@@ -1,7 +1,6 @@
 -- Sets that grow: what is carried back, and where they are all that is live.
-use Rattle.std.proofs.Common.{◌≡◌, ◌≢◌, ℕ, ◌+◌, ◌*◌, ◌<◌, ◌≤◌, ◌==◌, ◌&&◌, ◌||◌, not, Bool, true, false, List, [], ◌∷◌, ◌++◌, length, Option, Some, refl, sym, ap, ◌∙◌, subst, inl, inr, arith, eq-eqb, ne_eqb}
-use Rattle.std.specs.Prelude.{slice_get, slice_set}
-use Rattle.std.proofs.lemmas.List.{length-set}
+use Rattle.std.proofs.Common.{◌≡◌, ℕ, ◌+◌, ◌*◌, ◌≤◌, ◌==◌, ◌||◌, Bool, true, false, List, [], ◌∷◌, ◌++◌, length, Option, Some, refl, sym, ap, ◌∙◌, subst, inl, inr, arith, eq-eqb, ne_eqb}
+use Rattle.std.specs.Prelude.{slice_get}
 use Rattle.std.proofs.lemmas.Bool.{cases_lt, cases_eq}
 use Rattle.thumb_instr.specs.declared.items.Items.{Items}
 use Rattle.thumb_instr.specs.Items.{one_of, has}
@@ -10,10 +9,10 @@ use Rattle.thumb_model.specs.Listing.{Code}
 use Rattle.thumb_model.specs.Flow.{Way, ways, Follows, Reads, now, later, LiveAfter}
 use Rattle.liveness.specs.declared.growing.Source.{Source}
 use Rattle.liveness.specs.Live.{Sets, word_of, set_at, IsLive}
-use Rattle.liveness.specs.Passes.{weight_below, total}
+use Rattle.liveness.specs.Passes.{total}
 use Rattle.liveness.specs.Growing.{Carries, LeadsFrom, AreSources, IsCarried, IsGrowing, IsCarrying}
 use Rattle.liveness.proofs.Moves.{some_same, get_within}
-use Rattle.liveness.proofs.Weights.{total_bound, grows, total_set, get_here, get_else}
+use Rattle.liveness.proofs.Weights.{total_bound}
 use Rattle.liveness.proofs.Paths.{or_cases, or_left, or_right}
 use Rattle.liveness.proofs.Keeping.{passes, passing}
 
@@ -127,47 +126,6 @@ module _ (sets : Sets) (s : ℕ) (c : Source) (new : Sets) (changed : Bool) (m :
       ];
       uses = λ q k w x e h. before_grows q x (g.uses q k w x e h);
       carries = λ q k w t e f n. carries_on q t w (is_idle t n) (g.carries q k w t e f (kept t n));
-    }
-
--- ---- one place's sets are written ----
-
--- what comes into the sets before and after the place
-abbrev pub Joins : Sets → ℕ → Source → Items → Items → Type 0
-Joins sets s c before after =
-    (x : ℕ) → (has before.bits x ≡ (has (set_at sets.before c.place) x || (has (set_at sets.before s) x && not (has c.writes.bits x)))) × (has after.bits x ≡ (has (set_at sets.after c.place) x || has (set_at sets.before s) x))
-
--- where the set before it changes
-pub carried_more : (sets : Sets) (s : ℕ) (c : Source) (old before after : Items) → c.place < length sets.before → c.place < length sets.after → set_at sets.before c.place ≡ old.bits → before.bits ≢ old.bits → Joins sets s c before after
-    → IsCarried sets s c (record { before = slice_set sets.before c.place before; after = slice_set sets.after c.place after }) true
-carried_more sets s c old before after lb la at differ joins =
-    record {
-      before_len = length-set sets.before c.place before;
-      after_len = length-set sets.after c.place after;
-      after_here = λ x. ap (λ w. has w x) (get_here sets.after c.place after la) ∙ (joins x).1;
-      after_else = λ q d. get_else sets.after c.place q after d;
-      here = λ x. ap (λ w. has w x) (get_here sets.before c.place before lb) ∙ (joins x).0;
-      elsewhere = λ q d. get_else sets.before c.place q before d;
-      idle = λ e. absurd (cc);
-      more =
-          let g = grows old.bits before.bits old.is_small before.is_small (λ x h. (joins x).0 ∙ or_left _ _ (ap (λ w. has w x) at ∙ h)) differ in
-          let t = total_set sets.before c.place before lb in
-          let f = ap (weight_below 19) at in
-          omega arith;
-    }
-
--- and where it doesn't
-pub carried_idle : (sets : Sets) (s : ℕ) (c : Source) (before after : Items) → c.place < length sets.after → before.bits ≡ set_at sets.before c.place → Joins sets s c before after
-    → IsCarried sets s c (record { before = sets.before; after = slice_set sets.after c.place after }) false
-carried_idle sets s c before after la same joins =
-    record {
-      before_len = refl;
-      after_len = length-set sets.after c.place after;
-      after_here = λ x. ap (λ w. has w x) (get_here sets.after c.place after la) ∙ (joins x).1;
-      after_else = λ q d. get_else sets.after c.place q after d;
-      here = λ x. ap (λ w. has w x) (sym same) ∙ (joins x).0;
-      elsewhere = λ q d. refl;
-      idle = λ e. refl;
-      more = omega arith;
     }
 
 -- ---- from all sources of a place ----

@@ -6,7 +6,7 @@ mod GivesWay
 mod Keeping
 mod KeptSets
 mod Through
-mod Weights
+pub mod Weights
 mod Paths
 mod Visits
-mod Marks
+pub mod Marks

@@ -47,7 +47,7 @@ marks_none marks q = sym (or_false (marked marks q))
 
 -- ---- labels ----
 
-one_label : (q p : ℕ) (b : Bool) (tail : List ℕ) → one_of q (if b then p ∷ tail else tail) ≡ ((b && (q == p)) || one_of q tail)
+pub one_label : (q p : ℕ) (b : Bool) (tail : List ℕ) → one_of q (if b then p ∷ tail else tail) ≡ ((b && (q == p)) || one_of q tail)
 one_label q p true tail = refl
 one_label q p false tail = refl
 
@@ -60,7 +60,7 @@ again q p true r tail h = ap (λ t. (q == p) || t) h ∙ twice (q == p) r
 again q p false r tail h = h
 
 -- the places of the code labels that stand at p, and of others
-labels_here : (q p : ℕ) (places : List Place) (names : List Name) (rest : List Label)
+pub labels_here : (q p : ℕ) (places : List Place) (names : List Name) (rest : List Label)
     → one_of q (label_places places (labels_at p names ++ rest)) ≡ (((some_name names && is_op_place (slice_get places p)) && (q == p)) || one_of q (label_places places rest))
 labels_here q p places [] rest = refl
 labels_here q p places (n ∷ []) rest = one_label q p (is_op_place (slice_get places p)) (label_places places rest)

@@ -40,7 +40,7 @@ bit_le a b x h =
     ]
 
 -- more items, and no fewer
-below_more : (k a b : ℕ) → ((x : ℕ) → has a x ≡ true → has b x ≡ true) → weight_below k a ≤ weight_below k b
+pub below_more : (k a b : ℕ) → ((x : ℕ) → has a x ≡ true → has b x ≡ true) → weight_below k a ≤ weight_below k b
 unfolding weight_below
 below_more zero a b h = omega arith
 below_more (suc k) a b h = let r = below_more k a b h in let l = bit_le a b k (h k) in omega arith
