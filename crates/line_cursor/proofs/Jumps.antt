@@ -6,7 +6,7 @@ use Rattle.std.proofs.lemmas.Bool.{cases_lt, cases_eq}
 use Rattle.std.proofs.lemmas.Option.{slice_get_past, slice_get_within, slice_get-map}
 use Rattle.thumb_instr.specs.declared.items.Items.{Items}
 use Rattle.thumb_instr.specs.Items.{one_of, has}
-use Rattle.thumb_model.specs.Listing.{Value, Place, Word, Line, Statement, Nothing, Runs, Words, Aligns, Sets, Code, code_of, places_in, places_of, label_places, return_places}
+use Rattle.thumb_model.specs.Listing.{Value, Place, Word, Line, Statement, Nothing, Runs, Words, Aligns, Sets, Code, code_of, places_in, places_of}
 use Rattle.thumb_model.specs.Flow.{Way, Leads, Onward, ToPlace, AnyPoint, Out, ways, ways_on, Follows}
 use Rattle.thumb_model.proofs.Lists.{get_front, get_back, length_map}
 use Rattle.liveness.specs.declared.growing.Source.{Source}
@@ -17,7 +17,7 @@ use Rattle.line_cursor.specs.declared.pieces.Piece.{Piece}
 use Rattle.line_cursor.specs.declared.sources.Target.{Target}
 use Rattle.line_cursor.specs.Pieces.{lines_in, lines_of}
 use Rattle.line_cursor.specs.Cursors.{flows_of}
-use Rattle.line_cursor.specs.Sources.{jumps, jumped, IsAdded, IsListed, AreJumps, IsOnward, IsTarget}
+use Rattle.line_cursor.specs.Sources.{is_point, jumps, jumped, IsAdded, IsListed, AreJumps, IsOnward, IsTarget}
 use Rattle.line_cursor.proofs.Labels.{taken_push}
 use Rattle.line_cursor.proofs.Nearer.{places_append}
 use Rattle.line_cursor.proofs.Targets.{all_cut}
@@ -25,8 +25,8 @@ use Rattle.line_cursor.proofs.Ways.{jump_is, onward_is, jump_found, onward_found
 
 -- ---- where ways lead ----
 
-abbrev IsPointOf : Code → ℕ → Bool → Type 0
-IsPointOf code s p = p ≡ one_of s (label_places code.places code.labels ++ return_places 0 code.places)
+abbrev pub IsPointOf : Code → ℕ → Bool → Type 0
+IsPointOf code s p = p ≡ is_point s code
 
 jump_follows : (code : Code) (s : ℕ) (p : Bool) → IsPointOf code s p → (q : ℕ) (l : Leads) → jumps s p l ≡ true → Follows code q l s
 jump_follows code s p e q Onward h = absurd (cc)
@@ -212,17 +212,10 @@ sources_within code spots s sources h a k c e =
     let w = way_within code c.place l.number l.found l.is in
     omega (arith, w, h.as_many, length_map (λ (t : Spot). t.flow) spots)
 
-pub from_target : (lines : List Line) (t : Target) (place : ℕ) (sources : List Source) → IsTarget (code_of lines) t → t.place ≡ place → AreJumps (code_of lines) t.place t.is_point (length (places_of lines)) sources → IsOnward (code_of lines) place None
-    → AreSources (code_of lines) place sources
-from_target lines t place sources is e js on =
-    subst (λ s. AreSources (code_of lines) s sources) e
-    (sources_jump (code_of lines) t.place t.is_point (length (places_of lines)) sources refl is.is_point js (subst (λ s. IsOnward (code_of lines) s None) (sym e) on))
-
-pub from_both : (lines : List Line) (t : Target) (place : ℕ) (old new : List Source) (c : Source) → IsTarget (code_of lines) t → t.place ≡ place → AreJumps (code_of lines) t.place t.is_point (length (places_of lines)) old → IsOnward (code_of lines) place (Some c)
-    → new ≡ old ++ c ∷ [] → AreSources (code_of lines) place new
-from_both lines t place old new c is e js on more =
-    subst (λ s. AreSources (code_of lines) s new) e
-    (sources_both (code_of lines) t.place t.is_point (length (places_of lines)) old new c refl is.is_point js (subst (λ s. IsOnward (code_of lines) s (Some c)) (sym e) on) more)
+pub jumps_target : (lines : List Line) (t : Target) (place : ℕ) (sources : List Source) → IsTarget (code_of lines) t → t.place ≡ place → AreJumps (code_of lines) t.place t.is_point (length (places_of lines)) sources
+    → AreJumps (code_of lines) place (is_point place (code_of lines)) (length (places_of lines)) sources
+jumps_target lines t place sources is e js =
+    subst (λ s. AreJumps (code_of lines) s (is_point s (code_of lines)) (length (places_of lines)) sources) e (subst (λ b. AreJumps (code_of lines) t.place b (length (places_of lines)) sources) is.is_point js)
 
 -- ---- the loop over pieces ----
 

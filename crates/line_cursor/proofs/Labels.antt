@@ -39,7 +39,7 @@ op_past here ls k h =
 
 -- ---- labels ----
 
-stands_append : (p : ℕ) (xs ys : List Label) → stands_at p (xs ++ ys) ≡ (stands_at p xs || stands_at p ys)
+pub stands_append : (p : ℕ) (xs ys : List Label) → stands_at p (xs ++ ys) ≡ (stands_at p xs || stands_at p ys)
 stands_append p [] ys = refl
 stands_append p (l ∷ ls) ys = ap (λ b. (l.place == p) || b) (stands_append p ls ys) ∙ sym (assoc (l.place == p) (stands_at p ls) (stands_at p ys))
   where
@@ -51,23 +51,23 @@ or_false : (b : Bool) → (b || false) ≡ b
 or_false true = refl
 or_false false = refl
 
-names_here : (p : ℕ) (names : List Name) → stands_at p (labels_at p names) ≡ some_name names
+pub names_here : (p : ℕ) (names : List Name) → stands_at p (labels_at p names) ≡ some_name names
 names_here p [] = refl
 names_here p (n ∷ ns) = ap (λ b. b || stands_at p (labels_at p ns)) (eq-eqb p p refl)
 
-names_else : (p q : ℕ) (names : List Name) → q ≢ p → stands_at p (labels_at q names) ≡ false
+pub names_else : (p q : ℕ) (names : List Name) → q ≢ p → stands_at p (labels_at q names) ≡ false
 names_else p q [] h = refl
 names_else p q (n ∷ ns) h = ap (λ b. b || stands_at p (labels_at q ns)) (ne_eqb q p h) ∙ names_else p q ns h
 
 -- labels of lines before which so many places stand
-none_later : (p c : ℕ) (ls : List Line) → p < c → stands_at p (labels_from c ls) ≡ false
+pub none_later : (p c : ℕ) (ls : List Line) → p < c → stands_at p (labels_from c ls) ≡ false
 none_later p c [] h = refl
 none_later p c (l ∷ ls) h =
     stands_append p (labels_at c l.names) (labels_from (c + length (places_in l.statement)) ls)
     ∙ ap (λ b. b || stands_at p (labels_from (c + length (places_in l.statement)) ls)) (names_else p c l.names (λ e. omega arith))
     ∙ none_later p (c + length (places_in l.statement)) ls (omega arith)
 
-none_past : (p c : ℕ) (ls : List Line) → c + length (places_of ls) < p → stands_at p (labels_from c ls) ≡ false
+pub none_past : (p c : ℕ) (ls : List Line) → c + length (places_of ls) < p → stands_at p (labels_from c ls) ≡ false
 none_past p c [] h = refl
 none_past p c (l ∷ ls) h =
     let n = length-append (places_in l.statement) (places_of ls) in

@@ -10,3 +10,4 @@ mod Carried
 mod Ways
 mod Jumps
 mod Targets
+mod Marked

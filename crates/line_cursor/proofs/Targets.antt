@@ -70,7 +70,7 @@ words_past : (p : ℕ) (vs : List Value) (ps : List Place) → return_places p (
 words_past p [] ps = ap (λ n. return_places n ps) (let e : p ≡ p + 0 = omega arith in e)
 words_past p (v ∷ vs) ps = words_past (p + 1) vs ps ∙ ap (λ n. return_places n ps) (let e : p + 1 + length (map Word vs) ≡ p + length (map Word (v ∷ vs)) = omega arith in e)
 
-returns_here : (s p : ℕ) (t : Statement) (ps : List Place)
+pub returns_here : (s p : ℕ) (t : Statement) (ps : List Place)
     → one_of s (return_places p (places_in t ++ ps)) ≡ ((calls_first (places_in t ++ []) && (s == (p + length (places_in t)))) || one_of s (return_places (p + length (places_in t)) ps))
 returns_here s p Nothing ps = ap (λ n. one_of s (return_places n ps)) (let e : p ≡ p + 0 = omega arith in e)
 returns_here s p (Runs i m) ps = one_label s (p + 1) (is_call_instr i) (return_places (p + 1) ps)

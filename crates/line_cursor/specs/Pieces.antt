@@ -1,7 +1,7 @@
 -- The lines of pieces.
-use Rattle.std.specs.Prelude.{Bool, true, false, List, [], ◌∷◌}
+use Rattle.std.specs.Prelude.{Bool, false, List, [], ◌∷◌}
 use Rattle.std.specs.List.{flat_map}
-use Rattle.thumb_model.specs.Listing.{Name, Line}
+use Rattle.thumb_model.specs.Listing.{Line}
 use Rattle.thumb_model.specs.Rewritten.{is_op, labels_kept, new_line}
 use Rattle.listing_parser.specs.Views.{line_view, names_view}
 use Rattle.listing_parser.specs.Replacing.{own_line}

@@ -8,6 +8,7 @@ use Rattle.liveness.specs.declared.growing.Source.{Source}
 use Rattle.liveness.specs.Kept.{onward_writes, HasThese}
 use Rattle.liveness.specs.Growing.{LeadsFrom}
 use Rattle.line_cursor.specs.Pieces.{begins_labelled}
+use Rattle.line_cursor.specs.Cursors.{stands_at}
 use Rattle.line_cursor.specs.declared.sources.Target.{Target}
 
 -- ---- a way ----
@@ -37,9 +38,17 @@ names_of t = map (λ n. n.now) t.names.items
 abbrev pub AreNamesOf : Code → ℕ → List Name → Type 0
 AreNamesOf code s names = (q : Name) → is_among q names ≡ is_at s (place_of code q)
 
+-- whether a label stands at the place, or a call right before it
+abbrev pub is_marked : ℕ → Code → Bool
+is_marked s code = stands_at s code.labels || one_of s (return_places 0 code.places)
+
+-- whether the place is a code point's
+abbrev pub is_point : ℕ → Code → Bool
+is_point s code = one_of s (label_places code.places code.labels ++ return_places 0 code.places)
+
 -- what is known of a place by all lines
 pub record IsTarget (code : Code) (t : Target) : Type 0 where
-  pub is_point : t.is_point ≡ one_of t.place (label_places code.places code.labels ++ return_places 0 code.places)
+  pub is_point : t.is_point ≡ is_point t.place code
   pub names : AreNamesOf code t.place (names_of t)
 
 -- the names of the first line, and whether an instruction or a call stands first

@@ -9,7 +9,7 @@ ghost use Rattle.thumb_model.specs.Flow.{ways_of, ways_on};
 ghost use Rattle.listing_parser.specs.Views.{mention_view, statement_view};
 ghost use Rattle.liveness.specs.Kept.{HasThese};
 ghost use Rattle.line_cursor.specs.Pieces.{lines_in, lines_of};
-ghost use Rattle.line_cursor.specs.Sources.{calls_first, is_at, jumped, labels_in, names_of, op_first, AreJumps, AreNamesOf, IsAdded, IsSeen, IsTarget};
+ghost use Rattle.line_cursor.specs.Sources.{calls_first, is_at, is_marked, is_point, jumped, labels_in, names_of, op_first, AreJumps, AreNamesOf, IsAdded, IsSeen, IsTarget};
 
 use crate::cursor::Cursor;
 use crate::pieces::{Piece, is_labelled, is_op, places_of};
@@ -181,6 +181,29 @@ fn look<'a>(
     Ok(target)
 }
 
+/// Whether a label stands at a place of pieces, or a call right before it. It looks from the last piece back to that place.
+fn is_marked(behind: &[Piece<'_>], count: usize, place: usize) -> bool
+    requires count { count ≡ length (places_of (lines_of behind.now)) }
+    requires place { place ≤ count }
+    ensures { result ≡ is_marked place (code_of (lines_of behind.now)) }
+{
+    let mut end = count;
+    let mut left = behind.len();
+    while left > 0 {
+        left -= 1;
+        let piece = behind[left];
+        let start = end - places_of(piece);
+        if start < place {
+            return calls_first(piece) & (place == end);
+        }
+        if is_labelled(piece) & (place == start) {
+            return true;
+        }
+        end = start;
+    }
+    false
+}
+
 // ---- jumps ----
 
 /// What is written, where a way leads to the place.
@@ -271,14 +294,14 @@ fn jumps(alloc: Global, pieces: &[Piece<'_>], target: &Target<'_>) -> Result<Vec
 }
 
 impl<'a> Cursor<'a> {
-    ghost use Rattle.std.specs.Prelude.{◌≡◌, ◌+◌, ◌<◌, ◌≤◌, ℕ, Some, length, slice_get, IfOk};
+    ghost use Rattle.std.specs.Prelude.{◌≡◌, ◌+◌, ◌<◌, ◌≤◌, ℕ, Some, false, length, slice_get, IfOk};
     ghost use Rattle.thumb_model.specs.Listing.{code_of, places_of};
     ghost use Rattle.liveness.specs.declared.growing.Source.{Source};
     ghost use Rattle.liveness.specs.Kept.{AreFlows};
     ghost use Rattle.liveness.specs.Growing.{AreSources};
     ghost use Rattle.line_cursor.specs.Pieces.{lines_of};
     ghost use Rattle.line_cursor.specs.Cursors.{flows_of, lines_at, spots_at, IsCursor};
-    ghost use Rattle.line_cursor.specs.Sources.{IsOnward};
+    ghost use Rattle.line_cursor.specs.Sources.{is_marked, is_point, AreJumps, IsOnward};
 
     /// All pieces, in order.
     fn pieces(&self, alloc: Global) -> Result<Vec<Piece<'a>>, Memory>
@@ -289,6 +312,30 @@ impl<'a> Cursor<'a> {
         ahead.reverse();
         pieces.extend_from_slice(&ahead)?;
         Ok(pieces)
+    }
+
+    /// Whether a jump may lead to a place: none does to one before the cursor where no label stands and that no call stands right before.
+    fn may_be_entered(&self, place: usize) -> bool
+        requires { IsCursor self.now }
+        ensures { result ≡ false → is_marked place (code_of (lines_at self.now)) ≡ false }
+    {
+        let count = self.passed.len();
+        place >= count || is_marked(&self.behind, count, place)
+    }
+
+    /// The places from which a way leads to one, other than straight on.
+    fn jumps(&self, alloc: Global, place: usize) -> Result<Vec<Source>, Memory>
+        requires { IsCursor self.now }
+        ensures are { IfOk result (λ v. AreJumps (code_of (lines_at self.now)) place (is_point place (code_of (lines_at self.now))) (length (places_of (lines_at self.now))) v.items) }
+        ensures few { IfOk result (λ v. length v.items ≤ length (places_of (lines_at self.now))) }
+    {
+        if !self.may_be_entered(place) {
+            return Ok(Vec::new(alloc));
+        }
+        let pieces = self.pieces(alloc)?;
+        let count = self.passed.len() + self.coming.len();
+        let target = look(alloc, &pieces, count, place)?;
+        jumps(alloc, &pieces, &target)
     }
 
     /// The place right before another, where a way leads straight on from it.
@@ -317,10 +364,7 @@ impl<'a> Cursor<'a> {
         ensures few { IfOk result (λ v. length v.items ≤ length (places_of (lines_at self.now)) + 1) }
         ensures within { IfOk result (λ v. (k : ℕ) (c : Source) → slice_get v.items k ≡ Some c → c.place < length (spots_at self.now)) }
     {
-        let pieces = self.pieces(alloc)?;
-        let count = self.passed.len() + self.coming.len();
-        let target = look(alloc, &pieces, count, place)?;
-        let mut sources = jumps(alloc, &pieces, &target)?;
+        let mut sources = self.jumps(alloc, place)?;
         match self.onward(place) {
             None => Ok(sources),
             Some(source) => {
