@@ -113,6 +113,12 @@ last_taken xs k x h e =
     ap (λ ps. lines_of (reverse ps)) (take_more xs k x h ∙ ap (λ (y : Piece). take k xs ++ y ∷ []) (sym e))
     ∙ ap lines_of (reverse-append (take k xs) (x ∷ []))
 
+-- the first piece ahead of a cursor, and the rest
+pub first_ahead : (ahead : List Piece) (at : ℕ) (x : Piece) → 0 < at → at ≤ length ahead → x ≡ get_or ahead (at - 1) x → lines_of (reverse (take at ahead)) ≡ lines_in x ++ lines_of (reverse (take (at - 1) ahead))
+first_ahead ahead at x some within e =
+    let same : at ≡ at - 1 + 1 = omega arith in
+    ap (λ n. lines_of (reverse (take n ahead))) same ∙ last_taken ahead (at - 1) x (omega arith) e
+
 -- of a run so far, what is still to come
 abbrev pub Comes : List Instr → ℕ → List Line → List Instr → Type 0
 Comes seq most lines all = seq ++ run (nat_eq (length seq) 0) (most - length seq) (rows_from true lines) ≡ all

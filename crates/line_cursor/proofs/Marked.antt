@@ -1,4 +1,4 @@
--- Places at which no label stands and that no call stands right before: no jump leads there.
+-- Places that a label marks, or a call right before them, found by a look at pieces; no jump leads to another.
 use Rattle.std.proofs.Common.{◌≡◌, ◌≢◌, ℕ, ◌+◌, ◌<◌, ◌≤◌, ◌==◌, ◌&&◌, ◌||◌, Bool, true, false, List, [], ◌∷◌, ◌++◌, length, append-nil, Option, Some, None, refl, sym, ap, ◌∙◌, subst, inl, inr, arith, eq-eqb, ne_eqb, if◌then◌else◌}
 use Rattle.std.specs.Prelude.{slice_get}
 use Rattle.std.specs.Str.{bytes_eq}
@@ -15,7 +15,7 @@ use Rattle.liveness.proofs.Marks.{one_label}
 use Rattle.liveness.specs.Points.{some_name}
 use Rattle.line_cursor.specs.Pieces.{begins_labelled}
 use Rattle.line_cursor.specs.Cursors.{stands_at}
-use Rattle.line_cursor.specs.Sources.{calls_first, is_at, is_marked, is_point, jumped, AreJumps}
+use Rattle.line_cursor.specs.Sources.{calls_first, is_at, is_marked, is_marked_from, is_point, jumped, AreJumps}
 use Rattle.line_cursor.proofs.Labels.{labels_append, names_else, names_here, none_later, none_past, stands_append}
 use Rattle.line_cursor.proofs.Nearer.{places_append}
 use Rattle.line_cursor.proofs.Targets.{returns_here}
@@ -77,36 +77,48 @@ names_at s p names = elim (cases_eq s p) [
   | inr d ↦ names_else s p names (λ e. d (sym e)) ∙ sym (ap (λ b. some_name names && b) (ne_eqb s p d) ∙ and_false (some_name names))
 ]
 
-marked_append : (s : ℕ) (xs ys : List Line)
-    → is_marked s (code_of (xs ++ ys)) ≡ ((stands_at s (labels_from 0 xs) || stands_at s (labels_from (length (places_of xs)) ys)) || (one_of s (return_places 0 (places_of xs)) || one_of s (return_places (length (places_of xs)) (places_of ys))))
-marked_append s xs ys =
-    let p : ℕ = length (places_of xs) in
-    ap (λ (ls : List Label). stands_at s ls || one_of s (return_places 0 (places_of (xs ++ ys)))) (labels_append 0 p xs ys (omega arith))
-    ∙ ap (λ b. b || one_of s (return_places 0 (places_of (xs ++ ys)))) (stands_append s (labels_from 0 xs) (labels_from p ys))
-    ∙ ap (λ (ns : List ℕ). (stands_at s (labels_from 0 xs) || stands_at s (labels_from p ys)) || one_of s ns) (ap (return_places 0) (places_append xs ys) ∙ returns_append 0 p (places_of xs) (places_of ys) (omega arith))
-    ∙ ap (λ b. (stands_at s (labels_from 0 xs) || stands_at s (labels_from p ys)) || b) (one_of_append s (return_places 0 (places_of xs)) (return_places p (places_of ys)))
-
 order : (a n r c : Bool) → ((a || n) || (r || c)) ≡ ((a || r) || (n || c))
 order true n r c = refl
 order false true true c = refl
 order false true false c = refl
 order false false r c = refl
 
--- a piece more
+pub marked_append : (s : ℕ) (xs ys : List Line) → is_marked s (code_of (xs ++ ys)) ≡ (is_marked s (code_of xs) || is_marked_from s (length (places_of xs)) ys)
+marked_append s xs ys =
+    let p : ℕ = length (places_of xs) in
+    ap (λ (ls : List Label). stands_at s ls || one_of s (return_places 0 (places_of (xs ++ ys)))) (labels_append 0 p xs ys (omega arith))
+    ∙ ap (λ b. b || one_of s (return_places 0 (places_of (xs ++ ys)))) (stands_append s (labels_from 0 xs) (labels_from p ys))
+    ∙ ap (λ (ns : List ℕ). (stands_at s (labels_from 0 xs) || stands_at s (labels_from p ys)) || one_of s ns) (ap (return_places 0) (places_append xs ys) ∙ returns_append 0 p (places_of xs) (places_of ys) (omega arith))
+    ∙ ap (λ b. (stands_at s (labels_from 0 xs) || stands_at s (labels_from p ys)) || b) (one_of_append s (return_places 0 (places_of xs)) (return_places p (places_of ys)))
+    ∙ order (stands_at s (labels_from 0 xs)) (stands_at s (labels_from p ys)) (one_of s (return_places 0 (places_of xs))) (one_of s (return_places p (places_of ys)))
+
+-- a piece's lines that stand first
+pub marked_first : (s p : ℕ) (here rest : List Line) → length here ≤ 1
+    → is_marked_from s p (here ++ rest) ≡ (((begins_labelled here && (s == p)) || (calls_first (places_of here) && (s == (p + length (places_of here))))) || is_marked_from s (p + length (places_of here)) rest)
+marked_first s p [] rest h = ap (λ n. is_marked_from s n rest) (let e : p ≡ p + 0 = omega arith in e)
+marked_first s p (l ∷ []) rest h =
+    let q : ℕ = p + length (places_in l.statement) in
+    let n : Bool = some_name l.names && (s == p) in
+    let a : Bool = stands_at s (labels_from q rest) in
+    ap (λ b. b || one_of s (return_places p (places_in l.statement ++ places_of rest))) (stands_append s (labels_at p l.names) (labels_from q rest) ∙ ap (λ b. b || a) (names_at s p l.names))
+    ∙ ap (λ b. (n || a) || b) (returns_here s p l.statement (places_of rest))
+    ∙ order n a (calls_first (places_in l.statement ++ []) && (s == q)) (one_of s (return_places q (places_of rest)))
+    ∙ ap (λ (ps : List Place). (n || (calls_first (places_in l.statement ++ []) && (s == (p + length ps)))) || is_marked_from s (p + length ps) rest) (sym (append-nil (places_in l.statement)))
+marked_first s p (l ∷ m ∷ ms) rest h = absurd (omega arith)
+
+-- and that stand last
 marked_more : (s : ℕ) (xs here : List Line) → length here ≤ 1
     → is_marked s (code_of (xs ++ here)) ≡ (is_marked s (code_of xs) || ((begins_labelled here && (s == length (places_of xs))) || (calls_first (places_of here) && (s == (length (places_of xs) + length (places_of here))))))
-marked_more s xs [] h = ap (λ (ls : List Line). is_marked s (code_of ls)) (append-nil xs) ∙ sym (or_false (is_marked s (code_of xs)))
-marked_more s xs (l ∷ []) h =
-    let p : ℕ = length (places_of xs) in
-    let a : Bool = stands_at s (labels_from 0 xs) in
-    let r : Bool = one_of s (return_places 0 (places_of xs)) in
-    let n : Bool = some_name l.names && (s == p) in
-    marked_append s xs (l ∷ [])
-    ∙ ap (λ b. (a || b) || (r || one_of s (return_places p (places_of (l ∷ []))))) (ap (stands_at s) (append-nil (labels_at p l.names)) ∙ names_at s p l.names)
-    ∙ ap (λ b. (a || n) || (r || b)) (returns_here s p l.statement [] ∙ or_false (calls_first (places_in l.statement ++ []) && (s == (p + length (places_in l.statement)))))
-    ∙ ap (λ (ps : List Place). (a || n) || (r || (calls_first (places_in l.statement ++ []) && (s == (p + length ps))))) (sym (append-nil (places_in l.statement)))
-    ∙ order a n r (calls_first (places_in l.statement ++ []) && (s == (p + length (places_in l.statement ++ []))))
-marked_more s xs (l ∷ m ∷ ms) h = absurd (omega arith)
+marked_more s xs here h =
+    marked_append s xs here
+    ∙ ap (λ b. is_marked s (code_of xs) || b) (ap (is_marked_from s (length (places_of xs))) (sym (append-nil here)) ∙ marked_first s (length (places_of xs)) here [] h ∙ or_false _)
+
+-- lines that stand behind a place, and that stand before it
+pub none_ahead : (s p : ℕ) (ls : List Line) → s < p → is_marked_from s p ls ≡ false
+none_ahead s p ls h = both_false (stands_at s (labels_from p ls)) (one_of s (return_places p (places_of ls))) (none_later s p ls h) (returns_later s p (places_of ls) (omega arith))
+
+pub none_behind : (s : ℕ) (xs : List Line) → length (places_of xs) < s → is_marked s (code_of xs) ≡ false
+none_behind s xs h = both_false (stands_at s (labels_from 0 xs)) (one_of s (return_places 0 (places_of xs))) (none_past s 0 xs (omega arith)) (returns_past s 0 (places_of xs) (omega arith))
 
 -- ---- the piece that is looked at ----
 
@@ -116,7 +128,7 @@ marked_by_call s xs here h l =
     let p : ℕ = length (places_of xs) in
     let c : Bool = calls_first (places_of here) && (s == (p + length (places_of here))) in
     marked_more s xs here h
-    ∙ ap (λ b. b || ((begins_labelled here && (s == p)) || c)) (both_false (stands_at s (labels_from 0 xs)) (one_of s (return_places 0 (places_of xs))) (none_past s 0 xs (omega arith)) (returns_past s 0 (places_of xs) (omega arith)))
+    ∙ ap (λ b. b || ((begins_labelled here && (s == p)) || c)) (none_behind s xs l)
     ∙ ap (λ b. (begins_labelled here && b) || c) (ne_eqb s p (λ e. omega arith))
     ∙ ap (λ b. b || c) (and_false (begins_labelled here))
 
@@ -140,17 +152,6 @@ marked_before s xs here h l e =
     no_call : (ps : List Place) → (calls_first ps && (s == (length (places_of xs) + length ps))) ≡ false
     no_call [] = refl
     no_call (x ∷ ps) = ap (λ b. is_call x && b) (ne_eqb s (length (places_of xs) + length (x ∷ ps)) (λ f. omega arith)) ∙ and_false (is_call x)
-
--- lines behind a place don't mark it
-pub marked_within : (s : ℕ) (xs ys : List Line) → s < length (places_of xs) → is_marked s (code_of xs) ≡ false → is_marked s (code_of (xs ++ ys)) ≡ false
-marked_within s xs ys h e =
-    let p : ℕ = length (places_of xs) in
-    let a : Bool = stands_at s (labels_from 0 xs) in
-    let r : Bool = one_of s (return_places 0 (places_of xs)) in
-    marked_append s xs ys
-    ∙ ap (λ b. (a || b) || (r || one_of s (return_places p (places_of ys)))) (none_later s p ys h)
-    ∙ ap (λ b. (a || false) || (r || b)) (returns_later s p (places_of ys) (omega arith))
-    ∙ order a false r false ∙ or_false (a || r) ∙ e
 
 -- ---- no jump ----
 

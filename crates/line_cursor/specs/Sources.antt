@@ -1,7 +1,7 @@
 -- Ways that lead to a place, found by looks at pieces.
 use Rattle.std.specs.Prelude.{◌≡◌, ℕ, ◌+◌, ◌<◌, ◌==◌, ◌&&◌, ◌||◌, Bool, true, false, List, [], ◌∷◌, ◌++◌, length, map, Option, Some, None, slice_get, if◌then◌else◌}
 use Rattle.thumb_instr.specs.Items.{one_of, has}
-use Rattle.thumb_model.specs.Listing.{Name, Line, Place, Code, places_of, place_of, label_places, return_places, is_call, is_op_place}
+use Rattle.thumb_model.specs.Listing.{Name, Line, Place, Code, places_of, place_of, labels_from, label_places, return_places, is_call, is_op_place}
 use Rattle.thumb_model.specs.Layout.{is_among}
 use Rattle.thumb_model.specs.Flow.{Way, Leads, Onward, ToPlace, AnyPoint, Out, ways}
 use Rattle.liveness.specs.declared.growing.Source.{Source}
@@ -41,6 +41,10 @@ AreNamesOf code s names = (q : Name) → is_among q names ≡ is_at s (place_of 
 -- whether a label stands at the place, or a call right before it
 abbrev pub is_marked : ℕ → Code → Bool
 is_marked s code = stands_at s code.labels || one_of s (return_places 0 code.places)
+
+-- so it is told of lines before which so many places stand
+abbrev pub is_marked_from : ℕ → ℕ → List Line → Bool
+is_marked_from s p ls = stands_at s (labels_from p ls) || one_of s (return_places p (places_of ls))
 
 -- whether the place is a code point's
 abbrev pub is_point : ℕ → Code → Bool

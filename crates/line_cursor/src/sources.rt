@@ -1,5 +1,5 @@
 //! The ways that lead to a place, found by one look at each piece.
-ghost use Rattle.std.specs.Prelude.{◌≡◌, ◌<◌, ◌≤◌, ◌^◌, ℕ, List, Option, None, Some, length, map, slice_get, option_map, true, false, IfOk, OnOk, if◌then◌else◌};
+ghost use Rattle.std.specs.Prelude.{◌≡◌, ◌+◌, ◌<◌, ◌≤◌, ◌^◌, ℕ, List, Option, None, Some, length, map, reverse, slice_get, option_map, true, false, IfOk, OnOk, if◌then◌else◌};
 ghost use Rattle.std.specs.List.{list_any};
 ghost use Rattle.std.specs.Str.{bytes_eq};
 ghost use Rattle.thumb_model.specs.Layout.{is_among};
@@ -9,7 +9,7 @@ ghost use Rattle.thumb_model.specs.Flow.{ways_of, ways_on};
 ghost use Rattle.listing_parser.specs.Views.{mention_view, statement_view};
 ghost use Rattle.liveness.specs.Kept.{HasThese};
 ghost use Rattle.line_cursor.specs.Pieces.{lines_in, lines_of};
-ghost use Rattle.line_cursor.specs.Sources.{calls_first, is_at, is_marked, is_point, jumped, labels_in, names_of, op_first, AreJumps, AreNamesOf, IsAdded, IsSeen, IsTarget};
+ghost use Rattle.line_cursor.specs.Sources.{calls_first, is_at, is_marked, is_marked_from, is_point, jumped, labels_in, names_of, op_first, AreJumps, AreNamesOf, IsAdded, IsSeen, IsTarget};
 
 use crate::cursor::Cursor;
 use crate::pieces::{Piece, is_labelled, is_op, places_of};
@@ -182,9 +182,8 @@ fn look<'a>(
 }
 
 /// Whether a label stands at a place of pieces, or a call right before it. It looks from the last piece back to that place.
-fn is_marked(behind: &[Piece<'_>], count: usize, place: usize) -> bool
-    requires count { count ≡ length (places_of (lines_of behind.now)) }
-    requires place { place ≤ count }
+fn is_marked_behind(behind: &[Piece<'_>], count: usize, place: usize) -> bool
+    requires { count ≡ length (places_of (lines_of behind.now)) }
     ensures { result ≡ is_marked place (code_of (lines_of behind.now)) }
 {
     let mut end = count;
@@ -200,6 +199,25 @@ fn is_marked(behind: &[Piece<'_>], count: usize, place: usize) -> bool
             return true;
         }
         end = start;
+    }
+    false
+}
+
+/// The same of pieces, backward, before which so many places stand. It looks from their first on up to that place.
+fn is_marked_ahead(ahead: &[Piece<'_>], count: usize, place: usize) -> bool
+    requires { count + length (places_of (lines_of (reverse ahead.now))) < 2 ^ 64 }
+    ensures { result ≡ is_marked_from place count (lines_of (reverse ahead.now)) }
+{
+    let mut start = count;
+    let mut left = ahead.len();
+    while left > 0 && start <= place {
+        left -= 1;
+        let piece = ahead[left];
+        let end = start + places_of(piece);
+        if (is_labelled(piece) & (place == start)) | (calls_first(piece) & (place == end)) {
+            return true;
+        }
+        start = end;
     }
     false
 }
@@ -294,7 +312,7 @@ fn jumps(alloc: Global, pieces: &[Piece<'_>], target: &Target<'_>) -> Result<Vec
 }
 
 impl<'a> Cursor<'a> {
-    ghost use Rattle.std.specs.Prelude.{◌≡◌, ◌+◌, ◌<◌, ◌≤◌, ℕ, Some, false, length, slice_get, IfOk};
+    ghost use Rattle.std.specs.Prelude.{◌≡◌, ◌+◌, ◌<◌, ◌≤◌, ℕ, Some, length, slice_get, IfOk};
     ghost use Rattle.thumb_model.specs.Listing.{code_of, places_of};
     ghost use Rattle.liveness.specs.declared.growing.Source.{Source};
     ghost use Rattle.liveness.specs.Kept.{AreFlows};
@@ -314,13 +332,13 @@ impl<'a> Cursor<'a> {
         Ok(pieces)
     }
 
-    /// Whether a jump may lead to a place: none does to one before the cursor where no label stands and that no call stands right before.
-    fn may_be_entered(&self, place: usize) -> bool
+    /// Whether a label stands at a place, or a call right before it: no jump leads to another. It looks from the cursor to that place.
+    fn is_marked(&self, place: usize) -> bool
         requires { IsCursor self.now }
-        ensures { result ≡ false → is_marked place (code_of (lines_at self.now)) ≡ false }
+        ensures { result ≡ is_marked place (code_of (lines_at self.now)) }
     {
         let count = self.passed.len();
-        place >= count || is_marked(&self.behind, count, place)
+        is_marked_behind(&self.behind, count, place) | is_marked_ahead(&self.ahead, count, place)
     }
 
     /// The places from which a way leads to one, other than straight on.
@@ -329,7 +347,7 @@ impl<'a> Cursor<'a> {
         ensures are { IfOk result (λ v. AreJumps (code_of (lines_at self.now)) place (is_point place (code_of (lines_at self.now))) (length (places_of (lines_at self.now))) v.items) }
         ensures few { IfOk result (λ v. length v.items ≤ length (places_of (lines_at self.now))) }
     {
-        if !self.may_be_entered(place) {
+        if !self.is_marked(place) {
             return Ok(Vec::new(alloc));
         }
         let pieces = self.pieces(alloc)?;

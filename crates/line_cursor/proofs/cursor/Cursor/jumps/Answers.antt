@@ -15,11 +15,11 @@ spots_count c is =
     let n = ap (λ (ps : List Place). length ps) (places_append (lines_behind c) (lines_ahead c)) ∙ length-append (places_of (lines_behind c)) (places_of (lines_ahead c)) in
     omega (arith, n, is.passed, is.coming)
 
-pub returns-then-not-may_be_entered-clause-are : goal.returns-then-not-may_be_entered-clause-are
-returns-then-not-may_be_entered-clause-are c =
+pub returns-then-not-is_marked-clause-are : goal.returns-then-not-is_marked-clause-are
+returns-then-not-is_marked-clause-are c =
     let code = code_of (lines_at c.args.self.now) in
     let n = length (places_of (lines_at c.args.self.now)) in
-    subst (λ (s : List Source). AreJumps code c.args.place (is_point c.args.place code) n s) (sym c.new.ensures.items) (none_jump code c.args.place n (c.may_be_entered.ensures (search)))
+    subst (λ (s : List Source). AreJumps code c.args.place (is_point c.args.place code) n s) (sym c.new.ensures.items) (none_jump code c.args.place n (sym c.is_marked.ensures ∙ (search)))
 
 pub look-requires : goal.look-requires
 look-requires c =

@@ -2,13 +2,12 @@ use Rattle.std.proofs.Common.{◌≡◌, ◌≤◌, length, take}
 use Rattle.thumb_model.specs.Listing.{code_of, places_of}
 use Rattle.line_cursor.specs.Pieces.{lines_of}
 use Rattle.line_cursor.specs.Sources.{is_marked}
-use Rattle.line_cursor.proofs.sources.is_marked.Given as goal
+use Rattle.line_cursor.proofs.sources.is_marked_behind.Given as goal
 
 abbrev pub invariant-loop-left : goal.invariant-loop-left
 invariant-loop-left l = record {
   within : l.left ≤ length l.behind;
   end : l.end ≡ length (places_of (lines_of (take l.left l.behind)));
-  place : l.place ≤ l.end;
   same : is_marked l.place (code_of (lines_of (take l.left l.behind))) ≡ is_marked l.place (code_of (lines_of l.behind));
 }
 

@@ -7,7 +7,7 @@ use Rattle.line_cursor.proofs.Looks.{piece_short}
 use Rattle.line_cursor.proofs.Labels.{last_of}
 use Rattle.line_cursor.proofs.Nearer.{places_append}
 use Rattle.line_cursor.proofs.Marked.{marked_by_call, marked_by_label, marked_before}
-use Rattle.line_cursor.proofs.sources.is_marked.Goals as goal
+use Rattle.line_cursor.proofs.sources.is_marked_behind.Goals as goal
 
 -- the places before a piece, and its own
 split : (behind : List Piece) (left : ℕ) (x : Piece) → 0 < left → left ≤ length behind → x ≡ get_or behind (left - 1) x
@@ -59,7 +59,6 @@ loop-left-preserved c =
     record {
       within = omega arith;
       end = start;
-      place = omega (arith, c.if-start-place.false);
       same =
           sym (marked_before c.args.place front (lines_in x) (piece_short x) (omega (arith, start, c.if-start-place.false)) none)
           ∙ ap (λ (ls : List Line). is_marked c.args.place (code_of ls)) (sym last)
