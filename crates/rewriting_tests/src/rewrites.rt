@@ -24,6 +24,13 @@ const COPY: &str =
 const COPY_ALONE: &str =
     "entry\nleft mov r0, r1\nleft mov r1, r0\nright mov r0, r1\nmask r0 r1\nproof\n";
 
+/// A register is set to 0: in shorter, to its difference from itself in each bit, which reads it.
+const ZERO: &str =
+    "entry\nleft movs r0, #24\nleft subs r0, #24\nright eors r0, r0\nmask r0\nproof\n";
+
+/// What nobody reads isn't set.
+const UNREAD: &str = "entry\nleft movs r0, #255\nmask\nproof\n";
+
 /// The table with these entries, as it is audited.
 fn table(alloc: Global, entries: &[&str]) -> Result<Audited, Fail> {
     let empty = Table {
@@ -79,7 +86,7 @@ fn far(alloc: Global, nops: usize) -> Result<String, Fail> {
 #[test]
 fn rewrites(rt: HostRuntime) -> Result<(), Fail> {
     let alloc = rt.alloc();
-    let rows: [(&[&str], &str, &str, &[(u32, u64)]); 13] = [
+    let rows: [(&[&str], &str, &str, &[(u32, u64)]); 14] = [
         (
             &[COPY],
             "\tmov r1, r0\n\tmov r0, r1\n\tmov r5, r6\n\tmov r6, r5\n\tbx lr\n",
@@ -156,6 +163,13 @@ fn rewrites(rt: HostRuntime) -> Result<(), Fail> {
             "\tmov r1, r0\n\tmov r1, r0\n\tbx lr\n",
             "\tmov r1, r0\n\tmov r1, r0\n\tbx lr\n",
             &[],
+        ),
+        // what is set before the branch is read at its label, once the new instruction stands there
+        (
+            &[ZERO, UNREAD],
+            "f:\tmovs r0, #24\n\tsubs r0, #24\n\tcmp r2, r3\n\tbeq out\n\tmovs r0, #255\n\tb f\nout:\tbx lr\n",
+            "f:\n\teors r0, r0\n\tcmp r2, r3\n\tbeq out\n\tmovs r0, #255\n\tb f\nout:\tbx lr\n",
+            &[(0, 1)],
         ),
     ];
     for (number, (entries, text, wanted, made)) in rows.iter().enumerate() {
