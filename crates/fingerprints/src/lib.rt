@@ -17,5 +17,5 @@ pub use errors::Memory;
 pub use index::Index;
 pub use lanes::Lanes;
 pub use print::print_of;
-pub use states::{States, first_state_of_42, seeded};
+pub use states::{first_state_of_42, seeded};
 pub use stepping::step8;

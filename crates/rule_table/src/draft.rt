@@ -1,7 +1,7 @@
 //! What has been read of a table behind its first lines. A line changes it in place.
 ghost use Rattle.std.specs.Prelude.{◌≡◌, ◌<◌, ◌∷◌, ◌++◌, [], map, length, IfOk, OnOk, MatchOption};
 ghost use Rattle.lrat_check.specs.Content.{content_of};
-ghost use Rattle.fingerprints.specs.Seeded.{seen};
+ghost use Rattle.window_exec.specs.State.{seen};
 ghost use Rattle.rule_table.specs.Table.{Table as Held};
 ghost use Rattle.rule_table.specs.Views.{table_of, rule_of, opened_of};
 ghost use Rattle.rule_table.specs.ItemView.{item_of};
@@ -12,11 +12,10 @@ ghost use Rattle.rule_table.specs.declared.draft.Part.TheVariants as part;
 use crate::errors::Memory;
 use crate::item::Item;
 use crate::table::{Entry, Open, Table};
-use fingerprints::States;
 use std::alloc::{AllocError, Global};
 use std::mem;
 use thumb_instr::{Instr, Items, Mask, Seq};
-use window_exec::WState;
+use window_exec::{States, WState};
 
 /// How far the lines behind the first ones have come.
 #[derive(Clone, Copy)]

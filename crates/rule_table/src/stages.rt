@@ -11,8 +11,8 @@ use crate::draft::Draft;
 use crate::errors::Memory;
 use crate::item::Item;
 use crate::table::Table;
-use fingerprints::States;
 use std::alloc::Global;
+use window_exec::States;
 
 /// What has been read of the first lines: nothing, the first one, and then the numbers one by one.
 #[derive(Clone, Copy)]

@@ -4,7 +4,7 @@ ghost use Rattle.std.specs.List.{list_all};
 ghost use Rattle.thumb_instr.specs.Items.{has as has_item, one_of};
 ghost use Rattle.thumb_instr.specs.declared.instr.Instr.{Instr};
 ghost use Rattle.seq_enum.specs.Pools.{is_pool};
-ghost use Rattle.fingerprints.specs.Seeded.{Seen, seen};
+ghost use Rattle.window_exec.specs.State.{Seen, seen};
 ghost use Rattle.rule_table.specs.Text.{after_blanks, instr_text, mask_rows, mask_text, State};
 ghost use Rattle.rule_table.specs.Valid.{IsState, IsInstr, IsMask};
 ghost use Rattle.rule_table.specs.Fronts.{strip, is_taken, left_of, taken, tail_of};

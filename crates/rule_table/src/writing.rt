@@ -2,7 +2,7 @@
 ghost use Rattle.std.specs.Prelude.{◌≡◌, ◌++◌, ◌∷◌, [], codes, OnOk, IfOk, map};
 ghost use Rattle.std.specs.List.{flat_map};
 ghost use Rattle.lrat_check.specs.Content.{content_of};
-ghost use Rattle.fingerprints.specs.Seeded.{seen};
+ghost use Rattle.window_exec.specs.State.{seen};
 ghost use Rattle.rule_table.specs.Text.{text_of_items, text_of, header_items, rule_items, open_items};
 ghost use Rattle.rule_table.specs.Text as item;
 ghost use Rattle.rule_table.specs.Views.{table_of, rule_of, opened_of};

@@ -10,8 +10,7 @@ use Rattle.std.proofs.lemmas.List.{get_or_default, map-append, take-append-drop}
 use Rattle.thumb_model.specs.Items.{Values, AreWords}
 use Rattle.table_audit.proofs.Names.{of_four}
 use Rattle.window_exec.specs.declared.state.WState.{WState}
-use Rattle.window_exec.specs.State.{values_of}
-use Rattle.fingerprints.specs.Seeded.{Seen, seen}
+use Rattle.window_exec.specs.State.{values_of, Seen, seen}
 use Rattle.clause_model.specs.Literals.{code_of, codes_of}
 use Rattle.cnf_gates.specs.Cnf.{Cnf, IsLiteral, IsLiteralOf, AreLiteralsOf, AreClausesOf, AreClauses}
 use Rattle.cnf_gates.specs.Meaning.{IsModel, assigned}

@@ -4,7 +4,7 @@
 //! lanes: these tell nearly all, and what they leave is run on all listed states. So a state that is listed later needs no new index.
 ghost use Rattle.std.specs.Prelude.{◌≡◌, ◌<◌, ◌≤◌, ◌↔◌, All, IfOk, IfSome, IsTrue, filter, length, map, nat_lt, take};
 ghost use Rattle.thumb_model.specs.Rewrite.{AreOver};
-ghost use Rattle.fingerprints.specs.Seeded.{seen};
+ghost use Rattle.window_exec.specs.State.{seen};
 ghost use Rattle.rule_table.specs.Valid.{IsState};
 ghost use Rattle.table_audit.specs.Sides.{named_count};
 ghost use Rattle.table_learn.specs.Found.{window_in};
@@ -14,11 +14,11 @@ ghost use Rattle.table_learn.specs.Keeping.{IsKept, Serves};
 use crate::errors::Memory;
 use crate::widths::count_shorter;
 use crate::window::Window;
-use fingerprints::{Index, States, print_of};
+use fingerprints::{Index, print_of};
 use seq_enum::Pool;
 use std::alloc::{AllocError, Global};
 use thumb_instr::Mask;
-use window_exec::WState;
+use window_exec::{States, WState};
 
 /// How many of the listed states an index has prints of.
 const PRINTED: usize = 8;

@@ -1,7 +1,7 @@
 //! A table, window by window.
 ghost use Rattle.std.specs.Prelude.{◌≡◌, ◌<◌, ◌≤◌, ◌+◌, ◌-◌, ◌^◌, ◌∷◌, ◌++◌, [], ℕ, List, true, IfErr, IfOk, drop, length, map};
 ghost use Rattle.rule_table.specs.Valid.{IsTable};
-ghost use Rattle.fingerprints.specs.Seeded.{seen};
+ghost use Rattle.window_exec.specs.State.{seen};
 ghost use Rattle.seq_enum.specs.Pools.{is_pool};
 ghost use Rattle.rule_table.specs.Views.{rule_of, table_of};
 ghost use Rattle.table_audit.specs.Sides.{named_count};
@@ -18,12 +18,12 @@ use crate::searching::search;
 use crate::settings::Settings;
 use crate::widths::count_shorter;
 use crate::window::Window;
-use fingerprints::{States, seeded};
+use fingerprints::seeded;
 use rule_table::{Entry, Table, write_table};
 use std::alloc::Global;
 use step_ledger::{Ledger, Steps};
 use thumb_instr::{Mask, Seq};
-use window_exec::WState;
+use window_exec::{States, WState};
 
 /// The greatest number of sequences that may be shorter than the longest windows.
 const WIDEST: u64 = 5_000_000;

@@ -3,7 +3,7 @@ ghost use Rattle.std.specs.Prelude.{◌≡◌, ◌<◌, ◌≤◌, ◌+◌, ◌*
 ghost use Rattle.std.specs.List.{list_any};
 ghost use Rattle.thumb_model.specs.Rewrite.{AreOver};
 ghost use Rattle.bit_blast.specs.Exactness.{IsMaskOver};
-ghost use Rattle.fingerprints.specs.Seeded.{seen};
+ghost use Rattle.window_exec.specs.State.{seen};
 ghost use Rattle.table_audit.specs.Sides.{named_count};
 ghost use Rattle.table_learn.specs.Tellings.{tells_apart};
 ghost use Rattle.table_learn.specs.Searching.{query_cost};
