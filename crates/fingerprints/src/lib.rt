@@ -4,7 +4,6 @@
 
 mod arranging;
 mod columns;
-mod errors;
 mod index;
 mod lanes;
 pub mod laws;
@@ -13,7 +12,6 @@ mod sequences;
 mod states;
 mod stepping;
 
-pub use errors::Memory;
 pub use index::Index;
 pub use lanes::Lanes;
 pub use print::print_of;

@@ -3,7 +3,6 @@ ghost use Rattle.rand_pcg.specs.Lcg.{started, increment_of};
 ghost use Rattle.window_exec.specs.State.{seen};
 ghost use Rattle.fingerprints.specs.Seeded.{next_state, seeded_states, FirstOf42};
 
-use crate::errors::Memory;
 use rand_core::utils::NextWord;
 use rand_pcg::Lcg64Xsh32;
 use std::alloc::{AllocError, Global};
@@ -26,7 +25,7 @@ fn next_state(rng: &mut Lcg64Xsh32) -> WState
 }
 
 /// The 64 states of a seed, by the generator PCG XSH RR 64/32 with stream 54.
-pub fn seeded(alloc: Global, seed: u32) -> Result<States, Memory>
+pub fn seeded(alloc: Global, seed: u32) -> Result<States, AllocError>
     ensures { IfOk result (λ states. map seen states ≡ seeded_states seed) }
 {
     let states = seeded_vec(alloc, seed)?;
