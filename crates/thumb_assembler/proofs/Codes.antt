@@ -2,25 +2,27 @@
 use Rattle.std.proofs.Common.{◌≡◌, ◌∙◌, ◌<◌, ◌≤◌, ℕ, zero, suc, ◌-◌, ◌*◌, ◌/◌, ◌%◌, List, [], ◌∷◌, ◌++◌, length, sym, refl, ap, arith, append_assoc, append-nil}
 use Rattle.thumb_instr.specs.declared.instr.Instr.{Instr}
 use Rattle.thumb_instr.specs.declared.instr.Instr.TheVariants as instr
-use Rattle.thumb_table.specs.Rows.{width, packed}
-use Rattle.thumb_table.specs.Table.{pieces, form_of, values_of, whole, IsCode}
+use Rattle.thumb_instr.specs.declared.kind.Kind.TheVariants as kind
+use Rattle.thumb_instr.specs.Parts.{parts_of}
+use Rattle.thumb_table.specs.Rows.{width}
+use Rattle.thumb_table.specs.Table.{row_of, code_of, whole, IsCode}
 use Rattle.thumb_table.specs.declared.row.Code.TheVariants as code
+use Rattle.thumb_table.proofs.Apart.{row_width}
 use Rattle.thumb_model.specs.Layout.{instr_size}
 use Rattle.thumb_assembler.specs.Bytes.{half_bytes, word_bytes, nops}
 use Rattle.thumb_assembler.specs.Pushes.{PushedCode}
 
 -- an instruction has a byte for each eight bits of its row
-pub eight_bits : (i : Instr) → 8 * instr_size i ≡ width (pieces (form_of i))
-unfolding pieces
-eight_bits (instr.Mov d m) = refl
-eight_bits i = refl
+pub eight_bits : (i : Instr) → 8 * instr_size i ≡ width (row_of i)
+eight_bits (instr.Mov d m) = sym (row_width kind.Mov)
+eight_bits i = sym (row_width (parts_of i).kind)
 
 pub one_code : (i : Instr) (first : ℕ) (old new : List ℕ) → first < 65536 → IsCode i (code.One first) → new ≡ old ++ half_bytes first → PushedCode i old new
 one_code i first old new l c e =
     let bits = eight_bits i in
-    let long : width (pieces (form_of i)) ≡ 16 = c.long in
+    let long : width (row_of i) ≡ 16 = c.long in
     let size : instr_size i ≡ 2 = omega arith in
-    let code_is : packed (pieces (form_of i)) (values_of i) ≡ whole (pieces (form_of i)) first 0 = c.is ∙ sym (rw long refl) in
+    let code_is : code_of i ≡ whole (row_of i) first 0 = c.is ∙ sym (rw long refl) in
     record {
       here = half_bytes first;
       are = (first, 0, record { is = code_is }, l, omega arith, rw size refl);
@@ -31,9 +33,9 @@ one_code i first old new l c e =
 pub two_codes : (i : Instr) (first second : ℕ) (old mid new : List ℕ) → first < 65536 → second < 65536 → IsCode i (code.Two first second) → mid ≡ old ++ half_bytes first → new ≡ mid ++ half_bytes second → PushedCode i old new
 two_codes i first second old mid new l k c e f =
     let bits = eight_bits i in
-    let long : width (pieces (form_of i)) ≡ 32 = c.long in
+    let long : width (row_of i) ≡ 32 = c.long in
     let size : instr_size i ≡ 4 = omega arith in
-    let code_is : packed (pieces (form_of i)) (values_of i) ≡ whole (pieces (form_of i)) first second = c.is ∙ sym (rw long refl) in
+    let code_is : code_of i ≡ whole (row_of i) first second = c.is ∙ sym (rw long refl) in
     record {
       here = half_bytes first ++ half_bytes second;
       are = (first, second, record { is = code_is }, l, k, rw size refl);

@@ -7,7 +7,7 @@ use Rattle.thumb_instr.specs.declared.instr.Instr.{Instr}
 use Rattle.thumb_instr.specs.declared.instr.Instr.TheVariants as instr
 use Rattle.thumb_instr.specs.declared.operation.Hint.TheVariants as hint
 use Rattle.thumb_table.specs.Rows.{width, packed}
-use Rattle.thumb_table.specs.Table.{pieces, form_of, values_of, Encodes}
+use Rattle.thumb_table.specs.Table.{pieces, row_of, code_of, Encodes}
 use Rattle.thumb_model.specs.Listing.{Name, Mention, Value, Number, OfName, Statement, Nothing, Runs, Words, Aligns, Sets, Line, Place, Word, places_in, places_of}
 use Rattle.thumb_model.specs.Layout.{instr_size, padding, size_at, end_of}
 use Rattle.thumb_model.specs.Machine.{Naming, word_of_value}
@@ -34,15 +34,15 @@ nops_at p j k rest e is l = absurd (omega arith)
 short_code : (i : Instr) (first second k : ℕ) → instr_size i ≡ 2 → Encodes i first second → Encodes i first k
 short_code i first second k size e =
     let bits = eight_bits i in
-    let long : width (pieces (form_of i)) ≡ 16 = omega arith in
+    let long : width (row_of i) ≡ 16 = omega arith in
     record { is = e.is ∙ rw long refl }
 
 -- `nop`
-nop_width : width (pieces (form_of (instr.Hint hint.Nop))) ≡ 16
+nop_width : width (row_of (instr.Hint hint.Nop)) ≡ 16
 unfolding pieces
 nop_width = refl
 
-nop_packed : packed (pieces (form_of (instr.Hint hint.Nop))) (values_of (instr.Hint hint.Nop)) ≡ 48896
+nop_packed : code_of (instr.Hint hint.Nop) ≡ 48896
 unfolding pieces packed
 nop_packed = refl
 

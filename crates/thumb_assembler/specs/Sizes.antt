@@ -2,8 +2,8 @@
 use Rattle.std.specs.Prelude.{◌≡◌, ◌*◌}
 use Rattle.thumb_instr.specs.declared.instr.Instr.{Instr}
 use Rattle.thumb_table.specs.Rows.{width}
-use Rattle.thumb_table.specs.Table.{pieces, form_of}
+use Rattle.thumb_table.specs.Table.{row_of}
 use Rattle.thumb_model.specs.Layout.{instr_size}
 
 abbrev pub SizesAreWidths : Type 0
-SizesAreWidths = (i : Instr) → 8 * instr_size i ≡ width (pieces (form_of i))
+SizesAreWidths = (i : Instr) → 8 * instr_size i ≡ width (row_of i)

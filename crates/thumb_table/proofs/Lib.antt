@@ -1,5 +1,4 @@
 pub mod Apart
 pub mod Codes
-pub mod Fields
-pub mod Operations
+pub mod Reading
 pub mod Rows

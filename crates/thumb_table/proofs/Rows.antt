@@ -1,106 +1,174 @@
 -- Rows of bits: what they make, and that no number agrees with two.
-use Rattle.std.proofs.Common.{◌≡◌, ◌∙◌, inl, inr, ℕ, suc, ◌+◌, ◌-◌, ◌*◌, ◌/◌, ◌%◌, ◌^◌, ◌<◌, ◌≤◌, ◌==◌, ◌&&◌, ◌||◌, Bool, true, false, List, [], ◌∷◌, ◌++◌, refl, sym, ap, subst, arith, true≢false, eqb-true}
+use Rattle.std.proofs.Common.{◌≡◌, ◌∙◌, inl, inr, ℕ, suc, ◌+◌, ◌-◌, ◌*◌, ◌/◌, ◌%◌, ◌^◌, ◌<◌, ◌≤◌, ◌==◌, ◌&&◌, ◌||◌, not, Bool, true, false, List, [], ◌∷◌, ◌++◌, length, drop, get_or, drop-cons, add-one, refl, sym, ap, subst, arith, true≢false, eqb-true, eq-eqb, lit<}
 use Rattle.std.specs.Prelude.{if◌then◌else◌, nat_lt, nat_le}
-use Rattle.std.proofs.Math.Pow.{high, low, split, field, mod-mod-pow}
-use Rattle.std.proofs.Math.Nat.{mod-lt, div-one, div-mul-le_self, le-div_iff_mul-le}
+use Rattle.std.proofs.Math.Pow.{high, low, field, mod-mod-pow}
+use Rattle.std.proofs.Math.Nat.{mod-lt, pow-le-pow_right, div-lt_iff_lt-mul}
 use Rattle.std.proofs.lemmas.Nat.{pow_pos, pow-add, shr-shr, mod-pow-add}
 use Rattle.std.proofs.lemmas.Bool.{and_parts, and_from, or_cases, leb-true, le-leb, ltb-true, cases_Bool}
+use Rattle.thumb_instr.specs.declared.kind.Parts.{Parts}
+use Rattle.thumb_table.specs.declared.row.Operand.{Operand}
+use Rattle.thumb_table.specs.declared.row.Operand.TheVariants as operand
 use Rattle.thumb_table.specs.declared.row.Piece.{Piece}
-use Rattle.thumb_table.specs.declared.row.Piece.TheVariants.{Fixed, Field}
-use Rattle.thumb_table.specs.Rows.{width_of, width, least_of, most_of, packed, fits, agrees, fields}
+use Rattle.thumb_table.specs.declared.row.Piece.TheVariants.{Fixed, Bits, Amount, Same}
+use Rattle.thumb_table.specs.Rows.{width_of, width, number, same, value_of, packed, holds, agrees, is_operand, told, is_about, read_on, is_narrow, are_narrow, most_of, most}
 
--- each fixed number and greatest value fits its bits
-unfoldable pub are_narrow : List Piece → Bool
-are_narrow [] = true
-are_narrow (p ∷ ps) = nat_lt (most_of p) (2 ^ width_of p) && are_narrow ps
+-- ---- what a row makes ----
+
+pub same_most : (a b : ℕ) → same a b ≤ 1
+same_most a b = elim (a == b) as (λ t. (if t then 1 else 0) ≤ 1) [ true ↦ omega arith | false ↦ omega arith ]
+
+pub value_below : (p : Piece) (m : Parts) → is_narrow p ≡ true → value_of p m < 2 ^ width_of p
+value_below (Fixed w x) m n = ltb-true x (2 ^ w) n
+value_below (Bits w o from least) m n = mod-lt (number o m / 2 ^ from) (pow_pos w)
+value_below (Amount w o) m n = mod-lt (number o m) (pow_pos w)
+value_below (Same o a b) m n = let h = same_most (number o m / 2 ^ a % 2) (number o m / 2 ^ b % 2) in omega arith
 
 head_below : (x w n p : ℕ) → x < 2 ^ w → p < 2 ^ n → x * 2 ^ n + p < 2 ^ (w + n)
 head_below x w n p h k = rw (pow-add 2 w n) (grind arith)
 
-pub packed_below : (ps : List Piece) (vs : List ℕ) → are_narrow ps ≡ true → fits ps vs ≡ true → packed ps vs < 2 ^ width ps
-unfolding are_narrow packed fits
-packed_below [] vs n f = omega arith
-packed_below (Fixed w x ∷ ps) vs n f =
-    let parts = and_parts _ _ n in
-    head_below x w (width ps) (packed ps vs) (ltb-true x (2 ^ w) parts.0) (packed_below ps vs parts.1 f)
-packed_below (Field w a b ∷ ps) [] n f = absurd (true≢false (sym f))
-packed_below (Field w a b ∷ ps) (v ∷ vs) n f =
-    let parts = and_parts _ _ n in
-    let fit = and_parts _ _ f in
-    let limit = and_parts _ _ fit.0 in
-    let at_most : v ≤ b = leb-true v b limit.1 in
-    let below : b < 2 ^ w = ltb-true b (2 ^ w) parts.0 in
-    head_below v w (width ps) (packed ps vs) (omega arith) (packed_below ps vs parts.1 fit.1)
+pub packed_below : (ps : List Piece) (m : Parts) → are_narrow ps ≡ true → packed ps m < 2 ^ width ps
+unfolding are_narrow packed
+packed_below [] m n = omega arith
+packed_below (p ∷ ps) m n =
+    let parts = and_parts (is_narrow p) (are_narrow ps) n in
+    head_below (value_of p m) (width_of p) (width ps) (packed ps m) (value_below p m parts.0) (packed_below ps m parts.1)
 
-both_at : (a b h x : ℕ) → h ≡ x → a ≤ x → x ≤ b → (nat_le a h && nat_le h b) ≡ true
-both_at a b h x e l m = and_from _ _ (le-leb a h (omega arith)) (le-leb h b (omega arith))
+-- the upper bits of a number
+pub upper_below : (c n w l : ℕ) → l ≡ w + n → c < 2 ^ l → c / 2 ^ n < 2 ^ w
+upper_below c n w l e h =
+    let long : 2 ^ l ≡ 2 ^ w * 2 ^ n = ap (λ (k : ℕ). 2 ^ k) e ∙ pow-add 2 w n in
+    (div-lt_iff_lt-mul {k = 2 ^ n} {x = c} {y = 2 ^ w} (pow_pos n)).1 (omega arith)
 
-pub packed_agrees : (ps : List Piece) (vs : List ℕ) → are_narrow ps ≡ true → fits ps vs ≡ true → agrees ps (packed ps vs) ≡ true
-unfolding are_narrow packed fits agrees
-packed_agrees [] vs n f = refl
-packed_agrees (Fixed w x ∷ ps) vs n f =
-    let parts = and_parts _ _ n in
-    let rest = packed_below ps vs parts.1 f in
-    and_from _ _ (both_at x x _ x (high x (width ps) rest) (omega arith) (omega arith))
-    (subst (λ (c : ℕ). agrees ps c ≡ true) (sym (low x (width ps) rest)) (packed_agrees ps vs parts.1 f))
-packed_agrees (Field w a b ∷ ps) [] n f = absurd (true≢false (sym f))
-packed_agrees (Field w a b ∷ ps) (v ∷ vs) n f =
-    let parts = and_parts _ _ n in
-    let fit = and_parts _ _ f in
-    let limit = and_parts _ _ fit.0 in
-    let rest = packed_below ps vs parts.1 fit.1 in
-    and_from _ _ (both_at a b _ v (high v (width ps) rest) (leb-true a v limit.0) (leb-true v b limit.1))
-    (subst (λ (c : ℕ). agrees ps c ≡ true) (sym (low v (width ps) rest)) (packed_agrees ps vs parts.1 fit.1))
+pub packed_word : (ps : List Piece) (m : Parts) → are_narrow ps ≡ true → width ps ≤ 32 → packed ps m < 4294967296
+packed_word ps m n w = let h = packed_below ps m n in let p : 2 ^ width ps ≤ 2 ^ 32 = pow-le-pow_right (lit< tt) w in omega arith
 
-pub fields_packed : (ps : List Piece) (vs : List ℕ) → are_narrow ps ≡ true → fits ps vs ≡ true → fields ps (packed ps vs) ≡ vs
-unfolding are_narrow packed fits fields
-fields_packed [] [] n f = refl
-fields_packed [] (v ∷ vs) n f = absurd (true≢false (sym f))
-fields_packed (Fixed w x ∷ ps) vs n f =
-    let parts = and_parts _ _ n in
-    ap (fields ps) (low x (width ps) (packed_below ps vs parts.1 f)) ∙ fields_packed ps vs parts.1 f
-fields_packed (Field w a b ∷ ps) [] n f = absurd (true≢false (sym f))
-fields_packed (Field w a b ∷ ps) (v ∷ vs) n f =
-    let parts = and_parts _ _ n in
-    let fit = and_parts _ _ f in
-    let rest = packed_below ps vs parts.1 fit.1 in
-    let first = high v (width ps) rest in
-    let more : fields ps ((v * 2 ^ width ps + packed ps vs) % 2 ^ width ps) ≡ vs = ap (fields ps) (low v (width ps) rest) ∙ fields_packed ps vs parts.1 fit.1 in
-    cc (first, more)
+-- each piece can hold what it holds of an instruction
+unfoldable pub fits : List Piece → Parts → Bool
+fits [] m = true
+fits (p ∷ ps) m = holds p (value_of p m) && fits ps m
 
-pub fields_fit : (ps : List Piece) (c : ℕ) → agrees ps c ≡ true → fits ps (fields ps c) ≡ true
-unfolding agrees fits fields
-fields_fit [] c a = refl
-fields_fit (Fixed w x ∷ ps) c a = fields_fit ps (c % 2 ^ width ps) (and_parts _ _ a).1
-fields_fit (Field w l m ∷ ps) c a =
-    let parts = and_parts _ _ a in
-    and_from _ _ parts.0 (fields_fit ps (c % 2 ^ width ps) parts.1)
+pub packed_agrees : (ps : List Piece) (m : Parts) → are_narrow ps ≡ true → fits ps m ≡ true → agrees ps (packed ps m) ≡ true
+unfolding are_narrow packed agrees fits
+packed_agrees [] m n f = refl
+packed_agrees (p ∷ ps) m n f =
+    let parts = and_parts (is_narrow p) (are_narrow ps) n in
+    let fit = and_parts (holds p (value_of p m)) (fits ps m) f in
+    let rest = packed_below ps m parts.1 in
+    and_from _ _ (subst (λ (x : ℕ). holds p x ≡ true) (sym (high (value_of p m) (width ps) rest)) fit.0)
+    (subst (λ (c : ℕ). agrees ps c ≡ true) (sym (low (value_of p m) (width ps) rest)) (packed_agrees ps m parts.1 fit.1))
 
-pub packed_fields : (ps : List Piece) (c : ℕ) → c < 2 ^ width ps → agrees ps c ≡ true → packed ps (fields ps c) ≡ c
-unfolding agrees packed fields
-packed_fields [] c h a = let e : 0 ≡ c = omega arith in e
-packed_fields (Fixed w x ∷ ps) c h a =
-    let parts = and_parts _ _ a in
-    let limit = and_parts _ _ parts.0 in
-    let low_end = leb-true x (c / 2 ^ width ps) limit.0 in
-    let high_end = leb-true (c / 2 ^ width ps) x limit.1 in
-    let is : x ≡ c / 2 ^ width ps = omega arith in
-    let below : c % 2 ^ width ps < 2 ^ width ps = omega (arith, pow_pos (width ps)) in
-    rw (is, packed_fields ps (c % 2 ^ width ps) below parts.1) (split c (width ps))
-packed_fields (Field w l m ∷ ps) c h a =
-    let parts = and_parts _ _ a in
-    let below : c % 2 ^ width ps < 2 ^ width ps = omega (arith, pow_pos (width ps)) in
-    rw (packed_fields ps (c % 2 ^ width ps) below parts.1) (split c (width ps))
+-- no piece has a least number
+unfoldable pub are_free : List Piece → Bool
+are_free [] = true
+are_free (Bits w o from least ∷ ps) = (least == 0) && are_free ps
+are_free (p ∷ ps) = are_free ps
+
+pub free_fits : (ps : List Piece) (m : Parts) → are_free ps ≡ true → fits ps m ≡ true
+unfolding are_free fits
+free_fits [] m f = refl
+free_fits (Fixed w x ∷ ps) m f = and_from _ _ (eq-eqb x x refl) (free_fits ps m f)
+free_fits (Bits w o from least ∷ ps) m f =
+    let parts = and_parts (least == 0) (are_free ps) f in
+    let none = eqb-true least 0 parts.0 in
+    and_from _ _ (le-leb least (value_of (Bits w o from least) m) (omega arith)) (free_fits ps m parts.1)
+free_fits (Amount w o ∷ ps) m f = free_fits ps m f
+free_fits (Same o a b ∷ ps) m f = free_fits ps m f
+
+-- ---- what is read of a row ----
+
+-- what a row's pieces tell of an instruction that they hold
+unfoldable pub gathered : Operand → List Piece → Parts → ℕ → ℕ
+gathered o [] m n = n
+gathered o (p ∷ ps) m n = gathered o ps m (if is_about o p then told p (value_of p m) n else n)
+
+pub read_packed : (o : Operand) (ps : List Piece) (m : Parts) (n : ℕ) → are_narrow ps ≡ true → read_on o ps (packed ps m) n ≡ gathered o ps m n
+unfolding are_narrow packed read_on gathered
+read_packed o [] m n k = refl
+read_packed o (p ∷ ps) m n k =
+    let parts = and_parts (is_narrow p) (are_narrow ps) k in
+    let rest = packed_below ps m parts.1 in
+    let first = high (value_of p m) (width ps) rest in
+    let second = low (value_of p m) (width ps) rest in
+    rw (first, second) (read_packed o ps m (if is_about o p then told p (value_of p m) n else n) parts.1)
+
+-- a row from one of its pieces on: that piece, and the others
+pub record Cut (ps : List Piece) (i : ℕ) (p : Piece) : Type 0 where
+  pub wide : width (drop i ps) ≡ width_of p + width (drop (i + 1) ps)
+  pub most : most (drop i ps) ≡ most_of p + most (drop (i + 1) ps)
+  pub narrow : are_narrow (drop i ps) ≡ true → (is_narrow p ≡ true) × (are_narrow (drop (i + 1) ps) ≡ true)
+  pub read : (o : Operand) (c n : ℕ) → read_on o (drop i ps) c n ≡ read_on o (drop (i + 1) ps) (c % 2 ^ width (drop (i + 1) ps)) (if is_about o p then told p (c / 2 ^ width (drop (i + 1) ps)) n else n)
+
+pub cut_at : (ps : List Piece) (i : ℕ) → i < length ps → Cut ps i (get_or ps i (Fixed 0 0))
+unfolding are_narrow read_on
+cut_at ps i h =
+    let p = get_or ps i (Fixed 0 0) in
+    let split : drop i ps ≡ p ∷ drop (i + 1) ps = rw add-one (drop-cons ps i (Fixed 0 0) h) in
+    record {
+      wide = ap width split;
+      most = ap most split;
+      narrow = λ n. and_parts (is_narrow p) (are_narrow (drop (i + 1) ps)) (ap are_narrow (sym split) ∙ n);
+      read = λ o c n. ap (λ (qs : List Piece). read_on o qs c n) split;
+    }
+
+-- the bits that pieces tell of a register or number are the last ones, each once and from the highest
+unfoldable pub spans : Operand → List Piece → ℕ → Bool
+spans o [] n = n == 0
+spans o (Fixed w x ∷ ps) n = spans o ps n
+spans o (Bits w p from least ∷ ps) n = if is_operand o p then (n == from + w) && spans o ps from else spans o ps n
+spans o (Amount w p ∷ ps) n = not (is_operand o p) && spans o ps n
+spans o (Same p a b ∷ ps) n = not (is_operand o p) && spans o ps n
+
+same_operand : (o p : Operand) → is_operand o p ≡ true → o ≡ p
+same_operand operand.First operand.First e = refl
+same_operand operand.Second operand.Second e = refl
+same_operand operand.Third operand.Third e = refl
+same_operand o p e = absurd (true≢false (sym e))
+
+pub spanned : (o : Operand) (ps : List Piece) (m : Parts) (k n : ℕ) → spans o ps k ≡ true → gathered o ps m n ≡ n + number o m % 2 ^ k
+unfolding spans gathered
+spanned o [] m k n s = let e : k ≡ 0 = eqb-true k 0 s in rw e (omega arith)
+spanned o (Fixed w x ∷ ps) m k n s = spanned o ps m k n s
+spanned o (Bits w p from least ∷ ps) m k n s = elim (cases_Bool (is_operand o p)) [
+  | inl e ↦
+      (let both : ((k == from + w) && spans o ps from) ≡ true = rw e at s in
+      let parts = and_parts (k == from + w) (spans o ps from) both in
+      let long : k ≡ w + from = (let h = eqb-true k (from + w) parts.0 in omega arith) in
+      let is : o ≡ p = same_operand o p e in
+      let here : number p m ≡ number o m = ap (λ (x : Operand). number x m) (sym is) in
+      let more = spanned o ps m from (n + number o m / 2 ^ from % 2 ^ w * 2 ^ from) parts.1 in
+      let cut : number o m % 2 ^ (w + from) ≡ (number o m / 2 ^ from % 2 ^ w) * 2 ^ from + number o m % 2 ^ from = mod-pow-add (number o m) w from in
+      rw (e, here, more, long) (omega (arith, cut)))
+  | inr e ↦ (let rest : spans o ps k ≡ true = rw e at s in rw e (spanned o ps m k n rest))
+]
+spanned o (Amount w p ∷ ps) m k n s =
+    let parts = and_parts (not (is_operand o p)) (spans o ps k) s in
+    elim (cases_Bool (is_operand o p)) [
+      | inl e ↦ absurd (true≢false (let bad : not true ≡ true = rw e at parts.0 in sym bad))
+      | inr e ↦ rw e (spanned o ps m k n parts.1)
+    ]
+spanned o (Same p a b ∷ ps) m k n s =
+    let parts = and_parts (not (is_operand o p)) (spans o ps k) s in
+    elim (cases_Bool (is_operand o p)) [
+      | inl e ↦ absurd (true≢false (let bad : not true ≡ true = rw e at parts.0 in sym bad))
+      | inr e ↦ rw e (spanned o ps m k n parts.1)
+    ]
 
 -- ---- rows apart ----
 
 abbrev disjoint : Piece → Piece → Bool
-disjoint p q = nat_lt (most_of p) (least_of q) || nat_lt (most_of q) (least_of p)
+disjoint (Fixed w x) (Fixed v y) = not (x == y)
+disjoint (Fixed w x) (Bits v o from least) = nat_lt x least
+disjoint (Bits w o from least) (Fixed v y) = nat_lt y least
+disjoint p q = false
+
+-- so many bits that are free
+abbrev free : ℕ → Piece
+free w = Bits w operand.First 0 0
 
 -- a row that has the same numbers or more, with its first w bits as a piece of their own
 abbrev cut : ℕ → Piece → List Piece → List Piece
 cut w (Fixed v x) ps = Fixed w (x / 2 ^ (v - w)) ∷ Fixed (v - w) (x % 2 ^ (v - w)) ∷ ps
-cut w (Field v a b) ps = Field w (a / 2 ^ (v - w)) (b / 2 ^ (v - w)) ∷ Field (v - w) 0 (2 ^ (v - w) - 1) ∷ ps
+cut w p ps = free w ∷ free (width_of p - w) ∷ ps
 
 -- in at most n steps a place is found where the rows differ
 unfoldable pub clash : ℕ → List Piece → List Piece → Bool
@@ -110,54 +178,40 @@ clash (suc n) (p ∷ ps) (q ∷ qs) =
     else clash n (cut (width_of q) p ps) (q ∷ qs)
 clash k l m = false
 
-div_below : (a b k : ℕ) → 0 < k → a ≤ b → a / k ≤ b / k
-div_below a b k h l = let m : a / k * k ≤ a = div-mul-le_self a k in (le-div_iff_mul-le {k = k} {x = a / k} {y = b} h).1 (omega arith)
-
 cut_width : (w : ℕ) (p : Piece) (ps : List Piece) → w < width_of p → width (cut w p ps) ≡ width (p ∷ ps)
 cut_width w (Fixed v x) ps h = omega arith
-cut_width w (Field v a b) ps h = omega arith
+cut_width w (Bits v o from least) ps h = omega arith
+cut_width w (Amount v o) ps h = omega arith
+cut_width w (Same o a b) ps h = omega arith
+
+-- two pieces that are free have what the rest of a row has
+cut_free : (w v : ℕ) (ps : List Piece) (c : ℕ) → w < v → agrees ps (c % 2 ^ width ps) ≡ true → agrees (free w ∷ free (v - w) ∷ ps) c ≡ true
+unfolding agrees
+cut_free w v ps c h a =
+    and_from _ _ (le-leb 0 (c / 2 ^ (v - w + width ps)) (omega arith)) (and_from _ _ (le-leb 0 (c % 2 ^ (v - w + width ps) / 2 ^ width ps) (omega arith)) (subst (λ (n : ℕ). agrees ps n ≡ true) (sym (mod-mod-pow c (v - w) (width ps))) a))
 
 cut_agrees : (w : ℕ) (p : Piece) (ps : List Piece) (c : ℕ) → w < width_of p → agrees (p ∷ ps) c ≡ true → agrees (cut w p ps) c ≡ true
 unfolding agrees
-cut_agrees w (Field v l m) ps c h a =
-    let parts = and_parts _ _ a in
-    let limit = and_parts _ _ parts.0 in
-    let low_end : l ≤ c / 2 ^ width ps = leb-true l (c / 2 ^ width ps) limit.0 in
-    let high_end : c / 2 ^ width ps ≤ m = leb-true (c / 2 ^ width ps) m limit.1 in
-    let j = v - w in
-    let first : c / 2 ^ (j + width ps) ≡ c / 2 ^ width ps / 2 ^ j = ap (λ (n : ℕ). c / 2 ^ n) (let e : j + width ps ≡ width ps + j = omega arith in e) ∙ sym (shr-shr c (width ps) j) in
-    let second : c % 2 ^ (j + width ps) / 2 ^ width ps ≡ c / 2 ^ width ps % 2 ^ j = field c j (width ps) in
-    let third : c % 2 ^ (j + width ps) % 2 ^ width ps ≡ c % 2 ^ width ps = mod-mod-pow c j (width ps) in
-    let least : l / 2 ^ j ≤ c / 2 ^ width ps / 2 ^ j = div_below l (c / 2 ^ width ps) (2 ^ j) (pow_pos j) low_end in
-    let most : c / 2 ^ width ps / 2 ^ j ≤ m / 2 ^ j = div_below (c / 2 ^ width ps) m (2 ^ j) (pow_pos j) high_end in
-    let below : c / 2 ^ width ps % 2 ^ j < 2 ^ j = mod-lt (c / 2 ^ width ps) (pow_pos j) in
-    and_from _ _ (both_at _ _ _ _ first least most)
-    (and_from _ _ (both_at _ _ _ _ second (omega arith) (omega arith)) (subst (λ (n : ℕ). agrees ps n ≡ true) (sym third) parts.1))
 cut_agrees w (Fixed v x) ps c h a =
-    let parts = and_parts _ _ a in
-    let limit = and_parts _ _ parts.0 in
-    let low_end = leb-true x (c / 2 ^ width ps) limit.0 in
-    let high_end = leb-true (c / 2 ^ width ps) x limit.1 in
-    let is : c / 2 ^ width ps ≡ x = omega arith in
+    let parts = and_parts (c / 2 ^ width ps == x) (agrees ps (c % 2 ^ width ps)) a in
+    let is : c / 2 ^ width ps ≡ x = eqb-true (c / 2 ^ width ps) x parts.0 in
     let j = v - w in
     let first : c / 2 ^ (j + width ps) ≡ x / 2 ^ j = ap (λ (n : ℕ). c / 2 ^ n) (let e : j + width ps ≡ width ps + j = omega arith in e) ∙ (sym (shr-shr c (width ps) j) ∙ ap (λ (n : ℕ). n / 2 ^ j) is) in
     let second : c % 2 ^ (j + width ps) / 2 ^ width ps ≡ x % 2 ^ j = field c j (width ps) ∙ ap (λ (n : ℕ). n % 2 ^ j) is in
     let third : c % 2 ^ (j + width ps) % 2 ^ width ps ≡ c % 2 ^ width ps = mod-mod-pow c j (width ps) in
-    and_from _ _ (both_at _ _ _ _ first (omega arith) (omega arith))
-    (and_from _ _ (both_at _ _ _ _ second (omega arith) (omega arith)) (subst (λ (n : ℕ). agrees ps n ≡ true) (sym third) parts.1))
+    and_from _ _ (eq-eqb _ _ first) (and_from _ _ (eq-eqb _ _ second) (subst (λ (n : ℕ). agrees ps n ≡ true) (sym third) parts.1))
+cut_agrees w (Bits v o from least) ps c h a = cut_free w v ps c h (and_parts (nat_le least (c / 2 ^ width ps)) (agrees ps (c % 2 ^ width ps)) a).1
+cut_agrees w (Amount v o) ps c h a = cut_free w v ps c h a
+cut_agrees w (Same o x y) ps c h a = cut_free w 1 ps c h a
 
-no_both : (p q : Piece) (h : ℕ) → disjoint p q ≡ true → (nat_le (least_of p) h && nat_le h (most_of p)) ≡ true → (nat_le (least_of q) h && nat_le h (most_of q)) ≡ true → ⊥
-no_both p q h d a b =
-    let first = and_parts _ _ a in
-    let second = and_parts _ _ b in
-    let a0 : least_of p ≤ h = leb-true _ _ first.0 in
-    let a1 : h ≤ most_of p = leb-true _ _ first.1 in
-    let b0 : least_of q ≤ h = leb-true _ _ second.0 in
-    let b1 : h ≤ most_of q = leb-true _ _ second.1 in
-    elim (or_cases _ _ d) [
-      | inl l ↦ (let k : most_of p < least_of q = ltb-true _ _ l in omega arith)
-      | inr l ↦ (let k : most_of q < least_of p = ltb-true _ _ l in omega arith)
-    ]
+no_both : (p q : Piece) (h : ℕ) → disjoint p q ≡ true → holds p h ≡ true → holds q h ≡ true → ⊥
+no_both (Fixed w x) (Fixed v y) h d a b =
+    let e = eqb-true h x a in
+    let f = eqb-true h y b in
+    true≢false (sym d ∙ ap not (eq-eqb x y (omega arith)))
+no_both (Fixed w x) (Bits v o from least) h d a b = let e = eqb-true h x a in let f = leb-true least h b in let g = ltb-true x least d in omega arith
+no_both (Bits w o from least) (Fixed v y) h d a b = let e = eqb-true h y b in let f = leb-true least h a in let g = ltb-true y least d in omega arith
+no_both p q h d a b = true≢false (sym d)
 
 pub clash_apart : (n : ℕ) (ps qs : List Piece) (c : ℕ) → clash n ps qs ≡ true → width ps ≡ width qs → agrees ps c ≡ true → agrees qs c ≡ true → ⊥
 unfolding clash agrees
@@ -168,10 +222,9 @@ clash_apart (suc n) (p ∷ ps) (q ∷ qs) c k w a b =
           let same : width ps ≡ width qs = omega arith in
           let h = c / 2 ^ width ps in
           let ka : (disjoint p q || clash n ps qs) ≡ true = rw e at k in
-          let first = and_parts (nat_le (least_of p) h && nat_le h (most_of p)) (agrees ps (c % 2 ^ width ps)) a in
-          let b' : ((nat_le (least_of q) h && nat_le h (most_of q)) && agrees qs (c % 2 ^ width ps)) ≡ true =
-          subst (λ (m : ℕ). ((nat_le (least_of q) (c / 2 ^ m) && nat_le (c / 2 ^ m) (most_of q)) && agrees qs (c % 2 ^ m)) ≡ true) (sym same) b in
-          let second = and_parts (nat_le (least_of q) h && nat_le h (most_of q)) (agrees qs (c % 2 ^ width ps)) b' in
+          let first = and_parts (holds p h) (agrees ps (c % 2 ^ width ps)) a in
+          let b' : (holds q h && agrees qs (c % 2 ^ width ps)) ≡ true = subst (λ (m : ℕ). (holds q (c / 2 ^ m) && agrees qs (c % 2 ^ m)) ≡ true) (sym same) b in
+          let second = and_parts (holds q h) (agrees qs (c % 2 ^ width ps)) b' in
           elim (or_cases (disjoint p q) (clash n ps qs) ka) [ inl d ↦ no_both p q h d first.0 second.0 | inr r ↦ clash_apart n ps qs (c % 2 ^ width ps) r same first.1 second.1 ])
       | inr e ↦
           (let ka : (if nat_lt (width_of p) (width_of q) then clash n (p ∷ ps) (cut (width_of p) q qs) else clash n (cut (width_of q) p ps) (q ∷ qs)) ≡ true = rw e at k in
@@ -192,7 +245,7 @@ clash_apart n ps qs c k w a b = true≢false (sym k)
 
 -- the rest of two halfwords is free after one
 abbrev pub padded : List Piece → List Piece
-padded ps = ps ++ Field 16 0 65535 ∷ []
+padded ps = ps ++ free 16 ∷ []
 
 pub width_padded : (ps : List Piece) → width (padded ps) ≡ width ps + 16
 width_padded [] = refl
@@ -200,9 +253,9 @@ width_padded (p ∷ ps) = let e = width_padded ps in omega arith
 
 pub agrees_padded : (ps : List Piece) (a b : ℕ) → b < 65536 → a < 2 ^ width ps → agrees ps a ≡ true → agrees (padded ps) (a * 65536 + b) ≡ true
 unfolding agrees
-agrees_padded [] a b h l g = and_from _ _ (both_at 0 65535 ((a * 65536 + b) / 1) b (let z : a ≡ 0 = omega arith in rw (z, div-one) (omega arith)) (omega arith) (omega arith)) refl
+agrees_padded [] a b h l g = and_from _ _ (le-leb 0 ((a * 65536 + b) / 1) (omega arith)) refl
 agrees_padded (p ∷ ps) a b h l g =
-    let parts = and_parts (nat_le (least_of p) (a / 2 ^ width ps) && nat_le (a / 2 ^ width ps) (most_of p)) (agrees ps (a % 2 ^ width ps)) g in
+    let parts = and_parts (holds p (a / 2 ^ width ps)) (agrees ps (a % 2 ^ width ps)) g in
     let n = a * 65536 + b in
     let up : n / 2 ^ 16 ≡ a = high a 16 h in
     let down : n % 2 ^ 16 ≡ b = low a 16 h in
@@ -212,4 +265,4 @@ agrees_padded (p ∷ ps) a b h l g =
     let rest : (a % 2 ^ width ps) * 65536 + b ≡ n % 2 ^ width (padded ps) =
     sym (ap (λ (m : ℕ). n % 2 ^ m) w ∙ (mod-pow-add n (width ps) 16 ∙ (ap (λ (m : ℕ). (m % 2 ^ width ps) * 65536 + n % 2 ^ 16) up ∙ ap (λ (m : ℕ). (a % 2 ^ width ps) * 65536 + m) down))) in
     let more = agrees_padded ps (a % 2 ^ width ps) b h (mod-lt a (pow_pos (width ps))) parts.1 in
-    and_from _ _ (subst (λ (m : ℕ). (nat_le (least_of p) m && nat_le m (most_of p)) ≡ true) first parts.0) (subst (λ (m : ℕ). agrees (padded ps) m ≡ true) rest more)
+    and_from _ _ (subst (λ (m : ℕ). holds p m ≡ true) first parts.0) (subst (λ (m : ℕ). agrees (padded ps) m ≡ true) rest more)

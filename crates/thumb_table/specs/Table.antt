@@ -1,179 +1,150 @@
 -- The encodings of instructions, as the tables of the ARM manual's section on the Thumb instruction set encoding.
-use Rattle.std.specs.Prelude.{◌≡◌, ℕ, ◌+◌, ◌*◌, ◌/◌, ◌%◌, ◌^◌, ◌<◌, ◌==◌, true, List, [], ◌∷◌, if◌then◌else◌}
+use Rattle.std.specs.Prelude.{◌≡◌, ℕ, ◌+◌, ◌-◌, ◌*◌, ◌/◌, ◌^◌, ◌<◌, ◌==◌, ◌||◌, nat_lt, Bool, true, List, [], ◌∷◌, if◌then◌else◌, slice_index_or}
 use Rattle.thumb_instr.specs.declared.instr.Instr.{Instr}
-use Rattle.thumb_instr.specs.declared.instr.Instr.TheVariants as instr
+use Rattle.thumb_instr.specs.declared.kind.Kind.{Kind}
+use Rattle.thumb_instr.specs.declared.kind.Kind.TheVariants as kind
+use Rattle.thumb_instr.specs.declared.operation.Right.TheVariants as right
+use Rattle.thumb_instr.specs.declared.operation.Sum.TheVariants as sum
+use Rattle.thumb_instr.specs.declared.operation.ByteOperation.TheVariants as byte
+use Rattle.thumb_instr.specs.declared.operation.Operation.TheVariants as operation
+use Rattle.thumb_instr.specs.declared.operation.Access.TheVariants as access
+use Rattle.thumb_instr.specs.declared.operation.OffsetAccess.TheVariants as offset
+use Rattle.thumb_instr.specs.declared.operation.WordAccess.TheVariants as word
+use Rattle.thumb_instr.specs.declared.operation.Extension.TheVariants as extension
+use Rattle.thumb_instr.specs.declared.operation.Interrupts.TheVariants as interrupts
+use Rattle.thumb_instr.specs.declared.operation.Reversal.TheVariants as reversal
+use Rattle.thumb_instr.specs.declared.operation.Hint.TheVariants as hint
+use Rattle.thumb_instr.specs.declared.operation.Condition.TheVariants as condition
+use Rattle.thumb_instr.specs.declared.operation.Barrier.TheVariants as barrier
+use Rattle.thumb_instr.specs.declared.operation.Special.TheVariants as special
+use Rattle.thumb_instr.specs.declared.kind.Parts.{Parts}
+use Rattle.thumb_instr.specs.Parts.{of, parts_of}
 use Rattle.thumb_table.specs.declared.row.Code.{Code}
 use Rattle.thumb_table.specs.declared.row.Code.TheVariants as code
+use Rattle.thumb_table.specs.declared.row.Operand.TheVariants as operand
 use Rattle.thumb_table.specs.declared.row.Piece.{Piece}
-use Rattle.thumb_table.specs.declared.row.Piece.TheVariants.{Fixed, Field}
-use Rattle.thumb_table.specs.declared.row.Form.{Form}
-use Rattle.thumb_table.specs.declared.row.Form.TheVariants as form
-use Rattle.thumb_table.specs.Rows.{width, packed, agrees}
-use Rattle.thumb_table.specs.Numbers.{sum_number, right_number, byte_number, operation_number, extension_number, reversal_number, access_number, offset_number, word_number, condition_number, hint_number, interrupts_number, barrier_number, special_number}
+use Rattle.thumb_table.specs.declared.row.Piece.TheVariants.{Fixed, Bits, Amount, Same}
+use Rattle.thumb_table.specs.Rows.{width, packed, agrees, read_on}
 
--- the rows, each from its highest bit: fixed bits and fields, with their widths
-unfoldable pub pieces : Form → List Piece
-pieces form.Movs = Fixed 10 0 ∷ Field 3 0 7 ∷ Field 3 0 7 ∷ []
-pieces form.ShiftLeft = Fixed 5 0 ∷ Field 5 1 31 ∷ Field 3 0 7 ∷ Field 3 0 7 ∷ []
-pieces form.ShiftRight = Fixed 3 0 ∷ Field 2 1 2 ∷ Field 5 0 31 ∷ Field 3 0 7 ∷ Field 3 0 7 ∷ []
-pieces form.Three = Fixed 6 6 ∷ Field 1 0 1 ∷ Field 3 0 7 ∷ Field 3 0 7 ∷ Field 3 0 7 ∷ []
-pieces form.ThreeNumber = Fixed 6 7 ∷ Field 1 0 1 ∷ Field 3 0 7 ∷ Field 3 0 7 ∷ Field 3 0 7 ∷ []
-pieces form.TwoNumber = Fixed 3 1 ∷ Field 2 0 3 ∷ Field 3 0 7 ∷ Field 8 0 255 ∷ []
-pieces form.Two = Fixed 6 16 ∷ Field 4 0 15 ∷ Field 3 0 7 ∷ Field 3 0 7 ∷ []
-pieces form.Add = Fixed 8 68 ∷ Field 1 0 1 ∷ Field 4 0 14 ∷ Field 3 0 7 ∷ []
-pieces form.Compare = Fixed 8 69 ∷ Field 1 0 1 ∷ Field 4 0 14 ∷ Field 3 0 7 ∷ []
-pieces form.Mov = Fixed 8 70 ∷ Field 1 0 1 ∷ Field 4 0 14 ∷ Field 3 0 7 ∷ []
-pieces form.Bx = Fixed 9 142 ∷ Field 4 0 14 ∷ Fixed 3 0 ∷ []
-pieces form.Blx = Fixed 9 143 ∷ Field 4 0 14 ∷ Fixed 3 0 ∷ []
-pieces form.Literal = Fixed 5 9 ∷ Field 3 0 7 ∷ Field 8 0 255 ∷ []
-pieces form.Indexed = Fixed 4 5 ∷ Field 3 0 7 ∷ Field 3 0 7 ∷ Field 3 0 7 ∷ Field 3 0 7 ∷ []
-pieces form.Offset = Field 5 12 17 ∷ Field 5 0 31 ∷ Field 3 0 7 ∷ Field 3 0 7 ∷ []
-pieces form.Stack = Fixed 4 9 ∷ Field 1 0 1 ∷ Field 3 0 7 ∷ Field 8 0 255 ∷ []
-pieces form.Address = Fixed 5 20 ∷ Field 3 0 7 ∷ Field 8 0 255 ∷ []
-pieces form.StackAddress = Fixed 5 21 ∷ Field 3 0 7 ∷ Field 8 0 255 ∷ []
-pieces form.StackMove = Fixed 8 176 ∷ Field 1 0 1 ∷ Field 7 0 127 ∷ []
-pieces form.Extend = Fixed 8 178 ∷ Field 2 0 3 ∷ Field 3 0 7 ∷ Field 3 0 7 ∷ []
-pieces form.Reverse = Fixed 8 186 ∷ Field 2 0 3 ∷ Field 3 0 7 ∷ Field 3 0 7 ∷ []
-pieces form.Push = Fixed 7 90 ∷ Field 9 1 511 ∷ []
-pieces form.Pop = Fixed 7 94 ∷ Field 9 1 511 ∷ []
-pieces form.Breakpoint = Fixed 8 190 ∷ Field 8 0 255 ∷ []
-pieces form.Service = Fixed 8 223 ∷ Field 8 0 255 ∷ []
-pieces form.Hint = Fixed 8 191 ∷ Field 4 0 4 ∷ Fixed 4 0 ∷ []
-pieces form.ChangeState = Fixed 11 1459 ∷ Field 1 0 1 ∷ Fixed 4 2 ∷ []
-pieces form.StoreMany = Fixed 5 24 ∷ Field 3 0 7 ∷ Field 8 1 255 ∷ []
-pieces form.LoadMany = Fixed 5 25 ∷ Field 3 0 7 ∷ Field 8 1 255 ∷ []
-pieces form.BranchIf = Fixed 4 13 ∷ Field 4 0 13 ∷ Field 8 0 255 ∷ []
-pieces form.Branch = Fixed 5 28 ∷ Field 11 0 2047 ∷ []
-pieces form.Call = Fixed 5 30 ∷ Field 1 0 1 ∷ Field 10 0 1023 ∷ Fixed 2 3 ∷ Field 1 0 1 ∷ Fixed 1 1 ∷ Field 1 0 1 ∷ Field 11 0 2047 ∷ []
-pieces form.Barrier = Fixed 16 62399 ∷ Fixed 8 143 ∷ Field 4 4 6 ∷ Fixed 4 15 ∷ []
-pieces form.ReadSpecial = Fixed 16 62447 ∷ Fixed 4 8 ∷ Field 4 0 14 ∷ Field 8 5 16 ∷ []
-pieces form.WriteMask = Fixed 12 3896 ∷ Field 4 0 14 ∷ Fixed 16 34832 ∷ []
+-- a low register, and the highest bit of a register where it stands apart
+abbrev first : Piece
+first = Bits 3 operand.First 0 0
 
--- all rows
-unfoldable pub forms : List Form
-forms =
-    form.Movs
-    ∷ form.ShiftLeft
-    ∷ form.ShiftRight
-    ∷ form.Three
-    ∷ form.ThreeNumber
-    ∷ form.TwoNumber
-    ∷ form.Two
-    ∷ form.Add
-    ∷ form.Compare
-    ∷ form.Mov
-    ∷ form.Bx
-    ∷ form.Blx
-    ∷ form.Literal
-    ∷ form.Indexed
-    ∷ form.Offset
-    ∷ form.Stack
-    ∷ form.Address
-    ∷ form.StackAddress
-    ∷ form.StackMove
-    ∷ form.Extend
-    ∷ form.Reverse
-    ∷ form.Push
-    ∷ form.Pop
-    ∷ form.Breakpoint
-    ∷ form.Service
-    ∷ form.Hint
-    ∷ form.ChangeState
-    ∷ form.StoreMany
-    ∷ form.LoadMany
-    ∷ form.BranchIf
-    ∷ form.Branch
-    ∷ form.Call
-    ∷ form.Barrier
-    ∷ form.ReadSpecial
-    ∷ form.WriteMask
-    ∷ []
+abbrev second : Piece
+second = Bits 3 operand.Second 0 0
 
--- the row of an instruction
-abbrev pub form_of : Instr → Form
-form_of (instr.Movs d m) = form.Movs
-form_of (instr.ShiftLeft d m i) = form.ShiftLeft
-form_of (instr.ShiftRight s d m i) = form.ShiftRight
-form_of (instr.Three s d n m) = form.Three
-form_of (instr.ThreeNumber s d n i) = form.ThreeNumber
-form_of (instr.TwoNumber o d i) = form.TwoNumber
-form_of (instr.Two o d m) = form.Two
-form_of (instr.Add r) = form.Add
-form_of (instr.Compare r) = form.Compare
-form_of (instr.Mov d m) = form.Mov
-form_of (instr.Bx m) = form.Bx
-form_of (instr.Blx m) = form.Blx
-form_of (instr.Literal t i) = form.Literal
-form_of (instr.Indexed a t n m) = form.Indexed
-form_of (instr.Offset a t n i) = form.Offset
-form_of (instr.Stack a t i) = form.Stack
-form_of (instr.Address d i) = form.Address
-form_of (instr.StackAddress d i) = form.StackAddress
-form_of (instr.StackMove s i) = form.StackMove
-form_of (instr.Extend e d m) = form.Extend
-form_of (instr.Reverse r d m) = form.Reverse
-form_of (instr.Push l) = form.Push
-form_of (instr.Pop l) = form.Pop
-form_of (instr.Breakpoint i) = form.Breakpoint
-form_of (instr.Service i) = form.Service
-form_of (instr.Hint h) = form.Hint
-form_of (instr.ChangeState i) = form.ChangeState
-form_of (instr.StoreMany s) = form.StoreMany
-form_of (instr.LoadMany n l) = form.LoadMany
-form_of (instr.BranchIf c i) = form.BranchIf
-form_of (instr.Branch i) = form.Branch
-form_of (instr.Call i) = form.Call
-form_of (instr.Barrier b) = form.Barrier
-form_of (instr.ReadSpecial d s) = form.ReadSpecial
-form_of (instr.WriteMask m) = form.WriteMask
+abbrev third : Piece
+third = Bits 3 operand.Third 0 0
 
--- 1 where two bits are equal: NOT(a EOR b)
-abbrev pub same : ℕ → ℕ → ℕ
-same a b = if a == b then 1 else 0
+abbrev high : Piece
+high = Bits 1 operand.First 3 0
 
--- the fields of BL from the 24 bits S:I1:I2:imm10:imm11 of half its distance: S, imm10, J1, J2 and imm11, where I1 = NOT(J1 EOR S) and I2 = NOT(J2 EOR S)
-abbrev pub call_fields : ℕ → List ℕ
-call_fields v =
-    let s = v / 2 ^ 23 in
-    s ∷ v / 2 ^ 11 % 2 ^ 10 ∷ same (v / 2 ^ 22 % 2) s ∷ same (v / 2 ^ 21 % 2) s ∷ v % 2 ^ 11 ∷ []
+-- the rows, each from its highest bit: fixed bits, and those of its registers and numbers.
+-- BL has the 24 bits S:I1:I2:imm10:imm11 of half its distance as S, imm10, J1, J2 and imm11, where I1 = NOT(J1 EOR S) and I2 = NOT(J2 EOR S)
+unfoldable pub pieces : Kind → List Piece
+pieces kind.Movs = Fixed 10 0b0000000000 ∷ second ∷ first ∷ []
+pieces kind.ShiftLeft = Fixed 5 0b00000 ∷ Bits 5 operand.Third 0 1 ∷ second ∷ first ∷ []
+pieces (kind.ShiftRight right.Lsr) = Fixed 5 0b00001 ∷ Amount 5 operand.Third ∷ second ∷ first ∷ []
+pieces (kind.ShiftRight right.Asr) = Fixed 5 0b00010 ∷ Amount 5 operand.Third ∷ second ∷ first ∷ []
+pieces (kind.Three sum.Add) = Fixed 7 0b000110_0 ∷ third ∷ second ∷ first ∷ []
+pieces (kind.Three sum.Sub) = Fixed 7 0b000110_1 ∷ third ∷ second ∷ first ∷ []
+pieces (kind.ThreeNumber sum.Add) = Fixed 7 0b000111_0 ∷ third ∷ second ∷ first ∷ []
+pieces (kind.ThreeNumber sum.Sub) = Fixed 7 0b000111_1 ∷ third ∷ second ∷ first ∷ []
+pieces (kind.TwoNumber byte.Mov) = Fixed 5 0b00100 ∷ first ∷ Bits 8 operand.Second 0 0 ∷ []
+pieces (kind.TwoNumber byte.Cmp) = Fixed 5 0b00101 ∷ first ∷ Bits 8 operand.Second 0 0 ∷ []
+pieces (kind.TwoNumber byte.Add) = Fixed 5 0b00110 ∷ first ∷ Bits 8 operand.Second 0 0 ∷ []
+pieces (kind.TwoNumber byte.Sub) = Fixed 5 0b00111 ∷ first ∷ Bits 8 operand.Second 0 0 ∷ []
+pieces (kind.Two operation.And) = Fixed 10 0b010000_0000 ∷ second ∷ first ∷ []
+pieces (kind.Two operation.Eor) = Fixed 10 0b010000_0001 ∷ second ∷ first ∷ []
+pieces (kind.Two operation.Lsl) = Fixed 10 0b010000_0010 ∷ second ∷ first ∷ []
+pieces (kind.Two operation.Lsr) = Fixed 10 0b010000_0011 ∷ second ∷ first ∷ []
+pieces (kind.Two operation.Asr) = Fixed 10 0b010000_0100 ∷ second ∷ first ∷ []
+pieces (kind.Two operation.Adc) = Fixed 10 0b010000_0101 ∷ second ∷ first ∷ []
+pieces (kind.Two operation.Sbc) = Fixed 10 0b010000_0110 ∷ second ∷ first ∷ []
+pieces (kind.Two operation.Ror) = Fixed 10 0b010000_0111 ∷ second ∷ first ∷ []
+pieces (kind.Two operation.Tst) = Fixed 10 0b010000_1000 ∷ second ∷ first ∷ []
+pieces (kind.Two operation.Rsb) = Fixed 10 0b010000_1001 ∷ second ∷ first ∷ []
+pieces (kind.Two operation.Cmp) = Fixed 10 0b010000_1010 ∷ second ∷ first ∷ []
+pieces (kind.Two operation.Cmn) = Fixed 10 0b010000_1011 ∷ second ∷ first ∷ []
+pieces (kind.Two operation.Orr) = Fixed 10 0b010000_1100 ∷ second ∷ first ∷ []
+pieces (kind.Two operation.Mul) = Fixed 10 0b010000_1101 ∷ second ∷ first ∷ []
+pieces (kind.Two operation.Bic) = Fixed 10 0b010000_1110 ∷ second ∷ first ∷ []
+pieces (kind.Two operation.Mvn) = Fixed 10 0b010000_1111 ∷ second ∷ first ∷ []
+pieces kind.Add = Fixed 8 0b01000100 ∷ high ∷ Bits 4 operand.Second 0 0 ∷ first ∷ []
+pieces kind.Compare = Fixed 8 0b01000101 ∷ high ∷ Bits 4 operand.Second 0 0 ∷ first ∷ []
+pieces kind.Mov = Fixed 8 0b01000110 ∷ high ∷ Bits 4 operand.Second 0 0 ∷ first ∷ []
+pieces kind.Bx = Fixed 9 0b010001110 ∷ Bits 4 operand.First 0 0 ∷ Fixed 3 0b000 ∷ []
+pieces kind.Blx = Fixed 9 0b010001111 ∷ Bits 4 operand.First 0 0 ∷ Fixed 3 0b000 ∷ []
+pieces kind.Literal = Fixed 5 0b01001 ∷ first ∷ Bits 8 operand.Second 0 0 ∷ []
+pieces (kind.Indexed access.Str) = Fixed 7 0b0101_000 ∷ third ∷ second ∷ first ∷ []
+pieces (kind.Indexed access.Strh) = Fixed 7 0b0101_001 ∷ third ∷ second ∷ first ∷ []
+pieces (kind.Indexed access.Strb) = Fixed 7 0b0101_010 ∷ third ∷ second ∷ first ∷ []
+pieces (kind.Indexed access.Ldrsb) = Fixed 7 0b0101_011 ∷ third ∷ second ∷ first ∷ []
+pieces (kind.Indexed access.Ldr) = Fixed 7 0b0101_100 ∷ third ∷ second ∷ first ∷ []
+pieces (kind.Indexed access.Ldrh) = Fixed 7 0b0101_101 ∷ third ∷ second ∷ first ∷ []
+pieces (kind.Indexed access.Ldrb) = Fixed 7 0b0101_110 ∷ third ∷ second ∷ first ∷ []
+pieces (kind.Indexed access.Ldrsh) = Fixed 7 0b0101_111 ∷ third ∷ second ∷ first ∷ []
+pieces (kind.Offset offset.Str) = Fixed 5 0b01100 ∷ Bits 5 operand.Third 0 0 ∷ second ∷ first ∷ []
+pieces (kind.Offset offset.Ldr) = Fixed 5 0b01101 ∷ Bits 5 operand.Third 0 0 ∷ second ∷ first ∷ []
+pieces (kind.Offset offset.Strb) = Fixed 5 0b01110 ∷ Bits 5 operand.Third 0 0 ∷ second ∷ first ∷ []
+pieces (kind.Offset offset.Ldrb) = Fixed 5 0b01111 ∷ Bits 5 operand.Third 0 0 ∷ second ∷ first ∷ []
+pieces (kind.Offset offset.Strh) = Fixed 5 0b10000 ∷ Bits 5 operand.Third 0 0 ∷ second ∷ first ∷ []
+pieces (kind.Offset offset.Ldrh) = Fixed 5 0b10001 ∷ Bits 5 operand.Third 0 0 ∷ second ∷ first ∷ []
+pieces (kind.Stack word.Str) = Fixed 5 0b10010 ∷ first ∷ Bits 8 operand.Second 0 0 ∷ []
+pieces (kind.Stack word.Ldr) = Fixed 5 0b10011 ∷ first ∷ Bits 8 operand.Second 0 0 ∷ []
+pieces kind.Address = Fixed 5 0b10100 ∷ first ∷ Bits 8 operand.Second 0 0 ∷ []
+pieces kind.StackAddress = Fixed 5 0b10101 ∷ first ∷ Bits 8 operand.Second 0 0 ∷ []
+pieces (kind.StackMove sum.Add) = Fixed 9 0b10110000_0 ∷ Bits 7 operand.First 0 0 ∷ []
+pieces (kind.StackMove sum.Sub) = Fixed 9 0b10110000_1 ∷ Bits 7 operand.First 0 0 ∷ []
+pieces (kind.Extend extension.Sxth) = Fixed 10 0b10110010_00 ∷ second ∷ first ∷ []
+pieces (kind.Extend extension.Sxtb) = Fixed 10 0b10110010_01 ∷ second ∷ first ∷ []
+pieces (kind.Extend extension.Uxth) = Fixed 10 0b10110010_10 ∷ second ∷ first ∷ []
+pieces (kind.Extend extension.Uxtb) = Fixed 10 0b10110010_11 ∷ second ∷ first ∷ []
+pieces kind.Push = Fixed 7 0b1011010 ∷ Bits 9 operand.First 0 0 ∷ []
+pieces (kind.ChangeState interrupts.Enable) = Fixed 16 0b10110110011_0_0010 ∷ []
+pieces (kind.ChangeState interrupts.Disable) = Fixed 16 0b10110110011_1_0010 ∷ []
+pieces (kind.Reverse reversal.Rev) = Fixed 10 0b10111010_00 ∷ second ∷ first ∷ []
+pieces (kind.Reverse reversal.Rev16) = Fixed 10 0b10111010_01 ∷ second ∷ first ∷ []
+pieces (kind.Reverse reversal.Revsh) = Fixed 10 0b10111010_11 ∷ second ∷ first ∷ []
+pieces kind.Pop = Fixed 7 0b1011110 ∷ Bits 9 operand.First 0 0 ∷ []
+pieces kind.Breakpoint = Fixed 8 0b10111110 ∷ Bits 8 operand.First 0 0 ∷ []
+pieces (kind.Hint hint.Nop) = Fixed 16 0b10111111_0000_0000 ∷ []
+pieces (kind.Hint hint.Yield) = Fixed 16 0b10111111_0001_0000 ∷ []
+pieces (kind.Hint hint.Wfe) = Fixed 16 0b10111111_0010_0000 ∷ []
+pieces (kind.Hint hint.Wfi) = Fixed 16 0b10111111_0011_0000 ∷ []
+pieces (kind.Hint hint.Sev) = Fixed 16 0b10111111_0100_0000 ∷ []
+pieces kind.StoreMany = Fixed 5 0b11000 ∷ first ∷ Bits 8 operand.Second 0 0 ∷ []
+pieces kind.LoadMany = Fixed 5 0b11001 ∷ first ∷ Bits 8 operand.Second 0 0 ∷ []
+pieces (kind.BranchIf condition.Eq) = Fixed 8 0b1101_0000 ∷ Bits 8 operand.First 0 0 ∷ []
+pieces (kind.BranchIf condition.Ne) = Fixed 8 0b1101_0001 ∷ Bits 8 operand.First 0 0 ∷ []
+pieces (kind.BranchIf condition.Cs) = Fixed 8 0b1101_0010 ∷ Bits 8 operand.First 0 0 ∷ []
+pieces (kind.BranchIf condition.Cc) = Fixed 8 0b1101_0011 ∷ Bits 8 operand.First 0 0 ∷ []
+pieces (kind.BranchIf condition.Mi) = Fixed 8 0b1101_0100 ∷ Bits 8 operand.First 0 0 ∷ []
+pieces (kind.BranchIf condition.Pl) = Fixed 8 0b1101_0101 ∷ Bits 8 operand.First 0 0 ∷ []
+pieces (kind.BranchIf condition.Vs) = Fixed 8 0b1101_0110 ∷ Bits 8 operand.First 0 0 ∷ []
+pieces (kind.BranchIf condition.Vc) = Fixed 8 0b1101_0111 ∷ Bits 8 operand.First 0 0 ∷ []
+pieces (kind.BranchIf condition.Hi) = Fixed 8 0b1101_1000 ∷ Bits 8 operand.First 0 0 ∷ []
+pieces (kind.BranchIf condition.Ls) = Fixed 8 0b1101_1001 ∷ Bits 8 operand.First 0 0 ∷ []
+pieces (kind.BranchIf condition.Ge) = Fixed 8 0b1101_1010 ∷ Bits 8 operand.First 0 0 ∷ []
+pieces (kind.BranchIf condition.Lt) = Fixed 8 0b1101_1011 ∷ Bits 8 operand.First 0 0 ∷ []
+pieces (kind.BranchIf condition.Gt) = Fixed 8 0b1101_1100 ∷ Bits 8 operand.First 0 0 ∷ []
+pieces (kind.BranchIf condition.Le) = Fixed 8 0b1101_1101 ∷ Bits 8 operand.First 0 0 ∷ []
+pieces kind.Service = Fixed 8 0b11011111 ∷ Bits 8 operand.First 0 0 ∷ []
+pieces kind.Branch = Fixed 5 0b11100 ∷ Bits 11 operand.First 0 0 ∷ []
+pieces kind.Call = Fixed 5 0b11110 ∷ Bits 1 operand.First 23 0 ∷ Bits 10 operand.First 11 0 ∷ Fixed 2 0b11 ∷ Same operand.First 22 23 ∷ Fixed 1 0b1 ∷ Same operand.First 21 23 ∷ Bits 11 operand.First 0 0 ∷ []
+pieces (kind.Barrier barrier.Dsb) = Fixed 16 0xF3BF ∷ Fixed 16 0b10001111_0100_1111 ∷ []
+pieces (kind.Barrier barrier.Dmb) = Fixed 16 0xF3BF ∷ Fixed 16 0b10001111_0101_1111 ∷ []
+pieces (kind.Barrier barrier.Isb) = Fixed 16 0xF3BF ∷ Fixed 16 0b10001111_0110_1111 ∷ []
+pieces (kind.ReadSpecial special.Primask) = Fixed 16 0xF3EF ∷ Fixed 4 0b1000 ∷ Bits 4 operand.First 0 0 ∷ Fixed 8 0b00010000 ∷ []
+pieces (kind.ReadSpecial special.Ipsr) = Fixed 16 0xF3EF ∷ Fixed 4 0b1000 ∷ Bits 4 operand.First 0 0 ∷ Fixed 8 0b00000101 ∷ []
+pieces kind.WriteMask = Fixed 12 0b111100111000 ∷ Bits 4 operand.First 0 0 ∷ Fixed 16 0x8810 ∷ []
 
--- what the fields of its row hold
-abbrev pub values_of : Instr → List ℕ
-values_of (instr.Movs d m) = m.number ∷ d.number ∷ []
-values_of (instr.ShiftLeft d m i) = i.number ∷ m.number ∷ d.number ∷ []
-values_of (instr.ShiftRight s d m i) = right_number s ∷ i.number % 32 ∷ m.number ∷ d.number ∷ []
-values_of (instr.Three s d n m) = sum_number s ∷ m.number ∷ n.number ∷ d.number ∷ []
-values_of (instr.ThreeNumber s d n i) = sum_number s ∷ i.number ∷ n.number ∷ d.number ∷ []
-values_of (instr.TwoNumber o d i) = byte_number o ∷ d.number ∷ i.number ∷ []
-values_of (instr.Two o d m) = operation_number o ∷ m.number ∷ d.number ∷ []
-values_of (instr.Add r) = r.target.number / 8 ∷ r.source.number ∷ r.target.number % 8 ∷ []
-values_of (instr.Compare r) = r.left.number / 8 ∷ r.right.number ∷ r.left.number % 8 ∷ []
-values_of (instr.Mov d m) = d.number / 8 ∷ m.number ∷ d.number % 8 ∷ []
-values_of (instr.Bx m) = m.number ∷ []
-values_of (instr.Blx m) = m.number ∷ []
-values_of (instr.Literal t i) = t.number ∷ i.number ∷ []
-values_of (instr.Indexed a t n m) = access_number a ∷ m.number ∷ n.number ∷ t.number ∷ []
-values_of (instr.Offset a t n i) = offset_number a ∷ i.number ∷ n.number ∷ t.number ∷ []
-values_of (instr.Stack a t i) = word_number a ∷ t.number ∷ i.number ∷ []
-values_of (instr.Address d i) = d.number ∷ i.number ∷ []
-values_of (instr.StackAddress d i) = d.number ∷ i.number ∷ []
-values_of (instr.StackMove s i) = sum_number s ∷ i.number ∷ []
-values_of (instr.Extend e d m) = extension_number e ∷ m.number ∷ d.number ∷ []
-values_of (instr.Reverse r d m) = reversal_number r ∷ m.number ∷ d.number ∷ []
-values_of (instr.Push l) = l.number ∷ []
-values_of (instr.Pop l) = l.number ∷ []
-values_of (instr.Breakpoint i) = i.number ∷ []
-values_of (instr.Service i) = i.number ∷ []
-values_of (instr.Hint h) = hint_number h ∷ []
-values_of (instr.ChangeState i) = interrupts_number i ∷ []
-values_of (instr.StoreMany s) = s.base.number ∷ s.list.number ∷ []
-values_of (instr.LoadMany n l) = n.number ∷ l.number ∷ []
-values_of (instr.BranchIf c i) = condition_number c ∷ i.field ∷ []
-values_of (instr.Branch i) = i.field ∷ []
-values_of (instr.Call i) = call_fields i.field
-values_of (instr.Barrier b) = barrier_number b ∷ []
-values_of (instr.ReadSpecial d s) = d.number ∷ special_number s ∷ []
-values_of (instr.WriteMask m) = m.number ∷ []
+-- the row of an instruction, and the number that it makes of it
+abbrev pub row_of : Instr → List Piece
+row_of i = pieces (parts_of i).kind
+
+abbrev pub code_of : Instr → ℕ
+code_of i = packed (row_of i) (parts_of i)
 
 -- a row's bits in two halfwords, of which a short row has the first alone
 abbrev pub whole : List Piece → ℕ → ℕ → ℕ
@@ -181,7 +152,7 @@ whole ps first second = if width ps == 16 then first else first * 65536 + second
 
 -- the halfwords are the instruction's, of which a short one has the first alone
 pub record Encodes (i : Instr) (first second : ℕ) : Type 0 where
-  pub is : packed (pieces (form_of i)) (values_of i) ≡ whole (pieces (form_of i)) first second
+  pub is : code_of i ≡ whole (row_of i) first second
 
 -- no instruction has the halfwords
 abbrev pub IsNoCode : ℕ → ℕ → Type 0
@@ -189,30 +160,154 @@ IsNoCode first second = (i : Instr) → Encodes i first second → ⊥
 
 -- how many halfwords a code has, and the number that they make
 abbrev pub halfwords : Code → ℕ
-halfwords (code.One first) = 1
-halfwords (code.Two first second) = 2
+halfwords (code.One a) = 1
+halfwords (code.Two a b) = 2
 
 abbrev pub whole_of : Code → ℕ
-whole_of (code.One first) = first
-whole_of (code.Two first second) = first * 65536 + second
+whole_of (code.One a) = a
+whole_of (code.Two a b) = a * 65536 + b
 
 -- the code is the instruction's
 pub record IsCode (i : Instr) (c : Code) : Type 0 where
-  pub long : width (pieces (form_of i)) ≡ 16 * halfwords c
-  pub is : packed (pieces (form_of i)) (values_of i) ≡ whole_of c
+  pub long : width (row_of i) ≡ 16 * halfwords c
+  pub is : code_of i ≡ whole_of c
 
 -- no two halfwords have the bits of two rows
 abbrev pub AreApart : Type 0
-AreApart = (f g : Form) (first second : ℕ) → first < 65536 → second < 65536
-    → agrees (pieces f) (whole (pieces f) first second) ≡ true → agrees (pieces g) (whole (pieces g) first second) ≡ true → f ≡ g
+AreApart = (k l : Kind) (first second : ℕ) → first < 65536 → second < 65536
+    → agrees (pieces k) (whole (pieces k) first second) ≡ true → agrees (pieces l) (whole (pieces l) first second) ≡ true → k ≡ l
 
 -- ---- of a row ----
 
--- the instruction is of the row, and its fields hold these values
-pub record Makes (f : Form) (vs : List ℕ) (i : Instr) : Type 0 where
-  pub form : form_of i ≡ f
-  pub values : values_of i ≡ vs
+-- a first halfword has the fixed bits that a row begins with
+abbrev pub begins_with : List Piece → ℕ → Bool
+begins_with (Fixed w x ∷ ps) a = nat_lt 16 w || (a / 2 ^ (16 - w) == x)
+begins_with ps a = true
+
+-- what a code tells of a kind's registers and numbers
+abbrev pub read_parts : Kind → ℕ → Parts
+read_parts k c = of k (read_on operand.First (pieces k) c 0) (read_on operand.Second (pieces k) c 0) (read_on operand.Third (pieces k) c 0)
 
 -- no instruction of the row has the halfwords
-abbrev pub IsNotOf : Form → ℕ → ℕ → Type 0
-IsNotOf f first second = (i : Instr) → form_of i ≡ f → Encodes i first second → ⊥
+abbrev pub IsNotOf : Kind → ℕ → ℕ → Type 0
+IsNotOf k first second = (i : Instr) → (parts_of i).kind ≡ k → Encodes i first second → ⊥
+
+-- the kinds by the upper four bits of their rows
+unfoldable pub kinds : List (List Kind)
+kinds =
+    (kind.Movs
+    ∷ kind.ShiftLeft
+    ∷ kind.ShiftRight right.Lsr
+    ∷ [])
+    ∷ (kind.ShiftRight right.Asr
+    ∷ kind.Three sum.Add
+    ∷ kind.Three sum.Sub
+    ∷ kind.ThreeNumber sum.Add
+    ∷ kind.ThreeNumber sum.Sub
+    ∷ [])
+    ∷ (kind.TwoNumber byte.Mov
+    ∷ kind.TwoNumber byte.Cmp
+    ∷ [])
+    ∷ (kind.TwoNumber byte.Add
+    ∷ kind.TwoNumber byte.Sub
+    ∷ [])
+    ∷ (kind.Two operation.And
+    ∷ kind.Two operation.Eor
+    ∷ kind.Two operation.Lsl
+    ∷ kind.Two operation.Lsr
+    ∷ kind.Two operation.Asr
+    ∷ kind.Two operation.Adc
+    ∷ kind.Two operation.Sbc
+    ∷ kind.Two operation.Ror
+    ∷ kind.Two operation.Tst
+    ∷ kind.Two operation.Rsb
+    ∷ kind.Two operation.Cmp
+    ∷ kind.Two operation.Cmn
+    ∷ kind.Two operation.Orr
+    ∷ kind.Two operation.Mul
+    ∷ kind.Two operation.Bic
+    ∷ kind.Two operation.Mvn
+    ∷ kind.Add
+    ∷ kind.Compare
+    ∷ kind.Mov
+    ∷ kind.Bx
+    ∷ kind.Blx
+    ∷ kind.Literal
+    ∷ [])
+    ∷ (kind.Indexed access.Str
+    ∷ kind.Indexed access.Strh
+    ∷ kind.Indexed access.Strb
+    ∷ kind.Indexed access.Ldrsb
+    ∷ kind.Indexed access.Ldr
+    ∷ kind.Indexed access.Ldrh
+    ∷ kind.Indexed access.Ldrb
+    ∷ kind.Indexed access.Ldrsh
+    ∷ [])
+    ∷ (kind.Offset offset.Str
+    ∷ kind.Offset offset.Ldr
+    ∷ [])
+    ∷ (kind.Offset offset.Strb
+    ∷ kind.Offset offset.Ldrb
+    ∷ [])
+    ∷ (kind.Offset offset.Strh
+    ∷ kind.Offset offset.Ldrh
+    ∷ [])
+    ∷ (kind.Stack word.Str
+    ∷ kind.Stack word.Ldr
+    ∷ [])
+    ∷ (kind.Address
+    ∷ kind.StackAddress
+    ∷ [])
+    ∷ (kind.StackMove sum.Add
+    ∷ kind.StackMove sum.Sub
+    ∷ kind.Extend extension.Sxth
+    ∷ kind.Extend extension.Sxtb
+    ∷ kind.Extend extension.Uxth
+    ∷ kind.Extend extension.Uxtb
+    ∷ kind.Push
+    ∷ kind.ChangeState interrupts.Enable
+    ∷ kind.ChangeState interrupts.Disable
+    ∷ kind.Reverse reversal.Rev
+    ∷ kind.Reverse reversal.Rev16
+    ∷ kind.Reverse reversal.Revsh
+    ∷ kind.Pop
+    ∷ kind.Breakpoint
+    ∷ kind.Hint hint.Nop
+    ∷ kind.Hint hint.Yield
+    ∷ kind.Hint hint.Wfe
+    ∷ kind.Hint hint.Wfi
+    ∷ kind.Hint hint.Sev
+    ∷ [])
+    ∷ (kind.StoreMany
+    ∷ kind.LoadMany
+    ∷ [])
+    ∷ (kind.BranchIf condition.Eq
+    ∷ kind.BranchIf condition.Ne
+    ∷ kind.BranchIf condition.Cs
+    ∷ kind.BranchIf condition.Cc
+    ∷ kind.BranchIf condition.Mi
+    ∷ kind.BranchIf condition.Pl
+    ∷ kind.BranchIf condition.Vs
+    ∷ kind.BranchIf condition.Vc
+    ∷ kind.BranchIf condition.Hi
+    ∷ kind.BranchIf condition.Ls
+    ∷ kind.BranchIf condition.Ge
+    ∷ kind.BranchIf condition.Lt
+    ∷ kind.BranchIf condition.Gt
+    ∷ kind.BranchIf condition.Le
+    ∷ kind.Service
+    ∷ [])
+    ∷ (kind.Branch
+    ∷ [])
+    ∷ (kind.Call
+    ∷ kind.Barrier barrier.Dsb
+    ∷ kind.Barrier barrier.Dmb
+    ∷ kind.Barrier barrier.Isb
+    ∷ kind.ReadSpecial special.Primask
+    ∷ kind.ReadSpecial special.Ipsr
+    ∷ kind.WriteMask
+    ∷ [])
+    ∷ []
+
+abbrev pub kinds_at : ℕ → List Kind
+kinds_at n = slice_index_or kinds n []

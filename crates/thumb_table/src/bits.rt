@@ -1,8 +1,9 @@
 //! Rows of bits, packed and taken apart.
-ghost use Rattle.std.specs.Prelude.{◌≡◌, ◌<◌, ◌≤◌, ◌^◌, true, nat_le, ◌&&◌};
-ghost use Rattle.thumb_table.specs.Rows.{width_of, width, packed, fits, agrees, fields, least_of, most_of, least_at, most_at, at};
+ghost use Rattle.std.specs.Prelude.{◌≡◌, ◌+◌, ◌%◌, ◌<◌, ◌≤◌, ◌^◌, true, if◌then◌else◌};
+ghost use Rattle.thumb_table.specs.Rows.{width_of, width, number, same, value_of, packed, holds, agrees, is_operand, is_about, told, read_on, is_narrow, are_narrow, most_of, most};
 
-use crate::row::Piece;
+use crate::row::{Operand, Piece};
+use thumb_instr::Parts;
 
 /// How many bits a piece has.
 fn width_of(piece: &Piece) -> u32
@@ -10,17 +11,9 @@ fn width_of(piece: &Piece) -> u32
 {
     match *piece {
         Piece::Fixed(width, _) => width,
-        Piece::Field(width, _, _) => width,
-    }
-}
-
-/// Whether a value is the fixed bits, or one of the field.
-fn is_within(piece: &Piece, value: u64) -> bool
-    ensures { result ≡ (nat_le (least_of piece.now) value && nat_le value (most_of piece.now)) }
-{
-    match *piece {
-        Piece::Fixed(_, bits) => bits as u64 <= value && value <= bits as u64,
-        Piece::Field(_, least, most) => least as u64 <= value && value <= most as u64,
+        Piece::Bits(width, _, _, _) => width,
+        Piece::Amount(width, _) => width,
+        Piece::Same(_, _, _) => 1,
     }
 }
 
@@ -36,75 +29,158 @@ pub fn width(pieces: &[Piece]) -> u32
     sum
 }
 
-/// Whether a number has the row's bits.
+/// Whether a piece can hold a number.
+fn holds(piece: &Piece, value: u64) -> bool
+    ensures { result ≡ holds piece.now value }
+{
+    match *piece {
+        Piece::Fixed(_, bits) => value == bits as u64,
+        Piece::Bits(_, _, _, least) => least as u64 <= value,
+        _ => true,
+    }
+}
+
+/// The lowest bits of a number.
+fn lowest(number: u64, bits: u32) -> u64
+    requires { bits ≤ 32 }
+    ensures is { result ≡ number % 2 ^ bits }
+    ensures below { result < 2 ^ bits }
+{
+    number % (1 << bits)
+}
+
+/// Whether a number has the bits of a row that is so many bits wide.
 #[tactic(auto, unfolding(crate::specs::Rows::agrees))]
-pub fn agrees(pieces: &[Piece], code: u32) -> bool
-    requires { width pieces.now ≤ 32 }
+pub fn agrees(pieces: &[Piece], wide: u32, code: u32) -> bool
+    requires wide { wide ≡ width pieces.now }
+    requires long { wide ≤ 32 }
     ensures { result ≡ agrees pieces.now code }
 {
-    let mut left = width(pieces);
+    let mut left = wide;
     let mut rest = code as u64;
     for piece in pieces {
         left -= width_of(piece);
-        if !is_within(piece, rest >> left) {
+        if !holds(piece, rest >> left) {
             return false;
         }
-        rest %= 1 << left;
+        rest = lowest(rest, left);
     }
     true
 }
 
-/// The k-th field of a number that has the row's bits.
-#[tactic(auto, unfolding(crate::specs::Rows::agrees, crate::specs::Rows::fields))]
-pub fn field(pieces: &[Piece], code: u32, k: u32) -> u32
-    requires wide { width pieces.now ≤ 32 }
-    requires agrees { agrees pieces.now code ≡ true }
-    ensures value { result ≡ at k (fields pieces.now code) }
-    ensures least { least_at k pieces.now ≤ result }
-    ensures most { result ≤ most_at k pieces.now }
+/// A register or number of an instruction.
+fn number(operand: Operand, parts: &Parts) -> u32
+    ensures { result ≡ number operand parts.now }
 {
-    let mut left = width(pieces);
-    let mut rest = code as u64;
-    let mut skip = k;
-    for piece in pieces {
-        left -= width_of(piece);
-        let value = rest >> left;
-        rest %= 1 << left;
-        match *piece {
-            Piece::Fixed(_, _) => continue,
-            Piece::Field(_, _, _) => {
-                if skip == 0 {
-                    return value as u32;
-                }
-                skip -= 1;
-            }
-        }
+    match operand {
+        Operand::First => parts.first,
+        Operand::Second => parts.second,
+        Operand::Third => parts.third,
     }
-    0
 }
 
-/// The number that a row makes of its fields.
-#[tactic(auto, unfolding(crate::specs::Rows::fits, crate::specs::Rows::packed))]
-pub fn packed(pieces: &[Piece], values: &[u32]) -> u32
-    requires wide { width pieces.now ≤ 32 }
-    requires below { packed pieces.now values.now < 2 ^ 32 }
-    requires fits { fits pieces.now values.now ≡ true }
-    ensures { result ≡ packed pieces.now values.now }
+/// 1 where two bits are equal.
+fn same(a: u64, b: u64) -> u64
+    ensures value { result ≡ same a b }
+    ensures bit { result ≤ 1 }
 {
-    let mut left = width(pieces);
-    let mut code = 0u64;
-    let mut rest = values;
-    for piece in pieces {
-        left -= width_of(piece);
-        match *piece {
-            Piece::Fixed(_, bits) => code += (bits as u64) << left,
-            Piece::Field(_, _, _) => {
-                if let Some((value, more)) = rest.split_first() {
-                    code += (*value as u64) << left;
-                    rest = more;
-                }
-            }
+    if a == b { 1 } else { 0 }
+}
+
+/// What a piece holds of an instruction.
+fn value_of(piece: &Piece, parts: &Parts) -> u64
+    requires narrow { is_narrow piece.now ≡ true }
+    ensures value { result ≡ value_of piece.now parts.now }
+    ensures below { result < 2 ^ width_of piece.now }
+{
+    match *piece {
+        Piece::Fixed(_, bits) => bits as u64,
+        Piece::Bits(width, operand, from, _) => (number(operand, parts) as u64 >> from)
+            % (1 << width),
+        Piece::Amount(width, operand) => number(operand, parts) as u64 % (1 << width),
+        Piece::Same(operand, bit, other) => {
+            let number = number(operand, parts) as u64;
+            same((number >> bit) % 2, (number >> other) % 2)
         }
     }
+}
+
+/// The number that a row, so many bits wide, makes of an instruction.
+#[tactic(auto, using(crate::proofs::Rows::packed_word), unfolding(crate::specs::Rows::packed, crate::specs::Rows::are_narrow))]
+pub fn packed(pieces: &[Piece], wide: u32, parts: &Parts) -> u32
+    requires wide { wide ≡ width pieces.now }
+    requires long { wide ≤ 32 }
+    requires narrow { are_narrow pieces.now ≡ true }
+    ensures { result ≡ packed pieces.now parts.now }
+{
+    let mut left = wide;
+    let mut code = 0u64;
+    for piece in pieces {
+        left -= width_of(piece);
+        code += value_of(piece, parts) << left;
+    }
     code as u32
+}
+
+/// Whether a piece tells of a register or number.
+fn is_about(operand: Operand, piece: &Piece) -> bool
+    ensures { result ≡ is_about operand piece.now }
+{
+    match *piece {
+        Piece::Fixed(_, _) => false,
+        Piece::Bits(_, other, _, _) => is_operand(operand, other),
+        Piece::Amount(_, other) => is_operand(operand, other),
+        Piece::Same(other, _, _) => is_operand(operand, other),
+    }
+}
+
+fn is_operand(one: Operand, other: Operand) -> bool
+    ensures { result ≡ is_operand one other }
+{
+    match (one, other) {
+        (Operand::First, Operand::First) => true,
+        (Operand::Second, Operand::Second) => true,
+        (Operand::Third, Operand::Third) => true,
+        _ => false,
+    }
+}
+
+/// What is known of a register or number by a piece that holds this value, of which so much was known before.
+fn told(operand: Operand, piece: &Piece, value: u64, known: u64) -> u64
+    requires narrow { is_narrow piece.now ≡ true }
+    requires value { value < 2 ^ width_of piece.now }
+    requires known { known < 2 ^ 32 }
+    ensures told { result ≡ (if is_about operand piece.now then told piece.now value known else known) }
+    ensures most { result ≤ known + most_of piece.now }
+{
+    if !is_about(operand, piece) {
+        return known;
+    }
+    match *piece {
+        Piece::Fixed(_, _) => known,
+        Piece::Bits(_, _, from, _) => known + (value << from),
+        Piece::Amount(width, _) => known + if value == 0 { 1 << width } else { value },
+        Piece::Same(_, bit, other) => known + (same(value, (known >> other) % 2) << bit),
+    }
+}
+
+/// The register or number that a code tells by a row that is so many bits wide.
+#[tactic(auto, unfolding(crate::specs::Rows::read_on, crate::specs::Rows::are_narrow))]
+pub fn read(operand: Operand, pieces: &[Piece], wide: u32, code: u32) -> u32
+    requires wide { wide ≡ width pieces.now }
+    requires long { wide ≤ 32 }
+    requires narrow { are_narrow pieces.now ≡ true }
+    requires most { most pieces.now < 2 ^ 32 }
+    requires below { code < 2 ^ wide }
+    ensures { result ≡ read_on operand pieces.now code 0 }
+{
+    let mut left = wide;
+    let mut rest = code as u64;
+    let mut known = 0u64;
+    for piece in pieces {
+        left -= width_of(piece);
+        known = told(operand, piece, rest >> left, known);
+        rest = lowest(rest, left);
+    }
+    known as u32
 }

@@ -4,8 +4,6 @@
 mod bits;
 mod code;
 mod laws;
-mod numbers;
-mod parts;
 mod row;
 mod table;
 

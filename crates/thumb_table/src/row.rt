@@ -1,50 +1,22 @@
-/// A piece of a row: bits that are fixed, or a field with its least and greatest value.
+/// Which register or number of an instruction, in the order of its text.
+#[derive(Clone, Copy, Debug)]
+pub enum Operand {
+    First,
+    Second,
+    Third,
+}
+
+/// A piece of a row: bits that are fixed, or what the code holds of a register or number.
 #[derive(Clone, Copy, Debug)]
 pub enum Piece {
     /// How many bits, and the number that they make.
     Fixed(u32, u32),
-    /// How many bits, and the least and the greatest number that they make.
-    Field(u32, u32, u32),
-}
-
-/// A row of the table, by the instruction that it encodes.
-#[derive(Clone, Copy, Debug)]
-pub enum Form {
-    Movs,
-    ShiftLeft,
-    ShiftRight,
-    Three,
-    ThreeNumber,
-    TwoNumber,
-    Two,
-    Add,
-    Compare,
-    Mov,
-    Bx,
-    Blx,
-    Literal,
-    Indexed,
-    Offset,
-    Stack,
-    Address,
-    StackAddress,
-    StackMove,
-    Extend,
-    Reverse,
-    Push,
-    Pop,
-    Breakpoint,
-    Service,
-    Hint,
-    ChangeState,
-    StoreMany,
-    LoadMany,
-    BranchIf,
-    Branch,
-    Call,
-    Barrier,
-    ReadSpecial,
-    WriteMask,
+    /// How many bits of which number, from which of its bits on, and the least that they make.
+    Bits(u32, Operand, u32, u32),
+    /// How many bits of which number, from its lowest on, where they make 0 for the number that has one bit more.
+    Amount(u32, Operand),
+    /// Of which number, which of its bits as 1 where it equals which other one.
+    Same(Operand, u32, u32),
 }
 
 /// A code: one or two halfwords, the first of which stands at the lower address.

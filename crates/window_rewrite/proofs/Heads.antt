@@ -16,7 +16,8 @@ use Rattle.thumb_instr.specs.Renaming.{Low, Reg, low_under, reg_under, both_unde
 use Rattle.thumb_instr.proofs.Registers.{low_is, same_number, same_not_both_sp}
 use Rattle.thumb_instr.proofs.RenamingLemmas.{low_number, reg_number}
 use Rattle.thumb_model.specs.Rewrite.{Rule, AreOver, IsSoundRule, register_count, normalised}
-use Rattle.window_rewrite.specs.Rules.{code_number, codes_of, first_register, first_registers, first_with, head_number, is_key, is_marked, is_shorter, IsIndexFrom}
+use Rattle.thumb_table.specs.Table.{code_of}
+use Rattle.window_rewrite.specs.Rules.{codes_of, first_register, first_registers, first_with, head_number, is_key, is_marked, is_shorter, IsIndexFrom}
 use Rattle.window_rewrite.specs.declared.index.Index.{Index}
 use Rattle.window_rewrite.specs.Fitting.{Shortens}
 use Rattle.window_rewrite.proofs.Keys.{first_past, first_same, firsts_more, nexts_more}
@@ -100,7 +101,7 @@ begun n rule registers run sound s = by n run rule.left refl s.shorter s.stands.
           begins = j;
           others = js;
           run_is = refl;
-          same = ap head_number same ∙ ap (λ c. code_number c % 65536) (bare_same registers i o.0);
+          same = ap head_number same ∙ ap (λ c. code_of c % 65536) (bare_same registers i o.0);
         }
 
 pub shorter_is : (rule : Rule) (registers : List Low) (window : List Instr) → Shortens rule registers window → is_shorter rule ≡ true

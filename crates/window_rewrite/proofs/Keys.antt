@@ -12,7 +12,8 @@ use Rattle.thumb_instr.specs.declared.instr.Instr.{Instr}
 use Rattle.thumb_instr.specs.Renaming.{Low}
 use Rattle.thumb_model.specs.Rewrite.{Rule}
 use Rattle.thumb_model.proofs.Lists.{get_drop, length_drop}
-use Rattle.window_rewrite.specs.Rules.{code_number, codes_of, same_codes, is_key, is_shorter, has_codes, first_with}
+use Rattle.thumb_table.specs.Table.{code_of}
+use Rattle.window_rewrite.specs.Rules.{codes_of, same_codes, is_key, is_shorter, has_codes, first_with}
 use Rattle.window_rewrite.specs.Fitting.{Shortens}
 use Rattle.window_rewrite.specs.Choices.{Awaits}
 
@@ -226,7 +227,7 @@ nexts_more rules nexts more n rule o within at e is h k own next l f short g = e
 -- ---- what is awaited ----
 
 pub codes_length : (is : List Instr) → length (codes_of is) ≡ length is
-codes_length is = length-map is code_number
+codes_length is = length-map is code_of
 
 -- the next rule, its left side's length, and that none before it stands
 pub record IsNext (rules : List Rule) (window : List Instr) (k n : ℕ) : Type 0 where

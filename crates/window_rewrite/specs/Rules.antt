@@ -6,8 +6,7 @@ use Rattle.std.specs.declared.alloc.Global.{Global}
 use Rattle.std.specs.declared.vec.Vec.{Vec}
 use Rattle.thumb_instr.specs.declared.instr.Instr.{Instr}
 use Rattle.thumb_instr.specs.Renaming.{Low, renamed}
-use Rattle.thumb_table.specs.Rows.{packed}
-use Rattle.thumb_table.specs.Table.{pieces, form_of, values_of}
+use Rattle.thumb_table.specs.Table.{code_of}
 use Rattle.thumb_model.specs.Rewrite.{Rule, IsSoundRule}
 use Rattle.rule_table.specs.declared.table.Entry.{Entry}
 use Rattle.rule_table.specs.Matching.{or_first}
@@ -33,12 +32,8 @@ AreFit longest rules = (k : ℕ) (rule : Rule) → slice_get rules k ≡ Some ru
 
 -- ---- left sides by their codes ----
 
--- the number that an instruction's encoding makes
-abbrev pub code_number : Instr → ℕ
-code_number i = packed (pieces (form_of i)) (values_of i)
-
 abbrev pub codes_of : List Instr → List ℕ
-codes_of is = map code_number is
+codes_of is = map code_of is
 
 abbrev pub same_codes : List ℕ → List ℕ → Bool
 same_codes xs ys = pointwise nat_eq xs ys
@@ -70,7 +65,7 @@ first_registers = replicate 8 first_register
 
 -- a number that an instruction shares with all that differ from it in registers alone
 abbrev pub head_number : Instr → ℕ
-head_number i = code_number (renamed first_registers i) % 65536
+head_number i = code_of (renamed first_registers i) % 65536
 
 abbrev pub is_true : Option Bool → Bool
 is_true None = false

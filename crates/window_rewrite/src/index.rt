@@ -2,7 +2,8 @@
 ghost use Rattle.std.specs.Prelude.{◌≡◌, ◌∷◌, ◌+◌, ◌<◌, ◌≤◌, ℕ, List, length, drop, slice_get, true, false, Some, IfOk, OnOk};
 ghost use Rattle.thumb_instr.specs.declared.instr.Instr.{Instr};
 ghost use Rattle.thumb_model.specs.Rewrite.{Rule};
-ghost use Rattle.window_rewrite.specs.Rules.{code_number, codes_of, entry_rule, first_registers, first_with, head_number, is_marked, is_shorter, rules_in, IsIndex, IsIndexFrom};
+ghost use Rattle.thumb_table.specs.Table.{code_of};
+ghost use Rattle.window_rewrite.specs.Rules.{codes_of, entry_rule, first_registers, first_with, head_number, is_marked, is_shorter, rules_in, IsIndex, IsIndexFrom};
 
 use arrayvec::ArrayVec;
 use indexmap::IndexMap;
@@ -23,7 +24,7 @@ pub(crate) struct Index {
 
 /// The code of an instruction as a number.
 fn code_number(instr: &Instr) -> u32
-    ensures { result ≡ code_number instr.now }
+    ensures { result ≡ code_of instr.now }
 {
     match encode(instr) {
         Code::One(only) => u32::from(only),
