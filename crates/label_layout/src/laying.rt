@@ -1,5 +1,5 @@
 //! Laying lines out, one behind the other.
-ghost use Rattle.std.specs.Prelude.{◌≡◌, ◌+◌, ◌*◌, ◌≤◌, ◌<◌, ◌^◌, ◌++◌, map, length, IfOk, OnOk, MatchResult, Some, None, if◌then◌else◌};
+ghost use Rattle.std.specs.Prelude.{◌≡◌, ◌+◌, ◌*◌, ◌≤◌, ◌<◌, ◌^◌, ◌++◌, map, length, IfOk, OnOk, OnErr, MatchResult, Some, None, if◌then◌else◌};
 ghost use Rattle.std.specs.Map.{lookup};
 ghost use Rattle.std.specs.Str.{bytes_eq};
 ghost use Rattle.thumb_model.specs.Listing.{Name, places_of};
@@ -7,6 +7,7 @@ ghost use Rattle.thumb_model.specs.Layout.{is_among, or_else, size_at, Layable};
 ghost use Rattle.label_layout.specs.Addresses.{is_key};
 ghost use Rattle.listing_parser.specs.Views.{value_view, statement_view, line_view};
 ghost use Rattle.label_layout.specs.Addresses.{word_addresses, addresses_in, AreAddresses};
+ghost use Rattle.label_layout.specs.Changes.{WasLaid};
 ghost use Rattle.label_layout.specs.Refusals.{IsRefusal};
 
 use crate::addresses::Layout;
@@ -103,5 +104,30 @@ pub fn layout(alloc: Global, listing: &Listing, base: u32) -> Result<Layout, Lay
     match find_fault(&laid, listing) {
         Some((number, kind)) => Err(LayoutError::Line { number, kind }),
         None => Ok(laid),
+    }
+}
+
+impl Layout {
+    /// Lays out the listing that the layout's own has become, in which `new` instructions stand at the place where `old` stood. It is then what `layout` gives
+    /// from the same base.
+    ///
+    /// A line is refused as `layout` refuses it. The layout is then as it was, and so it is where memory is wanting.
+    pub fn change(
+        &mut self,
+        alloc: Global,
+        listing: &Listing,
+        place: u32,
+        old: u32,
+        new: u32,
+    ) -> Result<(), LayoutError>
+        requires { WasLaid listing.now place old new self.old }
+        ensures base { self.new.base ≡ self.old.base }
+        ensures laid { OnOk result (AreAddresses listing.now self.new) }
+        ensures counted { OnOk result (length self.new.places ≡ length (places_of listing.now)) }
+        ensures unchanged { OnErr result (self.new ≡ self.old) }
+        ensures verdict { MatchResult result (λ _. Layable self.old.base listing.now) (IsRefusal self.old.base listing.now) }
+    {
+        *self = layout(alloc, listing, self.base)?;
+        Ok(())
     }
 }

@@ -64,13 +64,13 @@ uses_are p (m ∷ ms) [] x a = absurd a
 uses_are p (m ∷ ms) (w ∷ ws) x a = ap (λ b. b || uses_among ws x) (a.0.uses x) ∙ ap (λ b. one_of x m.reads || b) (uses_are p ms ws x a.1)
 
 -- the flow of one place more
-pub push_flow : (code : Code) (fs more : List Flow) (f : Flow) (k : ℕ) → AreFlowsFrom code 0 fs → length fs ≡ k → more ≡ fs ++ f ∷ [] → FlowOf (ways code k) f → AreFlowsFrom code 0 more
-push_flow code fs more f k h l e i j g m =
+pub push_flow : (code : Code) (q : ℕ) (fs more : List Flow) (f : Flow) (k : ℕ) → AreFlowsFrom code q fs → q + length fs ≡ k → more ≡ fs ++ f ∷ [] → FlowOf (ways code k) f → AreFlowsFrom code q more
+push_flow code q fs more f k h l e i j g m =
     elim (cases_lt j (length fs)) [
       | inl t ↦ h j g (sym (ap (λ ss. slice_get ss j) e ∙ get_front fs (f ∷ []) j t) ∙ m)
       | inr t ↦
           let s = one_only (j - length fs) g (sym (ap (λ ss. slice_get ss j) e ∙ get_back fs (f ∷ []) (j - length fs) j (omega arith)) ∙ m) in
-          subst (λ y. FlowOf (ways code y) g) (let z : k ≡ 0 + j = omega (arith, s.0) in z) (subst (λ (a : Flow). FlowOf (ways code k) a) s.1 i)
+          subst (λ y. FlowOf (ways code y) g) (let z : k ≡ q + j = omega (arith, s.0) in z) (subst (λ (a : Flow). FlowOf (ways code k) a) s.1 i)
     ]
   where
     one_only : (i : ℕ) (g : Flow) → slice_get (f ∷ []) i ≡ Some g → (i ≡ 0) × (f ≡ g)
@@ -97,6 +97,13 @@ flow_moved : (f : ℕ → ℕ) (ws : List Way) (flow : Flow) → FlowOf ws flow 
 flow_moved f ws flow h = record {
   reads = λ x. h.reads x ∙ sym (reads_moved f ws x);
   onward = subst (λ (o : Option (List ℕ)). HasThese o flow.onward) (sym (onward_moved f ws)) h.onward;
+}
+
+-- and back
+pub flow_back : (f : ℕ → ℕ) (ws : List Way) (flow : Flow) → FlowOf (map (move_way f) ws) flow → FlowOf ws flow
+flow_back f ws flow h = record {
+  reads = λ x. h.reads x ∙ reads_moved f ws x;
+  onward = subst (λ (o : Option (List ℕ)). HasThese o flow.onward) (onward_moved f ws) h.onward;
 }
 
 -- the flow of a letter

@@ -73,6 +73,10 @@ through_reads code (i ∷ is) q end x e r (inl u) = now q 0 (way (uses_of i) (wr
 through_reads code (i ∷ is) q end x e r (inr t) =
     later q 0 (way (uses_of i) (writes_of i) Onward) (q + 1) (ap (λ ws. slice_get ws 0) r.0) t.0 refl (through_reads code is (q + 1) end x (omega arith) r.1 t.1)
 
+-- what straight code reads is read before it
+pub alone_reads : (code : Code) (is : List Instr) (q x : ℕ) → Runs code q is → live_through is nothing x ≡ true → Reads code x q
+alone_reads code is q x r h = through_reads code is q (q + length is) x refl r (through_map is x (nothing x ≡ true) (Reads code x (q + length is)) (not_nothing x (Reads code x (q + length is))) (told is x nothing h))
+
 -- a way of a place with one
 pub only : (ws : List Way) (v : Way) (k : ℕ) (w : Way) → ws ≡ v ∷ [] → slice_get ws k ≡ Some w → v ≡ w
 only ws v k w e g = go k (ap (λ us. slice_get us k) (sym e) ∙ g)

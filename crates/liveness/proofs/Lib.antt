@@ -3,8 +3,10 @@ pub mod FlowLaws
 pub mod Applied
 pub mod Carried
 mod GivesWay
+mod GaveWay
 mod Keeping
 mod KeptSets
+mod Replaced
 mod Through
 pub mod Weights
 mod Paths

@@ -51,6 +51,10 @@ none_lost old new ahead m n was is gone read left em en ew ei eg er el e x hw hi
     let i : has is x ≡ false = ei x ∙ same_after new x (λ y. has n y) nothing (en x) ∙ hi in
     sym (er x) ∙ is_within gone read left el e x (eg x ∙ ap (λ b. b && not (has is x)) w ∙ ap not i)
 
+-- what straight code doesn't read isn't live before it where nothing is after it
+pub not_read : (is : List Instr) (m was : ℕ) → ((x : ℕ) → has m x ≡ false) → ((x : ℕ) → has was x ≡ live_through is (λ y. has m y) x) → (x : ℕ) → live_through is nothing x ≡ false → has was x ≡ false
+not_read is m was em ew x h = ew x ∙ same_after is x (λ y. has m y) nothing (em x) ∙ h
+
 -- a slice to the end
 pub to_the_end : {A : Type 0} (xs : List A) (k : ℕ) → take (length xs - k) (drop k xs) ≡ drop k xs
 to_the_end xs k = whole (length xs - k) (drop k xs) (omega (arith, length_drop k xs))

@@ -6,10 +6,11 @@ ghost use Rattle.thumb_model.specs.Listing.{code_of};
 ghost use Rattle.thumb_model.specs.Machine.{answered};
 ghost use Rattle.thumb_model.specs.Flow.{ways, ways_of};
 ghost use Rattle.code_flow.specs.Flow.{way_list};
-ghost use Rattle.liveness.specs.Kept.{some_reads, onward_writes, HasThese, FlowOf, AreFlows};
+ghost use Rattle.liveness.specs.Kept.{some_reads, onward_writes, HasThese, FlowOf, AreFlows, AreFlowsFrom};
 ghost use Rattle.liveness.specs.Through.{uses_among};
 
 use crate::leaving::{target, ways};
+use arrayvec::ArrayVec;
 use code_flow::Ways;
 use listing_parser::{Listing, Place};
 use std::alloc::{AllocError, Global};
@@ -46,6 +47,23 @@ pub fn flows(alloc: Global, listing: &Listing) -> Result<Vec<Flow>, AllocError>
         flows.push(flow_at(listing, place))?;
     }
     Ok(flows)
+}
+
+/// The most flows that are looked at behind a place.
+const AHEAD: usize = 64;
+
+/// The flows of the places from one on: 64 of them, or as many as there are.
+pub(crate) fn flows_from(listing: &Listing, place: u32) -> ArrayVec<Flow, AHEAD>
+    ensures { AreFlowsFrom (code_of listing.now) place result.items }
+{
+    let mut flows = ArrayVec::new();
+    for at in place..listing.place_count() {
+        if flows.is_full() {
+            return flows;
+        }
+        flows.push(flow_at(listing, at));
+    }
+    flows
 }
 
 /// The flow of an instruction that may stand in a window.

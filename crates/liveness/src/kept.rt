@@ -108,7 +108,7 @@ pub(crate) fn set_before(instrs: &[Instr], after: Items) -> Items
 }
 
 /// What is read before it is written along flows, each to the next.
-fn read_ahead(ahead: &[Flow]) -> Items
+pub(crate) fn read_ahead(ahead: &[Flow]) -> Items
     ensures { (x : ℕ) → has result.bits x ≡ read_along ahead.now x }
 {
     let mut read = Items::none();

@@ -5,6 +5,7 @@
 //! branch goes by a word, and grows with theirs.
 #![tactic(auto)]
 
+mod changing;
 mod finding;
 mod flowing;
 mod growing;

@@ -6,5 +6,5 @@ use Rattle.liveness.proofs.flowing.flows.Goals as goal
 pub loop-place-preserved : goal.loop-place-preserved
 loop-place-preserved c = record {
   len = omega (arith, ap length c.in_ok-push.ensures.items, length-append c.loop-place.flows.items (c.flow_at.result ∷ []), c.loop-place.invariant.len);
-  flows = push_flow (code_of c.args.listing.now) c.loop-place.flows.items c.push.new.self.items c.flow_at.result c.loop-place.place c.loop-place.invariant.flows c.loop-place.invariant.len c.in_ok-push.ensures.items c.flow_at.ensures;
+  flows = push_flow (code_of c.args.listing.now) 0 c.loop-place.flows.items c.push.new.self.items c.flow_at.result c.loop-place.place c.loop-place.invariant.flows (omega (arith, c.loop-place.invariant.len)) c.in_ok-push.ensures.items c.flow_at.ensures;
 }
