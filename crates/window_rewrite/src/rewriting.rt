@@ -68,7 +68,7 @@ fn rewritten<L: Ledger>(
         let Swept { listing, is_done } = sweep(
             alloc,
             rules,
-            &current,
+            current,
             steady,
             &mut replacements,
             steps,
