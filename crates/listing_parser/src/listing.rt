@@ -87,9 +87,9 @@ impl Listing {
 
     /// The lines in order, without the tables.
     pub fn into_lines(self) -> Vec<Line>
-        ensures lines { map line_view result.items ≡ self.entry }
-        ensures few { length (places_of self.entry) < 2 ^ 32 }
-        ensures once { first_twice 1 [] self.entry ≡ None }
+        ensures lines { map line_view result.items ≡ self }
+        ensures few { length (places_of self) < 2 ^ 32 }
+        ensures once { first_twice 1 [] self ≡ None }
     {
         self.lines
     }
