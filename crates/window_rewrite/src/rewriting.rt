@@ -20,6 +20,18 @@ use std::alloc::Global;
 use step_ledger::{Ledger, Steps};
 use table_audit::Audited;
 
+/// Whether each listing that comes of this one by replacements can surely be laid out. A listing that cannot be laid out itself is refused.
+fn judge(alloc: Global, listing: &Listing, base: u32) -> Result<bool, RewriteError>
+    ensures steady { IfOk result (IsSteadyIf base listing.now) }
+    ensures verdict { MatchResult result (λ _. Layable base listing.now) (IsRefusal base listing.now) }
+{
+    if is_steady_from(alloc, listing, base)? {
+        return Ok(true);
+    }
+    let _laid = layout(alloc, listing, base)?;
+    Ok(false)
+}
+
 /// Rewrites a listing by an accepted table, for an image that begins at the base: at the least place where some entry applies, the one with the longest
 /// left side, then the lowest, until none applies. A listing that cannot be laid out from the base is refused at its first such line.
 ///
@@ -36,10 +48,7 @@ pub fn rewrite<L: Ledger>(
     ensures verdict { MatchResult result (λ _. Layable base listing) (IsRefusal base listing) }
     ensures cost { IfOk result (λ new. steps.new ≤ steps.old + rewriting_cost listing (rules_of (table_of table.now)) (length new.replacements.items)) }
 {
-    let steady = is_steady_from(alloc, &listing, base)?;
-    if !steady {
-        let _laid = layout(alloc, &listing, base)?;
-    }
+    let steady = judge(alloc, &listing, base)?;
     let accepted = table.table();
     let entries = accepted.entries.as_slice();
     let index = Index::of(alloc, entries)?;
