@@ -11,10 +11,9 @@ use Rattle.thumb_model.proofs.Lists.{length_map, take_all, length_drop}
 use Rattle.line_cursor.proofs.Nearer.{places_append}
 use Rattle.listing_parser.specs.Views.{line_view, names_view}
 use Rattle.listing_parser.specs.Replacing.{own_line}
-use Rattle.line_cursor.specs.declared.pieces.Piece.{Piece}
-use Rattle.line_cursor.specs.declared.pieces.Piece.TheVariants as piece
+use Rattle.listing_parser.specs.declared.line.Line.{Line as Lines}
 use Rattle.line_cursor.specs.Cursors.{AreAhead}
-use Rattle.line_cursor.specs.Pieces.{lines_in, lines_of, labels_left, begins_op}
+use Rattle.line_cursor.specs.Lines.{lines_in, lines_of, labels_left, begins_op}
 use Rattle.line_cursor.proofs.Looks.{piece_short}
 
 -- ---- lines ----
@@ -45,46 +44,40 @@ replaced_at write p count is (x ∷ xs) l ys e o =
 
 -- ---- pieces ----
 
-pub lines_append : (xs ys : List Piece) → lines_of (xs ++ ys) ≡ lines_of xs ++ lines_of ys
+pub lines_append : (xs ys : List Lines) → lines_of (xs ++ ys) ≡ lines_of xs ++ lines_of ys
 lines_append [] ys = refl
 lines_append (x ∷ xs) ys = ap (λ ls. lines_in x ++ ls) (lines_append xs ys) ∙ sym (append_assoc (lines_in x) (lines_of xs) (lines_of ys))
 
-pub lines_one : (x : Piece) → lines_of (x ∷ []) ≡ lines_in x
+pub lines_one : (x : Lines) → lines_of (x ∷ []) ≡ lines_in x
 lines_one x = append-nil (lines_in x)
 
-pub lines_push : (xs : List Piece) (x : Piece) → lines_of (xs ++ x ∷ []) ≡ lines_of xs ++ lines_in x
+pub lines_push : (xs : List Lines) (x : Lines) → lines_of (xs ++ x ∷ []) ≡ lines_of xs ++ lines_in x
 lines_push xs x = lines_append xs (x ∷ []) ∙ ap (λ ls. lines_of xs ++ ls) (lines_one x)
 
 -- of pieces backward, the last comes first
-pub lines_back : (xs : List Piece) (x : Piece) → lines_of (reverse (xs ++ x ∷ [])) ≡ lines_in x ++ lines_of (reverse xs)
+pub lines_back : (xs : List Lines) (x : Lines) → lines_of (reverse (xs ++ x ∷ [])) ≡ lines_in x ++ lines_of (reverse xs)
 lines_back xs x = ap lines_of (reverse-append xs (x ∷ []))
 
 -- an instruction's piece
-record IsOpPiece (x : Piece) : Type 0 where
+record IsOpPiece (x : Lines) : Type 0 where
   line : Line
   is : lines_in x ≡ line ∷ []
   op : is_op line.statement ≡ true
   left : labels_left x ≡ labels_kept line line.names
 
-no_op_kept : (l : Line) (ns : List Name) → begins_op (labels_kept l ns) ≡ true → ⊥
-no_op_kept l [] h = absurd (cc)
-no_op_kept l (n ∷ ns) h = absurd (cc)
-
-op_piece : (x : Piece) → begins_op (lines_in x) ≡ true → IsOpPiece x
-op_piece (piece.Line l) h = record { line = line_view l.now; is = refl; op = h; left = refl }
-op_piece (piece.Labels l) h = absurd (no_op_kept (line_view l.now) (names_view l.now) h)
-op_piece (piece.New i) h = record { line = new_line own_line i; is = refl; op = refl; left = refl }
+op_piece : (x : Lines) → begins_op (lines_in x) ≡ true → IsOpPiece x
+op_piece x h = record { line = line_view x; is = refl; op = h; left = refl }
 
 -- ---- skipping ----
 
-pub skipped_op : (rest : List Piece) (x : Piece) (left : ℕ) → begins_op (lines_in x) ≡ true → 0 < left → without left (lines_of (reverse (rest ++ x ∷ []))) ≡ without (left - 1) (lines_of (reverse rest))
+pub skipped_op : (rest : List Lines) (x : Lines) (left : ℕ) → begins_op (lines_in x) ≡ true → 0 < left → without left (lines_of (reverse (rest ++ x ∷ []))) ≡ without (left - 1) (lines_of (reverse rest))
 skipped_op rest x zero h some = absurd (omega arith)
 skipped_op rest x (suc n) h some =
     let p = op_piece x h in
     ap (without (suc n)) (lines_back rest x ∙ ap (λ ls. ls ++ lines_of (reverse rest)) p.is)
     ∙ rw p.op (ap (λ k. without k (lines_of (reverse rest))) (let e : n ≡ suc n - 1 = omega arith in e))
 
-pub skipped_other : (rest : List Piece) (x : Piece) (left : ℕ) → begins_op (lines_in x) ≡ false → 0 < left → without left (lines_of (reverse (rest ++ x ∷ []))) ≡ lines_in x ++ without left (lines_of (reverse rest))
+pub skipped_other : (rest : List Lines) (x : Lines) (left : ℕ) → begins_op (lines_in x) ≡ false → 0 < left → without left (lines_of (reverse (rest ++ x ∷ []))) ≡ lines_in x ++ without left (lines_of (reverse rest))
 skipped_other rest x zero h some = absurd (omega arith)
 skipped_other rest x (suc n) h some = ap (without (suc n)) (lines_back rest x) ∙ by (lines_in x) (piece_short x) h
   where
@@ -93,7 +86,7 @@ skipped_other rest x (suc n) h some = ap (without (suc n)) (lines_back rest x) �
     by (l ∷ []) s f = rw f refl
     by (l ∷ m ∷ ms) s f = absurd (omega arith)
 
-pub ahead_op : (rest : List Piece) (x : Piece) (count left : ℕ) (was : List Place) → begins_op (lines_in x) ≡ true → 0 < left → AreAhead count was (places_of (lines_of (reverse (rest ++ x ∷ [])))) left
+pub ahead_op : (rest : List Lines) (x : Lines) (count left : ℕ) (was : List Place) → begins_op (lines_in x) ≡ true → 0 < left → AreAhead count was (places_of (lines_of (reverse (rest ++ x ∷ [])))) left
     → AreAhead count was (places_of (lines_of (reverse rest))) (left - 1)
 ahead_op rest x count zero was h some a = absurd (omega arith)
 ahead_op rest x count (suc n) was h some a =
@@ -109,7 +102,7 @@ ahead_op rest x count (suc n) was h some a =
     by (Aligns size most) e b = absurd (cc)
     by (Sets name address) e b = absurd (cc)
 
-pub ahead_other : (rest : List Piece) (x : Piece) (count left : ℕ) (was : List Place) → begins_op (lines_in x) ≡ false → 0 < left → AreAhead count was (places_of (lines_of (reverse (rest ++ x ∷ [])))) left
+pub ahead_other : (rest : List Lines) (x : Lines) (count left : ℕ) (was : List Place) → begins_op (lines_in x) ≡ false → 0 < left → AreAhead count was (places_of (lines_of (reverse (rest ++ x ∷ [])))) left
     → AreAhead count was (places_of (lines_of (reverse rest))) left
 ahead_other rest x count zero was h some a = absurd (omega arith)
 ahead_other rest x count (suc n) was h some a = by (lines_in x) (piece_short x) h (subst (λ (ls : List Line). AreAhead count was (places_of ls) (suc n)) (lines_back rest x) a)
@@ -129,7 +122,7 @@ ahead_other rest x count (suc n) was h some a = by (lines_in x) (piece_short x) 
 
 -- ---- a replacement ----
 
-pub edited : (xs ys : List Line) (p count : ℕ) (is : List Instr) (rest : List Piece) (x : Piece) → p ≡ length (places_of xs) → begins_op (lines_in x) ≡ true
+pub edited : (xs ys : List Line) (p count : ℕ) (is : List Instr) (rest : List Lines) (x : Lines) → p ≡ length (places_of xs) → begins_op (lines_in x) ≡ true
     → ys ≡ (xs ++ (labels_left x ++ map (new_line own_line) is)) ++ without (count - 1) (lines_of (reverse rest)) → ys ≡ replaced_lines own_line p count is (xs ++ lines_of (reverse (rest ++ x ∷ [])))
 edited xs ys p count is rest x e h f =
     let q = op_piece x h in
@@ -141,39 +134,39 @@ edited xs ys p count is rest x e h f =
 
 -- ---- steps of the loop that skips ----
 
-pub step_op : (old new behind now : List Piece) (x : Piece) (left : ℕ) → now ≡ behind → old ≡ new ++ x ∷ [] → begins_op (lines_in x) ≡ true → 0 < left
+pub step_op : (old new behind now : List Lines) (x : Lines) (left : ℕ) → now ≡ behind → old ≡ new ++ x ∷ [] → begins_op (lines_in x) ≡ true → 0 < left
     → lines_of now ++ without (left - 1) (lines_of (reverse new)) ≡ lines_of behind ++ without left (lines_of (reverse old))
 step_op old new behind now x left e f h some =
-    ap (λ (b : List Piece). lines_of b ++ without (left - 1) (lines_of (reverse new))) e
-    ∙ ap (λ ls. lines_of behind ++ ls) (sym (ap (λ (o : List Piece). without left (lines_of (reverse o))) f ∙ skipped_op new x left h some))
+    ap (λ (b : List Lines). lines_of b ++ without (left - 1) (lines_of (reverse new))) e
+    ∙ ap (λ ls. lines_of behind ++ ls) (sym (ap (λ (o : List Lines). without left (lines_of (reverse o))) f ∙ skipped_op new x left h some))
 
-pub step_other : (old new behind now : List Piece) (x : Piece) (left : ℕ) → now ≡ behind ++ x ∷ [] → old ≡ new ++ x ∷ [] → begins_op (lines_in x) ≡ false → 0 < left
+pub step_other : (old new behind now : List Lines) (x : Lines) (left : ℕ) → now ≡ behind ++ x ∷ [] → old ≡ new ++ x ∷ [] → begins_op (lines_in x) ≡ false → 0 < left
     → lines_of now ++ without left (lines_of (reverse new)) ≡ lines_of behind ++ without left (lines_of (reverse old))
 step_other old new behind now x left e f h some =
-    ap (λ (b : List Piece). lines_of b ++ without left (lines_of (reverse new))) e
+    ap (λ (b : List Lines). lines_of b ++ without left (lines_of (reverse new))) e
     ∙ ap (λ ls. ls ++ without left (lines_of (reverse new))) (lines_push behind x)
     ∙ append_assoc (lines_of behind) (lines_in x) (without left (lines_of (reverse new)))
-    ∙ ap (λ ls. lines_of behind ++ ls) (sym (ap (λ (o : List Piece). without left (lines_of (reverse o))) f ∙ skipped_other new x left h some))
+    ∙ ap (λ ls. lines_of behind ++ ls) (sym (ap (λ (o : List Lines). without left (lines_of (reverse o))) f ∙ skipped_other new x left h some))
 
-pub step_ahead_op : (old new : List Piece) (x : Piece) (count left : ℕ) (was : List Place) → old ≡ new ++ x ∷ [] → begins_op (lines_in x) ≡ true → 0 < left → AreAhead count was (places_of (lines_of (reverse old))) left
+pub step_ahead_op : (old new : List Lines) (x : Lines) (count left : ℕ) (was : List Place) → old ≡ new ++ x ∷ [] → begins_op (lines_in x) ≡ true → 0 < left → AreAhead count was (places_of (lines_of (reverse old))) left
     → AreAhead count was (places_of (lines_of (reverse new))) (left - 1)
-step_ahead_op old new x count left was f h some a = ahead_op new x count left was h some (subst (λ (o : List Piece). AreAhead count was (places_of (lines_of (reverse o))) left) f a)
+step_ahead_op old new x count left was f h some a = ahead_op new x count left was h some (subst (λ (o : List Lines). AreAhead count was (places_of (lines_of (reverse o))) left) f a)
 
-pub step_ahead_other : (old new : List Piece) (x : Piece) (count left : ℕ) (was : List Place) → old ≡ new ++ x ∷ [] → begins_op (lines_in x) ≡ false → 0 < left → AreAhead count was (places_of (lines_of (reverse old))) left
+pub step_ahead_other : (old new : List Lines) (x : Lines) (count left : ℕ) (was : List Place) → old ≡ new ++ x ∷ [] → begins_op (lines_in x) ≡ false → 0 < left → AreAhead count was (places_of (lines_of (reverse old))) left
     → AreAhead count was (places_of (lines_of (reverse new))) left
-step_ahead_other old new x count left was f h some a = ahead_other new x count left was h some (subst (λ (o : List Piece). AreAhead count was (places_of (lines_of (reverse o))) left) f a)
+step_ahead_other old new x count left was f h some a = ahead_other new x count left was h some (subst (λ (o : List Lines). AreAhead count was (places_of (lines_of (reverse o))) left) f a)
 
-pub one_fewer : (old new : List Piece) (x : Piece) → old ≡ new ++ x ∷ [] → length new < length old
-one_fewer old new x f = omega (arith, ap (λ (o : List Piece). length o) f, length-append new (x ∷ []))
+pub one_fewer : (old new : List Lines) (x : Lines) → old ≡ new ++ x ∷ [] → length new < length old
+one_fewer old new x f = omega (arith, ap (λ (o : List Lines). length o) f, length-append new (x ∷ []))
 
 pub begun : (count : ℕ) (was : List Place) → AreOps count was → AreAhead count was was count
 begun count was a = record { ops = a; rest = refl }
 
-pub skipped_all : (ahead : List Piece) (b all : List Line) (left : ℕ) → left ≤ 0 → b ++ without left (lines_of (reverse ahead)) ≡ all → b ++ lines_of (reverse ahead) ≡ all
+pub skipped_all : (ahead : List Lines) (b all : List Line) (left : ℕ) → left ≤ 0 → b ++ without left (lines_of (reverse ahead)) ≡ all → b ++ lines_of (reverse ahead) ≡ all
 skipped_all ahead b all zero h e = ap (λ ls. b ++ ls) (sym (without_none (lines_of (reverse ahead)))) ∙ e
 skipped_all ahead b all (suc n) h e = absurd (omega arith)
 
-pub skipped_end : (ahead : List Piece) (b all : List Line) (left : ℕ) → length ahead ≡ 0 → b ++ without left (lines_of (reverse ahead)) ≡ all → b ++ lines_of (reverse ahead) ≡ all
+pub skipped_end : (ahead : List Lines) (b all : List Line) (left : ℕ) → length ahead ≡ 0 → b ++ without left (lines_of (reverse ahead)) ≡ all → b ++ lines_of (reverse ahead) ≡ all
 skipped_end [] b all zero h e = e
 skipped_end [] b all (suc n) h e = e
 skipped_end (x ∷ xs) b all left h e = absurd (omega arith)
@@ -182,30 +175,30 @@ pub ahead_all : (count left : ℕ) (was now : List Place) → left ≤ 0 → Are
 ahead_all count zero was now h a = a.rest
 ahead_all count (suc n) was now h a = absurd (omega arith)
 
-pub ahead_end : (count left : ℕ) (was : List Place) (ahead : List Piece) → length ahead ≡ 0 → AreAhead count was (places_of (lines_of (reverse ahead))) left → places_of (lines_of (reverse ahead)) ≡ drop count was
+pub ahead_end : (count left : ℕ) (was : List Place) (ahead : List Lines) → length ahead ≡ 0 → AreAhead count was (places_of (lines_of (reverse ahead))) left → places_of (lines_of (reverse ahead)) ≡ drop count was
 ahead_end count zero was [] h a = a.rest
 ahead_end count (suc n) was [] h a = absurd (a.ops)
 ahead_end count left was (x ∷ xs) h a = absurd (omega arith)
 
 -- ---- counts ----
 
-pub behind_count : (was rest : List Piece) (x : Piece) → was ≡ rest ++ x ∷ [] → length (places_of (lines_of was)) ≡ length (places_of (lines_of rest)) + length (places_of (lines_in x))
+pub behind_count : (was rest : List Lines) (x : Lines) → was ≡ rest ++ x ∷ [] → length (places_of (lines_of was)) ≡ length (places_of (lines_of rest)) + length (places_of (lines_in x))
 behind_count was rest x e =
-    ap (λ (o : List Piece). length (places_of (lines_of o))) e ∙ ap (λ ls. length (places_of ls)) (lines_push rest x) ∙ ap (λ ps. length ps) (places_append (lines_of rest) (lines_in x)) ∙ length-append (places_of (lines_of rest)) (places_of (lines_in x))
+    ap (λ (o : List Lines). length (places_of (lines_of o))) e ∙ ap (λ ls. length (places_of ls)) (lines_push rest x) ∙ ap (λ ps. length ps) (places_append (lines_of rest) (lines_in x)) ∙ length-append (places_of (lines_of rest)) (places_of (lines_in x))
 
-pub ahead_count : (was rest : List Piece) (x : Piece) → was ≡ rest ++ x ∷ [] → length (places_of (lines_of (reverse was))) ≡ length (places_of (lines_in x)) + length (places_of (lines_of (reverse rest)))
+pub ahead_count : (was rest : List Lines) (x : Lines) → was ≡ rest ++ x ∷ [] → length (places_of (lines_of (reverse was))) ≡ length (places_of (lines_in x)) + length (places_of (lines_of (reverse rest)))
 ahead_count was rest x e =
-    ap (λ (o : List Piece). length (places_of (lines_of (reverse o)))) e ∙ ap (λ ls. length (places_of ls)) (lines_back rest x) ∙ ap (λ ps. length ps) (places_append (lines_in x) (lines_of (reverse rest))) ∙ length-append (places_of (lines_in x)) (places_of (lines_of (reverse rest)))
+    ap (λ (o : List Lines). length (places_of (lines_of (reverse o)))) e ∙ ap (λ ls. length (places_of ls)) (lines_back rest x) ∙ ap (λ ps. length ps) (places_append (lines_in x) (lines_of (reverse rest))) ∙ length-append (places_of (lines_in x)) (places_of (lines_of (reverse rest)))
 
-pub behind_some : (behind : List Piece) (n m : ℕ) → n ≡ length (places_of (lines_of behind)) → m < n → 0 < length behind
+pub behind_some : (behind : List Lines) (n m : ℕ) → n ≡ length (places_of (lines_of behind)) → m < n → 0 < length behind
 behind_some [] n m e h = absurd (omega arith)
 behind_some (x ∷ xs) n m e h = omega arith
 
 -- the first piece's places, where it is behind the cursor or before it
-pub moved_over : (behind ahead more rest : List Piece) (x : Piece) → ahead ≡ rest ++ x ∷ [] → more ≡ behind ++ x ∷ [] → lines_of more ++ lines_of (reverse rest) ≡ lines_of behind ++ lines_of (reverse ahead)
+pub moved_over : (behind ahead more rest : List Lines) (x : Lines) → ahead ≡ rest ++ x ∷ [] → more ≡ behind ++ x ∷ [] → lines_of more ++ lines_of (reverse rest) ≡ lines_of behind ++ lines_of (reverse ahead)
 moved_over behind ahead more rest x e f =
-    ap (λ (o : List Piece). lines_of o ++ lines_of (reverse rest)) f ∙ ap (λ ls. ls ++ lines_of (reverse rest)) (lines_push behind x) ∙ append_assoc (lines_of behind) (lines_in x) (lines_of (reverse rest))
-    ∙ ap (λ ls. lines_of behind ++ ls) (sym (ap (λ (o : List Piece). lines_of (reverse o)) e ∙ lines_back rest x))
+    ap (λ (o : List Lines). lines_of o ++ lines_of (reverse rest)) f ∙ ap (λ ls. ls ++ lines_of (reverse rest)) (lines_push behind x) ∙ append_assoc (lines_of behind) (lines_in x) (lines_of (reverse rest))
+    ∙ ap (λ ls. lines_of behind ++ ls) (sym (ap (λ (o : List Lines). lines_of (reverse o)) e ∙ lines_back rest x))
 
 many_ops : (n : ℕ) (ps : List Place) → AreOps n ps → n ≤ length ps
 many_ops zero ps h = omega arith

@@ -13,9 +13,9 @@ use Rattle.liveness.specs.declared.growing.Source.{Source}
 use Rattle.liveness.specs.Kept.{onward_writes, HasThese, AreFlows}
 use Rattle.liveness.specs.Growing.{LeadsFrom, AreSources}
 use Rattle.line_cursor.specs.declared.cursor.Spot.{Spot}
-use Rattle.line_cursor.specs.declared.pieces.Piece.{Piece}
+use Rattle.listing_parser.specs.declared.line.Line.{Line as Lines}
 use Rattle.line_cursor.specs.declared.sources.Target.{Target}
-use Rattle.line_cursor.specs.Pieces.{lines_in, lines_of}
+use Rattle.line_cursor.specs.Lines.{lines_in, lines_of}
 use Rattle.line_cursor.specs.Cursors.{flows_of}
 use Rattle.line_cursor.specs.Sources.{is_point, jumps, jumped, IsAdded, IsListed, AreJumps, IsOnward, IsTarget}
 use Rattle.line_cursor.proofs.Labels.{taken_push}
@@ -219,12 +219,12 @@ jumps_target lines t place sources is e js =
 
 -- ---- the loop over pieces ----
 
-pub taken_count : (pieces : List Piece) (i : ℕ) (x : Piece) → i < length pieces → x ≡ get_or pieces i x → length (places_of (lines_of (take (i + 1) pieces))) ≡ length (places_of (lines_of (take i pieces))) + length (places_of (lines_in x))
+pub taken_count : (pieces : List Lines) (i : ℕ) (x : Lines) → i < length pieces → x ≡ get_or pieces i x → length (places_of (lines_of (take (i + 1) pieces))) ≡ length (places_of (lines_of (take i pieces))) + length (places_of (lines_in x))
 taken_count pieces i x h e =
     ap (λ (ls : List Line). length (places_of ls)) (taken_push pieces i x h e) ∙ ap (λ (ps : List Place). length ps) (places_append (lines_of (take i pieces)) (lines_in x))
     ∙ length-append (places_of (lines_of (take i pieces))) (places_of (lines_in x))
 
-pub taken_within : (pieces : List Piece) (i : ℕ) (x : Piece) → i < length pieces → x ≡ get_or pieces i x → length (places_of (lines_of (take i pieces))) + length (places_of (lines_in x)) ≤ length (places_of (lines_of pieces))
+pub taken_within : (pieces : List Lines) (i : ℕ) (x : Lines) → i < length pieces → x ≡ get_or pieces i x → length (places_of (lines_of (take i pieces))) + length (places_of (lines_in x)) ≤ length (places_of (lines_of pieces))
 taken_within pieces i x h e =
     let cut = ap (λ (ls : List Line). length (places_of ls)) (all_cut pieces i x h e) in
     let a = ap (λ (ps : List Place). length ps) (places_append (lines_of (take i pieces)) (lines_in x ++ lines_of (drop (suc i) pieces))) in
@@ -233,7 +233,7 @@ taken_within pieces i x h e =
     let d = length-append (places_of (lines_in x)) (places_of (lines_of (drop (suc i) pieces))) in
     omega arith
 
-pub taken_stands : (pieces : List Piece) (i : ℕ) (x : Piece) (at : ℕ) → i < length pieces → x ≡ get_or pieces i x → at ≡ length (places_of (lines_of (take i pieces)))
+pub taken_stands : (pieces : List Lines) (i : ℕ) (x : Lines) (at : ℕ) → i < length pieces → x ≡ get_or pieces i x → at ≡ length (places_of (lines_of (take i pieces)))
     → (j : ℕ) → j < length (places_of (lines_in x)) → slice_get (places_of (lines_of pieces)) (at + j) ≡ slice_get (places_of (lines_in x)) j
 taken_stands pieces i x at h e n j l =
     ap (λ (ls : List Line). slice_get (places_of ls) (at + j)) (all_cut pieces i x h e)

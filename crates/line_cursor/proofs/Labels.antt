@@ -6,8 +6,8 @@ use Rattle.std.proofs.lemmas.List.{take_more, take_all}
 use Rattle.thumb_model.specs.Listing.{Name, Value, Statement, Nothing, Runs, Words, Aligns, Sets, Line, Label, Place, Word, places_in, places_of, labels_at, labels_from, is_op_place}
 use Rattle.thumb_model.specs.Rewritten.{is_op}
 use Rattle.thumb_model.proofs.Lists.{get_back}
-use Rattle.line_cursor.specs.declared.pieces.Piece.{Piece}
-use Rattle.line_cursor.specs.Pieces.{lines_in, lines_of, begins_op, begins_labelled}
+use Rattle.listing_parser.specs.declared.line.Line.{Line as Lines}
+use Rattle.line_cursor.specs.Lines.{lines_in, lines_of, begins_op, begins_labelled}
 use Rattle.liveness.specs.Points.{some_name}
 use Rattle.line_cursor.specs.Cursors.{stands_at, NoLabelAt}
 use Rattle.line_cursor.proofs.Edits.{lines_push}
@@ -129,8 +129,8 @@ stands_here xs (l ∷ []) ls s e =
 stands_here xs (l ∷ m ∷ ms) ls s e = absurd (omega arith)
 
 -- the loop over pieces
-pub taken_push : (xs : List Piece) (k : ℕ) (x : Piece) → k < length xs → x ≡ get_or xs k x → lines_of (take (k + 1) xs) ≡ lines_of (take k xs) ++ lines_in x
-taken_push xs k x h e = ap lines_of (take_more xs k x h ∙ ap (λ (y : Piece). take k xs ++ y ∷ []) (sym e)) ∙ lines_push (take k xs) x
+pub taken_push : (xs : List Lines) (k : ℕ) (x : Lines) → k < length xs → x ≡ get_or xs k x → lines_of (take (k + 1) xs) ≡ lines_of (take k xs) ++ lines_in x
+taken_push xs k x h e = ap lines_of (take_more xs k x h ∙ ap (λ (y : Lines). take k xs ++ y ∷ []) (sym e)) ∙ lines_push (take k xs) x
 
 -- whether one stands there, told both ways
 pub none_stands : (p : ℕ) (labels : List Label) → stands_at p labels ≡ false → NoLabelAt labels p
@@ -154,21 +154,21 @@ stands_some p (m ∷ ms) h n = elim (cases_Bool (m.place == p)) [
 ]
 
 -- the piece at a place, behind the others
-pub last_of : (xs : List Piece) (at : ℕ) (x : Piece) → 0 < at → at ≤ length xs → x ≡ get_or xs (at - 1) x → lines_of (take at xs) ≡ lines_of (take (at - 1) xs) ++ lines_in x
+pub last_of : (xs : List Lines) (at : ℕ) (x : Lines) → 0 < at → at ≤ length xs → x ≡ get_or xs (at - 1) x → lines_of (take at xs) ≡ lines_of (take (at - 1) xs) ++ lines_in x
 last_of xs at x some within e =
     let same : at ≡ at - 1 + 1 = omega arith in
     ap (λ n. lines_of (take n xs)) same ∙ taken_push xs (at - 1) x (omega arith) e
 
 -- a list with its last element
-pub record IsPushed (xs : List Piece) (x : Piece) : Type 0 where
-  pub rest : List Piece
+pub record IsPushed (xs : List Lines) (x : Lines) : Type 0 where
+  pub rest : List Lines
   pub is : xs ≡ rest ++ x ∷ []
 
-pub pushed : (xs : List Piece) (x : Piece) → 0 < length xs → x ≡ get_or xs (length xs - 1) x → IsPushed xs x
+pub pushed : (xs : List Lines) (x : Lines) → 0 < length xs → x ≡ get_or xs (length xs - 1) x → IsPushed xs x
 pushed xs x some e =
     let n : ℕ = length xs - 1 in
     let one : length xs ≡ n + 1 = omega arith in
     record {
       rest = take n xs;
-      is = sym (take_all (length xs) xs (omega arith)) ∙ ap (λ k. take k xs) one ∙ take_more xs n x (omega arith) ∙ ap (λ (y : Piece). take n xs ++ y ∷ []) (sym e);
+      is = sym (take_all (length xs) xs (omega arith)) ∙ ap (λ k. take k xs) one ∙ take_more xs n x (omega arith) ∙ ap (λ (y : Lines). take n xs ++ y ∷ []) (sym e);
     }

@@ -10,7 +10,7 @@ use Rattle.thumb_model.proofs.Lists.{get_front, get_back}
 use Rattle.liveness.specs.declared.kept.NewSets.{NewSets}
 use Rattle.liveness.specs.Kept.{is_straight, LeadsUp}
 use Rattle.line_cursor.specs.declared.cursor.Spot.{Spot}
-use Rattle.line_cursor.specs.Pieces.{begins_op, begins_labelled}
+use Rattle.line_cursor.specs.Lines.{begins_op, begins_labelled}
 use Rattle.line_cursor.specs.Cursors.{stands_at, NoLabelAt}
 use Rattle.line_cursor.specs.Leads.{straight_of, straight_in, with_sets, mended}
 use Rattle.line_cursor.proofs.Nearer.{places_append}

@@ -7,13 +7,12 @@ use Rattle.thumb_model.specs.Listing.{Name, Statement, Nothing, Runs, Words, Ali
 use Rattle.window_runs.specs.declared.rows.Row.{Row}
 use Rattle.window_runs.specs.Rows.{is_unlabelled, letter_of, rows_of, stays_joined, rows_from}
 use Rattle.window_runs.specs.Runs.{run}
-use Rattle.line_cursor.specs.declared.pieces.Piece.{Piece}
-use Rattle.line_cursor.specs.declared.pieces.Piece.TheVariants as piece
-use Rattle.line_cursor.specs.declared.pieces.Look.{Look}
-use Rattle.line_cursor.specs.declared.pieces.Look.TheVariants as look
+use Rattle.listing_parser.specs.declared.line.Line.{Line as Lines}
+use Rattle.line_cursor.specs.declared.held.Look.{Look}
+use Rattle.line_cursor.specs.declared.held.Look.TheVariants as look
 use Rattle.thumb_model.specs.Rewritten.{labels_kept}
 use Rattle.listing_parser.specs.Views.{line_view, names_view}
-use Rattle.line_cursor.specs.Pieces.{lines_in, lines_of}
+use Rattle.line_cursor.specs.Lines.{lines_in, lines_of}
 use Rattle.line_cursor.specs.Looks.{look_letter, look_statement, look_lines}
 
 abbrev rows_at : Bool → Statement → List Line → List Row
@@ -92,29 +91,23 @@ piece_goes begins n [] ls h = refl
 piece_goes begins n (l ∷ []) ls h = line_goes begins n l.names l.statement ls
 piece_goes begins n (l ∷ m ∷ ms) ls h = absurd (omega arith)
 
-pub piece_short : (x : Piece) → length (lines_in x) ≤ 1
-piece_short (piece.Line l) = omega arith
-piece_short (piece.New i) = omega arith
-piece_short (piece.Labels l) = kept (line_view l.now) (names_view l.now)
-  where
-    kept : (k : Line) (ns : List Name) → length (labels_kept k ns) ≤ 1
-    kept k [] = omega arith
-    kept k (n ∷ ns) = omega arith
+pub piece_short : (x : Lines) → length (lines_in x) ≤ 1
+piece_short x = omega arith
 
 -- ---- the loop over pieces backward ----
 
-lines_append : (xs ys : List Piece) → lines_of (xs ++ ys) ≡ lines_of xs ++ lines_of ys
+lines_append : (xs ys : List Lines) → lines_of (xs ++ ys) ≡ lines_of xs ++ lines_of ys
 lines_append [] ys = refl
 lines_append (x ∷ xs) ys = ap (λ ls. lines_in x ++ ls) (lines_append xs ys) ∙ sym (append_assoc (lines_in x) (lines_of xs) (lines_of ys))
 
 -- the piece at a place comes before those in front of it
-pub last_taken : (xs : List Piece) (k : ℕ) (x : Piece) → k < length xs → x ≡ get_or xs k x → lines_of (reverse (take (k + 1) xs)) ≡ lines_in x ++ lines_of (reverse (take k xs))
+pub last_taken : (xs : List Lines) (k : ℕ) (x : Lines) → k < length xs → x ≡ get_or xs k x → lines_of (reverse (take (k + 1) xs)) ≡ lines_in x ++ lines_of (reverse (take k xs))
 last_taken xs k x h e =
-    ap (λ ps. lines_of (reverse ps)) (take_more xs k x h ∙ ap (λ (y : Piece). take k xs ++ y ∷ []) (sym e))
+    ap (λ ps. lines_of (reverse ps)) (take_more xs k x h ∙ ap (λ (y : Lines). take k xs ++ y ∷ []) (sym e))
     ∙ ap lines_of (reverse-append (take k xs) (x ∷ []))
 
 -- the first piece ahead of a cursor, and the rest
-pub first_ahead : (ahead : List Piece) (at : ℕ) (x : Piece) → 0 < at → at ≤ length ahead → x ≡ get_or ahead (at - 1) x → lines_of (reverse (take at ahead)) ≡ lines_in x ++ lines_of (reverse (take (at - 1) ahead))
+pub first_ahead : (ahead : List Lines) (at : ℕ) (x : Lines) → 0 < at → at ≤ length ahead → x ≡ get_or ahead (at - 1) x → lines_of (reverse (take at ahead)) ≡ lines_in x ++ lines_of (reverse (take (at - 1) ahead))
 first_ahead ahead at x some within e =
     let same : at ≡ at - 1 + 1 = omega arith in
     ap (λ n. lines_of (reverse (take n ahead))) same ∙ last_taken ahead (at - 1) x (omega arith) e

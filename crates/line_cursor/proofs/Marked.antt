@@ -13,7 +13,7 @@ use Rattle.thumb_model.specs.Machine.{aim_of}
 use Rattle.thumb_model.specs.Flow.{Onward, AnyPoint, Out, way, left_but, ways_of, ways_on}
 use Rattle.liveness.proofs.Marks.{one_label}
 use Rattle.liveness.specs.Points.{some_name}
-use Rattle.line_cursor.specs.Pieces.{begins_labelled}
+use Rattle.line_cursor.specs.Lines.{begins_labelled}
 use Rattle.line_cursor.specs.Cursors.{stands_at}
 use Rattle.line_cursor.specs.Sources.{calls_first, is_at, is_marked, is_marked_from, is_point, jumped, AreJumps}
 use Rattle.line_cursor.proofs.Labels.{labels_append, names_else, names_here, none_later, none_past, stands_append}

@@ -2,17 +2,17 @@
 use Rattle.std.proofs.Common.{◌≡◌, ◌∙◌, ◌++◌, List, length, reverse, sym, ap}
 use Rattle.thumb_model.specs.Listing.{places_of}
 use Rattle.line_cursor.specs.declared.cursor.Cursor.{Cursor}
-use Rattle.line_cursor.specs.declared.pieces.Piece.{Piece}
-use Rattle.line_cursor.specs.Pieces.{lines_of}
+use Rattle.listing_parser.specs.declared.line.Line.{Line as Lines}
+use Rattle.line_cursor.specs.Lines.{lines_of}
 use Rattle.line_cursor.specs.Cursors.{lines_at, IsCursor}
 
 -- its lines stay
 pub lines_stay : (old new : Cursor) → new.behind.items ≡ old.behind.items → new.ahead.items ≡ old.ahead.items → lines_at new ≡ lines_at old
-lines_stay old new b a = ap (λ (ps : List Piece). lines_of ps ++ lines_of (reverse new.ahead.items)) b ∙ ap (λ (ps : List Piece). lines_of old.behind.items ++ lines_of (reverse ps)) a
+lines_stay old new b a = ap (λ (ps : List Lines). lines_of ps ++ lines_of (reverse new.ahead.items)) b ∙ ap (λ (ps : List Lines). lines_of old.behind.items ++ lines_of (reverse ps)) a
 
 -- and there are as many spots as places still
 pub cursor_stays : (old new : Cursor) → new.behind.items ≡ old.behind.items → new.ahead.items ≡ old.ahead.items → length new.passed.items ≡ length old.passed.items → length new.coming.items ≡ length old.coming.items → IsCursor old → IsCursor new
 cursor_stays old new b a p c is = record {
-  passed = p ∙ is.passed ∙ sym (ap (λ (ps : List Piece). length (places_of (lines_of ps))) b);
-  coming = c ∙ is.coming ∙ sym (ap (λ (ps : List Piece). length (places_of (lines_of (reverse ps)))) a);
+  passed = p ∙ is.passed ∙ sym (ap (λ (ps : List Lines). length (places_of (lines_of ps))) b);
+  coming = c ∙ is.coming ∙ sym (ap (λ (ps : List Lines). length (places_of (lines_of (reverse ps)))) a);
 }

@@ -10,9 +10,9 @@ use Rattle.thumb_model.specs.Listing.{Name, Value, Place, Word, Line, Label, Sta
 use Rattle.thumb_model.specs.Layout.{is_among}
 use Rattle.thumb_model.proofs.Lists.{get_back}
 use Rattle.liveness.proofs.Marks.{one_label, labels_here}
-use Rattle.line_cursor.specs.declared.pieces.Piece.{Piece}
+use Rattle.listing_parser.specs.declared.line.Line.{Line as Lines}
 use Rattle.line_cursor.specs.declared.sources.Target.{Target}
-use Rattle.line_cursor.specs.Pieces.{lines_in, lines_of, begins_op}
+use Rattle.line_cursor.specs.Lines.{lines_in, lines_of, begins_op}
 use Rattle.liveness.specs.Points.{some_name}
 use Rattle.line_cursor.specs.Sources.{is_at, names_of, op_first, calls_first, IsTarget, IsSeen}
 use Rattle.line_cursor.proofs.Looks.{piece_short}
@@ -194,23 +194,23 @@ known_step all front (l ∷ []) rest old new cut short k s = one_line all front 
 known_step all front (l ∷ m ∷ ms) rest old new cut short k s = absurd (omega arith)
 
 -- the loop over pieces
-pub all_cut : (pieces : List Piece) (i : ℕ) (x : Piece) → i < length pieces → x ≡ get_or pieces i x → lines_of pieces ≡ lines_of (take i pieces) ++ (lines_in x ++ lines_of (drop (suc i) pieces))
+pub all_cut : (pieces : List Lines) (i : ℕ) (x : Lines) → i < length pieces → x ≡ get_or pieces i x → lines_of pieces ≡ lines_of (take i pieces) ++ (lines_in x ++ lines_of (drop (suc i) pieces))
 all_cut pieces i x h e =
     ap lines_of (sym (take-append-drop i pieces)) ∙ lines_append (take i pieces) (drop i pieces)
-    ∙ ap (λ (l : List Piece). lines_of (take i pieces) ++ lines_of l) (drop-cons pieces i x h)
-    ∙ ap (λ (y : Piece). lines_of (take i pieces) ++ (lines_in y ++ lines_of (drop (suc i) pieces))) (sym e)
+    ∙ ap (λ (l : List Lines). lines_of (take i pieces) ++ lines_of l) (drop-cons pieces i x h)
+    ∙ ap (λ (y : Lines). lines_of (take i pieces) ++ (lines_in y ++ lines_of (drop (suc i) pieces))) (sym e)
 
-left_cut : (pieces : List Piece) (left : ℕ) (x : Piece) → 0 < left → left ≤ length pieces → x ≡ get_or pieces (left - 1) x → lines_of pieces ≡ lines_of (take (left - 1) pieces) ++ (lines_in x ++ lines_of (drop left pieces))
+left_cut : (pieces : List Lines) (left : ℕ) (x : Lines) → 0 < left → left ≤ length pieces → x ≡ get_or pieces (left - 1) x → lines_of pieces ≡ lines_of (take (left - 1) pieces) ++ (lines_in x ++ lines_of (drop left pieces))
 left_cut pieces left x some within e =
     let next : suc (left - 1) ≡ left = omega arith in
     all_cut pieces (left - 1) x (omega arith) e ∙ ap (λ n. lines_of (take (left - 1) pieces) ++ (lines_in x ++ lines_of (drop n pieces))) next
 
-rest_cut : (pieces : List Piece) (left : ℕ) (x : Piece) → 0 < left → left ≤ length pieces → x ≡ get_or pieces (left - 1) x → lines_of (drop (left - 1) pieces) ≡ lines_in x ++ lines_of (drop left pieces)
+rest_cut : (pieces : List Lines) (left : ℕ) (x : Lines) → 0 < left → left ≤ length pieces → x ≡ get_or pieces (left - 1) x → lines_of (drop (left - 1) pieces) ≡ lines_in x ++ lines_of (drop left pieces)
 rest_cut pieces left x some within e =
     let next : suc (left - 1) ≡ left = omega arith in
-    ap lines_of (drop-cons pieces (left - 1) x (omega arith)) ∙ ap (λ (y : Piece). lines_in y ++ lines_of (drop (suc (left - 1)) pieces)) (sym e) ∙ ap (λ n. lines_in x ++ lines_of (drop n pieces)) next
+    ap lines_of (drop-cons pieces (left - 1) x (omega arith)) ∙ ap (λ (y : Lines). lines_in y ++ lines_of (drop (suc (left - 1)) pieces)) (sym e) ∙ ap (λ n. lines_in x ++ lines_of (drop n pieces)) next
 
-pub fits_before : (pieces : List Piece) (left : ℕ) (x : Piece) (t : Target) → 0 < left → left ≤ length pieces → x ≡ get_or pieces (left - 1) x → IsKnown (lines_of pieces) (lines_of (drop left pieces)) t → length (places_of (lines_in x)) ≤ t.at
+pub fits_before : (pieces : List Lines) (left : ℕ) (x : Lines) (t : Target) → 0 < left → left ≤ length pieces → x ≡ get_or pieces (left - 1) x → IsKnown (lines_of pieces) (lines_of (drop left pieces)) t → length (places_of (lines_in x)) ≤ t.at
 fits_before pieces left x t some within e k =
     let cut = ap (λ (ls : List Line). length (places_of ls)) (left_cut pieces left x some within e) in
     let a = ap (λ (ps : List Place). length ps) (places_append (lines_of (take (left - 1) pieces)) (lines_in x ++ lines_of (drop left pieces))) in
@@ -219,7 +219,7 @@ fits_before pieces left x t some within e k =
     let d = length-append (places_of (lines_in x)) (places_of (lines_of (drop left pieces))) in
     omega (arith, k.at)
 
-pub known_more : (pieces : List Piece) (left : ℕ) (x : Piece) (old new : Target) → 0 < left → left ≤ length pieces → x ≡ get_or pieces (left - 1) x → IsKnown (lines_of pieces) (lines_of (drop left pieces)) old → IsSeen (lines_in x) old new
+pub known_more : (pieces : List Lines) (left : ℕ) (x : Lines) (old new : Target) → 0 < left → left ≤ length pieces → x ≡ get_or pieces (left - 1) x → IsKnown (lines_of pieces) (lines_of (drop left pieces)) old → IsSeen (lines_in x) old new
     → IsKnown (lines_of pieces) (lines_of (drop (left - 1) pieces)) new
 known_more pieces left x old new some within e k s =
     subst (λ (ls : List Line). IsKnown (lines_of pieces) ls new) (sym (rest_cut pieces left x some within e))

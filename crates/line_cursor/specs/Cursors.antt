@@ -7,7 +7,7 @@ use Rattle.liveness.specs.Live.{Sets}
 use Rattle.line_cursor.specs.declared.cursor.Cursor.{Cursor}
 use Rattle.line_cursor.specs.declared.cursor.Spot.{Spot}
 use Rattle.liveness.specs.declared.flowing.Flow.{Flow}
-use Rattle.line_cursor.specs.Pieces.{lines_of}
+use Rattle.line_cursor.specs.Lines.{lines_of}
 
 abbrev pub lines_behind : Cursor → List Line
 lines_behind c = lines_of c.behind.items

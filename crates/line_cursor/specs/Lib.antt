@@ -1,4 +1,4 @@
-pub mod Pieces
+pub mod Lines
 pub mod Looks
 pub mod Cursors
 pub mod Leads

@@ -7,7 +7,7 @@ use Rattle.thumb_model.specs.Flow.{Way, Leads, Onward, ToPlace, AnyPoint, Out, w
 use Rattle.liveness.specs.declared.growing.Source.{Source}
 use Rattle.liveness.specs.Kept.{onward_writes, HasThese}
 use Rattle.liveness.specs.Growing.{LeadsFrom}
-use Rattle.line_cursor.specs.Pieces.{begins_labelled}
+use Rattle.line_cursor.specs.Lines.{begins_labelled}
 use Rattle.line_cursor.specs.Cursors.{stands_at}
 use Rattle.line_cursor.specs.declared.sources.Target.{Target}
 

@@ -30,7 +30,7 @@ fn carry_into(spots: &mut Vec<Spot>, at: usize, live: Items, writes: Items) -> b
     true
 }
 
-impl<'a> Cursor<'a> {
+impl Cursor {
     ghost use Rattle.std.specs.Prelude.{◌≡◌, ◌<◌, length, slice_get};
     ghost use Rattle.liveness.specs.Live.{set_at};
     ghost use Rattle.liveness.specs.Growing.{IsCarried};

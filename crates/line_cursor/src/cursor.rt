@@ -10,14 +10,12 @@ ghost use Rattle.liveness.specs.Kept.{LeadsUp};
 ghost use Rattle.liveness.specs.declared.flowing.Flow.{Flow};
 ghost use Rattle.window_runs.specs.Rows.{rows_from};
 ghost use Rattle.window_runs.specs.Runs.{run};
-ghost use Rattle.line_cursor.specs.declared.pieces.Piece.{Piece};
-ghost use Rattle.line_cursor.specs.Pieces.{begins_op, lines_in, lines_of};
+ghost use Rattle.listing_parser.specs.declared.line.Line.{Line as Lines};
+ghost use Rattle.line_cursor.specs.Lines.{begins_op, lines_in, lines_of};
 ghost use Rattle.line_cursor.specs.Leads.{mended};
 ghost use Rattle.line_cursor.specs.Cursors.{flows_of, lines_ahead, lines_at, lines_behind, place_at, sets_of, spots_at, stands_at, AreAhead, IsCursor, IsSettled};
 
-use crate::pieces::{
-    Look, Piece, all_lines, give_way, is_labelled, is_op, places_of, seen, straight_in,
-};
+use crate::held::{Look, give_way, is_labelled, is_op, places_of, seen, straight_in};
 use arrayvec::ArrayVec;
 use listing_parser::{Line, Memory};
 use liveness::{Flow, NewSets};
@@ -48,13 +46,13 @@ impl Default for Spot {
     }
 }
 
-/// A cursor between two pieces.
+/// A cursor between two lines.
 #[derive(Drop)]
-pub struct Cursor<'a> {
-    /// The pieces before it, in order.
-    pub behind: Vec<Piece<'a>>,
-    /// The pieces behind it, backward.
-    pub ahead: Vec<Piece<'a>>,
+pub struct Cursor {
+    /// The lines before it, in order.
+    pub behind: Vec<Line>,
+    /// The lines behind it, backward.
+    pub ahead: Vec<Line>,
     /// The places before it, in order.
     pub passed: Vec<Spot>,
     /// The places behind it, backward.
@@ -90,28 +88,28 @@ fn shift(from: &mut Vec<Spot>, to: &mut Vec<Spot>, count: usize) -> Result<(), M
     Ok(())
 }
 
-/// Moves the last piece of one list behind another, where it isn't an instruction. Whether it is.
-fn skip_one<'a>(ahead: &mut Vec<Piece<'a>>, behind: &mut Vec<Piece<'a>>) -> Result<bool, Memory>
+/// Moves the last line of one list behind another, where it isn't an instruction. Whether it is.
+fn skip_one(ahead: &mut Vec<Line>, behind: &mut Vec<Line>) -> Result<bool, Memory>
     requires { 0 < length ahead.old.items }
-    ensures op { IfOk result (λ b. b ≡ true → (behind.new.items ≡ behind.old.items) × (x : Piece) × (ahead.old.items ≡ ahead.new.items ++ x ∷ []) × (begins_op (lines_in x) ≡ true)) }
-    ensures other { IfOk result (λ b. b ≡ false → (x : Piece) × (behind.new.items ≡ behind.old.items ++ x ∷ []) × (ahead.old.items ≡ ahead.new.items ++ x ∷ []) × (begins_op (lines_in x) ≡ false)) }
+    ensures op { IfOk result (λ b. b ≡ true → (behind.new.items ≡ behind.old.items) × (x : Lines) × (ahead.old.items ≡ ahead.new.items ++ x ∷ []) × (begins_op (lines_in x) ≡ true)) }
+    ensures other { IfOk result (λ b. b ≡ false → (x : Lines) × (behind.new.items ≡ behind.old.items ++ x ∷ []) × (ahead.old.items ≡ ahead.new.items ++ x ∷ []) × (begins_op (lines_in x) ≡ false)) }
 {
     match ahead.pop() {
         None => Ok(true),
-        Some(piece) => {
-            if is_op(piece) {
+        Some(line) => {
+            if is_op(&line) {
                 return Ok(true);
             }
-            behind.push(piece)?;
+            behind.push(line)?;
             Ok(false)
         }
     }
 }
 
-/// Moves a piece behind another list, where it isn't an instruction. How many instructions are still to be left out.
-fn skip_step<'a>(
-    ahead: &mut Vec<Piece<'a>>,
-    behind: &mut Vec<Piece<'a>>,
+/// Moves a line behind another list, where it isn't an instruction. How many instructions are still to be left out.
+fn skip_step(
+    ahead: &mut Vec<Line>,
+    behind: &mut Vec<Line>,
     left: usize,
 ) -> Result<usize, Memory>
     requires some { 0 < length ahead.old.items }
@@ -127,10 +125,10 @@ fn skip_step<'a>(
     }
 }
 
-/// Moves pieces behind others, without the first instructions among them, until none of these is left.
-fn skip<'a>(
-    ahead: &mut Vec<Piece<'a>>,
-    behind: &mut Vec<Piece<'a>>,
+/// Moves lines behind others, without the first instructions among them, until none of these is left.
+fn skip(
+    ahead: &mut Vec<Line>,
+    behind: &mut Vec<Line>,
     count: usize,
 ) -> Result<(), Memory>
     ensures places { OnOk result (AreOps count (places_of (lines_of (reverse ahead.old.items))) → places_of (lines_of (reverse ahead.new.items)) ≡ drop count (places_of (lines_of (reverse ahead.old.items)))) }
@@ -147,30 +145,31 @@ fn skip<'a>(
 }
 
 /// Puts instructions in place of the first ones of a list.
-fn edit<'a>(
-    ahead: &mut Vec<Piece<'a>>,
-    behind: &mut Vec<Piece<'a>>,
+fn edit(
+    alloc: Global,
+    ahead: &mut Vec<Line>,
+    behind: &mut Vec<Line>,
     count: usize,
     new: &[Instr],
 ) -> Result<(), Memory>
     requires count { 0 < count }
     requires some { 0 < length ahead.old.items }
-    requires first { (rest : List Piece) (x : Piece) → ahead.old.items ≡ rest ++ x ∷ [] → begins_op (lines_in x) ≡ true }
+    requires first { (rest : List Lines) (x : Lines) → ahead.old.items ≡ rest ++ x ∷ [] → begins_op (lines_in x) ≡ true }
     ensures places { OnOk result (AreOps count (places_of (lines_of (reverse ahead.old.items))) → places_of (lines_of (reverse ahead.new.items)) ≡ drop count (places_of (lines_of (reverse ahead.old.items)))) }
     ensures lines { OnOk result (lines_of behind.new.items ++ lines_of (reverse ahead.new.items) ≡ replaced_lines own_line (length (places_of (lines_of behind.old.items))) count new.now (lines_of behind.old.items ++ lines_of (reverse ahead.old.items))) }
 {
     match ahead.pop() {
         None => Ok(()),
         Some(first) => {
-            give_way(behind, first, new)?;
+            give_way(alloc, behind, &first, new)?;
             skip(ahead, behind, count - 1)?;
             Ok(())
         }
     }
 }
 
-/// The instructions that stand one behind the other in pieces, backward, and may stand in a window, with no label and no alignment line between them.
-fn run(ahead: &[Piece<'_>], most: usize) -> Seq
+/// The instructions that stand one behind the other in lines, backward, and may stand in a window, with no label and no alignment line between them.
+fn run(ahead: &[Line], most: usize) -> Seq
     requires { most ≤ 5 }
     ensures { result ≡ run true most (rows_from true (lines_of (reverse ahead.now))) }
 {
@@ -178,7 +177,7 @@ fn run(ahead: &[Piece<'_>], most: usize) -> Seq
     let mut at = ahead.len();
     while at > 0 && seq.len() < most {
         at -= 1;
-        match seen(ahead[at], seq.len() == 0) {
+        match seen(&ahead[at], seq.len() == 0) {
             Look::Letter(instr) => seq.push(instr),
             Look::Nothing => {}
             Look::End => return seq,
@@ -187,44 +186,44 @@ fn run(ahead: &[Piece<'_>], most: usize) -> Seq
     seq
 }
 
-/// Whether an instruction stands behind so many places of pieces, backward.
-fn is_op_at(ahead: &[Piece<'_>], count: usize) -> bool
+/// Whether an instruction stands behind so many places of lines, backward.
+fn is_op_at(ahead: &[Line], count: usize) -> bool
     ensures { result ≡ is_op_place (slice_get (places_of (lines_of (reverse ahead.now))) count) }
 {
     let mut left = count;
     let mut at = ahead.len();
     while at > 0 {
         at -= 1;
-        let piece = ahead[at];
-        let places = places_of(piece);
+        let line = &ahead[at];
+        let places = places_of(line);
         if left < places {
-            return is_op(piece);
+            return is_op(line);
         }
         left -= places;
     }
     false
 }
 
-/// Whether a label stands behind the last place of pieces.
-fn ends_labelled(behind: &[Piece<'_>]) -> bool
+/// Whether a label stands behind the last place of lines.
+fn ends_labelled(behind: &[Line]) -> bool
     ensures { result ≡ stands_at (length (places_of (lines_of behind.now))) (labels_from 0 (lines_of behind.now)) }
 {
     let mut at = behind.len();
     while at > 0 {
         at -= 1;
-        let piece = behind[at];
-        if places_of(piece) > 0 {
+        let line = &behind[at];
+        if places_of(line) > 0 {
             return false;
         }
-        if is_labelled(piece) {
+        if is_labelled(line) {
             return true;
         }
     }
     false
 }
 
-/// The straight code that pieces end with, without a label but perhaps at the first of its instructions: 32 of them, or as many as there are.
-fn lead_of(behind: &[Piece<'_>]) -> ArrayVec<Instr, 32>
+/// The straight code that lines end with, without a label but perhaps at the first of its instructions: 32 of them, or as many as there are.
+fn lead_of(behind: &[Line]) -> ArrayVec<Instr, 32>
     ensures few { length result.items ≤ length (places_of (lines_of behind.now)) }
     ensures leads { LeadsUp (code_of (lines_of behind.now)) (length (places_of (lines_of behind.now)) - length result.items) result.items }
 {
@@ -232,15 +231,15 @@ fn lead_of(behind: &[Piece<'_>]) -> ArrayVec<Instr, 32>
     let mut at = behind.len();
     while at > 0 && !lead.is_full() {
         at -= 1;
-        let piece = behind[at];
-        match straight_in(piece) {
+        let line = &behind[at];
+        match straight_in(line) {
             Some(instr) => {
                 lead.insert(0, instr);
-                if is_labelled(piece) {
+                if is_labelled(line) {
                     return lead;
                 }
             }
-            None => if places_of(piece) > 0 || is_labelled(piece) {
+            None => if places_of(line) > 0 || is_labelled(line) {
                 return lead;
             },
         }
@@ -264,37 +263,37 @@ fn mend(spots: &mut Vec<Spot>, first: usize, sets: &[NewSets])
     }
 }
 
-impl<'a> Cursor<'a> {
+impl Cursor {
     /// A cursor before lines, whose places are known so.
-    pub fn start(alloc: Global, lines: &'a [Line], spots: &[Spot]) -> Result<Cursor<'a>, Memory>
-        requires { length spots.now ≡ length (places_of (map line_view lines.now)) }
-        ensures is { IfOk result IsCursor }
-        ensures lines { IfOk result (λ c. lines_at c ≡ map line_view lines.now) }
-        ensures spots { IfOk result (λ c. spots_at c ≡ spots.now) }
-        ensures place { IfOk result (λ c. place_at c ≡ 0) }
+    pub fn start(alloc: Global, lines: Vec<Line>, spots: Vec<Spot>) -> Cursor
+        requires { length spots.items ≡ length (places_of (map line_view lines.items)) }
+        ensures is { IsCursor result }
+        ensures lines { lines_at result ≡ map line_view lines.items }
+        ensures spots { spots_at result ≡ spots.items }
+        ensures place { place_at result ≡ 0 }
     {
-        let mut ahead = all_lines(alloc, lines)?;
+        let mut ahead = lines;
         ahead.reverse();
-        let mut coming = spots.to_vec(alloc)?;
+        let mut coming = spots;
         coming.reverse();
-        Ok(Cursor {
+        Cursor {
             behind: Vec::new(alloc),
             ahead,
             passed: Vec::new(alloc),
             coming,
-        })
+        }
     }
 
-    /// All pieces, in order.
-    pub fn into_pieces(self) -> Result<Vec<Piece<'a>>, Memory>
-        ensures { IfOk result (λ v. lines_of v.items ≡ lines_at self.entry) }
+    /// All lines, in order.
+    pub fn into_lines(self) -> Result<Vec<Line>, Memory>
+        ensures { IfOk result (λ v. map line_view v.items ≡ lines_at self) }
     {
-        let mut pieces = self.behind;
+        let mut lines = self.behind;
         let mut ahead = self.ahead;
-        while let Some(piece) = ahead.pop() {
-            pieces.push(piece)?;
+        while let Some(line) = ahead.pop() {
+            lines.push(line)?;
         }
-        Ok(pieces)
+        Ok(lines)
     }
 
     /// How many places stand before it.
@@ -306,14 +305,14 @@ impl<'a> Cursor<'a> {
 
     /// Whether an instruction stands right behind it.
     pub fn is_at_op(&self) -> bool
-        ensures op { (rest : List Piece) (x : Piece) → self.now.ahead.items ≡ rest ++ x ∷ [] → result ≡ begins_op (lines_in x) }
+        ensures op { (rest : List Lines) (x : Lines) → self.now.ahead.items ≡ rest ++ x ∷ [] → result ≡ begins_op (lines_in x) }
         ensures some { result ≡ true → 0 < length self.now.ahead.items }
     {
         let ahead = self.ahead.as_slice();
         if ahead.len() == 0 {
             return false;
         }
-        is_op(ahead[ahead.len() - 1])
+        is_op(&ahead[ahead.len() - 1])
     }
 
     /// The instructions behind it that may stand in a window, as many as there are, and at most so many.
@@ -336,7 +335,7 @@ impl<'a> Cursor<'a> {
     pub fn lead(&self) -> ArrayVec<Instr, 32>
         requires is { IsCursor self.now }
         requires some { 0 < length self.now.ahead.items }
-        requires first { (rest : List Piece) (x : Piece) → self.now.ahead.items ≡ rest ++ x ∷ [] → begins_op (lines_in x) ≡ true }
+        requires first { (rest : List Lines) (x : Lines) → self.now.ahead.items ≡ rest ++ x ∷ [] → begins_op (lines_in x) ≡ true }
         ensures few { length result.items ≤ place_at self.now }
         ensures leads { LeadsUp (code_of (lines_at self.now)) (place_at self.now - length result.items) result.items }
     {
@@ -394,25 +393,25 @@ impl<'a> Cursor<'a> {
         self.coming[self.coming.len() - count].after
     }
 
-    /// Moves on by a piece.
+    /// Moves on by a line.
     pub fn forward(&mut self) -> Result<(), Memory>
         requires { IsCursor self.old }
         ensures is { OnOk result (IsCursor self.new) }
         ensures lines { OnOk result (lines_at self.new ≡ lines_at self.old) }
         ensures spots { OnOk result (spots_at self.new ≡ spots_at self.old) }
-        ensures place { OnOk result ((rest : List Piece) (x : Piece) → self.old.ahead.items ≡ rest ++ x ∷ [] → (place_at self.new ≡ place_at self.old + length (places_of (lines_in x))) × (self.new.ahead.items ≡ rest)) }
+        ensures place { OnOk result ((rest : List Lines) (x : Lines) → self.old.ahead.items ≡ rest ++ x ∷ [] → (place_at self.new ≡ place_at self.old + length (places_of (lines_in x))) × (self.new.ahead.items ≡ rest)) }
     {
         match self.ahead.pop() {
             None => Ok(()),
-            Some(piece) => {
-                shift(&mut self.coming, &mut self.passed, places_of(piece))?;
-                self.behind.push(piece)?;
+            Some(line) => {
+                shift(&mut self.coming, &mut self.passed, places_of(&line))?;
+                self.behind.push(line)?;
                 Ok(())
             }
         }
     }
 
-    /// Moves back by a piece.
+    /// Moves back by a line.
     fn back(&mut self) -> Result<(), Memory>
         requires is { IsCursor self.old }
         requires some { 0 < length self.old.behind.items }
@@ -423,9 +422,9 @@ impl<'a> Cursor<'a> {
     {
         match self.behind.pop() {
             None => Ok(()),
-            Some(piece) => {
-                shift(&mut self.passed, &mut self.coming, places_of(piece))?;
-                self.ahead.push(piece)?;
+            Some(line) => {
+                shift(&mut self.passed, &mut self.coming, places_of(&line))?;
+                self.ahead.push(line)?;
                 Ok(())
             }
         }
@@ -446,11 +445,17 @@ impl<'a> Cursor<'a> {
     }
 
     /// Puts instructions in place of `count` that stand behind it, the first of them right behind it, with what is kept of them. It is then behind them.
-    pub fn replace(&mut self, count: usize, new: &[Instr], spots: &[Spot]) -> Result<(), Memory>
+    pub fn replace(
+        &mut self,
+        alloc: Global,
+        count: usize,
+        new: &[Instr],
+        spots: &[Spot],
+    ) -> Result<(), Memory>
         requires is { IsCursor self.old }
         requires count { 0 < count }
         requires some { 0 < length self.old.ahead.items }
-        requires first { (rest : List Piece) (x : Piece) → self.old.ahead.items ≡ rest ++ x ∷ [] → begins_op (lines_in x) ≡ true }
+        requires first { (rest : List Lines) (x : Lines) → self.old.ahead.items ≡ rest ++ x ∷ [] → begins_op (lines_in x) ≡ true }
         requires window { AreOps count (places_of (lines_ahead self.old)) }
         requires spots { length spots.now ≡ length new.now }
         ensures is { OnOk result (IsCursor self.new) }
@@ -458,7 +463,7 @@ impl<'a> Cursor<'a> {
         ensures spots { OnOk result (spots_at self.new ≡ self.old.passed.items ++ (spots.now ++ drop count (reverse self.old.coming.items))) }
         ensures place { OnOk result (place_at self.new ≡ place_at self.old + length new.now) }
     {
-        edit(&mut self.ahead, &mut self.behind, count, new)?;
+        edit(alloc, &mut self.ahead, &mut self.behind, count, new)?;
         let left = self.coming.len().saturating_sub(count);
         self.coming.truncate(left);
         self.passed.extend_from_slice(spots)?;
@@ -468,18 +473,18 @@ impl<'a> Cursor<'a> {
     /// Whether a label stands at the next place, which is an instruction's.
     fn is_labelled(&self) -> bool
         requires some { 0 < length self.now.ahead.items }
-        requires first { (rest : List Piece) (x : Piece) → self.now.ahead.items ≡ rest ++ x ∷ [] → begins_op (lines_in x) ≡ true }
+        requires first { (rest : List Lines) (x : Lines) → self.now.ahead.items ≡ rest ++ x ∷ [] → begins_op (lines_in x) ≡ true }
         ensures { result ≡ stands_at (length (places_of (lines_behind self.now))) (labels_from 0 (lines_at self.now)) }
     {
         let ahead = self.ahead.as_slice();
-        ends_labelled(&self.behind) || is_labelled(ahead[ahead.len() - 1])
+        ends_labelled(&self.behind) || is_labelled(&ahead[ahead.len() - 1])
     }
 
     /// Whether each code label stays code where so many instructions that come, the first of them right behind the cursor, give way to others.
     pub fn is_settled(&self, count: usize, new: &[Instr]) -> bool
         requires is { IsCursor self.now }
         requires some { 0 < length self.now.ahead.items }
-        requires first { (rest : List Piece) (x : Piece) → self.now.ahead.items ≡ rest ++ x ∷ [] → begins_op (lines_in x) ≡ true }
+        requires first { (rest : List Lines) (x : Lines) → self.now.ahead.items ≡ rest ++ x ∷ [] → begins_op (lines_in x) ≡ true }
         ensures { (result ≡ true) ↔ IsSettled (places_of (lines_at self.now)) (labels_from 0 (lines_at self.now)) (place_at self.now) count new.now }
     {
         if !new.is_empty() {

@@ -3,8 +3,7 @@
 
 mod carrying;
 pub mod cursor;
-pub mod pieces;
+pub mod held;
 mod sources;
 
 pub use cursor::{Cursor, Spot};
-pub use pieces::Piece;

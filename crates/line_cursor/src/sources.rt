@@ -8,7 +8,7 @@ ghost use Rattle.thumb_model.specs.Machine.{aim_of};
 ghost use Rattle.thumb_model.specs.Flow.{ways_of, ways_on};
 ghost use Rattle.listing_parser.specs.Views.{mention_view, statement_view};
 ghost use Rattle.liveness.specs.Kept.{HasThese};
-ghost use Rattle.line_cursor.specs.Pieces.{lines_in, lines_of};
+ghost use Rattle.line_cursor.specs.Lines.{lines_in, lines_of};
 ghost use Rattle.line_cursor.specs.Sources.{calls_first, is_at, is_marked, is_marked_from, is_point, jumped, labels_in, names_of, op_first, AreJumps, AreNamesOf, IsAdded, IsSeen, IsTarget};
 
 use crate::cursor::Cursor;
@@ -317,7 +317,7 @@ impl<'a> Cursor<'a> {
     ghost use Rattle.liveness.specs.declared.growing.Source.{Source};
     ghost use Rattle.liveness.specs.Kept.{AreFlows};
     ghost use Rattle.liveness.specs.Growing.{AreSources};
-    ghost use Rattle.line_cursor.specs.Pieces.{lines_of};
+    ghost use Rattle.line_cursor.specs.Lines.{lines_of};
     ghost use Rattle.line_cursor.specs.Cursors.{flows_of, lines_at, spots_at, IsCursor};
     ghost use Rattle.line_cursor.specs.Sources.{is_marked, is_point, AreJumps, IsOnward};
 

@@ -20,4 +20,4 @@ pub use errors::{Kind, ListingError, Memory};
 pub use line::{Line, Mark, Mention, Place, Statement, Value};
 pub use listing::Listing;
 pub use parsing::{parse, print};
-pub use replacing::{add_labels, copy_line, new_line};
+pub use replacing::{add_labels, add_new, copy_lines};

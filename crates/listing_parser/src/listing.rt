@@ -69,7 +69,7 @@ impl Listing {
     ghost use Rattle.listing_parser.specs.Targets.{from_label};
 
     /// The listing of lines that define no name twice and have fewer than 2^32 places.
-    pub(crate) fn of(alloc: Global, lines: Vec<Line>) -> Result<Listing, Memory>
+    pub fn of(alloc: Global, lines: Vec<Line>) -> Result<Listing, Memory>
         requires few { length (places_of (map line_view lines.items)) < 2 ^ 32 }
         requires once { first_twice 1 [] (map line_view lines.items) ≡ None }
         ensures { IfOk result (λ l. l ≡ map line_view lines.items) }
@@ -83,6 +83,15 @@ impl Listing {
         ensures { map line_view result.now ≡ self.now }
     {
         self.lines.as_slice()
+    }
+
+    /// The lines in order, without the tables.
+    pub fn into_lines(self) -> Vec<Line>
+        ensures lines { map line_view result.items ≡ self }
+        ensures few { length (places_of self) < 2 ^ 32 }
+        ensures once { first_twice 1 [] self ≡ None }
+    {
+        self.lines
     }
 
     /// How many places there are.
@@ -179,16 +188,6 @@ impl Listing {
         ensures { IfOk result (λ l. l ≡ replaced_lines own_line place count instrs.now self.now) }
     {
         let lines = replaced_lines(alloc, &self.lines, place as usize, count as usize, instrs)?;
-        Listing::of(alloc, lines)
-    }
-
-    /// The listing of other lines, made of this one's: they define no name twice if these don't, and have no more places.
-    pub fn remade(&self, alloc: Global, lines: Vec<Line>) -> Result<Listing, Memory>
-        requires once { first_twice 1 [] self.now ≡ None → first_twice 1 [] (map line_view lines.items) ≡ None }
-        requires few { length (places_of (map line_view lines.items)) ≤ length (places_of self.now) }
-        ensures { IfOk result (λ l. l ≡ map line_view lines.items) }
-    {
-        let _lines = &self.lines;
         Listing::of(alloc, lines)
     }
 }

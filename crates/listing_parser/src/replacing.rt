@@ -125,6 +125,18 @@ pub fn copy_line(alloc: Global, line: &Line) -> Result<Line, AllocError>
     })
 }
 
+/// Lines like others.
+pub fn copy_lines(alloc: Global, lines: &[Line]) -> Result<Vec<Line>, AllocError>
+    ensures { IfOk result (λ v. map line_view v.items ≡ map line_view lines.now) }
+{
+    let mut copied = Vec::with_capacity(alloc, lines.len())?;
+    for line in lines {
+        let line = copy_line(alloc, line)?;
+        copied.push(line)?;
+    }
+    Ok(copied)
+}
+
 fn is_op(line: &Line) -> bool
     ensures { result ≡ is_op (line_view line.now).statement }
 {
@@ -202,7 +214,7 @@ pub fn new_line(alloc: Global, instr: &Instr) -> Result<Line, Memory>
 }
 
 /// Adds the lines of new instructions.
-fn add_new(alloc: Global, out: &mut Vec<Line>, instrs: &[Instr]) -> Result<(), Memory>
+pub fn add_new(alloc: Global, out: &mut Vec<Line>, instrs: &[Instr]) -> Result<(), Memory>
     ensures { OnOk result (map line_view out.new.items ≡ map line_view out.old.items ++ map (new_line own_line) instrs.now) }
 {
     for instr in instrs {

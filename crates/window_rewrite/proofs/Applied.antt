@@ -156,11 +156,11 @@ fitted lines place rule registers window live there fits settled =
 
 -- in the lines of a sweep, what a rule leaves can be laid out: where its ground isn't steady, that is asked for
 pub laid : (r : Rules) (g : Ground) (lines : List Line) (place : ℕ) (rule : Rule) (registers : List Low) (window : List Instr) → AreLaid r g lines → IsSoundRule rule → length window ≡ length rule.left
-    → (g.steady ≡ false → Layable r.base (replaced_lines own_line place (length window) (map (renamed registers) rule.right) lines)) → Applies rule registers (code_of lines) place
+    → (is_steady g ≡ false → Layable r.base (replaced_lines own_line place (length window) (map (renamed registers) rule.right) lines)) → Applies rule registers (code_of lines) place
     → Layable r.base (replaced_lines own_line place (length rule.left) (map (renamed registers) rule.right) lines)
 laid r g lines place rule registers window over sound n asked a =
     let is : List Instr = map (renamed registers) rule.right in
-    elim (cases_Bool g.steady) [
+    elim (cases_Bool (is_steady g)) [
       | inl s ↦ steady_is_layable r.base (replaced_lines own_line place (length rule.left) is lines) (over.aligned s) (steady_stays r.base own_line rule registers place lines sound a (over.steady s))
       | inr s ↦ subst (λ c. Layable r.base (replaced_lines own_line place c is lines)) n (asked s)
     ]

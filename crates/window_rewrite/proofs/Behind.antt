@@ -13,9 +13,9 @@ use Rattle.window_runs.specs.Rows.{is_unlabelled, rows_of, stays_joined, rows_fr
 use Rattle.window_runs.specs.Runs.{run}
 use Rattle.window_runs.proofs.Lengths.{run_within, rows_length}
 use Rattle.window_harvest.specs.LimitsOf.{AreOf}
-use Rattle.line_cursor.specs.declared.pieces.Piece.{Piece}
+use Rattle.listing_parser.specs.declared.line.Line.{Line as Lines}
 use Rattle.line_cursor.specs.declared.cursor.Cursor.{Cursor}
-use Rattle.line_cursor.specs.Pieces.{begins_op, lines_of}
+use Rattle.line_cursor.specs.Lines.{begins_op, lines_of}
 use Rattle.line_cursor.specs.declared.cursor.Spot.{Spot}
 use Rattle.line_cursor.specs.Cursors.{flows_of, lines_ahead, lines_at, lines_behind, place_at, sets_of, spots_at, IsCursor}
 use Rattle.line_cursor.proofs.Looks.{run_begins}
@@ -27,15 +27,15 @@ use Rattle.window_rewrite.specs.Sweeps.{AreOver, IsKept, IsOver}
 -- ---- pieces ----
 
 -- a piece stands behind a cursor that isn't at the end
-pub record IsAhead (ahead : List Piece) : Type 0 where
-  pub rest : List Piece
-  pub piece : Piece
+pub record IsAhead (ahead : List Lines) : Type 0 where
+  pub rest : List Lines
+  pub piece : Lines
   pub is : ahead ≡ rest ++ piece ∷ []
 
-pub some_ahead : (ahead : List Piece) → (ahead ≡ [] → ⊥) → IsAhead ahead
+pub some_ahead : (ahead : List Lines) → (ahead ≡ [] → ⊥) → IsAhead ahead
 some_ahead [] h = absurd (h refl)
 some_ahead (x ∷ []) h = record { rest = []; piece = x; is = refl }
-some_ahead (x ∷ y ∷ ys) h = let r = some_ahead (y ∷ ys) (λ e. absurd (cc)) in record { rest = x ∷ r.rest; piece = r.piece; is = ap (λ (ps : List Piece). x ∷ ps) r.is }
+some_ahead (x ∷ y ∷ ys) h = let r = some_ahead (y ∷ ys) (λ e. absurd (cc)) in record { rest = x ∷ r.rest; piece = r.piece; is = ap (λ (ps : List Lines). x ∷ ps) r.is }
 
 one_place : (s : Statement) → is_op s ≡ true → length (places_in s ++ []) ≡ 1
 one_place (Runs i m) e = refl
@@ -102,7 +102,7 @@ places_there c k =
 
 -- at the end no place comes
 pub at_end : (c : Cursor) → IsKept c → c.ahead.items ≡ [] → length (places_of (lines_at c)) ≤ place_at c
-at_end c k e = omega (arith, places_there c k, k.is.coming, ap (λ (ps : List Piece). length (places_of (lines_of (reverse ps)))) e)
+at_end c k e = omega (arith, places_there c k, k.is.coming, ap (λ (ps : List Lines). length (places_of (lines_of (reverse ps)))) e)
 
 -- the set that is kept of a place tells what is live after it
 pub live_behind : (c : Cursor) (count bits : ℕ) → IsKept c → 0 < count → count ≤ length c.coming.items → bits ≡ set_at (sets_of (spots_at c)).after (place_at c + (count - 1))

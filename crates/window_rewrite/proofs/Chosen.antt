@@ -29,9 +29,9 @@ use Rattle.window_harvest.specs.LimitsOf.{AreOf}
 use Rattle.window_harvest.specs.Harvest.{spot_of, StandsThere}
 use Rattle.window_runs.proofs.Joined.{window_in_run}
 use Rattle.window_harvest.proofs.Places.{stands_there}
-use Rattle.line_cursor.specs.declared.pieces.Piece.{Piece}
+use Rattle.listing_parser.specs.declared.line.Line.{Line as Lines}
 use Rattle.line_cursor.specs.declared.cursor.Cursor.{Cursor}
-use Rattle.line_cursor.specs.Pieces.{begins_op, lines_in, lines_of}
+use Rattle.line_cursor.specs.Lines.{begins_op, lines_in, lines_of}
 use Rattle.line_cursor.specs.Cursors.{lines_at, place_at}
 use Rattle.line_cursor.proofs.Looks.{piece_short}
 use Rattle.line_cursor.proofs.Edits.{lines_back, ahead_count}
@@ -449,14 +449,14 @@ none_past base longest rules xs here ys place next fit e f short none at o a l =
 ]
 
 -- the same where a cursor moves on by a piece
-pub none_on : (base longest : ℕ) (rules : List Rule) (behind ahead : List Piece) (p : IsAhead ahead) (place next : ℕ) → AreFit longest rules → place ≡ length (places_of (lines_of behind)) → next ≡ place + length (places_of (lines_in p.piece))
+pub none_on : (base longest : ℕ) (rules : List Rule) (behind ahead : List Lines) (p : IsAhead ahead) (place next : ℕ) → AreFit longest rules → place ≡ length (places_of (lines_of behind)) → next ≡ place + length (places_of (lines_in p.piece))
     → NoneBefore (setting base rules) (lines_of behind ++ lines_of (reverse ahead)) place
-    → ((rest : List Piece) (x : Piece) → ahead ≡ rest ++ x ∷ [] → begins_op (lines_in x) ≡ true → NoneAt (setting base rules) (lines_of behind ++ lines_of (reverse ahead)) place)
+    → ((rest : List Lines) (x : Lines) → ahead ≡ rest ++ x ∷ [] → begins_op (lines_in x) ≡ true → NoneAt (setting base rules) (lines_of behind ++ lines_of (reverse ahead)) place)
     → NoneBefore (setting base rules) (lines_of behind ++ lines_of (reverse ahead)) next
 none_on base longest rules behind ahead p place next fit e f none at =
     let here : List Line = lines_in p.piece in
     let ys : List Line = lines_of (reverse p.rest) in
-    let same : lines_of (reverse ahead) ≡ here ++ ys = ap (λ (ps : List Piece). lines_of (reverse ps)) p.is ∙ lines_back p.rest p.piece in
+    let same : lines_of (reverse ahead) ≡ here ++ ys = ap (λ (ps : List Lines). lines_of (reverse ps)) p.is ∙ lines_back p.rest p.piece in
     subst (λ (ls : List Line). NoneBefore (setting base rules) (lines_of behind ++ ls) next) (sym same)
     (none_past base longest rules (lines_of behind) here ys place next fit e f (piece_short p.piece)
     (subst (λ (ls : List Line). NoneBefore (setting base rules) (lines_of behind ++ ls) place) same none)
@@ -474,8 +474,8 @@ pub places_cost : (entries place count start after : ℕ) → after ≤ start + 
 places_cost entries place count start after a h = let m = mul-le-mul_right entries h in omega arith
 
 -- a piece that isn't an instruction costs nothing
-pub piece_cost : (entries place next start before after : ℕ) (ahead : List Piece) (p : IsAhead ahead) → next ≡ place + length (places_of (lines_in p.piece)) → before ≤ start + place * entries → after ≤ before + entries
-    → ((rest : List Piece) (x : Piece) → ahead ≡ rest ++ x ∷ [] → begins_op (lines_in x) ≡ false → after ≤ before) → after ≤ start + next * entries
+pub piece_cost : (entries place next start before after : ℕ) (ahead : List Lines) (p : IsAhead ahead) → next ≡ place + length (places_of (lines_in p.piece)) → before ≤ start + place * entries → after ≤ before + entries
+    → ((rest : List Lines) (x : Lines) → ahead ≡ rest ++ x ∷ [] → begins_op (lines_in x) ≡ false → after ≤ before) → after ≤ start + next * entries
 piece_cost entries place next start before after ahead p e b a idle = elim (cases_Bool (begins_op (lines_in p.piece))) [
   | inl t ↦ (
       let one = op_place (lines_in p.piece) (piece_short p.piece) t in
@@ -486,7 +486,7 @@ piece_cost entries place next start before after ahead p e b a idle = elim (case
 
 -- a look at what stands behind a cursor costs no more than the places up to there
 pub look_cost : (entries start before after : ℕ) (c : Cursor) (lines : List Line) (p : IsAhead c.ahead.items) → IsKept c → lines_at c ≡ lines → before ≤ start + place_at c * entries → after ≤ before + entries
-    → ((rest : List Piece) (x : Piece) → c.ahead.items ≡ rest ++ x ∷ [] → begins_op (lines_in x) ≡ false → after ≤ before) → after ≤ start + length (places_of lines) * entries
+    → ((rest : List Lines) (x : Lines) → c.ahead.items ≡ rest ++ x ∷ [] → begins_op (lines_in x) ≡ false → after ≤ before) → after ≤ start + length (places_of lines) * entries
 look_cost entries start before after c lines p kept same b a idle =
     let next : ℕ = place_at c + length (places_of (lines_in p.piece)) in
     places_cost entries next (length (places_of lines)) start after (piece_cost entries (place_at c) next start before after c.ahead.items p refl b a idle)

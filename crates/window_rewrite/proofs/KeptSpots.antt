@@ -22,11 +22,11 @@ use Rattle.liveness.specs.Live.{Sets, set_at, IsLive}
 use Rattle.liveness.specs.Growing.{BeginsGrowing, IsGrowing}
 use Rattle.liveness.specs.Kept.{is_straight, FlowOf, AreFlowsFrom, AreFlows, LeadsUp, KeepsAt, KeepsLive, replaced_sets}
 use Rattle.liveness.proofs.FlowLaws.{flows_kept}
-use Rattle.line_cursor.specs.declared.pieces.Piece.{Piece}
+use Rattle.listing_parser.specs.declared.line.Line.{Line as Lines}
 use Rattle.line_cursor.specs.declared.cursor.Cursor.{Cursor}
 use Rattle.line_cursor.specs.declared.cursor.Spot.{Spot}
 use Rattle.line_cursor.specs.Cursors.{IsCursor, lines_behind, lines_ahead, lines_at, place_at, spots_at, sets_of, flows_of}
-use Rattle.line_cursor.specs.Pieces.{lines_of}
+use Rattle.line_cursor.specs.Lines.{lines_of}
 use Rattle.line_cursor.specs.Leads.{with_sets, mended}
 use Rattle.line_cursor.proofs.Leads.{mended_length, mended_get, mended_flows, mended_sets}
 use Rattle.line_cursor.proofs.Nearer.{places_append}
@@ -291,7 +291,7 @@ pub mended_is : (old now : Cursor) (led : List NewSets) → IsCursor old → IsM
 mended_is old now led is m = cursor_stays old now m.behind m.ahead (mended_place old now led m) (ap (λ (l : List Spot). length l) m.coming) is
 
 pub mended_ops : (old now : Cursor) (led : List NewSets) (window new : List Instr) → IsCursor old → KeepsHere old window new → IsMended old now led → AreOps (length window) (places_of (lines_ahead now))
-mended_ops old now led window new is at m = subst (λ (a : List Piece). AreOps (length window) (places_of (lines_of (reverse a)))) (sym m.ahead) (ops_ahead old window new is at)
+mended_ops old now led window new is at m = subst (λ (a : List Lines). AreOps (length window) (places_of (lines_of (reverse a)))) (sym m.ahead) (ops_ahead old window new is at)
 
 -- the spots where new ones stand in place of those of a window
 abbrev pub spots_left : Cursor → ℕ → List Spot → List Spot

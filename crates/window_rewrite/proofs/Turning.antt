@@ -28,17 +28,17 @@ use Rattle.window_rewrite.specs.declared.choice.Choice.{Choice}
 use Rattle.window_rewrite.specs.declared.finding.Rules.{Rules}
 use Rattle.window_rewrite.specs.declared.ground.Ground.{Ground}
 use Rattle.window_rewrite.specs.Choices.{setting_of, choice_of, AreReady, IsChoice, NoneBefore}
-use Rattle.window_rewrite.specs.Sweeps.{IsKept, LosesNone, MayBecome, AreOver, IsOver}
+use Rattle.window_rewrite.specs.Sweeps.{IsKept, LosesNone, MayBeListed, AreOver, IsOver, is_steady}
 
--- a replacement leaves lines that may become the listing, where the lines before it may
-pub may_become : (given lines : List Line) (s : Setting) (o : Replacement) → AppliesIn s o lines → MayBecome given lines → MayBecome given (lines_after s o lines)
-may_become given lines s o a h =
+-- a replacement leaves lines that may be a listing's, where the lines before it may
+pub may_be_listed : (lines : List Line) (s : Setting) (o : Replacement) → AppliesIn s o lines → MayBeListed lines → MayBeListed (lines_after s o lines)
+may_be_listed lines s o a h =
     let fewer = fewer_after s o lines a in
     let few = h.few in
     record {
       few = omega arith;
-      once = λ e. subst (λ (r : Option Rule). first_twice 1 [] (lines_after_rule s r o lines) ≡ None) (sym a.is_rule)
-          (still_once s.write o.place (length a.rule.left) (map (renamed o.registers) a.rule.right) lines (h.once e));
+      once = subst (λ (r : Option Rule). first_twice 1 [] (lines_after_rule s r o lines) ≡ None) (sym a.is_rule)
+          (still_once s.write o.place (length a.rule.left) (map (renamed o.registers) a.rule.right) lines h.once);
     }
 
 -- steady lines stay steady
@@ -159,17 +159,18 @@ still_kept c d k is e f =
       flows = subst (λ (ls : List Line). AreFlows (code_of ls) (flows_of (spots_at d))) (sym e) flows;
     }
 
-still_over : (r : Rules) (g : Ground) (lines now : List Line) (o : Replacement) → AreReady r → g.steady ≡ true → AppliesIn (setting_of r) o lines → now ≡ lines_after (setting_of r) o lines → AreOver r g lines → AreOver r g now
+unasked : (o : Option (Ref Listed)) → not (is_some o) ≡ true → IfSome o (λ l. now ≡ l.now)
+still_over : (r : Rules) (g : Ground) (lines now : List Line) (o : Replacement) → AreReady r → is_steady g ≡ true → AppliesIn (setting_of r) o lines → now ≡ lines_after (setting_of r) o lines → AreOver r g lines → AreOver r g now
 still_over r g lines now o ready steady a e over =
     subst (λ (ls : List Line). AreOver r g ls) (sym e) (record {
-      become = may_become g.listing.now lines (setting_of r) o a over.become;
+      listed = may_be_listed lines (setting_of r) o a over.listed;
       aligned = over.aligned;
       steady = λ h. still_steady (setting_of r) r.longest o lines ready.fit a (over.steady h);
-      same = λ h. absurd (true≢false (sym steady ∙ h));
+      same = unasked g.listing steady;
     })
 
 -- a replacement was made at the one cursor, and the other went back from there: it stands in such lines
-pub turned_over : (r : Rules) (g : Ground) (old at new : Cursor) (o : Replacement) → AreReady r → IsOver r g old → g.steady ≡ true → AppliesIn (setting_of r) o (lines_at old)
+pub turned_over : (r : Rules) (g : Ground) (old at new : Cursor) (o : Replacement) → AreReady r → IsOver r g old → is_steady g ≡ true → AppliesIn (setting_of r) o (lines_at old)
     → IsKept at → lines_at at ≡ lines_after (setting_of r) o (lines_at old) → IsCursor new → lines_at new ≡ lines_at at → spots_at new ≡ spots_at at → IsOver r g new
 turned_over r g old at new o ready over steady a kept e is f spots = record {
   kept = still_kept at new kept is f spots;
@@ -177,7 +178,7 @@ turned_over r g old at new o ready over steady a kept e is f spots = record {
 }
 
 -- and no entry applies before it
-pub turned_before : (r : Rules) (g : Ground) (old at new : Cursor) (o : Replacement) (count : ℕ) → AreReady r → IsOver r g old → g.steady ≡ true → IsFirst (setting_of r) o (lines_at old) → o.place ≡ place_at old
+pub turned_before : (r : Rules) (g : Ground) (old at new : Cursor) (o : Replacement) (count : ℕ) → AreReady r → IsOver r g old → is_steady g ≡ true → IsFirst (setting_of r) o (lines_at old) → o.place ≡ place_at old
     → IsKept at → lines_at at ≡ lines_after (setting_of r) o (lines_at old) → ((q : ℕ) → q + count < place_at old → LosesNone old at q)
     → lines_at new ≡ lines_at at → place_at new ≤ o.place - count - r.longest → NoneBefore (setting_of r) (lines_at new) (place_at new)
 turned_before r g old at new o count ready over steady first here kept e same f back =

@@ -1,5 +1,5 @@
 -- A sweep over a listing: a cursor in lines that come of it by replacements.
-use Rattle.std.specs.Prelude.{◌≡◌, ℕ, ◌+◌, ◌-◌, ◌*◌, ◌%◌, ◌≤◌, ◌++◌, Bool, true, false, None, List, [], ◌∷◌, length, map}
+use Rattle.std.specs.Prelude.{◌≡◌, ℕ, ◌+◌, ◌-◌, ◌*◌, ◌%◌, ◌^◌, ◌<◌, ◌≤◌, ◌++◌, Bool, not, is_some, true, None, IfSome, List, [], ◌∷◌, length, map}
 use Rattle.thumb_instr.specs.declared.instr.Instr.{Instr}
 use Rattle.thumb_instr.specs.Items.{has}
 use Rattle.thumb_model.specs.Listing.{Line, code_of, places_of}
@@ -55,17 +55,21 @@ pub record IsGrown (old now : Cursor) : Type 0 where
 abbrev pub growing_cost : ℕ → ℕ
 growing_cost places = (19 * places + 1) * (places + 1)
 
--- other lines may become a listing where these are one
-pub record MayBecome (given lines : List Line) : Type 0 where
-  pub few : length (places_of lines) ≤ length (places_of given)
-  pub once : first_twice 1 [] given ≡ None → first_twice 1 [] lines ≡ None
+-- whether the layout needn't be asked for
+abbrev pub is_steady : Ground → Bool
+is_steady g = not (is_some g.listing)
+
+-- lines that may be a listing's
+pub record MayBeListed (lines : List Line) : Type 0 where
+  pub few : length (places_of lines) < 2 ^ 32
+  pub once : first_twice 1 [] lines ≡ None
 
 -- the lines are steady, if the ground is; otherwise they are still the ground's
 pub record AreOver (r : Rules) (g : Ground) (lines : List Line) : Type 0 where
-  pub become : MayBecome g.listing.now lines
-  pub aligned : g.steady ≡ true → r.base % 4 ≡ 0
-  pub steady : g.steady ≡ true → IsSteady r.base lines
-  pub same : g.steady ≡ false → lines ≡ g.listing.now
+  pub listed : MayBeListed lines
+  pub aligned : is_steady g ≡ true → r.base % 4 ≡ 0
+  pub steady : is_steady g ≡ true → IsSteady r.base lines
+  pub same : IfSome g.listing (λ l. lines ≡ l.now)
 
 -- where it is said so, the lines and those that come of them by replacements can be laid out from the base
 abbrev pub IsSteadyIf : ℕ → List Line → Bool → Type 0

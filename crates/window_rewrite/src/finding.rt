@@ -1,5 +1,5 @@
 //! The next replacement that can be made.
-ghost use Rattle.std.specs.Prelude.{◌≡◌, ◌+◌, ◌*◌, ◌<◌, ◌≤◌, ◌↔◌, ◌∷◌, [], ◌++◌, ℕ, List, length, drop, take, slice_get, true, false, Some, IfOk, OnOk, IfSome, IfNone};
+ghost use Rattle.std.specs.Prelude.{◌≡◌, ◌+◌, ◌*◌, ◌^◌, ◌<◌, ◌≤◌, ◌↔◌, ◌∷◌, [], ◌++◌, ℕ, List, length, drop, take, slice_get, true, false, Some, IfOk, OnOk, IfSome, IfNone};
 ghost use Rattle.std.specs.List.{list_all};
 ghost use Rattle.thumb_instr.specs.Renaming.{Low};
 ghost use Rattle.thumb_instr.specs.Window.{is_in_window};
@@ -8,15 +8,15 @@ ghost use Rattle.thumb_model.specs.Listing.{labels_from, places_of};
 ghost use Rattle.thumb_model.specs.Rewrite.{Rule};
 ghost use Rattle.thumb_model.specs.Rewritten.{AppliesIn, NoneApplies, left_length, replaced_lines};
 ghost use Rattle.listing_parser.specs.Replacing.{own_line, names_no_label};
-ghost use Rattle.line_cursor.specs.declared.pieces.Piece.{Piece};
-ghost use Rattle.line_cursor.specs.Pieces.{begins_op, lines_in};
+ghost use Rattle.listing_parser.specs.declared.line.Line.{Line as Lines};
+ghost use Rattle.line_cursor.specs.Lines.{begins_op, lines_in};
 ghost use Rattle.line_cursor.specs.Cursors.{lines_at, place_at, IsCursor, IsSettled};
 ghost use Rattle.thumb_model.proofs.LinesReplaced.{AreOps};
 ghost use Rattle.window_harvest.specs.Harvest.{spot_of, StandsThere};
 ghost use Rattle.window_rewrite.specs.Fitting.{Shortens};
 ghost use Rattle.window_rewrite.specs.Rules.{rules_in};
 ghost use Rattle.window_rewrite.specs.Choices.{setting_of, choice_of, of_length, AreReady, Begins, IsBest, IsChoice, IsFirstChoice, IsLowest, NoneAt, NoneBefore, NoneOf};
-ghost use Rattle.window_rewrite.specs.Sweeps.{IsOver};
+ghost use Rattle.window_rewrite.specs.Sweeps.{is_steady, IsOver};
 
 use crate::choice::{Choice, Replacement};
 use crate::fitting::{fitting, side_of};
@@ -48,31 +48,30 @@ fn may_give_way(
     alloc: Global,
     base: u32,
     ground: &Ground<'_>,
-    cursor: &Cursor<'_>,
+    cursor: &Cursor,
     count: usize,
     new: &[Instr],
 ) -> Result<bool, Memory>
     requires is { IsCursor cursor.now }
-    requires same { ground.now.steady ≡ false → lines_at cursor.now ≡ ground.now.listing.now }
-    requires few { length (places_of (lines_at cursor.now)) ≤ length (places_of ground.now.listing.now) }
+    requires same { IfSome ground.now.listing (λ l. lines_at cursor.now ≡ l.now) }
+    requires few { length (places_of (lines_at cursor.now)) < 2 ^ 32 }
     requires some { 0 < length cursor.now.ahead.items }
-    requires first { (rest : List Piece) (x : Piece) → cursor.now.ahead.items ≡ rest ++ x ∷ [] → begins_op (lines_in x) ≡ true }
+    requires first { (rest : List Lines) (x : Lines) → cursor.now.ahead.items ≡ rest ++ x ∷ [] → begins_op (lines_in x) ≡ true }
     requires window { AreOps count (drop (place_at cursor.now) (places_of (lines_at cursor.now))) }
     requires shorter { length new.now < count }
     requires plain { list_all names_no_label new.now ≡ true }
-    ensures { IfOk result (λ b. (b ≡ true) ↔ (IsSettled (places_of (lines_at cursor.now)) (labels_from 0 (lines_at cursor.now)) (place_at cursor.now) count new.now × (ground.now.steady ≡ false → Layable base (replaced_lines own_line (place_at cursor.now) count new.now (lines_at cursor.now))))) }
+    ensures { IfOk result (λ b. (b ≡ true) ↔ (IsSettled (places_of (lines_at cursor.now)) (labels_from 0 (lines_at cursor.now)) (place_at cursor.now) count new.now × (is_steady ground.now ≡ false → Layable base (replaced_lines own_line (place_at cursor.now) count new.now (lines_at cursor.now))))) }
 {
     if !cursor.is_settled(count, new) {
         return Ok(false);
     }
-    if ground.steady {
-        return Ok(true);
+    match ground.listing {
+        None => Ok(true),
+        Some(listing) => {
+            let left = listing.replaced(alloc, cursor.place() as u32, count as u32, new)?;
+            is_layable(alloc, &left, base)
+        }
     }
-    let _count = ground.listing.place_count();
-    let left = ground
-        .listing
-        .replaced(alloc, cursor.place() as u32, count as u32, new)?;
-    is_layable(alloc, &left, base)
 }
 
 /// The instructions of a window, which are few.
@@ -92,7 +91,7 @@ fn try_entry<L: Ledger>(
     alloc: Global,
     rules: &Rules<'_>,
     ground: &Ground<'_>,
-    cursor: &Cursor<'_>,
+    cursor: &Cursor,
     window: &[Instr],
     live: Items,
     number: usize,
@@ -101,7 +100,7 @@ fn try_entry<L: Ledger>(
     requires ready { AreReady rules.now }
     requires over { IsOver rules.now ground.now cursor.now }
     requires some { 0 < length cursor.now.ahead.items }
-    requires first { (rest : List Piece) (x : Piece) → cursor.now.ahead.items ≡ rest ++ x ∷ [] → begins_op (lines_in x) ≡ true }
+    requires first { (rest : List Lines) (x : Lines) → cursor.now.ahead.items ≡ rest ++ x ∷ [] → begins_op (lines_in x) ≡ true }
     requires stands { StandsThere (lines_at cursor.now) (spot_of (place_at cursor.now) (length window.now)) window.now live.bits }
     requires number { number < length rules.now.entries.now }
     requires long { left_length (rules_in rules.now.entries.now) number ≡ length window.now }
@@ -126,7 +125,6 @@ fn try_entry<L: Ledger>(
     )? {
         return Ok(None);
     }
-    let _count = ground.listing.place_count();
     Ok(Some(Choice {
         replacement: Replacement {
             place: cursor.place() as u32,
@@ -166,7 +164,7 @@ fn lowest<L: Ledger>(
     alloc: Global,
     rules: &Rules<'_>,
     ground: &Ground<'_>,
-    cursor: &Cursor<'_>,
+    cursor: &Cursor,
     window: &[Instr],
     live: Items,
     steps: &mut Steps<L>,
@@ -174,7 +172,7 @@ fn lowest<L: Ledger>(
     requires ready { AreReady rules.now }
     requires over { IsOver rules.now ground.now cursor.now }
     requires some { 0 < length cursor.now.ahead.items }
-    requires first { (rest : List Piece) (x : Piece) → cursor.now.ahead.items ≡ rest ++ x ∷ [] → begins_op (lines_in x) ≡ true }
+    requires first { (rest : List Lines) (x : Lines) → cursor.now.ahead.items ≡ rest ++ x ∷ [] → begins_op (lines_in x) ≡ true }
     requires stands { StandsThere (lines_at cursor.now) (spot_of (place_at cursor.now) (length window.now)) window.now live.bits }
     ensures some { IfOk result (λ o. IfSome o (IsLowest (setting_of rules.now) (lines_at cursor.now) (place_at cursor.now) (length window.now))) }
     ensures none { IfOk result (λ o. IfNone o (NoneOf (setting_of rules.now) (lines_at cursor.now) (place_at cursor.now) (length window.now))) }
@@ -197,13 +195,13 @@ fn best_here<L: Ledger>(
     alloc: Global,
     rules: &Rules<'_>,
     ground: &Ground<'_>,
-    cursor: &Cursor<'_>,
+    cursor: &Cursor,
     steps: &mut Steps<L>,
 ) -> Result<Option<Choice>, Memory>
     requires ready { AreReady rules.now }
     requires over { IsOver rules.now ground.now cursor.now }
     requires some { 0 < length cursor.now.ahead.items }
-    requires first { (rest : List Piece) (x : Piece) → cursor.now.ahead.items ≡ rest ++ x ∷ [] → begins_op (lines_in x) ≡ true }
+    requires first { (rest : List Lines) (x : Lines) → cursor.now.ahead.items ≡ rest ++ x ∷ [] → begins_op (lines_in x) ≡ true }
     ensures some { IfOk result (λ o. IfSome o (IsBest (setting_of rules.now) (lines_at cursor.now) (place_at cursor.now))) }
     ensures none { IfOk result (λ o. IfNone o (NoneAt (setting_of rules.now) (lines_at cursor.now) (place_at cursor.now))) }
     ensures cost { steps.new ≤ steps.old + length (rules_in rules.now.entries.now) }
@@ -236,16 +234,16 @@ fn best<L: Ledger>(
     alloc: Global,
     rules: &Rules<'_>,
     ground: &Ground<'_>,
-    cursor: &Cursor<'_>,
+    cursor: &Cursor,
     steps: &mut Steps<L>,
 ) -> Result<Option<Choice>, Memory>
     requires ready { AreReady rules.now }
     requires over { IsOver rules.now ground.now cursor.now }
     ensures some { IfOk result (λ o. IfSome o (IsBest (setting_of rules.now) (lines_at cursor.now) (place_at cursor.now))) }
-    ensures op { IfOk result (λ o. IfSome o (λ c. (0 < length cursor.now.ahead.items) × ((rest : List Piece) (x : Piece) → cursor.now.ahead.items ≡ rest ++ x ∷ [] → begins_op (lines_in x) ≡ true))) }
-    ensures none { IfOk result (λ o. IfNone o ((rest : List Piece) (x : Piece) → cursor.now.ahead.items ≡ rest ++ x ∷ [] → begins_op (lines_in x) ≡ true → NoneAt (setting_of rules.now) (lines_at cursor.now) (place_at cursor.now))) }
+    ensures op { IfOk result (λ o. IfSome o (λ c. (0 < length cursor.now.ahead.items) × ((rest : List Lines) (x : Lines) → cursor.now.ahead.items ≡ rest ++ x ∷ [] → begins_op (lines_in x) ≡ true))) }
+    ensures none { IfOk result (λ o. IfNone o ((rest : List Lines) (x : Lines) → cursor.now.ahead.items ≡ rest ++ x ∷ [] → begins_op (lines_in x) ≡ true → NoneAt (setting_of rules.now) (lines_at cursor.now) (place_at cursor.now))) }
     ensures cost { steps.new ≤ steps.old + length (rules_in rules.now.entries.now) }
-    ensures idle { (rest : List Piece) (x : Piece) → cursor.now.ahead.items ≡ rest ++ x ∷ [] → begins_op (lines_in x) ≡ false → steps.new ≤ steps.old }
+    ensures idle { (rest : List Lines) (x : Lines) → cursor.now.ahead.items ≡ rest ++ x ∷ [] → begins_op (lines_in x) ≡ false → steps.new ≤ steps.old }
 {
     if cursor.is_at_op() {
         best_here(alloc, rules, ground, cursor, steps)
@@ -259,7 +257,7 @@ pub(crate) fn next<L: Ledger>(
     alloc: Global,
     rules: &Rules<'_>,
     ground: &Ground<'_>,
-    cursor: &mut Cursor<'_>,
+    cursor: &mut Cursor,
     steps: &mut Steps<L>,
 ) -> Result<Option<Choice>, Memory>
     requires ready { AreReady rules.now }
@@ -269,7 +267,7 @@ pub(crate) fn next<L: Ledger>(
     ensures lines { OnOk result (lines_at cursor.new ≡ lines_at cursor.old) }
     ensures some { IfOk result (λ o. IfSome o (IsFirstChoice (setting_of rules.now) (lines_at cursor.new))) }
     ensures here { IfOk result (λ o. IfSome o (λ c. (choice_of c).place ≡ place_at cursor.new)) }
-    ensures op { IfOk result (λ o. IfSome o (λ c. (0 < length cursor.new.ahead.items) × ((rest : List Piece) (x : Piece) → cursor.new.ahead.items ≡ rest ++ x ∷ [] → begins_op (lines_in x) ≡ true))) }
+    ensures op { IfOk result (λ o. IfSome o (λ c. (0 < length cursor.new.ahead.items) × ((rest : List Lines) (x : Lines) → cursor.new.ahead.items ≡ rest ++ x ∷ [] → begins_op (lines_in x) ≡ true))) }
     ensures none { IfOk result (λ o. IfNone o (NoneApplies (setting_of rules.now) (lines_at cursor.new))) }
     ensures cost { steps.new ≤ steps.old + length (places_of (lines_at cursor.old)) * length (rules_in rules.now.entries.now) }
 {

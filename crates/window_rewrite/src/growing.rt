@@ -17,7 +17,7 @@ use step_ledger::{Ledger, Steps};
 
 /// Carries what is live before a place into the sets of its sources. A source whose set before it grew comes behind the places that are pending.
 fn carry_all<L: Ledger>(
-    cursor: &mut Cursor<'_>,
+    cursor: &mut Cursor,
     place: usize,
     sources: &[Source],
     pending: &mut Vec<usize>,
@@ -44,7 +44,7 @@ fn carry_all<L: Ledger>(
 /// grow by it.
 pub(crate) fn grow<L: Ledger>(
     alloc: Global,
-    cursor: &mut Cursor<'_>,
+    cursor: &mut Cursor,
     place: usize,
     steps: &mut Steps<L>,
 ) -> Result<(), Memory>

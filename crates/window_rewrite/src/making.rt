@@ -10,8 +10,8 @@ ghost use Rattle.listing_parser.specs.Replacing.{own_line};
 ghost use Rattle.liveness.specs.Kept.{FlowOf, KeepsAt, LeadsUp};
 ghost use Rattle.thumb_instr.specs.declared.instr.Instr.{Instr};
 ghost use Rattle.liveness.specs.declared.flowing.Flow.{Flow};
-ghost use Rattle.line_cursor.specs.declared.pieces.Piece.{Piece};
-ghost use Rattle.line_cursor.specs.Pieces.{begins_op, lines_in};
+ghost use Rattle.listing_parser.specs.declared.line.Line.{Line as Lines};
+ghost use Rattle.line_cursor.specs.Lines.{begins_op, lines_in};
 ghost use Rattle.line_cursor.specs.Cursors.{flows_of, lines_at, place_at, spots_at, IsCursor};
 ghost use Rattle.window_rewrite.specs.Rewriting.{visits};
 ghost use Rattle.window_rewrite.specs.Sweeps.{AreGrowing, AreKept, IsKept, LosesNone};
@@ -50,7 +50,7 @@ fn spots_of(sets: &[NewSets], new: &[Instr]) -> ArrayVec<Spot, 5>
 /// The sets of straight code that leads up to a window right behind the cursor, and of new instructions in its place, where all other sets stay. `ahead` are
 /// the flows of places behind the window.
 fn kept_behind(
-    cursor: &Cursor<'_>,
+    cursor: &Cursor,
     lead: &[Instr],
     window: &[Instr],
     new: &[Instr],
@@ -70,14 +70,14 @@ fn kept_behind(
 
 /// As `kept_behind`, with as little as is needed of the straight code that leads up to the window.
 fn kept_with_lead(
-    cursor: &Cursor<'_>,
+    cursor: &Cursor,
     window: &[Instr],
     new: &[Instr],
     ahead: &[Flow],
 ) -> Option<ArrayVec<NewSets, 37>>
     requires kept { IsKept cursor.now }
     requires some { 0 < length cursor.now.ahead.items }
-    requires first { (rest : List Piece) (x : Piece) → cursor.now.ahead.items ≡ rest ++ x ∷ [] → begins_op (lines_in x) ≡ true }
+    requires first { (rest : List Lines) (x : Lines) → cursor.now.ahead.items ≡ rest ++ x ∷ [] → begins_op (lines_in x) ≡ true }
     requires keeps { KeepsAt (code_of (lines_at cursor.now)) (place_at cursor.now) window.now new.now }
     requires ahead { (k : ℕ) (f : Flow) → slice_get ahead.now k ≡ Some f → slice_get (flows_of (spots_at cursor.now)) (place_at cursor.now + (length window.now + k)) ≡ Some f }
     ensures { IfSome result (λ s. AreKept cursor.now window.now new.now s.items) }
@@ -95,10 +95,10 @@ fn kept_with_lead(
 
 /// The sets of new instructions in place of a window right behind the cursor, where all other sets stay; or, where they don't, those of straight code that leads
 /// up to the window and of the new instructions, if all others stay then.
-fn kept(cursor: &Cursor<'_>, window: &[Instr], new: &[Instr]) -> Option<ArrayVec<NewSets, 37>>
+fn kept(cursor: &Cursor, window: &[Instr], new: &[Instr]) -> Option<ArrayVec<NewSets, 37>>
     requires kept { IsKept cursor.now }
     requires some { 0 < length cursor.now.ahead.items }
-    requires first { (rest : List Piece) (x : Piece) → cursor.now.ahead.items ≡ rest ++ x ∷ [] → begins_op (lines_in x) ≡ true }
+    requires first { (rest : List Lines) (x : Lines) → cursor.now.ahead.items ≡ rest ++ x ∷ [] → begins_op (lines_in x) ≡ true }
     requires keeps { KeepsAt (code_of (lines_at cursor.now)) (place_at cursor.now) window.now new.now }
     ensures { IfSome result (λ s. AreKept cursor.now window.now new.now s.items) }
 {
@@ -113,14 +113,15 @@ fn kept(cursor: &Cursor<'_>, window: &[Instr], new: &[Instr]) -> Option<ArrayVec
 /// Puts new instructions in place of a window right behind the cursor, with these sets, of which the first ones are of straight code that leads up to it. Of how
 /// many places these are.
 fn put(
-    cursor: &mut Cursor<'_>,
+    alloc: Global,
+    cursor: &mut Cursor,
     window: &[Instr],
     new: &[Instr],
     sets: &[NewSets],
 ) -> Result<usize, Memory>
     requires kept { IsKept cursor.old }
     requires some { 0 < length cursor.old.ahead.items }
-    requires first { (rest : List Piece) (x : Piece) → cursor.old.ahead.items ≡ rest ++ x ∷ [] → begins_op (lines_in x) ≡ true }
+    requires first { (rest : List Lines) (x : Lines) → cursor.old.ahead.items ≡ rest ++ x ∷ [] → begins_op (lines_in x) ≡ true }
     requires keeps { KeepsAt (code_of (lines_at cursor.old)) (place_at cursor.old) window.now new.now }
     requires sets { AreKept cursor.old window.now new.now sets.now }
     ensures lines { OnOk result (lines_at cursor.new ≡ replaced_lines own_line (place_at cursor.old) (length window.now) new.now (lines_at cursor.old)) }
@@ -130,14 +131,14 @@ fn put(
     let lead = sets.len() - new.len();
     let spots = spots_of(&sets[lead..], new);
     cursor.mend(&sets[..lead]);
-    cursor.replace(window.len(), new, spots.as_slice())?;
+    cursor.replace(alloc, window.len(), new, spots.as_slice())?;
     Ok(lead)
 }
 
 /// The sets of new instructions in place of a window right behind the cursor, where no item is live no more: these and those that are kept lack nothing but
 /// what comes by ways to the window's place.
 fn grown_behind(
-    cursor: &Cursor<'_>,
+    cursor: &Cursor,
     window: &[Instr],
     new: &[Instr],
 ) -> Option<ArrayVec<NewSets, 5>>
@@ -154,7 +155,7 @@ fn grown_behind(
 /// Puts new instructions in place of a window right behind the cursor, with these sets, and works out what they and the others lack.
 fn put_growing<L: Ledger>(
     alloc: Global,
-    cursor: &mut Cursor<'_>,
+    cursor: &mut Cursor,
     window: &[Instr],
     new: &[Instr],
     sets: &[NewSets],
@@ -162,7 +163,7 @@ fn put_growing<L: Ledger>(
 ) -> Result<(), Memory>
     requires kept { IsKept cursor.old }
     requires some { 0 < length cursor.old.ahead.items }
-    requires first { (rest : List Piece) (x : Piece) → cursor.old.ahead.items ≡ rest ++ x ∷ [] → begins_op (lines_in x) ≡ true }
+    requires first { (rest : List Lines) (x : Lines) → cursor.old.ahead.items ≡ rest ++ x ∷ [] → begins_op (lines_in x) ≡ true }
     requires keeps { KeepsAt (code_of (lines_at cursor.old)) (place_at cursor.old) window.now new.now }
     requires sets { AreGrowing cursor.old window.now new.now sets.now }
     ensures lines { OnOk result (lines_at cursor.new ≡ replaced_lines own_line (place_at cursor.old) (length window.now) new.now (lines_at cursor.old)) }
@@ -172,7 +173,7 @@ fn put_growing<L: Ledger>(
 {
     let place = cursor.place();
     let spots = spots_of(sets, new);
-    cursor.replace(window.len(), new, spots.as_slice())?;
+    cursor.replace(alloc, window.len(), new, spots.as_slice())?;
     grow(alloc, cursor, place, steps)?;
     Ok(())
 }
@@ -191,18 +192,19 @@ fn blank(new: &[Instr]) -> ArrayVec<Spot, 5>
 
 /// Puts new instructions in place of a window right behind the cursor, and nothing true of what is kept of places.
 pub(crate) fn put_blank(
-    cursor: &mut Cursor<'_>,
+    alloc: Global,
+    cursor: &mut Cursor,
     window: &[Instr],
     new: &[Instr],
 ) -> Result<(), Memory>
     requires is { IsCursor cursor.old }
     requires some { 0 < length cursor.old.ahead.items }
-    requires first { (rest : List Piece) (x : Piece) → cursor.old.ahead.items ≡ rest ++ x ∷ [] → begins_op (lines_in x) ≡ true }
+    requires first { (rest : List Lines) (x : Lines) → cursor.old.ahead.items ≡ rest ++ x ∷ [] → begins_op (lines_in x) ≡ true }
     requires few { length window.now ≤ 5 }
     requires keeps { KeepsAt (code_of (lines_at cursor.old)) (place_at cursor.old) window.now new.now }
     ensures lines { OnOk result (lines_at cursor.new ≡ replaced_lines own_line (place_at cursor.old) (length window.now) new.now (lines_at cursor.old)) }
 {
-    cursor.replace(window.len(), new, blank(new).as_slice())?;
+    cursor.replace(alloc, window.len(), new, blank(new).as_slice())?;
     Ok(())
 }
 
@@ -210,14 +212,14 @@ pub(crate) fn put_blank(
 /// still true.
 pub(crate) fn make<L: Ledger>(
     alloc: Global,
-    cursor: &mut Cursor<'_>,
+    cursor: &mut Cursor,
     window: &[Instr],
     new: &[Instr],
     steps: &mut Steps<L>,
 ) -> Result<Option<usize>, Memory>
     requires kept { IsKept cursor.old }
     requires some { 0 < length cursor.old.ahead.items }
-    requires first { (rest : List Piece) (x : Piece) → cursor.old.ahead.items ≡ rest ++ x ∷ [] → begins_op (lines_in x) ≡ true }
+    requires first { (rest : List Lines) (x : Lines) → cursor.old.ahead.items ≡ rest ++ x ∷ [] → begins_op (lines_in x) ≡ true }
     requires few { length window.now ≤ 5 }
     requires keeps { KeepsAt (code_of (lines_at cursor.old)) (place_at cursor.old) window.now new.now }
     ensures lines { OnOk result (lines_at cursor.new ≡ replaced_lines own_line (place_at cursor.old) (length window.now) new.now (lines_at cursor.old)) }
@@ -226,7 +228,7 @@ pub(crate) fn make<L: Ledger>(
     ensures cost { IfOk result (λ o. steps.new ≤ steps.old + from_bool (is_some o) * visits (length (places_of (lines_at cursor.old)))) }
 {
     if let Some(sets) = kept(cursor, window, new) {
-        let lead = put(cursor, window, new, sets.as_slice())?;
+        let lead = put(alloc, cursor, window, new, sets.as_slice())?;
         return Ok(Some(lead));
     }
     match grown_behind(cursor, window, new) {
@@ -235,7 +237,7 @@ pub(crate) fn make<L: Ledger>(
             Ok(Some(0))
         }
         None => {
-            put_blank(cursor, window, new)?;
+            put_blank(alloc, cursor, window, new)?;
             Ok(None)
         }
     }

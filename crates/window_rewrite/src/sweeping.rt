@@ -1,24 +1,26 @@
 //! Sweeps over a listing.
-ghost use Rattle.std.specs.Prelude.{◌≡◌, ◌+◌, ◌*◌, ◌%◌, ◌<◌, ◌≤◌, ◌++◌, ◌∷◌, [], List, All, length, not, true, false, IfOk, OnOk};
+ghost use Rattle.std.specs.Prelude.{◌≡◌, ◌+◌, ◌*◌, ◌%◌, ◌<◌, ◌≤◌, ◌++◌, ◌∷◌, [], List, All, length, map, not, true, false, IfOk, OnOk};
 ghost use Rattle.std.specs.Int.{from_bool};
-ghost use Rattle.thumb_model.specs.Listing.{Line, places_of};
+ghost use Rattle.thumb_model.specs.Listing.{Line as Listed, code_of, places_of};
 ghost use Rattle.thumb_model.specs.Rewritten.{NoneApplies, lines_after};
-ghost use Rattle.line_cursor.specs.declared.pieces.Piece.{Piece};
-ghost use Rattle.line_cursor.specs.Pieces.{begins_op, lines_in};
+ghost use Rattle.listing_parser.specs.declared.line.Line.{Line as Lines};
+ghost use Rattle.line_cursor.specs.Lines.{begins_op, lines_in};
 ghost use Rattle.line_cursor.specs.Cursors.{flows_of, lines_at, place_at, sets_of};
+ghost use Rattle.listing_parser.specs.Views.{line_view};
+ghost use Rattle.liveness.specs.Kept.{AreFlows};
+ghost use Rattle.liveness.specs.Live.{IsLive};
 ghost use Rattle.steady_layout.specs.Steady.{IsSteady};
 ghost use Rattle.window_rewrite.specs.Rewriting.{round_cost, visits, IsWhole};
 ghost use Rattle.window_rewrite.specs.Rules.{rules_in};
 ghost use Rattle.window_rewrite.specs.Choices.{setting_of, choice_of, AreReady, IsFirstChoice, NoneBefore};
-ghost use Rattle.window_rewrite.specs.Sweeps.{Completes, IsOver, IsSteadyIf, MayBecome};
+ghost use Rattle.window_rewrite.specs.Sweeps.{is_steady, AreOver, Completes, IsOver, IsSteadyIf, MayBeListed};
 
 use crate::choice::{Choice, Replacement};
 use crate::finding::{Rules, next};
 use crate::ground::Ground;
 use crate::making::{make, put_blank};
-use line_cursor::pieces::written;
 use line_cursor::{Cursor, Spot};
-use listing_parser::{Listing, Memory};
+use listing_parser::{Line, Listing, Memory, copy_lines};
 use liveness::{Flow, Live, flows, live};
 use std::alloc::Global;
 use steady_layout::is_steady;
@@ -37,7 +39,7 @@ fn turn<L: Ledger>(
     alloc: Global,
     rules: &Rules<'_>,
     ground: &Ground<'_>,
-    cursor: &mut Cursor<'_>,
+    cursor: &mut Cursor,
     choice: &Choice,
     steps: &mut Steps<L>,
 ) -> Result<bool, Memory>
@@ -46,7 +48,7 @@ fn turn<L: Ledger>(
     requires choice { IsFirstChoice (setting_of rules.now) (lines_at cursor.old) choice.now }
     requires here { (choice_of choice.now).place ≡ place_at cursor.old }
     requires some { 0 < length cursor.old.ahead.items }
-    requires first { (rest : List Piece) (x : Piece) → cursor.old.ahead.items ≡ rest ++ x ∷ [] → begins_op (lines_in x) ≡ true }
+    requires first { (rest : List Lines) (x : Lines) → cursor.old.ahead.items ≡ rest ++ x ∷ [] → begins_op (lines_in x) ≡ true }
     ensures lines { OnOk result (lines_at cursor.new ≡ lines_after (setting_of rules.now) (choice_of choice.now) (lines_at cursor.old)) }
     ensures over { IfOk result (λ b. b ≡ true → IsOver rules.now ground.now cursor.new) }
     ensures before { IfOk result (λ b. b ≡ true → NoneBefore (setting_of rules.now) (lines_at cursor.new) (place_at cursor.new)) }
@@ -54,8 +56,8 @@ fn turn<L: Ledger>(
 {
     let window = choice.window.as_slice();
     let new = choice.new.as_slice();
-    if !ground.steady {
-        put_blank(cursor, window, new)?;
+    if ground.listing.is_some() {
+        put_blank(alloc, cursor, window, new)?;
         return Ok(false);
     }
     match make(alloc, cursor, window, new, steps)? {
@@ -73,7 +75,7 @@ fn go_through<L: Ledger>(
     alloc: Global,
     rules: &Rules<'_>,
     ground: &Ground<'_>,
-    cursor: &mut Cursor<'_>,
+    cursor: &mut Cursor,
     replacements: &mut Vec<Replacement>,
     steps: &mut Steps<L>,
 ) -> Result<bool, Memory>
@@ -82,9 +84,9 @@ fn go_through<L: Ledger>(
     requires before { NoneBefore (setting_of rules.now) (lines_at cursor.old) (place_at cursor.old) }
     requires whole { All IsWhole replacements.old.items }
     ensures whole { OnOk result (All IsWhole replacements.new.items) }
-    ensures completes { OnOk result ((start : List Line) → Completes (setting_of rules.now) start replacements.old.items (lines_at cursor.old) → Completes (setting_of rules.now) start replacements.new.items (lines_at cursor.new)) }
-    ensures becomes { OnOk result (MayBecome ground.now.listing.now (lines_at cursor.new)) }
-    ensures steady { OnOk result (ground.now.steady ≡ true → IsSteady rules.now.base (lines_at cursor.new)) }
+    ensures completes { OnOk result ((start : List Listed) → Completes (setting_of rules.now) start replacements.old.items (lines_at cursor.old) → Completes (setting_of rules.now) start replacements.new.items (lines_at cursor.new)) }
+    ensures listed { OnOk result (MayBeListed (lines_at cursor.new)) }
+    ensures steady { OnOk result (is_steady ground.now ≡ true → IsSteady rules.now.base (lines_at cursor.new)) }
     ensures none { IfOk result (λ b. b ≡ true → NoneApplies (setting_of rules.now) (lines_at cursor.new)) }
     ensures fewer { IfOk result (λ b. length (places_of (lines_at cursor.new)) + from_bool (not b) ≤ length (places_of (lines_at cursor.old))) }
     ensures more { IfOk result (λ b. length replacements.old.items + from_bool (not b) ≤ length replacements.new.items) }
@@ -130,35 +132,67 @@ pub(crate) fn is_steady_from(alloc: Global, listing: &Listing, base: u32) -> Res
     is_steady(alloc, listing, base)
 }
 
+/// Goes over the lines of a listing once, of whose places this is known.
+fn sweep_lines<L: Ledger>(
+    alloc: Global,
+    rules: &Rules<'_>,
+    ground: &Ground<'_>,
+    lines: Vec<Line>,
+    spots: Vec<Spot>,
+    replacements: &mut Vec<Replacement>,
+    steps: &mut Steps<L>,
+) -> Result<Swept, Memory>
+    requires ready { AreReady rules.now }
+    requires over { AreOver rules.now ground.now (map line_view lines.items) }
+    requires live { IsLive (code_of (map line_view lines.items)) (sets_of spots.items) }
+    requires flows { AreFlows (code_of (map line_view lines.items)) (flows_of spots.items) }
+    requires whole { All IsWhole replacements.old.items }
+    ensures steady { IfOk result (λ s. IsSteadyIf rules.now.base s.listing (is_steady ground.now)) }
+    ensures whole { OnOk result (All IsWhole replacements.new.items) }
+    ensures completes { IfOk result (λ s. (start : List Listed) → Completes (setting_of rules.now) start replacements.old.items (map line_view lines.items) → Completes (setting_of rules.now) start replacements.new.items s.listing) }
+    ensures none { IfOk result (λ s. s.is_done ≡ true → NoneApplies (setting_of rules.now) s.listing) }
+    ensures fewer { IfOk result (λ s. length (places_of s.listing) + from_bool (not s.is_done) ≤ length (places_of (map line_view lines.items))) }
+    ensures more { IfOk result (λ s. length replacements.old.items + from_bool (not s.is_done) ≤ length replacements.new.items) }
+    ensures cost { IfOk result (λ s. steps.new + visits (length (places_of (map line_view lines.items))) + length replacements.old.items * round_cost (length (places_of (map line_view lines.items))) (length (rules_in rules.now.entries.now)) ≤ steps.old + (length replacements.new.items + from_bool s.is_done) * round_cost (length (places_of (map line_view lines.items))) (length (rules_in rules.now.entries.now))) }
+{
+    let mut cursor = Cursor::start(alloc, lines, spots);
+    let is_done = go_through(alloc, rules, ground, &mut cursor, replacements, steps)?;
+    let listing = Listing::of(alloc, cursor.into_lines()?)?;
+    Ok(Swept { listing, is_done })
+}
+
 /// Goes over a listing once, with what is kept of its places. Each replacement is the first that can be made. `steady` is whether each listing that comes of
 /// this one by replacements can surely be laid out.
 pub(crate) fn sweep<L: Ledger>(
     alloc: Global,
     rules: &Rules<'_>,
-    listing: &Listing,
+    listing: Listing,
     steady: bool,
     replacements: &mut Vec<Replacement>,
     steps: &mut Steps<L>,
 ) -> Result<Swept, Memory>
     requires ready { AreReady rules.now }
-    requires steady { IsSteadyIf rules.now.base listing.now steady }
+    requires steady { IsSteadyIf rules.now.base listing steady }
     requires whole { All IsWhole replacements.old.items }
     ensures steady { IfOk result (λ s. IsSteadyIf rules.now.base s.listing steady) }
     ensures whole { OnOk result (All IsWhole replacements.new.items) }
-    ensures completes { IfOk result (λ s. (start : List Line) → Completes (setting_of rules.now) start replacements.old.items listing.now → Completes (setting_of rules.now) start replacements.new.items s.listing) }
+    ensures completes { IfOk result (λ s. (start : List Listed) → Completes (setting_of rules.now) start replacements.old.items listing → Completes (setting_of rules.now) start replacements.new.items s.listing) }
     ensures none { IfOk result (λ s. s.is_done ≡ true → NoneApplies (setting_of rules.now) s.listing) }
-    ensures fewer { IfOk result (λ s. length (places_of s.listing) + from_bool (not s.is_done) ≤ length (places_of listing.now)) }
+    ensures fewer { IfOk result (λ s. length (places_of s.listing) + from_bool (not s.is_done) ≤ length (places_of listing)) }
     ensures more { IfOk result (λ s. length replacements.old.items ≤ length replacements.new.items) }
-    ensures cost { IfOk result (λ s. steps.new + length replacements.old.items * round_cost (length (places_of listing.now)) (length (rules_in rules.now.entries.now)) ≤ steps.old + (length replacements.new.items + from_bool s.is_done) * round_cost (length (places_of listing.now)) (length (rules_in rules.now.entries.now))) }
+    ensures cost { IfOk result (λ s. steps.new + length replacements.old.items * round_cost (length (places_of listing)) (length (rules_in rules.now.entries.now)) ≤ steps.old + (length replacements.new.items + from_bool s.is_done) * round_cost (length (places_of listing)) (length (rules_in rules.now.entries.now))) }
 {
-    let live = live(alloc, listing, steps)?;
-    let flows = flows(alloc, listing)?;
+    let live = live(alloc, &listing, steps)?;
+    let flows = flows(alloc, &listing)?;
     let spots = spots_of(alloc, &live, flows.as_slice())?;
-    let ground = Ground { listing, steady };
-    let mut cursor = Cursor::start(alloc, listing.lines(), spots.as_slice())?;
-    let is_done = go_through(alloc, rules, &ground, &mut cursor, replacements, steps)?;
-    let pieces = cursor.into_pieces()?;
-    let lines = written(alloc, pieces.as_slice())?;
-    let listing = listing.remade(alloc, lines)?;
-    Ok(Swept { listing, is_done })
+    let lines = listing.into_lines();
+    if steady {
+        let ground = Ground { listing: None };
+        return sweep_lines(alloc, rules, &ground, lines, spots, replacements, steps);
+    }
+    let listing = Listing::of(alloc, copy_lines(alloc, &lines)?)?;
+    let ground = Ground {
+        listing: Some(&listing),
+    };
+    sweep_lines(alloc, rules, &ground, lines, spots, replacements, steps)
 }

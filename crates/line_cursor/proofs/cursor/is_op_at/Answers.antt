@@ -1,15 +1,15 @@
 use Rattle.std.proofs.Common.{◌∙◌, ◌-◌, List, reverse, take, ap, sym, arith}
 use Rattle.std.specs.Prelude.{slice_get}
 use Rattle.thumb_model.specs.Listing.{Line, is_op_place, places_of}
-use Rattle.line_cursor.specs.declared.pieces.Piece.{Piece}
-use Rattle.line_cursor.specs.Pieces.{lines_in, lines_of}
+use Rattle.listing_parser.specs.declared.line.Line.{Line as Lines}
+use Rattle.line_cursor.specs.Lines.{lines_in, lines_of}
 use Rattle.line_cursor.proofs.Looks.{piece_short, first_ahead}
 use Rattle.line_cursor.proofs.Labels.{op_within, op_past}
 use Rattle.line_cursor.proofs.cursor.is_op_at.Goals as goal
 
 pub returns-then-left-places : goal.returns-then-left-places
 returns-then-left-places c =
-    let x : Piece = c.index-ahead-at.result in
+    let x : Lines = c.index-ahead-at.result in
     let lines = first_ahead c.args.ahead.now c.loop-at.at x c.loop-at-test.true c.loop-at.invariant.within c.index-ahead-at.is in
     c.is_op.ensures
     ∙ sym (op_within (lines_in x) (lines_of (reverse (take (c.loop-at.at - 1) c.args.ahead.now))) c.loop-at.left (piece_short x) (omega (arith, c.places_of-places.ensures, c.if-left-places.true)))
@@ -18,7 +18,7 @@ returns-then-left-places c =
 
 pub loop-at-preserved : goal.loop-at-preserved
 loop-at-preserved c =
-    let x : Piece = c.index-ahead-at.result in
+    let x : Lines = c.index-ahead-at.result in
     let within = c.loop-at.invariant.within in
     let lines = first_ahead c.args.ahead.now c.loop-at.at x c.loop-at-test.true within c.index-ahead-at.is in
     let rest : List Line = lines_of (reverse (take (c.loop-at.at - 1) c.args.ahead.now)) in

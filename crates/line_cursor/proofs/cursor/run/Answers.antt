@@ -4,14 +4,14 @@ use Rattle.thumb_instr.specs.declared.instr.Instr.{Instr}
 use Rattle.thumb_model.specs.Listing.{Line}
 use Rattle.window_runs.specs.Rows.{rows_from}
 use Rattle.window_runs.specs.Runs.{run}
-use Rattle.line_cursor.specs.declared.pieces.Piece.{Piece}
-use Rattle.line_cursor.specs.Pieces.{lines_in, lines_of}
+use Rattle.listing_parser.specs.declared.line.Line.{Line as Lines}
+use Rattle.line_cursor.specs.Lines.{lines_in, lines_of}
 use Rattle.line_cursor.specs.Looks.{look_lines}
 use Rattle.line_cursor.proofs.Looks.{last_taken, piece_short, Comes, comes_letter, comes_nothing, comes_end}
 use Rattle.line_cursor.proofs.cursor.run.Goals as goal
 
 -- what comes, with the piece at the place first
-split : (ahead : List Piece) (at : ℕ) (x : Piece) (seq : List Instr) (most : ℕ) (all : List Instr) → 0 < at → at ≤ length ahead → x ≡ get_or ahead (at - 1) x → Comes seq most (lines_of (reverse (take at ahead))) all
+split : (ahead : List Lines) (at : ℕ) (x : Lines) (seq : List Instr) (most : ℕ) (all : List Instr) → 0 < at → at ≤ length ahead → x ≡ get_or ahead (at - 1) x → Comes seq most (lines_of (reverse (take at ahead))) all
     → Comes seq most (lines_in x ++ lines_of (reverse (take (at - 1) ahead))) all
 split ahead at x seq most all some within e c =
     let same : at ≡ at - 1 + 1 = omega arith in
@@ -23,7 +23,7 @@ loop-at-preserved-in-Letter c =
     let within = c.loop-at.invariant.within in
     let fits : length c.loop-at.seq < c.args.most = omega (arith, c.if-len-most.true, c.len.ensures.value) in
     let len = ap (λ (l : List Instr). length l) c.push.ensures in
-    let x : Piece = c.index-ahead-at.result in
+    let x : Lines = c.index-ahead-at.result in
     let s = split c.args.ahead.now c.loop-at.at x c.loop-at.seq c.args.most _ c.loop-at-test.true within c.index-ahead-at.is c.loop-at.invariant.comes in
     let look = ap (λ n. look_lines (nat_eq n 0) (lines_in x)) (sym c.len-in-loop-at.ensures.value) ∙ sym c.seen.ensures ∙ c.in-Letter.is in
     record {
@@ -37,7 +37,7 @@ pub loop-at-preserved : goal.loop-at-preserved
 loop-at-preserved c =
     let within = c.loop-at.invariant.within in
     let fits : length c.loop-at.seq < c.args.most = omega (arith, c.if-len-most.true, c.len.ensures.value) in
-    let x : Piece = c.index-ahead-at.result in
+    let x : Lines = c.index-ahead-at.result in
     let s = split c.args.ahead.now c.loop-at.at x c.loop-at.seq c.args.most _ c.loop-at-test.true within c.index-ahead-at.is c.loop-at.invariant.comes in
     let look = ap (λ n. look_lines (nat_eq n 0) (lines_in x)) (sym c.len-in-loop-at.ensures.value) ∙ sym c.seen.ensures ∙ c.in-Nothing.is in
     record {
@@ -50,7 +50,7 @@ pub returns-in-End : goal.returns-in-End
 returns-in-End c =
     let within = c.loop-at.invariant.within in
     let fits : length c.loop-at.seq < c.args.most = omega (arith, c.if-len-most.true, c.len.ensures.value) in
-    let x : Piece = c.index-ahead-at.result in
+    let x : Lines = c.index-ahead-at.result in
     let s = split c.args.ahead.now c.loop-at.at x c.loop-at.seq c.args.most _ c.loop-at-test.true within c.index-ahead-at.is c.loop-at.invariant.comes in
     let look = ap (λ n. look_lines (nat_eq n 0) (lines_in x)) (sym c.len-in-loop-at.ensures.value) ∙ sym c.seen.ensures ∙ c.in-End.is in
     comes_end c.loop-at.seq c.args.most (lines_in x) (lines_of (reverse (take (c.loop-at.at - 1) c.args.ahead.now))) _ fits (piece_short x) look s

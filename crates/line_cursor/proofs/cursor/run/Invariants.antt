@@ -1,7 +1,7 @@
 use Rattle.std.proofs.Common.{◌≤◌, true, length, reverse, take}
 use Rattle.window_runs.specs.Rows.{rows_from}
 use Rattle.window_runs.specs.Runs.{run}
-use Rattle.line_cursor.specs.Pieces.{lines_of}
+use Rattle.line_cursor.specs.Lines.{lines_of}
 use Rattle.line_cursor.proofs.Looks.{Comes}
 use Rattle.line_cursor.proofs.cursor.run.Given as goal
 

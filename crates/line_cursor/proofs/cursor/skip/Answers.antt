@@ -1,5 +1,5 @@
 use Rattle.std.proofs.Common.{arith}
-use Rattle.line_cursor.specs.Pieces.{lines_of}
+use Rattle.line_cursor.specs.Lines.{lines_of}
 use Rattle.line_cursor.proofs.Edits.{skipped_all}
 use Rattle.line_cursor.proofs.cursor.skip.Goals as goal
 

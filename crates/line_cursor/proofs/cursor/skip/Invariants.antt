@@ -2,7 +2,7 @@ use Rattle.std.proofs.Common.{◌≡◌, ◌++◌, length, reverse}
 use Rattle.thumb_model.specs.Listing.{places_of}
 use Rattle.thumb_model.specs.Rewritten.{without}
 use Rattle.thumb_model.proofs.LinesReplaced.{AreOps}
-use Rattle.line_cursor.specs.Pieces.{lines_of}
+use Rattle.line_cursor.specs.Lines.{lines_of}
 use Rattle.line_cursor.specs.Cursors.{AreAhead}
 use Rattle.line_cursor.proofs.cursor.skip.Given as goal
 

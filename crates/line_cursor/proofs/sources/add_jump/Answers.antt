@@ -4,7 +4,7 @@ use Rattle.thumb_instr.specs.declared.items.Items.{Items}
 use Rattle.thumb_model.specs.Listing.{Name, places_of}
 use Rattle.thumb_model.specs.Flow.{ways_on}
 use Rattle.liveness.specs.Kept.{HasThese}
-use Rattle.line_cursor.specs.Pieces.{lines_in}
+use Rattle.line_cursor.specs.Lines.{lines_in}
 use Rattle.line_cursor.specs.Sources.{jumped, AreNamesOf}
 use Rattle.line_cursor.proofs.Jumps.{added_these}
 use Rattle.line_cursor.proofs.sources.add_jump.Goals as goal

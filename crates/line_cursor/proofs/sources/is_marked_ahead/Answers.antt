@@ -1,7 +1,7 @@
 use Rattle.std.proofs.Common.{◌≡◌, ◌∙◌, ◌+◌, ◌-◌, ◌<◌, ◌≤◌, ◌==◌, ◌&&◌, ◌||◌, ◌++◌, ℕ, Bool, true, false, List, length, length-append, reverse, take, get_or, ap, sym, arith}
 use Rattle.thumb_model.specs.Listing.{Line, Place, places_of}
-use Rattle.line_cursor.specs.declared.pieces.Piece.{Piece}
-use Rattle.line_cursor.specs.Pieces.{lines_in, lines_of, begins_labelled}
+use Rattle.listing_parser.specs.declared.line.Line.{Line as Lines}
+use Rattle.line_cursor.specs.Lines.{lines_in, lines_of, begins_labelled}
 use Rattle.line_cursor.specs.Sources.{calls_first, is_marked_from}
 use Rattle.line_cursor.proofs.Looks.{piece_short, first_ahead}
 use Rattle.line_cursor.proofs.Nearer.{places_append}
@@ -9,7 +9,7 @@ use Rattle.line_cursor.proofs.Marked.{marked_first, none_ahead}
 use Rattle.line_cursor.proofs.sources.is_marked_ahead.Goals as goal
 
 -- the places of a piece, and those behind it
-split : (ahead : List Piece) (left : ℕ) (x : Piece) → 0 < left → left ≤ length ahead → x ≡ get_or ahead (left - 1) x
+split : (ahead : List Lines) (left : ℕ) (x : Lines) → 0 < left → left ≤ length ahead → x ≡ get_or ahead (left - 1) x
     → length (places_of (lines_of (reverse (take left ahead)))) ≡ length (places_of (lines_in x)) + length (places_of (lines_of (reverse (take (left - 1) ahead))))
 split ahead left x some within e =
     let rest : List Line = lines_of (reverse (take (left - 1) ahead)) in
@@ -33,7 +33,7 @@ overflow_add-end c =
 
 pub loop-left-preserved : goal.loop-left-preserved
 loop-left-preserved c =
-    let x : Piece = c.index-ahead-left.result in
+    let x : Lines = c.index-ahead-left.result in
     let within = c.loop-left.invariant.within in
     let some : 0 < c.loop-left.left = search in
     let rest : List Line = lines_of (reverse (take (c.loop-left.left - 1) c.args.ahead.now)) in
@@ -53,7 +53,7 @@ loop-left-preserved c =
 
 pub returns-then-is_labelled-place : goal.returns-then-is_labelled-place
 returns-then-is_labelled-place c =
-    let x : Piece = c.index-ahead-left.result in
+    let x : Lines = c.index-ahead-left.result in
     let within = c.loop-left.invariant.within in
     let some : 0 < c.loop-left.left = search in
     let rest : List Line = lines_of (reverse (take (c.loop-left.left - 1) c.args.ahead.now)) in

@@ -1,6 +1,6 @@
 use Rattle.std.proofs.Common.{◌≡◌, ◌+◌, ◌≤◌, length, reverse, take}
 use Rattle.thumb_model.specs.Listing.{places_of}
-use Rattle.line_cursor.specs.Pieces.{lines_of}
+use Rattle.line_cursor.specs.Lines.{lines_of}
 use Rattle.line_cursor.specs.Sources.{is_marked_from}
 use Rattle.line_cursor.proofs.sources.is_marked_ahead.Given as goal
 

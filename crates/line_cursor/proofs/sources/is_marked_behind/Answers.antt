@@ -1,7 +1,7 @@
 use Rattle.std.proofs.Common.{◌≡◌, ◌∙◌, ◌+◌, ◌-◌, ◌<◌, ◌≤◌, ◌==◌, ◌&&◌, ℕ, true, false, List, length, length-append, take, get_or, ap, sym, arith}
 use Rattle.thumb_model.specs.Listing.{Line, Place, code_of, places_of}
-use Rattle.line_cursor.specs.declared.pieces.Piece.{Piece}
-use Rattle.line_cursor.specs.Pieces.{lines_in, lines_of, begins_labelled}
+use Rattle.listing_parser.specs.declared.line.Line.{Line as Lines}
+use Rattle.line_cursor.specs.Lines.{lines_in, lines_of, begins_labelled}
 use Rattle.line_cursor.specs.Sources.{calls_first, is_marked}
 use Rattle.line_cursor.proofs.Looks.{piece_short}
 use Rattle.line_cursor.proofs.Labels.{last_of}
@@ -10,7 +10,7 @@ use Rattle.line_cursor.proofs.Marked.{marked_by_call, marked_by_label, marked_be
 use Rattle.line_cursor.proofs.sources.is_marked_behind.Goals as goal
 
 -- the places before a piece, and its own
-split : (behind : List Piece) (left : ℕ) (x : Piece) → 0 < left → left ≤ length behind → x ≡ get_or behind (left - 1) x
+split : (behind : List Lines) (left : ℕ) (x : Lines) → 0 < left → left ≤ length behind → x ≡ get_or behind (left - 1) x
     → length (places_of (lines_of (take left behind))) ≡ length (places_of (lines_of (take (left - 1) behind))) + length (places_of (lines_in x))
 split behind left x some within e =
     let front : List Line = lines_of (take (left - 1) behind) in
@@ -23,7 +23,7 @@ overflow_sub-start c =
 
 pub returns-then-start-place : goal.returns-then-start-place
 returns-then-start-place c =
-    let x : Piece = c.index-behind-left.result in
+    let x : Lines = c.index-behind-left.result in
     let front : List Line = lines_of (take (c.loop-left.left - 1) c.args.behind.now) in
     let last = last_of c.args.behind.now c.loop-left.left x c.loop-left-test.true c.loop-left.invariant.within c.index-behind-left.is in
     let n = split c.args.behind.now c.loop-left.left x c.loop-left-test.true c.loop-left.invariant.within c.index-behind-left.is in
@@ -35,7 +35,7 @@ returns-then-start-place c =
 
 pub returns-then-is_labelled-place : goal.returns-then-is_labelled-place
 returns-then-is_labelled-place c =
-    let x : Piece = c.index-behind-left.result in
+    let x : Lines = c.index-behind-left.result in
     let front : List Line = lines_of (take (c.loop-left.left - 1) c.args.behind.now) in
     let last = last_of c.args.behind.now c.loop-left.left x c.loop-left-test.true c.loop-left.invariant.within c.index-behind-left.is in
     let n = split c.args.behind.now c.loop-left.left x c.loop-left-test.true c.loop-left.invariant.within c.index-behind-left.is in
@@ -48,7 +48,7 @@ returns-then-is_labelled-place c =
 
 pub loop-left-preserved : goal.loop-left-preserved
 loop-left-preserved c =
-    let x : Piece = c.index-behind-left.result in
+    let x : Lines = c.index-behind-left.result in
     let within = c.loop-left.invariant.within in
     let front : List Line = lines_of (take (c.loop-left.left - 1) c.args.behind.now) in
     let last = last_of c.args.behind.now c.loop-left.left x c.loop-left-test.true within c.index-behind-left.is in

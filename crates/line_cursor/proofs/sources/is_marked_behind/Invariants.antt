@@ -1,6 +1,6 @@
 use Rattle.std.proofs.Common.{◌≡◌, ◌≤◌, length, take}
 use Rattle.thumb_model.specs.Listing.{code_of, places_of}
-use Rattle.line_cursor.specs.Pieces.{lines_of}
+use Rattle.line_cursor.specs.Lines.{lines_of}
 use Rattle.line_cursor.specs.Sources.{is_marked}
 use Rattle.line_cursor.proofs.sources.is_marked_behind.Given as goal
 

@@ -1,6 +1,6 @@
 use Rattle.std.proofs.Common.{◌+◌, sym, subst, arith, ap}
 use Rattle.thumb_model.specs.Listing.{code_of, places_of}
-use Rattle.line_cursor.specs.Pieces.{lines_in, lines_of}
+use Rattle.line_cursor.specs.Lines.{lines_in, lines_of}
 use Rattle.line_cursor.specs.Sources.{AreJumps}
 use Rattle.line_cursor.proofs.Looks.{piece_short}
 use Rattle.line_cursor.proofs.Jumps.{added_few, jumps_more, tail_still, taken_count, taken_within, taken_stands}

@@ -1,7 +1,7 @@
 use Rattle.std.proofs.Common.{◌≡◌, ◌∙◌, false, List, length, drop, map, refl, sym, ap, subst, arith}
 use Rattle.liveness.proofs.Moves.{drop_whole}
-use Rattle.line_cursor.specs.declared.pieces.Piece.{Piece}
-use Rattle.line_cursor.specs.Pieces.{lines_of}
+use Rattle.listing_parser.specs.declared.line.Line.{Line as Lines}
+use Rattle.line_cursor.specs.Lines.{lines_of}
 use Rattle.line_cursor.proofs.Targets.{IsKnown, known_first, known_all, known_more, fits_before}
 use Rattle.line_cursor.proofs.sources.look.Goals as goal
 
@@ -9,7 +9,7 @@ pub loop-left-init : goal.loop-left-init
 loop-left-init c = record {
   within = omega arith;
   place = refl;
-  known = subst (λ (l : List Piece). IsKnown (lines_of c.args.pieces.now) (lines_of l) (record { place = c.args.place; at = c.args.count; is_op = false; is_point = false; names = c.new.result })) (sym (drop_whole c.args.pieces.now (length c.args.pieces.now) refl))
+  known = subst (λ (l : List Lines). IsKnown (lines_of c.args.pieces.now) (lines_of l) (record { place = c.args.place; at = c.args.count; is_op = false; is_point = false; names = c.new.result })) (sym (drop_whole c.args.pieces.now (length c.args.pieces.now) refl))
       (known_first (lines_of c.args.pieces.now) (record { place = c.args.place; at = c.args.count; is_op = false; is_point = false; names = c.new.result }) c.requires refl refl (ap (map (λ n. n.now)) c.new.ensures.items));
 }
 

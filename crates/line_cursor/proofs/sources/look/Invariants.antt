@@ -1,5 +1,5 @@
 use Rattle.std.proofs.Common.{◌≡◌, ◌≤◌, length, drop}
-use Rattle.line_cursor.specs.Pieces.{lines_of}
+use Rattle.line_cursor.specs.Lines.{lines_of}
 use Rattle.line_cursor.proofs.Targets.{IsKnown}
 use Rattle.line_cursor.proofs.sources.look.Given as goal
 

@@ -1,5 +1,5 @@
 use Rattle.std.proofs.Common.{◌∙◌, arith}
-use Rattle.line_cursor.specs.Pieces.{lines_in}
+use Rattle.line_cursor.specs.Lines.{lines_in}
 use Rattle.line_cursor.proofs.Looks.{piece_short}
 use Rattle.line_cursor.proofs.Targets.{op_is_first}
 use Rattle.line_cursor.proofs.sources.op_first.Goals as goal

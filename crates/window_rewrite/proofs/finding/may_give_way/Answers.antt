@@ -38,4 +38,4 @@ returns c =
     c.in_ok-left.ensures
     ∙ ap (λ p. replaced_lines own_line p c.args.count c.args.new.now c.args.ground.now.listing.now) c.place.ensures
     ∙ ap (λ (ls : List Line). replaced_lines own_line (place_at c.args.cursor.now) c.args.count c.args.new.now ls) (sym same) in
-    IfOk-weaker _ _ _ (λ b h. told _ b c.args.ground.now.steady c.args.base _ _ (c.is_settled.ensures.0 c.if-not-is_settled.false) c.if-ground.false left h) c.is_layable.ensures
+    IfOk-weaker _ _ _ (λ b h. told _ b is_steady c.args.ground.now c.args.base _ _ (c.is_settled.ensures.0 c.if-not-is_settled.false) c.if-ground.false left h) c.is_layable.ensures

@@ -1,6 +1,6 @@
 use Rattle.std.proofs.Common.{◌≡◌, ◌∙◌, ◌<◌, List, true, false, length, sym, subst}
 use Rattle.thumb_model.specs.Listing.{Line}
-use Rattle.line_cursor.specs.declared.pieces.Piece.{Piece}
+use Rattle.listing_parser.specs.declared.line.Line.{Line as Lines}
 use Rattle.line_cursor.specs.Cursors.{lines_at, place_at}
 use Rattle.line_cursor.proofs.Edits.{one_fewer}
 use Rattle.window_rewrite.specs.Rules.{rules_in}
@@ -32,7 +32,7 @@ loop-alloc-smaller g c =
     let p = some_ahead c.loop-alloc.cursor.ahead.items (λ e. let never : true ≡ false = sym (c.is_at_end.ensures.1 e) ∙ c.loop-alloc-test.true in cc) in
     let step = c.in_ok-forward.ensures.place p.rest p.piece p.is in
     let left : c.forward.new.self.ahead.items ≡ p.rest = step.1 in
-    subst (λ (ps : List Piece). length ps < length c.loop-alloc.cursor.ahead.items) (sym left) (one_fewer c.loop-alloc.cursor.ahead.items p.rest p.piece p.is)
+    subst (λ (ps : List Lines). length ps < length c.loop-alloc.cursor.ahead.items) (sym left) (one_fewer c.loop-alloc.cursor.ahead.items p.rest p.piece p.is)
 
 pub loop-alloc-preserved : goal.loop-alloc-preserved
 loop-alloc-preserved g c =

@@ -8,16 +8,16 @@ use Rattle.line_cursor.specs.Cursors.{lines_at}
 use Rattle.window_rewrite.specs.Rewriting.{round_cost, visits, IsWhole}
 use Rattle.window_rewrite.specs.Rules.{rules_in}
 use Rattle.window_rewrite.specs.Choices.{setting_of, choice_of}
-use Rattle.window_rewrite.specs.Sweeps.{MayBecome}
+use Rattle.window_rewrite.specs.Sweeps.{MayBeListed}
 use Rattle.window_rewrite.proofs.Rounds.{comes_on, last_tries, longer_by_one, some_more, turn_cost}
-use Rattle.window_rewrite.proofs.Turning.{may_become, still_steady}
+use Rattle.window_rewrite.proofs.Turning.{may_be_listed, still_steady}
 use Rattle.window_rewrite.proofs.sweeping.go_through.Goals as goal
 
-pub returns-then-not-goes_on-clause-becomes : goal.returns-then-not-goes_on-clause-becomes
-returns-then-not-goes_on-clause-becomes g c =
+pub returns-then-not-goes_on-clause-listed : goal.returns-then-not-goes_on-clause-listed
+returns-then-not-goes_on-clause-listed g c =
     let choice = rw c.in-Some.is at c.in_ok-choice.ensures.some in
-    subst (MayBecome c.args.ground.now.listing.now) (sym c.in_ok-goes_on.ensures.lines)
-    (may_become c.args.ground.now.listing.now (lines_at c.next.new.cursor) (setting_of c.args.rules.now) (choice_of c.in-Some.choice) choice.first.applies c.in_ok-choice.ensures.over.over.become)
+    subst MayBeListed (sym c.in_ok-goes_on.ensures.lines)
+    (may_be_listed (lines_at c.next.new.cursor) (setting_of c.args.rules.now) (choice_of c.in-Some.choice) choice.first.applies c.in_ok-choice.ensures.over.over.listed)
 
 pub returns-then-not-goes_on-clause-steady : goal.returns-then-not-goes_on-clause-steady
 returns-then-not-goes_on-clause-steady g c = λ h.

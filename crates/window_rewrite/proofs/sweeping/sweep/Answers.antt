@@ -3,7 +3,7 @@ use Rattle.std.specs.Int.{from_bool}
 use Rattle.thumb_model.specs.Listing.{Line, places_of}
 use Rattle.thumb_model.specs.Rewritten.{Setting, AppliesIn}
 use Rattle.steady_layout.specs.Steady.{IsSteady}
-use Rattle.line_cursor.specs.Pieces.{lines_of}
+use Rattle.line_cursor.specs.Lines.{lines_of}
 use Rattle.line_cursor.specs.Cursors.{lines_at}
 use Rattle.window_rewrite.specs.Rewriting.{round_cost, visits}
 use Rattle.window_rewrite.specs.Rules.{rules_in}

@@ -5,15 +5,15 @@ use Rattle.line_cursor.proofs.cursor.Cursor.back.Goals as goal
 
 pub shift-requires : goal.shift-requires
 shift-requires c =
-    let b = behind_count _ _ c.in-Some.piece c.in-Some.ensures.items in
+    let b = behind_count _ _ c.in-Some.line c.in-Some.ensures.items in
     let p = c.requires.is.passed in
     let n = c.places_of.ensures in
     omega arith
 
 pub returns-in_ok-push-in-Some-clause-is : goal.returns-in_ok-push-in-Some-clause-is
 returns-in_ok-push-in-Some-clause-is c =
-    let a = ahead_count _ _ c.in-Some.piece c.in_ok-push-in-Some.ensures.items in
-    let b = behind_count _ _ c.in-Some.piece c.in-Some.ensures.items in
+    let a = ahead_count _ _ c.in-Some.line c.in_ok-push-in-Some.ensures.items in
+    let b = behind_count _ _ c.in-Some.line c.in-Some.ensures.items in
     let p = c.requires.is.passed in
     let q = c.requires.is.coming in
     let m = c.in_ok-shift-in-Some.ensures.more in

@@ -3,8 +3,8 @@ use Rattle.std.specs.Prelude.{slice_get}
 use Rattle.thumb_instr.specs.declared.instr.Instr.{Instr}
 use Rattle.thumb_model.specs.Listing.{Line, Label, Place, is_op_place, labels_from, places_of}
 use Rattle.thumb_model.proofs.Lists.{get_back}
-use Rattle.line_cursor.specs.declared.pieces.Piece.{Piece}
-use Rattle.line_cursor.specs.Pieces.{lines_of}
+use Rattle.listing_parser.specs.declared.line.Line.{Line as Lines}
+use Rattle.line_cursor.specs.Lines.{lines_of}
 use Rattle.line_cursor.specs.Cursors.{stands_at, IsSettled}
 use Rattle.line_cursor.proofs.Nearer.{places_append}
 use Rattle.line_cursor.proofs.Labels.{none_stands, stands_some}
@@ -32,14 +32,14 @@ pub returns-then-is_op_at : goal.returns-then-is_op_at
 returns-then-is_op_at c =
     let behind : List Line = lines_of c.args.self.now.behind.items in
     let ahead : List Line = lines_of (reverse c.args.self.now.ahead.items) in
-    let here = ap (λ (a : List Piece). is_op_place (slice_get (places_of (lines_of (reverse a))) c.args.count)) (sym c.deref.ensures.value) ∙ sym c.is_op_at.ensures ∙ c.if-is_op_at.true in
+    let here = ap (λ (a : List Lines). is_op_place (slice_get (places_of (lines_of (reverse a))) c.args.count)) (sym c.deref.ensures.value) ∙ sym c.is_op_at.ensures ∙ c.if-is_op_at.true in
     (λ h. inr (inl (place_ahead behind ahead (length c.args.self.now.passed.items) c.args.count c.requires.is.passed ∙ here)), λ h. refl)
 
 pub returns : goal.returns
 returns c =
     let behind : List Line = lines_of c.args.self.now.behind.items in
     let ahead : List Line = lines_of (reverse c.args.self.now.ahead.items) in
-    let here = ap (λ (a : List Piece). is_op_place (slice_get (places_of (lines_of (reverse a))) c.args.count)) (sym c.deref.ensures.value) ∙ sym c.is_op_at.ensures in
+    let here = ap (λ (a : List Lines). is_op_place (slice_get (places_of (lines_of (reverse a))) c.args.count)) (sym c.deref.ensures.value) ∙ sym c.is_op_at.ensures in
     let none : length c.args.new.now ≡ 0 = eqb-true (length c.args.new.now) 0 (sym c.is_empty.ensures ∙ c.if-not-is_empty.false) in
     last_look (places_of (behind ++ ahead)) (labels_from 0 (behind ++ ahead)) (length c.args.self.now.passed.items) (length (places_of behind)) c.args.count c.args.new.now c.is_op_at.result c.is_labelled.result none c.requires.is.passed
     (place_ahead behind ahead (length c.args.self.now.passed.items) c.args.count c.requires.is.passed ∙ here) c.if-is_op_at.false c.is_labelled.ensures

@@ -1,7 +1,7 @@
 use Rattle.std.proofs.Common.{◌≡◌, ◌∙◌, ◌+◌, List, length, length-append, ap, sym, subst, arith}
 use Rattle.thumb_model.specs.Listing.{Line, Place, code_of, places_of}
 use Rattle.liveness.specs.declared.growing.Source.{Source}
-use Rattle.line_cursor.specs.Pieces.{lines_of}
+use Rattle.line_cursor.specs.Lines.{lines_of}
 use Rattle.line_cursor.specs.declared.cursor.Cursor.{Cursor}
 use Rattle.line_cursor.specs.Cursors.{lines_ahead, lines_at, lines_behind, IsCursor}
 use Rattle.line_cursor.specs.Sources.{is_point, AreJumps}

@@ -1,7 +1,7 @@
 use Rattle.std.proofs.Common.{◌≡◌, ◌+◌, ◌≤◌, List, length, length-append, reverse, ap, arith}
 use Rattle.std.proofs.lemmas.List.{length-take}
 use Rattle.line_cursor.specs.declared.cursor.Spot.{Spot}
-use Rattle.line_cursor.specs.Pieces.{lines_of}
+use Rattle.line_cursor.specs.Lines.{lines_of}
 use Rattle.line_cursor.proofs.Edits.{replaced_count}
 use Rattle.line_cursor.proofs.Spots.{spots_replaced}
 use Rattle.line_cursor.proofs.cursor.Cursor.replace.Goals as goal
