@@ -5,10 +5,10 @@ ghost use Rattle.thumb_model.specs.Laid.{last_is_call, return_address};
 ghost use Rattle.listing_parser.specs.Views.{line_view, place_view, statement_view};
 ghost use Rattle.listing_parser.specs.TableWords.{defined_in, set_names};
 ghost use Rattle.label_layout.specs.Addresses.{AreAddresses};
-ghost use Rattle.thumb_machine.specs.Laid.{IsLaid, nowhere, place_name, with_name};
+ghost use Rattle.thumb_machine.specs.Laid.{IsLaid, nowhere, place_name};
 ghost use Rattle.thumb_machine.specs.Naming.{naming_of};
 ghost use Rattle.thumb_machine.specs.Returns.{AreReturns, is_call_place};
-ghost use Rattle.thumb_machine.specs.Words.{AreFixed, AreOwn, fixed_word as fixed_word_of};
+ghost use Rattle.thumb_machine.specs.Words.{AreFixed, AreOwn, with_name, fixed_word as fixed_word_of};
 
 use crate::naming::Naming;
 use indexmap::IndexMap;
