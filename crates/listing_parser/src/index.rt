@@ -170,16 +170,16 @@ fn addresses(alloc: Global, lines: &[Line]) -> Result<IndexMap<Vec<u8>, u32>, Me
 }
 
 impl Index {
-    ghost use Rattle.std.specs.Prelude.{◌≡◌, ◌<◌, ◌^◌, [], None, map, length, IfOk};
+    ghost use Rattle.std.specs.Prelude.{◌<◌, ◌^◌, map, length, IfOk};
     ghost use Rattle.thumb_model.specs.Listing.{places_of};
     ghost use Rattle.listing_parser.specs.Views.{line_view};
-    ghost use Rattle.listing_parser.specs.TableWords.{first_twice};
+    ghost use Rattle.listing_parser.specs.TableWords.{DefineOnce};
     ghost use Rattle.listing_parser.specs.Tables.{IsIndex};
 
     /// The tables of lines that define no name twice.
     pub fn of(alloc: Global, lines: &[Line]) -> Result<Index, Memory>
         requires few { length (places_of (map line_view lines.now)) < 2 ^ 32 }
-        requires once { first_twice 1 [] (map line_view lines.now) ≡ None }
+        requires once { DefineOnce (map line_view lines.now) }
         ensures { IfOk result (λ i. IsIndex (map line_view lines.now) i) }
     {
         let (spots, passed) = places(alloc, lines)?;

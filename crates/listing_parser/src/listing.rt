@@ -57,7 +57,7 @@ fn place_in(line: &Line, item: usize) -> Option<Place<'_>>
 }
 
 impl Listing {
-    ghost use Rattle.std.specs.Prelude.{◌≡◌, ◌≤◌, ◌<◌, ◌+◌, ◌^◌, ℕ, true, [], None, IfOk, map, option_map, slice_get, length, take};
+    ghost use Rattle.std.specs.Prelude.{◌≡◌, ◌≤◌, ◌<◌, ◌+◌, ◌^◌, ℕ, true, IfOk, map, option_map, slice_get, length, take};
     ghost use Rattle.thumb_model.specs.Listing.{code_of, place_of, places_of, labels_from, is_op_place};
     ghost use Rattle.thumb_model.specs.Layout.{set_address};
     ghost use Rattle.thumb_model.specs.Machine.{label_place};
@@ -65,13 +65,13 @@ impl Listing {
     ghost use Rattle.std.specs.List.{list_all};
     ghost use Rattle.listing_parser.specs.Replacing.{names_no_label, own_line};
     ghost use Rattle.listing_parser.specs.Views.{line_view, place_view};
-    ghost use Rattle.listing_parser.specs.TableWords.{first_twice, label_line, words_from};
+    ghost use Rattle.listing_parser.specs.TableWords.{label_line, words_from, DefineOnce};
     ghost use Rattle.listing_parser.specs.Targets.{from_label};
 
     /// The listing of lines that define no name twice and have fewer than 2^32 places.
     pub(crate) fn of(alloc: Global, lines: Vec<Line>) -> Result<Listing, Memory>
         requires few { length (places_of (map line_view lines.items)) < 2 ^ 32 }
-        requires once { first_twice 1 [] (map line_view lines.items) ≡ None }
+        requires once { DefineOnce (map line_view lines.items) }
         ensures { IfOk result (λ l. l ≡ map line_view lines.items) }
     {
         let index = Index::of(alloc, &lines)?;
@@ -184,7 +184,7 @@ impl Listing {
 
     /// The listing of other lines, made of this one's: they define no name twice if these don't, and have no more places.
     pub fn remade(&self, alloc: Global, lines: Vec<Line>) -> Result<Listing, Memory>
-        requires once { first_twice 1 [] self.now ≡ None → first_twice 1 [] (map line_view lines.items) ≡ None }
+        requires once { DefineOnce self.now → DefineOnce (map line_view lines.items) }
         requires few { length (places_of (map line_view lines.items)) ≤ length (places_of self.now) }
         ensures { IfOk result (λ l. l ≡ map line_view lines.items) }
     {
