@@ -25,7 +25,8 @@ use Rattle.thumb_model.specs.Listing.{Name, Nothing, Line}
 use Rattle.thumb_model.specs.Rewritten.{new_line}
 use Rattle.listing_parser.specs.Grammar.{Read, read_lines}
 use Rattle.listing_parser.specs.Bare.{shown_of}
-use Rattle.listing_parser.specs.TableWords.{first_twice}
+use Rattle.listing_parser.proofs.FirstTwice.{first_twice}
+use Rattle.listing_parser.proofs.TwiceLemmas.{none_once}
 use Rattle.listing_parser.specs.Targets.{functions}
 use Rattle.listing_parser.specs.Parsing.{IsListing, text_of_lines}
 use Rattle.listing_parser.specs.Replacing.{names_no_label, own_line}
@@ -304,7 +305,7 @@ listed is free few =
     record {
       reads = reads;
       are = record { read = ap (λ (ts : List (List ℕ)). read_lines (placed_from 1 0 ts)) (joined_split lines ended) ∙ all_read lines reads 1 0 read size; same = all_same lines reads read };
-      once = own_once 2 (codes "demo" ∷ []) is;
+      once = none_once lines (own_once 2 (codes "demo" ∷ []) is);
       aimed = all_aimed lines (functions false reads) 1 lines (refl, own_mute is);
     }
 

@@ -16,14 +16,14 @@ abbrev pub place_size : Place → ℕ
 place_size (Op i mention) = instr_size i
 place_size (Word v) = 4
 
-count_append : (xs ys : List Place) → call_count (xs ++ ys) ≡ call_count xs + call_count ys
+pub count_append : (xs ys : List Place) → call_count (xs ++ ys) ≡ call_count xs + call_count ys
 count_append [] ys = omega arith
 count_append (x ∷ xs) ys = elim (cases_Bool (is_call x)) [
   | inl h ↦ rw h (omega (arith, count_append xs ys))
   | inr h ↦ rw h (count_append xs ys)
 ]
 
-no_words : (vs : List Value) → call_count (map Word vs) ≡ 0
+pub no_words : (vs : List Value) → call_count (map Word vs) ≡ 0
 no_words [] = refl
 no_words (v ∷ vs) = no_words vs
 

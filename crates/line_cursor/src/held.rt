@@ -2,7 +2,7 @@
 ghost use Rattle.std.specs.Prelude.{◌≡◌, ◌++◌, length, map, None, OnOk};
 ghost use Rattle.listing_parser.specs.Views.{statement_view};
 ghost use Rattle.listing_parser.specs.Replacing.{own_line};
-ghost use Rattle.thumb_model.specs.Listing.{places_in, places_of};
+ghost use Rattle.thumb_model.specs.Listing.{places_of};
 ghost use Rattle.thumb_model.specs.Rewritten.{new_line};
 ghost use Rattle.window_runs.specs.Rows.{letter_of};
 ghost use Rattle.line_cursor.specs.Lines.{begins_labelled, begins_op, labels_left, lines_in, lines_of};
@@ -25,22 +25,11 @@ pub enum Look {
     End,
 }
 
-/// How many places a statement has.
-fn places_in(statement: &Statement) -> usize
-    ensures { result ≡ length (places_in (statement_view statement.now)) }
-{
-    match statement {
-        Statement::Runs { .. } => 1,
-        Statement::Words(values) => values.len(),
-        _ => 0,
-    }
-}
-
 /// How many places a line has.
 pub fn places_of(line: &Line) -> usize
     ensures { result ≡ length (places_of (lines_in line.now)) }
 {
-    places_in(&line.statement)
+    line.statement.places()
 }
 
 /// Whether a line has an instruction.

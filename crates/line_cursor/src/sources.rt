@@ -3,7 +3,7 @@ ghost use Rattle.std.specs.Prelude.{◌≡◌, ◌+◌, ◌<◌, ◌≤◌, ◌^
 ghost use Rattle.std.specs.List.{list_any};
 ghost use Rattle.std.specs.Str.{bytes_eq};
 ghost use Rattle.thumb_model.specs.Layout.{is_among};
-ghost use Rattle.thumb_model.specs.Listing.{code_of, is_call_instr, places_in, places_of, Code, Name};
+ghost use Rattle.thumb_model.specs.Listing.{code_of, places_in, places_of, Code, Name};
 ghost use Rattle.thumb_model.specs.Machine.{aim_of};
 ghost use Rattle.thumb_model.specs.Flow.{ways_of, ways_on};
 ghost use Rattle.listing_parser.specs.Views.{mention_view, statement_view};
@@ -13,7 +13,7 @@ ghost use Rattle.line_cursor.specs.Sources.{calls_first, is_at, is_marked, is_ma
 
 use crate::cursor::Cursor;
 use crate::pieces::{Piece, is_labelled, is_op, places_of};
-use listing_parser::{Memory, Mention, Statement};
+use listing_parser::{Memory, Mention, Statement, is_call};
 use liveness::Source;
 use std::alloc::Global;
 use thumb_instr::items::LR;
@@ -108,13 +108,6 @@ fn op_first(piece: Piece<'_>, behind: bool) -> bool
     } else {
         behind
     }
-}
-
-/// Whether an instruction is a call.
-fn is_call(instr: &Instr) -> bool
-    ensures { result ≡ is_call_instr instr.now }
-{
-    matches!(instr, Instr::Blx { .. } | Instr::Call { .. })
 }
 
 /// Whether a statement is a call.

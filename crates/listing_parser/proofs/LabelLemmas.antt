@@ -8,7 +8,8 @@ use Rattle.std.proofs.lemmas.Slice.Eq.{bytes_eq-Decides}
 use Rattle.thumb_model.specs.Listing.{Name, Line, Place, Label, places_in, places_of, labels_at, labels_from, is_op_place, place_among, has_label}
 use Rattle.thumb_model.specs.Layout.{is_among}
 use Rattle.thumb_model.specs.Machine.{label_place}
-use Rattle.listing_parser.specs.TableWords.{label_line, set_names, defined_in, is_again, first_twice, passed_from}
+use Rattle.listing_parser.specs.TableWords.{label_line, set_names, defined_in, passed_from, is_again}
+use Rattle.listing_parser.proofs.FirstTwice.{first_twice}
 use Rattle.listing_parser.specs.declared.index.Passed.{Passed}
 use Rattle.listing_parser.specs.Targets.{from_label}
 use Rattle.listing_parser.proofs.SpotLemmas.{before_line}
@@ -79,7 +80,7 @@ among_append name (m ∷ ms) ns = elim (cases_Bool (bytes_eq name m)) [
 pub among_front : (name : Name) (ms ns : List Name) → is_among name ms ≡ true → is_among name (ms ++ ns) ≡ true
 among_front name ms ns e = among_append name ms ns ∙ rw e refl
 
-among_last : (name n : Name) (ms : List Name) → bytes_eq name n ≡ true → is_among name (ms ++ n ∷ []) ≡ true
+pub among_last : (name n : Name) (ms : List Name) → bytes_eq name n ≡ true → is_among name (ms ++ n ∷ []) ≡ true
 among_last name n ms e = among_append name ms (n ∷ []) ∙ rw e (by (is_among name ms)) where
   by : (b : Bool) → (b || true) ≡ true
   by true = refl

@@ -2,6 +2,7 @@ pub mod FrontLemmas
 pub mod ValueLemmas
 pub mod ReadingLemmas
 pub mod MapLemmas
+pub mod FirstTwice
 pub mod TwiceLemmas
 pub mod PrintLemmas
 pub mod FewLemmas

@@ -13,7 +13,9 @@ use Rattle.thumb_model.specs.Layout.{is_among}
 use Rattle.thumb_model.specs.Machine.{Naming, Fits, is_in_range, is_odd, label_place, points, points_of, returns_from}
 use Rattle.listing_parser.specs.Parsing.{IsListing}
 use Rattle.listing_parser.specs.Namings.{if_op}
-use Rattle.listing_parser.specs.TableWords.{defined_in, first_twice, is_again, set_names}
+use Rattle.listing_parser.specs.TableWords.{defined_in, set_names, is_again}
+use Rattle.listing_parser.proofs.FirstTwice.{first_twice}
+use Rattle.listing_parser.proofs.TwiceLemmas.{once_none}
 use Rattle.listing_parser.proofs.FewLemmas.{all_few, counts_bare}
 use Rattle.listing_parser.proofs.LabelLemmas.{again_front, among_append, code_place, label_at, not_again, one_label, or_false}
 use Rattle.listing_parser.proofs.Literals.{first_label, later_label}
@@ -86,7 +88,7 @@ op_same places None = refl
 op_same places (Some p) = refl
 
 pub code_labels_are_labels : (bytes : List ℕ) (lines : List Line) → IsListing bytes lines → (name : Name) → place_of (code_of lines) name ≡ if_op (places_of lines) (label_place name (labels_from 0 lines))
-code_labels_are_labels bytes lines is name = one_label name (places_of lines) 1 0 [] lines is.once ∙ op_same (places_of lines) (label_place name (labels_from 0 lines))
+code_labels_are_labels bytes lines is name = one_label name (places_of lines) 1 0 [] lines (once_none lines is.once) ∙ op_same (places_of lines) (label_place name (labels_from 0 lines))
 
 -- ---- the naming ----
 
@@ -196,7 +198,7 @@ module _ (bytes : List ℕ) (lines : List Line) (is : IsListing bytes lines) whe
   point : (k w p : ℕ) → slice_get (points (by_place (code_of lines)) (code_of lines)) k ≡ Some (w, p) → IsWord (length (places_of lines)) w p
   unfolding AreWorded AreReturns
   point k w p e = elim (either_part (points_of (by_place (code_of lines)) (places_of lines) (labels_from 0 lines)) _ k (w, p) e) [
-    | inl a ↦ labels_worded (by_place (code_of lines)) (places_of lines) (labels_from 0 lines) (λ j l t. ap word_at (own 1 0 [] lines is.once j l t)) k w p a
+    | inl a ↦ labels_worded (by_place (code_of lines)) (places_of lines) (labels_from 0 lines) (λ j l t. ap word_at (own 1 0 [] lines (once_none lines is.once) j l t)) k w p a
     | inr a ↦ returns_worded (by_place (code_of lines)) (length (places_of lines)) 0 0 (places_of lines) (omega arith) (λ i j t. ap (λ (n : ℕ). 2 * get_or (return_places 0 (places_of lines)) n 0 + 1) (let same : j ≡ i = omega arith in same)) a.0 w p a.1
   ]
 

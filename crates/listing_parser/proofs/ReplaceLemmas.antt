@@ -11,8 +11,10 @@ use Rattle.thumb_model.specs.Rewritten.{is_op, without, labels_kept, new_line, r
 use Rattle.thumb_model.proofs.Lists.{get_drop, length_map, length_drop}
 use Rattle.thumb_model.proofs.Cuts.{without_none}
 use Rattle.thumb_model.proofs.LinesReplaced.{AreOps, places_replaced}
-use Rattle.listing_parser.specs.TableWords.{set_names, defined_in, is_again, first_twice}
+use Rattle.listing_parser.specs.TableWords.{set_names, defined_in, DefineOnce, is_again}
+use Rattle.listing_parser.proofs.FirstTwice.{first_twice}
 use Rattle.listing_parser.proofs.LabelLemmas.{or_false, or_true, among_append}
+use Rattle.listing_parser.proofs.TwiceLemmas.{once_none, none_once}
 
 -- ---- no name is defined again ----
 
@@ -128,8 +130,8 @@ once_replaced write p count is k j known other (l ∷ ls) w e =
           (once_replaced write (p - length (places_in l.statement)) count is (k + 1) (j + 1) (known ++ defined_in l) (other ++ defined_in l) ls (within_same other known (defined_in l) w) parts.1))
     ]
 
-pub still_once : (write : Instr → List ℕ) (p count : ℕ) (is : List Instr) (ls : List Line) → first_twice 1 [] ls ≡ None → first_twice 1 [] (replaced_lines write p count is ls) ≡ None
-still_once write p count is ls e = once_replaced write p count is 1 1 [] [] ls (within_self []) e
+pub still_once : (write : Instr → List ℕ) (p count : ℕ) (is : List Instr) (ls : List Line) → DefineOnce ls → DefineOnce (replaced_lines write p count is ls)
+still_once write p count is ls once = none_once (replaced_lines write p count is ls) (once_replaced write p count is 1 1 [] [] ls (within_self []) (once_none ls once))
 
 -- ---- no more places ----
 

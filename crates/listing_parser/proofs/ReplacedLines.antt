@@ -14,7 +14,9 @@ use Rattle.thumb_model.specs.Layout.{is_among}
 use Rattle.thumb_model.specs.Rewritten.{is_op, without, labels_kept, new_line, replaced_lines}
 use Rattle.thumb_model.proofs.LinesReplaced.{AreOps}
 use Rattle.thumb_model.proofs.Lists.{get_drop}
-use Rattle.listing_parser.specs.TableWords.{defined_in, set_names, first_twice}
+use Rattle.listing_parser.specs.TableWords.{defined_in, set_names, DefineOnce}
+use Rattle.listing_parser.proofs.TwiceLemmas.{once_none}
+use Rattle.listing_parser.proofs.FirstTwice.{first_twice}
 use Rattle.listing_parser.specs.Grammar.{Mark, Unmarked, Bare, Read, read_lines}
 use Rattle.listing_parser.specs.Bare.{shown_of}
 use Rattle.listing_parser.specs.Targets.{marked_by_name, is_next, marked_first, still_waits, functions, first_target}
@@ -279,9 +281,11 @@ listed_again bytes lines place n is new h e ops plain kept few =
     let window : IsWindow place n (places_of lines) = are_ops (suc n) (drop place (places_of lines)) (λ k less. ap is_op_place (get_drop place (places_of lines) k (place + k) refl) ∙ ops k less) in
     let replaced : List Line = replaced_lines own_line place (suc n) is lines in
     let kept' : KeepsCode lines replaced = subst (KeepsCode lines) e kept in
-    let again : first_twice 1 [] replaced ≡ None = still_once own_line place (suc n) is lines h.once in
+    let once = once_none lines h.once in
+    let still : DefineOnce replaced = still_once own_line place (suc n) is lines h.once in
+    let again = once_none replaced still in
     let old = old_read (lines_of bytes) 1 0 h.reads lines (map-whole bytes 1 0) h.are.read h.are.same in
-    let gone = gone_from own_line n place is 1 [] lines h.once window (λ name o. sym (code_opens name replaced again) ∙ kept' name (code_opens name lines h.once ∙ o)) in
+    let gone = gone_from own_line n place is 1 [] lines once window (λ name o. sym (code_opens name replaced again) ∙ kept' name (code_opens name lines once ∙ o)) in
     let read = new_lines n place is lines h.reads plain old.old gone (subst AreEnded (sym old.texts) (text_ended bytes)) in
     let split = joined_split replaced read.ended in
     let size : 1 + length replaced ≤ 65537 = let k = ap (λ (ls : List Line). length ls) e in omega arith in
@@ -289,10 +293,10 @@ listed_again bytes lines place n is new h e ops plain kept few =
     record {
       reads = read.reads;
       are = record { read = ap (λ (ts : List (List ℕ)). read_lines (placed_from 1 0 ts)) split ∙ all_read replaced read.reads 1 0 read.are size; same = all_same replaced read.reads read.are };
-      once = again;
+      once = still;
       aimed =
           ap (λ (marked : List Name). first_target replaced marked 1 replaced) (read.marked false)
-          ∙ still_aimed own_line lines replaced (functions false h.reads) n place 1 1 is lines (keeps own_line n place is lines h.once again window kept') h.aimed;
+          ∙ still_aimed own_line lines replaced (functions false h.reads) n place 1 1 is lines (keeps own_line n place is lines once again window kept') h.aimed;
     } in
     subst (λ (ls : List Line). IsListing (text_of_lines ls) ls) (sym e) is_listing
 

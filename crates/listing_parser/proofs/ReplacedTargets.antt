@@ -9,7 +9,7 @@ use Rattle.thumb_model.specs.Layout.{is_among}
 use Rattle.thumb_model.specs.Machine.{label_place}
 use Rattle.thumb_model.specs.Rewritten.{is_op, without, labels_kept, new_line, replaced_lines}
 use Rattle.thumb_model.proofs.LinesReplaced.{AreOps, places_replaced}
-use Rattle.listing_parser.specs.TableWords.{first_twice}
+use Rattle.listing_parser.proofs.FirstTwice.{first_twice}
 use Rattle.listing_parser.specs.Targets.{from_label, onward, reaches, is_literal, is_code_label, is_label, is_aimed, is_aimed_at, is_word_of, are_words_of, is_on_target, first_target}
 use Rattle.listing_parser.proofs.LabelLemmas.{label_at, label_among, code_place, one_label}
 

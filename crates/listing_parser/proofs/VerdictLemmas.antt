@@ -1,9 +1,10 @@
 -- A text has one verdict.
-use Rattle.std.proofs.Common.{◌≡◌, ◌∙◌, ℕ, List, [], map, false, refl, sym, ap, Some, None, Result, Ok, Err}
+use Rattle.std.proofs.Common.{◌≡◌, ◌∙◌, ℕ, List, map, false, refl, sym, subst, ap, Some, None, Result, Ok, Err}
 use Rattle.ascii_scan.specs.Lines.{lines_in}
 use Rattle.thumb_model.specs.Listing.{Line}
 use Rattle.listing_parser.specs.declared.errors.Kind.{Kind}
-use Rattle.listing_parser.specs.TableWords.{first_twice}
+use Rattle.listing_parser.specs.TableWords.{DefineOnce, IsFirstAgain}
+use Rattle.listing_parser.proofs.TwiceLemmas.{once_none, first_some}
 use Rattle.listing_parser.specs.Grammar.{Read, read_lines}
 use Rattle.listing_parser.specs.Targets.{functions, first_target}
 use Rattle.listing_parser.specs.Parsing.{AreLines, AtLine, AtTwice, AtTarget, NotBoth, RefusedOnce, OneVerdict}
@@ -18,8 +19,13 @@ all_read : (bytes : List ℕ) (rs : List Read) (ls : List Line) (n : ℕ) (k : K
 all_read bytes rs ls n k a e = let bad : Ok rs ≡ Err (n, k) = sym a.read ∙ e in absurd (cc)
 
 -- the first line that defines a name again, and the first whose name isn't what it needs
-same_twice : (bytes : List ℕ) (rs ss : List Read) (ls ms : List Line) → AreLines bytes rs ls → AreLines bytes ss ms → first_twice 1 [] ls ≡ first_twice 1 [] ms
-same_twice bytes rs ss ls ms a b = ap (first_twice 1 []) (same_text bytes rs ss ls ms a b)
+first_once : (bytes : List ℕ) (rs ss : List Read) (ls ms : List Line) (n : ℕ) → AreLines bytes rs ls → AreLines bytes ss ms → DefineOnce ls → IsFirstAgain ms n → ⊥
+first_once bytes rs ss ls ms n a b once f = let bad : None ≡ Some n = sym (once_none ms (subst DefineOnce (same_text bytes rs ss ls ms a b) once)) ∙ first_some ms n f in absurd (cc)
+
+one_first : (bytes : List ℕ) (rs ss : List Read) (ls ms : List Line) (n m : ℕ) → AreLines bytes rs ls → AreLines bytes ss ms → IsFirstAgain ls n → IsFirstAgain ms m → n ≡ m
+one_first bytes rs ss ls ms n m a b f g =
+    let both : Some n ≡ Some m = sym (first_some ms n (subst (λ (xs : List Line). IsFirstAgain xs n) (same_text bytes rs ss ls ms a b) f)) ∙ first_some ms m g in
+    cc
 
 same_target : (bytes : List ℕ) (rs ss : List Read) (ls ms : List Line) → AreLines bytes rs ls → AreLines bytes ss ms → first_target ls (functions false rs) 1 ls ≡ first_target ms (functions false ss) 1 ms
 same_target bytes rs ss ls ms a b =
@@ -28,7 +34,7 @@ same_target bytes rs ss ls ms a b =
 
 not_both : NotBoth
 not_both bytes lines n k is (AtLine m j e) = all_read bytes is.reads lines m j is.are e
-not_both bytes lines n k is (AtTwice m rs ls a e) = let bad : None ≡ Some m = sym is.once ∙ same_twice bytes is.reads rs lines ls is.are a ∙ e in absurd (cc)
+not_both bytes lines n k is (AtTwice m rs ls a e) = absurd (first_once bytes is.reads rs lines ls m is.are a is.once e)
 not_both bytes lines n k is (AtTarget m rs ls a once e) = let bad : None ≡ Some m = sym is.aimed ∙ same_target bytes is.reads rs lines ls is.are a ∙ e in absurd (cc)
 
 same_place : (n m : ℕ) (k j : Kind) → (let x : Result (List Read) (ℕ × Kind) = Err (n, k) in x) ≡ Err (m, j) → (n ≡ m) × (k ≡ j)
@@ -41,10 +47,10 @@ refused_once bytes n m k j (AtLine n' k' e) (AtLine m' j' f) = same_place n' m' 
 refused_once bytes n m k j (AtLine n' k' e) (AtTwice m' ss ms b f) = absurd (all_read bytes ss ms n' k' b e)
 refused_once bytes n m k j (AtLine n' k' e) (AtTarget m' ss ms b once f) = absurd (all_read bytes ss ms n' k' b e)
 refused_once bytes n m k j (AtTwice n' rs ls a e) (AtLine m' j' f) = absurd (all_read bytes rs ls m' j' a f)
-refused_once bytes n m k j (AtTwice n' rs ls a e) (AtTwice m' ss ms b f) = let both : Some n' ≡ Some m' = sym e ∙ same_twice bytes rs ss ls ms a b ∙ f in (cc, refl)
-refused_once bytes n m k j (AtTwice n' rs ls a e) (AtTarget m' ss ms b once f) = let bad : Some n' ≡ None = sym e ∙ same_twice bytes rs ss ls ms a b ∙ once in absurd (cc)
+refused_once bytes n m k j (AtTwice n' rs ls a e) (AtTwice m' ss ms b f) = (one_first bytes rs ss ls ms n' m' a b e f, refl)
+refused_once bytes n m k j (AtTwice n' rs ls a e) (AtTarget m' ss ms b once f) = absurd (first_once bytes ss rs ms ls n' b a once e)
 refused_once bytes n m k j (AtTarget n' rs ls a once e) (AtLine m' j' f) = absurd (all_read bytes rs ls m' j' a f)
-refused_once bytes n m k j (AtTarget n' rs ls a once e) (AtTwice m' ss ms b f) = let bad : None ≡ Some m' = sym once ∙ same_twice bytes rs ss ls ms a b ∙ f in absurd (cc)
+refused_once bytes n m k j (AtTarget n' rs ls a once e) (AtTwice m' ss ms b f) = absurd (first_once bytes rs ss ls ms m' a b once f)
 refused_once bytes n m k j (AtTarget n' rs ls a once e) (AtTarget m' ss ms b other f) = let both : Some n' ≡ Some m' = sym e ∙ same_target bytes rs ss ls ms a b ∙ f in (cc, refl)
 
 pub one_verdict : OneVerdict

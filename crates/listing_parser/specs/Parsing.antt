@@ -6,7 +6,7 @@ use Rattle.listing_parser.specs.declared.errors.Kind.{Kind}
 use Rattle.listing_parser.specs.declared.errors.Kind.TheVariants as kind
 use Rattle.listing_parser.specs.declared.errors.ListingError.{ListingError}
 use Rattle.listing_parser.specs.declared.errors.ListingError.TheVariants as errors
-use Rattle.listing_parser.specs.TableWords.{first_twice}
+use Rattle.listing_parser.specs.TableWords.{DefineOnce, IsFirstAgain}
 use Rattle.listing_parser.specs.Grammar.{Read, read_lines}
 use Rattle.listing_parser.specs.Bare.{bare}
 use Rattle.listing_parser.specs.Targets.{functions, first_target}
@@ -20,15 +20,15 @@ pub record AreLines (bytes : List ℕ) (reads : List Read) (lines : List Line) :
 pub record IsListing (bytes : List ℕ) (lines : List Line) : Type 0 where
   pub reads : List Read
   pub are : AreLines bytes reads lines
-  pub once : first_twice 1 [] lines ≡ None
+  pub once : DefineOnce lines
   pub aimed : first_target lines (functions false reads) 1 lines ≡ None
 
 -- the text is refused at line n: the first that is too many, too long or no line; where none is, the first that defines a name again; where none does, the first that mentions
 -- a name which isn't what it needs
 pub data IsRefused (bytes : List ℕ) : ℕ → Kind → Type 0 where
   AtLine : (n : ℕ) (k : Kind) → read_lines (lines_in bytes) ≡ Err (n, k) → IsRefused bytes n k
-  AtTwice : (n : ℕ) (reads : List Read) (lines : List Line) → AreLines bytes reads lines → first_twice 1 [] lines ≡ Some n → IsRefused bytes n kind.Twice
-  AtTarget : (n : ℕ) (reads : List Read) (lines : List Line) → AreLines bytes reads lines → first_twice 1 [] lines ≡ None
+  AtTwice : (n : ℕ) (reads : List Read) (lines : List Line) → AreLines bytes reads lines → IsFirstAgain lines n → IsRefused bytes n kind.Twice
+  AtTarget : (n : ℕ) (reads : List Read) (lines : List Line) → AreLines bytes reads lines → DefineOnce lines
       → first_target lines (functions false reads) 1 lines ≡ Some n → IsRefused bytes n kind.Target
 
 -- what comes of a text, unless memory runs out

@@ -1,5 +1,6 @@
 -- Where places stand, what stands before a line, and which names lines define.
-use Rattle.std.specs.Prelude.{ℕ, ◌+◌, List, [], ◌∷◌, ◌++◌, length, Bool, false, ◌||◌, Option, Some, None, if◌then◌else◌}
+use Rattle.std.specs.Prelude.{◌≡◌, ℕ, ◌+◌, List, [], ◌∷◌, ◌++◌, length, Bool, true, false, ◌||◌, Option, Some, None, if◌then◌else◌}
+use Rattle.std.specs.List.{flat_map}
 use Rattle.std.specs.Str.{bytes_eq}
 use Rattle.std.specs.declared.alloc.Global.{Global}
 use Rattle.std.specs.declared.vec.Vec.{Vec}
@@ -54,15 +55,33 @@ set_names (Sets name address) = name ∷ []
 abbrev pub defined_in : Line → List Name
 defined_in l = l.names ++ set_names l.statement
 
--- whether one of the names is known, or stands among them before itself
+-- one of the names is known, or stands twice among them
+pub data IsAgain (known names : List Name) : Type 0 where
+  Known : (name : Name) → is_among name names ≡ true → is_among name known ≡ true → IsAgain known names
+  Twice : (front : List Name) (name : Name) (back : List Name) → names ≡ front ++ name ∷ back → is_among name front ≡ true → IsAgain known names
+
+-- the same as a test: whether one of the names is known, or stands among them before itself
 abbrev pub is_again : List Name → List Name → Bool
 is_again known [] = false
 is_again known (n ∷ ns) = is_among n known || is_again (known ++ n ∷ []) ns
 
--- the first line, counted from n, that defines a name defined before
-abbrev pub first_twice : ℕ → List Name → List Line → Option ℕ
-first_twice n known [] = None
-first_twice n known (l ∷ ls) = if is_again known (defined_in l) then Some n else first_twice (n + 1) (known ++ defined_in l) ls
+-- behind these lines, the line defines a name again: one that a line before it defines, or one that it defines twice itself
+abbrev pub DefinesAgain : List Line → Line → Type 0
+DefinesAgain before l = IsAgain (flat_map defined_in before) (defined_in l)
+
+-- no line defines a name again
+abbrev pub DefineOnce : List Line → Type 0
+DefineOnce lines = (before : List Line) (l : Line) (after : List Line) → lines ≡ before ++ l ∷ after → DefinesAgain before l → ⊥
+
+-- line n, counted from 1, is the first that defines a name again
+pub record IsFirstAgain (lines : List Line) (n : ℕ) : Type 0 where
+  pub before : List Line
+  pub line : Line
+  pub after : List Line
+  pub cut : lines ≡ before ++ line ∷ after
+  pub number : n ≡ length before + 1
+  pub again : DefinesAgain before line
+  pub once : DefineOnce before
 
 abbrev pub is_key : Name → Vec ℕ Global → Bool
 is_key name key = bytes_eq name key.items

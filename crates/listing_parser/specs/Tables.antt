@@ -1,15 +1,15 @@
 -- What a listing keeps beside its lines, so that places and names are found without a search.
-use Rattle.std.specs.Prelude.{◌≡◌, ◌<◌, ◌^◌, List, [], length, None}
+use Rattle.std.specs.Prelude.{◌≡◌, ◌<◌, ◌^◌, List, length}
 use Rattle.std.specs.Map.{lookup}
 use Rattle.thumb_model.specs.Listing.{Name, Line, places_of}
 use Rattle.thumb_model.specs.Layout.{set_address}
 use Rattle.listing_parser.specs.declared.index.Index.{Index}
-use Rattle.listing_parser.specs.TableWords.{spots_from, passed_from, runs_from, label_line, first_twice, is_key}
+use Rattle.listing_parser.specs.TableWords.{spots_from, passed_from, runs_from, label_line, is_key, DefineOnce}
 
 -- the tables are those of the lines
 pub record IsIndex (lines : List Line) (index : Index) : Type 0 where
   pub few : length (places_of lines) < 2 ^ 32
-  pub once : first_twice 1 [] lines ≡ None
+  pub once : DefineOnce lines
   pub spots : index.spots.items ≡ spots_from 0 lines
   pub passed : index.passed.items ≡ passed_from 0 lines
   pub runs : index.runs.items ≡ runs_from lines

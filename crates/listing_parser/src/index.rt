@@ -44,22 +44,11 @@ pub struct Index {
     pub addresses: IndexMap<Vec<u8>, u32>,
 }
 
-/// How many places a statement has.
-pub fn places_in(statement: &Statement) -> usize
-    ensures { result ≡ length (places_in (statement_view statement.now)) }
-{
-    match statement {
-        Statement::Runs { .. } => 1,
-        Statement::Words(values) => values.len(),
-        _ => 0,
-    }
-}
-
 /// Adds where the places of a line stand.
 fn add_spots(spots: &mut Vec<Spot>, line: usize, statement: &Statement) -> Result<(), AllocError>
     ensures { OnOk result (spots.new.items ≡ spots.old.items ++ spots_at line 0 (places_in (statement_view statement.now))) }
 {
-    for item in 0..places_in(statement) {
+    for item in 0..statement.places() {
         spots.push(Spot { line, item })?;
     }
     Ok(())
@@ -76,7 +65,7 @@ fn places(alloc: Global, lines: &[Line]) -> Result<(Vec<Spot>, Vec<Passed>), All
     let mut places = 0;
     for (n, line) in lines.iter().enumerate() {
         passed.push(Passed { places })?;
-        places += places_in(&line.statement);
+        places += line.statement.places();
         add_spots(&mut spots, n, &line.statement)?;
     }
     Ok((spots, passed))
@@ -181,16 +170,16 @@ fn addresses(alloc: Global, lines: &[Line]) -> Result<IndexMap<Vec<u8>, u32>, Me
 }
 
 impl Index {
-    ghost use Rattle.std.specs.Prelude.{◌≡◌, ◌<◌, ◌^◌, [], None, map, length, IfOk};
+    ghost use Rattle.std.specs.Prelude.{◌<◌, ◌^◌, map, length, IfOk};
     ghost use Rattle.thumb_model.specs.Listing.{places_of};
     ghost use Rattle.listing_parser.specs.Views.{line_view};
-    ghost use Rattle.listing_parser.specs.TableWords.{first_twice};
+    ghost use Rattle.listing_parser.specs.TableWords.{DefineOnce};
     ghost use Rattle.listing_parser.specs.Tables.{IsIndex};
 
     /// The tables of lines that define no name twice.
     pub fn of(alloc: Global, lines: &[Line]) -> Result<Index, Memory>
         requires few { length (places_of (map line_view lines.now)) < 2 ^ 32 }
-        requires once { first_twice 1 [] (map line_view lines.now) ≡ None }
+        requires once { DefineOnce (map line_view lines.now) }
         ensures { IfOk result (λ i. IsIndex (map line_view lines.now) i) }
     {
         let (spots, passed) = places(alloc, lines)?;

@@ -1,4 +1,7 @@
 //! The lines of a listing.
+ghost use Rattle.std.specs.Prelude.{◌≡◌};
+ghost use Rattle.thumb_model.specs.Listing.{is_call_instr};
+
 use thumb_instr::Instr;
 
 /// A name with a number added to what it stands for, modulo 2^32.
@@ -43,6 +46,23 @@ pub enum Statement {
     },
 }
 
+impl Statement {
+    ghost use Rattle.std.specs.Prelude.{◌≡◌, length};
+    ghost use Rattle.thumb_model.specs.Listing.{places_in};
+    ghost use Rattle.listing_parser.specs.Views.{statement_view};
+
+    /// How many places it has.
+    pub fn places(&self) -> usize
+        ensures { result ≡ length (places_in (statement_view self.now)) }
+    {
+        match self {
+            Statement::Runs { .. } => 1,
+            Statement::Words(values) => values.len(),
+            _ => 0,
+        }
+    }
+}
+
 /// What a line says of functions.
 #[derive(Drop)]
 pub enum Mark {
@@ -77,4 +97,27 @@ pub enum Place<'a> {
     },
     /// A word of data.
     Word(&'a Value),
+}
+
+/// Whether an instruction is a call: BL or BLX.
+pub fn is_call(instr: &Instr) -> bool
+    ensures { result ≡ is_call_instr instr.now }
+{
+    matches!(instr, Instr::Blx { .. } | Instr::Call { .. })
+}
+
+impl Place<'_> {
+    ghost use Rattle.std.specs.Prelude.{◌≡◌};
+    ghost use Rattle.thumb_model.specs.Listing.{is_call};
+    ghost use Rattle.listing_parser.specs.Views.{place_view};
+
+    /// Whether a call stands there.
+    pub fn is_call(self) -> bool
+        ensures { result ≡ is_call (place_view self.entry) }
+    {
+        match self {
+            Place::Op { instr, .. } => is_call(&instr),
+            Place::Word(_) => false,
+        }
+    }
 }

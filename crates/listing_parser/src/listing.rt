@@ -57,21 +57,21 @@ fn place_in(line: &Line, item: usize) -> Option<Place<'_>>
 }
 
 impl Listing {
-    ghost use Rattle.std.specs.Prelude.{◌≡◌, ◌≤◌, ◌<◌, ◌+◌, ◌^◌, ℕ, true, [], None, IfOk, map, option_map, slice_get, length, take};
-    ghost use Rattle.thumb_model.specs.Listing.{code_of, place_of, places_of, labels_from, is_op_place};
+    ghost use Rattle.std.specs.Prelude.{◌≡◌, ◌≤◌, ◌<◌, ◌+◌, ◌^◌, ◌⊎◌, ℕ, true, Some, IfOk, map, option_map, slice_get, length, take};
+    ghost use Rattle.thumb_model.specs.Listing.{code_of, place_of, places_of, labels_from, is_op_place, Label};
     ghost use Rattle.thumb_model.specs.Layout.{set_address};
     ghost use Rattle.thumb_model.specs.Machine.{label_place};
-    ghost use Rattle.thumb_model.specs.Rewritten.{replaced_lines};
+    ghost use Rattle.thumb_model.specs.Rewritten.{are_joined_from, replaced_lines};
     ghost use Rattle.std.specs.List.{list_all};
     ghost use Rattle.listing_parser.specs.Replacing.{names_no_label, own_line};
     ghost use Rattle.listing_parser.specs.Views.{line_view, place_view};
-    ghost use Rattle.listing_parser.specs.TableWords.{first_twice, label_line, words_from};
+    ghost use Rattle.listing_parser.specs.TableWords.{label_line, words_from, DefineOnce};
     ghost use Rattle.listing_parser.specs.Targets.{from_label};
 
     /// The listing of lines that define no name twice and have fewer than 2^32 places.
     pub fn of(alloc: Global, lines: Vec<Line>) -> Result<Listing, Memory>
         requires few { length (places_of (map line_view lines.items)) < 2 ^ 32 }
-        requires once { first_twice 1 [] (map line_view lines.items) ≡ None }
+        requires once { DefineOnce (map line_view lines.items) }
         ensures { IfOk result (λ l. l ≡ map line_view lines.items) }
     {
         let index = Index::of(alloc, &lines)?;
@@ -89,7 +89,7 @@ impl Listing {
     pub fn into_lines(self) -> Vec<Line>
         ensures lines { map line_view result.items ≡ self }
         ensures few { length (places_of self) < 2 ^ 32 }
-        ensures once { first_twice 1 [] self ≡ None }
+        ensures once { DefineOnce self }
     {
         self.lines
     }
@@ -171,9 +171,9 @@ impl Listing {
         self.index.addresses.get(name).copied()
     }
 
-    /// The listing with these instructions in place of `count` from a place on. The line of the first becomes its bytes up to and with its last
-    /// label's colon, where it has one, then a line for each new instruction: a tab, its canonical text and a newline. The lines of the other
-    /// instructions vanish, with their comments; all other lines stay byte for byte.
+    /// The listing with these instructions in place of `count` from a place on, between which neither a label nor an alignment line stands. The line
+    /// of the first becomes its bytes up to and with its last label's colon, where it has one, then a line for each new instruction: a tab, its
+    /// canonical text and a newline. The lines of the other instructions vanish, with their comments; all other lines stay byte for byte.
     pub fn replaced(
         &self,
         alloc: Global,
@@ -183,6 +183,8 @@ impl Listing {
     ) -> Result<Listing, Memory>
         requires some { 1 ≤ count }
         requires window { (k : ℕ) → k < count → is_op_place (slice_get (places_of self.now) (place + k)) ≡ true }
+        requires unlabelled { (k : ℕ) (l : Label) → slice_get (labels_from 0 self.now) k ≡ Some l → (l.place ≤ place) ⊎ (place + count ≤ l.place) }
+        requires joined { are_joined_from place count self.now ≡ true }
         requires few { length instrs.now ≤ count }
         requires plain { list_all names_no_label instrs.now ≡ true }
         ensures { IfOk result (λ l. l ≡ replaced_lines own_line place count instrs.now self.now) }

@@ -6,7 +6,6 @@ ghost use Rattle.listing_parser.specs.ToldView.{mark_view};
 ghost use Rattle.listing_parser.specs.Replacing.{own_line};
 
 use crate::errors::Memory;
-use crate::index::places_in;
 use crate::line::{Line, Mark, Mention, Statement, Value};
 use std::alloc::{AllocError, Global};
 use thumb_instr::Instr;
@@ -274,7 +273,7 @@ pub fn replaced_lines(
             add_without(alloc, &mut out, after, count - 1)?;
             return Ok(out);
         }
-        passing = passing.saturating_sub(places_in(&line.statement));
+        passing = passing.saturating_sub(line.statement.places());
         let line = copy_line(alloc, line)?;
         out.push(line)?;
     }

@@ -1,8 +1,8 @@
 //! Names that are defined twice.
-ghost use Rattle.std.specs.Prelude.{◌≡◌, ◌++◌, ◌∷◌, [], true, false, map, IfOk};
+ghost use Rattle.std.specs.Prelude.{◌≡◌, ◌++◌, ◌∷◌, [], true, false, map, IfOk, MatchOption};
 ghost use Rattle.listing_parser.specs.Views.{line_view, statement_view};
 ghost use Rattle.thumb_model.specs.Layout.{is_among};
-ghost use Rattle.listing_parser.specs.TableWords.{defined_in, first_twice, is_again, set_names};
+ghost use Rattle.listing_parser.specs.TableWords.{defined_in, set_names, DefineOnce, IsFirstAgain, is_again};
 
 use crate::errors::Memory;
 use crate::line::{Line, Statement};
@@ -60,9 +60,9 @@ fn add_line(alloc: Global, known: &mut IndexSet<Vec<u8>>, line: &Line) -> Result
     Ok(again)
 }
 
-/// The first line, by its number from 1, that defines a name defined before.
+/// The first line, by its number from 1, that defines a name again.
 pub fn first_twice(alloc: Global, lines: &[Line]) -> Result<Option<u64>, Memory>
-    ensures { IfOk result (λ o. o ≡ first_twice 1 [] (map line_view lines.now)) }
+    ensures { IfOk result (λ o. MatchOption o (DefineOnce (map line_view lines.now)) (λ n. IsFirstAgain (map line_view lines.now) n)) }
 {
     let mut known = IndexSet::new(alloc);
     for (n, line) in lines.iter().enumerate() {

@@ -5,6 +5,8 @@ use listing_parser::{Line, Listing, ListingError, Memory, Place, Statement, Valu
 use std::alloc::Global;
 use std::test::Fail;
 use thumb_instr::{Extension, Instr, Low};
+use window_runs::rows::rows;
+use window_runs::runs::run;
 
 /// The seventeen lines of one function as gcc writes it, with a literal behind it.
 fn function() -> &'static [u8] {
@@ -276,7 +278,7 @@ fn addresses_are_found(rt: HostRuntime) -> Result<(), Fail> {
     Ok(())
 }
 
-/// The listing with one instruction in place of two, where they stand at these places.
+/// The listing with one instruction in place of two, where a window of two stands from this place on.
 fn with_one(
     alloc: Global,
     listing: &Listing,
@@ -285,7 +287,9 @@ fn with_one(
 ) -> Result<Option<Listing>, Memory>
     requires { names_no_label instr ≡ true }
 {
-    if place < u32::MAX && listing.is_op(place) && listing.is_op(place + 1) {
+    let rows = rows(alloc, listing.lines())?;
+    let run = run(&rows, place as usize, 2);
+    if run.len() == 2 && place < u32::MAX && listing.is_op(place) && listing.is_op(place + 1) {
         let changed = listing.replaced(alloc, place, 2, &[instr])?;
         Ok(Some(changed))
     } else {
@@ -325,6 +329,27 @@ fn is_extended(alloc: Global, text: &[u8], place: u32, other: &[u8]) -> Result<b
 #[test]
 fn a_window_is_replaced(rt: HostRuntime) -> Result<(), Fail> {
     assert!(rt; is_extended(rt.alloc(), function(), 2, shorter_function())?);
+    Ok(())
+}
+
+#[test]
+fn no_window_is_replaced_across_a_label_or_an_alignment(rt: HostRuntime) -> Result<(), Fail> {
+    assert!(rt;
+        extended(
+            rt.alloc(),
+            b"lsls r0, r0, #24\nf: lsrs r0, r0, #24\nbx lr",
+            0
+        )?
+        .is_none()
+    );
+    assert!(rt;
+        extended(
+            rt.alloc(),
+            b"lsls r0, r0, #24\n.align 2\nlsrs r0, r0, #24\nbx lr",
+            0
+        )?
+        .is_none()
+    );
     Ok(())
 }
 
@@ -389,6 +414,6 @@ fn is_read_again(alloc: Global, text: &[u8], place: u32) -> Result<bool, Listing
 fn what_is_replaced_is_read_again(rt: HostRuntime) -> Result<(), Fail> {
     assert!(rt; is_read_again(rt.alloc(), function(), 2)?);
     assert!(rt; is_read_again(rt.alloc(), labelled(), 0)?);
-    assert!(rt; is_read_again(rt.alloc(), b"f: nop\n\tnop", 0)?);
+    assert!(rt; is_read_again(rt.alloc(), b"f: lsls r0, r0, #24\n\tlsrs r0, r0, #24", 0)?);
     Ok(())
 }

@@ -1,13 +1,12 @@
 //! The places of code points: those of code labels, and the places behind calls.
 ghost use Rattle.std.specs.Prelude.{◌≡◌, ℕ, ◌+◌, ◌<◌, ◌==◌, ◌&&◌, ◌||◌, length, map, slice_get, IfOk};
 ghost use Rattle.thumb_model.specs.Items.{one_of};
-ghost use Rattle.thumb_model.specs.Listing.{code_of, is_call, label_places, labels_from, places_in, places_of, return_places};
-ghost use Rattle.listing_parser.specs.Views.{line_view, place_view, statement_view};
+ghost use Rattle.thumb_model.specs.Listing.{code_of, label_places, labels_from, places_of, return_places};
+ghost use Rattle.listing_parser.specs.Views.{line_view};
 ghost use Rattle.liveness.specs.Points.{HasPoints, is_call_place, marked, some_name};
 
-use listing_parser::{Line, Listing, Place, Statement};
+use listing_parser::{Line, Listing};
 use std::alloc::{AllocError, Global};
-use thumb_instr::Instr;
 
 /// Which places are those of code points. The place behind the last one is among them.
 pub fn all_points(alloc: Global, listing: &Listing) -> Result<Vec<bool>, AllocError>
@@ -32,7 +31,7 @@ fn mark_labels(marks: &mut Vec<bool>, listing: &Listing, lines: &[Line])
     for line in lines {
         let is_point = is_labelled(line) & listing.is_op(place as u32);
         mark(marks, place, is_point);
-        place += places_in(&line.statement);
+        place += line.statement.places();
     }
 }
 
@@ -59,17 +58,6 @@ fn mark(marks: &mut Vec<bool>, place: usize, is_point: bool)
     }
 }
 
-/// How many places a statement has.
-fn places_in(statement: &Statement) -> usize
-    ensures { result ≡ length (places_in (statement_view statement.now)) }
-{
-    match statement {
-        Statement::Runs { .. } => 1,
-        Statement::Words(values) => values.len(),
-        _ => 0,
-    }
-}
-
 /// Whether a line has a label.
 fn is_labelled(line: &Line) -> bool
     ensures { result ≡ some_name (line_view line.now).names }
@@ -83,16 +71,6 @@ fn is_call_at(listing: &Listing, place: u32) -> bool
 {
     match listing.place(place) {
         None => false,
-        Some(found) => is_call(found),
-    }
-}
-
-/// Whether a place is that of a call.
-fn is_call(place: Place<'_>) -> bool
-    ensures { result ≡ is_call (place_view place.entry) }
-{
-    match place {
-        Place::Word(_) => false,
-        Place::Op { instr, .. } => matches!(instr, Instr::Blx { .. } | Instr::Call { .. }),
+        Some(found) => found.is_call(),
     }
 }

@@ -22,7 +22,9 @@ use Rattle.thumb_assembler.specs.Following.{IsAssembled, loaded}
 use Rattle.thumb_assembler.proofs.Places.{padding_even}
 use Rattle.thumb_assembler.proofs.Loose.{LandingLoose}
 use Rattle.thumb_assembler.proofs.Cuts.{next_end, next_places, next_cut, places_append, first_behind, address_behind, places_taken, label_cut, no_label, first_label, first_place}
-use Rattle.listing_parser.specs.TableWords.{first_twice}
+use Rattle.listing_parser.specs.TableWords.{DefineOnce}
+use Rattle.listing_parser.proofs.FirstTwice.{first_twice}
+use Rattle.listing_parser.proofs.TwiceLemmas.{once_none}
 use Rattle.thumb_assembler.proofs.Fetched.{fair_here, even_here, padding_here, fetched_here, out_of_image}
 
 module _ (base : ℕ) (set : Name → ℕ) (all : List Line) (bytes : List ℕ) (made : IsAssembled base all bytes) (given : IsSetBy all set) where
@@ -118,7 +120,7 @@ module _ (base : ℕ) (set : Name → ℕ) (all : List Line) (bytes : List ℕ) 
   ]
 
   pub label_is : (name : Name) → place_of code name ≡ code_place (places_of all) (label_place name (labels_from 0 all))
-  label_is name = one_label name (places_of all) 1 0 [] all made.listed.once
+  label_is name = one_label name (places_of all) 1 0 [] all (once_none all made.listed.once)
 
   -- a code label has an address, from which the machine comes to its place
   pub label_found : (name : Name) (p : ℕ) → place_of code name ≡ Some p → (a : ℕ) × (label_address name base all ≡ Some a) × CodeLabel name p a
@@ -170,7 +172,7 @@ module _ (base : ℕ) (set : Name → ℕ) (all : List Line) (bytes : List ℕ) 
   label_here : (before after : List Line) (l : Line) (n : Name) → all ≡ before ++ l ∷ after → is_among n l.names ≡ true → is_op_place (slice_get (places_of all) (length (places_of before))) ≡ true → names.word_of n ≡ end_of base before + 1
   unfolding code_place
   label_here before after l n e t o =
-      let once : first_twice 1 [] (before ++ l ∷ after) ≡ None = subst (λ (ls : List Line). first_twice 1 [] ls ≡ None) e made.listed.once in
+      let once : first_twice 1 [] (before ++ l ∷ after) ≡ None = once_none (before ++ l ∷ after) (subst DefineOnce e made.listed.once) in
       let address : label_address n base all ≡ Some (end_of base before) = ap (label_address n base) e ∙ first_label n 1 base [] before after l once t in
       let place : label_place n (labels_from 0 all) ≡ Some (0 + length (places_of before)) = ap (λ (ls : List Line). label_place n (labels_from 0 ls)) e ∙ first_place n 1 0 [] before after l once t in
       let zero : 0 + length (places_of before) ≡ length (places_of before) = omega arith in

@@ -1,7 +1,7 @@
 -- The words of names in a table.
-use Rattle.std.proofs.Common.{◌≡◌, ◌∙◌, inl, inr, ℕ, zero, suc, ◌+◌, ◌≤◌, ◌*◌, ◌%◌, ◌^◌, ◌||◌, Bool, true, false, List, [], ◌∷◌, ◌++◌, length, take, Option, Some, None, refl, sym, ap, ap₂, subst, arith, true≢false, Bor, if◌then◌else◌}
-use Rattle.std.specs.Prelude.{fold, is_some, slice_get, unwrap_or}
-use Rattle.std.specs.List.{flat_map}
+use Rattle.std.proofs.Common.{◌≡◌, ◌∙◌, inl, inr, ℕ, zero, suc, ◌+◌, ◌≤◌, ◌*◌, ◌%◌, ◌^◌, ◌||◌, ◌&&◌, Bool, true, false, List, [], ◌∷◌, ◌++◌, length, take, Option, Some, None, refl, sym, ap, ap₂, append_assoc, append-nil, subst, arith, true≢false, Bor, if◌then◌else◌}
+use Rattle.std.specs.Prelude.{fold, is_some, not, slice_get, unwrap_or}
+use Rattle.std.specs.List.{cons_option, filter, filter_map, flat_map}
 use Rattle.std.specs.Option.{option_copied}
 use Rattle.std.specs.Str.{bytes_eq}
 use Rattle.std.specs.declared.alloc.Global.{Global}
@@ -17,8 +17,8 @@ use Rattle.thumb_model.specs.Laid.{word_by}
 use Rattle.listing_parser.proofs.LabelLemmas.{among_append}
 use Rattle.label_layout.proofs.Labels.{or_none}
 use Rattle.listing_parser.specs.TableWords.{defined_in, set_names}
-use Rattle.thumb_machine.specs.Laid.{outside_word, own_word, nowhere, place_name, with_name}
-use Rattle.thumb_machine.specs.Words.{AreFixed, AreOwn, Entries, fixed_by, fixed_word, word_in}
+use Rattle.thumb_machine.specs.Laid.{firsts, lies_nowhere, outside_word, own_word, nowhere, place_name}
+use Rattle.thumb_machine.specs.Words.{AreFixed, AreOwn, Entries, fixed_by, fixed_word, with_name, word_in}
 
 same_text : (a b : Name) → bytes_eq a b ≡ true → a ≡ b
 same_text a b e = (bytes_eq-Decides a b).0 e
@@ -185,8 +185,66 @@ known_before base lines p = fold (λ known x. with_name base lines known (place_
 pub known_more : (base : ℕ) (lines : List Line) (p : ℕ) (x : Place) → slice_get (places_of lines) p ≡ Some x → known_before base lines (p + 1) ≡ with_name base lines (known_before base lines p) (place_name x)
 known_more base lines p x e = let n : p + 1 ≡ suc p = omega arith in ap (known_before base lines) n ∙ fold_suc (λ known y. with_name base lines known (place_name y)) [] (places_of lines) p x e
 
+filter_both : (a b c : Name → Bool) → ((m : Name) → (b m && a m) ≡ c m) → (xs : List Name) → filter a (filter b xs) ≡ filter c xs
+filter_both a b c both [] = refl
+filter_both a b c both (x ∷ xs) = elim (cases_Bool (b x)) [
+  | inl e ↦
+      let same : a x ≡ c x = sym (ap (λ t. t && a x) e) ∙ both x in
+      elim (cases_Bool (a x)) [
+        | inl t ↦ (let there : c x ≡ true = sym same ∙ t in rw (e, t, there) (ap (λ (ys : List Name). x ∷ ys) (filter_both a b c both xs)))
+        | inr f ↦ (let there : c x ≡ false = sym same ∙ f in rw (e, f, there) (filter_both a b c both xs))
+      ]
+  | inr e ↦ (let there : c x ≡ false = sym (both x) ∙ ap (λ t. t && a x) e in rw (e, there) (filter_both a b c both xs))
+]
+
+filter_none : (a : Name → Bool) → ((m : Name) → a m ≡ true) → (xs : List Name) → filter a xs ≡ xs
+filter_none a each [] = refl
+filter_none a each (x ∷ xs) = let here = each x in rw here (ap (λ (ys : List Name). x ∷ ys) (filter_none a each xs))
+
+abbrev is_other : List Name → Name → Bool
+is_other known m = not (is_among m known)
+
+-- the names that come of places behind known ones, whose names come as these
+abbrev behind_known : ℕ → List Line → List Name → List Name → List Name
+behind_known base lines known names = known ++ filter (is_other known) (firsts (filter (lies_nowhere base lines) names))
+
+-- one name, and those behind it
+known_step : (base : ℕ) (lines : List Line) (known names : List Name) (o : Option Name) → behind_known base lines (with_name base lines known o) names ≡ behind_known base lines known (cons_option o names)
+known_step base lines known names None = refl
+known_step base lines known names (Some n) = elim (cases_Bool (is_some (lies_in base lines n))) [
+  | inl lies ↦ rw lies refl
+  | inr lost ↦ elim (cases_Bool (is_among n known)) [
+    | inl old ↦ rw (lost, old) (ap (λ (ms : List Name). known ++ ms) (sym (filter_both (is_other known) (λ m. not (bytes_eq m n)) (is_other known) (skipped old) rest)))
+    | inr new ↦ rw (lost, new)
+        (append_assoc known (n ∷ []) (filter (is_other (known ++ n ∷ [])) rest)
+        ∙ ap (λ (ms : List Name). known ++ n ∷ ms) (sym (filter_both (is_other known) (λ m. not (bytes_eq m n)) (is_other (known ++ n ∷ [])) apart rest)))
+  ]
+] where
+  rest : List Name
+  rest = firsts (filter (lies_nowhere base lines) names)
+
+  skipped : is_among n known ≡ true → (m : Name) → (not (bytes_eq m n) && is_other known m) ≡ is_other known m
+  skipped old m = elim (cases_Bool (bytes_eq m n)) [
+    | inl e ↦ (let known_too : is_among m known ≡ true = ap (λ (k : Name). is_among k known) (same_text m n e) ∙ old in rw (e, known_too) refl)
+    | inr e ↦ rw e refl
+  ]
+
+  apart : (m : Name) → (not (bytes_eq m n) && is_other known m) ≡ is_other (known ++ n ∷ []) m
+  apart m = neither (bytes_eq m n) (is_among m known) ∙ ap not (sym (among_last m n known)) where
+    neither : (a b : Bool) → (not a && not b) ≡ not (b || a)
+    neither true true = refl
+    neither true false = refl
+    neither false true = refl
+    neither false false = refl
+
+known_names : (base : ℕ) (lines : List Line) (known : List Name) (ps : List Place) → fold (λ ns x. with_name base lines ns (place_name x)) known ps ≡ behind_known base lines known (filter_map place_name ps)
+known_names base lines known [] = sym (append-nil known)
+known_names base lines known (p ∷ ps) = known_names base lines (with_name base lines known (place_name p)) ps ∙ known_step base lines known (filter_map place_name ps) (place_name p)
+
 pub known_all : (base : ℕ) (lines : List Line) (p : ℕ) → length (places_of lines) ≤ p → known_before base lines p ≡ nowhere base lines
-known_all base lines p le = ap (fold (λ known x. with_name base lines known (place_name x)) []) (take_all p (places_of lines) le)
+known_all base lines p le =
+    ap (fold (λ known x. with_name base lines known (place_name x)) []) (take_all p (places_of lines) le)
+    ∙ known_names base lines [] (places_of lines) ∙ filter_none (is_other []) (λ m. refl) (nowhere base lines)
 
 -- so many places were gone through
 pub record SoManyOwn (base : ℕ) (lines : List Line) (p count : ℕ) (es : Entries) : Type 0 where

@@ -1,10 +1,11 @@
 -- The naming that a trace runs under: that of the layout, with words for external names.
-use Rattle.std.specs.Prelude.{◌≡◌, ℕ, ◌+◌, ◌*◌, ◌%◌, ◌^◌, ◌<◌, ◌||◌, List, [], ◌∷◌, ◌++◌, Option, Some, None, is_some, fold, unwrap_or, if◌then◌else◌}
+use Rattle.std.specs.Prelude.{◌≡◌, ℕ, ◌+◌, ◌*◌, ◌%◌, ◌^◌, not, Bool, true, List, [], ◌∷◌, ◌++◌, Option, Some, None, is_some, unwrap_or, if◌then◌else◌}
+use Rattle.std.specs.List.{filter, filter_map}
 use Rattle.std.specs.Str.{bytes_eq}
 use Rattle.thumb_model.specs.Listing.{Name, Mention, Value, Number, OfName, Place, Op, Word, Line, places_of, call_count}
-use Rattle.thumb_model.specs.Layout.{is_among, lies_in, or_else, set_address}
+use Rattle.thumb_model.specs.Layout.{end_of, lies_in, or_else, set_address}
 use Rattle.thumb_model.specs.Machine.{Naming}
-use Rattle.thumb_model.specs.Laid.{laid}
+use Rattle.thumb_model.specs.Laid.{ends_in_call, laid}
 
 -- ---- external names without an address ----
 
@@ -21,14 +22,17 @@ abbrev pub place_name : Place → Option Name
 place_name (Op i mention) = mention_name mention
 place_name (Word v) = value_name v
 
--- one more, where it lies nowhere and is not among those before
-abbrev pub with_name : ℕ → List Line → List Name → Option Name → List Name
-with_name base lines known None = known
-with_name base lines known (Some n) = if is_some (lies_in base lines n) || is_among n known then known else known ++ n ∷ []
+-- each name once, where it stands first
+abbrev pub firsts : List Name → List Name
+firsts [] = []
+firsts (n ∷ ns) = n ∷ filter (λ m. not (bytes_eq m n)) (firsts ns)
 
--- the names that lie nowhere, by first appearance
+abbrev pub lies_nowhere : ℕ → List Line → Name → Bool
+lies_nowhere base lines n = not (is_some (lies_in base lines n))
+
+-- the names that are mentioned and lie nowhere, each once, in order of first mention
 abbrev pub nowhere : ℕ → List Line → List Name
-nowhere base lines = fold (λ known p. with_name base lines known (place_name p)) [] (places_of lines)
+nowhere base lines = firsts (filter (lies_nowhere base lines) (filter_map place_name (places_of lines)))
 
 -- 0x30000000, and 256 more for each name before
 abbrev pub own_word : ℕ → Name → List Name → Option ℕ
@@ -41,9 +45,15 @@ outside_word base lines name = unwrap_or (or_else (set_address name lines) (own_
 
 -- ---- the naming ----
 
--- the words of all names and of the lines' calls are those of the layout from a base
+-- lines cut at call number k, counted from 0: so many calls stand before it
+pub record IsCutAtCall (lines : List Line) (k : ℕ) (before : List Line) (call : Line) (after : List Line) : Type 0 where
+  pub cut : lines ≡ before ++ call ∷ after
+  pub calls : ends_in_call call.statement ≡ true
+  pub number : k ≡ call_count (places_of before)
+
+-- the words of all names and the range are those of the layout from a base, and the word of a call's return point is 1 more than the address behind the call
 pub record IsLaid (base : ℕ) (lines : List Line) (names : Naming) : Type 0 where
   pub word_of : (name : Name) → names.word_of name ≡ (laid base (outside_word base lines) lines).word_of name
-  pub return_word : (k : ℕ) → k < call_count (places_of lines) → names.return_word k ≡ (laid base (outside_word base lines) lines).return_word k
+  pub return_word : (k : ℕ) (before : List Line) (call : Line) (after : List Line) → IsCutAtCall lines k before call after → names.return_word k ≡ end_of base (before ++ call ∷ []) + 1
   pub low : names.low ≡ (laid base (outside_word base lines) lines).low
   pub high : names.high ≡ (laid base (outside_word base lines) lines).high

@@ -1,10 +1,10 @@
 -- What the table of a naming's words holds while it is made.
-use Rattle.std.specs.Prelude.{◌≡◌, ℕ, ◌+◌, List, Option, Some, None, if◌then◌else◌}
+use Rattle.std.specs.Prelude.{◌≡◌, ℕ, ◌+◌, ◌||◌, List, [], ◌∷◌, ◌++◌, Option, Some, None, is_some, if◌then◌else◌}
 use Rattle.std.specs.Map.{lookup}
 use Rattle.std.specs.declared.alloc.Global.{Global}
 use Rattle.std.specs.declared.vec.Vec.{Vec}
 use Rattle.thumb_model.specs.Listing.{Name, Line, code_of, place_of}
-use Rattle.thumb_model.specs.Layout.{is_among, label_address, or_else, set_address}
+use Rattle.thumb_model.specs.Layout.{is_among, label_address, lies_in, or_else, set_address}
 use Rattle.thumb_machine.specs.Naming.{is_named}
 use Rattle.thumb_machine.specs.Laid.{own_word}
 
@@ -16,6 +16,11 @@ fixed_by (Some a) (Some p) set = Some (a + 1)
 
 abbrev pub fixed_word : ℕ → List Line → Name → Option ℕ
 fixed_word base lines name = fixed_by (label_address name base lines) (place_of (code_of lines) name) (set_address name lines)
+
+-- one name more, where it lies nowhere and is not among those before
+abbrev pub with_name : ℕ → List Line → List Name → Option Name → List Name
+with_name base lines known None = known
+with_name base lines known (Some n) = if is_some (lies_in base lines n) || is_among n known then known else known ++ n ∷ []
 
 -- the table's words
 abbrev pub Entries : Type 0

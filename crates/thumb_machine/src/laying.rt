@@ -1,21 +1,20 @@
 //! The naming that a listing is laid out with.
 ghost use Rattle.std.specs.Prelude.{◌≡◌, ◌<◌, ◌≤◌, ◌+◌, ◌^◌, ◌++◌, ◌∷◌, [], ℕ, true, false, List, Some, map, length, take, option_map, slice_get, IfOk, OnOk, MatchOption};
-ghost use Rattle.thumb_model.specs.Listing.{Line as ListingLine, Name, call_count, is_call_instr, places_of};
+ghost use Rattle.thumb_model.specs.Listing.{Line as ListingLine, Name, call_count, places_of};
 ghost use Rattle.thumb_model.specs.Laid.{last_is_call, return_address};
 ghost use Rattle.listing_parser.specs.Views.{line_view, place_view, statement_view};
 ghost use Rattle.listing_parser.specs.TableWords.{defined_in, set_names};
 ghost use Rattle.label_layout.specs.Addresses.{AreAddresses};
-ghost use Rattle.thumb_machine.specs.Laid.{IsLaid, nowhere, place_name, with_name};
+ghost use Rattle.thumb_machine.specs.Laid.{IsLaid, nowhere, place_name};
 ghost use Rattle.thumb_machine.specs.Naming.{naming_of};
 ghost use Rattle.thumb_machine.specs.Returns.{AreReturns, is_call_place};
-ghost use Rattle.thumb_machine.specs.Words.{AreFixed, AreOwn, fixed_word as fixed_word_of};
+ghost use Rattle.thumb_machine.specs.Words.{AreFixed, AreOwn, with_name, fixed_word as fixed_word_of};
 
 use crate::naming::Naming;
 use indexmap::IndexMap;
 use label_layout::{Layout, instr_size};
-use listing_parser::{Line, Listing, Mention, Place, Statement, Value};
+use listing_parser::{Line, Listing, Mention, Place, Statement, Value, is_call};
 use std::alloc::{AllocError, Global};
-use thumb_instr::Instr;
 
 /// The first word of an external name without an address.
 const FIRST_WORD: u64 = 0x3000_0000;
@@ -169,13 +168,6 @@ fn all_words(
     Ok(words)
 }
 
-/// Whether the instruction is BL or BLX.
-pub(crate) fn is_call(instr: &Instr) -> bool
-    ensures { result ≡ is_call_instr instr.now }
-{
-    matches!(instr, Instr::Blx { .. } | Instr::Call { .. })
-}
-
 /// The word of the return point of a call, where the place is one.
 fn return_word(listing: &Listing, layout: &Layout, place: u32) -> Option<u32>
     requires addresses { AreAddresses listing.now layout.now }
@@ -216,9 +208,8 @@ fn is_call_at(listing: &Listing, place: u32) -> bool
     ensures { result ≡ is_call_place (slice_get (places_of listing.now) place) }
 {
     match listing.place(place) {
-        Some(Place::Op { instr, .. }) => is_call(&instr),
-        Some(Place::Word(_)) => false,
         None => false,
+        Some(found) => found.is_call(),
     }
 }
 

@@ -177,12 +177,5 @@ pub(crate) fn calls_in(place: Place<'_>) -> usize
     ensures value { result ≡ (if is_call (place_view place.entry) then 1 else 0) }
     ensures few { result ≤ 1 }
 {
-    match place {
-        Place::Word(_) => 0,
-        Place::Op { instr, .. } => match instr {
-            Instr::Blx { .. } => 1,
-            Instr::Call { .. } => 1,
-            _ => 0,
-        },
-    }
+    if place.is_call() { 1 } else { 0 }
 }

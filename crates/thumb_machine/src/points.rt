@@ -1,14 +1,14 @@
 ghost use Rattle.std.specs.Prelude.{◌≡◌, ◌==◌, ◌<◌, ◌-◌, ◌^◌, ℕ, Option, map, nat_eq, length, IfOk, OnOk, if◌then◌else◌};
 ghost use Rattle.std.specs.HashMap.{get};
-ghost use Rattle.thumb_model.specs.Listing.{code_of, places_in, places_of};
+ghost use Rattle.thumb_model.specs.Listing.{code_of, places_of};
 ghost use Rattle.thumb_model.specs.Machine.{least_or, point_among, points};
-ghost use Rattle.listing_parser.specs.Views.{line_view, place_view, statement_view};
+ghost use Rattle.listing_parser.specs.Views.{line_view, place_view};
 ghost use Rattle.thumb_machine.specs.Making.{code_points_at, labels_points, merged, points_at, return_point_at, returns_points};
 ghost use Rattle.thumb_machine.specs.Naming.{naming_of};
 
 use crate::making::calls_in;
 use crate::naming::Naming;
-use listing_parser::{Line, Listing, Place, Statement};
+use listing_parser::{Line, Listing, Place};
 use std::alloc::{AllocError, Global};
 use std::collections::HashMap;
 
@@ -37,17 +37,6 @@ fn add_names(
         add_point(points, naming.word(name.as_slice()), place)?;
     }
     Ok(())
-}
-
-/// How many places a statement has.
-pub(crate) fn places_in(statement: &Statement) -> usize
-    ensures { result ≡ length (places_in (statement_view statement.now)) }
-{
-    match statement {
-        Statement::Runs { .. } => 1,
-        Statement::Words(values) => values.len(),
-        _ => 0,
-    }
 }
 
 /// Notes the place of a line's labels, where they are code.
@@ -80,7 +69,7 @@ fn add_labels(
     let mut place = 0usize;
     for line in lines {
         add_line(points, naming, listing, line.names.as_slice(), place as u32)?;
-        place += places_in(&line.statement);
+        place += line.statement.places();
     }
     Ok(())
 }

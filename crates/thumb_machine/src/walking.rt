@@ -6,10 +6,8 @@ ghost use Rattle.listing_parser.specs.Views.{line_view, statement_view};
 ghost use Rattle.thumb_machine.specs.Naming.{naming_of};
 ghost use Rattle.thumb_machine.specs.Walking.{all_pass, label_points, name_points, next_call, points_from, return_points};
 
-use crate::laying::is_call;
 use crate::naming::Naming;
-use crate::points::places_in;
-use listing_parser::{Line, Listing, Statement};
+use listing_parser::{Line, Listing, Statement, is_call};
 
 /// A test of code points that come one after another.
 pub(crate) trait PointTest {
@@ -108,7 +106,7 @@ impl Naming {
                 return false;
             }
             call = next_call(line, call);
-            place += places_in(&line.statement);
+            place += line.statement.places();
         }
         true
     }

@@ -12,7 +12,7 @@ use Rattle.thumb_model.specs.Layout.{Layable}
 use Rattle.thumb_model.specs.Rewrite.{Rule, Applies, replaced}
 use Rattle.thumb_model.specs.Rewritten.{Setting, Replacement, AppliesIn, IsFirst, is_op, replaced_lines, lines_after_rule, lines_after}
 use Rattle.thumb_model.proofs.LinesKept.{fewer_after, code_of_after}
-use Rattle.listing_parser.specs.TableWords.{first_twice}
+use Rattle.listing_parser.specs.TableWords.{DefineOnce}
 use Rattle.listing_parser.proofs.ReplaceLemmas.{still_once}
 use Rattle.liveness.specs.Live.{word_of, set_at, IsLive}
 use Rattle.liveness.specs.Kept.{AreFlows, KeepsAt}
@@ -37,7 +37,7 @@ may_be_listed lines s o a h =
     let few = h.few in
     record {
       few = omega arith;
-      once = subst (λ (r : Option Rule). first_twice 1 [] (lines_after_rule s r o lines) ≡ None) (sym a.is_rule)
+      once = subst (λ (r : Option Rule). DefineOnce (lines_after_rule s r o lines)) (sym a.is_rule)
           (still_once s.write o.place (length a.rule.left) (map (renamed o.registers) a.rule.right) lines h.once);
     }
 

@@ -5,7 +5,7 @@ use Rattle.thumb_instr.specs.Items.{has}
 use Rattle.thumb_model.specs.Listing.{Line, code_of, places_of}
 use Rattle.thumb_model.specs.Rewrite.{replaced}
 use Rattle.thumb_model.specs.Rewritten.{Setting, Replacement, AreRewritten}
-use Rattle.listing_parser.specs.TableWords.{first_twice}
+use Rattle.listing_parser.specs.TableWords.{DefineOnce}
 use Rattle.liveness.specs.Live.{set_at, IsLive}
 use Rattle.liveness.specs.Growing.{IsGrowing}
 use Rattle.liveness.specs.declared.kept.NewSets.{NewSets}
@@ -62,7 +62,7 @@ is_steady g = not (is_some g.listing)
 -- lines that may be a listing's
 pub record MayBeListed (lines : List Line) : Type 0 where
   pub few : length (places_of lines) < 2 ^ 32
-  pub once : first_twice 1 [] lines ≡ None
+  pub once : DefineOnce lines
 
 -- the lines are steady, if the ground is; otherwise they are still the ground's
 pub record AreOver (r : Rules) (g : Ground) (lines : List Line) : Type 0 where

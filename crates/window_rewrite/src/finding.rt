@@ -1,12 +1,12 @@
 //! The next replacement that can be made.
-ghost use Rattle.std.specs.Prelude.{◌≡◌, ◌+◌, ◌*◌, ◌^◌, ◌<◌, ◌≤◌, ◌↔◌, ◌∷◌, [], ◌++◌, ℕ, List, length, drop, take, slice_get, true, false, Some, IfOk, OnOk, IfSome, IfNone};
+ghost use Rattle.std.specs.Prelude.{◌≡◌, ◌+◌, ◌*◌, ◌^◌, ◌<◌, ◌≤◌, ◌↔◌, ◌⊎◌, ◌∷◌, [], ◌++◌, ℕ, List, length, drop, take, slice_get, true, false, Some, IfOk, OnOk, IfSome, IfNone};
 ghost use Rattle.std.specs.List.{list_all};
 ghost use Rattle.thumb_instr.specs.Renaming.{Low};
 ghost use Rattle.thumb_instr.specs.Window.{is_in_window};
 ghost use Rattle.thumb_model.specs.Layout.{Layable};
-ghost use Rattle.thumb_model.specs.Listing.{labels_from, places_of};
+ghost use Rattle.thumb_model.specs.Listing.{labels_from, places_of, Label};
 ghost use Rattle.thumb_model.specs.Rewrite.{Rule};
-ghost use Rattle.thumb_model.specs.Rewritten.{AppliesIn, NoneApplies, left_length, replaced_lines};
+ghost use Rattle.thumb_model.specs.Rewritten.{AppliesIn, NoneApplies, are_joined_from, left_length, replaced_lines};
 ghost use Rattle.listing_parser.specs.Replacing.{own_line, names_no_label};
 ghost use Rattle.listing_parser.specs.declared.line.Line.{Line as Lines};
 ghost use Rattle.line_cursor.specs.Lines.{begins_op, lines_in};
@@ -42,8 +42,8 @@ pub(crate) struct Rules<'a> {
     pub(crate) base: u32,
 }
 
-/// Whether each code label stays code, and lines of a ground that isn't steady can be laid out, where so many instructions behind the cursor give way to
-/// others.
+/// Whether each code label stays code, and lines of a ground that isn't steady can be laid out, where so many instructions behind the cursor, with
+/// neither a label nor an alignment line between them, give way to others.
 fn may_give_way(
     alloc: Global,
     base: u32,
@@ -58,6 +58,8 @@ fn may_give_way(
     requires some { 0 < length cursor.now.ahead.items }
     requires first { (rest : List Lines) (x : Lines) → cursor.now.ahead.items ≡ rest ++ x ∷ [] → begins_op (lines_in x) ≡ true }
     requires window { AreOps count (drop (place_at cursor.now) (places_of (lines_at cursor.now))) }
+    requires unlabelled { (k : ℕ) (l : Label) → slice_get (labels_from 0 (lines_at cursor.now)) k ≡ Some l → (l.place ≤ place_at cursor.now) ⊎ (place_at cursor.now + count ≤ l.place) }
+    requires joined { are_joined_from (place_at cursor.now) count (lines_at cursor.now) ≡ true }
     requires shorter { length new.now < count }
     requires plain { list_all names_no_label new.now ≡ true }
     ensures { IfOk result (λ b. (b ≡ true) ↔ (IsSettled (places_of (lines_at cursor.now)) (labels_from 0 (lines_at cursor.now)) (place_at cursor.now) count new.now × (is_steady ground.now ≡ false → Layable base (replaced_lines own_line (place_at cursor.now) count new.now (lines_at cursor.now))))) }

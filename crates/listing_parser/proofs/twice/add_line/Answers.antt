@@ -1,7 +1,7 @@
 use Rattle.std.proofs.Common.{◌≡◌, ◌∙◌, ◌++◌, List, map, ap, append_assoc}
 use Rattle.thumb_model.specs.Listing.{Name}
 use Rattle.listing_parser.specs.Views.{statement_view, names_view}
-use Rattle.listing_parser.specs.TableWords.{is_again, set_names}
+use Rattle.listing_parser.specs.TableWords.{set_names, is_again}
 use Rattle.listing_parser.proofs.TwiceLemmas.{again_then, again_else}
 use Rattle.listing_parser.proofs.twice.add_line.Goals as goal
 

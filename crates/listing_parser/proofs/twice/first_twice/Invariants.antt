@@ -1,6 +1,6 @@
 use Rattle.std.proofs.Common.{◌≡◌, ◌+◌, [], map, drop}
 use Rattle.listing_parser.specs.Views.{line_view}
-use Rattle.listing_parser.specs.TableWords.{first_twice}
+use Rattle.listing_parser.proofs.FirstTwice.{first_twice}
 use Rattle.listing_parser.proofs.twice.first_twice.Given as goal
 
 abbrev pub invariant-loop-n : goal.invariant-loop-n

@@ -12,12 +12,12 @@ loop-line-preserved c =
     next_line c.args.lines.now c.loop-line.line-index c.line-item.result c.loop-line-test.true c.line-item.is in
     record {
       places =
-          places_next c.loop-line.place c.places_in-place.result (line_view c.line-item.result) (map line_view (drop (c.loop-line.line-index + 1) c.args.lines.now)) c.places_in-place.ensures
+          places_next c.loop-line.place c.places-place.result (line_view c.line-item.result) (map line_view (drop (c.loop-line.line-index + 1) c.args.lines.now)) c.places-place.ensures
           ∙ ap (λ (ls : List Line). c.loop-line.place + length (places_of ls)) (sym here)
           ∙ c.loop-line.invariant.places;
       len = c.mark.ensures.len ∙ c.loop-line.invariant.len;
       marks = λ q.
-          label_next (marked c.loop-line.marks.items q) (marked c.mark.new.marks.items q) (places_of c.args.listing.now) q c.loop-line.place c.places_in-place.result (line_view c.line-item.result) (map line_view (drop (c.loop-line.line-index + 1) c.args.lines.now)) c.places_in-place.ensures (c.mark.ensures.marks q ∙ rw (c.is_labelled.ensures, c.is_op.ensures) refl)
+          label_next (marked c.loop-line.marks.items q) (marked c.mark.new.marks.items q) (places_of c.args.listing.now) q c.loop-line.place c.places-place.result (line_view c.line-item.result) (map line_view (drop (c.loop-line.line-index + 1) c.args.lines.now)) c.places-place.ensures (c.mark.ensures.marks q ∙ rw (c.is_labelled.ensures, c.is_op.ensures) refl)
           ∙ ap (λ (ls : List Line). marked c.loop-line.marks.items q || one_of q (label_places (places_of c.args.listing.now) (labels_from c.loop-line.place ls))) (sym here)
           ∙ c.loop-line.invariant.marks q;
     }

@@ -2,8 +2,7 @@ use Rattle.std.proofs.Common.{◌≡◌, ◌∙◌, ◌++◌, ◌∷◌, ◌+◌
 use Rattle.std.specs.Prelude.{is_some, Some}
 use Rattle.thumb_model.specs.Listing.{Name}
 use Rattle.label_layout.proofs.Labels.{same_items}
-use Rattle.thumb_machine.specs.Laid.{with_name}
-use Rattle.thumb_machine.specs.Words.{AreOwn, word_in}
+use Rattle.thumb_machine.specs.Words.{AreOwn, with_name, word_in}
 use Rattle.thumb_machine.proofs.WordLemmas.{found, own_next, own_put, own_same}
 use Rattle.thumb_machine.proofs.laying.add_own.Goals as goal
 

@@ -1,10 +1,11 @@
-use Rattle.std.proofs.Common.{◌≡◌, ◌∙◌, Bor, Some, None, ap, arith, option_map, sym}
+use Rattle.std.proofs.Common.{◌≡◌, ◌∙◌, ◌≤◌, Bor, List, Some, None, ap, arith, length, option_map, subst, sym}
 use Rattle.std.specs.Prelude.{slice_get}
-use Rattle.thumb_model.specs.Listing.{places_of}
+use Rattle.thumb_model.specs.Listing.{Name, places_of}
 use Rattle.listing_parser.specs.declared.line.Mention.{Mention as Mentions}
 use Rattle.listing_parser.specs.Views.{place_view}
 use Rattle.thumb_machine.specs.Laid.{place_name}
-use Rattle.thumb_machine.proofs.WordLemmas.{known_before, own_name, own_nothing}
+use Rattle.thumb_machine.specs.Words.{AreOwn}
+use Rattle.thumb_machine.proofs.WordLemmas.{known_all, known_before, own_name, own_nothing}
 use Rattle.thumb_machine.proofs.laying.all_words.Goals as goal
 use Rattle.thumb_machine.proofs.laying.all_words.Goals.{in-None, in-Some-mentioned+in_ok-count-in-Some-mentioned}
 
@@ -26,3 +27,8 @@ loop-place-preserved c =
           rw (w.words-is, w.count-is)
           (own_name c.args.layout.now.base c.args.listing.now c.loop-place.place c.loop-place.count _ _ (place_view c.in-Some.found) w.in-Some-mentioned.mention.now.name.items here some did.0 did.1 (omega arith))
     ]
+
+pub returns : goal.returns
+returns c =
+    let all : length (places_of c.args.listing.now) ≤ c.loop-place.place = omega arith in
+    subst (λ (known : List Name). AreOwn c.args.layout.now.base c.args.listing.now known c.loop-place.words.entries) (known_all c.args.layout.now.base c.args.listing.now c.loop-place.place all) c.loop-place.invariant.own

@@ -1,9 +1,9 @@
-use Rattle.std.proofs.Common.{◌≡◌, ◌∙◌, ℕ, ◌+◌, ◌<◌, ◌↔◌, Bool, List, true, false, ap, arith, sym, subst}
+use Rattle.std.proofs.Common.{◌≡◌, ◌∙◌, ℕ, ◌+◌, ◌<◌, ◌≤◌, ◌↔◌, ◌⊎◌, Some, Bool, List, true, false, ap, arith, sym, subst}
 use Rattle.std.specs.Prelude.{slice_get}
 use Rattle.std.proofs.lemmas.Result.{IfOk-weaker}
 use Rattle.thumb_model.specs.Layout.{Layable}
-use Rattle.thumb_model.specs.Listing.{Line, Place, places_of, is_op_place}
-use Rattle.thumb_model.specs.Rewritten.{replaced_lines}
+use Rattle.thumb_model.specs.Listing.{Line, Place, Label, labels_from, places_of, is_op_place}
+use Rattle.thumb_model.specs.Rewritten.{are_joined_from, replaced_lines}
 use Rattle.listing_parser.specs.Replacing.{own_line}
 use Rattle.line_cursor.specs.Cursors.{lines_at, place_at}
 use Rattle.window_rewrite.proofs.Applied.{ops_at, ops_within}
@@ -27,6 +27,17 @@ replaced-requires-clause-window c =
     subst (λ p. (k : ℕ) → k < c.args.count → is_op_place (slice_get (places_of c.args.ground.now.listing.now) (p + k)) ≡ true) (sym c.place.ensures)
     (subst (λ (ps : List Place). (k : ℕ) → k < c.args.count → is_op_place (slice_get ps (place_at c.args.cursor.now + k)) ≡ true) same
     (ops_at c.args.count (place_at c.args.cursor.now) (places_of (lines_at c.args.cursor.now)) c.requires.window))
+
+pub replaced-requires-clause-unlabelled : goal.replaced-requires-clause-unlabelled
+replaced-requires-clause-unlabelled c =
+    subst (λ p. (k : ℕ) (l : Label) → slice_get (labels_from 0 c.args.ground.now.listing.now) k ≡ Some l → (l.place ≤ p) ⊎ (p + c.args.count ≤ l.place)) (sym c.place.ensures)
+    (subst (λ (ls : List Line). (k : ℕ) (l : Label) → slice_get (labels_from 0 ls) k ≡ Some l → (l.place ≤ place_at c.args.cursor.now) ⊎ (place_at c.args.cursor.now + c.args.count ≤ l.place)) (c.requires.same c.if-ground.false)
+    c.requires.unlabelled)
+
+pub replaced-requires-clause-joined : goal.replaced-requires-clause-joined
+replaced-requires-clause-joined c =
+    subst (λ p. are_joined_from p c.args.count c.args.ground.now.listing.now ≡ true) (sym c.place.ensures)
+    (subst (λ (ls : List Line). are_joined_from (place_at c.args.cursor.now) c.args.count ls ≡ true) (c.requires.same c.if-ground.false) c.requires.joined)
 
 told : (S : Type 0) (b steady : Bool) (base : ℕ) (left made : List Line) → S → steady ≡ false → left ≡ made → ((b ≡ true) ↔ Layable base left) → ((b ≡ true) ↔ (S × (steady ≡ false → Layable base made)))
 told S b steady base left made s f e h = (λ t. (s, λ _. subst (Layable base) e (h.0 t)), λ q. h.1 (subst (Layable base) (sym e) (q.1 f)))

@@ -48,6 +48,12 @@ fitting-requires-clause-canonical g c =
 pub may_give_way-requires-clause-window : goal.may_give_way-requires-clause-window
 may_give_way-requires-clause-window g c = ops_of c.args.window.now (length c.args.window.now) _ refl c.requires.stands.is_window.stands
 
+pub may_give_way-requires-clause-unlabelled : goal.may_give_way-requires-clause-unlabelled
+may_give_way-requires-clause-unlabelled c = c.requires.stands.is_window.unlabelled
+
+pub may_give_way-requires-clause-joined : goal.may_give_way-requires-clause-joined
+may_give_way-requires-clause-joined c = c.requires.stands.is_window.joined
+
 pub returns-in-None-clause-none : goal.returns-in-None-clause-none
 returns-in-None-clause-none g c = λ registers a.
     let e = entry c.args.rules.now c.args.number c.args.window.now c.index-rules-number.result c.requires.ready c.requires.number c.index-rules-number.is c.requires.long in

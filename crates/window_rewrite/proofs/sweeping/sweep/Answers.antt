@@ -1,7 +1,9 @@
-use Rattle.std.proofs.Common.{◌≡◌, ℕ, ◌+◌, ◌*◌, ◌≤◌, List, length, sym, ap, ◌∙◌, subst, arith}
+use Rattle.std.proofs.Common.{◌≡◌, ℕ, ◌+◌, ◌*◌, ◌≤◌, List, length, map, sym, ap, ◌∙◌, subst, arith}
 use Rattle.std.specs.Int.{from_bool}
 use Rattle.thumb_model.specs.Listing.{Line, places_of}
 use Rattle.thumb_model.specs.Rewritten.{Setting, AppliesIn}
+use Rattle.listing_parser.specs.TableWords.{DefineOnce}
+use Rattle.listing_parser.specs.Views.{line_view}
 use Rattle.steady_layout.specs.Steady.{IsSteady}
 use Rattle.line_cursor.specs.Lines.{lines_of}
 use Rattle.line_cursor.specs.Cursors.{lines_at}
@@ -10,6 +12,11 @@ use Rattle.window_rewrite.specs.Rules.{rules_in}
 use Rattle.window_rewrite.specs.Choices.{setting_of}
 use Rattle.window_rewrite.specs.Sweeps.{Completes}
 use Rattle.window_rewrite.proofs.sweeping.sweep.Goals as goal
+
+pub remade-requires-clause-once : goal.remade-requires-clause-once
+remade-requires-clause-once g c = λ once.
+    let same : map line_view c.in_ok-lines.lines.items ≡ lines_at c.go_through.new.cursor = c.in_ok-lines.ensures ∙ ap lines_of c.as_slice-3.ensures.value ∙ c.in_ok-pieces.ensures in
+    subst DefineOnce (sym same) (c.in_ok-is_done.ensures.becomes.once once)
 
 pub returns-clause-completes : goal.returns-clause-completes
 returns-clause-completes g c = λ start before.

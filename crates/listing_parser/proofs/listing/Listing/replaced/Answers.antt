@@ -1,9 +1,9 @@
-use Rattle.std.proofs.Common.{◌∙◌, ◌+◌, List, [], map, ap, arith, length}
+use Rattle.std.proofs.Common.{◌∙◌, ◌+◌, List, map, ap, arith, length, subst, sym}
 use Rattle.std.specs.Prelude.{slice_get}
 use Rattle.thumb_model.specs.Listing.{Line, places_of, is_op_place}
 use Rattle.thumb_model.specs.Rewritten.{replaced_lines}
 use Rattle.listing_parser.specs.declared.line.Line.{Line as Lines}
-use Rattle.listing_parser.specs.TableWords.{first_twice}
+use Rattle.listing_parser.specs.TableWords.{DefineOnce}
 use Rattle.listing_parser.specs.Views.{line_view}
 use Rattle.listing_parser.specs.Replacing.{own_line}
 use Rattle.listing_parser.proofs.ReplaceLemmas.{still_once, still_few}
@@ -20,4 +20,4 @@ of-requires-clause-few c =
 pub of-requires-clause-once : goal.of-requires-clause-once
 of-requires-clause-once c =
     let all = c.in_ok-lines.ensures ∙ ap (λ (ls : List Lines). replaced_lines own_line c.args.place c.args.count c.args.instrs.now (map line_view ls)) c.deref.ensures.value in
-    ap (first_twice 1 []) all ∙ still_once own_line c.args.place c.args.count c.args.instrs.now (map line_view c.self.inside.lines.items) c.self.invariant.once
+    subst DefineOnce (sym all) (still_once own_line c.args.place c.args.count c.args.instrs.now (map line_view c.self.inside.lines.items) c.self.invariant.once)

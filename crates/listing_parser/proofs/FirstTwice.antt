@@ -1,0 +1,9 @@
+-- The first line that defines a name again, as it is found line by line with the names that are known so far.
+use Rattle.std.specs.Prelude.{ℕ, ◌+◌, List, [], ◌∷◌, ◌++◌, Option, Some, None, if◌then◌else◌}
+use Rattle.thumb_model.specs.Listing.{Name, Line}
+use Rattle.listing_parser.specs.TableWords.{defined_in, is_again}
+
+-- the first line, counted from n, that defines a name which is known or defined before
+abbrev pub first_twice : ℕ → List Name → List Line → Option ℕ
+first_twice n known [] = None
+first_twice n known (l ∷ ls) = if is_again known (defined_in l) then Some n else first_twice (n + 1) (known ++ defined_in l) ls
