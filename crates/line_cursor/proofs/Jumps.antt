@@ -1,8 +1,9 @@
 -- The places from which a way leads to a place, one place more at a time.
-use Rattle.std.proofs.Common.{◌≡◌, ℕ, zero, suc, ◌+◌, ◌-◌, ◌<◌, ◌≤◌, Bool, true, List, [], ◌∷◌, ◌++◌, length, length-append, take, drop, map, get_or, Option, Some, None, refl, sym, ap, ◌∙◌, subst, ◌⊎◌, inl, inr, arith, eq-eqb, eqb-true}
+use Rattle.std.proofs.Common.{◌≡◌, ℕ, zero, suc, ◌+◌, ◌-◌, ◌<◌, ◌≤◌, Bool, true, List, [], ◌∷◌, ◌++◌, length, length-append, take, drop, drop-cons, map, reverse, get_or, Option, Some, None, refl, sym, ap, ◌∙◌, subst, ◌⊎◌, inl, inr, arith, eq-eqb, eqb-true}
 use Rattle.std.specs.Prelude.{slice_get}
 use Rattle.std.specs.Option.{option_map}
 use Rattle.std.proofs.lemmas.Bool.{cases_lt, cases_eq}
+use Rattle.std.proofs.lemmas.List.{map-append, take_more, take-append-drop}
 use Rattle.std.proofs.lemmas.Option.{slice_get_past, slice_get_within, slice_get-map}
 use Rattle.thumb_instr.specs.declared.items.Items.{Items}
 use Rattle.thumb_instr.specs.Items.{one_of, has}
@@ -12,15 +13,15 @@ use Rattle.thumb_model.proofs.Lists.{get_front, get_back, length_map}
 use Rattle.liveness.specs.declared.growing.Source.{Source}
 use Rattle.liveness.specs.Kept.{onward_writes, HasThese, AreFlows}
 use Rattle.liveness.specs.Growing.{LeadsFrom, AreSources}
+use Rattle.listing_parser.specs.Views.{line_view}
 use Rattle.line_cursor.specs.declared.cursor.Spot.{Spot}
 use Rattle.listing_parser.specs.declared.line.Line.{Line as Lines}
 use Rattle.line_cursor.specs.declared.sources.Target.{Target}
 use Rattle.line_cursor.specs.Lines.{lines_in, lines_of}
-use Rattle.line_cursor.specs.Cursors.{flows_of}
-use Rattle.line_cursor.specs.Sources.{is_point, jumps, jumped, IsAdded, IsListed, AreJumps, IsOnward, IsTarget}
-use Rattle.line_cursor.proofs.Labels.{taken_push}
+use Rattle.line_cursor.specs.declared.cursor.Cursor.{Cursor}
+use Rattle.line_cursor.specs.Cursors.{flows_of, lines_ahead, lines_at, lines_behind, IsCursor}
+use Rattle.line_cursor.specs.Sources.{is_point, jumps, jumped, lines_held, IsAdded, IsListed, AreJumps, IsOnward, IsTarget}
 use Rattle.line_cursor.proofs.Nearer.{places_append}
-use Rattle.line_cursor.proofs.Targets.{all_cut}
 use Rattle.line_cursor.proofs.Ways.{jump_is, onward_is, jump_found, onward_found}
 
 -- ---- where ways lead ----
@@ -217,11 +218,17 @@ pub jumps_target : (lines : List Line) (t : Target) (place : ℕ) (sources : Lis
 jumps_target lines t place sources is e js =
     subst (λ s. AreJumps (code_of lines) s (is_point s (code_of lines)) (length (places_of lines)) sources) e (subst (λ b. AreJumps (code_of lines) t.place b (length (places_of lines)) sources) is.is_point js)
 
--- ---- the loop over pieces ----
+-- ---- the loop over lines ----
+
+all_cut : (pieces : List Lines) (i : ℕ) (x : Lines) → i < length pieces → x ≡ get_or pieces i x → lines_of pieces ≡ lines_of (take i pieces) ++ (lines_in x ++ lines_of (drop (suc i) pieces))
+all_cut pieces i x h e =
+    ap lines_of (sym (take-append-drop i pieces)) ∙ map-append line_view (take i pieces) (drop i pieces)
+    ∙ ap (λ (l : List Lines). lines_of (take i pieces) ++ lines_of l) (drop-cons pieces i x h)
+    ∙ ap (λ (y : Lines). lines_of (take i pieces) ++ (lines_in y ++ lines_of (drop (suc i) pieces))) (sym e)
 
 pub taken_count : (pieces : List Lines) (i : ℕ) (x : Lines) → i < length pieces → x ≡ get_or pieces i x → length (places_of (lines_of (take (i + 1) pieces))) ≡ length (places_of (lines_of (take i pieces))) + length (places_of (lines_in x))
 taken_count pieces i x h e =
-    ap (λ (ls : List Line). length (places_of ls)) (taken_push pieces i x h e) ∙ ap (λ (ps : List Place). length ps) (places_append (lines_of (take i pieces)) (lines_in x))
+    ap (λ (ls : List Line). length (places_of ls)) (ap lines_of (take_more pieces i x h ∙ ap (λ (y : Lines). take i pieces ++ y ∷ []) (sym e)) ∙ map-append line_view (take i pieces) (x ∷ [])) ∙ ap (λ (ps : List Place). length ps) (places_append (lines_of (take i pieces)) (lines_in x))
     ∙ length-append (places_of (lines_of (take i pieces))) (places_of (lines_in x))
 
 pub taken_within : (pieces : List Lines) (i : ℕ) (x : Lines) → i < length pieces → x ≡ get_or pieces i x → length (places_of (lines_of (take i pieces))) + length (places_of (lines_in x)) ≤ length (places_of (lines_of pieces))
@@ -244,3 +251,15 @@ taken_stands pieces i x at h e n j l =
 pub added_these : (o : Option (List ℕ)) (at : ℕ) (old new : List Source) (s : Items) → HasThese o (Some s) → new ≡ old ++ record { place = at; writes = s } ∷ [] → IsAdded o at old new
 added_these None at old new s h e = absurd h
 added_these (Some list) at old new s h e = (record { place = at; writes = s }, e, refl, h)
+
+-- ---- the lines of a cursor ----
+
+pub held_lines : (c : Cursor) → lines_of (lines_held c) ≡ lines_at c
+held_lines c = map-append line_view c.behind.items (reverse c.ahead.items)
+
+-- as many spots as places
+pub held_count : (c : Cursor) → IsCursor c → length c.passed.items + length c.coming.items ≡ length (places_of (lines_of (lines_held c)))
+held_count c is =
+    let n = ap (λ (ls : List Line). length (places_of ls)) (held_lines c) in
+    let m = ap (λ (ps : List Place). length ps) (places_append (lines_behind c) (lines_ahead c)) in
+    omega (arith, n, m, length-append (places_of (lines_behind c)) (places_of (lines_ahead c)), is.passed, is.coming)

@@ -10,4 +10,5 @@ mod Carried
 mod Ways
 mod Jumps
 mod Targets
-mod Marked
+mod Sights
+mod Points
