@@ -49,7 +49,7 @@ fn settings(learn: &Learn<'_>) -> Settings
 }
 
 /// What is kept and printed of a table.
-fn kept(alloc: Global, out: &str, table: &Table) -> Result<Outcome, rule_table::Memory>
+fn kept(alloc: Global, out: &str, table: &Table) -> Result<Outcome, AllocError>
     requires valid { IsTable (table_of table.now) }
     requires fits { text_length (table_of table.now) ≤ text_limit }
     ensures { IfOk result (λ o. outcome_view o ≡ kept_table out.now (table_of table.now)) }

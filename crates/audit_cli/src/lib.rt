@@ -16,6 +16,6 @@ mod top;
 mod trace;
 mod trace_lines;
 
-pub use command_line::{Command, Memory, usage_of};
+pub use command_line::{Command, usage_of};
 pub use command_runs::Status;
 pub use top::peep;

@@ -2,7 +2,7 @@ ghost use Rattle.std.specs.Prelude.{◌≡◌, ◌≢◌, ℕ, ◌+◌, ◌-◌,
 ghost use Rattle.clause_arena.specs.Contents.{Content, Clause, literals_of, chain_of, HasClause, HasLiteral, Watches, IsWatch, WatchesNothing, IsFree, IsWhole, watched, with_chain, with_clause, with_dropped, is_dropped_of, references_of, IsBetween, IsAfter};
 ghost use Rattle.clause_arena.specs.Words.{place_of};
 
-use crate::memory::Memory;
+use crate::Memory;
 use crate::reference::Ref;
 use std::alloc::Global;
 use std::marker::Model;

@@ -1,22 +1,6 @@
+pub use std::alloc::AllocError as Memory;
 use std::alloc::{AllocError, AllocFailed};
 use thiserror::Error;
-
-/// Want of memory.
-#[derive(Clone, Copy, Debug, PartialEq, Eq, Error)]
-#[error("out of memory")]
-pub struct Memory;
-
-impl From<AllocError> for Memory {
-    fn from(_: AllocError) -> Memory {
-        Memory
-    }
-}
-
-impl<T: Drop> From<AllocFailed<T>> for Memory {
-    fn from(_: AllocFailed<T>) -> Memory {
-        Memory
-    }
-}
 
 /// Why no bit was made. The builder is then as it was before.
 #[derive(Clone, Copy, Debug, PartialEq, Eq, Error)]

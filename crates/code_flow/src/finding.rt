@@ -1,49 +1,17 @@
 //! The ways of an instruction, a row for each form.
-ghost use Rattle.std.specs.Prelude.{◌≡◌, ◌<◌, ◌≤◌, ◌-◌, ◌^◌, ℕ, List, [], ◌∷◌, Option, Some, None, slice_get, is_some, option_map};
+ghost use Rattle.std.specs.Prelude.{◌≡◌, ◌<◌, ◌≤◌, ◌-◌, ◌^◌, ℕ, List, [], ◌∷◌, Option, Some, None};
 ghost use Rattle.thumb_instr.specs.Items.{one_of, has};
 ghost use Rattle.thumb_instr.specs.Shape.{uses_of, writes_of};
-ghost use Rattle.thumb_model.specs.Listing.{code_of, is_op_place, places_of};
-ghost use Rattle.thumb_model.specs.Machine.{aim_of, answered, handed, registers_left};
-ghost use Rattle.thumb_model.specs.Flow.{way, ways, ways_of, jump_way, call_way, Onward};
-ghost use Rattle.listing_parser.specs.Views.{mention_view};
+ghost use Rattle.thumb_model.specs.Machine.{answered, handed, registers_left};
+ghost use Rattle.thumb_model.specs.Flow.{way, ways_of, jump_way, call_way, Onward};
 ghost use Rattle.code_flow.specs.Flow.{AreWays, IsWay, way_list};
 
 use crate::way::{Next, Way, Ways};
-use listing_parser::{Listing, Mention, Place};
 use thumb_instr::items::{C, LR, N, SP, V, Z};
 use thumb_instr::{General, Instr, Items, StackList, shape};
 
-/// The ways on from a place: what stands there, and where it may go on. None exactly at a data word or past the last place.
-pub fn ways(listing: &Listing, place: u32) -> Option<Ways>
-    ensures some { is_some result ≡ is_op_place (slice_get (places_of listing.now) place) }
-    ensures ways { AreWays place (ways (code_of listing.now) place) (way_list result) }
-{
-    if place >= listing.place_count() {
-        return None;
-    }
-    match listing.place(place) {
-        None => None,
-        Some(found) => match found {
-            Place::Word(_) => None,
-            Place::Op { instr, mention } => {
-                Some(ways_of(&instr, target(listing, mention), place))
-            }
-        },
-    }
-}
-
-/// The place of the code label that is mentioned.
-fn target(listing: &Listing, mention: Option<&Mention>) -> Option<u32>
-    ensures { result ≡ aim_of (code_of listing.now) (option_map (λ r. mention_view r.now) mention.entry) }
-{
-    match mention {
-        None => None,
-        Some(mention) => listing.place_of(mention.name.as_slice()),
-    }
-}
-
-/// The ways of an instruction at a place. `target` is the place of the code label that it mentions.
-fn ways_of(instr: &Instr, target: Option<u32>, place: u32) -> Ways
+/// The ways on from an instruction at a place. `target` is the place of the code label that it mentions.
+pub fn ways_of(instr: &Instr, target: Option<u32>, place: u32) -> Ways
     requires { place < 2 ^ 32 - 1 }
     ensures { AreWays place (ways_of target instr.now) (way_list (Some result)) }
 {

@@ -3,8 +3,6 @@ ghost use Rattle.std.specs.Prelude.{◌≡◌, ◌≤◌, ◌%◌, Some, None, i
 ghost use Rattle.command_line.specs.CommandLine.{is_base};
 
 use seq_enum::Pool;
-use std::alloc::AllocError;
-use thiserror::Error;
 use thumb_instr::Within;
 
 /// The greatest base of an image.
@@ -80,8 +78,3 @@ pub enum Command {
         windows: Within<1, 20_001>,
     },
 }
-
-/// Memory was refused.
-#[derive(Debug, Drop, Error)]
-#[error("out of memory")]
-pub struct Memory(#[from(alloc)] AllocError);

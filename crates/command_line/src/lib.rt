@@ -21,7 +21,7 @@ mod values;
 
 use clap::ArgMatches;
 use clap::error::ErrorKind;
-pub use command::{Base, Command, Memory};
+pub use command::{Base, Command};
 use std::alloc::{AllocError, Global};
 
 /// The words as texts.
@@ -56,7 +56,7 @@ fn matches_of<'a>(alloc: Global, words: &'a [&'a str]) -> Result<Option<ArgMatch
 }
 
 /// The command that the words after the program's name are, or None where they are none. The one error is want of memory.
-pub fn usage_of(alloc: Global, words: &[String]) -> Result<Option<Command>, Memory>
+pub fn usage_of(alloc: Global, words: &[String]) -> Result<Option<Command>, AllocError>
     ensures exact { IfOk result (λ o. MatchOption o
         ((r : Request) → AskFor (map string_bytes words.now) r → ⊥)
         (λ c. AskFor (map string_bytes words.now) (request_of c))) }

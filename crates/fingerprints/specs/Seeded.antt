@@ -2,15 +2,7 @@
 use Rattle.std.specs.Prelude.{◌≡◌, ℕ, ◌%◌, zero, suc, List, [], ◌∷◌, slice_get, Some}
 use Rattle.rand_pcg.specs.Lcg.{Lcg, started, increment_of}
 use Rattle.rand_pcg.specs.Pcg.{pcg32, multiplier_64}
-use Rattle.window_exec.specs.declared.state.WState.{WState}
-
--- what a state holds: r0 to r3, and the flags with N as 8, Z as 4, C as 2 and V as 1
-pub record Seen : Type 0 where
-  pub r : List ℕ
-  pub nzcv : ℕ
-
-abbrev pub seen : WState → Seen
-seen s = record { r = s.r; nzcv = s.nzcv }
+use Rattle.window_exec.specs.State.{Seen}
 
 -- the next state, and the generator after it
 abbrev pub next_state : Lcg → Seen × Lcg

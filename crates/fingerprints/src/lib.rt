@@ -4,7 +4,6 @@
 
 mod arranging;
 mod columns;
-mod errors;
 mod index;
 mod lanes;
 pub mod laws;
@@ -13,9 +12,8 @@ mod sequences;
 mod states;
 mod stepping;
 
-pub use errors::Memory;
 pub use index::Index;
 pub use lanes::Lanes;
 pub use print::print_of;
-pub use states::{States, first_state_of_42, seeded};
+pub use states::{first_state_of_42, seeded};
 pub use stepping::step8;

@@ -10,9 +10,9 @@ ghost use Rattle.fingerprints.specs.Words.{AreWordsAt};
 
 use crate::columns::Column;
 use crate::lanes::Lanes;
-use crate::states::States;
 use thumb_instr::items::{C, N, V, Z};
 use thumb_instr::{Mask, Seq};
+use window_exec::States;
 
 /// The print so far with one more word.
 #[inline(always)]

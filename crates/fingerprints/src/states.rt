@@ -1,51 +1,12 @@
 ghost use Rattle.std.specs.Prelude.{◌≡◌, ◌<◌, [], ◌∷◌, map, IfOk};
 ghost use Rattle.rand_pcg.specs.Lcg.{started, increment_of};
-ghost use Rattle.fingerprints.specs.Seeded.{next_state, seeded_states, seen, FirstOf42};
+ghost use Rattle.window_exec.specs.State.{seen};
+ghost use Rattle.fingerprints.specs.Seeded.{next_state, seeded_states, FirstOf42};
 
-use crate::errors::Memory;
 use rand_core::utils::NextWord;
 use rand_pcg::Lcg64Xsh32;
 use std::alloc::{AllocError, Global};
-use std::marker::Model;
-use window_exec::WState;
-
-/// A list of states.
-#[derive(Drop)]
-pub struct States {
-    states: Vec<WState>,
-}
-
-impl Model for States {
-    ghost use Rattle.std.specs.Prelude.{List};
-    ghost use Rattle.window_exec.specs.declared.state.WState.{WState};
-
-    ghost Value = { List WState };
-
-    ghost view = { λ s. s.states.items };
-}
-
-impl States {
-    /// The states of a vector.
-    pub fn new(states: Vec<WState>) -> States
-        ensures { result ≡ states.items }
-    {
-        States { states }
-    }
-
-    /// The states, from the first on.
-    pub fn as_slice(&self) -> &[WState]
-        ensures { result.now ≡ self.now }
-    {
-        &self.states
-    }
-
-    /// The vector of the states.
-    pub fn into_vec(self) -> Vec<WState>
-        ensures { result.items ≡ self }
-    {
-        self.states
-    }
-}
+use window_exec::{States, WState};
 
 /// The next state that the generator gives: four words for r0 to r3, and one whose low four bits are the flags.
 fn next_state(rng: &mut Lcg64Xsh32) -> WState
@@ -64,7 +25,7 @@ fn next_state(rng: &mut Lcg64Xsh32) -> WState
 }
 
 /// The 64 states of a seed, by the generator PCG XSH RR 64/32 with stream 54.
-pub fn seeded(alloc: Global, seed: u32) -> Result<States, Memory>
+pub fn seeded(alloc: Global, seed: u32) -> Result<States, AllocError>
     ensures { IfOk result (λ states. map seen states ≡ seeded_states seed) }
 {
     let states = seeded_vec(alloc, seed)?;

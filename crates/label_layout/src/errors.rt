@@ -1,4 +1,4 @@
-use listing_parser::Memory;
+use std::alloc::AllocError;
 use thiserror::Error;
 
 /// Why a line cannot be laid out.
@@ -22,13 +22,13 @@ pub enum LayoutError {
     Memory,
 }
 
-impl From<Memory> for LayoutError {
+impl From<AllocError> for LayoutError {
     ghost use Rattle.std.specs.Prelude.{◌≡◌};
     ghost use Rattle.label_layout.specs.declared.errors.LayoutError.TheVariants.{Memory as OfMemory};
 
     ghost from_gives = { λ _ e. e ≡ OfMemory };
 
-    fn from(_: Memory) -> LayoutError {
+    fn from(_: AllocError) -> LayoutError {
         LayoutError::Memory
     }
 }

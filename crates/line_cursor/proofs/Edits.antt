@@ -65,14 +65,8 @@ record IsOpPiece (x : Lines) : Type 0 where
   op : is_op line.statement ≡ true
   left : labels_left x ≡ labels_kept line line.names
 
-no_op_kept : (l : Line) (ns : List Name) → begins_op (labels_kept l ns) ≡ true → ⊥
-no_op_kept l [] h = absurd (cc)
-no_op_kept l (n ∷ ns) h = absurd (cc)
-
 op_piece : (x : Lines) → begins_op (lines_in x) ≡ true → IsOpPiece x
-op_piece (piece.Line l) h = record { line = line_view l.now; is = refl; op = h; left = refl }
-op_piece (piece.Labels l) h = absurd (no_op_kept (line_view l.now) (names_view l.now) h)
-op_piece (piece.New i) h = record { line = new_line own_line i; is = refl; op = refl; left = refl }
+op_piece x h = record { line = line_view x; is = refl; op = h; left = refl }
 
 -- ---- skipping ----
 

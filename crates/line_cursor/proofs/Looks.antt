@@ -8,8 +8,8 @@ use Rattle.window_runs.specs.declared.rows.Row.{Row}
 use Rattle.window_runs.specs.Rows.{is_unlabelled, letter_of, rows_of, stays_joined, rows_from}
 use Rattle.window_runs.specs.Runs.{run}
 use Rattle.listing_parser.specs.declared.line.Line.{Line as Lines}
-use Rattle.line_cursor.specs.declared.looks.Look.{Look}
-use Rattle.line_cursor.specs.declared.looks.Look.TheVariants as look
+use Rattle.line_cursor.specs.declared.held.Look.{Look}
+use Rattle.line_cursor.specs.declared.held.Look.TheVariants as look
 use Rattle.thumb_model.specs.Rewritten.{labels_kept}
 use Rattle.listing_parser.specs.Views.{line_view, names_view}
 use Rattle.line_cursor.specs.Lines.{lines_in, lines_of}
@@ -92,13 +92,7 @@ piece_goes begins n (l ∷ []) ls h = line_goes begins n l.names l.statement ls
 piece_goes begins n (l ∷ m ∷ ms) ls h = absurd (omega arith)
 
 pub piece_short : (x : Lines) → length (lines_in x) ≤ 1
-piece_short (piece.Line l) = omega arith
-piece_short (piece.New i) = omega arith
-piece_short (piece.Labels l) = kept (line_view l.now) (names_view l.now)
-  where
-    kept : (k : Line) (ns : List Name) → length (labels_kept k ns) ≤ 1
-    kept k [] = omega arith
-    kept k (n ∷ ns) = omega arith
+piece_short x = omega arith
 
 -- ---- the loop over pieces backward ----
 

@@ -3,8 +3,8 @@ use Rattle.std.specs.Prelude.{◌||◌, Bool, List, [], ◌∷◌, Option, Some,
 use Rattle.thumb_instr.specs.declared.instr.Instr.{Instr}
 use Rattle.thumb_model.specs.Listing.{Statement, Nothing, Runs, Words, Aligns, Sets, Line}
 use Rattle.window_runs.specs.Rows.{is_unlabelled, letter_of}
-use Rattle.line_cursor.specs.declared.looks.Look.{Look}
-use Rattle.line_cursor.specs.declared.looks.Look.TheVariants as look
+use Rattle.line_cursor.specs.declared.held.Look.{Look}
+use Rattle.line_cursor.specs.declared.held.Look.TheVariants as look
 
 abbrev pub look_letter : Option Instr → Look
 look_letter None = look.End

@@ -15,7 +15,7 @@ ghost use Rattle.line_cursor.specs.Lines.{begins_op, lines_in, lines_of};
 ghost use Rattle.line_cursor.specs.Leads.{mended};
 ghost use Rattle.line_cursor.specs.Cursors.{flows_of, lines_ahead, lines_at, lines_behind, place_at, sets_of, spots_at, stands_at, AreAhead, IsCursor, IsSettled};
 
-use crate::looks::{Look, give_way, is_labelled, is_op, places_of, seen, straight_in};
+use crate::held::{Look, give_way, is_labelled, is_op, places_of, seen, straight_in};
 use arrayvec::ArrayVec;
 use listing_parser::{Line, Memory};
 use liveness::{Flow, NewSets};
@@ -286,7 +286,7 @@ impl Cursor {
 
     /// All lines, in order.
     pub fn into_lines(self) -> Result<Vec<Line>, Memory>
-        ensures { IfOk result (λ v. map line_view v.items ≡ lines_at self.entry) }
+        ensures { IfOk result (λ v. map line_view v.items ≡ lines_at self) }
     {
         let mut lines = self.behind;
         let mut ahead = self.ahead;

@@ -3,7 +3,7 @@
 
 mod carrying;
 pub mod cursor;
-pub mod looks;
+pub mod held;
 mod sources;
 
 pub use cursor::{Cursor, Spot};

@@ -1,28 +1,6 @@
+pub use std::alloc::AllocError as Memory;
 use std::alloc::{AllocError, AllocFailed};
 use thiserror::Error;
-
-/// Want of memory.
-#[derive(Clone, Copy, Debug, PartialEq, Eq, Error)]
-#[error("out of memory")]
-pub struct Memory;
-
-impl From<AllocError> for Memory {
-    fn from(_: AllocError) -> Memory {
-        Memory
-    }
-}
-
-impl<T: Drop> From<AllocFailed<T>> for Memory {
-    fn from(_: AllocFailed<T>) -> Memory {
-        Memory
-    }
-}
-
-impl From<thumb_syntax::Memory> for Memory {
-    fn from(_: thumb_syntax::Memory) -> Memory {
-        Memory
-    }
-}
 
 /// Why a line is refused. `as u8` gives the number by which it is told.
 #[derive(Clone, Copy, Debug, PartialEq, Eq)]
@@ -46,17 +24,6 @@ pub enum ListingError {
     /// Want of memory.
     #[error("out of memory")]
     Memory,
-}
-
-impl From<Memory> for ListingError {
-    ghost use Rattle.std.specs.Prelude.{◌≡◌};
-    ghost use Rattle.listing_parser.specs.declared.errors.ListingError.TheVariants.{Memory as OfMemory};
-
-    ghost from_gives = { λ _ e. e ≡ OfMemory };
-
-    fn from(_: Memory) -> ListingError {
-        ListingError::Memory
-    }
 }
 
 impl From<AllocError> for ListingError {

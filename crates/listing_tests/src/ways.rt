@@ -1,5 +1,6 @@
-use code_flow::{Next, Way, ways};
+use code_flow::{Next, Way};
 use listing_parser::parse;
+use liveness::ways;
 use std::test::Fail;
 use thumb_instr::Items;
 

@@ -3,10 +3,11 @@ ghost use Rattle.thumb_model.specs.Listing.{code_of, places_of};
 ghost use Rattle.liveness.specs.Ways.{AreAllWays};
 ghost use Rattle.liveness.specs.Live.{IsLive};
 
+use crate::leaving::ways;
 use crate::passes::settle;
 use crate::points::all_points;
 use crate::sets::Live;
-use code_flow::{Ways, ways};
+use code_flow::Ways;
 use listing_parser::{Listing, Memory};
 use std::alloc::{AllocError, Global};
 use step_ledger::{Ledger, Steps};

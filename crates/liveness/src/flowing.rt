@@ -1,17 +1,18 @@
 //! What a place reads, and what it writes on its way to the next place.
-ghost use Rattle.std.specs.Prelude.{◌≡◌, ℕ, true, None, IfOk, option_map};
+ghost use Rattle.std.specs.Prelude.{◌≡◌, ℕ, Option, true, None, Some, IfOk, IfSome, slice_get};
 ghost use Rattle.thumb_instr.specs.Items.{has, one_of};
 ghost use Rattle.thumb_instr.specs.Window.{is_in_window};
-ghost use Rattle.thumb_model.specs.Listing.{code_of};
-ghost use Rattle.thumb_model.specs.Machine.{aim_of, answered};
+ghost use Rattle.thumb_model.specs.Listing.{code_of, places_of, Op, Mention as Mentioned};
+ghost use Rattle.thumb_model.specs.Machine.{answered};
 ghost use Rattle.thumb_model.specs.Flow.{ways, ways_of};
 ghost use Rattle.code_flow.specs.Flow.{way_list};
-ghost use Rattle.listing_parser.specs.Views.{mention_view};
-ghost use Rattle.liveness.specs.Kept.{some_reads, onward_writes, HasThese, FlowOf, AreFlows};
+ghost use Rattle.liveness.specs.Kept.{is_straight, some_reads, onward_writes, HasThese, FlowOf, AreFlows};
 ghost use Rattle.liveness.specs.Through.{uses_among};
 
-use code_flow::{Ways, ways};
-use listing_parser::{Listing, Mention, Place};
+use crate::kept::is_straight;
+use crate::leaving::{target, ways};
+use code_flow::Ways;
+use listing_parser::{Listing, Place};
 use std::alloc::{AllocError, Global};
 use thumb_instr::items::{C, LR, N, V, Z};
 use thumb_instr::{Instr, Items, shape};
@@ -60,8 +61,42 @@ pub fn flow_of(instr: &Instr) -> Flow
     }
 }
 
-/// The flow of a place.
+/// The flow of an instruction that goes straight on.
+fn straight_flow(instr: &Instr) -> Flow
+    requires { is_straight instr.now ≡ true }
+    ensures { (aim : Option ℕ) → FlowOf (ways_of aim instr.now) result }
+{
+    let shape = shape(instr);
+    Flow {
+        reads: shape.uses,
+        onward: Some(shape.writes),
+    }
+}
+
+/// The instruction of a place, where it goes straight on.
+fn straight_at(listing: &Listing, place: u32) -> Option<Instr>
+    ensures { IfSome result (λ i. (is_straight i ≡ true) × (m : Option Mentioned) × (slice_get (places_of listing.now) place ≡ Some (Op i m))) }
+{
+    match listing.place(place) {
+        Some(Place::Op { instr, mention: _ }) => {
+            if is_straight(&instr) { Some(instr) } else { None }
+        }
+        _ => None,
+    }
+}
+
+/// The flow of a place. Most go straight on, and then neither labels nor ways are looked up.
 fn flow_at(listing: &Listing, place: u32) -> Flow
+    ensures { FlowOf (ways (code_of listing.now) place) result }
+{
+    match straight_at(listing, place) {
+        Some(instr) => straight_flow(&instr),
+        None => branching_flow(listing, place),
+    }
+}
+
+/// The flow of a place by its ways.
+fn branching_flow(listing: &Listing, place: u32) -> Flow
     ensures { FlowOf (ways (code_of listing.now) place) result }
 {
     Flow {
@@ -93,16 +128,6 @@ fn onward_at(listing: &Listing, place: u32) -> Option<Items>
             Place::Word(_) => None,
             Place::Op { instr, mention } => onward(&instr, target(listing, mention)),
         },
-    }
-}
-
-/// The place of the code label that is mentioned.
-fn target(listing: &Listing, mention: Option<&Mention>) -> Option<u32>
-    ensures { result ≡ aim_of (code_of listing.now) (option_map (λ r. mention_view r.now) mention.entry) }
-{
-    match mention {
-        None => None,
-        Some(mention) => listing.place_of(mention.name.as_slice()),
     }
 }
 

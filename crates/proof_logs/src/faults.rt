@@ -1,6 +1,6 @@
 ghost use Rattle.std.specs.Prelude.{◌≡◌};
 
-use cnf_gates::Memory;
+use std::alloc::AllocError;
 use thiserror::Error;
 
 /// Why a proof is refused.
@@ -17,12 +17,12 @@ pub enum ProofFault {
     Memory,
 }
 
-impl From<Memory> for ProofFault {
+impl From<AllocError> for ProofFault {
     ghost use Rattle.proof_logs.specs.declared.faults.ProofFault.TheVariants.{Memory};
 
     ghost from_gives = { λ _ e. e ≡ Memory };
 
-    fn from(_error: Memory) -> Self {
+    fn from(_error: AllocError) -> Self {
         ProofFault::Memory
     }
 }

@@ -1,6 +1,6 @@
 -- What a line says, without where it lies in memory.
 use Rattle.lrat_check.specs.Content.{content_of}
-use Rattle.fingerprints.specs.Seeded.{seen}
+use Rattle.window_exec.specs.State.{seen}
 use Rattle.rule_table.specs.declared.item.Item.{Item as Code}
 use Rattle.rule_table.specs.declared.item.Item.TheVariants as code
 use Rattle.rule_table.specs.Text.{Item, Version, Regs, Longest, Seed, Budget, Pool, State, Entry, Left, Right, Mask, Proof, Logged, Open, End}

@@ -1,7 +1,7 @@
 -- What tables and entries hold.
 use Rattle.std.specs.Prelude.{map}
 use Rattle.lrat_check.specs.Content.{content_of}
-use Rattle.fingerprints.specs.Seeded.{seen}
+use Rattle.window_exec.specs.State.{seen}
 use Rattle.rule_table.specs.declared.table.Open as opening
 use Rattle.rule_table.specs.declared.table.Entry as entry
 use Rattle.rule_table.specs.declared.table.Table as code

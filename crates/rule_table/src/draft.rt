@@ -1,7 +1,7 @@
 //! What has been read of a table behind its first lines. A line changes it in place.
 ghost use Rattle.std.specs.Prelude.{◌≡◌, ◌<◌, ◌∷◌, ◌++◌, [], map, length, IfOk, OnOk, MatchOption};
 ghost use Rattle.lrat_check.specs.Content.{content_of};
-ghost use Rattle.fingerprints.specs.Seeded.{seen};
+ghost use Rattle.window_exec.specs.State.{seen};
 ghost use Rattle.rule_table.specs.Table.{Table as Held};
 ghost use Rattle.rule_table.specs.Views.{table_of, rule_of, opened_of};
 ghost use Rattle.rule_table.specs.ItemView.{item_of};
@@ -9,14 +9,12 @@ ghost use Rattle.rule_table.specs.StageView.{draft_stage, goes};
 ghost use Rattle.rule_table.specs.Grammar.{step, is_empty, with_state, with_rule, with_opened, Stated as stated, Sided as sided, Masked as masked, Proved as proved, Opening as opening, Done as done};
 ghost use Rattle.rule_table.specs.declared.draft.Part.TheVariants as part;
 
-use crate::errors::Memory;
 use crate::item::Item;
 use crate::table::{Entry, Open, Table};
-use fingerprints::States;
 use std::alloc::{AllocError, Global};
 use std::mem;
 use thumb_instr::{Instr, Items, Mask, Seq};
-use window_exec::WState;
+use window_exec::{States, WState};
 
 /// How far the lines behind the first ones have come.
 #[derive(Clone, Copy)]
@@ -73,7 +71,7 @@ fn is_empty(instrs: &[Instr]) -> bool
 }
 
 /// Puts one more state into a table.
-fn add_state(alloc: Global, table: &mut Table, state: WState) -> Result<(), Memory>
+fn add_state(alloc: Global, table: &mut Table, state: WState) -> Result<(), AllocError>
     ensures { OnOk result (table_of table.new ≡ with_state (table_of table.old) (seen state)) }
 {
     let mut states = mem::replace(&mut table.states, States::new(Vec::new(alloc))).into_vec();
@@ -105,7 +103,7 @@ impl Draft {
     }
 
     /// Puts the entry that was read behind the others.
-    fn keep_entry(&mut self, alloc: Global) -> Result<(), Memory>
+    fn keep_entry(&mut self, alloc: Global) -> Result<(), AllocError>
         ensures { OnOk result (table_of self.new.table ≡ with_rule (table_of self.old.table) (rule_of self.old.entry)) }
     {
         let entry = mem::replace(&mut self.entry, empty(alloc));
@@ -114,7 +112,7 @@ impl Draft {
     }
 
     /// Puts the number that was opened last behind the others of its entry.
-    fn keep_open(&mut self, alloc: Global) -> Result<(), Memory>
+    fn keep_open(&mut self, alloc: Global) -> Result<(), AllocError>
         ensures entry { OnOk result (rule_of self.new.entry ≡ with_opened (rule_of self.old.entry) (opened_of self.old.last)) }
         ensures table { OnOk result (table_of self.new.table ≡ table_of self.old.table) }
         ensures part { self.new.part ≡ self.old.part }
@@ -126,7 +124,7 @@ impl Draft {
 
     /// Goes on by one line; false where it may not follow.
     #[tactic(auto, unfolding(crate::specs::Grammar::step))]
-    pub(crate) fn take(&mut self, alloc: Global, item: Item) -> Result<bool, Memory>
+    pub(crate) fn take(&mut self, alloc: Global, item: Item) -> Result<bool, AllocError>
         ensures { IfOk result (λ b. goes b (draft_stage self.new) ≡ step (draft_stage self.old) (item_of item)) }
     {
         match self.part {
@@ -140,7 +138,7 @@ impl Draft {
     }
 
     #[tactic(auto, unfolding(crate::specs::Grammar::step))]
-    fn take_stated(&mut self, alloc: Global, item: Item) -> Result<bool, Memory>
+    fn take_stated(&mut self, alloc: Global, item: Item) -> Result<bool, AllocError>
         requires { self.old.part ≡ part.Stated }
         ensures { IfOk result (λ b. goes b (draft_stage self.new) ≡ step (stated (table_of self.old.table)) (item_of item)) }
     {
@@ -213,7 +211,7 @@ impl Draft {
     }
 
     #[tactic(auto, unfolding(crate::specs::Grammar::step))]
-    fn take_proved(&mut self, alloc: Global, item: Item) -> Result<bool, Memory>
+    fn take_proved(&mut self, alloc: Global, item: Item) -> Result<bool, AllocError>
         requires { self.old.part ≡ part.Proved }
         ensures { IfOk result (λ b. goes b (draft_stage self.new) ≡ step (proved (table_of self.old.table) (rule_of self.old.entry)) (item_of item)) }
     {
@@ -242,7 +240,7 @@ impl Draft {
     }
 
     #[tactic(auto, unfolding(crate::specs::Grammar::step))]
-    fn take_opening(&mut self, alloc: Global, item: Item) -> Result<bool, Memory>
+    fn take_opening(&mut self, alloc: Global, item: Item) -> Result<bool, AllocError>
         requires { self.old.part ≡ part.Opening }
         ensures { IfOk result (λ b. goes b (draft_stage self.new) ≡ step (opening (table_of self.old.table) (rule_of self.old.entry) (opened_of self.old.last)) (item_of item)) }
     {

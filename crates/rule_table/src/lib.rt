@@ -36,7 +36,7 @@ mod windows;
 mod words;
 mod writing;
 
-pub use errors::{Memory, TableError};
+pub use errors::TableError;
 pub use map::Map;
 pub use matching::matches;
 pub use reading::read_table;

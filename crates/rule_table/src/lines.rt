@@ -1,11 +1,10 @@
 //! The lines of a table's text, each written behind what is there.
 ghost use Rattle.std.specs.Prelude.{◌≡◌, ◌++◌, ◌<◌, ◌∷◌, [], decimal, codes, OnOk, map};
 ghost use Rattle.lrat_check.specs.Content.{content_of};
-ghost use Rattle.fingerprints.specs.Seeded.{seen};
+ghost use Rattle.window_exec.specs.State.{seen};
 ghost use Rattle.rule_table.specs.Text.{hex_digit, hex_of, line_of, instr_text, after_blanks, named};
 ghost use Rattle.rule_table.specs.Text as item;
 
-use crate::errors::Memory;
 use itoa::Buffer;
 use lrat_check::{Line, write_line};
 use std::alloc::{AllocError, Global};
@@ -36,7 +35,7 @@ pub(crate) fn write_instruction(
     out: &mut Vec<u8>,
     word: &[u8],
     instr: Instr,
-) -> Result<(), Memory>
+) -> Result<(), AllocError>
     ensures { OnOk result (out.new.items ≡ out.old.items ++ ((word.entry.now ++ instr_text instr) ++ 10 ∷ [])) }
 {
     let text = write_instr(alloc, &Parsed { instr, label: None })?;
@@ -47,7 +46,7 @@ pub(crate) fn write_instruction(
 }
 
 /// A line of a proof.
-pub(crate) fn write_logged(alloc: Global, out: &mut Vec<u8>, line: &Line) -> Result<(), Memory>
+pub(crate) fn write_logged(alloc: Global, out: &mut Vec<u8>, line: &Line) -> Result<(), AllocError>
     ensures { OnOk result (out.new.items ≡ out.old.items ++ (line_of (item.Logged (content_of line.entry.now)) ++ 10 ∷ [])) }
 {
     let text = write_line(alloc, line)?;

@@ -5,15 +5,15 @@ ghost use Rattle.rule_table.specs.StageView.{stage_of, goes};
 ghost use Rattle.rule_table.specs.Steps.{StepsTo};
 ghost use Rattle.rule_table.specs.Refused.{Reads};
 
-use crate::errors::{Memory, TableError};
+use crate::errors::TableError;
 use crate::stages::{Head, Reading, finished, step};
 use crate::table::Table;
 use crate::telling::read_item;
 use ascii_scan::{Lines, SourceLine};
-use std::alloc::Global;
+use std::alloc::{AllocError, Global};
 
 /// Goes on by one line; false where it lacks its newline, says nothing, or may not follow.
-fn step_line(alloc: Global, reading: &mut Reading, line: SourceLine<'_>) -> Result<bool, Memory>
+fn step_line(alloc: Global, reading: &mut Reading, line: SourceLine<'_>) -> Result<bool, AllocError>
     ensures { IfOk result (λ b. StepsTo (stage_of reading.old) (line_view line.entry) (goes b (stage_of reading.new))) }
 {
     if !line.is_ended {

@@ -8,11 +8,10 @@ ghost use Rattle.rule_table.specs.Grammar.{step, Done};
 ghost use Rattle.rule_table.specs.declared.stages.Reading.TheVariants as reading;
 
 use crate::draft::Draft;
-use crate::errors::Memory;
 use crate::item::Item;
 use crate::table::Table;
-use fingerprints::States;
-use std::alloc::Global;
+use std::alloc::{AllocError, Global};
+use window_exec::States;
 
 /// What has been read of the first lines: nothing, the first one, and then the numbers one by one.
 #[derive(Clone, Copy)]
@@ -77,7 +76,7 @@ fn step_head(alloc: Global, head: Head, item: Item) -> Option<Reading>
 }
 
 /// Goes on by one line; false where it may not follow.
-pub(crate) fn step(alloc: Global, reading: &mut Reading, item: Item) -> Result<bool, Memory>
+pub(crate) fn step(alloc: Global, reading: &mut Reading, item: Item) -> Result<bool, AllocError>
     ensures { IfOk result (λ b. goes b (stage_of reading.new) ≡ step (stage_of reading.old) (item_of item)) }
 {
     let next = match reading {

@@ -1,7 +1,7 @@
-use fingerprints::States;
 use lrat_check::Line;
 use seq_enum::Pool;
 use thumb_instr::{Mask, Seq};
+use window_exec::States;
 
 /// A sequence that is left open, by its number, with the log of a search that spent its budget.
 #[derive(Drop)]

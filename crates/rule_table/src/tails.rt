@@ -4,13 +4,12 @@ ghost use Rattle.std.specs.List.{list_all};
 ghost use Rattle.thumb_instr.specs.Items.{has as has_item, one_of};
 ghost use Rattle.thumb_instr.specs.declared.instr.Instr.{Instr};
 ghost use Rattle.seq_enum.specs.Pools.{is_pool};
-ghost use Rattle.fingerprints.specs.Seeded.{Seen, seen};
+ghost use Rattle.window_exec.specs.State.{Seen, seen};
 ghost use Rattle.rule_table.specs.Text.{after_blanks, instr_text, mask_rows, mask_text, State};
 ghost use Rattle.rule_table.specs.Valid.{IsState, IsInstr, IsMask};
 ghost use Rattle.rule_table.specs.Fronts.{strip, is_taken, left_of, taken, tail_of};
 ghost use Rattle.rule_table.specs.MaskView.{row_of};
 
-use crate::errors::Memory;
 use crate::numbers::{blank_digit, blank_words, bytes_of, words_in};
 use crate::words::strip;
 use seq_enum::Pool;
@@ -159,7 +158,7 @@ fn is_low(instr: &Instr) -> bool
 }
 
 /// Whether the text is the instruction's canonical one.
-fn is_canonical(alloc: Global, instr: Instr, text: &[u8]) -> Result<bool, Memory>
+fn is_canonical(alloc: Global, instr: Instr, text: &[u8]) -> Result<bool, AllocError>
     ensures { IfOk result (λ b. IsTrue b ↔ (instr_text instr ≡ text.now)) }
 {
     let written = write_instr(alloc, &Parsed { instr, label: None })?;
@@ -167,7 +166,7 @@ fn is_canonical(alloc: Global, instr: Instr, text: &[u8]) -> Result<bool, Memory
 }
 
 /// An instruction in its canonical text, over r0 to r3.
-pub(crate) fn instruction(alloc: Global, text: &[u8]) -> Result<Option<Instr>, Memory>
+pub(crate) fn instruction(alloc: Global, text: &[u8]) -> Result<Option<Instr>, AllocError>
     ensures { IfOk result (λ r. MatchOption r ((i : Instr) → IsInstr i → instr_text i ≡ text.now → ⊥) (λ i. IsInstr i × (instr_text i ≡ text.now))) }
 {
     let Some(parsed) = read_instr(text) else {

@@ -2,7 +2,6 @@
 ghost use Rattle.std.specs.Prelude.{◌≡◌, [], ℕ, IfOk, MatchOption};
 ghost use Rattle.rule_table.specs.Told.{Tells, Says};
 
-use crate::errors::Memory;
 use crate::item::Item;
 use crate::numbers::{number, number_within};
 use crate::tails::{instruction, mask, pool, state};
@@ -27,7 +26,7 @@ fn regs(tail: &[u8]) -> Option<Item>
 }
 
 /// How many instructions left sides have at most, or an instruction of one.
-fn left(alloc: Global, tail: &[u8]) -> Result<Option<Item>, Memory>
+fn left(alloc: Global, tail: &[u8]) -> Result<Option<Item>, AllocError>
     ensures { IfOk result (Tells Word.Left tail.now) }
 {
     match number_within(tail, 1, 5) {
@@ -39,7 +38,7 @@ fn left(alloc: Global, tail: &[u8]) -> Result<Option<Item>, Memory>
     }
 }
 
-fn right(alloc: Global, tail: &[u8]) -> Result<Option<Item>, Memory>
+fn right(alloc: Global, tail: &[u8]) -> Result<Option<Item>, AllocError>
     ensures { IfOk result (Tells Word.Right tail.now) }
 {
     match instruction(alloc, tail)? {
@@ -93,7 +92,7 @@ fn mask_line(tail: &[u8]) -> Option<Item>
     }
 }
 
-fn logged(alloc: Global, line: &[u8]) -> Result<Option<Item>, Memory>
+fn logged(alloc: Global, line: &[u8]) -> Result<Option<Item>, AllocError>
     ensures { IfOk result (Tells Word.Digit line.now) }
 {
     match read_line(alloc, line)? {
@@ -112,7 +111,7 @@ fn open(tail: &[u8]) -> Option<Item>
 }
 
 /// What a word says with what stands behind it.
-fn told(alloc: Global, word: Word, tail: &[u8]) -> Result<Option<Item>, Memory>
+fn told(alloc: Global, word: Word, tail: &[u8]) -> Result<Option<Item>, AllocError>
     ensures { IfOk result (Tells word tail.now) }
 {
     match word {
@@ -121,7 +120,7 @@ fn told(alloc: Global, word: Word, tail: &[u8]) -> Result<Option<Item>, Memory>
         Word::Left => left(alloc, tail),
         Word::Seed => Ok(seed(tail)),
         Word::Budget => Ok(budget(tail)),
-        Word::Pool => Ok(pool_line(alloc, tail)?),
+        Word::Pool => pool_line(alloc, tail),
         Word::State => Ok(state_line(tail)),
         Word::Entry => Ok(alone(tail, Item::Entry)),
         Word::Right => right(alloc, tail),
@@ -134,7 +133,7 @@ fn told(alloc: Global, word: Word, tail: &[u8]) -> Result<Option<Item>, Memory>
 }
 
 /// What a line says, which is given without its newline.
-pub(crate) fn read_item(alloc: Global, line: &[u8]) -> Result<Option<Item>, Memory>
+pub(crate) fn read_item(alloc: Global, line: &[u8]) -> Result<Option<Item>, AllocError>
     ensures { IfOk result (Says line.now) }
 {
     match front(line) {

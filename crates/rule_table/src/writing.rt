@@ -2,12 +2,11 @@
 ghost use Rattle.std.specs.Prelude.{◌≡◌, ◌++◌, ◌∷◌, [], codes, OnOk, IfOk, map};
 ghost use Rattle.std.specs.List.{flat_map};
 ghost use Rattle.lrat_check.specs.Content.{content_of};
-ghost use Rattle.fingerprints.specs.Seeded.{seen};
+ghost use Rattle.window_exec.specs.State.{seen};
 ghost use Rattle.rule_table.specs.Text.{text_of_items, text_of, header_items, rule_items, open_items};
 ghost use Rattle.rule_table.specs.Text as item;
 ghost use Rattle.rule_table.specs.Views.{table_of, rule_of, opened_of};
 
-use crate::errors::Memory;
 use crate::lines::{
     write_instruction, write_logged, write_mask, write_number, write_pool, write_state,
 };
@@ -18,7 +17,7 @@ use thumb_instr::Instr;
 use window_exec::WState;
 
 /// The text of a table.
-pub fn write_table(alloc: Global, table: &Table) -> Result<Vec<u8>, Memory>
+pub fn write_table(alloc: Global, table: &Table) -> Result<Vec<u8>, AllocError>
     ensures { IfOk result (λ text. text.items ≡ text_of (table_of table.entry.now)) }
 {
     let mut out = Vec::new(alloc);
@@ -63,7 +62,7 @@ fn write_states(out: &mut Vec<u8>, states: &[WState]) -> Result<(), AllocError>
     Ok(())
 }
 
-fn write_entries(alloc: Global, out: &mut Vec<u8>, entries: &[Entry]) -> Result<(), Memory>
+fn write_entries(alloc: Global, out: &mut Vec<u8>, entries: &[Entry]) -> Result<(), AllocError>
     ensures { OnOk result (out.new.items ≡ out.old.items ++ text_of_items (flat_map rule_items (map rule_of entries.entry.now))) }
 {
     for entry in entries {
@@ -72,7 +71,7 @@ fn write_entries(alloc: Global, out: &mut Vec<u8>, entries: &[Entry]) -> Result<
     Ok(())
 }
 
-fn write_entry(alloc: Global, out: &mut Vec<u8>, entry: &Entry) -> Result<(), Memory>
+fn write_entry(alloc: Global, out: &mut Vec<u8>, entry: &Entry) -> Result<(), AllocError>
     ensures { OnOk result (out.new.items ≡ out.old.items ++ text_of_items (rule_items (rule_of entry.entry.now))) }
 {
     out.extend_from_slice(b"entry\n")?;
@@ -84,7 +83,7 @@ fn write_entry(alloc: Global, out: &mut Vec<u8>, entry: &Entry) -> Result<(), Me
     write_opens(alloc, out, &entry.opens)
 }
 
-fn write_left(alloc: Global, out: &mut Vec<u8>, instrs: &[Instr]) -> Result<(), Memory>
+fn write_left(alloc: Global, out: &mut Vec<u8>, instrs: &[Instr]) -> Result<(), AllocError>
     ensures { OnOk result (out.new.items ≡ out.old.items ++ text_of_items (map item.Left instrs.entry.now)) }
 {
     for instr in instrs {
@@ -93,7 +92,7 @@ fn write_left(alloc: Global, out: &mut Vec<u8>, instrs: &[Instr]) -> Result<(), 
     Ok(())
 }
 
-fn write_right(alloc: Global, out: &mut Vec<u8>, instrs: &[Instr]) -> Result<(), Memory>
+fn write_right(alloc: Global, out: &mut Vec<u8>, instrs: &[Instr]) -> Result<(), AllocError>
     ensures { OnOk result (out.new.items ≡ out.old.items ++ text_of_items (map item.Right instrs.entry.now)) }
 {
     for instr in instrs {
@@ -102,7 +101,7 @@ fn write_right(alloc: Global, out: &mut Vec<u8>, instrs: &[Instr]) -> Result<(),
     Ok(())
 }
 
-fn write_log(alloc: Global, out: &mut Vec<u8>, lines: &[Line]) -> Result<(), Memory>
+fn write_log(alloc: Global, out: &mut Vec<u8>, lines: &[Line]) -> Result<(), AllocError>
     ensures { OnOk result (out.new.items ≡ out.old.items ++ text_of_items (map item.Logged (map content_of lines.entry.now))) }
 {
     for line in lines {
@@ -111,7 +110,7 @@ fn write_log(alloc: Global, out: &mut Vec<u8>, lines: &[Line]) -> Result<(), Mem
     Ok(())
 }
 
-fn write_opens(alloc: Global, out: &mut Vec<u8>, opens: &[Open]) -> Result<(), Memory>
+fn write_opens(alloc: Global, out: &mut Vec<u8>, opens: &[Open]) -> Result<(), AllocError>
     ensures { OnOk result (out.new.items ≡ out.old.items ++ text_of_items (flat_map open_items (map opened_of opens.entry.now))) }
 {
     for open in opens {

@@ -1,6 +1,6 @@
 ghost use Rattle.thumb_model.specs.Rewrite.{AreOver};
 
-use fingerprints::{Index, Lanes, States, print_of, seeded, step8};
+use fingerprints::{Index, Lanes, print_of, seeded, step8};
 use seq_enum::{Pool, number_of};
 use std::test::Fail;
 use thumb_instr::items::{C, N, V, Z};
@@ -8,7 +8,7 @@ use thumb_instr::{
     ByteOperation, Extension, Instr, Items, Mask, NotBothSp, Operation, Reversal, Right, Seq, Sum,
     Within,
 };
-use window_exec::{WState, run_seq, step};
+use window_exec::{States, WState, run_seq, step};
 
 /// The 64 states of a seed as another program computed them: r0 to r3 and the flags.
 static OF_0: [([u32; 4], u8); 64] = [

@@ -1,5 +1,5 @@
 use ascii_scan::Lines;
-use rule_table::{Memory, TableError, canonical, matches, read_table, write_table};
+use rule_table::{TableError, canonical, matches, read_table, write_table};
 use std::alloc::{AllocError, Global};
 use std::test::Fail;
 use thumb_instr::{ByteOperation, Instr, Items, Low, Operation, Sum, Within};

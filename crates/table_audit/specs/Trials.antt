@@ -2,8 +2,7 @@
 use Rattle.std.specs.Prelude.{◌≡◌, List, All, map}
 use Rattle.thumb_instr.specs.declared.instr.Instr.{Instr}
 use Rattle.thumb_model.specs.Effect.{after_all}
-use Rattle.window_exec.specs.State.{values_of}
-use Rattle.fingerprints.specs.Seeded.{Seen, seen}
+use Rattle.window_exec.specs.State.{values_of, Seen, seen}
 use Rattle.table_audit.specs.declared.trials.Trial.{Trial}
 
 abbrev pub start_of : Trial → Seen

@@ -59,23 +59,3 @@ impl<T: Drop> From<AllocFailed<T>> for AuditError {
         AuditError::Memory
     }
 }
-
-impl From<cnf_gates::Memory> for AuditError {
-    ghost use Rattle.table_audit.specs.declared.errors.AuditError.TheVariants.{Memory};
-
-    ghost from_gives = { λ _ e. e ≡ Memory };
-
-    fn from(_: cnf_gates::Memory) -> Self {
-        AuditError::Memory
-    }
-}
-
-impl From<fingerprints::Memory> for AuditError {
-    ghost use Rattle.table_audit.specs.declared.errors.AuditError.TheVariants.{Memory};
-
-    ghost from_gives = { λ _ e. e ≡ Memory };
-
-    fn from(_: fingerprints::Memory) -> Self {
-        AuditError::Memory
-    }
-}

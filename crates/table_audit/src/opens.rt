@@ -1,6 +1,6 @@
 //! The numbers that an entry names open.
 ghost use Rattle.std.specs.Prelude.{◌≡◌, ◌<◌, ◌≤◌, ◌+◌, ◌*◌, ◌↔◌, true, IfOk, IfSome, IsTrue, length, map, slice_get, sum_by};
-ghost use Rattle.fingerprints.specs.Seeded.{seen};
+ghost use Rattle.window_exec.specs.State.{seen};
 ghost use Rattle.thumb_model.specs.Rewrite.{AreOver};
 ghost use Rattle.seq_enum.specs.Lists.{ascends_from};
 ghost use Rattle.rule_table.specs.Valid.{numbers_of};

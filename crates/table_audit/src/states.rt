@@ -1,6 +1,6 @@
 //! The states that a table begins with: those of its seed.
 ghost use Rattle.std.specs.Prelude.{◌≡◌, ◌↔◌, IsTrue, Some, slice_get, map};
-ghost use Rattle.fingerprints.specs.Seeded.{seen};
+ghost use Rattle.window_exec.specs.State.{seen};
 ghost use Rattle.rule_table.specs.Views.{table_of};
 ghost use Rattle.table_audit.specs.declared.errors.AuditError.TheVariants.{Memory};
 ghost use Rattle.proof_logs.specs.Verdicts.{Answers};

@@ -1,6 +1,6 @@
 //! Each shorter sequence is named open, or some state tells it.
 ghost use Rattle.std.specs.Prelude.{◌≡◌, ◌<◌, ◌≤◌, ◌+◌, ◌*◌, ◌↔◌, true, IsTrue, length, map};
-ghost use Rattle.fingerprints.specs.Seeded.{seen};
+ghost use Rattle.window_exec.specs.State.{seen};
 ghost use Rattle.seq_enum.specs.Lists.{ascends_from};
 ghost use Rattle.rule_table.specs.Valid.{numbers_of};
 ghost use Rattle.rule_table.specs.Views.{opened_of, rule_of, table_of};

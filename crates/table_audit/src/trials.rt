@@ -3,9 +3,8 @@ ghost use Rattle.std.specs.Prelude.{◌≡◌, ◌<◌, ◌≤◌, ◌+◌, ◌*
 ghost use Rattle.thumb_instr.specs.Items.{has};
 ghost use Rattle.thumb_model.specs.Effect.{after_all};
 ghost use Rattle.thumb_model.specs.Rewrite.{AreOver};
-ghost use Rattle.window_exec.specs.State.{values_of};
+ghost use Rattle.window_exec.specs.State.{values_of, seen};
 ghost use Rattle.window_exec.specs.Telling.{Differ};
-ghost use Rattle.fingerprints.specs.Seeded.{seen};
 ghost use Rattle.table_audit.specs.Trials.{AreTrials};
 
 use std::alloc::{AllocError, Global};

@@ -10,8 +10,7 @@ use Rattle.std.proofs.lemmas.List.{get_or_default, map-append, take-append-drop}
 use Rattle.thumb_model.specs.Items.{Values, AreWords}
 use Rattle.table_audit.proofs.Names.{of_four}
 use Rattle.window_exec.specs.declared.state.WState.{WState}
-use Rattle.window_exec.specs.State.{values_of}
-use Rattle.fingerprints.specs.Seeded.{Seen, seen}
+use Rattle.window_exec.specs.State.{values_of, Seen, seen}
 use Rattle.clause_model.specs.Literals.{code_of, codes_of}
 use Rattle.cnf_gates.specs.Cnf.{Cnf, IsLiteral, IsLiteralOf, AreLiteralsOf, AreClausesOf, AreClauses}
 use Rattle.cnf_gates.specs.Meaning.{IsModel, assigned}
@@ -30,7 +29,7 @@ use Rattle.table_learn.specs.Tellings.{told, tells_apart}
 use Rattle.std.proofs.Common.{Result, Ok, Err}
 use Rattle.std.specs.Prelude.{IfOk}
 use Rattle.table_audit.specs.Sides.{named_count}
-use Rattle.table_learn.specs.declared.errors.Memory.{Memory}
+use Rattle.std.specs.declared.alloc.AllocError.{AllocError}
 use Rattle.table_learn.specs.declared.window.Window as code
 use Rattle.table_learn.specs.declared.trying.Finding.{Finding}
 use Rattle.table_learn.specs.declared.trying.Finding.TheVariants.{Told, State, Proof, Log}
@@ -85,7 +84,7 @@ pub first_part : (states listed : List WState) → listed ≡ take 8 states → 
 first_part states listed e = sym (ap (λ (ss : List WState). map seen ss ++ map seen (drop 8 states)) e ∙ sym (map-append seen (take 8 states) (drop 8 states)) ∙ ap (map seen) (take-append-drop 8 states))
 
 -- the solver is asked where no listed state tells
-pub answered : (r : Result Finding Memory) (budget : ℕ) (states : List Seen) (w : code.Window) (seq : List Instr) → w.k ≡ named_count w.left → told states w.left seq w.mask.items.bits ≡ false → IfOk r (IsAnswer budget w seq) → IfOk r (IsFinding budget states (window_in w) seq)
+pub answered : (r : Result Finding AllocError) (budget : ℕ) (states : List Seen) (w : code.Window) (seq : List Instr) → w.k ≡ named_count w.left → told states w.left seq w.mask.items.bits ≡ false → IfOk r (IsAnswer budget w seq) → IfOk r (IsFinding budget states (window_in w) seq)
 answered (Ok Told) budget states w seq n u a = absurd a
 answered (Ok (State s)) budget states w seq n u a = (u, a.0, a.1)
 answered (Ok (Proof log)) budget states w seq n u a = (subst (λ k. IsRefutation budget (sides_formula w.left seq w.mask.items.bits k) (map content_of log.items)) n a.0, a.1)

@@ -4,7 +4,7 @@ use Rattle.std.proofs.lemmas.List.{length-map, map_push, take_more, take_all, ge
 use Rattle.thumb_instr.specs.declared.instr.Instr.{Instr}
 use Rattle.thumb_instr.specs.declared.items.Mask.{Mask}
 use Rattle.seq_enum.specs.Pools.{is_pool}
-use Rattle.fingerprints.specs.Seeded.{seen}
+use Rattle.window_exec.specs.State.{seen}
 use Rattle.rule_table.specs.Table.{Table}
 use Rattle.rule_table.specs.Valid.{IsTable}
 use Rattle.rule_table.specs.Views.{rule_of}

@@ -15,7 +15,8 @@ use Rattle.std.proofs.Math.Nat.{div-le_self}
 use Rattle.std.proofs.lemmas.Nat.{or_of_32}
 use Rattle.rand_pcg.specs.Lcg.{Lcg}
 use Rattle.rand_pcg.specs.Pcg.{pcg32}
-use Rattle.fingerprints.specs.Seeded.{Seen, next_state, seeded_states, states_from}
+use Rattle.window_exec.specs.State.{Seen}
+use Rattle.fingerprints.specs.Seeded.{next_state, seeded_states, states_from}
 use Rattle.rule_table.specs.Table.{Opened, Rule, Table}
 use Rattle.rule_table.specs.Valid.{IsState, IsInstr, IsOpened, IsRule, IsTable}
 use Rattle.table_audit.specs.Sides.{named_count, formula_against}

@@ -5,7 +5,7 @@ use Rattle.std.proofs.lemmas.Option.{same_Some}
 use Rattle.thumb_instr.specs.declared.instr.Instr.{Instr}
 use Rattle.thumb_model.specs.Rewrite.{AreOver}
 use Rattle.window_exec.specs.declared.state.WState.{WState}
-use Rattle.fingerprints.specs.Seeded.{seen}
+use Rattle.window_exec.specs.State.{seen}
 use Rattle.seq_enum.specs.Alphabet.{sequences}
 use Rattle.rule_table.specs.Table.{Rule}
 use Rattle.table_audit.specs.Sides.{named_count}

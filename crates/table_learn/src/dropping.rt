@@ -1,6 +1,6 @@
 //! Open numbers that a later state tells are dropped, with their logs.
 ghost use Rattle.std.specs.Prelude.{◌≡◌, ◌<◌, ◌≤◌, ◌+◌, ◌*◌, ℕ, true, All, IfOk, OnOk, filter, length, map, slice_get};
-ghost use Rattle.fingerprints.specs.Seeded.{seen};
+ghost use Rattle.window_exec.specs.State.{seen};
 ghost use Rattle.thumb_model.specs.Rewrite.{AreOver};
 ghost use Rattle.rule_table.specs.Table.{Rule};
 ghost use Rattle.rule_table.specs.Views.{opened_of, rule_of};
@@ -10,18 +10,21 @@ ghost use Rattle.table_learn.specs.Lengths.{opens_length, rules_length};
 ghost use Rattle.table_learn.specs.Searching.{is_below};
 ghost use Rattle.table_learn.specs.Dropping.{IsSided, Dropped, runs_on};
 
-use crate::errors::Memory;
 use crate::lengths::{open_length, plus};
 use crate::trying::is_told;
 use crate::window::Window;
 use rule_table::{Entry, Open};
 use seq_enum::{Pool, seq_at};
-use std::alloc::Global;
+use std::alloc::{AllocError, Global};
 use step_ledger::{Ledger, Steps};
 use window_exec::WState;
 
 /// The open numbers that are below a limit.
-pub(crate) fn keep_below(alloc: Global, opens: Vec<Open>, limit: u64) -> Result<Vec<Open>, Memory>
+pub(crate) fn keep_below(
+    alloc: Global,
+    opens: Vec<Open>,
+    limit: u64,
+) -> Result<Vec<Open>, AllocError>
     ensures { IfOk result (λ kept. map opened_of kept.items ≡ filter (is_below limit) (map opened_of opens.items)) }
 {
     let mut kept = Vec::new(alloc);
@@ -64,7 +67,7 @@ fn drop_told<L: Ledger>(
     entry: Entry,
     found: &[WState],
     steps: &mut Steps<L>,
-) -> Result<(Entry, u64), Memory>
+) -> Result<(Entry, u64), AllocError>
     requires { IsSided (rule_of entry) }
     ensures dropped { IfOk result (λ r. Dropped pool.now (map seen found.now) (rule_of entry) (rule_of r.0) r.1) }
     ensures cost { OnOk result (steps.new ≤ steps.old + length entry.opens.items * (length found.now * (length entry.left + length entry.left))) }
@@ -104,7 +107,7 @@ fn drop_each<L: Ledger>(
     entries: Vec<Entry>,
     found: &[WState],
     steps: &mut Steps<L>,
-) -> Result<(Vec<Entry>, u64), Memory>
+) -> Result<(Vec<Entry>, u64), AllocError>
     requires { All IsSided (map rule_of entries.items) }
     ensures kept { IfOk result (λ r. map rule_of r.0.items ≡ map (without_told pool.now (map seen found.now)) (map rule_of entries.items)) }
     ensures freed { IfOk result (λ r. rules_length (map rule_of r.0.items) + r.1 ≡ rules_length (map rule_of entries.items)) }
@@ -127,7 +130,7 @@ pub(crate) fn drop_all_told<L: Ledger>(
     entries: Vec<Entry>,
     found: &[WState],
     steps: &mut Steps<L>,
-) -> Result<(Vec<Entry>, u64), Memory>
+) -> Result<(Vec<Entry>, u64), AllocError>
     requires { All IsSided (map rule_of entries.items) }
     ensures kept { IfOk result (λ r. map rule_of r.0.items ≡ map (without_told pool.now (map seen found.now)) (map rule_of entries.items)) }
     ensures freed { IfOk result (λ r. rules_length (map rule_of r.0.items) + r.1 ≡ rules_length (map rule_of entries.items)) }

@@ -1,56 +1,9 @@
 ghost use Rattle.std.specs.Prelude.{◌≡◌};
 
 use rule_table::Table;
-use std::alloc::{AllocError, AllocFailed};
+use std::alloc::AllocError;
 use std::fmt;
 use thiserror::Error;
-
-/// Want of memory.
-#[derive(Clone, Copy, Debug, PartialEq, Eq, Error)]
-#[error("out of memory")]
-pub(crate) struct Memory;
-
-impl From<AllocError> for Memory {
-    fn from(_: AllocError) -> Memory {
-        Memory
-    }
-}
-
-impl<T: Drop> From<AllocFailed<T>> for Memory {
-    fn from(_: AllocFailed<T>) -> Memory {
-        Memory
-    }
-}
-
-impl From<cnf_gates::Memory> for Memory {
-    fn from(_: cnf_gates::Memory) -> Memory {
-        Memory
-    }
-}
-
-impl From<cdcl_core::Memory> for Memory {
-    fn from(_: cdcl_core::Memory) -> Memory {
-        Memory
-    }
-}
-
-impl From<fingerprints::Memory> for Memory {
-    fn from(_: fingerprints::Memory) -> Memory {
-        Memory
-    }
-}
-
-impl From<thumb_syntax::Memory> for Memory {
-    fn from(_: thumb_syntax::Memory) -> Memory {
-        Memory
-    }
-}
-
-impl From<rule_table::Memory> for Memory {
-    fn from(_: rule_table::Memory) -> Memory {
-        Memory
-    }
-}
 
 /// Why no table is learnt.
 #[derive(Drop, Error)]
@@ -76,12 +29,12 @@ impl fmt::Debug for LearnError {
     }
 }
 
-impl From<Memory> for LearnError {
+impl From<AllocError> for LearnError {
     ghost use Rattle.table_learn.specs.declared.errors.LearnError.TheVariants.{Memory as OfMemory};
 
     ghost from_gives = { λ _ e. e ≡ OfMemory };
 
-    fn from(_: Memory) -> LearnError {
+    fn from(_: AllocError) -> LearnError {
         LearnError::Memory
     }
 }

@@ -4,21 +4,20 @@
 //! lanes: these tell nearly all, and what they leave is run on all listed states. So a state that is listed later needs no new index.
 ghost use Rattle.std.specs.Prelude.{◌≡◌, ◌<◌, ◌≤◌, ◌↔◌, All, IfOk, IfSome, IsTrue, filter, length, map, nat_lt, take};
 ghost use Rattle.thumb_model.specs.Rewrite.{AreOver};
-ghost use Rattle.fingerprints.specs.Seeded.{seen};
+ghost use Rattle.window_exec.specs.State.{seen};
 ghost use Rattle.rule_table.specs.Valid.{IsState};
 ghost use Rattle.table_audit.specs.Sides.{named_count};
 ghost use Rattle.table_learn.specs.Found.{window_in};
 ghost use Rattle.table_learn.specs.Searching.{AreCandidates};
 ghost use Rattle.table_learn.specs.Keeping.{IsKept, Serves};
 
-use crate::errors::Memory;
 use crate::widths::count_shorter;
 use crate::window::Window;
-use fingerprints::{Index, States, print_of};
+use fingerprints::{Index, print_of};
 use seq_enum::Pool;
 use std::alloc::{AllocError, Global};
 use thumb_instr::Mask;
-use window_exec::WState;
+use window_exec::{States, WState};
 
 /// How many of the listed states an index has prints of.
 const PRINTED: usize = 8;
@@ -45,7 +44,7 @@ impl Kept {
 }
 
 /// The first states of a list.
-fn first_states(alloc: Global, states: &[WState]) -> Result<States, Memory>
+fn first_states(alloc: Global, states: &[WState]) -> Result<States, AllocError>
     ensures { IfOk result (λ listed. listed ≡ take 8 states.now) }
 {
     let count = states.len().min(PRINTED);
@@ -53,7 +52,7 @@ fn first_states(alloc: Global, states: &[WState]) -> Result<States, Memory>
 }
 
 /// A new index for a window.
-fn built(alloc: Global, window: &Window, pool: &Pool, states: &[WState]) -> Result<Kept, Memory>
+fn built(alloc: Global, window: &Window, pool: &Pool, states: &[WState]) -> Result<Kept, AllocError>
     requires some { 0 < window.now.k }
     requires few { window.now.k ≤ 4 }
     requires left { 0 < length window.now.left }
@@ -79,7 +78,7 @@ pub(crate) fn index_for(
     window: &Window,
     pool: &Pool,
     states: &[WState],
-) -> Result<Kept, Memory>
+) -> Result<Kept, AllocError>
     requires some { 0 < window.now.k }
     requires few { window.now.k ≤ 4 }
     requires left { 0 < length window.now.left }
@@ -113,7 +112,7 @@ pub(crate) fn candidates(
     window: &Window,
     pool: &Pool,
     states: &[WState],
-) -> Result<Vec<u64>, Memory>
+) -> Result<Vec<u64>, AllocError>
     requires some { 0 < window.now.k }
     requires few { window.now.k ≤ 4 }
     requires named { window.now.k ≡ named_count window.now.left }

@@ -1,7 +1,7 @@
 //! A table, window by window.
 ghost use Rattle.std.specs.Prelude.{◌≡◌, ◌<◌, ◌≤◌, ◌+◌, ◌-◌, ◌^◌, ◌∷◌, ◌++◌, [], ℕ, List, true, IfErr, IfOk, drop, length, map};
 ghost use Rattle.rule_table.specs.Valid.{IsTable};
-ghost use Rattle.fingerprints.specs.Seeded.{seen};
+ghost use Rattle.window_exec.specs.State.{seen};
 ghost use Rattle.seq_enum.specs.Pools.{is_pool};
 ghost use Rattle.rule_table.specs.Views.{rule_of, table_of};
 ghost use Rattle.table_audit.specs.Sides.{named_count};
@@ -11,19 +11,19 @@ ghost use Rattle.table_learn.specs.Learnt.{Learnt, FailsAs, text_limit, text_len
 ghost use Rattle.table_learn.specs.Progress.{HasLearnt, table_with, states_in, rules_in, search_cost, drop_cost};
 
 use crate::dropping::drop_all_told;
-use crate::errors::{LearnError, Memory};
+use crate::errors::LearnError;
 use crate::keeping::{Kept, candidates, index_for};
 use crate::lengths::{entry_length, plus, times};
 use crate::searching::search;
 use crate::settings::Settings;
 use crate::widths::count_shorter;
 use crate::window::Window;
-use fingerprints::{States, seeded};
+use fingerprints::seeded;
 use rule_table::{Entry, Table, write_table};
-use std::alloc::Global;
+use std::alloc::{AllocError, Global};
 use step_ledger::{Ledger, Steps};
 use thumb_instr::{Mask, Seq};
-use window_exec::WState;
+use window_exec::{States, WState};
 
 /// The greatest number of sequences that may be shorter than the longest windows.
 const WIDEST: u64 = 5_000_000;
@@ -59,7 +59,7 @@ fn table_of(settings: Settings, states: Vec<WState>, entries: Vec<Entry>) -> Tab
 }
 
 /// Before the first window there are the states of the seed alone.
-fn begin(alloc: Global, settings: Settings) -> Result<(Settings, Learner), Memory>
+fn begin(alloc: Global, settings: Settings) -> Result<(Settings, Learner), AllocError>
     requires limits { AreInLimits (settings_of settings) }
     ensures seed { IfOk result (λ _. settings.seed < 2 ^ 32) }
     ensures pool { IfOk result (λ _. is_pool settings.pool ≡ true) }
@@ -112,7 +112,7 @@ fn learn_window<L: Ledger>(
     learner: Learner,
     window: Window,
     steps: &mut Steps<L>,
-) -> Result<Learner, Memory>
+) -> Result<Learner, AllocError>
     requires some { 0 < window.k }
     requires few { window.k ≤ 4 }
     requires named { window.k ≡ named_count window.left }

@@ -6,36 +6,35 @@ ghost use Rattle.rule_table.specs.Text.{rule_items, open_items};
 ghost use Rattle.rule_table.specs.Views.{rule_of, opened_of};
 ghost use Rattle.table_learn.specs.Lengths.{lines_length, log_length, opens_length, instr_length, item_length};
 
-use crate::errors::Memory;
 use itoa::Buffer;
 use lrat_check::{Line, write_line};
 use rule_table::{Entry, Open};
-use std::alloc::Global;
+use std::alloc::{AllocError, Global};
 use thumb_instr::{Instr, Mask};
 use thumb_syntax::{Parsed, write_instr};
 
 /// A sum; where it has more than 64 bits, so long a text has no room.
-pub(crate) fn plus(total: u64, more: u64) -> Result<u64, Memory>
+pub(crate) fn plus(total: u64, more: u64) -> Result<u64, AllocError>
     ensures { IfOk result (λ sum. sum ≡ total + more) }
 {
     match total.checked_add(more) {
-        None => Err(Memory),
+        None => Err(AllocError),
         Some(sum) => Ok(sum),
     }
 }
 
 /// A product; where it has more than 64 bits, so long a text has no room.
-pub(crate) fn times(count: u64, each: u64) -> Result<u64, Memory>
+pub(crate) fn times(count: u64, each: u64) -> Result<u64, AllocError>
     ensures { IfOk result (λ product. product ≡ count * each) }
 {
     match count.checked_mul(each) {
-        None => Err(Memory),
+        None => Err(AllocError),
         Some(product) => Ok(product),
     }
 }
 
 /// A line of a proof.
-fn line_length(alloc: Global, line: &Line) -> Result<u64, Memory>
+fn line_length(alloc: Global, line: &Line) -> Result<u64, AllocError>
     ensures { IfOk result (λ n. n ≡ lines_length (item.Logged (content_of line.now) ∷ [])) }
 {
     let text = write_line(alloc, line)?;
@@ -43,7 +42,7 @@ fn line_length(alloc: Global, line: &Line) -> Result<u64, Memory>
 }
 
 /// The lines of a proof.
-fn log_length(alloc: Global, lines: &[Line]) -> Result<u64, Memory>
+fn log_length(alloc: Global, lines: &[Line]) -> Result<u64, AllocError>
     ensures { IfOk result (λ n. n ≡ log_length (map content_of lines.now)) }
 {
     let mut total = 0;
@@ -54,7 +53,7 @@ fn log_length(alloc: Global, lines: &[Line]) -> Result<u64, Memory>
 }
 
 /// A line of a word of so many bytes and an instruction.
-fn instr_length(alloc: Global, word: u64, instr: Instr) -> Result<u64, Memory>
+fn instr_length(alloc: Global, word: u64, instr: Instr) -> Result<u64, AllocError>
     requires { word < 10 }
     ensures { IfOk result (λ n. n ≡ instr_length word instr) }
 {
@@ -63,7 +62,7 @@ fn instr_length(alloc: Global, word: u64, instr: Instr) -> Result<u64, Memory>
 }
 
 /// Lines of a word of so many bytes and an instruction each.
-fn side_length(alloc: Global, word: u64, instrs: &[Instr]) -> Result<u64, Memory>
+fn side_length(alloc: Global, word: u64, instrs: &[Instr]) -> Result<u64, AllocError>
     requires { word < 10 }
     ensures { IfOk result (λ n. n ≡ sum_by (instr_length word) instrs.now) }
 {
@@ -108,7 +107,7 @@ fn number_length(number: u64) -> u64
 }
 
 /// The lines of an open number with its log.
-pub(crate) fn open_length(alloc: Global, name: &Open) -> Result<u64, Memory>
+pub(crate) fn open_length(alloc: Global, name: &Open) -> Result<u64, AllocError>
     ensures { IfOk result (λ n. n ≡ lines_length (open_items (opened_of name.entry.now))) }
 {
     let log = log_length(alloc, &name.log)?;
@@ -116,7 +115,7 @@ pub(crate) fn open_length(alloc: Global, name: &Open) -> Result<u64, Memory>
 }
 
 /// The lines of open numbers with their logs.
-fn opens_length(alloc: Global, opens: &[Open]) -> Result<u64, Memory>
+fn opens_length(alloc: Global, opens: &[Open]) -> Result<u64, AllocError>
     ensures { IfOk result (λ n. n ≡ opens_length (map opened_of opens.entry.now)) }
 {
     let mut total = 0;
@@ -127,7 +126,7 @@ fn opens_length(alloc: Global, opens: &[Open]) -> Result<u64, Memory>
 }
 
 /// The lines of an entry.
-pub(crate) fn entry_length(alloc: Global, entry: &Entry) -> Result<u64, Memory>
+pub(crate) fn entry_length(alloc: Global, entry: &Entry) -> Result<u64, AllocError>
     ensures { IfOk result (λ n. n ≡ lines_length (rule_items (rule_of entry.entry.now))) }
 {
     let left = side_length(alloc, 5, entry.left.as_slice())?;

@@ -1,6 +1,6 @@
 //! The right side of a window: the first of the shorter sequences that no state tells from it.
 ghost use Rattle.std.specs.Prelude.{◌≡◌, ◌<◌, ◌≤◌, ◌+◌, ◌*◌, ◌++◌, List, All, Some, IfOk, OnOk, length, map, slice_get};
-ghost use Rattle.fingerprints.specs.Seeded.{Seen, seen};
+ghost use Rattle.window_exec.specs.State.{Seen, seen};
 ghost use Rattle.rule_table.specs.Views.{opened_of, rule_of};
 ghost use Rattle.table_audit.specs.Sides.{named_count};
 ghost use Rattle.table_learn.specs.Settings.{settings_of, IsWindow};
@@ -11,14 +11,13 @@ ghost use Rattle.table_learn.specs.Searching.{shorter_than, AreCandidates, IsGro
 ghost use Rattle.table_learn.specs.Tried.{Tried};
 
 use crate::dropping::keep_below;
-use crate::errors::Memory;
 use crate::settings::Settings;
 use crate::trying::{Finding, try_sequence};
 use crate::widths::{count_shorter, shorter_at};
 use crate::window::{Window, copied};
 use lrat_check::Line;
 use rule_table::{Entry, Open};
-use std::alloc::Global;
+use std::alloc::{AllocError, Global};
 use step_ledger::{Ledger, Steps};
 use thumb_instr::Seq;
 use window_exec::WState;
@@ -33,7 +32,7 @@ fn try_number<L: Ledger>(
     states: &mut Vec<WState>,
     opens: &mut Vec<Open>,
     steps: &mut Steps<L>,
-) -> Result<Option<(Seq, Vec<Line>)>, Memory>
+) -> Result<Option<(Seq, Vec<Line>)>, AllocError>
     requires some { 0 < window.now.k }
     requires few { window.now.k ≤ 4 }
     requires named { window.now.k ≡ named_count window.now.left }
@@ -62,7 +61,7 @@ pub(crate) fn search<L: Ledger>(
     candidates: &[u64],
     states: &mut Vec<WState>,
     steps: &mut Steps<L>,
-) -> Result<Entry, Memory>
+) -> Result<Entry, AllocError>
     requires some { 0 < window.k }
     requires few { window.k ≤ 4 }
     requires named { window.k ≡ named_count window.left }

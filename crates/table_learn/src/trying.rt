@@ -3,18 +3,17 @@ ghost use Rattle.std.specs.Prelude.{◌≡◌, ◌<◌, ◌≤◌, ◌+◌, ◌*
 ghost use Rattle.std.specs.List.{list_any};
 ghost use Rattle.thumb_model.specs.Rewrite.{AreOver};
 ghost use Rattle.bit_blast.specs.Exactness.{IsMaskOver};
-ghost use Rattle.fingerprints.specs.Seeded.{seen};
+ghost use Rattle.window_exec.specs.State.{seen};
 ghost use Rattle.table_audit.specs.Sides.{named_count};
 ghost use Rattle.table_learn.specs.Tellings.{tells_apart};
 ghost use Rattle.table_learn.specs.Searching.{query_cost};
 ghost use Rattle.table_learn.specs.Found.{IsAnswer, IsFinding, window_in};
 
-use crate::errors::Memory;
 use crate::window::Window;
 use bit_blast::{formula, state_of};
 use cdcl_core::{Verdict, solve};
 use lrat_check::Line;
-use std::alloc::Global;
+use std::alloc::{AllocError, Global};
 use step_ledger::{Ledger, Steps};
 use thumb_instr::{Mask, Seq};
 use window_exec::{WState, tells};
@@ -70,7 +69,7 @@ fn ask<L: Ledger>(
     seq: &Seq,
     budget: u32,
     steps: &mut Steps<L>,
-) -> Result<Finding, Memory>
+) -> Result<Finding, AllocError>
     requires few { window.now.k ≤ 4 }
     requires left { AreOver window.now.k window.now.left }
     requires right { AreOver window.now.k seq.now }
@@ -80,7 +79,7 @@ fn ask<L: Ledger>(
 {
     let formula = formula(alloc, &window.left, seq, window.mask, window.k)?;
     if formula.clauses() + u64::from(budget) > u64::from(u32::MAX) {
-        return Err(Memory);
+        return Err(AllocError);
     }
     match solve(alloc, &formula, budget, steps)? {
         Verdict::Sat(model) => Ok(Finding::State(state_of(&model, window.k))),
@@ -97,7 +96,7 @@ pub(crate) fn try_sequence<L: Ledger>(
     seq: &Seq,
     budget: u32,
     steps: &mut Steps<L>,
-) -> Result<Finding, Memory>
+) -> Result<Finding, AllocError>
     requires few { window.now.k ≤ 4 }
     requires named { window.now.k ≡ named_count window.now.left }
     requires left { AreOver window.now.k window.now.left }

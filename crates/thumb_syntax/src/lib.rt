@@ -2,7 +2,6 @@
 #![tactic(auto)]
 
 mod canonical;
-mod errors;
 mod fields;
 mod form;
 mod laws;
@@ -15,7 +14,6 @@ mod table;
 mod whole;
 mod writing;
 
-pub use errors::Memory;
 pub use fields::Label;
 pub use laws::{forms_agree, reading_is_whole, some_form_reads, writing_reads_back};
 pub use operands::is_name;

@@ -7,7 +7,6 @@ ghost use Rattle.std.specs.Prelude.{option_map};
 ghost use Rattle.thumb_syntax.specs.Spelling.{register_text, number_text, mark_text, has_bit, member_text, separator, members, list_text, sum_text, label_text, label_sum_text, slot_text, slots_text, operands_text, text_of};
 
 use crate::canonical::{mnemonic, slots};
-use crate::errors::Memory;
 use crate::fields::{Fields, Label, at};
 use crate::form::Slot;
 use crate::reading::Parsed;
@@ -202,7 +201,7 @@ fn write_operands(slots: &[Slot], fields: &Fields<'_>, out: &mut Vec<u8>) -> Res
 
 /// The one canonical text of an instruction: lower case, one blank after the mnemonic and after each comma, decimal numbers, lists in ascending order,
 /// an offset and an added number of 0 left out. What `is_whole` takes is read as the same again (`writing_reads_back`). Fails only for want of memory.
-pub fn write_instr(alloc: Global, parsed: &Parsed<'_>) -> Result<Vec<u8>, Memory>
+pub fn write_instr(alloc: Global, parsed: &Parsed<'_>) -> Result<Vec<u8>, AllocError>
     ensures { IfOk result (λ text. text.items ≡ text_of (shown parsed.now)) }
 {
     let parts = parts(&parsed.instr);

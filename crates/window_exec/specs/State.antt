@@ -1,5 +1,5 @@
 -- What a state of a window holds, item by item.
-use Rattle.std.specs.Prelude.{◌==◌, slice_index, if◌then◌else◌}
+use Rattle.std.specs.Prelude.{ℕ, ◌==◌, List, slice_index, if◌then◌else◌}
 use Rattle.std.specs.Int.{bit_at}
 use Rattle.window_exec.specs.declared.state.WState.{WState}
 use Rattle.thumb_model.specs.Items.{Values, n_flag, z_flag, c_flag, v_flag}
@@ -12,3 +12,11 @@ values_of s = λ x.
     else if x == c_flag then bit_at s.nzcv 1
     else if x == v_flag then bit_at s.nzcv 0
     else slice_index s.r x
+
+-- what a state holds: r0 to r3, and the flags with N as 8, Z as 4, C as 2 and V as 1
+pub record Seen : Type 0 where
+  pub r : List ℕ
+  pub nzcv : ℕ
+
+abbrev pub seen : WState → Seen
+seen s = record { r = s.r; nzcv = s.nzcv }

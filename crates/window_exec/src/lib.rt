@@ -6,10 +6,12 @@ pub mod laws;
 mod register_file;
 mod sequence;
 mod state;
+mod states;
 mod stepping;
 
 pub use computing::{compute, computes, total, written};
 pub use register_file::{RegisterFile, flags};
 pub use sequence::{run_seq, tells};
 pub use state::WState;
+pub use states::States;
 pub use stepping::step;

@@ -1,5 +1,4 @@
 use label_layout::{Kind, LayoutError};
-use listing_parser::Memory;
 use std::alloc::{AllocError, AllocFailed};
 use thiserror::Error;
 
@@ -13,17 +12,6 @@ pub enum RewriteError {
     /// Want of memory, of the process's or of the Code region of the system address map (0x00000000 to 0x1FFFFFFF).
     #[error("out of memory")]
     Memory,
-}
-
-impl From<Memory> for RewriteError {
-    ghost use Rattle.std.specs.Prelude.{◌≡◌};
-    ghost use Rattle.window_rewrite.specs.declared.errors.RewriteError.TheVariants.{Memory as OfMemory};
-
-    ghost from_gives = { λ _ e. e ≡ OfMemory };
-
-    fn from(_: Memory) -> RewriteError {
-        RewriteError::Memory
-    }
 }
 
 impl From<AllocError> for RewriteError {

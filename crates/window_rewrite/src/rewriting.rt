@@ -7,6 +7,7 @@ ghost use Rattle.thumb_model.specs.Rewritten.{AreRewritten};
 ghost use Rattle.window_rewrite.specs.Rewriting.{setting, replacement_of, rewriting_cost, IsRefusal, IsWhole};
 ghost use Rattle.window_rewrite.specs.Rules.{rules_in};
 ghost use Rattle.window_rewrite.specs.Choices.{setting_of, AreReady};
+ghost use Rattle.window_rewrite.specs.Sweeps.{IsSteadyIf};
 
 use crate::choice::Rewritten;
 use crate::errors::RewriteError;
@@ -18,6 +19,18 @@ use listing_parser::{Listing, Memory};
 use std::alloc::Global;
 use step_ledger::{Ledger, Steps};
 use table_audit::Audited;
+
+/// Whether each listing that comes of this one by replacements can surely be laid out. A listing that cannot be laid out itself is refused.
+fn judge(alloc: Global, listing: &Listing, base: u32) -> Result<bool, RewriteError>
+    ensures steady { IfOk result (IsSteadyIf base listing.now) }
+    ensures verdict { MatchResult result (λ _. Layable base listing.now) (IsRefusal base listing.now) }
+{
+    if is_steady_from(alloc, listing, base)? {
+        return Ok(true);
+    }
+    let _laid = layout(alloc, listing, base)?;
+    Ok(false)
+}
 
 /// Rewrites a listing by an accepted table, for an image that begins at the base: at the least place where some entry applies, the one with the longest
 /// left side, then the lowest, until none applies. A listing that cannot be laid out from the base is refused at its first such line.
@@ -35,7 +48,7 @@ pub fn rewrite<L: Ledger>(
     ensures verdict { MatchResult result (λ _. Layable base listing) (IsRefusal base listing) }
     ensures cost { IfOk result (λ new. steps.new ≤ steps.old + rewriting_cost listing (rules_of (table_of table.now)) (length new.replacements.items)) }
 {
-    let _laid = layout(alloc, &listing, base)?;
+    let steady = judge(alloc, &listing, base)?;
     let accepted = table.table();
     let entries = accepted.entries.as_slice();
     let index = Index::of(alloc, entries)?;
@@ -45,23 +58,24 @@ pub fn rewrite<L: Ledger>(
         longest: accepted.left,
         base,
     };
-    let new = rewritten(alloc, &rules, listing, steps)?;
+    let new = rewritten(alloc, &rules, listing, steady, steps)?;
     Ok(new)
 }
 
-/// What is left of a listing once no entry applies any more.
+/// What is left of a listing once no entry applies any more. `steady` is whether each listing that comes of it by replacements can surely be laid out.
 fn rewritten<L: Ledger>(
     alloc: Global,
     rules: &Rules<'_>,
     listing: Listing,
+    steady: bool,
     steps: &mut Steps<L>,
 ) -> Result<Rewritten, Memory>
-    requires { AreReady rules.now }
+    requires ready { AreReady rules.now }
+    requires steady { IsSteadyIf rules.now.base listing steady }
     ensures rewritten { IfOk result (λ new. AreRewritten (setting_of rules.now) listing (map replacement_of new.replacements.items) new.listing) }
     ensures whole { IfOk result (λ new. All IsWhole new.replacements.items) }
     ensures cost { IfOk result (λ new. steps.new ≤ steps.old + rewriting_cost listing (rules_in rules.now.entries.now) (length new.replacements.items)) }
 {
-    let steady = is_steady_from(alloc, &listing, rules.base)?;
     let mut current = listing;
     let mut replacements = Vec::new(alloc);
     loop {

@@ -1,5 +1,5 @@
 use Rattle.std.proofs.Common.{◌≡◌, ◌++◌, sym, ◌∙◌, ap, arith, map, append-nil}
-use Rattle.fingerprints.specs.Seeded.{seen}
+use Rattle.window_exec.specs.State.{seen}
 use Rattle.fingerprints.proofs.Seeds.{grown, states_from-none}
 use Rattle.fingerprints.proofs.states.seeded_vec.Goals as goal
 

@@ -1,5 +1,6 @@
 use Rattle.std.proofs.Common.{◌≡◌, ◌-◌, ◌++◌, map}
-use Rattle.fingerprints.specs.Seeded.{states_from, seeded_states, seen}
+use Rattle.window_exec.specs.State.{seen}
+use Rattle.fingerprints.specs.Seeded.{states_from, seeded_states}
 use Rattle.fingerprints.proofs.states.seeded_vec.Given as goal
 
 abbrev pub invariant-loop-turn : goal.invariant-loop-turn

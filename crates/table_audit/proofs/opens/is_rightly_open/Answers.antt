@@ -1,6 +1,6 @@
 use Rattle.std.proofs.Common.{arith, refl, sym, subst, ap, ◌∙◌, ◌≡◌, ◌≤◌, slice_get, Some, length, map}
 use Rattle.std.proofs.lemmas.Bool.{false≢true}
-use Rattle.fingerprints.specs.Seeded.{seen}
+use Rattle.window_exec.specs.State.{seen}
 use Rattle.thumb_model.specs.Rewrite.{AreOver}
 use Rattle.clause_model.specs.Literals.{codes_of}
 use Rattle.lrat_check.specs.Content.{content_of}

@@ -1,5 +1,5 @@
 use Rattle.std.proofs.Common.{drop, map}
-use Rattle.fingerprints.specs.Seeded.{seen}
+use Rattle.window_exec.specs.State.{seen}
 use Rattle.rule_table.specs.Views.{table_of}
 use Rattle.proof_logs.proofs.Turns.{Rest}
 use Rattle.table_audit.specs.Acceptance.{StatesVerdict, StateTest}

@@ -1,6 +1,6 @@
 use Rattle.std.proofs.Common.{inl, inr, refl, sym, arith, ap, ◌∙◌, ◌≡◌, ◌+◌, ◌<◌, ◌≤◌, true, false, length, map}
 use Rattle.std.proofs.lemmas.Bool.{false≢true}
-use Rattle.fingerprints.specs.Seeded.{seen}
+use Rattle.window_exec.specs.State.{seen}
 use Rattle.rule_table.specs.Views.{opened_of, rule_of, table_of}
 use Rattle.proof_logs.proofs.Turns.{turn_step, turn_fault, turn_end}
 use Rattle.table_audit.specs.Sides.{named_count}

@@ -1,5 +1,5 @@
 use Rattle.std.proofs.Common.{◌≤◌, ◌+◌, ◌*◌, take, map, length}
-use Rattle.fingerprints.specs.Seeded.{seen}
+use Rattle.window_exec.specs.State.{seen}
 use Rattle.table_audit.specs.Trials.{AreTrials}
 use Rattle.table_audit.proofs.trials.trials_of.Given as goal
 

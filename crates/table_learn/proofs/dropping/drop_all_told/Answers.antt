@@ -1,6 +1,6 @@
 use Rattle.std.proofs.Common.{◌≡◌, ◌∙◌, [], sym, ap, map, rules, List}
 use Rattle.window_exec.specs.declared.state.WState.{WState}
-use Rattle.fingerprints.specs.Seeded.{seen}
+use Rattle.window_exec.specs.State.{seen}
 use Rattle.rule_table.specs.Views.{rule_of}
 use Rattle.table_learn.specs.Fitness.{without_told}
 use Rattle.table_learn.proofs.Dropped.{no_items}

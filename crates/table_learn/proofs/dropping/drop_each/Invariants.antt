@@ -1,7 +1,7 @@
 use Rattle.std.proofs.Common.{◌≡◌, ◌≤◌, ◌+◌, length, map}
 use Rattle.std.specs.Prelude.{All}
 use Rattle.table_learn.specs.Dropping.{IsSided, runs_on}
-use Rattle.fingerprints.specs.Seeded.{seen}
+use Rattle.window_exec.specs.State.{seen}
 use Rattle.rule_table.specs.Views.{rule_of}
 use Rattle.table_learn.specs.Fitness.{without_told}
 use Rattle.table_learn.specs.Lengths.{rules_length}

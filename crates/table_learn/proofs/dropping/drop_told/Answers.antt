@@ -1,6 +1,6 @@
 use Rattle.std.proofs.Common.{ℕ, ◌≡◌, ◌≤◌, ◌+◌, ◌*◌, ◌∷◌, ◌++◌, [], ◌∙◌, ap, sym, arith, not, map, length, List, true, false, length-append, slice_get}
 use Rattle.thumb_instr.specs.declared.items.Mask.{Mask}
-use Rattle.fingerprints.specs.Seeded.{seen}
+use Rattle.window_exec.specs.State.{seen}
 use Rattle.rule_table.specs.Views.{opened_of, rule_of}
 use Rattle.rule_table.specs.Text.{open_items}
 use Rattle.table_learn.specs.Fitness.{stays_open, tells_number, shorter_of}

@@ -1,5 +1,5 @@
 use Rattle.std.proofs.Common.{◌≡◌, ◌≤◌, ◌+◌, ◌*◌, filter, length, map}
-use Rattle.fingerprints.specs.Seeded.{seen}
+use Rattle.window_exec.specs.State.{seen}
 use Rattle.rule_table.specs.Views.{opened_of, rule_of}
 use Rattle.table_learn.specs.Fitness.{stays_open}
 use Rattle.table_learn.specs.Lengths.{opens_length}

@@ -1,5 +1,5 @@
 use Rattle.std.proofs.Common.{◌≤◌, ◌-◌, arith, map, drop}
-use Rattle.fingerprints.specs.Seeded.{seen}
+use Rattle.window_exec.specs.State.{seen}
 use Rattle.table_learn.proofs.Asking.{first_part}
 use Rattle.table_learn.proofs.keeping.built.Goals as goal
 

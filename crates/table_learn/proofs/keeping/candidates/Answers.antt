@@ -1,6 +1,5 @@
 use Rattle.std.proofs.Common.{ℕ, ◌≡◌, ◌≤◌, ◌∙◌, sym, ap, arith, map, length}
-use Rattle.window_exec.specs.State.{values_of}
-use Rattle.fingerprints.specs.Seeded.{seen}
+use Rattle.window_exec.specs.State.{values_of, seen}
 use Rattle.fingerprints.specs.Print.{print_after}
 use Rattle.table_audit.specs.Sides.{named_count}
 use Rattle.table_audit.specs.Shorter.{sequences_below}

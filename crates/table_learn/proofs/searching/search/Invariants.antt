@@ -1,5 +1,5 @@
 use Rattle.std.proofs.Common.{◌≤◌, ◌+◌, ◌*◌, length, map, take, drop}
-use Rattle.fingerprints.specs.Seeded.{seen}
+use Rattle.window_exec.specs.State.{seen}
 use Rattle.rule_table.specs.Views.{opened_of}
 use Rattle.table_learn.specs.Settings.{settings_of}
 use Rattle.table_learn.specs.Found.{window_in}

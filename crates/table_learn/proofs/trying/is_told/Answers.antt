@@ -1,7 +1,7 @@
 use Rattle.std.proofs.Common.{◌≡◌, ◌+◌, ◌*◌, ◌∙◌, sym, arith, length}
 use Rattle.std.proofs.lemmas.List.Folds.{list_any_at, list_any_more}
 use Rattle.window_exec.specs.declared.state.WState.{WState}
-use Rattle.fingerprints.specs.Seeded.{seen}
+use Rattle.window_exec.specs.State.{seen}
 use Rattle.table_learn.specs.Tellings.{tells_apart}
 use Rattle.table_learn.proofs.Telling.{test_is, or_neither}
 use Rattle.table_learn.proofs.Costs.{next_share}

@@ -1,6 +1,6 @@
 use Rattle.std.proofs.Common.{◌≡◌, ◌≤◌, ◌+◌, ◌*◌, false, take, length}
 use Rattle.std.specs.List.{list_any}
-use Rattle.fingerprints.specs.Seeded.{seen}
+use Rattle.window_exec.specs.State.{seen}
 use Rattle.table_learn.specs.Tellings.{tells_apart}
 use Rattle.table_learn.proofs.trying.is_told.Given as goal
 

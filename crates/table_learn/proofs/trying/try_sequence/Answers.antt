@@ -1,5 +1,5 @@
 use Rattle.std.proofs.Common.{◌≡◌, ◌∙◌, sym, map, true, false}
-use Rattle.fingerprints.specs.Seeded.{seen}
+use Rattle.window_exec.specs.State.{seen}
 use Rattle.table_audit.proofs.Walking.{over_more}
 use Rattle.table_learn.specs.Tellings.{told}
 use Rattle.table_learn.proofs.Asking.{told_seen, answered}

@@ -10,8 +10,8 @@ use Rattle.window_rewrite.specs.Rules.{rules_in, AreFit}
 use Rattle.window_rewrite.proofs.Accepted.{are_fit}
 use Rattle.window_rewrite.proofs.rewriting.rewrite.Goals as goal
 
-pub rewritten-requires : goal.rewritten-requires
-rewritten-requires g c =
+pub rewritten-requires-clause-ready : goal.rewritten-requires-clause-ready
+rewritten-requires-clause-ready g c =
     let table = c.table-accepted.ensures in
     let same : c.table-accepted.result.now ≡ c.args.table.now = table.value in
     let fit : AreFit c.args.table.now.left (rules_of (table_of c.args.table.now)) = are_fit (table_of c.args.table.now) table.accepted table.sound in

@@ -3,7 +3,7 @@ use Rattle.thumb_model.specs.Listing.{code_of}
 use Rattle.thumb_model.specs.Flow.{ways}
 use Rattle.code_flow.specs.Flow.{way_list}
 use Rattle.liveness.proofs.FlowLaws.{uses_are}
-use Rattle.liveness.proofs.flowing.flow_at.Goals as goal
+use Rattle.liveness.proofs.flowing.branching_flow.Goals as goal
 
 pub returns : goal.returns
 returns c = record {
