@@ -6,6 +6,7 @@ pub mod Spots
 pub mod Labels
 pub mod Leads
 pub mod Stays
+pub mod Onces
 mod Carried
 mod Ways
 mod Jumps

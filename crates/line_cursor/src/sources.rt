@@ -144,7 +144,13 @@ fn known<'a>(alloc: Global, sight: Sight<'a>) -> Target<'a>
     ensures is_point { result.is_point ≡ ((sight.entry.is_op && sight.entry.is_labelled) || sight.entry.is_return) }
     ensures names { names_of result ≡ (if sight.entry.is_op then names_seen sight.entry else []) }
 {
-    let Sight { place, is_op, is_labelled, is_return, names } = sight;
+    let Sight {
+        place,
+        is_op,
+        is_labelled,
+        is_return,
+        names,
+    } = sight;
     Target {
         place,
         is_point: (is_op & is_labelled) | is_return,

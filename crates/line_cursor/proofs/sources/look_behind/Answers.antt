@@ -1,4 +1,4 @@
-use Rattle.std.proofs.Common.{◌≡◌, ℕ, ◌+◌, ◌-◌, ◌<◌, ◌≤◌, ◌∙◌, List, [], length, take, drop, get_or, refl, sym, ap, subst, arith}
+use Rattle.std.proofs.Common.{◌≡◌, ℕ, ◌+◌, ◌-◌, ◌<◌, ◌≤◌, List, length, take, drop, get_or, refl, sym, ap, subst, arith}
 use Rattle.liveness.proofs.Moves.{drop_whole}
 use Rattle.thumb_model.specs.Listing.{Line, places_of}
 use Rattle.listing_parser.specs.declared.line.Line.{Line as Lines}

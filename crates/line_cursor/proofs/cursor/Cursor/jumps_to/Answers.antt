@@ -1,4 +1,4 @@
-use Rattle.std.proofs.Common.{◌≡◌, ◌+◌, ◌<◌, ◌^◌, List, length, get_or, sym, subst, ap, arith}
+use Rattle.std.proofs.Common.{◌+◌, ◌<◌, List, length, sym, subst, ap, arith}
 use Rattle.std.proofs.lemmas.Option.{slice_get_within, get_or_from_slice_get}
 use Rattle.thumb_model.specs.Listing.{Code, Line, code_of, places_of}
 use Rattle.listing_parser.specs.declared.line.Line.{Line as Lines}

@@ -1,4 +1,4 @@
-use Rattle.std.proofs.Common.{◌≡◌, ◌+◌, ◌∙◌, false, List, length, map, reverse, refl, sym, ap, subst, arith}
+use Rattle.std.proofs.Common.{◌∙◌, false, List, map, reverse, refl, ap, subst, arith}
 use Rattle.listing_parser.specs.declared.line.Line.{Line as Lines}
 use Rattle.line_cursor.specs.declared.sources.Sight.{Sight}
 use Rattle.line_cursor.specs.Lines.{lines_of}
