@@ -1,26 +1,26 @@
 -- The places from which a way leads to a place, one place more at a time.
-use Rattle.std.proofs.Common.{◌≡◌, ℕ, zero, suc, ◌+◌, ◌-◌, ◌<◌, ◌≤◌, Bool, true, List, [], ◌∷◌, ◌++◌, length, length-append, take, drop, map, get_or, Option, Some, None, refl, sym, ap, ◌∙◌, subst, ◌⊎◌, inl, inr, arith, eq-eqb, eqb-true}
+use Rattle.std.proofs.Common.{◌≡◌, ℕ, zero, suc, ◌+◌, ◌-◌, ◌<◌, ◌≤◌, Bool, true, List, [], ◌∷◌, ◌++◌, length, length-append, take, drop, drop-cons, map, reverse, get_or, Option, Some, None, refl, sym, ap, ◌∙◌, subst, ◌⊎◌, inl, inr, arith, eq-eqb, eqb-true}
 use Rattle.std.specs.Prelude.{slice_get}
 use Rattle.std.specs.Option.{option_map}
 use Rattle.std.proofs.lemmas.Bool.{cases_lt, cases_eq}
+use Rattle.std.proofs.lemmas.List.{map-append, take_more, take-append-drop}
 use Rattle.std.proofs.lemmas.Option.{slice_get_past, slice_get_within, slice_get-map}
 use Rattle.thumb_instr.specs.declared.items.Items.{Items}
 use Rattle.thumb_instr.specs.Items.{one_of, has}
-use Rattle.thumb_model.specs.Listing.{Value, Place, Word, Line, Statement, Nothing, Runs, Words, Aligns, Sets, Code, code_of, places_in, places_of}
+use Rattle.thumb_model.specs.Listing.{Value, Place, Word, Line, Statement, Nothing, Runs, Words, Aligns, Sets, Code, places_in, places_of}
 use Rattle.thumb_model.specs.Flow.{Way, Leads, Onward, ToPlace, AnyPoint, Out, ways, ways_on, Follows}
 use Rattle.thumb_model.proofs.Lists.{get_front, get_back, length_map}
 use Rattle.liveness.specs.declared.growing.Source.{Source}
 use Rattle.liveness.specs.Kept.{onward_writes, HasThese, AreFlows}
 use Rattle.liveness.specs.Growing.{LeadsFrom, AreSources}
+use Rattle.listing_parser.specs.Views.{line_view}
 use Rattle.line_cursor.specs.declared.cursor.Spot.{Spot}
 use Rattle.listing_parser.specs.declared.line.Line.{Line as Lines}
-use Rattle.line_cursor.specs.declared.sources.Target.{Target}
 use Rattle.line_cursor.specs.Lines.{lines_in, lines_of}
-use Rattle.line_cursor.specs.Cursors.{flows_of}
-use Rattle.line_cursor.specs.Sources.{is_point, jumps, jumped, IsAdded, IsListed, AreJumps, IsOnward, IsTarget}
-use Rattle.line_cursor.proofs.Labels.{taken_push}
+use Rattle.line_cursor.specs.declared.cursor.Cursor.{Cursor}
+use Rattle.line_cursor.specs.Cursors.{flows_of, lines_ahead, lines_at, lines_behind, IsCursor}
+use Rattle.line_cursor.specs.Sources.{is_point, jumps, jumped, lines_held, IsAdded, IsListed, AreJumps, IsOnward}
 use Rattle.line_cursor.proofs.Nearer.{places_append}
-use Rattle.line_cursor.proofs.Targets.{all_cut}
 use Rattle.line_cursor.proofs.Ways.{jump_is, onward_is, jump_found, onward_found}
 
 -- ---- where ways lead ----
@@ -71,7 +71,7 @@ each_push code s old new d e h l k c g = elim (cases_lt k (length old)) [
     one_only zero c u = let o : (let a : Option Source = Some d in a) ≡ Some c = u in cc
     one_only (suc i) c u = absurd (cc)
 
--- ---- the places of a piece ----
+-- ---- the places of a line ----
 
 words_still : (code : Code) (vs : List Value) (j : ℕ) → ways_on code (slice_get (map Word vs ++ []) j) ≡ []
 words_still code [] j = refl
@@ -102,7 +102,7 @@ added_few code s p at (x ∷ xs) old new a = go (jumped s p (ways_on code (Some 
 pub jumps_none : (code : Code) (s : ℕ) (p : Bool) → AreJumps code s p 0 []
 jumps_none code s p = record { each = λ k c e. absurd (cc); all = λ q k w h e f. absurd (omega arith) }
 
--- the places of one piece more
+-- the places of one line more
 pub jumps_more : (code : Code) (s : ℕ) (p : Bool) (at : ℕ) (ps : List Place) (old new : List Source) → IsPointOf code s p → ((j : ℕ) → j < length ps → slice_get code.places (at + j) ≡ slice_get ps j)
     → ((j : ℕ) → ways_on code (slice_get ps (suc j)) ≡ []) → IsAdded (jumped s p (ways_on code (slice_get ps 0))) at old new → AreJumps code s p at old → AreJumps code s p (at + length ps) new
 jumps_more code s p at [] old new point stand tail a js =
@@ -212,35 +212,48 @@ sources_within code spots s sources h a k c e =
     let w = way_within code c.place l.number l.found l.is in
     omega (arith, w, h.as_many, length_map (λ (t : Spot). t.flow) spots)
 
-pub jumps_target : (lines : List Line) (t : Target) (place : ℕ) (sources : List Source) → IsTarget (code_of lines) t → t.place ≡ place → AreJumps (code_of lines) t.place t.is_point (length (places_of lines)) sources
-    → AreJumps (code_of lines) place (is_point place (code_of lines)) (length (places_of lines)) sources
-jumps_target lines t place sources is e js =
-    subst (λ s. AreJumps (code_of lines) s (is_point s (code_of lines)) (length (places_of lines)) sources) e (subst (λ b. AreJumps (code_of lines) t.place b (length (places_of lines)) sources) is.is_point js)
+-- ---- the loop over lines ----
 
--- ---- the loop over pieces ----
+all_cut : (held : List Lines) (i : ℕ) (x : Lines) → i < length held → x ≡ get_or held i x → lines_of held ≡ lines_of (take i held) ++ (lines_in x ++ lines_of (drop (suc i) held))
+all_cut held i x h e =
+    ap lines_of (sym (take-append-drop i held)) ∙ map-append line_view (take i held) (drop i held)
+    ∙ ap (λ (l : List Lines). lines_of (take i held) ++ lines_of l) (drop-cons held i x h)
+    ∙ ap (λ (y : Lines). lines_of (take i held) ++ (lines_in y ++ lines_of (drop (suc i) held))) (sym e)
 
-pub taken_count : (pieces : List Lines) (i : ℕ) (x : Lines) → i < length pieces → x ≡ get_or pieces i x → length (places_of (lines_of (take (i + 1) pieces))) ≡ length (places_of (lines_of (take i pieces))) + length (places_of (lines_in x))
-taken_count pieces i x h e =
-    ap (λ (ls : List Line). length (places_of ls)) (taken_push pieces i x h e) ∙ ap (λ (ps : List Place). length ps) (places_append (lines_of (take i pieces)) (lines_in x))
-    ∙ length-append (places_of (lines_of (take i pieces))) (places_of (lines_in x))
+pub taken_count : (held : List Lines) (i : ℕ) (x : Lines) → i < length held → x ≡ get_or held i x → length (places_of (lines_of (take (i + 1) held))) ≡ length (places_of (lines_of (take i held))) + length (places_of (lines_in x))
+taken_count held i x h e =
+    ap (λ (ls : List Line). length (places_of ls)) (ap lines_of (take_more held i x h ∙ ap (λ (y : Lines). take i held ++ y ∷ []) (sym e)) ∙ map-append line_view (take i held) (x ∷ [])) ∙ ap (λ (ps : List Place). length ps) (places_append (lines_of (take i held)) (lines_in x))
+    ∙ length-append (places_of (lines_of (take i held))) (places_of (lines_in x))
 
-pub taken_within : (pieces : List Lines) (i : ℕ) (x : Lines) → i < length pieces → x ≡ get_or pieces i x → length (places_of (lines_of (take i pieces))) + length (places_of (lines_in x)) ≤ length (places_of (lines_of pieces))
-taken_within pieces i x h e =
-    let cut = ap (λ (ls : List Line). length (places_of ls)) (all_cut pieces i x h e) in
-    let a = ap (λ (ps : List Place). length ps) (places_append (lines_of (take i pieces)) (lines_in x ++ lines_of (drop (suc i) pieces))) in
-    let b = ap (λ (ps : List Place). length ps) (places_append (lines_in x) (lines_of (drop (suc i) pieces))) in
-    let c = length-append (places_of (lines_of (take i pieces))) (places_of (lines_in x ++ lines_of (drop (suc i) pieces))) in
-    let d = length-append (places_of (lines_in x)) (places_of (lines_of (drop (suc i) pieces))) in
+pub taken_within : (held : List Lines) (i : ℕ) (x : Lines) → i < length held → x ≡ get_or held i x → length (places_of (lines_of (take i held))) + length (places_of (lines_in x)) ≤ length (places_of (lines_of held))
+taken_within held i x h e =
+    let cut = ap (λ (ls : List Line). length (places_of ls)) (all_cut held i x h e) in
+    let a = ap (λ (ps : List Place). length ps) (places_append (lines_of (take i held)) (lines_in x ++ lines_of (drop (suc i) held))) in
+    let b = ap (λ (ps : List Place). length ps) (places_append (lines_in x) (lines_of (drop (suc i) held))) in
+    let c = length-append (places_of (lines_of (take i held))) (places_of (lines_in x ++ lines_of (drop (suc i) held))) in
+    let d = length-append (places_of (lines_in x)) (places_of (lines_of (drop (suc i) held))) in
     omega arith
 
-pub taken_stands : (pieces : List Lines) (i : ℕ) (x : Lines) (at : ℕ) → i < length pieces → x ≡ get_or pieces i x → at ≡ length (places_of (lines_of (take i pieces)))
-    → (j : ℕ) → j < length (places_of (lines_in x)) → slice_get (places_of (lines_of pieces)) (at + j) ≡ slice_get (places_of (lines_in x)) j
-taken_stands pieces i x at h e n j l =
-    ap (λ (ls : List Line). slice_get (places_of ls) (at + j)) (all_cut pieces i x h e)
-    ∙ ap (λ (ps : List Place). slice_get ps (at + j)) (places_append (lines_of (take i pieces)) (lines_in x ++ lines_of (drop (suc i) pieces)) ∙ ap (λ (ps : List Place). places_of (lines_of (take i pieces)) ++ ps) (places_append (lines_in x) (lines_of (drop (suc i) pieces))))
-    ∙ get_back (places_of (lines_of (take i pieces))) (places_of (lines_in x) ++ places_of (lines_of (drop (suc i) pieces))) j (at + j) (omega arith)
-    ∙ get_front (places_of (lines_in x)) (places_of (lines_of (drop (suc i) pieces))) j l
+pub taken_stands : (held : List Lines) (i : ℕ) (x : Lines) (at : ℕ) → i < length held → x ≡ get_or held i x → at ≡ length (places_of (lines_of (take i held)))
+    → (j : ℕ) → j < length (places_of (lines_in x)) → slice_get (places_of (lines_of held)) (at + j) ≡ slice_get (places_of (lines_in x)) j
+taken_stands held i x at h e n j l =
+    ap (λ (ls : List Line). slice_get (places_of ls) (at + j)) (all_cut held i x h e)
+    ∙ ap (λ (ps : List Place). slice_get ps (at + j)) (places_append (lines_of (take i held)) (lines_in x ++ lines_of (drop (suc i) held)) ∙ ap (λ (ps : List Place). places_of (lines_of (take i held)) ++ ps) (places_append (lines_in x) (lines_of (drop (suc i) held))))
+    ∙ get_back (places_of (lines_of (take i held))) (places_of (lines_in x) ++ places_of (lines_of (drop (suc i) held))) j (at + j) (omega arith)
+    ∙ get_front (places_of (lines_in x)) (places_of (lines_of (drop (suc i) held))) j l
 
 pub added_these : (o : Option (List ℕ)) (at : ℕ) (old new : List Source) (s : Items) → HasThese o (Some s) → new ≡ old ++ record { place = at; writes = s } ∷ [] → IsAdded o at old new
 added_these None at old new s h e = absurd h
 added_these (Some list) at old new s h e = (record { place = at; writes = s }, e, refl, h)
+
+-- ---- the lines of a cursor ----
+
+pub held_lines : (c : Cursor) → lines_of (lines_held c) ≡ lines_at c
+held_lines c = map-append line_view c.behind.items (reverse c.ahead.items)
+
+-- as many spots as places
+pub held_count : (c : Cursor) → IsCursor c → length c.passed.items + length c.coming.items ≡ length (places_of (lines_of (lines_held c)))
+held_count c is =
+    let n = ap (λ (ls : List Line). length (places_of ls)) (held_lines c) in
+    let m = ap (λ (ps : List Place). length ps) (places_append (lines_behind c) (lines_ahead c)) in
+    omega (arith, n, m, length-append (places_of (lines_behind c)) (places_of (lines_ahead c)), is.passed, is.coming)

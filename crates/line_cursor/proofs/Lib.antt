@@ -6,8 +6,10 @@ pub mod Spots
 pub mod Labels
 pub mod Leads
 pub mod Stays
+pub mod Onces
 mod Carried
 mod Ways
 mod Jumps
 mod Targets
-mod Marked
+mod Sights
+mod Points

@@ -1,14 +1,17 @@
--- Ways that lead to a place, found by looks at pieces.
-use Rattle.std.specs.Prelude.{◌≡◌, ℕ, ◌+◌, ◌<◌, ◌==◌, ◌&&◌, ◌||◌, Bool, true, false, List, [], ◌∷◌, ◌++◌, length, map, Option, Some, None, slice_get, if◌then◌else◌}
+-- Ways that lead to a place, found by looks at lines.
+use Rattle.std.specs.Prelude.{◌≡◌, ℕ, ◌+◌, ◌<◌, ◌==◌, ◌&&◌, ◌||◌, Bool, true, false, List, [], ◌∷◌, ◌++◌, length, map, reverse, Option, Some, None, slice_get, if◌then◌else◌}
 use Rattle.thumb_instr.specs.Items.{one_of, has}
-use Rattle.thumb_model.specs.Listing.{Name, Line, Place, Code, places_of, place_of, labels_from, label_places, return_places, is_call, is_op_place}
+use Rattle.thumb_model.specs.Listing.{Name, Line, Place, Code, places_in, place_of, label_places, return_places, is_call}
 use Rattle.thumb_model.specs.Layout.{is_among}
+use Rattle.thumb_model.specs.Rewritten.{is_op}
 use Rattle.thumb_model.specs.Flow.{Way, Leads, Onward, ToPlace, AnyPoint, Out, ways}
+use Rattle.listing_parser.specs.declared.line.Line.{Line as Lines}
 use Rattle.liveness.specs.declared.growing.Source.{Source}
+use Rattle.liveness.specs.Points.{some_name}
 use Rattle.liveness.specs.Kept.{onward_writes, HasThese}
 use Rattle.liveness.specs.Growing.{LeadsFrom}
-use Rattle.line_cursor.specs.Lines.{begins_labelled}
-use Rattle.line_cursor.specs.Cursors.{stands_at}
+use Rattle.line_cursor.specs.declared.cursor.Cursor.{Cursor}
+use Rattle.line_cursor.specs.declared.sources.Sight.{Sight}
 use Rattle.line_cursor.specs.declared.sources.Target.{Target}
 
 -- ---- a way ----
@@ -31,20 +34,56 @@ is_at s (Some p) = s == p
 
 -- ---- a place ----
 
+-- whether a call stands first
+abbrev pub calls_first : List Place → Bool
+calls_first [] = false
+calls_first (p ∷ ps) = is_call p
+
+-- what a line says of place s, where p places stand before it: an instruction stands there, or a label, or a label of that name, or a call right before it
+abbrev pub op_at : ℕ → ℕ → Line → Bool
+op_at s p l = is_op l.statement && (s == p)
+
+abbrev pub label_at : ℕ → ℕ → Line → Bool
+label_at s p l = some_name l.names && (s == p)
+
+abbrev pub name_at : Name → ℕ → ℕ → Line → Bool
+name_at name s p l = is_among name l.names && (s == p)
+
+abbrev pub call_before : ℕ → ℕ → Line → Bool
+call_before s p l = calls_first (places_in l.statement) && (s == (p + length (places_in l.statement)))
+
+-- whether one of the lines says so, where p places stand before the first
+abbrev pub is_said : (ℕ → Line → Bool) → ℕ → List Line → Bool
+is_said says p [] = false
+is_said says p (l ∷ ls) = says p l || is_said says (p + length (places_in l.statement)) ls
+
+abbrev pub names_seen : Sight → List Name
+names_seen t = map (λ n. n.now) t.names.items
+
+-- what a look at lines adds, before which p places stand
+pub record IsSeen (p : ℕ) (lines : List Line) (old new : Sight) : Type 0 where
+  pub place : new.place ≡ old.place
+  pub is_op : new.is_op ≡ (is_said (op_at old.place) p lines || old.is_op)
+  pub is_labelled : new.is_labelled ≡ (is_said (label_at old.place) p lines || old.is_labelled)
+  pub is_return : new.is_return ≡ (is_said (call_before old.place) p lines || old.is_return)
+  pub names : (name : Name) → is_among name (names_seen new) ≡ (is_said (name_at name old.place) p lines || is_among name (names_seen old))
+
+-- whether a line has a label of that name
+abbrev pub is_named : Name → List Line → Bool
+is_named name [] = false
+is_named name (l ∷ ls) = is_among name l.names || is_named name ls
+
+-- no two lines have labels of one name
+abbrev pub AreOnce : List Line → Type 0
+AreOnce [] = Unit {0}
+AreOnce (l ∷ ls) = ((name : Name) → is_among name l.names ≡ true → is_named name ls ≡ false) × AreOnce ls
+
 abbrev pub names_of : Target → List Name
 names_of t = map (λ n. n.now) t.names.items
 
 -- the names by which code labels stand for the place
 abbrev pub AreNamesOf : Code → ℕ → List Name → Type 0
 AreNamesOf code s names = (q : Name) → is_among q names ≡ is_at s (place_of code q)
-
--- whether a label stands at the place, or a call right before it
-abbrev pub is_marked : ℕ → Code → Bool
-is_marked s code = stands_at s code.labels || one_of s (return_places 0 code.places)
-
--- so it is told of lines before which so many places stand
-abbrev pub is_marked_from : ℕ → ℕ → List Line → Bool
-is_marked_from s p ls = stands_at s (labels_from p ls) || one_of s (return_places p (places_of ls))
 
 -- whether the place is a code point's
 abbrev pub is_point : ℕ → Code → Bool
@@ -55,26 +94,9 @@ pub record IsTarget (code : Code) (t : Target) : Type 0 where
   pub is_point : t.is_point ≡ is_point t.place code
   pub names : AreNamesOf code t.place (names_of t)
 
--- the names of the first line, and whether an instruction or a call stands first
-abbrev pub labels_in : List Line → List Name
-labels_in [] = []
-labels_in (l ∷ ls) = l.names
-
-abbrev pub op_first : List Place → Bool → Bool
-op_first [] behind = behind
-op_first (p ∷ ps) behind = is_op_place (Some p)
-
-abbrev pub calls_first : List Place → Bool
-calls_first [] = false
-calls_first (p ∷ ps) = is_call p
-
--- what a look at a piece's lines adds
-pub record IsSeen (here : List Line) (old new : Target) : Type 0 where
-  pub place : new.place ≡ old.place
-  pub at : new.at + length (places_of here) ≡ old.at
-  pub is_op : new.is_op ≡ op_first (places_of here) old.is_op
-  pub is_point : new.is_point ≡ ((((new.is_op && begins_labelled here) && (old.place == new.at)) || (calls_first (places_of here) && (old.place == old.at))) || old.is_point)
-  pub names : (q : Name) → is_among q (names_of new) ≡ (if new.is_op && is_among q (labels_in here) then old.place == new.at else is_among q (names_of old))
+-- the lines that a cursor holds, in order
+abbrev pub lines_held : Cursor → List Lines
+lines_held c = c.behind.items ++ reverse c.ahead.items
 
 -- ---- sources ----
 
