@@ -107,11 +107,7 @@ fn skip_one(ahead: &mut Vec<Line>, behind: &mut Vec<Line>) -> Result<bool, Memor
 }
 
 /// Moves a line behind another list, where it isn't an instruction. How many instructions are still to be left out.
-fn skip_step(
-    ahead: &mut Vec<Line>,
-    behind: &mut Vec<Line>,
-    left: usize,
-) -> Result<usize, Memory>
+fn skip_step(ahead: &mut Vec<Line>, behind: &mut Vec<Line>, left: usize) -> Result<usize, Memory>
     requires some { 0 < length ahead.old.items }
     requires left { 0 < left }
     ensures lines { IfOk result (λ n. lines_of behind.new.items ++ without n (lines_of (reverse ahead.new.items)) ≡ lines_of behind.old.items ++ without left (lines_of (reverse ahead.old.items))) }
@@ -126,11 +122,7 @@ fn skip_step(
 }
 
 /// Moves lines behind others, without the first instructions among them, until none of these is left.
-fn skip(
-    ahead: &mut Vec<Line>,
-    behind: &mut Vec<Line>,
-    count: usize,
-) -> Result<(), Memory>
+fn skip(ahead: &mut Vec<Line>, behind: &mut Vec<Line>, count: usize) -> Result<(), Memory>
     ensures places { OnOk result (AreOps count (places_of (lines_of (reverse ahead.old.items))) → places_of (lines_of (reverse ahead.new.items)) ≡ drop count (places_of (lines_of (reverse ahead.old.items)))) }
     ensures lines { OnOk result (lines_of behind.new.items ++ lines_of (reverse ahead.new.items) ≡ lines_of behind.old.items ++ without count (lines_of (reverse ahead.old.items))) }
 {

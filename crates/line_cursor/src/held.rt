@@ -118,7 +118,12 @@ pub fn seen(line: &Line, begins: bool) -> Look
 }
 
 /// Adds what stays of a line whose instruction goes, and then new instructions.
-pub fn give_way(alloc: Global, out: &mut Vec<Line>, line: &Line, new: &[Instr]) -> Result<(), Memory>
+pub fn give_way(
+    alloc: Global,
+    out: &mut Vec<Line>,
+    line: &Line,
+    new: &[Instr],
+) -> Result<(), Memory>
     ensures { OnOk result (lines_of out.new.items ≡ lines_of out.old.items ++ (labels_left line.now ++ map (new_line own_line) new.now)) }
 {
     add_labels(alloc, out, line)?;

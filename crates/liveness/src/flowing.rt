@@ -97,7 +97,11 @@ fn straight_at(listing: &Listing, place: u32) -> Option<Instr>
 {
     match listing.place(place) {
         Some(Place::Op { instr, mention: _ }) => {
-            if is_straight(&instr) { Some(instr) } else { None }
+            if is_straight(&instr) {
+                Some(instr)
+            } else {
+                None
+            }
         }
         _ => None,
     }

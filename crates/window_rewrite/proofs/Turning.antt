@@ -160,6 +160,7 @@ still_kept c d k is e f =
     }
 
 unasked : (o : Option (Ref Listed)) → not (is_some o) ≡ true → IfSome o (λ l. now ≡ l.now)
+
 still_over : (r : Rules) (g : Ground) (lines now : List Line) (o : Replacement) → AreReady r → is_steady g ≡ true → AppliesIn (setting_of r) o lines → now ≡ lines_after (setting_of r) o lines → AreOver r g lines → AreOver r g now
 still_over r g lines now o ready steady a e over =
     subst (λ (ls : List Line). AreOver r g ls) (sym e) (record {

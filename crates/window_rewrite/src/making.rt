@@ -137,11 +137,7 @@ fn put(
 
 /// The sets of new instructions in place of a window right behind the cursor, where no item is live no more: these and those that are kept lack nothing but
 /// what comes by ways to the window's place.
-fn grown_behind(
-    cursor: &Cursor,
-    window: &[Instr],
-    new: &[Instr],
-) -> Option<ArrayVec<NewSets, 5>>
+fn grown_behind(cursor: &Cursor, window: &[Instr], new: &[Instr]) -> Option<ArrayVec<NewSets, 5>>
     requires kept { IsKept cursor.now }
     requires keeps { KeepsAt (code_of (lines_at cursor.now)) (place_at cursor.now) window.now new.now }
     ensures { IfSome result (λ s. AreGrowing cursor.now window.now new.now s.items) }
