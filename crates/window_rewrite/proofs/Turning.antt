@@ -1,6 +1,6 @@
 -- What a replacement at a cursor leaves, and why no entry applies before a cursor that went back far enough.
 use Rattle.std.proofs.Common.{◌≡◌, ℕ, ◌+◌, ◌-◌, ◌%◌, ◌<◌, ◌≤◌, ◌==◌, ◌&&◌, Bool, true, false, List, [], ◌∷◌, ◌++◌, length, length-append, map, Option, Some, None, refl, sym, ap, ◌∙◌, subst, arith, ne_eqb, true≢false}
-use Rattle.std.specs.Prelude.{slice_get}
+use Rattle.std.specs.Prelude.{slice_get, not, is_some, IfSome}
 use Rattle.std.specs.Option.{option_map}
 use Rattle.std.proofs.lemmas.Option.{slice_get-map}
 use Rattle.thumb_instr.specs.declared.instr.Instr.{Instr}
@@ -159,7 +159,11 @@ still_kept c d k is e f =
       flows = subst (λ (ls : List Line). AreFlows (code_of ls) (flows_of (spots_at d))) (sym e) flows;
     }
 
-unasked : (o : Option (Ref Listed)) → not (is_some o) ≡ true → IfSome o (λ l. now ≡ l.now)
+-- nothing is said of a listing where the layout needn't be asked for
+unasked : {X : Type 0} (P : X → Type 0) (o : Option X) → not (is_some o) ≡ true → IfSome o P
+unasked P None h = tt
+unasked P (Some x) h = absurd (cc)
+
 
 still_over : (r : Rules) (g : Ground) (lines now : List Line) (o : Replacement) → AreReady r → is_steady g ≡ true → AppliesIn (setting_of r) o lines → now ≡ lines_after (setting_of r) o lines → AreOver r g lines → AreOver r g now
 still_over r g lines now o ready steady a e over =
@@ -167,7 +171,7 @@ still_over r g lines now o ready steady a e over =
       listed = may_be_listed lines (setting_of r) o a over.listed;
       aligned = over.aligned;
       steady = λ h. still_steady (setting_of r) r.longest o lines ready.fit a (over.steady h);
-      same = unasked g.listing steady;
+      same = unasked _ g.listing steady;
     })
 
 -- a replacement was made at the one cursor, and the other went back from there: it stands in such lines

@@ -1,6 +1,7 @@
 //! What more comes to be live before a place, carried back along all ways until no set grows any more.
 ghost use Rattle.std.specs.Prelude.{◌≡◌, ◌∷◌, [], ◌+◌, ◌<◌, ◌≤◌, ℕ, Some, length, slice_get, OnOk};
 ghost use Rattle.thumb_model.specs.Listing.{code_of, places_of};
+ghost use Rattle.listing_parser.specs.TableWords.{DefineOnce};
 ghost use Rattle.liveness.specs.declared.growing.Source.{Source};
 ghost use Rattle.liveness.specs.Live.{IsLive};
 ghost use Rattle.liveness.specs.Kept.{AreFlows};
@@ -49,6 +50,7 @@ pub(crate) fn grow<L: Ledger>(
     steps: &mut Steps<L>,
 ) -> Result<(), Memory>
     requires is { IsCursor cursor.old }
+    requires once { DefineOnce (lines_at cursor.old) }
     requires flows { AreFlows (code_of (lines_at cursor.old)) (flows_of (spots_at cursor.old)) }
     requires growing { IsGrowing (code_of (lines_at cursor.old)) (place ∷ []) (sets_of (spots_at cursor.old)) }
     ensures grown { OnOk result (IsGrown cursor.old cursor.new) }

@@ -7,6 +7,7 @@ ghost use Rattle.thumb_model.specs.Listing.{code_of, places_of};
 ghost use Rattle.thumb_model.specs.Flow.{ways_of};
 ghost use Rattle.thumb_model.specs.Rewritten.{replaced_lines};
 ghost use Rattle.listing_parser.specs.Replacing.{own_line};
+ghost use Rattle.listing_parser.specs.TableWords.{DefineOnce};
 ghost use Rattle.liveness.specs.Kept.{FlowOf, KeepsAt, LeadsUp};
 ghost use Rattle.thumb_instr.specs.declared.instr.Instr.{Instr};
 ghost use Rattle.liveness.specs.declared.flowing.Flow.{Flow};
@@ -158,6 +159,7 @@ fn put_growing<L: Ledger>(
     steps: &mut Steps<L>,
 ) -> Result<(), Memory>
     requires kept { IsKept cursor.old }
+    requires once { DefineOnce (lines_at cursor.old) }
     requires some { 0 < length cursor.old.ahead.items }
     requires first { (rest : List Lines) (x : Lines) → cursor.old.ahead.items ≡ rest ++ x ∷ [] → begins_op (lines_in x) ≡ true }
     requires keeps { KeepsAt (code_of (lines_at cursor.old)) (place_at cursor.old) window.now new.now }
@@ -214,6 +216,7 @@ pub(crate) fn make<L: Ledger>(
     steps: &mut Steps<L>,
 ) -> Result<Option<usize>, Memory>
     requires kept { IsKept cursor.old }
+    requires once { DefineOnce (lines_at cursor.old) }
     requires some { 0 < length cursor.old.ahead.items }
     requires first { (rest : List Lines) (x : Lines) → cursor.old.ahead.items ≡ rest ++ x ∷ [] → begins_op (lines_in x) ≡ true }
     requires few { length window.now ≤ 5 }

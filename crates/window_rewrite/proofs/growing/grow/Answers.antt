@@ -1,5 +1,7 @@
 use Rattle.std.proofs.Common.{◌≡◌, ◌∙◌, ◌<◌, ◌+◌, ◌-◌, ◌*◌, ◌≤◌, ◌∷◌, ◌++◌, [], ℕ, List, length, length-append, ap, arith, sym, subst, mul-le-mul_right}
 use Rattle.thumb_model.specs.Listing.{code_of, places_of, Line}
+use Rattle.listing_parser.specs.TableWords.{DefineOnce}
+use Rattle.line_cursor.proofs.Onces.{once_each}
 use Rattle.liveness.specs.Live.{Sets}
 use Rattle.liveness.specs.Growing.{IsGrowing}
 use Rattle.liveness.specs.Passes.{total}
@@ -26,6 +28,9 @@ sources-requires-clause-is g c = grown_is c.args.cursor.now c.loop-place.cursor 
 
 pub sources-requires-clause-flows : goal.sources-requires-clause-flows
 sources-requires-clause-flows g c = grown_flows c.args.cursor.now c.loop-place.cursor c.loop-place.invariant.grown c.requires.flows
+
+pub sources-requires-clause-once : goal.sources-requires-clause-once
+sources-requires-clause-once g c = once_each (lines_at c.loop-place.cursor) (subst DefineOnce (sym (grown_lines c.args.cursor.now c.loop-place.cursor c.loop-place.invariant.grown)) c.requires.once)
 
 pub carry_all-requires-clause-growing : goal.carry_all-requires-clause-growing
 carry_all-requires-clause-growing g c =

@@ -2,7 +2,10 @@ use Rattle.std.proofs.Common.{◌∙◌, ◌∷◌, [], ℕ, List, length, ap, a
 use Rattle.thumb_model.specs.Listing.{code_of, places_of, Line}
 use Rattle.liveness.specs.Live.{IsLive}
 use Rattle.line_cursor.specs.declared.cursor.Spot.{Spot}
-use Rattle.line_cursor.specs.Cursors.{lines_at, spots_at, sets_of}
+use Rattle.listing_parser.specs.Replacing.{own_line}
+use Rattle.listing_parser.specs.TableWords.{DefineOnce}
+use Rattle.listing_parser.proofs.ReplaceLemmas.{still_once}
+use Rattle.line_cursor.specs.Cursors.{lines_at, place_at, spots_at, sets_of}
 use Rattle.liveness.specs.Growing.{IsGrowing}
 use Rattle.window_rewrite.proofs.KeptSpots.{ops_ahead, put_growing, put_loses, spots_left}
 use Rattle.window_rewrite.proofs.Grown.{grown_lines, grown_is, grown_flows}
@@ -11,6 +14,9 @@ use Rattle.window_rewrite.proofs.making.put_growing.Goals as goal
 
 pub replace-requires-clause-window : goal.replace-requires-clause-window
 replace-requires-clause-window g c = ops_ahead c.args.cursor.now c.args.window.now c.args.new.now c.requires.kept.is c.requires.keeps
+
+pub grow-requires-clause-once : goal.grow-requires-clause-once
+grow-requires-clause-once g c = subst DefineOnce (sym c.in_ok-replace.ensures.lines) (still_once own_line (place_at c.args.cursor.now) (length c.args.window.now) c.args.new.now (lines_at c.args.cursor.now) c.requires.once)
 
 pub grow-requires-clause-flows : goal.grow-requires-clause-flows
 grow-requires-clause-flows g c =

@@ -44,3 +44,6 @@ pub put_blank-requires-clause-keeps : goal.put_blank-requires-clause-keeps
 put_blank-requires-clause-keeps g c =
     keeps_here (setting_of c.args.rules.now) (lines_at c.args.cursor.now) c.args.choice.now (place_at c.args.cursor.now) c.as_slice-window.result.now c.as_slice-new.result.now c.requires.choice.is c.requires.here
     c.as_slice-window.ensures.value c.as_slice-new.ensures.value
+
+pub make-requires-clause-once : goal.make-requires-clause-once
+make-requires-clause-once g c = c.requires.over.over.listed.once
