@@ -1,4 +1,4 @@
-use Rattle.std.proofs.Common.{◌≡◌, ◌+◌, ◌<◌, ◌∙◌, ◌++◌, List, [], ◌∷◌, length, take, sym, ap, arith}
+use Rattle.std.proofs.Common.{◌+◌, ◌<◌, ◌∙◌, ◌++◌, List, [], ◌∷◌, length, take, sym, ap, arith}
 use Rattle.std.proofs.lemmas.List.{take_more}
 use Rattle.thumb_model.proofs.Lists.{take_all}
 use Rattle.listing_parser.specs.Views.{line_view}

@@ -1,4 +1,4 @@
-use Rattle.std.proofs.Common.{◌≡◌, ◌+◌, arith, ◌∙◌, ◌++◌, List, [], ◌∷◌, length, append-nil, Vec, sym, ap}
+use Rattle.std.proofs.Common.{arith, ◌∙◌, ◌++◌, List, length, append-nil, Vec, sym, ap}
 use Rattle.std.specs.declared.alloc.Global.{Global}
 use Rattle.thumb_model.specs.Listing.{places_of}
 use Rattle.listing_parser.specs.Views.{line_view}

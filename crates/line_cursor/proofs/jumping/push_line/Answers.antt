@@ -1,4 +1,4 @@
-use Rattle.std.proofs.Common.{◌≡◌, ◌+◌, ◌∙◌, ◌++◌, arith, List, [], ◌∷◌, length, append-nil, Vec, refl, sym, ap}
+use Rattle.std.proofs.Common.{◌∙◌, ◌++◌, arith, List, [], ◌∷◌, length, append-nil, Vec, refl, sym, ap}
 use Rattle.std.specs.declared.alloc.Global.{Global}
 use Rattle.listing_parser.specs.Views.{line_view}
 use Rattle.line_cursor.specs.declared.jumping.Jump.{Jump}
