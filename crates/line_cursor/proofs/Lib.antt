@@ -13,3 +13,4 @@ mod Jumps
 mod Targets
 mod Sights
 mod Points
+mod JumpsKept
