@@ -1,5 +1,5 @@
 -- The lines that may jump, where a line is added or taken away.
-use Rattle.std.proofs.Common.{◌≡◌, ℕ, ◌+◌, ◌-◌, take, Bool, true, false, List, [], ◌∷◌, ◌++◌, length, length-append, refl, sym, ap, ◌∙◌, arith, if◌then◌else◌}
+use Rattle.std.proofs.Common.{◌≡◌, ℕ, ◌+◌, ◌-◌, take, Bool, true, false, List, [], ◌∷◌, ◌++◌, length, length-append, append-nil, append_assoc, ◌≤◌, refl, sym, ap, ◌∙◌, arith, if◌then◌else◌}
 use Rattle.std.proofs.lemmas.List.{map-append}
 use Rattle.thumb_model.specs.Listing.{Line, places_in, places_of}
 use Rattle.thumb_model.proofs.Lists.{length_map}
@@ -7,6 +7,7 @@ use Rattle.listing_parser.specs.Views.{line_view}
 use Rattle.listing_parser.specs.declared.line.Line.{Line as Lines}
 use Rattle.line_cursor.specs.declared.jumping.Jump.{Jump}
 use Rattle.line_cursor.specs.Lines.{lines_of}
+use Rattle.line_cursor.specs.Cursors.{GoesOn}
 use Rattle.line_cursor.specs.Jumping.{may_jump, jumps_from}
 
 pub jumps_append : (n p : ℕ) (xs ys : List Line) → jumps_from n p (xs ++ ys) ≡ jumps_from n p xs ++ jumps_from (n + length xs) (p + length (places_of xs)) ys
@@ -63,3 +64,27 @@ jumps_added jumps xs new x n p h g e f =
     ∙ ap (λ k. jumps_from 0 0 (lines_of xs) ++ jumps_from k p (line_view x ∷ [])) (h ∙ sym (length_map line_view xs))
     ∙ ap (λ k. jumps_from 0 0 (lines_of xs) ++ jumps_from (length (lines_of xs)) k (line_view x ∷ [])) g
     ∙ sym (jumps_push xs x) ∙ ap (λ (l : List Lines). jumps_from 0 0 (lines_of l)) (sym e)
+
+-- ---- lines that go on from others ----
+
+pub goes_on_same : (old new : List Lines) → new ≡ old → GoesOn old new
+goes_on_same old new e = ([], ap lines_of e ∙ sym (append-nil (lines_of old)))
+
+pub goes_on_push : (old mid new : List Lines) (x : Lines) → GoesOn old mid → new ≡ mid ++ x ∷ [] → GoesOn old new
+goes_on_push old mid new x g e = (g.0 ++ line_view x ∷ [], ap lines_of e ∙ map-append line_view mid (x ∷ []) ∙ ap (λ (ls : List Line). ls ++ line_view x ∷ []) g.1 ∙ append_assoc (lines_of old) g.0 (line_view x ∷ []))
+
+pub goes_on : (old mid new : List Lines) → GoesOn old mid → GoesOn mid new → GoesOn old new
+goes_on old mid new a b = (a.0 ++ b.0, b.1 ∙ ap (λ (ls : List Line). ls ++ b.0) a.1 ∙ append_assoc (lines_of old) a.0 b.0)
+
+-- the first of them are those
+pub goes_on_first : (old new : List Lines) → GoesOn old new → lines_of (take (length old) new) ≡ lines_of old
+goes_on_first [] new g = refl
+goes_on_first (x ∷ xs) [] g = absurd (let bad = g.1 in cc)
+goes_on_first (x ∷ xs) (y ∷ ys) g =
+    let same : lines_of (y ∷ ys) ≡ line_view x ∷ (lines_of xs ++ g.0) = g.1 in
+    let first : line_view y ≡ line_view x = cc in
+    let rest : lines_of ys ≡ lines_of xs ++ g.0 = cc in
+    ap (λ (l : Line). l ∷ lines_of (take (length xs) ys)) first ∙ ap (λ (ls : List Line). line_view x ∷ ls) (goes_on_first xs ys (g.0, rest))
+
+pub goes_on_longer : (old new : List Lines) → GoesOn old new → length old ≤ length new
+goes_on_longer old new g = omega (arith, ap (λ (ls : List Line). length ls) g.1, length-append (lines_of old) g.0, length_map line_view old, length_map line_view new)

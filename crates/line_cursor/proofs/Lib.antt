@@ -9,6 +9,7 @@ pub mod Stays
 pub mod Onces
 mod Carried
 mod Ways
+mod Marked
 mod Jumps
 mod Targets
 mod Sights

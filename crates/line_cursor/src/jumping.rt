@@ -1,5 +1,5 @@
 //! Which lines may jump, kept beside a list of lines that grows and shrinks at its end.
-ghost use Rattle.std.specs.Prelude.{◌≡◌, ◌++◌, ◌∷◌, ◌<◌, ◌≤◌, ◌^◌, [], length, take, option_to_list, OnOk};
+ghost use Rattle.std.specs.Prelude.{◌≡◌, ◌++◌, ◌∷◌, ◌<◌, ◌≤◌, ◌^◌, [], length, take, option_to_list, IfNone, OnOk};
 ghost use Rattle.thumb_model.specs.Listing.{places_in, places_of};
 ghost use Rattle.listing_parser.specs.Views.{statement_view};
 ghost use Rattle.line_cursor.specs.Lines.{lines_in, lines_of};
@@ -69,6 +69,7 @@ pub fn push_line(
 pub fn pop_line(lines: &mut Vec<Line>, jumps: &mut Vec<Jump>) -> Option<Line>
     requires { jumps.old.items ≡ jumps_from 0 0 (lines_of lines.old.items) }
     ensures lines { lines.old.items ≡ lines.new.items ++ option_to_list result }
+    ensures none { IfNone result (lines.old.items ≡ []) }
     ensures jumps { jumps.new.items ≡ jumps_from 0 0 (lines_of lines.new.items) }
 {
     match lines.pop() {
