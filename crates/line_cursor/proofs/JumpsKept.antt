@@ -73,9 +73,6 @@ goes_on_same old new e = ([], ap lines_of e ∙ sym (append-nil (lines_of old)))
 pub goes_on_push : (old mid new : List Lines) (x : Lines) → GoesOn old mid → new ≡ mid ++ x ∷ [] → GoesOn old new
 goes_on_push old mid new x g e = (g.0 ++ line_view x ∷ [], ap lines_of e ∙ map-append line_view mid (x ∷ []) ∙ ap (λ (ls : List Line). ls ++ line_view x ∷ []) g.1 ∙ append_assoc (lines_of old) g.0 (line_view x ∷ []))
 
-pub goes_on : (old mid new : List Lines) → GoesOn old mid → GoesOn mid new → GoesOn old new
-goes_on old mid new a b = (a.0 ++ b.0, b.1 ∙ ap (λ (ls : List Line). ls ++ b.0) a.1 ∙ append_assoc (lines_of old) a.0 b.0)
-
 -- the first of them are those
 pub goes_on_first : (old new : List Lines) → GoesOn old new → lines_of (take (length old) new) ≡ lines_of old
 goes_on_first [] new g = refl

@@ -1,4 +1,4 @@
-use Rattle.std.proofs.Common.{◌≡◌, ◌≤◌, zero, suc, refl, length, Option, ◌+◌, ◌∙◌, ◌++◌, [], ◌∷◌, ℕ, List, take, subst, sym, ap, arith}
+use Rattle.std.proofs.Common.{◌≡◌, ◌≤◌, zero, suc, refl, length, Option, ◌∙◌, ◌++◌, [], ◌∷◌, ℕ, List, take, subst, sym, ap, arith}
 use Rattle.std.specs.Prelude.{slice_get}
 use Rattle.std.proofs.lemmas.List.{take_more}
 use Rattle.std.proofs.lemmas.Option.{slice_get_within, get_or_from_slice_get}
