@@ -3,13 +3,13 @@ use Rattle.std.proofs.Common.{◌≡◌, ℕ, zero, suc, ◌+◌, ◌-◌, ◌<�
 use Rattle.std.proofs.lemmas.Bool.{and_from}
 use Rattle.std.proofs.lemmas.List.{reverse-append, drop_at}
 use Rattle.thumb_instr.specs.declared.instr.Instr.{Instr}
-use Rattle.thumb_model.specs.Listing.{Name, Statement, Nothing, Runs, Words, Aligns, Sets, Line, Place, Op, Word, plain, places_in, places_of}
+use Rattle.thumb_model.specs.Listing.{Statement, Nothing, Runs, Words, Aligns, Sets, Line, Place, Op, Word, plain, places_in, places_of}
 use Rattle.thumb_model.specs.Rewritten.{is_op, without, labels_kept, new_line, replaced_lines}
 use Rattle.thumb_model.proofs.Cuts.{without_none}
 use Rattle.thumb_model.proofs.LinesReplaced.{AreOps, places_replaced}
 use Rattle.thumb_model.proofs.Lists.{length_map, take_all, length_drop}
 use Rattle.line_cursor.proofs.Nearer.{places_append}
-use Rattle.listing_parser.specs.Views.{line_view, names_view}
+use Rattle.listing_parser.specs.Views.{line_view}
 use Rattle.listing_parser.specs.Replacing.{own_line}
 use Rattle.listing_parser.specs.declared.line.Line.{Line as Lines}
 use Rattle.line_cursor.specs.Cursors.{AreAhead}

@@ -9,7 +9,9 @@ pub mod Stays
 pub mod Onces
 mod Carried
 mod Ways
+mod Marked
 mod Jumps
 mod Targets
 mod Sights
 mod Points
+mod JumpsKept

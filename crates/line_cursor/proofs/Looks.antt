@@ -10,8 +10,6 @@ use Rattle.window_runs.specs.Runs.{run}
 use Rattle.listing_parser.specs.declared.line.Line.{Line as Lines}
 use Rattle.line_cursor.specs.declared.held.Look.{Look}
 use Rattle.line_cursor.specs.declared.held.Look.TheVariants as look
-use Rattle.thumb_model.specs.Rewritten.{labels_kept}
-use Rattle.listing_parser.specs.Views.{line_view, names_view}
 use Rattle.line_cursor.specs.Lines.{lines_in, lines_of}
 use Rattle.line_cursor.specs.Looks.{look_letter, look_statement, look_lines}
 

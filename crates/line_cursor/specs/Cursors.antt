@@ -7,7 +7,9 @@ use Rattle.liveness.specs.Live.{Sets}
 use Rattle.line_cursor.specs.declared.cursor.Cursor.{Cursor}
 use Rattle.line_cursor.specs.declared.cursor.Spot.{Spot}
 use Rattle.liveness.specs.declared.flowing.Flow.{Flow}
+use Rattle.listing_parser.specs.declared.line.Line.{Line as Lines}
 use Rattle.line_cursor.specs.Lines.{lines_of}
+use Rattle.line_cursor.specs.Jumping.{jumps_from}
 
 abbrev pub lines_behind : Cursor → List Line
 lines_behind c = lines_of c.behind.items
@@ -31,10 +33,16 @@ sets_of spots = record { before = map (λ s. s.before) spots; after = map (λ s.
 abbrev pub flows_of : List Spot → List Flow
 flows_of spots = map (λ s. s.flow) spots
 
--- as many spots as places, before it and behind it
+-- as many spots as places, and all lines that may jump, before it and behind it
 pub record IsCursor (c : Cursor) : Type 0 where
   pub passed : length c.passed.items ≡ length (places_of (lines_behind c))
   pub coming : length c.coming.items ≡ length (places_of (lines_ahead c))
+  pub jumps_behind : c.jumps_behind.items ≡ jumps_from 0 0 (lines_behind c)
+  pub jumps_ahead : c.jumps_ahead.items ≡ jumps_from 0 0 (lines_of c.ahead.items)
+
+-- lines that begin with others
+abbrev pub GoesOn : List Lines → List Lines → Type 0
+GoesOn old new = (more : List Line) × (lines_of new ≡ lines_of old ++ more)
 
 -- of `count` instructions that stood first among places, the last `left` stand first now, and the same places behind them
 pub record AreAhead (count : ℕ) (was now : List Place) (left : ℕ) : Type 0 where

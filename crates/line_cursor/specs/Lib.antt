@@ -4,3 +4,4 @@ pub mod Cursors
 pub mod Leads
 pub mod Carrying
 pub mod Sources
+pub mod Jumping

@@ -1,11 +1,10 @@
 -- Ways that lead to a place, found by looks at lines.
-use Rattle.std.specs.Prelude.{◌≡◌, ℕ, ◌+◌, ◌<◌, ◌==◌, ◌&&◌, ◌||◌, Bool, true, false, List, [], ◌∷◌, ◌++◌, length, map, reverse, Option, Some, None, slice_get, if◌then◌else◌}
+use Rattle.std.specs.Prelude.{◌≡◌, ℕ, ◌+◌, ◌-◌, ◌<◌, ◌==◌, ◌&&◌, ◌||◌, Bool, true, false, List, [], ◌∷◌, ◌++◌, length, map, Option, Some, None, slice_get, if◌then◌else◌}
 use Rattle.thumb_instr.specs.Items.{one_of, has}
 use Rattle.thumb_model.specs.Listing.{Name, Line, Place, Code, places_in, place_of, label_places, return_places, is_call}
 use Rattle.thumb_model.specs.Layout.{is_among}
 use Rattle.thumb_model.specs.Rewritten.{is_op}
 use Rattle.thumb_model.specs.Flow.{Way, Leads, Onward, ToPlace, AnyPoint, Out, ways}
-use Rattle.listing_parser.specs.declared.line.Line.{Line as Lines}
 use Rattle.liveness.specs.declared.growing.Source.{Source}
 use Rattle.liveness.specs.Points.{some_name}
 use Rattle.liveness.specs.Kept.{onward_writes, HasThese}
@@ -94,9 +93,9 @@ pub record IsTarget (code : Code) (t : Target) : Type 0 where
   pub is_point : t.is_point ≡ is_point t.place code
   pub names : AreNamesOf code t.place (names_of t)
 
--- the lines that a cursor holds, in order
-abbrev pub lines_held : Cursor → List Lines
-lines_held c = c.behind.items ++ reverse c.ahead.items
+-- the places of the lines that may jump: those before a cursor in order, then those behind it backward
+abbrev pub jump_places : Cursor → List ℕ
+jump_places c = map (λ j. j.places) c.jumps_behind.items ++ map (λ j. length c.passed.items + length c.coming.items - 1 - j.places) c.jumps_ahead.items
 
 -- ---- sources ----
 

@@ -68,6 +68,8 @@ impl Cursor {
         ensures flows { flows_of (spots_at self.new) ≡ flows_of (spots_at self.old) }
         ensures behind { self.new.behind.items ≡ self.old.behind.items }
         ensures ahead { self.new.ahead.items ≡ self.old.ahead.items }
+        ensures jumps_behind { self.new.jumps_behind.items ≡ self.old.jumps_behind.items }
+        ensures jumps_ahead { self.new.jumps_ahead.items ≡ self.old.jumps_ahead.items }
         ensures passed { length self.new.passed.items ≡ length self.old.passed.items }
         ensures coming { length self.new.coming.items ≡ length self.old.coming.items }
     {

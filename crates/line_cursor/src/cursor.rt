@@ -13,9 +13,11 @@ ghost use Rattle.window_runs.specs.Runs.{run};
 ghost use Rattle.listing_parser.specs.declared.line.Line.{Line as Lines};
 ghost use Rattle.line_cursor.specs.Lines.{begins_op, lines_in, lines_of};
 ghost use Rattle.line_cursor.specs.Leads.{mended};
-ghost use Rattle.line_cursor.specs.Cursors.{flows_of, lines_ahead, lines_at, lines_behind, place_at, sets_of, spots_at, stands_at, AreAhead, IsCursor, IsSettled};
+ghost use Rattle.line_cursor.specs.Jumping.{jumps_from};
+ghost use Rattle.line_cursor.specs.Cursors.{flows_of, lines_ahead, lines_at, lines_behind, place_at, sets_of, spots_at, stands_at, AreAhead, GoesOn, IsCursor, IsSettled};
 
 use crate::held::{Look, give_way, is_labelled, is_op, places_of, seen, straight_in};
+use crate::jumping::{Jump, note_from, pop_line, push_line};
 use arrayvec::ArrayVec;
 use listing_parser::{Line, Memory};
 use liveness::{Flow, NewSets};
@@ -53,6 +55,9 @@ pub struct Cursor {
     pub behind: Vec<Line>,
     /// The lines behind it, backward.
     pub ahead: Vec<Line>,
+    /// Which lines of either list may jump.
+    pub jumps_behind: Vec<Jump>,
+    pub jumps_ahead: Vec<Jump>,
     /// The places before it, in order.
     pub passed: Vec<Spot>,
     /// The places behind it, backward.
@@ -89,12 +94,18 @@ fn shift(from: &mut Vec<Spot>, to: &mut Vec<Spot>, count: usize) -> Result<(), M
 }
 
 /// Moves the last line of one list behind another, where it isn't an instruction. Whether it is.
-fn skip_one(ahead: &mut Vec<Line>, behind: &mut Vec<Line>) -> Result<bool, Memory>
-    requires { 0 < length ahead.old.items }
+fn skip_one(
+    ahead: &mut Vec<Line>,
+    jumps: &mut Vec<Jump>,
+    behind: &mut Vec<Line>,
+) -> Result<bool, Memory>
+    requires some { 0 < length ahead.old.items }
+    requires jumps { jumps.old.items ≡ jumps_from 0 0 (lines_of ahead.old.items) }
     ensures op { IfOk result (λ b. b ≡ true → (behind.new.items ≡ behind.old.items) × (x : Lines) × (ahead.old.items ≡ ahead.new.items ++ x ∷ []) × (begins_op (lines_in x) ≡ true)) }
     ensures other { IfOk result (λ b. b ≡ false → (x : Lines) × (behind.new.items ≡ behind.old.items ++ x ∷ []) × (ahead.old.items ≡ ahead.new.items ++ x ∷ []) × (begins_op (lines_in x) ≡ false)) }
+    ensures jumps { OnOk result (jumps.new.items ≡ jumps_from 0 0 (lines_of ahead.new.items)) }
 {
-    match ahead.pop() {
+    match pop_line(ahead, jumps) {
         None => Ok(true),
         Some(line) => {
             if is_op(&line) {
@@ -107,14 +118,22 @@ fn skip_one(ahead: &mut Vec<Line>, behind: &mut Vec<Line>) -> Result<bool, Memor
 }
 
 /// Moves a line behind another list, where it isn't an instruction. How many instructions are still to be left out.
-fn skip_step(ahead: &mut Vec<Line>, behind: &mut Vec<Line>, left: usize) -> Result<usize, Memory>
+fn skip_step(
+    ahead: &mut Vec<Line>,
+    jumps: &mut Vec<Jump>,
+    behind: &mut Vec<Line>,
+    left: usize,
+) -> Result<usize, Memory>
     requires some { 0 < length ahead.old.items }
+    requires jumps { jumps.old.items ≡ jumps_from 0 0 (lines_of ahead.old.items) }
     requires left { 0 < left }
     ensures lines { IfOk result (λ n. lines_of behind.new.items ++ without n (lines_of (reverse ahead.new.items)) ≡ lines_of behind.old.items ++ without left (lines_of (reverse ahead.old.items))) }
     ensures places { IfOk result (λ n. (count : ℕ) (was : List Place) → AreAhead count was (places_of (lines_of (reverse ahead.old.items))) left → AreAhead count was (places_of (lines_of (reverse ahead.new.items))) n) }
     ensures fewer { OnOk result (length ahead.new.items < length ahead.old.items) }
+    ensures jumps { OnOk result (jumps.new.items ≡ jumps_from 0 0 (lines_of ahead.new.items)) }
+    ensures behind { OnOk result (GoesOn behind.old.items behind.new.items) }
 {
-    if skip_one(ahead, behind)? {
+    if skip_one(ahead, jumps, behind)? {
         Ok(left - 1)
     } else {
         Ok(left)
@@ -122,16 +141,24 @@ fn skip_step(ahead: &mut Vec<Line>, behind: &mut Vec<Line>, left: usize) -> Resu
 }
 
 /// Moves lines behind others, without the first instructions among them, until none of these is left.
-fn skip(ahead: &mut Vec<Line>, behind: &mut Vec<Line>, count: usize) -> Result<(), Memory>
+fn skip(
+    ahead: &mut Vec<Line>,
+    jumps: &mut Vec<Jump>,
+    behind: &mut Vec<Line>,
+    count: usize,
+) -> Result<(), Memory>
+    requires { jumps.old.items ≡ jumps_from 0 0 (lines_of ahead.old.items) }
     ensures places { OnOk result (AreOps count (places_of (lines_of (reverse ahead.old.items))) → places_of (lines_of (reverse ahead.new.items)) ≡ drop count (places_of (lines_of (reverse ahead.old.items)))) }
     ensures lines { OnOk result (lines_of behind.new.items ++ lines_of (reverse ahead.new.items) ≡ lines_of behind.old.items ++ without count (lines_of (reverse ahead.old.items))) }
+    ensures jumps { OnOk result (jumps.new.items ≡ jumps_from 0 0 (lines_of ahead.new.items)) }
+    ensures behind { OnOk result (GoesOn behind.old.items behind.new.items) }
 {
     let mut left = count;
     while left > 0 {
         if ahead.len() == 0 {
             return Ok(());
         }
-        left = skip_step(ahead, behind, left)?;
+        left = skip_step(ahead, jumps, behind, left)?;
     }
     Ok(())
 }
@@ -140,21 +167,25 @@ fn skip(ahead: &mut Vec<Line>, behind: &mut Vec<Line>, count: usize) -> Result<(
 fn edit(
     alloc: Global,
     ahead: &mut Vec<Line>,
+    jumps: &mut Vec<Jump>,
     behind: &mut Vec<Line>,
     count: usize,
     new: &[Instr],
 ) -> Result<(), Memory>
     requires count { 0 < count }
     requires some { 0 < length ahead.old.items }
+    requires jumps { jumps.old.items ≡ jumps_from 0 0 (lines_of ahead.old.items) }
     requires first { (rest : List Lines) (x : Lines) → ahead.old.items ≡ rest ++ x ∷ [] → begins_op (lines_in x) ≡ true }
     ensures places { OnOk result (AreOps count (places_of (lines_of (reverse ahead.old.items))) → places_of (lines_of (reverse ahead.new.items)) ≡ drop count (places_of (lines_of (reverse ahead.old.items)))) }
     ensures lines { OnOk result (lines_of behind.new.items ++ lines_of (reverse ahead.new.items) ≡ replaced_lines own_line (length (places_of (lines_of behind.old.items))) count new.now (lines_of behind.old.items ++ lines_of (reverse ahead.old.items))) }
+    ensures jumps { OnOk result (jumps.new.items ≡ jumps_from 0 0 (lines_of ahead.new.items)) }
+    ensures behind { OnOk result (GoesOn behind.old.items behind.new.items) }
 {
-    match ahead.pop() {
+    match pop_line(ahead, jumps) {
         None => Ok(()),
         Some(first) => {
             give_way(alloc, behind, &first, new)?;
-            skip(ahead, behind, count - 1)?;
+            skip(ahead, jumps, behind, count - 1)?;
             Ok(())
         }
     }
@@ -257,23 +288,27 @@ fn mend(spots: &mut Vec<Spot>, first: usize, sets: &[NewSets])
 
 impl Cursor {
     /// A cursor before lines, whose places are known so.
-    pub fn start(alloc: Global, lines: Vec<Line>, spots: Vec<Spot>) -> Cursor
+    pub fn start(alloc: Global, lines: Vec<Line>, spots: Vec<Spot>) -> Result<Cursor, Memory>
         requires { length spots.items ≡ length (places_of (map line_view lines.items)) }
-        ensures is { IsCursor result }
-        ensures lines { lines_at result ≡ map line_view lines.items }
-        ensures spots { spots_at result ≡ spots.items }
-        ensures place { place_at result ≡ 0 }
+        ensures is { IfOk result (λ c. IsCursor c) }
+        ensures lines { IfOk result (λ c. lines_at c ≡ map line_view lines.items) }
+        ensures spots { IfOk result (λ c. spots_at c ≡ spots.items) }
+        ensures place { IfOk result (λ c. place_at c ≡ 0) }
     {
         let mut ahead = lines;
         ahead.reverse();
         let mut coming = spots;
         coming.reverse();
-        Cursor {
+        let mut jumps_ahead = Vec::new(alloc);
+        note_from(&mut jumps_ahead, &ahead, 0, 0)?;
+        Ok(Cursor {
             behind: Vec::new(alloc),
             ahead,
+            jumps_behind: Vec::new(alloc),
+            jumps_ahead,
             passed: Vec::new(alloc),
             coming,
-        }
+        })
     }
 
     /// All lines, in order.
@@ -342,6 +377,8 @@ impl Cursor {
         requires { length sets.now ≤ place_at self.old }
         ensures behind { self.new.behind.items ≡ self.old.behind.items }
         ensures ahead { self.new.ahead.items ≡ self.old.ahead.items }
+        ensures jumps_behind { self.new.jumps_behind.items ≡ self.old.jumps_behind.items }
+        ensures jumps_ahead { self.new.jumps_ahead.items ≡ self.old.jumps_ahead.items }
         ensures coming { self.new.coming.items ≡ self.old.coming.items }
         ensures passed { self.new.passed.items ≡ mended (place_at self.old - length sets.now) self.old.passed.items sets.now }
     {
@@ -393,11 +430,12 @@ impl Cursor {
         ensures spots { OnOk result (spots_at self.new ≡ spots_at self.old) }
         ensures place { OnOk result ((rest : List Lines) (x : Lines) → self.old.ahead.items ≡ rest ++ x ∷ [] → (place_at self.new ≡ place_at self.old + length (places_of (lines_in x))) × (self.new.ahead.items ≡ rest)) }
     {
-        match self.ahead.pop() {
+        match pop_line(&mut self.ahead, &mut self.jumps_ahead) {
             None => Ok(()),
             Some(line) => {
+                let places = self.passed.len();
                 shift(&mut self.coming, &mut self.passed, places_of(&line))?;
-                self.behind.push(line)?;
+                push_line(&mut self.behind, &mut self.jumps_behind, line, places)?;
                 Ok(())
             }
         }
@@ -412,11 +450,12 @@ impl Cursor {
         ensures spots { OnOk result (spots_at self.new ≡ spots_at self.old) }
         ensures less { OnOk result (length self.new.behind.items + 1 ≤ length self.old.behind.items) }
     {
-        match self.behind.pop() {
+        match pop_line(&mut self.behind, &mut self.jumps_behind) {
             None => Ok(()),
             Some(line) => {
+                let places = self.coming.len();
                 shift(&mut self.passed, &mut self.coming, places_of(&line))?;
-                self.ahead.push(line)?;
+                push_line(&mut self.ahead, &mut self.jumps_ahead, line, places)?;
                 Ok(())
             }
         }
@@ -455,10 +494,20 @@ impl Cursor {
         ensures spots { OnOk result (spots_at self.new ≡ self.old.passed.items ++ (spots.now ++ drop count (reverse self.old.coming.items))) }
         ensures place { OnOk result (place_at self.new ≡ place_at self.old + length new.now) }
     {
-        edit(alloc, &mut self.ahead, &mut self.behind, count, new)?;
+        let first = self.behind.len();
+        let places = self.passed.len();
+        edit(
+            alloc,
+            &mut self.ahead,
+            &mut self.jumps_ahead,
+            &mut self.behind,
+            count,
+            new,
+        )?;
         let left = self.coming.len().saturating_sub(count);
         self.coming.truncate(left);
         self.passed.extend_from_slice(spots)?;
+        note_from(&mut self.jumps_behind, &self.behind, first, places)?;
         Ok(())
     }
 

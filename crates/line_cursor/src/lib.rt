@@ -4,6 +4,7 @@
 mod carrying;
 pub mod cursor;
 pub mod held;
+pub mod jumping;
 mod sources;
 
 pub use cursor::{Cursor, Spot};

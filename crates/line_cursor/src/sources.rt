@@ -1,4 +1,4 @@
-//! The ways that lead to a place, found by a look at the lines about it and one at each instruction.
+//! The ways that lead to a place, found by a look at the lines about it and one at each line that may jump.
 ghost use Rattle.std.specs.Prelude.{◌≡◌, ◌+◌, ◌<◌, ◌^◌, ◌&&◌, ◌||◌, ℕ, [], Option, None, Some, length, map, reverse, slice_get, option_map, true, OnOk, if◌then◌else◌};
 ghost use Rattle.std.specs.List.{list_any};
 ghost use Rattle.std.specs.Str.{bytes_eq};
@@ -43,6 +43,14 @@ struct Target<'a> {
     is_point: bool,
     /// The names that stand for it: a branch that mentions one goes there.
     names: Vec<&'a [u8]>,
+}
+
+/// A line that may jump.
+#[derive(Clone, Copy)]
+struct Mark<'a> {
+    line: &'a Line,
+    /// Its place.
+    place: usize,
 }
 
 // ---- names ----
@@ -220,18 +228,30 @@ impl Cursor {
     ghost use Rattle.liveness.specs.Kept.{AreFlows};
     ghost use Rattle.liveness.specs.Growing.{AreSources};
     ghost use Rattle.line_cursor.specs.Cursors.{flows_of, lines_at, spots_at, IsCursor};
-    ghost use Rattle.line_cursor.specs.Sources.{lines_held, is_point, AreJumps, AreOnce, IsOnward, IsTarget};
+    ghost use Rattle.line_cursor.specs.Lines.{lines_in};
+    ghost use Rattle.line_cursor.specs.Sources.{jump_places, is_point, AreJumps, AreOnce, IsOnward, IsTarget};
 
-    /// A line by its number.
-    fn line(&self, number: usize) -> &Line
-        requires { number < length (lines_held self.now) }
-        ensures { slice_get (lines_held self.now) number ≡ Some result.now }
+    /// A line that may jump, by its number among those before the cursor and those behind it.
+    fn mark(&self, number: usize) -> Mark<'_>
+        requires is { IsCursor self.now }
+        requires within { number < length (jump_places self.now) }
+        ensures place { slice_get (jump_places self.now) number ≡ Some result.place }
+        ensures line { slice_get (places_of (lines_at self.now)) result.place ≡ slice_get (places_of (lines_in result.line.now)) 0 }
     {
-        let before = self.behind.len();
+        let before = self.jumps_behind.len();
         if number < before {
-            return &self.behind[number];
+            let jump = self.jumps_behind[number];
+            return Mark {
+                line: &self.behind[jump.line],
+                place: jump.places,
+            };
         }
-        &self.ahead[self.ahead.len() - 1 - (number - before)]
+        let jump = self.jumps_ahead[number - before];
+        let count = self.passed.len() + self.coming.len();
+        Mark {
+            line: &self.ahead[jump.line],
+            place: count - 1 - jump.places,
+        }
     }
 
     /// What is known of a place. It looks from the cursor to that place.
@@ -262,11 +282,9 @@ impl Cursor {
         ensures few { IfOk result (λ v. length v.items ≤ length (places_of (lines_at self.now))) }
     {
         let mut sources = Vec::new(alloc);
-        let mut at = 0;
-        for number in 0..self.behind.len() + self.ahead.len() {
-            let line = self.line(number);
-            add_jump(&mut sources, target, line, at)?;
-            at += places_of(line);
+        for number in 0..self.jumps_behind.len() + self.jumps_ahead.len() {
+            let mark = self.mark(number);
+            add_jump(&mut sources, target, mark.line, mark.place)?;
         }
         Ok(sources)
     }

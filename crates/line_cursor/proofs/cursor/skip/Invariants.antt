@@ -3,13 +3,16 @@ use Rattle.thumb_model.specs.Listing.{places_of}
 use Rattle.thumb_model.specs.Rewritten.{without}
 use Rattle.thumb_model.proofs.LinesReplaced.{AreOps}
 use Rattle.line_cursor.specs.Lines.{lines_of}
-use Rattle.line_cursor.specs.Cursors.{AreAhead}
+use Rattle.line_cursor.specs.Jumping.{jumps_from}
+use Rattle.line_cursor.specs.Cursors.{AreAhead, GoesOn}
 use Rattle.line_cursor.proofs.cursor.skip.Given as goal
 
 abbrev pub invariant-loop-left : goal.invariant-loop-left
 invariant-loop-left l = record {
   lines : lines_of l.behind.items ++ without l.left (lines_of (reverse l.ahead.items)) ≡ lines_of l.initial.behind.items ++ without l.count (lines_of (reverse l.initial.ahead.items));
   places : AreOps l.count (places_of (lines_of (reverse l.initial.ahead.items))) → AreAhead l.count (places_of (lines_of (reverse l.initial.ahead.items))) (places_of (lines_of (reverse l.ahead.items))) l.left;
+  jumps : l.jumps.items ≡ jumps_from 0 0 (lines_of l.ahead.items);
+  behind : GoesOn l.initial.behind.items l.behind.items;
 }
 
 abbrev pub decreases-loop-left : goal.decreases-loop-left

@@ -1,4 +1,6 @@
+use Rattle.std.proofs.Common.{refl}
 use Rattle.line_cursor.proofs.Edits.{step_op, step_other, step_ahead_op, step_ahead_other, one_fewer}
+use Rattle.line_cursor.proofs.JumpsKept.{goes_on_same, goes_on_push}
 use Rattle.line_cursor.proofs.cursor.skip_step.Goals as goal
 
 pub returns-then-branch-clause-lines : goal.returns-then-branch-clause-lines
@@ -30,3 +32,13 @@ pub returns-else-branch-clause-fewer : goal.returns-else-branch-clause-fewer
 returns-else-branch-clause-fewer c =
     let o = c.in_ok-skip_one.ensures.other c.if-branch.false in
     one_fewer _ _ o.0 o.2
+
+pub returns-then-branch-clause-behind : goal.returns-then-branch-clause-behind
+returns-then-branch-clause-behind c =
+    let o = c.in_ok-skip_one.ensures.op c.if-branch.true in
+    goes_on_same _ _ o.0
+
+pub returns-else-branch-clause-behind : goal.returns-else-branch-clause-behind
+returns-else-branch-clause-behind c =
+    let o = c.in_ok-skip_one.ensures.other c.if-branch.false in
+    goes_on_push _ _ _ o.0 (goes_on_same _ _ refl) o.1

@@ -1,44 +1,55 @@
-use Rattle.std.proofs.Common.{◌+◌, ◌<◌, List, length, sym, subst, ap, arith}
+use Rattle.std.proofs.Common.{◌≡◌, ◌≤◌, zero, suc, refl, length, Option, ◌∙◌, ◌++◌, [], ◌∷◌, ℕ, List, take, subst, sym, ap, arith}
+use Rattle.std.specs.Prelude.{slice_get}
+use Rattle.std.proofs.lemmas.List.{take_more}
 use Rattle.std.proofs.lemmas.Option.{slice_get_within, get_or_from_slice_get}
-use Rattle.thumb_model.specs.Listing.{Code, Line, code_of, places_of}
-use Rattle.listing_parser.specs.declared.line.Line.{Line as Lines}
-use Rattle.line_cursor.specs.Lines.{lines_in, lines_of}
-use Rattle.line_cursor.specs.Sources.{lines_held, AreJumps, IsTarget}
-use Rattle.line_cursor.proofs.Jumps.{added_few, held_count, held_lines, jumps_more, tail_still, taken_count, taken_within, taken_stands}
+use Rattle.liveness.specs.declared.growing.Source.{Source}
+use Rattle.thumb_model.specs.Listing.{Place, Code, code_of}
+use Rattle.thumb_model.specs.Flow.{ways_on}
+use Rattle.line_cursor.specs.Cursors.{lines_at}
+use Rattle.line_cursor.specs.Sources.{jump_places, jumped, IsAdded}
+use Rattle.line_cursor.proofs.Jumps.{AreAdded, added_last, added_few, jumps_all, all_marked, marks_count, marks_few}
 use Rattle.line_cursor.proofs.cursor.Cursor.jumps_to.Goals as goal
 
-pub overflow_add-at : goal.overflow_add-at
-overflow_add-at c =
-    let held : List Lines = lines_held c.args.self.now in
-    let x : Lines = c.line-line.result.now in
-    let number = c.loop-number.number in
-    let within = taken_within held number x (slice_get_within held number x c.line-line.ensures) (sym (get_or_from_slice_get held number x x c.line-line.ensures)) in
-    let count = held_count c.args.self.now c.requires.is in
-    let passed = c.args.self.now.passed in
-    let coming = c.args.self.now.coming in
-    omega (arith, within, count, passed.ok.0, passed.small, coming.ok.0, coming.small, c.places_of-at.ensures, c.loop-number.invariant.at)
+whole : (n : ℕ) (qs : List ℕ) → length qs ≤ n → take n qs ≡ qs
+whole zero [] h = refl
+whole zero (q ∷ qs) h = absurd (omega arith)
+whole (suc n) [] h = refl
+whole (suc n) (q ∷ qs) h = ap (λ (l : List ℕ). q ∷ l) (whole n qs (omega arith))
 
 pub loop-number-preserved : goal.loop-number-preserved
 loop-number-preserved c =
-    let held : List Lines = lines_held c.args.self.now in
-    let x : Lines = c.line-line.result.now in
+    let code : Code = code_of (lines_at c.args.self.now) in
+    let s : ℕ = c.args.target.now.place in
+    let p = c.args.target.now.is_point in
+    let qs : List ℕ = jump_places c.args.self.now in
     let number = c.loop-number.number in
-    let inside : number < length held = slice_get_within held number x c.line-line.ensures in
-    let found = sym (get_or_from_slice_get held number x x c.line-line.ensures) in
-    let count = taken_count held number x inside found in
-    let code : Code = code_of (lines_of held) in
-    let target : IsTarget code c.args.target.now = subst (λ (ls : List Line). IsTarget (code_of ls) c.args.target.now) (sym (held_lines c.args.self.now)) c.requires.target in
-    let at = c.loop-number.invariant.at in
-    let n = c.places_of-at.ensures in
-    let ps = places_of (lines_in x) in
-    let added = c.in_ok-add_jump.ensures code target.names in
-    let few = c.loop-number.invariant.few in
-    let more = added_few code c.args.target.now.place c.args.target.now.is_point c.loop-number.at ps c.loop-number.sources.items c.add_jump.new.sources.items added in
-    record {
-      at = omega (arith, count, at, n);
-      few = omega (arith, few, more, n);
-      jumps = subst (λ m. AreJumps code c.args.target.now.place c.args.target.now.is_point m c.add_jump.new.sources.items) (ap (λ m. c.loop-number.at + m) (sym n))
-          (jumps_more code c.args.target.now.place c.args.target.now.is_point c.loop-number.at ps c.loop-number.sources.items c.add_jump.new.sources.items target.is_point
-          (taken_stands held number x c.loop-number.at inside found at)
-          (tail_still code (lines_in x) (omega arith)) added c.loop-number.invariant.jumps);
-    }
+    let place : ℕ = c.mark-mark.result.place in
+    let old : List Source = c.loop-number.sources.items in
+    let new : List Source = c.add_jump.new.sources.items in
+    let stands = c.mark-mark.ensures.place in
+    let added : IsAdded (jumped s p (ways_on code (slice_get code.places place))) place old new =
+    subst (λ (o : Option Place). IsAdded (jumped s p (ways_on code o)) place old new) (sym c.mark-mark.ensures.line) (c.in_ok-add_jump.ensures code c.requires.target.names) in
+    let more = take_more qs number place (slice_get_within qs number place stands) ∙ ap (λ (q : ℕ). take number qs ++ q ∷ []) (get_or_from_slice_get qs number place place stands) in
+    subst (λ (l : List ℕ). AreAdded code s p l [] new) (sym more) (added_last code s p (take number qs) place [] old new c.loop-number.invariant added)
+
+pub returns-clause-are : goal.returns-clause-are
+returns-clause-are c =
+    let self = c.args.self.now in
+    let code : Code = code_of (lines_at self) in
+    let s : ℕ = c.args.target.now.place in
+    let p = c.args.target.now.is_point in
+    let qs : List ℕ = jump_places self in
+    let all = whole c.loop-number.number qs (omega (arith, c.loop-number-test.false, c.len.ensures, c.len-2.ensures, marks_count self)) in
+    let added = subst (λ (l : List ℕ). AreAdded code s p l [] c.loop-number.sources.items) all c.loop-number.invariant in
+    jumps_all code s p _ qs c.loop-number.sources.items c.requires.target.is_point added (all_marked self c.requires.is)
+
+pub returns-clause-few : goal.returns-clause-few
+returns-clause-few c =
+    let self = c.args.self.now in
+    let code : Code = code_of (lines_at self) in
+    let s : ℕ = c.args.target.now.place in
+    let p = c.args.target.now.is_point in
+    let qs : List ℕ = jump_places self in
+    let all = whole c.loop-number.number qs (omega (arith, c.loop-number-test.false, c.len.ensures, c.len-2.ensures, marks_count self)) in
+    let added = subst (λ (l : List ℕ). AreAdded code s p l [] c.loop-number.sources.items) all c.loop-number.invariant in
+    omega (arith, added_few code s p qs [] c.loop-number.sources.items added, marks_few self c.requires.is)

@@ -1,10 +1,47 @@
-use Rattle.std.proofs.Common.{◌≡◌, ◌+◌, ◌≤◌, List, length, length-append, reverse, ap, arith}
+use Rattle.std.proofs.Common.{◌≡◌, ◌∙◌, sym, ◌+◌, ◌≤◌, ℕ, List, take, length, length-append, reverse, ap, arith}
 use Rattle.std.proofs.lemmas.List.{length-take}
 use Rattle.line_cursor.specs.declared.cursor.Spot.{Spot}
+use Rattle.listing_parser.specs.declared.line.Line.{Line as Lines}
 use Rattle.line_cursor.specs.Lines.{lines_of}
+use Rattle.line_cursor.specs.Cursors.{GoesOn}
+use Rattle.line_cursor.specs.Jumping.{jumps_from}
+use Rattle.thumb_model.specs.Listing.{Line, places_of}
+use Rattle.line_cursor.proofs.JumpsKept.{goes_on_first, goes_on_longer}
 use Rattle.line_cursor.proofs.Edits.{replaced_count}
 use Rattle.line_cursor.proofs.Spots.{spots_replaced}
 use Rattle.line_cursor.proofs.cursor.Cursor.replace.Goals as goal
+
+-- the lines that stood before the cursor stand there still
+kept : (old new held : List Lines) (n : ℕ) → held ≡ new → GoesOn old new → n ≡ length old → lines_of (take n held) ≡ lines_of old
+kept old new held n e g h = ap (λ (ls : List Lines). lines_of (take n ls)) e ∙ ap (λ k. lines_of (take k new)) h ∙ goes_on_first old new g
+
+pub note_from-requires-clause-few : goal.note_from-requires-clause-few
+note_from-requires-clause-few c =
+    let r = replaced_count c.args.count (lines_of c.args.self.now.behind.items) (lines_of (reverse c.args.self.now.ahead.items)) (lines_of c.edit.new.behind.items) (lines_of (reverse c.edit.new.ahead.items)) c.args.new.now
+    c.requires.count c.requires.window c.in_ok-edit.ensures.lines (c.in_ok-edit.ensures.places c.requires.window) in
+    let count = ap (λ (ls : List Lines). length (places_of (lines_of ls))) c.deref.ensures.value in
+    let behind = r.0 in
+    let p = c.requires.is.passed in
+    let s = c.requires.spots in
+    let more = ap (λ (l : List Spot). length l) c.in_ok-extend_from_slice.ensures.items in
+    let sum = length-append c.args.self.now.passed.items c.args.spots.now in
+    let ok = c.extend_from_slice.new.self.ok.0 in
+    let small = c.extend_from_slice.new.self.small in
+    omega arith
+
+pub note_from-requires-clause-first : goal.note_from-requires-clause-first
+note_from-requires-clause-first c =
+    omega (arith, c.len-first.ensures, c.args.self.now.behind.ok.0, ap (λ (ls : List Lines). length ls) c.deref.ensures.value, goes_on_longer c.args.self.now.behind.items c.edit.new.behind.items c.in_ok-edit.ensures.behind)
+
+pub note_from-requires-clause-places : goal.note_from-requires-clause-places
+note_from-requires-clause-places c =
+    let same = ap (λ (ls : List Line). length (places_of ls)) (kept c.args.self.now.behind.items c.edit.new.behind.items c.deref.result.now c.len-first.result c.deref.ensures.value c.in_ok-edit.ensures.behind (omega (arith, c.len-first.ensures, c.args.self.now.behind.ok.0))) in
+    omega (arith, same, c.len-places.ensures, c.requires.is.passed)
+
+pub note_from-requires-clause-jumps : goal.note_from-requires-clause-jumps
+note_from-requires-clause-jumps c =
+    c.requires.is.jumps_behind
+    ∙ sym (ap (jumps_from 0 0) (kept c.args.self.now.behind.items c.edit.new.behind.items c.deref.result.now c.len-first.result c.deref.ensures.value c.in_ok-edit.ensures.behind (omega (arith, c.len-first.ensures, c.args.self.now.behind.ok.0))))
 
 pub returns-clause-is : goal.returns-clause-is
 returns-clause-is c =
@@ -21,7 +58,12 @@ returns-clause-is c =
     let front = length-take c.saturating_sub-left.result c.args.self.now.coming.items in
     let n = c.len.ensures in
     let m = c.saturating_sub-left.ensures in
-    record { passed = omega arith; coming = omega arith }
+    record {
+      passed = omega arith;
+      coming = omega arith;
+      jumps_behind = c.in_ok-note_from.ensures ∙ ap (λ (ls : List Lines). jumps_from 0 0 (lines_of ls)) c.deref.ensures.value;
+      jumps_ahead = c.in_ok-edit.ensures.jumps;
+    }
 
 pub returns-clause-spots : goal.returns-clause-spots
 returns-clause-spots c =
