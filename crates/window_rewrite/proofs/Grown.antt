@@ -13,12 +13,14 @@ use Rattle.line_cursor.proofs.Stays.{lines_stay, cursor_stays}
 use Rattle.window_rewrite.specs.Sweeps.{IsGrown}
 
 pub as_it_was : (c : Cursor) → IsGrown c c
-as_it_was c = record { behind = refl; ahead = refl; passed = refl; coming = refl; flows = refl; after = λ q x h. h }
+as_it_was c = record { behind = refl; ahead = refl; jumps_behind = refl; jumps_ahead = refl; passed = refl; coming = refl; flows = refl; after = λ q x h. h }
 
 pub grown_on : (old mid now : Cursor) → IsGrown old mid → IsGrown mid now → IsGrown old now
 grown_on old mid now a b = record {
   behind = b.behind ∙ a.behind;
   ahead = b.ahead ∙ a.ahead;
+  jumps_behind = b.jumps_behind ∙ a.jumps_behind;
+  jumps_ahead = b.jumps_ahead ∙ a.jumps_ahead;
   passed = b.passed ∙ a.passed;
   coming = b.coming ∙ a.coming;
   flows = b.flows ∙ a.flows;
@@ -26,10 +28,12 @@ grown_on old mid now a b = record {
 }
 
 pub carried_grown : (mid now : Cursor) (s : ℕ) (c : Source) (changed : Bool) → IsCarried (sets_of (spots_at mid)) s c (sets_of (spots_at now)) changed → flows_of (spots_at now) ≡ flows_of (spots_at mid)
-    → now.behind.items ≡ mid.behind.items → now.ahead.items ≡ mid.ahead.items → length now.passed.items ≡ length mid.passed.items → length now.coming.items ≡ length mid.coming.items → IsGrown mid now
-carried_grown mid now s c changed m flows behind ahead passed coming = record {
+    → now.behind.items ≡ mid.behind.items → now.ahead.items ≡ mid.ahead.items → now.jumps_behind.items ≡ mid.jumps_behind.items → now.jumps_ahead.items ≡ mid.jumps_ahead.items → length now.passed.items ≡ length mid.passed.items → length now.coming.items ≡ length mid.coming.items → IsGrown mid now
+carried_grown mid now s c changed m flows behind ahead jumps_behind jumps_ahead passed coming = record {
   behind = behind;
   ahead = ahead;
+  jumps_behind = jumps_behind;
+  jumps_ahead = jumps_ahead;
   passed = passed;
   coming = coming;
   flows = flows;
@@ -42,7 +46,7 @@ pub grown_lines : (old now : Cursor) → IsGrown old now → lines_at now ≡ li
 grown_lines old now g = lines_stay old now g.behind g.ahead
 
 pub grown_is : (old now : Cursor) → IsGrown old now → IsCursor old → IsCursor now
-grown_is old now g = cursor_stays old now g.behind g.ahead g.passed g.coming
+grown_is old now g = cursor_stays old now g.behind g.ahead g.jumps_behind g.jumps_ahead g.passed g.coming
 
 pub grown_flows : (old now : Cursor) → IsGrown old now → AreFlows (code_of (lines_at old)) (flows_of (spots_at old)) → AreFlows (code_of (lines_at now)) (flows_of (spots_at now))
 grown_flows old now g f =

@@ -278,6 +278,8 @@ if_growing c window new before after ahead (Some s) kept at many few grown b a f
 pub record IsMended (old now : Cursor) (led : List NewSets) : Type 0 where
   pub behind : now.behind.items ≡ old.behind.items
   pub ahead : now.ahead.items ≡ old.ahead.items
+  pub jumps_behind : now.jumps_behind.items ≡ old.jumps_behind.items
+  pub jumps_ahead : now.jumps_ahead.items ≡ old.jumps_ahead.items
   pub coming : now.coming.items ≡ old.coming.items
   pub passed : now.passed.items ≡ mended (place_at old - length led) old.passed.items led
 
@@ -288,7 +290,7 @@ pub mended_lines : (old now : Cursor) (led : List NewSets) → IsMended old now 
 mended_lines old now led m = lines_stay old now m.behind m.ahead
 
 pub mended_is : (old now : Cursor) (led : List NewSets) → IsCursor old → IsMended old now led → IsCursor now
-mended_is old now led is m = cursor_stays old now m.behind m.ahead (mended_place old now led m) (ap (λ (l : List Spot). length l) m.coming) is
+mended_is old now led is m = cursor_stays old now m.behind m.ahead m.jumps_behind m.jumps_ahead (mended_place old now led m) (ap (λ (l : List Spot). length l) m.coming) is
 
 pub mended_ops : (old now : Cursor) (led : List NewSets) (window new : List Instr) → IsCursor old → KeepsHere old window new → IsMended old now led → AreOps (length window) (places_of (lines_ahead now))
 mended_ops old now led window new is at m = subst (λ (a : List Lines). AreOps (length window) (places_of (lines_of (reverse a)))) (sym m.ahead) (ops_ahead old window new is at)

@@ -46,6 +46,8 @@ LosesNone old now q = (x : ℕ) → has (set_at (sets_of (spots_at old)).after q
 pub record IsGrown (old now : Cursor) : Type 0 where
   pub behind : now.behind.items ≡ old.behind.items
   pub ahead : now.ahead.items ≡ old.ahead.items
+  pub jumps_behind : now.jumps_behind.items ≡ old.jumps_behind.items
+  pub jumps_ahead : now.jumps_ahead.items ≡ old.jumps_ahead.items
   pub passed : length now.passed.items ≡ length old.passed.items
   pub coming : length now.coming.items ≡ length old.coming.items
   pub flows : flows_of (spots_at now) ≡ flows_of (spots_at old)

@@ -46,7 +46,7 @@ loop-source-preserved g c =
     let leads : LeadsFrom code s source.place source.writes = c.requires.sources.each k source at in
     let carried = c.carry.ensures in
     let grown = grown_on c.args.cursor.now c.loop-source.cursor c.carry.new.self c.loop-source.invariant.grown
-    (carried_grown c.loop-source.cursor c.carry.new.self s source c.carry.result carried.carried carried.flows carried.behind carried.ahead carried.passed carried.coming) in
+    (carried_grown c.loop-source.cursor c.carry.new.self s source c.carry.result carried.carried carried.flows carried.behind carried.ahead carried.jumps_behind carried.jumps_ahead carried.passed carried.coming) in
     let cost = c.loop-source.invariant.cost in
     let tick = c.tick.ensures in
     let more = c.loop-source.invariant.more in
