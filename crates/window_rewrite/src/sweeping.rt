@@ -155,7 +155,7 @@ fn sweep_lines<L: Ledger>(
     ensures more { IfOk result (λ s. length replacements.old.items + from_bool (not s.is_done) ≤ length replacements.new.items) }
     ensures cost { IfOk result (λ s. steps.new + visits (length (places_of (map line_view lines.items))) + length replacements.old.items * round_cost (length (places_of (map line_view lines.items))) (length (rules_in rules.now.entries.now)) ≤ steps.old + (length replacements.new.items + from_bool s.is_done) * round_cost (length (places_of (map line_view lines.items))) (length (rules_in rules.now.entries.now))) }
 {
-    let mut cursor = Cursor::start(alloc, lines, spots);
+    let mut cursor = Cursor::start(alloc, lines, spots)?;
     let is_done = go_through(alloc, rules, ground, &mut cursor, replacements, steps)?;
     let listing = Listing::of(alloc, cursor.into_lines()?)?;
     Ok(Swept { listing, is_done })

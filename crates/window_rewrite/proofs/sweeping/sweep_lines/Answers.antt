@@ -16,13 +16,13 @@ use Rattle.window_rewrite.proofs.sweeping.sweep_lines.Goals as goal
 
 pub go_through-requires-clause-over : goal.go_through-requires-clause-over
 go_through-requires-clause-over g c =
-    let lines : lines_at c.start-cursor.result ≡ map line_view c.args.lines.items = c.start-cursor.ensures.lines in
-    let spots : spots_at c.start-cursor.result ≡ c.args.spots.items = c.start-cursor.ensures.spots in
+    let lines : lines_at c.in_ok-cursor.cursor ≡ map line_view c.args.lines.items = c.in_ok-cursor.ensures.lines in
+    let spots : spots_at c.in_ok-cursor.cursor ≡ c.args.spots.items = c.in_ok-cursor.ensures.spots in
     record {
       kept = record {
-        is = c.start-cursor.ensures.is;
-        live = subst (λ (ls : List Line). IsLive (code_of ls) (sets_of (spots_at c.start-cursor.result))) (sym lines) (subst (λ (ss : List Spot). IsLive (code_of (map line_view c.args.lines.items)) (sets_of ss)) (sym spots) c.requires.live);
-        flows = subst (λ (ls : List Line). AreFlows (code_of ls) (flows_of (spots_at c.start-cursor.result))) (sym lines) (subst (λ (ss : List Spot). AreFlows (code_of (map line_view c.args.lines.items)) (flows_of ss)) (sym spots) c.requires.flows);
+        is = c.in_ok-cursor.ensures.is;
+        live = subst (λ (ls : List Line). IsLive (code_of ls) (sets_of (spots_at c.in_ok-cursor.cursor))) (sym lines) (subst (λ (ss : List Spot). IsLive (code_of (map line_view c.args.lines.items)) (sets_of ss)) (sym spots) c.requires.live);
+        flows = subst (λ (ls : List Line). AreFlows (code_of ls) (flows_of (spots_at c.in_ok-cursor.cursor))) (sym lines) (subst (λ (ss : List Spot). AreFlows (code_of (map line_view c.args.lines.items)) (flows_of ss)) (sym spots) c.requires.flows);
       };
       over = subst (λ (ls : List Line). AreOver c.args.rules.now c.args.ground.now ls) (sym lines) c.requires.over;
     }
@@ -32,7 +32,7 @@ returns-clause-completes g c = λ start before.
     let s : Setting = setting_of c.args.rules.now in
     let same : c.in_ok-listing.listing ≡ lines_at c.go_through.new.cursor = c.in_ok-listing.ensures ∙ c.in_ok-into_lines.ensures in
     subst (λ (l : List Line). Completes s start c.go_through.new.replacements.items l) (sym same)
-    (c.in_ok-is_done.ensures.completes start (subst (λ (l : List Line). Completes s start c.args.replacements.now.items l) (sym c.start-cursor.ensures.lines) before))
+    (c.in_ok-is_done.ensures.completes start (subst (λ (l : List Line). Completes s start c.args.replacements.now.items l) (sym c.in_ok-cursor.ensures.lines) before))
 
 pub returns-clause-steady : goal.returns-clause-steady
 returns-clause-steady g c = λ h.
@@ -49,4 +49,4 @@ returns-clause-cost g c =
     let old : ℕ = length c.args.replacements.now.items in
     let n : ℕ = length c.go_through.new.replacements.items + from_bool c.in_ok-is_done.is_done in
     let entries : ℕ = length (rules_in c.args.rules.now.entries.now) in
-    subst (λ (l : List Line). c.go_through.new.steps + visits (length (places_of l)) + old * round_cost (length (places_of l)) entries ≤ c.args.steps.now + n * round_cost (length (places_of l)) entries) c.start-cursor.ensures.lines c.in_ok-is_done.ensures.cost
+    subst (λ (l : List Line). c.go_through.new.steps + visits (length (places_of l)) + old * round_cost (length (places_of l)) entries ≤ c.args.steps.now + n * round_cost (length (places_of l)) entries) c.in_ok-cursor.ensures.lines c.in_ok-is_done.ensures.cost
