@@ -30,7 +30,7 @@ use Rattle.window_rewrite.specs.declared.finding.Rules.{Rules}
 use Rattle.window_rewrite.specs.declared.ground.Ground.{Ground}
 use Rattle.window_rewrite.specs.Rewriting.{setting}
 use Rattle.window_rewrite.specs.Fitting.{Fits, is_allowed}
-use Rattle.window_rewrite.specs.Sweeps.{AreOver as AreLaid}
+use Rattle.window_rewrite.specs.Sweeps.{is_steady, AreOver as AreLaid}
 use Rattle.window_rewrite.proofs.Sides.{window_count}
 
 -- ---- items ----

@@ -1,5 +1,5 @@
 -- What a replacement at a cursor leaves, and why no entry applies before a cursor that went back far enough.
-use Rattle.std.proofs.Common.{◌≡◌, ℕ, ◌+◌, ◌-◌, ◌%◌, ◌<◌, ◌≤◌, ◌==◌, ◌&&◌, Bool, true, false, List, [], ◌∷◌, ◌++◌, length, length-append, map, Option, Some, None, refl, sym, ap, ◌∙◌, subst, arith, ne_eqb, true≢false}
+use Rattle.std.proofs.Common.{◌≡◌, ℕ, ◌+◌, ◌-◌, ◌%◌, ◌^◌, ◌<◌, ◌≤◌, ◌==◌, ◌&&◌, Bool, true, false, List, [], ◌∷◌, ◌++◌, length, length-append, map, Option, Some, None, refl, sym, ap, ◌∙◌, subst, arith, ne_eqb, true≢false}
 use Rattle.std.specs.Prelude.{slice_get, not, is_some, IfSome}
 use Rattle.std.specs.Option.{option_map}
 use Rattle.std.proofs.lemmas.Option.{slice_get-map}
@@ -190,3 +190,19 @@ turned_before r g old at new o count ready over steady first here kept e same f 
     subst (λ (ls : List Line). NoneBefore (setting_of r) ls (place_at new)) (sym f)
     (none_before (setting_of r) r.longest count (lines_behind old) (lines_ahead old) (lines_at at) (spots_at old) (spots_at at) o (place_at new) ready.fit first (here ∙ over.kept.is.passed) e over.kept.live kept.live
     (λ q h. same q (omega arith)) (over.over.aligned steady) (over.over.steady steady) back)
+
+-- ---- where a sweep begins ----
+
+-- in steady lines of a listing
+pub begins_steady : (r : Rules) (ls given : List Line) → ls ≡ given → length (places_of given) < 2 ^ 32 → DefineOnce given → (r.base % 4 ≡ 0) × IsSteady r.base given → AreOver r (record { listing = None }) ls
+begins_steady r ls given e few once steady =
+    subst (λ (l : List Line). AreOver r (record { listing = None }) l) (sym e) (record { listed = record { few = few; once = once }; aligned = λ _. steady.0; steady = λ _. steady.1; same = tt })
+
+-- in those of one whose layout is to be asked for
+pub begins_asked : (r : Rules) (g : Ground) (ls given : List Line) → ls ≡ given → length (places_of given) < 2 ^ 32 → DefineOnce given → is_steady g ≡ false → IfSome g.listing (λ l. ls ≡ l.now) → AreOver r g ls
+begins_asked r g ls given e few once asked same = record {
+  listed = record { few = subst (λ (l : List Line). length (places_of l) < 2 ^ 32) (sym e) few; once = subst DefineOnce (sym e) once };
+  aligned = λ h. absurd (true≢false (sym h ∙ asked));
+  steady = λ h. absurd (true≢false (sym h ∙ asked));
+  same = same;
+}

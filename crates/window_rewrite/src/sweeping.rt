@@ -194,5 +194,6 @@ pub(crate) fn sweep<L: Ledger>(
     let ground = Ground {
         listing: Some(&listing),
     };
-    sweep_lines(alloc, rules, &ground, lines, spots, replacements, steps)
+    let swept = sweep_lines(alloc, rules, &ground, lines, spots, replacements, steps)?;
+    Ok(swept)
 }

@@ -49,8 +49,8 @@ told S b steady base left made s f e h = (λ t. (s, λ _. subst (Layable base) e
 pub returns-in-None : goal.returns-in-None
 returns-in-None c = settled _ _ (is_steady c.args.ground.now) (c.is_settled.ensures.0 c.if-not-is_settled.false) (ap (λ o. not (is_some o)) c.in-None.is)
 
-pub returns-in-Some : goal.returns-in-Some
-returns-in-Some c =
+pub returns-in_ok-left-in-Some : goal.returns-in_ok-left-in-Some
+returns-in_ok-left-in-Some c =
     let same : lines_at c.args.cursor.now ≡ c.in-Some.listing.now = rw c.in-Some.is at c.requires.same in
     let left : c.in_ok-left.left ≡ replaced_lines own_line (place_at c.args.cursor.now) c.args.count c.args.new.now (lines_at c.args.cursor.now) =
     c.in_ok-left.ensures

@@ -19,6 +19,7 @@ use Rattle.window_rewrite.proofs.Sides.{stands_once}
 use Rattle.window_rewrite.proofs.Applied.{applied, back, laid, IsMade, ops_of, plain_all}
 use Rattle.window_rewrite.proofs.Accepted.{entry_at}
 use Rattle.window_rewrite.proofs.Chosen.{length_at}
+use Rattle.window_rewrite.specs.Sweeps.{is_steady}
 use Rattle.window_rewrite.proofs.finding.try_entry.Goals as goal
 
 -- what is known of the entry that was read
@@ -49,10 +50,10 @@ pub may_give_way-requires-clause-window : goal.may_give_way-requires-clause-wind
 may_give_way-requires-clause-window g c = ops_of c.args.window.now (length c.args.window.now) _ refl c.requires.stands.is_window.stands
 
 pub may_give_way-requires-clause-unlabelled : goal.may_give_way-requires-clause-unlabelled
-may_give_way-requires-clause-unlabelled c = c.requires.stands.is_window.unlabelled
+may_give_way-requires-clause-unlabelled g c = c.requires.stands.is_window.unlabelled
 
 pub may_give_way-requires-clause-joined : goal.may_give_way-requires-clause-joined
-may_give_way-requires-clause-joined c = c.requires.stands.is_window.joined
+may_give_way-requires-clause-joined g c = c.requires.stands.is_window.joined
 
 pub returns-in-None-clause-none : goal.returns-in-None-clause-none
 returns-in-None-clause-none g c = λ registers a.

@@ -2,6 +2,7 @@ use Rattle.std.proofs.Common.{◌≡◌, ℕ, ◌+◌, ◌*◌, ◌≤◌, List,
 use Rattle.std.specs.Int.{from_bool}
 use Rattle.thumb_model.specs.Listing.{Line, code_of, places_of}
 use Rattle.thumb_model.specs.Rewritten.{Setting, AppliesIn}
+use Rattle.listing_parser.specs.TableWords.{DefineOnce}
 use Rattle.listing_parser.specs.Views.{line_view}
 use Rattle.steady_layout.specs.Steady.{IsSteady}
 use Rattle.liveness.specs.Kept.{AreFlows}
@@ -26,6 +27,9 @@ go_through-requires-clause-over g c =
       };
       over = subst (λ (ls : List Line). AreOver c.args.rules.now c.args.ground.now ls) (sym lines) c.requires.over;
     }
+
+pub of-requires-clause-once : goal.of-requires-clause-once
+of-requires-clause-once g c = subst DefineOnce (sym c.in_ok-into_lines.ensures) c.in_ok-is_done.ensures.listed.once
 
 pub returns-clause-completes : goal.returns-clause-completes
 returns-clause-completes g c = λ start before.

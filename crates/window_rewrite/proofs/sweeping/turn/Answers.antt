@@ -2,7 +2,7 @@ use Rattle.std.proofs.Common.{◌≡◌, ◌-◌, ◌+◌, ◌<◌, ◌≤◌, �
 use Rattle.thumb_model.specs.Rewritten.{Replacement, lines_after}
 use Rattle.line_cursor.specs.Cursors.{lines_at, place_at}
 use Rattle.window_rewrite.specs.Choices.{setting_of, choice_of}
-use Rattle.window_rewrite.specs.Sweeps.{IsKept, LosesNone}
+use Rattle.window_rewrite.specs.Sweeps.{is_steady, IsKept, LosesNone}
 use Rattle.window_rewrite.proofs.Turning.{keeps_here, leaves_here, turned_over, turned_before}
 use Rattle.window_rewrite.proofs.sweeping.turn.Goals as goal
 
