@@ -382,7 +382,7 @@ pub put_growing : (old now : Cursor) (window new : List Instr) (sets : List NewS
     → ((k : ℕ) (i : Instr) (f : Flow) → slice_get new k ≡ Some i → slice_get (flows_of spots) k ≡ Some f → FlowOf (ways_of None i) f)
     → IsPut old now (place_at old)
 put_growing old now window new sets spots kept at g lines all many same_before same_after each =
-    let is : IsMended old old [] = record { behind = refl; ahead = refl; coming = refl; passed = sym (mended_none (place_at old - 0) old.passed.items) } in
+    let is : IsMended old old [] = record { behind = refl; ahead = refl; jumps_behind = refl; jumps_ahead = refl; coming = refl; passed = sym (mended_none (place_at old - 0) old.passed.items) } in
     let code = put_code old old now window new sets [] sets spots 0 kept at (omega arith) (g.as_many ∙ omega arith) refl refl is lines all many same_before same_after each in
     let same = put_sets old old now window new sets [] sets spots 0 kept at (omega arith) (g.as_many ∙ omega arith) refl refl is lines all many same_before same_after each in
     let place : place_at old ≡ place_at old - 0 = omega arith in
@@ -409,5 +409,5 @@ put_same old m now window led spots q is all few h =
 -- nor does what is live after places get lost before a window, where new instructions' spots stand in its place
 pub put_loses : (old now : Cursor) (window : List Instr) (spots : List Spot) (q : ℕ) → spots_at now ≡ spots_left old (length window) spots → q < place_at old → LosesNone old now q
 put_loses old now window spots q all h =
-    let is : IsMended old old [] = record { behind = refl; ahead = refl; coming = refl; passed = sym (mended_none (place_at old - 0) old.passed.items) } in
+    let is : IsMended old old [] = record { behind = refl; ahead = refl; jumps_behind = refl; jumps_ahead = refl; coming = refl; passed = sym (mended_none (place_at old - 0) old.passed.items) } in
     same_loses old now q (put_same old old now window [] spots q is all (omega arith) (omega arith))

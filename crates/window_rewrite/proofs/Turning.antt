@@ -164,7 +164,6 @@ unasked : {X : Type 0} (P : X → Type 0) (o : Option X) → not (is_some o) ≡
 unasked P None h = tt
 unasked P (Some x) h = absurd (cc)
 
-
 still_over : (r : Rules) (g : Ground) (lines now : List Line) (o : Replacement) → AreReady r → is_steady g ≡ true → AppliesIn (setting_of r) o lines → now ≡ lines_after (setting_of r) o lines → AreOver r g lines → AreOver r g now
 still_over r g lines now o ready steady a e over =
     subst (λ (ls : List Line). AreOver r g ls) (sym e) (record {

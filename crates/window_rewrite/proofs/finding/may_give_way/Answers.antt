@@ -52,8 +52,8 @@ returns-in-None c = settled _ _ (is_steady c.args.ground.now) (c.is_settled.ensu
 pub returns-in_ok-left-in-Some : goal.returns-in_ok-left-in-Some
 returns-in_ok-left-in-Some c =
     let same : lines_at c.args.cursor.now ≡ c.in-Some.listing.now = rw c.in-Some.is at c.requires.same in
-    let left : c.in_ok-left.left ≡ replaced_lines own_line (place_at c.args.cursor.now) c.args.count c.args.new.now (lines_at c.args.cursor.now) =
-    c.in_ok-left.ensures
+    let left : c.in_ok-left-in-Some.left ≡ replaced_lines own_line (place_at c.args.cursor.now) c.args.count c.args.new.now (lines_at c.args.cursor.now) =
+    c.in_ok-left-in-Some.ensures
     ∙ ap (λ p. replaced_lines own_line p c.args.count c.args.new.now c.in-Some.listing.now) c.place.ensures
     ∙ ap (λ (ls : List Line). replaced_lines own_line (place_at c.args.cursor.now) c.args.count c.args.new.now ls) (sym same) in
     IfOk-weaker _ _ _ (λ b h. told _ b (is_steady c.args.ground.now) c.args.base _ _ (c.is_settled.ensures.0 c.if-not-is_settled.false) (ap (λ o. not (is_some o)) c.in-Some.is) left h) c.is_layable.ensures

@@ -1,4 +1,4 @@
-use Rattle.std.proofs.Common.{◌≡◌, ◌-◌, ◌+◌, ◌<◌, ◌≤◌, ℕ, true, arith}
+use Rattle.std.proofs.Common.{◌≡◌, ◌∙◌, ◌-◌, ◌+◌, ◌<◌, ◌≤◌, ℕ, not, true, sym, ap, arith}
 use Rattle.thumb_model.specs.Rewritten.{Replacement, lines_after}
 use Rattle.line_cursor.specs.Cursors.{lines_at, place_at}
 use Rattle.window_rewrite.specs.Choices.{setting_of, choice_of}
@@ -15,7 +15,7 @@ pub returns-in_ok-rewind-in-Some-clause-over : goal.returns-in_ok-rewind-in-Some
 returns-in_ok-rewind-in-Some-clause-over g c =
     let o : Replacement = choice_of c.args.choice.now in
     let kept : IsKept c.make.new.cursor = rw c.in-Some.is at c.in_ok-make.ensures.kept in
-    let steady : is_steady c.args.ground.now ≡ true = c.if-not-ground.false in
+    let steady : is_steady c.args.ground.now ≡ true = ap not (sym c.is_some.ensures ∙ c.if-is_some.false) in
     let lines : lines_at c.make.new.cursor ≡ lines_after (setting_of c.args.rules.now) o (lines_at c.args.cursor.now) =
     leaves_here (setting_of c.args.rules.now) (lines_at c.args.cursor.now) (lines_at c.make.new.cursor) c.args.choice.now (place_at c.args.cursor.now) c.as_slice-window.result.now c.as_slice-new.result.now
     c.requires.choice.is c.requires.here c.as_slice-window.ensures.value c.as_slice-new.ensures.value c.in_ok-make.ensures.lines in
@@ -28,7 +28,7 @@ returns-in_ok-rewind-in-Some-clause-before g c =
     let o : Replacement = choice_of c.args.choice.now in
     let kept : IsKept c.make.new.cursor = rw c.in-Some.is at c.in_ok-make.ensures.kept in
     let same : (q : ℕ) → q + c.in-Some.lead < place_at c.args.cursor.now → LosesNone c.args.cursor.now c.make.new.cursor q = rw c.in-Some.is at c.in_ok-make.ensures.after in
-    let steady : is_steady c.args.ground.now ≡ true = c.if-not-ground.false in
+    let steady : is_steady c.args.ground.now ≡ true = ap not (sym c.is_some.ensures ∙ c.if-is_some.false) in
     let lines : lines_at c.make.new.cursor ≡ lines_after (setting_of c.args.rules.now) o (lines_at c.args.cursor.now) =
     leaves_here (setting_of c.args.rules.now) (lines_at c.args.cursor.now) (lines_at c.make.new.cursor) c.args.choice.now (place_at c.args.cursor.now) c.as_slice-window.result.now c.as_slice-new.result.now
     c.requires.choice.is c.requires.here c.as_slice-window.ensures.value c.as_slice-new.ensures.value c.in_ok-make.ensures.lines in
