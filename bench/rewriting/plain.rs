@@ -25,8 +25,8 @@ mod words;
 
 use crate::instruction::instruction;
 use crate::layout::{layout, Fault, LayoutError};
-use crate::line::Statement;
-use crate::listing::{parse, Listing};
+use crate::line::{line, Line, Statement};
+use crate::listing::{parse, print, Listing};
 use crate::live::Live;
 use crate::plain_flows::{shape, N};
 use crate::plain_tables::{read_table, write_instr, Table};
@@ -147,7 +147,6 @@ struct Rewriter<'a> {
     /// The least place where an entry would apply but for its layout.
     held: u32,
     replaced: u64,
-    taken: usize,
 }
 
 impl<'a> Rewriter<'a> {
@@ -176,7 +175,6 @@ impl<'a> Rewriter<'a> {
             is_changed: vec![false; listing.lines.len()],
             held: END,
             replaced: 0,
-            taken: 0,
         }
     }
 
@@ -280,7 +278,6 @@ impl<'a> Rewriter<'a> {
             self.leave(*place as u32);
         }
         self.replaced += 1;
-        self.taken += places.len() - rule.right.len();
         let least = shrunk.min(self.held as usize);
         self.held = END;
         self.back(least)
@@ -311,33 +308,59 @@ impl<'a> Rewriter<'a> {
         }
     }
 
-    fn print(&self) -> Vec<u8> {
-        let mut text = Vec::new();
+    fn left(self) -> Left {
+        let Rewriter { rows, next, first, home, is_changed, .. } = self;
+        Left { rows, next, first, home, is_changed }
+    }
+}
+
+/// What is left of a listing that was rewritten.
+struct Left {
+    rows: Vec<(Option<Letter>, bool)>,
+    next: Vec<u32>,
+    first: u32,
+    home: Vec<u32>,
+    is_changed: Vec<bool>,
+}
+
+/// The line of a text, which is one.
+fn line_of(text: &[u8]) -> Line {
+    line(text).expect("a line")
+}
+
+impl Left {
+    /// The listing of the lines that are left, of the given one.
+    fn listing(&self, given: Listing) -> Listing {
+        let mut lines = Vec::with_capacity(given.lines.len());
         let mut at = self.first;
-        for (n, line) in self.listing.lines.iter().enumerate() {
+        for (n, line) in given.lines.into_iter().enumerate() {
             let is_here = |at: u32| at != END && self.home[at as usize] == n as u32;
-            if self.is_changed[n] {
-                if !line.names.is_empty() {
-                    text.extend_from_slice(&line.text[..line.front]);
+            let is_changed = self.is_changed[n];
+            if !is_changed {
+                lines.push(line);
+            } else if !line.names.is_empty() {
+                let mut text = line.text;
+                text.truncate(line.front);
+                text.push(b'\n');
+                lines.push(Line { text, statement: Statement::Nothing, ..line });
+            }
+            while is_here(at) {
+                if let (Some(letter), true) = (self.rows[at as usize].0, is_changed) {
+                    let mut text = vec![b'\t'];
+                    letter.write(&mut text);
                     text.push(b'\n');
+                    lines.push(line_of(&text));
                 }
-                while is_here(at) {
-                    if let (Some(letter), _) = self.rows[at as usize] {
-                        text.push(b'\t');
-                        letter.write(&mut text);
-                        text.push(b'\n');
-                    }
-                    at = self.next[at as usize];
-                }
-            } else {
-                text.extend_from_slice(&line.text);
-                while is_here(at) {
-                    at = self.next[at as usize];
-                }
+                at = self.next[at as usize];
             }
         }
-        text
+        Listing::of(lines).unwrap_or_else(|_| unreachable!())
     }
+}
+
+/// How many lines have an instruction.
+fn instruction_count(listing: &Listing) -> usize {
+    listing.lines.iter().filter(|line| matches!(line.statement, Statement::Runs { .. })).count()
 }
 
 /// Whether the listing can be laid out from 0; or what a refusal says.
@@ -373,6 +396,7 @@ fn main() -> io::Result<()> {
         eprintln!("no listing");
         return Ok(());
     };
+    let before = instruction_count(&listing);
     let begun = Instant::now();
     let rules = Rules::of(&table);
     let reach = Reach::of(&listing, 0);
@@ -382,11 +406,13 @@ fn main() -> io::Result<()> {
     }
     let mut rewriter = Rewriter::of(&rules, &listing, reach);
     rewriter.rewrite();
-    let rewriting = black_box(begun.elapsed().as_micros());
-    let text = black_box(rewriter.print());
+    let replaced = rewriter.replaced;
+    let left = rewriter.left();
+    let listing = black_box(left.listing(listing));
+    let rewriting = begun.elapsed().as_micros();
+    let text = black_box(print(&listing));
     let all = start.elapsed().as_micros();
     io::stdout().write_all(&text)?;
-    let before = listing.lines.iter().filter(|line| matches!(line.statement, Statement::Runs { .. })).count();
-    eprintln!("{rewriting} {all} {} {before} {}", rewriter.replaced, before - rewriter.taken);
+    eprintln!("{rewriting} {all} {replaced} {before} {}", instruction_count(&listing));
     Ok(())
 }

@@ -107,7 +107,7 @@ fn runs_of_words(lines: &[Line]) -> Vec<usize> {
 }
 
 impl Listing {
-    fn of(lines: Vec<Line>) -> Result<Listing, Refusal> {
+    pub fn of(lines: Vec<Line>) -> Result<Listing, Refusal> {
         let names = meanings(&lines)?;
         let mut spots = Vec::new();
         let mut passed = Vec::with_capacity(lines.len());
