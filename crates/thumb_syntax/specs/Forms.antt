@@ -46,6 +46,7 @@ open' = slot.Mark 91
 abbrev pub close : Slot
 close = slot.Mark 93
 
+-- what may follow a mnemonic
 abbrev pub one : List Slot
 one = first ∷ []
 
@@ -101,10 +102,16 @@ from_sp = first ∷ comma ∷ open' ∷ slot.Sp ∷ comma ∷ slot.Number place.
 abbrev pub at_sp : List Slot
 at_sp = first ∷ comma ∷ open' ∷ slot.Sp ∷ close ∷ []
 
+abbrev pub sp_again : List Slot
+sp_again = slot.Sp ∷ comma ∷ slot.Sp ∷ comma ∷ slot.Number place.First 0 508 4 ∷ []
+
+abbrev pub sp_alone : List Slot
+sp_alone = slot.Sp ∷ comma ∷ slot.Number place.First 0 508 4 ∷ []
+
 abbrev pub written_back : List Slot
 written_back = slot.Base place.First ∷ comma ∷ slot.LowList place.Second ∷ []
 
--- a base with `!`, and one that is loaded
+-- a base that isn't in the list, and one that is
 abbrev pub load_apart : List Slot
 load_apart = slot.Base place.First ∷ comma ∷ slot.LowList place.Second ∷ slot.NotInList place.First place.Second ∷ []
 
@@ -118,7 +125,7 @@ pub record Spelling : Type 0 where
 abbrev pub spelled : List ℕ → List (List Slot) → Spelling
 spelled m fs = record { mnemonic = m; forms = fs }
 
--- the first form is written; that of a kind with two that are written, where `is_second` doesn't hold
+-- of each kind the first form is written, or the second (`is_second`)
 abbrev pub spelling : Kind → Spelling
 spelling kind.Movs = spelled (codes "movs") (two ∷ [])
 spelling kind.ShiftLeft = spelled (codes "lsls") (amount 1 31 ∷ twice_amount 1 31 ∷ [])
@@ -177,8 +184,8 @@ spelling (kind.Offset offset.Ldrh) = spelled (codes "ldrh") (with_offset 62 2 �
 spelling (kind.Stack word.Str) = spelled (codes "str") (from_sp ∷ at_sp ∷ [])
 spelling (kind.Stack word.Ldr) = spelled (codes "ldr") (from_sp ∷ at_sp ∷ [])
 spelling kind.StackAddress = spelled (codes "add") ((first ∷ comma ∷ slot.Sp ∷ comma ∷ slot.Number place.Second 0 1020 4 ∷ []) ∷ [])
-spelling (kind.StackMove sum.Add) = spelled (codes "add") ((slot.Sp ∷ comma ∷ slot.Sp ∷ comma ∷ slot.Number place.First 0 508 4 ∷ []) ∷ (slot.Sp ∷ comma ∷ slot.Number place.First 0 508 4 ∷ []) ∷ [])
-spelling (kind.StackMove sum.Sub) = spelled (codes "sub") ((slot.Sp ∷ comma ∷ slot.Sp ∷ comma ∷ slot.Number place.First 0 508 4 ∷ []) ∷ (slot.Sp ∷ comma ∷ slot.Number place.First 0 508 4 ∷ []) ∷ [])
+spelling (kind.StackMove sum.Add) = spelled (codes "add") (sp_again ∷ sp_alone ∷ [])
+spelling (kind.StackMove sum.Sub) = spelled (codes "sub") (sp_again ∷ sp_alone ∷ [])
 spelling kind.Push = spelled (codes "push") ((slot.StackList place.First 14 ∷ []) ∷ [])
 spelling kind.Pop = spelled (codes "pop") ((slot.StackList place.First 15 ∷ []) ∷ [])
 spelling kind.StoreMany = spelled (codes "stm") (written_back ∷ [])

@@ -51,13 +51,13 @@ own_rows ks = flat_map (λ k. rows_as (mnemonic k) (forms k) k) ks
 -- operations on registers and numbers
 abbrev pub data_kinds : List Kind
 data_kinds =
-    kind.Movs ∷ kind.ShiftLeft ∷ kind.ShiftRight right.Lsr ∷ kind.ShiftRight right.Asr ∷ kind.Three sum.Add ∷ (kind.ThreeNumber sum.Add)
-    ∷ kind.TwoNumber byte.Add ∷ kind.Three sum.Sub ∷ kind.ThreeNumber sum.Sub ∷ kind.TwoNumber byte.Sub ∷ (kind.TwoNumber byte.Mov)
-    ∷ kind.TwoNumber byte.Cmp ∷ kind.Two operation.And ∷ kind.Two operation.Eor ∷ kind.Two operation.Adc ∷ (kind.Two operation.Orr)
-    ∷ kind.Two operation.Lsl ∷ kind.Two operation.Lsr ∷ kind.Two operation.Asr ∷ kind.Two operation.Sbc ∷ (kind.Two operation.Ror)
-    ∷ kind.Two operation.Bic ∷ kind.Two operation.Tst ∷ kind.Two operation.Cmp ∷ kind.Two operation.Cmn ∷ (kind.Two operation.Mvn)
-    ∷ kind.Two operation.Rsb ∷ kind.Two operation.Mul ∷ kind.Add ∷ kind.Compare ∷ kind.Mov ∷ (kind.Extend extension.Sxth)
-    ∷ kind.Extend extension.Sxtb ∷ kind.Extend extension.Uxth ∷ kind.Extend extension.Uxtb ∷ (kind.Reverse reversal.Rev)
+    kind.Movs ∷ kind.ShiftLeft ∷ kind.ShiftRight right.Lsr ∷ kind.ShiftRight right.Asr ∷ kind.Three sum.Add ∷ kind.ThreeNumber sum.Add
+    ∷ kind.TwoNumber byte.Add ∷ kind.Three sum.Sub ∷ kind.ThreeNumber sum.Sub ∷ kind.TwoNumber byte.Sub ∷ kind.TwoNumber byte.Mov
+    ∷ kind.TwoNumber byte.Cmp ∷ kind.Two operation.And ∷ kind.Two operation.Eor ∷ kind.Two operation.Adc ∷ kind.Two operation.Orr
+    ∷ kind.Two operation.Lsl ∷ kind.Two operation.Lsr ∷ kind.Two operation.Asr ∷ kind.Two operation.Sbc ∷ kind.Two operation.Ror
+    ∷ kind.Two operation.Bic ∷ kind.Two operation.Tst ∷ kind.Two operation.Cmp ∷ kind.Two operation.Cmn ∷ kind.Two operation.Mvn
+    ∷ kind.Two operation.Rsb ∷ kind.Two operation.Mul ∷ kind.Add ∷ kind.Compare ∷ kind.Mov ∷ kind.Extend extension.Sxth
+    ∷ kind.Extend extension.Sxtb ∷ kind.Extend extension.Uxth ∷ kind.Extend extension.Uxtb ∷ kind.Reverse reversal.Rev
     ∷ kind.Reverse reversal.Rev16 ∷ kind.Reverse reversal.Revsh ∷ []
 
 -- their texts, and other spellings that are read
@@ -70,9 +70,9 @@ data_rows =
 -- loads and stores, addresses and the stack
 abbrev pub memory_kinds : List Kind
 memory_kinds =
-    kind.Literal ∷ kind.Address ∷ kind.Indexed access.Str ∷ kind.Indexed access.Strh ∷ kind.Indexed access.Strb ∷ (kind.Indexed access.Ldrsb)
-    ∷ kind.Indexed access.Ldr ∷ kind.Indexed access.Ldrh ∷ kind.Indexed access.Ldrb ∷ kind.Indexed access.Ldrsh ∷ (kind.Offset offset.Str)
-    ∷ kind.Offset offset.Ldr ∷ kind.Offset offset.Strb ∷ kind.Offset offset.Ldrb ∷ kind.Offset offset.Strh ∷ (kind.Offset offset.Ldrh)
+    kind.Literal ∷ kind.Address ∷ kind.Indexed access.Str ∷ kind.Indexed access.Strh ∷ kind.Indexed access.Strb ∷ kind.Indexed access.Ldrsb
+    ∷ kind.Indexed access.Ldr ∷ kind.Indexed access.Ldrh ∷ kind.Indexed access.Ldrb ∷ kind.Indexed access.Ldrsh ∷ kind.Offset offset.Str
+    ∷ kind.Offset offset.Ldr ∷ kind.Offset offset.Strb ∷ kind.Offset offset.Ldrb ∷ kind.Offset offset.Strh ∷ kind.Offset offset.Ldrh
     ∷ kind.Stack word.Str ∷ kind.Stack word.Ldr ∷ kind.StackAddress ∷ kind.StackMove sum.Add ∷ kind.StackMove sum.Sub ∷ kind.Push ∷ kind.Pop
     ∷ kind.StoreMany ∷ kind.LoadMany ∷ []
 
@@ -86,12 +86,12 @@ memory_rows =
 -- branches, hints and what speaks to the system
 abbrev pub control_kinds : List Kind
 control_kinds =
-    kind.Bx ∷ kind.Blx ∷ kind.Breakpoint ∷ kind.Service ∷ kind.Hint hint.Nop ∷ kind.Hint hint.Yield ∷ kind.Hint hint.Wfe ∷ (kind.Hint hint.Wfi)
-    ∷ kind.Hint hint.Sev ∷ kind.ChangeState interrupts.Enable ∷ kind.ChangeState interrupts.Disable ∷ (kind.BranchIf condition.Eq)
-    ∷ kind.BranchIf condition.Ne ∷ kind.BranchIf condition.Cs ∷ kind.BranchIf condition.Cc ∷ (kind.BranchIf condition.Mi)
-    ∷ kind.BranchIf condition.Pl ∷ kind.BranchIf condition.Vs ∷ kind.BranchIf condition.Vc ∷ (kind.BranchIf condition.Hi)
-    ∷ kind.BranchIf condition.Ls ∷ kind.BranchIf condition.Ge ∷ kind.BranchIf condition.Lt ∷ (kind.BranchIf condition.Gt)
-    ∷ kind.BranchIf condition.Le ∷ kind.Branch ∷ kind.Call ∷ kind.Barrier barrier.Dsb ∷ kind.Barrier barrier.Dmb ∷ (kind.Barrier barrier.Isb)
+    kind.Bx ∷ kind.Blx ∷ kind.Breakpoint ∷ kind.Service ∷ kind.Hint hint.Nop ∷ kind.Hint hint.Yield ∷ kind.Hint hint.Wfe ∷ kind.Hint hint.Wfi
+    ∷ kind.Hint hint.Sev ∷ kind.ChangeState interrupts.Enable ∷ kind.ChangeState interrupts.Disable ∷ kind.BranchIf condition.Eq
+    ∷ kind.BranchIf condition.Ne ∷ kind.BranchIf condition.Cs ∷ kind.BranchIf condition.Cc ∷ kind.BranchIf condition.Mi
+    ∷ kind.BranchIf condition.Pl ∷ kind.BranchIf condition.Vs ∷ kind.BranchIf condition.Vc ∷ kind.BranchIf condition.Hi
+    ∷ kind.BranchIf condition.Ls ∷ kind.BranchIf condition.Ge ∷ kind.BranchIf condition.Lt ∷ kind.BranchIf condition.Gt
+    ∷ kind.BranchIf condition.Le ∷ kind.Branch ∷ kind.Call ∷ kind.Barrier barrier.Dsb ∷ kind.Barrier barrier.Dmb ∷ kind.Barrier barrier.Isb
     ∷ kind.ReadSpecial special.Primask ∷ kind.ReadSpecial special.Ipsr ∷ kind.WriteMask ∷ []
 
 -- their texts, and other spellings that are read

@@ -27,212 +27,301 @@ const OPEN: Slot = Slot::Mark(b'[');
 
 const CLOSE: Slot = Slot::Mark(b']');
 
-/// The table, as it is given to another macro: four parts, in each the first letters of mnemonics, at each letter its mnemonics, those that compilers write most first.
-/// A mnemonic has a row for each kind that is written with it: the kind, and what may follow, first what is written (of two that are written, see `is_second`).
-/// Behind `also` stand kinds that are read by the mnemonic and written with another.
+/// A register.
+const ONE: &[Slot] = &[FIRST];
+
+/// Two registers.
+const TWO: &[Slot] = &[FIRST, COMMA, SECOND];
+
+/// Two registers, of which the first is written twice: before the second.
+const SAME_FIRST: &[Slot] = &[FIRST, COMMA, SAME, COMMA, SECOND];
+
+/// The same, with the first again behind the second.
+const SAME_LAST: &[Slot] = &[FIRST, COMMA, SECOND, COMMA, SAME];
+
+/// Three registers.
+const THREE: &[Slot] = &[FIRST, COMMA, SECOND, COMMA, THIRD];
+
+/// Three registers, of which the first two are one.
+const TWICE_AND_THIRD: &[Slot] = &[TWICE, COMMA, THIRD];
+
+/// Two registers and a number.
+macro_rules! amount {
+    ($least:literal, $most:literal) => {
+        &[FIRST, COMMA, SECOND, COMMA, Slot::Number(Place::Third, $least, $most, 1)]
+    };
+}
+
+/// The same, where the two are one.
+macro_rules! twice_amount {
+    ($least:literal, $most:literal) => {
+        &[TWICE, COMMA, Slot::Number(Place::Third, $least, $most, 1)]
+    };
+}
+
+/// A register and a byte.
+const BYTE_NUMBER: &[Slot] = &[FIRST, COMMA, Slot::Number(Place::Second, 0, 255, 1)];
+
+/// A register twice and a byte that doesn't fit the form with two registers and a number.
+const SAME_AND_BYTE: &[Slot] = &[
+    FIRST,
+    COMMA,
+    SAME,
+    COMMA,
+    Slot::Number(Place::Second, 8, 255, 1),
+];
+
+/// A byte.
+const BYTE_ALONE: &[Slot] = &[Slot::Number(Place::First, 0, 255, 1)];
+
+/// A label.
+const LABEL: &[Slot] = &[Slot::Label];
+
+/// A register and a label with what is added.
+const LABELLED: &[Slot] = &[FIRST, COMMA, Slot::LabelSum];
+
+/// A register, and an address of two.
+const INDEXED: &[Slot] = &[FIRST, COMMA, OPEN, SECOND, COMMA, THIRD, CLOSE];
+
+/// A register, and an address of one with an offset.
+macro_rules! with_offset {
+    ($most:literal, $step:literal) => {
+        &[FIRST, COMMA, OPEN, SECOND, COMMA, Slot::Number(Place::Third, 0, $most, $step), CLOSE]
+    };
+}
+
+/// The same without an offset.
+const WITHOUT_OFFSET: &[Slot] = &[FIRST, COMMA, OPEN, SECOND, CLOSE];
+
+/// A register, and an address from sp on.
+const FROM_SP: &[Slot] = &[
+    FIRST,
+    COMMA,
+    OPEN,
+    Slot::Sp,
+    COMMA,
+    Slot::Number(Place::Second, 0, 1020, 4),
+    CLOSE,
+];
+
+/// The same without an offset.
+const AT_SP: &[Slot] = &[FIRST, COMMA, OPEN, Slot::Sp, CLOSE];
+
+/// sp twice and a number.
+const SP_AGAIN: &[Slot] = &[
+    Slot::Sp,
+    COMMA,
+    Slot::Sp,
+    COMMA,
+    Slot::Number(Place::First, 0, 508, 4),
+];
+
+/// sp once and a number.
+const SP_ALONE: &[Slot] = &[Slot::Sp, COMMA, Slot::Number(Place::First, 0, 508, 4)];
+
+/// A base that is written back, and a list.
+const WRITTEN_BACK: &[Slot] = &[
+    Slot::Base(Place::First),
+    COMMA,
+    Slot::LowList(Place::Second),
+];
+
+/// The same, where the base isn't in the list.
+const LOAD_APART: &[Slot] = &[
+    Slot::Base(Place::First),
+    COMMA,
+    Slot::LowList(Place::Second),
+    Slot::NotInList(Place::First, Place::Second),
+];
+
+/// A base and a list that it is in.
+const LOAD_WITHIN: &[Slot] = &[
+    FIRST,
+    COMMA,
+    Slot::LowList(Place::Second),
+    Slot::InList(Place::First, Place::Second),
+];
+
+/// The table, handed to another macro: in four parts the first letters of mnemonics, at each letter its mnemonics, those that compilers write most first.
+/// A mnemonic has a row for each kind that is written with it: what may follow, first what is written (`is_second` tells it of kinds with two that are).
+/// Behind `also` stand kinds that it is read as, and that are written with another.
 macro_rules! spellings {
-    ($use:ident $($kind:ident)?) => {
-        $use! {
+    ($then:ident $($kind:ident)?) => {
+        $then! {
             $($kind)?
             {
                 [],
                 [
                     b"adds" {
-                        Kind::Three(Sum::Add) => [FIRST, COMMA, SECOND, COMMA, THIRD], [TWICE, COMMA, THIRD];
-                        Kind::ThreeNumber(Sum::Add) => [FIRST, COMMA, SECOND, COMMA, Slot::Number(Place::Third, 0, 7, 1)];
-                        Kind::TwoNumber(ByteOperation::Add) => [FIRST, COMMA, Slot::Number(Place::Second, 0, 255, 1)], [FIRST, COMMA, SAME, COMMA, Slot::Number(Place::Second, 8, 255, 1)];
+                        Kind::Three(Sum::Add) => THREE, TWICE_AND_THIRD;
+                        Kind::ThreeNumber(Sum::Add) => amount!(0, 7);
+                        Kind::TwoNumber(ByteOperation::Add) => BYTE_NUMBER, SAME_AND_BYTE;
                     },
                     b"add" {
-                        Kind::Add => [FIRST, COMMA, SECOND], [FIRST, COMMA, SAME, COMMA, SECOND], [FIRST, COMMA, SECOND, COMMA, SAME];
-                        Kind::StackAddress => [FIRST, COMMA, Slot::Sp, COMMA, Slot::Number(Place::Second, 0, 1020, 4)];
-                        Kind::StackMove(Sum::Add) => [Slot::Sp, COMMA, Slot::Sp, COMMA, Slot::Number(Place::First, 0, 508, 4)], [Slot::Sp, COMMA, Slot::Number(Place::First, 0, 508, 4)];
+                        Kind::Add => TWO, SAME_FIRST, SAME_LAST;
+                        Kind::StackAddress => &[FIRST, COMMA, Slot::Sp, COMMA, Slot::Number(Place::Second, 0, 1020, 4)];
+                        Kind::StackMove(Sum::Add) => SP_AGAIN, SP_ALONE;
                     },
-                    b"ands" {
-                        Kind::Two(Operation::And) => [FIRST, COMMA, SECOND], [FIRST, COMMA, SAME, COMMA, SECOND], [FIRST, COMMA, SECOND, COMMA, SAME];
-                    },
+                    b"ands" { Kind::Two(Operation::And) => TWO, SAME_FIRST, SAME_LAST; },
                     b"asrs" {
-                        Kind::ShiftRight(Right::Asr) => [FIRST, COMMA, SECOND, COMMA, Slot::Number(Place::Third, 1, 32, 1)], [TWICE, COMMA, Slot::Number(Place::Third, 1, 32, 1)];
-                        Kind::Two(Operation::Asr) => [FIRST, COMMA, SECOND], [FIRST, COMMA, SAME, COMMA, SECOND];
+                        Kind::ShiftRight(Right::Asr) => amount!(1, 32), twice_amount!(1, 32);
+                        Kind::Two(Operation::Asr) => TWO, SAME_FIRST;
                     },
-                    b"adcs" {
-                        Kind::Two(Operation::Adc) => [FIRST, COMMA, SECOND], [FIRST, COMMA, SAME, COMMA, SECOND], [FIRST, COMMA, SECOND, COMMA, SAME];
-                    },
-                    b"adr" { Kind::Address => [FIRST, COMMA, Slot::LabelSum]; },
+                    b"adcs" { Kind::Two(Operation::Adc) => TWO, SAME_FIRST, SAME_LAST; },
+                    b"adr" { Kind::Address => LABELLED; },
                 ],
                 [
-                    b"bl" { Kind::Call => [Slot::Label]; },
-                    b"b" { Kind::Branch => [Slot::Label]; },
-                    b"bne" { Kind::BranchIf(Condition::Ne) => [Slot::Label]; },
-                    b"beq" { Kind::BranchIf(Condition::Eq) => [Slot::Label]; },
-                    b"bhi" { Kind::BranchIf(Condition::Hi) => [Slot::Label]; },
-                    b"bls" { Kind::BranchIf(Condition::Ls) => [Slot::Label]; },
-                    b"ble" { Kind::BranchIf(Condition::Le) => [Slot::Label]; },
-                    b"blx" { Kind::Blx => [FIRST]; },
-                    b"bge" { Kind::BranchIf(Condition::Ge) => [Slot::Label]; },
-                    b"blt" { Kind::BranchIf(Condition::Lt) => [Slot::Label]; },
-                    b"bcs" { Kind::BranchIf(Condition::Cs) => [Slot::Label]; },
-                    b"bics" { Kind::Two(Operation::Bic) => [FIRST, COMMA, SECOND], [FIRST, COMMA, SAME, COMMA, SECOND]; },
-                    b"bgt" { Kind::BranchIf(Condition::Gt) => [Slot::Label]; },
-                    b"bx" { Kind::Bx => [FIRST]; },
-                    b"bcc" { Kind::BranchIf(Condition::Cc) => [Slot::Label]; },
-                    b"bpl" { Kind::BranchIf(Condition::Pl) => [Slot::Label]; },
-                    b"bkpt" { Kind::Breakpoint => [Slot::Number(Place::First, 0, 255, 1)]; },
-                    b"bmi" { Kind::BranchIf(Condition::Mi) => [Slot::Label]; },
-                    b"bvs" { Kind::BranchIf(Condition::Vs) => [Slot::Label]; },
-                    b"bvc" { Kind::BranchIf(Condition::Vc) => [Slot::Label]; },
-                    b"bhs" {} also { Kind::BranchIf(Condition::Cs) => [Slot::Label]; },
-                    b"blo" {} also { Kind::BranchIf(Condition::Cc) => [Slot::Label]; },
+                    b"bl" { Kind::Call => LABEL; },
+                    b"b" { Kind::Branch => LABEL; },
+                    b"bne" { Kind::BranchIf(Condition::Ne) => LABEL; },
+                    b"beq" { Kind::BranchIf(Condition::Eq) => LABEL; },
+                    b"bhi" { Kind::BranchIf(Condition::Hi) => LABEL; },
+                    b"bls" { Kind::BranchIf(Condition::Ls) => LABEL; },
+                    b"ble" { Kind::BranchIf(Condition::Le) => LABEL; },
+                    b"blx" { Kind::Blx => ONE; },
+                    b"bge" { Kind::BranchIf(Condition::Ge) => LABEL; },
+                    b"blt" { Kind::BranchIf(Condition::Lt) => LABEL; },
+                    b"bcs" { Kind::BranchIf(Condition::Cs) => LABEL; },
+                    b"bics" { Kind::Two(Operation::Bic) => TWO, SAME_FIRST; },
+                    b"bgt" { Kind::BranchIf(Condition::Gt) => LABEL; },
+                    b"bx" { Kind::Bx => ONE; },
+                    b"bcc" { Kind::BranchIf(Condition::Cc) => LABEL; },
+                    b"bpl" { Kind::BranchIf(Condition::Pl) => LABEL; },
+                    b"bkpt" { Kind::Breakpoint => BYTE_ALONE; },
+                    b"bmi" { Kind::BranchIf(Condition::Mi) => LABEL; },
+                    b"bvs" { Kind::BranchIf(Condition::Vs) => LABEL; },
+                    b"bvc" { Kind::BranchIf(Condition::Vc) => LABEL; },
+                    b"bhs" {} also { Kind::BranchIf(Condition::Cs) => LABEL; },
+                    b"blo" {} also { Kind::BranchIf(Condition::Cc) => LABEL; },
                 ],
             }
             {
                 [
                     b"cmp" {
-                        Kind::TwoNumber(ByteOperation::Cmp) => [FIRST, COMMA, Slot::Number(Place::Second, 0, 255, 1)];
-                        Kind::Two(Operation::Cmp) => [FIRST, COMMA, SECOND];
-                        Kind::Compare => [FIRST, COMMA, SECOND];
+                        Kind::TwoNumber(ByteOperation::Cmp) => BYTE_NUMBER;
+                        Kind::Two(Operation::Cmp) => TWO;
+                        Kind::Compare => TWO;
                     },
-                    b"cmn" { Kind::Two(Operation::Cmn) => [FIRST, COMMA, SECOND]; },
-                    b"cpsie" { Kind::ChangeState(Interrupts::Enable) => [Slot::I]; },
-                    b"cpsid" { Kind::ChangeState(Interrupts::Disable) => [Slot::I]; },
+                    b"cmn" { Kind::Two(Operation::Cmn) => TWO; },
+                    b"cpsie" { Kind::ChangeState(Interrupts::Enable) => &[Slot::I]; },
+                    b"cpsid" { Kind::ChangeState(Interrupts::Disable) => &[Slot::I]; },
                 ],
                 [
-                    b"dsb" { Kind::Barrier(Barrier::Dsb) => [Slot::Sy], []; },
-                    b"dmb" { Kind::Barrier(Barrier::Dmb) => [Slot::Sy], []; },
+                    b"dsb" { Kind::Barrier(Barrier::Dsb) => &[Slot::Sy], &[]; },
+                    b"dmb" { Kind::Barrier(Barrier::Dmb) => &[Slot::Sy], &[]; },
                 ],
-                [
-                    b"eors" {
-                        Kind::Two(Operation::Eor) => [FIRST, COMMA, SECOND], [FIRST, COMMA, SAME, COMMA, SECOND], [FIRST, COMMA, SECOND, COMMA, SAME];
-                    },
-                ],
+                [b"eors" { Kind::Two(Operation::Eor) => TWO, SAME_FIRST, SAME_LAST; }],
                 [],
                 [],
                 [],
-                [
-                    b"isb" { Kind::Barrier(Barrier::Isb) => [Slot::Sy], []; },
-                ],
+                [b"isb" { Kind::Barrier(Barrier::Isb) => &[Slot::Sy], &[]; }],
                 [],
                 [],
                 [
                     b"ldr" {
-                        Kind::Literal => [FIRST, COMMA, Slot::LabelSum];
-                        Kind::Indexed(Access::Ldr) => [FIRST, COMMA, OPEN, SECOND, COMMA, THIRD, CLOSE];
-                        Kind::Offset(OffsetAccess::Ldr) => [FIRST, COMMA, OPEN, SECOND, COMMA, Slot::Number(Place::Third, 0, 124, 4), CLOSE], [FIRST, COMMA, OPEN, SECOND, CLOSE];
-                        Kind::Stack(WordAccess::Ldr) => [FIRST, COMMA, OPEN, Slot::Sp, COMMA, Slot::Number(Place::Second, 0, 1020, 4), CLOSE], [FIRST, COMMA, OPEN, Slot::Sp, CLOSE];
+                        Kind::Literal => LABELLED;
+                        Kind::Indexed(Access::Ldr) => INDEXED;
+                        Kind::Offset(OffsetAccess::Ldr) => with_offset!(124, 4), WITHOUT_OFFSET;
+                        Kind::Stack(WordAccess::Ldr) => FROM_SP, AT_SP;
                     },
                     b"lsls" {
-                        Kind::ShiftLeft => [FIRST, COMMA, SECOND, COMMA, Slot::Number(Place::Third, 1, 31, 1)], [TWICE, COMMA, Slot::Number(Place::Third, 1, 31, 1)];
-                        Kind::Two(Operation::Lsl) => [FIRST, COMMA, SECOND], [FIRST, COMMA, SAME, COMMA, SECOND];
+                        Kind::ShiftLeft => amount!(1, 31), twice_amount!(1, 31);
+                        Kind::Two(Operation::Lsl) => TWO, SAME_FIRST;
                     } also {
-                        Kind::Movs => [FIRST, COMMA, SECOND, COMMA, Slot::Exactly(0)], [TWICE, COMMA, Slot::Exactly(0)];
+                        Kind::Movs => &[FIRST, COMMA, SECOND, COMMA, Slot::Exactly(0)], &[TWICE, COMMA, Slot::Exactly(0)];
                     },
                     b"lsrs" {
-                        Kind::ShiftRight(Right::Lsr) => [FIRST, COMMA, SECOND, COMMA, Slot::Number(Place::Third, 1, 32, 1)], [TWICE, COMMA, Slot::Number(Place::Third, 1, 32, 1)];
-                        Kind::Two(Operation::Lsr) => [FIRST, COMMA, SECOND], [FIRST, COMMA, SAME, COMMA, SECOND];
+                        Kind::ShiftRight(Right::Lsr) => amount!(1, 32), twice_amount!(1, 32);
+                        Kind::Two(Operation::Lsr) => TWO, SAME_FIRST;
                     },
                     b"ldrb" {
-                        Kind::Indexed(Access::Ldrb) => [FIRST, COMMA, OPEN, SECOND, COMMA, THIRD, CLOSE];
-                        Kind::Offset(OffsetAccess::Ldrb) => [FIRST, COMMA, OPEN, SECOND, COMMA, Slot::Number(Place::Third, 0, 31, 1), CLOSE], [FIRST, COMMA, OPEN, SECOND, CLOSE];
+                        Kind::Indexed(Access::Ldrb) => INDEXED;
+                        Kind::Offset(OffsetAccess::Ldrb) => with_offset!(31, 1), WITHOUT_OFFSET;
                     },
                     b"ldrh" {
-                        Kind::Indexed(Access::Ldrh) => [FIRST, COMMA, OPEN, SECOND, COMMA, THIRD, CLOSE];
-                        Kind::Offset(OffsetAccess::Ldrh) => [FIRST, COMMA, OPEN, SECOND, COMMA, Slot::Number(Place::Third, 0, 62, 2), CLOSE], [FIRST, COMMA, OPEN, SECOND, CLOSE];
+                        Kind::Indexed(Access::Ldrh) => INDEXED;
+                        Kind::Offset(OffsetAccess::Ldrh) => with_offset!(62, 2), WITHOUT_OFFSET;
                     },
-                    b"ldrsh" { Kind::Indexed(Access::Ldrsh) => [FIRST, COMMA, OPEN, SECOND, COMMA, THIRD, CLOSE]; },
-                    b"ldmia" {} also {
-                        Kind::LoadMany => [Slot::Base(Place::First), COMMA, Slot::LowList(Place::Second), Slot::NotInList(Place::First, Place::Second)], [FIRST, COMMA, Slot::LowList(Place::Second), Slot::InList(Place::First, Place::Second)];
-                    },
-                    b"ldrsb" { Kind::Indexed(Access::Ldrsb) => [FIRST, COMMA, OPEN, SECOND, COMMA, THIRD, CLOSE]; },
-                    b"ldm" {
-                        Kind::LoadMany => [Slot::Base(Place::First), COMMA, Slot::LowList(Place::Second), Slot::NotInList(Place::First, Place::Second)], [FIRST, COMMA, Slot::LowList(Place::Second), Slot::InList(Place::First, Place::Second)];
-                    },
+                    b"ldrsh" { Kind::Indexed(Access::Ldrsh) => INDEXED; },
+                    b"ldmia" {} also { Kind::LoadMany => LOAD_APART, LOAD_WITHIN; },
+                    b"ldrsb" { Kind::Indexed(Access::Ldrsb) => INDEXED; },
+                    b"ldm" { Kind::LoadMany => LOAD_APART, LOAD_WITHIN; },
                 ],
             }
             {
                 [
                     b"movs" {
-                        Kind::Movs => [FIRST, COMMA, SECOND];
-                        Kind::TwoNumber(ByteOperation::Mov) => [FIRST, COMMA, Slot::Number(Place::Second, 0, 255, 1)];
+                        Kind::Movs => TWO;
+                        Kind::TwoNumber(ByteOperation::Mov) => BYTE_NUMBER;
                     },
-                    b"mov" { Kind::Mov => [FIRST, COMMA, SECOND]; },
-                    b"muls" {
-                        Kind::Two(Operation::Mul) => [FIRST, COMMA, SECOND, COMMA, SAME], [FIRST, COMMA, SECOND], [FIRST, COMMA, SAME, COMMA, SECOND];
-                    },
-                    b"mvns" { Kind::Two(Operation::Mvn) => [FIRST, COMMA, SECOND]; },
+                    b"mov" { Kind::Mov => TWO; },
+                    b"muls" { Kind::Two(Operation::Mul) => SAME_LAST, TWO, SAME_FIRST; },
+                    b"mvns" { Kind::Two(Operation::Mvn) => TWO; },
                     b"mrs" {
-                        Kind::ReadSpecial(Special::Primask) => [FIRST, COMMA, Slot::Primask];
-                        Kind::ReadSpecial(Special::Ipsr) => [FIRST, COMMA, Slot::Ipsr];
+                        Kind::ReadSpecial(Special::Primask) => &[FIRST, COMMA, Slot::Primask];
+                        Kind::ReadSpecial(Special::Ipsr) => &[FIRST, COMMA, Slot::Ipsr];
                     },
-                    b"msr" { Kind::WriteMask => [Slot::Primask, COMMA, FIRST]; },
+                    b"msr" { Kind::WriteMask => &[Slot::Primask, COMMA, FIRST]; },
                 ],
                 [
-                    b"negs" {} also { Kind::Two(Operation::Rsb) => [FIRST, COMMA, SECOND]; },
-                    b"nop" { Kind::Hint(Hint::Nop) => []; },
+                    b"negs" {} also { Kind::Two(Operation::Rsb) => TWO; },
+                    b"nop" { Kind::Hint(Hint::Nop) => &[]; },
                 ],
+                [b"orrs" { Kind::Two(Operation::Orr) => TWO, SAME_FIRST, SAME_LAST; }],
                 [
-                    b"orrs" {
-                        Kind::Two(Operation::Orr) => [FIRST, COMMA, SECOND], [FIRST, COMMA, SAME, COMMA, SECOND], [FIRST, COMMA, SECOND, COMMA, SAME];
-                    },
-                ],
-                [
-                    b"push" { Kind::Push => [Slot::StackList(Place::First, 14)]; },
-                    b"pop" { Kind::Pop => [Slot::StackList(Place::First, 15)]; },
+                    b"push" { Kind::Push => &[Slot::StackList(Place::First, 14)]; },
+                    b"pop" { Kind::Pop => &[Slot::StackList(Place::First, 15)]; },
                 ],
                 [],
                 [
-                    b"rsbs" { Kind::Two(Operation::Rsb) => [FIRST, COMMA, SECOND, COMMA, Slot::Exactly(0)]; },
-                    b"rors" { Kind::Two(Operation::Ror) => [FIRST, COMMA, SECOND], [FIRST, COMMA, SAME, COMMA, SECOND]; },
-                    b"rev" { Kind::Reverse(Reversal::Rev) => [FIRST, COMMA, SECOND]; },
-                    b"rev16" { Kind::Reverse(Reversal::Rev16) => [FIRST, COMMA, SECOND]; },
-                    b"revsh" { Kind::Reverse(Reversal::Revsh) => [FIRST, COMMA, SECOND]; },
+                    b"rsbs" { Kind::Two(Operation::Rsb) => &[FIRST, COMMA, SECOND, COMMA, Slot::Exactly(0)]; },
+                    b"rors" { Kind::Two(Operation::Ror) => TWO, SAME_FIRST; },
+                    b"rev" { Kind::Reverse(Reversal::Rev) => TWO; },
+                    b"rev16" { Kind::Reverse(Reversal::Rev16) => TWO; },
+                    b"revsh" { Kind::Reverse(Reversal::Revsh) => TWO; },
                 ],
             }
             {
                 [
                     b"str" {
-                        Kind::Indexed(Access::Str) => [FIRST, COMMA, OPEN, SECOND, COMMA, THIRD, CLOSE];
-                        Kind::Offset(OffsetAccess::Str) => [FIRST, COMMA, OPEN, SECOND, COMMA, Slot::Number(Place::Third, 0, 124, 4), CLOSE], [FIRST, COMMA, OPEN, SECOND, CLOSE];
-                        Kind::Stack(WordAccess::Str) => [FIRST, COMMA, OPEN, Slot::Sp, COMMA, Slot::Number(Place::Second, 0, 1020, 4), CLOSE], [FIRST, COMMA, OPEN, Slot::Sp, CLOSE];
+                        Kind::Indexed(Access::Str) => INDEXED;
+                        Kind::Offset(OffsetAccess::Str) => with_offset!(124, 4), WITHOUT_OFFSET;
+                        Kind::Stack(WordAccess::Str) => FROM_SP, AT_SP;
                     },
                     b"subs" {
-                        Kind::Three(Sum::Sub) => [FIRST, COMMA, SECOND, COMMA, THIRD], [TWICE, COMMA, THIRD];
-                        Kind::ThreeNumber(Sum::Sub) => [FIRST, COMMA, SECOND, COMMA, Slot::Number(Place::Third, 0, 7, 1)];
-                        Kind::TwoNumber(ByteOperation::Sub) => [FIRST, COMMA, Slot::Number(Place::Second, 0, 255, 1)], [FIRST, COMMA, SAME, COMMA, Slot::Number(Place::Second, 8, 255, 1)];
+                        Kind::Three(Sum::Sub) => THREE, TWICE_AND_THIRD;
+                        Kind::ThreeNumber(Sum::Sub) => amount!(0, 7);
+                        Kind::TwoNumber(ByteOperation::Sub) => BYTE_NUMBER, SAME_AND_BYTE;
                     },
                     b"strh" {
-                        Kind::Indexed(Access::Strh) => [FIRST, COMMA, OPEN, SECOND, COMMA, THIRD, CLOSE];
-                        Kind::Offset(OffsetAccess::Strh) => [FIRST, COMMA, OPEN, SECOND, COMMA, Slot::Number(Place::Third, 0, 62, 2), CLOSE], [FIRST, COMMA, OPEN, SECOND, CLOSE];
+                        Kind::Indexed(Access::Strh) => INDEXED;
+                        Kind::Offset(OffsetAccess::Strh) => with_offset!(62, 2), WITHOUT_OFFSET;
                     },
                     b"strb" {
-                        Kind::Indexed(Access::Strb) => [FIRST, COMMA, OPEN, SECOND, COMMA, THIRD, CLOSE];
-                        Kind::Offset(OffsetAccess::Strb) => [FIRST, COMMA, OPEN, SECOND, COMMA, Slot::Number(Place::Third, 0, 31, 1), CLOSE], [FIRST, COMMA, OPEN, SECOND, CLOSE];
+                        Kind::Indexed(Access::Strb) => INDEXED;
+                        Kind::Offset(OffsetAccess::Strb) => with_offset!(31, 1), WITHOUT_OFFSET;
                     },
-                    b"sub" {
-                        Kind::StackMove(Sum::Sub) => [Slot::Sp, COMMA, Slot::Sp, COMMA, Slot::Number(Place::First, 0, 508, 4)], [Slot::Sp, COMMA, Slot::Number(Place::First, 0, 508, 4)];
-                    },
-                    b"sxth" { Kind::Extend(Extension::Sxth) => [FIRST, COMMA, SECOND]; },
-                    b"stmia" {} also { Kind::StoreMany => [Slot::Base(Place::First), COMMA, Slot::LowList(Place::Second)]; },
-                    b"sbcs" { Kind::Two(Operation::Sbc) => [FIRST, COMMA, SECOND], [FIRST, COMMA, SAME, COMMA, SECOND]; },
-                    b"sxtb" { Kind::Extend(Extension::Sxtb) => [FIRST, COMMA, SECOND]; },
-                    b"stm" { Kind::StoreMany => [Slot::Base(Place::First), COMMA, Slot::LowList(Place::Second)]; },
-                    b"svc" { Kind::Service => [Slot::Number(Place::First, 0, 255, 1)]; },
-                    b"sev" { Kind::Hint(Hint::Sev) => []; },
+                    b"sub" { Kind::StackMove(Sum::Sub) => SP_AGAIN, SP_ALONE; },
+                    b"sxth" { Kind::Extend(Extension::Sxth) => TWO; },
+                    b"stmia" {} also { Kind::StoreMany => WRITTEN_BACK; },
+                    b"sbcs" { Kind::Two(Operation::Sbc) => TWO, SAME_FIRST; },
+                    b"sxtb" { Kind::Extend(Extension::Sxtb) => TWO; },
+                    b"stm" { Kind::StoreMany => WRITTEN_BACK; },
+                    b"svc" { Kind::Service => BYTE_ALONE; },
+                    b"sev" { Kind::Hint(Hint::Sev) => &[]; },
                 ],
+                [b"tst" { Kind::Two(Operation::Tst) => TWO; }],
                 [
-                    b"tst" { Kind::Two(Operation::Tst) => [FIRST, COMMA, SECOND]; },
-                ],
-                [
-                    b"uxth" { Kind::Extend(Extension::Uxth) => [FIRST, COMMA, SECOND]; },
-                    b"uxtb" { Kind::Extend(Extension::Uxtb) => [FIRST, COMMA, SECOND]; },
+                    b"uxth" { Kind::Extend(Extension::Uxth) => TWO; },
+                    b"uxtb" { Kind::Extend(Extension::Uxtb) => TWO; },
                 ],
                 [],
                 [
-                    b"wfe" { Kind::Hint(Hint::Wfe) => []; },
-                    b"wfi" { Kind::Hint(Hint::Wfi) => []; },
+                    b"wfe" { Kind::Hint(Hint::Wfe) => &[]; },
+                    b"wfi" { Kind::Hint(Hint::Wfi) => &[]; },
                 ],
                 [],
-                [
-                    b"yield" { Kind::Hint(Hint::Yield) => []; },
-                ],
+                [b"yield" { Kind::Hint(Hint::Yield) => &[]; }],
                 [],
                 [],
                 [],
@@ -247,14 +336,14 @@ macro_rules! spellings {
 /// A part of the table as mnemonics with their forms.
 macro_rules! mnemonics {
     ($([$(
-        $name:literal { $($kind:expr => $([$($slot:expr),*]),+;)* }
-        $(also { $($other:expr => $([$($part:expr),*]),+;)* })?,
-    )*],)*) => {
+        $name:literal { $($kind:expr => $($slots:expr),+;)* }
+        $(also { $($other:expr => $($form:expr),+;)* })?
+    ),* $(,)?],)*) => {
         [$(&[$(Mnemonic {
             name: $name,
             forms: &[
-                $($(Form { mnemonic: $name, slots: &[$($slot),*], kind: $kind },)+)*
-                $($($(Form { mnemonic: $name, slots: &[$($part),*], kind: $other },)+)*)?
+                $($(Form { mnemonic: $name, slots: $slots, kind: $kind },)+)*
+                $($($(Form { mnemonic: $name, slots: $form, kind: $other },)+)*)?
             ],
         }),*]),*]
     };
@@ -279,8 +368,8 @@ macro_rules! last_part {
 /// The mnemonic of a kind.
 macro_rules! name_of {
     ($of:ident $({ $([$(
-        $name:literal { $($kind:pat => $([$($slot:expr),*]),+;)* } $(also $other:tt)?,
-    )*],)* })*) => {
+        $name:literal { $($kind:pat => $($slots:expr),+;)* } $(also $other:tt)?
+    ),* $(,)?],)* })*) => {
         match $of { $($($($($kind => $name,)*)*)*)* }
     };
 }
@@ -288,9 +377,9 @@ macro_rules! name_of {
 /// What may follow the mnemonic of a kind.
 macro_rules! forms_of {
     ($of:ident $({ $([$(
-        $name:literal { $($kind:pat => $([$($slot:expr),*]),+;)* } $(also $other:tt)?,
-    )*],)* })*) => {
-        match $of { $($($($($kind => &[$(&[$($slot),*]),+],)*)*)*)* }
+        $name:literal { $($kind:pat => $($slots:expr),+;)* } $(also $other:tt)?
+    ),* $(,)?],)* })*) => {
+        match $of { $($($($($kind => &[$($slots),+],)*)*)*)* }
     };
 }
 
