@@ -1,6 +1,6 @@
 -- Each instruction with its label is written in the slots of one of the forms, and filled by what was written.
 use Rattle.std.proofs.Common.{◌≡◌, ◌∙◌, inl, inr, ℕ, ◌*◌, ◌<◌, ◌≤◌, ◌^◌, ◌&&◌, ◌||◌, ◌==◌, true, List, [], ◌∷◌, Option, Some, None, refl, sym, ap, subst, arith, true≢false, eqb-true, eq-eqb, lt-ltb}
-use Rattle.std.specs.Prelude.{nat_lt, nat_le, slice_get}
+use Rattle.std.specs.Prelude.{nat_lt, nat_le, slice_get, if◌then◌else◌}
 use Rattle.std.proofs.lemmas.Bool.{cases_Bool, and_parts, and_from, le-leb, le-ltb, agree_below, agree_below_at}
 use Rattle.thumb_syntax.specs.declared.form.Place.TheVariants as place
 use Rattle.thumb_syntax.specs.declared.form.Slot.{Slot}
@@ -9,9 +9,10 @@ use Rattle.thumb_instr.specs.declared.kind.Kind.{Kind}
 use Rattle.thumb_instr.specs.declared.kind.Parts.{Parts}
 use Rattle.thumb_instr.specs.Parts.{of}
 use Rattle.thumb_syntax.specs.Slots.{Fields, empty, is_in_list}
-use Rattle.thumb_syntax.specs.Rows.{Row, first, second, third, same, comma, open', close}
+use Rattle.thumb_syntax.specs.Forms.{first, second, comma, two, three, amount, byte_number, byte_alone, one, label, labelled, same_last, indexed, with_offset, without_offset, from_sp, at_sp, sp_again, written_back, load_apart, load_within}
+use Rattle.thumb_syntax.specs.Rows.{Row}
 use Rattle.thumb_syntax.specs.RowLaws.{rows}
-use Rattle.thumb_syntax.specs.Canonical.{mnemonic, slots as canonical, two, three, labelled, offset_slots, stack_slots, load_slots}
+use Rattle.thumb_syntax.specs.Canonical.{mnemonic, slots as canonical}
 use Rattle.thumb_syntax.specs.Spelling.{operands_text}
 use Rattle.thumb_syntax.specs.Whole.{is_label, is_label_sum, is_unlabelled}
 use Rattle.thumb_syntax.proofs.SlotText.{stored, slots_fit, number_fits}
@@ -52,20 +53,6 @@ plain_row m l n ss there slots' fit back none = record {
   back = back ∙ ap (fields m.first m.second m.third) (no_label l none);
 }
 
--- the same, where the slots' numbers have other ends than the canonical text's
-number_row : (m : Parts) (l : Option (List ℕ × ℕ)) (n : ℕ) (ss : List Slot) → Stands n m.kind ss
-    → operands_text (canonical m.kind m.first m.second m.third) (fields m.first m.second m.third l) ≡ operands_text ss (fields m.first m.second m.third l)
-    → slots_fit ss empty (fields m.first m.second m.third l) ≡ true → stored ss empty (fields m.first m.second m.third l) ≡ fields m.first m.second m.third None
-    → is_unlabelled l ≡ true → Written m l
-number_row m l n ss there text fit back none = record {
-  place = n;
-  slots = ss;
-  is_there = there;
-  text = text;
-  fit = fit;
-  back = back ∙ ap (fields m.first m.second m.third) (no_label l none);
-}
-
 register16 : (n : ℕ) → n < 16 → nat_lt n 16 ≡ true
 register16 n less = lt-ltb n 16 less
 
@@ -89,21 +76,15 @@ pub zero_row : (k : Kind) (n a b : ℕ) (l : Option (List ℕ × ℕ)) → Stand
     → a < 8 → b < 8 → is_unlabelled l ≡ true → Written (of k a b 0) l
 zero_row k n a b l there slots' p q none = plain_row (of k a b 0) l n _ there slots' (rw (low16 a p, low16 b q) refl) refl none
 
-pub same_row : (k : Kind) (n a b : ℕ) (l : Option (List ℕ × ℕ)) → Stands n k (first ∷ comma ∷ second ∷ comma ∷ same ∷ []) → canonical k a b 0 ≡ first ∷ comma ∷ second ∷ comma ∷ same ∷ []
+pub same_row : (k : Kind) (n a b : ℕ) (l : Option (List ℕ × ℕ)) → Stands n k same_last → canonical k a b 0 ≡ same_last
     → a < 8 → b < 8 → is_unlabelled l ≡ true → Written (of k a b 0) l
 same_row k n a b l there slots' p q none = plain_row (of k a b 0) l n _ there slots' (rw (low16 a p, low16 b q, eq-eqb a a refl) refl) refl none
 
 pub three_row : (k : Kind) (n a b c : ℕ) (l : Option (List ℕ × ℕ)) → Stands n k three → canonical k a b c ≡ three → a < 8 → b < 8 → c < 8 → is_unlabelled l ≡ true → Written (of k a b c) l
 three_row k n a b c l there slots' p q r none = plain_row (of k a b c) l n three there slots' (rw (low16 a p, low16 b q, low16 c r) refl) refl none
 
-abbrev indexed : List Slot
-indexed = first ∷ comma ∷ open' ∷ second ∷ comma ∷ third ∷ close ∷ []
-
 pub indexed_row : (k : Kind) (n a b c : ℕ) (l : Option (List ℕ × ℕ)) → Stands n k indexed → canonical k a b c ≡ indexed → a < 8 → b < 8 → c < 8 → is_unlabelled l ≡ true → Written (of k a b c) l
 indexed_row k n a b c l there slots' p q r none = plain_row (of k a b c) l n indexed there slots' (rw (low16 a p, low16 b q, low16 c r) refl) refl none
-
-abbrev amount : ℕ → ℕ → List Slot
-amount least most = first ∷ comma ∷ second ∷ comma ∷ slot.Number place.Third least most 1 ∷ []
 
 -- the numbers below an end fit their slot
 abbrev all_fit : ℕ → ℕ → ℕ → ℕ → Type 0
@@ -115,19 +96,19 @@ one_fits least most step end v all low less =
     let reached = le-ltb v least low in
     rw reached at this
 
-pub amount_row : (k : Kind) (n least most end a b c : ℕ) (l : Option (List ℕ × ℕ)) → Stands n k (amount least most) → operands_text (canonical k a b c) (fields a b c l) ≡ operands_text (amount least most) (fields a b c l)
+pub amount_row : (k : Kind) (n least most end a b c : ℕ) (l : Option (List ℕ × ℕ)) → Stands n k (amount least most) → canonical k a b c ≡ amount least most
     → all_fit least most 1 end → a < 8 → b < 8 → least ≤ c → c < end → is_unlabelled l ≡ true → Written (of k a b c) l
-amount_row k n least most end a b c l there text all p q r s none =
-    number_row (of k a b c) l n (amount least most) there text (rw (low16 a p, low16 b q, one_fits least most 1 end c all r s) refl) refl none
+amount_row k n least most end a b c l there slots' all p q r s none =
+    plain_row (of k a b c) l n (amount least most) there slots' (rw (low16 a p, low16 b q, one_fits least most 1 end c all r s) refl) refl none
 
-pub byte_row : (k : Kind) (n a b : ℕ) (l : Option (List ℕ × ℕ)) → Stands n k (first ∷ comma ∷ slot.Number place.Second 0 255 1 ∷ []) → canonical k a b 0 ≡ first ∷ comma ∷ slot.Number place.Second 0 255 1 ∷ []
+pub byte_row : (k : Kind) (n a b : ℕ) (l : Option (List ℕ × ℕ)) → Stands n k byte_number → canonical k a b 0 ≡ byte_number
     → a < 8 → b < 256 → is_unlabelled l ≡ true → Written (of k a b 0) l
 byte_row k n a b l there slots' p q none = plain_row (of k a b 0) l n _ there slots' (rw (low16 a p, fits_number 0 255 1 b (omega arith) (omega arith) (omega arith) (omega arith)) refl) refl none
 
-pub one_row : (k : Kind) (n a : ℕ) (l : Option (List ℕ × ℕ)) → Stands n k (first ∷ []) → canonical k a 0 0 ≡ first ∷ [] → a < 15 → is_unlabelled l ≡ true → Written (of k a 0 0) l
+pub one_row : (k : Kind) (n a : ℕ) (l : Option (List ℕ × ℕ)) → Stands n k one → canonical k a 0 0 ≡ one → a < 15 → is_unlabelled l ≡ true → Written (of k a 0 0) l
 one_row k n a l there slots' p none = plain_row (of k a 0 0) l n _ there slots' (rw (register16 a (omega arith)) refl) refl none
 
-pub alone_row : (k : Kind) (n a : ℕ) (l : Option (List ℕ × ℕ)) → Stands n k (slot.Number place.First 0 255 1 ∷ []) → canonical k a 0 0 ≡ slot.Number place.First 0 255 1 ∷ [] → a < 256 → is_unlabelled l ≡ true → Written (of k a 0 0) l
+pub alone_row : (k : Kind) (n a : ℕ) (l : Option (List ℕ × ℕ)) → Stands n k byte_alone → canonical k a 0 0 ≡ byte_alone → a < 256 → is_unlabelled l ≡ true → Written (of k a 0 0) l
 alone_row k n a l there slots' p none = plain_row (of k a 0 0) l n _ there slots' (rw (fits_number 0 255 1 a (omega arith) (omega arith) (omega arith) (omega arith)) refl) refl none
 
 pub label_sum_row : (k : Kind) (n a : ℕ) (l : Option (List ℕ × ℕ)) → Stands n k labelled → canonical k a 0 0 ≡ labelled → a < 8 → is_label_sum l ≡ true → Written (of k a 0 0) l
@@ -140,10 +121,10 @@ label_sum_row k n a l there slots' p e = record {
   back = refl;
 }
 
-pub label_row : (k : Kind) (n : ℕ) (l : Option (List ℕ × ℕ)) → Stands n k (slot.Label ∷ []) → canonical k 0 0 0 ≡ slot.Label ∷ [] → is_label l ≡ true → Written (of k 0 0 0) l
+pub label_row : (k : Kind) (n : ℕ) (l : Option (List ℕ × ℕ)) → Stands n k label → canonical k 0 0 0 ≡ label → is_label l ≡ true → Written (of k 0 0 0) l
 label_row k n l there slots' e = record {
   place = n;
-  slots = slot.Label ∷ [];
+  slots = label;
   is_there = there;
   text = ap (λ (ts : List Slot). operands_text ts (fields 0 0 0 l)) slots';
   fit = rw e refl;
@@ -151,7 +132,7 @@ label_row k n l there slots' e = record {
 }
 
 -- with a distance of 0 in a label's place
-pub jump_row : (k : Kind) (n i : ℕ) (l : Option (List ℕ × ℕ)) → Stands n k (slot.Label ∷ []) → canonical k 0 0 0 ≡ slot.Label ∷ [] → ((i == 0) && is_label l) ≡ true → Written (of k i 0 0) l
+pub jump_row : (k : Kind) (n i : ℕ) (l : Option (List ℕ × ℕ)) → Stands n k label → canonical k 0 0 0 ≡ label → ((i == 0) && is_label l) ≡ true → Written (of k i 0 0) l
 jump_row k n i l there slots' e =
     let parts = and_parts (i == 0) (is_label l) e in
     subst (λ (x : ℕ). Written (of k x 0 0) l) (sym (eqb-true i 0 parts.0)) (label_row k n l there slots' parts.1)
@@ -161,13 +142,7 @@ place_row k n a i l there slots' p e =
     let parts = and_parts (i == 0) (is_label_sum l) e in
     subst (λ (x : ℕ). Written (of k a x 0) l) (sym (eqb-true i 0 parts.0)) (label_sum_row k n a l there slots' p parts.1)
 
-abbrev without_offset : List Slot
-without_offset = first ∷ comma ∷ open' ∷ second ∷ close ∷ []
-
-abbrev with_offset : ℕ → ℕ → List Slot
-with_offset most step = first ∷ comma ∷ open' ∷ second ∷ comma ∷ slot.Number place.Third 0 most step ∷ close ∷ []
-
-pub offset_row : (k : Kind) (n z most step a b c : ℕ) (l : Option (List ℕ × ℕ)) → Stands n k (with_offset most step) → Stands z k without_offset → canonical k a b c ≡ offset_slots most step c
+pub offset_row : (k : Kind) (n z most step a b c : ℕ) (l : Option (List ℕ × ℕ)) → Stands n k (with_offset most step) → Stands z k without_offset → canonical k a b c ≡ (if c == 0 then without_offset else with_offset most step)
     → all_fit 0 most step 32 → a < 8 → b < 8 → c < 32 → is_unlabelled l ≡ true → Written (of k a b c) l
 offset_row k n z most step a b c l some none slots' all p q r free =
     elim (cases_Bool (c == 0)) [
@@ -175,16 +150,10 @@ offset_row k n z most step a b c l some none slots' all p q r free =
       | inr e ↦ plain_row (of k a b c) l n (with_offset most step) some (slots' ∙ rw e refl) (rw (low16 a p, low16 b q, one_fits 0 most step 32 c all (omega arith) r) refl) refl free
     ]
 
-abbrev at_sp : List Slot
-at_sp = first ∷ comma ∷ open' ∷ slot.Sp ∷ close ∷ []
-
-abbrev from_sp : List Slot
-from_sp = first ∷ comma ∷ open' ∷ slot.Sp ∷ comma ∷ slot.Number place.Second 0 1020 4 ∷ close ∷ []
-
 fits_words : (v : ℕ) → v < 256 → number_fits 0 1020 4 v ≡ true
 fits_words v less = fits_number 0 1020 4 v (omega arith) (omega arith) (omega arith) (omega arith)
 
-pub stack_row : (k : Kind) (n z a b : ℕ) (l : Option (List ℕ × ℕ)) → Stands n k from_sp → Stands z k at_sp → canonical k a b 0 ≡ stack_slots b
+pub stack_row : (k : Kind) (n z a b : ℕ) (l : Option (List ℕ × ℕ)) → Stands n k from_sp → Stands z k at_sp → canonical k a b 0 ≡ (if b == 0 then at_sp else from_sp)
     → a < 8 → b < 256 → is_unlabelled l ≡ true → Written (of k a b 0) l
 stack_row k n z a b l some none slots' p q free =
     elim (cases_Bool (b == 0)) [
@@ -198,34 +167,21 @@ sp_sum = first ∷ comma ∷ slot.Sp ∷ comma ∷ slot.Number place.Second 0 10
 pub sp_sum_row : (k : Kind) (n a b : ℕ) (l : Option (List ℕ × ℕ)) → Stands n k sp_sum → canonical k a b 0 ≡ sp_sum → a < 8 → b < 256 → is_unlabelled l ≡ true → Written (of k a b 0) l
 sp_sum_row k n a b l there slots' p q none = plain_row (of k a b 0) l n sp_sum there slots' (rw (low16 a p, fits_words b q) refl) refl none
 
-abbrev sp_move : List Slot
-sp_move = slot.Sp ∷ comma ∷ slot.Sp ∷ comma ∷ slot.Number place.First 0 508 4 ∷ []
-
-pub sp_move_row : (k : Kind) (n a : ℕ) (l : Option (List ℕ × ℕ)) → Stands n k sp_move → canonical k a 0 0 ≡ sp_move → a < 128 → is_unlabelled l ≡ true → Written (of k a 0 0) l
-sp_move_row k n a l there slots' p none = plain_row (of k a 0 0) l n sp_move there slots' (rw (fits_number 0 508 4 a (omega arith) (omega arith) (omega arith) (omega arith)) refl) refl none
+pub sp_move_row : (k : Kind) (n a : ℕ) (l : Option (List ℕ × ℕ)) → Stands n k sp_again → canonical k a 0 0 ≡ sp_again → a < 128 → is_unlabelled l ≡ true → Written (of k a 0 0) l
+sp_move_row k n a l there slots' p none = plain_row (of k a 0 0) l n sp_again there slots' (rw (fits_number 0 508 4 a (omega arith) (omega arith) (omega arith) (omega arith)) refl) refl none
 
 pub list_row : (k : Kind) (n extra a : ℕ) (l : Option (List ℕ × ℕ)) → Stands n k (slot.StackList place.First extra ∷ []) → canonical k a 0 0 ≡ slot.StackList place.First extra ∷ [] → (extra == 14 || extra == 15) ≡ true → 0 < a → a < 512 → is_unlabelled l ≡ true → Written (of k a 0 0) l
 list_row k n extra a l there slots' which p q none = plain_row (of k a 0 0) l n _ there slots' (rw (which, lt-ltb 0 a p, lt-ltb a 512 q) refl) refl none
 
-abbrev written_back : List Slot
-written_back = slot.Base place.First ∷ comma ∷ slot.LowList place.Second ∷ []
-
 pub store_row : (k : Kind) (n a b : ℕ) (l : Option (List ℕ × ℕ)) → Stands n k written_back → canonical k a b 0 ≡ written_back → a < 8 → 0 < b → b < 256 → is_unlabelled l ≡ true → Written (of k a b 0) l
 store_row k n a b l there slots' p q r none = plain_row (of k a b 0) l n written_back there slots' (rw (lt-ltb a 8 p, lt-ltb 0 b q, lt-ltb b 256 r) refl) refl none
 
-abbrev load_apart : List Slot
-load_apart = slot.Base place.First ∷ comma ∷ slot.LowList place.Second ∷ slot.NotInList place.First place.Second ∷ []
-
-abbrev load_within : List Slot
-load_within = first ∷ comma ∷ slot.LowList place.Second ∷ slot.InList place.First place.Second ∷ []
-
-pub load_row : (k : Kind) (n m a b : ℕ) (l : Option (List ℕ × ℕ)) → Stands n k load_apart → Stands m k load_within → canonical k a b 0 ≡ load_slots a b
+pub load_row : (k : Kind) (n m a b : ℕ) (l : Option (List ℕ × ℕ)) → Stands n k load_apart → Stands m k load_within → canonical k a b 0 ≡ (if is_in_list a b then load_within else load_apart)
     → a < 8 → 0 < b → b < 256 → is_unlabelled l ≡ true → Written (of k a b 0) l
 load_row k n m a b l apart within' slots' p q r none =
-    let text = ap (λ (ts : List Slot). operands_text ts (fields a b 0 l)) slots' in
     elim (cases_Bool (is_in_list a b)) [
-      | inl e ↦ number_row (of k a b 0) l m load_within within' (text ∙ rw e refl) (rw (e, low16 a p, lt-ltb 0 b q, lt-ltb b 256 r) refl) refl none
-      | inr e ↦ number_row (of k a b 0) l n load_apart apart (text ∙ rw e refl) (rw (e, lt-ltb a 8 p, lt-ltb 0 b q, lt-ltb b 256 r) refl) refl none
+      | inl e ↦ plain_row (of k a b 0) l m load_within within' (slots' ∙ rw e refl) (rw (e, low16 a p, lt-ltb 0 b q, lt-ltb b 256 r) refl) refl none
+      | inr e ↦ plain_row (of k a b 0) l n load_apart apart (slots' ∙ rw e refl) (rw (e, lt-ltb a 8 p, lt-ltb 0 b q, lt-ltb b 256 r) refl) refl none
     ]
 
 -- slots without a register or number

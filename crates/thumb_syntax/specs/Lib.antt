@@ -7,9 +7,10 @@ pub mod Lists
 pub mod Slots
 pub mod Agreeing
 pub mod FieldViews
+pub mod Forms
+pub mod Canonical
 pub mod Rows
 pub mod ParsedView
-pub mod Canonical
 pub mod Spelling
 pub mod RowLaws
 pub mod Whole

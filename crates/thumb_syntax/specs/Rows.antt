@@ -1,5 +1,5 @@
 -- The forms of instructions' texts, and what a text is by them. Their order doesn't matter for which texts are read.
-use Rattle.std.specs.Prelude.{ℕ, List, [], ◌∷◌, Option, None, codes, map, if◌then◌else◌, option_map, option_and_then}
+use Rattle.std.specs.Prelude.{ℕ, List, [], ◌∷◌, ◌++◌, Option, None, codes, map, flat_map, if◌then◌else◌, option_map, option_and_then}
 use Rattle.thumb_instr.specs.declared.operation.Sum.TheVariants as sum
 use Rattle.thumb_instr.specs.declared.operation.Right.TheVariants as right
 use Rattle.thumb_instr.specs.declared.operation.ByteOperation.TheVariants as byte
@@ -17,11 +17,12 @@ use Rattle.thumb_instr.specs.declared.operation.Special.TheVariants as special
 use Rattle.ascii_scan.specs.Tokens.{Token, word as text, mark, tokens}
 use Rattle.ascii_scan.specs.Names.{is_spelled}
 use Rattle.thumb_syntax.specs.declared.form.Form.{Form}
-use Rattle.thumb_syntax.specs.declared.form.Place.TheVariants as place
 use Rattle.thumb_syntax.specs.declared.form.Slot.{Slot}
 use Rattle.thumb_syntax.specs.declared.form.Slot.TheVariants as slot
 use Rattle.thumb_instr.specs.declared.kind.Kind.{Kind}
 use Rattle.thumb_instr.specs.declared.kind.Kind.TheVariants as kind
+use Rattle.thumb_syntax.specs.Forms.{first, second, twice, comma, two}
+use Rattle.thumb_syntax.specs.Canonical.{mnemonic, forms}
 use Rattle.thumb_syntax.specs.Registers.{first_some, or_else}
 use Rattle.thumb_syntax.specs.Operands.{Operand, operand}
 use Rattle.thumb_instr.specs.declared.kind.Parts.{Parts}
@@ -39,189 +40,66 @@ row_of f = record { mnemonic = f.mnemonic.now; slots = f.slots.now; kind = f.kin
 abbrev row : List ℕ → List Slot → Kind → Row
 row m ss k = record { mnemonic = m; slots = ss; kind = k }
 
-abbrev pub first : Slot
-first = slot.Register place.First
+-- a mnemonic with some forms of a kind
+abbrev pub rows_as : List ℕ → List (List Slot) → Kind → List Row
+rows_as m forms k = map (λ ss. row m ss k) forms
 
-abbrev pub second : Slot
-second = slot.Register place.Second
+-- each kind's own mnemonic with its forms
+abbrev pub own_rows : List Kind → List Row
+own_rows ks = flat_map (λ k. rows_as (mnemonic k) (forms k) k) ks
 
-abbrev pub third : Slot
-third = slot.Register place.Third
+-- operations on registers and numbers
+abbrev pub data_kinds : List Kind
+data_kinds =
+    kind.Movs ∷ kind.ShiftLeft ∷ kind.ShiftRight right.Lsr ∷ kind.ShiftRight right.Asr ∷ kind.Three sum.Add ∷ kind.ThreeNumber sum.Add
+    ∷ kind.TwoNumber byte.Add ∷ kind.Three sum.Sub ∷ kind.ThreeNumber sum.Sub ∷ kind.TwoNumber byte.Sub ∷ kind.TwoNumber byte.Mov
+    ∷ kind.TwoNumber byte.Cmp ∷ kind.Two operation.And ∷ kind.Two operation.Eor ∷ kind.Two operation.Adc ∷ kind.Two operation.Orr
+    ∷ kind.Two operation.Lsl ∷ kind.Two operation.Lsr ∷ kind.Two operation.Asr ∷ kind.Two operation.Sbc ∷ kind.Two operation.Ror
+    ∷ kind.Two operation.Bic ∷ kind.Two operation.Tst ∷ kind.Two operation.Cmp ∷ kind.Two operation.Cmn ∷ kind.Two operation.Mvn
+    ∷ kind.Two operation.Rsb ∷ kind.Two operation.Mul ∷ kind.Add ∷ kind.Compare ∷ kind.Mov ∷ kind.Extend extension.Sxth
+    ∷ kind.Extend extension.Sxtb ∷ kind.Extend extension.Uxth ∷ kind.Extend extension.Uxtb ∷ kind.Reverse reversal.Rev
+    ∷ kind.Reverse reversal.Rev16 ∷ kind.Reverse reversal.Revsh ∷ []
 
--- one register for the first two
-abbrev pub twice : Slot
-twice = slot.Twice place.First place.Second
-
--- the first register once more
-abbrev pub same : Slot
-same = slot.Same place.First
-
-abbrev pub comma : Slot
-comma = slot.Mark 44
-
-abbrev pub open' : Slot
-open' = slot.Mark 91
-
-abbrev pub close : Slot
-close = slot.Mark 93
-
--- operations on registers and numbers: the canonical texts and the other spellings
+-- their texts, and other spellings that are read
 unfoldable pub data_rows : List Row
 data_rows =
-    row (codes "movs") (first ∷ comma ∷ second ∷ []) (kind.Movs)
-    ∷ row (codes "lsls") (first ∷ comma ∷ second ∷ comma ∷ (slot.Exactly 0) ∷ []) (kind.Movs)
-    ∷ row (codes "lsls") (twice ∷ comma ∷ (slot.Exactly 0) ∷ []) (kind.Movs)
-    ∷ row (codes "lsls") (first ∷ comma ∷ second ∷ comma ∷ (slot.Number place.Third 1 31 1) ∷ []) (kind.ShiftLeft)
-    ∷ row (codes "lsls") (twice ∷ comma ∷ (slot.Number place.Third 1 31 1) ∷ []) (kind.ShiftLeft)
-    ∷ row (codes "lsrs") (first ∷ comma ∷ second ∷ comma ∷ (slot.Number place.Third 1 32 1) ∷ []) (kind.ShiftRight right.Lsr)
-    ∷ row (codes "lsrs") (twice ∷ comma ∷ (slot.Number place.Third 1 32 1) ∷ []) (kind.ShiftRight right.Lsr)
-    ∷ row (codes "asrs") (first ∷ comma ∷ second ∷ comma ∷ (slot.Number place.Third 1 32 1) ∷ []) (kind.ShiftRight right.Asr)
-    ∷ row (codes "asrs") (twice ∷ comma ∷ (slot.Number place.Third 1 32 1) ∷ []) (kind.ShiftRight right.Asr)
-    ∷ row (codes "adds") (first ∷ comma ∷ second ∷ comma ∷ third ∷ []) (kind.Three sum.Add)
-    ∷ row (codes "adds") (twice ∷ comma ∷ third ∷ []) (kind.Three sum.Add)
-    ∷ row (codes "adds") (first ∷ comma ∷ second ∷ comma ∷ (slot.Number place.Third 0 7 1) ∷ []) (kind.ThreeNumber sum.Add)
-    ∷ row (codes "adds") (first ∷ comma ∷ (slot.Number place.Second 0 255 1) ∷ []) (kind.TwoNumber byte.Add)
-    ∷ row (codes "adds") (first ∷ comma ∷ same ∷ comma ∷ (slot.Number place.Second 8 255 1) ∷ []) (kind.TwoNumber byte.Add)
-    ∷ row (codes "subs") (first ∷ comma ∷ second ∷ comma ∷ third ∷ []) (kind.Three sum.Sub)
-    ∷ row (codes "subs") (twice ∷ comma ∷ third ∷ []) (kind.Three sum.Sub)
-    ∷ row (codes "subs") (first ∷ comma ∷ second ∷ comma ∷ (slot.Number place.Third 0 7 1) ∷ []) (kind.ThreeNumber sum.Sub)
-    ∷ row (codes "subs") (first ∷ comma ∷ (slot.Number place.Second 0 255 1) ∷ []) (kind.TwoNumber byte.Sub)
-    ∷ row (codes "subs") (first ∷ comma ∷ same ∷ comma ∷ (slot.Number place.Second 8 255 1) ∷ []) (kind.TwoNumber byte.Sub)
-    ∷ row (codes "movs") (first ∷ comma ∷ (slot.Number place.Second 0 255 1) ∷ []) (kind.TwoNumber byte.Mov)
-    ∷ row (codes "cmp") (first ∷ comma ∷ (slot.Number place.Second 0 255 1) ∷ []) (kind.TwoNumber byte.Cmp)
-    ∷ row (codes "ands") (first ∷ comma ∷ second ∷ []) (kind.Two operation.And)
-    ∷ row (codes "ands") (first ∷ comma ∷ same ∷ comma ∷ second ∷ []) (kind.Two operation.And)
-    ∷ row (codes "ands") (first ∷ comma ∷ second ∷ comma ∷ same ∷ []) (kind.Two operation.And)
-    ∷ row (codes "eors") (first ∷ comma ∷ second ∷ []) (kind.Two operation.Eor)
-    ∷ row (codes "eors") (first ∷ comma ∷ same ∷ comma ∷ second ∷ []) (kind.Two operation.Eor)
-    ∷ row (codes "eors") (first ∷ comma ∷ second ∷ comma ∷ same ∷ []) (kind.Two operation.Eor)
-    ∷ row (codes "adcs") (first ∷ comma ∷ second ∷ []) (kind.Two operation.Adc)
-    ∷ row (codes "adcs") (first ∷ comma ∷ same ∷ comma ∷ second ∷ []) (kind.Two operation.Adc)
-    ∷ row (codes "adcs") (first ∷ comma ∷ second ∷ comma ∷ same ∷ []) (kind.Two operation.Adc)
-    ∷ row (codes "orrs") (first ∷ comma ∷ second ∷ []) (kind.Two operation.Orr)
-    ∷ row (codes "orrs") (first ∷ comma ∷ same ∷ comma ∷ second ∷ []) (kind.Two operation.Orr)
-    ∷ row (codes "orrs") (first ∷ comma ∷ second ∷ comma ∷ same ∷ []) (kind.Two operation.Orr)
-    ∷ row (codes "lsls") (first ∷ comma ∷ second ∷ []) (kind.Two operation.Lsl)
-    ∷ row (codes "lsls") (first ∷ comma ∷ same ∷ comma ∷ second ∷ []) (kind.Two operation.Lsl)
-    ∷ row (codes "lsrs") (first ∷ comma ∷ second ∷ []) (kind.Two operation.Lsr)
-    ∷ row (codes "lsrs") (first ∷ comma ∷ same ∷ comma ∷ second ∷ []) (kind.Two operation.Lsr)
-    ∷ row (codes "asrs") (first ∷ comma ∷ second ∷ []) (kind.Two operation.Asr)
-    ∷ row (codes "asrs") (first ∷ comma ∷ same ∷ comma ∷ second ∷ []) (kind.Two operation.Asr)
-    ∷ row (codes "sbcs") (first ∷ comma ∷ second ∷ []) (kind.Two operation.Sbc)
-    ∷ row (codes "sbcs") (first ∷ comma ∷ same ∷ comma ∷ second ∷ []) (kind.Two operation.Sbc)
-    ∷ row (codes "rors") (first ∷ comma ∷ second ∷ []) (kind.Two operation.Ror)
-    ∷ row (codes "rors") (first ∷ comma ∷ same ∷ comma ∷ second ∷ []) (kind.Two operation.Ror)
-    ∷ row (codes "bics") (first ∷ comma ∷ second ∷ []) (kind.Two operation.Bic)
-    ∷ row (codes "bics") (first ∷ comma ∷ same ∷ comma ∷ second ∷ []) (kind.Two operation.Bic)
-    ∷ row (codes "tst") (first ∷ comma ∷ second ∷ []) (kind.Two operation.Tst)
-    ∷ row (codes "cmp") (first ∷ comma ∷ second ∷ []) (kind.Two operation.Cmp)
-    ∷ row (codes "cmn") (first ∷ comma ∷ second ∷ []) (kind.Two operation.Cmn)
-    ∷ row (codes "mvns") (first ∷ comma ∷ second ∷ []) (kind.Two operation.Mvn)
-    ∷ row (codes "rsbs") (first ∷ comma ∷ second ∷ comma ∷ (slot.Exactly 0) ∷ []) (kind.Two operation.Rsb)
-    ∷ row (codes "negs") (first ∷ comma ∷ second ∷ []) (kind.Two operation.Rsb)
-    ∷ row (codes "muls") (first ∷ comma ∷ second ∷ comma ∷ same ∷ []) (kind.Two operation.Mul)
-    ∷ row (codes "muls") (first ∷ comma ∷ second ∷ []) (kind.Two operation.Mul)
-    ∷ row (codes "muls") (first ∷ comma ∷ same ∷ comma ∷ second ∷ []) (kind.Two operation.Mul)
-    ∷ row (codes "add") (first ∷ comma ∷ second ∷ []) (kind.Add)
-    ∷ row (codes "add") (first ∷ comma ∷ same ∷ comma ∷ second ∷ []) (kind.Add)
-    ∷ row (codes "add") (first ∷ comma ∷ second ∷ comma ∷ same ∷ []) (kind.Add)
-    ∷ row (codes "cmp") (first ∷ comma ∷ second ∷ []) (kind.Compare)
-    ∷ row (codes "mov") (first ∷ comma ∷ second ∷ []) (kind.Mov)
-    ∷ row (codes "sxth") (first ∷ comma ∷ second ∷ []) (kind.Extend extension.Sxth)
-    ∷ row (codes "sxtb") (first ∷ comma ∷ second ∷ []) (kind.Extend extension.Sxtb)
-    ∷ row (codes "uxth") (first ∷ comma ∷ second ∷ []) (kind.Extend extension.Uxth)
-    ∷ row (codes "uxtb") (first ∷ comma ∷ second ∷ []) (kind.Extend extension.Uxtb)
-    ∷ row (codes "rev") (first ∷ comma ∷ second ∷ []) (kind.Reverse reversal.Rev)
-    ∷ row (codes "rev16") (first ∷ comma ∷ second ∷ []) (kind.Reverse reversal.Rev16)
-    ∷ row (codes "revsh") (first ∷ comma ∷ second ∷ []) (kind.Reverse reversal.Revsh)
-    ∷ []
+    own_rows data_kinds
+    ++ (rows_as (codes "lsls") ((first ∷ comma ∷ second ∷ comma ∷ slot.Exactly 0 ∷ []) ∷ (twice ∷ comma ∷ slot.Exactly 0 ∷ []) ∷ []) kind.Movs
+    ++ rows_as (codes "negs") (two ∷ []) (kind.Two operation.Rsb))
 
--- loads and stores, addresses and the stack: the canonical texts and the other spellings
+-- loads and stores, addresses and the stack
+abbrev pub memory_kinds : List Kind
+memory_kinds =
+    kind.Literal ∷ kind.Address ∷ kind.Indexed access.Str ∷ kind.Indexed access.Strh ∷ kind.Indexed access.Strb ∷ kind.Indexed access.Ldrsb
+    ∷ kind.Indexed access.Ldr ∷ kind.Indexed access.Ldrh ∷ kind.Indexed access.Ldrb ∷ kind.Indexed access.Ldrsh ∷ kind.Offset offset.Str
+    ∷ kind.Offset offset.Ldr ∷ kind.Offset offset.Strb ∷ kind.Offset offset.Ldrb ∷ kind.Offset offset.Strh ∷ kind.Offset offset.Ldrh
+    ∷ kind.Stack word.Str ∷ kind.Stack word.Ldr ∷ kind.StackAddress ∷ kind.StackMove sum.Add ∷ kind.StackMove sum.Sub ∷ kind.Push ∷ kind.Pop
+    ∷ kind.StoreMany ∷ kind.LoadMany ∷ []
+
+-- their texts, and other spellings that are read
 unfoldable pub memory_rows : List Row
 memory_rows =
-    row (codes "ldr") (first ∷ comma ∷ slot.LabelSum ∷ []) (kind.Literal)
-    ∷ row (codes "adr") (first ∷ comma ∷ slot.LabelSum ∷ []) (kind.Address)
-    ∷ row (codes "str") (first ∷ comma ∷ open' ∷ second ∷ comma ∷ third ∷ close ∷ []) (kind.Indexed access.Str)
-    ∷ row (codes "strh") (first ∷ comma ∷ open' ∷ second ∷ comma ∷ third ∷ close ∷ []) (kind.Indexed access.Strh)
-    ∷ row (codes "strb") (first ∷ comma ∷ open' ∷ second ∷ comma ∷ third ∷ close ∷ []) (kind.Indexed access.Strb)
-    ∷ row (codes "ldrsb") (first ∷ comma ∷ open' ∷ second ∷ comma ∷ third ∷ close ∷ []) (kind.Indexed access.Ldrsb)
-    ∷ row (codes "ldr") (first ∷ comma ∷ open' ∷ second ∷ comma ∷ third ∷ close ∷ []) (kind.Indexed access.Ldr)
-    ∷ row (codes "ldrh") (first ∷ comma ∷ open' ∷ second ∷ comma ∷ third ∷ close ∷ []) (kind.Indexed access.Ldrh)
-    ∷ row (codes "ldrb") (first ∷ comma ∷ open' ∷ second ∷ comma ∷ third ∷ close ∷ []) (kind.Indexed access.Ldrb)
-    ∷ row (codes "ldrsh") (first ∷ comma ∷ open' ∷ second ∷ comma ∷ third ∷ close ∷ []) (kind.Indexed access.Ldrsh)
-    ∷ row (codes "str") (first ∷ comma ∷ open' ∷ second ∷ comma ∷ (slot.Number place.Third 0 124 4) ∷ close ∷ []) (kind.Offset offset.Str)
-    ∷ row (codes "str") (first ∷ comma ∷ open' ∷ second ∷ close ∷ []) (kind.Offset offset.Str)
-    ∷ row (codes "ldr") (first ∷ comma ∷ open' ∷ second ∷ comma ∷ (slot.Number place.Third 0 124 4) ∷ close ∷ []) (kind.Offset offset.Ldr)
-    ∷ row (codes "ldr") (first ∷ comma ∷ open' ∷ second ∷ close ∷ []) (kind.Offset offset.Ldr)
-    ∷ row (codes "strb") (first ∷ comma ∷ open' ∷ second ∷ comma ∷ (slot.Number place.Third 0 31 1) ∷ close ∷ []) (kind.Offset offset.Strb)
-    ∷ row (codes "strb") (first ∷ comma ∷ open' ∷ second ∷ close ∷ []) (kind.Offset offset.Strb)
-    ∷ row (codes "ldrb") (first ∷ comma ∷ open' ∷ second ∷ comma ∷ (slot.Number place.Third 0 31 1) ∷ close ∷ []) (kind.Offset offset.Ldrb)
-    ∷ row (codes "ldrb") (first ∷ comma ∷ open' ∷ second ∷ close ∷ []) (kind.Offset offset.Ldrb)
-    ∷ row (codes "strh") (first ∷ comma ∷ open' ∷ second ∷ comma ∷ (slot.Number place.Third 0 62 2) ∷ close ∷ []) (kind.Offset offset.Strh)
-    ∷ row (codes "strh") (first ∷ comma ∷ open' ∷ second ∷ close ∷ []) (kind.Offset offset.Strh)
-    ∷ row (codes "ldrh") (first ∷ comma ∷ open' ∷ second ∷ comma ∷ (slot.Number place.Third 0 62 2) ∷ close ∷ []) (kind.Offset offset.Ldrh)
-    ∷ row (codes "ldrh") (first ∷ comma ∷ open' ∷ second ∷ close ∷ []) (kind.Offset offset.Ldrh)
-    ∷ row (codes "str") (first ∷ comma ∷ open' ∷ slot.Sp ∷ comma ∷ (slot.Number place.Second 0 1020 4) ∷ close ∷ []) (kind.Stack word.Str)
-    ∷ row (codes "str") (first ∷ comma ∷ open' ∷ slot.Sp ∷ close ∷ []) (kind.Stack word.Str)
-    ∷ row (codes "ldr") (first ∷ comma ∷ open' ∷ slot.Sp ∷ comma ∷ (slot.Number place.Second 0 1020 4) ∷ close ∷ []) (kind.Stack word.Ldr)
-    ∷ row (codes "ldr") (first ∷ comma ∷ open' ∷ slot.Sp ∷ close ∷ []) (kind.Stack word.Ldr)
-    ∷ row (codes "add") (first ∷ comma ∷ slot.Sp ∷ comma ∷ (slot.Number place.Second 0 1020 4) ∷ []) (kind.StackAddress)
-    ∷ row (codes "add") (slot.Sp ∷ comma ∷ slot.Sp ∷ comma ∷ (slot.Number place.First 0 508 4) ∷ []) (kind.StackMove sum.Add)
-    ∷ row (codes "add") (slot.Sp ∷ comma ∷ (slot.Number place.First 0 508 4) ∷ []) (kind.StackMove sum.Add)
-    ∷ row (codes "sub") (slot.Sp ∷ comma ∷ slot.Sp ∷ comma ∷ (slot.Number place.First 0 508 4) ∷ []) (kind.StackMove sum.Sub)
-    ∷ row (codes "sub") (slot.Sp ∷ comma ∷ (slot.Number place.First 0 508 4) ∷ []) (kind.StackMove sum.Sub)
-    ∷ row (codes "push") ((slot.StackList place.First 14) ∷ []) (kind.Push)
-    ∷ row (codes "pop") ((slot.StackList place.First 15) ∷ []) (kind.Pop)
-    ∷ row (codes "stm") ((slot.Base place.First) ∷ comma ∷ (slot.LowList place.Second) ∷ []) (kind.StoreMany)
-    ∷ row (codes "stmia") ((slot.Base place.First) ∷ comma ∷ (slot.LowList place.Second) ∷ []) (kind.StoreMany)
-    ∷ row (codes "ldm") ((slot.Base place.First) ∷ comma ∷ (slot.LowList place.Second) ∷ (slot.NotInList place.First place.Second) ∷ []) (kind.LoadMany)
-    ∷ row (codes "ldm") (first ∷ comma ∷ (slot.LowList place.Second) ∷ (slot.InList place.First place.Second) ∷ []) (kind.LoadMany)
-    ∷ row (codes "ldmia") ((slot.Base place.First) ∷ comma ∷ (slot.LowList place.Second) ∷ (slot.NotInList place.First place.Second) ∷ []) (kind.LoadMany)
-    ∷ row (codes "ldmia") (first ∷ comma ∷ (slot.LowList place.Second) ∷ (slot.InList place.First place.Second) ∷ []) (kind.LoadMany)
-    ∷ []
+    own_rows memory_kinds
+    ++ (rows_as (codes "stmia") (forms kind.StoreMany) kind.StoreMany
+    ++ rows_as (codes "ldmia") (forms kind.LoadMany) kind.LoadMany)
 
--- branches, hints and what speaks to the system: the canonical texts and the other spellings
+-- branches, hints and what speaks to the system
+abbrev pub control_kinds : List Kind
+control_kinds =
+    kind.Bx ∷ kind.Blx ∷ kind.Breakpoint ∷ kind.Service ∷ kind.Hint hint.Nop ∷ kind.Hint hint.Yield ∷ kind.Hint hint.Wfe ∷ kind.Hint hint.Wfi
+    ∷ kind.Hint hint.Sev ∷ kind.ChangeState interrupts.Enable ∷ kind.ChangeState interrupts.Disable ∷ kind.BranchIf condition.Eq
+    ∷ kind.BranchIf condition.Ne ∷ kind.BranchIf condition.Cs ∷ kind.BranchIf condition.Cc ∷ kind.BranchIf condition.Mi
+    ∷ kind.BranchIf condition.Pl ∷ kind.BranchIf condition.Vs ∷ kind.BranchIf condition.Vc ∷ kind.BranchIf condition.Hi
+    ∷ kind.BranchIf condition.Ls ∷ kind.BranchIf condition.Ge ∷ kind.BranchIf condition.Lt ∷ kind.BranchIf condition.Gt
+    ∷ kind.BranchIf condition.Le ∷ kind.Branch ∷ kind.Call ∷ kind.Barrier barrier.Dsb ∷ kind.Barrier barrier.Dmb ∷ kind.Barrier barrier.Isb
+    ∷ kind.ReadSpecial special.Primask ∷ kind.ReadSpecial special.Ipsr ∷ kind.WriteMask ∷ []
+
+-- their texts, and other spellings that are read
 unfoldable pub control_rows : List Row
 control_rows =
-    row (codes "bx") (first ∷ []) (kind.Bx)
-    ∷ row (codes "blx") (first ∷ []) (kind.Blx)
-    ∷ row (codes "bkpt") ((slot.Number place.First 0 255 1) ∷ []) (kind.Breakpoint)
-    ∷ row (codes "svc") ((slot.Number place.First 0 255 1) ∷ []) (kind.Service)
-    ∷ row (codes "nop") ([]) (kind.Hint hint.Nop)
-    ∷ row (codes "yield") ([]) (kind.Hint hint.Yield)
-    ∷ row (codes "wfe") ([]) (kind.Hint hint.Wfe)
-    ∷ row (codes "wfi") ([]) (kind.Hint hint.Wfi)
-    ∷ row (codes "sev") ([]) (kind.Hint hint.Sev)
-    ∷ row (codes "cpsie") (slot.I ∷ []) (kind.ChangeState interrupts.Enable)
-    ∷ row (codes "cpsid") (slot.I ∷ []) (kind.ChangeState interrupts.Disable)
-    ∷ row (codes "beq") (slot.Label ∷ []) (kind.BranchIf condition.Eq)
-    ∷ row (codes "bne") (slot.Label ∷ []) (kind.BranchIf condition.Ne)
-    ∷ row (codes "bcs") (slot.Label ∷ []) (kind.BranchIf condition.Cs)
-    ∷ row (codes "bcc") (slot.Label ∷ []) (kind.BranchIf condition.Cc)
-    ∷ row (codes "bmi") (slot.Label ∷ []) (kind.BranchIf condition.Mi)
-    ∷ row (codes "bpl") (slot.Label ∷ []) (kind.BranchIf condition.Pl)
-    ∷ row (codes "bvs") (slot.Label ∷ []) (kind.BranchIf condition.Vs)
-    ∷ row (codes "bvc") (slot.Label ∷ []) (kind.BranchIf condition.Vc)
-    ∷ row (codes "bhi") (slot.Label ∷ []) (kind.BranchIf condition.Hi)
-    ∷ row (codes "bls") (slot.Label ∷ []) (kind.BranchIf condition.Ls)
-    ∷ row (codes "bge") (slot.Label ∷ []) (kind.BranchIf condition.Ge)
-    ∷ row (codes "blt") (slot.Label ∷ []) (kind.BranchIf condition.Lt)
-    ∷ row (codes "bgt") (slot.Label ∷ []) (kind.BranchIf condition.Gt)
-    ∷ row (codes "ble") (slot.Label ∷ []) (kind.BranchIf condition.Le)
-    ∷ row (codes "bhs") (slot.Label ∷ []) (kind.BranchIf condition.Cs)
-    ∷ row (codes "blo") (slot.Label ∷ []) (kind.BranchIf condition.Cc)
-    ∷ row (codes "b") (slot.Label ∷ []) (kind.Branch)
-    ∷ row (codes "bl") (slot.Label ∷ []) (kind.Call)
-    ∷ row (codes "dsb") (slot.Sy ∷ []) (kind.Barrier barrier.Dsb)
-    ∷ row (codes "dsb") ([]) (kind.Barrier barrier.Dsb)
-    ∷ row (codes "dmb") (slot.Sy ∷ []) (kind.Barrier barrier.Dmb)
-    ∷ row (codes "dmb") ([]) (kind.Barrier barrier.Dmb)
-    ∷ row (codes "isb") (slot.Sy ∷ []) (kind.Barrier barrier.Isb)
-    ∷ row (codes "isb") ([]) (kind.Barrier barrier.Isb)
-    ∷ row (codes "mrs") (first ∷ comma ∷ slot.Primask ∷ []) (kind.ReadSpecial special.Primask)
-    ∷ row (codes "mrs") (first ∷ comma ∷ slot.Ipsr ∷ []) (kind.ReadSpecial special.Ipsr)
-    ∷ row (codes "msr") (slot.Primask ∷ comma ∷ first ∷ []) (kind.WriteMask)
-    ∷ []
+    own_rows control_kinds
+    ++ (rows_as (codes "bhs") (forms (kind.BranchIf condition.Cs)) (kind.BranchIf condition.Cs)
+    ++ rows_as (codes "blo") (forms (kind.BranchIf condition.Cc)) (kind.BranchIf condition.Cc))
 
 -- an instruction and its label, with what is added
 pub record Shown : Type 0 where

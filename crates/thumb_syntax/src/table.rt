@@ -1,6 +1,7 @@
-//! All forms of instructions' texts, by their mnemonics.
+//! The one table of texts: each mnemonic with its kinds of instructions, and what may follow it. Reader and writer both go by it.
 ghost use Rattle.std.specs.Prelude.{◌≡◌, ◌<◌, true, map, length};
 ghost use Rattle.thumb_syntax.specs.Mnemonics.{are_there, are_there_at, forms_of, group_of, named_forms, groups_at};
+ghost use Rattle.thumb_syntax.specs.Canonical.{mnemonic, forms, forms_at};
 
 use crate::form::{Form, Mnemonic, Place, Slot};
 use thumb_instr::{
@@ -8,264 +9,391 @@ use thumb_instr::{
     Operation, Reversal, Right, Special, Sum, WordAccess,
 };
 
-pub const FIRST: Slot = Slot::Register(Place::First);
+const FIRST: Slot = Slot::Register(Place::First);
 
-pub const SECOND: Slot = Slot::Register(Place::Second);
+const SECOND: Slot = Slot::Register(Place::Second);
 
-pub const THIRD: Slot = Slot::Register(Place::Third);
+const THIRD: Slot = Slot::Register(Place::Third);
 
 /// One register for the first two.
 const TWICE: Slot = Slot::Twice(Place::First, Place::Second);
 
 /// The first register once more.
-pub const SAME: Slot = Slot::Same(Place::First);
+const SAME: Slot = Slot::Same(Place::First);
 
-pub const COMMA: Slot = Slot::Mark(b',');
+const COMMA: Slot = Slot::Mark(b',');
 
-pub const OPEN: Slot = Slot::Mark(b'[');
+const OPEN: Slot = Slot::Mark(b'[');
 
-pub const CLOSE: Slot = Slot::Mark(b']');
+const CLOSE: Slot = Slot::Mark(b']');
 
-/// A mnemonic with its forms: of each what follows the mnemonic, and the kind of instruction that it is.
-macro_rules! mnemonic {
-    ($name:literal: $([$($slot:expr),*] => $kind:expr),+) => {
-        Mnemonic {
-            name: $name,
-            forms: &[$(Form {
-                mnemonic: $name,
-                slots: &[$($slot),*],
-                kind: $kind,
-            }),+],
+/// A register.
+const ONE: &[Slot] = &[FIRST];
+
+/// Two registers.
+const TWO: &[Slot] = &[FIRST, COMMA, SECOND];
+
+/// Two registers, of which the first is written twice: before the second.
+const SAME_FIRST: &[Slot] = &[FIRST, COMMA, SAME, COMMA, SECOND];
+
+/// The same, with the first again behind the second.
+const SAME_LAST: &[Slot] = &[FIRST, COMMA, SECOND, COMMA, SAME];
+
+/// Three registers.
+const THREE: &[Slot] = &[FIRST, COMMA, SECOND, COMMA, THIRD];
+
+/// Three registers, of which the first two are one.
+const TWICE_AND_THIRD: &[Slot] = &[TWICE, COMMA, THIRD];
+
+/// Two registers and a number.
+macro_rules! amount {
+    ($least:literal, $most:literal) => {
+        &[FIRST, COMMA, SECOND, COMMA, Slot::Number(Place::Third, $least, $most, 1)]
+    };
+}
+
+/// The same, where the two are one.
+macro_rules! twice_amount {
+    ($least:literal, $most:literal) => {
+        &[TWICE, COMMA, Slot::Number(Place::Third, $least, $most, 1)]
+    };
+}
+
+/// A register and a byte.
+const BYTE_NUMBER: &[Slot] = &[FIRST, COMMA, Slot::Number(Place::Second, 0, 255, 1)];
+
+/// A register twice and a byte that doesn't fit the form with two registers and a number.
+const SAME_AND_BYTE: &[Slot] = &[
+    FIRST,
+    COMMA,
+    SAME,
+    COMMA,
+    Slot::Number(Place::Second, 8, 255, 1),
+];
+
+/// A byte.
+const BYTE_ALONE: &[Slot] = &[Slot::Number(Place::First, 0, 255, 1)];
+
+/// A label.
+const LABEL: &[Slot] = &[Slot::Label];
+
+/// A register and a label with what is added.
+const LABELLED: &[Slot] = &[FIRST, COMMA, Slot::LabelSum];
+
+/// A register, and an address of two.
+const INDEXED: &[Slot] = &[FIRST, COMMA, OPEN, SECOND, COMMA, THIRD, CLOSE];
+
+/// A register, and an address of one with an offset.
+macro_rules! with_offset {
+    ($most:literal, $step:literal) => {
+        &[FIRST, COMMA, OPEN, SECOND, COMMA, Slot::Number(Place::Third, 0, $most, $step), CLOSE]
+    };
+}
+
+/// The same without an offset.
+const WITHOUT_OFFSET: &[Slot] = &[FIRST, COMMA, OPEN, SECOND, CLOSE];
+
+/// A register, and an address from sp on.
+const FROM_SP: &[Slot] = &[
+    FIRST,
+    COMMA,
+    OPEN,
+    Slot::Sp,
+    COMMA,
+    Slot::Number(Place::Second, 0, 1020, 4),
+    CLOSE,
+];
+
+/// The same without an offset.
+const AT_SP: &[Slot] = &[FIRST, COMMA, OPEN, Slot::Sp, CLOSE];
+
+/// sp twice and a number.
+const SP_AGAIN: &[Slot] = &[
+    Slot::Sp,
+    COMMA,
+    Slot::Sp,
+    COMMA,
+    Slot::Number(Place::First, 0, 508, 4),
+];
+
+/// sp once and a number.
+const SP_ALONE: &[Slot] = &[Slot::Sp, COMMA, Slot::Number(Place::First, 0, 508, 4)];
+
+/// A base that is written back, and a list.
+const WRITTEN_BACK: &[Slot] = &[
+    Slot::Base(Place::First),
+    COMMA,
+    Slot::LowList(Place::Second),
+];
+
+/// The same, where the base isn't in the list.
+const LOAD_APART: &[Slot] = &[
+    Slot::Base(Place::First),
+    COMMA,
+    Slot::LowList(Place::Second),
+    Slot::NotInList(Place::First, Place::Second),
+];
+
+/// A base and a list that it is in.
+const LOAD_WITHIN: &[Slot] = &[
+    FIRST,
+    COMMA,
+    Slot::LowList(Place::Second),
+    Slot::InList(Place::First, Place::Second),
+];
+
+/// The table, handed to another macro: in four parts the first letters of mnemonics, at each letter its mnemonics, those that compilers write most first.
+/// A mnemonic has a row for each kind that is written with it: what may follow, first what is written (`is_second` tells it of kinds with two that are).
+/// Behind `also` stand kinds that it is read as, and that are written with another.
+macro_rules! spellings {
+    ($then:ident $($kind:ident)?) => {
+        $then! {
+            $($kind)?
+            {
+                [],
+                [
+                    b"adds" {
+                        Kind::Three(Sum::Add) => THREE, TWICE_AND_THIRD;
+                        Kind::ThreeNumber(Sum::Add) => amount!(0, 7);
+                        Kind::TwoNumber(ByteOperation::Add) => BYTE_NUMBER, SAME_AND_BYTE;
+                    },
+                    b"add" {
+                        Kind::Add => TWO, SAME_FIRST, SAME_LAST;
+                        Kind::StackAddress => &[FIRST, COMMA, Slot::Sp, COMMA, Slot::Number(Place::Second, 0, 1020, 4)];
+                        Kind::StackMove(Sum::Add) => SP_AGAIN, SP_ALONE;
+                    },
+                    b"ands" { Kind::Two(Operation::And) => TWO, SAME_FIRST, SAME_LAST; },
+                    b"asrs" {
+                        Kind::ShiftRight(Right::Asr) => amount!(1, 32), twice_amount!(1, 32);
+                        Kind::Two(Operation::Asr) => TWO, SAME_FIRST;
+                    },
+                    b"adcs" { Kind::Two(Operation::Adc) => TWO, SAME_FIRST, SAME_LAST; },
+                    b"adr" { Kind::Address => LABELLED; },
+                ],
+                [
+                    b"bl" { Kind::Call => LABEL; },
+                    b"b" { Kind::Branch => LABEL; },
+                    b"bne" { Kind::BranchIf(Condition::Ne) => LABEL; },
+                    b"beq" { Kind::BranchIf(Condition::Eq) => LABEL; },
+                    b"bhi" { Kind::BranchIf(Condition::Hi) => LABEL; },
+                    b"bls" { Kind::BranchIf(Condition::Ls) => LABEL; },
+                    b"ble" { Kind::BranchIf(Condition::Le) => LABEL; },
+                    b"blx" { Kind::Blx => ONE; },
+                    b"bge" { Kind::BranchIf(Condition::Ge) => LABEL; },
+                    b"blt" { Kind::BranchIf(Condition::Lt) => LABEL; },
+                    b"bcs" { Kind::BranchIf(Condition::Cs) => LABEL; },
+                    b"bics" { Kind::Two(Operation::Bic) => TWO, SAME_FIRST; },
+                    b"bgt" { Kind::BranchIf(Condition::Gt) => LABEL; },
+                    b"bx" { Kind::Bx => ONE; },
+                    b"bcc" { Kind::BranchIf(Condition::Cc) => LABEL; },
+                    b"bpl" { Kind::BranchIf(Condition::Pl) => LABEL; },
+                    b"bkpt" { Kind::Breakpoint => BYTE_ALONE; },
+                    b"bmi" { Kind::BranchIf(Condition::Mi) => LABEL; },
+                    b"bvs" { Kind::BranchIf(Condition::Vs) => LABEL; },
+                    b"bvc" { Kind::BranchIf(Condition::Vc) => LABEL; },
+                    b"bhs" {} also { Kind::BranchIf(Condition::Cs) => LABEL; },
+                    b"blo" {} also { Kind::BranchIf(Condition::Cc) => LABEL; },
+                ],
+            }
+            {
+                [
+                    b"cmp" {
+                        Kind::TwoNumber(ByteOperation::Cmp) => BYTE_NUMBER;
+                        Kind::Two(Operation::Cmp) => TWO;
+                        Kind::Compare => TWO;
+                    },
+                    b"cmn" { Kind::Two(Operation::Cmn) => TWO; },
+                    b"cpsie" { Kind::ChangeState(Interrupts::Enable) => &[Slot::I]; },
+                    b"cpsid" { Kind::ChangeState(Interrupts::Disable) => &[Slot::I]; },
+                ],
+                [
+                    b"dsb" { Kind::Barrier(Barrier::Dsb) => &[Slot::Sy], &[]; },
+                    b"dmb" { Kind::Barrier(Barrier::Dmb) => &[Slot::Sy], &[]; },
+                ],
+                [b"eors" { Kind::Two(Operation::Eor) => TWO, SAME_FIRST, SAME_LAST; }],
+                [],
+                [],
+                [],
+                [b"isb" { Kind::Barrier(Barrier::Isb) => &[Slot::Sy], &[]; }],
+                [],
+                [],
+                [
+                    b"ldr" {
+                        Kind::Literal => LABELLED;
+                        Kind::Indexed(Access::Ldr) => INDEXED;
+                        Kind::Offset(OffsetAccess::Ldr) => with_offset!(124, 4), WITHOUT_OFFSET;
+                        Kind::Stack(WordAccess::Ldr) => FROM_SP, AT_SP;
+                    },
+                    b"lsls" {
+                        Kind::ShiftLeft => amount!(1, 31), twice_amount!(1, 31);
+                        Kind::Two(Operation::Lsl) => TWO, SAME_FIRST;
+                    } also {
+                        Kind::Movs => &[FIRST, COMMA, SECOND, COMMA, Slot::Exactly(0)], &[TWICE, COMMA, Slot::Exactly(0)];
+                    },
+                    b"lsrs" {
+                        Kind::ShiftRight(Right::Lsr) => amount!(1, 32), twice_amount!(1, 32);
+                        Kind::Two(Operation::Lsr) => TWO, SAME_FIRST;
+                    },
+                    b"ldrb" {
+                        Kind::Indexed(Access::Ldrb) => INDEXED;
+                        Kind::Offset(OffsetAccess::Ldrb) => with_offset!(31, 1), WITHOUT_OFFSET;
+                    },
+                    b"ldrh" {
+                        Kind::Indexed(Access::Ldrh) => INDEXED;
+                        Kind::Offset(OffsetAccess::Ldrh) => with_offset!(62, 2), WITHOUT_OFFSET;
+                    },
+                    b"ldrsh" { Kind::Indexed(Access::Ldrsh) => INDEXED; },
+                    b"ldmia" {} also { Kind::LoadMany => LOAD_APART, LOAD_WITHIN; },
+                    b"ldrsb" { Kind::Indexed(Access::Ldrsb) => INDEXED; },
+                    b"ldm" { Kind::LoadMany => LOAD_APART, LOAD_WITHIN; },
+                ],
+            }
+            {
+                [
+                    b"movs" {
+                        Kind::Movs => TWO;
+                        Kind::TwoNumber(ByteOperation::Mov) => BYTE_NUMBER;
+                    },
+                    b"mov" { Kind::Mov => TWO; },
+                    b"muls" { Kind::Two(Operation::Mul) => SAME_LAST, TWO, SAME_FIRST; },
+                    b"mvns" { Kind::Two(Operation::Mvn) => TWO; },
+                    b"mrs" {
+                        Kind::ReadSpecial(Special::Primask) => &[FIRST, COMMA, Slot::Primask];
+                        Kind::ReadSpecial(Special::Ipsr) => &[FIRST, COMMA, Slot::Ipsr];
+                    },
+                    b"msr" { Kind::WriteMask => &[Slot::Primask, COMMA, FIRST]; },
+                ],
+                [
+                    b"negs" {} also { Kind::Two(Operation::Rsb) => TWO; },
+                    b"nop" { Kind::Hint(Hint::Nop) => &[]; },
+                ],
+                [b"orrs" { Kind::Two(Operation::Orr) => TWO, SAME_FIRST, SAME_LAST; }],
+                [
+                    b"push" { Kind::Push => &[Slot::StackList(Place::First, 14)]; },
+                    b"pop" { Kind::Pop => &[Slot::StackList(Place::First, 15)]; },
+                ],
+                [],
+                [
+                    b"rsbs" { Kind::Two(Operation::Rsb) => &[FIRST, COMMA, SECOND, COMMA, Slot::Exactly(0)]; },
+                    b"rors" { Kind::Two(Operation::Ror) => TWO, SAME_FIRST; },
+                    b"rev" { Kind::Reverse(Reversal::Rev) => TWO; },
+                    b"rev16" { Kind::Reverse(Reversal::Rev16) => TWO; },
+                    b"revsh" { Kind::Reverse(Reversal::Revsh) => TWO; },
+                ],
+            }
+            {
+                [
+                    b"str" {
+                        Kind::Indexed(Access::Str) => INDEXED;
+                        Kind::Offset(OffsetAccess::Str) => with_offset!(124, 4), WITHOUT_OFFSET;
+                        Kind::Stack(WordAccess::Str) => FROM_SP, AT_SP;
+                    },
+                    b"subs" {
+                        Kind::Three(Sum::Sub) => THREE, TWICE_AND_THIRD;
+                        Kind::ThreeNumber(Sum::Sub) => amount!(0, 7);
+                        Kind::TwoNumber(ByteOperation::Sub) => BYTE_NUMBER, SAME_AND_BYTE;
+                    },
+                    b"strh" {
+                        Kind::Indexed(Access::Strh) => INDEXED;
+                        Kind::Offset(OffsetAccess::Strh) => with_offset!(62, 2), WITHOUT_OFFSET;
+                    },
+                    b"strb" {
+                        Kind::Indexed(Access::Strb) => INDEXED;
+                        Kind::Offset(OffsetAccess::Strb) => with_offset!(31, 1), WITHOUT_OFFSET;
+                    },
+                    b"sub" { Kind::StackMove(Sum::Sub) => SP_AGAIN, SP_ALONE; },
+                    b"sxth" { Kind::Extend(Extension::Sxth) => TWO; },
+                    b"stmia" {} also { Kind::StoreMany => WRITTEN_BACK; },
+                    b"sbcs" { Kind::Two(Operation::Sbc) => TWO, SAME_FIRST; },
+                    b"sxtb" { Kind::Extend(Extension::Sxtb) => TWO; },
+                    b"stm" { Kind::StoreMany => WRITTEN_BACK; },
+                    b"svc" { Kind::Service => BYTE_ALONE; },
+                    b"sev" { Kind::Hint(Hint::Sev) => &[]; },
+                ],
+                [b"tst" { Kind::Two(Operation::Tst) => TWO; }],
+                [
+                    b"uxth" { Kind::Extend(Extension::Uxth) => TWO; },
+                    b"uxtb" { Kind::Extend(Extension::Uxtb) => TWO; },
+                ],
+                [],
+                [
+                    b"wfe" { Kind::Hint(Hint::Wfe) => &[]; },
+                    b"wfi" { Kind::Hint(Hint::Wfi) => &[]; },
+                ],
+                [],
+                [b"yield" { Kind::Hint(Hint::Yield) => &[]; }],
+                [],
+                [],
+                [],
+                [],
+                [],
+                [],
+            }
         }
     };
 }
 
-/// The mnemonics that begin with `a` and `b`, each at the place of its first letter; at each place those that compilers write most come first. The first place has none.
-static A_TO_B: [&[Mnemonic]; 3] = [
-    &[],
-    &[
-        mnemonic!(b"adds":
-            [FIRST, COMMA, SECOND, COMMA, THIRD] => Kind::Three(Sum::Add),
-            [TWICE, COMMA, THIRD] => Kind::Three(Sum::Add),
-            [FIRST, COMMA, SECOND, COMMA, Slot::Number(Place::Third, 0, 7, 1)] => Kind::ThreeNumber(Sum::Add),
-            [FIRST, COMMA, Slot::Number(Place::Second, 0, 255, 1)] => Kind::TwoNumber(ByteOperation::Add),
-            [FIRST, COMMA, SAME, COMMA, Slot::Number(Place::Second, 8, 255, 1)] => Kind::TwoNumber(ByteOperation::Add)),
-        mnemonic!(b"add":
-            [FIRST, COMMA, SECOND] => Kind::Add,
-            [FIRST, COMMA, SAME, COMMA, SECOND] => Kind::Add,
-            [FIRST, COMMA, SECOND, COMMA, SAME] => Kind::Add,
-            [FIRST, COMMA, Slot::Sp, COMMA, Slot::Number(Place::Second, 0, 1020, 4)] => Kind::StackAddress,
-            [Slot::Sp, COMMA, Slot::Sp, COMMA, Slot::Number(Place::First, 0, 508, 4)] => Kind::StackMove(Sum::Add),
-            [Slot::Sp, COMMA, Slot::Number(Place::First, 0, 508, 4)] => Kind::StackMove(Sum::Add)),
-        mnemonic!(b"ands":
-            [FIRST, COMMA, SECOND] => Kind::Two(Operation::And),
-            [FIRST, COMMA, SAME, COMMA, SECOND] => Kind::Two(Operation::And),
-            [FIRST, COMMA, SECOND, COMMA, SAME] => Kind::Two(Operation::And)),
-        mnemonic!(b"asrs":
-            [FIRST, COMMA, SECOND, COMMA, Slot::Number(Place::Third, 1, 32, 1)] => Kind::ShiftRight(Right::Asr),
-            [TWICE, COMMA, Slot::Number(Place::Third, 1, 32, 1)] => Kind::ShiftRight(Right::Asr),
-            [FIRST, COMMA, SECOND] => Kind::Two(Operation::Asr),
-            [FIRST, COMMA, SAME, COMMA, SECOND] => Kind::Two(Operation::Asr)),
-        mnemonic!(b"adcs":
-            [FIRST, COMMA, SECOND] => Kind::Two(Operation::Adc),
-            [FIRST, COMMA, SAME, COMMA, SECOND] => Kind::Two(Operation::Adc),
-            [FIRST, COMMA, SECOND, COMMA, SAME] => Kind::Two(Operation::Adc)),
-        mnemonic!(b"adr": [FIRST, COMMA, Slot::LabelSum] => Kind::Address),
-    ],
-    &[
-        mnemonic!(b"bl": [Slot::Label] => Kind::Call),
-        mnemonic!(b"b": [Slot::Label] => Kind::Branch),
-        mnemonic!(b"bne": [Slot::Label] => Kind::BranchIf(Condition::Ne)),
-        mnemonic!(b"beq": [Slot::Label] => Kind::BranchIf(Condition::Eq)),
-        mnemonic!(b"bhi": [Slot::Label] => Kind::BranchIf(Condition::Hi)),
-        mnemonic!(b"bls": [Slot::Label] => Kind::BranchIf(Condition::Ls)),
-        mnemonic!(b"ble": [Slot::Label] => Kind::BranchIf(Condition::Le)),
-        mnemonic!(b"blx": [FIRST] => Kind::Blx),
-        mnemonic!(b"bge": [Slot::Label] => Kind::BranchIf(Condition::Ge)),
-        mnemonic!(b"blt": [Slot::Label] => Kind::BranchIf(Condition::Lt)),
-        mnemonic!(b"bcs": [Slot::Label] => Kind::BranchIf(Condition::Cs)),
-        mnemonic!(b"bics":
-            [FIRST, COMMA, SECOND] => Kind::Two(Operation::Bic),
-            [FIRST, COMMA, SAME, COMMA, SECOND] => Kind::Two(Operation::Bic)),
-        mnemonic!(b"bgt": [Slot::Label] => Kind::BranchIf(Condition::Gt)),
-        mnemonic!(b"bx": [FIRST] => Kind::Bx),
-        mnemonic!(b"bcc": [Slot::Label] => Kind::BranchIf(Condition::Cc)),
-        mnemonic!(b"bpl": [Slot::Label] => Kind::BranchIf(Condition::Pl)),
-        mnemonic!(b"bkpt": [Slot::Number(Place::First, 0, 255, 1)] => Kind::Breakpoint),
-        mnemonic!(b"bmi": [Slot::Label] => Kind::BranchIf(Condition::Mi)),
-        mnemonic!(b"bvs": [Slot::Label] => Kind::BranchIf(Condition::Vs)),
-        mnemonic!(b"bvc": [Slot::Label] => Kind::BranchIf(Condition::Vc)),
-        mnemonic!(b"bhs": [Slot::Label] => Kind::BranchIf(Condition::Cs)),
-        mnemonic!(b"blo": [Slot::Label] => Kind::BranchIf(Condition::Cc)),
-    ],
-];
+/// A part of the table as mnemonics with their forms.
+macro_rules! mnemonics {
+    ($([$(
+        $name:literal { $($kind:expr => $($slots:expr),+;)* }
+        $(also { $($other:expr => $($form:expr),+;)* })?
+    ),* $(,)?],)*) => {
+        [$(&[$(Mnemonic {
+            name: $name,
+            forms: &[
+                $($(Form { mnemonic: $name, slots: $slots, kind: $kind },)+)*
+                $($($(Form { mnemonic: $name, slots: $form, kind: $other },)+)*)?
+            ],
+        }),*]),*]
+    };
+}
 
-/// The mnemonics that begin with `c` to `l`, each at the place of its first letter; at each place those that compilers write most come first.
-static C_TO_L: [&[Mnemonic]; 10] = [
-    &[
-        mnemonic!(b"cmp":
-            [FIRST, COMMA, Slot::Number(Place::Second, 0, 255, 1)] => Kind::TwoNumber(ByteOperation::Cmp),
-            [FIRST, COMMA, SECOND] => Kind::Two(Operation::Cmp),
-            [FIRST, COMMA, SECOND] => Kind::Compare),
-        mnemonic!(b"cmn": [FIRST, COMMA, SECOND] => Kind::Two(Operation::Cmn)),
-        mnemonic!(b"cpsie": [Slot::I] => Kind::ChangeState(Interrupts::Enable)),
-        mnemonic!(b"cpsid": [Slot::I] => Kind::ChangeState(Interrupts::Disable)),
-    ],
-    &[
-        mnemonic!(b"dsb":
-            [Slot::Sy] => Kind::Barrier(Barrier::Dsb),
-            [] => Kind::Barrier(Barrier::Dsb)),
-        mnemonic!(b"dmb":
-            [Slot::Sy] => Kind::Barrier(Barrier::Dmb),
-            [] => Kind::Barrier(Barrier::Dmb)),
-    ],
-    &[mnemonic!(b"eors":
-            [FIRST, COMMA, SECOND] => Kind::Two(Operation::Eor),
-            [FIRST, COMMA, SAME, COMMA, SECOND] => Kind::Two(Operation::Eor),
-            [FIRST, COMMA, SECOND, COMMA, SAME] => Kind::Two(Operation::Eor))],
-    &[],
-    &[],
-    &[],
-    &[mnemonic!(b"isb":
-            [Slot::Sy] => Kind::Barrier(Barrier::Isb),
-            [] => Kind::Barrier(Barrier::Isb))],
-    &[],
-    &[],
-    &[
-        mnemonic!(b"ldr":
-            [FIRST, COMMA, Slot::LabelSum] => Kind::Literal,
-            [FIRST, COMMA, OPEN, SECOND, COMMA, THIRD, CLOSE] => Kind::Indexed(Access::Ldr),
-            [FIRST, COMMA, OPEN, SECOND, COMMA, Slot::Number(Place::Third, 0, 124, 4), CLOSE] => Kind::Offset(OffsetAccess::Ldr),
-            [FIRST, COMMA, OPEN, SECOND, CLOSE] => Kind::Offset(OffsetAccess::Ldr),
-            [FIRST, COMMA, OPEN, Slot::Sp, COMMA, Slot::Number(Place::Second, 0, 1020, 4), CLOSE] => Kind::Stack(WordAccess::Ldr),
-            [FIRST, COMMA, OPEN, Slot::Sp, CLOSE] => Kind::Stack(WordAccess::Ldr)),
-        mnemonic!(b"lsls":
-            [FIRST, COMMA, SECOND, COMMA, Slot::Exactly(0)] => Kind::Movs,
-            [TWICE, COMMA, Slot::Exactly(0)] => Kind::Movs,
-            [FIRST, COMMA, SECOND, COMMA, Slot::Number(Place::Third, 1, 31, 1)] => Kind::ShiftLeft,
-            [TWICE, COMMA, Slot::Number(Place::Third, 1, 31, 1)] => Kind::ShiftLeft,
-            [FIRST, COMMA, SECOND] => Kind::Two(Operation::Lsl),
-            [FIRST, COMMA, SAME, COMMA, SECOND] => Kind::Two(Operation::Lsl)),
-        mnemonic!(b"lsrs":
-            [FIRST, COMMA, SECOND, COMMA, Slot::Number(Place::Third, 1, 32, 1)] => Kind::ShiftRight(Right::Lsr),
-            [TWICE, COMMA, Slot::Number(Place::Third, 1, 32, 1)] => Kind::ShiftRight(Right::Lsr),
-            [FIRST, COMMA, SECOND] => Kind::Two(Operation::Lsr),
-            [FIRST, COMMA, SAME, COMMA, SECOND] => Kind::Two(Operation::Lsr)),
-        mnemonic!(b"ldrb":
-            [FIRST, COMMA, OPEN, SECOND, COMMA, THIRD, CLOSE] => Kind::Indexed(Access::Ldrb),
-            [FIRST, COMMA, OPEN, SECOND, COMMA, Slot::Number(Place::Third, 0, 31, 1), CLOSE] => Kind::Offset(OffsetAccess::Ldrb),
-            [FIRST, COMMA, OPEN, SECOND, CLOSE] => Kind::Offset(OffsetAccess::Ldrb)),
-        mnemonic!(b"ldrh":
-            [FIRST, COMMA, OPEN, SECOND, COMMA, THIRD, CLOSE] => Kind::Indexed(Access::Ldrh),
-            [FIRST, COMMA, OPEN, SECOND, COMMA, Slot::Number(Place::Third, 0, 62, 2), CLOSE] => Kind::Offset(OffsetAccess::Ldrh),
-            [FIRST, COMMA, OPEN, SECOND, CLOSE] => Kind::Offset(OffsetAccess::Ldrh)),
-        mnemonic!(b"ldrsh": [FIRST, COMMA, OPEN, SECOND, COMMA, THIRD, CLOSE] => Kind::Indexed(Access::Ldrsh)),
-        mnemonic!(b"ldmia":
-            [Slot::Base(Place::First), COMMA, Slot::LowList(Place::Second), Slot::NotInList(Place::First, Place::Second)] => Kind::LoadMany,
-            [FIRST, COMMA, Slot::LowList(Place::Second), Slot::InList(Place::First, Place::Second)] => Kind::LoadMany),
-        mnemonic!(b"ldrsb": [FIRST, COMMA, OPEN, SECOND, COMMA, THIRD, CLOSE] => Kind::Indexed(Access::Ldrsb)),
-        mnemonic!(b"ldm":
-            [Slot::Base(Place::First), COMMA, Slot::LowList(Place::Second), Slot::NotInList(Place::First, Place::Second)] => Kind::LoadMany,
-            [FIRST, COMMA, Slot::LowList(Place::Second), Slot::InList(Place::First, Place::Second)] => Kind::LoadMany),
-    ],
-];
+macro_rules! first_part {
+    ({ $($part:tt)* } $($rest:tt)*) => { mnemonics! { $($part)* } };
+}
 
-/// The mnemonics that begin with `m` to `r`, each at the place of its first letter; at each place those that compilers write most come first.
-static M_TO_R: [&[Mnemonic]; 6] = [
-    &[
-        mnemonic!(b"movs":
-            [FIRST, COMMA, SECOND] => Kind::Movs,
-            [FIRST, COMMA, Slot::Number(Place::Second, 0, 255, 1)] => Kind::TwoNumber(ByteOperation::Mov)),
-        mnemonic!(b"mov": [FIRST, COMMA, SECOND] => Kind::Mov),
-        mnemonic!(b"muls":
-            [FIRST, COMMA, SECOND, COMMA, SAME] => Kind::Two(Operation::Mul),
-            [FIRST, COMMA, SECOND] => Kind::Two(Operation::Mul),
-            [FIRST, COMMA, SAME, COMMA, SECOND] => Kind::Two(Operation::Mul)),
-        mnemonic!(b"mvns": [FIRST, COMMA, SECOND] => Kind::Two(Operation::Mvn)),
-        mnemonic!(b"mrs":
-            [FIRST, COMMA, Slot::Primask] => Kind::ReadSpecial(Special::Primask),
-            [FIRST, COMMA, Slot::Ipsr] => Kind::ReadSpecial(Special::Ipsr)),
-        mnemonic!(b"msr": [Slot::Primask, COMMA, FIRST] => Kind::WriteMask),
-    ],
-    &[
-        mnemonic!(b"negs": [FIRST, COMMA, SECOND] => Kind::Two(Operation::Rsb)),
-        mnemonic!(b"nop": [] => Kind::Hint(Hint::Nop)),
-    ],
-    &[mnemonic!(b"orrs":
-            [FIRST, COMMA, SECOND] => Kind::Two(Operation::Orr),
-            [FIRST, COMMA, SAME, COMMA, SECOND] => Kind::Two(Operation::Orr),
-            [FIRST, COMMA, SECOND, COMMA, SAME] => Kind::Two(Operation::Orr))],
-    &[
-        mnemonic!(b"push": [Slot::StackList(Place::First, 14)] => Kind::Push),
-        mnemonic!(b"pop": [Slot::StackList(Place::First, 15)] => Kind::Pop),
-    ],
-    &[],
-    &[
-        mnemonic!(b"rsbs": [FIRST, COMMA, SECOND, COMMA, Slot::Exactly(0)] => Kind::Two(Operation::Rsb)),
-        mnemonic!(b"rors":
-            [FIRST, COMMA, SECOND] => Kind::Two(Operation::Ror),
-            [FIRST, COMMA, SAME, COMMA, SECOND] => Kind::Two(Operation::Ror)),
-        mnemonic!(b"rev": [FIRST, COMMA, SECOND] => Kind::Reverse(Reversal::Rev)),
-        mnemonic!(b"rev16": [FIRST, COMMA, SECOND] => Kind::Reverse(Reversal::Rev16)),
-        mnemonic!(b"revsh": [FIRST, COMMA, SECOND] => Kind::Reverse(Reversal::Revsh)),
-    ],
-];
+macro_rules! second_part {
+    ($first:tt { $($part:tt)* } $($rest:tt)*) => { mnemonics! { $($part)* } };
+}
 
-/// The mnemonics that begin with `s` to `z`, each at the place of its first letter; at each place those that compilers write most come first.
-static S_TO_Z: [&[Mnemonic]; 13] = [
-    &[
-        mnemonic!(b"str":
-            [FIRST, COMMA, OPEN, SECOND, COMMA, THIRD, CLOSE] => Kind::Indexed(Access::Str),
-            [FIRST, COMMA, OPEN, SECOND, COMMA, Slot::Number(Place::Third, 0, 124, 4), CLOSE] => Kind::Offset(OffsetAccess::Str),
-            [FIRST, COMMA, OPEN, SECOND, CLOSE] => Kind::Offset(OffsetAccess::Str),
-            [FIRST, COMMA, OPEN, Slot::Sp, COMMA, Slot::Number(Place::Second, 0, 1020, 4), CLOSE] => Kind::Stack(WordAccess::Str),
-            [FIRST, COMMA, OPEN, Slot::Sp, CLOSE] => Kind::Stack(WordAccess::Str)),
-        mnemonic!(b"subs":
-            [FIRST, COMMA, SECOND, COMMA, THIRD] => Kind::Three(Sum::Sub),
-            [TWICE, COMMA, THIRD] => Kind::Three(Sum::Sub),
-            [FIRST, COMMA, SECOND, COMMA, Slot::Number(Place::Third, 0, 7, 1)] => Kind::ThreeNumber(Sum::Sub),
-            [FIRST, COMMA, Slot::Number(Place::Second, 0, 255, 1)] => Kind::TwoNumber(ByteOperation::Sub),
-            [FIRST, COMMA, SAME, COMMA, Slot::Number(Place::Second, 8, 255, 1)] => Kind::TwoNumber(ByteOperation::Sub)),
-        mnemonic!(b"strh":
-            [FIRST, COMMA, OPEN, SECOND, COMMA, THIRD, CLOSE] => Kind::Indexed(Access::Strh),
-            [FIRST, COMMA, OPEN, SECOND, COMMA, Slot::Number(Place::Third, 0, 62, 2), CLOSE] => Kind::Offset(OffsetAccess::Strh),
-            [FIRST, COMMA, OPEN, SECOND, CLOSE] => Kind::Offset(OffsetAccess::Strh)),
-        mnemonic!(b"strb":
-            [FIRST, COMMA, OPEN, SECOND, COMMA, THIRD, CLOSE] => Kind::Indexed(Access::Strb),
-            [FIRST, COMMA, OPEN, SECOND, COMMA, Slot::Number(Place::Third, 0, 31, 1), CLOSE] => Kind::Offset(OffsetAccess::Strb),
-            [FIRST, COMMA, OPEN, SECOND, CLOSE] => Kind::Offset(OffsetAccess::Strb)),
-        mnemonic!(b"sub":
-            [Slot::Sp, COMMA, Slot::Sp, COMMA, Slot::Number(Place::First, 0, 508, 4)] => Kind::StackMove(Sum::Sub),
-            [Slot::Sp, COMMA, Slot::Number(Place::First, 0, 508, 4)] => Kind::StackMove(Sum::Sub)),
-        mnemonic!(b"sxth": [FIRST, COMMA, SECOND] => Kind::Extend(Extension::Sxth)),
-        mnemonic!(b"stmia": [Slot::Base(Place::First), COMMA, Slot::LowList(Place::Second)] => Kind::StoreMany),
-        mnemonic!(b"sbcs":
-            [FIRST, COMMA, SECOND] => Kind::Two(Operation::Sbc),
-            [FIRST, COMMA, SAME, COMMA, SECOND] => Kind::Two(Operation::Sbc)),
-        mnemonic!(b"sxtb": [FIRST, COMMA, SECOND] => Kind::Extend(Extension::Sxtb)),
-        mnemonic!(b"stm": [Slot::Base(Place::First), COMMA, Slot::LowList(Place::Second)] => Kind::StoreMany),
-        mnemonic!(b"svc": [Slot::Number(Place::First, 0, 255, 1)] => Kind::Service),
-        mnemonic!(b"sev": [] => Kind::Hint(Hint::Sev)),
-    ],
-    &[mnemonic!(b"tst": [FIRST, COMMA, SECOND] => Kind::Two(Operation::Tst))],
-    &[
-        mnemonic!(b"uxth": [FIRST, COMMA, SECOND] => Kind::Extend(Extension::Uxth)),
-        mnemonic!(b"uxtb": [FIRST, COMMA, SECOND] => Kind::Extend(Extension::Uxtb)),
-    ],
-    &[],
-    &[
-        mnemonic!(b"wfe": [] => Kind::Hint(Hint::Wfe)),
-        mnemonic!(b"wfi": [] => Kind::Hint(Hint::Wfi)),
-    ],
-    &[],
-    &[mnemonic!(b"yield": [] => Kind::Hint(Hint::Yield))],
-    &[],
-    &[],
-    &[],
-    &[],
-    &[],
-    &[],
-];
+macro_rules! third_part {
+    ($first:tt $second:tt { $($part:tt)* } $($rest:tt)*) => { mnemonics! { $($part)* } };
+}
+
+macro_rules! last_part {
+    ($first:tt $second:tt $third:tt { $($part:tt)* }) => { mnemonics! { $($part)* } };
+}
+
+/// The mnemonic of a kind.
+macro_rules! name_of {
+    ($of:ident $({ $([$(
+        $name:literal { $($kind:pat => $($slots:expr),+;)* } $(also $other:tt)?
+    ),* $(,)?],)* })*) => {
+        match $of { $($($($($kind => $name,)*)*)*)* }
+    };
+}
+
+/// What may follow the mnemonic of a kind.
+macro_rules! forms_of {
+    ($of:ident $({ $([$(
+        $name:literal { $($kind:pat => $($slots:expr),+;)* } $(also $other:tt)?
+    ),* $(,)?],)* })*) => {
+        match $of { $($($($($kind => &[$($slots),+],)*)*)*)* }
+    };
+}
+
+/// The mnemonics that begin with `a` and `b`, each at the place of its first letter. The first place has none.
+static A_TO_B: [&[Mnemonic]; 3] = spellings!(first_part);
+
+/// The mnemonics that begin with `c` to `l`, each at the place of its first letter.
+static C_TO_L: [&[Mnemonic]; 10] = spellings!(second_part);
+
+/// The mnemonics that begin with `m` to `r`, each at the place of its first letter.
+static M_TO_R: [&[Mnemonic]; 6] = spellings!(third_part);
+
+/// The mnemonics that begin with `s` to `z`, each at the place of its first letter.
+static S_TO_Z: [&[Mnemonic]; 13] = spellings!(last_part);
 
 /// The mnemonics that begin with `a` and `b`, each with its forms in the order of all forms.
 #[tactic(auto, unfolding(crate::specs::RowLaws::rows, crate::specs::Rows::data_rows, crate::specs::Rows::memory_rows, crate::specs::Rows::control_rows))]
@@ -322,4 +450,18 @@ pub fn mnemonics(place: usize) -> &'static [Mnemonic]
     } else {
         s_to_z()[place - 19]
     }
+}
+
+/// The mnemonic of a kind.
+pub fn mnemonic(kind: Kind) -> &'static [u8]
+    ensures { result.now ≡ mnemonic kind }
+{
+    spellings!(name_of kind)
+}
+
+/// What may follow the mnemonic of a kind.
+pub fn forms(kind: Kind) -> &'static [&'static [Slot]]
+    ensures { forms_at result.now ≡ forms kind }
+{
+    spellings!(forms_of kind)
 }

@@ -6,10 +6,11 @@ ghost use Rattle.thumb_syntax.specs.ParsedView.{shown};
 ghost use Rattle.std.specs.Prelude.{option_map};
 ghost use Rattle.thumb_syntax.specs.Spelling.{register_text, number_text, mark_text, has_bit, member_text, separator, members, list_text, sum_text, label_text, label_sum_text, slot_text, slots_text, operands_text, text_of};
 
-use crate::canonical::{mnemonic, slots};
+use crate::canonical::slots;
 use crate::fields::{Fields, Label, at};
 use crate::form::Slot;
 use crate::reading::Parsed;
+use crate::table::mnemonic;
 use itoa::Buffer;
 use std::alloc::{AllocError, Global};
 use thumb_instr::parts;

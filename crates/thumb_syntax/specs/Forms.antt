@@ -1,0 +1,225 @@
+-- The one table of texts: each kind of instruction with its mnemonic, and what may follow it.
+use Rattle.std.specs.Prelude.{ℕ, List, [], ◌∷◌, codes}
+use Rattle.thumb_instr.specs.declared.operation.Sum.TheVariants as sum
+use Rattle.thumb_instr.specs.declared.operation.Right.TheVariants as right
+use Rattle.thumb_instr.specs.declared.operation.ByteOperation.TheVariants as byte
+use Rattle.thumb_instr.specs.declared.operation.Operation.TheVariants as operation
+use Rattle.thumb_instr.specs.declared.operation.Extension.TheVariants as extension
+use Rattle.thumb_instr.specs.declared.operation.Reversal.TheVariants as reversal
+use Rattle.thumb_instr.specs.declared.operation.Access.TheVariants as access
+use Rattle.thumb_instr.specs.declared.operation.OffsetAccess.TheVariants as offset
+use Rattle.thumb_instr.specs.declared.operation.WordAccess.TheVariants as word
+use Rattle.thumb_instr.specs.declared.operation.Condition.TheVariants as condition
+use Rattle.thumb_instr.specs.declared.operation.Hint.TheVariants as hint
+use Rattle.thumb_instr.specs.declared.operation.Interrupts.TheVariants as interrupts
+use Rattle.thumb_instr.specs.declared.operation.Barrier.TheVariants as barrier
+use Rattle.thumb_instr.specs.declared.operation.Special.TheVariants as special
+use Rattle.thumb_syntax.specs.declared.form.Place.TheVariants as place
+use Rattle.thumb_syntax.specs.declared.form.Slot.{Slot}
+use Rattle.thumb_syntax.specs.declared.form.Slot.TheVariants as slot
+use Rattle.thumb_instr.specs.declared.kind.Kind.{Kind}
+use Rattle.thumb_instr.specs.declared.kind.Kind.TheVariants as kind
+
+abbrev pub first : Slot
+first = slot.Register place.First
+
+abbrev pub second : Slot
+second = slot.Register place.Second
+
+abbrev pub third : Slot
+third = slot.Register place.Third
+
+-- one register for the first two
+abbrev pub twice : Slot
+twice = slot.Twice place.First place.Second
+
+-- the first register once more
+abbrev pub same : Slot
+same = slot.Same place.First
+
+abbrev pub comma : Slot
+comma = slot.Mark 44
+
+abbrev pub open' : Slot
+open' = slot.Mark 91
+
+abbrev pub close : Slot
+close = slot.Mark 93
+
+-- what may follow a mnemonic
+abbrev pub one : List Slot
+one = first ∷ []
+
+abbrev pub two : List Slot
+two = first ∷ comma ∷ second ∷ []
+
+-- `d, d, m` and `d, m, d`
+abbrev pub same_first : List Slot
+same_first = first ∷ comma ∷ same ∷ comma ∷ second ∷ []
+
+abbrev pub same_last : List Slot
+same_last = first ∷ comma ∷ second ∷ comma ∷ same ∷ []
+
+abbrev pub three : List Slot
+three = first ∷ comma ∷ second ∷ comma ∷ third ∷ []
+
+abbrev pub twice_and_third : List Slot
+twice_and_third = twice ∷ comma ∷ third ∷ []
+
+abbrev pub amount : ℕ → ℕ → List Slot
+amount least most = first ∷ comma ∷ second ∷ comma ∷ slot.Number place.Third least most 1 ∷ []
+
+abbrev pub twice_amount : ℕ → ℕ → List Slot
+twice_amount least most = twice ∷ comma ∷ slot.Number place.Third least most 1 ∷ []
+
+abbrev pub byte_number : List Slot
+byte_number = first ∷ comma ∷ slot.Number place.Second 0 255 1 ∷ []
+
+abbrev pub same_and_byte : List Slot
+same_and_byte = first ∷ comma ∷ same ∷ comma ∷ slot.Number place.Second 8 255 1 ∷ []
+
+abbrev pub byte_alone : List Slot
+byte_alone = slot.Number place.First 0 255 1 ∷ []
+
+abbrev pub label : List Slot
+label = slot.Label ∷ []
+
+abbrev pub labelled : List Slot
+labelled = first ∷ comma ∷ slot.LabelSum ∷ []
+
+abbrev pub indexed : List Slot
+indexed = first ∷ comma ∷ open' ∷ second ∷ comma ∷ third ∷ close ∷ []
+
+abbrev pub with_offset : ℕ → ℕ → List Slot
+with_offset most step = first ∷ comma ∷ open' ∷ second ∷ comma ∷ slot.Number place.Third 0 most step ∷ close ∷ []
+
+abbrev pub without_offset : List Slot
+without_offset = first ∷ comma ∷ open' ∷ second ∷ close ∷ []
+
+abbrev pub from_sp : List Slot
+from_sp = first ∷ comma ∷ open' ∷ slot.Sp ∷ comma ∷ slot.Number place.Second 0 1020 4 ∷ close ∷ []
+
+abbrev pub at_sp : List Slot
+at_sp = first ∷ comma ∷ open' ∷ slot.Sp ∷ close ∷ []
+
+abbrev pub sp_again : List Slot
+sp_again = slot.Sp ∷ comma ∷ slot.Sp ∷ comma ∷ slot.Number place.First 0 508 4 ∷ []
+
+abbrev pub sp_alone : List Slot
+sp_alone = slot.Sp ∷ comma ∷ slot.Number place.First 0 508 4 ∷ []
+
+abbrev pub written_back : List Slot
+written_back = slot.Base place.First ∷ comma ∷ slot.LowList place.Second ∷ []
+
+-- a base that isn't in the list, and one that is
+abbrev pub load_apart : List Slot
+load_apart = slot.Base place.First ∷ comma ∷ slot.LowList place.Second ∷ slot.NotInList place.First place.Second ∷ []
+
+abbrev pub load_within : List Slot
+load_within = first ∷ comma ∷ slot.LowList place.Second ∷ slot.InList place.First place.Second ∷ []
+
+pub record Spelling : Type 0 where
+  pub mnemonic : List ℕ
+  pub forms : List (List Slot)
+
+abbrev pub spelled : List ℕ → List (List Slot) → Spelling
+spelled m fs = record { mnemonic = m; forms = fs }
+
+-- of each kind the first form is written, or the second (`is_second`)
+abbrev pub spelling : Kind → Spelling
+spelling kind.Movs = spelled (codes "movs") (two ∷ [])
+spelling kind.ShiftLeft = spelled (codes "lsls") (amount 1 31 ∷ twice_amount 1 31 ∷ [])
+spelling (kind.ShiftRight right.Lsr) = spelled (codes "lsrs") (amount 1 32 ∷ twice_amount 1 32 ∷ [])
+spelling (kind.ShiftRight right.Asr) = spelled (codes "asrs") (amount 1 32 ∷ twice_amount 1 32 ∷ [])
+spelling (kind.Three sum.Add) = spelled (codes "adds") (three ∷ twice_and_third ∷ [])
+spelling (kind.ThreeNumber sum.Add) = spelled (codes "adds") (amount 0 7 ∷ [])
+spelling (kind.TwoNumber byte.Add) = spelled (codes "adds") (byte_number ∷ same_and_byte ∷ [])
+spelling (kind.Three sum.Sub) = spelled (codes "subs") (three ∷ twice_and_third ∷ [])
+spelling (kind.ThreeNumber sum.Sub) = spelled (codes "subs") (amount 0 7 ∷ [])
+spelling (kind.TwoNumber byte.Sub) = spelled (codes "subs") (byte_number ∷ same_and_byte ∷ [])
+spelling (kind.TwoNumber byte.Mov) = spelled (codes "movs") (byte_number ∷ [])
+spelling (kind.TwoNumber byte.Cmp) = spelled (codes "cmp") (byte_number ∷ [])
+spelling (kind.Two operation.And) = spelled (codes "ands") (two ∷ same_first ∷ same_last ∷ [])
+spelling (kind.Two operation.Eor) = spelled (codes "eors") (two ∷ same_first ∷ same_last ∷ [])
+spelling (kind.Two operation.Adc) = spelled (codes "adcs") (two ∷ same_first ∷ same_last ∷ [])
+spelling (kind.Two operation.Orr) = spelled (codes "orrs") (two ∷ same_first ∷ same_last ∷ [])
+spelling (kind.Two operation.Lsl) = spelled (codes "lsls") (two ∷ same_first ∷ [])
+spelling (kind.Two operation.Lsr) = spelled (codes "lsrs") (two ∷ same_first ∷ [])
+spelling (kind.Two operation.Asr) = spelled (codes "asrs") (two ∷ same_first ∷ [])
+spelling (kind.Two operation.Sbc) = spelled (codes "sbcs") (two ∷ same_first ∷ [])
+spelling (kind.Two operation.Ror) = spelled (codes "rors") (two ∷ same_first ∷ [])
+spelling (kind.Two operation.Bic) = spelled (codes "bics") (two ∷ same_first ∷ [])
+spelling (kind.Two operation.Tst) = spelled (codes "tst") (two ∷ [])
+spelling (kind.Two operation.Cmp) = spelled (codes "cmp") (two ∷ [])
+spelling (kind.Two operation.Cmn) = spelled (codes "cmn") (two ∷ [])
+spelling (kind.Two operation.Mvn) = spelled (codes "mvns") (two ∷ [])
+spelling (kind.Two operation.Rsb) = spelled (codes "rsbs") ((first ∷ comma ∷ second ∷ comma ∷ slot.Exactly 0 ∷ []) ∷ [])
+spelling (kind.Two operation.Mul) = spelled (codes "muls") (same_last ∷ two ∷ same_first ∷ [])
+spelling kind.Add = spelled (codes "add") (two ∷ same_first ∷ same_last ∷ [])
+spelling kind.Compare = spelled (codes "cmp") (two ∷ [])
+spelling kind.Mov = spelled (codes "mov") (two ∷ [])
+spelling (kind.Extend extension.Sxth) = spelled (codes "sxth") (two ∷ [])
+spelling (kind.Extend extension.Sxtb) = spelled (codes "sxtb") (two ∷ [])
+spelling (kind.Extend extension.Uxth) = spelled (codes "uxth") (two ∷ [])
+spelling (kind.Extend extension.Uxtb) = spelled (codes "uxtb") (two ∷ [])
+spelling (kind.Reverse reversal.Rev) = spelled (codes "rev") (two ∷ [])
+spelling (kind.Reverse reversal.Rev16) = spelled (codes "rev16") (two ∷ [])
+spelling (kind.Reverse reversal.Revsh) = spelled (codes "revsh") (two ∷ [])
+spelling kind.Literal = spelled (codes "ldr") (labelled ∷ [])
+spelling kind.Address = spelled (codes "adr") (labelled ∷ [])
+spelling (kind.Indexed access.Str) = spelled (codes "str") (indexed ∷ [])
+spelling (kind.Indexed access.Strh) = spelled (codes "strh") (indexed ∷ [])
+spelling (kind.Indexed access.Strb) = spelled (codes "strb") (indexed ∷ [])
+spelling (kind.Indexed access.Ldrsb) = spelled (codes "ldrsb") (indexed ∷ [])
+spelling (kind.Indexed access.Ldr) = spelled (codes "ldr") (indexed ∷ [])
+spelling (kind.Indexed access.Ldrh) = spelled (codes "ldrh") (indexed ∷ [])
+spelling (kind.Indexed access.Ldrb) = spelled (codes "ldrb") (indexed ∷ [])
+spelling (kind.Indexed access.Ldrsh) = spelled (codes "ldrsh") (indexed ∷ [])
+spelling (kind.Offset offset.Str) = spelled (codes "str") (with_offset 124 4 ∷ without_offset ∷ [])
+spelling (kind.Offset offset.Ldr) = spelled (codes "ldr") (with_offset 124 4 ∷ without_offset ∷ [])
+spelling (kind.Offset offset.Strb) = spelled (codes "strb") (with_offset 31 1 ∷ without_offset ∷ [])
+spelling (kind.Offset offset.Ldrb) = spelled (codes "ldrb") (with_offset 31 1 ∷ without_offset ∷ [])
+spelling (kind.Offset offset.Strh) = spelled (codes "strh") (with_offset 62 2 ∷ without_offset ∷ [])
+spelling (kind.Offset offset.Ldrh) = spelled (codes "ldrh") (with_offset 62 2 ∷ without_offset ∷ [])
+spelling (kind.Stack word.Str) = spelled (codes "str") (from_sp ∷ at_sp ∷ [])
+spelling (kind.Stack word.Ldr) = spelled (codes "ldr") (from_sp ∷ at_sp ∷ [])
+spelling kind.StackAddress = spelled (codes "add") ((first ∷ comma ∷ slot.Sp ∷ comma ∷ slot.Number place.Second 0 1020 4 ∷ []) ∷ [])
+spelling (kind.StackMove sum.Add) = spelled (codes "add") (sp_again ∷ sp_alone ∷ [])
+spelling (kind.StackMove sum.Sub) = spelled (codes "sub") (sp_again ∷ sp_alone ∷ [])
+spelling kind.Push = spelled (codes "push") ((slot.StackList place.First 14 ∷ []) ∷ [])
+spelling kind.Pop = spelled (codes "pop") ((slot.StackList place.First 15 ∷ []) ∷ [])
+spelling kind.StoreMany = spelled (codes "stm") (written_back ∷ [])
+spelling kind.LoadMany = spelled (codes "ldm") (load_apart ∷ load_within ∷ [])
+spelling kind.Bx = spelled (codes "bx") (one ∷ [])
+spelling kind.Blx = spelled (codes "blx") (one ∷ [])
+spelling kind.Breakpoint = spelled (codes "bkpt") (byte_alone ∷ [])
+spelling kind.Service = spelled (codes "svc") (byte_alone ∷ [])
+spelling (kind.Hint hint.Nop) = spelled (codes "nop") ([] ∷ [])
+spelling (kind.Hint hint.Yield) = spelled (codes "yield") ([] ∷ [])
+spelling (kind.Hint hint.Wfe) = spelled (codes "wfe") ([] ∷ [])
+spelling (kind.Hint hint.Wfi) = spelled (codes "wfi") ([] ∷ [])
+spelling (kind.Hint hint.Sev) = spelled (codes "sev") ([] ∷ [])
+spelling (kind.ChangeState interrupts.Enable) = spelled (codes "cpsie") ((slot.I ∷ []) ∷ [])
+spelling (kind.ChangeState interrupts.Disable) = spelled (codes "cpsid") ((slot.I ∷ []) ∷ [])
+spelling (kind.BranchIf condition.Eq) = spelled (codes "beq") (label ∷ [])
+spelling (kind.BranchIf condition.Ne) = spelled (codes "bne") (label ∷ [])
+spelling (kind.BranchIf condition.Cs) = spelled (codes "bcs") (label ∷ [])
+spelling (kind.BranchIf condition.Cc) = spelled (codes "bcc") (label ∷ [])
+spelling (kind.BranchIf condition.Mi) = spelled (codes "bmi") (label ∷ [])
+spelling (kind.BranchIf condition.Pl) = spelled (codes "bpl") (label ∷ [])
+spelling (kind.BranchIf condition.Vs) = spelled (codes "bvs") (label ∷ [])
+spelling (kind.BranchIf condition.Vc) = spelled (codes "bvc") (label ∷ [])
+spelling (kind.BranchIf condition.Hi) = spelled (codes "bhi") (label ∷ [])
+spelling (kind.BranchIf condition.Ls) = spelled (codes "bls") (label ∷ [])
+spelling (kind.BranchIf condition.Ge) = spelled (codes "bge") (label ∷ [])
+spelling (kind.BranchIf condition.Lt) = spelled (codes "blt") (label ∷ [])
+spelling (kind.BranchIf condition.Gt) = spelled (codes "bgt") (label ∷ [])
+spelling (kind.BranchIf condition.Le) = spelled (codes "ble") (label ∷ [])
+spelling kind.Branch = spelled (codes "b") (label ∷ [])
+spelling kind.Call = spelled (codes "bl") (label ∷ [])
+spelling (kind.Barrier barrier.Dsb) = spelled (codes "dsb") ((slot.Sy ∷ []) ∷ [] ∷ [])
+spelling (kind.Barrier barrier.Dmb) = spelled (codes "dmb") ((slot.Sy ∷ []) ∷ [] ∷ [])
+spelling (kind.Barrier barrier.Isb) = spelled (codes "isb") ((slot.Sy ∷ []) ∷ [] ∷ [])
+spelling (kind.ReadSpecial special.Primask) = spelled (codes "mrs") ((first ∷ comma ∷ slot.Primask ∷ []) ∷ [])
+spelling (kind.ReadSpecial special.Ipsr) = spelled (codes "mrs") ((first ∷ comma ∷ slot.Ipsr ∷ []) ∷ [])
+spelling kind.WriteMask = spelled (codes "msr") ((slot.Primask ∷ comma ∷ first ∷ []) ∷ [])
