@@ -8,6 +8,8 @@ use Rattle.thumb_model.specs.Listing.{Mention, Value, Statement, Nothing, Runs, 
 use Rattle.thumb_model.specs.Layout.{instr_size, size_at}
 use Rattle.thumb_model.specs.Laid.{return_address, ends_in_call}
 use Rattle.thumb_model.proofs.Lists.{get_front, get_back}
+use Rattle.thumb_model.proofs.Moved.{count_append}
+use Rattle.thumb_model.proofs.Returns.{no_words}
 use Rattle.label_layout.specs.Addresses.{word_addresses, addresses_in, addresses_from}
 use Rattle.label_layout.proofs.Sums.{places_counted_in}
 
@@ -15,17 +17,6 @@ use Rattle.label_layout.proofs.Sums.{places_counted_in}
 abbrev pub place_size : Place → ℕ
 place_size (Op i mention) = instr_size i
 place_size (Word v) = 4
-
-pub count_append : (xs ys : List Place) → call_count (xs ++ ys) ≡ call_count xs + call_count ys
-count_append [] ys = omega arith
-count_append (x ∷ xs) ys = elim (cases_Bool (is_call x)) [
-  | inl h ↦ rw h (omega (arith, count_append xs ys))
-  | inr h ↦ rw h (count_append xs ys)
-]
-
-pub no_words : (vs : List Value) → call_count (map Word vs) ≡ 0
-no_words [] = refl
-no_words (v ∷ vs) = no_words vs
 
 no_word_calls : (vs : List Value) (p : ℕ) (x : Place) → slice_get (map Word vs) p ≡ Some x → is_call x ≡ false
 no_word_calls [] p x e = absurd (let bad : None ≡ Some x = e in cc)

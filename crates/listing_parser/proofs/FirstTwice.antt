@@ -1,7 +1,13 @@
 -- The first line that defines a name again, as it is found line by line with the names that are known so far.
-use Rattle.std.specs.Prelude.{ℕ, ◌+◌, List, [], ◌∷◌, ◌++◌, Option, Some, None, if◌then◌else◌}
+use Rattle.std.specs.Prelude.{ℕ, ◌+◌, ◌||◌, Bool, false, List, [], ◌∷◌, ◌++◌, Option, Some, None, if◌then◌else◌}
 use Rattle.thumb_model.specs.Listing.{Name, Line}
-use Rattle.listing_parser.specs.TableWords.{defined_in, is_again}
+use Rattle.thumb_model.specs.Layout.{is_among}
+use Rattle.listing_parser.specs.TableWords.{defined_in}
+
+-- whether one of the names is known, or stands among them before itself
+abbrev pub is_again : List Name → List Name → Bool
+is_again known [] = false
+is_again known (n ∷ ns) = is_among n known || is_again (known ++ n ∷ []) ns
 
 -- the first line, counted from n, that defines a name which is known or defined before
 abbrev pub first_twice : ℕ → List Name → List Line → Option ℕ

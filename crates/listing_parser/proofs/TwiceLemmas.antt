@@ -1,6 +1,7 @@
 -- Names defined before.
-use Rattle.std.proofs.Common.{◌≡◌, ◌∙◌, inl, inr, ℕ, ◌+◌, ◌||◌, Bool, true, false, List, [], ◌∷◌, ◌++◌, length, map, refl, sym, ap, subst, arith, append_assoc, append-nil, Vec, Option, Some, None}
-use Rattle.std.specs.Prelude.{not}
+use Rattle.std.proofs.Common.{◌≡◌, ◌∙◌, inl, inr, ℕ, ◌+◌, ◌||◌, Bool, true, false, List, [], ◌∷◌, ◌++◌, length, map, refl, sym, ap, subst, arith, append_assoc, append-nil, Vec, Some, None}
+use Rattle.std.specs.Prelude.{not, Decides}
+use Rattle.std.specs.Bool.{one_answer}
 use Rattle.std.specs.List.{flat_map, list_any}
 use Rattle.std.proofs.lemmas.Bool.{cases_Bool, or_cases, false_from_ne_true}
 use Rattle.std.specs.Str.{bytes_eq}
@@ -9,8 +10,8 @@ use Rattle.std.proofs.lemmas.Slice.Eq.{bytes_eq-Decides}
 use Rattle.thumb_model.specs.Listing.{Name, Line}
 use Rattle.listing_parser.proofs.LabelLemmas.{among_append, among_front, among_last}
 use Rattle.thumb_model.specs.Layout.{is_among}
-use Rattle.listing_parser.specs.TableWords.{defined_in, DefineOnce, IsAgain, Known, Twice, IsFirstAgain, is_again}
-use Rattle.listing_parser.proofs.FirstTwice.{first_twice}
+use Rattle.listing_parser.specs.TableWords.{defined_in, DefineOnce, IsAgain, Known, Twice, IsFirstAgain}
+use Rattle.listing_parser.proofs.FirstTwice.{first_twice, is_again}
 
 pub among_keys : (name : Name) (ks : List (Vec ℕ Global)) → list_any (λ (k : Vec ℕ Global). bytes_eq name k.items) ks ≡ is_among name (map (λ (k : Vec ℕ Global). k.items) ks)
 among_keys name [] = refl
@@ -123,6 +124,15 @@ twice_again known (n ∷ ns) back name h = by (is_among n known) (elim (or_cases
 told_is : (known names : List Name) → IsAgain known names → is_again known names ≡ true
 told_is known names (Known name a k) = known_again known names name a k
 told_is known names (Twice front name back e h) = ap (is_again known) e ∙ twice_again known front back name h
+
+pub again_decides : (known names : List Name) (b : Bool) → b ≡ is_again known names → Decides b (IsAgain known names)
+again_decides known names b e = (λ t. is_told known names (sym e ∙ t), λ a. e ∙ told_is known names a)
+
+pub one_again : (name : Name) (known : List Name) → is_among name known ≡ is_again known (name ∷ [])
+one_again name known = sym (or_last (is_among name known))
+
+pub again_is : (known names : List Name) (b : Bool) → Decides b (IsAgain known names) → b ≡ is_again known names
+again_is known names b d = one_answer b (is_again known names) d (again_decides known names (is_again known names) refl)
 
 -- ---- the first line that defines a name again ----
 

@@ -1,5 +1,5 @@
 -- Where places stand, what stands before a line, and which names lines define.
-use Rattle.std.specs.Prelude.{◌≡◌, ℕ, ◌+◌, List, [], ◌∷◌, ◌++◌, length, Bool, true, false, ◌||◌, Option, Some, None, if◌then◌else◌}
+use Rattle.std.specs.Prelude.{◌≡◌, ℕ, ◌+◌, List, [], ◌∷◌, ◌++◌, length, Bool, true, Option, Some, None, if◌then◌else◌}
 use Rattle.std.specs.List.{flat_map}
 use Rattle.std.specs.Str.{bytes_eq}
 use Rattle.std.specs.declared.alloc.Global.{Global}
@@ -59,11 +59,6 @@ defined_in l = l.names ++ set_names l.statement
 pub data IsAgain (known names : List Name) : Type 0 where
   Known : (name : Name) → is_among name names ≡ true → is_among name known ≡ true → IsAgain known names
   Twice : (front : List Name) (name : Name) (back : List Name) → names ≡ front ++ name ∷ back → is_among name front ≡ true → IsAgain known names
-
--- the same as a test: whether one of the names is known, or stands among them before itself
-abbrev pub is_again : List Name → List Name → Bool
-is_again known [] = false
-is_again known (n ∷ ns) = is_among n known || is_again (known ++ n ∷ []) ns
 
 -- behind these lines, the line defines a name again: one that a line before it defines, or one that it defines twice itself
 abbrev pub DefinesAgain : List Line → Line → Type 0

@@ -1,8 +1,8 @@
 //! Names that are defined twice.
-ghost use Rattle.std.specs.Prelude.{◌≡◌, ◌++◌, ◌∷◌, [], true, false, map, IfOk, MatchOption};
+ghost use Rattle.std.specs.Prelude.{◌≡◌, ◌++◌, ◌∷◌, [], true, false, map, Decides, IfOk, MatchOption};
 ghost use Rattle.listing_parser.specs.Views.{line_view, statement_view};
 ghost use Rattle.thumb_model.specs.Layout.{is_among};
-ghost use Rattle.listing_parser.specs.TableWords.{defined_in, set_names, DefineOnce, IsFirstAgain, is_again};
+ghost use Rattle.listing_parser.specs.TableWords.{defined_in, set_names, DefineOnce, IsAgain, IsFirstAgain};
 
 use crate::errors::Memory;
 use crate::line::{Line, Statement};
@@ -22,7 +22,7 @@ pub fn add(alloc: Global, known: &mut IndexSet<Vec<u8>>, name: &[u8]) -> Result<
 
 /// Adds names, and answers whether one was known.
 fn add_all(alloc: Global, known: &mut IndexSet<Vec<u8>>, names: &[Vec<u8>]) -> Result<bool, Memory>
-    ensures again { IfOk result (λ b. b ≡ is_again (map (λ k. k.items) known.old.keys) (map (λ n. n.items) names.now)) }
+    ensures again { IfOk result (λ b. Decides b (IsAgain (map (λ k. k.items) known.old.keys) (map (λ n. n.items) names.now))) }
     ensures known { IfOk result (λ b. b ≡ false → map (λ k. k.items) known.new.keys ≡ map (λ k. k.items) known.old.keys ++ map (λ n. n.items) names.now) }
 {
     for name in names {
@@ -39,7 +39,7 @@ fn add_set(
     known: &mut IndexSet<Vec<u8>>,
     statement: &Statement,
 ) -> Result<bool, Memory>
-    ensures again { IfOk result (λ b. b ≡ is_again (map (λ k. k.items) known.old.keys) (set_names (statement_view statement.now))) }
+    ensures again { IfOk result (λ b. Decides b (IsAgain (map (λ k. k.items) known.old.keys) (set_names (statement_view statement.now)))) }
     ensures known { IfOk result (λ b. b ≡ false → map (λ k. k.items) known.new.keys ≡ map (λ k. k.items) known.old.keys ++ set_names (statement_view statement.now)) }
 {
     match statement {
@@ -50,7 +50,7 @@ fn add_set(
 
 /// Adds the names that a line defines, and answers whether one was known.
 fn add_line(alloc: Global, known: &mut IndexSet<Vec<u8>>, line: &Line) -> Result<bool, Memory>
-    ensures again { IfOk result (λ b. b ≡ is_again (map (λ k. k.items) known.old.keys) (defined_in (line_view line.now))) }
+    ensures again { IfOk result (λ b. Decides b (IsAgain (map (λ k. k.items) known.old.keys) (defined_in (line_view line.now)))) }
     ensures known { IfOk result (λ b. b ≡ false → map (λ k. k.items) known.new.keys ≡ map (λ k. k.items) known.old.keys ++ defined_in (line_view line.now)) }
 {
     if add_all(alloc, known, &line.names)? {

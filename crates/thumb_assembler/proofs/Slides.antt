@@ -5,6 +5,7 @@ use Rattle.std.specs.Str.{bytes_eq}
 use Rattle.std.proofs.lemmas.Bool.{cases_Bool, cases_lt, and_from, and_parts, le-leb, lt-ltb, ltb-true, leb-true, or_right}
 use Rattle.std.proofs.lemmas.Slice.Eq.{bytes_eq-Decides}
 use Rattle.thumb_model.proofs.Moved.{count_append}
+use Rattle.thumb_model.proofs.Returns.{no_words}
 use Rattle.thumb_instr.specs.declared.instr.Instr.{Instr}
 use Rattle.thumb_instr.specs.declared.instr.Instr.TheVariants as instr
 use Rattle.thumb_instr.specs.declared.operation.Hint.TheVariants as hint
@@ -236,10 +237,6 @@ module _ (base : ℕ) (set : Name → ℕ) (all : List Line) (bytes : List ℕ) 
 
   count_front : (before : List Line) (l : Line) → call_count (places_of (before ++ l ∷ [])) ≡ call_count (places_of before ++ places_in l.statement)
   count_front before l = ap call_count (places_append before (l ∷ []) ∙ ap (λ (ps : List Place). places_of before ++ ps) (append-nil (places_in l.statement)))
-
-  no_words : (vs : List Value) → call_count (map Word vs) ≡ 0
-  no_words [] = refl
-  no_words (v ∷ vs) = no_words vs
 
   abbrev ReturnsFrom : List Line → List Line → Type 0
   ReturnsFrom after before = (j w p : ℕ) → slice_get (returns_from names (call_count (places_of before)) (length (places_of before)) (places_of after)) j ≡ Some (w, p) → PointIs w p

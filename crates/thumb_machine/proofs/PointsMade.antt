@@ -1,11 +1,12 @@
 -- The least places of words, as they are gathered.
-use Rattle.std.proofs.Common.{◌≡◌, inl, inr, ℕ, zero, suc, ◌+◌, ◌∙◌, Bool, true, false, List, [], ◌∷◌, ◌++◌, Option, Some, None, length, drop, refl, sym, ap, arith, add-one, if◌then◌else◌}
+use Rattle.std.proofs.Common.{◌≡◌, inl, inr, ℕ, zero, suc, ◌+◌, ◌∙◌, true, false, List, [], ◌∷◌, ◌++◌, Option, Some, None, length, drop, refl, sym, ap, arith, add-one, append_assoc, if◌then◌else◌}
 use Rattle.std.specs.Prelude.{slice_get}
 use Rattle.std.proofs.lemmas.Bool.{cases_Bool}
 use Rattle.std.proofs.lemmas.Option.{same_Some}
-use Rattle.thumb_model.specs.Listing.{Name, Label, Line, Place, is_call, is_op_place, labels_at, labels_from, places_in}
+use Rattle.thumb_model.specs.Listing.{Label, Line, Place, is_call, is_code, is_op_place, labels_at, labels_from, places_in}
 use Rattle.thumb_model.specs.Machine.{Naming, point_among, points_of, returns_from}
-use Rattle.thumb_machine.specs.Making.{code_points_at, labels_points, merged, return_point_at, returns_points}
+use Rattle.thumb_machine.specs.Making.{merged}
+use Rattle.thumb_machine.specs.Walking.{name_points}
 
 pub merged_none : (o : Option ℕ) → merged o None ≡ o
 merged_none None = refl
@@ -16,38 +17,49 @@ drop_at [] p x h = absurd (cc)
 drop_at (y ∷ ys) zero x h = ap (λ z. z ∷ ys) (same_Some y x h)
 drop_at (y ∷ ys) (suc p) x h = drop_at ys p x h
 
-count_next : (b : Bool) (k : ℕ) → (if b then k + 1 else k) ≡ k + (if b then 1 else 0)
-count_next true k = refl
-count_next false k = omega arith
+-- ---- return points ----
 
--- the return point of the next place comes before the others
-pub returns_next : (w : ℕ) (names : Naming) (k n p : ℕ) (xs : List Place) (x : Place) (rest : Option ℕ) → slice_get xs p ≡ Some x → n ≡ k + (if is_call x then 1 else 0)
-    → return_point_at w names k p x (returns_points w names n (p + 1) (drop (p + 1) xs) rest) ≡ returns_points w names k p (drop p xs) rest
-returns_next w names k n p xs x rest at_p next =
-    let tail : drop p xs ≡ x ∷ drop (p + 1) xs = rw add-one (drop_at xs p x at_p) in
-    ap (λ m. return_point_at w names k p x (returns_points w names m (p + 1) (drop (p + 1) xs) rest)) (next ∙ sym (count_next (is_call x) k)) ∙ sym (ap (λ ys. returns_points w names k p ys rest) tail)
-
-pub returns_are : (w : ℕ) (names : Naming) (k p : ℕ) (xs : List Place) → returns_points w names k p xs None ≡ point_among w (returns_from names k p xs)
-returns_are w names k p [] = refl
-returns_are w names k p (x ∷ xs) = elim (cases_Bool (is_call x)) [
-  | inl e ↦ rw (e, returns_are w names (k + 1) (p + 1) xs) refl
-  | inr e ↦ rw (e, returns_are w names k (p + 1) xs) refl
+-- the return point of one place, and others
+returns_one : (names : Naming) (k p : ℕ) (x : Place) (xs : List Place) → returns_from names k p (x ∷ []) ++ returns_from names (k + (if is_call x then 1 else 0)) (p + 1) xs ≡ returns_from names k p (x ∷ xs)
+returns_one names k p x xs = elim (cases_Bool (is_call x)) [
+  | inl e ↦ rw e refl
+  | inr e ↦ rw e (ap (λ n. returns_from names n (p + 1) xs) (let z : k + 0 ≡ k = omega arith in z))
 ]
 
--- the labels of one line, and then others
-line_points : (w : ℕ) (names : Naming) (places : List Place) (p : ℕ) (ns : List Name) (rest : List Label) (others : List (ℕ × ℕ))
-    → point_among w (points_of names places (labels_at p ns ++ rest) ++ others) ≡ code_points_at w names places p ns (point_among w (points_of names places rest ++ others))
-line_points w names places p [] rest others = elim (cases_Bool (is_op_place (slice_get places p))) [ inl e ↦ rw e refl | inr e ↦ rw e refl ]
-line_points w names places p (n ∷ ns) rest others =
-    let before : point_among w (points_of names places (labels_at p ns ++ rest) ++ others) ≡ code_points_at w names places p ns (point_among w (points_of names places rest ++ others)) = line_points w names places p ns rest others in
-    elim (cases_Bool (is_op_place (slice_get places p))) [
-      | inl e ↦ rw e (rw (rw e at before) refl)
-      | inr e ↦ rw e (rw e at before)
-    ]
+-- the return point of the next place comes before the others
+pub returns_next : (w : ℕ) (names : Naming) (k n p : ℕ) (xs : List Place) (x : Place) (rest : List (ℕ × ℕ)) → slice_get xs p ≡ Some x → n ≡ k + (if is_call x then 1 else 0)
+    → point_among w (returns_from names k p (x ∷ []) ++ (returns_from names n (p + 1) (drop (p + 1) xs) ++ rest)) ≡ point_among w (returns_from names k p (drop p xs) ++ rest)
+returns_next w names k n p xs x rest at_p next =
+    let tail : drop p xs ≡ x ∷ drop (p + 1) xs = rw add-one (drop_at xs p x at_p) in
+    ap (point_among w) (
+    sym (append_assoc (returns_from names k p (x ∷ [])) (returns_from names n (p + 1) (drop (p + 1) xs)) rest)
+    ∙ ap (λ (ps : List (ℕ × ℕ)). ps ++ rest) (
+    ap (λ m. returns_from names k p (x ∷ []) ++ returns_from names m (p + 1) (drop (p + 1) xs)) next ∙ returns_one names k p x (drop (p + 1) xs) ∙ ap (returns_from names k p) (sym tail)
+    )
+    )
 
-pub labels_are : (w : ℕ) (names : Naming) (places : List Place) (p : ℕ) (ls : List Line) (others : List (ℕ × ℕ))
-    → labels_points w names places p ls (point_among w others) ≡ point_among w (points_of names places (labels_from p ls) ++ others)
-labels_are w names places p [] others = refl
-labels_are w names places p (l ∷ ls) others =
-    ap (λ o. code_points_at w names places p l.names o) (labels_are w names places (p + length (places_in l.statement)) ls others)
-    ∙ sym (line_points w names places p l.names (labels_from (p + length (places_in l.statement)) ls) others)
+-- ---- labels ----
+
+-- labels at one place are all code, or none is
+pub labels_code : (names : Naming) (places : List Place) (p : ℕ) (ns : List (List ℕ)) → is_op_place (slice_get places p) ≡ true → points_of names places (labels_at p ns) ≡ name_points names p ns
+labels_code names places p [] h = refl
+labels_code names places p (n ∷ ns) h = rw h (ap (λ (ps : List (ℕ × ℕ)). (names.word_of n, p) ∷ ps) (labels_code names places p ns h))
+
+pub labels_data : (names : Naming) (places : List Place) (p : ℕ) (ns : List (List ℕ)) → is_op_place (slice_get places p) ≡ false → points_of names places (labels_at p ns) ≡ []
+labels_data names places p [] h = refl
+labels_data names places p (n ∷ ns) h = rw h (labels_data names places p ns h)
+
+points_append : (names : Naming) (places : List Place) (xs ys : List Label) → points_of names places (xs ++ ys) ≡ points_of names places xs ++ points_of names places ys
+points_append names places [] ys = refl
+points_append names places (x ∷ xs) ys = elim (cases_Bool (is_code places x)) [
+  | inl t ↦ rw t (ap (λ (ps : List (ℕ × ℕ)). (names.word_of x.name, x.place) ∷ ps) (points_append names places xs ys))
+  | inr t ↦ rw t (points_append names places xs ys)
+]
+
+-- the labels of one line come before those of the others
+pub labels_next : (w : ℕ) (names : Naming) (places : List Place) (p : ℕ) (l : Line) (ls : List Line) (rest : List (ℕ × ℕ))
+    → point_among w (points_of names places (labels_at p l.names) ++ (points_of names places (labels_from (p + length (places_in l.statement)) ls) ++ rest)) ≡ point_among w (points_of names places (labels_from p (l ∷ ls)) ++ rest)
+labels_next w names places p l ls rest =
+    let here = labels_at p l.names in
+    let behind = labels_from (p + length (places_in l.statement)) ls in
+    ap (point_among w) (sym (append_assoc (points_of names places here) (points_of names places behind) rest) ∙ ap (λ (ps : List (ℕ × ℕ)). ps ++ rest) (sym (points_append names places here behind)))

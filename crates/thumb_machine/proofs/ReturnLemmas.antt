@@ -1,15 +1,16 @@
 -- Calls and the words of their return points.
-use Rattle.std.proofs.Common.{◌≡◌, ◌∙◌, inl, inr, ℕ, zero, suc, ◌+◌, ◌-◌, ◌<◌, true, false, List, [], ◌∷◌, ◌++◌, length, take, Option, Some, refl, sym, ap, arith, below_more, length-append, Bool, if◌then◌else◌}
+use Rattle.std.proofs.Common.{◌≡◌, ◌∙◌, inl, inr, ℕ, zero, suc, ◌+◌, ◌-◌, ◌<◌, true, false, List, [], ◌∷◌, ◌++◌, length, take, Option, Some, refl, sym, ap, arith, below_more, length-append, if◌then◌else◌}
 use Rattle.std.specs.Prelude.{slice_get, slice_index}
 use Rattle.std.proofs.lemmas.Bool.{cases_Bool}
 use Rattle.thumb_instr.specs.declared.instr.Instr.{Instr}
-use Rattle.thumb_model.specs.Listing.{Statement, Nothing, Runs, Words, Aligns, Sets, Line, Mention, Place, Op, call_count, is_call, is_call_instr, places_in, places_of}
-use Rattle.thumb_model.specs.Layout.{end_of, instr_size, size_at}
-use Rattle.thumb_model.specs.Laid.{ends_in_call, last_is_call, return_address}
+use Rattle.thumb_model.specs.Listing.{Line, Mention, Place, Op, call_count, is_call, is_call_instr, places_of}
+use Rattle.thumb_model.specs.Layout.{end_of, instr_size}
+use Rattle.thumb_model.specs.Laid.{last_is_call, return_address}
+use Rattle.thumb_model.specs.Returns.{IsCutAtCall}
+use Rattle.thumb_model.proofs.Returns.{call_within, laid_behind}
 use Rattle.label_layout.specs.Addresses.{Addresses, AreAddresses}
-use Rattle.label_layout.proofs.Calls.{count_append, no_words, return_point}
+use Rattle.label_layout.proofs.Calls.{return_point}
 use Rattle.label_layout.proofs.Sums.{places_counted}
-use Rattle.thumb_machine.specs.Laid.{IsCutAtCall}
 use Rattle.thumb_machine.specs.Returns.{AreReturns, is_call_place}
 
 -- the layout has an address for each place
@@ -67,61 +68,8 @@ last_at [] = refl
 last_at (p ∷ []) = refl
 last_at (p ∷ q ∷ ps) = let e : length (p ∷ q ∷ ps) - 1 ≡ suc (length (q ∷ ps) - 1) = omega arith in ap (λ (n : ℕ). is_call_place (slice_get (p ∷ q ∷ ps) n)) e ∙ last_at (q ∷ ps)
 
--- ---- cuts ----
-
-statement_calls : (s : Statement) → call_count (places_in s) ≡ (if ends_in_call s then 1 else 0)
-statement_calls (Runs i mention) = refl
-statement_calls (Words vs) = no_words vs
-statement_calls Nothing = refl
-statement_calls (Aligns size most) = refl
-statement_calls (Sets name address) = refl
-
-line_calls : (l : Line) (ls : List Line) (b : Bool) → ends_in_call l.statement ≡ b → call_count (places_of (l ∷ ls)) ≡ (if b then 1 else 0) + call_count (places_of ls)
-line_calls l ls b e = count_append (places_in l.statement) (places_of ls) ∙ ap (λ n. n + call_count (places_of ls)) (statement_calls l.statement ∙ ap (λ c. if c then 1 else 0) e)
-
-calls_append : (xs ys : List Line) → call_count (places_of (xs ++ ys)) ≡ call_count (places_of xs) + call_count (places_of ys)
-calls_append [] ys = omega arith
-calls_append (x ∷ xs) ys =
-    let all = count_append (places_in x.statement) (places_of (xs ++ ys)) in
-    let front = count_append (places_in x.statement) (places_of xs) in
-    let rest = calls_append xs ys in
-    omega arith
-
--- lines are cut at a call, before which others stand, and its return point lies behind it
-abbrev CallBehind : ℕ → List Line → Line → List Line → Type 0
-CallBehind at before call after = (k : ℕ) → k ≡ call_count (places_of before) → return_address k at (before ++ call ∷ after) ≡ end_of at (before ++ call ∷ [])
-
-pub return_behind : (k at : ℕ) (before : List Line) (call : Line) (after : List Line) → ends_in_call call.statement ≡ true → k ≡ call_count (places_of before)
-    → return_address k at (before ++ call ∷ after) ≡ end_of at (before ++ call ∷ [])
-return_behind zero at [] call after h e = rw h refl
-return_behind (suc k) at [] call after h e = absurd (omega arith)
-return_behind k at (b ∷ bs) call after h e =
-    let rest = λ (n : ℕ) (f : n ≡ call_count (places_of bs)). return_behind n (at + size_at b.statement at) bs call after h f in
-    elim (cases_Bool (ends_in_call b.statement)) [
-      | inl c ↦ past_call k rest c (e ∙ line_calls b bs true c)
-      | inr c ↦ past_other k rest c (e ∙ line_calls b bs false c)
-    ]
-  where
-    past_call : (k : ℕ) → CallBehind (at + size_at b.statement at) bs call after → ends_in_call b.statement ≡ true → k ≡ 1 + call_count (places_of bs) → return_address k at (b ∷ (bs ++ call ∷ after)) ≡ end_of (at + size_at b.statement at) (bs ++ call ∷ [])
-    past_call zero rest c e = absurd (omega arith)
-    past_call (suc k) rest c e = rw c (rest k (omega arith))
-
-    past_other : (k : ℕ) → CallBehind (at + size_at b.statement at) bs call after → ends_in_call b.statement ≡ false → k ≡ 0 + call_count (places_of bs) → return_address k at (b ∷ (bs ++ call ∷ after)) ≡ end_of (at + size_at b.statement at) (bs ++ call ∷ [])
-    past_other zero rest c e = rw c (rest 0 (omega arith))
-    past_other (suc k) rest c e = rw c (rest (suc k) (omega arith))
-
--- there are as many calls as stand before it, and more
-pub call_within : (lines before after : List Line) (call : Line) → lines ≡ before ++ call ∷ after → ends_in_call call.statement ≡ true → call_count (places_of before) < call_count (places_of lines)
-call_within lines before after call cut h =
-    let all : call_count (places_of lines) ≡ call_count (places_of (before ++ call ∷ after)) = ap (λ (ls : List Line). call_count (places_of ls)) cut in
-    let split = calls_append before (call ∷ after) in
-    let one = line_calls call after true h in
-    omega arith
-
 -- a naming's words are those of the layout, where its words of calls are
 pub laid_returns : (base : ℕ) (lines : List Line) (words : List ℕ) → AreReturns base lines (call_count (places_of lines)) words
     → (k : ℕ) (before : List Line) (call : Line) (after : List Line) → IsCutAtCall lines k before call after → slice_index words k ≡ end_of base (before ++ call ∷ []) + 1
 laid_returns base lines words are k before call after is =
-    let within = call_within lines before after call is.cut is.calls in
-    are.words k (omega (arith, is.number))
-    ∙ ap (λ (n : ℕ). n + 1) (ap (return_address k base) is.cut ∙ return_behind k base before call after is.calls is.number)
+    are.words k (call_within lines k before call after is) ∙ laid_behind base (λ name. 0) lines k before call after is

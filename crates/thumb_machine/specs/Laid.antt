@@ -1,11 +1,12 @@
 -- The naming that a trace runs under: that of the layout, with words for external names.
-use Rattle.std.specs.Prelude.{◌≡◌, ℕ, ◌+◌, ◌*◌, ◌%◌, ◌^◌, not, Bool, true, List, [], ◌∷◌, ◌++◌, Option, Some, None, is_some, unwrap_or, if◌then◌else◌}
+use Rattle.std.specs.Prelude.{◌≡◌, ℕ, ◌+◌, ◌*◌, ◌%◌, ◌^◌, not, Bool, List, [], ◌∷◌, ◌++◌, Option, Some, None, is_some, unwrap_or, if◌then◌else◌}
 use Rattle.std.specs.List.{filter, filter_map}
 use Rattle.std.specs.Str.{bytes_eq}
-use Rattle.thumb_model.specs.Listing.{Name, Mention, Value, Number, OfName, Place, Op, Word, Line, places_of, call_count}
+use Rattle.thumb_model.specs.Listing.{Name, Mention, Value, Number, OfName, Place, Op, Word, Line, places_of}
 use Rattle.thumb_model.specs.Layout.{end_of, lies_in, or_else, set_address}
 use Rattle.thumb_model.specs.Machine.{Naming}
-use Rattle.thumb_model.specs.Laid.{ends_in_call, laid}
+use Rattle.thumb_model.specs.Laid.{laid}
+use Rattle.thumb_model.specs.Returns.{IsCutAtCall}
 
 -- ---- external names without an address ----
 
@@ -44,12 +45,6 @@ abbrev pub outside_word : ℕ → List Line → Name → ℕ
 outside_word base lines name = unwrap_or (or_else (set_address name lines) (own_word 0 name (nowhere base lines))) 0
 
 -- ---- the naming ----
-
--- lines cut at call number k, counted from 0: so many calls stand before it
-pub record IsCutAtCall (lines : List Line) (k : ℕ) (before : List Line) (call : Line) (after : List Line) : Type 0 where
-  pub cut : lines ≡ before ++ call ∷ after
-  pub calls : ends_in_call call.statement ≡ true
-  pub number : k ≡ call_count (places_of before)
 
 -- the words of all names and the range are those of the layout from a base, and the word of a call's return point is 1 more than the address behind the call
 pub record IsLaid (base : ℕ) (lines : List Line) (names : Naming) : Type 0 where

@@ -1,10 +1,11 @@
-ghost use Rattle.std.specs.Prelude.{◌≡◌, ◌==◌, ◌<◌, ◌-◌, ◌^◌, ℕ, Option, map, nat_eq, length, IfOk, OnOk, if◌then◌else◌};
+ghost use Rattle.std.specs.Prelude.{◌≡◌, ◌==◌, ◌<◌, ◌-◌, ◌^◌, ◌∷◌, [], ◌++◌, ℕ, List, map, nat_eq, length, IfOk, OnOk, if◌then◌else◌};
 ghost use Rattle.std.specs.HashMap.{get};
-ghost use Rattle.thumb_model.specs.Listing.{code_of, places_of};
-ghost use Rattle.thumb_model.specs.Machine.{least_or, point_among, points};
+ghost use Rattle.thumb_model.specs.Listing.{code_of, labels_at, labels_from, places_of};
+ghost use Rattle.thumb_model.specs.Machine.{least_or, point_among, points, points_of, returns_from};
 ghost use Rattle.listing_parser.specs.Views.{line_view, place_view};
-ghost use Rattle.thumb_machine.specs.Making.{code_points_at, labels_points, merged, points_at, return_point_at, returns_points};
+ghost use Rattle.thumb_machine.specs.Making.{merged};
 ghost use Rattle.thumb_machine.specs.Naming.{naming_of};
+ghost use Rattle.thumb_machine.specs.Walking.{name_points};
 
 use crate::making::calls_in;
 use crate::naming::Naming;
@@ -31,7 +32,7 @@ fn add_names(
     names: &[Vec<u8>],
     place: u32,
 ) -> Result<(), AllocError>
-    ensures { OnOk result ((w : ℕ) (rest : Option ℕ) → merged (get nat_eq points.new w) rest ≡ merged (get nat_eq points.old w) (points_at w (naming_of naming.now) place (map (λ name. name.items) names.now) rest)) }
+    ensures { OnOk result ((w : ℕ) (rest : List (ℕ × ℕ)) → merged (get nat_eq points.new w) (point_among w rest) ≡ merged (get nat_eq points.old w) (point_among w (name_points (naming_of naming.now) place (map (λ name. name.items) names.now) ++ rest))) }
 {
     for name in names {
         add_point(points, naming.word(name.as_slice()), place)?;
@@ -47,7 +48,7 @@ fn add_line(
     names: &[Vec<u8>],
     place: u32,
 ) -> Result<(), AllocError>
-    ensures { OnOk result ((w : ℕ) (rest : Option ℕ) → merged (get nat_eq points.new w) rest ≡ merged (get nat_eq points.old w) (code_points_at w (naming_of naming.now) (places_of listing.now) place (map (λ name. name.items) names.now) rest)) }
+    ensures { OnOk result ((w : ℕ) (rest : List (ℕ × ℕ)) → merged (get nat_eq points.new w) (point_among w rest) ≡ merged (get nat_eq points.old w) (point_among w (points_of (naming_of naming.now) (places_of listing.now) (labels_at place (map (λ name. name.items) names.now)) ++ rest))) }
 {
     if !listing.is_op(place) {
         return Ok(());
@@ -63,7 +64,7 @@ fn add_labels(
     lines: &[Line],
 ) -> Result<(), AllocError>
     requires { map line_view lines.now ≡ listing.now }
-    ensures { OnOk result ((w : ℕ) (rest : Option ℕ) → merged (get nat_eq points.new w) rest ≡ merged (get nat_eq points.old w) (labels_points w (naming_of naming.now) (places_of listing.now) 0 (map line_view lines.now) rest)) }
+    ensures { OnOk result ((w : ℕ) (rest : List (ℕ × ℕ)) → merged (get nat_eq points.new w) (point_among w rest) ≡ merged (get nat_eq points.old w) (point_among w (points_of (naming_of naming.now) (places_of listing.now) (labels_from 0 (map line_view lines.now)) ++ rest))) }
 {
     let _count = listing.place_count();
     let mut place = 0usize;
@@ -83,7 +84,7 @@ fn add_return(
     place: u32,
 ) -> Result<(), AllocError>
     requires { place < 2 ^ 32 - 1 }
-    ensures { OnOk result ((w : ℕ) (rest : Option ℕ) → merged (get nat_eq points.new w) rest ≡ merged (get nat_eq points.old w) (return_point_at w (naming_of naming.now) call place (place_view found.entry) rest)) }
+    ensures { OnOk result ((w : ℕ) (rest : List (ℕ × ℕ)) → merged (get nat_eq points.new w) (point_among w rest) ≡ merged (get nat_eq points.old w) (point_among w (returns_from (naming_of naming.now) call place (place_view found.entry ∷ []) ++ rest))) }
 {
     if calls_in(found) == 0 {
         return Ok(());
@@ -97,7 +98,7 @@ fn add_returns(
     naming: &Naming,
     listing: &Listing,
 ) -> Result<(), AllocError>
-    ensures { OnOk result ((w : ℕ) (rest : Option ℕ) → merged (get nat_eq points.new w) rest ≡ merged (get nat_eq points.old w) (returns_points w (naming_of naming.now) 0 0 (places_of listing.now) rest)) }
+    ensures { OnOk result ((w : ℕ) (rest : List (ℕ × ℕ)) → merged (get nat_eq points.new w) (point_among w rest) ≡ merged (get nat_eq points.old w) (point_among w (returns_from (naming_of naming.now) 0 0 (places_of listing.now) ++ rest))) }
 {
     let mut calls = 0usize;
     for place in 0..listing.place_count() {

@@ -17,3 +17,4 @@ pub mod Unique
 pub mod Examples
 pub mod Cuts
 pub mod Reaches
+pub mod Returns

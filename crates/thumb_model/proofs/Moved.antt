@@ -29,7 +29,7 @@ count_none : (xs : List Place) → AreNoCalls xs → call_count xs ≡ 0
 count_none [] h = refl
 count_none (x ∷ xs) h = rw h.0 (count_none xs h.1)
 
-returns_append : (names : Naming) (k q m r : ℕ) (xs ys : List Place) → m ≡ k + call_count xs → r ≡ q + length xs → returns_from names k q (xs ++ ys) ≡ returns_from names k q xs ++ returns_from names m r ys
+pub returns_append : (names : Naming) (k q m r : ℕ) (xs ys : List Place) → m ≡ k + call_count xs → r ≡ q + length xs → returns_from names k q (xs ++ ys) ≡ returns_from names k q xs ++ returns_from names m r ys
 returns_append names k q m r [] ys e f = ap (λ a. returns_from names a q ys) (let e' : k ≡ m = omega arith in e') ∙ ap (λ a. returns_from names m a ys) (let f' : q ≡ r = omega arith in f')
 returns_append names k q m r (x ∷ xs) ys e f =
     elim (is_call x) as (λ b. is_call x ≡ b → (if b then (names.return_word k, q + 1) ∷ returns_from names (k + 1) (q + 1) (xs ++ ys) else returns_from names k (q + 1) (xs ++ ys)) ≡ (if b then (names.return_word k, q + 1) ∷ returns_from names (k + 1) (q + 1) xs else returns_from names k (q + 1) xs) ++ returns_from names m r ys) [

@@ -10,4 +10,5 @@ pub mod Rewrite
 pub mod Rewritten
 pub mod Cuts
 pub mod Laid
+pub mod Returns
 pub mod Laws

@@ -3,6 +3,7 @@
 ghost use Rattle.thumb_model.specs.Cuts.{ReplacedLinesAreACut};
 ghost use Rattle.thumb_model.specs.Laws.{StepsKeepWorlds, OnlyItemsAreLive, ReplacingKeepsRuns, RewritingKeepsRuns, RewritingIsComplete, RewritingStaysLayable, RewritingShortens, PointsArePlaces, LabelsStayCode, LinesAreReplacedAsPlaces};
 ghost use Rattle.thumb_model.specs.Reaches.{ReachesAreFields};
+ghost use Rattle.thumb_model.specs.Returns.{ReturnsAreCuts};
 ghost use Rattle.thumb_model.specs.Rewritten.{IsDetermined};
 
 /// A step leaves each number in its range, under a naming that fits.
@@ -68,4 +69,9 @@ pub fn labels_stay_code()
 /// What the layout lets through is what an encoding's field holds: an even distance of a branch, and words past a literal's rounded address.
 pub fn reaches_are_fields()
     ensures { ReachesAreFields }
+{}
+
+/// Each call has a cut at it, before which as many calls stand as its number says; its return point is the place behind it, and where lines are laid out 1 more than the address behind it.
+pub fn returns_are_cuts()
+    ensures { ReturnsAreCuts }
 {}

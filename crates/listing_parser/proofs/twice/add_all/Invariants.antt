@@ -1,5 +1,5 @@
 use Rattle.std.proofs.Common.{◌≡◌, ◌++◌, map, take, drop}
-use Rattle.listing_parser.specs.TableWords.{is_again}
+use Rattle.listing_parser.proofs.FirstTwice.{is_again}
 use Rattle.listing_parser.proofs.twice.add_all.Given as goal
 
 abbrev pub invariant-loop-name : goal.invariant-loop-name

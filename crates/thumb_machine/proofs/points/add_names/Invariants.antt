@@ -1,11 +1,13 @@
-use Rattle.std.proofs.Common.{◌≡◌, ℕ, drop, map, Option, nat_eq}
+use Rattle.std.proofs.Common.{◌≡◌, ◌++◌, ℕ, List, drop, map, nat_eq}
 use Rattle.std.specs.HashMap.{get}
-use Rattle.thumb_machine.specs.Making.{merged, points_at}
+use Rattle.thumb_model.specs.Machine.{point_among}
+use Rattle.thumb_machine.specs.Making.{merged}
 use Rattle.thumb_machine.specs.Naming.{naming_of}
+use Rattle.thumb_machine.specs.Walking.{name_points}
 use Rattle.thumb_machine.proofs.points.add_names.Given as goal
 
 abbrev pub invariant-loop-name : goal.invariant-loop-name
 invariant-loop-name l =
-    (w : ℕ) (rest : Option ℕ)
-    → merged (get nat_eq l.points w) (points_at w (naming_of l.naming) l.place (map (λ name. name.items) (drop l.name-index l.names)) rest)
-    ≡ merged (get nat_eq l.fn.points w) (points_at w (naming_of l.naming) l.place (map (λ name. name.items) l.names) rest)
+    (w : ℕ) (rest : List (ℕ × ℕ))
+    → merged (get nat_eq l.points w) (point_among w (name_points (naming_of l.naming) l.place (map (λ name. name.items) (drop l.name-index l.names)) ++ rest))
+    ≡ merged (get nat_eq l.fn.points w) (point_among w (name_points (naming_of l.naming) l.place (map (λ name. name.items) l.names) ++ rest))

@@ -1,0 +1,40 @@
+-- Where the return points of calls lie: behind a cut at the call, whose number is how many calls stand before it.
+use Rattle.std.specs.Prelude.{◌≡◌, ◌↔◌, ℕ, ◌+◌, ◌<◌, true, List, [], ◌∷◌, ◌++◌, length, Contains}
+use Rattle.thumb_model.specs.Listing.{Name, Line, Place, places_of, is_call, call_count}
+use Rattle.thumb_model.specs.Layout.{end_of}
+use Rattle.thumb_model.specs.Laid.{ends_in_call, laid}
+use Rattle.thumb_model.specs.Machine.{Naming, returns_from}
+
+-- lines cut at call number k, counted from 0: so many calls stand before it
+pub record IsCutAtCall (lines : List Line) (k : ℕ) (before : List Line) (call : Line) (after : List Line) : Type 0 where
+  pub cut : lines ≡ before ++ call ∷ after
+  pub calls : ends_in_call call.statement ≡ true
+  pub number : k ≡ call_count (places_of before)
+
+-- each call's number has a cut
+abbrev pub EachCallIsACut : Type 0
+EachCallIsACut = (lines : List Line) (k : ℕ) → k < call_count (places_of lines) → (before : List Line) × (call : Line) × (after : List Line) × IsCutAtCall lines k before call after
+
+-- where lines are laid out, the word of a call's return point is 1 more than the address behind the call
+abbrev pub LaidReturnsLieBehind : Type 0
+LaidReturnsLieBehind = (base : ℕ) (set : Name → ℕ) (lines : List Line) (k : ℕ) (before : List Line) (call : Line) (after : List Line)
+    → IsCutAtCall lines k before call after → (laid base set lines).return_word k ≡ end_of base (before ++ call ∷ []) + 1
+
+-- a place right behind a call, with the word of the call's number
+pub record IsReturnPoint (names : Naming) (places : List Place) (w p : ℕ) : Type 0 where
+  pub before : List Place
+  pub call : Place
+  pub after : List Place
+  pub cut : places ≡ before ++ call ∷ after
+  pub calls : is_call call ≡ true
+  pub word : w ≡ names.return_word (call_count before)
+  pub place : p ≡ length before + 1
+
+-- the return points of places are these
+abbrev pub ReturnPointsStandBehind : Type 0
+ReturnPointsStandBehind = (names : Naming) (places : List Place) (w p : ℕ) → Contains (returns_from names 0 0 places) (w, p) ↔ IsReturnPoint names places w p
+
+pub record ReturnsAreCuts : Type 0 where
+  pub each : EachCallIsACut
+  pub laid : LaidReturnsLieBehind
+  pub points : ReturnPointsStandBehind
