@@ -116,6 +116,14 @@ letter_flow i f uses writes l e u w =
     or_none true = refl
     or_none false = refl
 
+-- the flow of an instruction whose one way goes straight on
+pub onward_flow : (p : ℕ) (reads writes : List ℕ) (w : Ways) (rest : List Ways) → AreWays p (way reads writes Onward ∷ []) (w ∷ rest) → FlowOf (way reads writes Onward ∷ []) (record { reads = w.uses; onward = Some w.writes })
+onward_flow p reads writes w rest a = record { reads = λ x. a.0.uses x ∙ or_none (one_of x reads); onward = a.0.writes }
+  where
+    or_none : (b : Bool) → b ≡ (b || false)
+    or_none true = refl
+    or_none false = refl
+
 -- the flows of the listing in which a window gave way
 pub flows_kept : (code : Code) (p : ℕ) (window new : List Instr) → KeepsAt code p window new → (fs news : List Flow) → AreFlows code fs → length news ≡ length new
     → ((j : ℕ) (i : Instr) (f : Flow) → slice_get new j ≡ Some i → slice_get news j ≡ Some f → FlowOf (ways_of None i) f)

@@ -1,18 +1,18 @@
 //! What a place reads, and what it writes on its way to the next place.
-ghost use Rattle.std.specs.Prelude.{◌≡◌, ℕ, Option, true, None, Some, IfOk, IfSome, slice_get};
+ghost use Rattle.std.specs.Prelude.{◌≡◌, ◌<◌, ◌-◌, ◌^◌, ℕ, [], length, Option, true, None, Some, IfOk};
 ghost use Rattle.thumb_instr.specs.Items.{has, one_of};
 ghost use Rattle.thumb_instr.specs.Window.{is_in_window};
-ghost use Rattle.thumb_model.specs.Listing.{code_of, places_of, Op, Mention as Mentioned};
+ghost use Rattle.thumb_model.specs.Listing.{code_of, places_of};
 ghost use Rattle.thumb_model.specs.Machine.{answered};
 ghost use Rattle.thumb_model.specs.Flow.{ways, ways_of};
-ghost use Rattle.code_flow.specs.Flow.{way_list};
+ghost use Rattle.code_flow.specs.Flow.{AreWays, way_list};
 ghost use Rattle.liveness.specs.Kept.{is_straight, some_reads, onward_writes, HasThese, FlowOf, AreFlows, AreFlowsFrom};
 ghost use Rattle.liveness.specs.Through.{uses_among};
 
 use crate::kept::is_straight;
-use crate::leaving::{target, ways};
+use crate::leaving::target;
 use arrayvec::ArrayVec;
-use code_flow::Ways;
+use code_flow::{Ways, ways_of};
 use listing_parser::{Listing, Place};
 use std::alloc::{AllocError, Global};
 use thumb_instr::items::{C, LR, N, V, Z};
@@ -45,7 +45,7 @@ pub fn flows(alloc: Global, listing: &Listing) -> Result<Vec<Flow>, AllocError>
 {
     let mut flows = Vec::with_capacity(alloc, listing.place_count() as usize)?;
     for place in 0..listing.place_count() {
-        flows.push(flow_at(listing, place))?;
+        flows.push(ways_and_flow(listing, place).flow)?;
     }
     Ok(flows)
 }
@@ -62,7 +62,7 @@ pub(crate) fn flows_from(listing: &Listing, place: u32) -> ArrayVec<Flow, AHEAD>
         if flows.is_full() {
             return flows;
         }
-        flows.push(flow_at(listing, at));
+        flows.push(ways_and_flow(listing, at).flow);
     }
     flows
 }
@@ -79,77 +79,91 @@ pub fn flow_of(instr: &Instr) -> Flow
     }
 }
 
-/// The flow of an instruction that goes straight on.
-fn straight_flow(instr: &Instr) -> Flow
-    requires { is_straight instr.now ≡ true }
-    ensures { (aim : Option ℕ) → FlowOf (ways_of aim instr.now) result }
+/// The ways and the flow of a place.
+#[derive(Clone, Copy, Debug, PartialEq, Eq)]
+pub(crate) struct WaysAndFlow {
+    pub(crate) ways: Option<Ways>,
+    pub(crate) flow: Flow,
+}
+
+/// Those of a place where no instruction stands.
+fn nothing() -> WaysAndFlow
+    ensures ways { result.ways ≡ None }
+    ensures flow { FlowOf [] result.flow }
 {
-    let shape = shape(instr);
-    Flow {
-        reads: shape.uses,
-        onward: Some(shape.writes),
+    WaysAndFlow {
+        ways: None,
+        flow: Flow {
+            reads: Items::none(),
+            onward: None,
+        },
     }
 }
 
-/// The instruction of a place, where it goes straight on.
-fn straight_at(listing: &Listing, place: u32) -> Option<Instr>
-    ensures { IfSome result (λ i. (is_straight i ≡ true) × (m : Option Mentioned) × (slice_get (places_of listing.now) place ≡ Some (Op i m))) }
+/// Those of an instruction that goes straight on.
+fn straight(instr: &Instr, place: u32) -> WaysAndFlow
+    requires straight { is_straight instr.now ≡ true }
+    requires place { place < 2 ^ 32 - 1 }
+    ensures ways { (aim : Option ℕ) → AreWays place (ways_of aim instr.now) (way_list result.ways) }
+    ensures flow { (aim : Option ℕ) → FlowOf (ways_of aim instr.now) result.flow }
 {
+    let ways = ways_of(instr, None, place);
+    let flow = Flow {
+        reads: ways.first.uses,
+        onward: Some(ways.first.writes),
+    };
+    WaysAndFlow {
+        ways: Some(ways),
+        flow,
+    }
+}
+
+/// Those of any instruction. `target` is the place of the code label that it mentions.
+fn branching(instr: &Instr, target: Option<u32>, place: u32) -> WaysAndFlow
+    requires { place < 2 ^ 32 - 1 }
+    ensures ways { AreWays place (ways_of target instr.now) (way_list result.ways) }
+    ensures flow { FlowOf (ways_of target instr.now) result.flow }
+{
+    let ways = ways_of(instr, target, place);
+    let flow = Flow {
+        reads: reads_of(ways),
+        onward: onward(instr, target),
+    };
+    WaysAndFlow {
+        ways: Some(ways),
+        flow,
+    }
+}
+
+/// The ways and the flow of a place. Most go straight on, and then no label is looked up.
+pub(crate) fn ways_and_flow(listing: &Listing, place: u32) -> WaysAndFlow
+    requires { place < length (places_of listing.now) }
+    ensures ways { AreWays place (ways (code_of listing.now) place) (way_list result.ways) }
+    ensures flow { FlowOf (ways (code_of listing.now) place) result.flow }
+{
+    let _count = listing.place_count();
     match listing.place(place) {
-        Some(Place::Op { instr, mention: _ }) => {
-            if is_straight(&instr) {
-                Some(instr)
-            } else {
-                None
+        None => nothing(),
+        Some(found) => match found {
+            Place::Word(_) => nothing(),
+            Place::Op { instr, mention } => {
+                if is_straight(&instr) {
+                    straight(&instr, place)
+                } else {
+                    branching(&instr, target(listing, mention), place)
+                }
             }
-        }
-        _ => None,
-    }
-}
-
-/// The flow of a place. Most go straight on, and then neither labels nor ways are looked up.
-fn flow_at(listing: &Listing, place: u32) -> Flow
-    ensures { FlowOf (ways (code_of listing.now) place) result }
-{
-    match straight_at(listing, place) {
-        Some(instr) => straight_flow(&instr),
-        None => branching_flow(listing, place),
-    }
-}
-
-/// The flow of a place by its ways.
-fn branching_flow(listing: &Listing, place: u32) -> Flow
-    ensures { FlowOf (ways (code_of listing.now) place) result }
-{
-    Flow {
-        reads: reads_of(ways(listing, place)),
-        onward: onward_at(listing, place),
+        },
     }
 }
 
 /// What some way reads.
-fn reads_of(ways: Option<Ways>) -> Items
-    ensures { (x : ℕ) → has result.bits x ≡ uses_among (way_list ways) x }
+fn reads_of(ways: Ways) -> Items
+    ensures { (x : ℕ) → has result.bits x ≡ uses_among (way_list (Some ways)) x }
 {
-    match ways {
-        None => Items::none(),
-        Some(ways) => match ways.second {
-            None => ways.first.uses,
-            Some(second) => ways.first.uses.union(second.uses),
-        },
-    }
-}
-
-/// What the way straight to the next place writes, where one goes there.
-fn onward_at(listing: &Listing, place: u32) -> Option<Items>
-    ensures { HasThese (onward_writes (ways (code_of listing.now) place)) result }
-{
-    match listing.place(place) {
-        None => None,
-        Some(found) => match found {
-            Place::Word(_) => None,
-            Place::Op { instr, mention } => onward(&instr, target(listing, mention)),
-        },
+    match ways.second {
+        None => ways.first.uses,
+        Some(second) => ways.first.uses.union(second.uses),
     }
 }
 

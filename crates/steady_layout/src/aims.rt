@@ -1,14 +1,11 @@
 //! Whether what a line mentions stays within reach.
 ghost use Rattle.std.specs.Prelude.{◌≡◌, ◌≤◌, ◌^◌, Some};
-ghost use Rattle.std.specs.Map.{lookup};
 ghost use Rattle.thumb_model.specs.Layout.{cleared};
 ghost use Rattle.listing_parser.specs.Views.{mention_view, statement_view};
-ghost use Rattle.label_layout.specs.Addresses.{is_key};
 ghost use Rattle.steady_layout.specs.Steady.{reaches as is_reached, steady_branch as branch_is_steady, steady_literal as literal_is_steady, steady_aim as aim_is_steady, steady_instr, steady_at, labels_in, sets_in};
-ghost use Rattle.steady_layout.specs.Labels.{AreLabels};
+ghost use Rattle.steady_layout.specs.Starts.{AreStarts};
 
 use crate::starts::Start;
-use indexmap::IndexMap;
 use listing_parser::{Listing, Mention, Statement};
 use thumb_instr::Instr;
 
@@ -82,46 +79,43 @@ fn cleared_address(listing: &Listing, name: &[u8]) -> Option<u32>
     }
 }
 
-/// Where the label of a name lies, where there is one.
-fn find_label(labels: &IndexMap<Vec<u8>, Start>, name: &[u8]) -> Option<Start>
-    ensures { result ≡ lookup (is_key name.now) labels.now.entries }
-{
-    labels.get(name).copied()
-}
-
-/// Whether what an instruction mentions stays within reach. The labels are the listing's.
+/// Whether what an instruction mentions stays within reach. The starts are those of the listing's lines.
 fn is_steady_mention(
-    labels: &IndexMap<Vec<u8>, Start>,
+    starts: &[Start],
     listing: &Listing,
     base: u32,
     here: Start,
     instr: &Instr,
     mention: &Mention,
 ) -> bool
-    requires { AreLabels base listing.now labels.now.entries }
+    requires { AreStarts base listing.now starts.now }
     ensures { result ≡ steady_instr (labels_in base listing.now) (sets_in listing.now) base here instr.now (Some (mention_view mention.now)) }
 {
-    let label = find_label(labels, &mention.name);
-    let set = cleared_address(listing, &mention.name);
-    steady_aim(base, here, instr, label, set, mention.plus)
+    match listing.label_line(&mention.name) {
+        Some(line) => steady_aim(base, here, instr, Some(starts[line]), None, mention.plus),
+        None => {
+            let set = cleared_address(listing, &mention.name);
+            steady_aim(base, here, instr, None, set, mention.plus)
+        }
+    }
 }
 
-/// Whether what a statement mentions stays within reach. The labels are the listing's.
+/// Whether what a statement mentions stays within reach. The starts are those of the listing's lines.
 pub fn is_steady_at(
-    labels: &IndexMap<Vec<u8>, Start>,
+    starts: &[Start],
     listing: &Listing,
     base: u32,
     here: Start,
     statement: &Statement,
 ) -> bool
-    requires { AreLabels base listing.now labels.now.entries }
+    requires { AreStarts base listing.now starts.now }
     ensures { result ≡ steady_at (labels_in base listing.now) (sets_in listing.now) base here (statement_view statement.now) }
 {
     match statement {
         Statement::Runs {
             instr,
             mention: Some(mention),
-        } => is_steady_mention(labels, listing, base, here, instr, mention),
+        } => is_steady_mention(starts, listing, base, here, instr, mention),
         _ => true,
     }
 }

@@ -2,27 +2,21 @@
 ghost use Rattle.std.specs.Prelude.{◌≡◌, ◌≤◌, ◌^◌, map, IfOk, MatchOption};
 ghost use Rattle.listing_parser.specs.Views.{line_view};
 ghost use Rattle.steady_layout.specs.Steady.{first, widest_end};
-ghost use Rattle.steady_layout.specs.Labels.{AreLabels};
+ghost use Rattle.steady_layout.specs.Starts.{AreStarts};
 
-use crate::labels::add_labels;
 use crate::starts::{Start, next_start};
-use indexmap::IndexMap;
 use label_layout::CODE_END;
 use listing_parser::{Line, Memory};
 use std::alloc::Global;
 
-/// Where labels lie in the widest layout of lines that begin at the base: None exactly where it ends behind the Code region.
-pub fn lay_widest(
-    alloc: Global,
-    lines: &[Line],
-    base: u32,
-) -> Result<Option<IndexMap<Vec<u8>, Start>>, Memory>
-    ensures { IfOk result (λ found. MatchOption found ((widest_end (first base) (map line_view lines.now)).at ≤ 2 ^ 29 → ⊥) (λ labels. AreLabels base (map line_view lines.now) labels.entries)) }
+/// Where each line begins in the widest layout of lines that begin at the base: None exactly where it ends behind the Code region.
+pub fn lay_widest(alloc: Global, lines: &[Line], base: u32) -> Result<Option<Vec<Start>>, Memory>
+    ensures { IfOk result (λ found. MatchOption found ((widest_end (first base) (map line_view lines.now)).at ≤ 2 ^ 29 → ⊥) (λ starts. AreStarts base (map line_view lines.now) starts.items)) }
 {
     if base > CODE_END {
         return Ok(None);
     }
-    let mut labels = IndexMap::new(alloc);
+    let mut starts = Vec::with_capacity(alloc, lines.len())?;
     let mut here = Start {
         at: base,
         aligned: true,
@@ -31,8 +25,8 @@ pub fn lay_widest(
         let Some(next) = next_start(here, &line.statement) else {
             return Ok(None);
         };
-        add_labels(&mut labels, &line.names, here)?;
+        starts.push(here)?;
         here = next;
     }
-    Ok(Some(labels))
+    Ok(Some(starts))
 }

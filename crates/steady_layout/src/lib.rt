@@ -3,7 +3,6 @@
 
 mod aims;
 mod judging;
-mod labels;
 mod laying;
 mod starts;
 

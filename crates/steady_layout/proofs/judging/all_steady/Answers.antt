@@ -1,23 +1,53 @@
-use Rattle.std.proofs.Common.{◌+◌, ◌^◌, List, map, drop, ap, arith}
+use Rattle.std.proofs.Common.{◌≡◌, ◌∙◌, ◌+◌, ◌&&◌, ℕ, Bool, false, List, length, map, drop, ap, sym, arith}
 use Rattle.thumb_model.specs.Listing.{Line}
-use Rattle.listing_parser.specs.Views.{line_view, statement_view}
+use Rattle.thumb_model.proofs.Lists.{length_map}
+use Rattle.listing_parser.specs.declared.line.Line.{Line as Lines}
+use Rattle.listing_parser.specs.Views.{line_view}
 use Rattle.steady_layout.specs.declared.starts.Start.{Start}
-use Rattle.steady_layout.specs.Steady.{behind, widest_end}
-use Rattle.label_layout.proofs.Sums.{next_line}
-use Rattle.steady_layout.proofs.Steps.{at_end, fits}
+use Rattle.steady_layout.specs.Steady.{first, all_steady, labels_in, sets_in}
+use Rattle.steady_layout.specs.Starts.{AreStarts}
+use Rattle.steady_layout.proofs.Lines.{as_many, each_at_start, each_next, each_end, steady_each}
 use Rattle.steady_layout.proofs.judging.all_steady.Goals as goal
 
-pub next_start-requires : goal.next_start-requires
-next_start-requires c =
-    let h = at_end c.loop-line.here (map line_view (drop c.loop-line.line-index c.lines-line-items.result.now)) in
-    omega (arith, ap (λ (s : Start). s.at) c.loop-line.invariant.end, c.requires.in_code)
+same_length : (base : ℕ) (ls : List Line) (starts : List Start) (lines : List Lines) → AreStarts base ls starts → map line_view lines ≡ ls → length starts ≡ length lines
+same_length base ls starts lines h e =
+    let many = as_many (first base) ls in
+    let mapped = length_map line_view lines in
+    omega (arith, many, mapped, ap length h.each, ap length e)
 
-pub unreachable-requires : goal.unreachable-requires
-unreachable-requires c =
-    let here = c.loop-line.here in
-    let s = statement_view c.line-item.result.statement in
-    let rest = map line_view (drop (c.loop-line.line-index + 1) c.lines-line-items.result.now) in
-    let split = next_line c.lines-line-items.result.now c.loop-line.line-index c.line-item.result c.loop-line-test.true c.line-item.is in
-    let whole = ap (λ (ls : List Line). (widest_end here ls).at) split in
-    let h = at_end (behind here s) rest in
-    fits here s (2 ^ 29) c.in-None.ensures (omega (arith, whole, ap (λ (s : Start). s.at) c.loop-line.invariant.end, c.requires.in_code))
+whole : (base : ℕ) (ls : List Line) (starts : List Start) → AreStarts base ls starts → steady_each (labels_in base ls) (sets_in ls) base starts ls ≡ all_steady (labels_in base ls) (sets_in ls) base (first base) ls
+whole base ls starts h = ap (λ (ss : List Start). steady_each (labels_in base ls) (sets_in ls) base ss ls) h.each ∙ each_at_start (labels_in base ls) (sets_in ls) base (first base) ls
+
+pub bounds-starts-n : goal.bounds-starts-n
+bounds-starts-n c = let same = same_length c.args.base c.args.listing.now c.args.starts.now c.lines-line-items.result.now c.requires c.lines-line-items.ensures in omega (arith, same, c.loop-n-test.true)
+
+pub returns-then-not-is_steady_at : goal.returns-then-not-is_steady_at
+returns-then-not-is_steady_at c =
+    let ls = c.args.listing.now in
+    let starts = c.args.starts.now in
+    let lines = c.lines-line-items.result.now in
+    let n = c.loop-n.n in
+    let same = same_length c.args.base ls starts lines c.requires c.lines-line-items.ensures in
+    let rest = steady_each (labels_in c.args.base ls) (sets_in ls) c.args.base (drop (n + 1) starts) (map line_view (drop (n + 1) lines)) in
+    let next = each_next (labels_in c.args.base ls) (sets_in ls) c.args.base starts lines n (record { at = 0; aligned = false }) c.line-item.result (omega (arith, same, c.loop-n-test.true)) c.loop-n-test.true c.line-item.is in
+    ap (λ (b : Bool). b && rest) (sym c.if-not-is_steady_at.true ∙ c.is_steady_at.ensures) ∙ sym next ∙ c.loop-n.invariant ∙ whole c.args.base ls starts c.requires
+
+pub loop-n-preserved : goal.loop-n-preserved
+loop-n-preserved c =
+    let ls = c.args.listing.now in
+    let starts = c.args.starts.now in
+    let lines = c.lines-line-items.result.now in
+    let n = c.loop-n.n in
+    let same = same_length c.args.base ls starts lines c.requires c.lines-line-items.ensures in
+    let rest = steady_each (labels_in c.args.base ls) (sets_in ls) c.args.base (drop (n + 1) starts) (map line_view (drop (n + 1) lines)) in
+    let next = each_next (labels_in c.args.base ls) (sets_in ls) c.args.base starts lines n (record { at = 0; aligned = false }) c.line-item.result (omega (arith, same, c.loop-n-test.true)) c.loop-n-test.true c.line-item.is in
+    ap (λ (b : Bool). b && rest) (sym c.if-not-is_steady_at.false ∙ c.is_steady_at.ensures) ∙ sym next ∙ c.loop-n.invariant
+
+pub returns : goal.returns
+returns c =
+    let ls = c.args.listing.now in
+    let starts = c.args.starts.now in
+    let lines = c.lines-line-items.result.now in
+    let same = same_length c.args.base ls starts lines c.requires c.lines-line-items.ensures in
+    let end = each_end (labels_in c.args.base ls) (sets_in ls) c.args.base starts (map line_view (drop c.loop-n.n lines)) c.loop-n.n (omega (arith, same, c.loop-n-test.false)) in
+    sym end ∙ c.loop-n.invariant ∙ whole c.args.base ls starts c.requires
