@@ -19,6 +19,7 @@ fn is_second(kind: Kind, a: u32, b: u32, c: u32) -> bool
     }
 }
 
+/// The first of a kind's forms, where it has one.
 fn first_of(forms: &'static [&'static [Slot]]) -> &'static [Slot]
     ensures { result.now ≡ first_of (forms_at forms.now) }
 {
@@ -28,6 +29,7 @@ fn first_of(forms: &'static [&'static [Slot]]) -> &'static [Slot]
     }
 }
 
+/// The second of a kind's forms, where it has one.
 fn second_of(forms: &'static [&'static [Slot]]) -> &'static [Slot]
     ensures { result.now ≡ second_of (forms_at forms.now) }
 {
