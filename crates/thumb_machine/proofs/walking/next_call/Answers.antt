@@ -1,4 +1,4 @@
-use Rattle.std.proofs.Common.{◌≡◌, true, false, arith, rules}
+use Rattle.std.proofs.Common.{◌≡◌, false, arith, rules}
 use Rattle.thumb_model.specs.Laid.{ends_in_call}
 use Rattle.listing_parser.specs.Views.{statement_view}
 use Rattle.thumb_machine.proofs.Walked.{calls_of}

@@ -1,4 +1,4 @@
-use Rattle.std.proofs.Common.{◌≡◌, true, false, refl, rules}
+use Rattle.std.proofs.Common.{◌≡◌, false, refl, rules}
 use Rattle.thumb_model.specs.Laid.{ends_in_call}
 use Rattle.listing_parser.specs.Views.{statement_view}
 use Rattle.thumb_machine.specs.Naming.{naming_of}
