@@ -49,7 +49,7 @@ pub labels_data : (names : Naming) (places : List Place) (p : ℕ) (ns : List (L
 labels_data names places p [] h = refl
 labels_data names places p (n ∷ ns) h = rw h (labels_data names places p ns h)
 
-points_append : (names : Naming) (places : List Place) (xs ys : List Label) → points_of names places (xs ++ ys) ≡ points_of names places xs ++ points_of names places ys
+pub points_append : (names : Naming) (places : List Place) (xs ys : List Label) → points_of names places (xs ++ ys) ≡ points_of names places xs ++ points_of names places ys
 points_append names places [] ys = refl
 points_append names places (x ∷ xs) ys = elim (cases_Bool (is_code places x)) [
   | inl t ↦ rw t (ap (λ (ps : List (ℕ × ℕ)). (names.word_of x.name, x.place) ∷ ps) (points_append names places xs ys))

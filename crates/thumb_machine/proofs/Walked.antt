@@ -1,21 +1,19 @@
 -- A test of all code points is the same in the order of lines.
-use Rattle.std.proofs.Common.{◌≡◌, ◌∙◌, inl, inr, ℕ, ◌+◌, ◌&&◌, Bool, true, false, List, [], ◌∷◌, ◌++◌, length, map, refl, sym, ap, ap₂, arith, if◌then◌else◌}
-use Rattle.std.specs.Prelude.{slice_get}
+use Rattle.std.proofs.Common.{◌≡◌, ◌∙◌, ℕ, ◌+◌, ◌&&◌, ◌≤◌, Bool, true, false, List, [], ◌∷◌, ◌++◌, inl, inr, length, map, refl, sym, ap, ap₂, arith, if◌then◌else◌}
 use Rattle.std.specs.List.{list_all}
 use Rattle.std.proofs.lemmas.Bool.{cases_Bool}
 use Rattle.std.proofs.lemmas.List.Folds.{list_all-append}
-use Rattle.thumb_model.specs.Listing.{Name, Value, Word, Statement, Nothing, Runs, Words, Aligns, Sets, Line, Place, Label, code_of, is_call_instr, is_op_place, labels_at, labels_from, places_in, places_of}
+use Rattle.thumb_model.specs.Listing.{Value, Word, Statement, Nothing, Runs, Words, Aligns, Sets, Line, Place, call_count, code_of, is_call, labels_at, labels_from, places_in, places_of}
 use Rattle.thumb_model.specs.Laid.{ends_in_call}
 use Rattle.thumb_model.specs.Machine.{Naming, points, points_of, returns_from}
-use Rattle.thumb_machine.specs.Walking.{all_pass, label_points, name_points, next_call, points_from, return_points}
+use Rattle.thumb_model.proofs.Moved.{returns_append}
+use Rattle.thumb_model.proofs.Returns.{no_words}
+use Rattle.thumb_machine.specs.Walking.{all_pass, points_from}
+use Rattle.thumb_machine.proofs.PointsMade.{points_append}
 
 and_assoc : (a b c : Bool) → ((a && b) && c) ≡ (a && (b && c))
 and_assoc true b c = refl
 and_assoc false b c = refl
-
-and_true : (a : Bool) → (a && true) ≡ a
-and_true true = refl
-and_true false = refl
 
 -- two lines of tests, line by line
 crossed : (a b c d : Bool) → ((a && b) && (c && d)) ≡ (a && (c && (b && d)))
@@ -24,48 +22,44 @@ crossed true true c d = refl
 crossed true false true d = refl
 crossed true false false d = refl
 
+-- the return point of one statement
+pub return_of : (names : Naming) (k p : ℕ) (s : Statement) (b : Bool) → ends_in_call s ≡ b → returns_from names k p (places_in s) ≡ (if b then (names.return_word k, p + 1) ∷ [] else [])
+return_of names k p (Runs i mention) b e = rw e refl
+return_of names k p (Words vs) b e = none p vs ∙ ap (λ c. if c then (names.return_word k, p + 1) ∷ [] else []) e where
+  none : (p : ℕ) (vs : List Value) → returns_from names k p (map Word vs) ≡ []
+  none p [] = refl
+  none p (v ∷ vs) = none (p + 1) vs
+return_of names k p Nothing b e = ap (λ c. if c then (names.return_word k, p + 1) ∷ [] else []) e
+return_of names k p (Aligns size most) b e = ap (λ c. if c then (names.return_word k, p + 1) ∷ [] else []) e
+return_of names k p (Sets name address) b e = ap (λ c. if c then (names.return_word k, p + 1) ∷ [] else []) e
+
+pub calls_of : (s : Statement) (b : Bool) → ends_in_call s ≡ b → call_count (places_in s) ≡ (if b then 1 else 0)
+calls_of (Runs i mention) b e = rw e refl
+calls_of (Words vs) b e = no_words vs ∙ ap (λ c. if c then 1 else 0) e
+calls_of Nothing b e = ap (λ c. if c then 1 else 0) e
+calls_of (Aligns size most) b e = ap (λ c. if c then 1 else 0) e
+calls_of (Sets name address) b e = ap (λ c. if c then 1 else 0) e
+
+-- there are no more calls than places
+pub calls_few : (xs : List Place) → call_count xs ≤ length xs
+calls_few [] = omega arith
+calls_few (x ∷ xs) = let few = calls_few xs in elim (cases_Bool (is_call x)) [ inl e ↦ rw e (omega arith) | inr e ↦ rw e (omega arith) ]
+
 module _ (f : ℕ × ℕ → Bool) (names : Naming) where
-  -- the labels of one line, and others
-  labels_one : (places : List Place) (p : ℕ) (ns : List Name) (rest : List Label)
-      → list_all f (points_of names places (labels_at p ns ++ rest)) ≡ (list_all f (label_points names places p ns) && list_all f (points_of names places rest))
-  labels_one places p [] rest = elim (cases_Bool (is_op_place (slice_get places p))) [ inl e ↦ rw e refl | inr e ↦ rw e refl ]
-  labels_one places p (n ∷ ns) rest =
-      let before : list_all f (points_of names places (labels_at p ns ++ rest)) ≡ (list_all f (label_points names places p ns) && list_all f (points_of names places rest)) = labels_one places p ns rest in
-      elim (cases_Bool (is_op_place (slice_get places p))) [
-        | inl e ↦ rw e (ap (λ b. f (names.word_of n, p) && b) (rw e at before) ∙ sym (and_assoc (f (names.word_of n, p)) (list_all f (name_points names p ns)) (list_all f (points_of names places rest))))
-        | inr e ↦ rw e (rw e at before)
-      ]
-
-  -- the return point of one line, and others
-  after_words : (k p : ℕ) (vs : List Value) (xs : List Place) → returns_from names k p (map Word vs ++ xs) ≡ returns_from names k (p + length (map Word vs)) xs
-  after_words k p [] xs = let e : p ≡ p + 0 = omega arith in ap (λ n. returns_from names k n xs) e
-  after_words k p (v ∷ vs) xs =
-      let e : p + 1 + length (map Word vs) ≡ p + length (map Word (v ∷ vs)) = omega arith in
-      after_words k (p + 1) vs xs ∙ ap (λ n. returns_from names k n xs) e
-
-  return_one : (k p : ℕ) (s : Statement) (xs : List Place)
-      → list_all f (returns_from names k p (places_in s ++ xs))
-      ≡ (list_all f (if ends_in_call s then (names.return_word k, p + 1) ∷ [] else []) && list_all f (returns_from names (if ends_in_call s then k + 1 else k) (p + length (places_in s)) xs))
-  return_one k p Nothing xs = let e : p ≡ p + 0 = omega arith in ap (λ n. list_all f (returns_from names k n xs)) e
-  return_one k p (Runs i mention) xs = elim (cases_Bool (is_call_instr i)) [
-    | inl e ↦ rw e (ap (λ b. b && list_all f (returns_from names (k + 1) (p + 1) xs)) (sym (and_true (f (names.return_word k, p + 1)))))
-    | inr e ↦ rw e refl
-  ]
-  return_one k p (Words vs) xs = ap (list_all f) (after_words k p vs xs)
-  return_one k p (Aligns size most) xs = let e : p ≡ p + 0 = omega arith in ap (λ n. list_all f (returns_from names k n xs)) e
-  return_one k p (Sets name address) xs = let e : p ≡ p + 0 = omega arith in ap (λ n. list_all f (returns_from names k n xs)) e
-
   walked_from : (places : List Place) (k p : ℕ) (ls : List Line)
       → (list_all f (points_of names places (labels_from p ls)) && list_all f (returns_from names k p (places_of ls))) ≡ list_all f (points_from names places k p ls)
   walked_from places k p [] = refl
   walked_from places k p (l ∷ ls) =
       let q = p + length (places_in l.statement) in
-      let labels = label_points names places p l.names in
-      let returns = return_points names k p l in
-      let rest = points_from names places (next_call k l) q ls in
-      ap₂ (λ a b. a && b) (labels_one places p l.names (labels_from q ls)) (return_one k p l.statement (places_of ls))
-      ∙ crossed (list_all f labels) (list_all f (points_of names places (labels_from q ls))) (list_all f returns) (list_all f (returns_from names (next_call k l) q (places_of ls)))
-      ∙ ap (λ b. list_all f labels && (list_all f returns && b)) (walked_from places (next_call k l) q ls)
+      let m = k + call_count (places_in l.statement) in
+      let labels = points_of names places (labels_at p l.names) in
+      let returns = returns_from names k p (places_in l.statement) in
+      let rest = points_from names places m q ls in
+      ap₂ (λ a b. a && b)
+      (ap (list_all f) (points_append names places (labels_at p l.names) (labels_from q ls)) ∙ list_all-append f labels (points_of names places (labels_from q ls)))
+      (ap (list_all f) (returns_append names k p m q (places_in l.statement) (places_of ls) refl refl) ∙ list_all-append f returns (returns_from names m q (places_of ls)))
+      ∙ crossed (list_all f labels) (list_all f (points_of names places (labels_from q ls))) (list_all f returns) (list_all f (returns_from names m q (places_of ls)))
+      ∙ ap (λ b. list_all f labels && (list_all f returns && b)) (walked_from places m q ls)
       ∙ sym (list_all-append f (labels ++ returns) rest ∙ ap (λ b. b && list_all f rest) (list_all-append f labels returns) ∙ and_assoc (list_all f labels) (list_all f returns) (list_all f rest))
 
   pub walked : (lines : List Line) → list_all f (points names (code_of lines)) ≡ list_all f (points_from names (places_of lines) 0 0 lines)

@@ -1,10 +1,11 @@
 //! Tests of all code points of a listing, one after another in the order of its lines, without memory.
 ghost use Rattle.std.specs.Prelude.{◌≡◌, ◌&&◌, ◌++◌, ◌+◌, ◌<◌, ◌^◌, ℕ, List, map, length};
-ghost use Rattle.thumb_model.specs.Listing.{places_in, places_of};
+ghost use Rattle.thumb_model.specs.Listing.{call_count, labels_at, places_in, places_of};
 ghost use Rattle.thumb_model.specs.Laid.{ends_in_call};
+ghost use Rattle.thumb_model.specs.Machine.{points_of, returns_from};
 ghost use Rattle.listing_parser.specs.Views.{line_view, statement_view};
 ghost use Rattle.thumb_machine.specs.Naming.{naming_of};
-ghost use Rattle.thumb_machine.specs.Walking.{all_pass, label_points, name_points, next_call, points_from, return_points};
+ghost use Rattle.thumb_machine.specs.Walking.{all_pass, name_points, points_from};
 
 use crate::naming::Naming;
 use listing_parser::{Line, Listing, Statement, is_call};
@@ -36,7 +37,7 @@ fn ends_in_call(statement: &Statement) -> bool
 /// The number of the next call behind a line.
 fn next_call(line: &Line, call: usize) -> usize
     requires { call < 2 ^ 32 }
-    ensures { result ≡ next_call call (line_view line.now) }
+    ensures { result ≡ call + call_count (places_in (line_view line.now).statement) }
 {
     if ends_in_call(&line.statement) {
         call + 1
@@ -66,7 +67,7 @@ impl Naming {
         names: &[Vec<u8>],
         place: u32,
     ) -> bool
-        ensures { (rest : List (ℕ × ℕ)) → all_pass T.passes T.after test.old (label_points (naming_of self.now) (places_of listing.now) place (map (λ name. name.items) names.now) ++ rest) ≡ (result && all_pass T.passes T.after test.new rest) }
+        ensures { (rest : List (ℕ × ℕ)) → all_pass T.passes T.after test.old (points_of (naming_of self.now) (places_of listing.now) (labels_at place (map (λ name. name.items) names.now)) ++ rest) ≡ (result && all_pass T.passes T.after test.new rest) }
     {
         if !listing.is_op(place) {
             return true;
@@ -83,7 +84,7 @@ impl Naming {
         place: u32,
     ) -> bool
         requires { place + length (places_in (line_view line.now).statement) < 2 ^ 32 }
-        ensures { (rest : List (ℕ × ℕ)) → all_pass T.passes T.after test.old (return_points (naming_of self.now) call place (line_view line.now) ++ rest) ≡ (result && all_pass T.passes T.after test.new rest) }
+        ensures { (rest : List (ℕ × ℕ)) → all_pass T.passes T.after test.old (returns_from (naming_of self.now) call place (places_in (line_view line.now).statement) ++ rest) ≡ (result && all_pass T.passes T.after test.new rest) }
     {
         if !ends_in_call(&line.statement) {
             return true;
