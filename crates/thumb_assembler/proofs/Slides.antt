@@ -26,6 +26,7 @@ use Rattle.thumb_assembler.proofs.Cuts.{next_end, next_places, next_cut, places_
 use Rattle.listing_parser.specs.TableWords.{DefineOnce}
 use Rattle.listing_parser.proofs.FirstTwice.{first_twice}
 use Rattle.listing_parser.proofs.TwiceLemmas.{once_none}
+use Rattle.thumb_machine.proofs.PointsMade.{points_append}
 use Rattle.thumb_assembler.proofs.Fetched.{fair_here, even_here, padding_here, fetched_here, out_of_image}
 
 module _ (base : ℕ) (set : Name → ℕ) (all : List Line) (bytes : List ℕ) (made : IsAssembled base all bytes) (given : IsSetBy all set) where
@@ -155,13 +156,6 @@ module _ (base : ℕ) (set : Name → ℕ) (all : List Line) (bytes : List ℕ) 
   get_append (x ∷ xs) ys zero z e = inl (0, e)
   get_append (x ∷ xs) ys (suc k) z e = elim (get_append xs ys k z e) [ inl h ↦ inl (suc h.0, h.1) | inr h ↦ inr h ]
 
-  points_append : (places : List Place) (xs ys : List Label) → points_of names places (xs ++ ys) ≡ points_of names places xs ++ points_of names places ys
-  points_append places [] ys = refl
-  points_append places (x ∷ xs) ys = elim (cases_Bool (is_code places x)) [
-    | inl t ↦ rw t (ap (λ (ps : List (ℕ × ℕ)). (names.word_of x.name, x.place) ∷ ps) (points_append places xs ys))
-    | inr t ↦ rw t (points_append places xs ys)
-  ]
-
   among_here : (n : Name) (seen ns : List Name) → is_among n (seen ++ n ∷ ns) ≡ true
   among_here n [] ns = rw ((bytes_eq-Decides n n).1 refl) refl
   among_here n (s ∷ seen) ns = or_right (bytes_eq n s) (is_among n (seen ++ n ∷ ns)) (among_here n seen ns)
@@ -205,7 +199,7 @@ module _ (base : ℕ) (set : Name → ℕ) (all : List Line) (bytes : List ℕ) 
       let places = next_places before l in
       let here = labels_at (length (places_of before)) l.names in
       let rest = labels_from (length (places_of before) + length (places_in l.statement)) after in
-      elim (get_append (points_of names (places_of all) here) (points_of names (places_of all) rest) k (w, p) (ap (λ (ps : List (ℕ × ℕ)). slice_get ps k) (sym (points_append (places_of all) here rest)) ∙ g)) [
+      elim (get_append (points_of names (places_of all) here) (points_of names (places_of all) rest) k (w, p) (ap (λ (ps : List (ℕ × ℕ)). slice_get ps k) (sym (points_append names (places_of all) here rest)) ∙ g)) [
         | inl h ↦ labels_here before after l e [] l.names refl h.0 w p h.1
         | inr h ↦ labels_point after (before ++ l ∷ []) (next_cut all before after l e) h.0 w p (ap (λ (n : ℕ). slice_get (points_of names (places_of all) (labels_from n after)) h.0) places ∙ h.1)
       ]

@@ -7,7 +7,7 @@ use Rattle.thumb_model.specs.Listing.{Value, Word, Statement, Nothing, Runs, Wor
 use Rattle.thumb_model.specs.Laid.{ends_in_call}
 use Rattle.thumb_model.specs.Machine.{Naming, points, points_of, returns_from}
 use Rattle.thumb_model.proofs.Moved.{returns_append}
-use Rattle.thumb_model.proofs.Returns.{no_words}
+use Rattle.thumb_model.proofs.Returns.{statement_calls}
 use Rattle.thumb_machine.specs.Walking.{all_pass, points_from}
 use Rattle.thumb_machine.proofs.PointsMade.{points_append}
 
@@ -34,11 +34,7 @@ return_of names k p (Aligns size most) b e = ap (λ c. if c then (names.return_w
 return_of names k p (Sets name address) b e = ap (λ c. if c then (names.return_word k, p + 1) ∷ [] else []) e
 
 pub calls_of : (s : Statement) (b : Bool) → ends_in_call s ≡ b → call_count (places_in s) ≡ (if b then 1 else 0)
-calls_of (Runs i mention) b e = rw e refl
-calls_of (Words vs) b e = no_words vs ∙ ap (λ c. if c then 1 else 0) e
-calls_of Nothing b e = ap (λ c. if c then 1 else 0) e
-calls_of (Aligns size most) b e = ap (λ c. if c then 1 else 0) e
-calls_of (Sets name address) b e = ap (λ c. if c then 1 else 0) e
+calls_of s b e = statement_calls s ∙ ap (λ c. if c then 1 else 0) e
 
 -- there are no more calls than places
 pub calls_few : (xs : List Place) → call_count xs ≤ length xs

@@ -16,7 +16,7 @@ pub no_words : (vs : List Value) → call_count (map Word vs) ≡ 0
 no_words [] = refl
 no_words (v ∷ vs) = no_words vs
 
-statement_calls : (s : Statement) → call_count (places_in s) ≡ (if ends_in_call s then 1 else 0)
+pub statement_calls : (s : Statement) → call_count (places_in s) ≡ (if ends_in_call s then 1 else 0)
 statement_calls (Runs i mention) = refl
 statement_calls (Words vs) = no_words vs
 statement_calls Nothing = refl
