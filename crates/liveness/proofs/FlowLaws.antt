@@ -14,8 +14,10 @@ use Rattle.thumb_model.proofs.Lists.{get_drop, get_take, get_front, get_back, le
 use Rattle.liveness.specs.declared.flowing.Flow.{Flow}
 use Rattle.liveness.specs.Kept.{some_reads, if_onward, onward_writes, HasThese, FlowOf, AreFlowsFrom, AreFlows, KeepsAt}
 use Rattle.code_flow.specs.declared.way.Way.{Way as Ways}
-use Rattle.code_flow.specs.Flow.{AreWays}
+use Rattle.code_flow.specs.declared.way.Ways.{Ways as AllWays}
+use Rattle.code_flow.specs.Flow.{AreWays, way_list}
 use Rattle.liveness.specs.Through.{uses_among, passed}
+use Rattle.liveness.specs.Ways.{AreAllWays}
 use Rattle.liveness.proofs.Moves.{drop_at, letter_way, letter_at, move_leads, move_way, new_runs, runs_at, is_within, ways_moved}
 use Rattle.liveness.proofs.Paths.{or_cases}
 
@@ -76,6 +78,20 @@ push_flow code q fs more f k h l e i j g m =
     one_only : (i : ℕ) (g : Flow) → slice_get (f ∷ []) i ≡ Some g → (i ≡ 0) × (f ≡ g)
     one_only zero g u = (refl, let o : (let a : Option Flow = Some f in a) ≡ Some g = u in cc)
     one_only (suc i) g u = absurd (cc)
+
+-- the ways of one place more
+pub push_ways : (code : Code) (all more : List (Option AllWays)) (found : Option AllWays) (k : ℕ) → AreAllWays code all → length all ≡ k → more ≡ all ++ found ∷ [] → AreWays k (ways code k) (way_list found) → AreAllWays code more
+push_ways code all more found k h l e i p ws g =
+    elim (cases_lt p (length all)) [
+      | inl t ↦ h p ws (sym (ap (λ xs. slice_get xs p) e ∙ get_front all (found ∷ []) p t) ∙ g)
+      | inr t ↦
+          let s = one_only (p - length all) ws (sym (ap (λ xs. slice_get xs p) e ∙ get_back all (found ∷ []) (p - length all) p (omega arith)) ∙ g) in
+          subst (λ y. AreWays y (ways code y) (way_list ws)) (let z : k ≡ p = omega (arith, s.0) in z) (subst (λ (a : Option AllWays). AreWays k (ways code k) (way_list a)) s.1 i)
+    ]
+  where
+    one_only : (i : ℕ) (ws : Option AllWays) → slice_get (found ∷ []) i ≡ Some ws → (i ≡ 0) × (found ≡ ws)
+    one_only zero ws u = (refl, let o : (let a : Option (Option AllWays) = Some found in a) ≡ Some ws = u in cc)
+    one_only (suc i) ws u = absurd (cc)
 
 -- ---- flows stay ----
 

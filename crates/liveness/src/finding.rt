@@ -1,8 +1,10 @@
 ghost use Rattle.std.specs.Prelude.{◌≡◌, ◌+◌, ◌*◌, ◌≤◌, length, IfOk};
 ghost use Rattle.thumb_model.specs.Listing.{code_of, places_of};
+ghost use Rattle.liveness.specs.Kept.{AreFlows};
 ghost use Rattle.liveness.specs.Ways.{AreAllWays};
 ghost use Rattle.liveness.specs.Live.{IsLive};
 
+use crate::flowing::{Flow, ways_and_flow};
 use crate::leaving::ways;
 use crate::passes::settle;
 use crate::points::all_points;
@@ -24,15 +26,46 @@ pub fn live<L: Ledger>(
     ensures live { IfOk result (λ live. IsLive (code_of listing.now) live) }
     ensures cost { steps.new ≤ steps.old + (19 * length (places_of listing.now) + 1) * length (places_of listing.now) }
 {
-    let count = listing.place_count() as usize;
     let ways = all_ways(alloc, listing)?;
+    live_by(alloc, listing, &ways, steps)
+}
+
+/// The items that are live before and after each place of a listing, and what each place reads and writes on its way to the next. Each place is looked at
+/// once for its ways and its flow.
+pub fn live_and_flows<L: Ledger>(
+    alloc: Global,
+    listing: &Listing,
+    steps: &mut Steps<L>,
+) -> Result<(Live, Vec<Flow>), Memory>
+    ensures live { IfOk result (λ r. IsLive (code_of listing.now) r.0) }
+    ensures flows { IfOk result (λ r. AreFlows (code_of listing.now) r.1.items) }
+    ensures cost { steps.new ≤ steps.old + (19 * length (places_of listing.now) + 1) * length (places_of listing.now) }
+{
+    let (ways, flows) = all_ways_and_flows(alloc, listing)?;
+    let live = live_by(alloc, listing, &ways, steps)?;
+    Ok((live, flows))
+}
+
+/// The items that are live before and after each place, whose ways these are.
+fn live_by<L: Ledger>(
+    alloc: Global,
+    listing: &Listing,
+    ways: &[Option<Ways>],
+    steps: &mut Steps<L>,
+) -> Result<Live, Memory>
+    requires len { length ways.now ≡ length (places_of listing.now) }
+    requires ways { AreAllWays (code_of listing.now) ways.now }
+    ensures live { IfOk result (λ live. IsLive (code_of listing.now) live) }
+    ensures cost { steps.new ≤ steps.old + (19 * length (places_of listing.now) + 1) * length (places_of listing.now) }
+{
+    let count = listing.place_count() as usize;
     let is_point = all_points(alloc, listing)?;
     let mut before = vec![in alloc; Items::none(); count]?;
     let mut after = vec![in alloc; Items::none(); count]?;
     let mut points = Items::none();
     settle(
         listing,
-        &ways,
+        ways,
         &is_point,
         &mut before,
         &mut after,
@@ -52,4 +85,24 @@ fn all_ways(alloc: Global, listing: &Listing) -> Result<Vec<Option<Ways>>, Alloc
         all.push(ways(listing, place))?;
     }
     Ok(all)
+}
+
+/// The ways and the flow of each place.
+fn all_ways_and_flows(
+    alloc: Global,
+    listing: &Listing,
+) -> Result<(Vec<Option<Ways>>, Vec<Flow>), AllocError>
+    ensures len { IfOk result (λ all. length all.0.items ≡ length (places_of listing.now)) }
+    ensures ways { IfOk result (λ all. AreAllWays (code_of listing.now) all.0.items) }
+    ensures flows { IfOk result (λ all. AreFlows (code_of listing.now) all.1.items) }
+{
+    let count = listing.place_count();
+    let mut ways = Vec::with_capacity(alloc, count as usize)?;
+    let mut flows = Vec::with_capacity(alloc, count as usize)?;
+    for place in 0..count {
+        let found = ways_and_flow(listing, place);
+        ways.push(found.ways)?;
+        flows.push(found.flow)?;
+    }
+    Ok((ways, flows))
 }

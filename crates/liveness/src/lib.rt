@@ -15,7 +15,7 @@ mod passes;
 mod points;
 mod sets;
 
-pub use finding::live;
+pub use finding::{live, live_and_flows};
 pub use flowing::{Flow, flow_of, flows};
 pub use growing::{Source, grown};
 pub use kept::{LEAD, NewSets, is_straight, keep};

@@ -1,6 +1,6 @@
 use Rattle.std.proofs.Common.{◌∙◌, List, None, Some, sym, subst}
 use Rattle.thumb_instr.specs.Shape.{uses_of, writes_of}
-use Rattle.thumb_model.specs.Flow.{Way, ways_of}
+use Rattle.thumb_model.specs.Flow.{Way}
 use Rattle.code_flow.specs.Flow.{AreWays, way_list, second_list}
 use Rattle.liveness.specs.declared.flowing.Flow.{Flow}
 use Rattle.liveness.specs.Kept.{FlowOf}

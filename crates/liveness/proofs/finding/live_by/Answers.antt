@@ -1,13 +1,11 @@
-use Rattle.std.proofs.Common.{◌≡◌, ◌∙◌, length, arith, ap, sym, subst, List, Option}
+use Rattle.std.proofs.Common.{◌≡◌, ◌∙◌, length, arith, ap, sym, subst, List}
 use Rattle.std.specs.Vec.{with_items}
 use Rattle.thumb_instr.specs.declared.items.Items.{Items}
-use Rattle.code_flow.specs.declared.way.Ways.{Ways}
 use Rattle.thumb_model.specs.Listing.{code_of, places_of}
 use Rattle.liveness.specs.Live.{IsLive}
-use Rattle.liveness.specs.Passes.{AreClosedFrom}
 use Rattle.liveness.proofs.Paths.{finished_live}
 use Rattle.liveness.proofs.Visits.{written_back}
-use Rattle.liveness.proofs.finding.live.Goals as goal
+use Rattle.liveness.proofs.finding.live_by.Goals as goal
 
 pub returns-clause-live : goal.returns-clause-live
 returns-clause-live g c =
@@ -21,11 +19,11 @@ returns-clause-live g c =
     let after_back = written_back c.in_ok-after.after.items after c.in_ok-after.after.len after_same (omega (arith, ap length c.deref_mut-2.ensures.value, c.deref_mut-2.ensures.len)) in
     let before_len : length before ≡ length (places_of c.args.listing.now) = c.settle.auto.before ∙ c.deref_mut.ensures.len ∙ c.in_ok-before.ensures.len ∙ count in
     let after_len : length after ≡ length (places_of c.args.listing.now) = c.settle.auto.after ∙ c.deref_mut-2.ensures.len ∙ c.in_ok-after.ensures.len ∙ count in
-    let done = finished_live code c.in_ok-ways.ways.items before after c.settle.new.points.bits (record {
-      as_many = c.in_ok-ways.ensures.len;
-      has_ways = c.in_ok-ways.ensures.ways;
+    let done = finished_live code c.args.ways.now before after c.settle.new.points.bits (record {
+      as_many = c.requires.len;
+      has_ways = c.requires.ways;
       sound = c.settle.ensures.sound;
-      closed = subst (λ (ws : List (Option Ways)). AreClosedFrom 0 ws before after c.settle.new.points.bits) c.deref.ensures.value c.settle.ensures.closed;
+      closed = c.settle.ensures.closed;
     }) before_len after_len in
     subst (λ (b : List Items). IsLive code (record { before = b; after = (with_items c.in_ok-after.after after).items })) (sym before_back)
     (subst (λ (a : List Items). IsLive code (record { before = before; after = a })) (sym after_back) done)
