@@ -1,12 +1,12 @@
 //! What a place reads, and what it writes on its way to the next place.
-ghost use Rattle.std.specs.Prelude.{◌≡◌, ◌<◌, ◌-◌, ◌^◌, ℕ, [], length, Option, true, None, Some, IfOk};
+ghost use Rattle.std.specs.Prelude.{◌≡◌, ◌<◌, ◌-◌, ◌^◌, ℕ, [], length, Option, true, None, Some};
 ghost use Rattle.thumb_instr.specs.Items.{has, one_of};
 ghost use Rattle.thumb_instr.specs.Window.{is_in_window};
 ghost use Rattle.thumb_model.specs.Listing.{code_of, places_of};
 ghost use Rattle.thumb_model.specs.Machine.{answered};
 ghost use Rattle.thumb_model.specs.Flow.{ways, ways_of};
 ghost use Rattle.code_flow.specs.Flow.{AreWays, way_list};
-ghost use Rattle.liveness.specs.Kept.{is_straight, some_reads, onward_writes, HasThese, FlowOf, AreFlows, AreFlowsFrom};
+ghost use Rattle.liveness.specs.Kept.{is_straight, some_reads, onward_writes, HasThese, FlowOf, AreFlowsFrom};
 ghost use Rattle.liveness.specs.Through.{uses_among};
 
 use crate::kept::is_straight;
@@ -14,7 +14,6 @@ use crate::leaving::target;
 use arrayvec::ArrayVec;
 use code_flow::{Ways, ways_of};
 use listing_parser::{Listing, Place};
-use std::alloc::{AllocError, Global};
 use thumb_instr::items::{C, LR, N, V, Z};
 use thumb_instr::{Instr, Items, shape};
 
@@ -37,17 +36,6 @@ impl Default for Flow {
             onward: None,
         }
     }
-}
-
-/// The flow of each place of a listing.
-pub fn flows(alloc: Global, listing: &Listing) -> Result<Vec<Flow>, AllocError>
-    ensures { IfOk result (λ flows. AreFlows (code_of listing.now) flows.items) }
-{
-    let mut flows = Vec::with_capacity(alloc, listing.place_count() as usize)?;
-    for place in 0..listing.place_count() {
-        flows.push(ways_and_flow(listing, place).flow)?;
-    }
-    Ok(flows)
 }
 
 /// The most flows that are looked at behind a place.

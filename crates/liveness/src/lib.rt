@@ -16,7 +16,7 @@ mod points;
 mod sets;
 
 pub use finding::{live, live_and_flows};
-pub use flowing::{Flow, flow_of, flows};
+pub use flowing::{Flow, flow_of};
 pub use growing::{Source, grown};
 pub use kept::{LEAD, NewSets, is_straight, keep};
 pub use leaving::ways;

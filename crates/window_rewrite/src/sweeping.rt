@@ -21,7 +21,7 @@ use crate::ground::Ground;
 use crate::making::{make, put_blank};
 use line_cursor::{Cursor, Spot};
 use listing_parser::{Line, Listing, Memory, copy_lines};
-use liveness::{Flow, Live, flows, live};
+use liveness::{Flow, Live, live_and_flows};
 use std::alloc::Global;
 use steady_layout::is_steady;
 use step_ledger::{Ledger, Steps};
@@ -182,8 +182,7 @@ pub(crate) fn sweep<L: Ledger>(
     ensures more { IfOk result (λ s. length replacements.old.items ≤ length replacements.new.items) }
     ensures cost { IfOk result (λ s. steps.new + length replacements.old.items * round_cost (length (places_of listing)) (length (rules_in rules.now.entries.now)) ≤ steps.old + (length replacements.new.items + from_bool s.is_done) * round_cost (length (places_of listing)) (length (rules_in rules.now.entries.now))) }
 {
-    let live = live(alloc, &listing, steps)?;
-    let flows = flows(alloc, &listing)?;
+    let (live, flows) = live_and_flows(alloc, &listing, steps)?;
     let spots = spots_of(alloc, &live, flows.as_slice())?;
     let lines = listing.into_lines();
     if steady {
