@@ -302,11 +302,11 @@ impl Cursor {
         let mut jumps_ahead = Vec::new(alloc);
         note_from(&mut jumps_ahead, &ahead, 0, 0)?;
         Ok(Cursor {
-            behind: Vec::new(alloc),
+            behind: Vec::with_capacity(alloc, ahead.len())?,
             ahead,
             jumps_behind: Vec::new(alloc),
             jumps_ahead,
-            passed: Vec::new(alloc),
+            passed: Vec::with_capacity(alloc, coming.len())?,
             coming,
         })
     }

@@ -392,10 +392,10 @@ none_at base longest rules lines place fit none o a at =
     let long = w.long in
     none o a at (omega arith)
 
--- where no left side stands first in the run from a place, none applies there
-pub none_begins : (base longest : ℕ) (rules : List Rule) (lines : List Line) (rows : List Row) (sets : LiveSets) (place : ℕ) (is : List Instr) → AreFit longest rules → AreOf lines rows sets → is ≡ run true longest (drop place rows)
-    → ((n k : ℕ) (rule : Rule) (registers : List Low) → slice_get rules k ≡ Some rule → Shortens rule registers (take n is) → ⊥) → NoneAt (setting base rules) lines place
-none_begins base longest rules lines rows sets place is fit of e none o a at =
+-- where no left side of more than so many instructions stands first in the run from a place, none that applies there is longer
+pub none_reached : (base longest : ℕ) (rules : List Rule) (lines : List Line) (rows : List Row) (sets : LiveSets) (place count : ℕ) (is : List Instr) → AreFit longest rules → AreOf lines rows sets → is ≡ run true longest (drop place rows)
+    → ((n k : ℕ) (rule : Rule) (registers : List Low) → count < length rule.left → slice_get rules k ≡ Some rule → Shortens rule registers (take n is) → ⊥) → NoneLonger (setting base rules) lines place count
+none_reached base longest rules lines rows sets place count is fit of e none o a at longer_left =
     let w = applicable base longest rules lines o fit a in
     let some = w.some in
     let long = w.long in
@@ -409,7 +409,8 @@ none_begins base longest rules lines rows sets place is fit of e none o a at =
     let there = front_stands lines rows sets place longest n items is is of e refl (omega arith) few (λ x. of.live.after (place + (n - 1)) x inside) in
     let all : length (take n is) ≡ n = take_all n is few in
     let s = stands_in base rules lines place (take n is) items o there a at (long ∙ sym all) in
-    none n o.entry s.rule o.registers s.at s.shortens
+    let left = length_at rules o.entry s.rule s.at in
+    none n o.entry s.rule o.registers (omega arith) s.at s.shortens
 
 -- ---- the least place ----
 

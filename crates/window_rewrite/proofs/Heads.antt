@@ -1,5 +1,5 @@
--- What a left side's first instruction shares with that of each window in which it stands.
-use Rattle.std.proofs.Common.{◌≡◌, ℕ, zero, suc, ◌+◌, ◌<◌, ◌≤◌, ◌%◌, ◌&&◌, Bool, true, false, List, [], ◌∷◌, length, take, drop, map, replicate, Option, Some, None, refl, sym, ap, ◌∙◌, subst, arith, inl, inr, ltb-true}
+-- What a left side's instructions share with those of each window in which it stands.
+use Rattle.std.proofs.Common.{◌≡◌, ℕ, zero, suc, ◌+◌, ◌*◌, ◌<◌, ◌≤◌, ◌%◌, ◌&&◌, Bool, true, false, List, [], ◌∷◌, length, take, drop, map, replicate, Option, Some, None, refl, sym, ap, ◌∙◌, subst, arith, inl, inr, ltb-true}
 use Rattle.std.specs.Prelude.{slice_get, slice_set, nat_eq, nat_lt}
 use Rattle.std.specs.Cmp.Lexicographic.{pointwise}
 use Rattle.std.specs.Map.{lookup}
@@ -17,7 +17,7 @@ use Rattle.thumb_instr.proofs.Registers.{low_is, same_number, same_not_both_sp}
 use Rattle.thumb_instr.proofs.RenamingLemmas.{low_number, reg_number}
 use Rattle.thumb_model.specs.Rewrite.{Rule, AreOver, IsSoundRule, register_count, normalised}
 use Rattle.thumb_table.specs.Table.{code_of}
-use Rattle.window_rewrite.specs.Rules.{codes_of, first_register, first_registers, first_with, head_number, is_key, is_marked, is_shorter, IsIndexFrom}
+use Rattle.window_rewrite.specs.Rules.{codes_of, first_register, first_registers, first_with, head_at, head_number, is_key, is_marked, is_shorter, AreMarked, IsIndexFrom}
 use Rattle.window_rewrite.specs.declared.index.Index.{Index}
 use Rattle.window_rewrite.specs.Fitting.{Shortens}
 use Rattle.window_rewrite.proofs.Keys.{first_past, first_same, firsts_more, nexts_more}
@@ -70,39 +70,33 @@ bare_same r (instr.Extend e d m) h = rw (low_same r d, low_same r m) refl
 bare_same r (instr.Reverse e d m) h = rw (low_same r d, low_same r m) refl
 bare_same r i h = absurd (cc)
 
--- ---- the first instruction ----
+-- ---- one instruction ----
 
--- a left side that may give way begins, and with what
-pub record Begun (rule : Rule) (run : List Instr) : Type 0 where
-  pub first : Instr
-  pub rest : List Instr
-  pub is : rule.left ≡ first ∷ rest
-  pub begins : Instr
-  pub others : List Instr
-  pub run_is : run ≡ begins ∷ others
-  pub same : head_number (normal_of begins) ≡ head_number first
+-- where a left side stands first in a run, each of its instructions has what that of the run shares at its place
+pub record Alike (run : List Instr) (at : ℕ) (i : Instr) : Type 0 where
+  pub there : Instr
+  pub is : slice_get run at ≡ Some there
+  pub same : head_number (normal_of there) ≡ head_number i
 
-pub begun : (n : ℕ) (rule : Rule) (registers : List Low) (run : List Instr) → IsSoundRule rule → Shortens rule registers (take n run) → Begun rule run
-begun n rule registers run sound s = by n run rule.left refl s.shorter s.stands.matches sound.left
+pub alike : (n at : ℕ) (rule : Rule) (registers : List Low) (run : List Instr) (i : Instr) → IsSoundRule rule → Shortens rule registers (take n run) → slice_get rule.left at ≡ Some i → Alike run at i
+alike n at rule registers run i sound s e = by n at run rule.left s.stands.matches sound.left e
   where
-    head : (i j : Instr) (is js : List Instr) → i ∷ is ≡ j ∷ js → i ≡ j
-    head i j is js e = cc
-
-    by : (n : ℕ) (run left : List Instr) → rule.left ≡ left → length rule.right < length left → map normalised (take n run) ≡ map (renamed registers) left → AreOver (register_count rule.left) left → Begun rule run
-    by n run [] e l m o = absurd (omega arith)
-    by zero run (i ∷ is) e l m o = absurd (cc)
-    by (suc n) [] (i ∷ is) e l m o = absurd (cc)
-    by (suc n) (j ∷ js) (i ∷ is) e l m o =
-        let same : normal_of j ≡ renamed registers i = head (normal_of j) (renamed registers i) (map normalised (take n js)) (map (renamed registers) is) m in
+    by : (n at : ℕ) (run left : List Instr) → map normalised (take n run) ≡ map (renamed registers) left → AreOver (register_count rule.left) left → slice_get left at ≡ Some i → Alike run at i
+    by n at run [] m o e = absurd (cc)
+    by zero at run (x ∷ xs) m o e = absurd (cc)
+    by (suc n) at [] (x ∷ xs) m o e = absurd (cc)
+    by (suc n) zero (j ∷ js) (x ∷ xs) m o e =
+        let first : normal_of j ≡ renamed registers x = cc in
+        let one : x ≡ i = cc in
         record {
-          first = i;
-          rest = is;
-          is = e;
-          begins = j;
-          others = js;
-          run_is = refl;
-          same = ap head_number same ∙ ap (λ c. code_of c % 65536) (bare_same registers i o.0);
+          there = j;
+          is = refl;
+          same = ap head_number (first ∙ ap (renamed registers) one) ∙ ap (λ c. code_of c % 65536) (bare_same registers i (subst (λ y. is_in_window y ≡ true) one o.0));
         }
+    by (suc n) (suc at) (j ∷ js) (x ∷ xs) m o e =
+        let rest : map normalised (take n js) ≡ map (renamed registers) xs = cc in
+        let a = by n at js xs rest o.2 e in
+        record { there = a.there; is = a.is; same = a.same }
 
 pub shorter_is : (rule : Rule) (registers : List Low) (window : List Instr) → Shortens rule registers window → is_shorter rule ≡ true
 shorter_is rule registers window s = lt-ltb (length rule.right) (length rule.left) s.shorter
@@ -121,16 +115,27 @@ marked_still (b ∷ bs) zero (suc q) h = h
 marked_still (b ∷ bs) (suc k) zero h = h
 marked_still (b ∷ bs) (suc k) (suc q) h = marked_still bs k q h
 
+-- with one instruction of a side more
+pub mark_more : (old new : List Bool) (side : List Instr) (at : ℕ) (i : Instr) → ((q : ℕ) → is_marked old q ≡ true → is_marked new q ≡ true) → is_marked new (head_at at i) ≡ true → slice_get side at ≡ Some i → AreMarked old side at → AreMarked new side (at + 1)
+mark_more old new side at i kept here is a = λ b j less g. elim (cases_lt b at) [
+  | inl l ↦ kept (head_at b j) (a b j l g)
+  | inr ge ↦ (
+      let same : b ≡ at = omega arith in
+      let one : j ≡ i = same_Some j i (sym g ∙ ap (slice_get side) same ∙ is) in
+      ap (λ n. is_marked new (head_at n j)) same ∙ ap (λ x. is_marked new (head_at at x)) one ∙ here
+      )
+]
+
 -- ---- the index ----
 
 -- of no rules
-pub empty_index : (rules : List Rule) (n : ℕ) (index : Index) → length rules ≤ n → index.firsts.entries ≡ [] → length index.nexts.items ≡ length rules → length index.heads.items ≡ 65536 → IsIndexFrom rules n index
+pub empty_index : (rules : List Rule) (n : ℕ) (index : Index) → length rules ≤ n → index.firsts.entries ≡ [] → length index.nexts.items ≡ length rules → length index.heads.items ≡ 327680 → IsIndexFrom rules n index
 empty_index rules n index h none many heads = record {
   firsts = λ codes. ap (lookup (is_key codes)) none ∙ sym (first_past rules codes n h);
   as_many = many;
   nexts = λ k rule next l at f g. absurd (omega (arith, l, h, slice_get_within rules k rule at));
   many_heads = heads;
-  heads = λ k rule i is l at f e. absurd (omega (arith, l, h, slice_get_within rules k rule at));
+  heads = λ k rule l at f. absurd (omega (arith, l, h, slice_get_within rules k rule at));
 }
 
 -- with one that leaves as many before them
@@ -143,8 +148,8 @@ same_index rules n rule index at f x = record {
     | inr m ↦ absurd (none k own l m here s)
   ];
   many_heads = x.many_heads;
-  heads = λ k own i is l here s e. elim (cases_lt n k) [
-    | inl m ↦ x.heads k own i is (omega arith) here s e
+  heads = λ k own l here s. elim (cases_lt n k) [
+    | inl m ↦ x.heads k own (omega arith) here s
     | inr m ↦ absurd (none k own l m here s)
   ];
 }
@@ -159,7 +164,7 @@ same_index rules n rule index at f x = record {
 -- with one that leaves fewer
 pub more_index : (rules : List Rule) (n : ℕ) (rule : Rule) (old new : Index) (key : Vec ℕ Global) (o : Option ℕ) → slice_get rules n ≡ Some rule → is_shorter rule ≡ true → IsIndexFrom rules (n + 1) old → key.items ≡ codes_of rule.left
     → new.firsts.entries ≡ insert_entry (λ x y. pointwise nat_eq x.items y.items) old.firsts.entries key n → o ≡ lookup (is_key key.items) old.firsts.entries → new.nexts.items ≡ slice_set old.nexts.items n o
-    → length new.heads.items ≡ 65536 → ((q : ℕ) → is_marked old.heads.items q ≡ true → is_marked new.heads.items q ≡ true) → ((i : Instr) (is : List Instr) → rule.left ≡ i ∷ is → is_marked new.heads.items (head_number i) ≡ true)
+    → length new.heads.items ≡ 327680 → ((q : ℕ) → is_marked old.heads.items q ≡ true → is_marked new.heads.items q ≡ true) → AreMarked new.heads.items rule.left (length rule.left)
     → IsIndexFrom rules n new
 more_index rules n rule old new key o at f x is_key_of firsts was nexts many kept head =
     let within : n < length rules = slice_get_within rules n rule at in
@@ -168,12 +173,29 @@ more_index rules n rule old new key o at f x is_key_of firsts was nexts many kep
       as_many = ap (λ (l : List (Option ℕ)). length l) nexts ∙ length-set old.nexts.items n o ∙ x.as_many;
       nexts = nexts_more rules old.nexts.items new.nexts.items n rule o (omega (arith, within, x.as_many)) at nexts (was ∙ x.firsts key.items ∙ ap (λ (l : List ℕ). first_with l (n + 1) (drop (n + 1) rules)) is_key_of) x.nexts;
       many_heads = many;
-      heads = λ k own i is l here s e. elim (cases_lt n k) [
-        | inl m ↦ kept (head_number i) (x.heads k own i is (omega arith) here s e)
+      heads = λ k own l here s. elim (cases_lt n k) [
+        | inl m ↦ λ a i w e. kept (head_at a i) (x.heads k own (omega arith) here s a i w e)
         | inr m ↦ (
             let same : k ≡ n = omega arith in
             let one : own ≡ rule = same_Some own rule (sym here ∙ ap (slice_get rules) same ∙ at) in
-            head i is (ap (λ (r : Rule). r.left) (sym one) ∙ e)
+            subst (λ (r : Rule). AreMarked new.heads.items r.left (length r.left)) (sym one) head
             )
       ];
     }
+
+-- where an instruction of a run isn't marked at its place, no left side that stands first in the run goes on to there
+pub unreached : (rules : List Rule) (index : Index) (run : List Instr) (at : ℕ) (there : Instr) → IsIndexFrom rules 0 index → slice_get run at ≡ Some there → is_marked index.heads.items (head_at at (normal_of there)) ≡ false
+    → (n k : ℕ) (rule : Rule) (registers : List Low) → IsSoundRule rule → at < length rule.left → slice_get rules k ≡ Some rule → Shortens rule registers (take n run) → ⊥
+unreached rules index run at there is here missing n k rule registers sound longer is_rule s =
+    let i = within rule.left at longer in
+    let a = alike n at rule registers run i.0 sound s i.1 in
+    let one : a.there ≡ there = same_Some a.there there (sym a.is ∙ here) in
+    let number : head_number (normal_of there) ≡ head_number i.0 = sym (ap (λ (x : Instr). head_number (normal_of x)) one) ∙ a.same in
+    let marked : is_marked index.heads.items (head_at at i.0) ≡ true = is.heads k rule (omega arith) is_rule (shorter_is rule registers (take n run) s) at i.0 longer i.1 in
+    let bad : true ≡ false = sym marked ∙ ap (λ (h : ℕ). is_marked index.heads.items (at * 65536 + h)) (sym number) ∙ missing in
+    absurd (cc)
+  where
+    within : (is : List Instr) (at : ℕ) → at < length is → (i : Instr) × (slice_get is at ≡ Some i)
+    within [] at h = absurd (omega arith)
+    within (x ∷ xs) zero h = (x, refl)
+    within (x ∷ xs) (suc at) h = within xs at (omega arith)

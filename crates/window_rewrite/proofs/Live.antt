@@ -1,5 +1,6 @@
 -- Which items may be live.
 use Rattle.std.proofs.Common.{◌≡◌, ℕ, ◌+◌, ◌<◌, ◌==◌, ◌&&◌, ◌||◌, Bool, true, false, List, [], ◌∷◌, map, filter, cond, refl, sym, ap, ◌∙◌, subst, arith, inl, inr}
+use Rattle.std.specs.Prelude.{not, nat_lt}
 use Rattle.std.specs.List.{list_any}
 use Rattle.std.proofs.lemmas.Bool.{cases_lt}
 use Rattle.thumb_instr.specs.Items.{has}
@@ -7,6 +8,7 @@ use Rattle.thumb_instr.specs.Renaming.{Low, item_under}
 use Rattle.thumb_instr.proofs.Bits.{has_none}
 use Rattle.thumb_model.specs.Items.{one_of}
 use Rattle.table_audit.specs.Soundness.{items_in}
+use Rattle.window_rewrite.specs.Fitting.{is_allowed}
 
 -- one of the items that pass a test becomes x
 pub one_of_passed : (p : ℕ → Bool) (f : ℕ → ℕ) (x : ℕ) (xs : List ℕ) → list_any (λ y. p y && (x == f y)) xs ≡ one_of x (map f (filter p xs))
@@ -59,3 +61,16 @@ allowed_all live allowed small a x h = elim (cases_lt x 19) [
   | inl k ↦ a x k h
   | inr k ↦ absurd (let z : true ≡ false = sym h ∙ has_none live x small k in cc)
 ]
+
+-- what tells of an item whether it may be live
+pub allowed_is : (kept named mask : ℕ) (registers : List Low) (x : ℕ) → ((y : ℕ) → has kept y ≡ one_of y (map (item_under registers) (items_in mask))) → ((y : ℕ) → has named y ≡ one_of y (map (λ r. r.number) registers))
+    → (has kept x || (nat_lt x 15 && not (has named x))) ≡ is_allowed (items_in mask) registers x
+allowed_is kept named mask registers x k n = rw (k x, n x) refl
+
+pub may_be_live : (b live allowed : Bool) → b ≡ (not live || allowed) → b ≡ true → live ≡ true → allowed ≡ true
+may_be_live b true allowed e f g = sym e ∙ f
+may_be_live b false allowed e f g = absurd (cc)
+
+pub may_not_be : (b live allowed : Bool) → b ≡ (not live || allowed) → b ≡ false → (live ≡ true) × (allowed ≡ false)
+may_not_be b true allowed e f = (refl, sym e ∙ f)
+may_not_be b false allowed e f = absurd (cc)

@@ -100,7 +100,7 @@ still_live old new was now q x a b h k e l = (b.after q x k).0 (e ((a.after q x 
 -- what no rule applies before in the old lines none applies before in the new ones, as far back from where sets changed as a left side is long
 pub none_before : (s : Setting) (longest back : ℕ) (xs ys new : List Line) (was now : List Spot) (r : Replacement) (place : ℕ) → AreFit longest s.table → IsFirst s r (xs ++ ys) → r.place ≡ length (places_of xs)
     → new ≡ lines_after s r (xs ++ ys) → IsLive (code_of (xs ++ ys)) (sets_of was) → IsLive (code_of new) (sets_of now) → ((q : ℕ) → q + back < r.place → (x : ℕ) → has (set_at (sets_of was).after q) x ≡ true → has (set_at (sets_of now).after q) x ≡ true)
-    → s.base % 4 ≡ 0 → IsSteady s.base (xs ++ ys) → place ≤ r.place - back - longest → NoneBefore s new place
+    → s.base % 4 ≡ 0 → IsSteady s.base (xs ++ ys) → place ≤ r.place + 1 - back - longest → NoneBefore s new place
 none_before s longest back xs ys new was now r place fit first at is_new old_live new_live same aligned steady far_back = λ o a before.
     let rule : Rule = first.applies.rule in
     let is : List Instr = map (renamed r.registers) rule.right in
@@ -184,7 +184,7 @@ turned_over r g old at new o ready over steady a kept e is f spots = record {
 -- and no entry applies before it
 pub turned_before : (r : Rules) (g : Ground) (old at new : Cursor) (o : Replacement) (count : ℕ) → AreReady r → IsOver r g old → is_steady g ≡ true → IsFirst (setting_of r) o (lines_at old) → o.place ≡ place_at old
     → IsKept at → lines_at at ≡ lines_after (setting_of r) o (lines_at old) → ((q : ℕ) → q + count < place_at old → LosesNone old at q)
-    → lines_at new ≡ lines_at at → place_at new ≤ o.place - count - r.longest → NoneBefore (setting_of r) (lines_at new) (place_at new)
+    → lines_at new ≡ lines_at at → place_at new ≤ o.place + 1 - count - r.longest → NoneBefore (setting_of r) (lines_at new) (place_at new)
 turned_before r g old at new o count ready over steady first here kept e same f back =
     subst (λ (ls : List Line). NoneBefore (setting_of r) ls (place_at new)) (sym f)
     (none_before (setting_of r) r.longest count (lines_behind old) (lines_ahead old) (lines_at at) (spots_at old) (spots_at at) o (place_at new) ready.fit first (here ∙ over.kept.is.passed) e over.kept.live kept.live

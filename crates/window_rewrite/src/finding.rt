@@ -138,15 +138,20 @@ fn try_entry<L: Ledger>(
     }))
 }
 
-/// Whether some entry that leaves fewer instructions may have a left side that stands first in a run of instructions. Where none may, none does.
-fn may_begin(rules: &Rules<'_>, run: &[Instr]) -> bool
+/// How many instructions of a run, from its first on, may each be that of some left side at its place, but for registers. No entry that leaves fewer
+/// instructions has a longer left side that stands first in the run.
+fn reach(rules: &Rules<'_>, run: &[Instr]) -> usize
     requires ready { AreReady rules.now }
-    ensures { result ≡ false → (n k : ℕ) (rule : Rule) (registers : List Low) → slice_get (rules_in rules.now.entries.now) k ≡ Some rule → Shortens rule registers (take n run.now) → ⊥ }
+    requires few { length run.now ≤ 5 }
+    ensures within { result ≤ length run.now }
+    ensures none { (n k : ℕ) (rule : Rule) (registers : List Low) → result < length rule.left → slice_get (rules_in rules.now.entries.now) k ≡ Some rule → Shortens rule registers (take n run.now) → ⊥ }
 {
-    match run {
-        [] => false,
-        [first, ..] => rules.index.has_head(&normal(*first)),
+    for at in 0..run.len() {
+        if !rules.index.has_at(at, &normal(run[at])) {
+            return at;
+        }
     }
+    run.len()
 }
 
 /// The first entry that leaves fewer instructions and whose left side may stand in a window.
@@ -209,10 +214,7 @@ fn best_here<L: Ledger>(
     ensures cost { steps.new ≤ steps.old + length (rules_in rules.now.entries.now) }
 {
     let run = cursor.run(usize::from(rules.longest));
-    if !may_begin(rules, run.as_slice()) {
-        return Ok(None);
-    }
-    let mut count = run.len();
+    let mut count = reach(rules, run.as_slice());
     while count > 0 {
         let items = cursor.after(count);
         if let Some(choice) = lowest(

@@ -3,7 +3,7 @@ ghost use Rattle.std.specs.Prelude.{◌≡◌, ◌∷◌, ◌+◌, ◌<◌, ◌�
 ghost use Rattle.thumb_instr.specs.declared.instr.Instr.{Instr};
 ghost use Rattle.thumb_model.specs.Rewrite.{Rule};
 ghost use Rattle.thumb_table.specs.Table.{code_of};
-ghost use Rattle.window_rewrite.specs.Rules.{codes_of, entry_rule, first_registers, first_with, head_number, is_marked, is_shorter, rules_in, IsIndex, IsIndexFrom};
+ghost use Rattle.window_rewrite.specs.Rules.{codes_of, entry_rule, first_registers, first_with, head_at, head_number, is_marked, is_shorter, rules_in, AreMarked, IsIndex, IsIndexFrom};
 
 use arrayvec::ArrayVec;
 use indexmap::IndexMap;
@@ -18,9 +18,13 @@ use thumb_table::{Code, encode};
 pub(crate) struct Index {
     firsts: IndexMap<Vec<u32>, usize>,
     nexts: Vec<Option<usize>>,
-    /// Whether a left side may begin with an instruction, by what it shares with those that differ from it in registers alone. Others may share it too.
+    /// Whether left sides may have an instruction at a place, by the place and by what it shares with those that differ from it in registers alone. Others may
+    /// share it too.
     heads: Vec<bool>,
 }
+
+/// How many heads an index has: as many as there are halfwords for each of the five places of a left side.
+const HEADS: usize = 327_680;
 
 /// The code of an instruction as a number.
 fn code_number(instr: &Instr) -> u32
@@ -60,6 +64,15 @@ fn head_number(instr: &Instr) -> usize
     (code_number(&bare) % 65536) as usize
 }
 
+/// The place in the index of an instruction at a place.
+fn head_at(at: usize, instr: &Instr) -> usize
+    requires { at < 5 }
+    ensures value { result ≡ head_at at instr.now }
+    ensures small { result < 327680 }
+{
+    at * 65536 + head_number(instr)
+}
+
 /// Whether an entry leaves fewer instructions.
 fn is_shorter(entry: &Entry) -> bool
     ensures { result ≡ is_shorter (entry_rule entry.now) }
@@ -75,7 +88,7 @@ impl Index {
         let mut index = Index {
             firsts: IndexMap::new(alloc),
             nexts: vec![in alloc; None; entries.len()]?,
-            heads: vec![in alloc; false; 65536]?,
+            heads: vec![in alloc; false; HEADS]?,
         };
         let mut number = entries.len();
         while number > 0 {
@@ -102,26 +115,41 @@ impl Index {
         Ok(())
     }
 
-    /// Marks the first instruction of a left side.
-    fn mark(&mut self, left: &[Instr])
-        requires { length self.old.heads.items ≡ 65536 }
+    /// Marks an instruction at a place.
+    fn mark_at(&mut self, at: usize, instr: &Instr)
+        requires many { length self.old.heads.items ≡ 327680 }
+        requires within { at < 5 }
         ensures firsts { self.new.firsts.entries ≡ self.old.firsts.entries }
         ensures nexts { self.new.nexts.items ≡ self.old.nexts.items }
-        ensures many { length self.new.heads.items ≡ 65536 }
-        ensures heads { (q : ℕ) → is_marked self.old.heads.items q ≡ true → is_marked self.new.heads.items q ≡ true }
-        ensures head { (i : Instr) (is : List Instr) → left.now ≡ i ∷ is → is_marked self.new.heads.items (head_number i) ≡ true }
+        ensures many { length self.new.heads.items ≡ 327680 }
+        ensures kept { (q : ℕ) → is_marked self.old.heads.items q ≡ true → is_marked self.new.heads.items q ≡ true }
+        ensures head { is_marked self.new.heads.items (head_at at instr.now) ≡ true }
     {
-        if let [first, ..] = left {
-            self.heads[head_number(first)] = true;
+        self.heads[head_at(at, instr)] = true;
+    }
+
+    /// Marks the instructions of a left side, each at its place.
+    fn mark(&mut self, left: &[Instr])
+        requires many { length self.old.heads.items ≡ 327680 }
+        requires few { length left.now ≤ 5 }
+        ensures firsts { self.new.firsts.entries ≡ self.old.firsts.entries }
+        ensures nexts { self.new.nexts.items ≡ self.old.nexts.items }
+        ensures many { length self.new.heads.items ≡ 327680 }
+        ensures kept { (q : ℕ) → is_marked self.old.heads.items q ≡ true → is_marked self.new.heads.items q ≡ true }
+        ensures heads { AreMarked self.new.heads.items left.now (length left.now) }
+    {
+        for at in 0..left.len() {
+            self.mark_at(at, &left[at]);
         }
     }
 
-    /// Whether some left side may begin with an instruction, but for registers.
-    pub(crate) fn has_head(&self, instr: &Instr) -> bool
-        requires { length self.now.heads.items ≡ 65536 }
-        ensures { result ≡ is_marked self.now.heads.items (head_number instr.now) }
+    /// Whether some left side may have an instruction at a place, but for registers.
+    pub(crate) fn has_at(&self, at: usize, instr: &Instr) -> bool
+        requires many { length self.now.heads.items ≡ 327680 }
+        requires within { at < 5 }
+        ensures { result ≡ is_marked self.now.heads.items (head_at at instr.now) }
     {
-        self.heads[head_number(instr)]
+        self.heads[head_at(at, instr)]
     }
 
     /// The first entry that leaves fewer instructions and has this left side.

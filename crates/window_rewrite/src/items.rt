@@ -1,5 +1,5 @@
 //! Whether the items that are live after a window may be.
-ghost use Rattle.std.specs.Prelude.{◌≡◌, ℕ, ◌+◌, ◌<◌, ◌≤◌, ◌==◌, ◌&&◌, [], ◌∷◌, ◌++◌, length, map, true, ◌↔◌};
+ghost use Rattle.std.specs.Prelude.{◌≡◌, ℕ, ◌+◌, ◌<◌, ◌≤◌, ◌==◌, ◌&&◌, ◌||◌, not, nat_lt, [], ◌∷◌, ◌++◌, length, map, true, ◌↔◌};
 ghost use Rattle.thumb_instr.specs.Items.{has};
 ghost use Rattle.thumb_instr.specs.Renaming.{item_under};
 ghost use Rattle.thumb_model.specs.Items.{one_of};
@@ -40,63 +40,70 @@ pub(crate) fn registers_of(map: &Map) -> ArrayVec<Low, 8>
 }
 
 /// The item in place of an item.
-fn item_under(registers: &[Low], item: u8) -> u32
-    ensures { result ≡ item_under registers.now item }
+fn item_under(registers: &[Low], item: u8) -> u8
+    requires { item < 19 }
+    ensures value { result ≡ item_under registers.now item }
+    ensures small { result < 19 }
 {
     match registers.get(usize::from(item)) {
-        Some(register) => register.number,
-        None => u32::from(item),
+        Some(register) => register.number as u8,
+        None => item,
     }
 }
 
-/// Whether the mask has an item that becomes this one.
-fn is_kept(mask: Mask, registers: &[Low], masked: u8, item: u32) -> bool
-    requires { masked < 19 }
-    ensures { result ≡ (has mask.items.bits masked && (item == item_under registers.now masked)) }
+/// What an item becomes, if the mask has it.
+fn kept_item(mask: Mask, registers: &[Low], item: u8) -> Items
+    requires { item < 19 }
+    ensures { (x : ℕ) → has result.bits x ≡ (has mask.items.bits item && (x == item_under registers.now item)) }
 {
-    mask.has(masked) && item == item_under(registers, masked)
+    if mask.has(item) {
+        Items::one(item_under(registers, item))
+    } else {
+        Items::none()
+    }
 }
 
-/// Whether some item of the mask becomes this one.
-#[tactic(auto, using(crate::proofs::Live::masked_is))]
-fn is_masked(mask: Mask, registers: &[Low], item: u32) -> bool
-    ensures { result ≡ one_of item (map (item_under registers.now) (items_in mask.items.bits)) }
+/// What the items of the mask become.
+fn kept_items(mask: Mask, registers: &[Low]) -> Items
+    ensures { (x : ℕ) → has result.bits x ≡ one_of x (map (item_under registers.now) (items_in mask.items.bits)) }
 {
-    is_kept(mask, registers, 0, item)
-        | is_kept(mask, registers, 1, item)
-        | is_kept(mask, registers, 2, item)
-        | is_kept(mask, registers, 3, item)
-        | is_kept(mask, registers, 15, item)
-        | is_kept(mask, registers, 16, item)
-        | is_kept(mask, registers, 17, item)
-        | is_kept(mask, registers, 18, item)
+    kept_item(mask, registers, 0)
+        .union(kept_item(mask, registers, 1))
+        .union(kept_item(mask, registers, 2))
+        .union(kept_item(mask, registers, 3))
+        .union(kept_item(mask, registers, 15))
+        .union(kept_item(mask, registers, 16))
+        .union(kept_item(mask, registers, 17))
+        .union(kept_item(mask, registers, 18))
 }
 
-/// Whether an item is among the registers.
-fn is_among(registers: &[Low], item: u32) -> bool
-    ensures { result ≡ one_of item (map (λ r. r.number) registers.now) }
+/// The registers as items.
+fn items_of(registers: &[Low]) -> Items
+    ensures { (x : ℕ) → has result.bits x ≡ one_of x (map (λ r. r.number) registers.now) }
 {
+    let mut items = Items::none();
     for register in registers {
-        if item == register.number {
-            return true;
-        }
+        items = items.union(Items::one(register.number as u8));
     }
-    false
+    items
 }
 
-/// Whether an item may be live: one that the mask has under the map, or a register outside the map.
-fn is_allowed(mask: Mask, registers: &[Low], item: u32) -> bool
-    ensures { result ≡ is_allowed (items_in mask.items.bits) registers.now item }
+/// Whether an item isn't live, or may be: items of the mask become it, or it is a register outside the map, of which these are the registers.
+fn may_be(live: Items, kept: Items, named: Items, item: u8) -> bool
+    requires { item < 19 }
+    ensures { result ≡ (not (has live.bits item) || (has kept.bits item || (nat_lt item 15 && not (has named.bits item)))) }
 {
-    is_masked(mask, registers, item) || (item < 15 && !is_among(registers, item))
+    !live.has(item) || (kept.has(item) || (item < 15 && !named.has(item)))
 }
 
 /// Whether each of the live items may be live.
 pub(crate) fn are_allowed(mask: Mask, registers: &[Low], live: Items) -> bool
     ensures { (result ≡ true) ↔ ((x : ℕ) → has live.bits x ≡ true → is_allowed (items_in mask.items.bits) registers.now x ≡ true) }
 {
+    let kept = kept_items(mask, registers);
+    let named = items_of(registers);
     for item in 0..19u8 {
-        if live.has(item) && !is_allowed(mask, registers, u32::from(item)) {
+        if !may_be(live, kept, named, item) {
             return false;
         }
     }

@@ -103,6 +103,9 @@ fn kept(cursor: &Cursor, window: &[Instr], new: &[Instr]) -> Option<ArrayVec<New
     requires keeps { KeepsAt (code_of (lines_at cursor.now)) (place_at cursor.now) window.now new.now }
     ensures { IfSome result (λ s. AreKept cursor.now window.now new.now s.items) }
 {
+    if let Some(sets) = kept_behind(cursor, &[], window, new, &[]) {
+        return Some(sets);
+    }
     let flows = cursor.flows(window.len());
     let ahead = flows.as_slice();
     match kept_behind(cursor, &[], window, new, ahead) {

@@ -63,7 +63,7 @@ fn turn<L: Ledger>(
     match make(alloc, cursor, window, new, steps)? {
         None => Ok(false),
         Some(lead) => {
-            let changed = (choice.replacement.place as usize).saturating_sub(lead);
+            let changed = (choice.replacement.place as usize + 1).saturating_sub(lead);
             cursor.rewind(changed.saturating_sub(usize::from(rules.longest)))?;
             Ok(true)
         }

@@ -2,32 +2,29 @@ use Rattle.std.proofs.Common.{◌≡◌, ◌∙◌, ◌-◌, ◌≤◌, List, tr
 use Rattle.thumb_instr.specs.declared.instr.Instr.{Instr}
 use Rattle.window_runs.specs.Rows.{rows_from}
 use Rattle.window_runs.specs.Runs.{run}
-use Rattle.line_cursor.specs.Cursors.{lines_at, place_at, sets_of, spots_at}
+use Rattle.window_runs.proofs.Lengths.{run_short}
+use Rattle.line_cursor.specs.Cursors.{lines_ahead, lines_at, place_at, sets_of, spots_at}
 use Rattle.window_rewrite.specs.Rules.{rules_in}
 use Rattle.window_rewrite.specs.Choices.{setting_of}
 use Rattle.window_rewrite.proofs.Behind.{of_kept, run_here, run_comes, live_behind}
-use Rattle.window_rewrite.proofs.Chosen.{NoneLonger, front_stands, none_begins, none_beyond, none_shorter, count_cost, all_cost}
+use Rattle.window_rewrite.proofs.Chosen.{NoneLonger, front_stands, none_reached, none_shorter, count_cost, all_cost}
 use Rattle.window_rewrite.proofs.finding.best_here.Goals as goal
 
-pub returns-then-not-may_begin-clause-none : goal.returns-then-not-may_begin-clause-none
-returns-then-not-may_begin-clause-none g c =
-    let kept = c.requires.over.kept in
-    let e : c.run-run.result ≡ run true c.args.rules.now.longest (drop (place_at c.args.cursor.now) (rows_from false (lines_at c.args.cursor.now))) =
-    subst (λ m. c.run-run.result ≡ run true m (drop (place_at c.args.cursor.now) (rows_from false (lines_at c.args.cursor.now)))) c.from.ensures (run_here c.args.cursor.now c.from.result c.run-run.result kept c.run-run.ensures) in
-    none_begins c.args.rules.now.base c.args.rules.now.longest (rules_in c.args.rules.now.entries.now) (lines_at c.args.cursor.now) (rows_from false (lines_at c.args.cursor.now)) (sets_of (spots_at c.args.cursor.now)) (place_at c.args.cursor.now) c.as_slice.result.now
-    c.requires.ready.fit (of_kept c.args.cursor.now kept) (c.as_slice.ensures.value ∙ e) (c.may_begin.ensures c.if-not-may_begin.true)
+pub reach-count-requires-clause-few : goal.reach-count-requires-clause-few
+reach-count-requires-clause-few g c =
+    let short = run_short true c.from.result (rows_from true (lines_ahead c.args.cursor.now)) in
+    omega (arith, short, c.requires.ready.few, c.from.ensures, ap (λ (is : List Instr). length is) c.run-run.ensures, ap (λ (is : List Instr). length is) c.as_slice.ensures.value)
 
 pub loop-count-init : goal.loop-count-init
 loop-count-init g c =
     let kept = c.requires.over.kept in
     let e : c.run-run.result ≡ run true c.args.rules.now.longest (drop (place_at c.args.cursor.now) (rows_from false (lines_at c.args.cursor.now))) =
     subst (λ m. c.run-run.result ≡ run true m (drop (place_at c.args.cursor.now) (rows_from false (lines_at c.args.cursor.now)))) c.from.ensures (run_here c.args.cursor.now c.from.result c.run-run.result kept c.run-run.ensures) in
-    let none =
-    none_beyond c.args.rules.now.base c.args.rules.now.longest (rules_in c.args.rules.now.entries.now) (lines_at c.args.cursor.now) (rows_from false (lines_at c.args.cursor.now)) (sets_of (spots_at c.args.cursor.now)) (place_at c.args.cursor.now) c.run-run.result
-    c.requires.ready.fit (of_kept c.args.cursor.now kept) e in
     record {
-      within = omega (arith, c.len-count.ensures.value);
-      none = subst (λ n. NoneLonger (setting_of c.args.rules.now) (lines_at c.args.cursor.now) (place_at c.args.cursor.now) n) (sym c.len-count.ensures.value) none;
+      within = omega (arith, c.reach-count.ensures.within, ap (λ (is : List Instr). length is) c.as_slice.ensures.value);
+      none =
+          none_reached c.args.rules.now.base c.args.rules.now.longest (rules_in c.args.rules.now.entries.now) (lines_at c.args.cursor.now) (rows_from false (lines_at c.args.cursor.now)) (sets_of (spots_at c.args.cursor.now)) (place_at c.args.cursor.now)
+          c.reach-count.result c.as_slice.result.now c.requires.ready.fit (of_kept c.args.cursor.now kept) (c.as_slice.ensures.value ∙ e) c.reach-count.ensures.none;
       cost = omega arith;
     }
 

@@ -4,4 +4,4 @@ use Rattle.window_rewrite.proofs.Live.{AreAllowed}
 use Rattle.window_rewrite.proofs.items.are_allowed.Given as goal
 
 abbrev pub invariant-loop-item : goal.invariant-loop-item
-invariant-loop-item l = AreAllowed l.item l.live.bits (is_allowed (items_in l.mask.items.bits) l.registers)
+invariant-loop-item l = AreAllowed l.item l.live.bits (is_allowed (items_in l.fn.mask.items.bits) l.registers)

@@ -36,7 +36,7 @@ returns-in_ok-rewind-in-Some-clause-before g c =
     let changed = c.saturating_sub-changed.ensures in
     let saturating = c.saturating_sub.ensures in
     let from = c.from.ensures in
-    let back : place_at c.rewind.new.self ≤ o.place - c.in-Some.lead - c.args.rules.now.longest = omega arith in
+    let back : place_at c.rewind.new.self ≤ o.place + 1 - c.in-Some.lead - c.args.rules.now.longest = omega arith in
     λ _. turned_before c.args.rules.now c.args.ground.now c.args.cursor.now c.make.new.cursor c.rewind.new.self o c.in-Some.lead c.requires.ready c.requires.over steady c.requires.choice.first c.requires.here kept lines
     same c.in_ok-rewind-in-Some.ensures.lines back
 

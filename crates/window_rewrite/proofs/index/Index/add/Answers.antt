@@ -1,11 +1,12 @@
-use Rattle.std.proofs.Common.{◌≡◌, ◌∙◌, ℕ, List, Option, Some, slice_index_or, ap, refl}
+use Rattle.std.proofs.Common.{◌≡◌, ◌∙◌, ℕ, List, length, Option, Some, slice_index_or, ap, refl, subst}
 use Rattle.std.specs.Prelude.{slice_get, slice_set, nat_eq}
 use Rattle.std.specs.Cmp.Lexicographic.{pointwise}
 use Rattle.std.specs.Map.{lookup}
 use Rattle.std.proofs.lemmas.Option.{slice_get_read}
 use Rattle.indexmap.specs.IndexMap.{insert_entry}
 use Rattle.rule_table.specs.declared.table.Entry.{Entry}
-use Rattle.window_rewrite.specs.Rules.{rules_in, codes_of, is_key, entry_rule}
+use Rattle.thumb_instr.specs.declared.instr.Instr.{Instr}
+use Rattle.window_rewrite.specs.Rules.{rules_in, codes_of, is_key, entry_rule, AreMarked}
 use Rattle.window_rewrite.proofs.Accepted.{entry_at}
 use Rattle.window_rewrite.proofs.Heads.{more_index}
 use Rattle.window_rewrite.proofs.index.Index.add.Goals as goal
@@ -22,4 +23,4 @@ returns c =
     more_index (rules_in entries) n (entry_rule e) c.args.self.now _ c.in_ok-key.key c.in_ok-self.field-0 rule (c.requires.shorter (entry_rule e) rule) c.requires.index key
     (c.in_ok-self.ensures.entries ∙ ap (λ es. insert_entry (λ x y. pointwise nat_eq x.items y.items) es c.in_ok-key.key n) c.mark.ensures.firsts)
     (c.in_ok-self.ensures.old ∙ ap (lookup (is_key c.in_ok-key.key.items)) c.mark.ensures.firsts)
-    (ap (λ (l : List (Option ℕ)). slice_set l n c.in_ok-self.field-0) c.mark.ensures.nexts) c.mark.ensures.many c.mark.ensures.heads (λ i is f. c.mark.ensures.head i is (left ∙ f))
+    (ap (λ (l : List (Option ℕ)). slice_set l n c.in_ok-self.field-0) c.mark.ensures.nexts) c.mark.ensures.many c.mark.ensures.kept (subst (λ (l : List Instr). AreMarked c.mark.new.self.heads.items l (length l)) left c.mark.ensures.heads)
