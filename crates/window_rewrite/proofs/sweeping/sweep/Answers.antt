@@ -40,5 +40,5 @@ returns-clause-cost g c =
     let n : ℕ = length c.sweep_lines-2.new.replacements.items + from_bool c.in_ok-swept.swept.is_done in
     let entries : ℕ = length (rules_in c.args.rules.now.entries.now) in
     let through = subst (λ (l : List Line). c.sweep_lines-2.new.steps + visits (length (places_of l)) + old * round_cost (length (places_of l)) entries ≤ c.live_and_flows.new.steps + n * round_cost (length (places_of l)) entries) c.into_lines-lines.ensures.lines c.in_ok-swept.ensures.cost in
-    let found = c.in_ok-live_and_flows.ensures.cost in
+    let found = c.in_ok-live.ensures.cost in
     omega arith
