@@ -1,5 +1,5 @@
 -- The rules of a table, and how they are found by their left sides.
-use Rattle.std.specs.Prelude.{◌≡◌, ℕ, ◌+◌, ◌*◌, ◌%◌, ◌<◌, ◌≤◌, ◌&&◌, Bool, true, false, List, [], ◌∷◌, length, map, drop, replicate, nat_eq, nat_lt, Option, Some, None, slice_get, if◌then◌else◌}
+use Rattle.std.specs.Prelude.{◌≡◌, ℕ, suc, ◌+◌, ◌*◌, ◌%◌, ◌<◌, ◌≤◌, ◌&&◌, Bool, true, false, List, [], ◌∷◌, length, map, take, drop, replicate, nat_eq, nat_lt, Option, Some, None, slice_get, if◌then◌else◌}
 use Rattle.std.specs.Cmp.Lexicographic.{pointwise}
 use Rattle.std.specs.Map.{lookup}
 use Rattle.std.specs.declared.alloc.Global.{Global}
@@ -54,7 +54,7 @@ abbrev pub first_with : List ℕ → ℕ → List Rule → Option ℕ
 first_with codes n [] = None
 first_with codes n (r ∷ rs) = if has_codes codes r then Some n else first_with codes (n + 1) rs
 
--- ---- left sides by what stands at each place of them ----
+-- ---- left sides but for registers ----
 
 -- eight times r0
 abbrev pub first_register : Low
@@ -67,9 +67,16 @@ first_registers = replicate 8 first_register
 abbrev pub head_number : Instr → ℕ
 head_number i = code_of (renamed first_registers i) % 65536
 
--- the same with the place where the instruction stands
-abbrev pub head_at : ℕ → Instr → ℕ
-head_at at i = at * 65536 + head_number i
+-- a number that instructions share with all that differ from them in registers alone
+abbrev pub next_shape : ℕ → Instr → ℕ
+next_shape shape i = (shape * 31 + head_number i) % 65536
+
+abbrev pub shape_from : ℕ → List Instr → ℕ
+shape_from shape [] = shape
+shape_from shape (i ∷ is) = shape_from (next_shape shape i) is
+
+abbrev pub shape_of : List Instr → ℕ
+shape_of is = shape_from 0 is
 
 abbrev pub is_true : Option Bool → Bool
 is_true None = false
@@ -78,17 +85,19 @@ is_true (Some b) = b
 abbrev pub is_marked : List Bool → ℕ → Bool
 is_marked marks k = is_true (slice_get marks k)
 
--- each of the first instructions of a side is marked at its place
+-- the fronts of a side of up to so many instructions are marked
 abbrev pub AreMarked : List Bool → List Instr → ℕ → Type 0
-AreMarked marks side count = (at : ℕ) (i : Instr) → at < count → slice_get side at ≡ Some i → is_marked marks (head_at at i) ≡ true
+AreMarked marks side count = (at : ℕ) → at < count → is_marked marks (shape_of (take (suc at) side)) ≡ true
 
 -- the index of the rules from the n-th on
 pub record IsIndexFrom (rules : List Rule) (n : ℕ) (index : Index) : Type 0 where
   pub firsts : (codes : List ℕ) → lookup (is_key codes) index.firsts.entries ≡ first_with codes n (drop n rules)
   pub as_many : length index.nexts.items ≡ length rules
   pub nexts : (k : ℕ) (rule : Rule) (next : Option ℕ) → n ≤ k → slice_get rules k ≡ Some rule → is_shorter rule ≡ true → slice_get index.nexts.items k ≡ Some next → next ≡ first_with (codes_of rule.left) (k + 1) (drop (k + 1) rules)
-  pub many_heads : length index.heads.items ≡ 327680
-  pub heads : (k : ℕ) (rule : Rule) → n ≤ k → slice_get rules k ≡ Some rule → is_shorter rule ≡ true → AreMarked index.heads.items rule.left (length rule.left)
+  pub many_fronts : length index.fronts.items ≡ 65536
+  pub fronts : (k : ℕ) (rule : Rule) → n ≤ k → slice_get rules k ≡ Some rule → is_shorter rule ≡ true → AreMarked index.fronts.items rule.left (length rule.left)
+  pub many_wholes : length index.wholes.items ≡ 65536
+  pub wholes : (k : ℕ) (rule : Rule) → n ≤ k → slice_get rules k ≡ Some rule → is_shorter rule ≡ true → is_marked index.wholes.items (shape_of rule.left) ≡ true
 
 abbrev pub IsIndex : List Rule → Index → Type 0
 IsIndex rules index = IsIndexFrom rules 0 index

@@ -21,7 +21,7 @@ ghost use Rattle.window_rewrite.specs.Sweeps.{is_steady, IsOver};
 use crate::choice::{Choice, Replacement};
 use crate::fitting::{fitting, side_of};
 use crate::ground::Ground;
-use crate::index::Index;
+use crate::index::{Index, next_shape};
 use crate::items::registers_of;
 use crate::replacing::{is_layable, renamed_all};
 use line_cursor::Cursor;
@@ -138,16 +138,17 @@ fn try_entry<L: Ledger>(
     }))
 }
 
-/// How many instructions of a run, from its first on, may each be that of some left side at its place, but for registers. No entry that leaves fewer
-/// instructions has a longer left side that stands first in the run.
+/// With how many of its instructions a run may begin some left side, but for registers. No entry that leaves fewer instructions has a longer left side that
+/// stands first in the run.
 fn reach(rules: &Rules<'_>, run: &[Instr]) -> usize
     requires ready { AreReady rules.now }
-    requires few { length run.now ≤ 5 }
     ensures within { result ≤ length run.now }
     ensures none { (n k : ℕ) (rule : Rule) (registers : List Low) → result < length rule.left → slice_get (rules_in rules.now.entries.now) k ≡ Some rule → Shortens rule registers (take n run.now) → ⊥ }
 {
+    let mut shape = 0;
     for at in 0..run.len() {
-        if !rules.index.has_at(at, &normal(run[at])) {
+        shape = next_shape(shape, &normal(run[at]));
+        if !rules.index.has_front(shape) {
             return at;
         }
     }
@@ -160,6 +161,9 @@ fn first_number(rules: &Rules<'_>, window: &[Instr]) -> Option<usize>
     requires windows { list_all is_in_window window.now ≡ true }
     ensures { Begins (rules_in rules.now.entries.now) window.now result }
 {
+    if !rules.index.has_whole(window) {
+        return None;
+    }
     match side_of(window) {
         None => None,
         Some(side) => rules.index.first(side.as_slice(), rules.entries),

@@ -1,16 +1,17 @@
 //! The entries of a table by their left sides.
-ghost use Rattle.std.specs.Prelude.{◌≡◌, ◌∷◌, ◌+◌, ◌<◌, ◌≤◌, ℕ, List, length, drop, slice_get, true, false, Some, IfOk, OnOk};
+ghost use Rattle.std.specs.Prelude.{◌≡◌, ◌∷◌, ◌+◌, ◌<◌, ◌≤◌, ℕ, List, length, map, drop, slice_get, true, false, Some, IfOk, OnOk};
 ghost use Rattle.thumb_instr.specs.declared.instr.Instr.{Instr};
+ghost use Rattle.thumb_instr.specs.Window.{normal_of};
 ghost use Rattle.thumb_model.specs.Rewrite.{Rule};
 ghost use Rattle.thumb_table.specs.Table.{code_of};
-ghost use Rattle.window_rewrite.specs.Rules.{codes_of, entry_rule, first_registers, first_with, head_at, head_number, is_marked, is_shorter, rules_in, AreMarked, IsIndex, IsIndexFrom};
+ghost use Rattle.window_rewrite.specs.Rules.{codes_of, entry_rule, first_registers, first_with, head_number, is_marked, is_shorter, next_shape, rules_in, shape_of, AreMarked, IsIndex, IsIndexFrom};
 
 use arrayvec::ArrayVec;
 use indexmap::IndexMap;
 use listing_parser::Memory;
 use rule_table::Entry;
 use std::alloc::Global;
-use thumb_instr::{Instr, Low, renamed};
+use thumb_instr::{Instr, Low, normal, renamed};
 use thumb_table::{Code, encode};
 
 /// Of the entries that leave fewer instructions: the first with a left side, by the codes of its instructions, and of each the next one with its left side.
@@ -18,13 +19,14 @@ use thumb_table::{Code, encode};
 pub(crate) struct Index {
     firsts: IndexMap<Vec<u32>, usize>,
     nexts: Vec<Option<usize>>,
-    /// Whether left sides may have an instruction at a place, by the place and by what it shares with those that differ from it in registers alone. Others may
-    /// share it too.
-    heads: Vec<bool>,
+    /// Whether a left side may begin with instructions, and whether it may be them, by a number that they share with all that differ from them in registers
+    /// alone. Others may share it too.
+    fronts: Vec<bool>,
+    wholes: Vec<bool>,
 }
 
-/// How many heads an index has: as many as there are halfwords for each of the five places of a left side.
-const HEADS: usize = 327_680;
+/// How many numbers there are by which instructions are looked up.
+const SHAPES: usize = 65_536;
 
 /// The code of an instruction as a number.
 fn code_number(instr: &Instr) -> u32
@@ -64,13 +66,25 @@ fn head_number(instr: &Instr) -> usize
     (code_number(&bare) % 65536) as usize
 }
 
-/// The place in the index of an instruction at a place.
-fn head_at(at: usize, instr: &Instr) -> usize
-    requires { at < 5 }
-    ensures value { result ≡ head_at at instr.now }
-    ensures small { result < 327680 }
+/// The number that instructions share with all that differ from them in registers alone, where another stands behind them.
+pub(crate) fn next_shape(shape: usize, instr: &Instr) -> usize
+    requires { shape < 65536 }
+    ensures value { result ≡ next_shape shape instr.now }
+    ensures small { result < 65536 }
 {
-    at * 65536 + head_number(instr)
+    (shape * 31 + head_number(instr)) % SHAPES
+}
+
+/// The number of a window's instructions, each in its normal form.
+fn shape_of(window: &[Instr]) -> usize
+    ensures value { result ≡ shape_of (map normal_of window.now) }
+    ensures small { result < 65536 }
+{
+    let mut shape = 0;
+    for instr in window {
+        shape = next_shape(shape, &normal(*instr));
+    }
+    shape
 }
 
 /// Whether an entry leaves fewer instructions.
@@ -88,7 +102,8 @@ impl Index {
         let mut index = Index {
             firsts: IndexMap::new(alloc),
             nexts: vec![in alloc; None; entries.len()]?,
-            heads: vec![in alloc; false; HEADS]?,
+            fronts: vec![in alloc; false; SHAPES]?,
+            wholes: vec![in alloc; false; SHAPES]?,
         };
         let mut number = entries.len();
         while number > 0 {
@@ -108,48 +123,77 @@ impl Index {
         ensures { OnOk result (IsIndexFrom (rules_in entries.now) number self.new) }
     {
         let left = entries[number].left.as_slice();
-        self.mark(left);
+        let shape = self.mark_fronts(left);
+        self.mark_whole(shape);
         let codes = codes_of(left);
         let key = codes.as_slice().to_vec(alloc)?;
         self.nexts[number] = self.firsts.insert(key, number)?;
         Ok(())
     }
 
-    /// Marks an instruction at a place.
-    fn mark_at(&mut self, at: usize, instr: &Instr)
-        requires many { length self.old.heads.items ≡ 327680 }
-        requires within { at < 5 }
+    /// Marks the front of a left side.
+    fn mark_front(&mut self, shape: usize)
+        requires many { length self.old.fronts.items ≡ 65536 }
+        requires small { shape < 65536 }
         ensures firsts { self.new.firsts.entries ≡ self.old.firsts.entries }
         ensures nexts { self.new.nexts.items ≡ self.old.nexts.items }
-        ensures many { length self.new.heads.items ≡ 327680 }
-        ensures kept { (q : ℕ) → is_marked self.old.heads.items q ≡ true → is_marked self.new.heads.items q ≡ true }
-        ensures head { is_marked self.new.heads.items (head_at at instr.now) ≡ true }
+        ensures wholes { self.new.wholes.items ≡ self.old.wholes.items }
+        ensures many { length self.new.fronts.items ≡ 65536 }
+        ensures kept { (q : ℕ) → is_marked self.old.fronts.items q ≡ true → is_marked self.new.fronts.items q ≡ true }
+        ensures here { is_marked self.new.fronts.items shape ≡ true }
     {
-        self.heads[head_at(at, instr)] = true;
+        self.fronts[shape] = true;
     }
 
-    /// Marks the instructions of a left side, each at its place.
-    fn mark(&mut self, left: &[Instr])
-        requires many { length self.old.heads.items ≡ 327680 }
-        requires few { length left.now ≤ 5 }
+    /// Marks the fronts of a left side. The number of its instructions.
+    fn mark_fronts(&mut self, left: &[Instr]) -> usize
+        requires { length self.old.fronts.items ≡ 65536 }
         ensures firsts { self.new.firsts.entries ≡ self.old.firsts.entries }
         ensures nexts { self.new.nexts.items ≡ self.old.nexts.items }
-        ensures many { length self.new.heads.items ≡ 327680 }
-        ensures kept { (q : ℕ) → is_marked self.old.heads.items q ≡ true → is_marked self.new.heads.items q ≡ true }
-        ensures heads { AreMarked self.new.heads.items left.now (length left.now) }
+        ensures wholes { self.new.wholes.items ≡ self.old.wholes.items }
+        ensures many { length self.new.fronts.items ≡ 65536 }
+        ensures kept { (q : ℕ) → is_marked self.old.fronts.items q ≡ true → is_marked self.new.fronts.items q ≡ true }
+        ensures fronts { AreMarked self.new.fronts.items left.now (length left.now) }
+        ensures shape { result ≡ shape_of left.now }
+        ensures small { result < 65536 }
     {
+        let mut shape = 0;
         for at in 0..left.len() {
-            self.mark_at(at, &left[at]);
+            shape = next_shape(shape, &left[at]);
+            self.mark_front(shape);
         }
+        shape
     }
 
-    /// Whether some left side may have an instruction at a place, but for registers.
-    pub(crate) fn has_at(&self, at: usize, instr: &Instr) -> bool
-        requires many { length self.now.heads.items ≡ 327680 }
-        requires within { at < 5 }
-        ensures { result ≡ is_marked self.now.heads.items (head_at at instr.now) }
+    /// Marks a left side.
+    fn mark_whole(&mut self, shape: usize)
+        requires many { length self.old.wholes.items ≡ 65536 }
+        requires small { shape < 65536 }
+        ensures firsts { self.new.firsts.entries ≡ self.old.firsts.entries }
+        ensures nexts { self.new.nexts.items ≡ self.old.nexts.items }
+        ensures fronts { self.new.fronts.items ≡ self.old.fronts.items }
+        ensures many { length self.new.wholes.items ≡ 65536 }
+        ensures kept { (q : ℕ) → is_marked self.old.wholes.items q ≡ true → is_marked self.new.wholes.items q ≡ true }
+        ensures here { is_marked self.new.wholes.items shape ≡ true }
     {
-        self.heads[head_at(at, instr)]
+        self.wholes[shape] = true;
+    }
+
+    /// Whether some left side may begin with instructions of this number.
+    pub(crate) fn has_front(&self, shape: usize) -> bool
+        requires many { length self.now.fronts.items ≡ 65536 }
+        requires small { shape < 65536 }
+        ensures { result ≡ is_marked self.now.fronts.items shape }
+    {
+        self.fronts[shape]
+    }
+
+    /// Whether a window may be some left side, but for registers.
+    pub(crate) fn has_whole(&self, window: &[Instr]) -> bool
+        requires { length self.now.wholes.items ≡ 65536 }
+        ensures { result ≡ is_marked self.now.wholes.items (shape_of (map normal_of window.now)) }
+    {
+        self.wholes[shape_of(window)]
     }
 
     /// The first entry that leaves fewer instructions and has this left side.

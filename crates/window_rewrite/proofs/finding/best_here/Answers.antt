@@ -1,19 +1,13 @@
-use Rattle.std.proofs.Common.{◌≡◌, ◌∙◌, ◌-◌, ◌≤◌, List, true, false, length, drop, ap, arith, sym, subst}
+use Rattle.std.proofs.Common.{◌≡◌, ◌∙◌, ◌-◌, ◌≤◌, List, true, false, length, drop, ap, arith, subst}
 use Rattle.thumb_instr.specs.declared.instr.Instr.{Instr}
 use Rattle.window_runs.specs.Rows.{rows_from}
 use Rattle.window_runs.specs.Runs.{run}
-use Rattle.window_runs.proofs.Lengths.{run_short}
-use Rattle.line_cursor.specs.Cursors.{lines_ahead, lines_at, place_at, sets_of, spots_at}
+use Rattle.line_cursor.specs.Cursors.{lines_at, place_at, sets_of, spots_at}
 use Rattle.window_rewrite.specs.Rules.{rules_in}
 use Rattle.window_rewrite.specs.Choices.{setting_of}
 use Rattle.window_rewrite.proofs.Behind.{of_kept, run_here, run_comes, live_behind}
-use Rattle.window_rewrite.proofs.Chosen.{NoneLonger, front_stands, none_reached, none_shorter, count_cost, all_cost}
+use Rattle.window_rewrite.proofs.Chosen.{front_stands, none_reached, none_shorter, count_cost, all_cost}
 use Rattle.window_rewrite.proofs.finding.best_here.Goals as goal
-
-pub reach-count-requires-clause-few : goal.reach-count-requires-clause-few
-reach-count-requires-clause-few g c =
-    let short = run_short true c.from.result (rows_from true (lines_ahead c.args.cursor.now)) in
-    omega (arith, short, c.requires.ready.few, c.from.ensures, ap (λ (is : List Instr). length is) c.run-run.ensures, ap (λ (is : List Instr). length is) c.as_slice.ensures.value)
 
 pub loop-count-init : goal.loop-count-init
 loop-count-init g c =

@@ -1,13 +1,30 @@
-use Rattle.std.proofs.Common.{◌≡◌, ◌∙◌, Some, true, false, ap, refl, sym}
+use Rattle.std.proofs.Common.{◌≡◌, ◌∙◌, ◌+◌, List, Some, false, ap, arith, map, refl, sym, take}
 use Rattle.std.specs.Prelude.{slice_get}
-use Rattle.std.proofs.lemmas.Option.{slice_get_read}
-use Rattle.window_rewrite.specs.Rules.{rules_in, head_at, is_marked}
-use Rattle.window_rewrite.proofs.Heads.{unreached}
+use Rattle.std.specs.Option.{option_map}
+use Rattle.std.proofs.lemmas.Option.{slice_get_read, slice_get-map}
+use Rattle.thumb_instr.specs.declared.instr.Instr.{Instr}
+use Rattle.thumb_instr.specs.Window.{normal_of}
+use Rattle.window_rewrite.specs.Rules.{rules_in, is_marked, next_shape, shape_of}
+use Rattle.window_rewrite.proofs.Heads.{front_more, unreached}
 use Rattle.window_rewrite.proofs.finding.reach.Goals as goal
 
-pub returns-then-not-has_at-clause-none : goal.returns-then-not-has_at-clause-none
-returns-then-not-has_at-clause-none c = λ n k rule registers longer at s.
-    let here : slice_get c.args.run.now c.loop-at.at ≡ Some c.index-run-at.result = slice_get_read c.args.run.now _ _ c.index-run-at.result refl c.loop-at-test.true c.index-run-at.is in
-    let marked : is_marked c.args.rules.now.index.now.heads.items (head_at c.loop-at.at c.normal.result) ≡ false = sym c.has_at.ensures ∙ c.if-not-has_at.true in
-    let missing = ap (λ i. is_marked c.args.rules.now.index.now.heads.items (head_at c.loop-at.at i)) (sym c.normal.ensures) ∙ marked in
-    unreached (rules_in c.args.rules.now.entries.now) c.args.rules.now.index.now c.args.run.now c.loop-at.at c.index-run-at.result c.requires.ready.index here missing n k rule registers (c.requires.ready.fit k rule at).sound longer at s
+pub returns-then-not-has_front-clause-none : goal.returns-then-not-has_front-clause-none
+returns-then-not-has_front-clause-none c = λ n k rule registers longer at s.
+    let run : List Instr = c.args.run.now in
+    let here : slice_get run c.loop-at.at ≡ Some c.index-run-at.result = slice_get_read run _ _ c.index-run-at.result refl c.loop-at-test.true c.index-run-at.is in
+    let there : slice_get (map normal_of run) c.loop-at.at ≡ Some (normal_of c.index-run-at.result) = slice_get-map normal_of run c.loop-at.at ∙ ap (option_map normal_of) here in
+    let shape : c.next_shape-shape.result ≡ shape_of (take (c.loop-at.at + 1) (map normal_of run)) =
+    c.next_shape-shape.ensures.value ∙ ap (next_shape c.loop-at.shape) c.normal.ensures ∙ front_more c.loop-at.shape c.loop-at.at (map normal_of run) (normal_of c.index-run-at.result) there c.loop-at.invariant.shape in
+    let missing : is_marked c.args.rules.now.index.now.fronts.items c.next_shape-shape.result ≡ false = sym c.has_front.ensures ∙ c.if-not-has_front.true in
+    unreached (rules_in c.args.rules.now.entries.now) c.args.rules.now.index.now run c.loop-at.at c.next_shape-shape.result c.requires.ready.index shape missing n k rule registers (c.requires.ready.fit k rule at).sound longer at s
+
+pub loop-at-preserved : goal.loop-at-preserved
+loop-at-preserved c =
+    let run : List Instr = c.args.run.now in
+    let here : slice_get run c.loop-at.at ≡ Some c.index-run-at.result = slice_get_read run _ _ c.index-run-at.result refl c.loop-at-test.true c.index-run-at.is in
+    let there : slice_get (map normal_of run) c.loop-at.at ≡ Some (normal_of c.index-run-at.result) = slice_get-map normal_of run c.loop-at.at ∙ ap (option_map normal_of) here in
+    record {
+      within = let t = c.loop-at-test.true in omega arith;
+      shape = c.next_shape-shape.ensures.value ∙ ap (next_shape c.loop-at.shape) c.normal.ensures ∙ front_more c.loop-at.shape c.loop-at.at (map normal_of run) (normal_of c.index-run-at.result) there c.loop-at.invariant.shape;
+      small = c.next_shape-shape.ensures.small;
+    }

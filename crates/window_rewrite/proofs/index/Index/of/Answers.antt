@@ -13,8 +13,9 @@ loop-number-init c = record {
   within = omega arith;
   index =
       let n = rules_length c.args.entries.now in
-      let index : Index = record { firsts = c.new.result; nexts = c.in_ok-vec.field-0; heads = c.in_ok-vec-2.field-0 } in
-      empty_index (rules_in c.args.entries.now) (length c.args.entries.now) index (omega arith) c.new.ensures.empty (sym c.in_ok-vec.field-0.ok.0 ∙ c.in_ok-vec.ensures.len ∙ sym n) (sym c.in_ok-vec-2.field-0.ok.0 ∙ c.in_ok-vec-2.ensures.len);
+      let index : Index = record { firsts = c.new.result; nexts = c.in_ok-vec.field-0; fronts = c.in_ok-vec-2.field-0; wholes = c.in_ok-vec-3.field-0 } in
+      empty_index (rules_in c.args.entries.now) (length c.args.entries.now) index (omega arith) c.new.ensures.empty (sym c.in_ok-vec.field-0.ok.0 ∙ c.in_ok-vec.ensures.len ∙ sym n) (sym c.in_ok-vec-2.field-0.ok.0 ∙ c.in_ok-vec-2.ensures.len)
+      (sym c.in_ok-vec-3.field-0.ok.0 ∙ c.in_ok-vec-3.ensures.len);
 }
 
 pub add-requires-clause-shorter : goal.add-requires-clause-shorter
