@@ -132,6 +132,10 @@ edited xs ys p count is rest x e h f =
     ∙ sym (replaced_at own_line p count is xs q.line (lines_of (reverse rest)) e q.op)
     ∙ ap (λ ls. replaced_lines own_line p count is (xs ++ ls)) (sym (lines_back rest x ∙ ap (λ ls. ls ++ lines_of (reverse rest)) q.is))
 
+-- lines that others were put behind
+pub put_more : (behind mid now come : List Lines) (more : List Line) → mid ≡ behind → now ≡ mid ++ come → lines_of come ≡ more → lines_of now ≡ lines_of behind ++ more
+put_more behind mid now come more f e g = ap lines_of (e ∙ ap (λ (b : List Lines). b ++ come) f) ∙ lines_append behind come ∙ ap (λ ls. lines_of behind ++ ls) g
+
 -- ---- steps of the loop that skips ----
 
 pub step_op : (old new behind now : List Lines) (x : Lines) (left : ℕ) → now ≡ behind → old ≡ new ++ x ∷ [] → begins_op (lines_in x) ≡ true → 0 < left

@@ -242,8 +242,8 @@ spots_count c is =
     omega (arith, n, length-append (places_of (lines_behind c)) (places_of (lines_ahead c)), is.passed, is.coming)
 
 -- and as many behind it, whichever way they are counted
-pub ahead_count_back : (c : Cursor) → IsCursor c → length c.coming.items ≡ length (places_of (lines_of c.ahead.items))
-ahead_count_back c is = is.coming ∙ ap (λ (ls : List Line). length (places_of ls)) (lines_reverse c.ahead.items) ∙ count_back (lines_of c.ahead.items)
+pub ahead_count_back : (c : Cursor) → IsCursor c → length c.coming.items ≡ length (places_of (lines_of c.lines.ahead))
+ahead_count_back c is = is.coming ∙ ap (λ (ls : List Line). length (places_of ls)) (lines_reverse c.lines.ahead) ∙ count_back (lines_of c.lines.ahead)
 
 abbrev At : Cursor → ℕ → Option Place
 At c q = slice_get (places_of (lines_at c)) q
@@ -255,15 +255,15 @@ pub record IsMark (c : Cursor) (number : ℕ) (lines : List Lines) (line place :
   pub at : slice_get (jump_places c) number ≡ Some place
   pub stands : At c place ≡ slice_get (places_of (lines_in held)) 0
 
-pub mark_behind : (c : Cursor) (k : ℕ) (j : Jump) → IsCursor c → slice_get c.jumps_behind.items k ≡ Some j → IsMark c k c.behind.items j.line j.places
+pub mark_behind : (c : Cursor) (k : ℕ) (j : Jump) → IsCursor c → slice_get c.jumps_behind.items k ≡ Some j → IsMark c k c.lines.behind j.line j.places
 mark_behind c k j is e =
     let r = is_jump 0 0 (lines_behind c) k j (ap (λ (js : List Jump). slice_get js k) (sym is.jumps_behind) ∙ e) in
-    let x = map_back line_view c.behind.items r.number r.line r.is in
+    let x = map_back line_view c.lines.behind r.number r.line r.is in
     let here : r.number ≡ j.line = omega (arith, r.at) in
     let place : j.places ≡ r.before = omega (arith, r.places) in
     record {
       held = x.0;
-      is = ap (slice_get c.behind.items) (sym here) ∙ x.1;
+      is = ap (slice_get c.lines.behind) (sym here) ∙ x.1;
       at =
           get_front (map (λ (i : Jump). i.places) c.jumps_behind.items) _ k (omega (arith, slice_get_within c.jumps_behind.items k j e, length_map (λ (i : Jump). i.places) c.jumps_behind.items))
           ∙ get_map (λ (i : Jump). i.places) c.jumps_behind.items k j e;
@@ -278,12 +278,12 @@ mark_behind c k j is e =
 -- behind the cursor they are counted backward
 pub record IsAhead (c : Cursor) (k : ℕ) (j : Jump) : Type 0 where
   pub few : j.places + 1 ≤ length c.passed.items + length c.coming.items
-  pub mark : IsMark c k c.ahead.items j.line (length c.passed.items + length c.coming.items - 1 - j.places)
+  pub mark : IsMark c k c.lines.ahead j.line (length c.passed.items + length c.coming.items - 1 - j.places)
 
 pub mark_ahead : (c : Cursor) (number k : ℕ) (j : Jump) → IsCursor c → number ≡ length c.jumps_behind.items + k → slice_get c.jumps_ahead.items k ≡ Some j → IsAhead c number j
 mark_ahead c number k j is h e =
-    let r = is_jump 0 0 (lines_of c.ahead.items) k j (ap (λ (js : List Jump). slice_get js k) (sym is.jumps_ahead) ∙ e) in
-    let x = map_back line_view c.ahead.items r.number r.line r.is in
+    let r = is_jump 0 0 (lines_of c.lines.ahead) k j (ap (λ (js : List Jump). slice_get js k) (sym is.jumps_ahead) ∙ e) in
+    let x = map_back line_view c.lines.ahead r.number r.line r.is in
     let here : r.number ≡ j.line = omega (arith, r.at) in
     let count = ahead_count_back c is in
     let sum = r.sum in
@@ -294,7 +294,7 @@ mark_ahead c number k j is h e =
       few = omega arith;
       mark = record {
         held = x.0;
-        is = ap (slice_get c.ahead.items) (sym here) ∙ x.1;
+        is = ap (slice_get c.lines.ahead) (sym here) ∙ x.1;
         at =
             get_back (map (λ (i : Jump). i.places) c.jumps_behind.items) _ k number (omega (arith, h, length_map (λ (i : Jump). i.places) c.jumps_behind.items))
             ∙ get_map (λ (i : Jump). length c.passed.items + length c.coming.items - 1 - i.places) c.jumps_ahead.items k j e;
@@ -302,7 +302,7 @@ mark_ahead c number k j is h e =
             ap (At c) place
             ∙ ap (λ (ps : List Place). slice_get ps (length (places_of (lines_behind c)) + r.after)) (places_append (lines_behind c) (lines_ahead c))
             ∙ get_back (places_of (lines_behind c)) (places_of (lines_ahead c)) r.after (length (places_of (lines_behind c)) + r.after) refl
-            ∙ ap (λ (ls : List Line). slice_get (places_of ls) r.after) (lines_reverse c.ahead.items)
+            ∙ ap (λ (ls : List Line). slice_get (places_of ls) r.after) (lines_reverse c.lines.ahead)
             ∙ r.backward
             ∙ ap (λ (l : Line). slice_get (places_of (l ∷ [])) 0) x.2;
       };
@@ -324,7 +324,7 @@ all_marked c is q e = elim (cases_lt q (length (places_of (lines_behind c)))) [
       let coming = is.coming in
       let passed = is.passed in
       let before : ℕ = length c.coming.items - 1 - r in
-      let d = noted_backward 0 0 before r (lines_of c.ahead.items) (omega arith) (ap (λ (ls : List Line). is_off (slice_get (places_of ls) r)) (sym (lines_reverse c.ahead.items)) ∙ off) in
+      let d = noted_backward 0 0 before r (lines_of c.lines.ahead) (omega arith) (ap (λ (ls : List Line). is_off (slice_get (places_of ls) r)) (sym (lines_reverse c.lines.ahead)) ∙ off) in
       let found : slice_get c.jumps_ahead.items d.number ≡ Some d.jump = ap (λ (js : List Jump). slice_get js d.number) is.jumps_ahead ∙ d.is in
       let at = d.at in
       let place : length c.passed.items + length c.coming.items - 1 - d.jump.places ≡ q = omega arith in
@@ -357,4 +357,4 @@ pub marks_few : (c : Cursor) → IsCursor c → length (jump_places c) ≤ lengt
 marks_few c is =
     let m = ap (λ (js : List Jump). length js) is.jumps_behind in
     let n = ap (λ (js : List Jump). length js) is.jumps_ahead in
-    omega (arith, marks_count c, m, n, jumps_few 0 0 (lines_behind c), jumps_few 0 0 (lines_of c.ahead.items), spots_count c is, is.passed, ahead_count_back c is)
+    omega (arith, marks_count c, m, n, jumps_few 0 0 (lines_behind c), jumps_few 0 0 (lines_of c.lines.ahead), spots_count c is, is.passed, ahead_count_back c is)

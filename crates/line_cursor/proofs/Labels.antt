@@ -2,7 +2,7 @@
 use Rattle.std.proofs.Common.{◌≡◌, ◌≢◌, ℕ, zero, suc, ◌+◌, ◌-◌, ◌<◌, ◌≤◌, ◌==◌, ◌||◌, Bool, true, false, List, [], ◌∷◌, ◌++◌, length, length-append, append_assoc, append-nil, take, map, refl, sym, ap, ◌∙◌, inl, inr, arith, get_or, eq-eqb, ne_eqb, eqb-true}
 use Rattle.std.specs.Prelude.{slice_get}
 use Rattle.std.proofs.lemmas.Bool.{cases_Bool}
-use Rattle.std.proofs.lemmas.List.{take_more, take_all}
+use Rattle.std.proofs.lemmas.List.{take_more}
 use Rattle.thumb_model.specs.Listing.{Name, Value, Statement, Nothing, Runs, Words, Aligns, Sets, Line, Label, Place, Word, places_in, places_of, labels_at, labels_from, is_op_place}
 use Rattle.thumb_model.specs.Rewritten.{is_op}
 use Rattle.thumb_model.proofs.Lists.{get_back}
@@ -158,17 +158,3 @@ pub last_of : (xs : List Lines) (at : ℕ) (x : Lines) → 0 < at → at ≤ len
 last_of xs at x some within e =
     let same : at ≡ at - 1 + 1 = omega arith in
     ap (λ n. lines_of (take n xs)) same ∙ taken_push xs (at - 1) x (omega arith) e
-
--- a list with its last element
-pub record IsPushed (xs : List Lines) (x : Lines) : Type 0 where
-  pub rest : List Lines
-  pub is : xs ≡ rest ++ x ∷ []
-
-pub pushed : (xs : List Lines) (x : Lines) → 0 < length xs → x ≡ get_or xs (length xs - 1) x → IsPushed xs x
-pushed xs x some e =
-    let n : ℕ = length xs - 1 in
-    let one : length xs ≡ n + 1 = omega arith in
-    record {
-      rest = take n xs;
-      is = sym (take_all (length xs) xs (omega arith)) ∙ ap (λ k. take k xs) one ∙ take_more xs n x (omega arith) ∙ ap (λ (y : Lines). take n xs ++ y ∷ []) (sym e);
-    }

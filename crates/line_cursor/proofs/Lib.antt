@@ -15,3 +15,4 @@ mod Targets
 mod Sights
 mod Points
 mod JumpsKept
+mod Gaps

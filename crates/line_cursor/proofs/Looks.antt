@@ -1,7 +1,7 @@
 -- Runs, line by line.
-use Rattle.std.proofs.Common.{◌≡◌, ℕ, zero, suc, ◌+◌, ◌-◌, ◌<◌, ◌≤◌, ◌&&◌, ◌||◌, Bool, true, false, List, [], ◌∷◌, ◌++◌, length, length-append, append_assoc, append-nil, take, reverse, Option, Some, None, refl, sym, ap, ◌∙◌, subst, arith, get_or, ne_eqb, if◌then◌else◌}
+use Rattle.std.proofs.Common.{◌≡◌, ℕ, zero, suc, ◌+◌, ◌-◌, ◌<◌, ◌≤◌, ◌&&◌, ◌||◌, Bool, true, false, List, [], ◌∷◌, ◌++◌, length, length-append, append_assoc, append-nil, drop, Option, Some, None, refl, sym, ap, ◌∙◌, subst, arith, get_or, ne_eqb, if◌then◌else◌}
 use Rattle.std.specs.Prelude.{nat_eq}
-use Rattle.std.proofs.lemmas.List.{take_more, reverse-append}
+use Rattle.std.proofs.lemmas.List.{drop_more}
 use Rattle.thumb_instr.specs.declared.instr.Instr.{Instr}
 use Rattle.thumb_model.specs.Listing.{Name, Statement, Nothing, Runs, Words, Aligns, Sets, Line}
 use Rattle.window_runs.specs.declared.rows.Row.{Row}
@@ -92,23 +92,15 @@ piece_goes begins n (l ∷ m ∷ ms) ls h = absurd (omega arith)
 pub piece_short : (x : Lines) → length (lines_in x) ≤ 1
 piece_short x = omega arith
 
--- ---- the loop over pieces backward ----
+-- ---- the loop over pieces ----
 
 lines_append : (xs ys : List Lines) → lines_of (xs ++ ys) ≡ lines_of xs ++ lines_of ys
 lines_append [] ys = refl
 lines_append (x ∷ xs) ys = ap (λ ls. lines_in x ++ ls) (lines_append xs ys) ∙ sym (append_assoc (lines_in x) (lines_of xs) (lines_of ys))
 
--- the piece at a place comes before those in front of it
-pub last_taken : (xs : List Lines) (k : ℕ) (x : Lines) → k < length xs → x ≡ get_or xs k x → lines_of (reverse (take (k + 1) xs)) ≡ lines_in x ++ lines_of (reverse (take k xs))
-last_taken xs k x h e =
-    ap (λ ps. lines_of (reverse ps)) (take_more xs k x h ∙ ap (λ (y : Lines). take k xs ++ y ∷ []) (sym e))
-    ∙ ap lines_of (reverse-append (take k xs) (x ∷ []))
-
--- the first piece ahead of a cursor, and the rest
-pub first_ahead : (ahead : List Lines) (at : ℕ) (x : Lines) → 0 < at → at ≤ length ahead → x ≡ get_or ahead (at - 1) x → lines_of (reverse (take at ahead)) ≡ lines_in x ++ lines_of (reverse (take (at - 1) ahead))
-first_ahead ahead at x some within e =
-    let same : at ≡ at - 1 + 1 = omega arith in
-    ap (λ n. lines_of (reverse (take n ahead))) same ∙ last_taken ahead (at - 1) x (omega arith) e
+-- the piece at a place comes before those behind it
+pub next_ahead : (ahead : List Lines) (at : ℕ) (x : Lines) → at < length ahead → x ≡ get_or ahead at x → lines_of (drop at ahead) ≡ lines_in x ++ lines_of (drop (at + 1) ahead)
+next_ahead ahead at x h e = ap lines_of (drop_more ahead at x h ∙ ap (λ (y : Lines). y ∷ drop (at + 1) ahead) (sym e))
 
 -- of a run so far, what is still to come
 abbrev pub Comes : List Instr → ℕ → List Line → List Instr → Type 0

@@ -1,6 +1,6 @@
 -- What lines say of a place, and looks at some of them.
-use Rattle.std.proofs.Common.{◌≡◌, ℕ, suc, ◌+◌, ◌-◌, ◌<◌, ◌≤◌, ◌==◌, ◌&&◌, ◌||◌, Bool, true, false, List, [], ◌∷◌, ◌++◌, length, length-append, take, drop, drop-cons, reverse, get_or, refl, sym, ap, ◌∙◌, arith, ne_eqb}
-use Rattle.std.proofs.lemmas.List.{map-append, reverse-append, take-append-drop}
+use Rattle.std.proofs.Common.{◌≡◌, ℕ, suc, ◌+◌, ◌-◌, ◌<◌, ◌≤◌, ◌==◌, ◌&&◌, ◌||◌, Bool, true, false, List, [], ◌∷◌, ◌++◌, length, length-append, take, drop, drop-cons, get_or, refl, sym, ap, ◌∙◌, arith, ne_eqb}
+use Rattle.std.proofs.lemmas.List.{map-append, take_more, take-append-drop}
 use Rattle.thumb_model.specs.Listing.{Line, Place, places_in, places_of}
 use Rattle.thumb_model.specs.Layout.{is_among}
 use Rattle.thumb_model.specs.Rewritten.{is_op}
@@ -117,7 +117,7 @@ seen_behind p ls t h = seen_none p ls t (λ says near. none_behind t.place says 
 pub seen_no_line : (p : ℕ) (t : Sight) → IsSeen p [] t t
 seen_no_line p t = seen_none p [] t (λ says near. refl)
 
--- ---- one line more, from the last back ----
+-- ---- one line more ----
 
 next_back : (xs : List Lines) (left : ℕ) (x : Lines) → 0 < left → left ≤ length xs → x ≡ get_or xs (left - 1) x → drop (left - 1) xs ≡ x ∷ drop left xs
 next_back xs left x some within e =
@@ -127,17 +127,11 @@ next_back xs left x some within e =
 pub back_lines : (xs : List Lines) (left : ℕ) (x : Lines) → 0 < left → left ≤ length xs → x ≡ get_or xs (left - 1) x → lines_of (drop (left - 1) xs) ≡ lines_in x ++ lines_of (drop left xs)
 back_lines xs left x some within e = ap lines_of (next_back xs left x some within e)
 
-pub ahead_lines : (xs : List Lines) (left : ℕ) (x : Lines) → 0 < left → left ≤ length xs → x ≡ get_or xs (left - 1) x
-    → lines_of (reverse (drop (left - 1) xs)) ≡ lines_of (reverse (drop left xs)) ++ lines_in x
-ahead_lines xs left x some within e =
-    ap (λ (l : List Lines). lines_of (reverse l)) (next_back xs left x some within e) ∙ ap lines_of (reverse-append (x ∷ []) (drop left xs)) ∙ map-append line_view (reverse (drop left xs)) (x ∷ [])
+pub more_lines : (xs : List Lines) (at : ℕ) (x : Lines) → at < length xs → x ≡ get_or xs at x → lines_of (take (at + 1) xs) ≡ lines_of (take at xs) ++ lines_in x
+more_lines xs at x h e = ap lines_of (take_more xs at x h ∙ ap (λ (y : Lines). take at xs ++ y ∷ []) (sym e)) ∙ map-append line_view (take at xs) (x ∷ [])
 
 pub all_behind : (xs : List Lines) (left : ℕ) → lines_of xs ≡ lines_of (take left xs) ++ lines_of (drop left xs)
 all_behind xs left = ap lines_of (sym (take-append-drop left xs)) ∙ map-append line_view (take left xs) (drop left xs)
-
-pub all_ahead : (xs : List Lines) (left : ℕ) → lines_of (reverse xs) ≡ lines_of (reverse (drop left xs)) ++ lines_of (reverse (take left xs))
-all_ahead xs left =
-    ap (λ (l : List Lines). lines_of (reverse l)) (sym (take-append-drop left xs)) ∙ ap lines_of (reverse-append (take left xs) (drop left xs)) ∙ map-append line_view (reverse (drop left xs)) (reverse (take left xs))
 
 -- how many places
 pub count_of : (all xs ys : List Line) → all ≡ xs ++ ys → length (places_of all) ≡ length (places_of xs) + length (places_of ys)

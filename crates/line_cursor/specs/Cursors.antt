@@ -12,10 +12,10 @@ use Rattle.line_cursor.specs.Lines.{lines_of}
 use Rattle.line_cursor.specs.Jumping.{jumps_from}
 
 abbrev pub lines_behind : Cursor → List Line
-lines_behind c = lines_of c.behind.items
+lines_behind c = lines_of c.lines.behind
 
 abbrev pub lines_ahead : Cursor → List Line
-lines_ahead c = lines_of (reverse c.ahead.items)
+lines_ahead c = lines_of (reverse c.lines.ahead)
 
 abbrev pub lines_at : Cursor → List Line
 lines_at c = lines_behind c ++ lines_ahead c
@@ -38,7 +38,7 @@ pub record IsCursor (c : Cursor) : Type 0 where
   pub passed : length c.passed.items ≡ length (places_of (lines_behind c))
   pub coming : length c.coming.items ≡ length (places_of (lines_ahead c))
   pub jumps_behind : c.jumps_behind.items ≡ jumps_from 0 0 (lines_behind c)
-  pub jumps_ahead : c.jumps_ahead.items ≡ jumps_from 0 0 (lines_of c.ahead.items)
+  pub jumps_ahead : c.jumps_ahead.items ≡ jumps_from 0 0 (lines_of c.lines.ahead)
 
 -- lines that begin with others
 abbrev pub GoesOn : List Lines → List Lines → Type 0

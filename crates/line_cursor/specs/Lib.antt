@@ -1,3 +1,4 @@
+pub mod Sides
 pub mod Lines
 pub mod Looks
 pub mod Cursors

@@ -66,8 +66,8 @@ impl Cursor {
         requires { source.place < length (spots_at self.old) }
         ensures carried { IsCarried (sets_of (spots_at self.old)) place source (sets_of (spots_at self.new)) result }
         ensures flows { flows_of (spots_at self.new) ≡ flows_of (spots_at self.old) }
-        ensures behind { self.new.behind.items ≡ self.old.behind.items }
-        ensures ahead { self.new.ahead.items ≡ self.old.ahead.items }
+        ensures behind { self.new.lines.behind ≡ self.old.lines.behind }
+        ensures ahead { self.new.lines.ahead ≡ self.old.lines.ahead }
         ensures jumps_behind { self.new.jumps_behind.items ≡ self.old.jumps_behind.items }
         ensures jumps_ahead { self.new.jumps_ahead.items ≡ self.old.jumps_ahead.items }
         ensures passed { length self.new.passed.items ≡ length self.old.passed.items }

@@ -16,8 +16,9 @@ ghost use Rattle.line_cursor.specs.Leads.{mended};
 ghost use Rattle.line_cursor.specs.Jumping.{jumps_from};
 ghost use Rattle.line_cursor.specs.Cursors.{flows_of, lines_ahead, lines_at, lines_behind, place_at, sets_of, spots_at, stands_at, AreAhead, GoesOn, IsCursor, IsSettled};
 
+use crate::gap::GapBuffer;
 use crate::held::{Look, give_way, is_labelled, is_op, places_of, seen, straight_in};
-use crate::jumping::{Jump, note_from, pop_line, push_line};
+use crate::jumping::{Jump, forget, note, note_back, note_from};
 use arrayvec::ArrayVec;
 use listing_parser::{Line, Memory};
 use liveness::{Flow, NewSets};
@@ -51,10 +52,8 @@ impl Default for Spot {
 /// A cursor between two lines.
 #[derive(Drop)]
 pub struct Cursor {
-    /// The lines before it, in order.
-    pub behind: Vec<Line>,
-    /// The lines behind it, backward.
-    pub ahead: Vec<Line>,
+    /// The lines before it and behind it.
+    pub lines: GapBuffer<Line>,
     /// Which lines of either list may jump.
     pub jumps_behind: Vec<Jump>,
     pub jumps_ahead: Vec<Jump>,
@@ -93,114 +92,118 @@ fn shift(from: &mut Vec<Spot>, to: &mut Vec<Spot>, count: usize) -> Result<(), M
     Ok(())
 }
 
-/// Moves the last line of one list behind another, where it isn't an instruction. Whether it is.
-fn skip_one(
-    ahead: &mut Vec<Line>,
-    jumps: &mut Vec<Jump>,
-    behind: &mut Vec<Line>,
-) -> Result<bool, Memory>
-    requires some { 0 < length ahead.old.items }
-    requires jumps { jumps.old.items ≡ jumps_from 0 0 (lines_of ahead.old.items) }
-    ensures op { IfOk result (λ b. b ≡ true → (behind.new.items ≡ behind.old.items) × (x : Lines) × (ahead.old.items ≡ ahead.new.items ++ x ∷ []) × (begins_op (lines_in x) ≡ true)) }
-    ensures other { IfOk result (λ b. b ≡ false → (x : Lines) × (behind.new.items ≡ behind.old.items ++ x ∷ []) × (ahead.old.items ≡ ahead.new.items ++ x ∷ []) × (begins_op (lines_in x) ≡ false)) }
-    ensures jumps { OnOk result (jumps.new.items ≡ jumps_from 0 0 (lines_of ahead.new.items)) }
+/// Leaves the first line out where it is an instruction, and else moves on past it. Whether it is one.
+fn skip_one(lines: &mut GapBuffer<Line>, jumps: &mut Vec<Jump>) -> bool
+    requires some { 0 < length lines.old.ahead }
+    requires jumps { jumps.old.items ≡ jumps_from 0 0 (lines_of lines.old.ahead) }
+    ensures op { result ≡ true → (lines.new.behind ≡ lines.old.behind) × (x : Lines) × (lines.old.ahead ≡ lines.new.ahead ++ x ∷ []) × (begins_op (lines_in x) ≡ true) }
+    ensures other { result ≡ false → (x : Lines) × (lines.new.behind ≡ lines.old.behind ++ x ∷ []) × (lines.old.ahead ≡ lines.new.ahead ++ x ∷ []) × (begins_op (lines_in x) ≡ false) }
+    ensures jumps { jumps.new.items ≡ jumps_from 0 0 (lines_of lines.new.ahead) }
 {
-    match pop_line(ahead, jumps) {
-        None => Ok(true),
+    match lines.first() {
+        None => true,
         Some(line) => {
-            if is_op(&line) {
-                return Ok(true);
+            forget(jumps, line);
+            if is_op(line) {
+                lines.leave_out();
+                return true;
             }
-            behind.push(line)?;
-            Ok(false)
+            lines.forward();
+            false
         }
     }
 }
 
-/// Moves a line behind another list, where it isn't an instruction. How many instructions are still to be left out.
-fn skip_step(
-    ahead: &mut Vec<Line>,
-    jumps: &mut Vec<Jump>,
-    behind: &mut Vec<Line>,
-    left: usize,
-) -> Result<usize, Memory>
-    requires some { 0 < length ahead.old.items }
-    requires jumps { jumps.old.items ≡ jumps_from 0 0 (lines_of ahead.old.items) }
+/// Leaves the first line out where it is an instruction, and else moves on past it. How many instructions are still to be left out.
+fn skip_step(lines: &mut GapBuffer<Line>, jumps: &mut Vec<Jump>, left: usize) -> usize
+    requires some { 0 < length lines.old.ahead }
+    requires jumps { jumps.old.items ≡ jumps_from 0 0 (lines_of lines.old.ahead) }
     requires left { 0 < left }
-    ensures lines { IfOk result (λ n. lines_of behind.new.items ++ without n (lines_of (reverse ahead.new.items)) ≡ lines_of behind.old.items ++ without left (lines_of (reverse ahead.old.items))) }
-    ensures places { IfOk result (λ n. (count : ℕ) (was : List Place) → AreAhead count was (places_of (lines_of (reverse ahead.old.items))) left → AreAhead count was (places_of (lines_of (reverse ahead.new.items))) n) }
-    ensures fewer { OnOk result (length ahead.new.items < length ahead.old.items) }
-    ensures jumps { OnOk result (jumps.new.items ≡ jumps_from 0 0 (lines_of ahead.new.items)) }
-    ensures behind { OnOk result (GoesOn behind.old.items behind.new.items) }
+    ensures lines { lines_of lines.new.behind ++ without result (lines_of (reverse lines.new.ahead)) ≡ lines_of lines.old.behind ++ without left (lines_of (reverse lines.old.ahead)) }
+    ensures places { (count : ℕ) (was : List Place) → AreAhead count was (places_of (lines_of (reverse lines.old.ahead))) left → AreAhead count was (places_of (lines_of (reverse lines.new.ahead))) result }
+    ensures fewer { length lines.new.ahead < length lines.old.ahead }
+    ensures jumps { jumps.new.items ≡ jumps_from 0 0 (lines_of lines.new.ahead) }
+    ensures behind { GoesOn lines.old.behind lines.new.behind }
 {
-    if skip_one(ahead, jumps, behind)? {
-        Ok(left - 1)
+    if skip_one(lines, jumps) {
+        left - 1
     } else {
-        Ok(left)
+        left
     }
 }
 
-/// Moves lines behind others, without the first instructions among them, until none of these is left.
-fn skip(
-    ahead: &mut Vec<Line>,
-    jumps: &mut Vec<Jump>,
-    behind: &mut Vec<Line>,
-    count: usize,
-) -> Result<(), Memory>
-    requires { jumps.old.items ≡ jumps_from 0 0 (lines_of ahead.old.items) }
-    ensures places { OnOk result (AreOps count (places_of (lines_of (reverse ahead.old.items))) → places_of (lines_of (reverse ahead.new.items)) ≡ drop count (places_of (lines_of (reverse ahead.old.items)))) }
-    ensures lines { OnOk result (lines_of behind.new.items ++ lines_of (reverse ahead.new.items) ≡ lines_of behind.old.items ++ without count (lines_of (reverse ahead.old.items))) }
-    ensures jumps { OnOk result (jumps.new.items ≡ jumps_from 0 0 (lines_of ahead.new.items)) }
-    ensures behind { OnOk result (GoesOn behind.old.items behind.new.items) }
+/// Moves on, without the first instructions, until none of these is left.
+fn skip(lines: &mut GapBuffer<Line>, jumps: &mut Vec<Jump>, count: usize)
+    requires { jumps.old.items ≡ jumps_from 0 0 (lines_of lines.old.ahead) }
+    ensures places { AreOps count (places_of (lines_of (reverse lines.old.ahead))) → places_of (lines_of (reverse lines.new.ahead)) ≡ drop count (places_of (lines_of (reverse lines.old.ahead))) }
+    ensures lines { lines_of lines.new.behind ++ lines_of (reverse lines.new.ahead) ≡ lines_of lines.old.behind ++ without count (lines_of (reverse lines.old.ahead)) }
+    ensures jumps { jumps.new.items ≡ jumps_from 0 0 (lines_of lines.new.ahead) }
+    ensures behind { GoesOn lines.old.behind lines.new.behind }
 {
     let mut left = count;
     while left > 0 {
-        if ahead.len() == 0 {
-            return Ok(());
+        if lines.ahead().is_empty() {
+            return;
         }
-        left = skip_step(ahead, jumps, behind, left)?;
+        left = skip_step(lines, jumps, left);
+    }
+}
+
+/// Puts lines before the cursor, in order.
+fn put_all(lines: &mut GapBuffer<Line>, come: Vec<Line>) -> Result<(), Memory>
+    ensures behind { OnOk result (lines.new.behind ≡ lines.old.behind ++ come.items) }
+    ensures ahead { OnOk result (lines.new.ahead ≡ lines.old.ahead) }
+{
+    let mut come = come;
+    come.reverse();
+    while let Some(line) = come.pop() {
+        lines.put(line)?;
     }
     Ok(())
 }
 
-/// Puts instructions in place of the first ones of a list.
+/// Puts instructions in place of the first ones behind the cursor.
 fn edit(
     alloc: Global,
-    ahead: &mut Vec<Line>,
+    lines: &mut GapBuffer<Line>,
     jumps: &mut Vec<Jump>,
-    behind: &mut Vec<Line>,
     count: usize,
     new: &[Instr],
 ) -> Result<(), Memory>
     requires count { 0 < count }
-    requires some { 0 < length ahead.old.items }
-    requires jumps { jumps.old.items ≡ jumps_from 0 0 (lines_of ahead.old.items) }
-    requires first { (rest : List Lines) (x : Lines) → ahead.old.items ≡ rest ++ x ∷ [] → begins_op (lines_in x) ≡ true }
-    ensures places { OnOk result (AreOps count (places_of (lines_of (reverse ahead.old.items))) → places_of (lines_of (reverse ahead.new.items)) ≡ drop count (places_of (lines_of (reverse ahead.old.items)))) }
-    ensures lines { OnOk result (lines_of behind.new.items ++ lines_of (reverse ahead.new.items) ≡ replaced_lines own_line (length (places_of (lines_of behind.old.items))) count new.now (lines_of behind.old.items ++ lines_of (reverse ahead.old.items))) }
-    ensures jumps { OnOk result (jumps.new.items ≡ jumps_from 0 0 (lines_of ahead.new.items)) }
-    ensures behind { OnOk result (GoesOn behind.old.items behind.new.items) }
+    requires some { 0 < length lines.old.ahead }
+    requires jumps { jumps.old.items ≡ jumps_from 0 0 (lines_of lines.old.ahead) }
+    requires first { (rest : List Lines) (x : Lines) → lines.old.ahead ≡ rest ++ x ∷ [] → begins_op (lines_in x) ≡ true }
+    ensures places { OnOk result (AreOps count (places_of (lines_of (reverse lines.old.ahead))) → places_of (lines_of (reverse lines.new.ahead)) ≡ drop count (places_of (lines_of (reverse lines.old.ahead)))) }
+    ensures lines { OnOk result (lines_of lines.new.behind ++ lines_of (reverse lines.new.ahead) ≡ replaced_lines own_line (length (places_of (lines_of lines.old.behind))) count new.now (lines_of lines.old.behind ++ lines_of (reverse lines.old.ahead))) }
+    ensures jumps { OnOk result (jumps.new.items ≡ jumps_from 0 0 (lines_of lines.new.ahead)) }
+    ensures behind { OnOk result (GoesOn lines.old.behind lines.new.behind) }
 {
-    match pop_line(ahead, jumps) {
+    match lines.first() {
         None => Ok(()),
         Some(first) => {
-            give_way(alloc, behind, &first, new)?;
-            skip(ahead, jumps, behind, count - 1)?;
+            let mut come = Vec::new(alloc);
+            give_way(alloc, &mut come, first, new)?;
+            forget(jumps, first);
+            lines.leave_out();
+            put_all(lines, come)?;
+            skip(lines, jumps, count - 1);
             Ok(())
         }
     }
 }
 
-/// The instructions that stand one behind the other in lines, backward, and may stand in a window, with no label and no alignment line between them.
+/// The instructions that stand one behind the other in lines and may stand in a window, with no label and no alignment line between them.
 fn run(ahead: &[Line], most: usize) -> Seq
     requires { most ≤ 5 }
-    ensures { result ≡ run true most (rows_from true (lines_of (reverse ahead.now))) }
+    ensures { result ≡ run true most (rows_from true (lines_of ahead.now)) }
 {
     let mut seq = Seq::new();
-    let mut at = ahead.len();
-    while at > 0 && seq.len() < most {
-        at -= 1;
-        match seen(&ahead[at], seq.len() == 0) {
+    let mut at = 0;
+    while at < ahead.len() && seq.len() < most {
+        let line = &ahead[at];
+        at += 1;
+        match seen(line, seq.len() == 0) {
             Look::Letter(instr) => seq.push(instr),
             Look::Nothing => {}
             Look::End => return seq,
@@ -209,15 +212,15 @@ fn run(ahead: &[Line], most: usize) -> Seq
     seq
 }
 
-/// Whether an instruction stands behind so many places of lines, backward.
+/// Whether an instruction stands behind so many places of lines.
 fn is_op_at(ahead: &[Line], count: usize) -> bool
-    ensures { result ≡ is_op_place (slice_get (places_of (lines_of (reverse ahead.now))) count) }
+    ensures { result ≡ is_op_place (slice_get (places_of (lines_of ahead.now)) count) }
 {
     let mut left = count;
-    let mut at = ahead.len();
-    while at > 0 {
-        at -= 1;
+    let mut at = 0;
+    while at < ahead.len() {
         let line = &ahead[at];
+        at += 1;
         let places = places_of(line);
         if left < places {
             return is_op(line);
@@ -295,15 +298,12 @@ impl Cursor {
         ensures spots { IfOk result (λ c. spots_at c ≡ spots.items) }
         ensures place { IfOk result (λ c. place_at c ≡ 0) }
     {
-        let mut ahead = lines;
-        ahead.reverse();
         let mut coming = spots;
         coming.reverse();
         let mut jumps_ahead = Vec::new(alloc);
-        note_from(&mut jumps_ahead, &ahead, 0, 0)?;
+        note_back(&mut jumps_ahead, &lines)?;
         Ok(Cursor {
-            behind: Vec::with_capacity(alloc, ahead.len())?,
-            ahead,
+            lines: GapBuffer::new(lines),
             jumps_behind: Vec::new(alloc),
             jumps_ahead,
             passed: Vec::with_capacity(alloc, coming.len())?,
@@ -312,15 +312,10 @@ impl Cursor {
     }
 
     /// All lines, in order.
-    pub fn into_lines(self) -> Result<Vec<Line>, Memory>
-        ensures { IfOk result (λ v. map line_view v.items ≡ lines_at self) }
+    pub fn into_lines(self) -> Vec<Line>
+        ensures { map line_view result.items ≡ lines_at self }
     {
-        let mut lines = self.behind;
-        let mut ahead = self.ahead;
-        while let Some(line) = ahead.pop() {
-            lines.push(line)?;
-        }
-        Ok(lines)
+        self.lines.into_items()
     }
 
     /// How many places stand before it.
@@ -332,14 +327,13 @@ impl Cursor {
 
     /// Whether an instruction stands right behind it.
     pub fn is_at_op(&self) -> bool
-        ensures op { (rest : List Lines) (x : Lines) → self.now.ahead.items ≡ rest ++ x ∷ [] → result ≡ begins_op (lines_in x) }
-        ensures some { result ≡ true → 0 < length self.now.ahead.items }
+        ensures op { (rest : List Lines) (x : Lines) → self.now.lines.ahead ≡ rest ++ x ∷ [] → result ≡ begins_op (lines_in x) }
+        ensures some { result ≡ true → 0 < length self.now.lines.ahead }
     {
-        let ahead = self.ahead.as_slice();
-        if ahead.len() == 0 {
-            return false;
+        match self.lines.first() {
+            None => false,
+            Some(line) => is_op(line),
         }
-        is_op(&ahead[ahead.len() - 1])
     }
 
     /// The instructions behind it that may stand in a window, as many as there are, and at most so many.
@@ -347,36 +341,36 @@ impl Cursor {
         requires { most ≤ 5 }
         ensures { result ≡ run true most (rows_from true (lines_ahead self.now)) }
     {
-        run(&self.ahead, most)
+        run(self.lines.ahead(), most)
     }
 
     /// Whether nothing stands behind it.
     pub fn is_at_end(&self) -> bool
-        ensures { (result ≡ true) ↔ (self.now.ahead.items ≡ []) }
+        ensures { (result ≡ true) ↔ (self.now.lines.ahead ≡ []) }
     {
-        self.ahead.is_empty()
+        self.lines.ahead().is_empty()
     }
 
     /// The straight code that leads up to the place right behind it, which is an instruction's: 32 instructions, or as many as there are. Where a label stands
     /// at that place there are none.
     pub fn lead(&self) -> ArrayVec<Instr, 32>
         requires is { IsCursor self.now }
-        requires some { 0 < length self.now.ahead.items }
-        requires first { (rest : List Lines) (x : Lines) → self.now.ahead.items ≡ rest ++ x ∷ [] → begins_op (lines_in x) ≡ true }
+        requires some { 0 < length self.now.lines.ahead }
+        requires first { (rest : List Lines) (x : Lines) → self.now.lines.ahead ≡ rest ++ x ∷ [] → begins_op (lines_in x) ≡ true }
         ensures few { length result.items ≤ place_at self.now }
         ensures leads { LeadsUp (code_of (lines_at self.now)) (place_at self.now - length result.items) result.items }
     {
         if self.is_labelled() {
             return ArrayVec::new();
         }
-        lead_of(&self.behind)
+        lead_of(self.lines.behind())
     }
 
     /// Puts other sets in place of those that are kept of the last places before it.
     pub fn mend(&mut self, sets: &[NewSets])
         requires { length sets.now ≤ place_at self.old }
-        ensures behind { self.new.behind.items ≡ self.old.behind.items }
-        ensures ahead { self.new.ahead.items ≡ self.old.ahead.items }
+        ensures behind { self.new.lines.behind ≡ self.old.lines.behind }
+        ensures ahead { self.new.lines.ahead ≡ self.old.lines.ahead }
         ensures jumps_behind { self.new.jumps_behind.items ≡ self.old.jumps_behind.items }
         ensures jumps_ahead { self.new.jumps_ahead.items ≡ self.old.jumps_ahead.items }
         ensures coming { self.new.coming.items ≡ self.old.coming.items }
@@ -428,14 +422,17 @@ impl Cursor {
         ensures is { OnOk result (IsCursor self.new) }
         ensures lines { OnOk result (lines_at self.new ≡ lines_at self.old) }
         ensures spots { OnOk result (spots_at self.new ≡ spots_at self.old) }
-        ensures place { OnOk result ((rest : List Lines) (x : Lines) → self.old.ahead.items ≡ rest ++ x ∷ [] → (place_at self.new ≡ place_at self.old + length (places_of (lines_in x))) × (self.new.ahead.items ≡ rest)) }
+        ensures place { OnOk result ((rest : List Lines) (x : Lines) → self.old.lines.ahead ≡ rest ++ x ∷ [] → (place_at self.new ≡ place_at self.old + length (places_of (lines_in x))) × (self.new.lines.ahead ≡ rest)) }
     {
-        match pop_line(&mut self.ahead, &mut self.jumps_ahead) {
+        match self.lines.first() {
             None => Ok(()),
             Some(line) => {
+                let number = self.lines.behind().len();
                 let places = self.passed.len();
-                shift(&mut self.coming, &mut self.passed, places_of(&line))?;
-                push_line(&mut self.behind, &mut self.jumps_behind, line, places)?;
+                shift(&mut self.coming, &mut self.passed, places_of(line))?;
+                forget(&mut self.jumps_ahead, line);
+                note(&mut self.jumps_behind, line, number, places)?;
+                self.lines.forward();
                 Ok(())
             }
         }
@@ -444,18 +441,21 @@ impl Cursor {
     /// Moves back by a line.
     fn back(&mut self) -> Result<(), Memory>
         requires is { IsCursor self.old }
-        requires some { 0 < length self.old.behind.items }
+        requires some { 0 < length self.old.lines.behind }
         ensures is { OnOk result (IsCursor self.new) }
         ensures lines { OnOk result (lines_at self.new ≡ lines_at self.old) }
         ensures spots { OnOk result (spots_at self.new ≡ spots_at self.old) }
-        ensures less { OnOk result (length self.new.behind.items + 1 ≤ length self.old.behind.items) }
+        ensures less { OnOk result (length self.new.lines.behind + 1 ≤ length self.old.lines.behind) }
     {
-        match pop_line(&mut self.behind, &mut self.jumps_behind) {
+        match self.lines.last() {
             None => Ok(()),
             Some(line) => {
+                let number = self.lines.ahead().len();
                 let places = self.coming.len();
-                shift(&mut self.passed, &mut self.coming, places_of(&line))?;
-                push_line(&mut self.ahead, &mut self.jumps_ahead, line, places)?;
+                shift(&mut self.passed, &mut self.coming, places_of(line))?;
+                forget(&mut self.jumps_behind, line);
+                note(&mut self.jumps_ahead, line, number, places)?;
+                self.lines.back();
                 Ok(())
             }
         }
@@ -485,8 +485,8 @@ impl Cursor {
     ) -> Result<(), Memory>
         requires is { IsCursor self.old }
         requires count { 0 < count }
-        requires some { 0 < length self.old.ahead.items }
-        requires first { (rest : List Lines) (x : Lines) → self.old.ahead.items ≡ rest ++ x ∷ [] → begins_op (lines_in x) ≡ true }
+        requires some { 0 < length self.old.lines.ahead }
+        requires first { (rest : List Lines) (x : Lines) → self.old.lines.ahead ≡ rest ++ x ∷ [] → begins_op (lines_in x) ≡ true }
         requires window { AreOps count (places_of (lines_ahead self.old)) }
         requires spots { length spots.now ≡ length new.now }
         ensures is { OnOk result (IsCursor self.new) }
@@ -494,44 +494,36 @@ impl Cursor {
         ensures spots { OnOk result (spots_at self.new ≡ self.old.passed.items ++ (spots.now ++ drop count (reverse self.old.coming.items))) }
         ensures place { OnOk result (place_at self.new ≡ place_at self.old + length new.now) }
     {
-        let first = self.behind.len();
+        let first = self.lines.behind().len();
         let places = self.passed.len();
-        edit(
-            alloc,
-            &mut self.ahead,
-            &mut self.jumps_ahead,
-            &mut self.behind,
-            count,
-            new,
-        )?;
+        edit(alloc, &mut self.lines, &mut self.jumps_ahead, count, new)?;
         let left = self.coming.len().saturating_sub(count);
         self.coming.truncate(left);
         self.passed.extend_from_slice(spots)?;
-        note_from(&mut self.jumps_behind, &self.behind, first, places)?;
+        note_from(&mut self.jumps_behind, self.lines.behind(), first, places)?;
         Ok(())
     }
 
     /// Whether a label stands at the next place, which is an instruction's.
     fn is_labelled(&self) -> bool
-        requires some { 0 < length self.now.ahead.items }
-        requires first { (rest : List Lines) (x : Lines) → self.now.ahead.items ≡ rest ++ x ∷ [] → begins_op (lines_in x) ≡ true }
+        requires some { 0 < length self.now.lines.ahead }
+        requires first { (rest : List Lines) (x : Lines) → self.now.lines.ahead ≡ rest ++ x ∷ [] → begins_op (lines_in x) ≡ true }
         ensures { result ≡ stands_at (length (places_of (lines_behind self.now))) (labels_from 0 (lines_at self.now)) }
     {
-        let ahead = self.ahead.as_slice();
-        ends_labelled(&self.behind) || is_labelled(&ahead[ahead.len() - 1])
+        ends_labelled(self.lines.behind()) || is_labelled(&self.lines.ahead()[0])
     }
 
     /// Whether each code label stays code where so many instructions that come, the first of them right behind the cursor, give way to others.
     pub fn is_settled(&self, count: usize, new: &[Instr]) -> bool
         requires is { IsCursor self.now }
-        requires some { 0 < length self.now.ahead.items }
-        requires first { (rest : List Lines) (x : Lines) → self.now.ahead.items ≡ rest ++ x ∷ [] → begins_op (lines_in x) ≡ true }
+        requires some { 0 < length self.now.lines.ahead }
+        requires first { (rest : List Lines) (x : Lines) → self.now.lines.ahead ≡ rest ++ x ∷ [] → begins_op (lines_in x) ≡ true }
         ensures { (result ≡ true) ↔ IsSettled (places_of (lines_at self.now)) (labels_from 0 (lines_at self.now)) (place_at self.now) count new.now }
     {
         if !new.is_empty() {
             return true;
         }
-        if is_op_at(&self.ahead, count) {
+        if is_op_at(self.lines.ahead(), count) {
             return true;
         }
         !self.is_labelled()

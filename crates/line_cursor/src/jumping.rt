@@ -1,7 +1,8 @@
 //! Which lines may jump, kept beside a list of lines that grows and shrinks at its end.
-ghost use Rattle.std.specs.Prelude.{◌≡◌, ◌++◌, ◌∷◌, ◌<◌, ◌≤◌, ◌^◌, [], length, take, option_to_list, IfNone, OnOk};
+ghost use Rattle.std.specs.Prelude.{◌≡◌, ◌++◌, ◌∷◌, ◌<◌, ◌≤◌, ◌^◌, [], List, length, reverse, take, OnOk};
 ghost use Rattle.thumb_model.specs.Listing.{places_in, places_of};
 ghost use Rattle.listing_parser.specs.Views.{statement_view};
+ghost use Rattle.listing_parser.specs.declared.line.Line.{Line as Lines};
 ghost use Rattle.line_cursor.specs.Lines.{lines_in, lines_of};
 ghost use Rattle.line_cursor.specs.Jumping.{jumps_from, leads_off, may_jump};
 
@@ -43,48 +44,17 @@ fn may_jump(statement: &Statement) -> bool
     }
 }
 
-/// Adds a line behind others, which have so many places.
-pub fn push_line(
-    lines: &mut Vec<Line>,
-    jumps: &mut Vec<Jump>,
-    line: Line,
-    places: usize,
-) -> Result<(), Memory>
-    requires places { places ≡ length (places_of (lines_of lines.old.items)) }
-    requires jumps { jumps.old.items ≡ jumps_from 0 0 (lines_of lines.old.items) }
-    ensures lines { OnOk result (lines.new.items ≡ lines.old.items ++ line ∷ []) }
-    ensures jumps { OnOk result (jumps.new.items ≡ jumps_from 0 0 (lines_of lines.new.items)) }
+/// Takes the last one away where the last line may jump.
+pub fn forget(jumps: &mut Vec<Jump>, line: &Line)
+    ensures { (rest : List Lines) → jumps.old.items ≡ jumps_from 0 0 (lines_of (rest ++ line.now ∷ [])) → jumps.new.items ≡ jumps_from 0 0 (lines_of rest) }
 {
     if may_jump(&line.statement) {
-        jumps.push(Jump {
-            line: lines.len(),
-            places,
-        })?;
-    }
-    lines.push(line)?;
-    Ok(())
-}
-
-/// Takes the last line away.
-pub fn pop_line(lines: &mut Vec<Line>, jumps: &mut Vec<Jump>) -> Option<Line>
-    requires { jumps.old.items ≡ jumps_from 0 0 (lines_of lines.old.items) }
-    ensures lines { lines.old.items ≡ lines.new.items ++ option_to_list result }
-    ensures none { IfNone result (lines.old.items ≡ []) }
-    ensures jumps { jumps.new.items ≡ jumps_from 0 0 (lines_of lines.new.items) }
-{
-    match lines.pop() {
-        None => None,
-        Some(line) => {
-            if may_jump(&line.statement) {
-                let _jump = jumps.pop();
-            }
-            Some(line)
-        }
+        let _jump = jumps.pop();
     }
 }
 
 /// Adds a line, of that number and behind so many places, where it may jump.
-fn note(jumps: &mut Vec<Jump>, line: &Line, number: usize, places: usize) -> Result<(), Memory>
+pub fn note(jumps: &mut Vec<Jump>, line: &Line, number: usize, places: usize) -> Result<(), Memory>
     ensures { OnOk result (jumps.new.items ≡ jumps.old.items ++ jumps_from number places (lines_in line.now)) }
 {
     if may_jump(&line.statement) {
@@ -112,6 +82,21 @@ pub fn note_from(
     let mut places = places;
     for number in first..lines.len() {
         let line = &lines[number];
+        note(jumps, line, number, places)?;
+        places += places_of(line);
+    }
+    Ok(())
+}
+
+/// Adds those of lines that may jump, from the last line to the first.
+pub fn note_back(jumps: &mut Vec<Jump>, lines: &[Line]) -> Result<(), Memory>
+    requires few { length (places_of (lines_of lines.now)) < 2 ^ 64 }
+    requires none { jumps.old.items ≡ [] }
+    ensures { OnOk result (jumps.new.items ≡ jumps_from 0 0 (lines_of (reverse lines.now))) }
+{
+    let mut places = 0;
+    for number in 0..lines.len() {
+        let line = &lines[lines.len() - 1 - number];
         note(jumps, line, number, places)?;
         places += places_of(line);
     }

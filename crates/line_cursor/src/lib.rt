@@ -3,6 +3,7 @@
 
 mod carrying;
 pub mod cursor;
+pub mod gap;
 pub mod held;
 pub mod jumping;
 mod sources;

@@ -1,5 +1,5 @@
 //! The ways that lead to a place, found by a look at the lines about it and one at each line that may jump.
-ghost use Rattle.std.specs.Prelude.{◌≡◌, ◌+◌, ◌<◌, ◌^◌, ◌&&◌, ◌||◌, ℕ, [], Option, None, Some, length, map, reverse, slice_get, option_map, true, OnOk, if◌then◌else◌};
+ghost use Rattle.std.specs.Prelude.{◌≡◌, ◌+◌, ◌<◌, ◌^◌, ◌&&◌, ◌||◌, ℕ, [], Option, None, Some, length, map, slice_get, option_map, true, OnOk, if◌then◌else◌};
 ghost use Rattle.std.specs.List.{list_any};
 ghost use Rattle.std.specs.Str.{bytes_eq};
 ghost use Rattle.thumb_model.specs.Layout.{is_among};
@@ -123,18 +123,18 @@ fn look_behind<'a>(sight: &mut Sight<'a>, behind: &'a [Line], count: usize) -> R
     Ok(())
 }
 
-/// Looks at lines, backward, before which so many places stand: from their first on up to the place.
+/// Looks at lines before which so many places stand: from their first on up to the place.
 fn look_ahead<'a>(sight: &mut Sight<'a>, ahead: &'a [Line], count: usize) -> Result<(), Memory>
-    requires { count + length (places_of (lines_of (reverse ahead.now))) < 2 ^ 64 }
-    ensures { OnOk result (IsSeen count (lines_of (reverse ahead.now)) sight.old sight.new) }
+    requires { count + length (places_of (lines_of ahead.now)) < 2 ^ 64 }
+    ensures { OnOk result (IsSeen count (lines_of ahead.now) sight.old sight.new) }
 {
     let mut start = count;
-    let mut left = ahead.len();
-    while left > 0 && start <= sight.place {
-        left -= 1;
-        let line = &ahead[left];
+    let mut at = 0;
+    while at < ahead.len() && start <= sight.place {
+        let line = &ahead[at];
         see(sight, line, start)?;
         start += places_of(line);
+        at += 1;
     }
     Ok(())
 }
@@ -242,14 +242,15 @@ impl Cursor {
         if number < before {
             let jump = self.jumps_behind[number];
             return Mark {
-                line: &self.behind[jump.line],
+                line: &self.lines.behind()[jump.line],
                 place: jump.places,
             };
         }
         let jump = self.jumps_ahead[number - before];
         let count = self.passed.len() + self.coming.len();
+        let ahead = self.lines.ahead();
         Mark {
-            line: &self.ahead[jump.line],
+            line: &ahead[ahead.len() - 1 - jump.line],
             place: count - 1 - jump.places,
         }
     }
@@ -269,8 +270,8 @@ impl Cursor {
             names: Vec::new(alloc),
         };
         let count = self.passed.len();
-        look_behind(&mut sight, &self.behind, count)?;
-        look_ahead(&mut sight, &self.ahead, count)?;
+        look_behind(&mut sight, self.lines.behind(), count)?;
+        look_ahead(&mut sight, self.lines.ahead(), count)?;
         Ok(known(alloc, sight))
     }
 

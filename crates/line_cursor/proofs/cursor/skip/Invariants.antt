@@ -9,11 +9,11 @@ use Rattle.line_cursor.proofs.cursor.skip.Given as goal
 
 abbrev pub invariant-loop-left : goal.invariant-loop-left
 invariant-loop-left l = record {
-  lines : lines_of l.behind.items ++ without l.left (lines_of (reverse l.ahead.items)) ≡ lines_of l.initial.behind.items ++ without l.count (lines_of (reverse l.initial.ahead.items));
-  places : AreOps l.count (places_of (lines_of (reverse l.initial.ahead.items))) → AreAhead l.count (places_of (lines_of (reverse l.initial.ahead.items))) (places_of (lines_of (reverse l.ahead.items))) l.left;
-  jumps : l.jumps.items ≡ jumps_from 0 0 (lines_of l.ahead.items);
-  behind : GoesOn l.initial.behind.items l.behind.items;
+  lines : lines_of l.lines.behind ++ without l.left (lines_of (reverse l.lines.ahead)) ≡ lines_of l.initial.lines.behind ++ without l.count (lines_of (reverse l.initial.lines.ahead));
+  places : AreOps l.count (places_of (lines_of (reverse l.initial.lines.ahead))) → AreAhead l.count (places_of (lines_of (reverse l.initial.lines.ahead))) (places_of (lines_of (reverse l.lines.ahead))) l.left;
+  jumps : l.jumps.items ≡ jumps_from 0 0 (lines_of l.lines.ahead);
+  behind : GoesOn l.initial.lines.behind l.lines.behind;
 }
 
 abbrev pub decreases-loop-left : goal.decreases-loop-left
-decreases-loop-left l = length l.ahead.items
+decreases-loop-left l = length l.lines.ahead

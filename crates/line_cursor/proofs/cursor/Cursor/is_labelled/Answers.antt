@@ -1,11 +1,13 @@
-use Rattle.std.proofs.Common.{◌≡◌, ◌∙◌, ◌<◌, ◌||◌, ◌++◌, ◌∷◌, [], Bool, true, false, List, length, reverse, refl, ap, sym, arith}
+use Rattle.std.proofs.Common.{◌≡◌, ◌∙◌, ◌||◌, ◌++◌, ◌∷◌, [], Bool, true, false, List, get_or, length, reverse, refl, ap, sym}
+use Rattle.std.proofs.lemmas.List.{reverse-append}
 use Rattle.thumb_model.specs.Listing.{Line, labels_from, places_of}
 use Rattle.listing_parser.specs.declared.line.Line.{Line as Lines}
 use Rattle.line_cursor.specs.Lines.{lines_in, lines_of, begins_labelled, begins_op}
 use Rattle.line_cursor.specs.Cursors.{stands_at}
 use Rattle.line_cursor.proofs.Looks.{piece_short}
 use Rattle.line_cursor.proofs.Edits.{lines_back}
-use Rattle.line_cursor.proofs.Labels.{ends_at, stands_here, pushed}
+use Rattle.line_cursor.proofs.Gaps.{last_of}
+use Rattle.line_cursor.proofs.Labels.{ends_at, stands_here}
 use Rattle.line_cursor.proofs.cursor.Cursor.is_labelled.Goals as goal
 
 -- what stands at the cursor's place
@@ -23,23 +25,17 @@ or_else : (a b : Bool) → a ≡ false → (a || b) ≡ b
 or_else false b e = refl
 or_else true b e = absurd (cc)
 
--- of a list that isn't empty, some piece comes last
-last_piece : (xs : List Lines) → 0 < length xs → (x : Lines) × (rest : List Lines) × (xs ≡ rest ++ x ∷ [])
-last_piece [] h = absurd (omega arith)
-last_piece (x ∷ []) h = (x, [], refl)
-last_piece (x ∷ y ∷ ys) h = let r = last_piece (y ∷ ys) (omega arith) in (r.0, x ∷ r.1, ap (λ l. x ∷ l) r.2)
-
 pub returns-then-ends_labelled : goal.returns-then-ends_labelled
 returns-then-ends_labelled c =
-    let l = last_piece c.args.self.now.ahead.items c.requires.some in
-    let ends : ends_at (lines_of c.args.self.now.behind.items) ≡ true = ap (λ (b : List Lines). ends_at (lines_of b)) (sym c.deref.ensures.value) ∙ sym c.ends_labelled.ensures ∙ c.if-ends_labelled.true in
-    c.if-ends_labelled.true ∙ sym (both c.args.self.now.behind.items c.args.self.now.ahead.items l.1 l.0 l.2 (c.requires.first l.1 l.0 l.2) ∙ or_true _ _ ends)
+    let l = last_of c.args.self.now.lines.ahead c.requires.some in
+    let ends : ends_at (lines_of c.args.self.now.lines.behind) ≡ true = ap (λ (b : List Lines). ends_at (lines_of b)) (sym c.behind.ensures) ∙ sym c.ends_labelled.ensures ∙ c.if-ends_labelled.true in
+    c.if-ends_labelled.true ∙ sym (both c.args.self.now.lines.behind c.args.self.now.lines.ahead l.rest l.item l.is (c.requires.first l.rest l.item l.is) ∙ or_true _ _ ends)
 
 pub returns-else-ends_labelled : goal.returns-else-ends_labelled
 returns-else-ends_labelled c =
-    let x : Lines = c.index-ahead-ahead.result in
-    let some = c.requires.some in
-    let p = pushed c.as_slice-ahead.result.now x (omega (arith, ap (λ (l : List Lines). length l) c.as_slice-ahead.ensures.value)) c.index-ahead-ahead.is in
-    let is : c.args.self.now.ahead.items ≡ p.rest ++ x ∷ [] = sym c.as_slice-ahead.ensures.value ∙ p.is in
-    let ends : ends_at (lines_of c.args.self.now.behind.items) ≡ false = ap (λ (b : List Lines). ends_at (lines_of b)) (sym c.deref.ensures.value) ∙ sym c.ends_labelled.ensures ∙ c.if-ends_labelled.false in
-    c.is_labelled.ensures ∙ sym (both c.args.self.now.behind.items c.args.self.now.ahead.items p.rest x is (c.requires.first p.rest x is) ∙ or_else _ _ ends)
+    let x : Lines = c.index-ahead-0.result in
+    let l = last_of c.args.self.now.lines.ahead c.requires.some in
+    let same : x ≡ l.item = c.index-ahead-0.is ∙ ap (λ (ls : List Lines). get_or ls 0 x) (c.ahead.ensures ∙ ap reverse l.is ∙ reverse-append l.rest (l.item ∷ [])) in
+    let ends : ends_at (lines_of c.args.self.now.lines.behind) ≡ false = ap (λ (b : List Lines). ends_at (lines_of b)) (sym c.behind.ensures) ∙ sym c.ends_labelled.ensures ∙ c.if-ends_labelled.false in
+    c.is_labelled.ensures ∙ ap (λ (y : Lines). begins_labelled (lines_in y)) same
+    ∙ sym (both c.args.self.now.lines.behind c.args.self.now.lines.ahead l.rest l.item l.is (c.requires.first l.rest l.item l.is) ∙ or_else _ _ ends)

@@ -30,16 +30,16 @@ last_look ps labels p q count is o false n same e f s = (λ h. inr (inr (λ j l 
 
 pub returns-then-is_op_at : goal.returns-then-is_op_at
 returns-then-is_op_at c =
-    let behind : List Line = lines_of c.args.self.now.behind.items in
-    let ahead : List Line = lines_of (reverse c.args.self.now.ahead.items) in
-    let here = ap (λ (a : List Lines). is_op_place (slice_get (places_of (lines_of (reverse a))) c.args.count)) (sym c.deref.ensures.value) ∙ sym c.is_op_at.ensures ∙ c.if-is_op_at.true in
+    let behind : List Line = lines_of c.args.self.now.lines.behind in
+    let ahead : List Line = lines_of (reverse c.args.self.now.lines.ahead) in
+    let here = ap (λ (a : List Lines). is_op_place (slice_get (places_of (lines_of a)) c.args.count)) (sym c.ahead.ensures) ∙ sym c.is_op_at.ensures ∙ c.if-is_op_at.true in
     (λ h. inr (inl (place_ahead behind ahead (length c.args.self.now.passed.items) c.args.count c.requires.is.passed ∙ here)), λ h. refl)
 
 pub returns : goal.returns
 returns c =
-    let behind : List Line = lines_of c.args.self.now.behind.items in
-    let ahead : List Line = lines_of (reverse c.args.self.now.ahead.items) in
-    let here = ap (λ (a : List Lines). is_op_place (slice_get (places_of (lines_of (reverse a))) c.args.count)) (sym c.deref.ensures.value) ∙ sym c.is_op_at.ensures in
+    let behind : List Line = lines_of c.args.self.now.lines.behind in
+    let ahead : List Line = lines_of (reverse c.args.self.now.lines.ahead) in
+    let here = ap (λ (a : List Lines). is_op_place (slice_get (places_of (lines_of a)) c.args.count)) (sym c.ahead.ensures) ∙ sym c.is_op_at.ensures in
     let none : length c.args.new.now ≡ 0 = eqb-true (length c.args.new.now) 0 (sym c.is_empty.ensures ∙ c.if-not-is_empty.false) in
     last_look (places_of (behind ++ ahead)) (labels_from 0 (behind ++ ahead)) (length c.args.self.now.passed.items) (length (places_of behind)) c.args.count c.args.new.now c.is_op_at.result c.is_labelled.result none c.requires.is.passed
     (place_ahead behind ahead (length c.args.self.now.passed.items) c.args.count c.requires.is.passed ∙ here) c.if-is_op_at.false c.is_labelled.ensures

@@ -10,9 +10,9 @@ use Rattle.line_cursor.proofs.cursor.Cursor.lead.Goals as goal
 
 pub returns-clause-leads : goal.returns-clause-leads
 returns-clause-leads c =
-    let behind : List Line = lines_of c.args.self.now.behind.items in
-    let ahead : List Line = lines_of (reverse c.args.self.now.ahead.items) in
-    let same = c.deref.ensures.value in
+    let behind : List Line = lines_of c.args.self.now.lines.behind in
+    let ahead : List Line = lines_of (reverse c.args.self.now.lines.ahead) in
+    let same = c.behind.ensures in
     let passed = c.requires.is.passed in
     let few : length c.lead_of.result.items ≤ length (places_of behind) = subst (λ (ps : List Lines). length c.lead_of.result.items ≤ length (places_of (lines_of ps))) same c.lead_of.ensures.few in
     let leads : LeadsUp (code_of behind) (length (places_of behind) - length c.lead_of.result.items) c.lead_of.result.items =

@@ -17,9 +17,9 @@ kept old new held n e g h = ap (λ (ls : List Lines). lines_of (take n ls)) e �
 
 pub note_from-requires-clause-few : goal.note_from-requires-clause-few
 note_from-requires-clause-few c =
-    let r = replaced_count c.args.count (lines_of c.args.self.now.behind.items) (lines_of (reverse c.args.self.now.ahead.items)) (lines_of c.edit.new.behind.items) (lines_of (reverse c.edit.new.ahead.items)) c.args.new.now
+    let r = replaced_count c.args.count (lines_of c.args.self.now.lines.behind) (lines_of (reverse c.args.self.now.lines.ahead)) (lines_of c.edit.new.lines.behind) (lines_of (reverse c.edit.new.lines.ahead)) c.args.new.now
     c.requires.count c.requires.window c.in_ok-edit.ensures.lines (c.in_ok-edit.ensures.places c.requires.window) in
-    let count = ap (λ (ls : List Lines). length (places_of (lines_of ls))) c.deref.ensures.value in
+    let count = ap (λ (ls : List Lines). length (places_of (lines_of ls))) c.behind.ensures in
     let behind = r.0 in
     let p = c.requires.is.passed in
     let s = c.requires.spots in
@@ -31,21 +31,21 @@ note_from-requires-clause-few c =
 
 pub note_from-requires-clause-first : goal.note_from-requires-clause-first
 note_from-requires-clause-first c =
-    omega (arith, c.len-first.ensures, c.args.self.now.behind.ok.0, ap (λ (ls : List Lines). length ls) c.deref.ensures.value, goes_on_longer c.args.self.now.behind.items c.edit.new.behind.items c.in_ok-edit.ensures.behind)
+    omega (arith, ap (λ (ls : List Lines). length ls) c.behind-first.ensures, ap (λ (ls : List Lines). length ls) c.behind.ensures, goes_on_longer c.args.self.now.lines.behind c.edit.new.lines.behind c.in_ok-edit.ensures.behind)
 
 pub note_from-requires-clause-places : goal.note_from-requires-clause-places
 note_from-requires-clause-places c =
-    let same = ap (λ (ls : List Line). length (places_of ls)) (kept c.args.self.now.behind.items c.edit.new.behind.items c.deref.result.now c.len-first.result c.deref.ensures.value c.in_ok-edit.ensures.behind (omega (arith, c.len-first.ensures, c.args.self.now.behind.ok.0))) in
+    let same = ap (λ (ls : List Line). length (places_of ls)) (kept c.args.self.now.lines.behind c.edit.new.lines.behind c.behind.result.now (length c.behind-first.result.now) c.behind.ensures c.in_ok-edit.ensures.behind (ap (λ (ls : List Lines). length ls) c.behind-first.ensures)) in
     omega (arith, same, c.len-places.ensures, c.requires.is.passed)
 
 pub note_from-requires-clause-jumps : goal.note_from-requires-clause-jumps
 note_from-requires-clause-jumps c =
     c.requires.is.jumps_behind
-    ∙ sym (ap (jumps_from 0 0) (kept c.args.self.now.behind.items c.edit.new.behind.items c.deref.result.now c.len-first.result c.deref.ensures.value c.in_ok-edit.ensures.behind (omega (arith, c.len-first.ensures, c.args.self.now.behind.ok.0))))
+    ∙ sym (ap (jumps_from 0 0) (kept c.args.self.now.lines.behind c.edit.new.lines.behind c.behind.result.now (length c.behind-first.result.now) c.behind.ensures c.in_ok-edit.ensures.behind (ap (λ (ls : List Lines). length ls) c.behind-first.ensures)))
 
 pub returns-clause-is : goal.returns-clause-is
 returns-clause-is c =
-    let r = replaced_count c.args.count (lines_of c.args.self.now.behind.items) (lines_of (reverse c.args.self.now.ahead.items)) (lines_of c.edit.new.behind.items) (lines_of (reverse c.edit.new.ahead.items)) c.args.new.now
+    let r = replaced_count c.args.count (lines_of c.args.self.now.lines.behind) (lines_of (reverse c.args.self.now.lines.ahead)) (lines_of c.edit.new.lines.behind) (lines_of (reverse c.edit.new.lines.ahead)) c.args.new.now
     c.requires.count c.requires.window c.in_ok-edit.ensures.lines (c.in_ok-edit.ensures.places c.requires.window) in
     let before = r.0 in
     let behind = r.1 in
@@ -61,13 +61,13 @@ returns-clause-is c =
     record {
       passed = omega arith;
       coming = omega arith;
-      jumps_behind = c.in_ok-note_from.ensures ∙ ap (λ (ls : List Lines). jumps_from 0 0 (lines_of ls)) c.deref.ensures.value;
+      jumps_behind = c.in_ok-note_from.ensures ∙ ap (λ (ls : List Lines). jumps_from 0 0 (lines_of ls)) c.behind.ensures;
       jumps_ahead = c.in_ok-edit.ensures.jumps;
     }
 
 pub returns-clause-spots : goal.returns-clause-spots
 returns-clause-spots c =
-    let r = replaced_count c.args.count (lines_of c.args.self.now.behind.items) (lines_of (reverse c.args.self.now.ahead.items)) (lines_of c.edit.new.behind.items) (lines_of (reverse c.edit.new.ahead.items)) c.args.new.now
+    let r = replaced_count c.args.count (lines_of c.args.self.now.lines.behind) (lines_of (reverse c.args.self.now.lines.ahead)) (lines_of c.edit.new.lines.behind) (lines_of (reverse c.edit.new.lines.ahead)) c.args.new.now
     c.requires.count c.requires.window c.in_ok-edit.ensures.lines (c.in_ok-edit.ensures.places c.requires.window) in
     let behind = r.1 in
     let q = c.requires.is.coming in
