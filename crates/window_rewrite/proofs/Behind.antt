@@ -101,7 +101,7 @@ places_there c k =
     omega (arith, all, k.is.passed, k.is.coming)
 
 -- at the end no place comes
-pub at_end : (c : Cursor) → IsKept c → c.ahead.items ≡ [] → length (places_of (lines_at c)) ≤ place_at c
+pub at_end : (c : Cursor) → IsKept c → c.lines.ahead ≡ [] → length (places_of (lines_at c)) ≤ place_at c
 at_end c k e = omega (arith, places_there c k, k.is.coming, ap (λ (ps : List Lines). length (places_of (lines_of (reverse ps)))) e)
 
 -- the set that is kept of a place tells what is live after it

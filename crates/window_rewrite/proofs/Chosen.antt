@@ -486,9 +486,9 @@ piece_cost entries place next start before after ahead p e b a idle = elim (case
 ]
 
 -- a look at what stands behind a cursor costs no more than the places up to there
-pub look_cost : (entries start before after : ℕ) (c : Cursor) (lines : List Line) (p : IsAhead c.ahead.items) → IsKept c → lines_at c ≡ lines → before ≤ start + place_at c * entries → after ≤ before + entries
-    → ((rest : List Lines) (x : Lines) → c.ahead.items ≡ rest ++ x ∷ [] → begins_op (lines_in x) ≡ false → after ≤ before) → after ≤ start + length (places_of lines) * entries
+pub look_cost : (entries start before after : ℕ) (c : Cursor) (lines : List Line) (p : IsAhead c.lines.ahead) → IsKept c → lines_at c ≡ lines → before ≤ start + place_at c * entries → after ≤ before + entries
+    → ((rest : List Lines) (x : Lines) → c.lines.ahead ≡ rest ++ x ∷ [] → begins_op (lines_in x) ≡ false → after ≤ before) → after ≤ start + length (places_of lines) * entries
 look_cost entries start before after c lines p kept same b a idle =
     let next : ℕ = place_at c + length (places_of (lines_in p.piece)) in
-    places_cost entries next (length (places_of lines)) start after (piece_cost entries (place_at c) next start before after c.ahead.items p refl b a idle)
-    (omega (arith, places_there c kept, ahead_count c.ahead.items p.rest p.piece p.is, kept.is.coming, ap (λ (ls : List Line). length (places_of ls)) same))
+    places_cost entries next (length (places_of lines)) start after (piece_cost entries (place_at c) next start before after c.lines.ahead p refl b a idle)
+    (omega (arith, places_there c kept, ahead_count c.lines.ahead p.rest p.piece p.is, kept.is.coming, ap (λ (ls : List Line). length (places_of ls)) same))

@@ -28,7 +28,7 @@ grown_on old mid now a b = record {
 }
 
 pub carried_grown : (mid now : Cursor) (s : ℕ) (c : Source) (changed : Bool) → IsCarried (sets_of (spots_at mid)) s c (sets_of (spots_at now)) changed → flows_of (spots_at now) ≡ flows_of (spots_at mid)
-    → now.behind.items ≡ mid.behind.items → now.ahead.items ≡ mid.ahead.items → now.jumps_behind.items ≡ mid.jumps_behind.items → now.jumps_ahead.items ≡ mid.jumps_ahead.items → length now.passed.items ≡ length mid.passed.items → length now.coming.items ≡ length mid.coming.items → IsGrown mid now
+    → now.lines.behind ≡ mid.lines.behind → now.lines.ahead ≡ mid.lines.ahead → now.jumps_behind.items ≡ mid.jumps_behind.items → now.jumps_ahead.items ≡ mid.jumps_ahead.items → length now.passed.items ≡ length mid.passed.items → length now.coming.items ≡ length mid.coming.items → IsGrown mid now
 carried_grown mid now s c changed m flows behind ahead jumps_behind jumps_ahead passed coming = record {
   behind = behind;
   ahead = ahead;

@@ -276,8 +276,8 @@ if_growing c window new before after ahead (Some s) kept at many few grown b a f
 
 -- the one cursor is the other with other sets for the last places before it
 pub record IsMended (old now : Cursor) (led : List NewSets) : Type 0 where
-  pub behind : now.behind.items ≡ old.behind.items
-  pub ahead : now.ahead.items ≡ old.ahead.items
+  pub behind : now.lines.behind ≡ old.lines.behind
+  pub ahead : now.lines.ahead ≡ old.lines.ahead
   pub jumps_behind : now.jumps_behind.items ≡ old.jumps_behind.items
   pub jumps_ahead : now.jumps_ahead.items ≡ old.jumps_ahead.items
   pub coming : now.coming.items ≡ old.coming.items

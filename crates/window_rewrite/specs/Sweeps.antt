@@ -44,8 +44,8 @@ LosesNone old now q = (x : ℕ) → has (set_at (sets_of (spots_at old)).after q
 
 -- the cursor stands where it stood, in the same lines, and what is kept of live items only grew
 pub record IsGrown (old now : Cursor) : Type 0 where
-  pub behind : now.behind.items ≡ old.behind.items
-  pub ahead : now.ahead.items ≡ old.ahead.items
+  pub behind : now.lines.behind ≡ old.lines.behind
+  pub ahead : now.lines.ahead ≡ old.lines.ahead
   pub jumps_behind : now.jumps_behind.items ≡ old.jumps_behind.items
   pub jumps_ahead : now.jumps_ahead.items ≡ old.jumps_ahead.items
   pub passed : length now.passed.items ≡ length old.passed.items

@@ -55,8 +55,8 @@ fn may_give_way(
     requires is { IsCursor cursor.now }
     requires same { IfSome ground.now.listing (λ l. lines_at cursor.now ≡ l.now) }
     requires few { length (places_of (lines_at cursor.now)) < 2 ^ 32 }
-    requires some { 0 < length cursor.now.ahead.items }
-    requires first { (rest : List Lines) (x : Lines) → cursor.now.ahead.items ≡ rest ++ x ∷ [] → begins_op (lines_in x) ≡ true }
+    requires some { 0 < length cursor.now.lines.ahead }
+    requires first { (rest : List Lines) (x : Lines) → cursor.now.lines.ahead ≡ rest ++ x ∷ [] → begins_op (lines_in x) ≡ true }
     requires window { AreOps count (drop (place_at cursor.now) (places_of (lines_at cursor.now))) }
     requires unlabelled { (k : ℕ) (l : Label) → slice_get (labels_from 0 (lines_at cursor.now)) k ≡ Some l → (l.place ≤ place_at cursor.now) ⊎ (place_at cursor.now + count ≤ l.place) }
     requires joined { are_joined_from (place_at cursor.now) count (lines_at cursor.now) ≡ true }
@@ -101,8 +101,8 @@ fn try_entry<L: Ledger>(
 ) -> Result<Option<Choice>, Memory>
     requires ready { AreReady rules.now }
     requires over { IsOver rules.now ground.now cursor.now }
-    requires some { 0 < length cursor.now.ahead.items }
-    requires first { (rest : List Lines) (x : Lines) → cursor.now.ahead.items ≡ rest ++ x ∷ [] → begins_op (lines_in x) ≡ true }
+    requires some { 0 < length cursor.now.lines.ahead }
+    requires first { (rest : List Lines) (x : Lines) → cursor.now.lines.ahead ≡ rest ++ x ∷ [] → begins_op (lines_in x) ≡ true }
     requires stands { StandsThere (lines_at cursor.now) (spot_of (place_at cursor.now) (length window.now)) window.now live.bits }
     requires number { number < length rules.now.entries.now }
     requires long { left_length (rules_in rules.now.entries.now) number ≡ length window.now }
@@ -182,8 +182,8 @@ fn lowest<L: Ledger>(
 ) -> Result<Option<Choice>, Memory>
     requires ready { AreReady rules.now }
     requires over { IsOver rules.now ground.now cursor.now }
-    requires some { 0 < length cursor.now.ahead.items }
-    requires first { (rest : List Lines) (x : Lines) → cursor.now.ahead.items ≡ rest ++ x ∷ [] → begins_op (lines_in x) ≡ true }
+    requires some { 0 < length cursor.now.lines.ahead }
+    requires first { (rest : List Lines) (x : Lines) → cursor.now.lines.ahead ≡ rest ++ x ∷ [] → begins_op (lines_in x) ≡ true }
     requires stands { StandsThere (lines_at cursor.now) (spot_of (place_at cursor.now) (length window.now)) window.now live.bits }
     ensures some { IfOk result (λ o. IfSome o (IsLowest (setting_of rules.now) (lines_at cursor.now) (place_at cursor.now) (length window.now))) }
     ensures none { IfOk result (λ o. IfNone o (NoneOf (setting_of rules.now) (lines_at cursor.now) (place_at cursor.now) (length window.now))) }
@@ -211,8 +211,8 @@ fn best_here<L: Ledger>(
 ) -> Result<Option<Choice>, Memory>
     requires ready { AreReady rules.now }
     requires over { IsOver rules.now ground.now cursor.now }
-    requires some { 0 < length cursor.now.ahead.items }
-    requires first { (rest : List Lines) (x : Lines) → cursor.now.ahead.items ≡ rest ++ x ∷ [] → begins_op (lines_in x) ≡ true }
+    requires some { 0 < length cursor.now.lines.ahead }
+    requires first { (rest : List Lines) (x : Lines) → cursor.now.lines.ahead ≡ rest ++ x ∷ [] → begins_op (lines_in x) ≡ true }
     ensures some { IfOk result (λ o. IfSome o (IsBest (setting_of rules.now) (lines_at cursor.now) (place_at cursor.now))) }
     ensures none { IfOk result (λ o. IfNone o (NoneAt (setting_of rules.now) (lines_at cursor.now) (place_at cursor.now))) }
     ensures cost { steps.new ≤ steps.old + length (rules_in rules.now.entries.now) }
@@ -248,10 +248,10 @@ fn best<L: Ledger>(
     requires ready { AreReady rules.now }
     requires over { IsOver rules.now ground.now cursor.now }
     ensures some { IfOk result (λ o. IfSome o (IsBest (setting_of rules.now) (lines_at cursor.now) (place_at cursor.now))) }
-    ensures op { IfOk result (λ o. IfSome o (λ c. (0 < length cursor.now.ahead.items) × ((rest : List Lines) (x : Lines) → cursor.now.ahead.items ≡ rest ++ x ∷ [] → begins_op (lines_in x) ≡ true))) }
-    ensures none { IfOk result (λ o. IfNone o ((rest : List Lines) (x : Lines) → cursor.now.ahead.items ≡ rest ++ x ∷ [] → begins_op (lines_in x) ≡ true → NoneAt (setting_of rules.now) (lines_at cursor.now) (place_at cursor.now))) }
+    ensures op { IfOk result (λ o. IfSome o (λ c. (0 < length cursor.now.lines.ahead) × ((rest : List Lines) (x : Lines) → cursor.now.lines.ahead ≡ rest ++ x ∷ [] → begins_op (lines_in x) ≡ true))) }
+    ensures none { IfOk result (λ o. IfNone o ((rest : List Lines) (x : Lines) → cursor.now.lines.ahead ≡ rest ++ x ∷ [] → begins_op (lines_in x) ≡ true → NoneAt (setting_of rules.now) (lines_at cursor.now) (place_at cursor.now))) }
     ensures cost { steps.new ≤ steps.old + length (rules_in rules.now.entries.now) }
-    ensures idle { (rest : List Lines) (x : Lines) → cursor.now.ahead.items ≡ rest ++ x ∷ [] → begins_op (lines_in x) ≡ false → steps.new ≤ steps.old }
+    ensures idle { (rest : List Lines) (x : Lines) → cursor.now.lines.ahead ≡ rest ++ x ∷ [] → begins_op (lines_in x) ≡ false → steps.new ≤ steps.old }
 {
     if cursor.is_at_op() {
         best_here(alloc, rules, ground, cursor, steps)
@@ -275,7 +275,7 @@ pub(crate) fn next<L: Ledger>(
     ensures lines { OnOk result (lines_at cursor.new ≡ lines_at cursor.old) }
     ensures some { IfOk result (λ o. IfSome o (IsFirstChoice (setting_of rules.now) (lines_at cursor.new))) }
     ensures here { IfOk result (λ o. IfSome o (λ c. (choice_of c).place ≡ place_at cursor.new)) }
-    ensures op { IfOk result (λ o. IfSome o (λ c. (0 < length cursor.new.ahead.items) × ((rest : List Lines) (x : Lines) → cursor.new.ahead.items ≡ rest ++ x ∷ [] → begins_op (lines_in x) ≡ true))) }
+    ensures op { IfOk result (λ o. IfSome o (λ c. (0 < length cursor.new.lines.ahead) × ((rest : List Lines) (x : Lines) → cursor.new.lines.ahead ≡ rest ++ x ∷ [] → begins_op (lines_in x) ≡ true))) }
     ensures none { IfOk result (λ o. IfNone o (NoneApplies (setting_of rules.now) (lines_at cursor.new))) }
     ensures cost { steps.new ≤ steps.old + length (places_of (lines_at cursor.old)) * length (rules_in rules.now.entries.now) }
 {

@@ -77,8 +77,8 @@ fn kept_with_lead(
     ahead: &[Flow],
 ) -> Option<ArrayVec<NewSets, 37>>
     requires kept { IsKept cursor.now }
-    requires some { 0 < length cursor.now.ahead.items }
-    requires first { (rest : List Lines) (x : Lines) → cursor.now.ahead.items ≡ rest ++ x ∷ [] → begins_op (lines_in x) ≡ true }
+    requires some { 0 < length cursor.now.lines.ahead }
+    requires first { (rest : List Lines) (x : Lines) → cursor.now.lines.ahead ≡ rest ++ x ∷ [] → begins_op (lines_in x) ≡ true }
     requires keeps { KeepsAt (code_of (lines_at cursor.now)) (place_at cursor.now) window.now new.now }
     requires ahead { (k : ℕ) (f : Flow) → slice_get ahead.now k ≡ Some f → slice_get (flows_of (spots_at cursor.now)) (place_at cursor.now + (length window.now + k)) ≡ Some f }
     ensures { IfSome result (λ s. AreKept cursor.now window.now new.now s.items) }
@@ -98,8 +98,8 @@ fn kept_with_lead(
 /// up to the window and of the new instructions, if all others stay then.
 fn kept(cursor: &Cursor, window: &[Instr], new: &[Instr]) -> Option<ArrayVec<NewSets, 37>>
     requires kept { IsKept cursor.now }
-    requires some { 0 < length cursor.now.ahead.items }
-    requires first { (rest : List Lines) (x : Lines) → cursor.now.ahead.items ≡ rest ++ x ∷ [] → begins_op (lines_in x) ≡ true }
+    requires some { 0 < length cursor.now.lines.ahead }
+    requires first { (rest : List Lines) (x : Lines) → cursor.now.lines.ahead ≡ rest ++ x ∷ [] → begins_op (lines_in x) ≡ true }
     requires keeps { KeepsAt (code_of (lines_at cursor.now)) (place_at cursor.now) window.now new.now }
     ensures { IfSome result (λ s. AreKept cursor.now window.now new.now s.items) }
 {
@@ -124,8 +124,8 @@ fn put(
     sets: &[NewSets],
 ) -> Result<usize, Memory>
     requires kept { IsKept cursor.old }
-    requires some { 0 < length cursor.old.ahead.items }
-    requires first { (rest : List Lines) (x : Lines) → cursor.old.ahead.items ≡ rest ++ x ∷ [] → begins_op (lines_in x) ≡ true }
+    requires some { 0 < length cursor.old.lines.ahead }
+    requires first { (rest : List Lines) (x : Lines) → cursor.old.lines.ahead ≡ rest ++ x ∷ [] → begins_op (lines_in x) ≡ true }
     requires keeps { KeepsAt (code_of (lines_at cursor.old)) (place_at cursor.old) window.now new.now }
     requires sets { AreKept cursor.old window.now new.now sets.now }
     ensures lines { OnOk result (lines_at cursor.new ≡ replaced_lines own_line (place_at cursor.old) (length window.now) new.now (lines_at cursor.old)) }
@@ -163,8 +163,8 @@ fn put_growing<L: Ledger>(
 ) -> Result<(), Memory>
     requires kept { IsKept cursor.old }
     requires once { DefineOnce (lines_at cursor.old) }
-    requires some { 0 < length cursor.old.ahead.items }
-    requires first { (rest : List Lines) (x : Lines) → cursor.old.ahead.items ≡ rest ++ x ∷ [] → begins_op (lines_in x) ≡ true }
+    requires some { 0 < length cursor.old.lines.ahead }
+    requires first { (rest : List Lines) (x : Lines) → cursor.old.lines.ahead ≡ rest ++ x ∷ [] → begins_op (lines_in x) ≡ true }
     requires keeps { KeepsAt (code_of (lines_at cursor.old)) (place_at cursor.old) window.now new.now }
     requires sets { AreGrowing cursor.old window.now new.now sets.now }
     ensures lines { OnOk result (lines_at cursor.new ≡ replaced_lines own_line (place_at cursor.old) (length window.now) new.now (lines_at cursor.old)) }
@@ -199,8 +199,8 @@ pub(crate) fn put_blank(
     new: &[Instr],
 ) -> Result<(), Memory>
     requires is { IsCursor cursor.old }
-    requires some { 0 < length cursor.old.ahead.items }
-    requires first { (rest : List Lines) (x : Lines) → cursor.old.ahead.items ≡ rest ++ x ∷ [] → begins_op (lines_in x) ≡ true }
+    requires some { 0 < length cursor.old.lines.ahead }
+    requires first { (rest : List Lines) (x : Lines) → cursor.old.lines.ahead ≡ rest ++ x ∷ [] → begins_op (lines_in x) ≡ true }
     requires few { length window.now ≤ 5 }
     requires keeps { KeepsAt (code_of (lines_at cursor.old)) (place_at cursor.old) window.now new.now }
     ensures lines { OnOk result (lines_at cursor.new ≡ replaced_lines own_line (place_at cursor.old) (length window.now) new.now (lines_at cursor.old)) }
@@ -220,8 +220,8 @@ pub(crate) fn make<L: Ledger>(
 ) -> Result<Option<usize>, Memory>
     requires kept { IsKept cursor.old }
     requires once { DefineOnce (lines_at cursor.old) }
-    requires some { 0 < length cursor.old.ahead.items }
-    requires first { (rest : List Lines) (x : Lines) → cursor.old.ahead.items ≡ rest ++ x ∷ [] → begins_op (lines_in x) ≡ true }
+    requires some { 0 < length cursor.old.lines.ahead }
+    requires first { (rest : List Lines) (x : Lines) → cursor.old.lines.ahead ≡ rest ++ x ∷ [] → begins_op (lines_in x) ≡ true }
     requires few { length window.now ≤ 5 }
     requires keeps { KeepsAt (code_of (lines_at cursor.old)) (place_at cursor.old) window.now new.now }
     ensures lines { OnOk result (lines_at cursor.new ≡ replaced_lines own_line (place_at cursor.old) (length window.now) new.now (lines_at cursor.old)) }

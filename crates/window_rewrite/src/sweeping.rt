@@ -47,8 +47,8 @@ fn turn<L: Ledger>(
     requires over { IsOver rules.now ground.now cursor.old }
     requires choice { IsFirstChoice (setting_of rules.now) (lines_at cursor.old) choice.now }
     requires here { (choice_of choice.now).place ≡ place_at cursor.old }
-    requires some { 0 < length cursor.old.ahead.items }
-    requires first { (rest : List Lines) (x : Lines) → cursor.old.ahead.items ≡ rest ++ x ∷ [] → begins_op (lines_in x) ≡ true }
+    requires some { 0 < length cursor.old.lines.ahead }
+    requires first { (rest : List Lines) (x : Lines) → cursor.old.lines.ahead ≡ rest ++ x ∷ [] → begins_op (lines_in x) ≡ true }
     ensures lines { OnOk result (lines_at cursor.new ≡ lines_after (setting_of rules.now) (choice_of choice.now) (lines_at cursor.old)) }
     ensures over { IfOk result (λ b. b ≡ true → IsOver rules.now ground.now cursor.new) }
     ensures before { IfOk result (λ b. b ≡ true → NoneBefore (setting_of rules.now) (lines_at cursor.new) (place_at cursor.new)) }
@@ -157,7 +157,7 @@ fn sweep_lines<L: Ledger>(
 {
     let mut cursor = Cursor::start(alloc, lines, spots)?;
     let is_done = go_through(alloc, rules, ground, &mut cursor, replacements, steps)?;
-    let listing = Listing::of(alloc, cursor.into_lines()?)?;
+    let listing = Listing::of(alloc, cursor.into_lines())?;
     Ok(Swept { listing, is_done })
 }
 

@@ -11,44 +11,44 @@ use Rattle.window_rewrite.proofs.finding.next.Goals as goal
 
 pub returns-in_err-choice-clause-cost : goal.returns-in_err-choice-clause-cost
 returns-in_err-choice-clause-cost g c =
-    let p = some_ahead c.loop-alloc.cursor.ahead.items (λ e. let never : true ≡ false = sym (c.is_at_end.ensures.1 e) ∙ c.loop-alloc-test.true in cc) in
+    let p = some_ahead c.loop-alloc.cursor.lines.ahead (λ e. let never : true ≡ false = sym (c.is_at_end.ensures.1 e) ∙ c.loop-alloc-test.true in cc) in
     look_cost (length (rules_in c.args.rules.now.entries.now)) c.args.steps.now c.loop-alloc.steps c.best.new.steps c.loop-alloc.cursor (lines_at c.args.cursor.now) p c.loop-alloc.invariant.over.kept c.loop-alloc.invariant.lines c.loop-alloc.invariant.cost c.best.ensures.cost
     c.best.ensures.idle
 
 pub returns-in-Some-clause-cost : goal.returns-in-Some-clause-cost
 returns-in-Some-clause-cost g c =
-    let p = some_ahead c.loop-alloc.cursor.ahead.items (λ e. let never : true ≡ false = sym (c.is_at_end.ensures.1 e) ∙ c.loop-alloc-test.true in cc) in
+    let p = some_ahead c.loop-alloc.cursor.lines.ahead (λ e. let never : true ≡ false = sym (c.is_at_end.ensures.1 e) ∙ c.loop-alloc-test.true in cc) in
     look_cost (length (rules_in c.args.rules.now.entries.now)) c.args.steps.now c.loop-alloc.steps c.best.new.steps c.loop-alloc.cursor (lines_at c.args.cursor.now) p c.loop-alloc.invariant.over.kept c.loop-alloc.invariant.lines c.loop-alloc.invariant.cost c.best.ensures.cost
     c.best.ensures.idle
 
 pub returns-in_err-forward-clause-cost : goal.returns-in_err-forward-clause-cost
 returns-in_err-forward-clause-cost g c =
-    let p = some_ahead c.loop-alloc.cursor.ahead.items (λ e. let never : true ≡ false = sym (c.is_at_end.ensures.1 e) ∙ c.loop-alloc-test.true in cc) in
+    let p = some_ahead c.loop-alloc.cursor.lines.ahead (λ e. let never : true ≡ false = sym (c.is_at_end.ensures.1 e) ∙ c.loop-alloc-test.true in cc) in
     look_cost (length (rules_in c.args.rules.now.entries.now)) c.args.steps.now c.loop-alloc.steps c.best.new.steps c.loop-alloc.cursor (lines_at c.args.cursor.now) p c.loop-alloc.invariant.over.kept c.loop-alloc.invariant.lines c.loop-alloc.invariant.cost c.best.ensures.cost
     c.best.ensures.idle
 
 pub loop-alloc-smaller : goal.loop-alloc-smaller
 loop-alloc-smaller g c =
-    let p = some_ahead c.loop-alloc.cursor.ahead.items (λ e. let never : true ≡ false = sym (c.is_at_end.ensures.1 e) ∙ c.loop-alloc-test.true in cc) in
+    let p = some_ahead c.loop-alloc.cursor.lines.ahead (λ e. let never : true ≡ false = sym (c.is_at_end.ensures.1 e) ∙ c.loop-alloc-test.true in cc) in
     let step = c.in_ok-forward.ensures.place p.rest p.piece p.is in
-    let left : c.forward.new.self.ahead.items ≡ p.rest = step.1 in
-    subst (λ (ps : List Lines). length ps < length c.loop-alloc.cursor.ahead.items) (sym left) (one_fewer c.loop-alloc.cursor.ahead.items p.rest p.piece p.is)
+    let left : c.forward.new.self.lines.ahead ≡ p.rest = step.1 in
+    subst (λ (ps : List Lines). length ps < length c.loop-alloc.cursor.lines.ahead) (sym left) (one_fewer c.loop-alloc.cursor.lines.ahead p.rest p.piece p.is)
 
 pub loop-alloc-preserved : goal.loop-alloc-preserved
 loop-alloc-preserved g c =
-    let p = some_ahead c.loop-alloc.cursor.ahead.items (λ e. let never : true ≡ false = sym (c.is_at_end.ensures.1 e) ∙ c.loop-alloc-test.true in cc) in
+    let p = some_ahead c.loop-alloc.cursor.lines.ahead (λ e. let never : true ≡ false = sym (c.is_at_end.ensures.1 e) ∙ c.loop-alloc-test.true in cc) in
     let step = c.in_ok-forward.ensures.place p.rest p.piece p.is in
     let lines : lines_at c.forward.new.self ≡ lines_at c.loop-alloc.cursor = c.in_ok-forward.ensures.lines in
     let none = rw c.in_default.is at c.in_ok-choice.ensures.none in
     let past =
-    none_on c.args.rules.now.base c.args.rules.now.longest (rules_in c.args.rules.now.entries.now) c.loop-alloc.cursor.behind.items c.loop-alloc.cursor.ahead.items p (place_at c.loop-alloc.cursor) (place_at c.forward.new.self) c.requires.ready.fit
+    none_on c.args.rules.now.base c.args.rules.now.longest (rules_in c.args.rules.now.entries.now) c.loop-alloc.cursor.lines.behind c.loop-alloc.cursor.lines.ahead p (place_at c.loop-alloc.cursor) (place_at c.forward.new.self) c.requires.ready.fit
     c.loop-alloc.invariant.over.kept.is.passed step.0 c.loop-alloc.invariant.none none in
     record {
       over = over_moved c.args.rules.now c.args.ground.now c.loop-alloc.cursor c.forward.new.self c.loop-alloc.invariant.over c.in_ok-forward.ensures.is lines c.in_ok-forward.ensures.spots;
       lines = lines ∙ c.loop-alloc.invariant.lines;
       none = subst (λ (ls : List Line). NoneBefore (setting_of c.args.rules.now) ls (place_at c.forward.new.self)) (sym lines) past;
       cost =
-          piece_cost (length (rules_in c.args.rules.now.entries.now)) (place_at c.loop-alloc.cursor) (place_at c.forward.new.self) c.args.steps.now c.loop-alloc.steps c.best.new.steps c.loop-alloc.cursor.ahead.items p step.0 c.loop-alloc.invariant.cost
+          piece_cost (length (rules_in c.args.rules.now.entries.now)) (place_at c.loop-alloc.cursor) (place_at c.forward.new.self) c.args.steps.now c.loop-alloc.steps c.best.new.steps c.loop-alloc.cursor.lines.ahead p step.0 c.loop-alloc.invariant.cost
           c.best.ensures.cost c.best.ensures.idle;
     }
 

@@ -14,4 +14,4 @@ invariant-loop-alloc g l = record {
 }
 
 abbrev pub decreases-loop-alloc : goal.decreases-loop-alloc
-decreases-loop-alloc g l = length l.cursor.ahead.items
+decreases-loop-alloc g l = length l.cursor.lines.ahead

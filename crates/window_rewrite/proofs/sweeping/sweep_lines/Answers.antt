@@ -29,23 +29,23 @@ go_through-requires-clause-over g c =
     }
 
 pub of-requires-clause-once : goal.of-requires-clause-once
-of-requires-clause-once g c = subst DefineOnce (sym c.in_ok-into_lines.ensures) c.in_ok-is_done.ensures.listed.once
+of-requires-clause-once g c = subst DefineOnce (sym c.into_lines.ensures) c.in_ok-is_done.ensures.listed.once
 
 pub returns-clause-completes : goal.returns-clause-completes
 returns-clause-completes g c = λ start before.
     let s : Setting = setting_of c.args.rules.now in
-    let same : c.in_ok-listing.listing ≡ lines_at c.go_through.new.cursor = c.in_ok-listing.ensures ∙ c.in_ok-into_lines.ensures in
+    let same : c.in_ok-listing.listing ≡ lines_at c.go_through.new.cursor = c.in_ok-listing.ensures ∙ c.into_lines.ensures in
     subst (λ (l : List Line). Completes s start c.go_through.new.replacements.items l) (sym same)
     (c.in_ok-is_done.ensures.completes start (subst (λ (l : List Line). Completes s start c.args.replacements.now.items l) (sym c.in_ok-cursor.ensures.lines) before))
 
 pub returns-clause-steady : goal.returns-clause-steady
 returns-clause-steady g c = λ h.
-    let same : c.in_ok-listing.listing ≡ lines_at c.go_through.new.cursor = c.in_ok-listing.ensures ∙ c.in_ok-into_lines.ensures in
+    let same : c.in_ok-listing.listing ≡ lines_at c.go_through.new.cursor = c.in_ok-listing.ensures ∙ c.into_lines.ensures in
     (c.requires.over.aligned h, subst (IsSteady c.args.rules.now.base) (sym same) (c.in_ok-is_done.ensures.steady h))
 
 pub returns-clause-none : goal.returns-clause-none
 returns-clause-none g c = λ done o applies.
-    let same : c.in_ok-listing.listing ≡ lines_at c.go_through.new.cursor = c.in_ok-listing.ensures ∙ c.in_ok-into_lines.ensures in
+    let same : c.in_ok-listing.listing ≡ lines_at c.go_through.new.cursor = c.in_ok-listing.ensures ∙ c.into_lines.ensures in
     c.in_ok-is_done.ensures.none done o (subst (AppliesIn (setting_of c.args.rules.now) o) same applies)
 
 pub returns-clause-cost : goal.returns-clause-cost
