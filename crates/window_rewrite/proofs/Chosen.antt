@@ -39,9 +39,10 @@ use Rattle.line_cursor.proofs.Labels.{op_within}
 use Rattle.line_cursor.proofs.Nearer.{first_op, places_append}
 use Rattle.window_rewrite.specs.declared.choice.Choice.{Choice}
 use Rattle.window_rewrite.specs.Rewriting.{setting}
-use Rattle.window_rewrite.specs.Rules.{rules_in, is_shorter, AreFit, codes_of, first_with}
+use Rattle.window_rewrite.specs.Rules.{rules_in, is_shorter, AreFit, first_with}
+use Rattle.window_rewrite.specs.Shapes.{shape_of}
 use Rattle.window_rewrite.specs.Fitting.{Shortens}
-use Rattle.window_rewrite.specs.Choices.{Awaits, Begins, choice_of, IsChoice, IsLowest, NoneOf, IsBest, NoneAt, NoneBefore, IsFirstChoice, of_length, longer}
+use Rattle.window_rewrite.specs.Choices.{Awaits, choice_of, IsChoice, IsLowest, NoneOf, IsBest, NoneAt, NoneBefore, IsFirstChoice, of_length, longer}
 use Rattle.window_rewrite.specs.Sweeps.{IsKept}
 use Rattle.window_rewrite.proofs.Applied.{made, back}
 use Rattle.window_rewrite.proofs.Keys.{awaited, none_awaited}
@@ -72,15 +73,14 @@ taken_all c [] (suc k) = omega arith
 taken_all c (r ∷ rs) zero = omega arith
 taken_all c (r ∷ rs) (suc k) = let t = taken_all c rs k in omega arith
 
-taken_one : (c : ℕ) (rules : List Rule) (n : ℕ) (rule : Rule) → slice_get rules n ≡ Some rule → length rule.left ≡ c → of_length c (take n rules) + 1 ≤ of_length c (take (suc n) rules)
+taken_one : (c : ℕ) (rules : List Rule) (n : ℕ) (rule : Rule) → slice_get rules n ≡ Some rule → of_length c (take n rules) + from_bool (length rule.left == c) ≤ of_length c (take (suc n) rules)
 unfolding of_length
-taken_one c [] n rule e l = absurd (cc)
-taken_one c (r ∷ rs) zero rule e l =
+taken_one c [] n rule e = absurd (cc)
+taken_one c (r ∷ rs) zero rule e =
     let same : r ≡ rule = cc in
-    let long : length r.left ≡ c = ap (λ (x : Rule). length x.left) same ∙ l in
-    let one : from_bool (length r.left == c) ≡ 1 = ap from_bool (eq-eqb (length r.left) c long) in
+    let one : from_bool (length r.left == c) ≡ from_bool (length rule.left == c) = ap (λ (x : Rule). from_bool (length x.left == c)) same in
     omega (arith, one)
-taken_one c (r ∷ rs) (suc n) rule e l = let t = taken_one c rs n rule e l in omega arith
+taken_one c (r ∷ rs) (suc n) rule e = let t = taken_one c rs n rule e in omega arith
 
 longer_split : (m : ℕ) (rules : List Rule) → longer (suc m) rules + of_length (suc m) rules ≡ longer m rules
 unfolding of_length longer
@@ -161,13 +161,8 @@ pub record IsSearch (base : ℕ) (rules : List Rule) (lines : List Line) (place 
   pub cost : steps ≤ start + of_length (length window) (take k rules)
 
 pub search_begins : (base : ℕ) (rules : List Rule) (lines : List Line) (place : ℕ) (window : List Instr) (live : ℕ) (at : Option ℕ) (start : ℕ) → StandsThere lines (spot_of place (length window)) window live
-    → Begins rules window at → IsSearch base rules lines place window at start start
-search_begins base rules lines place window live at start there b = record {
-  k = b.k;
-  awaits = b.awaits;
-  none = λ o a e l h. let s = stands_in base rules lines place window live o there a e l in b.passed o.entry s.rule o.registers h s.at s.shortens;
-  cost = omega arith;
-}
+    → Awaits rules window 0 at → IsSearch base rules lines place window at start start
+search_begins base rules lines place window live at start there awaits = record { k = 0; awaits = awaits; none = λ o a e l h. absurd (omega arith); cost = omega arith }
 
 -- none applies below the next rule
 none_before : (base : ℕ) (rules : List Rule) (lines : List Line) (place : ℕ) (window : List Instr) (live n : ℕ) (at : Option ℕ) (start steps : ℕ) → StandsThere lines (spot_of place (length window)) window live
@@ -184,13 +179,14 @@ none_before base rules lines place window live n at start steps there s is o a e
 
 pub search_next : (base : ℕ) (rules : List Rule) (lines : List Line) (place : ℕ) (window : List Instr) (live n : ℕ) (at next : Option ℕ) (start steps after : ℕ) → StandsThere lines (spot_of place (length window)) window live
     → IsSearch base rules lines place window at start steps → at ≡ Some n
-    → ((registers : List Low) → AppliesIn (setting base rules) (made place n registers) lines → ⊥)
-    → ((rule : Rule) → slice_get rules n ≡ Some rule → is_shorter rule ≡ true → next ≡ first_with (codes_of rule.left) (n + 1) (drop (n + 1) rules)) → after ≤ steps + 1
+    → (left_length rules n ≡ length window → (registers : List Low) → AppliesIn (setting base rules) (made place n registers) lines → ⊥)
+    → ((rule : Rule) → slice_get rules n ≡ Some rule → is_shorter rule ≡ true → next ≡ first_with (shape_of rule.left) (n + 1) (drop (n + 1) rules)) → after ≤ steps + from_bool (left_length rules n == length window)
     → IsSearch base rules lines place window next start after
 search_next base rules lines place window live n at next start steps after there s is none more cost =
     let i = awaited rules window s.k n at s.awaits is in
-    let one : of_length (length window) (take n rules) + 1 ≤ of_length (length window) (take (suc n) rules) = taken_one (length window) rules n i.rule i.at i.long in
+    let one : of_length (length window) (take n rules) + from_bool (length i.rule.left == length window) ≤ of_length (length window) (take (suc n) rules) = taken_one (length window) rules n i.rule i.at in
     let before : of_length (length window) (take s.k rules) ≤ of_length (length window) (take n rules) = taken_more (length window) rules s.k n i.from in
+    let tried : from_bool (left_length rules n == length window) ≡ from_bool (length i.rule.left == length window) = ap (λ m. from_bool (m == length window)) (length_at rules n i.rule i.at) in
     let here = s.cost in
     record {
       k = n + 1;
@@ -199,10 +195,10 @@ search_next base rules lines place window live n at next start steps after there
         | inl b ↦ none_before base rules lines place window live n at start steps there s is o a e l b
         | inr b ↦ (
             let same : o.entry ≡ n = omega arith in
-            none o.registers (subst (λ m. AppliesIn (setting base rules) (made place m o.registers) lines) same (subst (λ p. AppliesIn (setting base rules) (made p o.entry o.registers) lines) e a))
+            none (ap (left_length rules) (sym same) ∙ l) o.registers (subst (λ m. AppliesIn (setting base rules) (made place m o.registers) lines) same (subst (λ p. AppliesIn (setting base rules) (made p o.entry o.registers) lines) e a))
             )
       ];
-      cost = subst (λ m. after ≤ start + of_length (length window) (take m rules)) (let e : suc n ≡ n + 1 = omega arith in e) (omega arith);
+      cost = subst (λ m. after ≤ start + of_length (length window) (take m rules)) (let e : suc n ≡ n + 1 = omega arith in e) (omega (arith, one, before, tried, here, cost));
     }
 
 -- how far the search is from its end
@@ -227,13 +223,12 @@ search_smaller base rules lines place window n at next start steps s is k h a =
 
 pub search_found : (base : ℕ) (rules : List Rule) (lines : List Line) (place : ℕ) (window : List Instr) (live n : ℕ) (at : Option ℕ) (start steps : ℕ) (c : Choice) → StandsThere lines (spot_of place (length window)) window live
     → IsSearch base rules lines place window at start steps → at ≡ Some n
-    → IsChoice (setting base rules) lines c → (choice_of c).place ≡ place → (choice_of c).entry ≡ n → IsLowest (setting base rules) lines place (length window) c
-search_found base rules lines place window live n at start steps c there s is choice here entry =
-    let i = awaited rules window s.k n at s.awaits is in
+    → left_length rules n ≡ length window → IsChoice (setting base rules) lines c → (choice_of c).place ≡ place → (choice_of c).entry ≡ n → IsLowest (setting base rules) lines place (length window) c
+search_found base rules lines place window live n at start steps c there s is long choice here entry =
     record {
       is = choice;
       at = here;
-      long = ap (left_length rules) entry ∙ length_at rules n i.rule i.at ∙ i.long;
+      long = ap (left_length rules) entry ∙ long;
       lowest = λ o a e l. elim (cases_lt o.entry n) [
         | inl b ↦ absurd (none_before base rules lines place window live n at start steps there s is o a e l b)
         | inr b ↦ omega arith
@@ -241,14 +236,15 @@ search_found base rules lines place window live n at start steps c there s is ch
     }
 
 pub search_cost : (base : ℕ) (rules : List Rule) (lines : List Line) (place : ℕ) (window : List Instr) (n : ℕ) (at : Option ℕ) (start steps after : ℕ) → IsSearch base rules lines place window at start steps → at ≡ Some n
-    → after ≤ steps + 1 → after ≤ start + of_length (length window) rules
+    → after ≤ steps + from_bool (left_length rules n == length window) → after ≤ start + of_length (length window) rules
 search_cost base rules lines place window n at start steps after s is cost =
     let i = awaited rules window s.k n at s.awaits is in
-    let one : of_length (length window) (take n rules) + 1 ≤ of_length (length window) (take (suc n) rules) = taken_one (length window) rules n i.rule i.at i.long in
+    let one : of_length (length window) (take n rules) + from_bool (length i.rule.left == length window) ≤ of_length (length window) (take (suc n) rules) = taken_one (length window) rules n i.rule i.at in
     let before : of_length (length window) (take s.k rules) ≤ of_length (length window) (take n rules) = taken_more (length window) rules s.k n i.from in
     let all : of_length (length window) (take (suc n) rules) ≤ of_length (length window) rules = taken_all (length window) rules (suc n) in
+    let tried : from_bool (left_length rules n == length window) ≡ from_bool (length i.rule.left == length window) = ap (λ m. from_bool (m == length window)) (length_at rules n i.rule i.at) in
     let here = s.cost in
-    omega arith
+    omega (arith, one, before, all, tried, here, cost)
 
 pub search_none : (base : ℕ) (rules : List Rule) (lines : List Line) (place : ℕ) (window : List Instr) (live : ℕ) (at : Option ℕ) (start steps : ℕ) → StandsThere lines (spot_of place (length window)) window live
     → IsSearch base rules lines place window at start steps → at ≡ None → NoneOf (setting base rules) lines place (length window)
@@ -264,9 +260,6 @@ pub next_within : (entries : List Entry) (window : List Instr) (k n : ℕ) (o : 
 next_within entries window k n o a e =
     let i = awaited (rules_in entries) window k n o a e in
     omega (arith, slice_get_within (rules_in entries) n i.rule i.at, length_map rewriting_rule (map rule_of entries), length_map rule_of entries)
-
-pub next_long : (rules : List Rule) (window : List Instr) (k n : ℕ) (o : Option ℕ) → Awaits rules window k o → o ≡ Some n → left_length rules n ≡ length window
-next_long rules window k n o a e = let i = awaited rules window k n o a e in length_at rules n i.rule i.at ∙ i.long
 
 -- ---- the best entry of a place ----
 

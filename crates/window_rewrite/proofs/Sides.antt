@@ -1,5 +1,5 @@
--- A canonical left side is the canonical form of each window that it stands in.
-use Rattle.std.proofs.Common.{◌≡◌, ℕ, zero, suc, ◌<◌, ◌==◌, ◌||◌, true, false, List, [], ◌∷◌, ◌++◌, length, map, drop, Option, Some, refl, sym, ap, ◌∙◌, subst, arith, cond, inl, inr, eqb-true, eq-eqb}
+-- A canonical left side stands in a window under one map at most.
+use Rattle.std.proofs.Common.{◌≡◌, ℕ, zero, suc, ◌<◌, ◌==◌, ◌||◌, true, false, List, [], ◌∷◌, ◌++◌, length, map, drop, Some, refl, sym, ap, ◌∙◌, subst, arith, cond, inl, inr, eqb-true, eq-eqb}
 use Rattle.std.specs.Prelude.{slice_get}
 use Rattle.std.specs.List.{flat_map, list_all}
 use Rattle.std.proofs.lemmas.Bool.{and_parts, cases_Bool}
@@ -11,10 +11,9 @@ use Rattle.thumb_instr.proofs.Registers.{low_is}
 use Rattle.thumb_instr.proofs.RenamingLemmas.{named_renamed}
 use Rattle.thumb_model.specs.Rewrite.{Rule, AreOver, IsOneToOne, IsSoundRule, register_count, normalised}
 use Rattle.seq_enum.specs.Lists.{numbers_from}
-use Rattle.rule_table.specs.Canonical.{has, with_first, firsts, numbers_of, appearing, masked, IsRenamable, IsCanonical}
+use Rattle.rule_table.specs.Canonical.{has, with_first, firsts, numbers_of, appearing}
 use Rattle.table_audit.specs.Sides.{IsCanonicalSide, named_count}
 use Rattle.table_audit.proofs.Names.{count_same}
-use Rattle.window_harvest.proofs.Once.{canonical_once}
 use Rattle.window_rewrite.specs.Fitting.{Stands}
 
 -- ---- names ----
@@ -132,31 +131,6 @@ order rule registers window s c h =
 
 pub window_count : (rule : Rule) (registers : List Low) (window : List Instr) → Stands rule registers window → length window ≡ length rule.left
 window_count rule registers window h = sym (length-map window normalised) ∙ ap (λ (is : List Instr). length is) h.matches ∙ length-map rule.left (renamed registers)
-
-pub renamable : (rule : Rule) (registers : List Low) (window : List Instr) → IsSoundRule rule → IsCanonicalSide rule.left → Stands rule registers window → list_all is_in_window window ≡ true → IsRenamable window
-renamable rule registers window s c h w =
-    let n = window_count rule registers window h in
-    let o = order rule registers window s c h in
-    record {
-      some = omega (arith, n, c.renamable.some);
-      few = omega (arith, n, c.renamable.few);
-      windows = w;
-      registers = omega (arith, ap (λ (xs : List ℕ). length xs) o, length-map registers (λ (r : Low). r.number), h.as_many, s.few);
-    }
-
-pub side_is : (rule : Rule) (registers : List Low) (window : List Instr) (items : ℕ) (seq : List Instr) (given : List (Option Low)) (mask : ℕ) → IsSoundRule rule → IsCanonicalSide rule.left → Stands rule registers window
-    → IsRenamable window → IsCanonical window items seq given mask → seq ≡ rule.left
-side_is rule registers window items seq given mask s c h r a =
-    let o = order rule registers window s c h in
-    let own : IsCanonical window items rule.left (map Some registers) mask = record {
-      registers = registers;
-      is_given = refl;
-      order = o;
-      under = sym h.matches;
-      below = subst (λ k. AreBelow k (flat_map named rule.left)) (sym h.as_many) (names_below (register_count rule.left) rule.left s.left);
-      masks = λ x. a.masks x ∙ ap (λ ns. masked items ns x) (a.order ∙ sym o);
-    } in
-    (canonical_once window items seq rule.left given (map Some registers) mask mask r.windows r.registers a own).0
 
 same_numbers : (f g : List Low) → numbers_of f ≡ numbers_of g → f ≡ g
 same_numbers [] [] e = refl

@@ -10,7 +10,8 @@ use Rattle.thumb_model.specs.Rewritten.{Setting, Replacement, AppliesIn, IsFirst
 use Rattle.window_rewrite.specs.declared.choice.Choice.{Choice}
 use Rattle.window_rewrite.specs.declared.finding.Rules.{Rules}
 use Rattle.window_rewrite.specs.Rewriting.{setting, replacement_of, IsWhole}
-use Rattle.window_rewrite.specs.Rules.{rules_in, codes_of, first_with, AreFit, IsIndex}
+use Rattle.window_rewrite.specs.Rules.{rules_in, first_with, AreFit, IsIndex}
+use Rattle.window_rewrite.specs.Shapes.{shape_of}
 use Rattle.window_rewrite.specs.Fitting.{Shortens}
 
 -- the table of a finder, whose index is that of its entries
@@ -22,22 +23,15 @@ pub record AreReady (r : Rules) : Type 0 where
   pub fit : AreFit r.longest (rules_in r.entries.now)
   pub index : IsIndex (rules_in r.entries.now) r.index.now
 
--- the codes of each left side that may give way in the window are these
-abbrev pub AreCodes : List Rule → List Instr → List ℕ → Type 0
-AreCodes rules window codes = (k : ℕ) (rule : Rule) (registers : List Low) → slice_get rules k ≡ Some rule → Shortens rule registers window → codes_of rule.left ≡ codes
+-- each left side that may give way in the window has this number
+abbrev pub HaveShape : List Rule → List Instr → ℕ → Type 0
+HaveShape rules window shape = (k : ℕ) (rule : Rule) (registers : List Low) → slice_get rules k ≡ Some rule → Shortens rule registers window → shape_of rule.left ≡ shape
 
 -- of the rules from the k-th on, the next one whose left side may stand in the window is this
 pub record Awaits (rules : List Rule) (window : List Instr) (k : ℕ) (next : Option ℕ) : Type 0 where
-  pub codes : List ℕ
-  pub are : AreCodes rules window codes
-  pub long : length codes ≡ length window
-  pub is : next ≡ first_with codes k (drop k rules)
-
--- the first one whose left side may stand in the window
-pub record Begins (rules : List Rule) (window : List Instr) (next : Option ℕ) : Type 0 where
-  pub k : ℕ
-  pub passed : (j : ℕ) (rule : Rule) (registers : List Low) → j < k → slice_get rules j ≡ Some rule → Shortens rule registers window → ⊥
-  pub awaits : Awaits rules window k next
+  pub shape : ℕ
+  pub have : HaveShape rules window shape
+  pub is : next ≡ first_with shape k (drop k rules)
 
 -- ---- choices ----
 

@@ -1,4 +1,5 @@
 pub mod Rewriting
+pub mod Shapes
 pub mod Rules
 pub mod Fitting
 pub mod Choices

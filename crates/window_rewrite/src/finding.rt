@@ -1,8 +1,8 @@
 //! The next replacement that can be made.
-ghost use Rattle.std.specs.Prelude.{◌≡◌, ◌+◌, ◌*◌, ◌^◌, ◌<◌, ◌≤◌, ◌↔◌, ◌⊎◌, ◌∷◌, [], ◌++◌, ℕ, List, length, drop, take, slice_get, true, false, Some, IfOk, OnOk, IfSome, IfNone};
+ghost use Rattle.std.specs.Prelude.{◌≡◌, ◌+◌, ◌*◌, ◌^◌, ◌<◌, ◌≤◌, ◌↔◌, ◌⊎◌, ◌∷◌, [], ◌++◌, ℕ, List, length, drop, take, slice_get, true, false, ◌==◌, Some, IfOk, OnOk, IfSome, IfNone, OnSome};
+ghost use Rattle.std.specs.Int.{from_bool};
 ghost use Rattle.std.specs.List.{list_all};
 ghost use Rattle.thumb_instr.specs.Renaming.{Low};
-ghost use Rattle.thumb_instr.specs.Window.{is_in_window};
 ghost use Rattle.thumb_model.specs.Layout.{Layable};
 ghost use Rattle.thumb_model.specs.Listing.{labels_from, places_of, Label};
 ghost use Rattle.thumb_model.specs.Rewrite.{Rule};
@@ -15,15 +15,16 @@ ghost use Rattle.thumb_model.proofs.LinesReplaced.{AreOps};
 ghost use Rattle.window_harvest.specs.Harvest.{spot_of, StandsThere};
 ghost use Rattle.window_rewrite.specs.Fitting.{Shortens};
 ghost use Rattle.window_rewrite.specs.Rules.{rules_in};
-ghost use Rattle.window_rewrite.specs.Choices.{setting_of, choice_of, of_length, AreReady, Begins, IsBest, IsChoice, IsFirstChoice, IsLowest, NoneAt, NoneBefore, NoneOf};
+ghost use Rattle.window_rewrite.specs.Choices.{setting_of, choice_of, of_length, AreReady, Awaits, IsBest, IsChoice, IsFirstChoice, IsLowest, NoneAt, NoneBefore, NoneOf};
 ghost use Rattle.window_rewrite.specs.Sweeps.{is_steady, IsOver};
 
 use crate::choice::{Choice, Replacement};
-use crate::fitting::{fitting, side_of};
+use crate::fitting::fitting;
 use crate::ground::Ground;
-use crate::index::{Index, next_shape};
+use crate::index::Index;
 use crate::items::registers_of;
 use crate::replacing::{is_layable, renamed_all};
+use crate::shapes::{next_shape, shape_of};
 use line_cursor::Cursor;
 use listing_parser::Memory;
 use rule_table::Entry;
@@ -138,6 +139,35 @@ fn try_entry<L: Ledger>(
     }))
 }
 
+/// What the entry of a number makes of a window behind the cursor, after which these items are live, where its left side is as long.
+fn try_as_long<L: Ledger>(
+    alloc: Global,
+    rules: &Rules<'_>,
+    ground: &Ground<'_>,
+    cursor: &Cursor,
+    window: &[Instr],
+    live: Items,
+    number: usize,
+    steps: &mut Steps<L>,
+) -> Result<Option<Choice>, Memory>
+    requires ready { AreReady rules.now }
+    requires over { IsOver rules.now ground.now cursor.now }
+    requires some { 0 < length cursor.now.lines.ahead }
+    requires first { (rest : List Lines) (x : Lines) → cursor.now.lines.ahead ≡ rest ++ x ∷ [] → begins_op (lines_in x) ≡ true }
+    requires stands { StandsThere (lines_at cursor.now) (spot_of (place_at cursor.now) (length window.now)) window.now live.bits }
+    requires number { number < length rules.now.entries.now }
+    ensures long { IfOk result (λ o. OnSome o (left_length (rules_in rules.now.entries.now) number ≡ length window.now)) }
+    ensures some { IfOk result (λ o. IfSome o (λ c. IsChoice (setting_of rules.now) (lines_at cursor.now) c × ((choice_of c).place ≡ place_at cursor.now) × ((choice_of c).entry ≡ number))) }
+    ensures none { IfOk result (λ o. IfNone o (left_length (rules_in rules.now.entries.now) number ≡ length window.now → (registers : List Low) → AppliesIn (setting_of rules.now) (record { place = place_at cursor.now; entry = number; registers = registers }) (lines_at cursor.now) → ⊥)) }
+    ensures cost { steps.new ≤ steps.old + from_bool (left_length (rules_in rules.now.entries.now) number == length window.now) }
+{
+    if rules.entries[number].left.len() == window.len() {
+        try_entry(alloc, rules, ground, cursor, window, live, number, steps)
+    } else {
+        Ok(None)
+    }
+}
+
 /// With how many of its instructions a run may begin some left side, but for registers. No entry that leaves fewer instructions has a longer left side that
 /// stands first in the run.
 fn reach(rules: &Rules<'_>, run: &[Instr]) -> usize
@@ -157,17 +187,10 @@ fn reach(rules: &Rules<'_>, run: &[Instr]) -> usize
 
 /// The first entry that leaves fewer instructions and whose left side may stand in a window.
 fn first_number(rules: &Rules<'_>, window: &[Instr]) -> Option<usize>
-    requires ready { AreReady rules.now }
-    requires windows { list_all is_in_window window.now ≡ true }
-    ensures { Begins (rules_in rules.now.entries.now) window.now result }
+    requires { AreReady rules.now }
+    ensures { Awaits (rules_in rules.now.entries.now) window.now 0 result }
 {
-    if !rules.index.has_whole(window) {
-        return None;
-    }
-    match side_of(window) {
-        None => None,
-        Some(side) => rules.index.first(side.as_slice(), rules.entries),
-    }
+    rules.index.first(shape_of(window), rules.entries)
 }
 
 /// The lowest entry that applies to a window behind the cursor, after which these items are live.
@@ -191,7 +214,7 @@ fn lowest<L: Ledger>(
 {
     let mut at = first_number(rules, window);
     while let Some(number) = at {
-        if let Some(choice) = try_entry(
+        if let Some(choice) = try_as_long(
             alloc, rules, ground, cursor, window, live, number, steps,
         )? {
             return Ok(Some(choice));

@@ -2,7 +2,7 @@
 //!
 //! In turn, at the least place where some entry of the table applies, its left side is replaced: of those that apply there the one with the longest left
 //! side, and of these the lowest. What may be replaced is decided by the items that are live, by the labels and by the layout that would come of it. A place
-//! is compared with few entries: those whose left side is the canonical form of a window there, found by its code.
+//! is compared with few entries: those whose left sides have a number that is the same for all windows that differ in registers alone.
 //!
 //! A sweep goes over the listing by a cursor that keeps the live items of all places. Where items are live no more in straight code before a replacement, it
 //! puts in the new sets; where more come to be live, it carries them back along all ways. It goes back from there no further than a window can reach. It ends
@@ -20,6 +20,7 @@ mod items;
 mod making;
 mod replacing;
 mod rewriting;
+mod shapes;
 mod sweeping;
 
 pub use choice::{Replacement, Rewritten};

@@ -2,25 +2,23 @@ use Rattle.std.proofs.Common.{◌+◌, arith}
 use Rattle.line_cursor.specs.Cursors.{lines_at, place_at}
 use Rattle.window_rewrite.specs.Rules.{rules_in}
 use Rattle.window_rewrite.proofs.Keys.{awaited}
-use Rattle.window_rewrite.proofs.Chosen.{search_begins, search_next, search_smaller, search_found, search_cost, search_none, none_cost, next_within, next_long}
+use Rattle.window_rewrite.proofs.Chosen.{search_begins, search_next, search_smaller, search_found, search_cost, search_none, none_cost, next_within}
 use Rattle.window_rewrite.proofs.finding.lowest.Goals as goal
 
 pub loop-at-init : goal.loop-at-init
 loop-at-init g c = search_begins c.args.rules.now.base (rules_in c.args.rules.now.entries.now) (lines_at c.args.cursor.now) (place_at c.args.cursor.now) c.args.window.now c.args.live.bits c.first_number-at.result _ c.requires.stands c.first_number-at.ensures
 
-pub try_entry-requires-clause-number : goal.try_entry-requires-clause-number
-try_entry-requires-clause-number g c = next_within c.args.rules.now.entries.now c.args.window.now c.loop-at.invariant.k c.in-Some.number c.loop-at.at c.loop-at.invariant.awaits c.in-Some.is
-
-pub try_entry-requires-clause-long : goal.try_entry-requires-clause-long
-try_entry-requires-clause-long g c = next_long (rules_in c.args.rules.now.entries.now) c.args.window.now c.loop-at.invariant.k c.in-Some.number c.loop-at.at c.loop-at.invariant.awaits c.in-Some.is
+pub try_as_long-requires-clause-number : goal.try_as_long-requires-clause-number
+try_as_long-requires-clause-number g c = next_within c.args.rules.now.entries.now c.args.window.now c.loop-at.invariant.k c.in-Some.number c.loop-at.at c.loop-at.invariant.awaits c.in-Some.is
 
 pub returns-in_err-choice-clause-cost : goal.returns-in_err-choice-clause-cost
-returns-in_err-choice-clause-cost g c = search_cost c.args.rules.now.base (rules_in c.args.rules.now.entries.now) (lines_at c.args.cursor.now) (place_at c.args.cursor.now) c.args.window.now c.in-Some.number c.loop-at.at _ _ _ c.loop-at.invariant c.in-Some.is c.try_entry.ensures.cost
+returns-in_err-choice-clause-cost g c = search_cost c.args.rules.now.base (rules_in c.args.rules.now.entries.now) (lines_at c.args.cursor.now) (place_at c.args.cursor.now) c.args.window.now c.in-Some.number c.loop-at.at _ _ _ c.loop-at.invariant c.in-Some.is c.try_as_long.ensures.cost
 
 pub returns-in-Some-2-clause-some : goal.returns-in-Some-2-clause-some
 returns-in-Some-2-clause-some g c =
     let choice = rw c.in-Some-2.is at c.in_ok-choice.ensures.some in
-    search_found c.args.rules.now.base (rules_in c.args.rules.now.entries.now) (lines_at c.args.cursor.now) (place_at c.args.cursor.now) c.args.window.now c.args.live.bits c.in-Some.number c.loop-at.at _ _ c.in-Some-2.choice c.requires.stands c.loop-at.invariant c.in-Some.is choice.0 choice.1 choice.2
+    let long = rw c.in-Some-2.is at c.in_ok-choice.ensures.long in
+    search_found c.args.rules.now.base (rules_in c.args.rules.now.entries.now) (lines_at c.args.cursor.now) (place_at c.args.cursor.now) c.args.window.now c.args.live.bits c.in-Some.number c.loop-at.at _ _ c.in-Some-2.choice c.requires.stands c.loop-at.invariant c.in-Some.is long choice.0 choice.1 choice.2
 
 pub returns-in-Some-2-clause-cost : goal.returns-in-Some-2-clause-cost
 returns-in-Some-2-clause-cost g c = search_cost c.args.rules.now.base (rules_in c.args.rules.now.entries.now) (lines_at c.args.cursor.now) (place_at c.args.cursor.now) c.args.window.now c.in-Some.number c.loop-at.at _ _ _ c.loop-at.invariant c.in-Some.is c.in_ok-choice.ensures.cost

@@ -2,7 +2,7 @@ use Rattle.std.proofs.Common.{◌≡◌, ◌∙◌, ℕ, ◌+◌, ◌<◌, ◌�
 use Rattle.std.specs.Prelude.{slice_get, not, is_some}
 use Rattle.std.proofs.lemmas.Result.{IfOk-weaker}
 use Rattle.thumb_model.specs.Layout.{Layable}
-use Rattle.thumb_model.specs.Listing.{Line, Place, Label, labels_from, places_of, is_op_place}
+use Rattle.thumb_model.specs.Listing.{Line, Label, labels_from, places_of, is_op_place}
 use Rattle.thumb_model.specs.Rewritten.{are_joined_from, replaced_lines}
 use Rattle.listing_parser.specs.Replacing.{own_line}
 use Rattle.line_cursor.specs.Cursors.{lines_at, place_at}

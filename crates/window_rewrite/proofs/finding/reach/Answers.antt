@@ -4,7 +4,8 @@ use Rattle.std.specs.Option.{option_map}
 use Rattle.std.proofs.lemmas.Option.{slice_get_read, slice_get-map}
 use Rattle.thumb_instr.specs.declared.instr.Instr.{Instr}
 use Rattle.thumb_instr.specs.Window.{normal_of}
-use Rattle.window_rewrite.specs.Rules.{rules_in, is_marked, next_shape, shape_of}
+use Rattle.window_rewrite.specs.Rules.{rules_in, is_marked}
+use Rattle.window_rewrite.specs.Shapes.{next_shape, shape_of}
 use Rattle.window_rewrite.proofs.Heads.{front_more, unreached}
 use Rattle.window_rewrite.proofs.finding.reach.Goals as goal
 
@@ -16,7 +17,7 @@ returns-then-not-has_front-clause-none c = λ n k rule registers longer at s.
     let shape : c.next_shape-shape.result ≡ shape_of (take (c.loop-at.at + 1) (map normal_of run)) =
     c.next_shape-shape.ensures.value ∙ ap (next_shape c.loop-at.shape) c.normal.ensures ∙ front_more c.loop-at.shape c.loop-at.at (map normal_of run) (normal_of c.index-run-at.result) there c.loop-at.invariant.shape in
     let missing : is_marked c.args.rules.now.index.now.fronts.items c.next_shape-shape.result ≡ false = sym c.has_front.ensures ∙ c.if-not-has_front.true in
-    unreached (rules_in c.args.rules.now.entries.now) c.args.rules.now.index.now run c.loop-at.at c.next_shape-shape.result c.requires.ready.index shape missing n k rule registers (c.requires.ready.fit k rule at).sound longer at s
+    unreached (rules_in c.args.rules.now.entries.now) c.args.rules.now.index.now run c.loop-at.at c.next_shape-shape.result c.requires.ready.index shape missing n k rule registers longer at s
 
 pub loop-at-preserved : goal.loop-at-preserved
 loop-at-preserved c =

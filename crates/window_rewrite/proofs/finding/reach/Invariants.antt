@@ -1,6 +1,6 @@
 use Rattle.std.proofs.Common.{◌≡◌, ◌<◌, ◌≤◌, length, map, take}
 use Rattle.thumb_instr.specs.Window.{normal_of}
-use Rattle.window_rewrite.specs.Rules.{shape_of}
+use Rattle.window_rewrite.specs.Shapes.{shape_of}
 use Rattle.window_rewrite.proofs.finding.reach.Given as goal
 
 abbrev pub invariant-loop-at : goal.invariant-loop-at

@@ -1,4 +1,4 @@
-use Rattle.std.proofs.Common.{◌≡◌, ℕ, ◌+◌, ◌*◌, ◌≤◌, List, length, map, sym, ap, ◌∙◌, subst, arith}
+use Rattle.std.proofs.Common.{◌≡◌, ℕ, ◌+◌, ◌*◌, ◌≤◌, List, length, map, sym, ◌∙◌, subst}
 use Rattle.std.specs.Int.{from_bool}
 use Rattle.thumb_model.specs.Listing.{Line, code_of, places_of}
 use Rattle.thumb_model.specs.Rewritten.{Setting, AppliesIn}

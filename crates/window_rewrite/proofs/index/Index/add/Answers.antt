@@ -1,12 +1,10 @@
-use Rattle.std.proofs.Common.{◌≡◌, ◌∙◌, Bool, true, ℕ, List, length, Option, Some, slice_index_or, ap, refl, sym, subst}
-use Rattle.std.specs.Prelude.{slice_get, slice_set, nat_eq}
-use Rattle.std.specs.Cmp.Lexicographic.{pointwise}
-use Rattle.std.specs.Map.{lookup}
+use Rattle.std.proofs.Common.{◌≡◌, ◌∙◌, ◌<◌, ℕ, List, Option, Some, length, slice_index_or, ap, arith, refl, subst}
+use Rattle.std.specs.Prelude.{slice_get, slice_set}
 use Rattle.std.proofs.lemmas.Option.{slice_get_read}
-use Rattle.indexmap.specs.IndexMap.{insert_entry}
 use Rattle.rule_table.specs.declared.table.Entry.{Entry}
 use Rattle.thumb_instr.specs.declared.instr.Instr.{Instr}
-use Rattle.window_rewrite.specs.Rules.{rules_in, codes_of, is_key, is_marked, entry_rule, shape_of, AreMarked}
+use Rattle.window_rewrite.specs.Rules.{rules_in, entry_rule, AreMarked}
+use Rattle.window_rewrite.specs.Shapes.{shape_of}
 use Rattle.window_rewrite.proofs.Accepted.{entry_at}
 use Rattle.window_rewrite.proofs.Heads.{more_index}
 use Rattle.window_rewrite.proofs.index.Index.add.Goals as goal
@@ -18,15 +16,17 @@ returns c =
     let e : Entry = slice_index_or entries n c.index-entries-number.result in
     let at : slice_get entries n ≡ Some e = slice_get_read entries _ _ c.index-entries-number.result refl c.requires.number c.index-entries-number.is ∙ ap Some c.index-entries-number.is in
     let rule : slice_get (rules_in entries) n ≡ Some (entry_rule e) = entry_at entries n e at in
-    let left : c.as_slice-left.result.now ≡ e.left = c.as_slice-left.ensures.value in
-    let key : c.in_ok-key.key.items ≡ codes_of e.left = c.in_ok-key.ensures.items_if_clones_equal (λ y e h. h) ∙ c.as_slice.ensures.value ∙ c.codes_of-codes.ensures ∙ ap codes_of left in
-    more_index (rules_in entries) n (entry_rule e) c.args.self.now _ c.in_ok-key.key c.in_ok-self.field-0 rule (c.requires.shorter (entry_rule e) rule) c.requires.index key
-    (c.in_ok-self.ensures.entries ∙ ap (λ es. insert_entry (λ x y. pointwise nat_eq x.items y.items) es c.in_ok-key.key n) (c.mark_whole.ensures.firsts ∙ c.mark_fronts-shape.ensures.firsts))
-    (c.in_ok-self.ensures.old ∙ ap (lookup (is_key c.in_ok-key.key.items)) (c.mark_whole.ensures.firsts ∙ c.mark_fronts-shape.ensures.firsts))
-    (ap (λ (l : List (Option ℕ)). slice_set l n c.in_ok-self.field-0) (c.mark_whole.ensures.nexts ∙ c.mark_fronts-shape.ensures.nexts))
-    (ap (λ (bs : List Bool). length bs) c.mark_whole.ensures.fronts ∙ c.mark_fronts-shape.ensures.many)
-    (λ q h. subst (λ bs. is_marked bs q ≡ true) (sym c.mark_whole.ensures.fronts) (c.mark_fronts-shape.ensures.kept q h))
-    (subst (λ bs. AreMarked bs e.left (length e.left)) (sym c.mark_whole.ensures.fronts) (subst (λ (l : List Instr). AreMarked c.mark_fronts-shape.new.self.fronts.items l (length l)) left c.mark_fronts-shape.ensures.fronts))
-    c.mark_whole.ensures.many
-    (λ q h. c.mark_whole.ensures.kept q (subst (λ bs. is_marked bs q ≡ true) (sym c.mark_fronts-shape.ensures.wholes) h))
-    (ap (is_marked c.mark_whole.new.self.wholes.items) (sym (c.mark_fronts-shape.ensures.shape ∙ ap shape_of left)) ∙ c.mark_whole.ensures.here)
+    let left : c.as_slice.result.now ≡ e.left = c.as_slice.ensures.value in
+    let shape : c.mark_fronts-shape.result ≡ shape_of e.left = c.mark_fronts-shape.ensures.shape ∙ ap shape_of left in
+    let small : shape_of e.left < 65536 = subst (λ m. m < 65536) shape c.mark_fronts-shape.ensures.small in
+    let many : length c.mark_fronts-shape.new.self.firsts.items ≡ 65536 = ap (λ (l : List (Option ℕ)). length l) c.mark_fronts-shape.ensures.firsts ∙ c.requires.index.many_firsts in
+    let first : slice_get c.mark_fronts-shape.new.self.firsts.items c.mark_fronts-shape.result ≡ Some c.index-next.result.now =
+    slice_get_read c.mark_fronts-shape.new.self.firsts.items _ _ c.index-next.result.now refl (omega (arith, many, c.mark_fronts-shape.ensures.small)) c.index-next.ensures in
+    let was : slice_get c.args.self.now.firsts.items (shape_of e.left) ≡ Some c.index-next.result.now =
+    subst (λ m. slice_get c.args.self.now.firsts.items m ≡ Some c.index-next.result.now) shape (subst (λ (l : List (Option ℕ)). slice_get l c.mark_fronts-shape.result ≡ Some c.index-next.result.now) c.mark_fronts-shape.ensures.firsts first) in
+    more_index (rules_in entries) n (entry_rule e) c.args.self.now _ c.index-next.result.now rule (c.requires.shorter (entry_rule e) rule) c.requires.index small was
+    (ap (λ (l : List (Option ℕ)). slice_set l c.mark_fronts-shape.result (Some n)) c.mark_fronts-shape.ensures.firsts ∙ ap (λ m. slice_set c.args.self.now.firsts.items m (Some n)) shape)
+    (ap (λ (l : List (Option ℕ)). slice_set l n c.index-next.result.now) c.mark_fronts-shape.ensures.nexts)
+    c.mark_fronts-shape.ensures.many
+    c.mark_fronts-shape.ensures.kept
+    (subst (λ (l : List Instr). AreMarked c.mark_fronts-shape.new.self.fronts.items l (length l)) left c.mark_fronts-shape.ensures.fronts)

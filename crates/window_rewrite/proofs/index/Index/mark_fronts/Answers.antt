@@ -1,7 +1,7 @@
 use Rattle.std.proofs.Common.{◌≡◌, ◌∙◌, ◌+◌, Some, refl, take}
 use Rattle.std.specs.Prelude.{slice_get}
 use Rattle.std.proofs.lemmas.Option.{slice_get_read}
-use Rattle.window_rewrite.specs.Rules.{shape_of}
+use Rattle.window_rewrite.specs.Shapes.{shape_of}
 use Rattle.window_rewrite.proofs.Heads.{front_more, mark_more}
 use Rattle.window_rewrite.proofs.index.Index.mark_fronts.Goals as goal
 
@@ -13,7 +13,6 @@ loop-at-preserved c =
     record {
       firsts = c.mark_front.ensures.firsts ∙ was.firsts;
       nexts = c.mark_front.ensures.nexts ∙ was.nexts;
-      wholes = c.mark_front.ensures.wholes ∙ was.wholes;
       many = c.mark_front.ensures.many;
       kept = λ q h. c.mark_front.ensures.kept q (was.kept q h);
       fronts = mark_more c.loop-at.self.fronts.items _ c.args.left.now c.loop-at.at c.next_shape-shape.result c.mark_front.ensures.kept c.mark_front.ensures.here shape was.fronts;

@@ -1,4 +1,4 @@
-use Rattle.std.proofs.Common.{◌≡◌, ◌∙◌, ◌+◌, ◌-◌, List, Some, length, ap, arith, refl, sym, subst}
+use Rattle.std.proofs.Common.{◌≡◌, ◌∙◌, ◌+◌, ◌-◌, ℕ, zero, suc, List, Option, Some, None, length, replicate, ap, arith, refl, sym, subst}
 use Rattle.std.specs.Prelude.{slice_get}
 use Rattle.std.proofs.lemmas.Option.{slice_get_read, same_Some}
 use Rattle.rule_table.specs.declared.table.Entry.{Entry}
@@ -8,13 +8,22 @@ use Rattle.window_rewrite.proofs.Accepted.{entry_at, rules_length}
 use Rattle.window_rewrite.proofs.Heads.{empty_index, same_index}
 use Rattle.window_rewrite.proofs.index.Index.of.Goals as goal
 
+none_of : (n q : ℕ) (first : Option ℕ) → slice_get (replicate n None) q ≡ Some first → first ≡ None
+none_of zero q first e = absurd (cc)
+none_of (suc n) zero first e = cc
+none_of (suc n) (suc q) first e = none_of n q first e
+
+none_alone : (Q : Option ℕ → Type 0) → ((x : ℕ) → Q (Some x) → ⊥) → (y : Option ℕ) → Q y → y ≡ None
+none_alone Q h None q = refl
+none_alone Q h (Some x) q = absurd (h x q)
+
 pub loop-number-init : goal.loop-number-init
 loop-number-init c = record {
   within = omega arith;
   index =
       let n = rules_length c.args.entries.now in
-      let index : Index = record { firsts = c.new.result; nexts = c.in_ok-vec.field-0; fronts = c.in_ok-vec-2.field-0; wholes = c.in_ok-vec-3.field-0 } in
-      empty_index (rules_in c.args.entries.now) (length c.args.entries.now) index (omega arith) c.new.ensures.empty (sym c.in_ok-vec.field-0.ok.0 ∙ c.in_ok-vec.ensures.len ∙ sym n) (sym c.in_ok-vec-2.field-0.ok.0 ∙ c.in_ok-vec-2.ensures.len)
+      let index : Index = record { firsts = c.in_ok-vec.field-0; nexts = c.in_ok-vec-2.field-0; fronts = c.in_ok-vec-3.field-0 } in
+      empty_index (rules_in c.args.entries.now) (length c.args.entries.now) index (omega arith) (sym c.in_ok-vec.field-0.ok.0 ∙ c.in_ok-vec.ensures.len) (λ q first at. none_of 65536 q first (subst (λ (l : List (Option ℕ)). slice_get l q ≡ Some first) (c.in_ok-vec.ensures.items_if_clones_equal (none_alone _ (λ x e. absurd e))) at)) (sym c.in_ok-vec-2.field-0.ok.0 ∙ c.in_ok-vec-2.ensures.len ∙ sym n)
       (sym c.in_ok-vec-3.field-0.ok.0 ∙ c.in_ok-vec-3.ensures.len);
 }
 

@@ -1,7 +1,7 @@
 use Rattle.std.proofs.Common.{◌≡◌, ◌<◌, drop, map}
 use Rattle.thumb_instr.specs.Window.{normal_of}
-use Rattle.window_rewrite.specs.Rules.{shape_from, shape_of}
-use Rattle.window_rewrite.proofs.index.shape_of.Given as goal
+use Rattle.window_rewrite.specs.Shapes.{shape_from, shape_of}
+use Rattle.window_rewrite.proofs.shapes.shape_of.Given as goal
 
 abbrev pub invariant-loop-instr : goal.invariant-loop-instr
 invariant-loop-instr l = record {

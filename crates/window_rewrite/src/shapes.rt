@@ -1,0 +1,59 @@
+//! Numbers that instructions share with all that differ from them in registers alone.
+ghost use Rattle.std.specs.Prelude.{◌≡◌, ◌<◌, map};
+ghost use Rattle.thumb_instr.specs.Window.{normal_of};
+ghost use Rattle.window_rewrite.specs.Shapes.{head_number, next_shape, shape_of};
+
+use thumb_instr::{Instr, normal};
+
+/// How many numbers of sequences there are.
+pub(crate) const SHAPES: usize = 65_536;
+
+/// The number of an instruction alone: one for each mnemonic and each number that stands in it.
+fn head_number(instr: &Instr) -> usize
+    ensures value { result ≡ head_number instr.now }
+    ensures small { result < 1280 }
+{
+    match *instr {
+        Instr::Mov { .. } => 0,
+        Instr::Movs { .. } => 1,
+        Instr::Add { .. } => 2,
+        Instr::Three { sum, .. } => 4 + sum as usize,
+        Instr::Extend { extension, .. } => 8 + extension as usize,
+        Instr::Reverse { reversal, .. } => 12 + reversal as usize,
+        Instr::Two { operation, .. } => 16 + operation as usize,
+        Instr::ShiftLeft { amount, .. } => 32 + amount.number as usize,
+        Instr::ShiftRight { shift, amount, .. } => {
+            64 + (64 * (shift as usize) + amount.number as usize)
+        }
+        Instr::ThreeNumber { sum, number, .. } => {
+            192 + (8 * (sum as usize) + number.number as usize)
+        }
+        Instr::TwoNumber {
+            operation,
+            number,
+            ..
+        } => 256 + (256 * (operation as usize) + number.number as usize),
+        _ => 3,
+    }
+}
+
+/// The number of instructions where another stands behind those that have this one.
+pub(crate) fn next_shape(shape: usize, instr: &Instr) -> usize
+    requires { shape < 65536 }
+    ensures value { result ≡ next_shape shape instr.now }
+    ensures small { result < 65536 }
+{
+    (shape * 1283 + head_number(instr)) % SHAPES
+}
+
+/// The number of a window's instructions, each in its normal form.
+pub(crate) fn shape_of(window: &[Instr]) -> usize
+    ensures value { result ≡ shape_of (map normal_of window.now) }
+    ensures small { result < 65536 }
+{
+    let mut shape = 0;
+    for instr in window {
+        shape = next_shape(shape, &normal(*instr));
+    }
+    shape
+}
