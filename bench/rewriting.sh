@@ -1,11 +1,12 @@
 #!/usr/bin/env bash
 # Measures rewriting listings with the proved crates beside a plain Rust program of the same rules, by a table of 500 entries that is learnt from the files of
 # a folder: one of about LINES (65,536) lines made by repeating the files, and as many of its lines as leave room for WINDOWS (20,000) windows that may be
-# replaced, with these. Both at half the size, too: where time is linear the factor is about 2. Both programs have to write the same listings.
+# replaced, with these. Both at half the size, too: where time is linear the factor is about 2. Then 50,000 of their lines that go straight on. Both programs
+# have to write the same listings.
 # Use: bench/rewriting.sh FOLDER [LINES [WINDOWS [TURNS]]]
 . "$(dirname "$0")/common.sh"
 folder=${1:-} lines=${2:-65536} windows=${3:-20000} turns=${4:-3}
-[ -d "$folder" ] || { sed -n '2,5s/^# //p' "$0" >&2; exit 2; }
+[ -d "$folder" ] || { sed -n '2,6s/^# //p' "$0" >&2; exit 2; }
 harvest=$(build_plain "$top/bench/live_items/plain.rs") && mv "$harvest" "$work/harvest"
 learner=$(build_plain "$top/bench/learner/plain.rs") && mv "$learner" "$work/learner"
 plain=$(build_plain "$top/bench/rewriting/plain.rs")
@@ -22,10 +23,9 @@ taught | "$work/harvest" windows 2> "$work/told" | "$work/learner" 2> "$work/tol
 # listing LINES WINDOWS: writes a listing. Two of three windows take two lines.
 listing() { python3 "$top/bench/repeated.py" "$folder" $(($1 - $2 * 5 / 3 - 1)) | python3 "$top/bench/rewriting/salted.py" "$2"; }
 
-# run_both LINES WINDOWS: runs both programs in turn on the table and a listing. `$said` tells what it was.
+# run_both: runs both programs in turn on the table and a listing, $work/listing.s. `$said` tells what it was.
 run_both() {
     local program replaced
-    listing "$1" "$2" > "$work/listing.s"
     cat "$work/table" "$work/listing.s" > "$work/input"
     rm -f "$work"/*.times
     for _ in $(seq "$turns"); do
@@ -40,12 +40,22 @@ run_both() {
     said="$(wc -l < "$work/listing.s") lines by $(grep -c '^entry' "$work/table") entries, $replaced windows replaced"
 }
 
-for salt in 0 "$windows"; do
-    run_both $((lines / 2)) $((salt / 2))
-    half_proved=$(shortest proved 1) half_plain=$(shortest plain 1)
-    run_both "$lines" "$salt"
+# tell: prints what both took.
+tell() {
     print_times "rewriting $said" us "$(shortest proved 1)" "$(shortest plain 1)"
     print_times "reading, rewriting and printing $said" us "$(shortest proved 2)" "$(shortest plain 2)"
+}
+
+for salt in 0 "$windows"; do
+    listing $((lines / 2)) $((salt / 2)) > "$work/listing.s"
+    run_both
+    half_proved=$(shortest proved 1) half_plain=$(shortest plain 1)
+    listing "$lines" "$salt" > "$work/listing.s"
+    run_both
+    tell
     print_factor "from half the size on: proved" us "$half_proved" "$(shortest proved 1)"
     print_factor "from half the size on: plain Rust" us "$half_plain" "$(shortest plain 1)"
 done
+listing "$lines" 0 | python3 "$top/bench/rewriting/straight.py" 50000 > "$work/listing.s"
+run_both
+tell
