@@ -2,17 +2,18 @@
 use Rattle.std.proofs.Common.{◌≡◌, ℕ, suc, ◌+◌, ◌<◌, ◌≤◌, List, [], ◌∷◌, ◌++◌, Option, Some, None, Bool, true, false, not, ◌&&◌, ◌||◌, cond, eqb, ltb, refl, sym, ap, ◌∙◌, arith, ⊎_elim}
 use Rattle.std.proofs.lemmas.Bool.{and_from, lt-ltb, eqb-true, cond-true, cond-false, cases_Bool}
 use Rattle.std.specs.Map.{lookup}
-use Rattle.cnf_gates.specs.declared.bit.Literal.{Literal}
+use Rattle.clause_model.specs.Literals.{negated, variable_of, is_negative, literal_value}
+use Rattle.clause_model.proofs.LiteralLaws.{literal_value-positive, literal_value-negated, literal_value-is_negative, literal_value-not_negative}
 use Rattle.cnf_gates.specs.declared.bit.Bit.{Bit}
 use Rattle.cnf_gates.specs.declared.bit.Bit.TheVariants.{Constant, Signed}
 use Rattle.cnf_gates.specs.declared.bit.Gate.{Gate}
 use Rattle.cnf_gates.specs.declared.bit.Gate.TheVariants.{And, Xor, Ite}
-use Rattle.cnf_gates.specs.Gates.{Built, contrary, literal_eq, literal_lt, gate_eq, gate_of, found_or, and_of, differ, xor_of, or_of, not_of, negated_if, with_bit, choice_of, ite_of, bit_eq, input_of}
-use Rattle.cnf_gates.specs.Meaning.{signed_value, literal_value, bit_value, gate_value, GatesHold}
+use Rattle.cnf_gates.specs.Gates.{Built, gate_eq, gate_of, found_or, and_of, differ, xor_of, or_of, not_of, negated_if, with_bit, choice_of, ite_of, bit_eq, input_of}
+use Rattle.cnf_gates.specs.Meaning.{bit_value, gate_value, GatesHold}
 use Rattle.cnf_gates.specs.Growth.{gate_below, BitBelow, AllBelow, Ready, IsExact, Keeps, Grows, Gives}
 use Rattle.cnf_gates.proofs.Tables.{and_comm, and_same, and_false, and_true, and_contrary, or_by_and, differ_comm, signs_differ, signs_out, if_true, if_false, else_true, else_false, if_contrary, if_same, if_turned}
-use Rattle.cnf_gates.proofs.Values.{signed_value-not, gate_eq_refl, lookup-holds, GatesHold-append, literal_eq-true, bit_value-not_of, bit_value-negated_if, bit_eq-true}
-use Rattle.cnf_gates.proofs.Literals.{AreClausesOf-more}
+use Rattle.cnf_gates.proofs.Values.{literal_value-differ, gate_eq_refl, lookup-holds, GatesHold-append, bit_value-not_of, bit_value-negated_if, bit_eq-true}
+use Rattle.cnf_gates.proofs.Literals.{negated_below, AreClausesOf-more}
 use Rattle.cnf_gates.proofs.Order.{InOrder-lookup, InOrder-more, Ready-push, IsExact-push}
 
 -- ---- growing
@@ -111,8 +112,8 @@ record Made (n : ℕ) (b : Built) (r : Built × Bit) (step : Built → Built × 
 Made-found_or : (low : ℕ) (b : Built) (k : Gate) (o : Option ℕ) → Ready low b → gate_below b.variables k ≡ true → lookup (gate_eq k) b.gates ≡ o → Made 1 b (found_or o b k) (λ c. gate_of c k) (λ m. gate_value m k)
 Made-found_or low b k (Some v) h below found = record {
   grows = Grows-none 1 b;
-  below = InOrder-lookup low b.variables b.gates k v found h.order;
-  value = λ m holds. lookup-holds m b.gates k v found holds;
+  below = (let within : v < b.variables = InOrder-lookup low b.variables b.gates k v found h.order in omega arith);
+  value = λ m holds. literal_value-positive m v ∙ lookup-holds m b.gates k v found holds;
   again = λ c keeps. ap (λ o. found_or o c k) (keeps.found k v found);
 }
 Made-found_or low b k None h below found = record {
@@ -125,7 +126,7 @@ Made-found_or low b k None h below found = record {
     keeps = record { found = λ q v e. lookup-push q k v b.variables b.gates e };
   };
   below = omega arith;
-  value = λ m holds. (GatesHold-append m b.gates ((k, b.variables) ∷ []) holds).1.0;
+  value = λ m holds. literal_value-positive m b.variables ∙ (GatesHold-append m b.gates ((k, b.variables) ∷ []) holds).1.0;
   again = λ c keeps. ap (λ o. found_or o c k) (keeps.found k b.variables (lookup-new k b.variables b.gates found));
 }
 
@@ -144,7 +145,7 @@ three_below x y z v h k l = and_from (ltb x v && ltb y v) (ltb z v) (two_below x
 
 pub BitBelow-not_of : (v : ℕ) (x : Bit) → BitBelow v x → BitBelow v (not_of x)
 BitBelow-not_of v (Constant c) h = tt
-BitBelow-not_of v (Signed l) h = h
+BitBelow-not_of v (Signed l) h = negated_below v l h
 
 pub BitBelow-negated_if : (v : ℕ) (n : Bool) (x : Bit) → BitBelow v x → BitBelow v (negated_if n x)
 BitBelow-negated_if v true x h = BitBelow-not_of v x h
@@ -157,14 +158,14 @@ and_gives low b (Signed x) (Constant false) h p q = Gives-none 1 b (Constant fal
 and_gives low b (Signed x) (Constant true) h p q = Gives-none 1 b (Signed x) (λ m. literal_value m x && true) p (λ m. and_true (literal_value m x))
 and_gives low b (Signed x) (Signed y) h p q =
     let f : (ℕ → Bool) → Bool = λ m. literal_value m x && literal_value m y in
-    Gives-cond 1 b (literal_eq x y) _ _ f
-    (λ (t : literal_eq x y ≡ true). Gives-none 1 b (Signed x) f p (λ m. and_same (literal_value m x) ∙ ap (λ l. literal_value m x && literal_value m l) (literal_eq-true x y t)))
-    (λ (_ : _). Gives-cond 1 b (literal_eq x (contrary y)) _ _ f
-    (λ (t : literal_eq x (contrary y) ≡ true). Gives-none 1 b (Constant false) f tt
-    (λ m. and_contrary (literal_value m y) ∙ ap (λ v. v && literal_value m y) (sym (signed_value-not y.negative (m y.variable)) ∙ ap (literal_value m) (sym (literal_eq-true x (contrary y) t)))))
-    (λ (_ : _). Gives-cond 1 b (literal_lt x y) _ _ f
-    (λ (_ : _). gate_gives low b (And x y) h (two_below x.variable y.variable b.variables p q))
-    (λ (_ : _). Gives-at 1 b (λ c. gate_of c (And y x)) (λ m. literal_value m y && literal_value m x) f (λ m. and_comm (literal_value m y) (literal_value m x)) (gate_gives low b (And y x) h (two_below y.variable x.variable b.variables q p)))))
+    Gives-cond 1 b (eqb x y) _ _ f
+    (λ (t : eqb x y ≡ true). Gives-none 1 b (Signed x) f p (λ m. and_same (literal_value m x) ∙ ap (λ l. literal_value m x && literal_value m l) (eqb-true x y t)))
+    (λ (_ : _). Gives-cond 1 b (eqb x (negated y)) _ _ f
+    (λ (t : eqb x (negated y) ≡ true). Gives-none 1 b (Constant false) f tt
+    (λ m. and_contrary (literal_value m y) ∙ ap (λ v. v && literal_value m y) (sym (literal_value-negated m y) ∙ ap (literal_value m) (sym (eqb-true x (negated y) t)))))
+    (λ (_ : _). Gives-cond 1 b (ltb x y) _ _ f
+    (λ (_ : _). gate_gives low b (And x y) h (two_below (variable_of x) (variable_of y) b.variables p q))
+    (λ (_ : _). Gives-at 1 b (λ c. gate_of c (And y x)) (λ m. literal_value m y && literal_value m x) f (λ m. and_comm (literal_value m y) (literal_value m x)) (gate_gives low b (And y x) h (two_below (variable_of y) (variable_of x) b.variables q p)))))
 
 pub or_gives : (low : ℕ) (b : Built) (x y : Bit) → Ready low b → BitBelow b.variables x → BitBelow b.variables y → Gives 1 b (λ c. or_of c x y) (λ m. bit_value m x || bit_value m y)
 or_gives low b x y h p q =
@@ -182,41 +183,57 @@ pub xor_gives : (low : ℕ) (b : Built) (x y : Bit) → Ready low b → BitBelow
 xor_gives low b (Constant c) y h p q = Gives-none 1 b (negated_if c y) (λ m. differ c (bit_value m y)) (BitBelow-negated_if b.variables c y q) (λ m. bit_value-negated_if m c y)
 xor_gives low b (Signed x) (Constant c) h p q = Gives-none 1 b (negated_if c (Signed x)) (λ m. differ (literal_value m x) c) (BitBelow-negated_if b.variables c (Signed x) p) (λ m. bit_value-negated_if m c (Signed x) ∙ differ_comm c (literal_value m x))
 xor_gives low b (Signed x) (Signed y) h p q =
-    let d : Bool = differ x.negative y.negative in
+    let v : ℕ = variable_of x in
+    let w : ℕ = variable_of y in
+    let d : Bool = differ (is_negative x) (is_negative y) in
     let f : (ℕ → Bool) → Bool = λ m. differ (literal_value m x) (literal_value m y) in
-    Gives-cond 1 b (eqb x.variable y.variable) _ _ f
-    (λ (t : eqb x.variable y.variable ≡ true). Gives-none 1 b (Constant d) f tt (λ m. signs_differ x.negative y.negative (m x.variable) ∙ ap (λ v. differ (literal_value m x) (signed_value y.negative (m v))) (eqb-true x.variable y.variable t)))
-    (λ (_ : _). Gives-cond 1 b (ltb x.variable y.variable) _ _ f
-    (λ (_ : _). Gives-at 1 b _ (λ m. differ d (differ (m x.variable) (m y.variable))) f (λ m. signs_out x.negative y.negative (m x.variable) (m y.variable)) (xor_gate_gives low b d x.variable y.variable h p q))
-    (λ (_ : _). Gives-at 1 b _ (λ m. differ d (differ (m y.variable) (m x.variable))) f (λ m. ap (differ d) (differ_comm (m y.variable) (m x.variable)) ∙ signs_out x.negative y.negative (m x.variable) (m y.variable)) (xor_gate_gives low b d y.variable x.variable h q p)))
+    let signs : (m : ℕ → Bool) → differ (differ (is_negative x) (m v)) (differ (is_negative y) (m w)) ≡ f m = λ m. sym (ap (λ z. differ z (literal_value m y)) (literal_value-differ m x) ∙ ap (differ (differ (is_negative x) (m v))) (literal_value-differ m y)) in
+    Gives-cond 1 b (eqb v w) _ _ f
+    (λ (t : eqb v w ≡ true). Gives-none 1 b (Constant d) f tt (λ m. signs_differ (is_negative x) (is_negative y) (m v) ∙ ap (λ u. differ (differ (is_negative x) (m v)) (differ (is_negative y) (m u))) (eqb-true v w t) ∙ signs m))
+    (λ (_ : _). Gives-cond 1 b (ltb v w) _ _ f
+    (λ (_ : _). Gives-at 1 b _ (λ m. differ d (differ (m v) (m w))) f (λ m. signs_out (is_negative x) (is_negative y) (m v) (m w) ∙ signs m) (xor_gate_gives low b d v w h p q))
+    (λ (_ : _). Gives-at 1 b _ (λ m. differ d (differ (m w) (m v))) f (λ m. ap (differ d) (differ_comm (m w) (m v)) ∙ signs_out (is_negative x) (is_negative y) (m v) (m w) ∙ signs m) (xor_gate_gives low b d w v h q p)))
 
 -- the gate of a choice, with the condition made positive
-signed_choice_gives : (low : ℕ) (b : Built) (v : ℕ) (n : Bool) (t e : Literal) → Ready low b → v < b.variables → t.variable < b.variables → e.variable < b.variables
+signed_choice_gives : (low : ℕ) (b : Built) (c t e : ℕ) → Ready low b → variable_of c < b.variables → variable_of t < b.variables → variable_of e < b.variables
+    → Gives 1 b (λ d. cond (is_negative c) (gate_of d (Ite (variable_of c) e t)) (gate_of d (Ite (variable_of c) t e))) (λ m. cond (literal_value m c) (literal_value m t) (literal_value m e))
+signed_choice_gives low b c t e h p q r =
+    let v : ℕ = variable_of c in
+    let f : (ℕ → Bool) → Bool = λ m. cond (literal_value m c) (literal_value m t) (literal_value m e) in
+    Gives-cond 1 b (is_negative c) _ _ f
+    (λ (n : is_negative c ≡ true). Gives-at 1 b (λ d. gate_of d (Ite v e t)) (λ m. cond (m v) (literal_value m e) (literal_value m t)) f
+    (λ m. if_turned (m v) (literal_value m t) (literal_value m e) ∙ ap (λ z. cond z (literal_value m t) (literal_value m e)) (sym (literal_value-is_negative m c n)))
+    (gate_gives low b (Ite v e t) h (three_below v (variable_of e) (variable_of t) b.variables p r q)))
+    (λ (n : is_negative c ≡ false). Gives-at 1 b (λ d. gate_of d (Ite v t e)) (λ m. cond (m v) (literal_value m t) (literal_value m e)) f
+    (λ m. ap (λ z. cond z (literal_value m t) (literal_value m e)) (sym (literal_value-not_negative m c n)))
+    (gate_gives low b (Ite v t e) h (three_below v (variable_of t) (variable_of e) b.variables p q r)))
+
+choice_gives : (low : ℕ) (b : Built) (v : ℕ) (n : Bool) (t e : Literal) → Ready low b → v < b.variables → t.variable < b.variables → e.variable < b.variables
     → Gives 1 b (λ c. cond n (gate_of c (Ite v e t)) (gate_of c (Ite v t e))) (λ m. cond (signed_value n (m v)) (literal_value m t) (literal_value m e))
 signed_choice_gives low b v false t e h p q r = gate_gives low b (Ite v t e) h (three_below v t.variable e.variable b.variables p q r)
 signed_choice_gives low b v true t e h p q r =
     Gives-at 1 b (λ c. gate_of c (Ite v e t)) (λ m. cond (m v) (literal_value m e) (literal_value m t)) (λ m. cond (not (m v)) (literal_value m t) (literal_value m e))
     (λ m. if_turned (m v) (literal_value m t) (literal_value m e)) (gate_gives low b (Ite v e t) h (three_below v e.variable t.variable b.variables p r q))
 
-choice_gives : (low : ℕ) (b : Built) (c : Literal) (t e : Bit) → Ready low b → c.variable < b.variables → BitBelow b.variables t → BitBelow b.variables e
+choice_gives : (low : ℕ) (b : Built) (c : ℕ) (t e : Bit) → Ready low b → variable_of c < b.variables → BitBelow b.variables t → BitBelow b.variables e
     → Gives 1 b (λ d. choice_of d c t e) (λ m. cond (literal_value m c) (bit_value m t) (bit_value m e))
 choice_gives low b c (Constant true) e h p q r =
     Gives-at 1 b (λ d. or_of d (Signed c) e) (λ m. literal_value m c || bit_value m e) _ (λ m. if_true (literal_value m c) (bit_value m e)) (or_gives low b (Signed c) e h p r)
 choice_gives low b c (Constant false) e h p q r =
-    Gives-at 1 b (λ d. and_of d (Signed (contrary c)) e) (λ m. literal_value m (contrary c) && bit_value m e) _
-    (λ m. ap (λ v. v && bit_value m e) (signed_value-not c.negative (m c.variable)) ∙ if_false (literal_value m c) (bit_value m e)) (and_gives low b (Signed (contrary c)) e h p r)
+    Gives-at 1 b (λ d. and_of d (Signed (negated c)) e) (λ m. literal_value m (negated c) && bit_value m e) _
+    (λ m. ap (λ v. v && bit_value m e) (literal_value-negated m c) ∙ if_false (literal_value m c) (bit_value m e)) (and_gives low b (Signed (negated c)) e h p r)
 choice_gives low b c (Signed t) (Constant true) h p q r =
-    Gives-at 1 b (λ d. or_of d (Signed (contrary c)) (Signed t)) (λ m. literal_value m (contrary c) || literal_value m t) _
-    (λ m. ap (λ v. v || literal_value m t) (signed_value-not c.negative (m c.variable)) ∙ else_true (literal_value m c) (literal_value m t)) (or_gives low b (Signed (contrary c)) (Signed t) h p q)
+    Gives-at 1 b (λ d. or_of d (Signed (negated c)) (Signed t)) (λ m. literal_value m (negated c) || literal_value m t) _
+    (λ m. ap (λ v. v || literal_value m t) (literal_value-negated m c) ∙ else_true (literal_value m c) (literal_value m t)) (or_gives low b (Signed (negated c)) (Signed t) h p q)
 choice_gives low b c (Signed t) (Constant false) h p q r =
     Gives-at 1 b (λ d. and_of d (Signed c) (Signed t)) (λ m. literal_value m c && literal_value m t) _ (λ m. else_false (literal_value m c) (literal_value m t)) (and_gives low b (Signed c) (Signed t) h p q)
 choice_gives low b c (Signed t) (Signed e) h p q r =
     let f : (ℕ → Bool) → Bool = λ m. cond (literal_value m c) (literal_value m t) (literal_value m e) in
-    Gives-cond 1 b (literal_eq t (contrary e)) _ _ f
-    (λ (k : literal_eq t (contrary e) ≡ true). Gives-at 1 b (λ d. xor_of d (Signed c) (Signed e)) (λ m. differ (literal_value m c) (literal_value m e)) f
-    (λ m. if_contrary (literal_value m c) (literal_value m e) ∙ ap (λ v. cond (literal_value m c) v (literal_value m e)) (sym (signed_value-not e.negative (m e.variable)) ∙ ap (literal_value m) (sym (literal_eq-true t (contrary e) k))))
+    Gives-cond 1 b (eqb t (negated e)) _ _ f
+    (λ (k : eqb t (negated e) ≡ true). Gives-at 1 b (λ d. xor_of d (Signed c) (Signed e)) (λ m. differ (literal_value m c) (literal_value m e)) f
+    (λ m. if_contrary (literal_value m c) (literal_value m e) ∙ ap (λ v. cond (literal_value m c) v (literal_value m e)) (sym (literal_value-negated m e) ∙ ap (literal_value m) (sym (eqb-true t (negated e) k))))
     (xor_gives low b (Signed c) (Signed e) h p r))
-    (λ (_ : _). signed_choice_gives low b c.variable c.negative t e h p q r)
+    (λ (_ : _). signed_choice_gives low b c t e h p q r)
 
 pub ite_gives : (low : ℕ) (b : Built) (c t e : Bit) → Ready low b → BitBelow b.variables c → BitBelow b.variables t → BitBelow b.variables e
     → Gives 1 b (λ d. ite_of d c t e) (λ m. cond (bit_value m c) (bit_value m t) (bit_value m e))

@@ -1,14 +1,21 @@
 -- Lemmas on the literals of clauses.
-use Rattle.std.proofs.Common.{◌≡◌, ℕ, zero, suc, ◌+◌, ◌<◌, ◌≤◌, List, [], ◌∷◌, ◌++◌, Bool, true, false, length, map, slice_index_or, ℤ, All, arith, drop, get_or, drop-cons, ap, sym, ◌∙◌}
+use Rattle.std.proofs.Common.{◌≡◌, ℕ, zero, suc, ◌+◌, ◌%◌, ◌/◌, ◌<◌, ◌≤◌, List, [], ◌∷◌, ◌++◌, Bool, true, false, cond, nat_eq, length, map, slice_index_or, ℤ, pos, negsuc, All, arith, drop, get_or, drop-cons, ap, sym, subst, ◌∙◌}
 use Rattle.std.proofs.lemmas.Int.{ints}
 use Rattle.cnf_gates.specs.Cnf.{IsLiteralOf, AreLiteralsOf, AreClausesOf}
-use Rattle.cnf_gates.specs.declared.bit.Literal.{Literal}
-use Rattle.cnf_gates.specs.Gates.{number_of, number}
+use Rattle.clause_model.specs.Literals.{negated, variable_of, number_of}
+use Rattle.clause_model.proofs.LiteralLaws.{variable_of-negated}
 
 -- the number of a literal
-pub IsLiteralOf-number_of : (n v : ℕ) (negative : Bool) → v < n → IsLiteralOf n (number_of v negative)
-IsLiteralOf-number_of n v false h = (λ e. cc, omega (arith, ints), omega (arith, ints))
-IsLiteralOf-number_of n v true h = (λ e. cc, omega (arith, ints), omega (arith, ints))
+pub IsLiteralOf-number_of : (n l : ℕ) → variable_of l < n → IsLiteralOf n (number_of l)
+IsLiteralOf-number_of n l h = at (l / 2) (nat_eq (l % 2) 0) h
+  where
+    at : (v : ℕ) (positive : Bool) → v < n → IsLiteralOf n (cond positive (pos (v + 1)) (negsuc v))
+    at v true h = (λ e. omega (arith, ints), omega (arith, ints), omega (arith, ints))
+    at v false h = (λ e. cc, omega (arith, ints), omega (arith, ints))
+
+-- the contrary literal has the same variable
+pub negated_below : (n l : ℕ) → variable_of l < n → variable_of (negated l) < n
+negated_below n l h = subst (λ (v : ℕ). v < n) (sym (variable_of-negated l)) h
 
 pub AreClausesOf-append : (n : ℕ) (cs ds : List (List ℤ)) → AreClausesOf n cs → AreClausesOf n ds → AreClausesOf n (cs ++ ds)
 AreClausesOf-append n [] ds h k = k
@@ -40,8 +47,8 @@ pub AreClausesOf-push : (n : ℕ) (cs : List (List ℤ)) (c : List ℤ) → AreC
 AreClausesOf-push n cs c h k = AreClausesOf-append n cs (c ∷ []) h (k, tt)
 
 -- the numbers of the literals from a place on
-pub numbers_from : (ls : List Literal) (i : ℕ) (l : Literal) → i < length ls → l ≡ get_or ls i l → map number (drop i ls) ≡ number l ∷ map number (drop (i + 1) ls)
-numbers_from ls i l h e = ap (map number) (drop-cons ls i l h) ∙ ap (λ x. number x ∷ map number (drop (suc i) ls)) (sym e) ∙ ap (λ k. number l ∷ map number (drop k ls)) (let one : suc i ≡ i + 1 = omega arith in one)
+pub numbers_from : (ls : List ℕ) (i l : ℕ) → i < length ls → l ≡ get_or ls i l → map number_of (drop i ls) ≡ number_of l ∷ map number_of (drop (i + 1) ls)
+numbers_from ls i l h e = ap (map number_of) (drop-cons ls i l h) ∙ ap (λ x. number_of x ∷ map number_of (drop (suc i) ls)) (sym e) ∙ ap (λ k. number_of l ∷ map number_of (drop k ls)) (let one : suc i ≡ i + 1 = omega arith in one)
 
 -- room for more variables
 pub IsLiteralOf-more : (n k : ℕ) (z : ℤ) → n ≤ k → IsLiteralOf n z → IsLiteralOf k z

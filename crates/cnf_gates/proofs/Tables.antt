@@ -2,7 +2,6 @@
 use Rattle.std.proofs.Common.{◌≡◌, Bool, true, false, not, ◌&&◌, ◌||◌, cond, refl}
 use mathlib.Core.Bool.{beq}
 use Rattle.cnf_gates.specs.Gates.{differ}
-use Rattle.cnf_gates.specs.Meaning.{signed_value}
 
 pub differ_true : (x : Bool) → not x ≡ differ true x
 differ_true true = refl
@@ -24,7 +23,7 @@ or_by_and true false = refl
 or_by_and false true = refl
 or_by_and false false = refl
 
-pub signs_differ : (a b x : Bool) → differ a b ≡ differ (signed_value a x) (signed_value b x)
+pub signs_differ : (a b x : Bool) → differ a b ≡ differ (differ a x) (differ b x)
 signs_differ true true true = refl
 signs_differ true true false = refl
 signs_differ true false true = refl
@@ -34,7 +33,7 @@ signs_differ false true false = refl
 signs_differ false false true = refl
 signs_differ false false false = refl
 
-pub signs_out : (a b x y : Bool) → differ (differ a b) (differ x y) ≡ differ (signed_value a x) (signed_value b y)
+pub signs_out : (a b x y : Bool) → differ (differ a b) (differ x y) ≡ differ (differ a x) (differ b y)
 signs_out true true true true = refl
 signs_out true true true false = refl
 signs_out true true false true = refl

@@ -1,6 +1,7 @@
 -- What stays and what is known as a builder goes on.
 use Rattle.std.specs.Prelude.{◌≡◌, ℕ, suc, ◌+◌, ◌<◌, ◌≤◌, Bool, true, ◌&&◌, nat_lt, List, [], ◌∷◌, Some}
 use Rattle.std.specs.Map.{lookup}
+use Rattle.clause_model.specs.Literals.{variable_of}
 use Rattle.cnf_gates.specs.declared.bit.Bit.{Bit}
 use Rattle.cnf_gates.specs.declared.bit.Bit.TheVariants.{Constant, Signed}
 use Rattle.cnf_gates.specs.declared.bit.Gate.{Gate}
@@ -12,7 +13,7 @@ use Rattle.cnf_gates.specs.Meaning.{all_true, bit_value, GatesHold}
 -- a constant, or a literal of one of the first v variables
 abbrev pub BitBelow : ℕ → Bit → Type 0
 BitBelow v (Constant c) = Unit {0}
-BitBelow v (Signed l) = l.variable < v
+BitBelow v (Signed l) = variable_of l < v
 
 -- each of the bits is
 abbrev pub AllBelow : ℕ → List Bit → Type 0
@@ -21,9 +22,9 @@ AllBelow v (x ∷ xs) = BitBelow v x × AllBelow v xs
 
 -- whether each variable that the gate takes is one of the first v
 abbrev pub gate_below : ℕ → Gate → Bool
-gate_below v (And a b) = nat_lt a.variable v && nat_lt b.variable v
+gate_below v (And a b) = nat_lt (variable_of a) v && nat_lt (variable_of b) v
 gate_below v (Xor x y) = nat_lt x v && nat_lt y v
-gate_below v (Ite c t e) = nat_lt c v && nat_lt t.variable v && nat_lt e.variable v
+gate_below v (Ite c t e) = nat_lt c v && nat_lt (variable_of t) v && nat_lt (variable_of e) v
 
 -- the gates' variables, in order, lie from low on and before high; each gate takes variables before its own
 abbrev pub InOrder : ℕ → List (Gate × ℕ) → ℕ → Type 0

@@ -1,5 +1,6 @@
 ghost use Rattle.std.specs.Prelude.{◌≡◌, ◌<◌, ℕ};
 
+use clause_model::Literal;
 use std::marker::Model;
 
 /// How many variables a builder or a formula may have.
@@ -39,50 +40,92 @@ impl Variable {
     }
 }
 
-/// A variable or its contrary. Literals are ordered by variable, positive first.
+/// A literal of one of the variables that a builder may have.
+///
+/// Contracts see its code: 2v for the variable v, counted from 0, and 2v + 1 for its negation.
+/// Signals are ordered by variable, positive first.
 #[derive(Clone, Copy, Debug, PartialEq, Eq, PartialOrd, Ord, Hash)]
-pub struct Literal {
-    pub variable: Variable,
-    pub negative: bool,
+pub struct Signal {
+    literal: Literal,
 }
 
-/// A constant or a literal: what a builder's operations take and give.
+impl Model for Signal {
+    ghost Value = { ℕ };
+
+    ghost view = { λ s. s.literal };
+
+    ghost invariant = { λ s. s.literal < 400000 };
+
+    ghost inverse = { λ n. record { literal = n } };
+}
+
+/// A constant or a signal: what a builder's operations take and give.
 #[derive(Clone, Copy, Debug, PartialEq, Eq, Hash)]
 pub enum Bit {
     Constant(bool),
-    Signed(Literal),
+    Signed(Signal),
 }
 
-/// What a gate computes: the key under which it is kept. The lesser literal or variable stands
+/// What a gate computes: the key under which it is kept. The lesser signal or variable stands
 /// first; a choice is by a positive condition.
 #[derive(Clone, Copy, Debug, PartialEq, Eq, Hash)]
 pub enum Gate {
-    And(Literal, Literal),
+    And(Signal, Signal),
     Xor(Variable, Variable),
-    Ite(Variable, Literal, Literal),
+    Ite(Variable, Signal, Signal),
 }
 
-impl Literal {
+impl Signal {
+    ghost use Rattle.std.specs.Prelude.{◌*◌};
+    ghost use Rattle.clause_model.specs.Literals.{negated, variable_of, is_negative, number_of};
     ghost use Rattle.cnf_gates.specs.Cnf.{IsLiteral};
-    ghost use Rattle.cnf_gates.specs.Gates.{contrary, number};
 
-    /// The contrary literal.
-    pub fn contrary(self) -> Literal
-        ensures { result ≡ contrary self }
+    /// The variable, not negated.
+    pub fn positive(variable: Variable) -> Signal
+        ensures { result ≡ 2 * variable }
     {
-        Literal {
-            variable: self.variable,
-            negative: !self.negative,
+        Signal {
+            literal: Literal::new(variable.place(), false),
         }
     }
 
-    /// The literal in a clause: the variable's number from 1 on, negated where the literal is negative.
+    /// The literal.
+    pub fn literal(self) -> Literal
+        ensures { result ≡ self }
+    {
+        self.literal
+    }
+
+    /// Its variable.
+    pub fn variable(self) -> Variable
+        ensures { result ≡ variable_of self }
+    {
+        Variable::new(self.literal.variable())
+    }
+
+    /// Whether it is the negation of its variable.
+    pub fn is_negative(self) -> bool
+        ensures { result ≡ is_negative self }
+    {
+        self.literal.is_negative()
+    }
+
+    /// The contrary signal.
+    #[must_use]
+    pub fn contrary(self) -> Signal
+        ensures { result ≡ negated self }
+    {
+        Signal {
+            literal: self.literal.negated(),
+        }
+    }
+
+    /// The number of DIMACS that names it in a clause.
     pub fn number(self) -> i32
-        ensures number { result ≡ number self }
+        ensures number { result ≡ number_of self }
         ensures literal { IsLiteral result }
     {
-        let number = self.variable.place() as i32 + 1;
-        if self.negative { -number } else { number }
+        self.literal.number()
     }
 }
 
@@ -95,7 +138,7 @@ impl Bit {
     {
         match self {
             Bit::Constant(value) => Bit::Constant(!value),
-            Bit::Signed(literal) => Bit::Signed(literal.contrary()),
+            Bit::Signed(signal) => Bit::Signed(signal.contrary()),
         }
     }
 

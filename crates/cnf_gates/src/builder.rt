@@ -1,7 +1,7 @@
 ghost use Rattle.std.specs.Prelude.{◌≡◌, ◌<◌, ◌≤◌, ◌↔◌, ◌++◌, ℕ, map, IfOk, OnErr, Err, Ok, List};
 
-use crate::bit::{Bit, Gate, LIMIT, Literal, Variable};
-use crate::clauses::{clause_of, clauses_of, positive};
+use crate::bit::{Bit, Gate, LIMIT, Signal, Variable};
+use crate::clauses::{clause_of, clauses_of};
 use crate::errors::{GateError, Memory};
 use crate::formula::Formula;
 use indexmap::IndexMap;
@@ -58,7 +58,7 @@ impl Builder {
         ensures err { OnErr result (self.new ≡ self.old) }
     {
         if let Some(found) = self.gates.get(&gate) {
-            return Ok(Bit::Signed(positive(*found)));
+            return Ok(Bit::Signed(Signal::positive(*found)));
         }
         if self.variables == LIMIT {
             return Err(GateError::Limit);
@@ -69,7 +69,7 @@ impl Builder {
         self.gates.insert(gate, output)?;
         self.clauses.append(&mut added)?;
         self.variables += 1;
-        Ok(Bit::Signed(positive(output)))
+        Ok(Bit::Signed(Signal::positive(output)))
     }
 
     /// The conjunction of two bits: a constant, one of them, or a gate's bit.
@@ -117,20 +117,21 @@ impl Builder {
             (_, Bit::Constant(value)) => return Ok(a.negated_if(value)),
             (Bit::Signed(x), Bit::Signed(y)) => (x, y),
         };
-        let differ = x.negative != y.negative;
-        if x.variable == y.variable {
+        let differ = x.is_negative() != y.is_negative();
+        let (x, y) = (x.variable(), y.variable());
+        if x == y {
             return Ok(Bit::Constant(differ));
         }
-        let gate = if x.variable < y.variable {
-            self.gate(Gate::Xor(x.variable, y.variable))?
+        let gate = if x < y {
+            self.gate(Gate::Xor(x, y))?
         } else {
-            self.gate(Gate::Xor(y.variable, x.variable))?
+            self.gate(Gate::Xor(y, x))?
         };
         Ok(gate.negated_if(differ))
     }
 
-    /// The choice between two bits by a literal.
-    fn choice(&mut self, c: &Literal, t: &Bit, e: &Bit) -> Result<Bit, GateError>
+    /// The choice between two bits by a signal.
+    fn choice(&mut self, c: &Signal, t: &Bit, e: &Bit) -> Result<Bit, GateError>
         ensures ok { IfOk result (λ bit. (self.new, bit) ≡ choice_of self.old c.now t.now e.now) }
         ensures limit { (result ≡ Err GateError.Limit) ↔ IsPast self.old (choice_of self.old c.now t.now e.now) }
         ensures err { OnErr result (self.new ≡ self.old) }
@@ -143,10 +144,10 @@ impl Builder {
             (Bit::Signed(x), Bit::Signed(y)) => {
                 if *x == y.contrary() {
                     self.xor(Bit::Signed(*c), *e)
-                } else if c.negative {
-                    self.gate(Gate::Ite(c.variable, *y, *x))
+                } else if c.is_negative() {
+                    self.gate(Gate::Ite(c.variable(), *y, *x))
                 } else {
-                    self.gate(Gate::Ite(c.variable, *x, *y))
+                    self.gate(Gate::Ite(c.variable(), *x, *y))
                 }
             }
         }
@@ -182,7 +183,7 @@ impl Builder {
         }
         let input = Variable::new(self.variables);
         self.variables += 1;
-        Ok(Bit::Signed(positive(input)))
+        Ok(Bit::Signed(Signal::positive(input)))
     }
 
     /// Adds the clause that one of the bits is true, without False and repeats. Where True or a

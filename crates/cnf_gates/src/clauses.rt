@@ -1,26 +1,17 @@
 ghost use Rattle.std.specs.Prelude.{◌≡◌, IfOk, IfNone, IfSome, map, [], true, false};
 ghost use Rattle.cnf_gates.specs.Cnf.{AreLiterals, AreClauses};
-ghost use Rattle.cnf_gates.specs.Gates.{positive, clauses_of, among, has_true, has_pair, always_true, literals, distinct, number};
+ghost use Rattle.clause_model.specs.Literals.{number_of};
+ghost use Rattle.cnf_gates.specs.Gates.{clauses_of, among, has_true, has_pair, always_true, literals, distinct};
 
-use crate::bit::{Bit, Gate, Literal, Variable};
+use crate::bit::{Bit, Gate, Signal, Variable};
 use std::alloc::{AllocError, Global};
-
-/// The variable as a literal.
-pub fn positive(variable: Variable) -> Literal
-    ensures { result ≡ positive variable }
-{
-    Literal {
-        variable,
-        negative: false,
-    }
-}
 
 /// The clauses that make `output` the value of the gate.
 pub fn clauses_of(alloc: Global, gate: &Gate, output: Variable) -> Result<Vec<Vec<i32>>, AllocError>
     ensures clauses { IfOk result (λ v. map (λ c. c.items) v.items ≡ clauses_of gate.now output) }
     ensures literals { IfOk result (λ v. AreClauses (map (λ c. c.items) v.items)) }
 {
-    let yes = &positive(output);
+    let yes = &Signal::positive(output);
     let no = &yes.contrary();
     match gate {
         Gate::And(a, b) => {
@@ -30,7 +21,7 @@ pub fn clauses_of(alloc: Global, gate: &Gate, output: Variable) -> Result<Vec<Ve
             Ok(vec![in alloc; first, second, third]?)
         }
         Gate::Xor(x, y) => {
-            let (x, y) = (&positive(*x), &positive(*y));
+            let (x, y) = (&Signal::positive(*x), &Signal::positive(*y));
             let first = numbers(alloc, &[*no, *x, *y])?;
             let second = numbers(alloc, &[*no, x.contrary(), y.contrary()])?;
             let third = numbers(alloc, &[*yes, x.contrary(), *y])?;
@@ -38,7 +29,7 @@ pub fn clauses_of(alloc: Global, gate: &Gate, output: Variable) -> Result<Vec<Ve
             Ok(vec![in alloc; first, second, third, fourth]?)
         }
         Gate::Ite(c, t, e) => {
-            let c = &positive(*c);
+            let c = &Signal::positive(*c);
             let first = numbers(alloc, &[*no, c.contrary(), *t])?;
             let second = numbers(alloc, &[*no, *c, *e])?;
             let third = numbers(alloc, &[*yes, c.contrary(), t.contrary()])?;
@@ -49,7 +40,7 @@ pub fn clauses_of(alloc: Global, gate: &Gate, output: Variable) -> Result<Vec<Ve
 }
 
 /// The literals of the bits, in order.
-fn literals(alloc: Global, bits: &[Bit]) -> Result<Vec<Literal>, AllocError>
+fn literals(alloc: Global, bits: &[Bit]) -> Result<Vec<Signal>, AllocError>
     ensures { IfOk result (λ v. v.items ≡ literals bits.now) }
 {
     let mut found = Vec::new(alloc);
@@ -74,7 +65,7 @@ fn has_true(bits: &[Bit]) -> bool
 }
 
 /// Whether a literal is among them.
-fn among(literal: &Literal, literals: &[Literal]) -> bool
+fn among(literal: &Signal, literals: &[Signal]) -> bool
     ensures { result ≡ among literal.now literals.now }
 {
     for other in literals {
@@ -86,7 +77,7 @@ fn among(literal: &Literal, literals: &[Literal]) -> bool
 }
 
 /// Whether a literal stands before its contrary.
-fn has_pair(literals: &[Literal]) -> bool
+fn has_pair(literals: &[Signal]) -> bool
     ensures { result ≡ has_pair literals.now }
 {
     for (i, literal) in literals.iter().enumerate() {
@@ -98,7 +89,7 @@ fn has_pair(literals: &[Literal]) -> bool
 }
 
 /// Each literal once, in the order of their first places.
-fn distinct(alloc: Global, literals: &[Literal]) -> Result<Vec<Literal>, AllocError>
+fn distinct(alloc: Global, literals: &[Signal]) -> Result<Vec<Signal>, AllocError>
     ensures { IfOk result (λ v. v.items ≡ distinct literals.now) }
 {
     let mut kept = Vec::new(alloc);
@@ -111,8 +102,8 @@ fn distinct(alloc: Global, literals: &[Literal]) -> Result<Vec<Literal>, AllocEr
 }
 
 /// The numbers of the literals.
-fn numbers(alloc: Global, literals: &[Literal]) -> Result<Vec<i32>, AllocError>
-    ensures numbers { IfOk result (λ v. v.items ≡ map number literals.now) }
+fn numbers(alloc: Global, literals: &[Signal]) -> Result<Vec<i32>, AllocError>
+    ensures numbers { IfOk result (λ v. v.items ≡ map number_of literals.now) }
     ensures literals { IfOk result (λ v. AreLiterals v.items) }
 {
     let mut numbers = Vec::with_capacity(alloc, literals.len())?;
@@ -125,7 +116,7 @@ fn numbers(alloc: Global, literals: &[Literal]) -> Result<Vec<i32>, AllocError>
 /// The clause that one of the bits is true, each literal once; None where it is always true.
 pub fn clause_of(alloc: Global, bits: &[Bit]) -> Result<Option<Vec<i32>>, AllocError>
     ensures always { IfOk result (λ o. IfNone o (always_true bits.now ≡ true)) }
-    ensures numbers { IfOk result (λ o. IfSome o (λ v. (always_true bits.now ≡ false) × (v.items ≡ map number (distinct (literals bits.now))))) }
+    ensures numbers { IfOk result (λ o. IfSome o (λ v. (always_true bits.now ≡ false) × (v.items ≡ map number_of (distinct (literals bits.now))))) }
     ensures literals { IfOk result (λ o. IfSome o (λ v. AreLiterals v.items)) }
 {
     if has_true(bits) {

@@ -12,7 +12,7 @@ mod formula;
 pub mod laws;
 
 pub use assignment::Model;
-pub use bit::{Bit, Gate, LIMIT, Literal, Variable};
+pub use bit::{Bit, Gate, LIMIT, Signal, Variable};
 pub use builder::Builder;
 pub use dimacs::write_dimacs;
 pub use errors::{GateError, Memory};

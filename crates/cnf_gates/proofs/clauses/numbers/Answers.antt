@@ -1,12 +1,12 @@
 use Rattle.std.proofs.Common.{◌≡◌, ◌+◌, ◌++◌, ◌∷◌, [], List, ℤ, ap, ◌∙◌, sym, append_assoc, map, drop, arith, rules}
-use Rattle.cnf_gates.specs.Gates.{number}
+use Rattle.clause_model.specs.Literals.{number_of}
 use Rattle.cnf_gates.proofs.Literals.{AreLiteralsOf-push, numbers_from}
 use Rattle.cnf_gates.proofs.clauses.numbers.Goals as goal
 
 pub loop-literal-preserved : goal.loop-literal-preserved
 loop-literal-preserved c =
     let pushed : c.push.new.self.items ≡ c.loop-literal.numbers.items ++ c.number.result ∷ [] = search rules in
-    let rest : List ℤ = map number (drop (c.loop-literal.literal-index + 1) c.args.literals.now) in
+    let rest : List ℤ = map number_of (drop (c.loop-literal.literal-index + 1) c.args.literals.now) in
     record {
       done =
           rw pushed

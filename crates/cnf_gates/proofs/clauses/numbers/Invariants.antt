@@ -1,10 +1,10 @@
 use Rattle.std.proofs.Common.{◌≡◌, ◌++◌, map, drop}
 use Rattle.cnf_gates.specs.Cnf.{AreLiterals}
-use Rattle.cnf_gates.specs.Gates.{number}
+use Rattle.clause_model.specs.Literals.{number_of}
 use Rattle.cnf_gates.proofs.clauses.numbers.Given as goal
 
 abbrev pub invariant-loop-literal : goal.invariant-loop-literal
 invariant-loop-literal l = record {
-  done : l.numbers.items ++ map number (drop l.literal-index l.literals) ≡ map number l.literals;
+  done : l.numbers.items ++ map number_of (drop l.literal-index l.literals) ≡ map number_of l.literals;
   literals : AreLiterals l.numbers.items;
 }

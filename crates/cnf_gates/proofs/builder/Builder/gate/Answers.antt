@@ -1,10 +1,10 @@
-use Rattle.std.proofs.Common.{◌≡◌, ◌++◌, Some, None, map, ap, ◌∙◌, rules, arith, ℤ, Vec, Global, refl}
+use Rattle.std.proofs.Common.{◌≡◌, ◌*◌, ◌++◌, Some, None, map, ap, ◌∙◌, rules, arith, ℤ, Vec, Global, refl}
 use Rattle.std.proofs.lemmas.List.{map-append}
 use Rattle.std.specs.Map.{lookup}
 use Rattle.indexmap.proofs.CallerLemmas.{insert_entry-new}
 use Rattle.indexmap.specs.IndexMap.{insert_entry, get}
 use Rattle.cnf_gates.specs.contracts.bit.GatePartialEq.TheImpl.{eq-value}
-use Rattle.cnf_gates.specs.Gates.{clauses_of, gate_eq, positive}
+use Rattle.cnf_gates.specs.Gates.{clauses_of, gate_eq}
 use Rattle.cnf_gates.proofs.Literals.{AreClausesOf-append}
 use Rattle.cnf_gates.proofs.Building.{gate_made, found_not_past}
 use Rattle.cnf_gates.proofs.builder.Builder.gate.Goals as goal
@@ -23,7 +23,7 @@ returns-clause-ok c =
     rw (← c.self.view_is)
     (gate_made _ c.args.gate _ _ _ _ none (omega arith) clauses
     (put ∙ insert_entry-new eq-value.it c.self.inside.gates c.args.gate c.new-output.result absent ∙ rw place refl)
-    (c.positive-2.ensures ∙ ap positive place))
+    (c.positive-2.ensures ∙ ap (λ v. 2 * v) place))
 
 pub returns-in-Some-clause-limit : goal.returns-in-Some-clause-limit
 returns-in-Some-clause-limit c =
