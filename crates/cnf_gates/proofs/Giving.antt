@@ -208,23 +208,16 @@ signed_choice_gives low b c t e h p q r =
     (λ m. ap (λ z. cond z (literal_value m t) (literal_value m e)) (sym (literal_value-not_negative m c n)))
     (gate_gives low b (Ite v t e) h (three_below v (variable_of t) (variable_of e) b.variables p q r)))
 
-choice_gives : (low : ℕ) (b : Built) (v : ℕ) (n : Bool) (t e : Literal) → Ready low b → v < b.variables → t.variable < b.variables → e.variable < b.variables
-    → Gives 1 b (λ c. cond n (gate_of c (Ite v e t)) (gate_of c (Ite v t e))) (λ m. cond (signed_value n (m v)) (literal_value m t) (literal_value m e))
-signed_choice_gives low b v false t e h p q r = gate_gives low b (Ite v t e) h (three_below v t.variable e.variable b.variables p q r)
-signed_choice_gives low b v true t e h p q r =
-    Gives-at 1 b (λ c. gate_of c (Ite v e t)) (λ m. cond (m v) (literal_value m e) (literal_value m t)) (λ m. cond (not (m v)) (literal_value m t) (literal_value m e))
-    (λ m. if_turned (m v) (literal_value m t) (literal_value m e)) (gate_gives low b (Ite v e t) h (three_below v e.variable t.variable b.variables p r q))
-
 choice_gives : (low : ℕ) (b : Built) (c : ℕ) (t e : Bit) → Ready low b → variable_of c < b.variables → BitBelow b.variables t → BitBelow b.variables e
     → Gives 1 b (λ d. choice_of d c t e) (λ m. cond (literal_value m c) (bit_value m t) (bit_value m e))
 choice_gives low b c (Constant true) e h p q r =
     Gives-at 1 b (λ d. or_of d (Signed c) e) (λ m. literal_value m c || bit_value m e) _ (λ m. if_true (literal_value m c) (bit_value m e)) (or_gives low b (Signed c) e h p r)
 choice_gives low b c (Constant false) e h p q r =
     Gives-at 1 b (λ d. and_of d (Signed (negated c)) e) (λ m. literal_value m (negated c) && bit_value m e) _
-    (λ m. ap (λ v. v && bit_value m e) (literal_value-negated m c) ∙ if_false (literal_value m c) (bit_value m e)) (and_gives low b (Signed (negated c)) e h p r)
+    (λ m. ap (λ v. v && bit_value m e) (literal_value-negated m c) ∙ if_false (literal_value m c) (bit_value m e)) (and_gives low b (Signed (negated c)) e h (negated_below b.variables c p) r)
 choice_gives low b c (Signed t) (Constant true) h p q r =
     Gives-at 1 b (λ d. or_of d (Signed (negated c)) (Signed t)) (λ m. literal_value m (negated c) || literal_value m t) _
-    (λ m. ap (λ v. v || literal_value m t) (literal_value-negated m c) ∙ else_true (literal_value m c) (literal_value m t)) (or_gives low b (Signed (negated c)) (Signed t) h p q)
+    (λ m. ap (λ v. v || literal_value m t) (literal_value-negated m c) ∙ else_true (literal_value m c) (literal_value m t)) (or_gives low b (Signed (negated c)) (Signed t) h (negated_below b.variables c p) q)
 choice_gives low b c (Signed t) (Constant false) h p q r =
     Gives-at 1 b (λ d. and_of d (Signed c) (Signed t)) (λ m. literal_value m c && literal_value m t) _ (λ m. else_false (literal_value m c) (literal_value m t)) (and_gives low b (Signed c) (Signed t) h p q)
 choice_gives low b c (Signed t) (Signed e) h p q r =

@@ -78,21 +78,22 @@ impl Builder {
         ensures limit { (result ≡ Err GateError.Limit) ↔ IsPast self.old (and_of self.old a b) }
         ensures err { OnErr result (self.new ≡ self.old) }
     {
-        let (x, y) = match (a, b) {
-            (Bit::Constant(false), _) => return Ok(a),
-            (Bit::Constant(true), _) => return Ok(b),
-            (_, Bit::Constant(false)) => return Ok(b),
-            (_, Bit::Constant(true)) => return Ok(a),
-            (Bit::Signed(x), Bit::Signed(y)) => (x, y),
-        };
-        if x == y {
-            Ok(a)
-        } else if x == y.contrary() {
-            Ok(Bit::Constant(false))
-        } else if x < y {
-            self.gate(Gate::And(x, y))
-        } else {
-            self.gate(Gate::And(y, x))
+        match (&a, &b) {
+            (Bit::Constant(false), _) => Ok(a),
+            (Bit::Constant(true), _) => Ok(b),
+            (_, Bit::Constant(false)) => Ok(b),
+            (_, Bit::Constant(true)) => Ok(a),
+            (Bit::Signed(x), Bit::Signed(y)) => {
+                if x == y {
+                    Ok(a)
+                } else if *x == y.contrary() {
+                    Ok(Bit::Constant(false))
+                } else if x < y {
+                    self.gate(Gate::And(*x, *y))
+                } else {
+                    self.gate(Gate::And(*y, *x))
+                }
+            }
         }
     }
 
@@ -112,22 +113,23 @@ impl Builder {
         ensures limit { (result ≡ Err GateError.Limit) ↔ IsPast self.old (xor_of self.old a b) }
         ensures err { OnErr result (self.new ≡ self.old) }
     {
-        let (x, y) = match (a, b) {
-            (Bit::Constant(value), _) => return Ok(b.negated_if(value)),
-            (_, Bit::Constant(value)) => return Ok(a.negated_if(value)),
-            (Bit::Signed(x), Bit::Signed(y)) => (x, y),
-        };
-        let differ = x.is_negative() != y.is_negative();
-        let (x, y) = (x.variable(), y.variable());
-        if x == y {
-            return Ok(Bit::Constant(differ));
+        match (&a, &b) {
+            (Bit::Constant(value), _) => Ok(b.negated_if(*value)),
+            (_, Bit::Constant(value)) => Ok(a.negated_if(*value)),
+            (Bit::Signed(x), Bit::Signed(y)) => {
+                let differ = x.is_negative() != y.is_negative();
+                let (x, y) = (x.variable(), y.variable());
+                if x == y {
+                    return Ok(Bit::Constant(differ));
+                }
+                let gate = if x < y {
+                    self.gate(Gate::Xor(x, y))?
+                } else {
+                    self.gate(Gate::Xor(y, x))?
+                };
+                Ok(gate.negated_if(differ))
+            }
         }
-        let gate = if x < y {
-            self.gate(Gate::Xor(x, y))?
-        } else {
-            self.gate(Gate::Xor(y, x))?
-        };
-        Ok(gate.negated_if(differ))
     }
 
     /// The choice between two bits by a signal.

@@ -1,4 +1,4 @@
-use Rattle.std.proofs.Common.{◌≡◌, ◌*◌, ◌++◌, Some, None, map, ap, ◌∙◌, rules, arith, ℤ, Vec, Global, refl}
+use Rattle.std.proofs.Common.{◌≡◌, ◌*◌, ◌++◌, Some, None, map, ap, sym, ◌∙◌, rules, arith, ℤ, Vec, Global, refl}
 use Rattle.std.proofs.lemmas.List.{map-append}
 use Rattle.std.specs.Map.{lookup}
 use Rattle.indexmap.proofs.CallerLemmas.{insert_entry-new}
@@ -6,12 +6,12 @@ use Rattle.indexmap.specs.IndexMap.{insert_entry, get}
 use Rattle.cnf_gates.specs.contracts.bit.GatePartialEq.TheImpl.{eq-value}
 use Rattle.cnf_gates.specs.Gates.{clauses_of, gate_eq}
 use Rattle.cnf_gates.proofs.Literals.{AreClausesOf-append}
-use Rattle.cnf_gates.proofs.Building.{gate_made, found_not_past}
+use Rattle.cnf_gates.proofs.Building.{lookup_alike, gate_made, found_not_past}
 use Rattle.cnf_gates.proofs.builder.Builder.gate.Goals as goal
 
 pub returns-clause-ok : goal.returns-clause-ok
 returns-clause-ok c =
-    let none : lookup (gate_eq c.args.gate) c.self.inside.gates.entries ≡ None = search rules in
+    let none : lookup (gate_eq c.args.gate) c.self.inside.gates.entries ≡ None = sym (c.in_default.ensures.value ∙ lookup_alike c.args.gate c.self.inside.gates.entries) in
     let absent : get eq-value.it c.self.inside.gates c.args.gate ≡ None = search rules in
     let kept : c.reserve.new.self.items ≡ c.self.inside.clauses.items = c.in_ok-reserve.ensures.items in
     let appended : c.append.new.self.items ≡ c.reserve.new.self.items ++ c.in_ok-added.added.items = c.in_ok-append.ensures.items in
