@@ -6,7 +6,7 @@ use Rattle.word_bits.specs.declared.Shift.TheVariants.{Lsl, Lsr, Asr}
 use Rattle.word_bits.proofs.Words.{pow_le}
 use Rattle.cnf_gates.specs.declared.bit.Bit.{Bit}
 use Rattle.cnf_gates.specs.declared.bit.Bit.TheVariants.{Constant}
-use Rattle.cnf_gates.specs.Gates.{Built, positive}
+use Rattle.cnf_gates.specs.Gates.{Built}
 use Rattle.cnf_gates.specs.declared.bit.Bit.TheVariants.{Signed}
 use Rattle.bit_blast.specs.Circuits.{Shifted, stage_of, stages_from}
 use Rattle.bit_blast.specs.Differences.{variables_from, words_from, input_word}
@@ -119,11 +119,11 @@ stages_step kind b c j amount s t a r h wide e f g =
 
 -- ---- inputs
 
-pub variables_from-more : (v n : ℕ) → variables_from v n ++ Signed (positive (v + n)) ∷ [] ≡ variables_from v (n + 1)
-variables_from-more v zero = ap (λ w. Signed (positive w) ∷ []) (let e : v + 0 ≡ v = omega arith in e)
+pub variables_from-more : (v n : ℕ) → variables_from v n ++ Signed (2 * (v + n)) ∷ [] ≡ variables_from v (n + 1)
+variables_from-more v zero = ap (λ w. Signed (2 * w) ∷ []) (let e : v + 0 ≡ v = omega arith in e)
 variables_from-more v (suc n) =
-    ap (λ w. Signed (positive v) ∷ (variables_from (suc v) n ++ Signed (positive w) ∷ [])) (let e : v + suc n ≡ suc v + n = omega arith in e)
-    ∙ ap (λ l. Signed (positive v) ∷ l) (variables_from-more (suc v) n) ∙ ap (variables_from v) (let e : suc (n + 1) ≡ suc n + 1 = omega arith in e)
+    ap (λ w. Signed (2 * v) ∷ (variables_from (suc v) n ++ Signed (2 * w) ∷ [])) (let e : v + suc n ≡ suc v + n = omega arith in e)
+    ∙ ap (λ l. Signed (2 * v) ∷ l) (variables_from-more (suc v) n) ∙ ap (variables_from v) (let e : suc (n + 1) ≡ suc n + 1 = omega arith in e)
 
 pub words_from-more : (v k : ℕ) → words_from v k ++ input_word (v + 32 * k) ∷ [] ≡ words_from v (k + 1)
 words_from-more v zero = ap (λ w. input_word w ∷ []) (let e : v + 32 * 0 ≡ v = omega arith in e)

@@ -1,9 +1,10 @@
 -- The formula's models are exactly the states that tell the sides apart; its variables are few; and a side against itself.
 use Rattle.std.proofs.Common.{◌≡◌, ◌≢◌, ℕ, ◌+◌, ◌-◌, ◌*◌, ◌<◌, ◌≤◌, ◌⊎◌, ◌↔◌, inl, inr, List, [], ◌∷◌, ◌++◌, Bool, true, false, ◌&&◌, ◌||◌, cond, eqb, nat_le, nat_lt, length, take, refl, sym, ap, ◌∙◌, arith, ⊎_elim, subst, map}
 use Rattle.std.proofs.lemmas.Bool.{and_parts, and_from, or_cases, ltb-true, leb-true, cond-true, cond-false, eq-eqb, cases_eq}
+use Rattle.clause_model.specs.Literals.{variable_of, is_negative, number_of}
 use Rattle.cnf_gates.specs.declared.bit.Bit.{Bit}
 use Rattle.cnf_gates.specs.declared.bit.Bit.TheVariants.{Constant, Signed}
-use Rattle.cnf_gates.specs.Gates.{Built, xor_of, differ, or_clause_of, literals, has_true, has_pair, always_true, distinct, number}
+use Rattle.cnf_gates.specs.Gates.{Built, xor_of, differ, or_clause_of, literals, has_true, has_pair, always_true, distinct}
 use Rattle.cnf_gates.specs.Meaning.{any_value, all_true, GatesHold}
 use Rattle.cnf_gates.specs.Growth.{Grows}
 use Rattle.cnf_gates.proofs.Giving.{Grows-then}
@@ -144,7 +145,7 @@ pub few_variables : (left right : List Instr) (mask k : ℕ) → length left ≤
 few_variables left right mask k few_left few_right small over_left over_right =
     let w = both_sides left right mask k in
     let most : w.0.variables ≤ 32 * k + 4 + (6208 * length left + 6208 * length right + 132) = (sides_give left right mask k over_left over_right).grows.most in
-    let count : (or_clause_of w.0 w.1).variables ≡ w.0.variables = same_variables (always_true w.1) w.0 (record w.0 { clauses = w.0.clauses ++ map number (distinct (literals w.1)) ∷ [] }) refl in
+    let count : (or_clause_of w.0 w.1).variables ≡ w.0.variables = same_variables (always_true w.1) w.0 (record w.0 { clauses = w.0.clauses ++ map number_of (distinct (literals w.1)) ∷ [] }) refl in
     omega arith
 
 -- ---- a side against itself
@@ -166,7 +167,7 @@ xor_itself : (b : Built) (x : Bit) → xor_of b x x ≡ (b, Constant false)
 xor_itself b (Constant true) = refl
 xor_itself b (Constant false) = refl
 xor_itself b (Signed x) =
-    cond-true (eqb x.variable x.variable) (b, Constant (differ x.negative x.negative)) _ (eq-eqb x.variable x.variable refl) ∙ ap (λ n. (b, Constant n)) (same_sign x.negative)
+    cond-true (eqb (variable_of x) (variable_of x)) (b, Constant (differ (is_negative x) (is_negative x))) _ (eq-eqb (variable_of x) (variable_of x) refl) ∙ ap (λ n. (b, Constant n)) (same_sign (is_negative x))
 
 -- a step that makes nothing, and finds False alone
 record FindsNothing (b : Built) (r : Built × List Bit) : Type 0 where
@@ -228,8 +229,8 @@ empty_clause : (b : Built) (xs : List Bit) → AreFalse xs → or_clause_of b xs
 empty_clause b xs h =
     let ls = no_literals xs h in
     let never : always_true xs ≡ false = ap (λ t. t || has_pair (literals xs)) (no_true xs h) ∙ ap has_pair ls in
-    cond-false (always_true xs) b (record b { clauses = b.clauses ++ map number (distinct (literals xs)) ∷ [] }) never
-    ∙ ap (λ l. let c : Built = record b { clauses = b.clauses ++ map number (distinct l) ∷ [] } in c) ls
+    cond-false (always_true xs) b (record b { clauses = b.clauses ++ map number_of (distinct (literals xs)) ∷ [] }) never
+    ∙ ap (λ l. let c : Built = record b { clauses = b.clauses ++ map number_of (distinct l) ∷ [] } in c) ls
 
 -- forming the side a second time finds every gate again, so nothing differs and the last clause is empty
 pub itself_ends_in_empty : (side : List Instr) (mask k : ℕ) → AreOver k side → EndsInEmpty (sides_formula side side mask k)

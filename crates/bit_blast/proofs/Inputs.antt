@@ -3,7 +3,7 @@ use Rattle.std.proofs.Common.{◌≡◌, ℕ, suc, ◌+◌, ◌*◌, ◌<◌, mi
 use Rattle.std.proofs.lemmas.List.{take_all, take_more_set, drop_more, get_or-take, length-take}
 use Rattle.cnf_gates.specs.declared.bit.Bit.{Bit}
 use Rattle.cnf_gates.specs.declared.bit.Bit.TheVariants.{Signed}
-use Rattle.cnf_gates.specs.Gates.{Built, positive, input_of}
+use Rattle.cnf_gates.specs.Gates.{Built, input_of}
 use Rattle.thumb_instr.specs.Items.{has, n_flag, z_flag, c_flag, v_flag}
 use Rattle.bit_blast.specs.declared.circuits.Connective.TheVariants.{Xor}
 use Rattle.bit_blast.specs.Circuits.{each_of, before_word}
@@ -24,7 +24,7 @@ input_built a b c i x e f =
 pub input_bits_step : (a b c : Built) (i : ℕ) (word : List Bit) (x : Bit) → i < 32 → length word ≡ 32 → b ≡ record a { variables = a.variables + i } → take i word ≡ variables_from a.variables i → (c, x) ≡ input_of b
     → take (i + 1) (set word i x) ≡ variables_from a.variables (i + 1)
 input_bits_step a b c i word x h wide e same f =
-    let bit : x ≡ Signed (positive (a.variables + i)) = ap (λ p. p.1) f ∙ ap (λ d. (input_of d).1) e in
+    let bit : x ≡ Signed (2 * (a.variables + i)) = ap (λ p. p.1) f ∙ ap (λ d. (input_of d).1) e in
     take_more_set word i x (omega arith) ∙ ap (λ t. t ++ x ∷ []) same ∙ ap (λ y. variables_from a.variables i ++ y ∷ []) bit ∙ variables_from-more a.variables i
 
 pub input_bits_done : (v i : ℕ) (word : List Bit) → i ≡ 32 → length word ≡ 32 → take i word ≡ variables_from v i → word ≡ input_word v

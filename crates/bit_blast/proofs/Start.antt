@@ -5,6 +5,8 @@ use Rattle.std.proofs.lemmas.Nat.{pow_pos, shr-shr}
 use Rattle.std.proofs.lemmas.Nat.Bits.{bit_at-lt}
 use Rattle.std.proofs.lemmas.Bool.{cond-true, cond-false, ne_eqb, eq-eqb, lt-ltb, le-ltb, cases_eq}
 use Rattle.std.specs.Int.{from_bool, bit_at}
+use Rattle.clause_model.specs.Literals.{variable_of}
+use Rattle.clause_model.proofs.LiteralLaws.{literal_value-positive}
 use Rattle.cnf_gates.specs.declared.bit.Bit.{Bit}
 use Rattle.cnf_gates.specs.declared.bit.Bit.TheVariants.{Constant, Signed}
 use Rattle.cnf_gates.specs.Meaning.{bit_value}
@@ -51,7 +53,7 @@ start_exact k = IsExact-inputs (32 * k + 4)
 
 bit_same : (m n : ℕ → Bool) (low : ℕ) (x : Bit) → ((v : ℕ) → v < low → m v ≡ n v) → BitBelow low x → bit_value m x ≡ bit_value n x
 bit_same m n low (Constant c) h k = refl
-bit_same m n low (Signed l) h k = rw (h l.variable k)
+bit_same m n low (Signed l) h k = rw (h (variable_of l) k)
 
 number_same : (m n : ℕ → Bool) (low : ℕ) (xs : List Bit) → ((v : ℕ) → v < low → m v ≡ n v) → AllBelow low xs → number_of m xs ≡ number_of n xs
 number_same m n low [] h k = refl
@@ -78,6 +80,10 @@ bit_test b x h e =
     ap from_bool e
     ∙ ⊎_elim (λ (t : x ≡ 1). ap (λ y. from_bool (eqb y 1)) t ∙ sym t) (λ (f : x ≡ 1 → ⊥). let z : x ≡ 0 = omega arith in ap (λ y. from_bool (eqb y 1)) z ∙ sym z) (cases_eq x 1)
 
+-- the bit of a variable is its value
+pub variable_value : (m : ℕ → Bool) (v : ℕ) → from_bool (bit_value m (Signed (2 * v))) ≡ from_bool (m v)
+variable_value m v = ap from_bool (literal_value-positive m v)
+
 number_of-bits : (m : ℕ → Bool) (v n x j : ℕ) → ((i : ℕ) → i < n → m (v + i) ≡ eqb (bit_at x (j + i)) 1) → number_of m (variables_from v n) ≡ x / 2 ^ j % 2 ^ n
 number_of-bits m v zero x j h = omega arith
 number_of-bits m v (suc n) x j h =
@@ -89,7 +95,7 @@ number_of-bits m v (suc n) x j h =
     let both : (a % 2 + 2 * (a / 2)) % (2 ^ n * 2) ≡ a % 2 + 2 * (a / 2 % 2 ^ n) = low_places (a % 2) (a / 2) (2 ^ n) (omega arith) (pow_pos n) in
     let whole : a % 2 + 2 * (a / 2) ≡ a = omega arith in
     let joined : a % (2 ^ n * 2) ≡ a % 2 + 2 * (a / 2 % 2 ^ n) = rw whole at both in
-    rw (low, rest, half, pow-suc 2 n) (sym joined)
+    ap (λ b. b + 2 * number_of m (variables_from (suc v) n)) (variable_value m v) ∙ rw (low, rest, half, pow-suc 2 n) (sym joined)
 
 number_of-input : (m : ℕ → Bool) (v x : ℕ) → x < 2 ^ 32 → ((i : ℕ) → i < 32 → m (v + i) ≡ eqb (bit_at x i) 1) → number_of m (input_word v) ≡ x
 unfolding input_word
@@ -133,10 +139,10 @@ given_v k v =
     ∙ other k 3 2 _ _ (λ e. omega arith)
 
 given_flag : (k : ℕ) (v : Values) (j : ℕ) → AreWords v → j < 4 → start_values (given_by k v) k (15 + j) ≡ v (15 + j)
-given_flag k v zero are h = bit_test (given_by k v (32 * k)) (v 15) (are.flag 15 (omega arith)) (given_n k v)
-given_flag k v (suc zero) are h = bit_test (given_by k v (32 * k + 1)) (v 16) (are.flag 16 (omega arith)) (given_z k v)
-given_flag k v (suc (suc zero)) are h = bit_test (given_by k v (32 * k + 2)) (v 17) (are.flag 17 (omega arith)) (given_c k v)
-given_flag k v (suc (suc (suc zero))) are h = bit_test (given_by k v (32 * k + 3)) (v 18) (are.flag 18 (omega arith)) (given_v k v)
+given_flag k v zero are h = variable_value (given_by k v) (32 * k) ∙ bit_test (given_by k v (32 * k)) (v 15) (are.flag 15 (omega arith)) (given_n k v)
+given_flag k v (suc zero) are h = variable_value (given_by k v) (32 * k + 1) ∙ bit_test (given_by k v (32 * k + 1)) (v 16) (are.flag 16 (omega arith)) (given_z k v)
+given_flag k v (suc (suc zero)) are h = variable_value (given_by k v) (32 * k + 2) ∙ bit_test (given_by k v (32 * k + 2)) (v 17) (are.flag 17 (omega arith)) (given_c k v)
+given_flag k v (suc (suc (suc zero))) are h = variable_value (given_by k v) (32 * k + 3) ∙ bit_test (given_by k v (32 * k + 3)) (v 18) (are.flag 18 (omega arith)) (given_v k v)
 given_flag k v (suc (suc (suc (suc j)))) are h = absurd (omega arith)
 
 pub given_back : (k : ℕ) (v : Values) → AreWords v → SameOver k (start_values (given_by k v) k) v

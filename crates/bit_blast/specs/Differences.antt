@@ -3,19 +3,19 @@ use Rattle.std.specs.Prelude.{ℕ, zero, suc, ◌+◌, ◌*◌, Bool, true, fals
 use Rattle.cnf_gates.specs.declared.bit.Bit.{Bit}
 use Rattle.cnf_gates.specs.declared.bit.Bit.TheVariants.{Signed}
 use Rattle.cnf_gates.specs.Cnf.{Cnf}
-use Rattle.cnf_gates.specs.Gates.{Built, positive, xor_of, or_clause_of, formula_of}
+use Rattle.cnf_gates.specs.Gates.{Built, xor_of, or_clause_of, formula_of}
 use Rattle.thumb_instr.specs.declared.instr.Instr.{Instr}
 use Rattle.thumb_instr.specs.Items.{has, n_flag, z_flag, c_flag, v_flag}
 use Rattle.bit_blast.specs.declared.circuits.Connective.TheVariants.{Xor}
 use Rattle.bit_blast.specs.Circuits.{each_of}
 use Rattle.bit_blast.specs.Forming.{Bits, formed_all}
 
--- ---- the start: variables count from 0 here, and from 1 in clauses
+-- ---- the start: variables count from 0 here, and from 1 in clauses; 2 * v is the literal of the variable v
 
 -- n variables from v on
 abbrev pub variables_from : ℕ → ℕ → List Bit
 variables_from v zero = []
-variables_from v (suc n) = Signed (positive v) ∷ variables_from (suc v) n
+variables_from v (suc n) = Signed (2 * v) ∷ variables_from (suc v) n
 
 -- a word of variables from v on
 unfoldable pub input_word : ℕ → List Bit
@@ -30,10 +30,10 @@ words_from v (suc k) = input_word v ∷ words_from (v + 32) k
 abbrev pub start_bits : ℕ → Bits
 start_bits k = record {
   r = words_from 0 k;
-  n = Signed (positive (32 * k));
-  z = Signed (positive (32 * k + 1));
-  c = Signed (positive (32 * k + 2));
-  v = Signed (positive (32 * k + 3));
+  n = Signed (2 * (32 * k));
+  z = Signed (2 * (32 * k + 1));
+  c = Signed (2 * (32 * k + 2));
+  v = Signed (2 * (32 * k + 3));
 }
 
 abbrev pub start_built : ℕ → Built
