@@ -89,13 +89,6 @@ impl Signal {
         }
     }
 
-    /// The literal.
-    pub fn literal(self) -> Literal
-        ensures { result ≡ self }
-    {
-        self.literal
-    }
-
     /// Its variable.
     pub fn variable(self) -> Variable
         ensures { result ≡ variable_of self }
