@@ -11,4 +11,5 @@ mod Through
 pub mod Weights
 mod Paths
 mod Visits
+mod Onward
 pub mod Marks

@@ -1,12 +1,12 @@
 //! Passes over all places, backward, until nothing changes.
-ghost use Rattle.std.specs.Prelude.{[], ◌∷◌, ◌≡◌, ℕ, ◌+◌, ◌*◌, ◌<◌, ◌≤◌, false, length};
+ghost use Rattle.std.specs.Prelude.{[], ◌∷◌, ◌≡◌, ℕ, ◌+◌, ◌*◌, ◌<◌, ◌≤◌, true, false, length};
 ghost use Rattle.std.specs.Int.{from_bool};
 ghost use Rattle.thumb_instr.specs.Items.{has};
 ghost use Rattle.thumb_model.specs.Listing.{code_of};
 ghost use Rattle.code_flow.specs.Flow.{way_list};
 ghost use Rattle.liveness.specs.Ways.{AreAllWays};
 ghost use Rattle.liveness.specs.Points.{HasPoints};
-ghost use Rattle.liveness.specs.Passes.{gained, led, there, total, IsVisit, AreSound, AreClosedFrom};
+ghost use Rattle.liveness.specs.Passes.{gained, led, there, leads_to, goes_on_to, total, IsVisit, AreSound, AreClosedFrom, AreOnwardClosed};
 
 use code_flow::{Next, Way, Ways};
 use listing_parser::Listing;
@@ -103,9 +103,33 @@ fn visit<L: Ledger>(
     }
 }
 
-/// Visits each place once, from the last to the first. Whether some set changed.
+/// Whether a way leads to a place.
+fn leads_to(place: usize, way: Way) -> bool
+    ensures { result ≡ leads_to place way.next }
+{
+    match way.next {
+        Next::Place(there) => there as usize == place,
+        _ => false,
+    }
+}
+
+/// Whether the ways lead to a place and nowhere else.
+fn goes_on_to(place: usize, ways: Option<Ways>) -> bool
+    ensures { result ≡ goes_on_to place (way_list ways) }
+{
+    match ways {
+        None => true,
+        Some(ways) => leads_to(place, ways.first)
+            && ways.second.is_none_or(|way| leads_to(place, way)),
+    }
+}
+
+/// Visits places, from the last to the first. Whether some set changed.
+///
+/// Where each place was visited before, one that only goes on to the next needs no visit unless the set before that one grew just now.
 fn pass<L: Ledger>(
     _listing: &Listing,
+    visited: bool,
     ways: &[Option<Ways>],
     is_point: &[bool],
     before: &mut [Items],
@@ -119,26 +143,25 @@ fn pass<L: Ledger>(
     requires ways { AreAllWays (code_of _listing.now) ways.now }
     requires is_point { HasPoints (code_of _listing.now) is_point.now }
     requires sound { AreSound (code_of _listing.now) before.old points.old.bits }
+    requires onward { visited ≡ true → AreOnwardClosed ways.now before.old after.old points.old.bits }
     ensures sound { AreSound (code_of _listing.now) before.new points.new.bits }
+    ensures onward { AreOnwardClosed ways.now before.new after.new points.new.bits }
     ensures closed { result ≡ false → AreClosedFrom 0 ways.now before.new after.new points.new.bits }
     ensures more { total before.old + from_bool result ≤ total before.new }
     ensures cost { steps.new ≤ steps.old + length ways.now }
 {
     let mut changed = false;
+    let mut grew = false;
     let mut place = ways.len();
     while place > 0 {
+        let next = place;
         place -= 1;
-        if visit(
-            ways[place],
-            is_point[place],
-            place,
-            before,
-            after,
-            points,
-            steps,
-        ) {
-            changed = true;
+        let here = ways[place];
+        if visited && !grew && goes_on_to(next, here) {
+            continue;
         }
+        grew = visit(here, is_point[place], place, before, after, points, steps);
+        changed |= grew;
     }
     changed
 }
@@ -163,5 +186,10 @@ pub(crate) fn settle<L: Ledger>(
     ensures closed { AreClosedFrom 0 ways.now before.new after.new points.new.bits }
     ensures cost { steps.new ≤ steps.old + (19 * length ways.now + 1) * length ways.now }
 {
-    while pass(listing, ways, is_point, before, after, points, steps) {}
+    let mut visited = false;
+    while pass(
+        listing, visited, ways, is_point, before, after, points, steps,
+    ) {
+        visited = true;
+    }
 }
