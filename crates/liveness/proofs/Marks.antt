@@ -1,13 +1,13 @@
 -- Marking the code points.
-use Rattle.std.proofs.Common.{◌≡◌, ◌≢◌, ℕ, zero, suc, ◌+◌, ◌<◌, ◌==◌, ◌&&◌, ◌||◌, Bool, true, false, List, [], ◌∷◌, ◌++◌, length, drop, drop-cons, map, get_or, replicate, if◌then◌else◌, eq-eqb, ne_eqb, Option, Some, None, refl, sym, ap, ◌∙◌, inl, inr, arith, add-one, length-append}
+use Rattle.std.proofs.Common.{◌≡◌, ◌≢◌, ℕ, zero, suc, ◌+◌, ◌<◌, ◌==◌, ◌&&◌, ◌||◌, Bool, true, false, List, [], ◌∷◌, ◌++◌, length, drop, drop-cons, map, get_or, replicate, if◌then◌else◌, eq-eqb, ne_eqb, refl, sym, ap, ◌∙◌, inl, inr, arith, add-one, length-append}
 use Rattle.std.specs.Prelude.{slice_get, slice_set}
 use Rattle.std.proofs.lemmas.Bool.{cases_eq}
 use Rattle.listing_parser.specs.declared.line.Line.{Line as Lines}
 use Rattle.listing_parser.specs.Views.{line_view}
 use Rattle.thumb_instr.proofs.Listed.{one_of_append}
 use Rattle.thumb_model.specs.Items.{one_of}
-use Rattle.thumb_model.specs.Listing.{Name, Place, Label, Line, Code, is_op_place, is_call, labels_at, labels_from, places_in, places_of, label_places, return_places}
-use Rattle.liveness.specs.Points.{is_true, marked, some_name, is_call_place, HasPoints}
+use Rattle.thumb_model.specs.Listing.{Name, Value, Place, Word, Statement, Nothing, Runs, Words, Aligns, Sets, Label, Line, Code, is_op_place, is_call_instr, labels_at, labels_from, places_in, places_of, label_places, return_places}
+use Rattle.liveness.specs.Points.{is_true, marked, some_name, is_call_statement, HasPoints}
 
 or_true : (c : Bool) → (c || true) ≡ true
 or_true true = refl
@@ -78,35 +78,37 @@ label_next old new places q p n l ls k e =
 
 -- ---- calls ----
 
--- the return point of one place more is marked
-pub return_next : (old new : Bool) (q p : ℕ) (x : Place) (xs : List Place) → new ≡ (old || (is_call x && (q == (p + 1)))) → (new || one_of q (return_places (p + 1) xs)) ≡ (old || one_of q (return_places p (x ∷ xs)))
-return_next old new q p x xs e =
-    ap (λ t. t || one_of q (return_places (p + 1) xs)) e
-    ∙ or_assoc old (is_call x && (q == (p + 1))) (one_of q (return_places (p + 1) xs))
-    ∙ ap (λ t. old || t) (sym (one_label q (p + 1) (is_call x) (return_places (p + 1) xs)))
+-- behind data words no call returns
+words_return : (q p : ℕ) (vs : List Value) (rest : List Place) → one_of q (return_places (p + length (map Word vs)) rest) ≡ one_of q (return_places p (map Word vs ++ rest))
+words_return q p [] rest = ap (λ m. one_of q (return_places m rest)) (let f : p + 0 ≡ p = omega arith in f)
+words_return q p (v ∷ vs) rest = ap (λ m. one_of q (return_places m rest)) (let f : p + suc (length (map Word vs)) ≡ p + 1 + length (map Word vs) = omega arith in f) ∙ words_return q (p + 1) vs rest
 
-drop_found : {A : Type 0} (xs : List A) (p : ℕ) (x : A) → slice_get xs p ≡ Some x → drop p xs ≡ x ∷ drop (p + 1) xs
-drop_found [] p x e = absurd (cc)
-drop_found (y ∷ xs) zero x e = head y x xs e
-  where
-    head : {A : Type 0} (y x : A) (xs : List A) → (let o : Option A = Some y in o) ≡ Some x → y ∷ xs ≡ x ∷ xs
-    head y x xs e = cc
-drop_found (y ∷ xs) (suc p) x e = drop_found xs p x e ∙ ap (λ n. x ∷ drop n (y ∷ xs)) (let f : suc (p + 1) ≡ suc p + 1 = omega arith in f)
+-- the return points of a statement and of what follows
+return_statement : (q p : ℕ) (s : Statement) (rest : List Place) → ((is_call_statement s && (q == (p + length (places_in s)))) || one_of q (return_places (p + length (places_in s)) rest)) ≡ one_of q (return_places p (places_in s ++ rest))
+return_statement q p Nothing rest = ap (λ m. one_of q (return_places m rest)) (let f : p + 0 ≡ p = omega arith in f)
+return_statement q p (Runs i mention) rest = sym (one_label q (p + 1) (is_call_instr i) (return_places (p + 1) rest))
+return_statement q p (Words vs) rest = words_return q p vs rest
+return_statement q p (Aligns size most) rest = ap (λ m. one_of q (return_places m rest)) (let f : p + 0 ≡ p = omega arith in f)
+return_statement q p (Sets name address) rest = ap (λ m. one_of q (return_places m rest)) (let f : p + 0 ≡ p = omega arith in f)
 
-pub return_step : (old new here : Bool) (places : List Place) (q p : ℕ) → p < length places → here ≡ is_call_place (slice_get places p) → new ≡ (old || (here && (q == (p + 1))))
-    → (new || one_of q (return_places (p + 1) (drop (p + 1) places))) ≡ (old || one_of q (return_places p (drop p places)))
-return_step old new here places q p l h e = go (slice_get places p) refl
+-- the code points of one line more are marked
+pub line_step : (old labelled new : Bool) (places : List Place) (q p n : ℕ) (l : Line) (ls : List Line) → n ≡ length (places_in l.statement)
+    → labelled ≡ (old || ((some_name l.names && is_op_place (slice_get places p)) && (q == p)))
+    → new ≡ (labelled || (is_call_statement l.statement && (q == (p + n))))
+    → (new || one_of q (label_places places (labels_from (p + n) ls)) || one_of q (return_places (p + n) (places_of ls))) ≡ (old || one_of q (label_places places (labels_from p (l ∷ ls))) || one_of q (return_places p (places_of (l ∷ ls))))
+line_step old labelled new places q p n l ls k e f =
+    let more : List ℕ = label_places places (labels_from (p + n) ls) in
+    let behind : List ℕ = return_places (p + n) (places_of ls) in
+    ap (λ t. t || one_of q more || one_of q behind) f
+    ∙ exchange labelled (is_call_statement l.statement && (q == (p + n))) (one_of q more) (one_of q behind)
+    ∙ ap (λ t. t || ((is_call_statement l.statement && (q == (p + n))) || one_of q behind)) (label_next old labelled places q p n l ls k e)
+    ∙ ap (λ t. old || one_of q (label_places places (labels_from p (l ∷ ls))) || t) (ap (λ m. (is_call_statement l.statement && (q == (p + m))) || one_of q (return_places (p + m) (places_of ls))) k ∙ return_statement q p l.statement (places_of ls))
   where
-    go : (o : Option Place) → slice_get places p ≡ o → (new || one_of q (return_places (p + 1) (drop (p + 1) places))) ≡ (old || one_of q (return_places p (drop p places)))
-    go None g = absurd (some_within places p l g)
-      where
-        some_within : (xs : List Place) (i : ℕ) → i < length xs → slice_get xs i ≡ None → ⊥
-        some_within [] i h e = omega arith
-        some_within (x ∷ xs) zero h e = cc
-        some_within (x ∷ xs) (suc i) h e = some_within xs i (omega arith) e
-    go (Some x) g =
-        return_next old new q p x (drop (p + 1) places) (e ∙ ap (λ t. old || (t && (q == (p + 1)))) (h ∙ ap is_call_place g))
-        ∙ ap (λ (xs : List Place). old || one_of q (return_places p xs)) (sym (drop_found places p x g))
+    exchange : (a b c d : Bool) → (((a || b) || c) || d) ≡ ((a || c) || (b || d))
+    exchange true b c d = refl
+    exchange false true true d = refl
+    exchange false true false d = refl
+    exchange false false c d = refl
 
 -- ---- all ----
 

@@ -1,6 +1,6 @@
 -- Marks of the code points.
 use Rattle.std.specs.Prelude.{◌≡◌, ℕ, Bool, true, false, List, [], ◌∷◌, Option, Some, None, slice_get, ◌↔◌}
-use Rattle.thumb_model.specs.Listing.{Name, Code, Place, is_call, IsPoint}
+use Rattle.thumb_model.specs.Listing.{Name, Code, Statement, Nothing, Runs, Words, Aligns, Sets, is_call_instr, IsPoint}
 
 -- whether the place is marked
 abbrev pub is_true : Option Bool → Bool
@@ -15,10 +15,13 @@ abbrev pub some_name : List Name → Bool
 some_name [] = false
 some_name (n ∷ ns) = true
 
--- whether a call stands there
-abbrev pub is_call_place : Option Place → Bool
-is_call_place None = false
-is_call_place (Some x) = is_call x
+-- whether the statement is a call
+abbrev pub is_call_statement : Statement → Bool
+is_call_statement Nothing = false
+is_call_statement (Runs i mention) = is_call_instr i
+is_call_statement (Words vs) = false
+is_call_statement (Aligns size most) = false
+is_call_statement (Sets name address) = false
 
 -- of the places that have marks, those of code points are marked
 abbrev pub HasPoints : Code → List Bool → Type 0

@@ -1,11 +1,11 @@
 //! The places of code points: those of code labels, and the places behind calls.
 ghost use Rattle.std.specs.Prelude.{◌≡◌, ℕ, ◌+◌, ◌<◌, ◌==◌, ◌&&◌, ◌||◌, length, map, slice_get, IfOk};
 ghost use Rattle.thumb_model.specs.Items.{one_of};
-ghost use Rattle.thumb_model.specs.Listing.{code_of, label_places, labels_from, places_of, return_places};
-ghost use Rattle.listing_parser.specs.Views.{line_view};
-ghost use Rattle.liveness.specs.Points.{HasPoints, is_call_place, marked, some_name};
+ghost use Rattle.thumb_model.specs.Listing.{code_of, is_op_place, label_places, labels_from, places_of, return_places};
+ghost use Rattle.listing_parser.specs.Views.{line_view, statement_view};
+ghost use Rattle.liveness.specs.Points.{HasPoints, is_call_statement, marked, some_name};
 
-use listing_parser::{Line, Listing};
+use listing_parser::{Line, Listing, Statement, is_call};
 use std::alloc::{AllocError, Global};
 
 /// Which places are those of code points. The place behind the last one is among them.
@@ -14,36 +14,24 @@ pub fn all_points(alloc: Global, listing: &Listing) -> Result<Vec<bool>, AllocEr
     ensures points { IfOk result (λ marks. HasPoints (code_of listing.now) marks.items) }
 {
     let mut marks = vec![in alloc; false; listing.place_count() as usize + 1]?;
-    mark_labels(&mut marks, listing, listing.lines());
-    mark_returns(&mut marks, listing);
+    mark_lines(&mut marks, listing, listing.lines());
     Ok(marks)
 }
 
-/// Marks the places of the code labels of lines, which are the listing's.
-fn mark_labels(marks: &mut Vec<bool>, listing: &Listing, lines: &[Line])
+/// Marks the code points of lines, which are the listing's: the places of code labels, and those behind calls.
+fn mark_lines(marks: &mut Vec<bool>, listing: &Listing, lines: &[Line])
     requires len { length marks.old.items ≡ length (places_of listing.now) + 1 }
     requires lines { map line_view lines.now ≡ listing.now }
     ensures len { length marks.new.items ≡ length marks.old.items }
-    ensures marks { (q : ℕ) → marked marks.new.items q ≡ (marked marks.old.items q || one_of q (label_places (places_of listing.now) (labels_from 0 listing.now))) }
+    ensures marks { (q : ℕ) → marked marks.new.items q ≡ (marked marks.old.items q || one_of q (label_places (places_of listing.now) (labels_from 0 listing.now)) || one_of q (return_places 0 (places_of listing.now))) }
 {
     let _count = listing.place_count();
     let mut place = 0usize;
     for line in lines {
-        let is_point = is_labelled(line) & listing.is_op(place as u32);
-        mark(marks, place, is_point);
-        place += line.statement.places();
-    }
-}
-
-/// Marks the return points: the places behind calls.
-fn mark_returns(marks: &mut Vec<bool>, listing: &Listing)
-    requires len { length marks.old.items ≡ length (places_of listing.now) + 1 }
-    ensures len { length marks.new.items ≡ length marks.old.items }
-    ensures marks { (q : ℕ) → marked marks.new.items q ≡ (marked marks.old.items q || one_of q (return_places 0 (places_of listing.now))) }
-{
-    for place in 0..listing.place_count() {
-        let is_point = is_call_at(listing, place);
-        mark(marks, place as usize + 1, is_point);
+        let next = place + line.statement.places();
+        mark(marks, place, labels_code(line, listing, place as u32));
+        mark(marks, next, is_call_line(&line.statement));
+        place = next;
     }
 }
 
@@ -58,19 +46,19 @@ fn mark(marks: &mut Vec<bool>, place: usize, is_point: bool)
     }
 }
 
-/// Whether a line has a label.
-fn is_labelled(line: &Line) -> bool
-    ensures { result ≡ some_name (line_view line.now).names }
+/// Whether a line, before which so many places stand, has a label and an instruction stands behind it.
+fn labels_code(line: &Line, listing: &Listing, place: u32) -> bool
+    ensures { result ≡ (some_name (line_view line.now).names && is_op_place (slice_get (places_of listing.now) place)) }
 {
-    !line.names.is_empty()
+    !line.names.is_empty() && listing.is_op(place)
 }
 
-/// Whether a call stands at the place.
-fn is_call_at(listing: &Listing, place: u32) -> bool
-    ensures { result ≡ is_call_place (slice_get (places_of listing.now) place) }
+/// Whether a statement is a call.
+fn is_call_line(statement: &Statement) -> bool
+    ensures { result ≡ is_call_statement (statement_view statement.now) }
 {
-    match listing.place(place) {
-        None => false,
-        Some(found) => found.is_call(),
+    match statement {
+        Statement::Runs { instr, mention: _ } => is_call(instr),
+        _ => false,
     }
 }

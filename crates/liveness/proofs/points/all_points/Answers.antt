@@ -6,5 +6,6 @@ use Rattle.liveness.proofs.Marks.{points_marked, none_marked}
 use Rattle.liveness.proofs.points.all_points.Goals as goal
 
 pub returns-clause-points : goal.returns-clause-points
-returns-clause-points c = points_marked (code_of c.args.listing.now) c.mark_returns.new.marks.items (λ q.
-    c.mark_returns.ensures.marks q ∙ ap (λ t. t || one_of q (return_places 0 (places_of c.args.listing.now))) (c.mark_labels.ensures.marks q ∙ ap (λ t. t || one_of q (label_places (places_of c.args.listing.now) (labels_from 0 c.args.listing.now))) (ap (λ (ms : List Bool). marked ms q) (c.in_ok-marks.ensures.items_if_clones_equal (λ y e. e)) ∙ none_marked _ q)))
+returns-clause-points c = points_marked (code_of c.args.listing.now) c.mark_lines.new.marks.items (λ q.
+    c.mark_lines.ensures.marks q
+    ∙ ap (λ t. t || one_of q (label_places (places_of c.args.listing.now) (labels_from 0 c.args.listing.now)) || one_of q (return_places 0 (places_of c.args.listing.now))) (ap (λ (ms : List Bool). marked ms q) (c.in_ok-marks.ensures.items_if_clones_equal (λ y e. e)) ∙ none_marked _ q))
