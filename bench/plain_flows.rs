@@ -36,6 +36,14 @@ pub struct Ways {
     pub second: Option<Way>,
 }
 
+impl Ways {
+    /// Whether they lead to a place and nowhere else.
+    fn go_on_to(&self, place: usize) -> bool {
+        let leads_there = |way: Way| way.next == Next::Place(place);
+        leads_there(self.first) && self.second.is_none_or(leads_there)
+    }
+}
+
 fn bit(register: u8) -> u32 {
     1 << register
 }
@@ -226,27 +234,42 @@ impl Flows {
         seen
     }
 
-    /// Finds the live items by passes backward, and tells how many places were visited.
+    /// Visits a place, and tells whether the set before it grew.
+    #[inline]
+    fn visit(&mut self, place: usize) -> bool {
+        let (before, after) = self.seen(place);
+        self.after[place] = after;
+        let new = self.before[place] | before;
+        if new == self.before[place] {
+            return false;
+        }
+        self.before[place] = new;
+        if self.is_point[place] {
+            self.points |= new;
+        }
+        true
+    }
+
+    /// Finds the live items by passes backward, and tells how many places were visited. From the second pass on a place that only goes on to the next is visited
+    /// only where the set before that one grew just now.
     pub fn find(&mut self) -> u64 {
         let mut visits = 0;
+        let mut visited = false;
         loop {
             let mut changed = false;
+            let mut grew = false;
             for place in (0..self.ways.len()).rev() {
-                visits += 1;
-                let (before, after) = self.seen(place);
-                self.after[place] = after;
-                let new = self.before[place] | before;
-                if new != self.before[place] {
-                    self.before[place] = new;
-                    if self.is_point[place] {
-                        self.points |= new;
-                    }
-                    changed = true;
+                if visited && !grew && self.ways[place].is_none_or(|ways| ways.go_on_to(place + 1)) {
+                    continue;
                 }
+                visits += 1;
+                grew = self.visit(place);
+                changed |= grew;
             }
             if !changed {
                 return visits;
             }
+            visited = true;
         }
     }
 }
