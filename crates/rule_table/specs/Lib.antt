@@ -14,3 +14,4 @@ pub mod MaskView
 pub mod Told
 pub mod StageView
 pub mod Matching
+pub mod Binding

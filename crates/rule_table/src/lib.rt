@@ -19,6 +19,7 @@
 //! ```
 #![tactic(auto)]
 
+mod binding;
 mod draft;
 mod errors;
 mod item;

@@ -3,7 +3,7 @@ use Rattle.std.specs.List.{list_all}
 use Rattle.std.proofs.lemmas.Bool.{false≢true}
 use Rattle.thumb_instr.specs.Window.{is_in_window}
 use Rattle.rule_table.proofs.Backs.{windows_normal}
-use Rattle.rule_table.proofs.AlikeLemmas.{left_windows}
+use Rattle.rule_table.proofs.MapLemmas.{left_windows}
 use Rattle.rule_table.proofs.matching.matches.Goals as goal
 
 pub returns-then-not-are_windows-2 : goal.returns-then-not-are_windows-2

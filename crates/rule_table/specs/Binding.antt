@@ -1,0 +1,60 @@
+-- The registers that stand in place of those of a left side, found one by one.
+use Rattle.std.specs.Prelude.{◌≡◌, ℕ, ◌||◌, ◌↔◌, Bool, true, false, List, Option, Some, slice_get}
+use Rattle.std.specs.Option.{option_and_then, is_some}
+use Rattle.thumb_instr.specs.Items.{has as has_item}
+use Rattle.thumb_instr.specs.declared.kind.Kind.{Kind}
+use Rattle.thumb_instr.specs.declared.kind.Kind.TheVariants as kind
+use Rattle.thumb_instr.specs.declared.role.Role.{Role}
+use Rattle.thumb_instr.specs.declared.role.Role.TheVariants.{Register}
+use Rattle.thumb_instr.specs.Renaming.{Low, item_under}
+use Rattle.rule_table.specs.Canonical.{has}
+
+-- the register that stands in place of one, if one does so far
+abbrev pub given_at : List (Option Low) → ℕ → Option Low
+given_at given x = option_and_then (λ o. o) (slice_get given x)
+
+-- no register stands in place of two, and the set has exactly those that stand in place of one
+pub record IsOneToOne (given : List (Option Low)) (taken : ℕ) : Type 0 where
+  pub apart : (x y : ℕ) (r s : Low) → given_at given x ≡ Some r → given_at given y ≡ Some s → r.number ≡ s.number → x ≡ y
+  pub held : (x : ℕ) (r : Low) → given_at given x ≡ Some r → has_item taken r.number ≡ true
+  pub places : (n : ℕ) → has_item taken n ≡ true → (x : ℕ) × (r : Low) × (given_at given x ≡ Some r) × (r.number ≡ n)
+
+-- these registers have in place of each what is given there
+abbrev pub Agrees : List Low → List (Option Low) → Type 0
+Agrees registers given = (x : ℕ) (r : Low) → given_at given x ≡ Some r → item_under registers x ≡ r.number
+
+-- the names are given too, and just the registers that agree with what was given and do what is asked agree with what is
+pub record Binds (old new : List (Option Low)) (names : List ℕ) (Asked : List Low → Type 0) : Type 0 where
+  pub named : (x : ℕ) → is_some (given_at new x) ≡ (is_some (given_at old x) || has names x)
+  pub agree : (registers : List Low) → Agrees registers new ↔ (Agrees registers old × Asked registers)
+
+-- no registers that agree with what is given do what is asked, if none stands in place of two of those given or named
+abbrev pub Clashes : List (Option Low) → List ℕ → (List Low → Type 0) → Type 0
+Clashes old names Asked =
+    (registers : List Low) → Agrees registers old → Asked registers
+    → ((x y : ℕ) → (is_some (given_at old x) || has names x) ≡ true → (is_some (given_at old y) || has names y) ≡ true → item_under registers x ≡ item_under registers y → x ≡ y) → ⊥
+
+-- whether what is asked could be bound
+abbrev pub IsBound : Bool → List (Option Low) → List (Option Low) → List ℕ → (List Low → Type 0) → Type 0
+IsBound true old new names Asked = Binds old new names Asked
+IsBound false old new names Asked = Clashes old names Asked
+
+-- what a register or number becomes under these registers
+abbrev pub number_under : List Low → Role → ℕ → ℕ
+number_under registers (Register u c) n = item_under registers n
+number_under registers r n = n
+
+-- kinds of instructions of windows
+abbrev pub of_window : Kind → Bool
+of_window kind.Mov = true
+of_window (kind.Three s) = true
+of_window (kind.Two o) = true
+of_window kind.Movs = true
+of_window kind.ShiftLeft = true
+of_window (kind.ShiftRight s) = true
+of_window (kind.ThreeNumber s) = true
+of_window (kind.TwoNumber o) = true
+of_window kind.Add = true
+of_window (kind.Extend e) = true
+of_window (kind.Reverse r) = true
+of_window k = false

@@ -1,0 +1,183 @@
+//! What stands in place of the registers of a left side, bound one by one while it and a window are walked in step. A register that is
+//! bound otherwise, or that stands in place of another, ends the walk.
+ghost use Rattle.std.specs.Prelude.{◌≡◌, ◌<◌, ◌∷◌, [], ℕ, None, true, length, map, ◌↔◌, IsTrue};
+ghost use Rattle.std.specs.List.{list_all};
+ghost use Rattle.thumb_instr.specs.Window.{is_in_window, normal_of};
+ghost use Rattle.thumb_instr.specs.Renaming.{AreBelow, item_under, named_by, named, renamed};
+ghost use Rattle.rule_table.specs.Binding.{given_at, IsOneToOne, IsBound, number_under, of_window};
+ghost use Rattle.rule_table.specs.Matching.{registers_in};
+
+use crate::map::Map;
+use std::marker::Model;
+use thumb_instr::{Instr, Items, Kind, Low, Role, normal, parts, roles};
+
+/// The registers that stand in place of r0 to r7 so far, each in place of one.
+#[derive(Drop)]
+pub struct Binding {
+    given: [Option<Low>; 8],
+    /// those that do
+    taken: Items,
+}
+
+impl Model for Binding {
+    ghost use Rattle.std.specs.Prelude.{List, Option};
+    ghost use Rattle.thumb_instr.specs.declared.within.Within.{Within};
+
+    ghost Value = { List (Option (Within 0 8)) };
+
+    ghost view = { λ b. b.given };
+
+    ghost use Rattle.rule_table.specs.Binding.{IsOneToOne};
+
+    ghost invariant = { λ b. IsOneToOne b.given b.taken.bits };
+}
+
+impl Binding {
+    /// None stands in place of any yet.
+    pub(crate) fn new() -> Binding
+        ensures { (x : ℕ) → given_at result x ≡ None }
+    {
+        Binding {
+            given: [None; 8],
+            taken: Items::none(),
+        }
+    }
+
+    /// The register that stands in place of one.
+    fn get(&self, own: u32) -> Option<Low>
+        ensures { result ≡ given_at self.now own }
+    {
+        match self.given.get(own as usize) {
+            None => None,
+            Some(register) => *register,
+        }
+    }
+
+    /// Puts a register in place of one that has none yet; false where it stands in place of another.
+    fn put(&mut self, own: u32, other: u32) -> bool
+        requires own { own < 8 }
+        requires other { other < 8 }
+        requires free { given_at self.old own ≡ None }
+        ensures { IsBound result self.old self.new (own ∷ []) (λ registers. item_under registers own ≡ other) }
+    {
+        if self.taken.has(other as u8) {
+            return false;
+        }
+        self.given[own as usize] = Some(Low::of(other));
+        self.taken = self.taken.union(Items::one(other as u8));
+        true
+    }
+
+    /// Binds one register to another; false where it is bound otherwise, or the other stands in place of another.
+    fn bind(&mut self, own: u32, other: u32) -> bool
+        requires own { own < 8 }
+        requires other { other < 8 }
+        ensures { IsBound result self.old self.new (own ∷ []) (λ registers. item_under registers own ≡ other) }
+    {
+        match self.get(own) {
+            Some(register) => register.number == other,
+            None => self.put(own, other),
+        }
+    }
+
+    /// Binds a register to another; two numbers have to be one.
+    fn bind_role(&mut self, role: Role, own: u32, other: u32) -> bool
+        requires own { AreBelow 8 (named_by role own) }
+        requires other { AreBelow 8 (named_by role other) }
+        ensures { IsBound result self.old self.new (named_by role own) (λ registers. number_under registers role own ≡ other) }
+    {
+        match role {
+            Role::Register(_, _) => self.bind(own, other),
+            _ => own == other,
+        }
+    }
+
+    /// Binds the registers of one instruction to those of another; they have to be of one kind, with the same numbers.
+    fn bind_instr(&mut self, left: &Instr, other: &Instr) -> bool
+        requires left { is_in_window left.now ≡ true }
+        requires other { is_in_window other.now ≡ true }
+        ensures { IsBound result self.old self.new (named left.now) (λ registers. renamed registers left.now ≡ other.now) }
+    {
+        let own = parts(left);
+        let others = parts(other);
+        if !same_kind(own.kind, others.kind) {
+            return false;
+        }
+        let roles = roles(own.kind);
+        if !self.bind_role(roles.first, own.first, others.first) {
+            return false;
+        }
+        if !self.bind_role(roles.second, own.second, others.second) {
+            return false;
+        }
+        self.bind_role(roles.third, own.third, others.third)
+    }
+
+    /// Binds the registers of a left side to those of a window, normal, instruction by instruction.
+    pub(crate) fn bind_all(&mut self, left: &[Instr], window: &[Instr]) -> bool
+        requires left { list_all is_in_window left.now ≡ true }
+        requires window { list_all is_in_window window.now ≡ true }
+        ensures { IsBound result self.old self.new (registers_in left.now) (λ registers. map (renamed registers) left.now ≡ map normal_of window.now) }
+    {
+        match left.split_first() {
+            None => window.is_empty(),
+            Some((first, left)) => match window.split_first() {
+                None => false,
+                Some((other, window)) => {
+                    self.bind_instr(first, &normal(*other)) && self.bind_all(left, window)
+                }
+            },
+        }
+    }
+
+    /// The map that has these registers.
+    pub(crate) fn map(&self) -> Map
+        ensures is { result ≡ self.now }
+        ensures all { length self.now ≡ 8 }
+        ensures one_to_one { (taken : ℕ) × IsOneToOne self.now taken }
+    {
+        Map::of(&self.given)
+    }
+}
+
+/// Whether two kinds of instructions of windows are one.
+fn same_kind(a: Kind, b: Kind) -> bool
+    requires { of_window a ≡ true }
+    ensures { IsTrue result ↔ (a ≡ b) }
+{
+    match a {
+        Kind::Mov => matches!(b, Kind::Mov),
+        Kind::Movs => matches!(b, Kind::Movs),
+        Kind::ShiftLeft => matches!(b, Kind::ShiftLeft),
+        Kind::Add => matches!(b, Kind::Add),
+        Kind::Three(x) => match b {
+            Kind::Three(y) => x == y,
+            _ => false,
+        },
+        Kind::Two(x) => match b {
+            Kind::Two(y) => x == y,
+            _ => false,
+        },
+        Kind::ShiftRight(x) => match b {
+            Kind::ShiftRight(y) => x == y,
+            _ => false,
+        },
+        Kind::ThreeNumber(x) => match b {
+            Kind::ThreeNumber(y) => x == y,
+            _ => false,
+        },
+        Kind::TwoNumber(x) => match b {
+            Kind::TwoNumber(y) => x == y,
+            _ => false,
+        },
+        Kind::Extend(x) => match b {
+            Kind::Extend(y) => x == y,
+            _ => false,
+        },
+        Kind::Reverse(x) => match b {
+            Kind::Reverse(y) => x == y,
+            _ => false,
+        },
+        _ => false,
+    }
+}
