@@ -1,5 +1,5 @@
 -- Registers that are bound one by one.
-use Rattle.std.proofs.Common.{◌≡◌, ◌≢◌, ◌∙◌, ℕ, zero, suc, ◌<◌, ◌==◌, ◌||◌, Bool, true, false, List, [], ◌∷◌, ◌++◌, length, map, refl, sym, ap, arith, Option, Some, None, inl, inr, ◌⊎◌, eqb-true, eq-eqb, slice_get, true≢false}
+use Rattle.std.proofs.Common.{◌≡◌, ◌≢◌, ◌∙◌, ℕ, zero, suc, ◌<◌, ◌==◌, ◌||◌, Bool, true, false, List, [], ◌∷◌, ◌++◌, length, map, refl, sym, ap, subst, arith, Option, Some, None, inl, inr, ◌⊎◌, eqb-true, eq-eqb, slice_get, true≢false}
 use Rattle.std.specs.Prelude.{slice_set, ◌↔◌}
 use Rattle.std.specs.Option.{option_and_then, option_map, is_some}
 use Rattle.std.proofs.Math.Bool.{or_assoc, or-false}
@@ -189,3 +189,6 @@ bound_as old new names F G true same f = record {
   );
 }
 bound_as old new names F G false same f = λ registers h asked apart. f registers h ((same registers).1 asked) apart
+
+pub bound_at : (old new : List (Option Low)) (names : List ℕ) (F : List Low → Type 0) (b c : Bool) → b ≡ c → IsBound b old new names F → IsBound c old new names F
+bound_at old new names F b c e f = subst (λ d. IsBound d old new names F) e f

@@ -1,5 +1,5 @@
 -- Instructions of windows by their kinds, registers and numbers.
-use Rattle.std.proofs.Common.{◌≡◌, ◌∙◌, true, List, refl, sym, ap, subst}
+use Rattle.std.proofs.Common.{◌≡◌, ◌∙◌, ℕ, Bool, true, List, Option, refl, sym, ap, subst}
 use Rattle.std.specs.Prelude.{◌↔◌}
 use Rattle.thumb_instr.specs.declared.instr.Instr.{Instr}
 use Rattle.thumb_instr.specs.declared.instr.Instr.TheVariants as instr
@@ -8,10 +8,11 @@ use Rattle.thumb_instr.specs.declared.role.Operands.{Operands}
 use Rattle.thumb_instr.specs.Parts.{parts_of, of}
 use Rattle.thumb_instr.specs.Roles.{roles}
 use Rattle.thumb_instr.specs.Window.{is_in_window}
-use Rattle.thumb_instr.specs.Renaming.{Low, renamed}
+use Rattle.thumb_instr.specs.Renaming.{Low, AreBelow, named_by, named_in, named, renamed}
 use Rattle.thumb_instr.proofs.PartLemmas.{same_parts, same_fields}
-use Rattle.thumb_instr.proofs.RenamingLemmas.{low_number, reg_number}
-use Rattle.rule_table.specs.Binding.{number_under, of_window}
+use Rattle.thumb_instr.proofs.RenamingLemmas.{parts_low, low_number, reg_number}
+use Rattle.rule_table.specs.Binding.{number_under, of_window, IsBound, Clashes}
+use Rattle.rule_table.proofs.BindingLemmas.{bound_as}
 
 -- an instruction of windows has such a kind
 pub window_kind : (i : Instr) → is_in_window i ≡ true → of_window (parts_of i).kind ≡ true
@@ -37,24 +38,44 @@ renamed_parts : (f : List Low) (i : Instr) → is_in_window i ≡ true → parts
 renamed_parts f (instr.Mov d m) w = rw (reg_number f d, reg_number f m) refl
 renamed_parts f i w = first_of (simp (reg_number f, low_number f), cc)
 
--- so an instruction of the same kind is the renamed one exactly where these numbers are its own
-pub same_under : (f : List Low) (i j : Instr) (p q : Parts) (r : Operands) → p ≡ parts_of i → q ≡ parts_of j → p.kind ≡ q.kind → r ≡ roles p.kind → is_in_window i ≡ true
-    → ((number_under f r.first p.first ≡ q.first) × ((number_under f r.second p.second ≡ q.second) × (number_under f r.third p.third ≡ q.third))) ↔ (renamed f i ≡ j)
-same_under f i j p q r a b kinds c w = (
-  λ h. same_parts (renamed f i) j (under ∙ same_fields (parts_under f r p) q kinds h.0 h.1.0 h.1.1 ∙ b),
+-- two instructions of one kind, their parts and what these are
+pub record AreOfKind (i j : Instr) (p q : Parts) (r : Operands) : Type 0 where
+  pub own : p ≡ parts_of i
+  pub others : q ≡ parts_of j
+  pub kinds : p.kind ≡ q.kind
+  pub roles : r ≡ roles p.kind
+  pub window : is_in_window i ≡ true
+
+abbrev pub SameUnder : List Low → Parts → Parts → Operands → Type 0
+SameUnder f p q r = (number_under f r.first p.first ≡ q.first) × ((number_under f r.second p.second ≡ q.second) × (number_under f r.third p.third ≡ q.third))
+
+-- so one is the other renamed exactly where these numbers are its own
+same_under : (f : List Low) (i j : Instr) (p q : Parts) (r : Operands) → AreOfKind i j p q r → SameUnder f p q r ↔ (renamed f i ≡ j)
+same_under f i j p q r a = (
+  λ h. same_parts (renamed f i) j (under ∙ same_fields (parts_under f r p) q a.kinds h.0 h.1.0 h.1.1 ∙ a.others),
   λ e.
-      let same : parts_under f r p ≡ q = sym under ∙ ap parts_of e ∙ sym b in
+      let same : parts_under f r p ≡ q = sym under ∙ ap parts_of e ∙ sym a.others in
       (ap (λ (x : Parts). x.first) same, (ap (λ (x : Parts). x.second) same, ap (λ (x : Parts). x.third) same)),
 )
   where
     under : parts_of (renamed f i) ≡ parts_under f r p
-    under = renamed_parts f i w ∙ ap (λ (x : Parts). parts_under f (roles x.kind) x) (sym a) ∙ ap (λ (s : Operands). parts_under f s p) (sym c)
+    under = renamed_parts f i a.window ∙ ap (λ (x : Parts). parts_under f (roles x.kind) x) (sym a.own) ∙ ap (λ (s : Operands). parts_under f s p) (sym a.roles)
 
--- renaming keeps the kind
-pub kind_renamed : (f : List Low) (i j : Instr) → is_in_window i ≡ true → renamed f i ≡ j → (parts_of i).kind ≡ (parts_of j).kind
-kind_renamed f i j w e = sym (ap (λ (x : Parts). x.kind) (renamed_parts f i w)) ∙ ap (λ (x : Instr). (parts_of x).kind) e
+-- to bind their registers and numbers is to bind the instructions
+pub instr_bound : (old new : List (Option Low)) (b : Bool) (i j : Instr) (p q : Parts) (r : Operands) → AreOfKind i j p q r → IsBound b old new (named_in r p) (λ f. SameUnder f p q r)
+    → IsBound b old new (named i) (λ f. renamed f i ≡ j)
+instr_bound old new b i j p q r a h =
+    let named_so : named_in r p ≡ named i = ap (λ (s : Operands). named_in s p) a.roles ∙ ap (λ (x : Parts). named_in (roles x.kind) x) a.own in
+    bound_as old new (named i) (λ f. SameUnder f p q r) (λ f. renamed f i ≡ j) b (λ f. same_under f i j p q r a) (subst (λ (xs : List ℕ). IsBound b old new xs (λ f. SameUnder f p q r)) named_so h)
 
--- its registers are low, and so are those of an instruction of its kind
-pub parts_low_too : (i j : Instr) (p q : Parts) (r : Operands) → p ≡ parts_of i → q ≡ parts_of j → p.kind ≡ q.kind → r ≡ roles p.kind → is_in_window j ≡ true
+-- where the kinds differ there is no renaming to the other
+pub kinds_clash : (given : List (Option Low)) (i j : Instr) → is_in_window i ≡ true → ((parts_of i).kind ≡ (parts_of j).kind → ⊥) → Clashes given (named i) (λ f. renamed f i ≡ j)
+kinds_clash given i j w differ = λ f h e apart. differ (sym (ap (λ (x : Parts). x.kind) (renamed_parts f i w)) ∙ ap (λ (x : Instr). (parts_of x).kind) e)
+
+-- the registers of either are low
+pub own_low : (i j : Instr) (p q : Parts) (r : Operands) → AreOfKind i j p q r → AreBelow 8 (named_by r.first p.first) × AreBelow 8 (named_by r.second p.second) × AreBelow 8 (named_by r.third p.third)
+own_low i j p q r a = parts_low i p r a.own a.roles a.window
+
+pub others_low : (i j : Instr) (p q : Parts) (r : Operands) → AreOfKind i j p q r → is_in_window j ≡ true
     → AreBelow 8 (named_by r.first q.first) × AreBelow 8 (named_by r.second q.second) × AreBelow 8 (named_by r.third q.third)
-parts_low_too i j p q r a b kinds c w = parts_low j q r b (c ∙ ap roles kinds) w
+others_low i j p q r a w = parts_low j q r a.others (a.roles ∙ ap roles a.kinds) w
