@@ -1,5 +1,5 @@
 -- Instructions of windows by their kinds, registers and numbers.
-use Rattle.std.proofs.Common.{◌≡◌, ◌∙◌, ℕ, Bool, true, List, Option, refl, sym, ap, subst}
+use Rattle.std.proofs.Common.{◌≡◌, ◌∙◌, ℕ, Bool, true, List, ◌∷◌, ◌++◌, map, Option, refl, sym, ap, subst}
 use Rattle.std.specs.Prelude.{◌↔◌}
 use Rattle.thumb_instr.specs.declared.instr.Instr.{Instr}
 use Rattle.thumb_instr.specs.declared.instr.Instr.TheVariants as instr
@@ -7,11 +7,12 @@ use Rattle.thumb_instr.specs.declared.kind.Parts.{Parts}
 use Rattle.thumb_instr.specs.declared.role.Operands.{Operands}
 use Rattle.thumb_instr.specs.Parts.{parts_of, of}
 use Rattle.thumb_instr.specs.Roles.{roles}
-use Rattle.thumb_instr.specs.Window.{is_in_window}
+use Rattle.thumb_instr.specs.Window.{is_in_window, normal_of}
 use Rattle.thumb_instr.specs.Renaming.{Low, AreBelow, named_by, named_in, named, renamed}
 use Rattle.thumb_instr.proofs.PartLemmas.{same_parts, same_fields}
 use Rattle.thumb_instr.proofs.RenamingLemmas.{parts_low, low_number, reg_number}
 use Rattle.rule_table.specs.Binding.{number_under, of_window, IsBound, Clashes}
+use Rattle.rule_table.specs.Matching.{registers_in}
 use Rattle.rule_table.proofs.BindingLemmas.{bound_as}
 
 -- an instruction of windows has such a kind
@@ -79,3 +80,23 @@ own_low i j p q r a = parts_low i p r a.own a.roles a.window
 pub others_low : (i j : Instr) (p q : Parts) (r : Operands) → AreOfKind i j p q r → is_in_window j ≡ true
     → AreBelow 8 (named_by r.first q.first) × AreBelow 8 (named_by r.second q.second) × AreBelow 8 (named_by r.third q.third)
 others_low i j p q r a w = parts_low j q r a.others (a.roles ∙ ap roles a.kinds) w
+
+-- ---- sequences
+
+-- to bind the first instructions and all behind them is to bind the sequences
+pub all_bound : (old new : List (Option Low)) (b : Bool) (i j k : Instr) (is js left window : List Instr) → left ≡ i ∷ is → window ≡ k ∷ js → j ≡ normal_of k
+    → IsBound b old new (named i ++ registers_in is) (λ f. (renamed f i ≡ j) × (map (renamed f) is ≡ map normal_of js))
+    → IsBound b old new (registers_in left) (λ f. map (renamed f) left ≡ map normal_of window)
+all_bound old new b i j k is js left window l w n h =
+    let Both : List Low → Type 0 = λ f. (renamed f i ≡ j) × (map (renamed f) is ≡ map normal_of js) in
+    bound_as old new (registers_in left) Both (λ f. map (renamed f) left ≡ map normal_of window) b same (subst (λ (xs : List Instr). IsBound b old new (registers_in xs) Both) (sym l) h)
+  where
+    same : (f : List Low) → ((renamed f i ≡ j) × (map (renamed f) is ≡ map normal_of js)) ↔ (map (renamed f) left ≡ map normal_of window)
+    same f = (
+      λ h. ap (map (renamed f)) l ∙ ap (λ x. x ∷ map (renamed f) is) (h.0 ∙ n) ∙ ap (λ xs. normal_of k ∷ xs) h.1 ∙ sym (ap (map normal_of) w),
+      λ e.
+          let both : renamed f i ∷ map (renamed f) is ≡ normal_of k ∷ map normal_of js = sym (ap (map (renamed f)) l) ∙ e ∙ ap (map normal_of) w in
+          let head : renamed f i ≡ normal_of k = cc in
+          let tail : map (renamed f) is ≡ map normal_of js = cc in
+          (head ∙ sym n, tail),
+    )
