@@ -37,7 +37,7 @@ parts_under registers r p = of p.kind (number_under registers r.first p.first) (
 -- to rename an instruction is to rename those of its numbers that are registers
 renamed_parts : (f : List Low) (i : Instr) → is_in_window i ≡ true → parts_of (renamed f i) ≡ parts_under f (roles (parts_of i).kind) (parts_of i)
 renamed_parts f (instr.Mov d m) w = rw (reg_number f d, reg_number f m) refl
-renamed_parts f i w = first_of (simp (reg_number f, low_number f), cc)
+renamed_parts f i w = first_of (cc, simp (reg_number f, low_number f))
 
 -- two instructions of one kind, their parts and what these are
 pub record AreOfKind (i j : Instr) (p q : Parts) (r : Operands) : Type 0 where

@@ -2,7 +2,6 @@ use Rattle.std.proofs.Common.{◌≡◌, ◌∙◌, ap, sym, true}
 use Rattle.std.specs.List.{list_all}
 use Rattle.std.proofs.lemmas.Bool.{false≢true}
 use Rattle.thumb_instr.specs.Window.{is_in_window}
-use Rattle.rule_table.proofs.Backs.{windows_normal}
 use Rattle.rule_table.proofs.MapLemmas.{left_windows}
 use Rattle.rule_table.proofs.matching.matches.Goals as goal
 
@@ -11,8 +10,3 @@ returns-then-not-are_windows-2 c = λ registers m.
     let left = left_windows c.args.entry.now.left c.args.window.now registers m in
     let bad = sym c.if-not-are_windows-2.true ∙ c.are_windows-2.ensures ∙ ap (list_all is_in_window) c.as_slice-left.ensures.value ∙ left in
     false≢true bad
-
-pub map_of-requires-clause-normal : goal.map_of-requires-clause-normal
-map_of-requires-clause-normal c =
-    let windows : list_all is_in_window c.args.window.now ≡ true = sym c.are_windows.ensures ∙ c.if-not-are_windows.false in
-    ap (list_all is_in_window) (c.as_slice.ensures.value ∙ c.normalised-normal.ensures) ∙ windows_normal c.args.window.now windows
