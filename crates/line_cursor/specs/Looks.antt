@@ -1,7 +1,7 @@
 -- What a piece is to a run of instructions that may stand in a window.
 use Rattle.std.specs.Prelude.{◌||◌, Bool, List, [], ◌∷◌, Option, Some, None, if◌then◌else◌}
 use Rattle.thumb_instr.specs.declared.instr.Instr.{Instr}
-use Rattle.thumb_model.specs.Listing.{Statement, Nothing, Runs, Words, Aligns, Sets, Line}
+use Rattle.thumb_model.specs.Listing.{Statement, Nothing, Runs, Words, Aligns, Sets, Line, Place, Op, Word}
 use Rattle.window_runs.specs.Rows.{is_unlabelled, letter_of}
 use Rattle.line_cursor.specs.declared.held.Look.{Look}
 use Rattle.line_cursor.specs.declared.held.Look.TheVariants as look
@@ -25,3 +25,9 @@ look_line begins l = if begins || is_unlabelled l.names then look_statement begi
 abbrev pub look_lines : Bool → List Line → Look
 look_lines begins [] = look.Nothing
 look_lines begins (l ∷ ls) = look_line begins l
+
+-- the instruction at a place, where it may stand in a window
+abbrev pub letter_at : Option Place → Option Instr
+letter_at None = None
+letter_at (Some (Op i m)) = letter_of i m
+letter_at (Some (Word v)) = None

@@ -13,6 +13,7 @@ ghost use Rattle.window_runs.specs.Runs.{run};
 ghost use Rattle.listing_parser.specs.declared.line.Line.{Line as Lines};
 ghost use Rattle.line_cursor.specs.Lines.{begins_op, lines_in, lines_of};
 ghost use Rattle.line_cursor.specs.Leads.{mended};
+ghost use Rattle.line_cursor.specs.Looks.{letter_at};
 ghost use Rattle.line_cursor.specs.Jumping.{jumps_from};
 ghost use Rattle.line_cursor.specs.Cursors.{flows_of, lines_ahead, lines_at, lines_behind, place_at, sets_of, spots_at, stands_at, AreAhead, GoesOn, IsCursor, IsSettled};
 
@@ -248,6 +249,36 @@ fn ends_labelled(behind: &[Line]) -> bool
     false
 }
 
+/// The instruction at the first place of lines, where it may stand in a window.
+fn first_letter(ahead: &[Line]) -> Option<Instr>
+    ensures { result ≡ letter_at (slice_get (places_of (lines_of ahead.now)) 0) }
+{
+    for line in ahead {
+        match seen(line, true) {
+            Look::Letter(instr) => return Some(instr),
+            Look::Nothing => {}
+            Look::End => return None,
+        }
+    }
+    None
+}
+
+/// The instruction at the last place of lines, where it may stand in a window.
+fn last_letter(behind: &[Line]) -> Option<Instr>
+    ensures { result ≡ letter_at (slice_get (places_of (lines_of behind.now)) (length (places_of (lines_of behind.now)) - 1)) }
+{
+    let mut at = behind.len();
+    while at > 0 {
+        at -= 1;
+        match seen(&behind[at], true) {
+            Look::Letter(instr) => return Some(instr),
+            Look::Nothing => {}
+            Look::End => return None,
+        }
+    }
+    None
+}
+
 /// The straight code that lines end with, without a label but perhaps at the first of its instructions: 32 of them, or as many as there are.
 fn lead_of(behind: &[Line]) -> ArrayVec<Instr, 32>
     ensures few { length result.items ≤ length (places_of (lines_of behind.now)) }
@@ -342,6 +373,23 @@ impl Cursor {
         ensures { result ≡ run true most (rows_from true (lines_ahead self.now)) }
     {
         run(self.lines.ahead(), most)
+    }
+
+    /// The instruction at the last place before it, where it may stand in a window.
+    pub fn letter_before(&self) -> Option<Instr>
+        requires { IsCursor self.now }
+        ensures some { 0 < place_at self.now → result ≡ letter_at (slice_get (places_of (lines_at self.now)) (place_at self.now - 1)) }
+        ensures none { place_at self.now ≡ 0 → result ≡ None }
+    {
+        last_letter(self.lines.behind())
+    }
+
+    /// The instruction at the first place behind it, where it may stand in a window.
+    pub fn letter_behind(&self) -> Option<Instr>
+        requires { IsCursor self.now }
+        ensures { result ≡ letter_at (slice_get (places_of (lines_at self.now)) (place_at self.now)) }
+    {
+        first_letter(self.lines.ahead())
     }
 
     /// Whether nothing stands behind it.

@@ -19,6 +19,8 @@ pub(crate) struct Index {
     nexts: Vec<Option<usize>>,
     /// Whether a left side may begin with instructions that have a number.
     fronts: Vec<bool>,
+    /// Whether two instructions that have a number may stand in a left side one behind the other.
+    pairs: Vec<bool>,
 }
 
 /// Whether an entry leaves fewer instructions.
@@ -37,6 +39,7 @@ impl Index {
             firsts: vec![in alloc; None; SHAPES]?,
             nexts: vec![in alloc; None; entries.len()]?,
             fronts: vec![in alloc; false; SHAPES]?,
+            pairs: vec![in alloc; false; SHAPES]?,
         };
         let mut number = entries.len();
         while number > 0 {
