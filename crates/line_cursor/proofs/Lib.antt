@@ -5,6 +5,7 @@ pub mod Nearer
 pub mod Spots
 pub mod Labels
 pub mod Leads
+pub mod Letters
 pub mod Stays
 pub mod Onces
 mod Carried
