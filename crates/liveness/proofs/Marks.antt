@@ -78,7 +78,7 @@ label_next old new places q p n l ls k e =
 
 -- ---- calls ----
 
--- behind data words no call returns
+-- data words have no return points
 words_return : (q p : ℕ) (vs : List Value) (rest : List Place) → one_of q (return_places (p + length (map Word vs)) rest) ≡ one_of q (return_places p (map Word vs ++ rest))
 words_return q p [] rest = ap (λ m. one_of q (return_places m rest)) (let f : p + 0 ≡ p = omega arith in f)
 words_return q p (v ∷ vs) rest = ap (λ m. one_of q (return_places m rest)) (let f : p + suc (length (map Word vs)) ≡ p + 1 + length (map Word vs) = omega arith in f) ∙ words_return q (p + 1) vs rest

@@ -126,7 +126,7 @@ fn goes_on_to(place: usize, ways: Option<Ways>) -> bool
 
 /// Visits places, from the last to the first. Whether some set changed.
 ///
-/// Where each place was visited before, one that only goes on to the next needs no visit unless the set before that one grew just now.
+/// Where all were visited in earlier passes, one that only goes on to the next needs no visit unless the set before that one grew just now.
 fn pass<L: Ledger>(
     _listing: &Listing,
     visited: bool,
