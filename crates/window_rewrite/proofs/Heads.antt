@@ -1,5 +1,5 @@
 -- What a left side shares with each window in which it stands.
-use Rattle.std.proofs.Common.{◌≡◌, ℕ, zero, suc, ◌+◌, ◌*◌, ◌<◌, ◌≤◌, ◌%◌, Bool, true, false, List, [], ◌∷◌, length, take, map, Option, Some, None, refl, sym, ap, ◌∙◌, subst, arith, inl, inr}
+use Rattle.std.proofs.Common.{◌≡◌, ℕ, zero, suc, ◌+◌, ◌-◌, ◌*◌, ◌<◌, ◌≤◌, ◌%◌, Bool, true, false, List, [], ◌∷◌, length, take, map, Option, Some, None, refl, sym, ap, ◌∙◌, subst, arith, inl, inr}
 use Rattle.std.specs.Prelude.{slice_get, slice_set}
 use Rattle.std.proofs.lemmas.Bool.{cases_lt, lt-ltb}
 use Rattle.std.proofs.lemmas.List.{length-set}
@@ -10,7 +10,7 @@ use Rattle.thumb_instr.specs.Window.{normal_of}
 use Rattle.thumb_instr.specs.Renaming.{Low, renamed}
 use Rattle.thumb_model.specs.Rewrite.{Rule, normalised}
 use Rattle.thumb_model.proofs.Lists.{length_map}
-use Rattle.window_rewrite.specs.Rules.{is_marked, is_shorter, AreMarked, IsIndexFrom}
+use Rattle.window_rewrite.specs.Rules.{is_marked, is_shorter, AreMarked, ArePaired, IsIndexFrom}
 use Rattle.window_rewrite.specs.Shapes.{head_number, next_shape, shape_from, shape_of}
 use Rattle.window_rewrite.specs.declared.index.Index.{Index}
 use Rattle.window_rewrite.specs.Fitting.{Shortens}
@@ -92,18 +92,34 @@ mark_more old new side at shape kept here is a = λ b less. elim (cases_lt b at)
       )
 ]
 
+-- with one instruction of a side more
+pub pair_more : (old new : List Bool) (side : List Instr) (at shape : ℕ) (i j : Instr) → ((q : ℕ) → is_marked old q ≡ true → is_marked new q ≡ true) → is_marked new shape ≡ true → 1 ≤ at → slice_get side (at - 1) ≡ Some i → slice_get side at ≡ Some j
+    → shape ≡ shape_of (i ∷ j ∷ []) → ArePaired old side at → ArePaired new side (at + 1)
+pair_more old new side at shape i j kept here some before behind is a = λ b x y less first second. elim (cases_lt (suc b) at) [
+  | inl l ↦ kept (shape_of (x ∷ y ∷ [])) (a b x y l first second)
+  | inr ge ↦ (
+      let last : b ≡ at - 1 = omega arith in
+      let next : suc b ≡ at = omega arith in
+      let one : x ≡ i = same_Some x i (sym first ∙ ap (slice_get side) last ∙ before) in
+      let other : y ≡ j = same_Some y j (sym second ∙ ap (slice_get side) next ∙ behind) in
+      ap (λ (z : Instr). is_marked new (shape_of (z ∷ y ∷ []))) one ∙ ap (λ (z : Instr). is_marked new (shape_of (i ∷ z ∷ []))) other ∙ ap (is_marked new) (sym is) ∙ here
+      )
+]
+
 -- ---- the index ----
 
 -- of no rules
 pub empty_index : (rules : List Rule) (n : ℕ) (index : Index) → length rules ≤ n → length index.firsts.items ≡ 65536 → ((q : ℕ) (first : Option ℕ) → slice_get index.firsts.items q ≡ Some first → first ≡ None)
-    → length index.nexts.items ≡ length rules → length index.fronts.items ≡ 65536 → IsIndexFrom rules n index
-empty_index rules n index h many_firsts none many fronts = record {
+    → length index.nexts.items ≡ length rules → length index.fronts.items ≡ 65536 → length index.pairs.items ≡ 65536 → IsIndexFrom rules n index
+empty_index rules n index h many_firsts none many fronts pairs = record {
   many_firsts = many_firsts;
   firsts = λ shape first at. none shape first at ∙ sym (first_past rules shape n h);
   as_many = many;
   nexts = λ k rule next l at f g. absurd (omega (arith, l, h, slice_get_within rules k rule at));
   many_fronts = fronts;
   fronts = λ k rule l at f. absurd (omega (arith, l, h, slice_get_within rules k rule at));
+  many_pairs = pairs;
+  pairs = λ k rule l at f. absurd (omega (arith, l, h, slice_get_within rules k rule at));
 }
 
 -- with one that leaves as many before them
@@ -121,6 +137,11 @@ same_index rules n rule index at f x = record {
     | inl m ↦ x.fronts k own (omega arith) here s
     | inr m ↦ absurd (none k own l m here s)
   ];
+  many_pairs = x.many_pairs;
+  pairs = λ k own l here s. elim (cases_lt n k) [
+    | inl m ↦ x.pairs k own (omega arith) here s
+    | inr m ↦ absurd (none k own l m here s)
+  ];
 }
   where
     none : (k : ℕ) (own : Rule) → n ≤ k → k ≤ n → slice_get rules k ≡ Some own → is_shorter own ≡ true → ⊥
@@ -134,8 +155,9 @@ same_index rules n rule index at f x = record {
 pub more_index : (rules : List Rule) (n : ℕ) (rule : Rule) (old new : Index) (o : Option ℕ) → slice_get rules n ≡ Some rule → is_shorter rule ≡ true → IsIndexFrom rules (n + 1) old → shape_of rule.left < 65536
     → slice_get old.firsts.items (shape_of rule.left) ≡ Some o → new.firsts.items ≡ slice_set old.firsts.items (shape_of rule.left) (Some n) → new.nexts.items ≡ slice_set old.nexts.items n o
     → length new.fronts.items ≡ 65536 → ((q : ℕ) → is_marked old.fronts.items q ≡ true → is_marked new.fronts.items q ≡ true) → AreMarked new.fronts.items rule.left (length rule.left)
+    → length new.pairs.items ≡ 65536 → ((q : ℕ) → is_marked old.pairs.items q ≡ true → is_marked new.pairs.items q ≡ true) → ArePaired new.pairs.items rule.left (length rule.left)
     → IsIndexFrom rules n new
-more_index rules n rule old new o at f x small was firsts nexts many kept fronts =
+more_index rules n rule old new o at f x small was firsts nexts many kept fronts many_pairs pairs_kept pairs =
     let within : n < length rules = slice_get_within rules n rule at in
     let room : shape_of rule.left < length old.firsts.items = omega (arith, small, x.many_firsts) in
     record {
@@ -147,6 +169,11 @@ more_index rules n rule old new o at f x small was firsts nexts many kept fronts
       fronts = λ k own l here s. elim (cases_lt n k) [
         | inl m ↦ λ a w. kept (shape_of (take (suc a) own.left)) (x.fronts k own (omega arith) here s a w)
         | inr m ↦ subst (λ (r : Rule). AreMarked new.fronts.items r.left (length r.left)) (sym (one k own l m here)) fronts
+      ];
+      many_pairs = many_pairs;
+      pairs = λ k own l here s. elim (cases_lt n k) [
+        | inl m ↦ λ a i j w first second. pairs_kept (shape_of (i ∷ j ∷ [])) (x.pairs k own (omega arith) here s a i j w first second)
+        | inr m ↦ subst (λ (r : Rule). ArePaired new.pairs.items r.left (length r.left)) (sym (one k own l m here)) pairs
       ];
     }
   where

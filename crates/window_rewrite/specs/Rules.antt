@@ -50,6 +50,10 @@ is_marked marks k = is_true (slice_get marks k)
 abbrev pub AreMarked : List Bool → List Instr → ℕ → Type 0
 AreMarked marks side count = (at : ℕ) → at < count → is_marked marks (shape_of (take (suc at) side)) ≡ true
 
+-- the numbers of each two neighbours among so many instructions of a side are marked
+abbrev pub ArePaired : List Bool → List Instr → ℕ → Type 0
+ArePaired marks side count = (at : ℕ) (i j : Instr) → suc at < count → slice_get side at ≡ Some i → slice_get side (suc at) ≡ Some j → is_marked marks (shape_of (i ∷ j ∷ [])) ≡ true
+
 -- of each number the first rule from the n-th on, and of each of these rules the next one
 abbrev pub AreFirsts : List Rule → List (Option ℕ) → ℕ → Type 0
 AreFirsts rules firsts n = (shape : ℕ) (first : Option ℕ) → slice_get firsts shape ≡ Some first → first ≡ first_with shape n (drop n rules)
@@ -65,6 +69,8 @@ pub record IsIndexFrom (rules : List Rule) (n : ℕ) (index : Index) : Type 0 wh
   pub nexts : AreNexts rules index.nexts.items n
   pub many_fronts : length index.fronts.items ≡ 65536
   pub fronts : (k : ℕ) (rule : Rule) → n ≤ k → slice_get rules k ≡ Some rule → is_shorter rule ≡ true → AreMarked index.fronts.items rule.left (length rule.left)
+  pub many_pairs : length index.pairs.items ≡ 65536
+  pub pairs : (k : ℕ) (rule : Rule) → n ≤ k → slice_get rules k ≡ Some rule → is_shorter rule ≡ true → ArePaired index.pairs.items rule.left (length rule.left)
 
 abbrev pub IsIndex : List Rule → Index → Type 0
 IsIndex rules index = IsIndexFrom rules 0 index

@@ -1,10 +1,10 @@
 //! The entries of a table by their left sides.
 ghost use Rattle.std.specs.Prelude.{◌≡◌, ◌+◌, ◌<◌, ◌≤◌, ℕ, length, drop, slice_get, true, Some, IfOk};
 ghost use Rattle.thumb_model.specs.Rewrite.{Rule};
-ghost use Rattle.window_rewrite.specs.Rules.{entry_rule, first_with, is_marked, is_shorter, rules_in, AreMarked, IsIndex, IsIndexFrom};
+ghost use Rattle.window_rewrite.specs.Rules.{entry_rule, first_with, is_marked, is_shorter, rules_in, AreMarked, ArePaired, IsIndex, IsIndexFrom};
 ghost use Rattle.window_rewrite.specs.Shapes.{shape_of};
 
-use crate::shapes::{SHAPES, next_shape};
+use crate::shapes::{SHAPES, next_shape, pair_shape};
 use listing_parser::Memory;
 use rule_table::Entry;
 use std::alloc::Global;
@@ -58,7 +58,9 @@ impl Index {
         requires index { IsIndexFrom (rules_in entries.now) (number + 1) self.old }
         ensures { IsIndexFrom (rules_in entries.now) number self.new }
     {
-        let shape = self.mark_fronts(entries[number].left.as_slice());
+        let left = entries[number].left.as_slice();
+        let shape = self.mark_fronts(left);
+        self.mark_pairs(left);
         let next = self.firsts[shape];
         self.nexts[number] = next;
         self.firsts[shape] = Some(number);
@@ -70,6 +72,7 @@ impl Index {
         requires small { shape < 65536 }
         ensures firsts { self.new.firsts.items ≡ self.old.firsts.items }
         ensures nexts { self.new.nexts.items ≡ self.old.nexts.items }
+        ensures pairs { self.new.pairs.items ≡ self.old.pairs.items }
         ensures many { length self.new.fronts.items ≡ 65536 }
         ensures kept { (q : ℕ) → is_marked self.old.fronts.items q ≡ true → is_marked self.new.fronts.items q ≡ true }
         ensures here { is_marked self.new.fronts.items shape ≡ true }
@@ -82,6 +85,7 @@ impl Index {
         requires { length self.old.fronts.items ≡ 65536 }
         ensures firsts { self.new.firsts.items ≡ self.old.firsts.items }
         ensures nexts { self.new.nexts.items ≡ self.old.nexts.items }
+        ensures pairs { self.new.pairs.items ≡ self.old.pairs.items }
         ensures many { length self.new.fronts.items ≡ 65536 }
         ensures kept { (q : ℕ) → is_marked self.old.fronts.items q ≡ true → is_marked self.new.fronts.items q ≡ true }
         ensures fronts { AreMarked self.new.fronts.items left.now (length left.now) }
@@ -96,6 +100,36 @@ impl Index {
         shape
     }
 
+    /// Marks the number of two neighbours.
+    fn mark_pair(&mut self, shape: usize)
+        requires many { length self.old.pairs.items ≡ 65536 }
+        requires small { shape < 65536 }
+        ensures firsts { self.new.firsts.items ≡ self.old.firsts.items }
+        ensures nexts { self.new.nexts.items ≡ self.old.nexts.items }
+        ensures fronts { self.new.fronts.items ≡ self.old.fronts.items }
+        ensures many { length self.new.pairs.items ≡ 65536 }
+        ensures kept { (q : ℕ) → is_marked self.old.pairs.items q ≡ true → is_marked self.new.pairs.items q ≡ true }
+        ensures here { is_marked self.new.pairs.items shape ≡ true }
+    {
+        self.pairs[shape] = true;
+    }
+
+    /// Marks the numbers of each two neighbours in a left side.
+    fn mark_pairs(&mut self, left: &[Instr])
+        requires { length self.old.pairs.items ≡ 65536 }
+        ensures firsts { self.new.firsts.items ≡ self.old.firsts.items }
+        ensures nexts { self.new.nexts.items ≡ self.old.nexts.items }
+        ensures fronts { self.new.fronts.items ≡ self.old.fronts.items }
+        ensures many { length self.new.pairs.items ≡ 65536 }
+        ensures kept { (q : ℕ) → is_marked self.old.pairs.items q ≡ true → is_marked self.new.pairs.items q ≡ true }
+        ensures pairs { ArePaired self.new.pairs.items left.now (length left.now) }
+    {
+        for at in 1..left.len() {
+            let shape = pair_shape(&left[at - 1], &left[at]);
+            self.mark_pair(shape);
+        }
+    }
+
     /// Whether some left side may begin with instructions of this number.
     pub(crate) fn has_front(&self, shape: usize) -> bool
         requires many { length self.now.fronts.items ≡ 65536 }
@@ -103,6 +137,15 @@ impl Index {
         ensures { result ≡ is_marked self.now.fronts.items shape }
     {
         self.fronts[shape]
+    }
+
+    /// Whether two instructions of this number, one behind the other, may stand in some left side.
+    pub(crate) fn has_pair(&self, shape: usize) -> bool
+        requires many { length self.now.pairs.items ≡ 65536 }
+        requires small { shape < 65536 }
+        ensures { result ≡ is_marked self.now.pairs.items shape }
+    {
+        self.pairs[shape]
     }
 
     /// The first entry that leaves fewer instructions and whose left side has this number.

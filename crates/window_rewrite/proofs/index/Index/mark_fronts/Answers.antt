@@ -13,6 +13,7 @@ loop-at-preserved c =
     record {
       firsts = c.mark_front.ensures.firsts ∙ was.firsts;
       nexts = c.mark_front.ensures.nexts ∙ was.nexts;
+      pairs = c.mark_front.ensures.pairs ∙ was.pairs;
       many = c.mark_front.ensures.many;
       kept = λ q h. c.mark_front.ensures.kept q (was.kept q h);
       fronts = mark_more c.loop-at.self.fronts.items _ c.args.left.now c.loop-at.at c.next_shape-shape.result c.mark_front.ensures.kept c.mark_front.ensures.here shape was.fronts;

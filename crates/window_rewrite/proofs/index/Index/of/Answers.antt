@@ -22,9 +22,9 @@ loop-number-init c = record {
   within = omega arith;
   index =
       let n = rules_length c.args.entries.now in
-      let index : Index = record { firsts = c.in_ok-vec.field-0; nexts = c.in_ok-vec-2.field-0; fronts = c.in_ok-vec-3.field-0 } in
+      let index : Index = record { firsts = c.in_ok-vec.field-0; nexts = c.in_ok-vec-2.field-0; fronts = c.in_ok-vec-3.field-0; pairs = c.in_ok-vec-4.field-0 } in
       empty_index (rules_in c.args.entries.now) (length c.args.entries.now) index (omega arith) (sym c.in_ok-vec.field-0.ok.0 ∙ c.in_ok-vec.ensures.len) (λ q first at. none_of 65536 q first (subst (λ (l : List (Option ℕ)). slice_get l q ≡ Some first) (c.in_ok-vec.ensures.items_if_clones_equal (none_alone _ (λ x e. absurd e))) at)) (sym c.in_ok-vec-2.field-0.ok.0 ∙ c.in_ok-vec-2.ensures.len ∙ sym n)
-      (sym c.in_ok-vec-3.field-0.ok.0 ∙ c.in_ok-vec-3.ensures.len);
+      (sym c.in_ok-vec-3.field-0.ok.0 ∙ c.in_ok-vec-3.ensures.len) (sym c.in_ok-vec-4.field-0.ok.0 ∙ c.in_ok-vec-4.ensures.len);
 }
 
 pub add-requires-clause-shorter : goal.add-requires-clause-shorter
