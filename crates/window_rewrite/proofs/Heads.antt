@@ -29,7 +29,7 @@ shape_next : (shape : ℕ) (i j : Instr) → head_number j ≡ head_number i →
 shape_next shape i j e = ap (λ h. (shape * 1283 + h) % 65536) e
 
 -- instructions under a map have the same number
-shape_renamed : (r : List Low) (shape : ℕ) (is js : List Instr) → js ≡ map (renamed r) is → shape_from shape js ≡ shape_from shape is
+pub shape_renamed : (r : List Low) (shape : ℕ) (is js : List Instr) → js ≡ map (renamed r) is → shape_from shape js ≡ shape_from shape is
 shape_renamed r shape [] [] e = refl
 shape_renamed r shape [] (j ∷ js) e = absurd (cc)
 shape_renamed r shape (i ∷ is) [] e = absurd (cc)

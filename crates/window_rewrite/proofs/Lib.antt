@@ -6,6 +6,7 @@ pub mod Keys
 pub mod Heads
 pub mod Behind
 pub mod Chosen
+pub mod Across
 pub mod Accepted
 pub mod Rounds
 pub mod KeptSpots

@@ -10,7 +10,7 @@ use Rattle.thumb_model.specs.Listing.{Statement, Nothing, Runs, Words, Aligns, S
 use Rattle.thumb_model.specs.Flow.{LiveAfter}
 use Rattle.thumb_model.specs.Layout.{Layable}
 use Rattle.thumb_model.specs.Rewrite.{Rule, Applies, replaced}
-use Rattle.thumb_model.specs.Rewritten.{Setting, Replacement, AppliesIn, IsFirst, is_op, replaced_lines, lines_after_rule, lines_after}
+use Rattle.thumb_model.specs.Rewritten.{Setting, Replacement, AppliesIn, IsFirst, is_op, replaced_lines, lines_after_rule, lines_after, left_length, left_length_of}
 use Rattle.thumb_model.proofs.LinesKept.{fewer_after, code_of_after}
 use Rattle.listing_parser.specs.TableWords.{DefineOnce}
 use Rattle.listing_parser.proofs.ReplaceLemmas.{still_once}
@@ -27,7 +27,7 @@ use Rattle.window_rewrite.specs.Rules.{AreFit}
 use Rattle.window_rewrite.specs.declared.choice.Choice.{Choice}
 use Rattle.window_rewrite.specs.declared.finding.Rules.{Rules}
 use Rattle.window_rewrite.specs.declared.ground.Ground.{Ground}
-use Rattle.window_rewrite.specs.Choices.{setting_of, choice_of, AreReady, IsChoice, NoneBefore}
+use Rattle.window_rewrite.specs.Choices.{setting_of, choice_of, AreReady, IsChoice, NoneEnding}
 use Rattle.window_rewrite.specs.Sweeps.{IsKept, LosesNone, MayBeListed, AreOver, IsOver, is_steady}
 
 -- a replacement leaves lines that may be a listing's, where the lines before it may
@@ -97,11 +97,11 @@ still_live old new was now q x a b h k e l = (b.after q x k).0 (e ((a.after q x 
 
 -- ---- before the cursor ----
 
--- what no rule applies before in the old lines none applies before in the new ones, as far back from where sets changed as a left side is long
-pub none_before : (s : Setting) (longest back : ℕ) (xs ys new : List Line) (was now : List Spot) (r : Replacement) (place : ℕ) → AreFit longest s.table → IsFirst s r (xs ++ ys) → r.place ≡ length (places_of xs)
+-- what no rule applies before in the old lines none applies in the new ones in a window that ends before where sets changed
+none_ending : (s : Setting) (longest back : ℕ) (xs ys new : List Line) (was now : List Spot) (r : Replacement) → AreFit longest s.table → IsFirst s r (xs ++ ys) → r.place ≡ length (places_of xs)
     → new ≡ lines_after s r (xs ++ ys) → IsLive (code_of (xs ++ ys)) (sets_of was) → IsLive (code_of new) (sets_of now) → ((q : ℕ) → q + back < r.place → (x : ℕ) → has (set_at (sets_of was).after q) x ≡ true → has (set_at (sets_of now).after q) x ≡ true)
-    → s.base % 4 ≡ 0 → IsSteady s.base (xs ++ ys) → place ≤ r.place + 1 - back - longest → NoneBefore s new place
-none_before s longest back xs ys new was now r place fit first at is_new old_live new_live same aligned steady far_back = λ o a before.
+    → s.base % 4 ≡ 0 → IsSteady s.base (xs ++ ys) → NoneEnding s new (r.place - back)
+none_ending s longest back xs ys new was now r fit first at is_new old_live new_live same aligned steady = λ o a ends.
     let rule : Rule = first.applies.rule in
     let is : List Instr = map (renamed r.registers) rule.right in
     let n : ℕ = length rule.left in
@@ -110,9 +110,9 @@ none_before s longest back xs ys new was now r place fit first at is_new old_liv
     let is_now : new ≡ xs ++ zs = is_new ∙ left.1 in
     let there : AppliesIn s o (xs ++ zs) = subst (λ (ls : List Line). AppliesIn s o ls) is_now a in
     let f = fit o.entry there.rule there.is_rule in
-    let short = f.short in
-    let far : o.place + length there.rule.left ≤ length (places_of xs) = omega arith in
+    let long : left_length s.table o.entry ≡ length there.rule.left = ap left_length_of there.is_rule in
     let shorter = there.applies.shorter in
+    let far : o.place + length there.rule.left ≤ length (places_of xs) = omega arith in
     let q : ℕ = o.place + length there.rule.left - 1 in
     let old_places = ap (λ ps. length ps) (places_append xs ys) ∙ length-append (places_of xs) (places_of ys) in
     let new_places = ap (λ (ls : List Line). length (places_of ls)) is_now ∙ ap (λ ps. length ps) (places_append xs zs) ∙ length-append (places_of xs) (places_of zs) in
@@ -181,14 +181,12 @@ turned_over r g old at new o ready over steady a kept e is f spots = record {
   over = still_over r g (lines_at old) (lines_at new) o ready steady a (f ∙ e) over.over;
 }
 
--- and no entry applies before it
-pub turned_before : (r : Rules) (g : Ground) (old at new : Cursor) (o : Replacement) (count : ℕ) → AreReady r → IsOver r g old → is_steady g ≡ true → IsFirst (setting_of r) o (lines_at old) → o.place ≡ place_at old
-    → IsKept at → lines_at at ≡ lines_after (setting_of r) o (lines_at old) → ((q : ℕ) → q + count < place_at old → LosesNone old at q)
-    → lines_at new ≡ lines_at at → place_at new ≤ o.place + 1 - count - r.longest → NoneBefore (setting_of r) (lines_at new) (place_at new)
-turned_before r g old at new o count ready over steady first here kept e same f back =
-    subst (λ (ls : List Line). NoneBefore (setting_of r) ls (place_at new)) (sym f)
-    (none_before (setting_of r) r.longest count (lines_behind old) (lines_ahead old) (lines_at at) (spots_at old) (spots_at at) o (place_at new) ready.fit first (here ∙ over.kept.is.passed) e over.kept.live kept.live
-    (λ q h. same q (omega arith)) (over.over.aligned steady) (over.over.steady steady) back)
+-- and no entry applies in a window that ends before what changed
+pub turned_ending : (r : Rules) (g : Ground) (old at : Cursor) (o : Replacement) (count : ℕ) → AreReady r → IsOver r g old → is_steady g ≡ true → IsFirst (setting_of r) o (lines_at old) → o.place ≡ place_at old
+    → IsKept at → lines_at at ≡ lines_after (setting_of r) o (lines_at old) → ((q : ℕ) → q + count < place_at old → LosesNone old at q) → NoneEnding (setting_of r) (lines_at at) (o.place - count)
+turned_ending r g old at o count ready over steady first here kept e same =
+    none_ending (setting_of r) r.longest count (lines_behind old) (lines_ahead old) (lines_at at) (spots_at old) (spots_at at) o ready.fit first (here ∙ over.kept.is.passed) e over.kept.live kept.live
+    (λ q h. same q (omega arith)) (over.over.aligned steady) (over.over.steady steady)
 
 -- ---- where a sweep begins ----
 

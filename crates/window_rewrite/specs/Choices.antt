@@ -74,6 +74,14 @@ pub record IsFirstChoice (s : Setting) (lines : List Line) (c : Choice) : Type 0
 abbrev pub NoneBefore : Setting → List Line → ℕ → Type 0
 NoneBefore s lines place = (o : Replacement) → AppliesIn s o lines → o.place < place → ⊥
 
+-- none applies in a window that ends at the place or before it
+abbrev pub NoneEnding : Setting → List Line → ℕ → Type 0
+NoneEnding s lines place = (o : Replacement) → AppliesIn s o lines → o.place + left_length s.table o.entry ≤ place → ⊥
+
+-- none applies in a window that begins before the place and goes on there
+abbrev pub NoneAcross : Setting → List Line → ℕ → Type 0
+NoneAcross s lines place = (o : Replacement) → AppliesIn s o lines → o.place < place → place < o.place + left_length s.table o.entry → ⊥
+
 -- ---- how many rules there are ----
 
 -- with left sides of n instructions, and with longer ones

@@ -5,26 +5,28 @@ ghost use Rattle.thumb_model.specs.Listing.{Line as Listed, code_of, places_of};
 ghost use Rattle.thumb_model.specs.Rewritten.{NoneApplies, lines_after};
 ghost use Rattle.listing_parser.specs.declared.line.Line.{Line as Lines};
 ghost use Rattle.line_cursor.specs.Lines.{begins_op, lines_in};
-ghost use Rattle.line_cursor.specs.Cursors.{flows_of, lines_at, place_at, sets_of};
+ghost use Rattle.line_cursor.specs.Cursors.{flows_of, lines_at, place_at, sets_of, spots_at, IsCursor};
 ghost use Rattle.listing_parser.specs.Views.{line_view};
 ghost use Rattle.liveness.specs.Kept.{AreFlows};
 ghost use Rattle.liveness.specs.Live.{IsLive};
 ghost use Rattle.steady_layout.specs.Steady.{IsSteady};
 ghost use Rattle.window_rewrite.specs.Rewriting.{round_cost, visits, IsWhole};
 ghost use Rattle.window_rewrite.specs.Rules.{rules_in};
-ghost use Rattle.window_rewrite.specs.Choices.{setting_of, choice_of, AreReady, IsFirstChoice, NoneBefore};
+ghost use Rattle.window_rewrite.specs.Choices.{setting_of, choice_of, AreReady, IsFirstChoice, NoneAcross, NoneBefore, NoneEnding};
 ghost use Rattle.window_rewrite.specs.Sweeps.{is_steady, AreOver, Completes, IsOver, IsSteadyIf, MayBeListed};
 
 use crate::choice::{Choice, Replacement};
 use crate::finding::{Rules, next};
 use crate::ground::Ground;
 use crate::making::{make, put_blank};
+use crate::shapes::pair_shape;
 use line_cursor::{Cursor, Spot};
 use listing_parser::{Line, Listing, Memory, copy_lines};
 use liveness::{Flow, Live, live_and_flows};
 use std::alloc::Global;
 use steady_layout::is_steady;
 use step_ledger::{Ledger, Steps};
+use thumb_instr::normal;
 
 /// What a sweep leaves.
 #[derive(Drop)]
@@ -32,6 +34,40 @@ pub(crate) struct Swept {
     pub(crate) listing: Listing,
     /// Whether no entry applies any more.
     pub(crate) is_done: bool,
+}
+
+/// Whether a left side may stand in a window that begins before the cursor and goes on behind it.
+fn may_reach_across(rules: &Rules<'_>, cursor: &Cursor) -> bool
+    requires ready { AreReady rules.now }
+    requires is { IsCursor cursor.now }
+    ensures { result ≡ false → NoneAcross (setting_of rules.now) (lines_at cursor.now) (place_at cursor.now) }
+{
+    let Some(before) = cursor.letter_before() else {
+        return false;
+    };
+    let Some(behind) = cursor.letter_behind() else {
+        return false;
+    };
+    rules.index.has_pair(pair_shape(&normal(before), &normal(behind)))
+}
+
+/// Goes back to where entries may apply now, where none applies in a window that ends at a place or before it: to this place, and further back only where a
+/// window may reach across it.
+fn go_back(rules: &Rules<'_>, cursor: &mut Cursor, place: usize) -> Result<(), Memory>
+    requires ready { AreReady rules.now }
+    requires is { IsCursor cursor.old }
+    requires ending { NoneEnding (setting_of rules.now) (lines_at cursor.old) place }
+    ensures is { OnOk result (IsCursor cursor.new) }
+    ensures lines { OnOk result (lines_at cursor.new ≡ lines_at cursor.old) }
+    ensures spots { OnOk result (spots_at cursor.new ≡ spots_at cursor.old) }
+    ensures before { OnOk result (NoneBefore (setting_of rules.now) (lines_at cursor.new) (place_at cursor.new)) }
+{
+    cursor.rewind(place)?;
+    if may_reach_across(rules, cursor) {
+        let before = usize::from(rules.longest).saturating_sub(1);
+        cursor.rewind(place.saturating_sub(before))?;
+    }
+    Ok(())
 }
 
 /// Makes a replacement that was found, and goes back to where others may be possible now. Whether the sweep can go on.
@@ -63,8 +99,8 @@ fn turn<L: Ledger>(
     match make(alloc, cursor, window, new, steps)? {
         None => Ok(false),
         Some(lead) => {
-            let changed = (choice.replacement.place as usize + 1).saturating_sub(lead);
-            cursor.rewind(changed.saturating_sub(usize::from(rules.longest)))?;
+            let first = (choice.replacement.place as usize).saturating_sub(lead);
+            go_back(rules, cursor, first)?;
             Ok(true)
         }
     }
