@@ -13,7 +13,7 @@ use Rattle.thumb_model.specs.Rewritten.{Replacement, AppliesIn, left_length, lef
 use Rattle.thumb_model.proofs.Lists.{get_drop, get_take}
 use Rattle.thumb_model.proofs.Window.{AreStraight}
 use Rattle.thumb_model.proofs.Table.{window_length, applies_sound}
-use Rattle.window_runs.specs.Rows.{letter_of}
+
 use Rattle.line_cursor.specs.Looks.{letter_at}
 use Rattle.window_rewrite.specs.declared.index.Index.{Index}
 use Rattle.window_rewrite.specs.Rewriting.{setting}
