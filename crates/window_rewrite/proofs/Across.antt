@@ -1,5 +1,5 @@
 -- What stands on both sides of a place that a window reaches across.
-use Rattle.std.proofs.Common.{◌≡◌, ℕ, zero, suc, ◌+◌, ◌-◌, ◌<◌, Bool, true, false, List, [], ◌∷◌, length, map, take, drop, Option, Some, None, refl, sym, ap, ◌∙◌, subst, arith, if◌then◌else◌}
+use Rattle.std.proofs.Common.{◌≡◌, ℕ, zero, suc, ◌+◌, ◌-◌, ◌<◌, Bool, true, false, List, [], ◌∷◌, length, map, take, drop, Option, Some, None, refl, sym, ap, ◌∙◌, arith, if◌then◌else◌}
 use Rattle.std.specs.Prelude.{slice_get}
 use Rattle.std.specs.Option.{option_map}
 use Rattle.std.proofs.lemmas.Bool.{lt-ltb}
@@ -7,13 +7,12 @@ use Rattle.std.proofs.lemmas.Option.{slice_get-map, same_Some}
 use Rattle.thumb_instr.specs.declared.instr.Instr.{Instr}
 use Rattle.thumb_instr.specs.Window.{is_in_window, normal_of}
 use Rattle.thumb_instr.specs.Renaming.{Low, renamed}
-use Rattle.thumb_model.specs.Listing.{plain, Line, Place, Op, Word, places_of, code_of}
+use Rattle.thumb_model.specs.Listing.{plain, Line, Place, places_of, code_of}
 use Rattle.thumb_model.specs.Rewrite.{Rule, normalised}
 use Rattle.thumb_model.specs.Rewritten.{Replacement, AppliesIn, left_length, left_length_of}
 use Rattle.thumb_model.proofs.Lists.{get_drop, get_take}
 use Rattle.thumb_model.proofs.Window.{AreStraight}
 use Rattle.thumb_model.proofs.Table.{window_length, applies_sound}
-
 use Rattle.line_cursor.specs.Looks.{letter_at}
 use Rattle.window_rewrite.specs.declared.index.Index.{Index}
 use Rattle.window_rewrite.specs.Rewriting.{setting}
@@ -22,13 +21,13 @@ use Rattle.window_rewrite.specs.Shapes.{shape_of}
 use Rattle.window_rewrite.specs.Choices.{NoneAcross}
 use Rattle.window_rewrite.proofs.Heads.{shape_renamed}
 
-
--- an instruction of a window
+-- an instruction of a window, which is the one that stands at a place
 record IsLetter (places : List Place) (q : ℕ) (window : List Instr) (k : ℕ) : Type 0 where
   letter : Instr
   at : slice_get window k ≡ Some letter
   stands : letter_at (slice_get places q) ≡ Some letter
 
+-- where a window stands, each of its instructions stands and may stand in a window
 letter_is : (window : List Instr) → AreStraight window → (k : ℕ) → k < length window → (i : Instr) × (slice_get window k ≡ Some i) × (is_in_window i ≡ true)
 letter_is [] s k h = absurd (omega arith)
 letter_is (i ∷ is) s zero h = (i, refl, s.0)

@@ -48,7 +48,9 @@ fn may_reach_across(rules: &Rules<'_>, cursor: &Cursor) -> bool
     let Some(behind) = cursor.letter_behind() else {
         return false;
     };
-    rules.index.has_pair(pair_shape(&normal(before), &normal(behind)))
+    rules
+        .index
+        .has_pair(pair_shape(&normal(before), &normal(behind)))
 }
 
 /// Goes back to where entries may apply now, where none applies in a window that ends at a place or before it: to this place, and further back only where a
