@@ -26,4 +26,6 @@ mod syntax;
 #[cfg(test)]
 mod ways;
 #[cfg(test)]
+mod windows;
+#[cfg(test)]
 mod words;

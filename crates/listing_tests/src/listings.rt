@@ -1,12 +1,7 @@
-ghost use Rattle.std.specs.Prelude.{◌≡◌, true};
-ghost use Rattle.listing_parser.specs.Replacing.{names_no_label};
-
-use listing_parser::{Line, Listing, ListingError, Memory, Place, Statement, Value, parse, print};
+use crate::windows::{uxtb, with_one};
+use listing_parser::{Line, Listing, ListingError, Place, Statement, Value, parse, print};
 use std::alloc::Global;
 use std::test::Fail;
-use thumb_instr::{Extension, Instr, Low};
-use window_runs::rows::rows;
-use window_runs::runs::run;
 
 /// The seventeen lines of one function as gcc writes it, with a literal behind it.
 fn function() -> &'static [u8] {
@@ -276,36 +271,6 @@ fn addresses_are_found(rt: HostRuntime) -> Result<(), Fail> {
     assert_eq!(rt; listing.set_address(b"ext"), Some(4096));
     assert_eq!(rt; listing.set_address(b"w"), None);
     Ok(())
-}
-
-/// The listing with one instruction in place of two, where a window of two stands from this place on.
-fn with_one(
-    alloc: Global,
-    listing: &Listing,
-    place: u32,
-    instr: Instr,
-) -> Result<Option<Listing>, Memory>
-    requires { names_no_label instr ≡ true }
-{
-    let rows = rows(alloc, listing.lines())?;
-    let run = run(&rows, place as usize, 2);
-    if run.len() == 2 && place < u32::MAX && listing.is_op(place) && listing.is_op(place + 1) {
-        let changed = listing.replaced(alloc, place, 2, &[instr])?;
-        Ok(Some(changed))
-    } else {
-        Ok(None)
-    }
-}
-
-/// `uxtb r0, r0`
-fn uxtb() -> Instr
-    ensures { names_no_label result ≡ true }
-{
-    Instr::Extend {
-        extension: Extension::Uxtb,
-        target: Low::of(0),
-        source: Low::of(0),
-    }
 }
 
 /// The listing of the text with `uxtb r0, r0` in place of two instructions, where they stand from this place on.
