@@ -1,6 +1,6 @@
 -- What is asked of live sets and layouts that are brought up to date, where a window of two gave way to one instruction.
-use Rattle.std.proofs.Common.{◌≡◌, ◌∙◌, ℕ, zero, suc, ◌+◌, ◌<◌, ◌≤◌, ◌⊎◌, inl, List, [], ◌∷◌, true, false, Some, length, take, drop, map, refl, ap, arith, sym, subst}
-use Rattle.std.specs.Prelude.{slice_get}
+use Rattle.std.proofs.Common.{◌≡◌, ◌∙◌, ℕ, zero, suc, ◌+◌, ◌<◌, ◌≤◌, ◌⊎◌, inl, List, [], ◌∷◌, true, false, Option, Some, length, take, drop, map, refl, ap, arith, sym, subst}
+use Rattle.std.specs.Prelude.{slice_get, IfSome}
 use Rattle.std.specs.List.{list_all}
 use Rattle.std.proofs.lemmas.Bool.{and_from}
 use Rattle.std.proofs.lemmas.List.{take_all}
@@ -49,6 +49,11 @@ window_unlabelled lines place window n e w = subst (λ m. (k : ℕ) (l : Label) 
 
 pub window_joined : (lines : List Line) (place : ℕ) (window : List Instr) (n : ℕ) → length window ≡ n → IsWindow lines place window → are_joined_from place n lines ≡ true
 window_joined lines place window n e w = subst (λ m. are_joined_from place m lines ≡ true) e w.joined
+
+-- what is found gave way
+pub found_gave_way : (before : List Line) (place : ℕ) (instr : Instr) (found : Option (List Line)) (lines : List Line)
+    → found ≡ Some lines → IfSome found (λ (changed : List Line). GaveWay before place instr changed) → GaveWay before place instr lines
+found_gave_way before place instr found lines e w = subst (λ (o : Option (List Line)). IfSome o (λ (changed : List Line). GaveWay before place instr changed)) e w
 
 -- ---- live sets ----
 
