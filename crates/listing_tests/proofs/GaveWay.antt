@@ -1,7 +1,6 @@
 -- What is asked of live sets and layouts that are brought up to date, where a window of two gave way to one instruction.
 use Rattle.std.proofs.Common.{◌≡◌, ◌∙◌, ℕ, zero, suc, ◌+◌, ◌<◌, ◌≤◌, ◌⊎◌, inl, List, [], ◌∷◌, true, false, Option, Some, length, take, drop, map, refl, ap, arith, sym, subst}
 use Rattle.std.specs.Prelude.{slice_get, IfSome}
-use Rattle.std.specs.List.{list_all}
 use Rattle.std.proofs.lemmas.Bool.{and_from}
 use Rattle.std.proofs.lemmas.List.{take_all}
 use Rattle.thumb_instr.specs.declared.instr.Instr.{Instr}

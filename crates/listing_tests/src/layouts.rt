@@ -169,12 +169,13 @@ fn outcome(alloc: Global, text: &[u8], place: u32) -> Result<Option<(u32, bool)>
 #[test]
 fn layouts_are_brought_up_to_date(rt: HostRuntime) -> Result<(), Fail> {
     for (text, place, want) in [
+        // the label behind comes nearer by two bytes
         (
             "f: lsls r0, r0, #24\n lsrs r0, r0, #24\n g: b g\n",
             0,
             Some((4100, true)),
         ),
-        // the word stays where it is, behind two bytes of padding
+        // the words stay where they are, behind two bytes of padding
         (
             "ldr r1, w\nf: lsls r0, r0, #24\n lsrs r0, r0, #24\n bx lr\n .align 2\nw: .word 1, 2\nend:\n",
             1,
@@ -182,7 +183,11 @@ fn layouts_are_brought_up_to_date(rt: HostRuntime) -> Result<(), Fail> {
         ),
         (" lsls r0, r0, #24\nf: lsrs r0, r0, #24\n", 0, None),
     ] {
-        assert_eq!(rt; outcome(rt.alloc(), text.as_bytes(), place)?, want, "{text}{place}");
+        assert_eq!(rt;
+            outcome(rt.alloc(), text.as_bytes(), place)?,
+            want,
+            "{text}{place}"
+        );
     }
     Ok(())
 }

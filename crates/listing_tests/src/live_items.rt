@@ -101,21 +101,34 @@ fn outcome(alloc: Global, text: &[u8], place: u32) -> Result<Change, Fail> {
 fn sets_are_brought_up_to_date(rt: HostRuntime) -> Result<(), Fail> {
     for (text, place, want) in [
         // r0 is read before and after, and no flag is live
-        ("f: lsls r0, r0, #24\n lsrs r0, r0, #24\n bx lr\n", 0, Change::Kept),
+        (
+            "f: lsls r0, r0, #24\n lsrs r0, r0, #24\n bx lr\n",
+            0,
+            Change::Kept,
+        ),
+        // Z is live before the one, and was not before the two, which write it
         (
             "f: nop\n lsls r0, r0, #24\n lsrs r0, r0, #24\n beq f\n bx lr\n",
             1,
             Change::FoundAnew,
         ),
-        // r1 was live for the first instruction alone
+        // r1 was live for the first of the two alone
         (
             " nop\n nop\nf: lsls r0, r1, #24\n lsrs r0, r0, #24\n movs r1, #0\n bx lr\n",
             2,
             Change::FoundAnew,
         ),
-        (" lsls r0, r0, #24\nf: lsrs r0, r0, #24\n bx lr\n", 0, Change::NoWindow),
+        (
+            " lsls r0, r0, #24\nf: lsrs r0, r0, #24\n bx lr\n",
+            0,
+            Change::NoWindow,
+        ),
     ] {
-        assert_eq!(rt; outcome(rt.alloc(), text.as_bytes(), place)?, want, "{text}{place}");
+        assert_eq!(rt;
+            outcome(rt.alloc(), text.as_bytes(), place)?,
+            want,
+            "{text}{place}"
+        );
     }
     Ok(())
 }

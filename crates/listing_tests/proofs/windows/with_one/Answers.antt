@@ -1,4 +1,4 @@
-use Rattle.std.proofs.Common.{◌≡◌, ◌∙◌, ℕ, ◌<◌, false, length, ap, arith, sym, subst}
+use Rattle.std.proofs.Common.{◌≡◌, ◌∙◌, ◌<◌, false, length, ap, arith, sym, subst}
 use Rattle.window_runs.specs.Rows.{rows_from}
 use Rattle.listing_tests.proofs.GaveWay.{run_of_two, window_ops, window_unlabelled, window_joined}
 use Rattle.listing_tests.proofs.windows.with_one.Goals as goal
