@@ -1,7 +1,7 @@
 -- Registers that are bound one by one.
-use Rattle.std.proofs.Common.{◌≡◌, ◌≢◌, ◌∙◌, ℕ, zero, suc, ◌<◌, ◌==◌, ◌||◌, Bool, true, false, List, [], ◌∷◌, ◌++◌, length, map, refl, sym, ap, subst, arith, Option, Some, None, inl, inr, ◌⊎◌, eqb-true, eq-eqb, slice_get, true≢false}
+use Rattle.std.proofs.Common.{◌≡◌, ◌≢◌, ◌∙◌, ℕ, zero, suc, ◌<◌, ◌==◌, ◌||◌, Bool, true, false, List, [], ◌∷◌, ◌++◌, length, refl, sym, ap, subst, arith, Option, Some, None, inl, inr, ◌⊎◌, eqb-true, eq-eqb, slice_get, true≢false}
 use Rattle.std.specs.Prelude.{slice_set, ◌↔◌}
-use Rattle.std.specs.Option.{option_and_then, option_map, is_some}
+use Rattle.std.specs.Option.{option_and_then, is_some}
 use Rattle.std.proofs.Math.Bool.{or_assoc, or-false}
 use Rattle.std.proofs.lemmas.List.Folds.{list_any-append}
 use Rattle.thumb_instr.specs.Items.{has as has_item}

@@ -1,7 +1,7 @@
 use Rattle.std.proofs.Common.{◌≡◌, ◌∙◌, List, true, false, map}
 use Rattle.thumb_instr.specs.Window.{normal_of}
 use Rattle.thumb_instr.specs.Renaming.{Low, renamed}
-use Rattle.rule_table.specs.Matching.{registers_in, eight, given_for}
+use Rattle.rule_table.specs.Matching.{registers_in}
 use Rattle.rule_table.proofs.BindingLemmas.{bound_at}
 use Rattle.rule_table.proofs.FoundLemmas.{found, none_found}
 use Rattle.rule_table.proofs.matching.map_of.Goals as goal

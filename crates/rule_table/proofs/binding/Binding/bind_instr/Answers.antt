@@ -3,9 +3,9 @@ use Rattle.std.proofs.lemmas.Bool.{false≢true}
 use Rattle.thumb_instr.specs.declared.kind.Parts.{Parts}
 use Rattle.thumb_instr.specs.declared.role.Role.{Role}
 use Rattle.thumb_instr.specs.Renaming.{Low, named_by}
-use Rattle.rule_table.specs.Binding.{IsBound, of_window, number_under}
+use Rattle.rule_table.specs.Binding.{number_under}
 use Rattle.rule_table.proofs.BindingLemmas.{binds_then, clashes_then, bound_at}
-use Rattle.rule_table.proofs.KindLemmas.{AreOfKind, window_kind, instr_bound, kinds_clash, own_low, others_low}
+use Rattle.rule_table.proofs.KindLemmas.{AreOfKind, instr_bound, kinds_clash, own_low, others_low}
 use Rattle.rule_table.proofs.binding.Binding.bind_instr.Goals.{After-roles-roles}
 use Rattle.rule_table.proofs.binding.Binding.bind_instr.Goals as goal
 

@@ -3,7 +3,7 @@ use Rattle.std.specs.Prelude.{slice_set}
 use Rattle.thumb_instr.specs.Items.{has as has_item}
 use Rattle.thumb_instr.specs.Renaming.{Low}
 use Rattle.rule_table.specs.Binding.{given_at, IsOneToOne}
-use Rattle.rule_table.proofs.BindingLemmas.{Puts, puts, put_binds, put_one_to_one, taken_clashes}
+use Rattle.rule_table.proofs.BindingLemmas.{puts, put_binds, put_one_to_one, taken_clashes}
 use Rattle.rule_table.proofs.binding.Binding.put.Goals as goal
 
 pub returns-then-has : goal.returns-then-has
