@@ -11,7 +11,7 @@ use window_runs::rows::rows;
 use window_runs::runs::run;
 
 /// The listing with one instruction in place of two, where a window of two stands from this place on.
-pub fn with_one(
+pub(crate) fn with_one(
     alloc: Global,
     listing: &Listing,
     place: u32,
@@ -31,7 +31,7 @@ pub fn with_one(
 }
 
 /// `uxtb r0, r0`
-pub fn uxtb() -> Instr
+pub(crate) fn uxtb() -> Instr
     ensures unlabelled { names_no_label result ≡ true }
     ensures letter { is_in_window result ≡ true }
 {
