@@ -88,8 +88,8 @@ pub put_one_to_one : (old new : List (Option Low)) (taken more own other : ℕ) 
     → has_item taken other ≡ false → ((n : ℕ) → has_item more n ≡ (has_item taken n || (n == other))) → IsOneToOne old taken → IsOneToOne new more
 put_one_to_one old new taken more own other register p is free not_taken both o = record {
   apart = λ x y r s e f g. elim (either old new own x register r p e) [
-    | inl i ↦ elim (either old new own y register s p f) [ | inl j ↦ i.0 ∙ sym j.0 | inr j ↦ absurd (nowhere y s j.1 (sym g ∙ i.1 ∙ is)) ]
-    | inr i ↦ elim (either old new own y register s p f) [ | inl j ↦ absurd (nowhere x r i.1 (g ∙ j.1 ∙ is)) | inr j ↦ o.apart x y r s i.1 j.1 g ]
+    | inl i ↦ elim (either old new own y register s p f) [ inl j ↦ i.0 ∙ sym j.0 | inr j ↦ absurd (nowhere y s j.1 (sym g ∙ i.1 ∙ is)) ]
+    | inr i ↦ elim (either old new own y register s p f) [ inl j ↦ absurd (nowhere x r i.1 (g ∙ j.1 ∙ is)) | inr j ↦ o.apart x y r s i.1 j.1 g ]
   ];
   held = λ x r e. elim (either old new own x register r p e) [
     | inl i ↦ both r.number ∙ right (has_item taken r.number) (r.number == other) (eq-eqb r.number other (i.1 ∙ is))
