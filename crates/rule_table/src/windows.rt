@@ -39,7 +39,7 @@ pub(crate) fn are_windows(instrs: &[Instr]) -> bool
 }
 
 /// The instructions, each in its normal form.
-pub(crate) fn normalised(window: &[Instr]) -> Seq
+fn normalised(window: &[Instr]) -> Seq
     requires { length window.now ≤ 5 }
     ensures { result ≡ map normal_of window.now }
 {
@@ -51,7 +51,7 @@ pub(crate) fn normalised(window: &[Instr]) -> Seq
 }
 
 /// The instructions under a map.
-pub(crate) fn renamed_all(instrs: &[Instr], registers: &[Low]) -> Seq
+fn renamed_all(instrs: &[Instr], registers: &[Low]) -> Seq
     requires { length instrs.now ≤ 5 }
     ensures { result ≡ map (renamed registers.now) instrs.now }
 {

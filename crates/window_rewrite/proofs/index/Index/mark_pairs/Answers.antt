@@ -11,7 +11,7 @@ loop-at-preserved c =
     let within = c.loop-at-test.true in
     let marked = c.mark_pair.ensures in
     let before : slice_get c.args.left.now (c.loop-at.at - 1) ≡ Some c.index-left-at.result = slice_get_read c.args.left.now _ _ c.index-left-at.result refl (omega arith) c.index-left-at.is in
-    let behind : slice_get c.args.left.now c.loop-at.at ≡ Some c.index-left-at-in-loop-at.result = slice_get_read c.args.left.now _ _ c.index-left-at-in-loop-at.result refl within c.index-left-at-in-loop-at.is in
+    let behind : slice_get c.args.left.now c.loop-at.at ≡ Some c.index-left-at-in-loop-at.result = slice_get_read c.args.left.now _ _ c.index-left-at-in-loop-at.result refl (omega arith) c.index-left-at-in-loop-at.is in
     record {
       firsts = marked.firsts ∙ was.firsts;
       nexts = marked.nexts ∙ was.nexts;
