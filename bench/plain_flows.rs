@@ -39,8 +39,8 @@ pub struct Ways {
 impl Ways {
     /// Whether they lead to a place and nowhere else.
     fn go_on_to(&self, place: usize) -> bool {
-        let leads_there = |way: Way| way.next == Next::Place(place);
-        leads_there(self.first) && self.second.is_none_or(leads_there)
+        let leads_there = |way: &Way| matches!(way.next, Next::Place(next) if next == place);
+        leads_there(&self.first) && self.second.as_ref().map_or(true, leads_there)
     }
 }
 
@@ -234,22 +234,6 @@ impl Flows {
         seen
     }
 
-    /// Visits a place, and tells whether the set before it grew.
-    #[inline]
-    fn visit(&mut self, place: usize) -> bool {
-        let (before, after) = self.seen(place);
-        self.after[place] = after;
-        let new = self.before[place] | before;
-        if new == self.before[place] {
-            return false;
-        }
-        self.before[place] = new;
-        if self.is_point[place] {
-            self.points |= new;
-        }
-        true
-    }
-
     /// Finds the live items by passes backward, and tells how many places were visited. From the second pass on a place that only goes on to the next is visited
     /// only where the set before that one grew just now.
     pub fn find(&mut self) -> u64 {
@@ -259,12 +243,21 @@ impl Flows {
             let mut changed = false;
             let mut grew = false;
             for place in (0..self.ways.len()).rev() {
-                if visited && !grew && self.ways[place].is_none_or(|ways| ways.go_on_to(place + 1)) {
+                if visited && !grew && self.ways[place].as_ref().map_or(true, |ways| ways.go_on_to(place + 1)) {
                     continue;
                 }
                 visits += 1;
-                grew = self.visit(place);
-                changed |= grew;
+                let (before, after) = self.seen(place);
+                self.after[place] = after;
+                let new = self.before[place] | before;
+                grew = new != self.before[place];
+                if grew {
+                    self.before[place] = new;
+                    if self.is_point[place] {
+                        self.points |= new;
+                    }
+                    changed = true;
+                }
             }
             if !changed {
                 return visits;
