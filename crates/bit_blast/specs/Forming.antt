@@ -4,6 +4,7 @@ use Rattle.word_bits.specs.declared.Shift.{Shift}
 use Rattle.word_bits.specs.declared.Shift.TheVariants as shift
 use Rattle.thumb_instr.specs.declared.instr.Instr.{Instr}
 use Rattle.thumb_instr.specs.declared.instr.Instr.TheVariants as instr
+use Rattle.thumb_instr.specs.Parts.{parts_of}
 use Rattle.thumb_instr.specs.declared.operation.Sum.{Sum}
 use Rattle.thumb_instr.specs.declared.operation.Sum.TheVariants as sum
 use Rattle.thumb_instr.specs.declared.operation.Operation.{Operation}
@@ -112,20 +113,9 @@ number_shift kind b x n s = result_of b (moved kind n x) (moved_out kind n x) s.
 
 -- ---- by instruction
 
--- the register that an instruction writes, or keeps
+-- the register that an instruction of windows writes, or keeps: the first that its text names
 abbrev pub target_of : Instr → ℕ
-target_of (instr.Mov d m) = d.number
-target_of (instr.Three s d n m) = d.number
-target_of (instr.Two o d m) = d.number
-target_of (instr.Movs d m) = d.number
-target_of (instr.ShiftLeft d m i) = d.number
-target_of (instr.ShiftRight s d m i) = d.number
-target_of (instr.ThreeNumber s d n i) = d.number
-target_of (instr.TwoNumber o d i) = d.number
-target_of (instr.Add r) = r.target.number
-target_of (instr.Extend e d m) = d.number
-target_of (instr.Reverse r d m) = d.number
-target_of i = 0
+target_of i = (parts_of i).first
 
 abbrev pub outcome_of : Built → Instr → Bits → Built × Outcome
 outcome_of b (instr.Mov d m) s = (b, unflagged (word s.r m.number) s)

@@ -2,7 +2,7 @@ ghost use Rattle.std.specs.Prelude.{◌≡◌, ◌<◌, ◌+◌, IfOk, length, t
 ghost use Rattle.thumb_instr.specs.Window.{is_in_window};
 ghost use Rattle.thumb_instr.specs.Renaming.{named, AreBelow};
 ghost use Rattle.thumb_model.specs.Rewrite.{AreOver};
-ghost use Rattle.bit_blast.specs.Forming.{Bits, word, target_of, outcome_of, written, formed, formed_all};
+ghost use Rattle.bit_blast.specs.Forming.{Bits, word, outcome_of, written, formed, formed_all};
 ghost use Rattle.bit_blast.specs.Differences.{input_word, start_bits, start_built};
 ghost use Rattle.cnf_gates.specs.Gates.{nothing_built};
 
@@ -12,7 +12,7 @@ use crate::words::{Word, constant, copied, extended, turned};
 use cnf_gates::{Bit, Builder, GateError};
 use std::alloc::Global;
 use std::marker::Model;
-use thumb_instr::{Instr, Seq};
+use thumb_instr::{Instr, Seq, parts};
 use word_bits::Shift;
 
 /// The registers and flags as bits.
@@ -31,26 +31,6 @@ impl Model for Bits {
     ghost Value = { Bits };
 
     ghost view = { λ s. record { r = s.registers.items; n = s.n; z = s.z; c = s.c; v = s.v } };
-}
-
-/// The register that an instruction writes, or keeps.
-fn target(instr: &Instr) -> u32
-    ensures { result ≡ target_of instr.now }
-{
-    match *instr {
-        Instr::Mov { target, .. } => target.number,
-        Instr::Three { target, .. } => target.number,
-        Instr::Two { target, .. } => target.number,
-        Instr::Movs { target, .. } => target.number,
-        Instr::ShiftLeft { target, .. } => target.number,
-        Instr::ShiftRight { target, .. } => target.number,
-        Instr::ThreeNumber { target, .. } => target.number,
-        Instr::TwoNumber { target, .. } => target.number,
-        Instr::Add { registers } => registers.target.number,
-        Instr::Extend { target, .. } => target.number,
-        Instr::Reverse { target, .. } => target.number,
-        _ => 0,
-    }
 }
 
 /// A word of inputs.
@@ -228,7 +208,7 @@ impl Bits {
         ensures exact { IfOk result (λ _. (builder.new, self.new) ≡ formed builder.old instr.now self.old) }
     {
         let outcome = self.outcome(builder, instr)?;
-        self.write(target(instr), outcome);
+        self.write(parts(instr).first, outcome);
         Ok(())
     }
 

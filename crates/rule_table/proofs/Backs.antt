@@ -15,6 +15,7 @@ use Rattle.thumb_instr.proofs.Registers.{same_number, same_not_both_sp, widened_
 use Rattle.thumb_instr.proofs.RenamingLemmas.{named_renamed, named_low}
 use Rattle.rule_table.specs.Canonical.{has, with_first, firsts, name_in, numbers_of}
 use Rattle.rule_table.proofs.Orders.{name_stands, has_firsts}
+use Rattle.rule_table.proofs.Renamings.{AllNamed, ComesBack, renamed_back}
 
 abbrev pub eight : List ℕ
 eight = 0 ∷ 1 ∷ 2 ∷ 3 ∷ 4 ∷ 5 ∷ 6 ∷ 7 ∷ []
@@ -74,45 +75,24 @@ back registers names are x h known =
       same = second.number;
     }
 
-low_back : (registers names : List Low) → AreNames registers names → (d : Low) → has (numbers_of registers) d.number ≡ true
-    → low_under registers (low_under names d) ≡ d
-low_back registers names are d known =
-    let b = back registers names are d.number d.below known in
-    let first : low_under names d ≡ b.name = ap (λ o. unwrap_or o d) b.named_so in
-    ap (low_under registers) first ∙ ap (λ o. unwrap_or o b.name) b.stands ∙ same_number b.own d b.same
-
-reg_back : (registers names : List Low) → AreNames registers names → (d : Reg) → nat_lt d.number 8 ≡ true → has (numbers_of registers) d.number ≡ true
-    → reg_under registers (reg_under names d) ≡ d
-reg_back registers names are d h known =
-    let b = back registers names are d.number (ltb-true d.number 8 h) known in
-    let first : reg_under names d ≡ widened b.name = ap (λ o. wide_or o d) b.named_so in
-    let again : slice_get registers (widened b.name).number ≡ Some b.own = ap (slice_get registers) (widened_number b.name) ∙ b.stands in
-    ap (reg_under registers) first ∙ ap (λ o. wide_or o (widened b.name)) again ∙ same_number (widened b.own) d (widened_number b.own ∙ b.same)
+comes_back : (registers names : List Low) → AreNames registers names → (x : ℕ) → x < 8 → has (numbers_of registers) x ≡ true → ComesBack names registers x
+comes_back registers names are x h known =
+    let b = back registers names are x h known in
+    let first : item_under names x ≡ b.name.number = ap (λ o. number_or o x) b.named_so in
+    ap (item_under registers) first ∙ ap (λ o. number_or o b.name.number) b.stands ∙ b.same
 
 -- every number of a list is among the registers
 abbrev pub AllIn : List ℕ → List ℕ → Type 0
 AllIn order [] = Unit {0}
 AllIn order (x ∷ xs) = (has order x ≡ true) × AllIn order xs
 
+all_come_back : (registers names : List Low) → AreNames registers names → (xs : List ℕ) → AreBelow 8 xs → AllIn (numbers_of registers) xs → AllNamed (ComesBack names registers) xs
+all_come_back registers names are [] b k = tt
+all_come_back registers names are (x ∷ xs) b k = (comes_back registers names are x b.0 k.0, all_come_back registers names are xs b.1 k.1)
+
 instr_back : (registers names : List Low) → AreNames registers names → (i : Instr) → is_in_window i ≡ true → AllIn (numbers_of registers) (named i)
     → renamed registers (renamed names i) ≡ i
-instr_back registers names are (instr.Mov d m) w k =
-    let both = and_parts (nat_lt d.number 8) (nat_lt m.number 8) w in
-    rw (reg_back registers names are d both.0 k.0, reg_back registers names are m both.1 k.1.0) refl
-instr_back registers names are (instr.Add r) w k =
-    let both = and_parts (nat_lt r.target.number 8) (nat_lt r.source.number 8) w in
-    ap instr.Add (same_not_both_sp (both_under registers (both_under names r)) r (reg_back registers names are r.target both.0 k.0) (reg_back registers names are r.source both.1 k.1.0))
-instr_back registers names are (instr.Three s d n m) w k =
-    rw (low_back registers names are d k.0, low_back registers names are n k.1.0, low_back registers names are m k.1.1.0) refl
-instr_back registers names are (instr.Two o d m) w k = rw (low_back registers names are d k.0, low_back registers names are m k.1.0) refl
-instr_back registers names are (instr.Movs d m) w k = rw (low_back registers names are d k.0, low_back registers names are m k.1.0) refl
-instr_back registers names are (instr.ShiftLeft d m i) w k = rw (low_back registers names are d k.0, low_back registers names are m k.1.0) refl
-instr_back registers names are (instr.ShiftRight s d m i) w k = rw (low_back registers names are d k.0, low_back registers names are m k.1.0) refl
-instr_back registers names are (instr.ThreeNumber s d n i) w k = rw (low_back registers names are d k.0, low_back registers names are n k.1.0) refl
-instr_back registers names are (instr.TwoNumber o d i) w k = rw (low_back registers names are d k.0) refl
-instr_back registers names are (instr.Extend e d m) w k = rw (low_back registers names are d k.0, low_back registers names are m k.1.0) refl
-instr_back registers names are (instr.Reverse r d m) w k = rw (low_back registers names are d k.0, low_back registers names are m k.1.0) refl
-instr_back registers names are i w k = absurd cc
+instr_back registers names are i w k = renamed_back names registers i w (all_come_back registers names are (named i) (named_low i w) k)
 
 all_split : (order xs ys : List ℕ) → AllIn order (xs ++ ys) → AllIn order xs × AllIn order ys
 all_split order [] ys h = (tt, h)

@@ -1,5 +1,5 @@
 -- Instructions of windows by their kinds, registers and numbers.
-use Rattle.std.proofs.Common.{◌≡◌, ◌∙◌, ℕ, Bool, true, List, ◌∷◌, ◌++◌, map, Option, refl, sym, ap, subst}
+use Rattle.std.proofs.Common.{◌≡◌, ◌∙◌, ℕ, Bool, true, List, ◌∷◌, ◌++◌, map, Option, refl, sym, ap, subst, arith}
 use Rattle.std.specs.Prelude.{◌↔◌}
 use Rattle.thumb_instr.specs.declared.instr.Instr.{Instr}
 use Rattle.thumb_instr.specs.declared.instr.Instr.TheVariants as instr
@@ -14,30 +14,11 @@ use Rattle.thumb_instr.proofs.RenamingLemmas.{parts_low, low_number, reg_number}
 use Rattle.rule_table.specs.Binding.{number_under, of_window, IsBound, Clashes}
 use Rattle.rule_table.specs.Matching.{registers_in}
 use Rattle.rule_table.proofs.BindingLemmas.{bound_as}
+use Rattle.rule_table.proofs.Renamings.{parts_under, renamed_parts}
 
 -- an instruction of windows has such a kind
 pub window_kind : (i : Instr) → is_in_window i ≡ true → of_window (parts_of i).kind ≡ true
-window_kind (instr.Mov d m) w = refl
-window_kind (instr.Three s d n m) w = refl
-window_kind (instr.Two o d m) w = refl
-window_kind (instr.Movs d m) w = refl
-window_kind (instr.ShiftLeft d m i) w = refl
-window_kind (instr.ShiftRight s d m i) w = refl
-window_kind (instr.ThreeNumber s d n i) w = refl
-window_kind (instr.TwoNumber o d i) w = refl
-window_kind (instr.Add r) w = refl
-window_kind (instr.Extend e d m) w = refl
-window_kind (instr.Reverse r d m) w = refl
-window_kind i w = absurd cc
-
--- the parts with other registers
-abbrev parts_under : List Low → Operands → Parts → Parts
-parts_under registers r p = of p.kind (number_under registers r.first p.first) (number_under registers r.second p.second) (number_under registers r.third p.third)
-
--- to rename an instruction is to rename those of its numbers that are registers
-renamed_parts : (f : List Low) (i : Instr) → is_in_window i ≡ true → parts_of (renamed f i) ≡ parts_under f (roles (parts_of i).kind) (parts_of i)
-renamed_parts f (instr.Mov d m) w = rw (reg_number f d, reg_number f m) refl
-renamed_parts f i w = first_of (cc, simp (reg_number f, low_number f))
+window_kind i w = first_of (cc, grind arith)
 
 -- two instructions of one kind, their parts and what these are
 pub record AreOfKind (i j : Instr) (p q : Parts) (r : Operands) : Type 0 where

@@ -17,49 +17,15 @@ use Rattle.thumb_instr.specs.Renaming.{Low, Reg, named, renamed, AreBelow, low_u
 use Rattle.thumb_instr.proofs.Registers.{same_number, same_not_both_sp}
 use Rattle.thumb_instr.proofs.RenamingLemmas.{low_number, reg_number, below_parts}
 use Rattle.rule_table.specs.Canonical.{has, with_first, firsts, name_in, numbers_of, appearing, masked, IsCanonical}
-use Rattle.rule_table.proofs.Backs.{windows_normal}
+use Rattle.rule_table.proofs.Backs.{windows_normal, eight, eight_at}
+use Rattle.rule_table.proofs.Renamings.{AllNamed, ComesBack, renamed_back}
 
 -- ---- there and back ----
-
--- each register comes back under the second map
-abbrev AllBack : List Low → List Low → List ℕ → Type 0
-AllBack f g [] = Unit {0}
-AllBack f g (x ∷ xs) = (item_under g (item_under f x) ≡ x) × AllBack f g xs
-
-low_back : (f g : List Low) (d : Low) → item_under g (item_under f d.number) ≡ d.number → low_under g (low_under f d) ≡ d
-low_back f g d e = same_number (low_under g (low_under f d)) d (low_number g (low_under f d) ∙ ap (item_under g) (low_number f d) ∙ e)
-
-reg_back : (f g : List Low) (d : Reg) → item_under g (item_under f d.number) ≡ d.number → reg_under g (reg_under f d) ≡ d
-reg_back f g d e = same_number (reg_under g (reg_under f d)) d (reg_number g (reg_under f d) ∙ ap (item_under g) (reg_number f d) ∙ e)
-
--- a row: an instruction comes back
-instr_back : (f g : List Low) (i : Instr) → is_in_window i ≡ true → AllBack f g (named i) → renamed g (renamed f i) ≡ i
-instr_back f g (instr.Mov d m) w a = rw (reg_back f g d a.0, reg_back f g m a.1.0) refl
-instr_back f g (instr.Add r) w a = ap instr.Add (same_not_both_sp (both_under g (both_under f r)) r (reg_back f g r.target a.0) (reg_back f g r.source a.1.0))
-instr_back f g (instr.Three s d n m) w a = rw (low_back f g d a.0, low_back f g n a.1.0, low_back f g m a.1.1.0) refl
-instr_back f g (instr.Two o d m) w a = rw (low_back f g d a.0, low_back f g m a.1.0) refl
-instr_back f g (instr.Movs d m) w a = rw (low_back f g d a.0, low_back f g m a.1.0) refl
-instr_back f g (instr.ShiftLeft d m i) w a = rw (low_back f g d a.0, low_back f g m a.1.0) refl
-instr_back f g (instr.ShiftRight s d m i) w a = rw (low_back f g d a.0, low_back f g m a.1.0) refl
-instr_back f g (instr.ThreeNumber s d n i) w a = rw (low_back f g d a.0, low_back f g n a.1.0) refl
-instr_back f g (instr.TwoNumber o d i) w a = rw (low_back f g d a.0) refl
-instr_back f g (instr.Extend e d m) w a = rw (low_back f g d a.0, low_back f g m a.1.0) refl
-instr_back f g (instr.Reverse r d m) w a = rw (low_back f g d a.0, low_back f g m a.1.0) refl
-instr_back f g i w a = absurd (cc)
 
 -- a row: what is renamed to an instruction of a window is one, where its registers are low
 window_back : (f : List Low) (k : ℕ) (i : Instr) → k ≤ 8 → AreBelow k (named i) → is_in_window (renamed f i) ≡ true → is_in_window i ≡ true
 window_back f k (instr.Mov d m) h a w = and_from (nat_lt d.number 8) (nat_lt m.number 8) (lt-ltb d.number 8 (let b = a.0 in omega arith)) (lt-ltb m.number 8 (let b = a.1.0 in omega arith))
 window_back f k (instr.Add r) h a w = and_from (nat_lt r.target.number 8) (nat_lt r.source.number 8) (lt-ltb r.target.number 8 (let b = a.0 in omega arith)) (lt-ltb r.source.number 8 (let b = a.1.0 in omega arith))
-window_back f k (instr.Three s d n m) h a w = refl
-window_back f k (instr.Two o d m) h a w = refl
-window_back f k (instr.Movs d m) h a w = refl
-window_back f k (instr.ShiftLeft d m i) h a w = refl
-window_back f k (instr.ShiftRight s d m i) h a w = refl
-window_back f k (instr.ThreeNumber s d n i) h a w = refl
-window_back f k (instr.TwoNumber o d i) h a w = refl
-window_back f k (instr.Extend e d m) h a w = refl
-window_back f k (instr.Reverse r d m) h a w = refl
 window_back f k i h a w = w
 
 pub windows_back : (f : List Low) (k : ℕ) (is : List Instr) → k ≤ 8 → AreBelow k (flat_map named is) → list_all is_in_window (map (renamed f) is) ≡ true → list_all is_in_window is ≡ true
@@ -130,21 +96,6 @@ name_at (x ∷ xs) (suc i) r d e = go (x == r) refl (name_at xs i r d.1 e)
 
 -- ---- the map back ----
 
-eight : List ℕ
-eight = 0 ∷ 1 ∷ 2 ∷ 3 ∷ 4 ∷ 5 ∷ 6 ∷ 7 ∷ []
-
-eight_at : (x : ℕ) → x < 8 → slice_get eight x ≡ Some x
-unfolding eight
-eight_at zero h = refl
-eight_at (suc zero) h = refl
-eight_at (suc (suc zero)) h = refl
-eight_at (suc (suc (suc zero))) h = refl
-eight_at (suc (suc (suc (suc zero)))) h = refl
-eight_at (suc (suc (suc (suc (suc zero))))) h = refl
-eight_at (suc (suc (suc (suc (suc (suc zero)))))) h = refl
-eight_at (suc (suc (suc (suc (suc (suc (suc zero))))))) h = refl
-eight_at (suc (suc (suc (suc (suc (suc (suc (suc x)))))))) h = absurd (omega arith)
-
 -- the register of a number up to 7
 low_of : ℕ → Low
 low_of n = record { number = min n 7; least = omega arith; below = omega arith }
@@ -175,7 +126,7 @@ comes_back f k x n h d l = go (slice_get f x) refl
         let name : name_in (numbers_of f) r.number ≡ x = name_at (numbers_of f) x r.number d there in
         ap (λ (o : Option Low). number_or o r.number) (back_at f r.number r.below) ∙ ap (λ n. (low_of n).number) name ∙ low_of_number x (omega arith)
 
-all_come_back : (f : List Low) (k : ℕ) (xs : List ℕ) → length f ≡ k → k ≤ 4 → AreDistinct (numbers_of f) → AreBelow k xs → AllBack f (backward f) xs
+all_come_back : (f : List Low) (k : ℕ) (xs : List ℕ) → length f ≡ k → k ≤ 4 → AreDistinct (numbers_of f) → AreBelow k xs → AllNamed (ComesBack f (backward f)) xs
 all_come_back f k [] n h d a = tt
 all_come_back f k (x ∷ xs) n h d a = (comes_back f k x n h d a.0, all_come_back f k xs n h d a.1)
 
@@ -184,7 +135,7 @@ seq_back f k [] n h d a w = refl
 seq_back f k (i ∷ is) n h d a w =
     let b = below_parts k (named i) (flat_map named is) a in
     let v = and_parts (is_in_window i) (list_all is_in_window is) w in
-    ap (λ j. j ∷ map (renamed (backward f)) (map (renamed f) is)) (instr_back f (backward f) i v.0 (all_come_back f k (named i) n h d b.0))
+    ap (λ j. j ∷ map (renamed (backward f)) (map (renamed f) is)) (renamed_back f (backward f) i v.0 (all_come_back f k (named i) n h d b.0))
     ∙ ap (λ js. i ∷ js) (seq_back f k is n h d b.1 v.1)
 
 -- ---- one form ----

@@ -16,6 +16,7 @@ use Rattle.thumb_model.specs.Items.{one_of}
 use Rattle.thumb_model.specs.Rewrite.{Rule, IsSoundRule, register_count, is_named}
 use Rattle.thumb_model.proofs.Lists.{get_front, get_take, take_all}
 use Rattle.rule_table.specs.Canonical.{has}
+use Rattle.rule_table.proofs.Renamings.{AllNamed, IsSameUnder, renamed_alike}
 use Rattle.rule_table.specs.Matching.{Matches, IsMapOf, registers_in, eight, given_for}
 use Rattle.window_rewrite.specs.Rewriting.{map_of, registers_of}
 use Rattle.window_rewrite.specs.Fitting.{Stands}
@@ -27,28 +28,16 @@ use Rattle.window_rewrite.proofs.Sides.{names_below, windows_over, apart}
 abbrev AreAlike : ℕ → List Low → List Low → Type 0
 AreAlike k r s = (x : ℕ) → x < k → slice_get r x ≡ slice_get s x
 
--- a row: an instruction whose registers are below k is renamed to the same
-instr_alike : (k : ℕ) (r s : List Low) (i : Instr) → AreAlike k r s → is_in_window i ≡ true → AreBelow k (named i) → renamed r i ≡ renamed s i
-instr_alike k r s (instr.Mov d m) h w b = rw (h d.number b.0, h m.number b.1.0) refl
-instr_alike k r s (instr.Three o d n m) h w b = rw (h d.number b.0, h n.number b.1.0, h m.number b.1.1.0) refl
-instr_alike k r s (instr.Two o d m) h w b = rw (h d.number b.0, h m.number b.1.0) refl
-instr_alike k r s (instr.Movs d m) h w b = rw (h d.number b.0, h m.number b.1.0) refl
-instr_alike k r s (instr.ShiftLeft d m i) h w b = rw (h d.number b.0, h m.number b.1.0) refl
-instr_alike k r s (instr.ShiftRight o d m i) h w b = rw (h d.number b.0, h m.number b.1.0) refl
-instr_alike k r s (instr.ThreeNumber o d n i) h w b = rw (h d.number b.0, h n.number b.1.0) refl
-instr_alike k r s (instr.TwoNumber o d i) h w b = rw (h d.number b.0) refl
-instr_alike k r s (instr.Add x) h w b =
-    ap instr.Add (same_not_both_sp (both_under r x) (both_under s x) (ap (λ o. wide_or o x.target) (h x.target.number b.0)) (ap (λ o. wide_or o x.source) (h x.source.number b.1.0)))
-instr_alike k r s (instr.Extend o d m) h w b = rw (h d.number b.0, h m.number b.1.0) refl
-instr_alike k r s (instr.Reverse o d m) h w b = rw (h d.number b.0, h m.number b.1.0) refl
-instr_alike k r s i h w b = absurd (cc)
+same_items : (k : ℕ) (r s : List Low) (xs : List ℕ) → AreAlike k r s → AreBelow k xs → AllNamed (IsSameUnder r s) xs
+same_items k r s [] h b = tt
+same_items k r s (x ∷ xs) h b = (ap (λ o. number_or o x) (h x b.0), same_items k r s xs h b.1)
 
 all_alike : (k : ℕ) (r s : List Low) (is : List Instr) → AreAlike k r s → list_all is_in_window is ≡ true → AreBelow k (flat_map named is) → map (renamed r) is ≡ map (renamed s) is
 all_alike k r s [] h w b = refl
 all_alike k r s (i ∷ is) h w b =
     let v = and_parts (is_in_window i) (list_all is_in_window is) w in
     let c = below_parts k (named i) (flat_map named is) b in
-    ap (λ j. j ∷ map (renamed r) is) (instr_alike k r s i h v.0 c.0) ∙ ap (λ js. renamed s i ∷ js) (all_alike k r s is h v.1 c.1)
+    ap (λ j. j ∷ map (renamed r) is) (renamed_alike r s i v.0 (same_items k r s (named i) h c.0)) ∙ ap (λ js. renamed s i ∷ js) (all_alike k r s is h v.1 c.1)
 
 -- ---- which registers a left side names ----
 

@@ -1,14 +1,14 @@
 //! The entries of a table by their left sides.
 ghost use Rattle.std.specs.Prelude.{◌≡◌, ◌+◌, ◌<◌, ◌≤◌, ℕ, length, drop, slice_get, true, Some, IfOk};
 ghost use Rattle.thumb_model.specs.Rewrite.{Rule};
-ghost use Rattle.window_rewrite.specs.Rules.{entry_rule, first_with, is_marked, is_shorter, rules_in, AreMarked, ArePaired, IsIndex, IsIndexFrom};
+ghost use Rattle.window_rewrite.specs.Rules.{entry_rule, first_with, is_marked, is_shorter, rules_in, IsIndex, IsIndexFrom};
 ghost use Rattle.window_rewrite.specs.Shapes.{shape_of};
 
-use crate::shapes::{SHAPES, next_shape, pair_shape};
+use crate::marks::{mark_fronts, mark_pairs};
+use crate::shapes::SHAPES;
 use listing_parser::Memory;
 use rule_table::Entry;
 use std::alloc::Global;
-use thumb_instr::Instr;
 
 /// The entries that leave fewer instructions, by numbers that their left sides share with all that differ from them in registers alone. Others may have the
 /// same number.
@@ -59,75 +59,11 @@ impl Index {
         ensures { IsIndexFrom (rules_in entries.now) number self.new }
     {
         let left = entries[number].left.as_slice();
-        let shape = self.mark_fronts(left);
-        self.mark_pairs(left);
+        let shape = mark_fronts(&mut self.fronts, left);
+        mark_pairs(&mut self.pairs, left);
         let next = self.firsts[shape];
         self.nexts[number] = next;
         self.firsts[shape] = Some(number);
-    }
-
-    /// Marks the front of a left side.
-    fn mark_front(&mut self, shape: usize)
-        requires many { length self.old.fronts.items ≡ 65536 }
-        requires small { shape < 65536 }
-        ensures firsts { self.new.firsts.items ≡ self.old.firsts.items }
-        ensures nexts { self.new.nexts.items ≡ self.old.nexts.items }
-        ensures pairs { self.new.pairs.items ≡ self.old.pairs.items }
-        ensures many { length self.new.fronts.items ≡ 65536 }
-        ensures kept { (q : ℕ) → is_marked self.old.fronts.items q ≡ true → is_marked self.new.fronts.items q ≡ true }
-        ensures here { is_marked self.new.fronts.items shape ≡ true }
-    {
-        self.fronts[shape] = true;
-    }
-
-    /// Marks the fronts of a left side. The number of its instructions.
-    fn mark_fronts(&mut self, left: &[Instr]) -> usize
-        requires { length self.old.fronts.items ≡ 65536 }
-        ensures firsts { self.new.firsts.items ≡ self.old.firsts.items }
-        ensures nexts { self.new.nexts.items ≡ self.old.nexts.items }
-        ensures pairs { self.new.pairs.items ≡ self.old.pairs.items }
-        ensures many { length self.new.fronts.items ≡ 65536 }
-        ensures kept { (q : ℕ) → is_marked self.old.fronts.items q ≡ true → is_marked self.new.fronts.items q ≡ true }
-        ensures fronts { AreMarked self.new.fronts.items left.now (length left.now) }
-        ensures shape { result ≡ shape_of left.now }
-        ensures small { result < 65536 }
-    {
-        let mut shape = 0;
-        for at in 0..left.len() {
-            shape = next_shape(shape, &left[at]);
-            self.mark_front(shape);
-        }
-        shape
-    }
-
-    /// Marks the number of two neighbours.
-    fn mark_pair(&mut self, shape: usize)
-        requires many { length self.old.pairs.items ≡ 65536 }
-        requires small { shape < 65536 }
-        ensures firsts { self.new.firsts.items ≡ self.old.firsts.items }
-        ensures nexts { self.new.nexts.items ≡ self.old.nexts.items }
-        ensures fronts { self.new.fronts.items ≡ self.old.fronts.items }
-        ensures many { length self.new.pairs.items ≡ 65536 }
-        ensures kept { (q : ℕ) → is_marked self.old.pairs.items q ≡ true → is_marked self.new.pairs.items q ≡ true }
-        ensures here { is_marked self.new.pairs.items shape ≡ true }
-    {
-        self.pairs[shape] = true;
-    }
-
-    /// Marks the numbers of each two neighbours in a left side.
-    fn mark_pairs(&mut self, left: &[Instr])
-        requires { length self.old.pairs.items ≡ 65536 }
-        ensures firsts { self.new.firsts.items ≡ self.old.firsts.items }
-        ensures nexts { self.new.nexts.items ≡ self.old.nexts.items }
-        ensures fronts { self.new.fronts.items ≡ self.old.fronts.items }
-        ensures many { length self.new.pairs.items ≡ 65536 }
-        ensures kept { (q : ℕ) → is_marked self.old.pairs.items q ≡ true → is_marked self.new.pairs.items q ≡ true }
-        ensures pairs { ArePaired self.new.pairs.items left.now (length left.now) }
-    {
-        for at in 1..left.len() {
-            let shape = pair_shape(&left[at - 1], &left[at]);
-            self.mark_pair(shape);
-        }
     }
 
     /// Whether some left side may begin with instructions of this number.

@@ -19,6 +19,7 @@ mod growing;
 mod index;
 mod items;
 mod making;
+mod marks;
 mod replacing;
 mod rewriting;
 mod shapes;

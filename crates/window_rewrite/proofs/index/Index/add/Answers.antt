@@ -9,9 +9,6 @@ use Rattle.window_rewrite.proofs.Accepted.{entry_at}
 use Rattle.window_rewrite.proofs.Heads.{more_index}
 use Rattle.window_rewrite.proofs.index.Index.add.Goals as goal
 
-pub mark_pairs-requires : goal.mark_pairs-requires
-mark_pairs-requires c = ap (λ l. length l) c.mark_fronts-shape.ensures.pairs ∙ c.requires.index.many_pairs
-
 pub returns : goal.returns
 returns c =
     let entries : List Entry = c.args.entries.now in
