@@ -1,12 +1,12 @@
 #!/usr/bin/env bash
 # Measures rewriting listings with the proved crates beside a plain Rust program of the same rules, by a table of 500 entries that is learnt from the files of
 # a folder: one of about LINES (65,536) lines made by repeating the files, and as many of its lines as leave room for WINDOWS (20,000) windows that may be
-# replaced, with these. Both at half the size, too: where time is linear the factor is about 2. Then 50,000 of their lines that go straight on. Both programs
-# have to write the same listings.
+# replaced, with these. Both at half the size, too: where time is linear the factor is about 2. Then 50,000 of their lines that go straight on. Then the first two
+# with five lines before them, for which the layout has to be asked before each replacement. Both programs have to write the same listings.
 # Use: bench/rewriting.sh FOLDER [LINES [WINDOWS [TURNS]]]
 . "$(dirname "$0")/common.sh"
 folder=${1:-} lines=${2:-65536} windows=${3:-20000} turns=${4:-3}
-[ -d "$folder" ] || { sed -n '2,6s/^# //p' "$0" >&2; exit 2; }
+[ -d "$folder" ] || { sed -n '2,7s/^# //p' "$0" >&2; exit 2; }
 harvest=$(build_plain "$top/bench/live_items/plain.rs") && mv "$harvest" "$work/harvest"
 learner=$(build_plain "$top/bench/learner/plain.rs") && mv "$learner" "$work/learner"
 plain=$(build_plain "$top/bench/rewriting/plain.rs")
@@ -22,6 +22,9 @@ taught | "$work/harvest" windows 2> "$work/told" | "$work/learner" 2> "$work/tol
 
 # listing LINES WINDOWS: writes a listing. Two of three windows take two lines.
 listing() { python3 "$top/bench/repeated.py" "$folder" $(($1 - $2 * 5 / 3 - 1)) | python3 "$top/bench/rewriting/salted.py" "$2"; }
+
+# loose: puts before a listing a literal whose label nothing aligns, so that only the layout tells whether it stays in place.
+loose() { printf 'loose:\n\tldr\tr0, .Lloose\n\tbx\tlr\n.Lloose:\n\t.word\t5\n'; cat; }
 
 # run_both: runs both programs in turn on the table and a listing, $work/listing.s. `$said` tells what it was.
 run_both() {
@@ -59,3 +62,9 @@ done
 listing "$lines" 0 | python3 "$top/bench/rewriting/straight.py" 50000 > "$work/listing.s"
 run_both
 tell
+for salt in 0 "$windows"; do
+    listing $((lines - 5)) "$salt" | loose > "$work/listing.s"
+    run_both
+    said="$said, the layout asked"
+    tell
+done
