@@ -9,14 +9,11 @@ use Rattle.thumb_instr.specs.declared.instr.Instr.TheVariants as instr
 use Rattle.thumb_instr.specs.Renaming.{named, AreBelow}
 use Rattle.thumb_instr.specs.Window.{is_in_window, normal_of}
 use Rattle.seq_enum.specs.Lists.{grid2, grid3, held_in}
-use Rattle.seq_enum.specs.Alphabet.{registers, others, wide, pair_of, rows, members, alphabet}
-use Rattle.seq_enum.specs.declared.rows.Row.{Row}
-use Rattle.seq_enum.specs.declared.rows.Row.TheVariants as row
-use Rattle.seq_enum.specs.declared.rows.Pair.{Pair}
-use Rattle.seq_enum.specs.declared.rows.Pair.TheVariants as pair
+use Rattle.seq_enum.specs.Alphabet.{registers, others, wide, rows, members, alphabet}
+use Rattle.thumb_instr.specs.declared.kind.Kind.{Kind}
+use Rattle.thumb_instr.specs.declared.kind.Kind.TheVariants as kind
 use Rattle.seq_enum.proofs.Numbered.{flat_map_at, flat_map_from}
 use Rattle.seq_enum.proofs.Fields.{register_low}
-use Rattle.std.proofs.Math.Nat.{lt_of_lt_of_le}
 use Rattle.thumb_model.specs.Rewrite.{AreOver}
 use Rattle.thumb_model.proofs.Small.{below_more}
 
@@ -67,10 +64,12 @@ grid3_parts make xs ys zs i a e next =
 low_low : (k : ℕ) (d : Within 0 8) → nat_lt (wide d).number 8 ≡ true
 low_low k d = lt-ltb d.number 8 d.below
 
-pair_letter : (k : ℕ) (p : Pair) (d m : Within 0 8) → d.number < k → m.number < k → IsLetter k (pair_of p d m)
-pair_letter k pair.Mov d m x y = record { window = rw (low_low k d, low_low k m) refl; below = (x, (y, tt)); normal = refl }
-pair_letter k pair.Add d m x y = record { window = rw (low_low k d, low_low k m) refl; below = (x, (y, tt)); normal = refl }
-pair_letter k p d m x y = record { window = refl; below = (x, (y, tt)); normal = refl }
+two_registers : (k i : ℕ) (a : Instr) → k ≤ 8 → (make : Within 0 8 → Within 0 8 → Instr) → slice_get (grid2 make (registers k) (registers k)) i ≡ Some a
+    → ((d m : Within 0 8) → (is_in_window (make d m) ≡ true) × ((d.number < k → m.number < k → AreBelow k (named (make d m))) × (normal_of (make d m) ≡ make d m))) → IsLetter k a
+two_registers k i a few make e each =
+    grid2_parts make (registers k) (registers k) i a e (λ h j d m at there is.
+    let here = each d m in
+    subst (IsLetter k) is (record { window = here.0; below = here.1.0 (register_low k h d few at) (register_low k j m few there); normal = here.1.1 }))
 
 apart : (a b : ℕ) → (b == a) ≡ false → (a == b) ≡ false
 apart a b h = elim (cases_Bool (a == b)) [
@@ -78,12 +77,12 @@ apart a b h = elim (cases_Bool (a == b)) [
   | inr other ↦ other
 ]
 
-member_letter : (k : ℕ) (pool : List ℕ) (r : Row) (i : ℕ) (a : Instr) → k ≤ 8 → slice_get (members k pool r) i ≡ Some a → IsLetter k a
+member_letter : (k : ℕ) (pool : List ℕ) (t : Kind) (i : ℕ) (a : Instr) → k ≤ 8 → slice_get (members k pool t) i ≡ Some a → IsLetter k a
 unfolding members
-member_letter k pool (row.Three s) i a few e =
+member_letter k pool (kind.Three s) i a few e =
     grid3_parts (instr.Three s) (registers k) (λ d. registers k) (registers k) i a e (λ h j l d n m at there last is.
     subst (IsLetter k) is (record { window = refl; below = (register_low k h d few at, (register_low k j n few there, (register_low k l m few last, tt))); normal = refl }))
-member_letter k pool (row.Number s) i a few e =
+member_letter k pool (kind.ThreeNumber s) i a few e =
     grid3_parts (instr.ThreeNumber s) (registers k) (others k) (held_in 0 8 pool) i a e (λ h j l d n m at there last is.
     let kept = filter_at (λ (x : Within 0 8). not (x.number == d.number)) (registers k) j n there in
     subst (IsLetter k) is (record {
@@ -91,18 +90,22 @@ member_letter k pool (row.Number s) i a few e =
       below = (register_low k h d few at, (register_low k kept.1.0 n few kept.1.1, tt));
       normal = rw (apart d.number n.number (not-true (n.number == d.number) kept.0)) refl;
     }))
-member_letter k pool (row.Byte o) i a few e =
+member_letter k pool (kind.TwoNumber o) i a few e =
     grid2_parts (instr.TwoNumber o) (registers k) (held_in 0 256 pool) i a e (λ h j d n at there is.
     subst (IsLetter k) is (record { window = refl; below = (register_low k h d few at, tt); normal = refl }))
-member_letter k pool row.Left i a few e =
+member_letter k pool kind.ShiftLeft i a few e =
     grid3_parts instr.ShiftLeft (registers k) (λ d. registers k) (held_in 1 32 pool) i a e (λ h j l d n m at there last is.
     subst (IsLetter k) is (record { window = refl; below = (register_low k h d few at, (register_low k j n few there, tt)); normal = refl }))
-member_letter k pool (row.Right s) i a few e =
+member_letter k pool (kind.ShiftRight s) i a few e =
     grid3_parts (instr.ShiftRight s) (registers k) (λ d. registers k) (held_in 1 33 pool) i a e (λ h j l d n m at there last is.
     subst (IsLetter k) is (record { window = refl; below = (register_low k h d few at, (register_low k j n few there, tt)); normal = refl }))
-member_letter k pool (row.Pair p) i a few e =
-    grid2_parts (pair_of p) (registers k) (registers k) i a e (λ h j d m at there is.
-    subst (IsLetter k) is (pair_letter k p d m (register_low k h d few at) (register_low k j m few there)))
+member_letter k pool (kind.Two o) i a few e = two_registers k i a few _ e (λ d m. (refl, (λ x y. (x, (y, tt)), refl)))
+member_letter k pool kind.Movs i a few e = two_registers k i a few _ e (λ d m. (refl, (λ x y. (x, (y, tt)), refl)))
+member_letter k pool kind.Mov i a few e = two_registers k i a few _ e (λ d m. (rw (low_low k d, low_low k m) refl, (λ x y. (x, (y, tt)), refl)))
+member_letter k pool kind.Add i a few e = two_registers k i a few _ e (λ d m. (rw (low_low k d, low_low k m) refl, (λ x y. (x, (y, tt)), refl)))
+member_letter k pool (kind.Extend s) i a few e = two_registers k i a few _ e (λ d m. (refl, (λ x y. (x, (y, tt)), refl)))
+member_letter k pool (kind.Reverse s) i a few e = two_registers k i a few _ e (λ d m. (refl, (λ x y. (x, (y, tt)), refl)))
+member_letter k pool t i a few e = absurd cc
 
 pub letter : (k : ℕ) (pool : List ℕ) (i : ℕ) (a : Instr) → k ≤ 8 → slice_get (alphabet k pool) i ≡ Some a → IsLetter k a
 unfolding alphabet

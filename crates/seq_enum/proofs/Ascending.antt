@@ -1,12 +1,12 @@
 -- Consecutive numbers, with and without one of them.
-use Rattle.std.proofs.Common.{◌≡◌, ℕ, zero, suc, ◌+◌, ◌-◌, ◌<◌, ◌≤◌, ◌==◌, ◌⊎◌, inl, inr, not, filter, List, [], ◌∷◌, ◌++◌, length, refl, ◌∙◌, ap, arith, Option, Some, None, slice_get, length-append, true, false, Bool, cond, ◌&&◌, nat_le, eq-eqb, leb-true, le-leb}
+use Rattle.std.proofs.Common.{◌≡◌, ℕ, zero, suc, ◌+◌, ◌-◌, ◌<◌, ◌≤◌, ◌==◌, ◌⊎◌, inl, inr, not, filter, List, [], ◌∷◌, ◌++◌, length, refl, sym, ◌∙◌, ap, arith, Option, Some, None, slice_get, length-append, true, false, Bool, cond, ◌&&◌, nat_le, leb, eq-eqb, leb-true, le-leb}
 use Rattle.std.specs.Option.{option_map}
 use Rattle.std.proofs.lemmas.Bool.{ne_eqb}
 use Rattle.std.proofs.lemmas.Bool.Decides.{eqb_tells, leb_tells}
 use Rattle.std.proofs.lemmas.Option.{slice_get_past, same_Some}
 use Rattle.seq_enum.specs.Lists.{numbers_from, ascends_from, IsPlace}
 use Rattle.seq_enum.specs.Places.{place_of}
-use Rattle.seq_enum.proofs.Numbered.{length-numbers, numbers_at, get_front, get_back}
+use Rattle.seq_enum.proofs.Numbered.{length-numbers, numbers_at, number_here, number_past, get_front, get_back}
 
 -- the first k numbers, and the same without one
 abbrev pub firsts : ℕ → List ℕ
@@ -72,6 +72,11 @@ others_is k d h =
 pub length-others : (k d : ℕ) → d < k → length (firsts_but k d) ≡ k - 1
 length-others k d h = ap length (others_is k d h)
     ∙ omega (arith, length-append (numbers_from 0 d) (numbers_from (suc d) (k - suc d)), length-numbers 0 d, length-numbers (suc d) (k - suc d))
+
+pub first_others : (k : ℕ) → length (firsts_but k 0) ≡ k - 1
+unfolding numbers_from
+first_others zero = refl
+first_others (suc k) = length-others (suc k) 0 (omega arith)
 
 pub others_below : (k d i : ℕ) → d < k → i < d → slice_get (firsts_but k d) i ≡ Some i
 others_below k d i h low =
@@ -229,3 +234,52 @@ place_not_others k d = place_dropped (λ n. not (n == d)) d (ap not (eq-eqb d d 
 
 pub place_past_others : (k d x : ℕ) → k ≤ x → place_of x (firsts_but k d) ≡ None
 place_past_others k d x h = place_filter_none (λ n. not (n == d)) x (firsts k) (place_past_registers k x h)
+
+-- where a number stands among the first k
+IsPlace-first : (k x : ℕ) → IsPlace (place_of x (firsts k)) (firsts k) x
+IsPlace-first k x = IsPlace-ascending 0 (firsts k) x (ascends_numbers 0 k)
+
+pub IsPlace-first-in : (k x i : ℕ) → x < k → i ≡ x → IsPlace (Some i) (firsts k) x
+IsPlace-first-in k x i h e = rw (e, ← place_in_registers k x h) (IsPlace-first k x)
+
+pub IsPlace-first-past : (k x : ℕ) → k ≤ x → IsPlace None (firsts k) x
+IsPlace-first-past k x h = rw (← place_past_registers k x h) (IsPlace-first k x)
+
+pub ruleset places_of_firsts = (IsPlace-first-in, IsPlace-first-past)
+
+-- and without one
+IsPlace-other : (k d x : ℕ) → IsPlace (place_of x (firsts_but k d)) (firsts_but k d) x
+IsPlace-other k d x = IsPlace-ascending 0 (firsts_but k d) x (ascends_others k d)
+
+pub IsPlace-other-low : (k d x i : ℕ) → x < k → x < d → i ≡ x → IsPlace (Some i) (firsts_but k d) x
+IsPlace-other-low k d x i low before e = rw (e, ← place_below_others k d x low before) (IsPlace-other k d x)
+
+pub IsPlace-other-high : (k d x i : ℕ) → x < k → d < x → i ≡ x - 1 → IsPlace (Some i) (firsts_but k d) x
+IsPlace-other-high k d x i low behind e = rw (e, ← place_above_others k d x behind low) (IsPlace-other k d x)
+
+pub IsPlace-other-same : (k d x : ℕ) → x ≡ d → IsPlace None (firsts_but k d) x
+IsPlace-other-same k d x e = rw (← ap (λ n. place_of n (firsts_but k d)) e ∙ place_not_others k d) (IsPlace-other k d x)
+
+pub IsPlace-other-past : (k d x : ℕ) → k ≤ x → IsPlace None (firsts_but k d) x
+IsPlace-other-past k d x past = rw (← place_past_others k d x past) (IsPlace-other k d x)
+
+pub ruleset places_of_others = (IsPlace-other-low, IsPlace-other-high, IsPlace-other-same, IsPlace-other-past)
+
+-- the number at a place among the first k without one
+pub other_before : (k d i : ℕ) → i < d → slice_get (firsts_but k d) i ≡ slice_get (firsts k) i
+other_before k d i low = elim (leb_tells k d) [
+  | inl h ↦ ap (λ ns. slice_get ns i) (no_less 0 k d (omega (arith, h.1)))
+  | inr h ↦ others_below k d i h.1 low ∙ sym (number_here k i i (omega (arith, h.1)) refl)
+]
+
+pub other_behind : (k d i : ℕ) → d ≤ i → slice_get (firsts_but k d) i ≡ slice_get (firsts k) (i + 1)
+other_behind k d i past = elim (leb_tells k (i + 1)) [
+  | inl h ↦ gone (leb_tells k d) h.1 ∙ sym (number_past k (i + 1) h.1)
+  | inr h ↦ others_above k d i (omega (arith, h.1)) past h.1 ∙ sym (number_here k (i + 1) (i + 1) h.1 refl)
+]
+  where
+    gone : ((leb k d ≡ true) × (k ≤ d)) ⊎ ((leb k d ≡ false) × (d < k)) → k ≤ i + 1 → slice_get (firsts_but k d) i ≡ None
+    gone (inl g) h = ap (λ ns. slice_get ns i) (no_less 0 k d (omega (arith, g.1))) ∙ number_past k i (omega (arith, g.1))
+    gone (inr g) h = others_past k d i g.1 h
+
+pub ruleset others_at = (other_before, other_behind)

@@ -1,8 +1,10 @@
 -- Pairs and triples by place.
-use Rattle.std.proofs.Common.{◌≡◌, ℕ, ◌*◌, ◌/◌, ◌%◌, ◌<◌, List, inl, inr, map, length, sym, ◌∙◌, ap, arith, Option, Some, None, slice_get}
+use Rattle.std.proofs.Common.{◌≡◌, ℕ, ◌*◌, ◌/◌, ◌%◌, ◌<◌, List, [], ◌∷◌, ◌++◌, inl, inr, map, length, refl, sym, ◌∙◌, ap, arith, Option, Some, None, slice_get}
+use Rattle.std.specs.List.{flat_map}
 use Rattle.std.specs.Option.{option_map, option_and_then}
 use Rattle.std.proofs.lemmas.Option.{slice_get-map, same_Some}
-use Rattle.std.proofs.lemmas.List.{length-map}
+use Rattle.std.proofs.lemmas.List.{length-map, map-append}
+use Rattle.std.proofs.lemmas.List.Concat.{flat_map_single}
 use Rattle.std.proofs.Math.Path.{fun_ext}
 use Rattle.seq_enum.specs.Lists.{IsPlace, grid2, grid3}
 use Rattle.seq_enum.specs.Places.{digits2, digits3, paired}
@@ -28,9 +30,6 @@ factors a b i h = (first, second)
     second : 0 < b
     second = elim (zero_or_more b) [ inl z ↦ absurd (omega (arith, ap (λ v. a * v) z)) | inr p ↦ p ]
 
-pub grid2_some : {X Y A : Type 0} (make : X → Y → A) (xs : List X) (ys : List Y) (i : ℕ) → i < length (grid2 make xs ys) → (0 < length xs) × (0 < length ys)
-grid2_some make xs ys i h = factors (length xs) (length ys) i (omega (arith, length-grid2 make xs ys))
-
 pub grid3_some : {X Y Z A : Type 0} (make : X → Y → Z → A) (xs : List X) (ys : X → List Y) (zs : List Z) (m : ℕ)
     → ((j : ℕ) (x : X) → slice_get xs j ≡ Some x → length (ys x) ≡ m) → (i : ℕ) → i < length (grid3 make xs ys zs)
     → (0 < length xs) × (0 < m * length zs)
@@ -53,6 +52,32 @@ grid3_at make xs ys zs m each i pos =
     get-flat_map-digits (λ x. grid2 (make x) (ys x) zs) n pos xs
     (λ j x e. length-grid2 (make x) (ys x) zs ∙ ap (λ v. v * length zs) (each j x e)) i
     ∙ ap (λ f. option_and_then f (slice_get xs (i / n))) (fun_ext (λ x. grid2_at (make x) (ys x) zs (i % n) some))
+
+-- what is said of each element of a grid is a grid
+pub map-grid2 : {X Y A X' Y' B : Type 0} (f : A → B) (g : X → X') (h : Y → Y') (make : X → Y → A) (made : X' → Y' → B)
+    → ((x : X) (y : Y) → f (make x y) ≡ made (g x) (h y)) → (xs : List X) (ys : List Y) → map f (grid2 make xs ys) ≡ grid2 made (map g xs) (map h ys)
+unfolding grid2
+map-grid2 f g h make made same [] ys = refl
+map-grid2 {X} {Y} f g h make made same (x ∷ xs) ys =
+    map-append f (map (make x) ys) (grid2 make xs ys) ∙ rw (map-grid2 f g h make made same xs ys) (ap (λ zs. zs ++ grid2 made (map g xs) (map h ys)) (row ys))
+  where
+    row : (ys : List Y) → map f (map (make x) ys) ≡ map (made (g x)) (map h ys)
+    row [] = refl
+    row (y ∷ ys) = rw (same x y, row ys) refl
+
+pub map-grid3 : {X Y Z A X' Y' Z' B : Type 0} (f : A → B) (g : X → X') (h : Y → Y') (l : Z → Z') (make : X → Y → Z → A) (made : X' → Y' → Z' → B)
+    → ((x : X) (y : Y) (z : Z) → f (make x y z) ≡ made (g x) (h y) (l z)) → (xs : List X) (ys : X → List Y) (ms : X' → List Y') (zs : List Z)
+    → ((x : X) → map h (ys x) ≡ ms (g x)) → map f (grid3 make xs ys zs) ≡ grid3 made (map g xs) ms (map l zs)
+unfolding grid3
+map-grid3 f g h l make made same [] ys ms zs e = refl
+map-grid3 f g h l make made same (x ∷ xs) ys ms zs e =
+    map-append f (grid2 (make x) (ys x) zs) (grid3 make xs ys zs)
+    ∙ rw (map-grid3 f g h l make made same xs ys ms zs e, map-grid2 f h l (make x) (made (g x)) (same x) (ys x) zs, e x) refl
+
+-- one third part alone
+pub grid3-single : {X Y Z A : Type 0} (make : X → Y → Z → A) (xs : List X) (ys : List Y) (z : Z) → grid3 make xs (λ x. ys) (z ∷ []) ≡ grid2 (λ x y. make x y z) xs ys
+unfolding grid2 grid3
+grid3-single make xs ys z = ap (λ f. flat_map f xs) (fun_ext (λ x. flat_map_single (λ y. make x y z) ys))
 
 pub IsPlace-grid2 : {X Y A : Type 0} (make : X → Y → A) → ((x z : X) (y w : Y) → make z w ≡ make x y → (z ≡ x) × (w ≡ y))
     → (xs : List X) (ys : List Y) (x : X) (y : Y) (p q : Option ℕ) → IsPlace p xs x → IsPlace q ys y

@@ -5,6 +5,5 @@ pub mod Fields
 pub mod Bounds
 pub mod Mnemonics
 pub mod Words
-pub mod Pairs
 pub mod Steps
 pub mod Starts

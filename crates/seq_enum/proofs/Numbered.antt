@@ -31,6 +31,15 @@ pub numbers_past : (first count i : ℕ) → count ≤ i → slice_get (numbers_
 numbers_past first count i h =
     slice_get_past (numbers_from first count) i (omega (arith, length-numbers first count))
 
+-- the numbers below `count` by place
+pub number_here : (count i n : ℕ) → i < count → n ≡ i → slice_get (numbers_from 0 count) i ≡ Some n
+number_here count i n h e = numbers_at 0 count i h ∙ ap Some (omega (arith, e))
+
+pub number_past : (count i : ℕ) → count ≤ i → slice_get (numbers_from 0 count) i ≡ None
+number_past count i h = numbers_past 0 count i h
+
+pub ruleset numbers_by_place = (number_here, number_past, length-numbers)
+
 -- the first list, then the second
 pub get_front : {A : Type 0} (xs ys : List A) (i : ℕ) → i < length xs → slice_get (xs ++ ys) i ≡ slice_get xs i
 get_front [] ys i h = absurd (omega arith)
@@ -130,6 +139,17 @@ IsPlace-map {X} {A} f xs x only p in_xs = record {
     found_at : (o : Option X) (i : ℕ) → slice_get xs i ≡ o → option_map f o ≡ Some (f x) → p ≡ Some i
     found_at None i at e = cc
     found_at (Some z) i at e = in_xs.found i (at ∙ ap Some (only z (same_Some _ _ e)))
+
+pub IsPlace-unmap : {X A : Type 0} (f : X → A) (xs : List X) (x : X) → ((z : X) → f z ≡ f x → z ≡ x)
+    → (p : Option ℕ) → IsPlace p (map f xs) (f x) → IsPlace p xs x
+IsPlace-unmap {X} {A} f xs x only p in_map = record {
+  stands = λ i e. stands_at (slice_get xs i) (sym (slice_get-map f xs i) ∙ in_map.stands i e);
+  found = λ i e. in_map.found i (slice_get-map f xs i ∙ ap (option_map f) e);
+}
+  where
+    stands_at : (o : Option X) → option_map f o ≡ Some (f x) → o ≡ Some x
+    stands_at None e = absurd cc
+    stands_at (Some z) e = ap Some (only z (same_Some _ _ e))
 
 -- what stands in lists one after the other stands in one of them
 pub flat_map_at : {X A P : Type 0} (f : X → List A) (xs : List X) (i : ℕ) (a : A) → slice_get (flat_map f xs) i ≡ Some a

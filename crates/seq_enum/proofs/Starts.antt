@@ -6,7 +6,7 @@ use Rattle.std.proofs.lemmas.Option.{slice_get-get_or, same_Some}
 use Rattle.std.specs.List.{flat_map}
 use Rattle.seq_enum.specs.Alphabet.{rows, members, alphabet}
 use Rattle.seq_enum.specs.Numberings.{AreStarts}
-use Rattle.seq_enum.specs.declared.rows.Row.{Row}
+use Rattle.thumb_instr.specs.declared.kind.Kind.{Kind}
 use Rattle.seq_enum.proofs.Numbered.{get_front, get_back}
 
 -- a front has no more than all
@@ -29,10 +29,7 @@ before_or_last i zero h = inr (omega arith)
 before_or_last zero (suc n) h = inl (omega arith)
 before_or_last (suc i) (suc n) h = elim (before_or_last i n (omega arith)) [ inl k ↦ inl (omega (arith, k)) | inr e ↦ inr (ap suc e) ]
 
-pub starts_none : (k : ℕ) (pool : List ℕ) → AreStarts k pool [] []
-starts_none k pool = record { as_many = refl; each = λ i h. absurd (omega (arith, h)) }
-
-pub starts_more : (k : ℕ) (pool : List ℕ) (rows : List Row) (row : Row) (starts : List ℕ) → AreStarts k pool rows starts
+pub starts_more : (k : ℕ) (pool : List ℕ) (rows : List Kind) (row : Kind) (starts : List ℕ) → AreStarts k pool rows starts
     → AreStarts k pool (rows ++ row ∷ []) (starts ++ length (flat_map (members k pool) rows) ∷ [])
 starts_more k pool rows row starts s = record {
   as_many = omega (arith, s.as_many, length-append starts (length (flat_map (members k pool) rows) ∷ []), length-append rows (row ∷ []));
@@ -45,14 +42,14 @@ starts_more k pool rows row starts s = record {
     at : (i : ℕ) → (i < length rows) ⊎ (i ≡ length rows) → slice_get (starts ++ last ∷ []) i ≡ Some (length (flat_map (members k pool) (take i (rows ++ row ∷ []))))
     at i (inl h) =
         get_front starts (last ∷ []) i (omega (arith, s.as_many)) ∙ s.each i h
-        ∙ ap (λ (rs : List Row). Some (length (flat_map (members k pool) rs))) (sym (take_front i rows (row ∷ []) (omega arith)))
+        ∙ ap (λ (rs : List Kind). Some (length (flat_map (members k pool) rs))) (sym (take_front i rows (row ∷ []) (omega arith)))
     at i (inr e) =
         get_back starts (last ∷ []) i (omega (arith, s.as_many, e))
         ∙ ap (slice_get (last ∷ [])) (let z : i - length starts ≡ 0 = omega (arith, s.as_many, e) in z)
-        ∙ ap (λ (rs : List Row). Some (length (flat_map (members k pool) rs))) (sym (ap (λ n. take n (rows ++ row ∷ [])) e ∙ take_front (length rows) rows (row ∷ []) (omega arith) ∙ take_whole rows))
+        ∙ ap (λ (rs : List Kind). Some (length (flat_map (members k pool) rs))) (sym (ap (λ n. take n (rows ++ row ∷ [])) e ∙ take_front (length rows) rows (row ∷ []) (omega arith) ∙ take_whole rows))
 
 -- what lies before the next mnemonic, and behind it
-pub starts_next : (k : ℕ) (pool : List ℕ) (rows : List Row) (row : Row) (i : ℕ) (starts next : List ℕ) (total count : ℕ) → i < length rows → AreStarts k pool (take i rows) starts
+pub starts_next : (k : ℕ) (pool : List ℕ) (rows : List Kind) (row : Kind) (i : ℕ) (starts next : List ℕ) (total count : ℕ) → i < length rows → AreStarts k pool (take i rows) starts
     → total ≡ length (flat_map (members k pool) (take i rows)) → next ≡ starts ++ total ∷ [] → count ≡ length (members k pool (get_or rows i row))
     → AreStarts k pool (take (i + 1) rows) next × (total + count ≡ length (flat_map (members k pool) (take (i + 1) rows)))
 starts_next k pool rows row i starts next total count h s e n f =

@@ -2,11 +2,11 @@
 use Rattle.std.specs.Prelude.{◌≡◌, ◌≤◌, ◌<◌, ℕ, List, length, take, slice_get, Some}
 use Rattle.std.specs.List.{flat_map}
 use Rattle.seq_enum.specs.Alphabet.{rows, members, alphabet}
-use Rattle.seq_enum.specs.declared.rows.Row.{Row}
+use Rattle.thumb_instr.specs.declared.kind.Kind.{Kind}
 use Rattle.seq_enum.specs.declared.numbering.Numbering.{Numbering}
 
 -- how many instructions lie before each mnemonic of a list
-pub record AreStarts (k : ℕ) (pool : List ℕ) (rows : List Row) (starts : List ℕ) : Type 0 where
+pub record AreStarts (k : ℕ) (pool : List ℕ) (rows : List Kind) (starts : List ℕ) : Type 0 where
   pub as_many : length starts ≡ length rows
   pub each : (i : ℕ) → i < length rows → slice_get starts i ≡ Some (length (flat_map (members k pool) (take i rows)))
 

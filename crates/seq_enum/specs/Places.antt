@@ -1,5 +1,5 @@
--- Places of numbers, of pairs and triples, and of mnemonics.
-use Rattle.std.specs.Prelude.{ℕ, zero, suc, List, [], ◌∷◌, slice_get, Option, Some, None, ◌+◌, ◌*◌, ◌/◌, ◌%◌, ◌==◌, if◌then◌else◌}
+-- Places of numbers, of pairs and triples, of mnemonics, and of the instructions of each by their registers and numbers.
+use Rattle.std.specs.Prelude.{ℕ, zero, suc, not, List, [], ◌∷◌, length, filter, slice_get, Option, Some, None, ◌+◌, ◌*◌, ◌/◌, ◌%◌, ◌==◌, if◌then◌else◌}
 use Rattle.std.specs.Option.{option_map, option_and_then}
 use Rattle.thumb_instr.specs.declared.operation.Sum.{Sum}
 use Rattle.thumb_instr.specs.declared.operation.Sum.TheVariants as sum
@@ -13,10 +13,15 @@ use Rattle.thumb_instr.specs.declared.operation.Extension.{Extension}
 use Rattle.thumb_instr.specs.declared.operation.Extension.TheVariants as extension
 use Rattle.thumb_instr.specs.declared.operation.Reversal.{Reversal}
 use Rattle.thumb_instr.specs.declared.operation.Reversal.TheVariants as reversal
-use Rattle.seq_enum.specs.declared.rows.Row.{Row}
-use Rattle.seq_enum.specs.declared.rows.Row.TheVariants as row
-use Rattle.seq_enum.specs.declared.rows.Pair.{Pair}
-use Rattle.seq_enum.specs.declared.rows.Pair.TheVariants as pair
+use Rattle.thumb_instr.specs.declared.kind.Kind.{Kind}
+use Rattle.thumb_instr.specs.declared.kind.Kind.TheVariants as kind
+use Rattle.thumb_instr.specs.declared.kind.Parts.{Parts}
+use Rattle.thumb_instr.specs.declared.role.Role.{Role}
+use Rattle.thumb_instr.specs.declared.role.Role.TheVariants.{Register, Number}
+use Rattle.thumb_instr.specs.Roles.{roles}
+use Rattle.thumb_instr.specs.Parts.{of}
+use Rattle.seq_enum.specs.Lists.{numbers_from, grid3}
+use Rattle.seq_enum.specs.Pools.{inside}
 
 -- where a number first stands in a list
 unfoldable pub place_of : ℕ → List ℕ → Option ℕ
@@ -78,22 +83,42 @@ reversal_rank reversal.Rev = 0
 reversal_rank reversal.Rev16 = 1
 reversal_rank reversal.Revsh = 2
 
--- the place of each mnemonic with two registers among those, and of each mnemonic in the table
-abbrev pub pair_rank : Pair → ℕ
-pair_rank (pair.Two o) = two_rank o
-pair_rank pair.Movs = 16
-pair_rank pair.Mov = 17
-pair_rank pair.Add = 18
-pair_rank (pair.Extend e) = 19 + extension_rank e
-pair_rank (pair.Reverse r) = 23 + reversal_rank r
+-- the place of each mnemonic in the table
+abbrev pub rank : Kind → Option ℕ
+rank (kind.Three s) = Some (sum_rank s)
+rank (kind.ThreeNumber s) = Some (2 + sum_rank s)
+rank (kind.TwoNumber o) = Some (4 + byte_rank o)
+rank kind.ShiftLeft = Some 8
+rank (kind.ShiftRight s) = Some (9 + right_rank s)
+rank (kind.Two o) = Some (11 + two_rank o)
+rank kind.Movs = Some 27
+rank kind.Mov = Some 28
+rank kind.Add = Some 29
+rank (kind.Extend e) = Some (30 + extension_rank e)
+rank (kind.Reverse r) = Some (34 + reversal_rank r)
+rank k = None
 
-abbrev pub rank : Row → ℕ
-rank (row.Three s) = sum_rank s
-rank (row.Number s) = 2 + sum_rank s
-rank (row.Byte o) = 4 + byte_rank o
-rank row.Left = 8
-rank (row.Right s) = 9 + right_rank s
-rank (row.Pair p) = 11 + pair_rank p
+-- what stands as an operand: a register below r(k), or a number of the pool, or 0 where there is none
+abbrev pub values : ℕ → List ℕ → Role → List ℕ
+values k pool (Register u c) = numbers_from 0 k
+values k pool (Number least end) = filter (inside least end) pool
+values k pool r = numbers_from 0 1
+
+-- numbers without one
+abbrev pub without : ℕ → List ℕ → List ℕ
+without d numbers = filter (λ n. not (n == d)) numbers
+
+-- what stands as the second operand behind a first, in a sum with a number another register; and how many they are
+abbrev pub seconds : ℕ → List ℕ → Kind → ℕ → List ℕ
+seconds k pool (kind.ThreeNumber s) d = without d (numbers_from 0 k)
+seconds k pool t d = values k pool (roles t).second
+
+abbrev pub second_count : ℕ → List ℕ → Kind → ℕ
+second_count k pool t = length (seconds k pool t 0)
+
+-- the instructions of a mnemonic by their parts
+abbrev pub parts_in : ℕ → List ℕ → Kind → List Parts
+parts_in k pool t = grid3 (of t) (values k pool (roles t).first) (seconds k pool t) (values k pool (roles t).third)
 
 -- the sum of f 0 to f (n - 1)
 unfoldable pub sum_below : (ℕ → ℕ) → ℕ → ℕ

@@ -4,16 +4,14 @@
 mod alphabet;
 mod members;
 mod numbering;
-mod places;
 mod pool;
-mod registers;
 mod rows;
 mod sequences;
+mod values;
 mod walk;
 
 pub use alphabet::size;
 pub use numbering::{Numbering, number_of};
 pub use pool::Pool;
-pub use rows::{Pair, Row};
 pub use sequences::seq_at;
 pub use walk::{Walk, letters};

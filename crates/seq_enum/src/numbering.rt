@@ -1,5 +1,5 @@
 //! The numbers of sequences. What lies before each mnemonic of an alphabet is worked out once for all sequences that are numbered.
-ghost use Rattle.std.specs.Prelude.{◌≡◌, ◌≤◌, ◌<◌, ◌+◌, ◌*◌, ◌^◌, length, take, IfSome, Some};
+ghost use Rattle.std.specs.Prelude.{◌≡◌, ◌≤◌, ◌<◌, ◌+◌, ◌*◌, ◌^◌, length, take, IfSome, IsSome, Some, All};
 ghost use Rattle.std.specs.List.{flat_map};
 ghost use Rattle.std.specs.Option.{option_map};
 ghost use Rattle.seq_enum.specs.Lists.{IsPlace};
@@ -8,11 +8,11 @@ ghost use Rattle.seq_enum.specs.Alphabet.{alphabet, members, rows, words, sequen
 ghost use Rattle.seq_enum.specs.Numberings.{AreStarts, IsNumbering};
 
 use crate::alphabet::{place_of, size};
-use crate::members::count_of;
+use crate::members::size_of;
 use crate::pool::Pool;
-use crate::rows::{Row, rank, rows};
+use crate::rows::rows;
 use arrayvec::ArrayVec;
-use thumb_instr::{Instr, Seq};
+use thumb_instr::{Instr, Kind, Seq};
 
 /// The numbering of the sequences over the first registers and a pool.
 #[derive(Drop)]
@@ -69,11 +69,12 @@ impl<'a> Numbering<'a> {
         Some(place)
     }
 
-    /// The place in the alphabet of what has this place among the instructions of its mnemonic.
-    pub(crate) fn behind(&self, row: Row, place: Option<u64>) -> Option<u64>
+    /// The place in the alphabet of what has this place among the instructions of a mnemonic.
+    pub(crate) fn behind(&self, row: usize, place: Option<u64>) -> Option<u64>
         requires is { IsNumbering self.now }
-        requires small { IfSome place (λ i. i < 2048) }
-        ensures value { result ≡ option_map (λ b. length (flat_map (members self.now.registers self.now.pool.now) (take (rank row) rows)) + b) place }
+        requires listed { row < 37 }
+        requires small { IfSome place (λ i. i < 4096) }
+        ensures value { result ≡ option_map (λ b. length (flat_map (members self.now.registers self.now.pool.now) (take row rows)) + b) place }
         ensures small { IfSome result (λ i. i < 16384) }
     {
         let before = self.before(row);
@@ -81,12 +82,13 @@ impl<'a> Numbering<'a> {
     }
 
     /// How many instructions of the alphabet lie before those of a mnemonic.
-    fn before(&self, row: Row) -> u64
-        requires { IsNumbering self.now }
-        ensures value { result ≡ length (flat_map (members self.now.registers self.now.pool.now) (take (rank row) rows)) }
+    fn before(&self, row: usize) -> u64
+        requires is { IsNumbering self.now }
+        requires listed { row < 37 }
+        ensures value { result ≡ length (flat_map (members self.now.registers self.now.pool.now) (take row rows)) }
         ensures small { result ≤ 1952 }
     {
-        self.starts[rank(row)]
+        self.starts[row]
     }
 }
 
@@ -100,8 +102,9 @@ pub fn number_of(k: u8, pool: &Pool, seq: &Seq) -> Option<u64>
 }
 
 /// How many instructions lie before each mnemonic of a list.
-fn starts_of(rows: &[Row], k: u8, pool: &Pool) -> ArrayVec<u64, 37>
+fn starts_of(rows: &[Kind], k: u8, pool: &Pool) -> ArrayVec<u64, 37>
     requires few { k ≤ 4 }
+    requires listed { All (λ t. IsSome (rank t)) rows.now }
     requires short { length rows.now ≤ 37 }
     ensures { AreStarts k pool.now rows.now result.items }
 {
@@ -109,7 +112,7 @@ fn starts_of(rows: &[Row], k: u8, pool: &Pool) -> ArrayVec<u64, 37>
     let mut total = 0;
     for row in rows {
         starts.push(total);
-        total += count_of(*row, k, pool);
+        total += size_of(*row, k, pool);
     }
     starts
 }

@@ -1,11 +1,10 @@
 ghost use Rattle.std.specs.Prelude.{◌≡◌, ◌≤◌, ◌<◌, slice_get, length, filter, IfSome, IsSome, IsTrue, ◌↔◌, Some, true};
-ghost use Rattle.seq_enum.specs.Lists.{ascends_from, held_in, IsPlace};
+ghost use Rattle.seq_enum.specs.Lists.{ascends_from, IsPlace};
 ghost use Rattle.seq_enum.specs.Places.{place_of};
 ghost use Rattle.seq_enum.specs.Pools.{is_pool, inside};
 
 use arrayvec::ArrayVec;
 use std::marker::Model;
-use thumb_instr::Within;
 
 /// The numbers that instructions of an alphabet may have: 1 to 16 distinct ones from 0 to 255, ascending.
 #[derive(Drop)]
@@ -48,37 +47,29 @@ impl Pool {
     }
 
     /// How many of the numbers are from `least` to below `limit`.
-    #[tactic(auto, using(crate::proofs::Fields::held_length))]
     pub(crate) fn count(&self, least: u32, limit: u32) -> u64
-        ensures value { result ≡ length (held_in least limit self.now) }
+        ensures value { result ≡ length (filter (inside least limit) self.now) }
         ensures small { result ≤ 16 }
     {
         count_among(&self.numbers, least, limit)
     }
 
-    /// The number at a place among those that a field of this range holds.
-    #[tactic(auto, using(crate::proofs::Fields::held_gets))]
-    pub(crate) fn number<const LEAST: u32, const END: u32>(
-        &self,
-        place: u64,
-    ) -> Option<Within<LEAST, END>>
-        ensures { result ≡ slice_get (held_in LEAST END self.now) place }
+    /// The number at a place among those from `least` to below `limit`.
+    pub(crate) fn number(&self, least: u32, limit: u32, place: u64) -> Option<u32>
+        ensures { result ≡ slice_get (filter (inside least limit) self.now) place }
     {
-        match number_among(self.numbers(), LEAST, END, place) {
+        match number_among(self.numbers(), least, limit, place) {
             None => None,
-            Some(number) => Within::new(u32::from(number)),
+            Some(number) => Some(u32::from(number)),
         }
     }
 
-    /// Where a number stands among those that a field of its range holds.
-    pub(crate) fn place<const LEAST: u32, const END: u32>(
-        &self,
-        number: Within<LEAST, END>,
-    ) -> Option<u64>
-        ensures value { IsPlace result (held_in LEAST END self.now) number.entry }
+    /// Where a number stands among those from `least` to below `limit`.
+    pub(crate) fn place(&self, least: u32, limit: u32, number: u32) -> Option<u64>
+        ensures value { IsPlace result (filter (inside least limit) self.now) number }
         ensures small { IfSome result (λ i. i < 16) }
     {
-        place_among(self.numbers(), LEAST, END, number.number)
+        place_among(self.numbers(), least, limit, number)
     }
 }
 

@@ -6,5 +6,5 @@ use Rattle.seq_enum.proofs.alphabet.total_of.Given as goal
 abbrev pub invariant-loop-row : goal.invariant-loop-row
 invariant-loop-row l = record {
   total : l.total ≡ length (flat_map (members l.k l.pool) (take l.row-index l.rows));
-  small : l.total ≤ 256 * l.row-index;
+  small : l.total ≤ 4096 * l.row-index;
 }

@@ -1,14 +1,18 @@
-use Rattle.std.proofs.Common.{ap, sym, ◌∙◌, arith, slice_get}
-use Rattle.seq_enum.specs.Alphabet.{members}
-use Rattle.seq_enum.proofs.Mnemonics.{left_some, left_at}
+use Rattle.std.proofs.Common.{sym, ◌∙◌, arith}
+use Rattle.seq_enum.proofs.Mnemonics.{some_members, parts_at, none_made, made_back}
 use Rattle.seq_enum.proofs.members.member.Goals as goal
 
-pub left_at-requires-clause-numbers : goal.left_at-requires-clause-numbers
-left_at-requires-clause-numbers c =
-    left_some c.args.k c.args.pool.now c.args.place (omega arith) (rw c.in-Left.is at c.requires.within)
+pub parts_at-requires-clause-some : goal.parts_at-requires-clause-some
+parts_at-requires-clause-some c =
+    some_members c.args.k c.args.pool.now c.args.kind c.args.place (omega (arith, c.requires.few)) c.requires.listed c.requires.within
 
-pub returns-in-Left : goal.returns-in-Left
-returns-in-Left c =
-    c.left_at.ensures
-    ∙ sym (left_at c.args.k c.args.pool.now c.args.place (omega arith) (left_some c.args.k c.args.pool.now c.args.place (omega arith) (rw c.in-Left.is at c.requires.within)))
-    ∙ ap (λ r. slice_get (members c.args.k c.args.pool.now r) c.args.place) (sym c.in-Left.is)
+pub returns-in_err-parts_at : goal.returns-in_err-parts_at
+returns-in_err-parts_at c =
+    c.from_residual.ensures
+    ∙ none_made _ (parts_at c.args.k c.args.pool.now c.args.kind c.args.place (omega (arith, c.requires.few)) c.requires.listed c.requires.within ∙ sym c.parts_at.ensures ∙ c.in_err-parts_at.was)
+
+pub returns : goal.returns
+returns c =
+    made_back _ _ _
+    (parts_at c.args.k c.args.pool.now c.args.kind c.args.place (omega (arith, c.requires.few)) c.requires.listed c.requires.within ∙ sym c.parts_at.ensures ∙ c.in_ok-parts_at.was)
+    c.rebuilt.ensures

@@ -8,5 +8,5 @@ abbrev pub invariant-loop-row : goal.invariant-loop-row
 invariant-loop-row l = record {
   so_far : AreStarts l.k l.pool (take l.row-index l.rows) l.starts.items;
   total : l.total ≡ length (flat_map (members l.k l.pool) (take l.row-index l.rows));
-  small : l.total ≤ 256 * l.row-index;
+  small : l.total ≤ 4096 * l.row-index;
 }
