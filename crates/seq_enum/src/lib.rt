@@ -13,5 +13,6 @@ mod walk;
 pub use alphabet::size;
 pub use numbering::{Numbering, number_of};
 pub use pool::Pool;
+pub use rows::rank;
 pub use sequences::seq_at;
 pub use walk::{Walk, letters};

@@ -54,8 +54,8 @@ pub(crate) fn rows() -> &'static [Kind]
     &ROWS
 }
 
-/// The place of a mnemonic among them.
-pub(crate) fn rank(kind: Kind) -> Option<usize>
+/// The place of a kind of instruction among the 37 mnemonics of alphabets, from 0: none where instructions of the kind stand in none.
+pub fn rank(kind: Kind) -> Option<usize>
     ensures value { result ≡ rank kind }
     ensures within { IfSome result (λ i. i < 37) }
 {

@@ -1,40 +1,34 @@
 //! Numbers that instructions share with all that differ from them in registers alone.
 ghost use Rattle.std.specs.Prelude.{◌≡◌, ◌<◌, ◌∷◌, [], map};
 ghost use Rattle.thumb_instr.specs.Window.{normal_of};
-ghost use Rattle.window_rewrite.specs.Shapes.{head_number, next_shape, shape_of};
+ghost use Rattle.window_rewrite.specs.Shapes.{head_number, next_shape, number_in, shape_of};
 
-use thumb_instr::{Instr, normal};
+use seq_enum::rank;
+use thumb_instr::{Instr, normal, parts};
 
 /// How many numbers of sequences there are.
 pub(crate) const SHAPES: usize = 65_536;
 
-/// The number of an instruction alone: one for each mnemonic and each number that stands in it.
-fn head_number(instr: &Instr) -> usize
-    ensures value { result ≡ head_number instr.now }
-    ensures small { result < 1280 }
+/// The number that stands in an instruction of windows beside its registers, or 0.
+fn number_in(instr: &Instr) -> usize
+    ensures value { result ≡ number_in instr.now }
+    ensures small { result < 256 }
 {
     match *instr {
-        Instr::Mov { .. } => 0,
-        Instr::Movs { .. } => 1,
-        Instr::Add { .. } => 2,
-        Instr::Three { sum, .. } => 4 + sum as usize,
-        Instr::Extend { extension, .. } => 8 + extension as usize,
-        Instr::Reverse { reversal, .. } => 12 + reversal as usize,
-        Instr::Two { operation, .. } => 16 + operation as usize,
-        Instr::ShiftLeft { amount, .. } => 32 + amount.number as usize,
-        Instr::ShiftRight { shift, amount, .. } => {
-            64 + (64 * (shift as usize) + amount.number as usize)
-        }
-        Instr::ThreeNumber { sum, number, .. } => {
-            192 + (8 * (sum as usize) + number.number as usize)
-        }
-        Instr::TwoNumber {
-            operation,
-            number,
-            ..
-        } => 256 + (256 * (operation as usize) + number.number as usize),
-        _ => 3,
+        Instr::ShiftLeft { amount, .. } => amount.number as usize,
+        Instr::ShiftRight { amount, .. } => amount.number as usize,
+        Instr::ThreeNumber { number, .. } => number.number as usize,
+        Instr::TwoNumber { number, .. } => number.number as usize,
+        _ => 0,
     }
+}
+
+/// The number of an instruction of windows alone: one for each mnemonic and each number that stands in it.
+fn head_number(instr: &Instr) -> usize
+    ensures value { result ≡ head_number instr.now }
+    ensures small { result < 9472 }
+{
+    37 * number_in(instr) + rank(parts(instr).kind).unwrap_or(0)
 }
 
 /// The number of instructions where another stands behind those that have this one.
