@@ -1,3 +1,4 @@
 pub mod Addresses
 pub mod Changes
 pub mod Refusals
+pub mod Pieces

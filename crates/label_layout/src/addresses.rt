@@ -1,3 +1,6 @@
+ghost use Rattle.std.specs.Prelude.{◌≡◌};
+ghost use Rattle.thumb_model.specs.Layout.{cleared as cleared_of};
+
 use crate::sizes::CODE_END;
 use indexmap::IndexMap;
 use listing_parser::Listing;
@@ -80,10 +83,17 @@ impl Layout {
     {
         match self.find_label(name) {
             Some(address) => Some(address),
-            None => match listing.set_address(name) {
-                Some(address) => Some(address / 2 * 2),
-                None => None,
-            },
+            None => cleared(listing.set_address(name)),
         }
+    }
+}
+
+/// An address with bit 0 cleared.
+pub(crate) fn cleared(address: Option<u32>) -> Option<u32>
+    ensures { result ≡ cleared_of address }
+{
+    match address {
+        Some(address) => Some(address / 2 * 2),
+        None => None,
     }
 }

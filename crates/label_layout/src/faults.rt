@@ -56,7 +56,7 @@ fn literal_fault(at: u32, to: Option<u32>, plus: u32) -> Option<Kind>
 }
 
 /// What is wrong with an instruction that mentions what lies there, with a number added.
-fn aim_fault(at: u32, instr: &Instr, to: Option<u32>, plus: u32) -> Option<Kind>
+pub(crate) fn aim_fault(at: u32, instr: &Instr, to: Option<u32>, plus: u32) -> Option<Kind>
     ensures { option_map fault_of result ≡ aim_fault_at at instr.now to plus }
 {
     match instr {

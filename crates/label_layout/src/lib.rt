@@ -5,9 +5,11 @@ mod addresses;
 mod errors;
 mod faults;
 mod laying;
+mod pieces;
 mod sizes;
 
 pub use addresses::Layout;
 pub use errors::{Kind, LayoutError};
 pub use laying::layout;
+pub use pieces::are_layable;
 pub use sizes::{CODE_END, instr_size};
