@@ -8,6 +8,7 @@ pub mod Leads
 pub mod Letters
 pub mod Stays
 pub mod Onces
+pub mod Others
 mod Carried
 mod Ways
 mod Marked
