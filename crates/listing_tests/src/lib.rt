@@ -16,6 +16,8 @@ mod live_items;
 #[cfg(test)]
 mod namings;
 #[cfg(test)]
+mod replacing;
+#[cfg(test)]
 mod runs;
 #[cfg(test)]
 mod scanning;
