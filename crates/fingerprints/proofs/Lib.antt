@@ -5,6 +5,5 @@ pub mod Letters
 pub mod PrintLemmas
 pub mod SequenceLemmas
 pub mod StateLemmas
-pub mod StepLemmas
 pub mod Candidates
 pub mod Alike

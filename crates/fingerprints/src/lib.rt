@@ -4,6 +4,7 @@
 
 mod arranging;
 mod columns;
+mod eight_words;
 mod index;
 mod lanes;
 pub mod laws;

@@ -11,7 +11,7 @@ use std::alloc::{AllocError, Global};
 use step_ledger::{Ledger, Steps};
 use thumb_instr::items::{C, N, V, Z};
 use thumb_instr::{Instr, Mask};
-use window_exec::{RegisterFile, WState, step};
+use window_exec::{WState, step};
 
 /// A listed state, and the state that the left side leaves of it.
 #[derive(Clone, Copy)]
@@ -91,7 +91,7 @@ fn differ_in_register(left: &WState, right: &WState, mask: Mask, register: u8) -
     requires { register < 4 }
     ensures { result ≡ (has mask.items.bits register && not (values_of left.now register == values_of right.now register)) }
 {
-    mask.has(register) && left.register(u32::from(register)) != right.register(u32::from(register))
+    mask.has(register) && left.get(u32::from(register)) != right.get(u32::from(register))
 }
 
 /// Whether a flag is in the mask and differs between the states.

@@ -114,16 +114,18 @@ impl Registers {
 }
 
 impl RegisterFile for Registers {
-    ghost values = { values_of };
+    type Value = u32;
+
+    ghost values = { λ s i. values_of s };
 
     ghost count = { 15 };
 
     fn register(&self, number: u32) -> u32 {
-        self.r[number as usize]
+        self.get(number)
     }
 
     fn set_register(&mut self, number: u32, value: u32) {
-        self.r[number as usize] = value;
+        self.set(number, value);
     }
 
     fn carry(&self) -> bool {
@@ -134,7 +136,8 @@ impl RegisterFile for Registers {
         self.nzcv = flags(value, self.flag(C) == 1, self.overflow());
     }
 
-    fn set_shift_flags(&mut self, value: u32, c: bool) {
+    fn set_shift_flags(&mut self, moved: (u32, bool)) {
+        let (value, c) = moved;
         self.nzcv = flags(value, c, self.overflow());
     }
 

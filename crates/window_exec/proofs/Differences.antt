@@ -1,5 +1,5 @@
 -- Eight tests, of r0 to r3 and the flags, find each item of a mask that differs.
-use Rattle.std.proofs.Common.{◌≡◌, ℕ, zero, suc, ◌+◌, ◌-◌, ◌<◌, ◌≤◌, ◌↔◌, ◌==◌, ◌&&◌, ◌||◌, not, Bool, true, false, IsTrue, inl, inr, refl, subst, arith, nat_lt, nat_le, eq-eqb}
+use Rattle.std.proofs.Common.{◌≡◌, ℕ, zero, suc, ◌+◌, ◌-◌, ◌<◌, ◌≤◌, ◌↔◌, ◌==◌, ◌&&◌, ◌||◌, not, Bool, true, IsTrue, inl, inr, refl, subst, arith, nat_lt, nat_le, eq-eqb}
 use Rattle.std.proofs.lemmas.Bool.{cases_Bool, and_parts, or_cases, or_left, or_right, eqb-true, ltb-true, leb-true}
 use Rattle.thumb_instr.specs.Items.{has, is_in_masks}
 use Rattle.thumb_model.specs.Items.{Values}

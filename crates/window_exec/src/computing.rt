@@ -1,20 +1,22 @@
 //! What an instruction that looks at registers and flags alone does to any file of registers.
-ghost use Rattle.std.specs.Prelude.{◌≡◌, ◌<◌, ◌==◌, ◌*◌, ◌/◌, true, false};
-ghost use Rattle.word_bits.specs.Word.{sum_of, shift_of};
+ghost use Rattle.std.specs.Prelude.{◌≡◌, ℕ, ◌<◌, ◌≤◌, true, false};
+ghost use Rattle.word_bits.specs.Word.{shift_of};
 ghost use Rattle.thumb_instr.specs.Renaming.{named, AreBelow};
 ghost use Rattle.thumb_model.specs.Items.{assigned, written_to, c_flag};
-ghost use Rattle.thumb_model.specs.Effect.{result_outputs, shift_outputs, sum_outputs, sum_flags, three_sum, right_shift, extension_of, reversal_of, two_outputs, byte_outputs, after};
+ghost use Rattle.thumb_model.specs.Effect.{result_outputs, shift_outputs, sum_outputs, three_sum, right_shift, extension_of, reversal_of, two_outputs, byte_outputs, after};
 ghost use Rattle.window_exec.specs.Computes.{computes};
 
 use crate::register_file::RegisterFile;
+use crate::words::Word;
 use thumb_instr::{ByteOperation, Extension, Instr, Operation, Reversal, Right, Sum};
-use word_bits::{Shift, add_with_carry, rev, rev16, revsh, shift_c, sign_extend};
+use word_bits::Shift;
 
 /// What a register holds after a word was written to it: the two low bits of sp, which is register 13, stay zero.
-pub fn written(register: u32, word: u32) -> u32
-    ensures { result ≡ written_to register word }
+#[inline(always)]
+pub fn written<W: Word>(register: u32, word: W) -> W
+    ensures { (i : ℕ) → W.number result i ≡ written_to register (W.number word i) }
 {
-    if register == 13 { word / 4 * 4 } else { word }
+    if register == 13 { word.aligned() } else { word }
 }
 
 /// Whether an instruction looks at the registers that it names and at flags alone, and goes on.
@@ -38,11 +40,12 @@ pub fn computes(instr: &Instr) -> bool
     }
 }
 
-/// Does an instruction that looks at the registers which it names and at flags alone, and goes on. The file has these registers.
+/// Does an instruction that looks at the registers which it names and at flags alone, and goes on, in each state. The file has these registers.
+#[inline(always)]
 pub fn compute<F: RegisterFile>(file: &mut F, instr: &Instr)
     requires computes { computes instr.now ≡ true }
     requires registers { AreBelow F.count (named instr.now) }
-    ensures { F.values file.new ≡ after instr.now (F.values file.old) }
+    ensures { (i : ℕ) → F.values file.new i ≡ after instr.now (F.values file.old i) }
 {
     match *instr {
         Instr::Mov { target, source } => {
@@ -57,7 +60,7 @@ pub fn compute<F: RegisterFile>(file: &mut F, instr: &Instr)
         } => {
             let x = file.register(left.number);
             let y = file.register(right.number);
-            three(file, sum, target.number, x, y);
+            set_sum(file, target.number, three(sum, x, y));
         }
         Instr::Two {
             operation,
@@ -78,7 +81,7 @@ pub fn compute<F: RegisterFile>(file: &mut F, instr: &Instr)
             amount,
         } => {
             let x = file.register(source.number);
-            set_shift(file, target.number, Shift::Lsl, x, amount.number, false);
+            set_shift(file, target.number, x.lsl(amount.number));
         }
         Instr::ShiftRight {
             shift,
@@ -87,7 +90,7 @@ pub fn compute<F: RegisterFile>(file: &mut F, instr: &Instr)
             amount,
         } => {
             let x = file.register(source.number);
-            right(file, shift, target.number, x, amount.number);
+            set_shift(file, target.number, right(shift, x, amount.number));
         }
         Instr::ThreeNumber {
             sum,
@@ -96,7 +99,8 @@ pub fn compute<F: RegisterFile>(file: &mut F, instr: &Instr)
             number,
         } => {
             let x = file.register(source.number);
-            three(file, sum, target.number, x, number.number);
+            let y = F::Value::same(number.number);
+            set_sum(file, target.number, three(sum, x, y));
         }
         Instr::TwoNumber {
             operation,
@@ -104,7 +108,8 @@ pub fn compute<F: RegisterFile>(file: &mut F, instr: &Instr)
             number,
         } => {
             let x = file.register(target.number);
-            byte(file, operation, target.number, x, number.number);
+            let y = F::Value::same(number.number);
+            byte(file, operation, target.number, x, y);
         }
         Instr::Add { registers } => {
             let x = file.register(registers.target.number);
@@ -118,7 +123,7 @@ pub fn compute<F: RegisterFile>(file: &mut F, instr: &Instr)
         Instr::Compare { registers } => {
             let x = file.register(registers.left.number);
             let y = file.register(registers.right.number);
-            compare(file, x, !y, true);
+            file.set_sum_flags(three(Sum::Sub, x, y));
         }
         Instr::Extend {
             extension,
@@ -140,132 +145,141 @@ pub fn compute<F: RegisterFile>(file: &mut F, instr: &Instr)
     }
 }
 
-/// Gives all flags of AddWithCarry(x, y, c).
-fn compare<F: RegisterFile>(file: &mut F, x: u32, y: u32, c: bool)
-    ensures { F.values file.new ≡ assigned (sum_flags (sum_of x y c)) (F.values file.old) }
-{
-    file.set_sum_flags(add_with_carry(x, y, c));
-}
-
 /// Puts a result into a register, and its N and Z.
-fn set_result<F: RegisterFile>(file: &mut F, target: u32, value: u32)
+#[inline(always)]
+fn set_result<F: RegisterFile>(file: &mut F, target: u32, value: F::Value)
     requires { target < F.count }
-    ensures { F.values file.new ≡ assigned (result_outputs target value) (F.values file.old) }
+    ensures { (i : ℕ) → F.values file.new i ≡ assigned (result_outputs target (F.Value.number value i)) (F.values file.old i) }
 {
     file.set_result_flags(value);
     file.set_register(target, value);
 }
 
 /// Puts a shift of a value into a register, its N and Z, and its last bit out as C.
-fn set_shift<F: RegisterFile>(file: &mut F, target: u32, kind: Shift, x: u32, n: u32, c: bool)
+#[inline(always)]
+fn set_shift<F: RegisterFile>(file: &mut F, target: u32, moved: <F::Value as Word>::Moved)
     requires { target < F.count }
-    ensures { F.values file.new ≡ assigned (shift_outputs target (shift_of kind x n c)) (F.values file.old) }
+    ensures { (i : ℕ) → F.values file.new i ≡ assigned (shift_outputs target (F.Value.moved_in moved i)) (F.values file.old i) }
 {
-    let (value, out) = shift_c(kind, x, n, c);
-    file.set_shift_flags(value, out);
-    file.set_register(target, value);
+    file.set_shift_flags(moved);
+    file.set_register(target, F::Value::moved_value(moved));
 }
 
-/// Puts AddWithCarry(x, y, c) into a register, and all its flags.
-fn set_sum<F: RegisterFile>(file: &mut F, target: u32, x: u32, y: u32, c: bool)
+/// Puts a sum into a register, and all its flags.
+#[inline(always)]
+fn set_sum<F: RegisterFile>(file: &mut F, target: u32, sum: <F::Value as Word>::Sum)
     requires { target < F.count }
-    ensures { F.values file.new ≡ assigned (sum_outputs target (sum_of x y c)) (F.values file.old) }
+    ensures { (i : ℕ) → F.values file.new i ≡ assigned (sum_outputs target (F.Value.sum_in sum i)) (F.values file.old i) }
 {
-    let sum = add_with_carry(x, y, c);
     file.set_sum_flags(sum);
-    file.set_register(target, sum.value);
+    file.set_register(target, F::Value::sum_value(sum));
 }
 
-/// A sum or a difference of two values into a register, with all flags.
-fn three<F: RegisterFile>(file: &mut F, sum: Sum, target: u32, x: u32, y: u32)
-    requires { target < F.count }
-    ensures { F.values file.new ≡ assigned (sum_outputs target (three_sum sum x y)) (F.values file.old) }
+/// A sum or a difference of two values.
+#[inline(always)]
+fn three<W: Word>(sum: Sum, x: W, y: W) -> W::Sum
+    ensures { (i : ℕ) → W.sum_in result i ≡ three_sum sum (W.number x i) (W.number y i) }
 {
     match sum {
-        Sum::Add => set_sum(file, target, x, y, false),
-        Sum::Sub => set_sum(file, target, x, !y, true),
+        Sum::Add => x.add_with_carry(y, W::flag(false)),
+        Sum::Sub => x.add_with_carry(y.not(), W::flag(true)),
     }
 }
 
 /// The low 32 bits of a sum or a difference.
-pub fn total(sum: Sum, x: u32, y: u32) -> u32
-    ensures { result ≡ (three_sum sum x y).value }
+#[inline(always)]
+pub fn total<W: Word>(sum: Sum, x: W, y: W) -> W
+    ensures { (i : ℕ) → W.number result i ≡ (three_sum sum (W.number x i) (W.number y i)).value }
 {
-    match sum {
-        Sum::Add => add_with_carry(x, y, false).value,
-        Sum::Sub => add_with_carry(x, !y, true).value,
-    }
+    W::sum_value(three(sum, x, y))
 }
 
 /// A shift right of a value by an amount that isn't 0.
-fn right<F: RegisterFile>(file: &mut F, shift: Right, target: u32, x: u32, amount: u32)
-    requires { target < F.count }
-    ensures { F.values file.new ≡ assigned (shift_outputs target (shift_of (right_shift shift) x amount false)) (F.values file.old) }
+#[inline(always)]
+fn right<W: Word>(shift: Right, x: W, amount: u32) -> W::Moved
+    requires some { 1 ≤ amount }
+    requires most { amount ≤ 32 }
+    ensures { (i : ℕ) → W.moved_in result i ≡ shift_of (right_shift shift) (W.number x i) amount false }
 {
     match shift {
-        Right::Lsr => set_shift(file, target, Shift::Lsr, x, amount, false),
-        Right::Asr => set_shift(file, target, Shift::Asr, x, amount, false),
+        Right::Lsr => x.lsr(amount),
+        Right::Asr => x.asr(amount),
     }
 }
 
 /// A byte or a halfword, extended to a word.
-fn extended(extension: Extension, x: u32) -> u32
-    ensures { result ≡ extension_of extension x }
+#[inline(always)]
+fn extended<W: Word>(extension: Extension, x: W) -> W
+    ensures { (i : ℕ) → W.number result i ≡ extension_of extension (W.number x i) }
 {
     match extension {
-        Extension::Sxth => sign_extend(x, 16),
-        Extension::Sxtb => sign_extend(x, 8),
-        Extension::Uxth => x & 0xffff,
-        Extension::Uxtb => x & 0xff,
+        Extension::Sxth => x.sign_extend(16),
+        Extension::Sxtb => x.sign_extend(8),
+        Extension::Uxth => x.low_half(),
+        Extension::Uxtb => x.low_byte(),
     }
 }
 
 /// The bytes in another order.
-fn reversed(reversal: Reversal, x: u32) -> u32
-    ensures { result ≡ reversal_of reversal x }
+#[inline(always)]
+fn reversed<W: Word>(reversal: Reversal, x: W) -> W
+    ensures { (i : ℕ) → W.number result i ≡ reversal_of reversal (W.number x i) }
 {
     match reversal {
-        Reversal::Rev => rev(x),
-        Reversal::Rev16 => rev16(x),
-        Reversal::Revsh => revsh(x),
+        Reversal::Rev => x.rev(),
+        Reversal::Rev16 => x.rev16(),
+        Reversal::Revsh => x.revsh(),
     }
 }
 
 /// An operation on the values `x` of its target and `y` of the other register.
-fn two<F: RegisterFile>(file: &mut F, operation: Operation, target: u32, x: u32, y: u32)
+#[inline(always)]
+fn two<F: RegisterFile>(file: &mut F, operation: Operation, target: u32, x: F::Value, y: F::Value)
     requires { target < F.count }
-    ensures { F.values file.new ≡ assigned (two_outputs operation target x y (F.values file.old c_flag)) (F.values file.old) }
+    ensures { (i : ℕ) → F.values file.new i ≡ assigned (two_outputs operation target (F.Value.number x i) (F.Value.number y i) (F.values file.old i c_flag)) (F.values file.old i) }
 {
     let c = file.carry();
     match operation {
-        Operation::And => set_result(file, target, x & y),
-        Operation::Eor => set_result(file, target, x ^ y),
-        Operation::Lsl => set_shift(file, target, Shift::Lsl, x, y % 256, c),
-        Operation::Lsr => set_shift(file, target, Shift::Lsr, x, y % 256, c),
-        Operation::Asr => set_shift(file, target, Shift::Asr, x, y % 256, c),
-        Operation::Adc => set_sum(file, target, x, y, c),
-        Operation::Sbc => set_sum(file, target, x, !y, c),
-        Operation::Ror => set_shift(file, target, Shift::Ror, x, y % 256, c),
-        Operation::Tst => file.set_result_flags(x & y),
-        Operation::Rsb => set_sum(file, target, !y, 0, true),
-        Operation::Cmp => compare(file, x, !y, true),
-        Operation::Cmn => compare(file, x, y, false),
-        Operation::Orr => set_result(file, target, x | y),
-        Operation::Mul => set_result(file, target, y.wrapping_mul(x)),
-        Operation::Bic => set_result(file, target, x & !y),
-        Operation::Mvn => set_result(file, target, !y),
+        Operation::And => set_result(file, target, x.and(y)),
+        Operation::Eor => set_result(file, target, x.xor(y)),
+        Operation::Lsl => set_shift(file, target, x.shift(Shift::Lsl, y.low_byte(), c)),
+        Operation::Lsr => set_shift(file, target, x.shift(Shift::Lsr, y.low_byte(), c)),
+        Operation::Asr => set_shift(file, target, x.shift(Shift::Asr, y.low_byte(), c)),
+        Operation::Adc => set_sum(file, target, x.add_with_carry(y, c)),
+        Operation::Sbc => set_sum(file, target, x.add_with_carry(y.not(), c)),
+        Operation::Ror => set_shift(file, target, x.shift(Shift::Ror, y.low_byte(), c)),
+        Operation::Tst => file.set_result_flags(x.and(y)),
+        Operation::Rsb => {
+            let sum = y
+                .not()
+                .add_with_carry(F::Value::same(0), F::Value::flag(true));
+            set_sum(file, target, sum);
+        }
+        Operation::Cmp => file.set_sum_flags(three(Sum::Sub, x, y)),
+        Operation::Cmn => file.set_sum_flags(three(Sum::Add, x, y)),
+        Operation::Orr => set_result(file, target, x.or(y)),
+        Operation::Mul => set_result(file, target, y.multiplied(x)),
+        Operation::Bic => set_result(file, target, x.and(y.not())),
+        Operation::Mvn => set_result(file, target, y.not()),
     }
 }
 
 /// An operation on the value `x` of its target and a number.
-fn byte<F: RegisterFile>(file: &mut F, operation: ByteOperation, target: u32, x: u32, number: u32)
+#[inline(always)]
+fn byte<F: RegisterFile>(
+    file: &mut F,
+    operation: ByteOperation,
+    target: u32,
+    x: F::Value,
+    number: F::Value,
+)
     requires { target < F.count }
-    ensures { F.values file.new ≡ assigned (byte_outputs operation target x number) (F.values file.old) }
+    ensures { (i : ℕ) → F.values file.new i ≡ assigned (byte_outputs operation target (F.Value.number x i) (F.Value.number number i)) (F.values file.old i) }
 {
     match operation {
         ByteOperation::Mov => set_result(file, target, number),
-        ByteOperation::Cmp => compare(file, x, !number, true),
-        ByteOperation::Add => set_sum(file, target, x, number, false),
-        ByteOperation::Sub => set_sum(file, target, x, !number, true),
+        ByteOperation::Cmp => file.set_sum_flags(three(Sum::Sub, x, number)),
+        ByteOperation::Add => set_sum(file, target, three(Sum::Add, x, number)),
+        ByteOperation::Sub => set_sum(file, target, three(Sum::Sub, x, number)),
     }
 }

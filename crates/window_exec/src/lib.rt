@@ -3,11 +3,13 @@
 
 mod computing;
 pub mod laws;
+mod one_word;
 mod register_file;
 mod sequence;
 mod state;
 mod states;
 mod stepping;
+mod words;
 
 pub use computing::{compute, computes, total, written};
 pub use register_file::{RegisterFile, flags};
@@ -15,3 +17,4 @@ pub use sequence::{run_seq, tells};
 pub use state::WState;
 pub use states::States;
 pub use stepping::step;
+pub use words::Word;

@@ -4,7 +4,7 @@ ghost use Rattle.std.specs.Int.{bit_at, from_bool};
 ghost use Rattle.thumb_model.specs.Items.{Values, assigned, c_flag};
 ghost use Rattle.thumb_model.specs.Effect.{result_flags, sum_flags};
 
-use word_bits::Sum;
+use crate::words::Word;
 
 /// N and Z of a value, with C and V: N is 8, Z is 4, C is 2 and V is 1.
 pub fn flags(value: u32, c: bool, v: bool) -> u8
@@ -16,35 +16,40 @@ pub fn flags(value: u32, c: bool, v: bool) -> u8
     u8::from(value >> 31 == 1) << 3 | u8::from(value == 0) << 2 | u8::from(c) << 1 | u8::from(v)
 }
 
-/// Registers from r0 on, as many as `count` says, and the flags N, Z, C and V.
+/// Registers from r0 on, as many as `count` says, and the flags N, Z, C and V, of each of some states.
 pub trait RegisterFile {
-    ghost values: { Self → Values };
+    /// What a register holds.
+    type Value: Word;
 
+    // the values in a state, by its number, as of words
+    ghost values: { Self → ℕ → Values };
+
+    // how many registers there are
     ghost count: { ℕ };
 
     /// The value of a register.
-    fn register(&self, number: u32) -> u32
+    fn register(&self, number: u32) -> Self::Value
         requires { number < count }
-        ensures { result ≡ values self.now number };
+        ensures { (i : ℕ) → Self.Value.number result i ≡ values self.now i number };
 
     /// Gives a register another value.
-    fn set_register(&mut self, number: u32, value: u32)
+    fn set_register(&mut self, number: u32, value: Self::Value)
         requires { number < count }
-        ensures { values self.new ≡ assigned ((number, value) ∷ []) (values self.old) };
+        ensures { (i : ℕ) → values self.new i ≡ assigned ((number, Self.Value.number value i) ∷ []) (values self.old i) };
 
     /// C.
-    fn carry(&self) -> bool
-        ensures { result ≡ (values self.now c_flag == 1) };
+    fn carry(&self) -> <Self::Value as Word>::Flag
+        ensures { (i : ℕ) → Self.Value.is_set result i ≡ (values self.now i c_flag == 1) };
 
     /// Gives N and Z of a result.
-    fn set_result_flags(&mut self, value: u32)
-        ensures { values self.new ≡ assigned (result_flags value) (values self.old) };
+    fn set_result_flags(&mut self, value: Self::Value)
+        ensures { (i : ℕ) → values self.new i ≡ assigned (result_flags (Self.Value.number value i)) (values self.old i) };
 
-    /// Gives N and Z of a result, and another C.
-    fn set_shift_flags(&mut self, value: u32, c: bool)
-        ensures { values self.new ≡ assigned (result_flags value) (assigned ((c_flag, from_bool c) ∷ []) (values self.old)) };
+    /// Gives N and Z of a shift's result, and its carry out as C.
+    fn set_shift_flags(&mut self, moved: <Self::Value as Word>::Moved)
+        ensures { (i : ℕ) → values self.new i ≡ assigned (result_flags (Self.Value.moved_in moved i).0) (assigned ((c_flag, from_bool (Self.Value.moved_in moved i).1) ∷ []) (values self.old i)) };
 
     /// Gives all flags of a sum.
-    fn set_sum_flags(&mut self, sum: Sum)
-        ensures { values self.new ≡ assigned (sum_flags sum) (values self.old) };
+    fn set_sum_flags(&mut self, sum: <Self::Value as Word>::Sum)
+        ensures { (i : ℕ) → values self.new i ≡ assigned (sum_flags (Self.Value.sum_in sum i)) (values self.old i) };
 }

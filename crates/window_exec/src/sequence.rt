@@ -5,7 +5,6 @@ ghost use Rattle.thumb_model.specs.Rewrite.{AreOver};
 ghost use Rattle.window_exec.specs.State.{values_of};
 ghost use Rattle.window_exec.specs.Telling.{Differ, Tells};
 
-use crate::register_file::RegisterFile;
 use crate::state::WState;
 use crate::stepping::step;
 use thumb_instr::items::{C, N, V, Z};
@@ -51,7 +50,7 @@ fn differ_in_register(left: &WState, right: &WState, mask: Mask, register: u8) -
     requires { register < 4 }
     ensures { result ≡ (has mask.items.bits register && not (values_of left.now register == values_of right.now register)) }
 {
-    mask.has(register) && left.register(u32::from(register)) != right.register(u32::from(register))
+    mask.has(register) && left.get(u32::from(register)) != right.get(u32::from(register))
 }
 
 /// Whether a flag is in the mask and differs between the states.

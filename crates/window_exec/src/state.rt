@@ -15,6 +15,14 @@ pub struct WState {
 }
 
 impl WState {
+    /// The value of a register.
+    pub fn get(&self, register: u32) -> u32
+        requires { register < 4 }
+        ensures { result ≡ values_of self.now register }
+    {
+        self.r[register as usize]
+    }
+
     /// The value of a flag, by its number among the items.
     pub(crate) fn flag(&self, flag: u8) -> u8
         requires first { 15 ≤ flag }
@@ -33,12 +41,14 @@ impl WState {
 }
 
 impl RegisterFile for WState {
-    ghost values = { values_of };
+    type Value = u32;
+
+    ghost values = { λ s i. values_of s };
 
     ghost count = { 4 };
 
     fn register(&self, number: u32) -> u32 {
-        self.r[number as usize]
+        self.get(number)
     }
 
     fn set_register(&mut self, number: u32, value: u32) {
@@ -53,7 +63,8 @@ impl RegisterFile for WState {
         self.nzcv = flags(value, self.flag(C) == 1, self.overflow());
     }
 
-    fn set_shift_flags(&mut self, value: u32, c: bool) {
+    fn set_shift_flags(&mut self, moved: (u32, bool)) {
+        let (value, c) = moved;
         self.nzcv = flags(value, c, self.overflow());
     }
 
