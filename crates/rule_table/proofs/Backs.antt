@@ -1,17 +1,15 @@
 -- Registers that are renamed there and back.
 use Rattle.std.proofs.Common.{◌≡◌, ℕ, zero, suc, ◌<◌, ◌==◌, Bool, true, false, List, [], ◌∷◌, ◌++◌, map, length, refl, sym, ◌∙◌, ap, subst, arith, Option, Some, None, slice_get, cond, eq-eqb}
-use Rattle.std.specs.Prelude.{nat_lt, unwrap_or}
 use Rattle.std.specs.Option.{option_map}
 use Rattle.std.specs.List.{flat_map, list_all}
-use Rattle.std.proofs.lemmas.Bool.{and_parts, and_from, ltb-true}
+use Rattle.std.proofs.lemmas.Bool.{and_parts, and_from}
 use Rattle.std.proofs.lemmas.Option.{slice_get-map, slice_get_within, same_Some}
 use Rattle.std.proofs.lemmas.List.{length-map}
 use Rattle.std.proofs.lemmas.List.Folds.{list_any-append}
 use Rattle.thumb_instr.specs.declared.instr.Instr.{Instr}
 use Rattle.thumb_instr.specs.declared.instr.Instr.TheVariants as instr
 use Rattle.thumb_instr.specs.Window.{is_in_window, normal_of, byte_sum, byte_of}
-use Rattle.thumb_instr.specs.Renaming.{Low, Reg, named, renamed, AreBelow, widened, wide_or, low_under, reg_under, both_under, item_under, number_or}
-use Rattle.thumb_instr.proofs.Registers.{same_number, same_not_both_sp, widened_number}
+use Rattle.thumb_instr.specs.Renaming.{Low, named, renamed, AreBelow, item_under, number_or}
 use Rattle.thumb_instr.proofs.RenamingLemmas.{named_renamed, named_low}
 use Rattle.rule_table.specs.Canonical.{has, with_first, firsts, name_in, numbers_of}
 use Rattle.rule_table.proofs.Orders.{name_stands, has_firsts}

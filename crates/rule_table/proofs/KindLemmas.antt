@@ -1,8 +1,7 @@
 -- Instructions of windows by their kinds, registers and numbers.
-use Rattle.std.proofs.Common.{◌≡◌, ◌∙◌, ℕ, Bool, true, List, ◌∷◌, ◌++◌, map, Option, refl, sym, ap, subst, arith}
+use Rattle.std.proofs.Common.{◌≡◌, ◌∙◌, ℕ, Bool, true, List, ◌∷◌, ◌++◌, map, Option, sym, ap, subst, arith}
 use Rattle.std.specs.Prelude.{◌↔◌}
 use Rattle.thumb_instr.specs.declared.instr.Instr.{Instr}
-use Rattle.thumb_instr.specs.declared.instr.Instr.TheVariants as instr
 use Rattle.thumb_instr.specs.declared.kind.Parts.{Parts}
 use Rattle.thumb_instr.specs.declared.role.Operands.{Operands}
 use Rattle.thumb_instr.specs.Parts.{parts_of, of}
@@ -10,7 +9,7 @@ use Rattle.thumb_instr.specs.Roles.{roles}
 use Rattle.thumb_instr.specs.Window.{is_in_window, normal_of}
 use Rattle.thumb_instr.specs.Renaming.{Low, AreBelow, named_by, named_in, named, renamed}
 use Rattle.thumb_instr.proofs.PartLemmas.{same_parts, same_fields}
-use Rattle.thumb_instr.proofs.RenamingLemmas.{parts_low, low_number, reg_number}
+use Rattle.thumb_instr.proofs.RenamingLemmas.{parts_low}
 use Rattle.rule_table.specs.Binding.{number_under, of_window, IsBound, Clashes}
 use Rattle.rule_table.specs.Matching.{registers_in}
 use Rattle.rule_table.proofs.BindingLemmas.{bound_as}

@@ -13,9 +13,9 @@ use Rattle.thumb_instr.specs.declared.instr.Instr.{Instr}
 use Rattle.thumb_instr.specs.declared.instr.Instr.TheVariants as instr
 use Rattle.thumb_instr.specs.Items.{has as has_item}
 use Rattle.thumb_instr.specs.Window.{is_in_window, normal_of}
-use Rattle.thumb_instr.specs.Renaming.{Low, Reg, named, renamed, AreBelow, low_under, reg_under, both_under, item_under, number_or}
-use Rattle.thumb_instr.proofs.Registers.{same_number, same_not_both_sp}
-use Rattle.thumb_instr.proofs.RenamingLemmas.{low_number, reg_number, below_parts}
+use Rattle.thumb_instr.specs.Renaming.{Low, named, renamed, AreBelow, item_under, number_or}
+use Rattle.thumb_instr.proofs.Registers.{same_number}
+use Rattle.thumb_instr.proofs.RenamingLemmas.{below_parts}
 use Rattle.rule_table.specs.Canonical.{has, with_first, firsts, name_in, numbers_of, appearing, masked, IsCanonical}
 use Rattle.rule_table.proofs.Backs.{windows_normal, eight, eight_at}
 use Rattle.rule_table.proofs.Renamings.{AllNamed, ComesBack, renamed_back}

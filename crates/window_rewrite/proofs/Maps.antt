@@ -7,10 +7,8 @@ use Rattle.std.proofs.Common.{lit≤, lit<}
 use Rattle.std.proofs.lemmas.Bool.{and_parts, cases_Bool, cases_lt}
 use Rattle.std.proofs.lemmas.Option.{slice_get_within}
 use Rattle.thumb_instr.specs.declared.instr.Instr.{Instr}
-use Rattle.thumb_instr.specs.declared.instr.Instr.TheVariants as instr
 use Rattle.thumb_instr.specs.Window.{is_in_window}
-use Rattle.thumb_instr.specs.Renaming.{Low, named, renamed, AreBelow, both_under, wide_or, number_or}
-use Rattle.thumb_instr.proofs.Registers.{same_not_both_sp}
+use Rattle.thumb_instr.specs.Renaming.{Low, named, renamed, AreBelow, number_or}
 use Rattle.thumb_instr.proofs.RenamingLemmas.{below_parts}
 use Rattle.thumb_model.specs.Items.{one_of}
 use Rattle.thumb_model.specs.Rewrite.{Rule, IsSoundRule, register_count, is_named}

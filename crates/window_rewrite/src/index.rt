@@ -1,5 +1,5 @@
 //! The entries of a table by their left sides.
-ghost use Rattle.std.specs.Prelude.{◌≡◌, ◌+◌, ◌<◌, ◌≤◌, ℕ, length, drop, slice_get, true, Some, IfOk};
+ghost use Rattle.std.specs.Prelude.{◌≡◌, ◌+◌, ◌<◌, length, drop, slice_get, true, Some, IfOk};
 ghost use Rattle.thumb_model.specs.Rewrite.{Rule};
 ghost use Rattle.window_rewrite.specs.Rules.{entry_rule, first_with, is_marked, is_shorter, rules_in, IsIndex, IsIndexFrom};
 ghost use Rattle.window_rewrite.specs.Shapes.{shape_of};
