@@ -68,15 +68,15 @@ fn pieces_are_told_and_laid_out(rt: HostRuntime) -> Result<(), Fail> {
         ),
         // a label of each piece, and an address that is set
         (
-            "f: b g\n lsls r0, r0, #24\n lsrs r0, r0, #24\n.set near, 0x101\ng: beq near\n b f\n",
+            "f: b g\n lsls r0, r0, #24\n lsrs r0, r0, #24\n.set near, 0x101\ng: b near\n b f\n",
             1,
-            "f: b g\n\tuxtb r0, r0\n.set near, 0x101\ng: beq near\n b f\n",
+            "f: b g\n\tuxtb r0, r0\n.set near, 0x101\ng: b near\n b f\n",
             true,
         ),
         (
-            ".set far, 0x1001\n lsls r0, r0, #24\n lsrs r0, r0, #24\n beq far\n",
+            ".set far, 0x1001\n lsls r0, r0, #24\n lsrs r0, r0, #24\n b far\n",
             1,
-            ".set far, 0x1001\n\tuxtb r0, r0\n beq far\n",
+            ".set far, 0x1001\n\tuxtb r0, r0\n b far\n",
             false,
         ),
     ] {
