@@ -1,6 +1,11 @@
 -- Instructions of windows by their kinds, registers and numbers.
-use Rattle.std.proofs.Common.{◌≡◌, ◌∙◌, ℕ, Bool, true, List, ◌∷◌, ◌++◌, map, Option, sym, ap, subst, arith}
-use Rattle.std.specs.Prelude.{◌↔◌}
+use Rattle.std.proofs.Common.{◌≡◌, ◌∙◌, ℕ, Bool, true, List, ◌∷◌, ◌++◌, map, Option, refl, sym, ap, subst}
+use Rattle.std.specs.Prelude.{◌↔◌, false, Some, None, IsSome, is_some}
+use Rattle.std.proofs.lemmas.Option.{same_Some}
+use Rattle.thumb_instr.specs.declared.kind.Kind.{Kind}
+use Rattle.seq_enum.specs.Places.{rank}
+use Rattle.seq_enum.proofs.Mnemonics.{IsPlace-rank}
+use Rattle.thumb_instr.specs.declared.instr.Instr.TheVariants as instr
 use Rattle.thumb_instr.specs.declared.instr.Instr.{Instr}
 use Rattle.thumb_instr.specs.declared.kind.Parts.{Parts}
 use Rattle.thumb_instr.specs.declared.role.Operands.{Operands}
@@ -10,14 +15,22 @@ use Rattle.thumb_instr.specs.Window.{is_in_window, normal_of}
 use Rattle.thumb_instr.specs.Renaming.{Low, AreBelow, named_by, named_in, named, renamed}
 use Rattle.thumb_instr.proofs.PartLemmas.{same_parts, same_fields}
 use Rattle.thumb_instr.proofs.RenamingLemmas.{parts_low}
-use Rattle.rule_table.specs.Binding.{number_under, of_window, IsBound, Clashes}
+use Rattle.rule_table.specs.Binding.{number_under, IsBound, Clashes}
 use Rattle.rule_table.specs.Matching.{registers_in}
 use Rattle.rule_table.proofs.BindingLemmas.{bound_as}
 use Rattle.rule_table.proofs.Renamings.{parts_under, renamed_parts}
 
--- an instruction of windows has such a kind
-pub window_kind : (i : Instr) → is_in_window i ≡ true → of_window (parts_of i).kind ≡ true
-window_kind i w = first_of (cc, grind arith)
+-- an instruction of windows has a mnemonic of the alphabet, and two mnemonics at one place are one
+window_kind : (i : Instr) → is_in_window i ≡ true → IsSome (rank (parts_of i).kind)
+window_kind (instr.Mov d m) w = refl
+window_kind i w = cc
+
+pub same_kind : (i : Instr) (a b : Kind) → is_in_window i ≡ true → a ≡ (parts_of i).kind → rank a ≡ rank b → a ≡ b
+same_kind i a b w is e = at (rank a) refl (subst (λ k. IsSome (rank k)) (sym is) (window_kind i w))
+  where
+    at : (o : Option ℕ) → rank a ≡ o → IsSome (rank a) → a ≡ b
+    at None h listed = absurd (let no : false ≡ true = ap is_some (sym h) ∙ listed in cc)
+    at (Some n) h listed = same_Some _ _ (sym ((IsPlace-rank a n h).stands n refl) ∙ (IsPlace-rank b n (sym e ∙ h)).stands n refl)
 
 -- two instructions of one kind, their parts and what these are
 pub record AreOfKind (i j : Instr) (p q : Parts) (r : Operands) : Type 0 where

@@ -2,8 +2,6 @@
 use Rattle.std.specs.Prelude.{◌≡◌, ℕ, ◌||◌, ◌↔◌, Bool, true, false, List, Option, Some, slice_get}
 use Rattle.std.specs.Option.{option_and_then, is_some}
 use Rattle.thumb_instr.specs.Items.{has as has_item}
-use Rattle.thumb_instr.specs.declared.kind.Kind.{Kind}
-use Rattle.thumb_instr.specs.declared.kind.Kind.TheVariants as kind
 use Rattle.thumb_instr.specs.declared.role.Role.{Role}
 use Rattle.thumb_instr.specs.declared.role.Role.TheVariants.{Register}
 use Rattle.thumb_instr.specs.Renaming.{Low, item_under}
@@ -43,18 +41,3 @@ IsBound false old new names Asked = Clashes old names Asked
 abbrev pub number_under : List Low → Role → ℕ → ℕ
 number_under registers (Register u c) n = item_under registers n
 number_under registers r n = n
-
--- kinds of instructions of windows
-abbrev pub of_window : Kind → Bool
-of_window kind.Mov = true
-of_window (kind.Three s) = true
-of_window (kind.Two o) = true
-of_window kind.Movs = true
-of_window kind.ShiftLeft = true
-of_window (kind.ShiftRight s) = true
-of_window (kind.ThreeNumber s) = true
-of_window (kind.TwoNumber o) = true
-of_window kind.Add = true
-of_window (kind.Extend e) = true
-of_window (kind.Reverse r) = true
-of_window k = false

@@ -4,10 +4,12 @@ ghost use Rattle.std.specs.Prelude.{◌≡◌, ◌<◌, ◌∷◌, [], ℕ, None
 ghost use Rattle.std.specs.List.{list_all};
 ghost use Rattle.thumb_instr.specs.Window.{is_in_window, normal_of};
 ghost use Rattle.thumb_instr.specs.Renaming.{AreBelow, item_under, named_by, named, renamed};
-ghost use Rattle.rule_table.specs.Binding.{given_at, IsOneToOne, IsBound, number_under, of_window};
+ghost use Rattle.rule_table.specs.Binding.{given_at, IsOneToOne, IsBound, number_under};
 ghost use Rattle.rule_table.specs.Matching.{registers_in};
+ghost use Rattle.seq_enum.specs.Places.{rank};
 
 use crate::map::Map;
+use seq_enum::rank;
 use std::marker::Model;
 use thumb_instr::{Instr, Items, Kind, Low, Role, normal, parts, roles};
 
@@ -140,44 +142,9 @@ impl Binding {
     }
 }
 
-/// Whether two kinds of instructions of windows are one.
+/// Whether two kinds stand at one place among the mnemonics of windows.
 fn same_kind(a: Kind, b: Kind) -> bool
-    requires { of_window a ≡ true }
-    ensures { IsTrue result ↔ (a ≡ b) }
+    ensures { IsTrue result ↔ (rank a ≡ rank b) }
 {
-    match a {
-        Kind::Mov => matches!(b, Kind::Mov),
-        Kind::Movs => matches!(b, Kind::Movs),
-        Kind::ShiftLeft => matches!(b, Kind::ShiftLeft),
-        Kind::Add => matches!(b, Kind::Add),
-        Kind::Three(x) => match b {
-            Kind::Three(y) => x == y,
-            _ => false,
-        },
-        Kind::Two(x) => match b {
-            Kind::Two(y) => x == y,
-            _ => false,
-        },
-        Kind::ShiftRight(x) => match b {
-            Kind::ShiftRight(y) => x == y,
-            _ => false,
-        },
-        Kind::ThreeNumber(x) => match b {
-            Kind::ThreeNumber(y) => x == y,
-            _ => false,
-        },
-        Kind::TwoNumber(x) => match b {
-            Kind::TwoNumber(y) => x == y,
-            _ => false,
-        },
-        Kind::Extend(x) => match b {
-            Kind::Extend(y) => x == y,
-            _ => false,
-        },
-        Kind::Reverse(x) => match b {
-            Kind::Reverse(y) => x == y,
-            _ => false,
-        },
-        _ => false,
-    }
+    rank(a) == rank(b)
 }

@@ -3,9 +3,10 @@ use Rattle.std.proofs.lemmas.Bool.{false≢true}
 use Rattle.thumb_instr.specs.declared.kind.Parts.{Parts}
 use Rattle.thumb_instr.specs.declared.role.Role.{Role}
 use Rattle.thumb_instr.specs.Renaming.{Low, named_by}
+use Rattle.seq_enum.specs.Places.{rank}
 use Rattle.rule_table.specs.Binding.{number_under}
 use Rattle.rule_table.proofs.BindingLemmas.{binds_then, clashes_then, bound_at}
-use Rattle.rule_table.proofs.KindLemmas.{AreOfKind, instr_bound, kinds_clash, own_low, others_low}
+use Rattle.rule_table.proofs.KindLemmas.{AreOfKind, same_kind, instr_bound, kinds_clash, own_low, others_low}
 use Rattle.rule_table.proofs.binding.Binding.bind_instr.Goals.{After-roles-roles}
 use Rattle.rule_table.proofs.binding.Binding.bind_instr.Goals as goal
 
@@ -14,7 +15,7 @@ of_kind : (c : After-roles-roles) → AreOfKind c.args.left.now c.args.other.now
 of_kind c = record {
   own = c.parts-own.ensures;
   others = c.parts-others.ensures;
-  kinds = c.same_kind.ensures.0 c.if-not-same_kind.false;
+  kinds = same_kind c.args.left.now _ _ c.requires.left (ap (λ (p : Parts). p.kind) c.parts-own.ensures) (c.same_kind.ensures.0 c.if-not-same_kind.false);
   roles = c.roles-roles.ensures;
   window = c.requires.left;
 }
@@ -26,7 +27,7 @@ Field role own other registers = number_under registers role own ≡ other
 pub returns-then-not-same_kind : goal.returns-then-not-same_kind
 returns-then-not-same_kind c =
     kinds_clash c.args.self.now c.args.left.now c.args.other.now c.requires.left
-    (λ e. (let kinds = ap (λ (p : Parts). p.kind) c.parts-own.ensures ∙ e ∙ sym (ap (λ (p : Parts). p.kind) c.parts-others.ensures) in false≢true (sym c.if-not-same_kind.true ∙ c.same_kind.ensures.1 kinds)))
+    (λ e. (let kinds = ap (λ (p : Parts). p.kind) c.parts-own.ensures ∙ e ∙ sym (ap (λ (p : Parts). p.kind) c.parts-others.ensures) in false≢true (sym c.if-not-same_kind.true ∙ c.same_kind.ensures.1 (ap rank kinds))))
 
 pub bind_role-requires-clause-own : goal.bind_role-requires-clause-own
 bind_role-requires-clause-own c = (own_low _ _ _ _ _ (of_kind (goal.at.bind_role-requires-clause-own c).After-roles-roles)).0
@@ -42,6 +43,9 @@ bind_role-requires-2-clause-other c = (others_low _ _ _ _ _ (of_kind (goal.at.bi
 
 pub bind_role-requires-3-clause-own : goal.bind_role-requires-3-clause-own
 bind_role-requires-3-clause-own c = (own_low _ _ _ _ _ (of_kind (goal.at.bind_role-requires-3-clause-own c).After-roles-roles)).2
+
+pub bind_role-requires-3-clause-other : goal.bind_role-requires-3-clause-other
+bind_role-requires-3-clause-other c = (others_low _ _ _ _ _ (of_kind (goal.at.bind_role-requires-3-clause-other c).After-roles-roles) c.requires.other).2
 
 pub returns-then-not-bind_role : goal.returns-then-not-bind_role
 returns-then-not-bind_role c =
