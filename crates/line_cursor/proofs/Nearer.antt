@@ -6,11 +6,10 @@ use Rattle.std.proofs.lemmas.Bool.{cases_lt}
 use Rattle.std.proofs.lemmas.Option.{slice_get-map}
 use Rattle.thumb_instr.specs.declared.instr.Instr.{Instr}
 use Rattle.thumb_instr.specs.Renaming.{Low, renamed}
-use Rattle.thumb_model.specs.Listing.{Statement, Nothing, Runs, Words, Aligns, Sets, Line, Place, Op, Word, plain, Label, Code, places_in, places_of, labels_from, code_of, is_op_place}
+use Rattle.thumb_model.specs.Listing.{Statement, Nothing, Runs, Words, Aligns, Sets, Line, Place, Op, Word, plain, Label, Code, places_in, places_of, is_op_place}
 use Rattle.thumb_model.specs.Flow.{LiveAfter}
-use Rattle.thumb_model.specs.Layout.{Layable}
 use Rattle.thumb_model.specs.Rewrite.{Rule, Applies, moved, move_label, replaced}
-use Rattle.thumb_model.specs.Rewritten.{Setting, Replacement, is_op, is_align, are_joined, are_joined_from, lines_after_rule, AppliesIn}
+use Rattle.thumb_model.specs.Rewritten.{is_op, is_align, are_joined, are_joined_from}
 use Rattle.thumb_model.proofs.Lists.{get_drop, get_take, length_map, take_all, take_short, length_drop}
 use Rattle.thumb_model.proofs.Table.{window_length}
 use Rattle.thumb_model.proofs.LinesReplaced.{AreOps}
@@ -233,31 +232,3 @@ joined_stays q zero xs ys zs some h a = absurd (omega arith)
 joined_stays q (suc n) xs ys zs some h a =
     let inside : AreOps (suc n) (drop q (places_of xs)) = ops_front (suc n) q (places_of xs) (places_of ys) h (subst (λ (ps : List Place). AreOps (suc n) (drop q ps)) (places_append xs ys) a) in
     joined_from_front q n xs ys inside ∙ sym (joined_from_front q n xs zs inside)
-
-ops_of : (is : List Instr) (n : ℕ) (ps : List Place) → n ≡ length is → take n ps ≡ map plain is → AreOps n ps
-ops_of [] zero ps e h = tt
-ops_of (i ∷ is) zero ps e h = absurd (omega arith)
-ops_of [] (suc n) ps e h = absurd (omega arith)
-ops_of (i ∷ is) (suc n) [] e h = absurd (cc)
-ops_of (i ∷ is) (suc n) (Op j mention ∷ ps) e h = ops_of is n ps (omega arith) (cc)
-ops_of (i ∷ is) (suc n) (Word w ∷ ps) e h = absurd (cc)
-
--- what applies in the new lines before the gap applied in the old ones, if what it leaves there can be laid out
-pub applies_before : (s : Setting) (xs ys zs : List Line) (count : ℕ) (is : List Instr) (o : Replacement) → code_of (xs ++ zs) ≡ replaced (code_of (xs ++ ys)) (length (places_of xs)) count is
-    → IsGap (places_of (xs ++ ys)) (labels_from 0 (xs ++ ys)) (length (places_of xs)) count is → (a : AppliesIn s o (xs ++ zs)) → o.place + length a.rule.left ≤ length (places_of xs)
-    → ((x : ℕ) → LiveAfter (code_of (xs ++ ys)) (o.place + length a.rule.left - 1) x → LiveAfter (code_of (xs ++ zs)) (o.place + length a.rule.left - 1) x)
-    → (Applies a.rule o.registers (code_of (xs ++ ys)) o.place → Layable s.base (lines_after_rule s (Some a.rule) o (xs ++ ys))) → AppliesIn s o (xs ++ ys)
-applies_before s xs ys zs count is o e g a far live layable =
-    let shorter = a.applies.shorter in
-    let n = window_length a.rule o.registers (code_of (xs ++ zs)) o.place a.applies in
-    let there : Applies a.rule o.registers (replaced (code_of (xs ++ ys)) (length (places_of xs)) count is) o.place = subst (λ (c : Code). Applies a.rule o.registers c o.place) e a.applies in
-    let applies : Applies a.rule o.registers (code_of (xs ++ ys)) o.place =
-    applied_before a.rule o.registers (code_of (xs ++ ys)) (length (places_of xs)) count is o.place g far (λ x h. subst (λ (c : Code). LiveAfter c (o.place + length a.rule.left - 1) x) e (live x h)) there in
-    let ops : AreOps (length a.rule.left) (drop o.place (places_of (xs ++ zs))) = ops_of a.applies.window (length a.rule.left) (drop o.place (places_of (xs ++ zs))) (sym n) a.applies.stands in
-    record {
-      rule = a.rule;
-      is_rule = a.is_rule;
-      applies = applies;
-      joined = sym (joined_stays o.place (length a.rule.left) xs zs ys (omega arith) far ops) ∙ a.joined;
-      layable = layable applies;
-    }

@@ -9,7 +9,7 @@ use Rattle.thumb_instr.specs.Window.{is_in_window, normal_of}
 use Rattle.thumb_instr.specs.Renaming.{Low, renamed}
 use Rattle.thumb_model.specs.Listing.{plain, Line, Place, places_of, code_of}
 use Rattle.thumb_model.specs.Rewrite.{Rule, normalised}
-use Rattle.thumb_model.specs.Rewritten.{Replacement, AppliesIn, left_length, left_length_of}
+use Rattle.thumb_model.specs.Rewritten.{Replacement, left_length, left_length_of}
 use Rattle.thumb_model.proofs.Lists.{get_drop, get_take}
 use Rattle.thumb_model.proofs.Window.{AreStraight}
 use Rattle.thumb_model.proofs.Table.{window_length, applies_sound}
@@ -18,7 +18,7 @@ use Rattle.window_rewrite.specs.declared.index.Index.{Index}
 use Rattle.window_rewrite.specs.Rewriting.{setting}
 use Rattle.window_rewrite.specs.Rules.{is_marked, ArePaired, AreFit, IsIndex}
 use Rattle.window_rewrite.specs.Shapes.{shape_of}
-use Rattle.window_rewrite.specs.Choices.{NoneAcross}
+use Rattle.window_rewrite.specs.Choices.{FitsIn, NoneAcross}
 use Rattle.window_rewrite.proofs.Heads.{shape_renamed}
 
 -- an instruction of a window, which is the one that stands at a place
@@ -71,7 +71,7 @@ pair_marked marks registers window left k i j paired matches here next within =
     let same : shape_of (normal_of i ∷ normal_of j ∷ []) ≡ shape_of (x.0 ∷ y.0 ∷ []) = pair_under registers i j x.0 y.0 first second in
     ap (is_marked marks) same ∙ paired k x.0 y.0 within x.1 y.1
 
--- where an entry applies in a window that reaches across a place, instructions that may stand in a window do so on both sides of it, and their number is marked
+-- where an entry fits a window that reaches across a place, instructions that may stand in a window do so on both sides of it, and their number is marked
 record AreNeighbours (index : Index) (lines : List Line) (place : ℕ) : Type 0 where
   before : Instr
   behind : Instr
@@ -79,7 +79,7 @@ record AreNeighbours (index : Index) (lines : List Line) (place : ℕ) : Type 0 
   at_behind : letter_at (slice_get (places_of lines) place) ≡ Some behind
   marked : is_marked index.pairs.items (shape_of (normal_of before ∷ normal_of behind ∷ [])) ≡ true
 
-neighbours : (base longest : ℕ) (rules : List Rule) (index : Index) (lines : List Line) (place : ℕ) (o : Replacement) → AreFit longest rules → IsIndex rules index → AppliesIn (setting base rules) o lines → o.place < place
+neighbours : (base longest : ℕ) (rules : List Rule) (index : Index) (lines : List Line) (place : ℕ) (o : Replacement) → AreFit longest rules → IsIndex rules index → FitsIn (setting base rules) o lines → o.place < place
     → place < o.place + left_length rules o.entry → AreNeighbours index lines place
 neighbours base longest rules index lines place o fit is a begins ends =
     let rule : Rule = a.rule in

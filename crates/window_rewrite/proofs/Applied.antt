@@ -29,6 +29,7 @@ use Rattle.line_cursor.proofs.Nearer.{first_op, window_within, applied_gap, appl
 use Rattle.window_rewrite.specs.declared.finding.Rules.{Rules}
 use Rattle.window_rewrite.specs.declared.ground.Ground.{Ground}
 use Rattle.window_rewrite.specs.Rewriting.{setting}
+use Rattle.window_rewrite.specs.Choices.{FitsIn, Meets}
 use Rattle.window_rewrite.specs.Fitting.{Fits, is_allowed}
 use Rattle.window_rewrite.specs.Sweeps.{is_steady, AreOver as AreLaid}
 use Rattle.window_rewrite.proofs.Sides.{window_count}
@@ -197,27 +198,34 @@ applied base rules lines place number rule registers window live new at sound th
       leaves = ap (λ (js : List Instr). replaced_lines own_line place (length window) js lines) same ∙ ap (λ k. replaced_lines own_line place k is lines) n ∙ sym after;
     }
 
+-- what applies meets this, whether the layout is asked or not
+pub meets : (asked : Bool) (s : Setting) (o : Replacement) (lines : List Line) → AppliesIn s o lines → Meets asked s o lines
+meets asked s o lines a = (
+  record { rule = a.rule; is_rule = a.is_rule; applies = a.applies; joined = a.joined },
+  λ _. subst (λ (r : Option Rule). Layable s.base (lines_after_rule s r o lines)) (sym a.is_rule) a.layable,
+)
+
+-- what meets more meets less
+pub meets_less : (less more : Bool) (s : Setting) (o : Replacement) (lines : List Line) → (less ≡ true → more ≡ true) → Meets more s o lines → Meets less s o lines
+meets_less less more s o lines h m = (m.0, λ e. m.1 (h e))
+
 -- ---- back ----
 
 same_rule : (a b : Rule) (o : Option Rule) → o ≡ Some a → o ≡ Some b → a ≡ b
 same_rule a b o e f = let g : (let x : Option Rule = Some a in x) ≡ Some b = sym e ∙ f in cc
 
--- what a rule's applying says of the window that stands there
-pub record IsApplied (base : ℕ) (lines : List Line) (place : ℕ) (rule : Rule) (registers : List Low) (window : List Instr) (live : ℕ) : Type 0 where
+-- what a rule's fitting says of the window that stands there
+pub record IsFitted (lines : List Line) (place : ℕ) (rule : Rule) (registers : List Low) (window : List Instr) (live : ℕ) : Type 0 where
   pub fits : Fits rule registers window live
   pub settled : IsSettled (places_of lines) (labels_from 0 lines) place (length window) (map (renamed registers) rule.right)
-  pub layable : Layable base (replaced_lines own_line place (length window) (map (renamed registers) rule.right) lines)
 
 pub back : (base : ℕ) (rules : List Rule) (lines : List Line) (place number : ℕ) (rule : Rule) (registers : List Low) (window : List Instr) (live : ℕ)
-    → slice_get rules number ≡ Some rule → length rule.left ≡ length window → StandsThere lines (spot_of place (length window)) window live → AppliesIn (setting base rules) (made place number registers) lines
-    → IsApplied base lines place rule registers window live
+    → slice_get rules number ≡ Some rule → length rule.left ≡ length window → StandsThere lines (spot_of place (length window)) window live → FitsIn (setting base rules) (made place number registers) lines
+    → IsFitted lines place rule registers window live
 back base rules lines place number rule registers window live at n there a =
-    let s : Setting = setting base rules in
-    let r : Replacement = made place number registers in
     let is : List Instr = map (renamed registers) rule.right in
     let same : a.rule ≡ rule = same_rule a.rule rule (slice_get rules number) a.is_rule at in
     let applies : Applies rule registers (code_of lines) place = subst (λ (k : Rule). Applies k registers (code_of lines) place) same a.applies in
-    let layable : Layable base (lines_after_rule s (Some rule) r lines) = subst (λ (k : Rule). Layable base (lines_after_rule s (Some k) r lines)) same a.layable in
     let w : applies.window ≡ window = same_window rule registers lines place window n there.is_window applies in
     record {
       fits = record {
@@ -232,5 +240,14 @@ back base rules lines place number rule registers window live at n there a =
       settled =
           subst (λ k. IsSettled (places_of lines) (labels_from 0 lines) place k is) n
           (stay_settled (places_of lines) (labels_from 0 lines) place (length rule.left) is (applied_gap rule registers (code_of lines) place applies) (applied_stay rule registers (code_of lines) place applies));
-      layable = subst (λ k. Layable base (replaced_lines own_line place k is lines)) n layable;
     }
+
+-- and where it meets what the layout says, what the window gives way to can be laid out
+pub back_laid : (base : ℕ) (rules : List Rule) (lines : List Line) (place number : ℕ) (rule : Rule) (registers : List Low) (window : List Instr)
+    → slice_get rules number ≡ Some rule → length rule.left ≡ length window → Meets true (setting base rules) (made place number registers) lines
+    → Layable base (replaced_lines own_line place (length window) (map (renamed registers) rule.right) lines)
+back_laid base rules lines place number rule registers window at n m =
+    let s : Setting = setting base rules in
+    let r : Replacement = made place number registers in
+    subst (λ k. Layable base (replaced_lines own_line place k (map (renamed registers) rule.right) lines)) n
+    (subst (λ (o : Option Rule). Layable base (lines_after_rule s o r lines)) at (m.1 refl))

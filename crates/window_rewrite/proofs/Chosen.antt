@@ -1,5 +1,5 @@
 -- Which choice comes first: the lowest of a length, the longest of a place, and the least place.
-use Rattle.std.proofs.Common.{◌≡◌, ℕ, zero, suc, ◌+◌, ◌-◌, ◌*◌, ◌<◌, ◌≤◌, ◌==◌, Bool, true, false, List, [], ◌∷◌, length, take, drop, map, Option, Some, None, refl, sym, ap, ◌∙◌, subst, arith, ◌⊎◌, ◌↔◌, inl, inr, eq-eqb, mul-le-mul_right, ◌++◌, reverse}
+use Rattle.std.proofs.Common.{◌≡◌, ℕ, zero, suc, ◌+◌, ◌-◌, ◌*◌, ◌<◌, ◌≤◌, ◌==◌, Bool, true, false, List, [], ◌∷◌, length, take, drop, map, Option, Some, None, refl, sym, ap, ◌∙◌, subst, arith, ◌⊎◌, ◌↔◌, inl, inr, eq-eqb, mul-le-mul_right, ◌++◌, reverse, if◌then◌else◌}
 use Rattle.std.specs.Prelude.{slice_get, nat_lt}
 use Rattle.std.specs.Int.{from_bool}
 use Rattle.std.specs.List.{list_all}
@@ -12,7 +12,7 @@ use Rattle.thumb_instr.specs.Window.{is_in_window}
 use Rattle.thumb_instr.specs.Renaming.{Low}
 use Rattle.thumb_model.specs.Listing.{plain, Place, Label, Line, places_of, labels_from, code_of, is_op_place}
 use Rattle.thumb_model.specs.Rewrite.{Rule}
-use Rattle.thumb_model.specs.Rewritten.{Setting, Replacement, AppliesIn, NoneApplies, are_joined_from, left_length, left_length_of}
+use Rattle.thumb_model.specs.Rewritten.{Setting, Replacement, NoneApplies, are_joined_from, left_length, left_length_of}
 use Rattle.thumb_model.specs.Flow.{LiveAfter}
 use Rattle.thumb_model.proofs.Lists.{get_back, length_map, take_all, take_short, length_drop}
 use Rattle.thumb_model.proofs.Window.{AreStraight}
@@ -42,9 +42,9 @@ use Rattle.window_rewrite.specs.Rewriting.{setting}
 use Rattle.window_rewrite.specs.Rules.{rules_in, is_shorter, AreFit, first_with}
 use Rattle.window_rewrite.specs.Shapes.{shape_of}
 use Rattle.window_rewrite.specs.Fitting.{Shortens}
-use Rattle.window_rewrite.specs.Choices.{Awaits, choice_of, IsChoice, IsLowest, NoneOf, IsBest, NoneAt, NoneBefore, IsFirstChoice, of_length, longer}
+use Rattle.window_rewrite.specs.Choices.{Awaits, choice_of, FitsIn, IsChoice, IsLowest, Meets, NoneOf, IsBest, NoneAt, NoneBefore, IsFirstChoice, of_length, longer}
 use Rattle.window_rewrite.specs.Sweeps.{IsKept}
-use Rattle.window_rewrite.proofs.Applied.{made, back}
+use Rattle.window_rewrite.proofs.Applied.{made, back, meets, meets_less}
 use Rattle.window_rewrite.proofs.Keys.{awaited, none_awaited}
 use Rattle.window_rewrite.proofs.Behind.{IsAhead, op_place, places_there}
 
@@ -143,9 +143,9 @@ pub record StandsIn (rules : List Rule) (window : List Instr) (o : Replacement) 
   pub shortens : Shortens rule o.registers window
 
 stands_in : (base : ℕ) (rules : List Rule) (lines : List Line) (place : ℕ) (window : List Instr) (live : ℕ) (o : Replacement) → StandsThere lines (spot_of place (length window)) window live
-    → AppliesIn (setting base rules) o lines → o.place ≡ place → left_length rules o.entry ≡ length window → StandsIn rules window o
+    → FitsIn (setting base rules) o lines → o.place ≡ place → left_length rules o.entry ≡ length window → StandsIn rules window o
 stands_in base rules lines place window live o there a at long =
-    let moved : AppliesIn (setting base rules) (made place o.entry o.registers) lines = subst (λ p. AppliesIn (setting base rules) (made p o.entry o.registers) lines) at a in
+    let moved : FitsIn (setting base rules) (made place o.entry o.registers) lines = subst (λ p. FitsIn (setting base rules) (made p o.entry o.registers) lines) at a in
     let n : length a.rule.left ≡ length window = sym (length_at rules o.entry a.rule a.is_rule) ∙ long in
     record {
       rule = a.rule;
@@ -153,36 +153,36 @@ stands_in base rules lines place window live o there a at long =
       shortens = let f = (back base rules lines place o.entry a.rule o.registers window live a.is_rule n there moved).fits in record { stands = f.stands; shorter = f.shorter };
     }
 
--- the search through the rules that may stand in a window: those below k don't apply
-pub record IsSearch (base : ℕ) (rules : List Rule) (lines : List Line) (place : ℕ) (window : List Instr) (at : Option ℕ) (start steps : ℕ) : Type 0 where
+-- the search through the rules that may stand in a window: those below k don't meet this
+pub record IsSearch (asked : Bool) (base : ℕ) (rules : List Rule) (lines : List Line) (place : ℕ) (window : List Instr) (at : Option ℕ) (start steps : ℕ) : Type 0 where
   pub k : ℕ
   pub awaits : Awaits rules window k at
-  pub none : (o : Replacement) → AppliesIn (setting base rules) o lines → o.place ≡ place → left_length rules o.entry ≡ length window → o.entry < k → ⊥
+  pub none : (o : Replacement) → Meets asked (setting base rules) o lines → o.place ≡ place → left_length rules o.entry ≡ length window → o.entry < k → ⊥
   pub cost : steps ≤ start + of_length (length window) (take k rules)
 
-pub search_begins : (base : ℕ) (rules : List Rule) (lines : List Line) (place : ℕ) (window : List Instr) (live : ℕ) (at : Option ℕ) (start : ℕ) → StandsThere lines (spot_of place (length window)) window live
-    → Awaits rules window 0 at → IsSearch base rules lines place window at start start
-search_begins base rules lines place window live at start there awaits = record { k = 0; awaits = awaits; none = λ o a e l h. absurd (omega arith); cost = omega arith }
+pub search_begins : (asked : Bool) (base : ℕ) (rules : List Rule) (lines : List Line) (place : ℕ) (window : List Instr) (live : ℕ) (at : Option ℕ) (start : ℕ) → StandsThere lines (spot_of place (length window)) window live
+    → Awaits rules window 0 at → IsSearch asked base rules lines place window at start start
+search_begins asked base rules lines place window live at start there awaits = record { k = 0; awaits = awaits; none = λ o a e l h. absurd (omega arith); cost = omega arith }
 
--- none applies below the next rule
-none_before : (base : ℕ) (rules : List Rule) (lines : List Line) (place : ℕ) (window : List Instr) (live n : ℕ) (at : Option ℕ) (start steps : ℕ) → StandsThere lines (spot_of place (length window)) window live
-    → IsSearch base rules lines place window at start steps → at ≡ Some n
-    → (o : Replacement) → AppliesIn (setting base rules) o lines → o.place ≡ place → left_length rules o.entry ≡ length window → o.entry < n → ⊥
-none_before base rules lines place window live n at start steps there s is o a e l h = elim (cases_lt o.entry s.k) [
+-- none meets it below the next rule
+none_before : (asked : Bool) (base : ℕ) (rules : List Rule) (lines : List Line) (place : ℕ) (window : List Instr) (live n : ℕ) (at : Option ℕ) (start steps : ℕ) → StandsThere lines (spot_of place (length window)) window live
+    → IsSearch asked base rules lines place window at start steps → at ≡ Some n
+    → (o : Replacement) → Meets asked (setting base rules) o lines → o.place ≡ place → left_length rules o.entry ≡ length window → o.entry < n → ⊥
+none_before asked base rules lines place window live n at start steps there s is o a e l h = elim (cases_lt o.entry s.k) [
   | inl b ↦ s.none o a e l b
   | inr b ↦ (
       let next = awaited rules window s.k n at s.awaits is in
-      let i = stands_in base rules lines place window live o there a e l in
+      let i = stands_in base rules lines place window live o there a.0 e l in
       next.none o.entry i.rule o.registers b h i.at i.shortens
       )
 ]
 
-pub search_next : (base : ℕ) (rules : List Rule) (lines : List Line) (place : ℕ) (window : List Instr) (live n : ℕ) (at next : Option ℕ) (start steps after : ℕ) → StandsThere lines (spot_of place (length window)) window live
-    → IsSearch base rules lines place window at start steps → at ≡ Some n
-    → (left_length rules n ≡ length window → (registers : List Low) → AppliesIn (setting base rules) (made place n registers) lines → ⊥)
+pub search_next : (was asked : Bool) (base : ℕ) (rules : List Rule) (lines : List Line) (place : ℕ) (window : List Instr) (live n : ℕ) (at next : Option ℕ) (start steps after : ℕ) → StandsThere lines (spot_of place (length window)) window live
+    → IsSearch was base rules lines place window at start steps → at ≡ Some n → (was ≡ true → asked ≡ true)
+    → (left_length rules n ≡ length window → (registers : List Low) → Meets asked (setting base rules) (made place n registers) lines → ⊥)
     → ((rule : Rule) → slice_get rules n ≡ Some rule → is_shorter rule ≡ true → next ≡ first_with (shape_of rule.left) (n + 1) (drop (n + 1) rules)) → after ≤ steps + from_bool (left_length rules n == length window)
-    → IsSearch base rules lines place window next start after
-search_next base rules lines place window live n at next start steps after there s is none more cost =
+    → IsSearch asked base rules lines place window next start after
+search_next was asked base rules lines place window live n at next start steps after there s is stays none more cost =
     let i = awaited rules window s.k n at s.awaits is in
     let one : of_length (length window) (take n rules) + from_bool (length i.rule.left == length window) ≤ of_length (length window) (take (suc n) rules) = taken_one (length window) rules n i.rule i.at in
     let before : of_length (length window) (take s.k rules) ≤ of_length (length window) (take n rules) = taken_more (length window) rules s.k n i.from in
@@ -192,10 +192,10 @@ search_next base rules lines place window live n at next start steps after there
       k = n + 1;
       awaits = i.more next (more i.rule i.at i.shorter);
       none = λ o a e l h. elim (cases_lt o.entry n) [
-        | inl b ↦ none_before base rules lines place window live n at start steps there s is o a e l b
+        | inl b ↦ none_before was base rules lines place window live n at start steps there s is o (meets_less was asked (setting base rules) o lines stays a) e l b
         | inr b ↦ (
             let same : o.entry ≡ n = omega arith in
-            none (ap (left_length rules) (sym same) ∙ l) o.registers (subst (λ m. AppliesIn (setting base rules) (made place m o.registers) lines) same (subst (λ p. AppliesIn (setting base rules) (made p o.entry o.registers) lines) e a))
+            none (ap (left_length rules) (sym same) ∙ l) o.registers (subst (λ m. Meets asked (setting base rules) (made place m o.registers) lines) same (subst (λ p. Meets asked (setting base rules) (made p o.entry o.registers) lines) e a))
             )
       ];
       cost = subst (λ m. after ≤ start + of_length (length window) (take m rules)) (let e : suc n ≡ n + 1 = omega arith in e) (omega (arith, one, before, tried, here, cost));
@@ -206,9 +206,9 @@ abbrev pub left_of : List Rule → Option ℕ → ℕ
 left_of rules None = 0
 left_of rules (Some n) = length rules - n
 
-pub search_smaller : (base : ℕ) (rules : List Rule) (lines : List Line) (place : ℕ) (window : List Instr) (n : ℕ) (at next : Option ℕ) (start steps : ℕ)
-    → IsSearch base rules lines place window at start steps → at ≡ Some n → (k : ℕ) → n + 1 ≤ k → Awaits rules window k next → left_of rules next < left_of rules at
-search_smaller base rules lines place window n at next start steps s is k h a =
+pub search_smaller : (asked : Bool) (base : ℕ) (rules : List Rule) (lines : List Line) (place : ℕ) (window : List Instr) (n : ℕ) (at next : Option ℕ) (start steps : ℕ)
+    → IsSearch asked base rules lines place window at start steps → at ≡ Some n → (k : ℕ) → n + 1 ≤ k → Awaits rules window k next → left_of rules next < left_of rules at
+search_smaller asked base rules lines place window n at next start steps s is k h a =
     let i = awaited rules window s.k n at s.awaits is in
     let inside : n < length rules = slice_get_within rules n i.rule i.at in
     subst (λ o. left_of rules next < left_of rules o) (sym is) (by next refl inside)
@@ -221,23 +221,23 @@ search_smaller base rules lines place window n at next start steps s is k h a =
         let inside : m < length rules = slice_get_within rules m j.rule j.at in
         omega arith
 
-pub search_found : (base : ℕ) (rules : List Rule) (lines : List Line) (place : ℕ) (window : List Instr) (live n : ℕ) (at : Option ℕ) (start steps : ℕ) (c : Choice) → StandsThere lines (spot_of place (length window)) window live
-    → IsSearch base rules lines place window at start steps → at ≡ Some n
+pub search_found : (asked : Bool) (base : ℕ) (rules : List Rule) (lines : List Line) (place : ℕ) (window : List Instr) (live n : ℕ) (at : Option ℕ) (start steps : ℕ) (c : Choice) → StandsThere lines (spot_of place (length window)) window live
+    → IsSearch asked base rules lines place window at start steps → at ≡ Some n
     → left_length rules n ≡ length window → IsChoice (setting base rules) lines c → (choice_of c).place ≡ place → (choice_of c).entry ≡ n → IsLowest (setting base rules) lines place (length window) c
-search_found base rules lines place window live n at start steps c there s is long choice here entry =
+search_found asked base rules lines place window live n at start steps c there s is long choice here entry =
     record {
       is = choice;
       at = here;
       long = ap (left_length rules) entry ∙ long;
       lowest = λ o a e l. elim (cases_lt o.entry n) [
-        | inl b ↦ absurd (none_before base rules lines place window live n at start steps there s is o a e l b)
+        | inl b ↦ absurd (none_before asked base rules lines place window live n at start steps there s is o (meets asked (setting base rules) o lines a) e l b)
         | inr b ↦ omega arith
       ];
     }
 
-pub search_cost : (base : ℕ) (rules : List Rule) (lines : List Line) (place : ℕ) (window : List Instr) (n : ℕ) (at : Option ℕ) (start steps after : ℕ) → IsSearch base rules lines place window at start steps → at ≡ Some n
+pub search_cost : (asked : Bool) (base : ℕ) (rules : List Rule) (lines : List Line) (place : ℕ) (window : List Instr) (n : ℕ) (at : Option ℕ) (start steps after : ℕ) → IsSearch asked base rules lines place window at start steps → at ≡ Some n
     → after ≤ steps + from_bool (left_length rules n == length window) → after ≤ start + of_length (length window) rules
-search_cost base rules lines place window n at start steps after s is cost =
+search_cost asked base rules lines place window n at start steps after s is cost =
     let i = awaited rules window s.k n at s.awaits is in
     let one : of_length (length window) (take n rules) + from_bool (length i.rule.left == length window) ≤ of_length (length window) (take (suc n) rules) = taken_one (length window) rules n i.rule i.at in
     let before : of_length (length window) (take s.k rules) ≤ of_length (length window) (take n rules) = taken_more (length window) rules s.k n i.from in
@@ -246,15 +246,15 @@ search_cost base rules lines place window n at start steps after s is cost =
     let here = s.cost in
     omega (arith, one, before, all, tried, here, cost)
 
-pub search_none : (base : ℕ) (rules : List Rule) (lines : List Line) (place : ℕ) (window : List Instr) (live : ℕ) (at : Option ℕ) (start steps : ℕ) → StandsThere lines (spot_of place (length window)) window live
-    → IsSearch base rules lines place window at start steps → at ≡ None → NoneOf (setting base rules) lines place (length window)
-search_none base rules lines place window live at start steps there s is o a e l = elim (cases_lt o.entry s.k) [
+pub search_none : (asked : Bool) (base : ℕ) (rules : List Rule) (lines : List Line) (place : ℕ) (window : List Instr) (live : ℕ) (at : Option ℕ) (start steps : ℕ) → StandsThere lines (spot_of place (length window)) window live
+    → IsSearch asked base rules lines place window at start steps → at ≡ None → NoneOf asked (setting base rules) lines place (length window)
+search_none asked base rules lines place window live at start steps there s is o a e l = elim (cases_lt o.entry s.k) [
   | inl b ↦ s.none o a e l b
-  | inr b ↦ (let i = stands_in base rules lines place window live o there a e l in none_awaited rules window s.k at s.awaits is o.entry i.rule o.registers b i.at i.shortens)
+  | inr b ↦ (let i = stands_in base rules lines place window live o there a.0 e l in none_awaited rules window s.k at s.awaits is o.entry i.rule o.registers b i.at i.shortens)
 ]
 
-pub none_cost : (base : ℕ) (rules : List Rule) (lines : List Line) (place : ℕ) (window : List Instr) (at : Option ℕ) (start steps : ℕ) → IsSearch base rules lines place window at start steps → steps ≤ start + of_length (length window) rules
-none_cost base rules lines place window at start steps s = let c = s.cost in let all = taken_all (length window) rules s.k in omega arith
+pub none_cost : (asked : Bool) (base : ℕ) (rules : List Rule) (lines : List Line) (place : ℕ) (window : List Instr) (at : Option ℕ) (start steps : ℕ) → IsSearch asked base rules lines place window at start steps → steps ≤ start + of_length (length window) rules
+none_cost asked base rules lines place window at start steps s = let c = s.cost in let all = taken_all (length window) rules s.k in omega arith
 
 pub next_within : (entries : List Entry) (window : List Instr) (k n : ℕ) (o : Option ℕ) → Awaits (rules_in entries) window k o → o ≡ Some n → n < length entries
 next_within entries window k n o a e =
@@ -267,7 +267,7 @@ straight_letters : (is : List Instr) → AreStraight is → list_all is_in_windo
 straight_letters [] h = refl
 straight_letters (i ∷ is) h = rw (h.0) (straight_letters is h.1)
 
--- where an entry applies stands a window as long as its left side, which is no longer than the longest
+-- where an entry fits stands a window as long as its left side, which is no longer than the longest
 pub record IsApplicable (lines : List Line) (longest : ℕ) (rules : List Rule) (o : Replacement) : Type 0 where
   pub window : List Instr
   pub is_window : IsWindow lines o.place window
@@ -275,7 +275,7 @@ pub record IsApplicable (lines : List Line) (longest : ℕ) (rules : List Rule) 
   pub some : 1 ≤ length window
   pub few : length window ≤ longest
 
-pub applicable : (base longest : ℕ) (rules : List Rule) (lines : List Line) (o : Replacement) → AreFit longest rules → AppliesIn (setting base rules) o lines → IsApplicable lines longest rules o
+pub applicable : (base longest : ℕ) (rules : List Rule) (lines : List Line) (o : Replacement) → AreFit longest rules → FitsIn (setting base rules) o lines → IsApplicable lines longest rules o
 applicable base longest rules lines o fit a =
     let f = fit o.entry a.rule a.is_rule in
     let n : length a.applies.window ≡ length a.rule.left = window_length a.rule o.registers (code_of lines) o.place a.applies in
@@ -303,7 +303,7 @@ window_end lines place window some w =
     let rest = length_drop place (places_of lines) in
     omega arith
 
-pub place_within : (base longest : ℕ) (rules : List Rule) (lines : List Line) (o : Replacement) → AreFit longest rules → AppliesIn (setting base rules) o lines → o.place < length (places_of lines)
+pub place_within : (base longest : ℕ) (rules : List Rule) (lines : List Line) (o : Replacement) → AreFit longest rules → FitsIn (setting base rules) o lines → o.place < length (places_of lines)
 place_within base longest rules lines o fit a =
     let w = applicable base longest rules lines o fit a in
     let some = w.some in
@@ -326,22 +326,22 @@ front_stands lines rows sets place most (suc n) items is slice of e f some few l
     subst (λ (l : List Instr). StandsThere lines (spot_of place (length (take (suc n) l))) (take (suc n) l) items) (sym f) (subst (λ k. StandsThere lines (spot_of place k) (take (suc n) is) items) (sym all) here)
 
 -- no choice at the place has a left side of more than so many instructions
-abbrev pub NoneLonger : Setting → List Line → ℕ → ℕ → Type 0
-NoneLonger s lines place count = (o : Replacement) → AppliesIn s o lines → o.place ≡ place → count < left_length s.table o.entry → ⊥
+abbrev pub NoneLonger : Bool → Setting → List Line → ℕ → ℕ → Type 0
+NoneLonger asked s lines place count = (o : Replacement) → Meets asked s o lines → o.place ≡ place → count < left_length s.table o.entry → ⊥
 
 -- none has one that is longer than the run from there
-pub none_beyond : (base longest : ℕ) (rules : List Rule) (lines : List Line) (rows : List Row) (sets : LiveSets) (place : ℕ) (is : List Instr) → AreFit longest rules → AreOf lines rows sets → is ≡ run true longest (drop place rows)
-    → NoneLonger (setting base rules) lines place (length is)
-none_beyond base longest rules lines rows sets place is fit of e o a at h =
-    let w = applicable base longest rules lines o fit a in
+pub none_beyond : (asked : Bool) (base longest : ℕ) (rules : List Rule) (lines : List Line) (rows : List Row) (sets : LiveSets) (place : ℕ) (is : List Instr) → AreFit longest rules → AreOf lines rows sets → is ≡ run true longest (drop place rows)
+    → NoneLonger asked (setting base rules) lines place (length is)
+none_beyond asked base longest rules lines rows sets place is fit of e o a at h =
+    let w = applicable base longest rules lines o fit a.0 in
     let long = w.long in
     let there : IsWindow lines place w.window = subst (λ p. IsWindow lines p w.window) at w.is_window in
     let within : length w.window ≤ length (run true longest (drop place (rows_from false lines))) = window_in_run lines place longest w.window w.some w.few there in
     let same : is ≡ run true longest (drop place (rows_from false lines)) = e ∙ ap (λ (rs : List Row). run true longest (drop place rs)) of.rows_are in
     omega (arith, within, long, h, ap (λ (l : List Instr). length l) same)
 
-pub none_longer : (s : Setting) (lines : List Line) (place count : ℕ) → NoneLonger s lines place (suc count) → NoneOf s lines place (suc count) → NoneLonger s lines place count
-none_longer s lines place count n none o a at h = elim (cases_lt (suc count) (left_length s.table o.entry)) [
+pub none_longer : (asked : Bool) (s : Setting) (lines : List Line) (place count : ℕ) → NoneLonger asked s lines place (suc count) → NoneOf asked s lines place (suc count) → NoneLonger asked s lines place count
+none_longer asked s lines place count n none o a at h = elim (cases_lt (suc count) (left_length s.table o.entry)) [
   | inl l ↦ n o a at l
   | inr l ↦ none o a at (let e : left_length s.table o.entry ≡ suc count = omega arith in e)
 ]
@@ -359,62 +359,62 @@ count_cost rules (suc n) slice start before after some few b a =
     let all : length (take (suc n) slice) ≡ suc n = take_all (suc n) slice few in
     subst (λ k. after ≤ start + longer k rules) (let e : n ≡ suc n - 1 = omega arith in e) (longer_cost rules n start before after b (subst (λ k. after ≤ before + of_length k rules) all a))
 
-pub none_shorter : (s : Setting) (lines : List Line) (place count : ℕ) (slice : List Instr) → 0 < count → count ≤ length slice → NoneLonger s lines place count → NoneOf s lines place (length (take count slice)) → NoneLonger s lines place (count - 1)
-none_shorter s lines place zero slice some few n h = absurd (omega arith)
-none_shorter s lines place (suc m) slice some few n h =
+pub none_shorter : (asked : Bool) (s : Setting) (lines : List Line) (place count : ℕ) (slice : List Instr) → 0 < count → count ≤ length slice → NoneLonger asked s lines place count → NoneOf asked s lines place (length (take count slice)) → NoneLonger asked s lines place (count - 1)
+none_shorter asked s lines place zero slice some few n h = absurd (omega arith)
+none_shorter asked s lines place (suc m) slice some few n h =
     let all : length (take (suc m) slice) ≡ suc m = take_all (suc m) slice few in
-    subst (λ k. NoneLonger s lines place k) (let e : m ≡ suc m - 1 = omega arith in e) (none_longer s lines place m n (subst (λ k. NoneOf s lines place k) all h))
+    subst (λ k. NoneLonger asked s lines place k) (let e : m ≡ suc m - 1 = omega arith in e) (none_longer asked s lines place m n (subst (λ k. NoneOf asked s lines place k) all h))
 
-pub is_best : (s : Setting) (lines : List Line) (place count : ℕ) (c : Choice) → NoneLonger s lines place count → IsLowest s lines place count c → IsBest s lines place c
-is_best s lines place count c none l =
+pub is_best : (asked : Bool) (s : Setting) (lines : List Line) (place count : ℕ) (c : Choice) → NoneLonger asked s lines place count → IsLowest s lines place count c → IsBest s lines place c
+is_best asked s lines place count c none l =
     let long = l.long in
     record {
       is = l.is;
       at = l.at;
       longest = λ o a e. elim (cases_lt count (left_length s.table o.entry)) [
-        | inl h ↦ absurd (none o a e h)
+        | inl h ↦ absurd (none o (meets asked s o lines a) e h)
         | inr h ↦ omega arith
       ];
       lowest = λ o a e h. l.lowest o a e (h ∙ long);
     }
 
-pub none_at : (base longest : ℕ) (rules : List Rule) (lines : List Line) (place : ℕ) → AreFit longest rules → NoneLonger (setting base rules) lines place 0 → NoneAt (setting base rules) lines place
-none_at base longest rules lines place fit none o a at =
-    let w = applicable base longest rules lines o fit a in
+pub none_at : (asked : Bool) (base longest : ℕ) (rules : List Rule) (lines : List Line) (place : ℕ) → AreFit longest rules → NoneLonger asked (setting base rules) lines place 0 → NoneAt asked (setting base rules) lines place
+none_at asked base longest rules lines place fit none o a at =
+    let w = applicable base longest rules lines o fit a.0 in
     let some = w.some in
     let long = w.long in
     none o a at (omega arith)
 
 -- where no left side of more than so many instructions stands first in the run from a place, none that applies there is longer
-pub none_reached : (base longest : ℕ) (rules : List Rule) (lines : List Line) (rows : List Row) (sets : LiveSets) (place count : ℕ) (is : List Instr) → AreFit longest rules → AreOf lines rows sets → is ≡ run true longest (drop place rows)
-    → ((n k : ℕ) (rule : Rule) (registers : List Low) → count < length rule.left → slice_get rules k ≡ Some rule → Shortens rule registers (take n is) → ⊥) → NoneLonger (setting base rules) lines place count
-none_reached base longest rules lines rows sets place count is fit of e none o a at longer_left =
-    let w = applicable base longest rules lines o fit a in
+pub none_reached : (asked : Bool) (base longest : ℕ) (rules : List Rule) (lines : List Line) (rows : List Row) (sets : LiveSets) (place count : ℕ) (is : List Instr) → AreFit longest rules → AreOf lines rows sets → is ≡ run true longest (drop place rows)
+    → ((n k : ℕ) (rule : Rule) (registers : List Low) → count < length rule.left → slice_get rules k ≡ Some rule → Shortens rule registers (take n is) → ⊥) → NoneLonger asked (setting base rules) lines place count
+none_reached asked base longest rules lines rows sets place count is fit of e none o a at longer_left =
+    let w = applicable base longest rules lines o fit a.0 in
     let some = w.some in
     let long = w.long in
     let n : ℕ = length w.window in
     let few : n ≤ length is = elim (cases_lt (length is) n) [
-      | inl h ↦ absurd (none_beyond base longest rules lines rows sets place is fit of e o a at (omega arith))
+      | inl h ↦ absurd (none_beyond asked base longest rules lines rows sets place is fit of e o a at (omega arith))
       | inr h ↦ omega arith
     ] in
     let items : ℕ = set_at sets.after (place + (n - 1)) in
     let inside : place + (n - 1) < length (places_of lines) = window_end lines place w.window some (subst (λ p. IsWindow lines p w.window) at w.is_window) in
     let there = front_stands lines rows sets place longest n items is is of e refl (omega arith) few (λ x. of.live.after (place + (n - 1)) x inside) in
     let all : length (take n is) ≡ n = take_all n is few in
-    let s = stands_in base rules lines place (take n is) items o there a at (long ∙ sym all) in
+    let s = stands_in base rules lines place (take n is) items o there a.0 at (long ∙ sym all) in
     let left = length_at rules o.entry s.rule s.at in
     none n o.entry s.rule o.registers (omega arith) s.at s.shortens
 
 -- ---- the least place ----
 
-pub is_first : (s : Setting) (lines : List Line) (place : ℕ) (c : Choice) → NoneBefore s lines place → IsBest s lines place c → IsFirstChoice s lines c
-is_first s lines place c none b =
+pub is_first : (asked : Bool) (s : Setting) (lines : List Line) (place : ℕ) (c : Choice) → NoneBefore asked s lines place → IsBest s lines place c → IsFirstChoice s lines c
+is_first asked s lines place c none b =
     let here = b.at in
     record {
       first = record {
         applies = b.is.applies;
         least_place = λ o a. elim (cases_lt o.place place) [
-          | inl l ↦ absurd (none o a l)
+          | inl l ↦ absurd (none o (meets asked s o lines a) l)
           | inr l ↦ omega arith
         ];
         longest = λ o a e. b.longest o a (e ∙ here);
@@ -423,16 +423,16 @@ is_first s lines place c none b =
       is = b.is;
     }
 
--- where no entry applies before lines, nor at an instruction that they are, none applies before what follows them
-none_past : (base longest : ℕ) (rules : List Rule) (xs here ys : List Line) (place next : ℕ) → AreFit longest rules → place ≡ length (places_of xs) → next ≡ place + length (places_of here) → length here ≤ 1
-    → NoneBefore (setting base rules) (xs ++ (here ++ ys)) place → (begins_op here ≡ true → NoneAt (setting base rules) (xs ++ (here ++ ys)) place) → NoneBefore (setting base rules) (xs ++ (here ++ ys)) next
-none_past base longest rules xs here ys place next fit e f short none at o a l = elim (cases_lt o.place place) [
+-- where no entry meets this before lines, nor at an instruction that they are, none does before what follows them
+none_past : (asked : Bool) (base longest : ℕ) (rules : List Rule) (xs here ys : List Line) (place next : ℕ) → AreFit longest rules → place ≡ length (places_of xs) → next ≡ place + length (places_of here) → length here ≤ 1
+    → NoneBefore asked (setting base rules) (xs ++ (here ++ ys)) place → (begins_op here ≡ true → NoneAt asked (setting base rules) (xs ++ (here ++ ys)) place) → NoneBefore asked (setting base rules) (xs ++ (here ++ ys)) next
+none_past asked base longest rules xs here ys place next fit e f short none at o a l = elim (cases_lt o.place place) [
   | inl k ↦ none o a k
   | inr k ↦ elim (cases_Bool (begins_op here)) [
     | inl t ↦ (let one = op_place here short t in at t o a (let g : o.place ≡ place = omega arith in g))
     | inr n ↦ absurd (
         let lines : List Line = xs ++ (here ++ ys) in
-        let w = applicable base longest rules lines o fit a in
+        let w = applicable base longest rules lines o fit a.0 in
         let some = w.some in
         let op : is_op_place (slice_get (places_of lines) o.place) ≡ true = first_op w.window (length w.window) (places_of lines) o.place refl (omega arith) w.is_window.stands in
         let there : slice_get (places_of lines) o.place ≡ slice_get (places_of (here ++ ys)) (o.place - place) =
@@ -442,22 +442,27 @@ none_past base longest rules xs here ys place next fit e f short none at o a l =
   ]
 ]
 
+-- none fits up to a place where none was refused before it
+pub clear_on : (refused : Bool) (s : Setting) (lines : List Line) (place clear : ℕ) → NoneBefore refused s lines place → NoneBefore false s lines clear → NoneBefore false s lines (if refused then clear else place)
+clear_on true s lines place clear before none = none
+clear_on false s lines place clear before none = before
+
 -- the same where a cursor moves on by a piece
-pub none_on : (base longest : ℕ) (rules : List Rule) (behind ahead : List Lines) (p : IsAhead ahead) (place next : ℕ) → AreFit longest rules → place ≡ length (places_of (lines_of behind)) → next ≡ place + length (places_of (lines_in p.piece))
-    → NoneBefore (setting base rules) (lines_of behind ++ lines_of (reverse ahead)) place
-    → ((rest : List Lines) (x : Lines) → ahead ≡ rest ++ x ∷ [] → begins_op (lines_in x) ≡ true → NoneAt (setting base rules) (lines_of behind ++ lines_of (reverse ahead)) place)
-    → NoneBefore (setting base rules) (lines_of behind ++ lines_of (reverse ahead)) next
-none_on base longest rules behind ahead p place next fit e f none at =
+pub none_on : (asked : Bool) (base longest : ℕ) (rules : List Rule) (behind ahead : List Lines) (p : IsAhead ahead) (place next : ℕ) → AreFit longest rules → place ≡ length (places_of (lines_of behind)) → next ≡ place + length (places_of (lines_in p.piece))
+    → NoneBefore asked (setting base rules) (lines_of behind ++ lines_of (reverse ahead)) place
+    → ((rest : List Lines) (x : Lines) → ahead ≡ rest ++ x ∷ [] → begins_op (lines_in x) ≡ true → NoneAt asked (setting base rules) (lines_of behind ++ lines_of (reverse ahead)) place)
+    → NoneBefore asked (setting base rules) (lines_of behind ++ lines_of (reverse ahead)) next
+none_on asked base longest rules behind ahead p place next fit e f none at =
     let here : List Line = lines_in p.piece in
     let ys : List Line = lines_of (reverse p.rest) in
     let same : lines_of (reverse ahead) ≡ here ++ ys = ap (λ (ps : List Lines). lines_of (reverse ps)) p.is ∙ lines_back p.rest p.piece in
-    subst (λ (ls : List Line). NoneBefore (setting base rules) (lines_of behind ++ ls) next) (sym same)
-    (none_past base longest rules (lines_of behind) here ys place next fit e f (piece_short p.piece)
-    (subst (λ (ls : List Line). NoneBefore (setting base rules) (lines_of behind ++ ls) place) same none)
-    (λ t. subst (λ (ls : List Line). NoneAt (setting base rules) (lines_of behind ++ ls) place) same (at p.rest p.piece p.is t)))
+    subst (λ (ls : List Line). NoneBefore asked (setting base rules) (lines_of behind ++ ls) next) (sym same)
+    (none_past asked base longest rules (lines_of behind) here ys place next fit e f (piece_short p.piece)
+    (subst (λ (ls : List Line). NoneBefore asked (setting base rules) (lines_of behind ++ ls) place) same none)
+    (λ t. subst (λ (ls : List Line). NoneAt asked (setting base rules) (lines_of behind ++ ls) place) same (at p.rest p.piece p.is t)))
 
-pub none_applies : (base longest : ℕ) (rules : List Rule) (lines : List Line) (place : ℕ) → AreFit longest rules → length (places_of lines) ≤ place → NoneBefore (setting base rules) lines place → NoneApplies (setting base rules) lines
-none_applies base longest rules lines place fit h none o a = let w = place_within base longest rules lines o fit a in none o a (omega arith)
+pub none_applies : (asked : Bool) (base longest : ℕ) (rules : List Rule) (lines : List Line) (place : ℕ) → AreFit longest rules → length (places_of lines) ≤ place → NoneBefore asked (setting base rules) lines place → NoneApplies (setting base rules) lines
+none_applies asked base longest rules lines place fit h none o a = let m = meets asked (setting base rules) o lines a in let w = place_within base longest rules lines o fit m.0 in none o m (omega arith)
 
 -- ---- what it costs ----
 

@@ -1,6 +1,6 @@
 -- What a replacement at a cursor leaves, and why no entry applies before a cursor that went back far enough.
-use Rattle.std.proofs.Common.{◌≡◌, ℕ, ◌+◌, ◌-◌, ◌%◌, ◌^◌, ◌<◌, ◌≤◌, ◌==◌, ◌&&◌, Bool, true, false, List, [], ◌∷◌, ◌++◌, length, length-append, map, Option, Some, None, refl, sym, ap, ◌∙◌, subst, arith, ne_eqb, true≢false}
-use Rattle.std.specs.Prelude.{slice_get, not, is_some, IfSome}
+use Rattle.std.proofs.Common.{◌≡◌, ℕ, ◌+◌, ◌-◌, ◌%◌, ◌^◌, ◌<◌, ◌≤◌, ◌==◌, ◌&&◌, Bool, true, false, List, [], ◌∷◌, ◌++◌, length, length-append, drop, map, Option, Some, None, refl, sym, ap, ◌∙◌, subst, arith, ne_eqb, true≢false}
+use Rattle.std.specs.Prelude.{slice_get, IfSome}
 use Rattle.std.specs.Option.{option_map}
 use Rattle.std.proofs.lemmas.Option.{slice_get-map}
 use Rattle.thumb_instr.specs.declared.instr.Instr.{Instr}
@@ -8,27 +8,31 @@ use Rattle.thumb_instr.specs.Items.{has}
 use Rattle.thumb_instr.specs.Renaming.{renamed}
 use Rattle.thumb_model.specs.Listing.{Statement, Nothing, Runs, Words, Aligns, Sets, Line, Code, places_in, places_of, labels_from, code_of}
 use Rattle.thumb_model.specs.Flow.{LiveAfter}
-use Rattle.thumb_model.specs.Layout.{Layable}
 use Rattle.thumb_model.specs.Rewrite.{Rule, Applies, replaced}
-use Rattle.thumb_model.specs.Rewritten.{Setting, Replacement, AppliesIn, IsFirst, is_op, replaced_lines, lines_after_rule, lines_after, left_length, left_length_of}
+use Rattle.thumb_model.specs.Rewritten.{Setting, Replacement, AppliesIn, is_op, replaced_lines, lines_after_rule, lines_after, left_length, left_length_of}
 use Rattle.thumb_model.proofs.LinesKept.{fewer_after, code_of_after}
+use Rattle.thumb_model.proofs.LinesReplaced.{AreOps}
+use Rattle.thumb_model.proofs.Table.{window_length}
+use Rattle.label_layout.specs.Pieces.{SetAlike}
+use Rattle.label_layout.proofs.SetsKept.{sets_kept}
 use Rattle.listing_parser.specs.TableWords.{DefineOnce}
 use Rattle.listing_parser.proofs.ReplaceLemmas.{still_once}
 use Rattle.liveness.specs.Live.{word_of, set_at, IsLive}
 use Rattle.liveness.specs.Kept.{AreFlows, KeepsAt}
 use Rattle.steady_layout.specs.Steady.{IsSteady}
-use Rattle.steady_layout.proofs.Laws.{steady_is_layable, steady_stays}
+use Rattle.steady_layout.proofs.Laws.{steady_stays}
 use Rattle.line_cursor.specs.declared.cursor.Cursor.{Cursor}
 use Rattle.line_cursor.specs.declared.cursor.Spot.{Spot}
 use Rattle.line_cursor.specs.Cursors.{lines_behind, lines_ahead, lines_at, place_at, spots_at, sets_of, flows_of, IsCursor}
 use Rattle.line_cursor.proofs.Settled.{IsGap}
-use Rattle.line_cursor.proofs.Nearer.{places_append, applied_gap, applies_before}
+use Rattle.line_cursor.proofs.Nearer.{places_append, applied_before, applied_gap, joined_stays}
 use Rattle.window_rewrite.specs.Rules.{AreFit}
 use Rattle.window_rewrite.specs.declared.choice.Choice.{Choice}
 use Rattle.window_rewrite.specs.declared.finding.Rules.{Rules}
 use Rattle.window_rewrite.specs.declared.ground.Ground.{Ground}
-use Rattle.window_rewrite.specs.Choices.{setting_of, choice_of, AreReady, IsChoice, NoneEnding}
-use Rattle.window_rewrite.specs.Sweeps.{IsKept, LosesNone, MayBeListed, AreOver, IsOver, is_steady}
+use Rattle.window_rewrite.specs.Choices.{setting_of, choice_of, AreReady, FitsIn, IsChoice, NoneBefore, NoneEnding}
+use Rattle.window_rewrite.specs.Sweeps.{IsKept, LosesNone, MayBeListed, AreOver, is_steady}
+use Rattle.window_rewrite.proofs.Applied.{ops_of}
 
 -- a replacement leaves lines that may be a listing's, where the lines before it may
 pub may_be_listed : (lines : List Line) (s : Setting) (o : Replacement) → AppliesIn s o lines → MayBeListed lines → MayBeListed (lines_after s o lines)
@@ -97,19 +101,35 @@ still_live old new was now q x a b h k e l = (b.after q x k).0 (e ((a.after q x 
 
 -- ---- before the cursor ----
 
--- what no rule applies before in the old lines none applies in the new ones in a window that ends before where sets changed
-none_ending : (s : Setting) (longest back : ℕ) (xs ys new : List Line) (was now : List Spot) (r : Replacement) → AreFit longest s.table → IsFirst s r (xs ++ ys) → r.place ≡ length (places_of xs)
+-- an entry that fits in the new lines before the gap fitted there in the old ones
+fits_before : (s : Setting) (xs ys zs : List Line) (count : ℕ) (is : List Instr) (o : Replacement) → code_of (xs ++ zs) ≡ replaced (code_of (xs ++ ys)) (length (places_of xs)) count is
+    → IsGap (places_of (xs ++ ys)) (labels_from 0 (xs ++ ys)) (length (places_of xs)) count is → (a : FitsIn s o (xs ++ zs)) → o.place + length a.rule.left ≤ length (places_of xs)
+    → ((x : ℕ) → LiveAfter (code_of (xs ++ ys)) (o.place + length a.rule.left - 1) x → LiveAfter (code_of (xs ++ zs)) (o.place + length a.rule.left - 1) x) → FitsIn s o (xs ++ ys)
+fits_before s xs ys zs count is o e g a far live =
+    let shorter = a.applies.shorter in
+    let n = window_length a.rule o.registers (code_of (xs ++ zs)) o.place a.applies in
+    let there : Applies a.rule o.registers (replaced (code_of (xs ++ ys)) (length (places_of xs)) count is) o.place = subst (λ (c : Code). Applies a.rule o.registers c o.place) e a.applies in
+    let ops : AreOps (length a.rule.left) (drop o.place (places_of (xs ++ zs))) = ops_of a.applies.window (length a.rule.left) (drop o.place (places_of (xs ++ zs))) (sym n) a.applies.stands in
+    record {
+      rule = a.rule;
+      is_rule = a.is_rule;
+      applies = applied_before a.rule o.registers (code_of (xs ++ ys)) (length (places_of xs)) count is o.place g far
+          (λ x h. subst (λ (c : Code). LiveAfter c (o.place + length a.rule.left - 1) x) e (live x h)) there;
+      joined = sym (joined_stays o.place (length a.rule.left) xs zs ys (omega arith) far ops) ∙ a.joined;
+    }
+
+-- where none fitted before a place in the old lines, none fits in the new ones in a window that ends there, and before where sets changed
+none_ending : (s : Setting) (back clear edge : ℕ) (xs ys new : List Line) (was now : List Spot) (r : Replacement) → AppliesIn s r (xs ++ ys) → r.place ≡ length (places_of xs)
     → new ≡ lines_after s r (xs ++ ys) → IsLive (code_of (xs ++ ys)) (sets_of was) → IsLive (code_of new) (sets_of now) → ((q : ℕ) → q + back < r.place → (x : ℕ) → has (set_at (sets_of was).after q) x ≡ true → has (set_at (sets_of now).after q) x ≡ true)
-    → s.base % 4 ≡ 0 → IsSteady s.base (xs ++ ys) → NoneEnding s new (r.place - back)
-none_ending s longest back xs ys new was now r fit first at is_new old_live new_live same aligned steady = λ o a ends.
-    let rule : Rule = first.applies.rule in
+    → NoneBefore false s (xs ++ ys) clear → edge ≤ r.place - back → edge ≤ clear → NoneEnding s new edge
+none_ending s back clear edge xs ys new was now r applied at is_new old_live new_live same none changed cleared = λ o a ends.
+    let rule : Rule = applied.rule in
     let is : List Instr = map (renamed r.registers) rule.right in
     let n : ℕ = length rule.left in
-    let left = left_behind s r xs ys first.applies (omega arith) in
+    let left = left_behind s r xs ys applied (omega arith) in
     let zs : List Line = left.0 in
     let is_now : new ≡ xs ++ zs = is_new ∙ left.1 in
-    let there : AppliesIn s o (xs ++ zs) = subst (λ (ls : List Line). AppliesIn s o ls) is_now a in
-    let f = fit o.entry there.rule there.is_rule in
+    let there : FitsIn s o (xs ++ zs) = subst (λ (ls : List Line). FitsIn s o ls) is_now a in
     let long : left_length s.table o.entry ≡ length there.rule.left = ap left_length_of there.is_rule in
     let shorter = there.applies.shorter in
     let far : o.place + length there.rule.left ≤ length (places_of xs) = omega arith in
@@ -117,16 +137,12 @@ none_ending s longest back xs ys new was now r fit first at is_new old_live new_
     let old_places = ap (λ ps. length ps) (places_append xs ys) ∙ length-append (places_of xs) (places_of ys) in
     let new_places = ap (λ (ls : List Line). length (places_of ls)) is_now ∙ ap (λ ps. length ps) (places_append xs zs) ∙ length-append (places_of xs) (places_of zs) in
     let code : code_of (xs ++ zs) ≡ replaced (code_of (xs ++ ys)) (length (places_of xs)) n is =
-    ap code_of (sym left.1) ∙ code_of_after s r (xs ++ ys) first.applies ∙ ap (λ p. replaced (code_of (xs ++ ys)) p n is) at in
+    ap code_of (sym left.1) ∙ code_of_after s r (xs ++ ys) applied ∙ ap (λ p. replaced (code_of (xs ++ ys)) p n is) at in
     let gap : IsGap (places_of (xs ++ ys)) (labels_from 0 (xs ++ ys)) (length (places_of xs)) n is =
-    subst (λ p. IsGap (places_of (xs ++ ys)) (labels_from 0 (xs ++ ys)) p n is) at (applied_gap rule r.registers (code_of (xs ++ ys)) r.place first.applies.applies) in
+    subst (λ p. IsGap (places_of (xs ++ ys)) (labels_from 0 (xs ++ ys)) p n is) at (applied_gap rule r.registers (code_of (xs ++ ys)) r.place applied.applies) in
     let live : (x : ℕ) → LiveAfter (code_of (xs ++ ys)) q x → LiveAfter (code_of (xs ++ zs)) q x =
     λ x h. subst (λ (ls : List Line). LiveAfter (code_of ls) q x) is_now (still_live (code_of (xs ++ ys)) (code_of new) was now q x old_live new_live (omega arith) (omega arith) (same q (omega arith) x) h) in
-    let layable : Applies there.rule o.registers (code_of (xs ++ ys)) o.place → Layable s.base (lines_after_rule s (Some there.rule) o (xs ++ ys)) =
-    λ applies. steady_is_layable s.base (lines_after_rule s (Some there.rule) o (xs ++ ys)) aligned (steady_stays s.base s.write there.rule o.registers o.place (xs ++ ys) f.sound applies steady) in
-    let there_before : AppliesIn s o (xs ++ ys) = applies_before s xs ys zs n is o code gap there far live layable in
-    let least = first.least_place o there_before in
-    absurd (omega arith)
+    none o (fits_before s xs ys zs n is o code gap there far live, λ e. absurd (true≢false (sym e))) (omega arith)
 
 -- ---- a turn ----
 
@@ -149,7 +165,7 @@ leaves_here s lines now c place window new is at e f h =
     ∙ is.leaves
 
 -- what is kept of places is true wherever a cursor stands
-still_kept : (c d : Cursor) → IsKept c → IsCursor d → lines_at d ≡ lines_at c → spots_at d ≡ spots_at c → IsKept d
+pub still_kept : (c d : Cursor) → IsKept c → IsCursor d → lines_at d ≡ lines_at c → spots_at d ≡ spots_at c → IsKept d
 still_kept c d k is e f =
     let live : IsLive (code_of (lines_at c)) (sets_of (spots_at d)) = subst (λ (spots : List Spot). IsLive (code_of (lines_at c)) (sets_of spots)) (sym f) k.live in
     let flows : AreFlows (code_of (lines_at c)) (flows_of (spots_at d)) = subst (λ (spots : List Spot). AreFlows (code_of (lines_at c)) (flows_of spots)) (sym f) k.flows in
@@ -159,47 +175,43 @@ still_kept c d k is e f =
       flows = subst (λ (ls : List Line). AreFlows (code_of ls) (flows_of (spots_at d))) (sym e) flows;
     }
 
--- nothing is said of a listing where the layout needn't be asked for
-unasked : {X : Type 0} (P : X → Type 0) (o : Option X) → not (is_some o) ≡ true → IfSome o P
-unasked P None h = tt
-unasked P (Some x) h = absurd (cc)
+-- what is said of a listing stays so
+said_still : {X : Type 0} (o : Option X) (P Q : X → Type 0) → ((x : X) → P x → Q x) → IfSome o P → IfSome o Q
+said_still None P Q f h = tt
+said_still (Some x) P Q f h = f x h
 
-still_over : (r : Rules) (g : Ground) (lines now : List Line) (o : Replacement) → AreReady r → is_steady g ≡ true → AppliesIn (setting_of r) o lines → now ≡ lines_after (setting_of r) o lines → AreOver r g lines → AreOver r g now
-still_over r g lines now o ready steady a e over =
+-- a replacement leaves lines of which as much is known
+pub still_over : (r : Rules) (g : Ground) (lines now : List Line) (o : Replacement) → AreReady r → AppliesIn (setting_of r) o lines → now ≡ lines_after (setting_of r) o lines → AreOver r g lines → AreOver r g now
+still_over r g lines now o ready a e over =
+    let s : Setting = setting_of r in
+    let kept : SetAlike lines (lines_after s o lines) = subst (λ (k : Option Rule). SetAlike lines (lines_after_rule s k o lines)) (sym a.is_rule)
+    (sets_kept s.write o.place (length a.rule.left) (map (renamed o.registers) a.rule.right) lines) in
     subst (λ (ls : List Line). AreOver r g ls) (sym e) (record {
-      listed = may_be_listed lines (setting_of r) o a over.listed;
+      listed = may_be_listed lines s o a over.listed;
       aligned = over.aligned;
-      steady = λ h. still_steady (setting_of r) r.longest o lines ready.fit a (over.steady h);
-      same = unasked _ g.listing steady;
+      steady = λ h. still_steady s r.longest o lines ready.fit a (over.steady h);
+      sets = said_still g.sets (λ l. SetAlike l.now lines) (λ l. SetAlike l.now (lines_after s o lines)) (λ l h q. h q ∙ kept q) over.sets;
     })
 
--- a replacement was made at the one cursor, and the other went back from there: it stands in such lines
-pub turned_over : (r : Rules) (g : Ground) (old at new : Cursor) (o : Replacement) → AreReady r → IsOver r g old → is_steady g ≡ true → AppliesIn (setting_of r) o (lines_at old)
-    → IsKept at → lines_at at ≡ lines_after (setting_of r) o (lines_at old) → IsCursor new → lines_at new ≡ lines_at at → spots_at new ≡ spots_at at → IsOver r g new
-turned_over r g old at new o ready over steady a kept e is f spots = record {
-  kept = still_kept at new kept is f spots;
-  over = still_over r g (lines_at old) (lines_at new) o ready steady a (f ∙ e) over.over;
-}
-
--- and no entry applies in a window that ends before what changed
-pub turned_ending : (r : Rules) (g : Ground) (old at : Cursor) (o : Replacement) (count : ℕ) → AreReady r → IsOver r g old → is_steady g ≡ true → IsFirst (setting_of r) o (lines_at old) → o.place ≡ place_at old
-    → IsKept at → lines_at at ≡ lines_after (setting_of r) o (lines_at old) → ((q : ℕ) → q + count < place_at old → LosesNone old at q) → NoneEnding (setting_of r) (lines_at at) (o.place - count)
-turned_ending r g old at o count ready over steady first here kept e same =
-    none_ending (setting_of r) r.longest count (lines_behind old) (lines_ahead old) (lines_at at) (spots_at old) (spots_at at) o ready.fit first (here ∙ over.kept.is.passed) e over.kept.live kept.live
-    (λ q h. same q (omega arith)) (over.over.aligned steady) (over.over.steady steady)
+-- a replacement was made at a cursor: no entry fits in a window that ends before what changed and before where some may have fitted
+pub turned_ending : (s : Setting) (old at : Cursor) (o : Replacement) (count clear edge : ℕ) → IsKept old → AppliesIn s o (lines_at old) → o.place ≡ place_at old
+    → IsKept at → lines_at at ≡ lines_after s o (lines_at old) → ((q : ℕ) → q + count < place_at old → LosesNone old at q) → NoneBefore false s (lines_at old) clear → edge ≤ o.place - count → edge ≤ clear
+    → NoneEnding s (lines_at at) edge
+turned_ending s old at o count clear edge was applied here kept e same none changed cleared =
+    none_ending s count clear edge (lines_behind old) (lines_ahead old) (lines_at at) (spots_at old) (spots_at at) o applied (here ∙ was.is.passed) e was.live kept.live (λ q h. same q (omega arith)) none changed cleared
 
 -- ---- where a sweep begins ----
 
 -- in steady lines of a listing
-pub begins_steady : (r : Rules) (ls given : List Line) → ls ≡ given → length (places_of given) < 2 ^ 32 → DefineOnce given → (r.base % 4 ≡ 0) × IsSteady r.base given → AreOver r (record { listing = None }) ls
+pub begins_steady : (r : Rules) (ls given : List Line) → ls ≡ given → length (places_of given) < 2 ^ 32 → DefineOnce given → (r.base % 4 ≡ 0) × IsSteady r.base given → AreOver r (record { sets = None }) ls
 begins_steady r ls given e few once steady =
-    subst (λ (l : List Line). AreOver r (record { listing = None }) l) (sym e) (record { listed = record { few = few; once = once }; aligned = λ _. steady.0; steady = λ _. steady.1; same = tt })
+    subst (λ (l : List Line). AreOver r (record { sets = None }) l) (sym e) (record { listed = record { few = few; once = once }; aligned = λ _. steady.0; steady = λ _. steady.1; sets = tt })
 
 -- in those of one whose layout is to be asked for
-pub begins_asked : (r : Rules) (g : Ground) (ls given : List Line) → ls ≡ given → length (places_of given) < 2 ^ 32 → DefineOnce given → is_steady g ≡ false → IfSome g.listing (λ l. ls ≡ l.now) → AreOver r g ls
-begins_asked r g ls given e few once asked same = record {
+pub begins_asked : (r : Rules) (g : Ground) (ls given : List Line) → ls ≡ given → length (places_of given) < 2 ^ 32 → DefineOnce given → is_steady g ≡ false → IfSome g.sets (λ l. SetAlike l.now ls) → AreOver r g ls
+begins_asked r g ls given e few once asked sets = record {
   listed = record { few = subst (λ (l : List Line). length (places_of l) < 2 ^ 32) (sym e) few; once = subst DefineOnce (sym e) once };
   aligned = λ h. absurd (true≢false (sym h ∙ asked));
   steady = λ h. absurd (true≢false (sym h ∙ asked));
-  same = same;
+  sets = sets;
 }

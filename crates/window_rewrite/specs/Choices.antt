@@ -1,12 +1,13 @@
 -- Replacements that can be made, and which of them comes first.
-use Rattle.std.specs.Prelude.{◌≡◌, ℕ, ◌+◌, ◌<◌, ◌≤◌, ◌==◌, nat_lt, List, [], ◌∷◌, length, drop, slice_get, Option, Some}
+use Rattle.std.specs.Prelude.{◌≡◌, ℕ, ◌+◌, ◌<◌, ◌≤◌, ◌==◌, nat_lt, Bool, true, List, [], ◌∷◌, length, drop, slice_get, Option, Some}
 use Rattle.std.specs.Int.{from_bool}
 use Rattle.thumb_instr.specs.declared.instr.Instr.{Instr}
 use Rattle.thumb_instr.specs.Renaming.{Low}
 use Rattle.thumb_model.specs.Listing.{Line, code_of}
 use Rattle.liveness.specs.Kept.{KeepsAt}
-use Rattle.thumb_model.specs.Rewrite.{Rule}
-use Rattle.thumb_model.specs.Rewritten.{Setting, Replacement, AppliesIn, IsFirst, replaced_lines, lines_after, left_length}
+use Rattle.thumb_model.specs.Layout.{Layable}
+use Rattle.thumb_model.specs.Rewrite.{Rule, Applies}
+use Rattle.thumb_model.specs.Rewritten.{Setting, Replacement, AppliesIn, IsFirst, are_joined_from, replaced_lines, lines_after, left_length}
 use Rattle.window_rewrite.specs.declared.choice.Choice.{Choice}
 use Rattle.window_rewrite.specs.declared.finding.Rules.{Rules}
 use Rattle.window_rewrite.specs.Rewriting.{setting, replacement_of, IsWhole}
@@ -33,6 +34,19 @@ pub record Awaits (rules : List Rule) (window : List Instr) (k : ℕ) (next : Op
   pub have : HaveShape rules window shape
   pub is : next ≡ first_with shape k (drop k rules)
 
+-- ---- with and without the layout ----
+
+-- this entry of the table fits there, under this map: it applies, whatever the layout says
+pub record FitsIn (s : Setting) (o : Replacement) (lines : List Line) : Type 0 where
+  pub rule : Rule
+  pub is_rule : slice_get s.table o.entry ≡ Some rule
+  pub applies : Applies rule o.registers (code_of lines) o.place
+  pub joined : are_joined_from o.place (length rule.left) lines ≡ true
+
+-- it fits, and where the layout is asked too, the lines that it leaves can be laid out
+abbrev pub Meets : Bool → Setting → Replacement → List Line → Type 0
+Meets asked s o lines = FitsIn s o lines × (asked ≡ true → Layable s.base (lines_after s o lines))
+
 -- ---- choices ----
 
 abbrev pub choice_of : Choice → Replacement
@@ -52,8 +66,9 @@ pub record IsLowest (s : Setting) (lines : List Line) (place count : ℕ) (c : C
   pub long : left_length s.table (choice_of c).entry ≡ count
   pub lowest : (o : Replacement) → AppliesIn s o lines → o.place ≡ place → left_length s.table o.entry ≡ count → (choice_of c).entry ≤ o.entry
 
-abbrev pub NoneOf : Setting → List Line → ℕ → ℕ → Type 0
-NoneOf s lines place count = (o : Replacement) → AppliesIn s o lines → o.place ≡ place → left_length s.table o.entry ≡ count → ⊥
+-- no entry meets this at a place by a left side of so many instructions
+abbrev pub NoneOf : Bool → Setting → List Line → ℕ → ℕ → Type 0
+NoneOf asked s lines place count = (o : Replacement) → Meets asked s o lines → o.place ≡ place → left_length s.table o.entry ≡ count → ⊥
 
 -- of the choices at a place it is the best
 pub record IsBest (s : Setting) (lines : List Line) (place : ℕ) (c : Choice) : Type 0 where
@@ -62,25 +77,26 @@ pub record IsBest (s : Setting) (lines : List Line) (place : ℕ) (c : Choice) :
   pub longest : (o : Replacement) → AppliesIn s o lines → o.place ≡ place → left_length s.table o.entry ≤ left_length s.table (choice_of c).entry
   pub lowest : (o : Replacement) → AppliesIn s o lines → o.place ≡ place → left_length s.table o.entry ≡ left_length s.table (choice_of c).entry → (choice_of c).entry ≤ o.entry
 
-abbrev pub NoneAt : Setting → List Line → ℕ → Type 0
-NoneAt s lines place = (o : Replacement) → AppliesIn s o lines → o.place ≡ place → ⊥
+-- none does at a place
+abbrev pub NoneAt : Bool → Setting → List Line → ℕ → Type 0
+NoneAt asked s lines place = (o : Replacement) → Meets asked s o lines → o.place ≡ place → ⊥
 
 -- of all choices it is the first
 pub record IsFirstChoice (s : Setting) (lines : List Line) (c : Choice) : Type 0 where
   pub first : IsFirst s (choice_of c) lines
   pub is : IsChoice s lines c
 
--- no entry applies before the place
-abbrev pub NoneBefore : Setting → List Line → ℕ → Type 0
-NoneBefore s lines place = (o : Replacement) → AppliesIn s o lines → o.place < place → ⊥
+-- none does before the place
+abbrev pub NoneBefore : Bool → Setting → List Line → ℕ → Type 0
+NoneBefore asked s lines place = (o : Replacement) → Meets asked s o lines → o.place < place → ⊥
 
--- none applies in a window that ends at the place or before it
+-- no entry fits a window that ends at the place or before it
 abbrev pub NoneEnding : Setting → List Line → ℕ → Type 0
-NoneEnding s lines place = (o : Replacement) → AppliesIn s o lines → o.place + left_length s.table o.entry ≤ place → ⊥
+NoneEnding s lines place = (o : Replacement) → FitsIn s o lines → o.place + left_length s.table o.entry ≤ place → ⊥
 
--- none applies in a window that begins before the place and goes on there
+-- none fits a window that begins before the place and goes on there
 abbrev pub NoneAcross : Setting → List Line → ℕ → Type 0
-NoneAcross s lines place = (o : Replacement) → AppliesIn s o lines → o.place < place → place < o.place + left_length s.table o.entry → ⊥
+NoneAcross s lines place = (o : Replacement) → FitsIn s o lines → o.place < place → place < o.place + left_length s.table o.entry → ⊥
 
 -- ---- how many rules there are ----
 

@@ -10,6 +10,7 @@ use Rattle.liveness.specs.Live.{set_at, IsLive}
 use Rattle.liveness.specs.Growing.{IsGrowing}
 use Rattle.liveness.specs.declared.kept.NewSets.{NewSets}
 use Rattle.liveness.specs.Kept.{AreFlows, replaced_sets}
+use Rattle.label_layout.specs.Pieces.{SetAlike}
 use Rattle.steady_layout.specs.Steady.{IsSteady}
 use Rattle.line_cursor.specs.declared.cursor.Cursor.{Cursor}
 use Rattle.line_cursor.specs.Cursors.{IsCursor, lines_at, place_at, spots_at, sets_of, flows_of}
@@ -57,21 +58,21 @@ pub record IsGrown (old now : Cursor) : Type 0 where
 abbrev pub growing_cost : ℕ → ℕ
 growing_cost places = (19 * places + 1) * (places + 1)
 
--- whether the layout needn't be asked for
+-- whether the layout needn't be asked
 abbrev pub is_steady : Ground → Bool
-is_steady g = not (is_some g.listing)
+is_steady g = not (is_some g.sets)
 
 -- lines that may be a listing's
 pub record MayBeListed (lines : List Line) : Type 0 where
   pub few : length (places_of lines) < 2 ^ 32
   pub once : DefineOnce lines
 
--- the lines are steady, if the ground is; otherwise they are still the ground's
+-- the lines are steady, if the ground is; otherwise the ground's listing sets the same addresses for names
 pub record AreOver (r : Rules) (g : Ground) (lines : List Line) : Type 0 where
   pub listed : MayBeListed lines
   pub aligned : is_steady g ≡ true → r.base % 4 ≡ 0
   pub steady : is_steady g ≡ true → IsSteady r.base lines
-  pub same : IfSome g.listing (λ l. lines ≡ l.now)
+  pub sets : IfSome g.sets (λ l. SetAlike l.now lines)
 
 -- where it is said so, the lines and those that come of them by replacements can be laid out from the base
 abbrev pub IsSteadyIf : ℕ → List Line → Bool → Type 0

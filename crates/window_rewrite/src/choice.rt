@@ -30,3 +30,11 @@ pub(crate) struct Choice {
     /// The instructions that come.
     pub(crate) new: Seq,
 }
+
+/// What a search found.
+#[derive(Drop)]
+pub(crate) struct Found {
+    pub(crate) choice: Choice,
+    /// No entry fits before this place, whatever the layout says.
+    pub(crate) clear: usize,
+}

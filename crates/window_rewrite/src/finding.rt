@@ -1,30 +1,30 @@
 //! The next replacement that can be made.
-ghost use Rattle.std.specs.Prelude.{◌≡◌, ◌+◌, ◌*◌, ◌^◌, ◌<◌, ◌≤◌, ◌↔◌, ◌⊎◌, ◌∷◌, [], ◌++◌, ℕ, List, length, drop, take, slice_get, true, false, ◌==◌, Some, IfOk, OnOk, IfSome, IfNone, OnSome};
+ghost use Rattle.std.specs.Prelude.{◌≡◌, ◌+◌, ◌*◌, ◌<◌, ◌≤◌, ◌↔◌, ◌∷◌, [], ◌++◌, ℕ, List, length, take, slice_get, true, false, ◌==◌, Some, IfOk, OnOk, IfSome, IfNone, OnSome, if◌then◌else◌};
 ghost use Rattle.std.specs.Int.{from_bool};
-ghost use Rattle.std.specs.List.{list_all};
 ghost use Rattle.thumb_instr.specs.Renaming.{Low};
 ghost use Rattle.thumb_model.specs.Layout.{Layable};
-ghost use Rattle.thumb_model.specs.Listing.{labels_from, places_of, Label};
+ghost use Rattle.thumb_model.specs.Listing.{places_of};
 ghost use Rattle.thumb_model.specs.Rewrite.{Rule};
-ghost use Rattle.thumb_model.specs.Rewritten.{AppliesIn, NoneApplies, are_joined_from, left_length, replaced_lines};
-ghost use Rattle.listing_parser.specs.Replacing.{own_line, names_no_label};
+ghost use Rattle.thumb_model.specs.Rewritten.{NoneApplies, left_length, replaced_lines};
+ghost use Rattle.label_layout.specs.Pieces.{SetAlike};
+ghost use Rattle.listing_parser.specs.Replacing.{own_line};
 ghost use Rattle.listing_parser.specs.declared.line.Line.{Line as Lines};
 ghost use Rattle.line_cursor.specs.Lines.{begins_op, lines_in};
-ghost use Rattle.line_cursor.specs.Cursors.{lines_at, place_at, IsCursor, IsSettled};
-ghost use Rattle.thumb_model.proofs.LinesReplaced.{AreOps};
+ghost use Rattle.line_cursor.specs.Cursors.{lines_at, place_at, IsCursor};
 ghost use Rattle.window_harvest.specs.Harvest.{spot_of, StandsThere};
 ghost use Rattle.window_rewrite.specs.Fitting.{Shortens};
 ghost use Rattle.window_rewrite.specs.Rules.{rules_in};
-ghost use Rattle.window_rewrite.specs.Choices.{setting_of, choice_of, of_length, AreReady, Awaits, IsBest, IsChoice, IsFirstChoice, IsLowest, NoneAt, NoneBefore, NoneOf};
+ghost use Rattle.window_rewrite.specs.Choices.{setting_of, choice_of, of_length, AreReady, Awaits, IsBest, IsChoice, IsFirstChoice, IsLowest, Meets, NoneAt, NoneBefore, NoneOf};
 ghost use Rattle.window_rewrite.specs.Sweeps.{is_steady, IsOver};
 
-use crate::choice::{Choice, Replacement};
+use crate::choice::{Choice, Found, Replacement};
 use crate::fitting::fitting;
 use crate::ground::Ground;
 use crate::index::Index;
 use crate::items::registers_of;
-use crate::replacing::{is_layable, renamed_all};
+use crate::replacing::renamed_all;
 use crate::shapes::{next_shape, shape_of};
+use label_layout::are_layable;
 use line_cursor::Cursor;
 use listing_parser::Memory;
 use rule_table::Entry;
@@ -43,9 +43,8 @@ pub(crate) struct Rules<'a> {
     pub(crate) base: u32,
 }
 
-/// Whether each code label stays code, and lines of a ground that isn't steady can be laid out, where so many instructions behind the cursor, with
-/// neither a label nor an alignment line between them, give way to others.
-fn may_give_way(
+/// Whether lines of a ground that isn't steady can be laid out where so many instructions behind the cursor give way to others.
+fn can_be_laid(
     alloc: Global,
     base: u32,
     ground: &Ground<'_>,
@@ -54,25 +53,24 @@ fn may_give_way(
     new: &[Instr],
 ) -> Result<bool, Memory>
     requires is { IsCursor cursor.now }
-    requires same { IfSome ground.now.listing (λ l. lines_at cursor.now ≡ l.now) }
-    requires few { length (places_of (lines_at cursor.now)) < 2 ^ 32 }
+    requires sets { IfSome ground.now.sets (λ l. SetAlike l.now (lines_at cursor.now)) }
+    requires count { 0 < count }
     requires some { 0 < length cursor.now.lines.ahead }
     requires first { (rest : List Lines) (x : Lines) → cursor.now.lines.ahead ≡ rest ++ x ∷ [] → begins_op (lines_in x) ≡ true }
-    requires window { AreOps count (drop (place_at cursor.now) (places_of (lines_at cursor.now))) }
-    requires unlabelled { (k : ℕ) (l : Label) → slice_get (labels_from 0 (lines_at cursor.now)) k ≡ Some l → (l.place ≤ place_at cursor.now) ⊎ (place_at cursor.now + count ≤ l.place) }
-    requires joined { are_joined_from (place_at cursor.now) count (lines_at cursor.now) ≡ true }
-    requires shorter { length new.now < count }
-    requires plain { list_all names_no_label new.now ≡ true }
-    ensures { IfOk result (λ b. (b ≡ true) ↔ (IsSettled (places_of (lines_at cursor.now)) (labels_from 0 (lines_at cursor.now)) (place_at cursor.now) count new.now × (is_steady ground.now ≡ false → Layable base (replaced_lines own_line (place_at cursor.now) count new.now (lines_at cursor.now))))) }
+    ensures { IfOk result (λ b. (b ≡ true) ↔ (is_steady ground.now ≡ false → Layable base (replaced_lines own_line (place_at cursor.now) count new.now (lines_at cursor.now)))) }
 {
-    if !cursor.is_settled(count, new) {
-        return Ok(false);
-    }
-    match ground.listing {
+    match ground.sets {
         None => Ok(true),
-        Some(listing) => {
-            let left = listing.replaced(alloc, cursor.place() as u32, count as u32, new)?;
-            is_layable(alloc, &left, base)
+        Some(sets) => {
+            let left = cursor.replaced(alloc, count, new)?;
+            are_layable(
+                alloc,
+                base,
+                left.before,
+                left.new.as_slice(),
+                left.behind,
+                sets,
+            )
         }
     }
 }
@@ -89,7 +87,7 @@ fn copied(window: &[Instr]) -> Seq
     seq
 }
 
-/// What an entry makes of a window behind the cursor, after which these items are live.
+/// What an entry makes of a window behind the cursor, after which these items are live. `refused` comes to be true where the entry fits and the layout refuses it.
 fn try_entry<L: Ledger>(
     alloc: Global,
     rules: &Rules<'_>,
@@ -98,6 +96,7 @@ fn try_entry<L: Ledger>(
     window: &[Instr],
     live: Items,
     number: usize,
+    refused: &mut bool,
     steps: &mut Steps<L>,
 ) -> Result<Option<Choice>, Memory>
     requires ready { AreReady rules.now }
@@ -108,7 +107,8 @@ fn try_entry<L: Ledger>(
     requires number { number < length rules.now.entries.now }
     requires long { left_length (rules_in rules.now.entries.now) number ≡ length window.now }
     ensures some { IfOk result (λ o. IfSome o (λ c. IsChoice (setting_of rules.now) (lines_at cursor.now) c × ((choice_of c).place ≡ place_at cursor.now) × ((choice_of c).entry ≡ number))) }
-    ensures none { IfOk result (λ o. IfNone o ((registers : List Low) → AppliesIn (setting_of rules.now) (record { place = place_at cursor.now; entry = number; registers = registers }) (lines_at cursor.now) → ⊥)) }
+    ensures none { IfOk result (λ o. IfNone o ((registers : List Low) → Meets refused.new (setting_of rules.now) (record { place = place_at cursor.now; entry = number; registers = registers }) (lines_at cursor.now) → ⊥)) }
+    ensures stays { OnOk result (refused.old ≡ true → refused.new ≡ true) }
     ensures cost { steps.new ≤ steps.old + 1 }
 {
     steps.tick();
@@ -118,7 +118,10 @@ fn try_entry<L: Ledger>(
         Some(map) => map,
     };
     let new = renamed_all(entry.right.as_slice(), &registers_of(&map));
-    if !may_give_way(
+    if !cursor.is_settled(window.len(), new.as_slice()) {
+        return Ok(None);
+    }
+    if !can_be_laid(
         alloc,
         rules.base,
         ground,
@@ -126,6 +129,7 @@ fn try_entry<L: Ledger>(
         window.len(),
         new.as_slice(),
     )? {
+        *refused = true;
         return Ok(None);
     }
     Ok(Some(Choice {
@@ -148,6 +152,7 @@ fn try_as_long<L: Ledger>(
     window: &[Instr],
     live: Items,
     number: usize,
+    refused: &mut bool,
     steps: &mut Steps<L>,
 ) -> Result<Option<Choice>, Memory>
     requires ready { AreReady rules.now }
@@ -158,11 +163,14 @@ fn try_as_long<L: Ledger>(
     requires number { number < length rules.now.entries.now }
     ensures long { IfOk result (λ o. OnSome o (left_length (rules_in rules.now.entries.now) number ≡ length window.now)) }
     ensures some { IfOk result (λ o. IfSome o (λ c. IsChoice (setting_of rules.now) (lines_at cursor.now) c × ((choice_of c).place ≡ place_at cursor.now) × ((choice_of c).entry ≡ number))) }
-    ensures none { IfOk result (λ o. IfNone o (left_length (rules_in rules.now.entries.now) number ≡ length window.now → (registers : List Low) → AppliesIn (setting_of rules.now) (record { place = place_at cursor.now; entry = number; registers = registers }) (lines_at cursor.now) → ⊥)) }
+    ensures none { IfOk result (λ o. IfNone o (left_length (rules_in rules.now.entries.now) number ≡ length window.now → (registers : List Low) → Meets refused.new (setting_of rules.now) (record { place = place_at cursor.now; entry = number; registers = registers }) (lines_at cursor.now) → ⊥)) }
+    ensures stays { OnOk result (refused.old ≡ true → refused.new ≡ true) }
     ensures cost { steps.new ≤ steps.old + from_bool (left_length (rules_in rules.now.entries.now) number == length window.now) }
 {
     if rules.entries[number].left.len() == window.len() {
-        try_entry(alloc, rules, ground, cursor, window, live, number, steps)
+        try_entry(
+            alloc, rules, ground, cursor, window, live, number, refused, steps,
+        )
     } else {
         Ok(None)
     }
@@ -201,6 +209,7 @@ fn lowest<L: Ledger>(
     cursor: &Cursor,
     window: &[Instr],
     live: Items,
+    refused: &mut bool,
     steps: &mut Steps<L>,
 ) -> Result<Option<Choice>, Memory>
     requires ready { AreReady rules.now }
@@ -209,13 +218,14 @@ fn lowest<L: Ledger>(
     requires first { (rest : List Lines) (x : Lines) → cursor.now.lines.ahead ≡ rest ++ x ∷ [] → begins_op (lines_in x) ≡ true }
     requires stands { StandsThere (lines_at cursor.now) (spot_of (place_at cursor.now) (length window.now)) window.now live.bits }
     ensures some { IfOk result (λ o. IfSome o (IsLowest (setting_of rules.now) (lines_at cursor.now) (place_at cursor.now) (length window.now))) }
-    ensures none { IfOk result (λ o. IfNone o (NoneOf (setting_of rules.now) (lines_at cursor.now) (place_at cursor.now) (length window.now))) }
+    ensures none { IfOk result (λ o. IfNone o (NoneOf refused.new (setting_of rules.now) (lines_at cursor.now) (place_at cursor.now) (length window.now))) }
+    ensures stays { OnOk result (refused.old ≡ true → refused.new ≡ true) }
     ensures cost { steps.new ≤ steps.old + of_length (length window.now) (rules_in rules.now.entries.now) }
 {
     let mut at = first_number(rules, window);
     while let Some(number) = at {
         if let Some(choice) = try_as_long(
-            alloc, rules, ground, cursor, window, live, number, steps,
+            alloc, rules, ground, cursor, window, live, number, refused, steps,
         )? {
             return Ok(Some(choice));
         }
@@ -230,6 +240,7 @@ fn best_here<L: Ledger>(
     rules: &Rules<'_>,
     ground: &Ground<'_>,
     cursor: &Cursor,
+    refused: &mut bool,
     steps: &mut Steps<L>,
 ) -> Result<Option<Choice>, Memory>
     requires ready { AreReady rules.now }
@@ -237,7 +248,8 @@ fn best_here<L: Ledger>(
     requires some { 0 < length cursor.now.lines.ahead }
     requires first { (rest : List Lines) (x : Lines) → cursor.now.lines.ahead ≡ rest ++ x ∷ [] → begins_op (lines_in x) ≡ true }
     ensures some { IfOk result (λ o. IfSome o (IsBest (setting_of rules.now) (lines_at cursor.now) (place_at cursor.now))) }
-    ensures none { IfOk result (λ o. IfNone o (NoneAt (setting_of rules.now) (lines_at cursor.now) (place_at cursor.now))) }
+    ensures none { IfOk result (λ o. IfNone o (NoneAt refused.new (setting_of rules.now) (lines_at cursor.now) (place_at cursor.now))) }
+    ensures stays { OnOk result (refused.old ≡ true → refused.new ≡ true) }
     ensures cost { steps.new ≤ steps.old + length (rules_in rules.now.entries.now) }
 {
     let run = cursor.run(usize::from(rules.longest));
@@ -251,6 +263,7 @@ fn best_here<L: Ledger>(
             cursor,
             &run.as_slice()[..count],
             items,
+            refused,
             steps,
         )? {
             return Ok(Some(choice));
@@ -266,47 +279,60 @@ fn best<L: Ledger>(
     rules: &Rules<'_>,
     ground: &Ground<'_>,
     cursor: &Cursor,
+    refused: &mut bool,
     steps: &mut Steps<L>,
 ) -> Result<Option<Choice>, Memory>
     requires ready { AreReady rules.now }
     requires over { IsOver rules.now ground.now cursor.now }
     ensures some { IfOk result (λ o. IfSome o (IsBest (setting_of rules.now) (lines_at cursor.now) (place_at cursor.now))) }
     ensures op { IfOk result (λ o. IfSome o (λ c. (0 < length cursor.now.lines.ahead) × ((rest : List Lines) (x : Lines) → cursor.now.lines.ahead ≡ rest ++ x ∷ [] → begins_op (lines_in x) ≡ true))) }
-    ensures none { IfOk result (λ o. IfNone o ((rest : List Lines) (x : Lines) → cursor.now.lines.ahead ≡ rest ++ x ∷ [] → begins_op (lines_in x) ≡ true → NoneAt (setting_of rules.now) (lines_at cursor.now) (place_at cursor.now))) }
+    ensures none { IfOk result (λ o. IfNone o ((rest : List Lines) (x : Lines) → cursor.now.lines.ahead ≡ rest ++ x ∷ [] → begins_op (lines_in x) ≡ true → NoneAt refused.new (setting_of rules.now) (lines_at cursor.now) (place_at cursor.now))) }
+    ensures stays { OnOk result (refused.old ≡ true → refused.new ≡ true) }
     ensures cost { steps.new ≤ steps.old + length (rules_in rules.now.entries.now) }
     ensures idle { (rest : List Lines) (x : Lines) → cursor.now.lines.ahead ≡ rest ++ x ∷ [] → begins_op (lines_in x) ≡ false → steps.new ≤ steps.old }
 {
     if cursor.is_at_op() {
-        best_here(alloc, rules, ground, cursor, steps)
+        best_here(alloc, rules, ground, cursor, refused, steps)
     } else {
         Ok(None)
     }
 }
 
-/// Moves the cursor on to the first replacement that can be made: at the least place, by the best entry there. None can be made before the cursor.
+/// Up to which place no entry fits: that of the cursor, until the layout refuses one.
+fn still_clear(refused: bool, clear: usize, place: usize) -> usize
+    ensures { result ≡ (if refused then clear else place) }
+{
+    if refused { clear } else { place }
+}
+
+/// Moves the cursor on to the first replacement that can be made: at the least place, by the best entry there. No entry fits before the cursor.
 pub(crate) fn next<L: Ledger>(
     alloc: Global,
     rules: &Rules<'_>,
     ground: &Ground<'_>,
     cursor: &mut Cursor,
     steps: &mut Steps<L>,
-) -> Result<Option<Choice>, Memory>
+) -> Result<Option<Found>, Memory>
     requires ready { AreReady rules.now }
     requires over { IsOver rules.now ground.now cursor.old }
-    requires before { NoneBefore (setting_of rules.now) (lines_at cursor.old) (place_at cursor.old) }
+    requires before { NoneBefore false (setting_of rules.now) (lines_at cursor.old) (place_at cursor.old) }
     ensures over { OnOk result (IsOver rules.now ground.now cursor.new) }
     ensures lines { OnOk result (lines_at cursor.new ≡ lines_at cursor.old) }
-    ensures some { IfOk result (λ o. IfSome o (IsFirstChoice (setting_of rules.now) (lines_at cursor.new))) }
-    ensures here { IfOk result (λ o. IfSome o (λ c. (choice_of c).place ≡ place_at cursor.new)) }
-    ensures op { IfOk result (λ o. IfSome o (λ c. (0 < length cursor.new.lines.ahead) × ((rest : List Lines) (x : Lines) → cursor.new.lines.ahead ≡ rest ++ x ∷ [] → begins_op (lines_in x) ≡ true))) }
+    ensures some { IfOk result (λ o. IfSome o (λ f. IsFirstChoice (setting_of rules.now) (lines_at cursor.new) f.choice)) }
+    ensures here { IfOk result (λ o. IfSome o (λ f. (choice_of f.choice).place ≡ place_at cursor.new)) }
+    ensures op { IfOk result (λ o. IfSome o (λ f. (0 < length cursor.new.lines.ahead) × ((rest : List Lines) (x : Lines) → cursor.new.lines.ahead ≡ rest ++ x ∷ [] → begins_op (lines_in x) ≡ true))) }
+    ensures clear { IfOk result (λ o. IfSome o (λ f. NoneBefore false (setting_of rules.now) (lines_at cursor.new) f.clear)) }
     ensures none { IfOk result (λ o. IfNone o (NoneApplies (setting_of rules.now) (lines_at cursor.new))) }
     ensures cost { steps.new ≤ steps.old + length (places_of (lines_at cursor.old)) * length (rules_in rules.now.entries.now) }
 {
+    let mut refused = false;
+    let mut clear = cursor.place();
     while !cursor.is_at_end() {
-        if let Some(choice) = best(alloc, rules, ground, cursor, steps)? {
-            return Ok(Some(choice));
+        if let Some(choice) = best(alloc, rules, ground, cursor, &mut refused, steps)? {
+            return Ok(Some(Found { choice, clear }));
         }
         cursor.forward()?;
+        clear = still_clear(refused, clear, cursor.place());
     }
     Ok(None)
 }

@@ -6,8 +6,8 @@
 //!
 //! A sweep goes over the listing by a cursor that keeps the live items of all places. Where items are live no more in straight code before a replacement, it
 //! puts in the new sets; where more come to be live, it carries them back along all ways. It goes back to the first place whose sets changed, and further only
-//! where a left side may stand in a window that reaches across that place. It ends where items may be live no more elsewhere, or where the layout must be asked
-//! each time; then another begins.
+//! where a left side may stand in a window that reaches across that place. Where the layout refused an entry that fits, it goes back at least to there. It ends
+//! where items may be live no more elsewhere; then another begins.
 #![tactic(auto)]
 
 mod choice;

@@ -192,7 +192,7 @@ fn blank(new: &[Instr]) -> ArrayVec<Spot, 5>
 }
 
 /// Puts new instructions in place of a window right behind the cursor, and nothing true of what is kept of places.
-pub(crate) fn put_blank(
+fn put_blank(
     alloc: Global,
     cursor: &mut Cursor,
     window: &[Instr],

@@ -1,11 +1,7 @@
-//! What an entry puts in place of a window, and whether a listing can be laid out.
-ghost use Rattle.std.specs.Prelude.{◌≡◌, ◌≤◌, ◌↔◌, length, map, true, IfOk};
+//! What an entry puts in place of a window.
+ghost use Rattle.std.specs.Prelude.{◌≡◌, ◌≤◌, length, map};
 ghost use Rattle.thumb_instr.specs.Renaming.{renamed};
-ghost use Rattle.thumb_model.specs.Layout.{Layable};
 
-use label_layout::{LayoutError, layout};
-use listing_parser::{Listing, Memory};
-use std::alloc::Global;
 use thumb_instr::{Instr, Low, Seq, renamed};
 
 /// The instructions under a map.
@@ -18,15 +14,4 @@ pub(crate) fn renamed_all(instrs: &[Instr], registers: &[Low]) -> Seq
         seq.push(renamed(instr, registers));
     }
     seq
-}
-
-/// Whether a listing can be laid out from the base.
-pub(crate) fn is_layable(alloc: Global, listing: &Listing, base: u32) -> Result<bool, Memory>
-    ensures { IfOk result (λ b. (b ≡ true) ↔ Layable base listing.now) }
-{
-    match layout(alloc, listing, base) {
-        Ok(_) => Ok(true),
-        Err(LayoutError::Line { .. }) => Ok(false),
-        Err(LayoutError::Memory) => Err(Memory),
-    }
 }

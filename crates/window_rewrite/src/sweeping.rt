@@ -6,6 +6,7 @@ ghost use Rattle.thumb_model.specs.Rewritten.{NoneApplies, lines_after};
 ghost use Rattle.listing_parser.specs.declared.line.Line.{Line as Lines};
 ghost use Rattle.line_cursor.specs.Lines.{begins_op, lines_in};
 ghost use Rattle.line_cursor.specs.Cursors.{flows_of, lines_at, place_at, sets_of, spots_at, IsCursor};
+ghost use Rattle.listing_parser.specs.TableWords.{DefineOnce};
 ghost use Rattle.listing_parser.specs.Views.{line_view};
 ghost use Rattle.liveness.specs.Kept.{AreFlows};
 ghost use Rattle.liveness.specs.Live.{IsLive};
@@ -13,12 +14,12 @@ ghost use Rattle.steady_layout.specs.Steady.{IsSteady};
 ghost use Rattle.window_rewrite.specs.Rewriting.{round_cost, visits, IsWhole};
 ghost use Rattle.window_rewrite.specs.Rules.{rules_in};
 ghost use Rattle.window_rewrite.specs.Choices.{setting_of, choice_of, AreReady, IsFirstChoice, NoneAcross, NoneBefore, NoneEnding};
-ghost use Rattle.window_rewrite.specs.Sweeps.{is_steady, AreOver, Completes, IsOver, IsSteadyIf, MayBeListed};
+ghost use Rattle.window_rewrite.specs.Sweeps.{is_steady, AreOver, Completes, IsKept, IsOver, IsSteadyIf, MayBeListed};
 
-use crate::choice::{Choice, Replacement};
+use crate::choice::{Found, Replacement};
 use crate::finding::{Rules, next};
 use crate::ground::Ground;
-use crate::making::{make, put_blank};
+use crate::making::make;
 use crate::shapes::pair_shape;
 use line_cursor::{Cursor, Spot};
 use listing_parser::{Line, Listing, Memory, copy_lines};
@@ -53,8 +54,8 @@ fn may_reach_across(rules: &Rules<'_>, cursor: &Cursor) -> bool
         .has_pair(pair_shape(&normal(before), &normal(behind)))
 }
 
-/// Goes back to where entries may apply now, where none applies in a window that ends at a place or before it: to this place, and further back only where a
-/// window may reach across it.
+/// Goes back to where entries may fit now, where none fits a window that ends at a place or before it: to this place, and further back only where a window may
+/// reach across it.
 fn go_back(rules: &Rules<'_>, cursor: &mut Cursor, place: usize) -> Result<(), Memory>
     requires ready { AreReady rules.now }
     requires is { IsCursor cursor.old }
@@ -62,7 +63,7 @@ fn go_back(rules: &Rules<'_>, cursor: &mut Cursor, place: usize) -> Result<(), M
     ensures is { OnOk result (IsCursor cursor.new) }
     ensures lines { OnOk result (lines_at cursor.new ≡ lines_at cursor.old) }
     ensures spots { OnOk result (spots_at cursor.new ≡ spots_at cursor.old) }
-    ensures before { OnOk result (NoneBefore (setting_of rules.now) (lines_at cursor.new) (place_at cursor.new)) }
+    ensures before { OnOk result (NoneBefore false (setting_of rules.now) (lines_at cursor.new) (place_at cursor.new)) }
 {
     cursor.rewind(place)?;
     if may_reach_across(rules, cursor) {
@@ -72,37 +73,36 @@ fn go_back(rules: &Rules<'_>, cursor: &mut Cursor, place: usize) -> Result<(), M
     Ok(())
 }
 
-/// Makes a replacement that was found, and goes back to where others may be possible now. Whether the sweep can go on.
+/// Makes a replacement that was found, and goes back to where others may be possible now: those that need other live items, or were refused by the layout.
+/// Whether the sweep can go on.
 fn turn<L: Ledger>(
     alloc: Global,
     rules: &Rules<'_>,
-    ground: &Ground<'_>,
     cursor: &mut Cursor,
-    choice: &Choice,
+    found: &Found,
     steps: &mut Steps<L>,
 ) -> Result<bool, Memory>
     requires ready { AreReady rules.now }
-    requires over { IsOver rules.now ground.now cursor.old }
-    requires choice { IsFirstChoice (setting_of rules.now) (lines_at cursor.old) choice.now }
-    requires here { (choice_of choice.now).place ≡ place_at cursor.old }
+    requires kept { IsKept cursor.old }
+    requires once { DefineOnce (lines_at cursor.old) }
+    requires choice { IsFirstChoice (setting_of rules.now) (lines_at cursor.old) found.now.choice }
+    requires here { (choice_of found.now.choice).place ≡ place_at cursor.old }
+    requires clear { NoneBefore false (setting_of rules.now) (lines_at cursor.old) found.now.clear }
     requires some { 0 < length cursor.old.lines.ahead }
     requires first { (rest : List Lines) (x : Lines) → cursor.old.lines.ahead ≡ rest ++ x ∷ [] → begins_op (lines_in x) ≡ true }
-    ensures lines { OnOk result (lines_at cursor.new ≡ lines_after (setting_of rules.now) (choice_of choice.now) (lines_at cursor.old)) }
-    ensures over { IfOk result (λ b. b ≡ true → IsOver rules.now ground.now cursor.new) }
-    ensures before { IfOk result (λ b. b ≡ true → NoneBefore (setting_of rules.now) (lines_at cursor.new) (place_at cursor.new)) }
+    ensures lines { OnOk result (lines_at cursor.new ≡ lines_after (setting_of rules.now) (choice_of found.now.choice) (lines_at cursor.old)) }
+    ensures kept { IfOk result (λ b. b ≡ true → IsKept cursor.new) }
+    ensures before { IfOk result (λ b. b ≡ true → NoneBefore false (setting_of rules.now) (lines_at cursor.new) (place_at cursor.new)) }
     ensures cost { IfOk result (λ b. steps.new ≤ steps.old + from_bool b * visits (length (places_of (lines_at cursor.old)))) }
 {
+    let choice = &found.choice;
     let window = choice.window.as_slice();
     let new = choice.new.as_slice();
-    if ground.listing.is_some() {
-        put_blank(alloc, cursor, window, new)?;
-        return Ok(false);
-    }
     match make(alloc, cursor, window, new, steps)? {
         None => Ok(false),
         Some(lead) => {
-            let first = (choice.replacement.place as usize).saturating_sub(lead);
-            go_back(rules, cursor, first)?;
+            let changed = (choice.replacement.place as usize).saturating_sub(lead);
+            go_back(rules, cursor, changed.min(found.clear))?;
             Ok(true)
         }
     }
@@ -119,7 +119,7 @@ fn go_through<L: Ledger>(
 ) -> Result<bool, Memory>
     requires ready { AreReady rules.now }
     requires over { IsOver rules.now ground.now cursor.old }
-    requires before { NoneBefore (setting_of rules.now) (lines_at cursor.old) (place_at cursor.old) }
+    requires before { NoneBefore false (setting_of rules.now) (lines_at cursor.old) (place_at cursor.old) }
     requires whole { All IsWhole replacements.old.items }
     ensures whole { OnOk result (All IsWhole replacements.new.items) }
     ensures completes { OnOk result ((start : List Listed) → Completes (setting_of rules.now) start replacements.old.items (lines_at cursor.old) → Completes (setting_of rules.now) start replacements.new.items (lines_at cursor.new)) }
@@ -130,9 +130,9 @@ fn go_through<L: Ledger>(
     ensures more { IfOk result (λ b. length replacements.old.items + from_bool (not b) ≤ length replacements.new.items) }
     ensures cost { IfOk result (λ b. steps.new + visits (length (places_of (lines_at cursor.old))) + length replacements.old.items * round_cost (length (places_of (lines_at cursor.old))) (length (rules_in rules.now.entries.now)) ≤ steps.old + (length replacements.new.items + from_bool b) * round_cost (length (places_of (lines_at cursor.old))) (length (rules_in rules.now.entries.now))) }
 {
-    while let Some(choice) = next(alloc, rules, ground, cursor, steps)? {
-        let goes_on = turn(alloc, rules, ground, cursor, &choice, steps)?;
-        replacements.push(choice.replacement)?;
+    while let Some(found) = next(alloc, rules, ground, cursor, steps)? {
+        let goes_on = turn(alloc, rules, cursor, &found, steps)?;
+        replacements.push(found.choice.replacement)?;
         if !goes_on {
             return Ok(false);
         }
@@ -224,13 +224,11 @@ pub(crate) fn sweep<L: Ledger>(
     let spots = spots_of(alloc, &live, flows.as_slice())?;
     let lines = listing.into_lines();
     if steady {
-        let ground = Ground { listing: None };
+        let ground = Ground { sets: None };
         return sweep_lines(alloc, rules, &ground, lines, spots, replacements, steps);
     }
-    let listing = Listing::of(alloc, copy_lines(alloc, &lines)?)?;
-    let ground = Ground {
-        listing: Some(&listing),
-    };
+    let sets = Listing::of(alloc, copy_lines(alloc, &lines)?)?;
+    let ground = Ground { sets: Some(&sets) };
     let swept = sweep_lines(alloc, rules, &ground, lines, spots, replacements, steps)?;
     Ok(swept)
 }

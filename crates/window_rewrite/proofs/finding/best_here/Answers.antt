@@ -5,6 +5,7 @@ use Rattle.window_runs.specs.Runs.{run}
 use Rattle.line_cursor.specs.Cursors.{lines_at, place_at, sets_of, spots_at}
 use Rattle.window_rewrite.specs.Rules.{rules_in}
 use Rattle.window_rewrite.specs.Choices.{setting_of}
+use Rattle.window_rewrite.proofs.Applied.{meets_less}
 use Rattle.window_rewrite.proofs.Behind.{of_kept, run_here, run_comes, live_behind}
 use Rattle.window_rewrite.proofs.Chosen.{front_stands, none_reached, none_shorter, count_cost, all_cost}
 use Rattle.window_rewrite.proofs.finding.best_here.Goals as goal
@@ -17,8 +18,9 @@ loop-count-init g c =
     record {
       within = omega (arith, c.reach-count.ensures.within, ap (λ (is : List Instr). length is) c.as_slice.ensures.value);
       none =
-          none_reached c.args.rules.now.base c.args.rules.now.longest (rules_in c.args.rules.now.entries.now) (lines_at c.args.cursor.now) (rows_from false (lines_at c.args.cursor.now)) (sets_of (spots_at c.args.cursor.now)) (place_at c.args.cursor.now)
+          none_reached _ c.args.rules.now.base c.args.rules.now.longest (rules_in c.args.rules.now.entries.now) (lines_at c.args.cursor.now) (rows_from false (lines_at c.args.cursor.now)) (sets_of (spots_at c.args.cursor.now)) (place_at c.args.cursor.now)
           c.reach-count.result c.as_slice.result.now c.requires.ready.fit (of_kept c.args.cursor.now kept) (c.as_slice.ensures.value ∙ e) c.reach-count.ensures.none;
+      stays = λ e. e;
       cost = omega arith;
     }
 
@@ -53,7 +55,9 @@ loop-count-preserved g c =
     let none = rw c.in_default.is at c.in_ok-choice.ensures.none in
     record {
       within = let w = c.loop-count.invariant.within in omega arith;
-      none = none_shorter (setting_of c.args.rules.now) (lines_at c.args.cursor.now) (place_at c.args.cursor.now) c.loop-count.count c.as_slice-in-loop-count.result.now c.loop-count-test.true few c.loop-count.invariant.none none;
+      none = none_shorter _ (setting_of c.args.rules.now) (lines_at c.args.cursor.now) (place_at c.args.cursor.now) c.loop-count.count c.as_slice-in-loop-count.result.now c.loop-count-test.true few
+          (λ o m. c.loop-count.invariant.none o (meets_less _ _ (setting_of c.args.rules.now) o (lines_at c.args.cursor.now) c.in_ok-choice.ensures.stays m)) none;
+      stays = λ e. c.in_ok-choice.ensures.stays (c.loop-count.invariant.stays e);
       cost = count_cost (rules_in c.args.rules.now.entries.now) c.loop-count.count c.as_slice-in-loop-count.result.now c.args.steps.now _ _ c.loop-count-test.true few c.loop-count.invariant.cost c.lowest.ensures.cost;
     }
 

@@ -1,4 +1,4 @@
-use Rattle.std.proofs.Common.{◌+◌, ◌≤◌, length}
+use Rattle.std.proofs.Common.{◌≡◌, ◌+◌, ◌≤◌, true, length}
 use Rattle.line_cursor.specs.Cursors.{lines_at, place_at}
 use Rattle.window_rewrite.specs.Rules.{rules_in}
 use Rattle.window_rewrite.specs.Choices.{setting_of, longer}
@@ -8,7 +8,8 @@ use Rattle.window_rewrite.proofs.finding.best_here.Given as goal
 abbrev pub invariant-loop-count : goal.invariant-loop-count
 invariant-loop-count g l = record {
   within : l.count ≤ length l.run;
-  none : NoneLonger (setting_of l.rules) (lines_at l.cursor) (place_at l.cursor) l.count;
+  none : NoneLonger l.refused (setting_of l.rules) (lines_at l.cursor) (place_at l.cursor) l.count;
+  stays : l.initial.refused ≡ true → l.refused ≡ true;
   cost : l.steps ≤ l.initial.steps + longer l.count (rules_in l.rules.entries.now);
 }
 

@@ -1,12 +1,13 @@
-use Rattle.std.proofs.Common.{◌≡◌, ◌∙◌, ◌<◌, List, true, false, length, sym, subst}
+use Rattle.std.proofs.Common.{◌≡◌, ◌∙◌, ◌<◌, List, true, false, length, ap, sym, subst, if◌then◌else◌}
 use Rattle.thumb_model.specs.Listing.{Line}
 use Rattle.listing_parser.specs.declared.line.Line.{Line as Lines}
 use Rattle.line_cursor.specs.Cursors.{lines_at, place_at}
 use Rattle.line_cursor.proofs.Edits.{one_fewer}
 use Rattle.window_rewrite.specs.Rules.{rules_in}
 use Rattle.window_rewrite.specs.Choices.{setting_of, NoneBefore}
+use Rattle.window_rewrite.proofs.Applied.{meets_less}
 use Rattle.window_rewrite.proofs.Behind.{some_ahead, at_end, over_moved}
-use Rattle.window_rewrite.proofs.Chosen.{none_on, none_applies, look_cost, piece_cost}
+use Rattle.window_rewrite.proofs.Chosen.{clear_on, none_on, none_applies, look_cost, piece_cost}
 use Rattle.window_rewrite.proofs.finding.next.Goals as goal
 
 pub returns-in_err-choice-clause-cost : goal.returns-in_err-choice-clause-cost
@@ -40,13 +41,21 @@ loop-alloc-preserved g c =
     let step = c.in_ok-forward.ensures.place p.rest p.piece p.is in
     let lines : lines_at c.forward.new.self ≡ lines_at c.loop-alloc.cursor = c.in_ok-forward.ensures.lines in
     let none = rw c.in_default.is at c.in_ok-choice.ensures.none in
+    let before : NoneBefore c.best.new.refused (setting_of c.args.rules.now) (lines_at c.loop-alloc.cursor) (place_at c.loop-alloc.cursor) =
+    λ o m. c.loop-alloc.invariant.none o (meets_less c.loop-alloc.refused c.best.new.refused (setting_of c.args.rules.now) o (lines_at c.loop-alloc.cursor) c.in_ok-choice.ensures.stays m) in
     let past =
-    none_on c.args.rules.now.base c.args.rules.now.longest (rules_in c.args.rules.now.entries.now) c.loop-alloc.cursor.lines.behind c.loop-alloc.cursor.lines.ahead p (place_at c.loop-alloc.cursor) (place_at c.forward.new.self) c.requires.ready.fit
-    c.loop-alloc.invariant.over.kept.is.passed step.0 c.loop-alloc.invariant.none none in
+    none_on c.best.new.refused c.args.rules.now.base c.args.rules.now.longest (rules_in c.args.rules.now.entries.now) c.loop-alloc.cursor.lines.behind c.loop-alloc.cursor.lines.ahead p (place_at c.loop-alloc.cursor) (place_at c.forward.new.self) c.requires.ready.fit
+    c.loop-alloc.invariant.over.kept.is.passed step.0 before none in
+    let on : NoneBefore c.best.new.refused (setting_of c.args.rules.now) (lines_at c.forward.new.self) (place_at c.forward.new.self) =
+    subst (λ (ls : List Line). NoneBefore c.best.new.refused (setting_of c.args.rules.now) ls (place_at c.forward.new.self)) (sym lines) past in
     record {
       over = over_moved c.args.rules.now c.args.ground.now c.loop-alloc.cursor c.forward.new.self c.loop-alloc.invariant.over c.in_ok-forward.ensures.is lines c.in_ok-forward.ensures.spots;
       lines = lines ∙ c.loop-alloc.invariant.lines;
-      none = subst (λ (ls : List Line). NoneBefore (setting_of c.args.rules.now) ls (place_at c.forward.new.self)) (sym lines) past;
+      none = on;
+      clear =
+          subst (λ k. NoneBefore false (setting_of c.args.rules.now) (lines_at c.forward.new.self) k) (sym (c.still_clear-clear.ensures ∙ ap (λ k. if c.best.new.refused then c.loop-alloc.clear else k) c.place.ensures))
+          (clear_on c.best.new.refused (setting_of c.args.rules.now) (lines_at c.forward.new.self) (place_at c.forward.new.self) c.loop-alloc.clear on
+          (subst (λ (ls : List Line). NoneBefore false (setting_of c.args.rules.now) ls c.loop-alloc.clear) (sym lines) c.loop-alloc.invariant.clear));
       cost =
           piece_cost (length (rules_in c.args.rules.now.entries.now)) (place_at c.loop-alloc.cursor) (place_at c.forward.new.self) c.args.steps.now c.loop-alloc.steps c.best.new.steps c.loop-alloc.cursor.lines.ahead p step.0 c.loop-alloc.invariant.cost
           c.best.ensures.cost c.best.ensures.idle;
@@ -55,4 +64,4 @@ loop-alloc-preserved g c =
 pub returns-clause-none : goal.returns-clause-none
 returns-clause-none g c =
     let end = at_end c.loop-alloc.cursor c.loop-alloc.invariant.over.kept (c.is_at_end.ensures.0 c.loop-alloc-test.false) in
-    none_applies c.args.rules.now.base c.args.rules.now.longest (rules_in c.args.rules.now.entries.now) (lines_at c.loop-alloc.cursor) (place_at c.loop-alloc.cursor) c.requires.ready.fit end c.loop-alloc.invariant.none
+    none_applies c.loop-alloc.refused c.args.rules.now.base c.args.rules.now.longest (rules_in c.args.rules.now.entries.now) (lines_at c.loop-alloc.cursor) (place_at c.loop-alloc.cursor) c.requires.ready.fit end c.loop-alloc.invariant.none

@@ -1,4 +1,4 @@
-use Rattle.std.proofs.Common.{◌≡◌, ◌+◌, ◌*◌, ◌≤◌, length}
+use Rattle.std.proofs.Common.{◌≡◌, ◌+◌, ◌*◌, ◌≤◌, false, length}
 use Rattle.line_cursor.specs.Cursors.{lines_at, place_at}
 use Rattle.window_rewrite.specs.Rules.{rules_in}
 use Rattle.window_rewrite.specs.Choices.{setting_of, NoneBefore}
@@ -9,7 +9,8 @@ abbrev pub invariant-loop-alloc : goal.invariant-loop-alloc
 invariant-loop-alloc g l = record {
   over : IsOver l.rules l.ground l.cursor;
   lines : lines_at l.cursor ≡ lines_at l.initial.cursor;
-  none : NoneBefore (setting_of l.rules) (lines_at l.cursor) (place_at l.cursor);
+  none : NoneBefore l.refused (setting_of l.rules) (lines_at l.cursor) (place_at l.cursor);
+  clear : NoneBefore false (setting_of l.rules) (lines_at l.cursor) l.clear;
   cost : l.steps ≤ l.initial.steps + place_at l.cursor * length (rules_in l.rules.entries.now);
 }
 

@@ -1,22 +1,21 @@
-use Rattle.std.proofs.Common.{◌≡◌, ◌∙◌, ℕ, ◌+◌, ◌-◌, ◌<◌, List, true, false, Some, length, map, slice_index_or, ap, arith, refl, sym, subst}
+use Rattle.std.proofs.Common.{◌≡◌, ◌∙◌, ℕ, ◌+◌, ◌-◌, ◌<◌, List, true, false, Some, length, map, slice_index_or, ap, arith, refl, sym, subst, true≢false}
 use Rattle.std.specs.Prelude.{slice_get}
-use Rattle.std.specs.List.{list_all}
 use Rattle.std.proofs.lemmas.Option.{slice_get_read}
 use Rattle.thumb_instr.specs.declared.instr.Instr.{Instr}
 use Rattle.thumb_instr.specs.Renaming.{Low, renamed}
 use Rattle.thumb_model.specs.Layout.{Layable}
 use Rattle.thumb_model.specs.Listing.{Line, labels_from, places_of}
-use Rattle.thumb_model.specs.Rewrite.{Rule, register_count}
+use Rattle.thumb_model.specs.Rewrite.{Rule}
 use Rattle.thumb_model.specs.Rewritten.{left_length, replaced_lines}
 use Rattle.rule_table.specs.declared.table.Entry.{Entry}
-use Rattle.listing_parser.specs.Replacing.{own_line, names_no_label}
+use Rattle.listing_parser.specs.Replacing.{own_line}
 use Rattle.line_cursor.specs.Cursors.{lines_at, place_at, IsSettled}
 use Rattle.window_rewrite.specs.declared.finding.Rules.{Rules}
 use Rattle.window_rewrite.specs.Rewriting.{registers_of}
 use Rattle.window_rewrite.specs.Rules.{entry_rule, rules_in, IsFit}
 use Rattle.window_rewrite.specs.Choices.{setting_of, AreReady}
 use Rattle.window_rewrite.proofs.Sides.{stands_once}
-use Rattle.window_rewrite.proofs.Applied.{applied, back, laid, IsMade, ops_of, plain_all}
+use Rattle.window_rewrite.proofs.Applied.{applied, back, back_laid, laid, IsMade}
 use Rattle.window_rewrite.proofs.Accepted.{entry_at}
 use Rattle.window_rewrite.proofs.Chosen.{length_at}
 use Rattle.window_rewrite.specs.Sweeps.{is_steady}
@@ -46,30 +45,32 @@ fitting-requires-clause-canonical g c =
     let e = entry c.args.rules.now c.args.number c.args.window.now c.index-rules-number.result c.requires.ready c.requires.number c.index-rules-number.is c.requires.long in
     e.fit.canonical
 
-pub may_give_way-requires-clause-window : goal.may_give_way-requires-clause-window
-may_give_way-requires-clause-window g c = ops_of c.args.window.now (length c.args.window.now) _ refl c.requires.stands.is_window.stands
-
-pub may_give_way-requires-clause-unlabelled : goal.may_give_way-requires-clause-unlabelled
-may_give_way-requires-clause-unlabelled g c = c.requires.stands.is_window.unlabelled
-
-pub may_give_way-requires-clause-joined : goal.may_give_way-requires-clause-joined
-may_give_way-requires-clause-joined g c = c.requires.stands.is_window.joined
-
 pub returns-in-None-clause-none : goal.returns-in-None-clause-none
 returns-in-None-clause-none g c = λ registers a.
     let e = entry c.args.rules.now c.args.number c.args.window.now c.index-rules-number.result c.requires.ready c.requires.number c.index-rules-number.is c.requires.long in
     let rule : Rule = entry_rule (slice_index_or c.args.rules.now.entries.now c.args.number c.index-rules-number.result) in
-    let b = back c.args.rules.now.base (rules_in c.args.rules.now.entries.now) (lines_at c.args.cursor.now) (place_at c.args.cursor.now) c.args.number rule registers c.args.window.now c.args.live.bits e.at e.long c.requires.stands a in
+    let b = back c.args.rules.now.base (rules_in c.args.rules.now.entries.now) (lines_at c.args.cursor.now) (place_at c.args.cursor.now) c.args.number rule registers c.args.window.now c.args.live.bits e.at e.long c.requires.stands a.0 in
     c.in-None.ensures registers b.fits
 
-pub may_give_way-requires-clause-plain : goal.may_give_way-requires-clause-plain
-may_give_way-requires-clause-plain g c =
+pub returns-then-not-is_settled-clause-none : goal.returns-then-not-is_settled-clause-none
+returns-then-not-is_settled-clause-none g c = λ given a.
     let e = entry c.args.rules.now c.args.number c.args.window.now c.index-rules-number.result c.requires.ready c.requires.number c.index-rules-number.is c.requires.long in
     let rule : Rule = entry_rule (slice_index_or c.args.rules.now.entries.now c.args.number c.index-rules-number.result) in
     let registers : List Low = registers_of c.in-Some.map in
     let new : c.renamed_all-new.result ≡ map (renamed registers) rule.right =
     c.renamed_all-new.ensures ∙ ap (λ (rs : List Low). map (renamed rs) c.as_slice.result.now) (c.deref.ensures.0 ∙ c.registers_of.ensures) ∙ ap (map (renamed registers)) c.as_slice.ensures.value in
-    subst (λ (is : List Instr). list_all names_no_label is ≡ true) (sym (c.as_slice-2.ensures.value ∙ new)) (plain_all (register_count rule.left) registers rule.right e.fit.sound.right)
+    let b = back c.args.rules.now.base (rules_in c.args.rules.now.entries.now) (lines_at c.args.cursor.now) (place_at c.args.cursor.now) c.args.number rule given c.args.window.now c.args.live.bits e.at e.long c.requires.stands a.0 in
+    let same : given ≡ registers = stands_once rule given registers c.args.window.now e.fit.sound e.fit.canonical b.fits.stands c.in-Some.ensures.0.stands in
+    let is : map (renamed given) rule.right ≡ c.as_slice-2.result.now = ap (λ (rs : List Low). map (renamed rs) rule.right) same ∙ sym (c.as_slice-2.ensures.value ∙ new) in
+    let settled = c.is_settled.ensures.1 (subst (λ (js : List Instr). IsSettled (places_of (lines_at c.args.cursor.now)) (labels_from 0 (lines_at c.args.cursor.now)) (place_at c.args.cursor.now) (length c.args.window.now) js) is b.settled) in
+    let never : true ≡ false = sym settled ∙ c.if-not-is_settled.true in
+    absurd (true≢false never)
+
+pub can_be_laid-requires-clause-count : goal.can_be_laid-requires-clause-count
+can_be_laid-requires-clause-count g c = let shorter = c.in-Some.ensures.0.shorter in
+    let e = entry c.args.rules.now c.args.number c.args.window.now c.index-rules-number.result c.requires.ready c.requires.number c.index-rules-number.is c.requires.long in
+    let long = e.long in
+    omega arith
 
 pub returns-then-not-branch-clause-none : goal.returns-then-not-branch-clause-none
 returns-then-not-branch-clause-none g c = λ given a.
@@ -78,15 +79,13 @@ returns-then-not-branch-clause-none g c = λ given a.
     let registers : List Low = registers_of c.in-Some.map in
     let new : c.renamed_all-new.result ≡ map (renamed registers) rule.right =
     c.renamed_all-new.ensures ∙ ap (λ (rs : List Low). map (renamed rs) c.as_slice.result.now) (c.deref.ensures.0 ∙ c.registers_of.ensures) ∙ ap (map (renamed registers)) c.as_slice.ensures.value in
-    let b = back c.args.rules.now.base (rules_in c.args.rules.now.entries.now) (lines_at c.args.cursor.now) (place_at c.args.cursor.now) c.args.number rule given c.args.window.now c.args.live.bits e.at e.long c.requires.stands a in
+    let b = back c.args.rules.now.base (rules_in c.args.rules.now.entries.now) (lines_at c.args.cursor.now) (place_at c.args.cursor.now) c.args.number rule given c.args.window.now c.args.live.bits e.at e.long c.requires.stands a.0 in
+    let laid = back_laid c.args.rules.now.base (rules_in c.args.rules.now.entries.now) (lines_at c.args.cursor.now) (place_at c.args.cursor.now) c.args.number rule given c.args.window.now e.at e.long a in
     let same : given ≡ registers = stands_once rule given registers c.args.window.now e.fit.sound e.fit.canonical b.fits.stands c.in-Some.ensures.0.stands in
-    let is : map (renamed given) rule.right ≡ c.as_slice-2.result.now = ap (λ (rs : List Low). map (renamed rs) rule.right) same ∙ sym (c.as_slice-2.ensures.value ∙ new) in
-    let may : c.in_ok-may_give_way.field-0 ≡ true = c.in_ok-may_give_way.ensures.1 (
-      subst (λ (js : List Instr). IsSettled (places_of (lines_at c.args.cursor.now)) (labels_from 0 (lines_at c.args.cursor.now)) (place_at c.args.cursor.now) (length c.args.window.now) js) is b.settled,
-      λ _. subst (λ (js : List Instr). Layable c.args.rules.now.base (replaced_lines own_line (place_at c.args.cursor.now) (length c.args.window.now) js (lines_at c.args.cursor.now))) is b.layable,
-    ) in
+    let is : map (renamed given) rule.right ≡ c.as_slice-3.result.now = ap (λ (rs : List Low). map (renamed rs) rule.right) same ∙ sym (c.as_slice-3.ensures.value ∙ new) in
+    let may = c.in_ok-can_be_laid.ensures.1 (λ _. subst (λ (js : List Instr). Layable c.args.rules.now.base (replaced_lines own_line (place_at c.args.cursor.now) (length c.args.window.now) js (lines_at c.args.cursor.now))) is laid) in
     let never : true ≡ false = sym may ∙ c.if-not-branch.true in
-    cc
+    absurd (true≢false never)
 
 pub copied-requires : goal.copied-requires
 copied-requires g c =
@@ -106,13 +105,11 @@ returns-clause-some g c =
     let registers : List Low = registers_of c.in-Some.map in
     let new : c.renamed_all-new.result ≡ map (renamed registers) rule.right =
     c.renamed_all-new.ensures ∙ ap (λ (rs : List Low). map (renamed rs) c.as_slice.result.now) (c.deref.ensures.0 ∙ c.registers_of.ensures) ∙ ap (map (renamed registers)) c.as_slice.ensures.value in
-    let may = c.in_ok-may_give_way.ensures.0 c.if-not-branch.false in
     let count : length c.args.window.now ≡ length rule.left = sym e.long in
-    let is : c.as_slice-2.result.now ≡ c.renamed_all-new.result = c.as_slice-2.ensures.value in
     let settled : IsSettled (places_of lines) (labels_from 0 lines) place (length c.args.window.now) c.renamed_all-new.result =
-    subst (λ (js : List Instr). IsSettled (places_of lines) (labels_from 0 lines) place (length c.args.window.now) js) is may.0 in
+    subst (λ (js : List Instr). IsSettled (places_of lines) (labels_from 0 lines) place (length c.args.window.now) js) c.as_slice-2.ensures.value (c.is_settled.ensures.0 c.if-not-is_settled.false) in
     let asked : is_steady c.args.ground.now ≡ false → Layable c.args.rules.now.base (replaced_lines own_line place (length c.args.window.now) (map (renamed registers) rule.right) lines) =
-    λ f. subst (λ (js : List Instr). Layable c.args.rules.now.base (replaced_lines own_line place (length c.args.window.now) js lines)) (is ∙ new) (may.1 f) in
+    λ f. subst (λ (js : List Instr). Layable c.args.rules.now.base (replaced_lines own_line place (length c.args.window.now) js lines)) (c.as_slice-3.ensures.value ∙ new) (c.in_ok-can_be_laid.ensures.0 c.if-not-branch.false f) in
     let m =
     applied c.args.rules.now.base (rules_in c.args.rules.now.entries.now) lines place c.args.number rule registers c.args.window.now c.args.live.bits c.renamed_all-new.result e.at e.fit.sound c.requires.stands c.in-Some.ensures.0 new settled
     (laid c.args.rules.now c.args.ground.now lines place rule registers c.args.window.now c.requires.over.over e.fit.sound count asked) in

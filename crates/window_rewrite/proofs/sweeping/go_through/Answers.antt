@@ -10,64 +10,68 @@ use Rattle.window_rewrite.specs.Rules.{rules_in}
 use Rattle.window_rewrite.specs.Choices.{setting_of, choice_of}
 use Rattle.window_rewrite.specs.Sweeps.{MayBeListed}
 use Rattle.window_rewrite.proofs.Rounds.{comes_on, last_tries, longer_by_one, some_more, turn_cost}
-use Rattle.window_rewrite.proofs.Turning.{may_be_listed, still_steady}
+use Rattle.window_rewrite.proofs.Turning.{may_be_listed, still_over, still_steady}
 use Rattle.window_rewrite.proofs.sweeping.go_through.Goals as goal
 
 pub returns-then-not-goes_on-clause-listed : goal.returns-then-not-goes_on-clause-listed
 returns-then-not-goes_on-clause-listed g c =
-    let choice = rw c.in-Some.is at c.in_ok-choice.ensures.some in
+    let choice = rw c.in-Some.is at c.in_ok-found.ensures.some in
     subst MayBeListed (sym c.in_ok-goes_on.ensures.lines)
-    (may_be_listed (lines_at c.next.new.cursor) (setting_of c.args.rules.now) (choice_of c.in-Some.choice) choice.first.applies c.in_ok-choice.ensures.over.over.listed)
+    (may_be_listed (lines_at c.next.new.cursor) (setting_of c.args.rules.now) (choice_of c.in-Some.found.choice) choice.first.applies c.in_ok-found.ensures.over.over.listed)
 
 pub returns-then-not-goes_on-clause-steady : goal.returns-then-not-goes_on-clause-steady
 returns-then-not-goes_on-clause-steady g c = λ h.
-    let choice = rw c.in-Some.is at c.in_ok-choice.ensures.some in
+    let choice = rw c.in-Some.is at c.in_ok-found.ensures.some in
     subst (IsSteady c.args.rules.now.base) (sym c.in_ok-goes_on.ensures.lines)
-    (still_steady (setting_of c.args.rules.now) c.args.rules.now.longest (choice_of c.in-Some.choice) (lines_at c.next.new.cursor) c.requires.ready.fit choice.first.applies (c.in_ok-choice.ensures.over.over.steady h))
+    (still_steady (setting_of c.args.rules.now) c.args.rules.now.longest (choice_of c.in-Some.found.choice) (lines_at c.next.new.cursor) c.requires.ready.fit choice.first.applies (c.in_ok-found.ensures.over.over.steady h))
 
 pub returns-then-not-goes_on-clause-fewer : goal.returns-then-not-goes_on-clause-fewer
 returns-then-not-goes_on-clause-fewer g c =
-    let choice = rw c.in-Some.is at c.in_ok-choice.ensures.some in
-    let come = comes_on _ _ _ _ _ _ _ _ _ _ _ _ c.in-Some.choice.replacement c.loop-choice.invariant.come c.in_ok-choice.ensures.lines choice.first c.in_ok-goes_on.ensures.lines c.in_ok-push.ensures.items (turn_cost _ _ _ _ _ _ c.in_ok-goes_on.goes_on c.in_ok-choice.ensures.lines c.in_ok-choice.ensures.cost c.in_ok-goes_on.ensures.cost) in
-    let more = some_more _ _ _ _ _ _ _ _ _ c.in-Some.choice.replacement c.loop-choice.invariant.come c.in_ok-push.ensures.items in
+    let choice = rw c.in-Some.is at c.in_ok-found.ensures.some in
+    let come = comes_on _ _ _ _ _ _ _ _ _ _ _ _ c.in-Some.found.choice.replacement c.loop-found.invariant.come c.in_ok-found.ensures.lines choice.first c.in_ok-goes_on.ensures.lines c.in_ok-push.ensures.items (turn_cost _ _ _ _ _ _ c.in_ok-goes_on.goes_on c.in_ok-found.ensures.lines c.in_ok-found.ensures.cost c.in_ok-goes_on.ensures.cost) in
+    let more = some_more _ _ _ _ _ _ _ _ _ c.in-Some.found.choice.replacement c.loop-found.invariant.come c.in_ok-push.ensures.items in
     let fewer = come.fewer in
     omega arith
 
 pub returns-then-not-goes_on-clause-cost : goal.returns-then-not-goes_on-clause-cost
 returns-then-not-goes_on-clause-cost g c =
-    let come = c.loop-choice.invariant.come in
+    let come = c.loop-found.invariant.come in
     let none : from_bool c.in_ok-goes_on.goes_on ≡ 0 = ap from_bool c.if-not-goes_on.true in
     let visited = ap (λ n. n * visits (length (places_of (lines_at c.next.new.cursor)))) none in
     let turned = c.in_ok-goes_on.ensures.cost in
-    let tried = c.in_ok-choice.ensures.cost in
-    let one = longer_by_one _ _ c.in-Some.choice.replacement c.in_ok-push.ensures.items in
+    let tried = c.in_ok-found.ensures.cost in
+    let one = longer_by_one _ _ c.in-Some.found.choice.replacement c.in_ok-push.ensures.items in
     let last = last_tries _ _ _ _ _ _ _ _ c.turn.new.steps come (omega arith) in
     subst (λ n. c.turn.new.steps + visits (length (places_of (lines_at c.args.cursor.now))) + length c.args.replacements.now.items * round_cost (length (places_of (lines_at c.args.cursor.now))) (length (rules_in c.args.rules.now.entries.now))
     ≤ c.args.steps.now + n * round_cost (length (places_of (lines_at c.args.cursor.now))) (length (rules_in c.args.rules.now.entries.now))) (omega (arith, one)) last
 
 pub returns-clause-cost : goal.returns-clause-cost
-returns-clause-cost g c = last_tries _ _ _ _ _ _ _ _ _ c.loop-choice.invariant.come c.in_ok-choice.ensures.cost
+returns-clause-cost g c = last_tries _ _ _ _ _ _ _ _ _ c.loop-found.invariant.come c.in_ok-found.ensures.cost
 
 pub returns-then-not-goes_on-clause-whole : goal.returns-then-not-goes_on-clause-whole
 returns-then-not-goes_on-clause-whole g c =
-    let choice = rw c.in-Some.is at c.in_ok-choice.ensures.some in
-    subst (All IsWhole) (sym c.in_ok-push.ensures.items) (All-push IsWhole _ c.in-Some.choice.replacement c.loop-choice.invariant.whole choice.is.whole)
+    let choice = rw c.in-Some.is at c.in_ok-found.ensures.some in
+    subst (All IsWhole) (sym c.in_ok-push.ensures.items) (All-push IsWhole _ c.in-Some.found.choice.replacement c.loop-found.invariant.whole choice.is.whole)
 
-pub loop-choice-smaller : goal.loop-choice-smaller
-loop-choice-smaller g c =
-    let choice = rw c.in-Some.is at c.in_ok-choice.ensures.some in
-    let less = fewer_after (setting_of c.args.rules.now) (choice_of c.in-Some.choice) (lines_at c.next.new.cursor) choice.first.applies in
-    let here = ap (λ (l : List Line). length (places_of l)) c.in_ok-choice.ensures.lines in
+pub loop-found-smaller : goal.loop-found-smaller
+loop-found-smaller g c =
+    let choice = rw c.in-Some.is at c.in_ok-found.ensures.some in
+    let less = fewer_after (setting_of c.args.rules.now) (choice_of c.in-Some.found.choice) (lines_at c.next.new.cursor) choice.first.applies in
+    let here = ap (λ (l : List Line). length (places_of l)) c.in_ok-found.ensures.lines in
     let there = ap (λ (l : List Line). length (places_of l)) c.in_ok-goes_on.ensures.lines in
-    let all : length (places_of (lines_at c.turn.new.cursor)) < length (places_of (lines_at c.loop-choice.cursor)) = omega arith in
+    let all : length (places_of (lines_at c.turn.new.cursor)) < length (places_of (lines_at c.loop-found.cursor)) = omega arith in
     all
 
-pub loop-choice-preserved : goal.loop-choice-preserved
-loop-choice-preserved g c =
-    let choice = rw c.in-Some.is at c.in_ok-choice.ensures.some in
+pub loop-found-preserved : goal.loop-found-preserved
+loop-found-preserved g c =
+    let choice = rw c.in-Some.is at c.in_ok-found.ensures.some in
     record {
-      over = c.in_ok-goes_on.ensures.over c.if-not-goes_on.false;
+      over = record {
+        kept = c.in_ok-goes_on.ensures.kept c.if-not-goes_on.false;
+        over = still_over c.args.rules.now c.args.ground.now (lines_at c.next.new.cursor) (lines_at c.turn.new.cursor) (choice_of c.in-Some.found.choice) c.requires.ready choice.first.applies c.in_ok-goes_on.ensures.lines
+            c.in_ok-found.ensures.over.over;
+      };
       before = c.in_ok-goes_on.ensures.before c.if-not-goes_on.false;
-      whole = subst (All IsWhole) (sym c.in_ok-push.ensures.items) (All-push IsWhole _ c.in-Some.choice.replacement c.loop-choice.invariant.whole choice.is.whole);
-      come = comes_on _ _ _ _ _ _ _ _ _ _ _ _ c.in-Some.choice.replacement c.loop-choice.invariant.come c.in_ok-choice.ensures.lines choice.first c.in_ok-goes_on.ensures.lines c.in_ok-push.ensures.items (turn_cost _ _ _ _ _ _ c.in_ok-goes_on.goes_on c.in_ok-choice.ensures.lines c.in_ok-choice.ensures.cost c.in_ok-goes_on.ensures.cost);
+      whole = subst (All IsWhole) (sym c.in_ok-push.ensures.items) (All-push IsWhole _ c.in-Some.found.choice.replacement c.loop-found.invariant.whole choice.is.whole);
+      come = comes_on _ _ _ _ _ _ _ _ _ _ _ _ c.in-Some.found.choice.replacement c.loop-found.invariant.come c.in_ok-found.ensures.lines choice.first c.in_ok-goes_on.ensures.lines c.in_ok-push.ensures.items (turn_cost _ _ _ _ _ _ c.in_ok-goes_on.goes_on c.in_ok-found.ensures.lines c.in_ok-found.ensures.cost c.in_ok-goes_on.ensures.cost);
     }

@@ -1,5 +1,6 @@
 use Rattle.std.proofs.Common.{ℕ, ◌+◌, ◌*◌, ◌≤◌, List, not, length, map, refl, sym, ap, ◌∙◌, subst, arith, true≢false}
 use Rattle.std.specs.Int.{from_bool}
+use Rattle.thumb_model.specs.Layout.{set_address}
 use Rattle.thumb_model.specs.Listing.{Line, places_of}
 use Rattle.listing_parser.specs.declared.line.Line.{Line as Lines}
 use Rattle.listing_parser.specs.TableWords.{DefineOnce}
@@ -19,7 +20,7 @@ of-requires-clause-once g c = subst DefineOnce (sym (c.in_ok-copy_lines.ensures 
 
 pub sweep_lines-requires-2-clause-over : goal.sweep_lines-requires-2-clause-over
 sweep_lines-requires-2-clause-over g c =
-    begins_asked c.args.rules.now _ _ c.args.listing c.into_lines-lines.ensures.lines c.into_lines-lines.ensures.few c.into_lines-lines.ensures.once refl (sym (c.in_ok-listing.ensures ∙ c.in_ok-copy_lines.ensures ∙ ap (λ (ls : List Lines). map line_view ls) c.deref.ensures.value))
+    begins_asked c.args.rules.now _ _ c.args.listing c.into_lines-lines.ensures.lines c.into_lines-lines.ensures.few c.into_lines-lines.ensures.once refl (λ q. ap (set_address q) (c.in_ok-sets.ensures ∙ c.in_ok-copy_lines.ensures ∙ ap (λ (ls : List Lines). map line_view ls) c.deref.ensures.value))
 
 pub returns-clause-steady : goal.returns-clause-steady
 returns-clause-steady g c = λ h. absurd (true≢false (sym h ∙ c.if-steady.false))
