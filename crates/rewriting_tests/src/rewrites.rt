@@ -184,6 +184,13 @@ fn rewrites(rt: HostRuntime) -> Result<(), Fail> {
     let text = far(alloc, 126)?;
     let shorter = text.as_str().replace(alloc, "\tmov r0, r0\n", "")?;
     assert!(rt; gives(alloc, &[MOVE], text.as_str(), shorter.as_str(), &[(0, 1)])?);
+    // it does no more once an instruction behind the branch is gone too
+    let text = far(alloc, 127)?;
+    let longer = text
+        .as_str()
+        .replace(alloc, "\t.align", "\tmov r1, r1\n\t.align")?;
+    let shorter = text.as_str().replace(alloc, "\tmov r0, r0\n", "")?;
+    assert!(rt; gives(alloc, &[MOVE], longer.as_str(), shorter.as_str(), &[(129, 1), (0, 1)])?);
     Ok(())
 }
 
