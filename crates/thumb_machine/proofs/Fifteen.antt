@@ -1,5 +1,5 @@
 -- The registers of a state in one list.
-use Rattle.std.proofs.Common.{◌≡◌, ℕ, zero, suc, ◌==◌, nat_lt, false, List, [], ◌∷◌, get_or, refl, arith, if◌then◌else◌, ne_eqb}
+use Rattle.std.proofs.Common.{◌≡◌, ℕ, suc, ◌==◌, nat_lt, false, List, [], ◌∷◌, get_or, refl, arith, if◌then◌else◌, ne_eqb}
 use Rattle.std.specs.Prelude.{slice_index}
 use Rattle.std.proofs.lemmas.Bool.{le-ltb}
 use Rattle.thumb_model.specs.Items.{sp, lr}

@@ -1,5 +1,5 @@
 -- An instruction that computes names registers that are there.
-use Rattle.std.proofs.Common.{◌≡◌, ℕ, ◌<◌, true, arith}
+use Rattle.std.proofs.Common.{◌≡◌, ◌<◌, true, arith}
 use Rattle.thumb_instr.specs.declared.instr.Instr.{Instr}
 use Rattle.thumb_instr.specs.declared.instr.Instr.TheVariants as instr
 use Rattle.thumb_instr.specs.Renaming.{Low, Reg, named, AreBelow}

@@ -1,4 +1,4 @@
-use Rattle.std.proofs.Common.{◌≡◌, ◌∙◌, ◌+◌, ℕ, if◌then◌else◌, arith, ap, rules}
+use Rattle.std.proofs.Common.{◌≡◌, ◌∙◌, ◌+◌, ℕ, if◌then◌else◌, arith, ap}
 use Rattle.std.proofs.lemmas.Grind.{common_steps}
 use Rattle.std.specs.Prelude.{slice_index, unwrap_or}
 use Rattle.std.specs.declared.alloc.Global.{Global}
@@ -6,7 +6,7 @@ use Rattle.std.specs.declared.vec.Vec.{Vec}
 use Rattle.thumb_model.specs.Layout.{end_of}
 use Rattle.thumb_model.specs.Laid.{last_is_call}
 use Rattle.thumb_model.specs.Listing.{places_of}
-use Rattle.thumb_machine.specs.Words.{Entries, word_in}
+use Rattle.thumb_machine.specs.Words.{word_in}
 use Rattle.thumb_machine.proofs.ReturnLemmas.{laid_returns}
 use Rattle.thumb_machine.proofs.WordLemmas.{laid_word}
 use Rattle.thumb_machine.proofs.naming.Naming.laid.Goals as goal
