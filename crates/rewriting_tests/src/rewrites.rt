@@ -190,7 +190,15 @@ fn rewrites(rt: HostRuntime) -> Result<(), Fail> {
         .as_str()
         .replace(alloc, "\t.align", "\tmov r1, r1\n\t.align")?;
     let shorter = text.as_str().replace(alloc, "\tmov r0, r0\n", "")?;
-    assert!(rt; gives(alloc, &[MOVE], longer.as_str(), shorter.as_str(), &[(129, 1), (0, 1)])?);
+    assert!(rt;
+        gives(
+            alloc,
+            &[MOVE],
+            longer.as_str(),
+            shorter.as_str(),
+            &[(129, 1), (0, 1)]
+        )?
+    );
     Ok(())
 }
 
