@@ -31,6 +31,19 @@ fn encode(instr: &Instr) -> u16 {
     }
 }
 
+/// The registers and numbers of an instruction.
+fn numbers(instr: &Instr) -> u64 {
+    let of = |first: u8, second: u8, third: u8| u64::from(first) << 16 | u64::from(second) << 8 | u64::from(third);
+    match *instr {
+        Instr::Three { d, n, m, .. } => of(d, n, m),
+        Instr::Number { d, n, i, .. } => of(d, n, i),
+        Instr::Byte { d, i, .. } => of(d, i, 0),
+        Instr::Shift { d, m, i, .. } => of(d, m, i),
+        Instr::Two { d, m, .. } | Instr::Extend { d, m, .. } | Instr::Reverse { d, m, .. } => of(d, m, 0),
+        Instr::Movs { d, m } | Instr::Mov { d, m } | Instr::Add { d, m } => of(d, m, 0),
+    }
+}
+
 fn alphabet(k: u8, pool: &[u8]) -> Vec<Instr> {
     let mut all = Vec::new();
     let pairs = |all: &mut Vec<Instr>, make: &dyn Fn(u8, u8) -> Instr| {
@@ -111,10 +124,11 @@ fn main() {
     let (mut places, mut word) = (Vec::new(), Vec::new());
     let mut sum = 0u64;
     for _ in 0..5_000_000 {
-        let last = word.last().map_or(0, |instr| u64::from(encode(instr)));
+        let last = word.last().map_or(0, numbers);
         sum = sum.rotate_left(5) ^ last ^ (word.len() as u64).rotate_left(16);
         next(&mut places, &mut word, &letters);
     }
     eprintln!("{} ms", start.elapsed().as_millis());
-    println!("{sum:016x}");
+    let codes = letters.iter().fold(0u64, |codes, letter| codes.rotate_left(5) ^ u64::from(encode(letter)));
+    println!("{codes:016x} {sum:016x}");
 }

@@ -6,7 +6,7 @@ ghost use Rattle.std.specs.Prelude.{◌<◌, ◌≤◌, length};
 use seq_enum::{Pool, Walk, letters};
 use std::alloc::Global;
 use std::time::Instant;
-use thumb_instr::Instr;
+use thumb_instr::{Instr, parts};
 use thumb_table::{Code, encode};
 
 /// The code of an instruction of one halfword.
@@ -17,7 +17,22 @@ fn code(instr: &Instr) -> u64 {
     }
 }
 
-/// A digest of the last instructions.
+/// A digest of the letters.
+fn letters_digest(letters: &[Instr]) -> u64 {
+    let mut sum = 0u64;
+    for letter in letters {
+        sum = sum.rotate_left(5) ^ code(letter);
+    }
+    sum
+}
+
+/// The registers and numbers of an instruction.
+fn numbers(instr: &Instr) -> u64 {
+    let parts = parts(instr);
+    u64::from(parts.first) << 16 | u64::from(parts.second) << 8 | u64::from(parts.third)
+}
+
+/// A digest of the registers and numbers of the last instructions.
 fn digest(letters: &[Instr], count: u32) -> u64
     requires some { 0 < length letters.now }
     requires few { length letters.now ≤ 1952 }
@@ -28,7 +43,7 @@ fn digest(letters: &[Instr], count: u32) -> u64
         let instrs = walk.instrs();
         let last = match instrs.last() {
             None => 0,
-            Some(instr) => code(instr),
+            Some(instr) => numbers(instr),
         };
         sum = sum.rotate_left(5) ^ last ^ (instrs.len() as u64).rotate_left(16);
         walk.next();
@@ -45,6 +60,6 @@ fn main(rt: HostRuntime) -> anyhow::Result<()> {
     let start = Instant::now(&rt)?;
     let sum = digest(&letters, 5_000_000);
     eprintln!(rt; "{} ms", start.elapsed(&rt)?.as_millis())?;
-    println!(rt; "{sum:016x}")?;
+    println!(rt; "{:016x} {sum:016x}", letters_digest(&letters))?;
     Ok(())
 }
