@@ -9,9 +9,8 @@ use Rattle.thumb_instr.specs.Renaming.{renamed}
 use Rattle.thumb_model.specs.Listing.{Statement, Nothing, Runs, Words, Aligns, Sets, Line, Code, places_in, places_of, labels_from, code_of}
 use Rattle.thumb_model.specs.Flow.{LiveAfter}
 use Rattle.thumb_model.specs.Rewrite.{Rule, Applies, replaced}
-use Rattle.thumb_model.specs.Rewritten.{Setting, Replacement, AppliesIn, is_op, replaced_lines, lines_after_rule, lines_after, left_length, left_length_of}
+use Rattle.thumb_model.specs.Rewritten.{Setting, Replacement, AppliesIn, is_op, replaced_lines, lines_after_rule, lines_after, left_length, left_length_of, AreOps}
 use Rattle.thumb_model.proofs.LinesKept.{fewer_after, code_of_after}
-use Rattle.thumb_model.proofs.LinesReplaced.{AreOps}
 use Rattle.thumb_model.proofs.Table.{window_length}
 use Rattle.label_layout.specs.Pieces.{SetAlike}
 use Rattle.label_layout.proofs.SetsKept.{sets_kept}
