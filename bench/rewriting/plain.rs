@@ -184,23 +184,14 @@ impl<'a> Rewriter<'a> {
         count > 0 || !self.is_labelled[window.places[0] as usize] || behind != END && self.live.is_op(behind as usize)
     }
 
-    /// Gives and takes the bytes of a window's lines.
-    fn change_bytes(&mut self, window: &Window, new: usize, sign: i32) {
-        for place in &window.places[..window.count] {
-            self.reach.change(self.home[*place as usize] as usize, -2 * sign);
-        }
-        self.reach.change(self.home[window.places[0] as usize] as usize, 2 * new as i32 * sign);
-    }
-
-    /// Whether no mention is out of reach once a window has given way to so many instructions. Then its lines' bytes are those of after.
+    /// Whether no mention is out of reach once a window has given way to so many instructions. Then the layout is that of after.
     fn is_reached(&mut self, window: &Window, new: usize) -> bool {
         if self.reach.is_steady() {
             return true;
         }
-        self.change_bytes(window, new, 1);
-        let is_kept = self.reach.is_kept(self.listing);
+        let line = self.home[window.places[0] as usize];
+        let is_kept = self.reach.gives_way(line as usize, 2 * (window.count - new) as u32);
         if !is_kept {
-            self.change_bytes(window, new, -1);
             self.held = self.held.min(window.places[0]);
         }
         is_kept

@@ -1,5 +1,5 @@
-//! Whether a listing that is being rewritten can be laid out. A mention that stays in reach whichever instructions give way to fewer is looked at once; the
-//! others are looked at for each replacement.
+//! Whether a listing that is being rewritten can be laid out. Where each mention stays in reach whichever instructions give way to fewer, it is looked at once; otherwise
+//! a layout is kept, and what moves is looked at for each replacement, up to where an alignment takes up what went.
 
 use crate::instruction::Instr;
 use crate::layout::{aim_fault, size};
@@ -13,26 +13,60 @@ struct Start {
     aligned: bool,
 }
 
+/// What a stretch begins with.
 #[derive(Clone, Copy)]
-enum Aim {
-    /// The index of a label's line.
-    Line(usize),
+enum Head {
+    Plain,
+    Pads { size: u32, most: u32 },
+    Aims { instr: Instr, plus: u32, to: Option<Target> },
+}
+
+/// The stretch that begins with a label, or an address that is set.
+#[derive(Clone, Copy)]
+enum Target {
+    Stretch(usize),
     Address(u32),
 }
 
-/// A mention that may come out of reach.
-struct Loose {
-    line: usize,
-    instr: Instr,
-    plus: u32,
-    aim: Aim,
+/// Lines of which the first alone may have labels, mention a name or align.
+struct Stretch {
+    at: u32,
+    head: Head,
+    /// How many bytes it takes, its padding aside.
+    bytes: u32,
+    /// The stretches that begin with an instruction that mentions its label.
+    callers: Vec<usize>,
+    /// What 4 and the sizes of all alignments from here on divide.
+    grain: u32,
+}
+
+impl Stretch {
+    /// Where it ends if it begins at an address.
+    fn end(&self, at: u32) -> u32 {
+        at + self.bytes
+            + match self.head {
+                Head::Pads { size, most } => {
+                    let need = at.wrapping_neg() & (size - 1);
+                    if need <= most { need } else { 0 }
+                }
+                _ => 0,
+            }
+    }
 }
 
 pub struct Reach {
-    base: u32,
-    loose: Vec<Loose>,
-    /// How many bytes of instructions stand in each line.
-    bytes: Vec<u32>,
+    is_steady: bool,
+    stretches: Vec<Stretch>,
+    /// The number of the stretch in which each line stands.
+    numbers: Vec<usize>,
+    /// The stretches from this one on lie so many bytes before where they were noted.
+    border: usize,
+    shift: u32,
+    /// The stretches whose mention may come out of reach by coming nearer.
+    loose: Vec<usize>,
+    /// The new addresses of the stretches that move by themselves, and by how many bytes those behind move.
+    moved: Vec<u32>,
+    by: u32,
 }
 
 fn is_literal(instr: Instr) -> bool {
@@ -51,69 +85,165 @@ fn behind(here: Start, statement: &Statement) -> Start {
     }
 }
 
+/// The number of the stretch in which each line stands.
+fn numbers(listing: &Listing) -> Vec<usize> {
+    let mut number = 0;
+    let begins = |statement: &Statement| matches!(statement, Statement::Aligns { .. } | Statement::Runs { mention: Some(_), .. });
+    let mut next = |is_new: bool| {
+        number += usize::from(is_new);
+        number
+    };
+    listing.lines.iter().map(|line| next(!line.names.is_empty() || begins(&line.statement))).collect()
+}
+
+/// The stretches of a listing from a base.
+fn stretches(listing: &Listing, base: u32, numbers: &[usize]) -> Vec<Stretch> {
+    let mut all = vec![Stretch { at: base, head: Head::Plain, bytes: 0, callers: Vec::new(), grain: 4 }];
+    for (line, number) in listing.lines.iter().zip(numbers) {
+        if *number == all.len() {
+            let last = &all[number - 1];
+            let head = match &line.statement {
+                Statement::Aligns { size, most } => Head::Pads { size: *size, most: *most },
+                Statement::Runs { instr, mention: Some(Mention { name, plus }) } => {
+                    let to = listing.names.get(name).map(|meaning| match meaning {
+                        Meaning::Label(line) => Target::Stretch(numbers[*line]),
+                        Meaning::Address(address) => Target::Address(address & !1),
+                    });
+                    Head::Aims { instr: *instr, plus: *plus, to }
+                }
+                _ => Head::Plain,
+            };
+            all.push(Stretch { at: last.end(last.at), head, bytes: 0, callers: Vec::new(), grain: 4 });
+        }
+        if !matches!(line.statement, Statement::Aligns { .. }) {
+            all[*number].bytes += size(&line.statement, 0) as u32;
+        }
+    }
+    for number in 0..all.len() {
+        if let Head::Aims { to: Some(Target::Stretch(label)), .. } = all[number].head {
+            all[label].callers.push(number);
+        }
+    }
+    let mut grain = 4;
+    for stretch in all.iter_mut().rev() {
+        if let Head::Pads { size, .. } = stretch.head {
+            grain = grain.max(size);
+        }
+        stretch.grain = grain;
+    }
+    all
+}
+
+/// The stretches whose mention may come out of reach by coming nearer: of an address, or by a literal of a label that isn't behind it.
+fn loose(stretches: &[Stretch]) -> Vec<usize> {
+    let is_loose = |(number, stretch): (usize, &Stretch)| match stretch.head {
+        Head::Aims { to: Some(Target::Address(_)), .. } => Some(number),
+        Head::Aims { instr, to: Some(Target::Stretch(label)), .. } => (is_literal(instr) && label <= number).then_some(number),
+        _ => None,
+    };
+    stretches.iter().enumerate().filter_map(is_loose).collect()
+}
+
+/// Whether each mention stays in reach whichever instructions give way to fewer.
+fn is_steady(listing: &Listing, base: u32) -> bool {
+    let mut starts = Vec::with_capacity(listing.lines.len());
+    let mut here = Start { at: base, aligned: true };
+    for line in &listing.lines {
+        starts.push(here);
+        here = behind(here, &line.statement);
+    }
+    listing.lines.iter().map(|line| &line.statement).enumerate().all(|(line, statement)| {
+        let Statement::Runs { instr, mention: Some(Mention { name, plus }) } = statement else { return true };
+        let here = starts[line].at;
+        match listing.names.get(name) {
+            None => true,
+            Some(Meaning::Label(label)) if is_literal(*instr) => {
+                let Start { at, aligned } = starts[*label];
+                aligned && plus % 4 == 0 && here < at && u64::from(at) + u64::from(*plus) <= u64::from(here) + 1022
+            }
+            Some(Meaning::Label(label)) => aim_fault(here, *instr, starts[*label].at, *plus).is_none(),
+            Some(Meaning::Address(_)) if is_literal(*instr) => false,
+            Some(Meaning::Address(to)) => aim_fault(base, *instr, to & !1, *plus).is_none() && aim_fault(here, *instr, to & !1, *plus).is_none(),
+        }
+    })
+}
+
 impl Reach {
     pub fn of(listing: &Listing, base: u32) -> Reach {
-        let mut starts = Vec::with_capacity(listing.lines.len());
-        let mut bytes = Vec::with_capacity(listing.lines.len());
-        let mut here = Start { at: base, aligned: true };
-        for line in &listing.lines {
-            starts.push(here);
-            bytes.push(if let Statement::Runs { .. } = line.statement { size(&line.statement, here.at) as u32 } else { 0 });
-            here = behind(here, &line.statement);
-        }
-        let is_steady = |line: usize, instr: Instr, plus: u32, aim: Aim| {
-            let here = starts[line].at;
-            match aim {
-                Aim::Line(label) if is_literal(instr) => {
-                    let Start { at, aligned } = starts[label];
-                    aligned && plus % 4 == 0 && here < at && u64::from(at) + u64::from(plus) <= u64::from(here) + 1022
-                }
-                Aim::Line(label) => aim_fault(here, instr, starts[label].at, plus).is_none(),
-                Aim::Address(_) if is_literal(instr) => false,
-                Aim::Address(to) => aim_fault(base, instr, to, plus).is_none() && aim_fault(here, instr, to, plus).is_none(),
-            }
-        };
-        let loose_at = |(line, statement): (usize, &Statement)| {
-            let Statement::Runs { instr, mention: Some(Mention { name, plus }) } = statement else { return None };
-            let aim = match listing.names.get(name)? {
-                Meaning::Label(line) => Aim::Line(*line),
-                Meaning::Address(address) => Aim::Address(address & !1),
-            };
-            (!is_steady(line, *instr, *plus, aim)).then_some(Loose { line, instr: *instr, plus: *plus, aim })
-        };
-        let loose = listing.lines.iter().map(|line| &line.statement).enumerate().filter_map(loose_at).collect();
-        Reach { base, loose, bytes }
+        let is_steady = is_steady(listing, base);
+        let numbers = if is_steady { Vec::new() } else { numbers(listing) };
+        let stretches = if is_steady { Vec::new() } else { stretches(listing, base, &numbers) };
+        Reach { is_steady, border: stretches.len(), shift: 0, loose: loose(&stretches), stretches, numbers, moved: Vec::new(), by: 0 }
     }
 
     pub fn is_steady(&self) -> bool {
-        self.loose.is_empty()
+        self.is_steady
     }
 
-    /// Bytes of instructions come to a line, or go.
-    pub fn change(&mut self, line: usize, more: i32) {
-        self.bytes[line] = self.bytes[line].wrapping_add_signed(more);
+    fn start(&self, number: usize) -> u32 {
+        self.stretches[number].at - if number < self.border { 0 } else { self.shift }
     }
 
-    /// Whether no mention is out of reach.
-    pub fn is_kept(&self, listing: &Listing) -> bool {
-        if self.is_steady() {
-            return true;
+    /// Where a stretch begins once one has moved what is behind it.
+    fn moved(&self, here: usize, number: usize) -> u32 {
+        match number.checked_sub(here + 1) {
+            None => self.start(number),
+            Some(at) => self.moved.get(at).copied().unwrap_or_else(|| self.start(number) - self.by),
         }
-        let mut at = self.base;
-        let mut starts = Vec::with_capacity(listing.lines.len());
-        for (line, bytes) in listing.lines.iter().zip(&self.bytes) {
-            starts.push(at);
-            at += match &line.statement {
-                Statement::Runs { .. } => *bytes,
-                statement => size(statement, at) as u32,
-            };
+    }
+
+    /// Whether what a stretch begins with is in reach then.
+    fn reaches(&self, here: usize, number: usize) -> bool {
+        let Head::Aims { instr, plus, to: Some(to) } = self.stretches[number].head else { return true };
+        let to = match to {
+            Target::Stretch(label) => self.moved(here, label),
+            Target::Address(address) => address,
+        };
+        aim_fault(self.moved(here, number), instr, to, plus).is_none()
+    }
+
+    /// Moves what is behind a stretch that takes so many bytes fewer, up to where all that is behind moves alike.
+    fn walk(&mut self, here: usize, bytes: u32) {
+        self.moved.clear();
+        self.by = 0;
+        let mut at = self.stretches[here].end(self.start(here)) - bytes;
+        for number in here + 1..self.stretches.len() {
+            let (start, stretch) = (self.start(number), &self.stretches[number]);
+            if at <= start && (start - at) % stretch.grain == 0 {
+                self.by = start - at;
+                return;
+            }
+            self.moved.push(at);
+            at = stretch.end(at);
         }
-        self.loose.iter().all(|loose| {
-            let to = match loose.aim {
-                Aim::Line(label) => starts[label],
-                Aim::Address(to) => to,
-            };
-            aim_fault(starts[loose.line], loose.instr, to, loose.plus).is_none()
-        })
+    }
+
+    /// Takes so many bytes from a line's stretch where no mention comes out of reach, and tells whether none does.
+    pub fn gives_way(&mut self, line: usize, bytes: u32) -> bool {
+        let here = self.numbers[line];
+        self.walk(here, bytes);
+        let end = here + 1 + self.moved.len();
+        let is_kept = self.reaches(here, here)
+            && (here + 1..end).all(|number| self.reaches(here, number) && self.stretches[number].callers.iter().all(|caller| self.reaches(here, *caller)))
+            && self.loose.iter().all(|number| self.reaches(here, *number));
+        if is_kept {
+            self.shrink(here, end, bytes);
+        }
+        is_kept
+    }
+
+    fn shrink(&mut self, here: usize, end: usize, bytes: u32) {
+        for number in self.border..end {
+            self.stretches[number].at -= self.shift;
+        }
+        for (stretch, at) in self.stretches[here + 1..end].iter_mut().zip(&self.moved) {
+            stretch.at = *at;
+        }
+        for number in end..self.border {
+            self.stretches[number].at -= self.by;
+        }
+        self.border = self.border.max(end);
+        self.shift += self.by;
+        self.stretches[here].bytes -= bytes;
     }
 }

@@ -1,4 +1,3 @@
 pub mod Addresses
 pub mod Changes
 pub mod Refusals
-pub mod Pieces

@@ -88,8 +88,8 @@ impl Layout {
     }
 }
 
-/// An address with bit 0 cleared.
-pub(crate) fn cleared(address: Option<u32>) -> Option<u32>
+/// An address with bit 0 cleared, as a branch to a name for which it is set goes to it.
+pub fn cleared(address: Option<u32>) -> Option<u32>
     ensures { result ≡ cleared_of address }
 {
     match address {

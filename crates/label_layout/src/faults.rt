@@ -55,8 +55,9 @@ fn literal_fault(at: u32, to: Option<u32>, plus: u32) -> Option<Kind>
     }
 }
 
-/// What is wrong with an instruction that mentions what lies there, with a number added.
-pub(crate) fn aim_fault(at: u32, instr: &Instr, to: Option<u32>, plus: u32) -> Option<Kind>
+/// What is wrong with an instruction at an address, in bytes, that mentions what lies at `to`, with `plus` added. Nothing is where it mentions what lies nowhere, or
+/// where instructions of its kind mention nothing.
+pub fn aim_fault(at: u32, instr: &Instr, to: Option<u32>, plus: u32) -> Option<Kind>
     ensures { option_map fault_of result ≡ aim_fault_at at instr.now to plus }
 {
     match instr {

@@ -5,11 +5,10 @@ mod addresses;
 mod errors;
 mod faults;
 mod laying;
-mod pieces;
 mod sizes;
 
-pub use addresses::Layout;
+pub use addresses::{Layout, cleared};
 pub use errors::{Kind, LayoutError};
+pub use faults::aim_fault;
 pub use laying::layout;
-pub use pieces::are_layable;
-pub use sizes::{CODE_END, instr_size};
+pub use sizes::{CODE_END, instr_size, padding};

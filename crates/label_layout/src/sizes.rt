@@ -23,8 +23,8 @@ pub fn instr_size(instr: &Instr) -> u32
     }
 }
 
-/// What an alignment pads at an address.
-fn padding(size: u32, most: u32, at: u32) -> u32
+/// How many bytes an alignment to a multiple of `size` pads at an address: none where more than `most` are needed.
+pub fn padding(size: u32, most: u32, at: u32) -> u32
     ensures { result ≡ padding_at size most at }
 {
     if size == 0 {

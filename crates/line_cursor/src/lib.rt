@@ -6,8 +6,6 @@ pub mod cursor;
 pub mod gap;
 pub mod held;
 pub mod jumping;
-mod replacing;
 mod sources;
 
 pub use cursor::{Cursor, Spot};
-pub use replacing::Replaced;

@@ -16,7 +16,6 @@ mod live_items;
 #[cfg(test)]
 mod namings;
 #[cfg(test)]
-mod replacing;
 #[cfg(test)]
 mod runs;
 #[cfg(test)]

@@ -86,7 +86,7 @@ fn far(alloc: Global, nops: usize) -> Result<String, Fail> {
 #[test]
 fn rewrites(rt: HostRuntime) -> Result<(), Fail> {
     let alloc = rt.alloc();
-    let rows: [(&[&str], &str, &str, &[(u32, u64)]); 14] = [
+    let rows: [(&[&str], &str, &str, &[(u32, u64)]); 18] = [
         (
             &[COPY],
             "\tmov r1, r0\n\tmov r0, r1\n\tmov r5, r6\n\tmov r6, r5\n\tbx lr\n",
@@ -163,6 +163,33 @@ fn rewrites(rt: HostRuntime) -> Result<(), Fail> {
             "\tmov r1, r0\n\tmov r1, r0\n\tbx lr\n",
             "\tmov r1, r0\n\tmov r1, r0\n\tbx lr\n",
             &[],
+        ),
+        // nor may one of two go, where both together might
+        (
+            &[MOVE],
+            "\tmov r0, r0\n\tmov r1, r1\n\tldr r0, w\n\tbx lr\nw:\t.word 1\n",
+            "\tmov r0, r0\n\tmov r1, r1\n\tldr r0, w\n\tbx lr\nw:\t.word 1\n",
+            &[],
+        ),
+        // an address that is set would come out of a branch's reach
+        (
+            &[MOVE],
+            ".set far, 2052\n\tmov r0, r0\n\tb far\n",
+            ".set far, 2052\n\tmov r0, r0\n\tb far\n",
+            &[],
+        ),
+        // no alignment puts the first literal at a multiple of 4: the layout is asked for each
+        (
+            &[MOVE],
+            "\tldr r1, w\n\tb f\nw:\t.word 1\n.set near, 0x101\nf:\tb g\n\tmov r0, r0\ng:\tb near\n\tb f\n",
+            "\tldr r1, w\n\tb f\nw:\t.word 1\n.set near, 0x101\nf:\tb g\ng:\tb near\n\tb f\n",
+            &[(4, 1)],
+        ),
+        (
+            &[MOVE],
+            "\tldr r1, w\n\tb f\nw:\t.word 1\nf:\tmov r0, r0\n\tmov r1, r1\n\tldr r2, v\n\tbx lr\n\t.align 2\nv:\t.word 2\n\tmov r2, r2\n",
+            "\tldr r1, w\n\tb f\nw:\t.word 1\nf:\n\tldr r2, v\n\tbx lr\n\t.align 2\nv:\t.word 2\n",
+            &[(3, 1), (3, 1), (6, 1)],
         ),
         // what is set before the branch is read at its label, once the new instruction stands there
         (

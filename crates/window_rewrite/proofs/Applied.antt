@@ -124,6 +124,11 @@ pub plain_all : (k : ℕ) (r : List Low) (is : List Instr) → AreOver k is → 
 plain_all k r [] h = refl
 plain_all k r (i ∷ is) h = and_from (names_no_label (renamed r i)) (list_all names_no_label (map (renamed r) is)) (plain_letter (renamed r i) (window_renamed r i h.0)) (plain_all k r is h.2)
 
+-- the new instructions may stand in a window
+pub letters_all : (k : ℕ) (r : List Low) (is : List Instr) → AreOver k is → list_all is_in_window (map (renamed r) is) ≡ true
+letters_all k r [] h = refl
+letters_all k r (i ∷ is) h = and_from (is_in_window (renamed r i)) (list_all is_in_window (map (renamed r) is)) (window_renamed r i h.0) (letters_all k r is h.2)
+
 -- the replacement by a rule of a number under a map
 abbrev pub made : ℕ → ℕ → List Low → Replacement
 made place number registers = record { place = place; entry = number; registers = registers }
@@ -168,6 +173,7 @@ laid r g lines place rule registers window over sound n asked a =
 -- a rule puts new instructions in place of a window
 pub record IsMade (s : Setting) (lines : List Line) (place number : ℕ) (registers : List Low) (window new : List Instr) : Type 0 where
   pub applies : AppliesIn s (made place number registers) lines
+  pub is_window : IsWindow lines place window
   pub keeps : KeepsAt (code_of lines) place window new
   pub leaves : replaced_lines s.write place (length window) new lines ≡ lines_after s (made place number registers) lines
 
@@ -191,6 +197,7 @@ applied base rules lines place number rule registers window live new at sound th
         joined = subst (λ k. are_joined_from place k lines ≡ true) n there.is_window.joined;
         layable = layable a;
       };
+      is_window = there.is_window;
       keeps =
           subst (λ (js : List Instr). KeepsAt (code_of lines) place window js) (sym same)
           (subst (λ (js : List Instr). KeepsAt (code_of lines) place js is) (same_window rule registers lines place window (sym n) there.is_window a) (applies_keeps rule registers (code_of lines) place sound a));

@@ -22,7 +22,7 @@ use Rattle.line_cursor.proofs.Looks.{run_begins}
 use Rattle.line_cursor.proofs.Nearer.{places_append}
 use Rattle.window_rewrite.specs.declared.finding.Rules.{Rules}
 use Rattle.window_rewrite.specs.declared.ground.Ground.{Ground}
-use Rattle.window_rewrite.specs.Sweeps.{AreOver, IsKept, IsOver}
+use Rattle.window_rewrite.specs.Sweeps.{AreOver, IsKept, IsOver, HasLayout, StandsNear, is_steady}
 
 -- ---- pieces ----
 
@@ -110,13 +110,25 @@ pub live_behind : (c : Cursor) (count bits : ℕ) → IsKept c → 0 < count →
 live_behind c count bits k some few e x =
     subst (λ b. (has b x ≡ true) ↔ LiveAfter (code_of (lines_at c)) (place_at c + (count - 1)) x) (sym e) (k.live.after (place_at c + (count - 1)) x (omega (arith, places_there c k)))
 
--- a cursor that moved stands in the same lines
-pub over_moved : (r : Rules) (g : Ground) (old new : Cursor) → IsOver r g old → IsCursor new → lines_at new ≡ lines_at old → spots_at new ≡ spots_at old → IsOver r g new
-over_moved r g old new over is e f = record {
+-- what is known of lines doesn't depend on where the ground stands
+pub over_near : (r : Rules) (g h : Ground) (lines : List Line) → AreOver r g lines → is_steady h ≡ is_steady g → HasLayout r.base h lines → AreOver r h lines
+over_near r g h lines over same layout = record {
+  listed = over.listed;
+  layable = over.layable;
+  aligned = λ q. over.aligned (sym same ∙ q);
+  steady = λ q. over.steady (sym same ∙ q);
+  layout = layout;
+}
+
+-- a cursor that moved stands in the same lines, and the ground where it stands
+pub over_moved : (r : Rules) (g h : Ground) (old new : Cursor) → IsOver r g old → IsCursor new → lines_at new ≡ lines_at old → spots_at new ≡ spots_at old → is_steady h ≡ is_steady g → HasLayout r.base h (lines_at old) → StandsNear h (place_at new)
+    → IsOver r h new
+over_moved r g h old new over is e f same layout near = record {
   kept = record {
     is = is;
     live = subst (λ (ss : List Spot). IsLive (code_of (lines_at new)) (sets_of ss)) (sym f) (subst (λ (ls : List Line). IsLive (code_of ls) (sets_of (spots_at old))) (sym e) over.kept.live);
     flows = subst (λ (ss : List Spot). AreFlows (code_of (lines_at new)) (flows_of ss)) (sym f) (subst (λ (ls : List Line). AreFlows (code_of ls) (flows_of (spots_at old))) (sym e) over.kept.flows);
   };
-  over = subst (λ (ls : List Line). AreOver r g ls) (sym e) over.over;
+  over = subst (λ (ls : List Line). AreOver r h ls) (sym e) (over_near r g h (lines_at old) over.over same layout);
+  near = near;
 }

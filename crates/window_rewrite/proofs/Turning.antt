@@ -1,5 +1,5 @@
 -- What a replacement at a cursor leaves, and why no entry applies before a cursor that went back far enough.
-use Rattle.std.proofs.Common.{◌≡◌, ℕ, ◌+◌, ◌-◌, ◌%◌, ◌^◌, ◌<◌, ◌≤◌, ◌==◌, ◌&&◌, Bool, true, false, List, [], ◌∷◌, ◌++◌, length, length-append, drop, map, Option, Some, None, refl, sym, ap, ◌∙◌, subst, arith, ne_eqb, true≢false}
+use Rattle.std.proofs.Common.{◌≡◌, ℕ, ◌+◌, ◌-◌, ◌^◌, ◌<◌, ◌≤◌, ◌==◌, ◌&&◌, Bool, true, false, List, [], ◌∷◌, ◌++◌, length, length-append, drop, map, Option, Some, None, refl, sym, ap, ◌∙◌, subst, arith, ne_eqb, true≢false}
 use Rattle.std.specs.Prelude.{slice_get, IfSome}
 use Rattle.std.specs.Option.{option_map}
 use Rattle.std.proofs.lemmas.Option.{slice_get-map}
@@ -8,18 +8,20 @@ use Rattle.thumb_instr.specs.Items.{has}
 use Rattle.thumb_instr.specs.Renaming.{renamed}
 use Rattle.thumb_model.specs.Listing.{Statement, Nothing, Runs, Words, Aligns, Sets, Line, Code, places_in, places_of, labels_from, code_of}
 use Rattle.thumb_model.specs.Flow.{LiveAfter}
+use Rattle.thumb_model.specs.Layout.{Layable}
 use Rattle.thumb_model.specs.Rewrite.{Rule, Applies, replaced}
 use Rattle.thumb_model.specs.Rewritten.{Setting, Replacement, AppliesIn, is_op, replaced_lines, lines_after_rule, lines_after, left_length, left_length_of, AreOps}
 use Rattle.thumb_model.proofs.LinesKept.{fewer_after, code_of_after}
 use Rattle.thumb_model.proofs.Table.{window_length}
-use Rattle.label_layout.specs.Pieces.{SetAlike}
-use Rattle.label_layout.proofs.SetsKept.{sets_kept}
+use Rattle.listing_parser.specs.Replacing.{own_line}
 use Rattle.listing_parser.specs.TableWords.{DefineOnce}
 use Rattle.listing_parser.proofs.ReplaceLemmas.{still_once}
 use Rattle.liveness.specs.Live.{word_of, set_at, IsLive}
 use Rattle.liveness.specs.Kept.{AreFlows, KeepsAt}
 use Rattle.steady_layout.specs.Steady.{IsSteady}
 use Rattle.steady_layout.proofs.Laws.{steady_stays}
+use Rattle.window_runs.specs.Windows.{IsWindow}
+use Rattle.kept_layout.specs.Kept.{Lays}
 use Rattle.line_cursor.specs.declared.cursor.Cursor.{Cursor}
 use Rattle.line_cursor.specs.declared.cursor.Spot.{Spot}
 use Rattle.line_cursor.specs.Cursors.{lines_behind, lines_ahead, lines_at, place_at, spots_at, sets_of, flows_of, IsCursor}
@@ -30,7 +32,7 @@ use Rattle.window_rewrite.specs.declared.choice.Choice.{Choice}
 use Rattle.window_rewrite.specs.declared.finding.Rules.{Rules}
 use Rattle.window_rewrite.specs.declared.ground.Ground.{Ground}
 use Rattle.window_rewrite.specs.Choices.{setting_of, choice_of, AreReady, FitsIn, IsChoice, NoneBefore, NoneEnding}
-use Rattle.window_rewrite.specs.Sweeps.{IsKept, LosesNone, MayBeListed, AreOver, is_steady}
+use Rattle.window_rewrite.specs.Sweeps.{IsKept, IsOver, IsSteadyIf, LosesNone, MayBeListed, Allows, AreOver, HasLayout, is_steady}
 use Rattle.window_rewrite.proofs.Applied.{ops_of}
 
 -- a replacement leaves lines that may be a listing's, where the lines before it may
@@ -179,18 +181,41 @@ said_still : {X : Type 0} (o : Option X) (P Q : X → Type 0) → ((x : X) → P
 said_still None P Q f h = tt
 said_still (Some x) P Q f h = f x h
 
--- a replacement leaves lines of which as much is known
-pub still_over : (r : Rules) (g : Ground) (lines now : List Line) (o : Replacement) → AreReady r → AppliesIn (setting_of r) o lines → now ≡ lines_after (setting_of r) o lines → AreOver r g lines → AreOver r g now
-still_over r g lines now o ready a e over =
+-- a replacement that can be made leaves lines that can be laid out
+leaves_layable : (s : Setting) (o : Replacement) (lines : List Line) → AppliesIn s o lines → Layable s.base (lines_after s o lines)
+leaves_layable s o lines a = subst (λ (k : Option Rule). Layable s.base (lines_after_rule s k o lines)) (sym a.is_rule) a.layable
+
+pub still_layable : (s : Setting) (o : Replacement) (lines now : List Line) → AppliesIn s o lines → now ≡ lines_after s o lines → Layable s.base now
+still_layable s o lines now a e = subst (Layable s.base) (sym e) (leaves_layable s o lines a)
+
+-- a replacement leaves lines of which as much is known, where the ground has their layout
+pub still_over : (r : Rules) (g h : Ground) (lines now : List Line) (o : Replacement) → AreReady r → AppliesIn (setting_of r) o lines → now ≡ lines_after (setting_of r) o lines → is_steady h ≡ is_steady g → HasLayout r.base h now → AreOver r g lines → AreOver r h now
+still_over r g h lines now o ready a e same layout over =
     let s : Setting = setting_of r in
-    let kept : SetAlike lines (lines_after s o lines) = subst (λ (k : Option Rule). SetAlike lines (lines_after_rule s k o lines)) (sym a.is_rule)
-    (sets_kept s.write o.place (length a.rule.left) (map (renamed o.registers) a.rule.right) lines) in
-    subst (λ (ls : List Line). AreOver r g ls) (sym e) (record {
-      listed = may_be_listed lines s o a over.listed;
-      aligned = over.aligned;
-      steady = λ h. still_steady s r.longest o lines ready.fit a (over.steady h);
-      sets = said_still g.sets (λ l. SetAlike l.now lines) (λ l. SetAlike l.now (lines_after s o lines)) (λ l h q. h q ∙ kept q) over.sets;
-    })
+    record {
+      listed = subst MayBeListed (sym e) (may_be_listed lines s o a over.listed);
+      layable = still_layable s o lines now a e;
+      aligned = λ q. over.aligned (sym same ∙ q);
+      steady = λ q. subst (IsSteady r.base) (sym e) (still_steady s r.longest o lines ready.fit a (over.steady (sym same ∙ q)));
+      layout = layout;
+    }
+
+-- the choice at a cursor may be made on the ground
+pub allowed_here : (r : Rules) (g : Ground) (at : Cursor) (c : Choice) (window new : List Instr) → IsOver r g at → IsChoice (setting_of r) (lines_at at) c → (choice_of c).place ≡ place_at at → window ≡ c.window → new ≡ c.new
+    → Allows g at window new
+allowed_here r g at c window new over is here e f =
+    let s : Setting = setting_of r in
+    let lines : List Line = lines_at at in
+    let left : List Line = replaced_lines own_line (place_at at) (length window) new lines in
+    let keeps = keeps_here s lines c (place_at at) window new is here e f in
+    let layable : Layable r.base left = still_layable s (choice_of c) lines left is.applies (leaves_here s lines left c (place_at at) window new is here e f refl) in
+    record {
+      lays = said_still g.kept (λ k. (k.base ≡ r.base) × Lays k lines) (λ k. Lays k lines × Layable k.base left) (λ k h. (h.1, subst (λ b. Layable b left) (sym h.0) layable)) over.over.layout;
+      near = over.near;
+      is_window = subst (λ (w : List Instr). IsWindow lines (place_at at) w) (sym e) (subst (λ p. IsWindow lines p c.window) here is.is_window);
+      letters = keeps.new_letters;
+      fewer = keeps.shorter;
+    }
 
 -- a replacement was made at a cursor: no entry fits in a window that ends before what changed and before where some may have fitted
 pub turned_ending : (s : Setting) (old at : Cursor) (o : Replacement) (count clear edge : ℕ) → IsKept old → AppliesIn s o (lines_at old) → o.place ≡ place_at old
@@ -201,16 +226,12 @@ turned_ending s old at o count clear edge was applied here kept e same none chan
 
 -- ---- where a sweep begins ----
 
--- in steady lines of a listing
-pub begins_steady : (r : Rules) (ls given : List Line) → ls ≡ given → length (places_of given) < 2 ^ 32 → DefineOnce given → (r.base % 4 ≡ 0) × IsSteady r.base given → AreOver r (record { sets = None }) ls
-begins_steady r ls given e few once steady =
-    subst (λ (l : List Line). AreOver r (record { sets = None }) l) (sym e) (record { listed = record { few = few; once = once }; aligned = λ _. steady.0; steady = λ _. steady.1; sets = tt })
-
--- in those of one whose layout is to be asked for
-pub begins_asked : (r : Rules) (g : Ground) (ls given : List Line) → ls ≡ given → length (places_of given) < 2 ^ 32 → DefineOnce given → is_steady g ≡ false → IfSome g.sets (λ l. SetAlike l.now ls) → AreOver r g ls
-begins_asked r g ls given e few once asked sets = record {
-  listed = record { few = subst (λ (l : List Line). length (places_of l) < 2 ^ 32) (sym e) few; once = subst DefineOnce (sym e) once };
-  aligned = λ h. absurd (true≢false (sym h ∙ asked));
-  steady = λ h. absurd (true≢false (sym h ∙ asked));
-  sets = sets;
-}
+pub begins : (r : Rules) (g : Ground) (ls given : List Line) (b : Bool) → ls ≡ given → length (places_of given) < 2 ^ 32 → DefineOnce given → Layable r.base given → is_steady g ≡ b → IsSteadyIf r.base given b → HasLayout r.base g given → AreOver r g ls
+begins r g ls given b e few once layable same steady layout =
+    subst (λ (l : List Line). AreOver r g l) (sym e) (record {
+      listed = record { few = few; once = once };
+      layable = layable;
+      aligned = λ h. (steady (sym same ∙ h)).0;
+      steady = λ h. (steady (sym same ∙ h)).1;
+      layout = layout;
+    })

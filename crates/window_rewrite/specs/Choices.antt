@@ -8,6 +8,7 @@ use Rattle.liveness.specs.Kept.{KeepsAt}
 use Rattle.thumb_model.specs.Layout.{Layable}
 use Rattle.thumb_model.specs.Rewrite.{Rule, Applies}
 use Rattle.thumb_model.specs.Rewritten.{Setting, Replacement, AppliesIn, IsFirst, are_joined_from, replaced_lines, lines_after, left_length}
+use Rattle.window_runs.specs.Windows.{IsWindow}
 use Rattle.window_rewrite.specs.declared.choice.Choice.{Choice}
 use Rattle.window_rewrite.specs.declared.finding.Rules.{Rules}
 use Rattle.window_rewrite.specs.Rewriting.{setting, replacement_of, IsWhole}
@@ -56,6 +57,7 @@ choice_of c = replacement_of c.replacement
 pub record IsChoice (s : Setting) (lines : List Line) (c : Choice) : Type 0 where
   pub whole : IsWhole c.replacement
   pub applies : AppliesIn s (choice_of c) lines
+  pub is_window : IsWindow lines (choice_of c).place c.window
   pub keeps : KeepsAt (code_of lines) (choice_of c).place c.window c.new
   pub leaves : replaced_lines s.write (choice_of c).place (length c.window) c.new lines ≡ lines_after s (choice_of c) lines
 

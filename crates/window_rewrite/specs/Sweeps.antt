@@ -1,17 +1,22 @@
 -- A sweep over a listing: a cursor in lines that come of it by replacements.
 use Rattle.std.specs.Prelude.{◌≡◌, ℕ, ◌+◌, ◌-◌, ◌*◌, ◌%◌, ◌^◌, ◌<◌, ◌≤◌, ◌++◌, Bool, not, is_some, true, IfSome, List, [], ◌∷◌, length, map}
 use Rattle.thumb_instr.specs.declared.instr.Instr.{Instr}
+use Rattle.std.specs.List.{list_all}
 use Rattle.thumb_instr.specs.Items.{has}
+use Rattle.thumb_instr.specs.Window.{is_in_window}
 use Rattle.thumb_model.specs.Listing.{Line, code_of, places_of}
+use Rattle.thumb_model.specs.Layout.{Layable}
 use Rattle.thumb_model.specs.Rewrite.{replaced}
-use Rattle.thumb_model.specs.Rewritten.{Setting, Replacement, AreRewritten}
+use Rattle.thumb_model.specs.Rewritten.{Setting, Replacement, AreRewritten, replaced_lines}
+use Rattle.listing_parser.specs.Replacing.{own_line}
 use Rattle.listing_parser.specs.TableWords.{DefineOnce}
 use Rattle.liveness.specs.Live.{set_at, IsLive}
 use Rattle.liveness.specs.Growing.{IsGrowing}
 use Rattle.liveness.specs.declared.kept.NewSets.{NewSets}
 use Rattle.liveness.specs.Kept.{AreFlows, replaced_sets}
-use Rattle.label_layout.specs.Pieces.{SetAlike}
 use Rattle.steady_layout.specs.Steady.{IsSteady}
+use Rattle.window_runs.specs.Windows.{IsWindow}
+use Rattle.kept_layout.specs.Kept.{Lays, IsNear}
 use Rattle.line_cursor.specs.declared.cursor.Cursor.{Cursor}
 use Rattle.line_cursor.specs.Cursors.{IsCursor, lines_at, place_at, spots_at, sets_of, flows_of}
 use Rattle.window_rewrite.specs.declared.choice.Replacement.{Replacement as Made}
@@ -60,28 +65,46 @@ growing_cost places = (19 * places + 1) * (places + 1)
 
 -- whether the layout needn't be asked
 abbrev pub is_steady : Ground → Bool
-is_steady g = not (is_some g.sets)
+is_steady g = not (is_some g.kept)
+
+-- the layout that is kept, if one is, is that of the lines from the base
+abbrev pub HasLayout : ℕ → Ground → List Line → Type 0
+HasLayout base g lines = IfSome g.kept (λ k. (k.base ≡ base) × Lays k lines)
+
+-- it stands where the place is
+abbrev pub StandsNear : Ground → ℕ → Type 0
+StandsNear g place = IfSome g.kept (λ k. IsNear k place)
+
+-- a window right behind a cursor may give way to fewer instructions, which leave lines that can be laid out, where a layout is kept; it stands there
+pub record Allows (g : Ground) (c : Cursor) (window new : List Instr) : Type 0 where
+  pub lays : IfSome g.kept (λ k. Lays k (lines_at c) × Layable k.base (replaced_lines own_line (place_at c) (length window) new (lines_at c)))
+  pub near : StandsNear g (place_at c)
+  pub is_window : IsWindow (lines_at c) (place_at c) window
+  pub letters : list_all is_in_window new ≡ true
+  pub fewer : length new < length window
 
 -- lines that may be a listing's
 pub record MayBeListed (lines : List Line) : Type 0 where
   pub few : length (places_of lines) < 2 ^ 32
   pub once : DefineOnce lines
 
--- the lines are steady, if the ground is; otherwise the ground's listing sets the same addresses for names
+-- the lines can be laid out, and are steady, if the ground is; otherwise it has their layout
 pub record AreOver (r : Rules) (g : Ground) (lines : List Line) : Type 0 where
   pub listed : MayBeListed lines
+  pub layable : Layable r.base lines
   pub aligned : is_steady g ≡ true → r.base % 4 ≡ 0
   pub steady : is_steady g ≡ true → IsSteady r.base lines
-  pub sets : IfSome g.sets (λ l. SetAlike l.now lines)
+  pub layout : HasLayout r.base g lines
 
 -- where it is said so, the lines and those that come of them by replacements can be laid out from the base
 abbrev pub IsSteadyIf : ℕ → List Line → Bool → Type 0
 IsSteadyIf base lines b = b ≡ true → (base % 4 ≡ 0) × IsSteady base lines
 
--- the cursor stands in such lines
+-- the cursor stands in such lines, and the ground where it stands
 pub record IsOver (r : Rules) (g : Ground) (c : Cursor) : Type 0 where
   pub kept : IsKept c
   pub over : AreOver r g (lines_at c)
+  pub near : StandsNear g (place_at c)
 
 -- what completes the replacements from the current lines completes them from the start
 abbrev pub Completes : Setting → List Line → List Made → List Line → Type 0

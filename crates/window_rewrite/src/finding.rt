@@ -6,11 +6,13 @@ ghost use Rattle.thumb_model.specs.Layout.{Layable};
 ghost use Rattle.thumb_model.specs.Listing.{places_of};
 ghost use Rattle.thumb_model.specs.Rewrite.{Rule};
 ghost use Rattle.thumb_model.specs.Rewritten.{NoneApplies, left_length, replaced_lines};
-ghost use Rattle.label_layout.specs.Pieces.{SetAlike};
 ghost use Rattle.listing_parser.specs.Replacing.{own_line};
 ghost use Rattle.listing_parser.specs.declared.line.Line.{Line as Lines};
 ghost use Rattle.line_cursor.specs.Lines.{begins_op, lines_in};
 ghost use Rattle.line_cursor.specs.Cursors.{lines_at, place_at, IsCursor};
+ghost use Rattle.std.specs.List.{list_all};
+ghost use Rattle.thumb_instr.specs.Window.{is_in_window};
+ghost use Rattle.window_runs.specs.Windows.{IsWindow};
 ghost use Rattle.window_harvest.specs.Harvest.{spot_of, StandsThere};
 ghost use Rattle.window_rewrite.specs.Fitting.{Shortens};
 ghost use Rattle.window_rewrite.specs.Rules.{rules_in};
@@ -24,7 +26,6 @@ use crate::index::Index;
 use crate::items::registers_of;
 use crate::replacing::renamed_all;
 use crate::shapes::{next_shape, shape_of};
-use label_layout::are_layable;
 use line_cursor::Cursor;
 use listing_parser::Memory;
 use rule_table::Entry;
@@ -43,35 +44,24 @@ pub(crate) struct Rules<'a> {
     pub(crate) base: u32,
 }
 
-/// Whether lines of a ground that isn't steady can be laid out where so many instructions behind the cursor give way to others.
+/// Whether lines of a ground that isn't steady can be laid out where a window right behind the cursor gives way to fewer instructions.
 fn can_be_laid(
     alloc: Global,
-    base: u32,
-    ground: &Ground<'_>,
+    rules: &Rules<'_>,
+    ground: &Ground,
     cursor: &Cursor,
-    count: usize,
+    window: &[Instr],
     new: &[Instr],
 ) -> Result<bool, Memory>
-    requires is { IsCursor cursor.now }
-    requires sets { IfSome ground.now.sets (λ l. SetAlike l.now (lines_at cursor.now)) }
-    requires count { 0 < count }
-    requires some { 0 < length cursor.now.lines.ahead }
-    requires first { (rest : List Lines) (x : Lines) → cursor.now.lines.ahead ≡ rest ++ x ∷ [] → begins_op (lines_in x) ≡ true }
-    ensures { IfOk result (λ b. (b ≡ true) ↔ (is_steady ground.now ≡ false → Layable base (replaced_lines own_line (place_at cursor.now) count new.now (lines_at cursor.now)))) }
+    requires over { IsOver rules.now ground.now cursor.now }
+    requires window { IsWindow (lines_at cursor.now) (place_at cursor.now) window.now }
+    requires letters { list_all is_in_window new.now ≡ true }
+    requires fewer { length new.now < length window.now }
+    ensures { IfOk result (λ b. (b ≡ true) ↔ (is_steady ground.now ≡ false → Layable rules.now.base (replaced_lines own_line (place_at cursor.now) (length window.now) new.now (lines_at cursor.now)))) }
 {
-    match ground.sets {
+    match &ground.kept {
         None => Ok(true),
-        Some(sets) => {
-            let left = cursor.replaced(alloc, count, new)?;
-            are_layable(
-                alloc,
-                base,
-                left.before,
-                left.new.as_slice(),
-                left.behind,
-                sets,
-            )
-        }
+        Some(kept) => kept.may_give_way(alloc, cursor, window, new),
     }
 }
 
@@ -91,7 +81,7 @@ fn copied(window: &[Instr]) -> Seq
 fn try_entry<L: Ledger>(
     alloc: Global,
     rules: &Rules<'_>,
-    ground: &Ground<'_>,
+    ground: &Ground,
     cursor: &Cursor,
     window: &[Instr],
     live: Items,
@@ -121,14 +111,7 @@ fn try_entry<L: Ledger>(
     if !cursor.is_settled(window.len(), new.as_slice()) {
         return Ok(None);
     }
-    if !can_be_laid(
-        alloc,
-        rules.base,
-        ground,
-        cursor,
-        window.len(),
-        new.as_slice(),
-    )? {
+    if !can_be_laid(alloc, rules, ground, cursor, window, new.as_slice())? {
         *refused = true;
         return Ok(None);
     }
@@ -147,7 +130,7 @@ fn try_entry<L: Ledger>(
 fn try_as_long<L: Ledger>(
     alloc: Global,
     rules: &Rules<'_>,
-    ground: &Ground<'_>,
+    ground: &Ground,
     cursor: &Cursor,
     window: &[Instr],
     live: Items,
@@ -205,7 +188,7 @@ fn first_number(rules: &Rules<'_>, window: &[Instr]) -> Option<usize>
 fn lowest<L: Ledger>(
     alloc: Global,
     rules: &Rules<'_>,
-    ground: &Ground<'_>,
+    ground: &Ground,
     cursor: &Cursor,
     window: &[Instr],
     live: Items,
@@ -238,7 +221,7 @@ fn lowest<L: Ledger>(
 fn best_here<L: Ledger>(
     alloc: Global,
     rules: &Rules<'_>,
-    ground: &Ground<'_>,
+    ground: &Ground,
     cursor: &Cursor,
     refused: &mut bool,
     steps: &mut Steps<L>,
@@ -277,7 +260,7 @@ fn best_here<L: Ledger>(
 fn best<L: Ledger>(
     alloc: Global,
     rules: &Rules<'_>,
-    ground: &Ground<'_>,
+    ground: &Ground,
     cursor: &Cursor,
     refused: &mut bool,
     steps: &mut Steps<L>,
@@ -309,14 +292,15 @@ fn still_clear(refused: bool, clear: usize, place: usize) -> usize
 pub(crate) fn next<L: Ledger>(
     alloc: Global,
     rules: &Rules<'_>,
-    ground: &Ground<'_>,
+    ground: &mut Ground,
     cursor: &mut Cursor,
     steps: &mut Steps<L>,
 ) -> Result<Option<Found>, Memory>
     requires ready { AreReady rules.now }
-    requires over { IsOver rules.now ground.now cursor.old }
+    requires over { IsOver rules.now ground.old cursor.old }
     requires before { NoneBefore false (setting_of rules.now) (lines_at cursor.old) (place_at cursor.old) }
-    ensures over { OnOk result (IsOver rules.now ground.now cursor.new) }
+    ensures over { OnOk result (IsOver rules.now ground.new cursor.new) }
+    ensures steady { OnOk result (is_steady ground.new ≡ is_steady ground.old) }
     ensures lines { OnOk result (lines_at cursor.new ≡ lines_at cursor.old) }
     ensures some { IfOk result (λ o. IfSome o (λ f. IsFirstChoice (setting_of rules.now) (lines_at cursor.new) f.choice)) }
     ensures here { IfOk result (λ o. IfSome o (λ f. (choice_of f.choice).place ≡ place_at cursor.new)) }
@@ -332,6 +316,7 @@ pub(crate) fn next<L: Ledger>(
             return Ok(Some(Found { choice, clear }));
         }
         cursor.forward()?;
+        ground.go_to(cursor.place());
         clear = still_clear(refused, clear, cursor.place());
     }
     Ok(None)

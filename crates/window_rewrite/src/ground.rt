@@ -1,9 +1,74 @@
-use listing_parser::Listing;
+//! What a sweep knows of the layouts of its lines.
+
+use kept_layout::KeptLayout;
+use line_cursor::Cursor;
+use listing_parser::{Listing, Memory};
+use std::alloc::Global;
+use thumb_instr::Instr;
 
 /// What a sweep knows of the layouts of its lines.
 #[derive(Drop)]
-pub(crate) struct Ground<'a> {
-    /// A listing that sets the same addresses for names as the lines, where the layout has to be asked for each replacement: none, where each listing that
-    /// comes of them by replacements can be laid out.
-    pub(crate) sets: Option<&'a Listing>,
+pub(crate) struct Ground {
+    /// The layout of the lines, where it has to be asked for each replacement: none, where each listing that comes of them by replacements can be laid out.
+    pub(crate) kept: Option<KeptLayout>,
+}
+
+impl Ground {
+    ghost use Rattle.std.specs.Prelude.{◌≡◌, ℕ, length, List, IfOk, OnOk, IfSome};
+    ghost use Rattle.thumb_model.specs.Layout.{Layable};
+    ghost use Rattle.thumb_model.specs.Listing.{Line as Listed};
+    ghost use Rattle.thumb_model.specs.Rewritten.{replaced_lines};
+    ghost use Rattle.listing_parser.specs.Replacing.{own_line};
+    ghost use Rattle.line_cursor.specs.Cursors.{lines_at, place_at};
+    ghost use Rattle.kept_layout.specs.Kept.{IsLaid};
+    ghost use Rattle.window_rewrite.specs.Sweeps.{is_steady, Allows, HasLayout, StandsNear};
+
+    /// The layout of a listing that can be laid out from the base, where that is not `steady`. It stands at the first place.
+    pub(crate) fn of(
+        alloc: Global,
+        listing: &Listing,
+        base: u32,
+        steady: bool,
+    ) -> Result<Ground, Memory>
+        requires { Layable base listing.now }
+        ensures steady { IfOk result (λ g. is_steady g ≡ steady) }
+        ensures layout { IfOk result (λ g. HasLayout base g listing.now) }
+        ensures near { IfOk result (λ g. StandsNear g 0) }
+    {
+        if steady {
+            return Ok(Ground { kept: None });
+        }
+        let kept = KeptLayout::of(alloc, listing, base)?;
+        Ok(Ground { kept: Some(kept) })
+    }
+
+    /// Moves to a place.
+    pub(crate) fn go_to(&mut self, place: usize)
+        requires { IfSome self.old.kept IsLaid }
+        ensures steady { is_steady self.new ≡ is_steady self.old }
+        ensures layout { (base : ℕ) (lines : List Listed) → HasLayout base self.old lines → HasLayout base self.new lines }
+        ensures near { StandsNear self.new place }
+    {
+        if let Some(kept) = &mut self.kept {
+            kept.go_to(place);
+        }
+    }
+
+    /// Lets a window right behind a cursor give way to fewer instructions, which leaves lines that can be laid out. It stands at the window's place.
+    pub(crate) fn give_way(
+        &mut self,
+        alloc: Global,
+        cursor: &Cursor,
+        window: &[Instr],
+        new: &[Instr],
+    ) -> Result<(), Memory>
+        requires { Allows self.old cursor.now window.now new.now }
+        ensures steady { OnOk result (is_steady self.new ≡ is_steady self.old) }
+        ensures layout { OnOk result ((base : ℕ) → HasLayout base self.old (lines_at cursor.now) → HasLayout base self.new (replaced_lines own_line (place_at cursor.now) (length window.now) new.now (lines_at cursor.now))) }
+    {
+        if let Some(kept) = &mut self.kept {
+            kept.give_way(alloc, cursor, window, new)?;
+        }
+        Ok(())
+    }
 }

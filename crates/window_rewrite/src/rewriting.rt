@@ -71,6 +71,7 @@ fn rewritten<L: Ledger>(
     steps: &mut Steps<L>,
 ) -> Result<Rewritten, Memory>
     requires ready { AreReady rules.now }
+    requires layable { Layable rules.now.base listing }
     requires steady { IsSteadyIf rules.now.base listing steady }
     ensures rewritten { IfOk result (λ new. AreRewritten (setting_of rules.now) listing (map replacement_of new.replacements.items) new.listing) }
     ensures whole { IfOk result (λ new. All IsWhole new.replacements.items) }

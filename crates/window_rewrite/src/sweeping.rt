@@ -1,12 +1,12 @@
 //! Sweeps over a listing.
 ghost use Rattle.std.specs.Prelude.{◌≡◌, ◌+◌, ◌*◌, ◌%◌, ◌<◌, ◌≤◌, ◌++◌, ◌∷◌, [], List, All, length, map, not, true, false, IfOk, OnOk};
 ghost use Rattle.std.specs.Int.{from_bool};
+ghost use Rattle.thumb_model.specs.Layout.{Layable};
 ghost use Rattle.thumb_model.specs.Listing.{Line as Listed, code_of, places_of};
 ghost use Rattle.thumb_model.specs.Rewritten.{NoneApplies, lines_after};
 ghost use Rattle.listing_parser.specs.declared.line.Line.{Line as Lines};
 ghost use Rattle.line_cursor.specs.Lines.{begins_op, lines_in};
 ghost use Rattle.line_cursor.specs.Cursors.{flows_of, lines_at, place_at, sets_of, spots_at, IsCursor};
-ghost use Rattle.listing_parser.specs.TableWords.{DefineOnce};
 ghost use Rattle.listing_parser.specs.Views.{line_view};
 ghost use Rattle.liveness.specs.Kept.{AreFlows};
 ghost use Rattle.liveness.specs.Live.{IsLive};
@@ -14,7 +14,7 @@ ghost use Rattle.steady_layout.specs.Steady.{IsSteady};
 ghost use Rattle.window_rewrite.specs.Rewriting.{round_cost, visits, IsWhole};
 ghost use Rattle.window_rewrite.specs.Rules.{rules_in};
 ghost use Rattle.window_rewrite.specs.Choices.{setting_of, choice_of, AreReady, IsFirstChoice, NoneAcross, NoneBefore, NoneEnding};
-ghost use Rattle.window_rewrite.specs.Sweeps.{is_steady, AreOver, Completes, IsKept, IsOver, IsSteadyIf, MayBeListed};
+ghost use Rattle.window_rewrite.specs.Sweeps.{is_steady, AreOver, Completes, IsOver, IsSteadyIf, MayBeListed, StandsNear};
 
 use crate::choice::{Found, Replacement};
 use crate::finding::{Rules, next};
@@ -22,7 +22,7 @@ use crate::ground::Ground;
 use crate::making::make;
 use crate::shapes::pair_shape;
 use line_cursor::{Cursor, Spot};
-use listing_parser::{Line, Listing, Memory, copy_lines};
+use listing_parser::{Line, Listing, Memory};
 use liveness::{Flow, Live, live_and_flows};
 use std::alloc::Global;
 use steady_layout::is_steady;
@@ -78,31 +78,34 @@ fn go_back(rules: &Rules<'_>, cursor: &mut Cursor, place: usize) -> Result<(), M
 fn turn<L: Ledger>(
     alloc: Global,
     rules: &Rules<'_>,
+    ground: &mut Ground,
     cursor: &mut Cursor,
     found: &Found,
     steps: &mut Steps<L>,
 ) -> Result<bool, Memory>
     requires ready { AreReady rules.now }
-    requires kept { IsKept cursor.old }
-    requires once { DefineOnce (lines_at cursor.old) }
+    requires over { IsOver rules.now ground.old cursor.old }
     requires choice { IsFirstChoice (setting_of rules.now) (lines_at cursor.old) found.now.choice }
     requires here { (choice_of found.now.choice).place ≡ place_at cursor.old }
     requires clear { NoneBefore false (setting_of rules.now) (lines_at cursor.old) found.now.clear }
     requires some { 0 < length cursor.old.lines.ahead }
     requires first { (rest : List Lines) (x : Lines) → cursor.old.lines.ahead ≡ rest ++ x ∷ [] → begins_op (lines_in x) ≡ true }
     ensures lines { OnOk result (lines_at cursor.new ≡ lines_after (setting_of rules.now) (choice_of found.now.choice) (lines_at cursor.old)) }
-    ensures kept { IfOk result (λ b. b ≡ true → IsKept cursor.new) }
+    ensures steady { OnOk result (is_steady ground.new ≡ is_steady ground.old) }
+    ensures over { IfOk result (λ b. b ≡ true → IsOver rules.now ground.new cursor.new) }
     ensures before { IfOk result (λ b. b ≡ true → NoneBefore false (setting_of rules.now) (lines_at cursor.new) (place_at cursor.new)) }
     ensures cost { IfOk result (λ b. steps.new ≤ steps.old + from_bool b * visits (length (places_of (lines_at cursor.old)))) }
 {
     let choice = &found.choice;
     let window = choice.window.as_slice();
     let new = choice.new.as_slice();
+    ground.give_way(alloc, cursor, window, new)?;
     match make(alloc, cursor, window, new, steps)? {
         None => Ok(false),
         Some(lead) => {
             let changed = (choice.replacement.place as usize).saturating_sub(lead);
             go_back(rules, cursor, changed.min(found.clear))?;
+            ground.go_to(cursor.place());
             Ok(true)
         }
     }
@@ -112,26 +115,27 @@ fn turn<L: Ledger>(
 fn go_through<L: Ledger>(
     alloc: Global,
     rules: &Rules<'_>,
-    ground: &Ground<'_>,
+    ground: &mut Ground,
     cursor: &mut Cursor,
     replacements: &mut Vec<Replacement>,
     steps: &mut Steps<L>,
 ) -> Result<bool, Memory>
     requires ready { AreReady rules.now }
-    requires over { IsOver rules.now ground.now cursor.old }
+    requires over { IsOver rules.now ground.old cursor.old }
     requires before { NoneBefore false (setting_of rules.now) (lines_at cursor.old) (place_at cursor.old) }
     requires whole { All IsWhole replacements.old.items }
     ensures whole { OnOk result (All IsWhole replacements.new.items) }
     ensures completes { OnOk result ((start : List Listed) → Completes (setting_of rules.now) start replacements.old.items (lines_at cursor.old) → Completes (setting_of rules.now) start replacements.new.items (lines_at cursor.new)) }
     ensures listed { OnOk result (MayBeListed (lines_at cursor.new)) }
-    ensures steady { OnOk result (is_steady ground.now ≡ true → IsSteady rules.now.base (lines_at cursor.new)) }
+    ensures layable { OnOk result (Layable rules.now.base (lines_at cursor.new)) }
+    ensures steady { OnOk result (is_steady ground.old ≡ true → IsSteady rules.now.base (lines_at cursor.new)) }
     ensures none { IfOk result (λ b. b ≡ true → NoneApplies (setting_of rules.now) (lines_at cursor.new)) }
     ensures fewer { IfOk result (λ b. length (places_of (lines_at cursor.new)) + from_bool (not b) ≤ length (places_of (lines_at cursor.old))) }
     ensures more { IfOk result (λ b. length replacements.old.items + from_bool (not b) ≤ length replacements.new.items) }
     ensures cost { IfOk result (λ b. steps.new + visits (length (places_of (lines_at cursor.old))) + length replacements.old.items * round_cost (length (places_of (lines_at cursor.old))) (length (rules_in rules.now.entries.now)) ≤ steps.old + (length replacements.new.items + from_bool b) * round_cost (length (places_of (lines_at cursor.old))) (length (rules_in rules.now.entries.now))) }
 {
     while let Some(found) = next(alloc, rules, ground, cursor, steps)? {
-        let goes_on = turn(alloc, rules, cursor, &found, steps)?;
+        let goes_on = turn(alloc, rules, ground, cursor, &found, steps)?;
         replacements.push(found.choice.replacement)?;
         if !goes_on {
             return Ok(false);
@@ -174,18 +178,20 @@ pub(crate) fn is_steady_from(alloc: Global, listing: &Listing, base: u32) -> Res
 fn sweep_lines<L: Ledger>(
     alloc: Global,
     rules: &Rules<'_>,
-    ground: &Ground<'_>,
+    mut ground: Ground,
     lines: Vec<Line>,
     spots: Vec<Spot>,
     replacements: &mut Vec<Replacement>,
     steps: &mut Steps<L>,
 ) -> Result<Swept, Memory>
     requires ready { AreReady rules.now }
-    requires over { AreOver rules.now ground.now (map line_view lines.items) }
+    requires over { AreOver rules.now ground (map line_view lines.items) }
+    requires near { StandsNear ground 0 }
     requires live { IsLive (code_of (map line_view lines.items)) (sets_of spots.items) }
     requires flows { AreFlows (code_of (map line_view lines.items)) (flows_of spots.items) }
     requires whole { All IsWhole replacements.old.items }
-    ensures steady { IfOk result (λ s. IsSteadyIf rules.now.base s.listing (is_steady ground.now)) }
+    ensures steady { IfOk result (λ s. IsSteadyIf rules.now.base s.listing (is_steady ground)) }
+    ensures layable { IfOk result (λ s. Layable rules.now.base s.listing) }
     ensures whole { OnOk result (All IsWhole replacements.new.items) }
     ensures completes { IfOk result (λ s. (start : List Listed) → Completes (setting_of rules.now) start replacements.old.items (map line_view lines.items) → Completes (setting_of rules.now) start replacements.new.items s.listing) }
     ensures none { IfOk result (λ s. s.is_done ≡ true → NoneApplies (setting_of rules.now) s.listing) }
@@ -194,7 +200,7 @@ fn sweep_lines<L: Ledger>(
     ensures cost { IfOk result (λ s. steps.new + visits (length (places_of (map line_view lines.items))) + length replacements.old.items * round_cost (length (places_of (map line_view lines.items))) (length (rules_in rules.now.entries.now)) ≤ steps.old + (length replacements.new.items + from_bool s.is_done) * round_cost (length (places_of (map line_view lines.items))) (length (rules_in rules.now.entries.now))) }
 {
     let mut cursor = Cursor::start(alloc, lines, spots)?;
-    let is_done = go_through(alloc, rules, ground, &mut cursor, replacements, steps)?;
+    let is_done = go_through(alloc, rules, &mut ground, &mut cursor, replacements, steps)?;
     let listing = Listing::of(alloc, cursor.into_lines())?;
     Ok(Swept { listing, is_done })
 }
@@ -210,8 +216,10 @@ pub(crate) fn sweep<L: Ledger>(
     steps: &mut Steps<L>,
 ) -> Result<Swept, Memory>
     requires ready { AreReady rules.now }
+    requires layable { Layable rules.now.base listing }
     requires steady { IsSteadyIf rules.now.base listing steady }
     requires whole { All IsWhole replacements.old.items }
+    ensures layable { IfOk result (λ s. Layable rules.now.base s.listing) }
     ensures steady { IfOk result (λ s. IsSteadyIf rules.now.base s.listing steady) }
     ensures whole { OnOk result (All IsWhole replacements.new.items) }
     ensures completes { IfOk result (λ s. (start : List Listed) → Completes (setting_of rules.now) start replacements.old.items listing → Completes (setting_of rules.now) start replacements.new.items s.listing) }
@@ -220,15 +228,10 @@ pub(crate) fn sweep<L: Ledger>(
     ensures more { IfOk result (λ s. length replacements.old.items ≤ length replacements.new.items) }
     ensures cost { IfOk result (λ s. steps.new + length replacements.old.items * round_cost (length (places_of listing)) (length (rules_in rules.now.entries.now)) ≤ steps.old + (length replacements.new.items + from_bool s.is_done) * round_cost (length (places_of listing)) (length (rules_in rules.now.entries.now))) }
 {
+    let ground = Ground::of(alloc, &listing, rules.base, steady)?;
     let (live, flows) = live_and_flows(alloc, &listing, steps)?;
     let spots = spots_of(alloc, &live, flows.as_slice())?;
     let lines = listing.into_lines();
-    if steady {
-        let ground = Ground { sets: None };
-        return sweep_lines(alloc, rules, &ground, lines, spots, replacements, steps);
-    }
-    let sets = Listing::of(alloc, copy_lines(alloc, &lines)?)?;
-    let ground = Ground { sets: Some(&sets) };
-    let swept = sweep_lines(alloc, rules, &ground, lines, spots, replacements, steps)?;
+    let swept = sweep_lines(alloc, rules, ground, lines, spots, replacements, steps)?;
     Ok(swept)
 }

@@ -1,14 +1,12 @@
-use Rattle.std.proofs.Common.{◌≡◌, ◌∙◌, ◌++◌, ◌↔◌, ℕ, Bool, List, true, false, ap, map, refl, sym, subst, true≢false}
+use Rattle.std.proofs.Common.{◌≡◌, ◌∙◌, ℕ, ◌↔◌, Bool, List, length, true, false, ap, refl, sym, subst, true≢false}
 use Rattle.std.specs.Prelude.{is_some, not}
 use Rattle.std.proofs.lemmas.Result.{IfOk-weaker}
-use Rattle.thumb_model.specs.Layout.{Layable, set_address}
+use Rattle.thumb_model.specs.Layout.{Layable}
 use Rattle.thumb_model.specs.Listing.{Line}
-use Rattle.label_layout.specs.Pieces.{SetAlike}
-use Rattle.label_layout.proofs.SetsKept.{sets_kept}
-use Rattle.listing_parser.specs.declared.line.Line.{Line as Lines}
+use Rattle.thumb_model.specs.Rewritten.{replaced_lines}
 use Rattle.listing_parser.specs.Replacing.{own_line}
-use Rattle.listing_parser.specs.Views.{line_view}
 use Rattle.line_cursor.specs.Cursors.{lines_at, place_at}
+use Rattle.kept_layout.specs.Kept.{Lays}
 use Rattle.window_rewrite.specs.Sweeps.{is_steady}
 use Rattle.window_rewrite.proofs.finding.can_be_laid.Goals as goal
 
@@ -16,16 +14,17 @@ use Rattle.window_rewrite.proofs.finding.can_be_laid.Goals as goal
 pub returns-in-None : goal.returns-in-None
 returns-in-None c = (λ _ f. absurd (true≢false (sym (ap (λ o. not (is_some o)) c.in-None.is) ∙ f)), λ _. refl)
 
-pub are_layable-requires : goal.are_layable-requires
-are_layable-requires c = λ q.
-    let same : SetAlike c.in-Some.sets.now (lines_at c.args.cursor.now) = rw c.in-Some.is at c.requires.sets in
-    let left = ap (λ (ls : List Lines). map line_view c.in_ok-left-in-Some.left.before.now ++ (map line_view ls ++ map line_view c.in_ok-left-in-Some.left.behind.now)) c.as_slice.ensures.value ∙ c.in_ok-left-in-Some.ensures in
-    same q ∙ sets_kept own_line (place_at c.args.cursor.now) c.args.count c.args.new.now (lines_at c.args.cursor.now) q ∙ sym (ap (set_address q) left)
+told : (b steady : Bool) (base other : ℕ) (left : List Line) → steady ≡ false → base ≡ other → ((b ≡ true) ↔ Layable base left) → ((b ≡ true) ↔ (steady ≡ false → Layable other left))
+told b steady base other left f e h = (λ t _. subst (λ k. Layable k left) e (h.0 t), λ q. h.1 (subst (λ k. Layable k left) (sym e) (q f)))
 
-told : (b steady : Bool) (base : ℕ) (left made : List Line) → steady ≡ false → left ≡ made → ((b ≡ true) ↔ Layable base left) → ((b ≡ true) ↔ (steady ≡ false → Layable base made))
-told b steady base left made f e h = (λ t _. subst (Layable base) e (h.0 t), λ q. h.1 (subst (Layable base) (sym e) (q f)))
+pub may_give_way-requires-clause-lays : goal.may_give_way-requires-clause-lays
+may_give_way-requires-clause-lays c = let h : (c.in-Some.kept.base ≡ c.args.rules.now.base) × Lays c.in-Some.kept (lines_at c.args.cursor.now) = rw c.in-Some.is at c.requires.over.over.layout in h.1
 
-pub returns-in_ok-left-in-Some : goal.returns-in_ok-left-in-Some
-returns-in_ok-left-in-Some c =
-    let left = ap (λ (ls : List Lines). map line_view c.in_ok-left-in-Some.left.before.now ++ (map line_view ls ++ map line_view c.in_ok-left-in-Some.left.behind.now)) c.as_slice.ensures.value ∙ c.in_ok-left-in-Some.ensures in
-    IfOk-weaker _ _ _ (λ b h. told b (is_steady c.args.ground.now) c.args.base _ _ (ap (λ o. not (is_some o)) c.in-Some.is) left h) c.are_layable.ensures
+pub may_give_way-requires-clause-near : goal.may_give_way-requires-clause-near
+may_give_way-requires-clause-near c = rw c.in-Some.is at c.requires.over.near
+
+pub returns-in-Some : goal.returns-in-Some
+returns-in-Some c =
+    let h : (c.in-Some.kept.base ≡ c.args.rules.now.base) × Lays c.in-Some.kept (lines_at c.args.cursor.now) = rw c.in-Some.is at c.requires.over.over.layout in
+    let left : List Line = replaced_lines own_line (place_at c.args.cursor.now) (length c.args.window.now) c.args.new.now (lines_at c.args.cursor.now) in
+    IfOk-weaker _ _ _ (λ (b : Bool) (t : (b ≡ true) ↔ Layable c.in-Some.kept.base left). told b (is_steady c.args.ground.now) c.in-Some.kept.base c.args.rules.now.base left (ap (λ o. not (is_some o)) c.in-Some.is) h.0 t) c.may_give_way.ensures

@@ -5,6 +5,7 @@ use Rattle.line_cursor.specs.Cursors.{lines_at, place_at}
 use Rattle.line_cursor.proofs.Edits.{one_fewer}
 use Rattle.window_rewrite.specs.Rules.{rules_in}
 use Rattle.window_rewrite.specs.Choices.{setting_of, NoneBefore}
+use Rattle.window_rewrite.specs.Sweeps.{StandsNear}
 use Rattle.window_rewrite.proofs.Applied.{meets_less}
 use Rattle.window_rewrite.proofs.Behind.{some_ahead, at_end, over_moved}
 use Rattle.window_rewrite.proofs.Chosen.{clear_on, none_on, none_applies, look_cost, piece_cost}
@@ -49,11 +50,13 @@ loop-alloc-preserved g c =
     let on : NoneBefore c.best.new.refused (setting_of c.args.rules.now) (lines_at c.forward.new.self) (place_at c.forward.new.self) =
     subst (λ (ls : List Line). NoneBefore c.best.new.refused (setting_of c.args.rules.now) ls (place_at c.forward.new.self)) (sym lines) past in
     record {
-      over = over_moved c.args.rules.now c.args.ground.now c.loop-alloc.cursor c.forward.new.self c.loop-alloc.invariant.over c.in_ok-forward.ensures.is lines c.in_ok-forward.ensures.spots;
+      steady = c.go_to.ensures.steady ∙ c.loop-alloc.invariant.steady;
+      over = over_moved c.args.rules.now c.loop-alloc.ground c.go_to.new.self c.loop-alloc.cursor c.forward.new.self c.loop-alloc.invariant.over c.in_ok-forward.ensures.is lines c.in_ok-forward.ensures.spots c.go_to.ensures.steady
+          (c.go_to.ensures.layout c.args.rules.now.base (lines_at c.loop-alloc.cursor) c.loop-alloc.invariant.over.over.layout) (subst (StandsNear c.go_to.new.self) c.place.ensures c.go_to.ensures.near);
       lines = lines ∙ c.loop-alloc.invariant.lines;
       none = on;
       clear =
-          subst (λ k. NoneBefore false (setting_of c.args.rules.now) (lines_at c.forward.new.self) k) (sym (c.still_clear-clear.ensures ∙ ap (λ k. if c.best.new.refused then c.loop-alloc.clear else k) c.place.ensures))
+          subst (λ k. NoneBefore false (setting_of c.args.rules.now) (lines_at c.forward.new.self) k) (sym (c.still_clear-clear.ensures ∙ ap (λ k. if c.best.new.refused then c.loop-alloc.clear else k) c.place-in-loop-alloc.ensures))
           (clear_on c.best.new.refused (setting_of c.args.rules.now) (lines_at c.forward.new.self) (place_at c.forward.new.self) c.loop-alloc.clear on
           (subst (λ (ls : List Line). NoneBefore false (setting_of c.args.rules.now) ls c.loop-alloc.clear) (sym lines) c.loop-alloc.invariant.clear));
       cost =

@@ -2,11 +2,12 @@ use Rattle.std.proofs.Common.{◌≡◌, ◌+◌, ◌*◌, ◌≤◌, false, len
 use Rattle.line_cursor.specs.Cursors.{lines_at, place_at}
 use Rattle.window_rewrite.specs.Rules.{rules_in}
 use Rattle.window_rewrite.specs.Choices.{setting_of, NoneBefore}
-use Rattle.window_rewrite.specs.Sweeps.{IsOver}
+use Rattle.window_rewrite.specs.Sweeps.{is_steady, IsOver}
 use Rattle.window_rewrite.proofs.finding.next.Given as goal
 
 abbrev pub invariant-loop-alloc : goal.invariant-loop-alloc
 invariant-loop-alloc g l = record {
+  steady : is_steady l.ground ≡ is_steady l.initial.ground;
   over : IsOver l.rules l.ground l.cursor;
   lines : lines_at l.cursor ≡ lines_at l.initial.cursor;
   none : NoneBefore l.refused (setting_of l.rules) (lines_at l.cursor) (place_at l.cursor);

@@ -1,11 +1,14 @@
 use Rattle.std.proofs.Common.{◌≡◌, ◌∙◌, ℕ, ◌+◌, ◌-◌, ◌<◌, List, true, false, Some, length, map, slice_index_or, ap, arith, refl, sym, subst, true≢false}
 use Rattle.std.specs.Prelude.{slice_get}
+use Rattle.std.specs.List.{list_all}
+use Rattle.std.proofs.lemmas.List.{length-map}
 use Rattle.std.proofs.lemmas.Option.{slice_get_read}
 use Rattle.thumb_instr.specs.declared.instr.Instr.{Instr}
 use Rattle.thumb_instr.specs.Renaming.{Low, renamed}
+use Rattle.thumb_instr.specs.Window.{is_in_window}
 use Rattle.thumb_model.specs.Layout.{Layable}
 use Rattle.thumb_model.specs.Listing.{Line, labels_from, places_of}
-use Rattle.thumb_model.specs.Rewrite.{Rule}
+use Rattle.thumb_model.specs.Rewrite.{Rule, register_count}
 use Rattle.thumb_model.specs.Rewritten.{left_length, replaced_lines}
 use Rattle.rule_table.specs.declared.table.Entry.{Entry}
 use Rattle.listing_parser.specs.Replacing.{own_line}
@@ -15,7 +18,7 @@ use Rattle.window_rewrite.specs.Rewriting.{registers_of}
 use Rattle.window_rewrite.specs.Rules.{entry_rule, rules_in, IsFit}
 use Rattle.window_rewrite.specs.Choices.{setting_of, AreReady}
 use Rattle.window_rewrite.proofs.Sides.{stands_once}
-use Rattle.window_rewrite.proofs.Applied.{applied, back, back_laid, laid, IsMade}
+use Rattle.window_rewrite.proofs.Applied.{applied, back, back_laid, laid, letters_all, IsMade}
 use Rattle.window_rewrite.proofs.Accepted.{entry_at}
 use Rattle.window_rewrite.proofs.Chosen.{length_at}
 use Rattle.window_rewrite.specs.Sweeps.{is_steady}
@@ -66,11 +69,27 @@ returns-then-not-is_settled-clause-none g c = λ given a.
     let never : true ≡ false = sym settled ∙ c.if-not-is_settled.true in
     absurd (true≢false never)
 
-pub can_be_laid-requires-clause-count : goal.can_be_laid-requires-clause-count
-can_be_laid-requires-clause-count g c = let shorter = c.in-Some.ensures.0.shorter in
+pub can_be_laid-requires-clause-letters : goal.can_be_laid-requires-clause-letters
+can_be_laid-requires-clause-letters g c =
     let e = entry c.args.rules.now c.args.number c.args.window.now c.index-rules-number.result c.requires.ready c.requires.number c.index-rules-number.is c.requires.long in
+    let rule : Rule = entry_rule (slice_index_or c.args.rules.now.entries.now c.args.number c.index-rules-number.result) in
+    let registers : List Low = registers_of c.in-Some.map in
+    let new : c.renamed_all-new.result ≡ map (renamed registers) rule.right =
+    c.renamed_all-new.ensures ∙ ap (λ (rs : List Low). map (renamed rs) c.as_slice.result.now) (c.deref.ensures.0 ∙ c.registers_of.ensures) ∙ ap (map (renamed registers)) c.as_slice.ensures.value in
+    subst (λ (is : List Instr). list_all is_in_window is ≡ true) (sym (c.as_slice-3.ensures.value ∙ new)) (letters_all (register_count rule.left) registers rule.right e.fit.sound.right)
+
+pub can_be_laid-requires-clause-fewer : goal.can_be_laid-requires-clause-fewer
+can_be_laid-requires-clause-fewer g c =
+    let shorter = c.in-Some.ensures.0.shorter in
+    let e = entry c.args.rules.now c.args.number c.args.window.now c.index-rules-number.result c.requires.ready c.requires.number c.index-rules-number.is c.requires.long in
+    let rule : Rule = entry_rule (slice_index_or c.args.rules.now.entries.now c.args.number c.index-rules-number.result) in
+    let registers : List Low = registers_of c.in-Some.map in
+    let new : c.renamed_all-new.result ≡ map (renamed registers) rule.right =
+    c.renamed_all-new.ensures ∙ ap (λ (rs : List Low). map (renamed rs) c.as_slice.result.now) (c.deref.ensures.0 ∙ c.registers_of.ensures) ∙ ap (map (renamed registers)) c.as_slice.ensures.value in
     let long = e.long in
-    omega arith
+    let count = ap (λ (is : List Instr). length is) (c.as_slice-3.ensures.value ∙ new) in
+    let as_many = length-map rule.right (renamed registers) in
+    omega (arith, shorter, long, count, as_many)
 
 pub returns-then-not-branch-clause-none : goal.returns-then-not-branch-clause-none
 returns-then-not-branch-clause-none g c = λ given a.
@@ -118,7 +137,7 @@ returns-clause-some g c =
     subst (λ p. IsMade (setting_of c.args.rules.now) lines p (c.args.number + 1 - 1) registers c.copied.result c.renamed_all-new.result) (sym c.place.ensures)
     (subst (λ k. IsMade (setting_of c.args.rules.now) lines place k registers c.copied.result c.renamed_all-new.result) number
     (subst (λ (js : List Instr). IsMade (setting_of c.args.rules.now) lines place c.args.number registers js c.renamed_all-new.result) (sym c.copied.ensures) m)) in (
-      record { whole = record { counted = omega arith; in_place = c.in-Some.ensures.2 }; applies = made_at.applies; keeps = made_at.keeps; leaves = made_at.leaves },
+      record { whole = record { counted = omega arith; in_place = c.in-Some.ensures.2 }; applies = made_at.applies; is_window = made_at.is_window; keeps = made_at.keeps; leaves = made_at.leaves },
       c.place.ensures,
       sym number,
     )

@@ -26,6 +26,7 @@ loop-replacements-preserved g c =
     record {
       completes = swept.completes c.args.listing here.completes;
       whole = swept.whole;
+      layable = swept.layable;
       steady = swept.steady;
       fewer = let places = swept.fewer in let given = here.fewer in omega arith;
       cost = next_sweep (length (rules_in c.args.rules.now.entries.now)) (length (places_of c.loop-replacements.current)) (length (places_of c.args.listing)) c.args.steps.now c.loop-replacements.steps c.sweep.new.steps

@@ -1,4 +1,5 @@
 use Rattle.std.proofs.Common.{◌+◌, ◌*◌, ◌≤◌, All, length}
+use Rattle.thumb_model.specs.Layout.{Layable}
 use Rattle.thumb_model.specs.Listing.{places_of}
 use Rattle.window_rewrite.specs.Rewriting.{round_cost, IsWhole}
 use Rattle.window_rewrite.specs.Rules.{rules_in}
@@ -11,6 +12,7 @@ abbrev pub invariant-loop-replacements : goal.invariant-loop-replacements
 invariant-loop-replacements g l = record {
   completes : Completes (setting_of l.rules) l.fn.listing l.replacements.items l.current;
   whole : All IsWhole l.replacements.items;
+  layable : Layable l.rules.base l.current;
   steady : IsSteadyIf l.rules.base l.current l.steady;
   fewer : length (places_of l.current) ≤ length (places_of l.fn.listing);
   cost : l.steps ≤ l.initial.steps + length l.replacements.items * round_cost (length (places_of l.fn.listing)) (length (rules_in l.rules.entries.now));

@@ -1,4 +1,4 @@
-use Rattle.std.proofs.Common.{◌≡◌, ◌+◌, ◌*◌, ◌<◌, ◌≤◌, List, All, length, sym, subst, ap, arith}
+use Rattle.std.proofs.Common.{◌≡◌, ◌∙◌, ◌+◌, ◌*◌, ◌<◌, ◌≤◌, List, All, length, sym, subst, ap, arith}
 use Rattle.std.specs.Int.{from_bool}
 use Rattle.std.proofs.lemmas.List.Elements.{All-push}
 use Rattle.thumb_model.specs.Listing.{Line, places_of}
@@ -10,7 +10,7 @@ use Rattle.window_rewrite.specs.Rules.{rules_in}
 use Rattle.window_rewrite.specs.Choices.{setting_of, choice_of}
 use Rattle.window_rewrite.specs.Sweeps.{MayBeListed}
 use Rattle.window_rewrite.proofs.Rounds.{comes_on, last_tries, longer_by_one, some_more, turn_cost}
-use Rattle.window_rewrite.proofs.Turning.{may_be_listed, still_over, still_steady}
+use Rattle.window_rewrite.proofs.Turning.{may_be_listed, still_layable, still_steady}
 use Rattle.window_rewrite.proofs.sweeping.go_through.Goals as goal
 
 pub returns-then-not-goes_on-clause-listed : goal.returns-then-not-goes_on-clause-listed
@@ -19,11 +19,16 @@ returns-then-not-goes_on-clause-listed g c =
     subst MayBeListed (sym c.in_ok-goes_on.ensures.lines)
     (may_be_listed (lines_at c.next.new.cursor) (setting_of c.args.rules.now) (choice_of c.in-Some.found.choice) choice.first.applies c.in_ok-found.ensures.over.over.listed)
 
+pub returns-then-not-goes_on-clause-layable : goal.returns-then-not-goes_on-clause-layable
+returns-then-not-goes_on-clause-layable g c =
+    let choice = rw c.in-Some.is at c.in_ok-found.ensures.some in
+    still_layable (setting_of c.args.rules.now) (choice_of c.in-Some.found.choice) (lines_at c.next.new.cursor) (lines_at c.turn.new.cursor) choice.first.applies c.in_ok-goes_on.ensures.lines
+
 pub returns-then-not-goes_on-clause-steady : goal.returns-then-not-goes_on-clause-steady
 returns-then-not-goes_on-clause-steady g c = λ h.
     let choice = rw c.in-Some.is at c.in_ok-found.ensures.some in
     subst (IsSteady c.args.rules.now.base) (sym c.in_ok-goes_on.ensures.lines)
-    (still_steady (setting_of c.args.rules.now) c.args.rules.now.longest (choice_of c.in-Some.found.choice) (lines_at c.next.new.cursor) c.requires.ready.fit choice.first.applies (c.in_ok-found.ensures.over.over.steady h))
+    (still_steady (setting_of c.args.rules.now) c.args.rules.now.longest (choice_of c.in-Some.found.choice) (lines_at c.next.new.cursor) c.requires.ready.fit choice.first.applies (c.in_ok-found.ensures.over.over.steady (c.in_ok-found.ensures.steady ∙ c.loop-found.invariant.steady ∙ h)))
 
 pub returns-then-not-goes_on-clause-fewer : goal.returns-then-not-goes_on-clause-fewer
 returns-then-not-goes_on-clause-fewer g c =
@@ -66,12 +71,12 @@ pub loop-found-preserved : goal.loop-found-preserved
 loop-found-preserved g c =
     let choice = rw c.in-Some.is at c.in_ok-found.ensures.some in
     record {
-      over = record {
-        kept = c.in_ok-goes_on.ensures.kept c.if-not-goes_on.false;
-        over = still_over c.args.rules.now c.args.ground.now (lines_at c.next.new.cursor) (lines_at c.turn.new.cursor) (choice_of c.in-Some.found.choice) c.requires.ready choice.first.applies c.in_ok-goes_on.ensures.lines
-            c.in_ok-found.ensures.over.over;
-      };
+      steady = c.in_ok-goes_on.ensures.steady ∙ c.in_ok-found.ensures.steady ∙ c.loop-found.invariant.steady;
+      over = c.in_ok-goes_on.ensures.over c.if-not-goes_on.false;
       before = c.in_ok-goes_on.ensures.before c.if-not-goes_on.false;
       whole = subst (All IsWhole) (sym c.in_ok-push.ensures.items) (All-push IsWhole _ c.in-Some.found.choice.replacement c.loop-found.invariant.whole choice.is.whole);
       come = comes_on _ _ _ _ _ _ _ _ _ _ _ _ c.in-Some.found.choice.replacement c.loop-found.invariant.come c.in_ok-found.ensures.lines choice.first c.in_ok-goes_on.ensures.lines c.in_ok-push.ensures.items (turn_cost _ _ _ _ _ _ c.in_ok-goes_on.goes_on c.in_ok-found.ensures.lines c.in_ok-found.ensures.cost c.in_ok-goes_on.ensures.cost);
     }
+
+pub returns-clause-steady : goal.returns-clause-steady
+returns-clause-steady g c = λ h. c.in_ok-found.ensures.over.over.steady (c.in_ok-found.ensures.steady ∙ c.loop-found.invariant.steady ∙ h)

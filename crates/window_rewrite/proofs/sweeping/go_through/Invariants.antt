@@ -1,16 +1,17 @@
-use Rattle.std.proofs.Common.{All, false, length}
+use Rattle.std.proofs.Common.{◌≡◌, All, false, length}
 use Rattle.thumb_model.specs.Listing.{places_of}
 use Rattle.line_cursor.specs.Cursors.{lines_at, place_at}
 use Rattle.window_rewrite.specs.Rewriting.{IsWhole}
 use Rattle.window_rewrite.specs.Rules.{rules_in}
 use Rattle.window_rewrite.specs.Choices.{setting_of, NoneBefore}
-use Rattle.window_rewrite.specs.Sweeps.{IsOver}
+use Rattle.window_rewrite.specs.Sweeps.{is_steady, IsOver}
 use Rattle.window_rewrite.proofs.Rounds.{HasCome}
 use Rattle.window_rewrite.proofs.sweeping.go_through.Given as goal
 
 -- the cursor stands in lines that have come from those where it began
 abbrev pub invariant-loop-found : goal.invariant-loop-found
 invariant-loop-found g l = record {
+  steady : is_steady l.ground ≡ is_steady l.initial.ground;
   over : IsOver l.rules l.ground l.cursor;
   before : NoneBefore false (setting_of l.rules) (lines_at l.cursor) (place_at l.cursor);
   whole : All IsWhole l.replacements.items;

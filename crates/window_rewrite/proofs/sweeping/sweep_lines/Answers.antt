@@ -1,5 +1,6 @@
 use Rattle.std.proofs.Common.{◌≡◌, ℕ, ◌+◌, ◌*◌, ◌≤◌, List, length, map, sym, ◌∙◌, subst}
 use Rattle.std.specs.Int.{from_bool}
+use Rattle.thumb_model.specs.Layout.{Layable}
 use Rattle.thumb_model.specs.Listing.{Line, code_of, places_of}
 use Rattle.thumb_model.specs.Rewritten.{Setting, AppliesIn}
 use Rattle.listing_parser.specs.TableWords.{DefineOnce}
@@ -12,7 +13,7 @@ use Rattle.line_cursor.specs.Cursors.{lines_at, spots_at, sets_of, flows_of}
 use Rattle.window_rewrite.specs.Rewriting.{round_cost, visits}
 use Rattle.window_rewrite.specs.Rules.{rules_in}
 use Rattle.window_rewrite.specs.Choices.{setting_of}
-use Rattle.window_rewrite.specs.Sweeps.{Completes, AreOver}
+use Rattle.window_rewrite.specs.Sweeps.{Completes, AreOver, StandsNear}
 use Rattle.window_rewrite.proofs.sweeping.sweep_lines.Goals as goal
 
 pub go_through-requires-clause-over : goal.go_through-requires-clause-over
@@ -25,7 +26,8 @@ go_through-requires-clause-over g c =
         live = subst (λ (ls : List Line). IsLive (code_of ls) (sets_of (spots_at c.in_ok-cursor.cursor))) (sym lines) (subst (λ (ss : List Spot). IsLive (code_of (map line_view c.args.lines.items)) (sets_of ss)) (sym spots) c.requires.live);
         flows = subst (λ (ls : List Line). AreFlows (code_of ls) (flows_of (spots_at c.in_ok-cursor.cursor))) (sym lines) (subst (λ (ss : List Spot). AreFlows (code_of (map line_view c.args.lines.items)) (flows_of ss)) (sym spots) c.requires.flows);
       };
-      over = subst (λ (ls : List Line). AreOver c.args.rules.now c.args.ground.now ls) (sym lines) c.requires.over;
+      over = subst (λ (ls : List Line). AreOver c.args.rules.now c.args.ground ls) (sym lines) c.requires.over;
+      near = subst (StandsNear c.args.ground) (sym c.in_ok-cursor.ensures.place) c.requires.near;
     }
 
 pub of-requires-clause-once : goal.of-requires-clause-once
@@ -42,6 +44,9 @@ pub returns-clause-steady : goal.returns-clause-steady
 returns-clause-steady g c = λ h.
     let same : c.in_ok-listing.listing ≡ lines_at c.go_through.new.cursor = c.in_ok-listing.ensures ∙ c.into_lines.ensures in
     (c.requires.over.aligned h, subst (IsSteady c.args.rules.now.base) (sym same) (c.in_ok-is_done.ensures.steady h))
+
+pub returns-clause-layable : goal.returns-clause-layable
+returns-clause-layable g c = subst (Layable c.args.rules.now.base) (sym (c.in_ok-listing.ensures ∙ c.into_lines.ensures)) c.in_ok-is_done.ensures.layable
 
 pub returns-clause-none : goal.returns-clause-none
 returns-clause-none g c = λ done o applies.

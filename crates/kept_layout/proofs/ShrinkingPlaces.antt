@@ -1,0 +1,118 @@
+-- Where stretches lie by what is noted, and where they lie once those behind one moved.
+use Rattle.std.proofs.Common.{◌≡◌, ◌∙◌, inl, inr, ℕ, zero, suc, ◌-◌, ◌<◌, ◌≤◌, List, [], ◌∷◌, ◌++◌, length, map, take, drop, Some, refl, sym, ap, subst, arith}
+use Rattle.std.specs.Prelude.{nat_lt, slice_get}
+use Rattle.std.proofs.lemmas.Bool.{cases_lt, lt-ltb, ltb-true, cases_Bool}
+use Rattle.std.proofs.lemmas.Option.{slice_get_within}
+use Rattle.thumb_model.proofs.Lists.{get_back, get_drop, get_front, get_take, present_at, take_all}
+use Rattle.kept_layout.specs.declared.kept.KeptLayout.{KeptLayout}
+use Rattle.kept_layout.specs.declared.stretch.Stretch.{Stretch}
+use Rattle.kept_layout.specs.Stretches.{addresses, located, shapes_of}
+use Rattle.kept_layout.specs.Kept.{IsLaid}
+use Rattle.kept_layout.specs.Moves.{end_of, moved_starts, starts_of, IsMove}
+use Rattle.kept_layout.proofs.ShrinkingStarts.{starts_length}
+
+-- ---- by what is noted ----
+
+pub located_before : (border shift n at : ℕ) → n < border → located border shift n at ≡ at
+located_before border shift n at h = rw (lt-ltb n border h) refl
+
+pub located_behind : (border shift n at : ℕ) → border ≤ n → located border shift n at ≡ at - shift
+located_behind border shift n at h = elim (cases_Bool (nat_lt n border)) [
+  | inl t ↦ absurd (let l = ltb-true n border t in omega arith)
+  | inr f ↦ rw f refl
+]
+
+address_before : (border shift : ℕ) (ss : List Stretch) (n : ℕ) (s : Stretch) → n < border → slice_get ss n ≡ Some s → slice_get (addresses border shift ss) n ≡ Some s.at
+address_before border shift [] n s h e = absurd (cc)
+address_before zero shift (t ∷ ss) n s h e = absurd (omega arith)
+address_before (suc b) shift (t ∷ ss) zero s h e = let same : t ≡ s = cc in ap (λ (x : Stretch). Some x.at) same
+address_before (suc b) shift (t ∷ ss) (suc n) s h e = address_before b shift ss n s (omega arith) e
+
+address_behind : (border shift : ℕ) (ss : List Stretch) (n : ℕ) (s : Stretch) → border ≤ n → slice_get ss n ≡ Some s → slice_get (addresses border shift ss) n ≡ Some (s.at - shift)
+address_behind border shift [] n s h e = absurd (cc)
+address_behind zero shift (t ∷ ss) zero s h e = let same : t ≡ s = cc in ap (λ (x : Stretch). Some (x.at - shift)) same
+address_behind zero shift (t ∷ ss) (suc n) s h e = address_behind zero shift ss n s (omega arith) e
+address_behind (suc b) shift (t ∷ ss) zero s h e = absurd (omega arith)
+address_behind (suc b) shift (t ∷ ss) (suc n) s h e = address_behind b shift ss n s (omega arith) e
+
+pub address_at : (border shift : ℕ) (ss : List Stretch) (n : ℕ) (s : Stretch) → slice_get ss n ≡ Some s → slice_get (addresses border shift ss) n ≡ Some (located border shift n s.at)
+address_at border shift ss n s e = elim (cases_lt n border) [
+  | inl h ↦ address_before border shift ss n s h e ∙ ap (λ m. Some m) (sym (located_before border shift n s.at h))
+  | inr h ↦ address_behind border shift ss n s (omega arith) e ∙ ap (λ m. Some m) (sym (located_behind border shift n s.at (omega arith)))
+]
+
+pub addresses_length : (border shift : ℕ) (ss : List Stretch) → length (addresses border shift ss) ≡ length ss
+addresses_length border shift [] = refl
+addresses_length zero shift (s ∷ ss) = ap suc (addresses_length zero shift ss)
+addresses_length (suc b) shift (s ∷ ss) = ap suc (addresses_length b shift ss)
+
+-- lists of the same elements
+lists_same : {A : Type 0} (xs ys : List A) → length xs ≡ length ys → ((n : ℕ) (x : A) → slice_get ys n ≡ Some x → slice_get xs n ≡ Some x) → xs ≡ ys
+lists_same [] [] l h = refl
+lists_same [] (y ∷ ys) l h = absurd (omega arith)
+lists_same (x ∷ xs) [] l h = absurd (omega arith)
+lists_same (x ∷ xs) (y ∷ ys) l h =
+    let first : x ≡ y = let e = h 0 y refl in cc in
+    let rest = lists_same xs ys (omega arith) (λ n z e. h (suc n) z e) in
+    ap (λ z. z ∷ xs) first ∙ ap (λ z. y ∷ z) rest
+
+-- each lies where it is told
+pub addresses_are : (border shift : ℕ) (ss : List Stretch) (xs : List ℕ) → length xs ≡ length ss → ((n : ℕ) (s : Stretch) → slice_get ss n ≡ Some s → slice_get xs n ≡ Some (located border shift n s.at)) → addresses border shift ss ≡ xs
+addresses_are border shift ss xs l h = sym (lists_same xs (addresses border shift ss) (l ∙ sym (addresses_length border shift ss)) (λ n a e.
+    let within = slice_get_within (addresses border shift ss) n a e in
+    let len = addresses_length border shift ss in
+    let there = present_at ss n (omega arith) in
+    let found = address_at border shift ss n there.0 there.1 in
+    let same : a ≡ located border shift n there.0.at = cc in
+    h n there.0 there.1 ∙ ap (λ m. Some m) (sym same)))
+
+-- where a stretch of a layout lies
+pub lies_at : (k : KeptLayout) (n : ℕ) (s : Stretch) → IsLaid k → slice_get k.stretches.items n ≡ Some s → slice_get (starts_of k) n ≡ Some (located k.border k.shift n s.at)
+lies_at k n s l e = subst (λ xs. slice_get xs n ≡ Some (located k.border k.shift n s.at)) l.starts (address_at k.border k.shift k.stretches.items n s e)
+
+-- ---- once they moved ----
+
+pub shapes_length : (ss : List Stretch) → length (shapes_of ss) ≡ length ss
+shapes_length [] = refl
+shapes_length (s ∷ ss) = ap suc (shapes_length ss)
+
+pub count_of : (k : KeptLayout) → length (starts_of k) ≡ length k.stretches.items
+count_of k = starts_length k.base (shapes_of k.stretches.items) ∙ shapes_length k.stretches.items
+
+pub get_map : {A B : Type 0} (f : A → B) (xs : List A) (n : ℕ) (x : A) → slice_get xs n ≡ Some x → slice_get (map f xs) n ≡ Some (f x)
+get_map f [] n x e = absurd (cc)
+get_map f (y ∷ xs) zero x e = let same : y ≡ x = cc in ap (λ z. Some (f z)) same
+get_map f (y ∷ xs) (suc n) x e = get_map f xs n x e
+
+-- those up to the one that it stands at stay
+pub moved_before : (k : KeptLayout) (new : List ℕ) (by j : ℕ) → IsMove k new by → j ≤ k.here → slice_get (moved_starts k new by) j ≡ slice_get (starts_of k) j
+moved_before k new by j m h =
+    let count = count_of k in
+    let within = m.within in
+    let first = take_all (suc k.here) (starts_of k) (omega arith) in
+    get_front (take (suc k.here) (starts_of k)) (new ++ map (λ a. a - by) (drop (end_of k new) (starts_of k))) j (omega arith) ∙ get_take (suc k.here) (starts_of k) j (omega arith)
+
+-- those behind it begin at the new addresses
+pub moved_among : (k : KeptLayout) (new : List ℕ) (by j : ℕ) → IsMove k new by → k.here < j → j < end_of k new → slice_get (moved_starts k new by) j ≡ slice_get new (j - suc k.here)
+moved_among k new by j m h l =
+    let count = count_of k in
+    let within = m.within in
+    let first = take_all (suc k.here) (starts_of k) (omega arith) in
+    get_back (take (suc k.here) (starts_of k)) (new ++ map (λ a. a - by) (drop (end_of k new) (starts_of k))) (j - suc k.here) j (omega arith) ∙ get_front new (map (λ a. a - by) (drop (end_of k new) (starts_of k))) (j - suc k.here) (omega arith)
+
+-- those behind these lie so many bytes earlier
+pub moved_behind : (k : KeptLayout) (new : List ℕ) (by j a : ℕ) → IsMove k new by → end_of k new ≤ j → slice_get (starts_of k) j ≡ Some a → slice_get (moved_starts k new by) j ≡ Some (a - by)
+moved_behind k new by j a m h e =
+    let count = count_of k in
+    let within = m.within in
+    let first = take_all (suc k.here) (starts_of k) (omega arith) in
+    let rest : List ℕ = drop (end_of k new) (starts_of k) in
+    let there : slice_get rest (j - end_of k new) ≡ Some a = get_drop (end_of k new) (starts_of k) (j - end_of k new) j (omega arith) ∙ e in
+    get_back (take (suc k.here) (starts_of k)) (new ++ map (λ a. a - by) rest) (j - suc k.here) j (omega arith)
+    ∙ get_back new (map (λ a. a - by) rest) (j - end_of k new) (j - suc k.here) (omega arith)
+    ∙ get_map (λ a. a - by) rest (j - end_of k new) a there
+
+pub address_is : (k : KeptLayout) (n a : ℕ) → IsLaid k → n < length k.stretches.items → ((s : Stretch) → slice_get k.stretches.items n ≡ Some s → a ≡ located k.border k.shift n s.at) → slice_get (starts_of k) n ≡ Some a
+address_is k n a l h f =
+    let there = present_at k.stretches.items n h in
+    lies_at k n there.0 l there.1 ∙ ap (λ m. Some m) (sym (f there.0 there.1))

@@ -1,0 +1,307 @@
+-- What stays within reach when stretches move: what wasn't looked at has both ends where they were, or both moved alike, or they came nearer to each other.
+use Rattle.std.proofs.Common.{◌≡◌, ◌∙◌, ◌↔◌, inl, inr, ℕ, suc, ◌+◌, ◌-◌, ◌*◌, ◌<◌, ◌≤◌, Bool, true, false, List, length, Option, Some, None, refl, sym, ap, subst, arith}
+use Rattle.std.specs.Prelude.{not, slice_get, Contains}
+use Rattle.std.specs.Option.{is_some, option_map}
+use Rattle.std.proofs.lemmas.Bool.{cases_Bool, cases_lt, le-leb}
+use Rattle.std.proofs.lemmas.Option.{slice_get_within}
+use Rattle.thumb_instr.specs.declared.instr.Instr.{Instr}
+use Rattle.thumb_instr.specs.declared.instr.Instr.TheVariants as instr
+use Rattle.thumb_model.specs.Layout.{aim_fault, Fault}
+use Rattle.thumb_model.proofs.Lists.{present_at}
+use Rattle.label_layout.specs.declared.errors.Kind.{Kind}
+use Rattle.label_layout.specs.Refusals.{fault_of}
+use Rattle.kept_layout.specs.declared.kept.KeptLayout.{KeptLayout}
+use Rattle.kept_layout.specs.declared.stretch.Aim.{Aim}
+use Rattle.kept_layout.specs.declared.stretch.Head.{Head}
+use Rattle.kept_layout.specs.declared.stretch.Head.TheVariants as head
+use Rattle.kept_layout.specs.declared.stretch.Stretch.{Stretch}
+use Rattle.kept_layout.specs.declared.stretch.Target.{Target}
+use Rattle.kept_layout.specs.declared.stretch.Target.TheVariants as target
+use Rattle.kept_layout.specs.Stretches.{address_of, head_fault, is_literal, is_loose, is_loose_to, lessen, shape_of, shapes_of, starts_from, AllReach, AreWide, Shape}
+use Rattle.kept_layout.specs.Kept.{IsLaid}
+use Rattle.kept_layout.specs.Moves.{end_of, moved_starts, starts_of, IsLookedAt, IsMove, IsRight}
+use Rattle.kept_layout.proofs.Distances.{aim_ahead, aim_back, aim_moves}
+use Rattle.kept_layout.proofs.MovingPlaces.{shape_at}
+use Rattle.kept_layout.proofs.ShrinkingPlaces.{count_of, moved_before, moved_behind, shapes_length}
+use Rattle.kept_layout.proofs.ShrinkingStarts.{lessen_at, lessen_there, starts_apart, starts_order}
+
+-- a mention of what lies nowhere has no fault: a row each
+aim_none : (at : ℕ) (i : Instr) (plus : ℕ) → aim_fault at i None plus ≡ None
+aim_none at (instr.Literal t s) plus = refl
+aim_none at (instr.Address t s) plus = refl
+aim_none at (instr.BranchIf c s) plus = refl
+aim_none at (instr.Branch s) plus = refl
+aim_none at (instr.Call s) plus = refl
+aim_none at i plus = refl
+
+-- the stretches behind the one that it stands at move
+pub record Moves (k : KeptLayout) (new : List ℕ) (by bytes : ℕ) : Type 0 where
+  pub laid : IsLaid k
+  pub wide : AreWide (shapes_of k.stretches.items)
+  pub move : IsMove k new by
+  pub starts : (gone : ℕ) → starts_from k.base (lessen k.here bytes gone (shapes_of k.stretches.items)) ≡ moved_starts k new by
+
+-- a stretch mentions something
+record Mentions (k : KeptLayout) (starts : List ℕ) (j : ℕ) (s : Stretch) (at : ℕ) (a : Aim) (to : Option Target) : Type 0 where
+  is : slice_get k.stretches.items j ≡ Some s
+  there : slice_get starts j ≡ Some at
+  head : s.head ≡ head.Aims a
+  target : a.to ≡ to
+
+-- ---- in order ----
+
+order : (k : KeptLayout) (new : List ℕ) (by bytes i j a b : ℕ) → Moves k new by bytes → i ≤ j → slice_get (moved_starts k new by) i ≡ Some a → slice_get (moved_starts k new by) j ≡ Some b → a ≤ b
+order k new by bytes i j a b m l e f =
+    let back = sym (m.starts 0) in
+    starts_order k.base (lessen k.here bytes 0 (shapes_of k.stretches.items)) i j a b l (subst (λ (xs : List ℕ). slice_get xs i ≡ Some a) back e) (subst (λ (xs : List ℕ). slice_get xs j ≡ Some b) back f)
+
+-- an instruction before the one that it stands at has two bytes before what stands behind it
+apart : (k : KeptLayout) (new : List ℕ) (by bytes i j : ℕ) (s : Stretch) (at b : ℕ) (a : Aim) (to : Option Target) → Moves k new by bytes → Mentions k (moved_starts k new by) i s at a to → i < k.here → i < j → slice_get (moved_starts k new by) j ≡ Some b → at + 2 ≤ b
+apart k new by bytes i j s at b a to m x h l f =
+    let back = sym (m.starts 0) in
+    let shape = shape_at k.stretches.items i s x.is in
+    let two : 2 ≤ s.bytes = m.wide i (shape_of s) a shape x.head in
+    let there = lessen_there k.here bytes 0 (shapes_of k.stretches.items) i (shape_of s) shape in
+    let is : slice_get (lessen k.here bytes 0 (shapes_of k.stretches.items)) i ≡ Some (shape_of s) = there.1 ∙ ap (λ (y : Shape). Some y) (there.3 h) in
+    let r = starts_apart k.base (lessen k.here bytes 0 (shapes_of k.stretches.items)) i j (shape_of s) at b l is (subst (λ (xs : List ℕ). slice_get xs i ≡ Some at) back x.there) (subst (λ (xs : List ℕ). slice_get xs j ≡ Some b) back f) in
+    omega arith
+
+-- ---- what was and what was looked at ----
+
+-- it was within reach
+was : (k : KeptLayout) (starts : List ℕ) (j : ℕ) (s : Stretch) (at old : ℕ) (a : Aim) (to : Option Target) → IsLaid k → Mentions k starts j s at a to → slice_get (starts_of k) j ≡ Some old → aim_fault old a.instr (address_of (starts_of k) to) a.plus ≡ None
+was k starts j s at old a to l x e =
+    let r = l.reach j (shape_of s) old (shape_at k.stretches.items j s x.is) e in
+    let h : head_fault (starts_of k) old (head.Aims a) ≡ None = subst (λ (h : Head). head_fault (starts_of k) old h ≡ None) x.head r in
+    subst (λ (t : Option Target). aim_fault old a.instr (address_of (starts_of k) t) a.plus ≡ None) x.target h
+
+-- it was looked at
+looked : (k : KeptLayout) (starts : List ℕ) (j : ℕ) (s : Stretch) (at : ℕ) (a : Aim) (to : Option Target) → Mentions k starts j s at a to → IsRight starts k.stretches.items j → aim_fault at a.instr (address_of starts to) a.plus ≡ None
+looked k starts j s at a to x r =
+    let h : head_fault starts at (head.Aims a) ≡ None = subst (λ (h : Head). head_fault starts at h ≡ None) x.head (r s at x.is x.there) in
+    subst (λ (t : Option Target). aim_fault at a.instr (address_of starts t) a.plus ≡ None) x.target h
+
+-- a loose one was looked at, or nothing behind the new addresses moves
+loose_kept : (k : KeptLayout) (new : List ℕ) (by j : ℕ) (s : Stretch) (at old : ℕ) (a : Aim) (to : Option Target) → IsLaid k → IsLookedAt k new by → Mentions k (moved_starts k new by) j s at a to → is_loose_to j a.instr to ≡ true
+    → at ≡ old - by → slice_get (starts_of k) j ≡ Some old → address_of (moved_starts k new by) to ≡ address_of (starts_of k) to → aim_fault at a.instr (address_of (moved_starts k new by) to) a.plus ≡ None
+loose_kept k new by j s at old a to l c x loose e f same = elim (cases_lt 0 by) [
+  | inl some ↦
+      let is : is_loose j s.head ≡ true = subst (λ (h : Head). is_loose j h ≡ true) (sym x.head) (subst (λ (t : Option Target). is_loose_to j a.instr t ≡ true) (sym x.target) loose) in
+      looked k (moved_starts k new by) j s at a to x (c.loose some j (l.loose j s x.is is))
+  | inr none ↦
+      let stays : old ≡ at = omega arith in
+      let w = was k (moved_starts k new by) j s at old a to l x f in
+      subst (λ n. aim_fault n a.instr (address_of (moved_starts k new by) to) a.plus ≡ None) stays (subst (λ (t : Option ℕ). aim_fault old a.instr t a.plus ≡ None) (sym same) w)
+]
+
+-- ---- a label ----
+
+-- where the instruction and the label lie, and lay
+record AreEnds (k : KeptLayout) (new : List ℕ) (by j t at to old was : ℕ) : Type 0 where
+  at_is : slice_get (moved_starts k new by) j ≡ Some at
+  to_is : slice_get (moved_starts k new by) t ≡ Some to
+  old_is : slice_get (starts_of k) j ≡ Some old
+  was_is : slice_get (starts_of k) t ≡ Some was
+
+label_before : (k : KeptLayout) (new : List ℕ) (by bytes j t : ℕ) (s : Stretch) (at old : ℕ) (a : Aim) → Moves k new by bytes → IsLookedAt k new by → Mentions k (moved_starts k new by) j s at a (Some (target.Stretch t)) → slice_get (starts_of k) j ≡ Some old → t ≤ k.here → j < k.here
+    → aim_fault at a.instr (slice_get (moved_starts k new by) t) a.plus ≡ None
+label_before k new by bytes j t s at old a m c x e h l =
+    let stays : at ≡ old = let same = moved_before k new by j m.move (omega arith) in let there = x.there in cc in
+    let w = was k (moved_starts k new by) j s at old a (Some (target.Stretch t)) m.laid x e in
+    subst (λ n. aim_fault n a.instr (slice_get (moved_starts k new by) t) a.plus ≡ None) (sym stays) (subst (λ (o : Option ℕ). aim_fault old a.instr o a.plus ≡ None) (sym (moved_before k new by t m.move h)) w)
+
+-- the label comes nearer
+label_nearer : (k : KeptLayout) (new : List ℕ) (by bytes j t : ℕ) (s : Stretch) (at old to : ℕ) (a : Aim) → Moves k new by bytes → Mentions k (moved_starts k new by) j s at a (Some (target.Stretch t)) → slice_get (starts_of k) j ≡ Some old → slice_get (starts_of k) t ≡ Some to → end_of k new ≤ t → j < k.here
+    → aim_fault at a.instr (slice_get (moved_starts k new by) t) a.plus ≡ None
+label_nearer k new by bytes j t s at old to a m x e f h l =
+    let stays : at ≡ old = let same = moved_before k new by j m.move (omega arith) in let there = x.there in cc in
+    let moved = moved_behind k new by t to m.move h f in
+    let low = m.move.low t to h f in
+    let two = apart k new by bytes j t s at (to - by) a (Some (target.Stretch t)) m x l (omega arith) moved in
+    let four = m.move.four in
+    let times : by ≡ 4 * four.0 = let q = four.1 in omega arith in
+    let w = was k (moved_starts k new by) j s at old a (Some (target.Stretch t)) m.laid x e in
+    let w2 : aim_fault at a.instr (Some to) a.plus ≡ None = subst (λ n. aim_fault n a.instr (Some to) a.plus ≡ None) (sym stays) (subst (λ (o : Option ℕ). aim_fault old a.instr o a.plus ≡ None) f w) in
+    subst (λ (o : Option ℕ). aim_fault at a.instr o a.plus ≡ None) (sym moved) (aim_ahead four.0 by at to a.instr a.plus times (omega arith) w2)
+
+-- both ends move
+label_along : (k : KeptLayout) (new : List ℕ) (by bytes j t : ℕ) (s : Stretch) (at old to : ℕ) (a : Aim) → Moves k new by bytes → Mentions k (moved_starts k new by) j s at a (Some (target.Stretch t)) → slice_get (starts_of k) j ≡ Some old → slice_get (starts_of k) t ≡ Some to → end_of k new ≤ t → end_of k new ≤ j
+    → aim_fault at a.instr (slice_get (moved_starts k new by) t) a.plus ≡ None
+label_along k new by bytes j t s at old to a m x e f h l =
+    let moves : old - by ≡ at = let there = x.there in let same = moved_behind k new by j old m.move l e in cc in
+    let moved = moved_behind k new by t to m.move h f in
+    let low = m.move.low t to h f in
+    let under = m.move.low j old l e in
+    let four = m.move.four in
+    let times : by ≡ 4 * four.0 = let q = four.1 in omega arith in
+    let w : aim_fault old a.instr (Some to) a.plus ≡ None = subst (λ (o : Option ℕ). aim_fault old a.instr o a.plus ≡ None) f (was k (moved_starts k new by) j s at old a (Some (target.Stretch t)) m.laid x e) in
+    subst (λ (o : Option ℕ). aim_fault at a.instr o a.plus ≡ None) (sym moved) (subst (λ n. aim_fault n a.instr (Some (to - by)) a.plus ≡ None) moves (aim_moves four.0 by old to a.instr a.plus times under low w))
+
+-- the instruction comes nearer
+label_behind : (k : KeptLayout) (new : List ℕ) (by bytes j t : ℕ) (s : Stretch) (at old to : ℕ) (a : Aim) → Moves k new by bytes → IsLookedAt k new by → Mentions k (moved_starts k new by) j s at a (Some (target.Stretch t)) → slice_get (starts_of k) j ≡ Some old → slice_get (starts_of k) t ≡ Some to → t ≤ k.here → end_of k new ≤ j
+    → aim_fault at a.instr (slice_get (moved_starts k new by) t) a.plus ≡ None
+label_behind k new by bytes j t s at old to a m c x e f h l =
+    let moves : at ≡ old - by = let there = x.there in let same = moved_behind k new by j old m.move l e in cc in
+    let stays = moved_before k new by t m.move h in
+    elim (cases_Bool (is_literal a.instr)) [
+      | inl y ↦ loose_kept k new by j s at old a (Some (target.Stretch t)) m.laid c x (rw (y, le-leb t j (omega arith)) refl) moves e stays
+      | inr n ↦
+          let under = m.move.low j old l e in
+          let before = order k new by bytes t j to at m (omega arith) (stays ∙ f) x.there in
+          let w : aim_fault old a.instr (Some to) a.plus ≡ None = subst (λ (o : Option ℕ). aim_fault old a.instr o a.plus ≡ None) f (was k (moved_starts k new by) j s at old a (Some (target.Stretch t)) m.laid x e) in
+          subst (λ (o : Option ℕ). aim_fault at a.instr o a.plus ≡ None) (sym (stays ∙ f)) (subst (λ n. aim_fault n a.instr (Some to) a.plus ≡ None) (sym moves) (aim_back by old to a.instr a.plus n (omega arith) w))
+    ]
+
+label_right : (k : KeptLayout) (new : List ℕ) (by bytes j t : ℕ) (s : Stretch) (at old to : ℕ) (a : Aim) → Moves k new by bytes → IsLookedAt k new by → Mentions k (moved_starts k new by) j s at a (Some (target.Stretch t)) → slice_get (starts_of k) j ≡ Some old → slice_get (starts_of k) t ≡ Some to
+    → aim_fault at a.instr (slice_get (moved_starts k new by) t) a.plus ≡ None
+label_right k new by bytes j t s at old to a m c x e f = elim (cases_lt k.here t) [
+  | inr first ↦ elim (cases_lt j k.here) [
+    | inl before ↦ label_before k new by bytes j t s at old a m c x e (omega arith) before
+    | inr not ↦ elim (cases_lt j (end_of k new)) [
+      | inl among ↦ looked k (moved_starts k new by) j s at a (Some (target.Stretch t)) x (c.heads j (omega arith) among)
+      | inr behind ↦ label_behind k new by bytes j t s at old to a m c x e f (omega arith) (omega arith)
+    ]
+  ]
+  | inl later ↦ elim (cases_lt t (end_of k new)) [
+    | inl among ↦
+        let within = m.laid.targets j t s a x.is x.head x.target in
+        let there = present_at k.stretches.items t within in
+        looked k (moved_starts k new by) j s at a (Some (target.Stretch t)) x (c.callers t j there.0 later among there.1 (m.laid.callers j t s there.0 a x.is x.head x.target there.1))
+    | inr last ↦ elim (cases_lt j k.here) [
+      | inl before ↦ label_nearer k new by bytes j t s at old to a m x e f (omega arith) before
+      | inr not ↦ elim (cases_lt j (end_of k new)) [
+        | inl among ↦ looked k (moved_starts k new by) j s at a (Some (target.Stretch t)) x (c.heads j (omega arith) among)
+        | inr behind ↦ label_along k new by bytes j t s at old to a m x e f (omega arith) (omega arith)
+      ]
+    ]
+  ]
+]
+
+-- ---- an address that is set ----
+
+set_right : (k : KeptLayout) (new : List ℕ) (by bytes j to : ℕ) (s : Stretch) (at old : ℕ) (a : Aim) → Moves k new by bytes → IsLookedAt k new by → Mentions k (moved_starts k new by) j s at a (Some (target.Address to)) → slice_get (starts_of k) j ≡ Some old → aim_fault at a.instr (Some to) a.plus ≡ None
+set_right k new by bytes j to s at old a m c x e = elim (cases_lt j k.here) [
+  | inl before ↦
+      let stays : old ≡ at = let same = moved_before k new by j m.move (omega arith) in let there = x.there in cc in
+      subst (λ n. aim_fault n a.instr (Some to) a.plus ≡ None) stays (was k (moved_starts k new by) j s at old a (Some (target.Address to)) m.laid x e)
+  | inr not ↦ elim (cases_lt j (end_of k new)) [
+    | inl among ↦ looked k (moved_starts k new by) j s at a (Some (target.Address to)) x (c.heads j (omega arith) among)
+    | inr behind ↦
+        let moves : at ≡ old - by = let there = x.there in let same = moved_behind k new by j old m.move (omega arith) e in cc in
+        loose_kept k new by j s at old a (Some (target.Address to)) m.laid c x refl moves e refl
+  ]
+]
+
+-- ---- all of them ----
+
+aim_right : (k : KeptLayout) (new : List ℕ) (by bytes j : ℕ) (s : Stretch) (at : ℕ) (a : Aim) (to : Option Target) → Moves k new by bytes → IsLookedAt k new by → Mentions k (moved_starts k new by) j s at a to → aim_fault at a.instr (address_of (moved_starts k new by) to) a.plus ≡ None
+aim_right k new by bytes j s at a None m c x = aim_none at a.instr a.plus
+aim_right k new by bytes j s at a (Some (target.Stretch t)) m c x =
+    let count = count_of k in
+    let own = present_at (starts_of k) j (let w = slice_get_within k.stretches.items j s x.is in omega arith) in
+    let other = present_at (starts_of k) t (let w = m.laid.targets j t s a x.is x.head x.target in omega arith) in
+    label_right k new by bytes j t s at own.0 other.0 a m c x own.1 other.1
+aim_right k new by bytes j s at a (Some (target.Address to)) m c x =
+    let count = count_of k in
+    let own = present_at (starts_of k) j (let w = slice_get_within k.stretches.items j s x.is in omega arith) in
+    set_right k new by bytes j to s at own.0 a m c x own.1
+
+pub right_all : (k : KeptLayout) (new : List ℕ) (by bytes : ℕ) → Moves k new by bytes → IsLookedAt k new by → (j : ℕ) → IsRight (moved_starts k new by) k.stretches.items j
+right_all k new by bytes m c j s at e f = go s.head refl
+  where
+    go : (h : Head) → s.head ≡ h → head_fault (moved_starts k new by) at h ≡ None
+    go head.Plain g = refl
+    go (head.Pads size most) g = refl
+    go (head.Aims a) g = aim_right k new by bytes j s at a a.to m c (record { is = e; there = f; head = g; target = refl })
+
+-- ---- told of the shapes ----
+
+-- all mentions are within reach exactly where each is right
+pub reach_from : (k : KeptLayout) (new : List ℕ) (by bytes gone : ℕ) → Moves k new by bytes → ((j : ℕ) → IsRight (moved_starts k new by) k.stretches.items j) → AllReach k.base (lessen k.here bytes gone (shapes_of k.stretches.items))
+reach_from k new by bytes gone m r j s at e f =
+    let was = lessen_at k.here bytes gone (shapes_of k.stretches.items) j s e in
+    let within = slice_get_within (shapes_of k.stretches.items) j was.shape was.is in
+    let count = shapes_length k.stretches.items in
+    let there = present_at k.stretches.items j (omega arith) in
+    let shape = shape_at k.stretches.items j there.0 there.1 in
+    let found = was.is in
+    let same : shape_of there.0 ≡ was.shape = cc in
+    let head : there.0.head ≡ s.head = ap (λ (x : Shape). x.head) same ∙ was.head in
+    let right = r j there.0 at there.1 (subst (λ (xs : List ℕ). slice_get xs j ≡ Some at) (m.starts gone) f) in
+    subst (λ (h : Head). head_fault (starts_from k.base (lessen k.here bytes gone (shapes_of k.stretches.items))) at h ≡ None) head (subst (λ (xs : List ℕ). head_fault xs at there.0.head ≡ None) (sym (m.starts gone)) right)
+
+pub right_from : (k : KeptLayout) (new : List ℕ) (by bytes gone : ℕ) → Moves k new by bytes → AllReach k.base (lessen k.here bytes gone (shapes_of k.stretches.items)) → (j : ℕ) → IsRight (moved_starts k new by) k.stretches.items j
+right_from k new by bytes gone m r j s at e f =
+    let there = lessen_there k.here bytes gone (shapes_of k.stretches.items) j (shape_of s) (shape_at k.stretches.items j s e) in
+    let reach = r j there.0 at there.1 (subst (λ (xs : List ℕ). slice_get xs j ≡ Some at) (sym (m.starts gone)) f) in
+    subst (λ (h : Head). head_fault (moved_starts k new by) at h ≡ None) there.2 (subst (λ (xs : List ℕ). head_fault xs at there.0.head ≡ None) (m.starts gone) reach)
+
+-- ---- told by a test ----
+
+fault_none : (o : Option Kind) (f : Option Fault) (b : Bool) → option_map fault_of o ≡ f → is_some o ≡ not b → (b ≡ true) ↔ (f ≡ None)
+fault_none None f b e t = (λ h. sym e, λ h. let n : false ≡ not b = t in grind arith)
+fault_none (Some k) f b e t = (λ h. absurd (let n : true ≡ not b = t in grind arith), λ h. absurd (cc))
+
+pub aim_told : (k : KeptLayout) (starts : List ℕ) (j : ℕ) (s : Stretch) (at : ℕ) (a : Aim) (to : Option ℕ) (o : Option Kind) (b : Bool) → slice_get k.stretches.items j ≡ Some s → s.head ≡ head.Aims a → slice_get starts j ≡ Some at → to ≡ address_of starts a.to
+    → option_map fault_of o ≡ aim_fault at a.instr to a.plus → is_some o ≡ not b → (b ≡ true) ↔ IsRight starts k.stretches.items j
+aim_told k starts j s at a to o b is head there target e t =
+    let f : option_map fault_of o ≡ head_fault starts at s.head = e ∙ ap (λ (x : Option ℕ). aim_fault at a.instr x a.plus) target ∙ sym (ap (head_fault starts at) head) in
+    let both = fault_none o (head_fault starts at s.head) b f t in (
+      λ h. λ other n g l.
+          let one : s ≡ other = cc in
+          let place : at ≡ n = cc in
+          subst (λ m. head_fault starts m other.head ≡ None) place (subst (λ (x : Stretch). head_fault starts at x.head ≡ None) one (both.0 h)),
+      λ r. both.1 (r s at is there),
+    )
+
+pub none_told : (k : KeptLayout) (starts : List ℕ) (j : ℕ) (s : Stretch) → slice_get k.stretches.items j ≡ Some s → ((a : Aim) → s.head ≡ head.Aims a → ⊥) → IsRight starts k.stretches.items j
+none_told k starts j s is not other at e f =
+    let one : s ≡ other = cc in
+    go other.head (λ a g. not a (ap (λ (x : Stretch). x.head) one ∙ g))
+  where
+    go : (h : Head) → ((a : Aim) → h ≡ head.Aims a → ⊥) → head_fault starts at h ≡ None
+    go head.Plain n = refl
+    go (head.Pads size most) n = refl
+    go (head.Aims a) n = absurd (n a refl)
+
+-- ---- those that mention a label ----
+
+pub called_within : (k : KeptLayout) (t : ℕ) (d : Stretch) (numbers : List ℕ) → IsLaid k → slice_get k.stretches.items t ≡ Some d → numbers ≡ d.callers.items → (j : ℕ) → Contains numbers j → j < length k.stretches.items
+called_within k t d numbers l e f j c = l.called t j d e (subst (λ xs. Contains xs j) f c)
+
+pub called_right : (k : KeptLayout) (starts : List ℕ) (t : ℕ) (d : Stretch) (numbers : List ℕ) → slice_get k.stretches.items t ≡ Some d → numbers ≡ d.callers.items → ((j : ℕ) → Contains numbers j → IsRight starts k.stretches.items j)
+    → (j : ℕ) (other : Stretch) → slice_get k.stretches.items t ≡ Some other → Contains other.callers.items j → IsRight starts k.stretches.items j
+called_right k starts t d numbers e f h j other g c =
+    let one : d ≡ other = cc in
+    h j (subst (λ xs. Contains xs j) (sym (f ∙ ap (λ (x : Stretch). x.callers.items) one)) c)
+
+-- from the one that it stands at up to a number, what they mention and what mentions their labels is within reach
+pub record AreMet (k : KeptLayout) (new : List ℕ) (by number : ℕ) : Type 0 where
+  pub heads : (j : ℕ) → k.here ≤ j → j < number → IsRight (moved_starts k new by) k.stretches.items j
+  pub callers : (t j : ℕ) (d : Stretch) → k.here < t → t < number → slice_get k.stretches.items t ≡ Some d → Contains d.callers.items j → IsRight (moved_starts k new by) k.stretches.items j
+
+pub met_first : (k : KeptLayout) (new : List ℕ) (by number : ℕ) → number ≡ suc k.here → IsRight (moved_starts k new by) k.stretches.items k.here → AreMet k new by number
+met_first k new by number e r = record {
+  heads = λ j h l. subst (IsRight (moved_starts k new by) k.stretches.items) (let here : k.here ≡ j = omega arith in here) r;
+  callers = λ t j d h l. absurd (omega arith);
+}
+
+pub met_more : (k : KeptLayout) (new : List ℕ) (by number following : ℕ) → following ≡ suc number → AreMet k new by number → IsRight (moved_starts k new by) k.stretches.items number
+    → ((j : ℕ) (d : Stretch) → slice_get k.stretches.items number ≡ Some d → Contains d.callers.items j → IsRight (moved_starts k new by) k.stretches.items j) → AreMet k new by following
+met_more k new by number following e m own called = record {
+  heads = λ j h l. elim (cases_lt j number) [
+    | inl before ↦ m.heads j h before
+    | inr not ↦ subst (IsRight (moved_starts k new by) k.stretches.items) (let here : number ≡ j = omega arith in here) own
+  ];
+  callers = λ t j d h l f c. elim (cases_lt t number) [
+    | inl before ↦ m.callers t j d h before f c
+    | inr not ↦ called j d (ap (slice_get k.stretches.items) (let here : number ≡ t = omega arith in here) ∙ f) c
+  ];
+}
+
+pub met_all : (k : KeptLayout) (new : List ℕ) (by number : ℕ) → end_of k new ≤ number → AreMet k new by number → (0 < by → (j : ℕ) → Contains k.loose.items j → IsRight (moved_starts k new by) k.stretches.items j) → IsLookedAt k new by
+met_all k new by number h m loose = record {
+  heads = λ j f l. m.heads j f (omega arith);
+  callers = λ t j d f l. m.callers t j d f (omega arith);
+  loose = loose;
+}

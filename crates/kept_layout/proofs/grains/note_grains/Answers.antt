@@ -1,0 +1,17 @@
+use Rattle.std.proofs.Common.{◌-◌, length, refl, subst, arith}
+use Rattle.std.proofs.lemmas.Option.{slice_get_read}
+use Rattle.kept_layout.specs.Stretches.{IsGrainOf}
+use Rattle.kept_layout.proofs.BuildingGrains.{grains_begin, grains_on, head_read}
+use Rattle.kept_layout.proofs.grains.note_grains.Goals as goal
+
+pub loop-number-init : goal.loop-number-init
+loop-number-init c = grains_begin c.args.stretches.now.items c.len-number.result (omega arith)
+
+pub loop-number-preserved : goal.loop-number-preserved
+loop-number-preserved c =
+    let ss = c.loop-number.stretches.items in
+    let n = c.loop-number.number - 1 in
+    let within = c.loop-number.invariant.within in
+    let is = slice_get_read ss (length ss) n c.index_mut.result.now refl (omega arith) c.index_mut.ensures.value in
+    let head = head_read ss n c.index.result.now c.index_mut.result.now (omega arith) c.index.ensures is in
+    grains_on c.args.stretches.now.items c.loop-number.grain c.loop-number.number ss n c.grain_of-grain.result c.index_mut.result.now _ c.loop-number.invariant (omega arith) is c.grain_of-grain.ensures.behind (subst (IsGrainOf c.grain_of-grain.result) head c.grain_of-grain.ensures.own) refl

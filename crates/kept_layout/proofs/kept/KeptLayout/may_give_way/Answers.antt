@@ -1,0 +1,39 @@
+use Rattle.std.proofs.Common.{◌≡◌, ◌-◌, ◌*◌, ◌≤◌, ◌↔◌, Bool, true, ℕ, List, length, subst, sym}
+use Rattle.std.proofs.lemmas.Result.{IfOk-weaker}
+use Rattle.thumb_instr.specs.declared.instr.Instr.{Instr}
+use Rattle.thumb_model.specs.Layout.{Layable}
+use Rattle.thumb_model.specs.Listing.{Line}
+use Rattle.thumb_model.specs.Rewritten.{replaced_lines}
+use Rattle.listing_parser.specs.Replacing.{own_line}
+use Rattle.kept_layout.specs.declared.kept.KeptLayout.{KeptLayout}
+use Rattle.kept_layout.specs.Stretches.{lessen, shapes_of, AllReach}
+use Rattle.kept_layout.proofs.Giving.{bytes_few, bytes_within, gives, layable_after, reach_after, GivesWay}
+use Rattle.kept_layout.proofs.ShrinkingWide.{cut_wide}
+use Rattle.kept_layout.proofs.kept.KeptLayout.may_give_way.Goals as goal
+
+pub bytes_gone-bytes-requires-clause-few : goal.bytes_gone-bytes-requires-clause-few
+bytes_gone-bytes-requires-clause-few c =
+    let r = c.requires in
+    bytes_few _ _ _ _ _ (gives r.lays r.near r.window r.some r.fewer r.letters)
+
+pub can_shrink-requires-clause-few : goal.can_shrink-requires-clause-few
+can_shrink-requires-clause-few c = λ s e.
+    let r = c.requires in
+    subst (λ n. n ≤ s.bytes) (sym c.bytes_gone-bytes.ensures) (bytes_within _ _ _ _ _ s e (gives r.lays r.near r.window r.some r.fewer r.letters))
+
+-- what is told of a stretch that shrinks, told of the lines
+told : (k : KeptLayout) (lines : List Line) (place : ℕ) (window new : List Instr) (bytes : ℕ) (b : Bool) → GivesWay k lines place window new → bytes ≡ 2 * (length window - length new)
+    → ((gone : ℕ) → (b ≡ true) ↔ AllReach k.base (lessen k.here bytes gone (shapes_of k.stretches.items))) → (b ≡ true) ↔ Layable k.base (replaced_lines own_line place (length window) new lines)
+told k lines place window new bytes b g e h =
+    let gone : ℕ = length window - length new in (
+      λ t. layable_after own_line k lines place window new g (subst (λ n. AllReach k.base (lessen k.here n gone (shapes_of k.stretches.items))) e ((h gone).0 t)),
+      λ l. (h gone).1 (subst (λ n. AllReach k.base (lessen k.here n gone (shapes_of k.stretches.items))) (sym e) (reach_after own_line k lines place window new g l)),
+    )
+
+pub returns : goal.returns
+returns c =
+    let r = c.requires in
+    IfOk-weaker _ _ _ (λ b h. told c.args.self.now _ _ c.args.window.now c.args.new.now c.bytes_gone-bytes.result b (gives r.lays r.near r.window r.some r.fewer r.letters) c.bytes_gone-bytes.ensures h) c.can_shrink.ensures
+
+pub can_shrink-requires-clause-wide : goal.can_shrink-requires-clause-wide
+can_shrink-requires-clause-wide c = cut_wide _ _ c.requires.lays.cut

@@ -1,0 +1,145 @@
+-- A layout that is kept for lines.
+use Rattle.std.specs.Prelude.{◌≡◌, ℕ, ◌+◌, ◌*◌, ◌<◌, ◌≤◌, ◌^◌, ◌||◌, Bool, not, true, false, List, [], ◌∷◌, ◌++◌, length, drop, take, Option, Some, None, slice_get, Contains, if◌then◌else◌}
+use Rattle.thumb_model.specs.Listing.{Name, Statement, Nothing, Runs, Words, Aligns, Sets, Line, places_of}
+use Rattle.thumb_model.specs.Layout.{cleared, instr_size, is_among, set_address}
+use Rattle.window_runs.specs.Rows.{is_unlabelled}
+use Rattle.kept_layout.specs.declared.kept.KeptLayout.{KeptLayout}
+use Rattle.kept_layout.specs.declared.stretch.Aim.{Aim}
+use Rattle.kept_layout.specs.declared.stretch.Target.{Target}
+use Rattle.kept_layout.specs.declared.stretch.Target.TheVariants as target
+use Rattle.kept_layout.specs.declared.stretch.Head.{Head}
+use Rattle.kept_layout.specs.declared.stretch.Head.TheVariants as head
+use Rattle.kept_layout.specs.declared.stretch.Stretch.{Stretch}
+use Rattle.kept_layout.specs.Stretches.{addresses, end_from, is_loose, shapes_of, starts_from, total_places, AllReach, IsGrain, Shape}
+
+-- ---- stretches of lines ----
+
+-- whether a statement takes the same bytes wherever it lies, and mentions nothing
+abbrev pub is_fixed : Statement → Bool
+is_fixed Nothing = true
+is_fixed (Runs i None) = true
+is_fixed (Runs i (Some m)) = false
+is_fixed (Words vs) = true
+is_fixed (Aligns size most) = false
+is_fixed (Sets name address) = true
+
+-- the bytes of a statement besides a padding, and those of lines
+abbrev pub bytes_in : Statement → ℕ
+bytes_in Nothing = 0
+bytes_in (Runs i mention) = instr_size i
+bytes_in (Words vs) = 4 * length vs
+bytes_in (Aligns size most) = 0
+bytes_in (Sets name address) = 0
+
+abbrev pub bytes_of : List Line → ℕ
+bytes_of [] = 0
+bytes_of (l ∷ ls) = bytes_in l.statement + bytes_of ls
+
+-- lines without labels whose statements are fixed
+abbrev pub AreBare : List Line → Type 0
+AreBare [] = Unit {0}
+AreBare (l ∷ ls) = (l.names ≡ []) × (is_fixed l.statement ≡ true) × AreBare ls
+
+-- whether a line begins a stretch
+abbrev pub begins : Line → Bool
+begins l = not (is_unlabelled l.names) || not (is_fixed l.statement)
+
+-- the labels with which lines begin
+abbrev pub first_names : List Line → List Name
+first_names [] = []
+first_names (l ∷ ls) = l.names
+
+abbrev pub joined : List (List Line) → List Line
+joined [] = []
+joined (p ∷ ps) = p ++ joined ps
+
+-- the number of the first part, from n on, that begins with a label of the name
+abbrev pub part_of : Name → ℕ → List (List Line) → Option ℕ
+part_of name n [] = None
+part_of name n (p ∷ ps) = if is_among name (first_names p) then Some n else part_of name (n + 1) ps
+
+-- where a name lies: at the label of a part, or at an address that is set
+abbrev pub target_at : Option ℕ → Option ℕ → Option Target
+target_at None None = None
+target_at None (Some a) = Some (target.Address a)
+target_at (Some k) set = Some (target.Stretch k)
+
+abbrev pub target_in : List (List Line) → Name → Option Target
+target_in parts name = target_at (part_of name 0 parts) (cleared (set_address name (joined parts)))
+
+-- what a statement is as the first of a stretch, given where names lie
+abbrev pub head_of : (Name → Option Target) → Statement → Head
+head_of find Nothing = head.Plain
+head_of find (Runs i None) = head.Plain
+head_of find (Runs i (Some m)) = head.Aims (record { instr = i; to = find m.name; plus = m.plus })
+head_of find (Words vs) = head.Plain
+head_of find (Aligns size most) = head.Pads size most
+head_of find (Sets name address) = head.Plain
+
+abbrev pub first_head : (Name → Option Target) → List Line → Head
+first_head find [] = head.Plain
+first_head find (l ∷ ls) = head_of find l.statement
+
+abbrev pub behind_first : List Line → List Line
+behind_first [] = []
+behind_first (l ∷ ls) = ls
+
+-- the shape is that of the lines, of which the first alone may have labels, mention a name or align
+pub record IsShapeOf (find : Name → Option Target) (lines : List Line) (s : Shape) : Type 0 where
+  pub head : s.head ≡ first_head find lines
+  pub bare : AreBare (behind_first lines)
+  pub bytes : s.bytes ≡ bytes_of lines
+  pub places : s.places ≡ length (places_of lines)
+
+abbrev pub AreShapesOf : (Name → Option Target) → List (List Line) → List Shape → Type 0
+AreShapesOf find [] [] = Unit {0}
+AreShapesOf find [] (s ∷ ss) = ⊥
+AreShapesOf find (p ∷ ps) [] = ⊥
+AreShapesOf find (p ∷ ps) (s ∷ ss) = IsShapeOf find p s × AreShapesOf find ps ss
+
+-- each of the parts begins with a line that begins a stretch
+abbrev pub AllBegin : List (List Line) → Type 0
+AllBegin [] = Unit {0}
+AllBegin ([] ∷ ps) = ⊥
+AllBegin ((l ∷ ls) ∷ ps) = (begins l ≡ true) × AllBegin ps
+
+abbrev pub behind_first_part : List (List Line) → List (List Line)
+behind_first_part [] = []
+behind_first_part (p ∷ ps) = ps
+
+-- the lines are cut into parts of these shapes
+pub record AreCut (lines : List Line) (shapes : List Shape) : Type 0 where
+  pub parts : List (List Line)
+  pub is : lines ≡ joined parts
+  pub shapes_are : AreShapesOf (target_in parts) parts shapes
+  pub begin : AllBegin (behind_first_part parts)
+
+-- ---- what is kept ----
+
+-- the stretches lie one behind the other from the base on, and each knows who mentions its label
+pub record IsLaid (k : KeptLayout) : Type 0 where
+  pub in_code : end_from k.base (shapes_of k.stretches.items) ≤ 2 ^ 29
+  pub starts : addresses k.border k.shift k.stretches.items ≡ starts_from k.base (shapes_of k.stretches.items)
+  pub border : k.border ≤ length k.stretches.items
+  pub noted : (j : ℕ) (s : Stretch) → slice_get k.stretches.items j ≡ Some s → k.border ≤ j → k.shift ≤ s.at
+  pub grains : (j : ℕ) (s : Stretch) → slice_get k.stretches.items j ≡ Some s → IsGrain s.grain (drop j (shapes_of k.stretches.items))
+  pub reach : AllReach k.base (shapes_of k.stretches.items)
+  pub targets : (i t : ℕ) (s : Stretch) (a : Aim) → slice_get k.stretches.items i ≡ Some s → s.head ≡ head.Aims a → a.to ≡ Some (target.Stretch t) → t < length k.stretches.items
+  pub callers : (i t : ℕ) (s d : Stretch) (a : Aim) → slice_get k.stretches.items i ≡ Some s → s.head ≡ head.Aims a → a.to ≡ Some (target.Stretch t) → slice_get k.stretches.items t ≡ Some d → Contains d.callers.items i
+  pub called : (t i : ℕ) (d : Stretch) → slice_get k.stretches.items t ≡ Some d → Contains d.callers.items i → i < length k.stretches.items
+  -- the loose ones are known
+  pub loose : (j : ℕ) (s : Stretch) → slice_get k.stretches.items j ≡ Some s → is_loose j s.head ≡ true → Contains k.loose.items j
+  pub loose_within : (j : ℕ) → Contains k.loose.items j → j < length k.stretches.items
+  -- it stands at one of them, before which there are so many places
+  pub here : k.here < length k.stretches.items
+  pub first : k.first ≡ total_places (take k.here (shapes_of k.stretches.items))
+
+-- it is the layout of the lines
+pub record Lays (k : KeptLayout) (lines : List Line) : Type 0 where
+  pub laid : IsLaid k
+  pub cut : AreCut lines (shapes_of k.stretches.items)
+
+-- it stands where the place is, if there is such a place
+pub record IsNear (k : KeptLayout) (place : ℕ) : Type 0 where
+  pub from : k.first ≤ place
+  pub until : place < total_places (shapes_of k.stretches.items) → (s : Shape) → slice_get (shapes_of k.stretches.items) k.here ≡ Some s → place < k.first + s.places

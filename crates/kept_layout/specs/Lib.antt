@@ -1,0 +1,4 @@
+pub mod Stretches
+pub mod Kept
+pub mod Cutting
+pub mod Moves

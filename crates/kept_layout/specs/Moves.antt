@@ -1,0 +1,47 @@
+-- Stretches that move since one of them takes fewer bytes.
+use Rattle.std.specs.Prelude.{◌≡◌, ℕ, suc, ◌+◌, ◌-◌, ◌<◌, ◌≤◌, List, ◌++◌, length, map, take, drop, Some, None, slice_get, Contains}
+use Rattle.kept_layout.specs.declared.kept.KeptLayout.{KeptLayout}
+use Rattle.kept_layout.specs.declared.stretch.Stretch.{Stretch}
+use Rattle.kept_layout.specs.Stretches.{head_fault, shapes_of, starts_from, Divides}
+
+-- where each one begins, from the base on
+abbrev pub starts_of : KeptLayout → List ℕ
+starts_of k = starts_from k.base (shapes_of k.stretches.items)
+
+-- the number of the first one behind those that begin at new addresses
+abbrev pub end_of : KeptLayout → List ℕ → ℕ
+end_of k new = suc k.here + length new
+
+-- where each one begins then: those behind the one that it stands at begin at new addresses, and those behind these so many bytes earlier
+abbrev pub moved_starts : KeptLayout → List ℕ → ℕ → List ℕ
+moved_starts k new by = take (suc k.here) (starts_of k) ++ (new ++ map (λ a. a - by) (drop (end_of k new) (starts_of k)))
+
+-- there are so many stretches, of which the last ones can lie so many bytes earlier
+pub record IsMove (k : KeptLayout) (new : List ℕ) (by : ℕ) : Type 0 where
+  pub within : end_of k new ≤ length k.stretches.items
+  pub low : (j a : ℕ) → end_of k new ≤ j → slice_get (starts_of k) j ≡ Some a → by ≤ a
+  pub four : Divides 4 by
+
+-- what one of them mentions is within reach, where they begin at these addresses
+abbrev pub IsRight : List ℕ → List Stretch → ℕ → Type 0
+IsRight starts stretches j = (s : Stretch) (at : ℕ) → slice_get stretches j ≡ Some s → slice_get starts j ≡ Some at → head_fault starts at s.head ≡ None
+
+-- what can come out of reach was looked at
+pub record IsLookedAt (k : KeptLayout) (new : List ℕ) (by : ℕ) : Type 0 where
+  pub heads : (j : ℕ) → k.here ≤ j → j < end_of k new → IsRight (moved_starts k new by) k.stretches.items j
+  pub callers : (t j : ℕ) (d : Stretch) → k.here < t → t < end_of k new → slice_get k.stretches.items t ≡ Some d → Contains d.callers.items j → IsRight (moved_starts k new by) k.stretches.items j
+  pub loose : 0 < by → (j : ℕ) → Contains k.loose.items j → IsRight (moved_starts k new by) k.stretches.items j
+
+-- what is noted as the address of a stretch that lay at another one, where those behind the new addresses then lie so many bytes before what is noted of them
+pub record IsNote (k : KeptLayout) (new : List ℕ) (j old note : ℕ) : Type 0 where
+  pub before : j ≤ k.here → note ≡ old
+  pub among : k.here < j → j < end_of k new → slice_get new (j - suc k.here) ≡ Some note
+  pub behind : end_of k new ≤ j → note ≡ old + k.shift
+
+-- each of these stretches is one of the others, noted at another address
+abbrev pub unplaced : Stretch → Stretch
+unplaced s = record s { at = 0 }
+
+-- and each of these is one of the others, with another grain
+abbrev pub ungrained : Stretch → Stretch
+ungrained s = record s { grain = 0 }

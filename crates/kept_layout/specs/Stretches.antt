@@ -1,0 +1,122 @@
+-- Stretches of lines, one behind the other: where they begin, and whether what they mention is within reach.
+use Rattle.std.specs.Prelude.{◌≡◌, ℕ, zero, suc, ◌+◌, ◌-◌, ◌*◌, ◌&&◌, ◌≤◌, nat_le, nat_lt, Bool, true, false, List, [], ◌∷◌, map, Option, Some, None, slice_get, if◌then◌else◌}
+use Rattle.thumb_instr.specs.declared.instr.Instr.{Instr}
+use Rattle.thumb_instr.specs.declared.instr.Instr.TheVariants as instr
+use Rattle.thumb_model.specs.Layout.{aim_fault, padding, Fault}
+use Rattle.kept_layout.specs.declared.stretch.Aim.{Aim}
+use Rattle.kept_layout.specs.declared.stretch.Target.{Target}
+use Rattle.kept_layout.specs.declared.stretch.Target.TheVariants as target
+use Rattle.kept_layout.specs.declared.stretch.Head.{Head}
+use Rattle.kept_layout.specs.declared.stretch.Head.TheVariants as head
+use Rattle.kept_layout.specs.declared.stretch.Stretch.{Stretch}
+
+-- what of a stretch doesn't depend on where it lies: what it begins with, the bytes that it takes besides a padding, and how many places it has
+pub record Shape : Type 0 where
+  pub head : Head
+  pub bytes : ℕ
+  pub places : ℕ
+
+abbrev pub shape_of : Stretch → Shape
+shape_of s = record { head = s.head; bytes = s.bytes; places = s.places }
+
+abbrev pub shapes_of : List Stretch → List Shape
+shapes_of ss = map shape_of ss
+
+-- ---- addresses ----
+
+abbrev pub padding_of : Head → ℕ → ℕ
+padding_of head.Plain at = 0
+padding_of (head.Pads size most) at = padding size most at
+padding_of (head.Aims aim) at = 0
+
+-- the address behind a stretch
+abbrev pub behind : ℕ → Shape → ℕ
+behind at s = at + (padding_of s.head at + s.bytes)
+
+-- where each one begins, and where the last one ends
+abbrev pub starts_from : ℕ → List Shape → List ℕ
+starts_from at [] = []
+starts_from at (s ∷ ss) = at ∷ starts_from (behind at s) ss
+
+abbrev pub end_from : ℕ → List Shape → ℕ
+end_from at [] = at
+end_from at (s ∷ ss) = end_from (behind at s) ss
+
+-- how many places they have
+abbrev pub total_places : List Shape → ℕ
+total_places [] = 0
+total_places (s ∷ ss) = s.places + total_places ss
+
+-- ---- mentions ----
+
+-- the address of a target, given where each stretch begins
+abbrev pub address_of : List ℕ → Option Target → Option ℕ
+address_of starts None = None
+address_of starts (Some (target.Stretch k)) = slice_get starts k
+address_of starts (Some (target.Address a)) = Some a
+
+-- what is wrong with what stands first in a stretch that begins at an address
+abbrev pub head_fault : List ℕ → ℕ → Head → Option Fault
+head_fault starts at head.Plain = None
+head_fault starts at (head.Pads size most) = None
+head_fault starts at (head.Aims aim) = aim_fault at aim.instr (address_of starts aim.to) aim.plus
+
+-- whatever they mention is within reach, where the first begins at the base
+abbrev pub AllReach : ℕ → List Shape → Type 0
+AllReach base shapes =
+    (k : ℕ) (s : Shape) (at : ℕ) → slice_get shapes k ≡ Some s → slice_get (starts_from base shapes) k ≡ Some at → head_fault (starts_from base shapes) at s.head ≡ None
+
+-- ---- stretches that move ----
+
+-- where each one lies: those from the border on so many bytes before where it was noted
+abbrev pub addresses : ℕ → ℕ → List Stretch → List ℕ
+addresses border shift [] = []
+addresses zero shift (s ∷ ss) = (s.at - shift) ∷ addresses zero shift ss
+addresses (suc border) shift (s ∷ ss) = s.at ∷ addresses border shift ss
+
+-- where the one of number n lies that was noted at an address
+abbrev pub located : ℕ → ℕ → ℕ → ℕ → ℕ
+located border shift n at = if nat_lt n border then at else at - shift
+
+-- the first number divides the second
+abbrev pub Divides : ℕ → ℕ → Type 0
+Divides a b = (q : ℕ) × (b ≡ q * a)
+
+abbrev pub IsGrainOf : ℕ → Head → Type 0
+IsGrainOf grain head.Plain = Unit {0}
+IsGrainOf grain (head.Pads size most) = Divides size grain
+IsGrainOf grain (head.Aims aim) = Unit {0}
+
+-- 4 and the sizes of all alignments divide the number
+abbrev pub IsGrain : ℕ → List Shape → Type 0
+IsGrain grain [] = Divides 4 grain
+IsGrain grain (s ∷ ss) = IsGrainOf grain s.head × IsGrain grain ss
+
+-- whether an instruction is a literal's
+abbrev pub is_literal : Instr → Bool
+is_literal (instr.Literal t s) = true
+is_literal (instr.Address t s) = true
+is_literal i = false
+
+-- whether a mention may come out of reach by coming nearer, in the stretch of this number: of an address that is set, or by a literal of a label that isn't behind it
+abbrev pub is_loose_to : ℕ → Instr → Option Target → Bool
+is_loose_to n i None = false
+is_loose_to n i (Some (target.Stretch k)) = is_literal i && nat_le k n
+is_loose_to n i (Some (target.Address a)) = true
+
+abbrev pub is_loose : ℕ → Head → Bool
+is_loose n head.Plain = false
+is_loose n (head.Pads size most) = false
+is_loose n (head.Aims aim) = is_loose_to n aim.instr aim.to
+
+-- an instruction that mentions a name has two bytes at least
+abbrev pub AreWide : List Shape → Type 0
+AreWide shapes = (k : ℕ) (s : Shape) (aim : Aim) → slice_get shapes k ≡ Some s → s.head ≡ head.Aims aim → 2 ≤ s.bytes
+
+-- ---- stretches that shrink ----
+
+-- the k-th with so many bytes and places fewer
+abbrev pub lessen : ℕ → ℕ → ℕ → List Shape → List Shape
+lessen k bytes places [] = []
+lessen zero bytes places (s ∷ ss) = record { head = s.head; bytes = s.bytes - bytes; places = s.places - places } ∷ ss
+lessen (suc k) bytes places (s ∷ ss) = s ∷ lessen k bytes places ss

@@ -1,0 +1,114 @@
+//! The layout of lines that are being rewritten.
+ghost use Rattle.std.specs.Prelude.{◌≡◌, ◌-◌, ◌*◌, ◌≤◌, ◌^◌, length};
+
+use crate::building::{lay, note_callers};
+use crate::grains::{find_loose, note_grains};
+use crate::stretch::Stretch;
+use line_cursor::Cursor;
+use listing_parser::{Listing, Memory};
+use std::alloc::Global;
+use thumb_instr::Instr;
+
+/// The layout of lines from a base, in which instructions give way to fewer ones: stretches of lines, with what depends on where they lie.
+#[derive(Drop)]
+pub struct KeptLayout {
+    pub base: u32,
+    pub stretches: Vec<Stretch>,
+    /// The number of the stretch that it stands at.
+    pub here: usize,
+    /// How many places stand before that stretch.
+    pub first: usize,
+    /// The stretches from this number on lie `shift` bytes before where they were noted: they moved together, and none was looked at.
+    pub border: usize,
+    pub shift: u32,
+    /// The numbers of the stretches that begin with a mention that may come out of reach by coming nearer.
+    pub loose: Vec<usize>,
+}
+
+/// How many bytes fewer instructions take than a window, where each takes two.
+fn bytes_gone(window: &[Instr], new: &[Instr]) -> u32
+    requires fewer { length new.now ≤ length window.now }
+    requires few { 2 * (length window.now - length new.now) ≤ 2 ^ 29 }
+    ensures { result ≡ 2 * (length window.now - length new.now) }
+{
+    2 * (window.len() - new.len()) as u32
+}
+
+impl KeptLayout {
+    ghost use Rattle.std.specs.Prelude.{◌≡◌, ◌<◌, ◌≤◌, ◌↔◌, true, length, List, IfOk, OnOk};
+    ghost use Rattle.std.specs.List.{list_all};
+    ghost use Rattle.thumb_instr.specs.Window.{is_in_window};
+    ghost use Rattle.thumb_model.specs.Layout.{Layable};
+    ghost use Rattle.thumb_model.specs.Listing.{Line as Listed};
+    ghost use Rattle.thumb_model.specs.Rewritten.{replaced_lines};
+    ghost use Rattle.listing_parser.specs.Replacing.{own_line};
+    ghost use Rattle.line_cursor.specs.Cursors.{lines_at, place_at};
+    ghost use Rattle.window_runs.specs.Windows.{IsWindow};
+    ghost use Rattle.kept_layout.specs.Kept.{Lays, IsNear};
+
+    /// The layout of a listing that can be laid out from the base. It stands at the first place.
+    pub fn of(alloc: Global, listing: &Listing, base: u32) -> Result<KeptLayout, Memory>
+        requires { Layable base listing.now }
+        ensures lays { IfOk result (λ k. Lays k listing.now) }
+        ensures base { IfOk result (λ k. k.base ≡ base) }
+        ensures near { IfOk result (λ k. IsNear k 0) }
+    {
+        let mut stretches = lay(alloc, listing, base)?;
+        note_callers(&mut stretches)?;
+        note_grains(&mut stretches);
+        let loose = find_loose(alloc, &stretches)?;
+        let mut kept = KeptLayout {
+            base,
+            stretches,
+            here: 0,
+            first: 0,
+            border: 0,
+            shift: 0,
+            loose,
+        };
+        kept.go_to(0);
+        Ok(kept)
+    }
+
+    /// Whether lines can be laid out in which a window right behind a cursor gives way to fewer instructions. It stands at the window's place.
+    pub fn may_give_way(
+        &self,
+        alloc: Global,
+        cursor: &Cursor,
+        window: &[Instr],
+        new: &[Instr],
+    ) -> Result<bool, Memory>
+        requires lays { Lays self.now (lines_at cursor.now) }
+        requires near { IsNear self.now (place_at cursor.now) }
+        requires window { IsWindow (lines_at cursor.now) (place_at cursor.now) window.now }
+        requires some { 0 < length window.now }
+        requires fewer { length new.now ≤ length window.now }
+        requires letters { list_all is_in_window new.now ≡ true }
+        ensures { IfOk result (λ b. (b ≡ true) ↔ Layable self.now.base (replaced_lines own_line (place_at cursor.now) (length window.now) new.now (lines_at cursor.now))) }
+    {
+        let bytes = bytes_gone(window, new);
+        self.can_shrink(alloc, bytes)
+    }
+
+    /// Lets a window right behind a cursor give way to fewer instructions, which leaves lines that can be laid out. It stands at the window's place.
+    pub fn give_way(
+        &mut self,
+        alloc: Global,
+        cursor: &Cursor,
+        window: &[Instr],
+        new: &[Instr],
+    ) -> Result<(), Memory>
+        requires lays { Lays self.old (lines_at cursor.now) }
+        requires near { IsNear self.old (place_at cursor.now) }
+        requires window { IsWindow (lines_at cursor.now) (place_at cursor.now) window.now }
+        requires some { 0 < length window.now }
+        requires fewer { length new.now ≤ length window.now }
+        requires letters { list_all is_in_window new.now ≡ true }
+        requires layable { Layable self.old.base (replaced_lines own_line (place_at cursor.now) (length window.now) new.now (lines_at cursor.now)) }
+        ensures lays { OnOk result (Lays self.new (replaced_lines own_line (place_at cursor.now) (length window.now) new.now (lines_at cursor.now))) }
+        ensures base { OnOk result (self.new.base ≡ self.old.base) }
+    {
+        let bytes = bytes_gone(window, new);
+        self.shrink(alloc, bytes, window.len() - new.len())
+    }
+}

@@ -1,0 +1,12 @@
+//! The layout of lines in which instructions give way to fewer ones, kept: only what moves is looked at, up to where all that is behind stays or moves by one distance
+//! that nothing there notices.
+#![tactic(auto)]
+
+mod building;
+mod grains;
+pub mod kept;
+mod moving;
+mod shrinking;
+pub mod stretch;
+
+pub use kept::KeptLayout;

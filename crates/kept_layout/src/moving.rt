@@ -1,0 +1,55 @@
+//! What moves when a stretch takes fewer bytes: it alone is looked at.
+ghost use Rattle.std.specs.Prelude.{◌≡◌, ◌≤◌, List};
+ghost use Rattle.thumb_model.specs.Listing.{Line as Listed};
+ghost use Rattle.kept_layout.specs.Kept.{IsLaid, IsNear, Lays};
+
+use crate::kept::KeptLayout;
+
+impl KeptLayout {
+    /// Moves on, as long as the place isn't within the stretch that it stands at and another one is behind that.
+    fn go_on(&mut self, place: usize)
+        requires laid { IsLaid self.old }
+        requires from { self.old.first ≤ place }
+        ensures laid { IsLaid self.new }
+        ensures stretches { self.new.stretches.items ≡ self.old.stretches.items }
+        ensures base { self.new.base ≡ self.old.base }
+        ensures near { IsNear self.new place }
+    {
+        let count = self.stretches.len();
+        while self.here + 1 < count {
+            let here = self.here;
+            let places = self.stretches[here].places;
+            if place - self.first < places {
+                return;
+            }
+            self.first += places;
+            self.here = here + 1;
+        }
+    }
+
+    /// Moves back until the place doesn't stand before the stretch that it stands at.
+    fn go_back(&mut self, place: usize)
+        requires { IsLaid self.old }
+        ensures laid { IsLaid self.new }
+        ensures stretches { self.new.stretches.items ≡ self.old.stretches.items }
+        ensures base { self.new.base ≡ self.old.base }
+        ensures from { self.new.first ≤ place }
+    {
+        while place < self.first {
+            let here = self.here - 1;
+            self.first -= self.stretches[here].places;
+            self.here = here;
+        }
+    }
+
+    /// Moves to a place. It costs as many stretches as lie between.
+    pub fn go_to(&mut self, place: usize)
+        requires { IsLaid self.old }
+        ensures lays { (lines : List Listed) → Lays self.old lines → Lays self.new lines }
+        ensures base { self.new.base ≡ self.old.base }
+        ensures near { IsNear self.new place }
+    {
+        self.go_back(place);
+        self.go_on(place);
+    }
+}
