@@ -70,7 +70,8 @@ impl KeptLayout {
         Ok(kept)
     }
 
-    /// Whether lines can be laid out in which a window right behind a cursor gives way to fewer instructions. It stands at the window's place.
+    /// Whether lines can be laid out in which a window right behind a cursor gives way to fewer instructions. It stands at the window's place; the cursor tells the
+    /// contract which lines these are.
     pub fn may_give_way(
         &self,
         alloc: Global,
@@ -90,7 +91,8 @@ impl KeptLayout {
         self.can_shrink(alloc, bytes)
     }
 
-    /// Lets a window right behind a cursor give way to fewer instructions, which leaves lines that can be laid out. It stands at the window's place.
+    /// Lets a window right behind a cursor give way to fewer instructions, which leaves lines that can be laid out. It stands at the window's place; the cursor tells
+    /// the contract which lines these are.
     pub fn give_way(
         &mut self,
         alloc: Global,
