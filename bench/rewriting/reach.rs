@@ -173,7 +173,7 @@ impl Reach {
         let is_steady = is_steady(listing, base);
         let numbers = if is_steady { Vec::new() } else { numbers(listing) };
         let stretches = if is_steady { Vec::new() } else { stretches(listing, base, &numbers) };
-        Reach { is_steady, border: stretches.len(), shift: 0, loose: loose(&stretches), stretches, numbers, moved: Vec::new(), by: 0 }
+        Reach { is_steady, border: 0, shift: 0, loose: loose(&stretches), stretches, numbers, moved: Vec::new(), by: 0 }
     }
 
     pub fn is_steady(&self) -> bool {
@@ -233,16 +233,14 @@ impl Reach {
     }
 
     fn shrink(&mut self, here: usize, end: usize, bytes: u32) {
-        for number in self.border..end {
-            self.stretches[number].at -= self.shift;
+        for number in self.border.min(here + 1)..self.border.max(end) {
+            let start = self.start(number);
+            self.stretches[number].at = match number.checked_sub(here + 1) {
+                None => start,
+                Some(at) => self.moved.get(at).copied().unwrap_or(start + self.shift),
+            };
         }
-        for (stretch, at) in self.stretches[here + 1..end].iter_mut().zip(&self.moved) {
-            stretch.at = *at;
-        }
-        for number in end..self.border {
-            self.stretches[number].at -= self.by;
-        }
-        self.border = self.border.max(end);
+        self.border = end;
         self.shift += self.by;
         self.stretches[here].bytes -= bytes;
     }
