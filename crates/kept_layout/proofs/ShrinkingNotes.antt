@@ -13,11 +13,10 @@ use Rattle.kept_layout.specs.declared.stretch.Stretch.{Stretch}
 use Rattle.kept_layout.specs.declared.stretch.Target.TheVariants as target
 use Rattle.kept_layout.specs.Stretches.{addresses, end_from, is_loose, lessen, located, shape_of, shapes_of, starts_from, total_places, AllReach, IsGrain, Shape}
 use Rattle.kept_layout.specs.Kept.{IsLaid}
-use Rattle.kept_layout.specs.Moves.{end_of, moved_starts, unplaced, IsMove, IsNote}
+use Rattle.kept_layout.specs.Moves.{end_of, moved_starts, unplaced, IsMove, IsMoved, IsNote}
 use Rattle.kept_layout.proofs.MovingPlaces.{shape_at}
 use Rattle.kept_layout.proofs.ShrinkingPlaces.{addresses_are, get_map, lies_at, located_before, located_behind, moved_among, moved_before, moved_behind, shapes_length}
 use Rattle.kept_layout.proofs.ShrinkingStarts.{grain_lessen, lessen_length, places_lessen, starts_length}
-use Rattle.kept_layout.proofs.ShrinkingWalk.{IsMoved}
 
 -- ---- one stretch ----
 

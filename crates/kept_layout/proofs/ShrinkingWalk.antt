@@ -5,7 +5,7 @@ use Rattle.kept_layout.specs.declared.kept.KeptLayout.{KeptLayout}
 use Rattle.kept_layout.specs.declared.stretch.Stretch.{Stretch}
 use Rattle.kept_layout.specs.Stretches.{end_from, lessen, padding_of, shape_of, shapes_of, starts_from, Divides, IsGrain, Shape}
 use Rattle.kept_layout.specs.Kept.{IsLaid}
-use Rattle.kept_layout.specs.Moves.{end_of, moved_starts, starts_of, IsMove}
+use Rattle.kept_layout.specs.Moves.{end_of, starts_of, IsMoved}
 use Rattle.kept_layout.proofs.MovingPlaces.{shape_at}
 use Rattle.kept_layout.proofs.ShrinkingPlaces.{count_of, shapes_length}
 use Rattle.kept_layout.proofs.ShrinkingStarts.{behind_low, drop_one, end_drop, end_lessen, starts_drop, starts_lessen, starts_order}
@@ -18,12 +18,6 @@ pub record IsWalked (k : KeptLayout) (bytes : ℕ) (new : List ℕ) (at next : �
   pub in_code : at ≤ 2 ^ 29
   pub starts : (gone : ℕ) → starts_from k.base (lessen k.here bytes gone (shapes_of k.stretches.items)) ≡ take (suc k.here) (starts_of k) ++ (new ++ starts_from at (drop next (shapes_of k.stretches.items)))
   pub ends : (gone : ℕ) → end_from k.base (lessen k.here bytes gone (shapes_of k.stretches.items)) ≡ end_from at (drop next (shapes_of k.stretches.items))
-
--- all move so
-pub record IsMoved (k : KeptLayout) (bytes : ℕ) (new : List ℕ) (by : ℕ) : Type 0 where
-  pub move : IsMove k new by
-  pub starts : (gone : ℕ) → starts_from k.base (lessen k.here bytes gone (shapes_of k.stretches.items)) ≡ moved_starts k new by
-  pub in_code : (gone : ℕ) → end_from k.base (lessen k.here bytes gone (shapes_of k.stretches.items)) ≤ 2 ^ 29
 
 -- no stretch begins behind the Code region
 pub start_in_code : (k : KeptLayout) (j : ℕ) (s : Stretch) (a : ℕ) → IsLaid k → slice_get k.stretches.items j ≡ Some s → slice_get (starts_of k) j ≡ Some a → a ≤ 2 ^ 29

@@ -1,8 +1,8 @@
 -- Stretches that move since one of them takes fewer bytes.
-use Rattle.std.specs.Prelude.{◌≡◌, ℕ, suc, ◌+◌, ◌-◌, ◌<◌, ◌≤◌, List, ◌++◌, length, map, take, drop, Some, None, slice_get, Contains}
+use Rattle.std.specs.Prelude.{◌≡◌, ℕ, suc, ◌+◌, ◌-◌, ◌^◌, ◌<◌, ◌≤◌, List, ◌++◌, length, map, take, drop, Some, None, slice_get, Contains}
 use Rattle.kept_layout.specs.declared.kept.KeptLayout.{KeptLayout}
 use Rattle.kept_layout.specs.declared.stretch.Stretch.{Stretch}
-use Rattle.kept_layout.specs.Stretches.{head_fault, shapes_of, starts_from, Divides}
+use Rattle.kept_layout.specs.Stretches.{end_from, head_fault, lessen, shapes_of, starts_from, Divides}
 
 -- where each one begins, from the base on
 abbrev pub starts_of : KeptLayout → List ℕ
@@ -21,6 +21,12 @@ pub record IsMove (k : KeptLayout) (new : List ℕ) (by : ℕ) : Type 0 where
   pub within : end_of k new ≤ length k.stretches.items
   pub low : (j a : ℕ) → end_of k new ≤ j → slice_get (starts_of k) j ≡ Some a → by ≤ a
   pub four : Divides 4 by
+
+-- so they move if the one that it stands at takes so many bytes fewer, however many places go with them
+pub record IsMoved (k : KeptLayout) (bytes : ℕ) (new : List ℕ) (by : ℕ) : Type 0 where
+  pub move : IsMove k new by
+  pub starts : (gone : ℕ) → starts_from k.base (lessen k.here bytes gone (shapes_of k.stretches.items)) ≡ moved_starts k new by
+  pub in_code : (gone : ℕ) → end_from k.base (lessen k.here bytes gone (shapes_of k.stretches.items)) ≤ 2 ^ 29
 
 -- what one of them mentions is within reach, where they begin at these addresses
 abbrev pub IsRight : List ℕ → List Stretch → ℕ → Type 0

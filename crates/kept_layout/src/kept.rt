@@ -3,6 +3,7 @@ ghost use Rattle.std.specs.Prelude.{◌≡◌, ◌-◌, ◌*◌, ◌≤◌, ◌^
 
 use crate::building::{lay, note_callers};
 use crate::grains::{find_loose, note_grains};
+use crate::shrinking::Move;
 use crate::stretch::Stretch;
 use line_cursor::Cursor;
 use listing_parser::{Listing, Memory};
@@ -35,7 +36,7 @@ fn bytes_gone(window: &[Instr], new: &[Instr]) -> u32
 }
 
 impl KeptLayout {
-    ghost use Rattle.std.specs.Prelude.{◌≡◌, ◌<◌, ◌≤◌, ◌↔◌, true, length, List, IfOk, OnOk};
+    ghost use Rattle.std.specs.Prelude.{◌≡◌, ◌<◌, ◌≤◌, ◌↔◌, true, is_some, length, List, IfOk, IfSome, OnOk};
     ghost use Rattle.std.specs.List.{list_all};
     ghost use Rattle.thumb_instr.specs.Window.{is_in_window};
     ghost use Rattle.thumb_model.specs.Layout.{Layable};
@@ -45,6 +46,7 @@ impl KeptLayout {
     ghost use Rattle.line_cursor.specs.Cursors.{lines_at, place_at};
     ghost use Rattle.window_runs.specs.Windows.{IsWindow};
     ghost use Rattle.kept_layout.specs.Kept.{Lays, IsNear};
+    ghost use Rattle.kept_layout.specs.Moves.{IsMoved};
 
     /// The layout of a listing that can be laid out from the base. It stands at the first place.
     pub fn of(alloc: Global, listing: &Listing, base: u32) -> Result<KeptLayout, Memory>
@@ -70,35 +72,36 @@ impl KeptLayout {
         Ok(kept)
     }
 
-    /// Whether lines can be laid out in which a window right behind a cursor gives way to fewer instructions. It stands at the window's place; the cursor tells the
-    /// contract which lines these are.
+    /// How stretches move where a window right behind a cursor gives way to fewer instructions: none where the lines can't be laid out then. It stands at the window's
+    /// place; the cursor tells the contract which lines these are.
     pub fn may_give_way(
         &self,
         alloc: Global,
         cursor: &Cursor,
         window: &[Instr],
         new: &[Instr],
-    ) -> Result<bool, Memory>
+    ) -> Result<Option<Move>, Memory>
         requires lays { Lays self.now (lines_at cursor.now) }
         requires near { IsNear self.now (place_at cursor.now) }
         requires window { IsWindow (lines_at cursor.now) (place_at cursor.now) window.now }
         requires some { 0 < length window.now }
         requires fewer { length new.now ≤ length window.now }
         requires letters { list_all is_in_window new.now ≡ true }
-        ensures { IfOk result (λ b. (b ≡ true) ↔ Layable self.now.base (replaced_lines own_line (place_at cursor.now) (length window.now) new.now (lines_at cursor.now))) }
+        ensures layable { IfOk result (λ o. (is_some o ≡ true) ↔ Layable self.now.base (replaced_lines own_line (place_at cursor.now) (length window.now) new.now (lines_at cursor.now))) }
+        ensures moved { IfOk result (λ o. IfSome o (λ m. IsMoved self.now (2 * (length window.now - length new.now)) m.at.items m.by)) }
     {
         let bytes = bytes_gone(window, new);
-        self.can_shrink(alloc, bytes)
+        self.move_within_reach(alloc, bytes)
     }
 
-    /// Lets a window right behind a cursor give way to fewer instructions, which leaves lines that can be laid out. It stands at the window's place; the cursor tells
-    /// the contract which lines these are.
+    /// Lets a window right behind a cursor give way to fewer instructions, by which stretches move so, and which leaves lines that can be laid out. It stands at the
+    /// window's place; the cursor tells the contract which lines these are.
     pub fn give_way(
         &mut self,
-        alloc: Global,
         cursor: &Cursor,
         window: &[Instr],
         new: &[Instr],
+        moved: &Move,
     ) -> Result<(), Memory>
         requires lays { Lays self.old (lines_at cursor.now) }
         requires near { IsNear self.old (place_at cursor.now) }
@@ -107,10 +110,11 @@ impl KeptLayout {
         requires fewer { length new.now ≤ length window.now }
         requires letters { list_all is_in_window new.now ≡ true }
         requires layable { Layable self.old.base (replaced_lines own_line (place_at cursor.now) (length window.now) new.now (lines_at cursor.now)) }
+        requires moved { IsMoved self.old (2 * (length window.now - length new.now)) moved.now.at.items moved.now.by }
         ensures lays { OnOk result (Lays self.new (replaced_lines own_line (place_at cursor.now) (length window.now) new.now (lines_at cursor.now))) }
         ensures base { OnOk result (self.new.base ≡ self.old.base) }
     {
         let bytes = bytes_gone(window, new);
-        self.shrink(alloc, bytes, window.len() - new.len())
+        self.shrink(moved, bytes, window.len() - new.len())
     }
 }

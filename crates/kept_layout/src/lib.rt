@@ -6,7 +6,8 @@ mod building;
 mod grains;
 pub mod kept;
 mod moving;
-mod shrinking;
+pub mod shrinking;
 pub mod stretch;
 
 pub use kept::KeptLayout;
+pub use shrinking::Move;

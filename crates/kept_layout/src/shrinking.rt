@@ -1,11 +1,11 @@
 //! What moves when a stretch takes fewer bytes, up to where all that is behind moves by one distance that no padding and no literal notices: that is noted for all of
 //! them at once.
-ghost use Rattle.std.specs.Prelude.{◌≡◌, ◌+◌, ◌-◌, ◌<◌, ◌≤◌, ◌^◌, ◌↔◌, ℕ, suc, true, List, length, slice_get, IfOk, OnOk, Some, None, map, Contains};
+ghost use Rattle.std.specs.Prelude.{◌≡◌, ◌+◌, ◌-◌, ◌<◌, ◌≤◌, ◌↔◌, ℕ, true, length, slice_get, is_some, IfOk, OnOk, IfSome, Some, map, Contains};
 ghost use Rattle.kept_layout.specs.declared.stretch.Stretch.{Stretch as OneStretch};
 ghost use Rattle.kept_layout.specs.declared.stretch.Target.TheVariants.{Stretch as AtStretch};
-ghost use Rattle.kept_layout.specs.Stretches.{address_of, end_from, lessen, located, shapes_of, starts_from, AllReach, AreWide, Divides, Shape};
+ghost use Rattle.kept_layout.specs.Stretches.{address_of, lessen, located, shapes_of, AllReach, AreWide, Divides, Shape};
 ghost use Rattle.kept_layout.specs.Kept.{IsLaid};
-ghost use Rattle.kept_layout.specs.Moves.{end_of, moved_starts, starts_of, unplaced, IsLookedAt, IsMove, IsNote, IsRight};
+ghost use Rattle.kept_layout.specs.Moves.{moved_starts, unplaced, IsLookedAt, IsMove, IsMoved, IsNote, IsRight};
 
 use crate::kept::KeptLayout;
 use crate::stretch::{Head, Stretch, Target, behind};
@@ -13,13 +13,16 @@ use label_layout::aim_fault;
 use listing_parser::Memory;
 use std::alloc::Global;
 
-/// How stretches move.
+/// Memory for so many new addresses is asked for at once: seldom do more stretches move by themselves.
+const FEW: usize = 64;
+
+/// How stretches move if one of them takes fewer bytes.
 #[derive(Drop)]
-pub(crate) struct Move {
-    /// The new addresses of those behind the one that takes fewer bytes.
-    pub(crate) at: Vec<u32>,
+pub struct Move {
+    /// The new addresses of those behind it.
+    pub at: Vec<u32>,
     /// How many bytes earlier all those lie that are behind these.
-    pub(crate) by: u32,
+    pub by: u32,
 }
 
 /// Whether the new address lies before the old one by a multiple of the grain.
@@ -73,13 +76,11 @@ impl KeptLayout {
     fn moved(&self, alloc: Global, bytes: u32) -> Result<Move, Memory>
         requires laid { IsLaid self.now }
         requires few { (s : Shape) → slice_get (shapes_of self.now.stretches.items) self.now.here ≡ Some s → bytes ≤ s.bytes }
-        ensures is { IfOk result (λ m. IsMove self.now m.at.items m.by) }
-        ensures starts { IfOk result (λ m. (gone : ℕ) → starts_from self.now.base (lessen self.now.here bytes gone (shapes_of self.now.stretches.items)) ≡ moved_starts self.now m.at.items m.by) }
-        ensures in_code { IfOk result (λ m. (gone : ℕ) → end_from self.now.base (lessen self.now.here bytes gone (shapes_of self.now.stretches.items)) ≤ 2 ^ 29) }
+        ensures { IfOk result (λ m. IsMoved self.now bytes m.at.items m.by) }
     {
         let here = &self.stretches[self.here];
         let mut at = behind(self.address(self.here), &here.head, here.bytes - bytes)?;
-        let mut new = Vec::new(alloc);
+        let mut new = Vec::with_capacity(alloc, FEW)?;
         let mut next = self.here + 1;
         while next < self.stretches.len() {
             let stretch = &self.stretches[next];
@@ -196,15 +197,24 @@ impl KeptLayout {
         moved.by == 0 || self.are_right(moved, &self.loose)
     }
 
-    /// Whether all mentions are within reach if the stretch that it stands at took so many bytes fewer.
-    pub(crate) fn can_shrink(&self, alloc: Global, bytes: u32) -> Result<bool, Memory>
+    /// How stretches move if the one that it stands at takes so many bytes fewer: none where a mention would be out of reach.
+    pub(crate) fn move_within_reach(
+        &self,
+        alloc: Global,
+        bytes: u32,
+    ) -> Result<Option<Move>, Memory>
         requires laid { IsLaid self.now }
         requires wide { AreWide (shapes_of self.now.stretches.items) }
         requires few { (s : Shape) → slice_get (shapes_of self.now.stretches.items) self.now.here ≡ Some s → bytes ≤ s.bytes }
-        ensures { IfOk result (λ b. (gone : ℕ) → (b ≡ true) ↔ AllReach self.now.base (lessen self.now.here bytes gone (shapes_of self.now.stretches.items))) }
+        ensures reach { IfOk result (λ o. (gone : ℕ) → (is_some o ≡ true) ↔ AllReach self.now.base (lessen self.now.here bytes gone (shapes_of self.now.stretches.items))) }
+        ensures moved { IfOk result (λ o. IfSome o (λ m. IsMoved self.now bytes m.at.items m.by)) }
     {
         let moved = self.moved(alloc, bytes)?;
-        Ok(self.all_reach(&moved))
+        if self.all_reach(&moved) {
+            Ok(Some(moved))
+        } else {
+            Ok(None)
+        }
     }
 
     // ---- what is noted ----
@@ -241,9 +251,10 @@ impl KeptLayout {
         Ok(())
     }
 
-    /// Takes so many bytes and places from the stretch that it stands at, which leaves all mentions within reach.
-    pub(crate) fn shrink(&mut self, alloc: Global, bytes: u32, gone: usize) -> Result<(), Memory>
+    /// Takes so many bytes and places from the stretch that it stands at, by which stretches move so, and all mentions stay within reach.
+    pub(crate) fn shrink(&mut self, moved: &Move, bytes: u32, gone: usize) -> Result<(), Memory>
         requires laid { IsLaid self.old }
+        requires moved { IsMoved self.old bytes moved.now.at.items moved.now.by }
         requires few { (s : Shape) → slice_get (shapes_of self.old.stretches.items) self.old.here ≡ Some s → bytes ≤ s.bytes }
         requires some { (s : Shape) → slice_get (shapes_of self.old.stretches.items) self.old.here ≡ Some s → gone ≤ s.places }
         requires reach { AllReach self.old.base (lessen self.old.here bytes gone (shapes_of self.old.stretches.items)) }
@@ -251,11 +262,10 @@ impl KeptLayout {
         ensures shapes { OnOk result (shapes_of self.new.stretches.items ≡ lessen self.old.here bytes gone (shapes_of self.old.stretches.items)) }
         ensures base { OnOk result (self.new.base ≡ self.old.base) }
     {
-        let moved = self.moved(alloc, bytes)?;
         if moved.by > u32::MAX - self.shift {
             return Err(Memory);
         }
-        self.note_all(&moved)?;
+        self.note_all(moved)?;
         self.border = self.here + 1 + moved.at.len();
         self.shift += moved.by;
         let here = self.here;

@@ -32,7 +32,7 @@ use Rattle.window_rewrite.specs.declared.choice.Choice.{Choice}
 use Rattle.window_rewrite.specs.declared.finding.Rules.{Rules}
 use Rattle.window_rewrite.specs.declared.ground.Ground.{Ground}
 use Rattle.window_rewrite.specs.Choices.{setting_of, choice_of, AreReady, FitsIn, IsChoice, NoneBefore, NoneEnding}
-use Rattle.window_rewrite.specs.Sweeps.{IsKept, IsOver, IsSteadyIf, LosesNone, MayBeListed, Allows, AreOver, HasLayout, is_steady}
+use Rattle.window_rewrite.specs.Sweeps.{IsKept, IsOver, IsSteadyIf, LosesNone, MayBeListed, Moves, Allows, AreOver, HasLayout, is_steady}
 use Rattle.window_rewrite.proofs.Applied.{ops_of}
 
 -- a replacement leaves lines that may be a listing's, where the lines before it may
@@ -201,9 +201,9 @@ still_over r g h lines now o ready a e same layout over =
     }
 
 -- the choice at a cursor may be made on the ground
-pub allowed_here : (r : Rules) (g : Ground) (at : Cursor) (c : Choice) (window new : List Instr) → IsOver r g at → IsChoice (setting_of r) (lines_at at) c → (choice_of c).place ≡ place_at at → window ≡ c.window → new ≡ c.new
-    → Allows g at window new
-allowed_here r g at c window new over is here e f =
+pub allowed_here : (r : Rules) (g : Ground) (at : Cursor) (c : Choice) (window new : List Instr) → IsOver r g at → IsChoice (setting_of r) (lines_at at) c → (choice_of c).place ≡ place_at at → Moves g c.window c.new c.moved → window ≡ c.window → new ≡ c.new
+    → Allows g at window new c.moved
+allowed_here r g at c window new over is here moves e f =
     let s : Setting = setting_of r in
     let lines : List Line = lines_at at in
     let left : List Line = replaced_lines own_line (place_at at) (length window) new lines in
@@ -211,6 +211,7 @@ allowed_here r g at c window new over is here e f =
     let layable : Layable r.base left = still_layable s (choice_of c) lines left is.applies (leaves_here s lines left c (place_at at) window new is here e f refl) in
     record {
       lays = said_still g.kept (λ k. (k.base ≡ r.base) × Lays k lines) (λ k. Lays k lines × Layable k.base left) (λ k h. (h.1, subst (λ b. Layable b left) (sym h.0) layable)) over.over.layout;
+      moved = subst (λ w. Moves g w new c.moved) (sym e) (subst (λ (n : List Instr). Moves g c.window n c.moved) (sym f) moves);
       near = over.near;
       is_window = subst (λ (w : List Instr). IsWindow lines (place_at at) w) (sym e) (subst (λ p. IsWindow lines p c.window) here is.is_window);
       letters = keeps.new_letters;

@@ -17,6 +17,8 @@ use Rattle.liveness.specs.Kept.{AreFlows, replaced_sets}
 use Rattle.steady_layout.specs.Steady.{IsSteady}
 use Rattle.window_runs.specs.Windows.{IsWindow}
 use Rattle.kept_layout.specs.Kept.{Lays, IsNear}
+use Rattle.kept_layout.specs.Moves.{IsMoved}
+use Rattle.kept_layout.specs.declared.shrinking.Move.{Move}
 use Rattle.line_cursor.specs.declared.cursor.Cursor.{Cursor}
 use Rattle.line_cursor.specs.Cursors.{IsCursor, lines_at, place_at, spots_at, sets_of, flows_of}
 use Rattle.window_rewrite.specs.declared.choice.Replacement.{Replacement as Made}
@@ -75,9 +77,14 @@ HasLayout base g lines = IfSome g.kept (λ k. (k.base ≡ base) × Lays k lines)
 abbrev pub StandsNear : Ground → ℕ → Type 0
 StandsNear g place = IfSome g.kept (λ k. IsNear k place)
 
--- a window right behind a cursor may give way to fewer instructions, which leave lines that can be laid out, where a layout is kept; it stands there
-pub record Allows (g : Ground) (c : Cursor) (window new : List Instr) : Type 0 where
+-- so the layout moves, if one is kept, where a window at which it stands gives way to fewer instructions
+abbrev pub Moves : Ground → List Instr → List Instr → Move → Type 0
+Moves g window new m = IfSome g.kept (λ k. IsMoved k (2 * (length window - length new)) m.at.items m.by)
+
+-- a window right behind a cursor may give way to fewer instructions, which leave lines that can be laid out, where a layout is kept, which then moves so; it stands there
+pub record Allows (g : Ground) (c : Cursor) (window new : List Instr) (m : Move) : Type 0 where
   pub lays : IfSome g.kept (λ k. Lays k (lines_at c) × Layable k.base (replaced_lines own_line (place_at c) (length window) new (lines_at c)))
+  pub moved : Moves g window new m
   pub near : StandsNear g (place_at c)
   pub is_window : IsWindow (lines_at c) (place_at c) window
   pub letters : list_all is_in_window new ≡ true

@@ -1,3 +1,4 @@
+use kept_layout::Move;
 use listing_parser::Listing;
 use rule_table::Map;
 use thumb_instr::Seq;
@@ -29,6 +30,8 @@ pub(crate) struct Choice {
     pub(crate) window: Seq,
     /// The instructions that come.
     pub(crate) new: Seq,
+    /// How the layout moves, where one is kept.
+    pub(crate) moved: Move,
 }
 
 /// What a search found.
@@ -37,4 +40,22 @@ pub(crate) struct Found {
     pub(crate) choice: Choice,
     /// No entry fits before this place, whatever the layout says.
     pub(crate) clear: usize,
+}
+
+impl Found {
+    ghost use Rattle.std.specs.Prelude.{◌≡◌};
+
+    /// The replacement that was found.
+    pub(crate) fn into_replacement(self) -> Replacement
+        ensures { result ≡ self.choice.replacement }
+    {
+        let Found { choice, clear: _ } = self;
+        let Choice {
+            replacement,
+            window: _window,
+            new: _new,
+            moved: _moved,
+        } = choice;
+        replacement
+    }
 }

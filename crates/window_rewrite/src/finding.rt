@@ -1,5 +1,5 @@
 //! The next replacement that can be made.
-ghost use Rattle.std.specs.Prelude.{◌≡◌, ◌+◌, ◌*◌, ◌<◌, ◌≤◌, ◌↔◌, ◌∷◌, [], ◌++◌, ℕ, List, length, take, slice_get, true, false, ◌==◌, Some, IfOk, OnOk, IfSome, IfNone, OnSome, if◌then◌else◌};
+ghost use Rattle.std.specs.Prelude.{◌≡◌, ◌+◌, ◌*◌, ◌<◌, ◌≤◌, ◌↔◌, ◌∷◌, [], ◌++◌, ℕ, List, length, take, slice_get, true, false, ◌==◌, is_some, Some, IfOk, OnOk, IfSome, IfNone, OnSome, if◌then◌else◌};
 ghost use Rattle.std.specs.Int.{from_bool};
 ghost use Rattle.thumb_instr.specs.Renaming.{Low};
 ghost use Rattle.thumb_model.specs.Layout.{Layable};
@@ -17,7 +17,7 @@ ghost use Rattle.window_harvest.specs.Harvest.{spot_of, StandsThere};
 ghost use Rattle.window_rewrite.specs.Fitting.{Shortens};
 ghost use Rattle.window_rewrite.specs.Rules.{rules_in};
 ghost use Rattle.window_rewrite.specs.Choices.{setting_of, choice_of, of_length, AreReady, Awaits, IsBest, IsChoice, IsFirstChoice, IsLowest, Meets, NoneAt, NoneBefore, NoneOf};
-ghost use Rattle.window_rewrite.specs.Sweeps.{is_steady, IsOver};
+ghost use Rattle.window_rewrite.specs.Sweeps.{is_steady, IsOver, Moves};
 
 use crate::choice::{Choice, Found, Replacement};
 use crate::fitting::fitting;
@@ -26,6 +26,7 @@ use crate::index::Index;
 use crate::items::registers_of;
 use crate::replacing::renamed_all;
 use crate::shapes::{next_shape, shape_of};
+use kept_layout::Move;
 use line_cursor::Cursor;
 use listing_parser::Memory;
 use rule_table::Entry;
@@ -44,23 +45,28 @@ pub(crate) struct Rules<'a> {
     pub(crate) base: u32,
 }
 
-/// Whether lines of a ground that isn't steady can be laid out where a window right behind the cursor gives way to fewer instructions.
-fn can_be_laid(
+/// How the layout moves where a window right behind the cursor gives way to fewer instructions: none where the lines can't be laid out then. Nothing moves where no
+/// layout is kept.
+fn moved_layout(
     alloc: Global,
     rules: &Rules<'_>,
     ground: &Ground,
     cursor: &Cursor,
     window: &[Instr],
     new: &[Instr],
-) -> Result<bool, Memory>
+) -> Result<Option<Move>, Memory>
     requires over { IsOver rules.now ground.now cursor.now }
     requires window { IsWindow (lines_at cursor.now) (place_at cursor.now) window.now }
     requires letters { list_all is_in_window new.now ≡ true }
     requires fewer { length new.now < length window.now }
-    ensures { IfOk result (λ b. (b ≡ true) ↔ (is_steady ground.now ≡ false → Layable rules.now.base (replaced_lines own_line (place_at cursor.now) (length window.now) new.now (lines_at cursor.now)))) }
+    ensures layable { IfOk result (λ o. (is_some o ≡ true) ↔ (is_steady ground.now ≡ false → Layable rules.now.base (replaced_lines own_line (place_at cursor.now) (length window.now) new.now (lines_at cursor.now)))) }
+    ensures moved { IfOk result (λ o. IfSome o (Moves ground.now window.now new.now)) }
 {
     match &ground.kept {
-        None => Ok(true),
+        None => Ok(Some(Move {
+            at: Vec::new(alloc),
+            by: 0,
+        })),
         Some(kept) => kept.may_give_way(alloc, cursor, window, new),
     }
 }
@@ -97,6 +103,7 @@ fn try_entry<L: Ledger>(
     requires number { number < length rules.now.entries.now }
     requires long { left_length (rules_in rules.now.entries.now) number ≡ length window.now }
     ensures some { IfOk result (λ o. IfSome o (λ c. IsChoice (setting_of rules.now) (lines_at cursor.now) c × ((choice_of c).place ≡ place_at cursor.now) × ((choice_of c).entry ≡ number))) }
+    ensures moved { IfOk result (λ o. IfSome o (λ c. Moves ground.now c.window c.new c.moved)) }
     ensures none { IfOk result (λ o. IfNone o ((registers : List Low) → Meets refused.new (setting_of rules.now) (record { place = place_at cursor.now; entry = number; registers = registers }) (lines_at cursor.now) → ⊥)) }
     ensures stays { OnOk result (refused.old ≡ true → refused.new ≡ true) }
     ensures cost { steps.new ≤ steps.old + 1 }
@@ -111,10 +118,13 @@ fn try_entry<L: Ledger>(
     if !cursor.is_settled(window.len(), new.as_slice()) {
         return Ok(None);
     }
-    if !can_be_laid(alloc, rules, ground, cursor, window, new.as_slice())? {
-        *refused = true;
-        return Ok(None);
-    }
+    let moved = match moved_layout(alloc, rules, ground, cursor, window, new.as_slice())? {
+        None => {
+            *refused = true;
+            return Ok(None);
+        }
+        Some(moved) => moved,
+    };
     Ok(Some(Choice {
         replacement: Replacement {
             place: cursor.place() as u32,
@@ -123,6 +133,7 @@ fn try_entry<L: Ledger>(
         },
         window: copied(window),
         new,
+        moved,
     }))
 }
 
@@ -146,6 +157,7 @@ fn try_as_long<L: Ledger>(
     requires number { number < length rules.now.entries.now }
     ensures long { IfOk result (λ o. OnSome o (left_length (rules_in rules.now.entries.now) number ≡ length window.now)) }
     ensures some { IfOk result (λ o. IfSome o (λ c. IsChoice (setting_of rules.now) (lines_at cursor.now) c × ((choice_of c).place ≡ place_at cursor.now) × ((choice_of c).entry ≡ number))) }
+    ensures moved { IfOk result (λ o. IfSome o (λ c. Moves ground.now c.window c.new c.moved)) }
     ensures none { IfOk result (λ o. IfNone o (left_length (rules_in rules.now.entries.now) number ≡ length window.now → (registers : List Low) → Meets refused.new (setting_of rules.now) (record { place = place_at cursor.now; entry = number; registers = registers }) (lines_at cursor.now) → ⊥)) }
     ensures stays { OnOk result (refused.old ≡ true → refused.new ≡ true) }
     ensures cost { steps.new ≤ steps.old + from_bool (left_length (rules_in rules.now.entries.now) number == length window.now) }
@@ -201,6 +213,7 @@ fn lowest<L: Ledger>(
     requires first { (rest : List Lines) (x : Lines) → cursor.now.lines.ahead ≡ rest ++ x ∷ [] → begins_op (lines_in x) ≡ true }
     requires stands { StandsThere (lines_at cursor.now) (spot_of (place_at cursor.now) (length window.now)) window.now live.bits }
     ensures some { IfOk result (λ o. IfSome o (IsLowest (setting_of rules.now) (lines_at cursor.now) (place_at cursor.now) (length window.now))) }
+    ensures moved { IfOk result (λ o. IfSome o (λ c. Moves ground.now c.window c.new c.moved)) }
     ensures none { IfOk result (λ o. IfNone o (NoneOf refused.new (setting_of rules.now) (lines_at cursor.now) (place_at cursor.now) (length window.now))) }
     ensures stays { OnOk result (refused.old ≡ true → refused.new ≡ true) }
     ensures cost { steps.new ≤ steps.old + of_length (length window.now) (rules_in rules.now.entries.now) }
@@ -231,6 +244,7 @@ fn best_here<L: Ledger>(
     requires some { 0 < length cursor.now.lines.ahead }
     requires first { (rest : List Lines) (x : Lines) → cursor.now.lines.ahead ≡ rest ++ x ∷ [] → begins_op (lines_in x) ≡ true }
     ensures some { IfOk result (λ o. IfSome o (IsBest (setting_of rules.now) (lines_at cursor.now) (place_at cursor.now))) }
+    ensures moved { IfOk result (λ o. IfSome o (λ c. Moves ground.now c.window c.new c.moved)) }
     ensures none { IfOk result (λ o. IfNone o (NoneAt refused.new (setting_of rules.now) (lines_at cursor.now) (place_at cursor.now))) }
     ensures stays { OnOk result (refused.old ≡ true → refused.new ≡ true) }
     ensures cost { steps.new ≤ steps.old + length (rules_in rules.now.entries.now) }
@@ -268,6 +282,7 @@ fn best<L: Ledger>(
     requires ready { AreReady rules.now }
     requires over { IsOver rules.now ground.now cursor.now }
     ensures some { IfOk result (λ o. IfSome o (IsBest (setting_of rules.now) (lines_at cursor.now) (place_at cursor.now))) }
+    ensures moved { IfOk result (λ o. IfSome o (λ c. Moves ground.now c.window c.new c.moved)) }
     ensures op { IfOk result (λ o. IfSome o (λ c. (0 < length cursor.now.lines.ahead) × ((rest : List Lines) (x : Lines) → cursor.now.lines.ahead ≡ rest ++ x ∷ [] → begins_op (lines_in x) ≡ true))) }
     ensures none { IfOk result (λ o. IfNone o ((rest : List Lines) (x : Lines) → cursor.now.lines.ahead ≡ rest ++ x ∷ [] → begins_op (lines_in x) ≡ true → NoneAt refused.new (setting_of rules.now) (lines_at cursor.now) (place_at cursor.now))) }
     ensures stays { OnOk result (refused.old ≡ true → refused.new ≡ true) }
@@ -304,6 +319,7 @@ pub(crate) fn next<L: Ledger>(
     ensures lines { OnOk result (lines_at cursor.new ≡ lines_at cursor.old) }
     ensures some { IfOk result (λ o. IfSome o (λ f. IsFirstChoice (setting_of rules.now) (lines_at cursor.new) f.choice)) }
     ensures here { IfOk result (λ o. IfSome o (λ f. (choice_of f.choice).place ≡ place_at cursor.new)) }
+    ensures moved { IfOk result (λ o. IfSome o (λ f. Moves ground.new f.choice.window f.choice.new f.choice.moved)) }
     ensures op { IfOk result (λ o. IfSome o (λ f. (0 < length cursor.new.lines.ahead) × ((rest : List Lines) (x : Lines) → cursor.new.lines.ahead ≡ rest ++ x ∷ [] → begins_op (lines_in x) ≡ true))) }
     ensures clear { IfOk result (λ o. IfSome o (λ f. NoneBefore false (setting_of rules.now) (lines_at cursor.new) f.clear)) }
     ensures none { IfOk result (λ o. IfNone o (NoneApplies (setting_of rules.now) (lines_at cursor.new))) }

@@ -1,6 +1,6 @@
 //! What a sweep knows of the layouts of its lines.
 
-use kept_layout::KeptLayout;
+use kept_layout::{KeptLayout, Move};
 use line_cursor::Cursor;
 use listing_parser::{Listing, Memory};
 use std::alloc::Global;
@@ -54,20 +54,21 @@ impl Ground {
         }
     }
 
-    /// Lets a window right behind a cursor give way to fewer instructions, which leaves lines that can be laid out. It stands at the window's place.
+    /// Lets a window right behind a cursor give way to fewer instructions, by which the layout moves so, and which leaves lines that can be laid out. It stands at the
+    /// window's place.
     pub(crate) fn give_way(
         &mut self,
-        alloc: Global,
         cursor: &Cursor,
         window: &[Instr],
         new: &[Instr],
+        moved: &Move,
     ) -> Result<(), Memory>
-        requires { Allows self.old cursor.now window.now new.now }
+        requires { Allows self.old cursor.now window.now new.now moved.now }
         ensures steady { OnOk result (is_steady self.new ≡ is_steady self.old) }
         ensures layout { OnOk result ((base : ℕ) → HasLayout base self.old (lines_at cursor.now) → HasLayout base self.new (replaced_lines own_line (place_at cursor.now) (length window.now) new.now (lines_at cursor.now))) }
     {
         if let Some(kept) = &mut self.kept {
-            kept.give_way(alloc, cursor, window, new)?;
+            kept.give_way(cursor, window, new, moved)?;
         }
         Ok(())
     }

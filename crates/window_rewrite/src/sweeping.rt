@@ -14,7 +14,7 @@ ghost use Rattle.steady_layout.specs.Steady.{IsSteady};
 ghost use Rattle.window_rewrite.specs.Rewriting.{round_cost, visits, IsWhole};
 ghost use Rattle.window_rewrite.specs.Rules.{rules_in};
 ghost use Rattle.window_rewrite.specs.Choices.{setting_of, choice_of, AreReady, IsFirstChoice, NoneAcross, NoneBefore, NoneEnding};
-ghost use Rattle.window_rewrite.specs.Sweeps.{is_steady, AreOver, Completes, IsOver, IsSteadyIf, MayBeListed, StandsNear};
+ghost use Rattle.window_rewrite.specs.Sweeps.{is_steady, AreOver, Completes, IsOver, IsSteadyIf, MayBeListed, Moves, StandsNear};
 
 use crate::choice::{Found, Replacement};
 use crate::finding::{Rules, next};
@@ -87,6 +87,7 @@ fn turn<L: Ledger>(
     requires over { IsOver rules.now ground.old cursor.old }
     requires choice { IsFirstChoice (setting_of rules.now) (lines_at cursor.old) found.now.choice }
     requires here { (choice_of found.now.choice).place ≡ place_at cursor.old }
+    requires moved { Moves ground.old found.now.choice.window found.now.choice.new found.now.choice.moved }
     requires clear { NoneBefore false (setting_of rules.now) (lines_at cursor.old) found.now.clear }
     requires some { 0 < length cursor.old.lines.ahead }
     requires first { (rest : List Lines) (x : Lines) → cursor.old.lines.ahead ≡ rest ++ x ∷ [] → begins_op (lines_in x) ≡ true }
@@ -99,7 +100,7 @@ fn turn<L: Ledger>(
     let choice = &found.choice;
     let window = choice.window.as_slice();
     let new = choice.new.as_slice();
-    ground.give_way(alloc, cursor, window, new)?;
+    ground.give_way(cursor, window, new, &choice.moved)?;
     match make(alloc, cursor, window, new, steps)? {
         None => Ok(false),
         Some(lead) => {
@@ -136,7 +137,7 @@ fn go_through<L: Ledger>(
 {
     while let Some(found) = next(alloc, rules, ground, cursor, steps)? {
         let goes_on = turn(alloc, rules, ground, cursor, &found, steps)?;
-        replacements.push(found.choice.replacement)?;
+        replacements.push(found.into_replacement())?;
         if !goes_on {
             return Ok(false);
         }

@@ -1,5 +1,5 @@
 use Rattle.std.proofs.Common.{◌≡◌, ◌∙◌, ℕ, ◌+◌, ◌-◌, ◌<◌, List, true, false, Some, length, map, slice_index_or, ap, arith, refl, sym, subst, true≢false}
-use Rattle.std.specs.Prelude.{slice_get}
+use Rattle.std.specs.Prelude.{is_some, slice_get}
 use Rattle.std.specs.List.{list_all}
 use Rattle.std.proofs.lemmas.List.{length-map}
 use Rattle.std.proofs.lemmas.Option.{slice_get_read}
@@ -69,8 +69,8 @@ returns-then-not-is_settled-clause-none g c = λ given a.
     let never : true ≡ false = sym settled ∙ c.if-not-is_settled.true in
     absurd (true≢false never)
 
-pub can_be_laid-requires-clause-letters : goal.can_be_laid-requires-clause-letters
-can_be_laid-requires-clause-letters g c =
+pub moved_layout-requires-clause-letters : goal.moved_layout-requires-clause-letters
+moved_layout-requires-clause-letters g c =
     let e = entry c.args.rules.now c.args.number c.args.window.now c.index-rules-number.result c.requires.ready c.requires.number c.index-rules-number.is c.requires.long in
     let rule : Rule = entry_rule (slice_index_or c.args.rules.now.entries.now c.args.number c.index-rules-number.result) in
     let registers : List Low = registers_of c.in-Some.map in
@@ -78,8 +78,8 @@ can_be_laid-requires-clause-letters g c =
     c.renamed_all-new.ensures ∙ ap (λ (rs : List Low). map (renamed rs) c.as_slice.result.now) (c.deref.ensures.0 ∙ c.registers_of.ensures) ∙ ap (map (renamed registers)) c.as_slice.ensures.value in
     subst (λ (is : List Instr). list_all is_in_window is ≡ true) (sym (c.as_slice-3.ensures.value ∙ new)) (letters_all (register_count rule.left) registers rule.right e.fit.sound.right)
 
-pub can_be_laid-requires-clause-fewer : goal.can_be_laid-requires-clause-fewer
-can_be_laid-requires-clause-fewer g c =
+pub moved_layout-requires-clause-fewer : goal.moved_layout-requires-clause-fewer
+moved_layout-requires-clause-fewer g c =
     let shorter = c.in-Some.ensures.0.shorter in
     let e = entry c.args.rules.now c.args.number c.args.window.now c.index-rules-number.result c.requires.ready c.requires.number c.index-rules-number.is c.requires.long in
     let rule : Rule = entry_rule (slice_index_or c.args.rules.now.entries.now c.args.number c.index-rules-number.result) in
@@ -91,8 +91,8 @@ can_be_laid-requires-clause-fewer g c =
     let as_many = length-map rule.right (renamed registers) in
     omega (arith, shorter, long, count, as_many)
 
-pub returns-then-not-branch-clause-none : goal.returns-then-not-branch-clause-none
-returns-then-not-branch-clause-none g c = λ given a.
+pub returns-in-None-2-clause-none : goal.returns-in-None-2-clause-none
+returns-in-None-2-clause-none g c = λ given a.
     let e = entry c.args.rules.now c.args.number c.args.window.now c.index-rules-number.result c.requires.ready c.requires.number c.index-rules-number.is c.requires.long in
     let rule : Rule = entry_rule (slice_index_or c.args.rules.now.entries.now c.args.number c.index-rules-number.result) in
     let registers : List Low = registers_of c.in-Some.map in
@@ -102,8 +102,8 @@ returns-then-not-branch-clause-none g c = λ given a.
     let laid = back_laid c.args.rules.now.base (rules_in c.args.rules.now.entries.now) (lines_at c.args.cursor.now) (place_at c.args.cursor.now) c.args.number rule given c.args.window.now e.at e.long a in
     let same : given ≡ registers = stands_once rule given registers c.args.window.now e.fit.sound e.fit.canonical b.fits.stands c.in-Some.ensures.0.stands in
     let is : map (renamed given) rule.right ≡ c.as_slice-3.result.now = ap (λ (rs : List Low). map (renamed rs) rule.right) same ∙ sym (c.as_slice-3.ensures.value ∙ new) in
-    let may = c.in_ok-can_be_laid.ensures.1 (λ _. subst (λ (js : List Instr). Layable c.args.rules.now.base (replaced_lines own_line (place_at c.args.cursor.now) (length c.args.window.now) js (lines_at c.args.cursor.now))) is laid) in
-    let never : true ≡ false = sym may ∙ c.if-not-branch.true in
+    let may = c.in_ok-moved_layout.ensures.layable.1 (λ _. subst (λ (js : List Instr). Layable c.args.rules.now.base (replaced_lines own_line (place_at c.args.cursor.now) (length c.args.window.now) js (lines_at c.args.cursor.now))) is laid) in
+    let never : true ≡ false = sym may ∙ ap is_some c.in-None-2.is in
     absurd (true≢false never)
 
 pub copied-requires : goal.copied-requires
@@ -128,7 +128,7 @@ returns-clause-some g c =
     let settled : IsSettled (places_of lines) (labels_from 0 lines) place (length c.args.window.now) c.renamed_all-new.result =
     subst (λ (js : List Instr). IsSettled (places_of lines) (labels_from 0 lines) place (length c.args.window.now) js) c.as_slice-2.ensures.value (c.is_settled.ensures.0 c.if-not-is_settled.false) in
     let asked : is_steady c.args.ground.now ≡ false → Layable c.args.rules.now.base (replaced_lines own_line place (length c.args.window.now) (map (renamed registers) rule.right) lines) =
-    λ f. subst (λ (js : List Instr). Layable c.args.rules.now.base (replaced_lines own_line place (length c.args.window.now) js lines)) (c.as_slice-3.ensures.value ∙ new) (c.in_ok-can_be_laid.ensures.0 c.if-not-branch.false f) in
+    λ f. subst (λ (js : List Instr). Layable c.args.rules.now.base (replaced_lines own_line place (length c.args.window.now) js lines)) (c.as_slice-3.ensures.value ∙ new) (c.in_ok-moved_layout.ensures.layable.0 (ap is_some c.in-Some-2.is) f) in
     let m =
     applied c.args.rules.now.base (rules_in c.args.rules.now.entries.now) lines place c.args.number rule registers c.args.window.now c.args.live.bits c.renamed_all-new.result e.at e.fit.sound c.requires.stands c.in-Some.ensures.0 new settled
     (laid c.args.rules.now c.args.ground.now lines place rule registers c.args.window.now c.requires.over.over e.fit.sound count asked) in

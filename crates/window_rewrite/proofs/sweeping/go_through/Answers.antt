@@ -1,4 +1,4 @@
-use Rattle.std.proofs.Common.{◌≡◌, ◌∙◌, ◌+◌, ◌*◌, ◌<◌, ◌≤◌, List, All, length, sym, subst, ap, arith}
+use Rattle.std.proofs.Common.{◌≡◌, ◌∙◌, ◌+◌, ◌*◌, ◌<◌, ◌≤◌, List, [], ◌∷◌, ◌++◌, All, length, sym, subst, ap, arith}
 use Rattle.std.specs.Int.{from_bool}
 use Rattle.std.proofs.lemmas.List.Elements.{All-push}
 use Rattle.thumb_model.specs.Listing.{Line, places_of}
@@ -12,6 +12,10 @@ use Rattle.window_rewrite.specs.Sweeps.{MayBeListed}
 use Rattle.window_rewrite.proofs.Rounds.{comes_on, last_tries, longer_by_one, some_more, turn_cost}
 use Rattle.window_rewrite.proofs.Turning.{may_be_listed, still_layable, still_steady}
 use Rattle.window_rewrite.proofs.sweeping.go_through.Goals as goal
+
+-- what is pushed is what was found
+pushed : {A : Type 0} (before after : List A) (x y : A) → after ≡ before ++ x ∷ [] → x ≡ y → after ≡ before ++ y ∷ []
+pushed before after x y e is = e ∙ ap (λ z. before ++ z ∷ []) is
 
 pub returns-then-not-goes_on-clause-listed : goal.returns-then-not-goes_on-clause-listed
 returns-then-not-goes_on-clause-listed g c =
@@ -33,8 +37,8 @@ returns-then-not-goes_on-clause-steady g c = λ h.
 pub returns-then-not-goes_on-clause-fewer : goal.returns-then-not-goes_on-clause-fewer
 returns-then-not-goes_on-clause-fewer g c =
     let choice = rw c.in-Some.is at c.in_ok-found.ensures.some in
-    let come = comes_on _ _ _ _ _ _ _ _ _ _ _ _ c.in-Some.found.choice.replacement c.loop-found.invariant.come c.in_ok-found.ensures.lines choice.first c.in_ok-goes_on.ensures.lines c.in_ok-push.ensures.items (turn_cost _ _ _ _ _ _ c.in_ok-goes_on.goes_on c.in_ok-found.ensures.lines c.in_ok-found.ensures.cost c.in_ok-goes_on.ensures.cost) in
-    let more = some_more _ _ _ _ _ _ _ _ _ c.in-Some.found.choice.replacement c.loop-found.invariant.come c.in_ok-push.ensures.items in
+    let come = comes_on _ _ _ _ _ _ _ _ _ _ _ _ c.in-Some.found.choice.replacement c.loop-found.invariant.come c.in_ok-found.ensures.lines choice.first c.in_ok-goes_on.ensures.lines (pushed _ _ _ _ c.in_ok-push.ensures.items c.into_replacement.ensures) (turn_cost _ _ _ _ _ _ c.in_ok-goes_on.goes_on c.in_ok-found.ensures.lines c.in_ok-found.ensures.cost c.in_ok-goes_on.ensures.cost) in
+    let more = some_more _ _ _ _ _ _ _ _ _ c.in-Some.found.choice.replacement c.loop-found.invariant.come (pushed _ _ _ _ c.in_ok-push.ensures.items c.into_replacement.ensures) in
     let fewer = come.fewer in
     omega arith
 
@@ -45,7 +49,7 @@ returns-then-not-goes_on-clause-cost g c =
     let visited = ap (λ n. n * visits (length (places_of (lines_at c.next.new.cursor)))) none in
     let turned = c.in_ok-goes_on.ensures.cost in
     let tried = c.in_ok-found.ensures.cost in
-    let one = longer_by_one _ _ c.in-Some.found.choice.replacement c.in_ok-push.ensures.items in
+    let one = longer_by_one _ _ c.in-Some.found.choice.replacement (pushed _ _ _ _ c.in_ok-push.ensures.items c.into_replacement.ensures) in
     let last = last_tries _ _ _ _ _ _ _ _ c.turn.new.steps come (omega arith) in
     subst (λ n. c.turn.new.steps + visits (length (places_of (lines_at c.args.cursor.now))) + length c.args.replacements.now.items * round_cost (length (places_of (lines_at c.args.cursor.now))) (length (rules_in c.args.rules.now.entries.now))
     ≤ c.args.steps.now + n * round_cost (length (places_of (lines_at c.args.cursor.now))) (length (rules_in c.args.rules.now.entries.now))) (omega (arith, one)) last
@@ -56,7 +60,7 @@ returns-clause-cost g c = last_tries _ _ _ _ _ _ _ _ _ c.loop-found.invariant.co
 pub returns-then-not-goes_on-clause-whole : goal.returns-then-not-goes_on-clause-whole
 returns-then-not-goes_on-clause-whole g c =
     let choice = rw c.in-Some.is at c.in_ok-found.ensures.some in
-    subst (All IsWhole) (sym c.in_ok-push.ensures.items) (All-push IsWhole _ c.in-Some.found.choice.replacement c.loop-found.invariant.whole choice.is.whole)
+    subst (All IsWhole) (sym (pushed _ _ _ _ c.in_ok-push.ensures.items c.into_replacement.ensures)) (All-push IsWhole _ c.in-Some.found.choice.replacement c.loop-found.invariant.whole choice.is.whole)
 
 pub loop-found-smaller : goal.loop-found-smaller
 loop-found-smaller g c =
@@ -74,8 +78,8 @@ loop-found-preserved g c =
       steady = c.in_ok-goes_on.ensures.steady ∙ c.in_ok-found.ensures.steady ∙ c.loop-found.invariant.steady;
       over = c.in_ok-goes_on.ensures.over c.if-not-goes_on.false;
       before = c.in_ok-goes_on.ensures.before c.if-not-goes_on.false;
-      whole = subst (All IsWhole) (sym c.in_ok-push.ensures.items) (All-push IsWhole _ c.in-Some.found.choice.replacement c.loop-found.invariant.whole choice.is.whole);
-      come = comes_on _ _ _ _ _ _ _ _ _ _ _ _ c.in-Some.found.choice.replacement c.loop-found.invariant.come c.in_ok-found.ensures.lines choice.first c.in_ok-goes_on.ensures.lines c.in_ok-push.ensures.items (turn_cost _ _ _ _ _ _ c.in_ok-goes_on.goes_on c.in_ok-found.ensures.lines c.in_ok-found.ensures.cost c.in_ok-goes_on.ensures.cost);
+      whole = subst (All IsWhole) (sym (pushed _ _ _ _ c.in_ok-push.ensures.items c.into_replacement.ensures)) (All-push IsWhole _ c.in-Some.found.choice.replacement c.loop-found.invariant.whole choice.is.whole);
+      come = comes_on _ _ _ _ _ _ _ _ _ _ _ _ c.in-Some.found.choice.replacement c.loop-found.invariant.come c.in_ok-found.ensures.lines choice.first c.in_ok-goes_on.ensures.lines (pushed _ _ _ _ c.in_ok-push.ensures.items c.into_replacement.ensures) (turn_cost _ _ _ _ _ _ c.in_ok-goes_on.goes_on c.in_ok-found.ensures.lines c.in_ok-found.ensures.cost c.in_ok-goes_on.ensures.cost);
     }
 
 pub returns-clause-steady : goal.returns-clause-steady

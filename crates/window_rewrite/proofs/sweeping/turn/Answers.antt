@@ -31,7 +31,7 @@ go_back-requires-clause-ending g c =
 pub give_way-requires : goal.give_way-requires
 give_way-requires g c =
     let choice : Choice = c.args.found.now.choice in
-    allowed_here c.args.rules.now c.args.ground.now c.args.cursor.now choice c.as_slice-window.result.now c.as_slice-new.result.now c.requires.over c.requires.choice.is c.requires.here c.as_slice-window.ensures.value c.as_slice-new.ensures.value
+    allowed_here c.args.rules.now c.args.ground.now c.args.cursor.now choice c.as_slice-window.result.now c.as_slice-new.result.now c.requires.over c.requires.choice.is c.requires.here c.requires.moved c.as_slice-window.ensures.value c.as_slice-new.ensures.value
 
 pub returns-in_ok-go_back-in-Some-clause-over : goal.returns-in_ok-go_back-in-Some-clause-over
 returns-in_ok-go_back-in-Some-clause-over g c =

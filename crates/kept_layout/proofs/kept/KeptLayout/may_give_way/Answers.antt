@@ -1,4 +1,5 @@
 use Rattle.std.proofs.Common.{◌≡◌, ◌-◌, ◌*◌, ◌≤◌, ◌↔◌, Bool, true, ℕ, List, length, subst, sym}
+use Rattle.std.specs.Prelude.{is_some}
 use Rattle.std.proofs.lemmas.Result.{IfOk-weaker}
 use Rattle.thumb_instr.specs.declared.instr.Instr.{Instr}
 use Rattle.thumb_model.specs.Layout.{Layable}
@@ -16,8 +17,8 @@ bytes_gone-bytes-requires-clause-few c =
     let r = c.requires in
     bytes_few _ _ _ _ _ (gives r.lays r.near r.window r.some r.fewer r.letters)
 
-pub can_shrink-requires-clause-few : goal.can_shrink-requires-clause-few
-can_shrink-requires-clause-few c = λ s e.
+pub move_within_reach-requires-clause-few : goal.move_within_reach-requires-clause-few
+move_within_reach-requires-clause-few c = λ s e.
     let r = c.requires in
     subst (λ n. n ≤ s.bytes) (sym c.bytes_gone-bytes.ensures) (bytes_within _ _ _ _ _ s e (gives r.lays r.near r.window r.some r.fewer r.letters))
 
@@ -30,10 +31,10 @@ told k lines place window new bytes b g e h =
       λ l. (h gone).1 (subst (λ n. AllReach k.base (lessen k.here n gone (shapes_of k.stretches.items))) (sym e) (reach_after own_line k lines place window new g l)),
     )
 
-pub returns : goal.returns
-returns c =
+pub returns-clause-layable : goal.returns-clause-layable
+returns-clause-layable c =
     let r = c.requires in
-    IfOk-weaker _ _ _ (λ b h. told c.args.self.now _ _ c.args.window.now c.args.new.now c.bytes_gone-bytes.result b (gives r.lays r.near r.window r.some r.fewer r.letters) c.bytes_gone-bytes.ensures h) c.can_shrink.ensures
+    IfOk-weaker _ _ _ (λ o h. told c.args.self.now _ _ c.args.window.now c.args.new.now c.bytes_gone-bytes.result (is_some o) (gives r.lays r.near r.window r.some r.fewer r.letters) c.bytes_gone-bytes.ensures h) c.move_within_reach.ensures.reach
 
-pub can_shrink-requires-clause-wide : goal.can_shrink-requires-clause-wide
-can_shrink-requires-clause-wide c = cut_wide _ _ c.requires.lays.cut
+pub move_within_reach-requires-clause-wide : goal.move_within_reach-requires-clause-wide
+move_within_reach-requires-clause-wide c = cut_wide _ _ c.requires.lays.cut

@@ -26,28 +26,14 @@ loop-next-init c =
     let within = c.requires.laid.here in
     let is = slice_get_read k.stretches.items (length k.stretches.items) k.here c.index-here.result.now refl within c.index-here.ensures in
     let begun = walk_begin k c.args.bytes c.index-here.result.now c.address.result c.in_ok-at.at (k.here + 1) c.requires.laid is (address_is k k.here c.address.result c.requires.laid within c.address.ensures) c.in_ok-at.ensures.value c.in_ok-at.ensures.in_code (omega arith) in
-    subst (λ new. IsWalked k c.args.bytes new c.in_ok-at.at (k.here + 1)) (sym c.new-new.ensures.items) begun
+    subst (λ new. IsWalked k c.args.bytes new c.in_ok-at.at (k.here + 1)) (sym c.in_ok-new.ensures.items) begun
 
-pub returns-then-is_together-clause-is : goal.returns-then-is_together-clause-is
-returns-then-is_together-clause-is c =
+pub returns-then-is_together : goal.returns-then-is_together
+returns-then-is_together c =
     let k = c.args.self.now in
     let is = slice_get_read k.stretches.items (length k.stretches.items) c.loop-next.next c.index-stretch.result.now refl (omega arith) c.index-stretch.ensures in
     let told = c.is_together.ensures c.if-is_together.true in
-    (walk_together k c.args.bytes c.loop-next.new.items c.loop-next.at c.loop-next.next c.address-old.result c.index-stretch.result.now c.requires.laid c.loop-next.invariant is (address_is k c.loop-next.next c.address-old.result c.requires.laid (omega arith) c.address-old.ensures) told.0 told.1).move
-
-pub returns-then-is_together-clause-starts : goal.returns-then-is_together-clause-starts
-returns-then-is_together-clause-starts c =
-    let k = c.args.self.now in
-    let is = slice_get_read k.stretches.items (length k.stretches.items) c.loop-next.next c.index-stretch.result.now refl (omega arith) c.index-stretch.ensures in
-    let told = c.is_together.ensures c.if-is_together.true in
-    (walk_together k c.args.bytes c.loop-next.new.items c.loop-next.at c.loop-next.next c.address-old.result c.index-stretch.result.now c.requires.laid c.loop-next.invariant is (address_is k c.loop-next.next c.address-old.result c.requires.laid (omega arith) c.address-old.ensures) told.0 told.1).starts
-
-pub returns-then-is_together-clause-in_code : goal.returns-then-is_together-clause-in_code
-returns-then-is_together-clause-in_code c =
-    let k = c.args.self.now in
-    let is = slice_get_read k.stretches.items (length k.stretches.items) c.loop-next.next c.index-stretch.result.now refl (omega arith) c.index-stretch.ensures in
-    let told = c.is_together.ensures c.if-is_together.true in
-    (walk_together k c.args.bytes c.loop-next.new.items c.loop-next.at c.loop-next.next c.address-old.result c.index-stretch.result.now c.requires.laid c.loop-next.invariant is (address_is k c.loop-next.next c.address-old.result c.requires.laid (omega arith) c.address-old.ensures) told.0 told.1).in_code
+    walk_together k c.args.bytes c.loop-next.new.items c.loop-next.at c.loop-next.next c.address-old.result c.index-stretch.result.now c.requires.laid c.loop-next.invariant is (address_is k c.loop-next.next c.address-old.result c.requires.laid (omega arith) c.address-old.ensures) told.0 told.1
 
 pub loop-next-preserved : goal.loop-next-preserved
 loop-next-preserved c =
@@ -56,11 +42,5 @@ loop-next-preserved c =
     let on = walk_on k c.args.bytes c.loop-next.new.items c.loop-next.at c.loop-next.next c.index-stretch.result.now c.in_ok-at-2.at (c.loop-next.next + 1) c.loop-next.invariant is (omega arith) c.in_ok-at-2.ensures.value c.in_ok-at-2.ensures.in_code (omega arith) in
     subst (λ new. IsWalked k c.args.bytes new c.in_ok-at-2.at (c.loop-next.next + 1)) (sym c.in_ok-push.ensures.items) on
 
-pub returns-clause-is : goal.returns-clause-is
-returns-clause-is c = (walk_over c.args.self.now c.args.bytes c.loop-next.new.items c.loop-next.at c.loop-next.next c.loop-next.invariant (omega arith)).move
-
-pub returns-clause-starts : goal.returns-clause-starts
-returns-clause-starts c = (walk_over c.args.self.now c.args.bytes c.loop-next.new.items c.loop-next.at c.loop-next.next c.loop-next.invariant (omega arith)).starts
-
-pub returns-clause-in_code : goal.returns-clause-in_code
-returns-clause-in_code c = (walk_over c.args.self.now c.args.bytes c.loop-next.new.items c.loop-next.at c.loop-next.next c.loop-next.invariant (omega arith)).in_code
+pub returns : goal.returns
+returns c = walk_over c.args.self.now c.args.bytes c.loop-next.new.items c.loop-next.at c.loop-next.next c.loop-next.invariant (omega arith)

@@ -5,7 +5,6 @@ use Rattle.kept_layout.specs.declared.kept.KeptLayout.{KeptLayout}
 use Rattle.kept_layout.specs.Stretches.{shape_of}
 use Rattle.kept_layout.specs.Moves.{unplaced}
 use Rattle.kept_layout.proofs.ShrinkingNotes.{after_shrinking, laid_after, map_length, noted_shape, shapes_after, HasShrunk}
-use Rattle.kept_layout.proofs.ShrinkingWalk.{IsMoved}
 use Rattle.kept_layout.proofs.kept.KeptLayout.shrink.Goals as goal
 
 pub take_from-requires-clause-bytes : goal.take_from-requires-clause-bytes
@@ -35,22 +34,21 @@ returns-clause-laid c =
     let k = c.args.self.now in
     let l = c.note_all.new.self in
     let s = c.index_mut.result.now in
-    let m = c.in_ok-moved.moved in
+    let m = c.args.moved.now in
     let here : l.here ≡ k.here = ap (λ (x : KeptLayout). x.here) c.in_ok-note_all.ensures.fields in
     let len = map_length unplaced l.stretches.items k.stretches.items c.in_ok-note_all.ensures.same in
     let within = c.requires.laid.here in
     let is : slice_get l.stretches.items l.here ≡ Some s = slice_get_read l.stretches.items (length l.stretches.items) l.here s refl (omega arith) c.index_mut.ensures.value in
     let shrunk : HasShrunk k l m.at.items c.args.bytes c.args.gone s c.take_from.new.stretch = record { fields = c.in_ok-note_all.ensures.fields; noted = record { same = c.in_ok-note_all.ensures.same; notes = c.in_ok-note_all.ensures.notes }; is = is; less = c.take_from.ensures } in
-    let moved : IsMoved k c.args.bytes m.at.items m.by = record { move = c.in_ok-moved.ensures.is; starts = c.in_ok-moved.ensures.starts; in_code = c.in_ok-moved.ensures.in_code } in
     let border : l.here + 1 + c.len.result ≡ suc l.here + length m.at.items = omega arith in
-    laid_after k m.at.items m.by c.args.bytes c.args.gone l.stretches.items _ c.requires.laid moved c.requires.reach (after_shrinking k l m.at.items m.by c.args.bytes c.args.gone s c.take_from.new.stretch _ shrunk refl refl refl refl border refl refl)
+    laid_after k m.at.items m.by c.args.bytes c.args.gone l.stretches.items _ c.requires.laid c.requires.moved c.requires.reach (after_shrinking k l m.at.items m.by c.args.bytes c.args.gone s c.take_from.new.stretch _ shrunk refl refl refl refl border refl refl)
 
 pub returns-clause-shapes : goal.returns-clause-shapes
 returns-clause-shapes c =
     let k = c.args.self.now in
     let l = c.note_all.new.self in
     let s = c.index_mut.result.now in
-    let m = c.in_ok-moved.moved in
+    let m = c.args.moved.now in
     let here : l.here ≡ k.here = ap (λ (x : KeptLayout). x.here) c.in_ok-note_all.ensures.fields in
     let len = map_length unplaced l.stretches.items k.stretches.items c.in_ok-note_all.ensures.same in
     let within = c.requires.laid.here in
