@@ -83,7 +83,8 @@ fn copied(window: &[Instr]) -> Seq
     seq
 }
 
-/// What an entry makes of a window behind the cursor, after which these items are live. `refused` comes to be true where the entry fits and the layout refuses it.
+/// What the entry of a number makes of a window behind the cursor, after which these items are live, where its left side is as long. `refused` comes to be true where
+/// the entry fits and the layout refuses it.
 fn try_entry<L: Ledger>(
     alloc: Global,
     rules: &Rules<'_>,
@@ -101,15 +102,18 @@ fn try_entry<L: Ledger>(
     requires first { (rest : List Lines) (x : Lines) → cursor.now.lines.ahead ≡ rest ++ x ∷ [] → begins_op (lines_in x) ≡ true }
     requires stands { StandsThere (lines_at cursor.now) (spot_of (place_at cursor.now) (length window.now)) window.now live.bits }
     requires number { number < length rules.now.entries.now }
-    requires long { left_length (rules_in rules.now.entries.now) number ≡ length window.now }
+    ensures long { IfOk result (λ o. OnSome o (left_length (rules_in rules.now.entries.now) number ≡ length window.now)) }
     ensures some { IfOk result (λ o. IfSome o (λ c. IsChoice (setting_of rules.now) (lines_at cursor.now) c × ((choice_of c).place ≡ place_at cursor.now) × ((choice_of c).entry ≡ number))) }
     ensures moved { IfOk result (λ o. IfSome o (λ c. Moves ground.now c.window c.new c.moved)) }
-    ensures none { IfOk result (λ o. IfNone o ((registers : List Low) → Meets refused.new (setting_of rules.now) (record { place = place_at cursor.now; entry = number; registers = registers }) (lines_at cursor.now) → ⊥)) }
+    ensures none { IfOk result (λ o. IfNone o (left_length (rules_in rules.now.entries.now) number ≡ length window.now → (registers : List Low) → Meets refused.new (setting_of rules.now) (record { place = place_at cursor.now; entry = number; registers = registers }) (lines_at cursor.now) → ⊥)) }
     ensures stays { OnOk result (refused.old ≡ true → refused.new ≡ true) }
-    ensures cost { steps.new ≤ steps.old + 1 }
+    ensures cost { steps.new ≤ steps.old + from_bool (left_length (rules_in rules.now.entries.now) number == length window.now) }
 {
-    steps.tick();
     let entry = &rules.entries[number];
+    if entry.left.len() != window.len() {
+        return Ok(None);
+    }
+    steps.tick();
     let map = match fitting(entry, window, live) {
         None => return Ok(None),
         Some(map) => map,
@@ -135,40 +139,6 @@ fn try_entry<L: Ledger>(
         new,
         moved,
     }))
-}
-
-/// What the entry of a number makes of a window behind the cursor, after which these items are live, where its left side is as long.
-fn try_as_long<L: Ledger>(
-    alloc: Global,
-    rules: &Rules<'_>,
-    ground: &Ground,
-    cursor: &Cursor,
-    window: &[Instr],
-    live: Items,
-    number: usize,
-    refused: &mut bool,
-    steps: &mut Steps<L>,
-) -> Result<Option<Choice>, Memory>
-    requires ready { AreReady rules.now }
-    requires over { IsOver rules.now ground.now cursor.now }
-    requires some { 0 < length cursor.now.lines.ahead }
-    requires first { (rest : List Lines) (x : Lines) → cursor.now.lines.ahead ≡ rest ++ x ∷ [] → begins_op (lines_in x) ≡ true }
-    requires stands { StandsThere (lines_at cursor.now) (spot_of (place_at cursor.now) (length window.now)) window.now live.bits }
-    requires number { number < length rules.now.entries.now }
-    ensures long { IfOk result (λ o. OnSome o (left_length (rules_in rules.now.entries.now) number ≡ length window.now)) }
-    ensures some { IfOk result (λ o. IfSome o (λ c. IsChoice (setting_of rules.now) (lines_at cursor.now) c × ((choice_of c).place ≡ place_at cursor.now) × ((choice_of c).entry ≡ number))) }
-    ensures moved { IfOk result (λ o. IfSome o (λ c. Moves ground.now c.window c.new c.moved)) }
-    ensures none { IfOk result (λ o. IfNone o (left_length (rules_in rules.now.entries.now) number ≡ length window.now → (registers : List Low) → Meets refused.new (setting_of rules.now) (record { place = place_at cursor.now; entry = number; registers = registers }) (lines_at cursor.now) → ⊥)) }
-    ensures stays { OnOk result (refused.old ≡ true → refused.new ≡ true) }
-    ensures cost { steps.new ≤ steps.old + from_bool (left_length (rules_in rules.now.entries.now) number == length window.now) }
-{
-    if rules.entries[number].left.len() == window.len() {
-        try_entry(
-            alloc, rules, ground, cursor, window, live, number, refused, steps,
-        )
-    } else {
-        Ok(None)
-    }
 }
 
 /// With how many of its instructions a run may begin some left side, but for registers. No entry that leaves fewer instructions has a longer left side that
@@ -220,7 +190,7 @@ fn lowest<L: Ledger>(
 {
     let mut at = first_number(rules, window);
     while let Some(number) = at {
-        if let Some(choice) = try_as_long(
+        if let Some(choice) = try_entry(
             alloc, rules, ground, cursor, window, live, number, refused, steps,
         )? {
             return Ok(Some(choice));

@@ -11,11 +11,11 @@ loop-at-init g c = record {
   stays = λ e. e;
 }
 
-pub try_as_long-requires-clause-number : goal.try_as_long-requires-clause-number
-try_as_long-requires-clause-number g c = next_within c.args.rules.now.entries.now c.args.window.now c.loop-at.invariant.search.k c.in-Some.number c.loop-at.at c.loop-at.invariant.search.awaits c.in-Some.is
+pub try_entry-requires-clause-number : goal.try_entry-requires-clause-number
+try_entry-requires-clause-number g c = next_within c.args.rules.now.entries.now c.args.window.now c.loop-at.invariant.search.k c.in-Some.number c.loop-at.at c.loop-at.invariant.search.awaits c.in-Some.is
 
 pub returns-in_err-choice-clause-cost : goal.returns-in_err-choice-clause-cost
-returns-in_err-choice-clause-cost g c = search_cost _ c.args.rules.now.base (rules_in c.args.rules.now.entries.now) (lines_at c.args.cursor.now) (place_at c.args.cursor.now) c.args.window.now c.in-Some.number c.loop-at.at _ _ _ c.loop-at.invariant.search c.in-Some.is c.try_as_long.ensures.cost
+returns-in_err-choice-clause-cost g c = search_cost _ c.args.rules.now.base (rules_in c.args.rules.now.entries.now) (lines_at c.args.cursor.now) (place_at c.args.cursor.now) c.args.window.now c.in-Some.number c.loop-at.at _ _ _ c.loop-at.invariant.search c.in-Some.is c.try_entry.ensures.cost
 
 pub returns-in-Some-2-clause-some : goal.returns-in-Some-2-clause-some
 returns-in-Some-2-clause-some g c =

@@ -1,4 +1,5 @@
-use Rattle.std.proofs.Common.{◌≡◌, ◌∙◌, ℕ, ◌+◌, ◌-◌, ◌<◌, List, true, false, Some, length, map, slice_index_or, ap, arith, refl, sym, subst, true≢false}
+use Rattle.std.proofs.Common.{◌≡◌, ◌∙◌, ℕ, ◌+◌, ◌-◌, ◌≤◌, ◌<◌, ◌==◌, List, true, false, Some, length, map, slice_index_or, ap, arith, eq-eqb, refl, sym, subst, true≢false}
+use Rattle.std.specs.Int.{from_bool}
 use Rattle.std.specs.Prelude.{is_some, slice_get}
 use Rattle.std.specs.List.{list_all}
 use Rattle.std.proofs.lemmas.List.{length-map}
@@ -30,34 +31,55 @@ record IsEntry (r : Rules) (number : ℕ) (window : List Instr) (rule : Rule) : 
   fit : IsFit r.longest rule
   long : length rule.left ≡ length window
 
-entry : (r : Rules) (number : ℕ) (window : List Instr) (read : Entry) → AreReady r → number < length r.entries.now → read ≡ slice_index_or r.entries.now number read → left_length (rules_in r.entries.now) number ≡ length window
+entry : (r : Rules) (number count : ℕ) (window : List Instr) (read : Entry) → AreReady r → number < length r.entries.now → read ≡ slice_index_or r.entries.now number read → count ≡ length (slice_index_or r.entries.now number read).left → count ≡ length window
     → IsEntry r number window (entry_rule (slice_index_or r.entries.now number read))
-entry r number window read ready within is long =
-    let e : Entry = slice_index_or r.entries.now number read in
-    let there : slice_get r.entries.now number ≡ Some e = slice_get_read r.entries.now _ _ read refl within is ∙ ap Some is in
-    let at : slice_get (rules_in r.entries.now) number ≡ Some (entry_rule e) = entry_at r.entries.now number e there in
-    record { at = at; fit = ready.fit number (entry_rule e) at; long = sym (length_at (rules_in r.entries.now) number (entry_rule e) at) ∙ long }
+entry r number count window read ready within is e f =
+    let one : Entry = slice_index_or r.entries.now number read in
+    let there : slice_get r.entries.now number ≡ Some one = slice_get_read r.entries.now _ _ read refl within is ∙ ap Some is in
+    let at : slice_get (rules_in r.entries.now) number ≡ Some (entry_rule one) = entry_at r.entries.now number one there in
+    record { at = at; fit = ready.fit number (entry_rule one) at; long = sym e ∙ f }
+
+-- how long the left side of an entry that was read is
+long : (entries : List Entry) (number : ℕ) (read : Entry) → number < length entries → read ≡ slice_index_or entries number read → left_length (rules_in entries) number ≡ length (slice_index_or entries number read).left
+long entries number read within is =
+    let e : Entry = slice_index_or entries number read in
+    let there : slice_get entries number ≡ Some e = slice_get_read entries _ _ read refl within is ∙ ap Some is in
+    length_at (rules_in entries) number (entry_rule e) (entry_at entries number e there)
+
+-- the left side is as long as the window
+as_long : (entries : List Entry) (number count : ℕ) (window : List Instr) (read : Entry) → number < length entries → read ≡ slice_index_or entries number read → count ≡ length (slice_index_or entries number read).left → count ≡ length window
+    → left_length (rules_in entries) number ≡ length window
+as_long entries number count window read within is e f = long entries number read within is ∙ (sym e ∙ f)
+
+-- a match is counted where the left side is as long
+counted : (n count before after : ℕ) → n ≡ count → after ≤ before + 1 → after ≤ before + from_bool (n == count)
+counted n count before after e h = let one : from_bool (n == count) ≡ 1 = ap from_bool (eq-eqb _ _ e) in omega (arith, one)
+
+pub returns-then-len-window-clause-none : goal.returns-then-len-window-clause-none
+returns-then-len-window-clause-none g c = λ is registers a.
+    let was = long c.args.rules.now.entries.now c.args.number c.index-rules-number.result c.requires.number c.index-rules-number.is in
+    absurd (c.if-len-window.true (c.len.ensures.value ∙ sym was ∙ is))
 
 pub fitting-requires-clause-sound : goal.fitting-requires-clause-sound
 fitting-requires-clause-sound g c =
-    let e = entry c.args.rules.now c.args.number c.args.window.now c.index-rules-number.result c.requires.ready c.requires.number c.index-rules-number.is c.requires.long in
+    let e = entry c.args.rules.now c.args.number c.len.result c.args.window.now c.index-rules-number.result c.requires.ready c.requires.number c.index-rules-number.is c.len.ensures.value c.if-len-window.false in
     e.fit.sound
 
 pub fitting-requires-clause-canonical : goal.fitting-requires-clause-canonical
 fitting-requires-clause-canonical g c =
-    let e = entry c.args.rules.now c.args.number c.args.window.now c.index-rules-number.result c.requires.ready c.requires.number c.index-rules-number.is c.requires.long in
+    let e = entry c.args.rules.now c.args.number c.len.result c.args.window.now c.index-rules-number.result c.requires.ready c.requires.number c.index-rules-number.is c.len.ensures.value c.if-len-window.false in
     e.fit.canonical
 
 pub returns-in-None-clause-none : goal.returns-in-None-clause-none
-returns-in-None-clause-none g c = λ registers a.
-    let e = entry c.args.rules.now c.args.number c.args.window.now c.index-rules-number.result c.requires.ready c.requires.number c.index-rules-number.is c.requires.long in
+returns-in-None-clause-none g c = λ _ registers a.
+    let e = entry c.args.rules.now c.args.number c.len.result c.args.window.now c.index-rules-number.result c.requires.ready c.requires.number c.index-rules-number.is c.len.ensures.value c.if-len-window.false in
     let rule : Rule = entry_rule (slice_index_or c.args.rules.now.entries.now c.args.number c.index-rules-number.result) in
     let b = back c.args.rules.now.base (rules_in c.args.rules.now.entries.now) (lines_at c.args.cursor.now) (place_at c.args.cursor.now) c.args.number rule registers c.args.window.now c.args.live.bits e.at e.long c.requires.stands a.0 in
     c.in-None.ensures registers b.fits
 
 pub returns-then-not-is_settled-clause-none : goal.returns-then-not-is_settled-clause-none
-returns-then-not-is_settled-clause-none g c = λ given a.
-    let e = entry c.args.rules.now c.args.number c.args.window.now c.index-rules-number.result c.requires.ready c.requires.number c.index-rules-number.is c.requires.long in
+returns-then-not-is_settled-clause-none g c = λ _ given a.
+    let e = entry c.args.rules.now c.args.number c.len.result c.args.window.now c.index-rules-number.result c.requires.ready c.requires.number c.index-rules-number.is c.len.ensures.value c.if-len-window.false in
     let rule : Rule = entry_rule (slice_index_or c.args.rules.now.entries.now c.args.number c.index-rules-number.result) in
     let registers : List Low = registers_of c.in-Some.map in
     let new : c.renamed_all-new.result ≡ map (renamed registers) rule.right =
@@ -71,7 +93,7 @@ returns-then-not-is_settled-clause-none g c = λ given a.
 
 pub moved_layout-requires-clause-letters : goal.moved_layout-requires-clause-letters
 moved_layout-requires-clause-letters g c =
-    let e = entry c.args.rules.now c.args.number c.args.window.now c.index-rules-number.result c.requires.ready c.requires.number c.index-rules-number.is c.requires.long in
+    let e = entry c.args.rules.now c.args.number c.len.result c.args.window.now c.index-rules-number.result c.requires.ready c.requires.number c.index-rules-number.is c.len.ensures.value c.if-len-window.false in
     let rule : Rule = entry_rule (slice_index_or c.args.rules.now.entries.now c.args.number c.index-rules-number.result) in
     let registers : List Low = registers_of c.in-Some.map in
     let new : c.renamed_all-new.result ≡ map (renamed registers) rule.right =
@@ -81,7 +103,7 @@ moved_layout-requires-clause-letters g c =
 pub moved_layout-requires-clause-fewer : goal.moved_layout-requires-clause-fewer
 moved_layout-requires-clause-fewer g c =
     let shorter = c.in-Some.ensures.0.shorter in
-    let e = entry c.args.rules.now c.args.number c.args.window.now c.index-rules-number.result c.requires.ready c.requires.number c.index-rules-number.is c.requires.long in
+    let e = entry c.args.rules.now c.args.number c.len.result c.args.window.now c.index-rules-number.result c.requires.ready c.requires.number c.index-rules-number.is c.len.ensures.value c.if-len-window.false in
     let rule : Rule = entry_rule (slice_index_or c.args.rules.now.entries.now c.args.number c.index-rules-number.result) in
     let registers : List Low = registers_of c.in-Some.map in
     let new : c.renamed_all-new.result ≡ map (renamed registers) rule.right =
@@ -92,8 +114,8 @@ moved_layout-requires-clause-fewer g c =
     omega (arith, shorter, long, count, as_many)
 
 pub returns-in-None-2-clause-none : goal.returns-in-None-2-clause-none
-returns-in-None-2-clause-none g c = λ given a.
-    let e = entry c.args.rules.now c.args.number c.args.window.now c.index-rules-number.result c.requires.ready c.requires.number c.index-rules-number.is c.requires.long in
+returns-in-None-2-clause-none g c = λ _ given a.
+    let e = entry c.args.rules.now c.args.number c.len.result c.args.window.now c.index-rules-number.result c.requires.ready c.requires.number c.index-rules-number.is c.len.ensures.value c.if-len-window.false in
     let rule : Rule = entry_rule (slice_index_or c.args.rules.now.entries.now c.args.number c.index-rules-number.result) in
     let registers : List Low = registers_of c.in-Some.map in
     let new : c.renamed_all-new.result ≡ map (renamed registers) rule.right =
@@ -108,7 +130,7 @@ returns-in-None-2-clause-none g c = λ given a.
 
 pub copied-requires : goal.copied-requires
 copied-requires g c =
-    let e = entry c.args.rules.now c.args.number c.args.window.now c.index-rules-number.result c.requires.ready c.requires.number c.index-rules-number.is c.requires.long in
+    let e = entry c.args.rules.now c.args.number c.len.result c.args.window.now c.index-rules-number.result c.requires.ready c.requires.number c.index-rules-number.is c.len.ensures.value c.if-len-window.false in
     let rule : Rule = entry_rule (slice_index_or c.args.rules.now.entries.now c.args.number c.index-rules-number.result) in
     let short = e.fit.short in
     let long = e.long in
@@ -119,7 +141,7 @@ pub returns-clause-some : goal.returns-clause-some
 returns-clause-some g c =
     let lines : List Line = lines_at c.args.cursor.now in
     let place : ℕ = place_at c.args.cursor.now in
-    let e = entry c.args.rules.now c.args.number c.args.window.now c.index-rules-number.result c.requires.ready c.requires.number c.index-rules-number.is c.requires.long in
+    let e = entry c.args.rules.now c.args.number c.len.result c.args.window.now c.index-rules-number.result c.requires.ready c.requires.number c.index-rules-number.is c.len.ensures.value c.if-len-window.false in
     let rule : Rule = entry_rule (slice_index_or c.args.rules.now.entries.now c.args.number c.index-rules-number.result) in
     let registers : List Low = registers_of c.in-Some.map in
     let new : c.renamed_all-new.result ≡ map (renamed registers) rule.right =
@@ -141,3 +163,21 @@ returns-clause-some g c =
       c.place.ensures,
       sym number,
     )
+
+pub returns-in-None-clause-cost : goal.returns-in-None-clause-cost
+returns-in-None-clause-cost g c = counted _ _ c.args.steps.now c.tick.new.self (as_long c.args.rules.now.entries.now c.args.number c.len.result c.args.window.now c.index-rules-number.result c.requires.number c.index-rules-number.is c.len.ensures.value c.if-len-window.false) (omega (arith, c.tick.ensures))
+
+pub returns-then-not-is_settled-clause-cost : goal.returns-then-not-is_settled-clause-cost
+returns-then-not-is_settled-clause-cost g c = counted _ _ c.args.steps.now c.tick.new.self (as_long c.args.rules.now.entries.now c.args.number c.len.result c.args.window.now c.index-rules-number.result c.requires.number c.index-rules-number.is c.len.ensures.value c.if-len-window.false) (omega (arith, c.tick.ensures))
+
+pub returns-in_err-moved_layout-clause-cost : goal.returns-in_err-moved_layout-clause-cost
+returns-in_err-moved_layout-clause-cost g c = counted _ _ c.args.steps.now c.tick.new.self (as_long c.args.rules.now.entries.now c.args.number c.len.result c.args.window.now c.index-rules-number.result c.requires.number c.index-rules-number.is c.len.ensures.value c.if-len-window.false) (omega (arith, c.tick.ensures))
+
+pub returns-in-None-2-clause-cost : goal.returns-in-None-2-clause-cost
+returns-in-None-2-clause-cost g c = counted _ _ c.args.steps.now c.tick.new.self (as_long c.args.rules.now.entries.now c.args.number c.len.result c.args.window.now c.index-rules-number.result c.requires.number c.index-rules-number.is c.len.ensures.value c.if-len-window.false) (omega (arith, c.tick.ensures))
+
+pub returns-clause-cost : goal.returns-clause-cost
+returns-clause-cost g c = counted _ _ c.args.steps.now c.tick.new.self (as_long c.args.rules.now.entries.now c.args.number c.len.result c.args.window.now c.index-rules-number.result c.requires.number c.index-rules-number.is c.len.ensures.value c.if-len-window.false) (omega (arith, c.tick.ensures))
+
+pub returns-clause-long : goal.returns-clause-long
+returns-clause-long g c = (as_long c.args.rules.now.entries.now c.args.number c.len.result c.args.window.now c.index-rules-number.result c.requires.number c.index-rules-number.is c.len.ensures.value c.if-len-window.false)

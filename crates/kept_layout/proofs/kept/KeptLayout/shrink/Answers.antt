@@ -1,33 +1,35 @@
-use Rattle.std.proofs.Common.{◌≡◌, ◌+◌, suc, length, Some, refl, ap, sym, ◌∙◌, arith}
+use Rattle.std.proofs.Common.{◌≡◌, ◌+◌, ◌<◌, ℕ, List, suc, length, map, slice_index_or, Some, refl, ap, sym, ◌∙◌, arith}
 use Rattle.std.specs.Prelude.{slice_get}
 use Rattle.std.proofs.lemmas.Option.{slice_get_read}
 use Rattle.kept_layout.specs.declared.kept.KeptLayout.{KeptLayout}
-use Rattle.kept_layout.specs.Stretches.{shape_of}
+use Rattle.kept_layout.specs.declared.stretch.Stretch.{Stretch}
+use Rattle.kept_layout.specs.Stretches.{shape_of, shapes_of}
 use Rattle.kept_layout.specs.Moves.{unplaced}
 use Rattle.kept_layout.proofs.ShrinkingNotes.{after_shrinking, laid_after, map_length, noted_shape, shapes_after, HasShrunk}
 use Rattle.kept_layout.proofs.kept.KeptLayout.shrink.Goals as goal
 
+-- the stretch that it stands at, once all are noted
+here_read : (k l : KeptLayout) (s : Stretch) → l ≡ record k { stretches = l.stretches } → map unplaced l.stretches.items ≡ map unplaced k.stretches.items → k.here < length k.stretches.items → s ≡ slice_index_or l.stretches.items l.here s
+    → slice_get l.stretches.items l.here ≡ Some s
+here_read k l s fields same within is =
+    let here : l.here ≡ k.here = ap (λ (x : KeptLayout). x.here) fields in
+    let len = map_length unplaced l.stretches.items k.stretches.items same in
+    slice_get_read l.stretches.items (length l.stretches.items) l.here s refl (omega arith) is
+
+-- it has the shape that it had
+here_shape : (k l : KeptLayout) (s : Stretch) → l ≡ record k { stretches = l.stretches } → map unplaced l.stretches.items ≡ map unplaced k.stretches.items → k.here < length k.stretches.items → s ≡ slice_index_or l.stretches.items l.here s
+    → slice_get (shapes_of k.stretches.items) k.here ≡ Some (shape_of s)
+here_shape k l s fields same within is = noted_shape k l.stretches.items k.here s same (ap (slice_get l.stretches.items) (sym (ap (λ (x : KeptLayout). x.here) fields)) ∙ here_read k l s fields same within is)
+
 pub take_from-requires-clause-bytes : goal.take_from-requires-clause-bytes
 take_from-requires-clause-bytes c =
-    let k = c.args.self.now in
-    let l = c.note_all.new.self in
     let s = c.index_mut.result.now in
-    let here : l.here ≡ k.here = ap (λ (x : KeptLayout). x.here) c.in_ok-note_all.ensures.fields in
-    let len = map_length unplaced l.stretches.items k.stretches.items c.in_ok-note_all.ensures.same in
-    let within = c.requires.laid.here in
-    let is : slice_get l.stretches.items l.here ≡ Some s = slice_get_read l.stretches.items (length l.stretches.items) l.here s refl (omega arith) c.index_mut.ensures.value in
-    c.requires.few (shape_of s) (noted_shape k l.stretches.items k.here s c.in_ok-note_all.ensures.same (ap (slice_get l.stretches.items) (sym here) ∙ is))
+    c.requires.few (shape_of s) (here_shape c.args.self.now c.note_all.new.self s c.in_ok-note_all.ensures.fields c.in_ok-note_all.ensures.same c.requires.laid.here c.index_mut.ensures.value)
 
 pub take_from-requires-clause-places : goal.take_from-requires-clause-places
 take_from-requires-clause-places c =
-    let k = c.args.self.now in
-    let l = c.note_all.new.self in
     let s = c.index_mut.result.now in
-    let here : l.here ≡ k.here = ap (λ (x : KeptLayout). x.here) c.in_ok-note_all.ensures.fields in
-    let len = map_length unplaced l.stretches.items k.stretches.items c.in_ok-note_all.ensures.same in
-    let within = c.requires.laid.here in
-    let is : slice_get l.stretches.items l.here ≡ Some s = slice_get_read l.stretches.items (length l.stretches.items) l.here s refl (omega arith) c.index_mut.ensures.value in
-    c.requires.some (shape_of s) (noted_shape k l.stretches.items k.here s c.in_ok-note_all.ensures.same (ap (slice_get l.stretches.items) (sym here) ∙ is))
+    c.requires.some (shape_of s) (here_shape c.args.self.now c.note_all.new.self s c.in_ok-note_all.ensures.fields c.in_ok-note_all.ensures.same c.requires.laid.here c.index_mut.ensures.value)
 
 pub returns-clause-laid : goal.returns-clause-laid
 returns-clause-laid c =
@@ -35,10 +37,7 @@ returns-clause-laid c =
     let l = c.note_all.new.self in
     let s = c.index_mut.result.now in
     let m = c.args.moved.now in
-    let here : l.here ≡ k.here = ap (λ (x : KeptLayout). x.here) c.in_ok-note_all.ensures.fields in
-    let len = map_length unplaced l.stretches.items k.stretches.items c.in_ok-note_all.ensures.same in
-    let within = c.requires.laid.here in
-    let is : slice_get l.stretches.items l.here ≡ Some s = slice_get_read l.stretches.items (length l.stretches.items) l.here s refl (omega arith) c.index_mut.ensures.value in
+    let is = here_read k l s c.in_ok-note_all.ensures.fields c.in_ok-note_all.ensures.same c.requires.laid.here c.index_mut.ensures.value in
     let shrunk : HasShrunk k l m.at.items c.args.bytes c.args.gone s c.take_from.new.stretch = record { fields = c.in_ok-note_all.ensures.fields; noted = record { same = c.in_ok-note_all.ensures.same; notes = c.in_ok-note_all.ensures.notes }; is = is; less = c.take_from.ensures } in
     let border : l.here + 1 + c.len.result ≡ suc l.here + length m.at.items = omega arith in
     laid_after k m.at.items m.by c.args.bytes c.args.gone l.stretches.items _ c.requires.laid c.requires.moved c.requires.reach (after_shrinking k l m.at.items m.by c.args.bytes c.args.gone s c.take_from.new.stretch _ shrunk refl refl refl refl border refl refl)
@@ -48,10 +47,7 @@ returns-clause-shapes c =
     let k = c.args.self.now in
     let l = c.note_all.new.self in
     let s = c.index_mut.result.now in
-    let m = c.args.moved.now in
-    let here : l.here ≡ k.here = ap (λ (x : KeptLayout). x.here) c.in_ok-note_all.ensures.fields in
-    let len = map_length unplaced l.stretches.items k.stretches.items c.in_ok-note_all.ensures.same in
-    let within = c.requires.laid.here in
-    let is : slice_get l.stretches.items l.here ≡ Some s = slice_get_read l.stretches.items (length l.stretches.items) l.here s refl (omega arith) c.index_mut.ensures.value in
-    let shrunk : HasShrunk k l m.at.items c.args.bytes c.args.gone s c.take_from.new.stretch = record { fields = c.in_ok-note_all.ensures.fields; noted = record { same = c.in_ok-note_all.ensures.same; notes = c.in_ok-note_all.ensures.notes }; is = is; less = c.take_from.ensures } in
-    shapes_after k l m.at.items c.args.bytes c.args.gone s c.take_from.new.stretch shrunk
+    let is = here_read k l s c.in_ok-note_all.ensures.fields c.in_ok-note_all.ensures.same c.requires.laid.here c.index_mut.ensures.value in
+    let shrunk : HasShrunk k l c.args.moved.now.at.items c.args.bytes c.args.gone s c.take_from.new.stretch =
+    record { fields = c.in_ok-note_all.ensures.fields; noted = record { same = c.in_ok-note_all.ensures.same; notes = c.in_ok-note_all.ensures.notes }; is = is; less = c.take_from.ensures } in
+    shapes_after k l c.args.moved.now.at.items c.args.bytes c.args.gone s c.take_from.new.stretch shrunk
