@@ -36,11 +36,10 @@ fn bytes_gone(window: &[Instr], new: &[Instr]) -> u32
 }
 
 impl KeptLayout {
-    ghost use Rattle.std.specs.Prelude.{◌≡◌, ◌<◌, ◌≤◌, ◌↔◌, true, is_some, length, List, IfOk, IfSome, OnOk};
+    ghost use Rattle.std.specs.Prelude.{◌≡◌, ◌<◌, ◌≤◌, ◌↔◌, true, is_some, length, IfOk, IfSome, OnOk};
     ghost use Rattle.std.specs.List.{list_all};
     ghost use Rattle.thumb_instr.specs.Window.{is_in_window};
     ghost use Rattle.thumb_model.specs.Layout.{Layable};
-    ghost use Rattle.thumb_model.specs.Listing.{Line as Listed};
     ghost use Rattle.thumb_model.specs.Rewritten.{replaced_lines};
     ghost use Rattle.listing_parser.specs.Replacing.{own_line};
     ghost use Rattle.line_cursor.specs.Cursors.{lines_at, place_at};

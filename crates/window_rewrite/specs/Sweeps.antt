@@ -20,6 +20,8 @@ use Rattle.kept_layout.specs.Kept.{Lays, IsNear}
 use Rattle.kept_layout.specs.Moves.{IsMoved}
 use Rattle.kept_layout.specs.declared.shrinking.Move.{Move}
 use Rattle.line_cursor.specs.declared.cursor.Cursor.{Cursor}
+use Rattle.listing_parser.specs.declared.line.Line.{Line as Lines}
+use Rattle.line_cursor.specs.Lines.{begins_op, lines_in}
 use Rattle.line_cursor.specs.Cursors.{IsCursor, lines_at, place_at, spots_at, sets_of, flows_of}
 use Rattle.window_rewrite.specs.declared.choice.Replacement.{Replacement as Made}
 use Rattle.window_rewrite.specs.declared.finding.Rules.{Rules}
@@ -49,6 +51,10 @@ pub record AreGrowing (c : Cursor) (window new : List Instr) (sets : List NewSet
 -- what was live after the place by what one cursor keeps is so by what the other keeps
 abbrev pub LosesNone : Cursor → Cursor → ℕ → Type 0
 LosesNone old now q = (x : ℕ) → has (set_at (sets_of (spots_at old)).after q) x ≡ true → has (set_at (sets_of (spots_at now)).after q) x ≡ true
+
+-- an instruction stands right behind the cursor
+abbrev pub StandsAtOp : Cursor → Type 0
+StandsAtOp c = (0 < length c.lines.ahead) × ((rest : List Lines) (x : Lines) → c.lines.ahead ≡ rest ++ x ∷ [] → begins_op (lines_in x) ≡ true)
 
 -- the cursor stands where it stood, in the same lines, and what is kept of live items only grew
 pub record IsGrown (old now : Cursor) : Type 0 where

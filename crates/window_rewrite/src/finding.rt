@@ -9,7 +9,7 @@ ghost use Rattle.thumb_model.specs.Rewritten.{NoneApplies, left_length, replaced
 ghost use Rattle.listing_parser.specs.Replacing.{own_line};
 ghost use Rattle.listing_parser.specs.declared.line.Line.{Line as Lines};
 ghost use Rattle.line_cursor.specs.Lines.{begins_op, lines_in};
-ghost use Rattle.line_cursor.specs.Cursors.{lines_at, place_at, IsCursor};
+ghost use Rattle.line_cursor.specs.Cursors.{lines_at, place_at};
 ghost use Rattle.std.specs.List.{list_all};
 ghost use Rattle.thumb_instr.specs.Window.{is_in_window};
 ghost use Rattle.window_runs.specs.Windows.{IsWindow};
@@ -17,7 +17,7 @@ ghost use Rattle.window_harvest.specs.Harvest.{spot_of, StandsThere};
 ghost use Rattle.window_rewrite.specs.Fitting.{Shortens};
 ghost use Rattle.window_rewrite.specs.Rules.{rules_in};
 ghost use Rattle.window_rewrite.specs.Choices.{setting_of, choice_of, of_length, AreReady, Awaits, IsBest, IsChoice, IsFirstChoice, IsLowest, Meets, NoneAt, NoneBefore, NoneOf};
-ghost use Rattle.window_rewrite.specs.Sweeps.{is_steady, IsOver, Moves};
+ghost use Rattle.window_rewrite.specs.Sweeps.{is_steady, IsOver, Moves, StandsAtOp};
 
 use crate::choice::{Choice, Found, Replacement};
 use crate::fitting::fitting;
@@ -98,8 +98,7 @@ fn try_entry<L: Ledger>(
 ) -> Result<Option<Choice>, Memory>
     requires ready { AreReady rules.now }
     requires over { IsOver rules.now ground.now cursor.now }
-    requires some { 0 < length cursor.now.lines.ahead }
-    requires first { (rest : List Lines) (x : Lines) → cursor.now.lines.ahead ≡ rest ++ x ∷ [] → begins_op (lines_in x) ≡ true }
+    requires op { StandsAtOp cursor.now }
     requires stands { StandsThere (lines_at cursor.now) (spot_of (place_at cursor.now) (length window.now)) window.now live.bits }
     requires number { number < length rules.now.entries.now }
     ensures long { IfOk result (λ o. OnSome o (left_length (rules_in rules.now.entries.now) number ≡ length window.now)) }
@@ -179,8 +178,7 @@ fn lowest<L: Ledger>(
 ) -> Result<Option<Choice>, Memory>
     requires ready { AreReady rules.now }
     requires over { IsOver rules.now ground.now cursor.now }
-    requires some { 0 < length cursor.now.lines.ahead }
-    requires first { (rest : List Lines) (x : Lines) → cursor.now.lines.ahead ≡ rest ++ x ∷ [] → begins_op (lines_in x) ≡ true }
+    requires op { StandsAtOp cursor.now }
     requires stands { StandsThere (lines_at cursor.now) (spot_of (place_at cursor.now) (length window.now)) window.now live.bits }
     ensures some { IfOk result (λ o. IfSome o (IsLowest (setting_of rules.now) (lines_at cursor.now) (place_at cursor.now) (length window.now))) }
     ensures moved { IfOk result (λ o. IfSome o (λ c. Moves ground.now c.window c.new c.moved)) }
@@ -211,8 +209,7 @@ fn best_here<L: Ledger>(
 ) -> Result<Option<Choice>, Memory>
     requires ready { AreReady rules.now }
     requires over { IsOver rules.now ground.now cursor.now }
-    requires some { 0 < length cursor.now.lines.ahead }
-    requires first { (rest : List Lines) (x : Lines) → cursor.now.lines.ahead ≡ rest ++ x ∷ [] → begins_op (lines_in x) ≡ true }
+    requires op { StandsAtOp cursor.now }
     ensures some { IfOk result (λ o. IfSome o (IsBest (setting_of rules.now) (lines_at cursor.now) (place_at cursor.now))) }
     ensures moved { IfOk result (λ o. IfSome o (λ c. Moves ground.now c.window c.new c.moved)) }
     ensures none { IfOk result (λ o. IfNone o (NoneAt refused.new (setting_of rules.now) (lines_at cursor.now) (place_at cursor.now))) }
@@ -253,7 +250,7 @@ fn best<L: Ledger>(
     requires over { IsOver rules.now ground.now cursor.now }
     ensures some { IfOk result (λ o. IfSome o (IsBest (setting_of rules.now) (lines_at cursor.now) (place_at cursor.now))) }
     ensures moved { IfOk result (λ o. IfSome o (λ c. Moves ground.now c.window c.new c.moved)) }
-    ensures op { IfOk result (λ o. IfSome o (λ c. (0 < length cursor.now.lines.ahead) × ((rest : List Lines) (x : Lines) → cursor.now.lines.ahead ≡ rest ++ x ∷ [] → begins_op (lines_in x) ≡ true))) }
+    ensures op { IfOk result (λ o. OnSome o (StandsAtOp cursor.now)) }
     ensures none { IfOk result (λ o. IfNone o ((rest : List Lines) (x : Lines) → cursor.now.lines.ahead ≡ rest ++ x ∷ [] → begins_op (lines_in x) ≡ true → NoneAt refused.new (setting_of rules.now) (lines_at cursor.now) (place_at cursor.now))) }
     ensures stays { OnOk result (refused.old ≡ true → refused.new ≡ true) }
     ensures cost { steps.new ≤ steps.old + length (rules_in rules.now.entries.now) }
@@ -290,7 +287,7 @@ pub(crate) fn next<L: Ledger>(
     ensures some { IfOk result (λ o. IfSome o (λ f. IsFirstChoice (setting_of rules.now) (lines_at cursor.new) f.choice)) }
     ensures here { IfOk result (λ o. IfSome o (λ f. (choice_of f.choice).place ≡ place_at cursor.new)) }
     ensures moved { IfOk result (λ o. IfSome o (λ f. Moves ground.new f.choice.window f.choice.new f.choice.moved)) }
-    ensures op { IfOk result (λ o. IfSome o (λ f. (0 < length cursor.new.lines.ahead) × ((rest : List Lines) (x : Lines) → cursor.new.lines.ahead ≡ rest ++ x ∷ [] → begins_op (lines_in x) ≡ true))) }
+    ensures op { IfOk result (λ o. OnSome o (StandsAtOp cursor.new)) }
     ensures clear { IfOk result (λ o. IfSome o (λ f. NoneBefore false (setting_of rules.now) (lines_at cursor.new) f.clear)) }
     ensures none { IfOk result (λ o. IfNone o (NoneApplies (setting_of rules.now) (lines_at cursor.new))) }
     ensures cost { steps.new ≤ steps.old + length (places_of (lines_at cursor.old)) * length (rules_in rules.now.entries.now) }

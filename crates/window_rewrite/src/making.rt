@@ -1,5 +1,5 @@
 //! A replacement made at a cursor, with what is kept of places.
-ghost use Rattle.std.specs.Prelude.{◌≡◌, ◌+◌, ◌-◌, ◌*◌, ◌<◌, ◌≤◌, ◌++◌, ◌∷◌, [], ℕ, List, length, map, slice_get, is_some, true, IfOk, IfSome, None, OnOk, OnSome, Some};
+ghost use Rattle.std.specs.Prelude.{◌≡◌, ◌+◌, ◌-◌, ◌*◌, ◌<◌, ◌≤◌, ℕ, length, map, slice_get, is_some, true, IfOk, IfSome, None, OnOk, OnSome, Some};
 ghost use Rattle.std.specs.Int.{from_bool};
 ghost use Rattle.std.specs.List.{list_all};
 ghost use Rattle.thumb_instr.specs.Window.{is_in_window};
@@ -11,11 +11,9 @@ ghost use Rattle.listing_parser.specs.TableWords.{DefineOnce};
 ghost use Rattle.liveness.specs.Kept.{FlowOf, KeepsAt, LeadsUp};
 ghost use Rattle.thumb_instr.specs.declared.instr.Instr.{Instr};
 ghost use Rattle.liveness.specs.declared.flowing.Flow.{Flow};
-ghost use Rattle.listing_parser.specs.declared.line.Line.{Line as Lines};
-ghost use Rattle.line_cursor.specs.Lines.{begins_op, lines_in};
 ghost use Rattle.line_cursor.specs.Cursors.{flows_of, lines_at, place_at, spots_at, IsCursor};
 ghost use Rattle.window_rewrite.specs.Rewriting.{visits};
-ghost use Rattle.window_rewrite.specs.Sweeps.{AreGrowing, AreKept, IsKept, LosesNone};
+ghost use Rattle.window_rewrite.specs.Sweeps.{AreGrowing, AreKept, IsKept, LosesNone, StandsAtOp};
 
 use crate::growing::grow;
 use arrayvec::ArrayVec;
@@ -77,8 +75,7 @@ fn kept_with_lead(
     ahead: &[Flow],
 ) -> Option<ArrayVec<NewSets, 37>>
     requires kept { IsKept cursor.now }
-    requires some { 0 < length cursor.now.lines.ahead }
-    requires first { (rest : List Lines) (x : Lines) → cursor.now.lines.ahead ≡ rest ++ x ∷ [] → begins_op (lines_in x) ≡ true }
+    requires op { StandsAtOp cursor.now }
     requires keeps { KeepsAt (code_of (lines_at cursor.now)) (place_at cursor.now) window.now new.now }
     requires ahead { (k : ℕ) (f : Flow) → slice_get ahead.now k ≡ Some f → slice_get (flows_of (spots_at cursor.now)) (place_at cursor.now + (length window.now + k)) ≡ Some f }
     ensures { IfSome result (λ s. AreKept cursor.now window.now new.now s.items) }
@@ -98,8 +95,7 @@ fn kept_with_lead(
 /// up to the window and of the new instructions, if all others stay then.
 fn kept(cursor: &Cursor, window: &[Instr], new: &[Instr]) -> Option<ArrayVec<NewSets, 37>>
     requires kept { IsKept cursor.now }
-    requires some { 0 < length cursor.now.lines.ahead }
-    requires first { (rest : List Lines) (x : Lines) → cursor.now.lines.ahead ≡ rest ++ x ∷ [] → begins_op (lines_in x) ≡ true }
+    requires op { StandsAtOp cursor.now }
     requires keeps { KeepsAt (code_of (lines_at cursor.now)) (place_at cursor.now) window.now new.now }
     ensures { IfSome result (λ s. AreKept cursor.now window.now new.now s.items) }
 {
@@ -124,8 +120,7 @@ fn put(
     sets: &[NewSets],
 ) -> Result<usize, Memory>
     requires kept { IsKept cursor.old }
-    requires some { 0 < length cursor.old.lines.ahead }
-    requires first { (rest : List Lines) (x : Lines) → cursor.old.lines.ahead ≡ rest ++ x ∷ [] → begins_op (lines_in x) ≡ true }
+    requires op { StandsAtOp cursor.old }
     requires keeps { KeepsAt (code_of (lines_at cursor.old)) (place_at cursor.old) window.now new.now }
     requires sets { AreKept cursor.old window.now new.now sets.now }
     ensures lines { OnOk result (lines_at cursor.new ≡ replaced_lines own_line (place_at cursor.old) (length window.now) new.now (lines_at cursor.old)) }
@@ -163,8 +158,7 @@ fn put_growing<L: Ledger>(
 ) -> Result<(), Memory>
     requires kept { IsKept cursor.old }
     requires once { DefineOnce (lines_at cursor.old) }
-    requires some { 0 < length cursor.old.lines.ahead }
-    requires first { (rest : List Lines) (x : Lines) → cursor.old.lines.ahead ≡ rest ++ x ∷ [] → begins_op (lines_in x) ≡ true }
+    requires op { StandsAtOp cursor.old }
     requires keeps { KeepsAt (code_of (lines_at cursor.old)) (place_at cursor.old) window.now new.now }
     requires sets { AreGrowing cursor.old window.now new.now sets.now }
     ensures lines { OnOk result (lines_at cursor.new ≡ replaced_lines own_line (place_at cursor.old) (length window.now) new.now (lines_at cursor.old)) }
@@ -199,8 +193,7 @@ fn put_blank(
     new: &[Instr],
 ) -> Result<(), Memory>
     requires is { IsCursor cursor.old }
-    requires some { 0 < length cursor.old.lines.ahead }
-    requires first { (rest : List Lines) (x : Lines) → cursor.old.lines.ahead ≡ rest ++ x ∷ [] → begins_op (lines_in x) ≡ true }
+    requires op { StandsAtOp cursor.old }
     requires few { length window.now ≤ 5 }
     requires keeps { KeepsAt (code_of (lines_at cursor.old)) (place_at cursor.old) window.now new.now }
     ensures lines { OnOk result (lines_at cursor.new ≡ replaced_lines own_line (place_at cursor.old) (length window.now) new.now (lines_at cursor.old)) }
@@ -220,8 +213,7 @@ pub(crate) fn make<L: Ledger>(
 ) -> Result<Option<usize>, Memory>
     requires kept { IsKept cursor.old }
     requires once { DefineOnce (lines_at cursor.old) }
-    requires some { 0 < length cursor.old.lines.ahead }
-    requires first { (rest : List Lines) (x : Lines) → cursor.old.lines.ahead ≡ rest ++ x ∷ [] → begins_op (lines_in x) ≡ true }
+    requires op { StandsAtOp cursor.old }
     requires few { length window.now ≤ 5 }
     requires keeps { KeepsAt (code_of (lines_at cursor.old)) (place_at cursor.old) window.now new.now }
     ensures lines { OnOk result (lines_at cursor.new ≡ replaced_lines own_line (place_at cursor.old) (length window.now) new.now (lines_at cursor.old)) }

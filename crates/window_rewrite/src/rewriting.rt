@@ -1,5 +1,5 @@
 //! Replacing until no entry applies.
-ghost use Rattle.std.specs.Prelude.{◌≡◌, ◌+◌, ◌≤◌, All, length, map, IfOk, MatchResult};
+ghost use Rattle.std.specs.Prelude.{◌+◌, ◌≤◌, All, length, map, IfOk, MatchResult};
 ghost use Rattle.rule_table.specs.Views.{table_of};
 ghost use Rattle.table_audit.specs.Soundness.{rules_of};
 ghost use Rattle.thumb_model.specs.Layout.{Layable};

@@ -1,11 +1,9 @@
 //! Sweeps over a listing.
-ghost use Rattle.std.specs.Prelude.{◌≡◌, ◌+◌, ◌*◌, ◌%◌, ◌<◌, ◌≤◌, ◌++◌, ◌∷◌, [], List, All, length, map, not, true, false, IfOk, OnOk};
+ghost use Rattle.std.specs.Prelude.{◌≡◌, ◌+◌, ◌*◌, ◌%◌, ◌<◌, ◌≤◌, List, All, length, map, not, true, false, IfOk, OnOk};
 ghost use Rattle.std.specs.Int.{from_bool};
 ghost use Rattle.thumb_model.specs.Layout.{Layable};
 ghost use Rattle.thumb_model.specs.Listing.{Line as Listed, code_of, places_of};
 ghost use Rattle.thumb_model.specs.Rewritten.{NoneApplies, lines_after};
-ghost use Rattle.listing_parser.specs.declared.line.Line.{Line as Lines};
-ghost use Rattle.line_cursor.specs.Lines.{begins_op, lines_in};
 ghost use Rattle.line_cursor.specs.Cursors.{flows_of, lines_at, place_at, sets_of, spots_at, IsCursor};
 ghost use Rattle.listing_parser.specs.Views.{line_view};
 ghost use Rattle.liveness.specs.Kept.{AreFlows};
@@ -14,7 +12,7 @@ ghost use Rattle.steady_layout.specs.Steady.{IsSteady};
 ghost use Rattle.window_rewrite.specs.Rewriting.{round_cost, visits, IsWhole};
 ghost use Rattle.window_rewrite.specs.Rules.{rules_in};
 ghost use Rattle.window_rewrite.specs.Choices.{setting_of, choice_of, AreReady, IsFirstChoice, NoneAcross, NoneBefore, NoneEnding};
-ghost use Rattle.window_rewrite.specs.Sweeps.{is_steady, AreOver, Completes, IsOver, IsSteadyIf, MayBeListed, Moves, StandsNear};
+ghost use Rattle.window_rewrite.specs.Sweeps.{is_steady, AreOver, Completes, IsOver, IsSteadyIf, MayBeListed, Moves, StandsAtOp, StandsNear};
 
 use crate::choice::{Found, Replacement};
 use crate::finding::{Rules, next};
@@ -89,8 +87,7 @@ fn turn<L: Ledger>(
     requires here { (choice_of found.now.choice).place ≡ place_at cursor.old }
     requires moved { Moves ground.old found.now.choice.window found.now.choice.new found.now.choice.moved }
     requires clear { NoneBefore false (setting_of rules.now) (lines_at cursor.old) found.now.clear }
-    requires some { 0 < length cursor.old.lines.ahead }
-    requires first { (rest : List Lines) (x : Lines) → cursor.old.lines.ahead ≡ rest ++ x ∷ [] → begins_op (lines_in x) ≡ true }
+    requires op { StandsAtOp cursor.old }
     ensures lines { OnOk result (lines_at cursor.new ≡ lines_after (setting_of rules.now) (choice_of found.now.choice) (lines_at cursor.old)) }
     ensures steady { OnOk result (is_steady ground.new ≡ is_steady ground.old) }
     ensures over { IfOk result (λ b. b ≡ true → IsOver rules.now ground.new cursor.new) }
