@@ -1,0 +1,98 @@
+#!/usr/bin/env python3
+"""Runs the gate from nothing, at the top of the repository, and writes what it took: for each crate the processor seconds of its proof, its tests and its
+must-fail edits, user's and system's together, as a table of docs/MEASURED.md.
+
+    bench/gate.py [--each]      --each: every edit's seconds too, the dearest first
+
+It runs `rt ci` from a folder of links to the toolchain, in which this script stands in the prover's place, runs the prover and notes what the process took with
+those that it started. The first edit of a crate is checked from nothing; where it has more, each further one is checked over what those before it left, and so
+is the crate itself, once, behind the last. The status is that of `rt ci`.
+"""
+import json
+import os
+import shutil
+import signal
+import subprocess
+import sys
+import tempfile
+import time
+
+LOG, REAL = "GATE_LOG", "GATE_PROVER"
+
+
+def prove():
+    """Runs the prover with the words given, and notes its time."""
+    child = subprocess.Popen([os.environ[REAL], *sys.argv[1:]])
+    for number in (signal.SIGTERM, signal.SIGINT):
+        signal.signal(number, lambda given, _: child.send_signal(given))
+    _, status, used = os.wait4(child.pid, 0)
+    words = sys.argv[1:]
+    if "--crate-name" in words:
+        note = {
+            "crate": words[words.index("--crate-name") + 1],
+            "part": "edits" if "/rt-edit-" in os.getcwd() else "tests" if "--test" in words else "proof",
+            "seconds": used.ru_utime + used.ru_stime,
+        }
+        with open(os.environ[LOG], "a", encoding="utf-8") as log:
+            log.write(json.dumps(note) + "\n")
+    if os.WIFSIGNALED(status):
+        signal.signal(os.WTERMSIG(status), signal.SIG_DFL)
+        os.kill(os.getpid(), os.WTERMSIG(status))
+    return os.WEXITSTATUS(status)
+
+
+def linked(kit, room):
+    """Lays the folder of links to the toolchain, and returns the path of its `rt`."""
+    os.mkdir(f"{room}/bin")
+    for name in os.listdir(kit):
+        if name != "bin":
+            os.symlink(f"{kit}/{name}", f"{room}/{name}")
+    for name in os.listdir(f"{kit}/bin"):
+        if name.startswith("rt"):
+            # (they look for the toolchain where they stand)
+            shutil.copy(f"{kit}/bin/{name}", f"{room}/bin/{name}")
+        elif name != "rattle":
+            os.symlink(f"{kit}/bin/{name}", f"{room}/bin/{name}")
+    shutil.copy(os.path.realpath(__file__), f"{room}/bin/rattle")
+    os.chmod(f"{room}/bin/rattle", 0o755)
+    return f"{room}/bin/rt"
+
+
+def edits_of(crate):
+    folder = f"crates/{crate}/must-fail"
+    return sorted(it for it in os.listdir(folder) if it.endswith(".edit")) if os.path.isdir(folder) else []
+
+
+def main():
+    kit = os.path.dirname(os.path.dirname(os.path.realpath(shutil.which("rt"))))
+    with tempfile.TemporaryDirectory(prefix="gate-") as room:
+        rt, log = linked(kit, room), f"{room}/log"
+        given = {**os.environ, LOG: log, REAL: f"{kit}/bin/rattle"}
+        anew = "--anew" in subprocess.run([rt, "help"], env=given, capture_output=True, text=True).stderr
+        begun = time.time()
+        ran = subprocess.run([rt, "ci", *["--anew"] * anew], env=given)
+        took = time.time() - begun
+        with open(log, encoding="utf-8") as it:
+            notes = [json.loads(line) for line in it]
+    parts, rows, each = ("proof", "tests", "edits"), {}, []
+    for note in notes:
+        row = rows.setdefault(note["crate"], {it: [] for it in parts})
+        row[note["part"]].append(note["seconds"])
+    print("\n| crate | proof | tests | edits | all |\n|---|---|---|---|---|")
+    total = [0.0] * 4
+    for crate, row in sorted(rows.items()):
+        sums = [sum(row[it]) for it in parts]
+        sums.append(sum(sums))
+        total = [x + y for x, y in zip(total, sums)]
+        print(f"| `{crate}` | " + " | ".join(f"{it:.0f}" for it in sums) + " |")
+        each += [(seconds, f"{crate}/{edit}") for edit, seconds in zip([*edits_of(crate), "the crate itself"], row["edits"])]
+    print("| all | " + " | ".join(f"{it:.0f}" for it in total) + " |")
+    with open(f"{kit}/KIT-ID", encoding="utf-8") as it:
+        print(f"\n{total[3] / 60:.0f} processor minutes, {took / 60:.0f} by the clock, {os.cpu_count()} processors, {it.read().strip()}")
+    if "--each" in sys.argv[1:]:
+        print("".join(f"{seconds:6.1f} {edit}\n" for seconds, edit in sorted(each, reverse=True)), end="")
+    return ran.returncode
+
+
+if __name__ == "__main__":
+    sys.exit(prove() if os.path.basename(sys.argv[0]) == "rattle" else main())
