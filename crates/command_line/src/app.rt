@@ -3,7 +3,7 @@
 ghost use Rattle.std.specs.Prelude.{◌≡◌, IfOk, false};
 ghost use Rattle.clap.specs.Words.{app_of, with_rule};
 ghost use Rattle.clap.specs.declared.builder.Command.TheViews.{out-Command as fields_of};
-ghost use Rattle.command_line.specs.App.{positional, option, app_for, peep_app};
+ghost use Rattle.command_line.specs.App.{positional, option, app_for, bare_app, peep_app};
 ghost use Rattle.command_line.specs.CommandLine.{rewrites, audits, learns, exports, traces, demos};
 
 use clap::{Arg, Command};
@@ -104,26 +104,27 @@ fn demo<'a>(alloc: Global) -> Result<Command<'a>, AllocError>
     with_word(alloc, command, "windows")
 }
 
-/// The program: a command is required, and there is no help.
-pub fn peep<'a>(alloc: Global) -> Result<Command<'a>, AllocError>
-    ensures { IfOk result (λ c. app_of c ≡ peep_app) }
+/// The program without its commands: one is required, and there is no help.
+fn bare<'a>(alloc: Global) -> Command<'a>
+    ensures { app_of result ≡ bare_app }
 {
-    let rewrite = rewrite(alloc)?;
-    let audit = audit(alloc)?;
-    let learn = learn(alloc)?;
-    let export = export(alloc)?;
-    let trace = trace(alloc)?;
-    let demo = demo(alloc)?;
-    let command = Command::new(alloc, "peep")
+    Command::new(alloc, "peep")
         .no_binary_name(true)
         .disable_help_flag(true)
         .disable_help_subcommand(true)
         .subcommand_required(true)
-        .subcommand(rewrite)?
-        .subcommand(audit)?
-        .subcommand(learn)?
-        .subcommand(export)?
-        .subcommand(trace)?
-        .subcommand(demo)?;
+}
+
+/// The program with its commands.
+pub fn peep<'a>(alloc: Global) -> Result<Command<'a>, AllocError>
+    ensures { IfOk result (λ c. app_of c ≡ peep_app) }
+{
+    let command = bare(alloc);
+    let command = command.subcommand(rewrite(alloc)?)?;
+    let command = command.subcommand(audit(alloc)?)?;
+    let command = command.subcommand(learn(alloc)?)?;
+    let command = command.subcommand(export(alloc)?)?;
+    let command = command.subcommand(trace(alloc)?)?;
+    let command = command.subcommand(demo(alloc)?)?;
     Ok(command)
 }
