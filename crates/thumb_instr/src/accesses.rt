@@ -135,22 +135,14 @@ fn two_uses(operation: Operation, target: Low, other: Low) -> Items
     let target = target.number as u8;
     let other = other.number as u8;
     match operation {
-        Operation::And => Items::of(&[target, other]),
-        Operation::Eor => Items::of(&[target, other]),
-        Operation::Lsl => Items::of(&[target, other, C]),
-        Operation::Lsr => Items::of(&[target, other, C]),
-        Operation::Asr => Items::of(&[target, other, C]),
-        Operation::Adc => Items::of(&[target, other, C]),
-        Operation::Sbc => Items::of(&[target, other, C]),
-        Operation::Ror => Items::of(&[target, other, C]),
-        Operation::Tst => Items::of(&[target, other]),
-        Operation::Rsb => Items::of(&[other]),
-        Operation::Cmp => Items::of(&[target, other]),
-        Operation::Cmn => Items::of(&[target, other]),
-        Operation::Orr => Items::of(&[target, other]),
-        Operation::Mul => Items::of(&[target, other]),
-        Operation::Bic => Items::of(&[target, other]),
-        Operation::Mvn => Items::of(&[other]),
+        Operation::Lsl
+        | Operation::Lsr
+        | Operation::Asr
+        | Operation::Adc
+        | Operation::Sbc
+        | Operation::Ror => Items::of(&[target, other, C]),
+        Operation::Rsb | Operation::Mvn => Items::of(&[other]),
+        _ => Items::of(&[target, other]),
     }
 }
 
@@ -160,22 +152,13 @@ fn two_writes(operation: Operation, target: Low) -> Items
 {
     let target = target.number as u8;
     match operation {
-        Operation::And => Items::of(&[target, N, Z]),
-        Operation::Eor => Items::of(&[target, N, Z]),
-        Operation::Lsl => Items::of(&[target, N, Z, C]),
-        Operation::Lsr => Items::of(&[target, N, Z, C]),
-        Operation::Asr => Items::of(&[target, N, Z, C]),
-        Operation::Adc => Items::of(&[target, N, Z, C, V]),
-        Operation::Sbc => Items::of(&[target, N, Z, C, V]),
-        Operation::Ror => Items::of(&[target, N, Z, C]),
+        Operation::Lsl | Operation::Lsr | Operation::Asr | Operation::Ror => {
+            Items::of(&[target, N, Z, C])
+        }
+        Operation::Adc | Operation::Sbc | Operation::Rsb => Items::of(&[target, N, Z, C, V]),
+        Operation::Cmp | Operation::Cmn => Items::of(&[N, Z, C, V]),
         Operation::Tst => Items::of(&[N, Z]),
-        Operation::Rsb => Items::of(&[target, N, Z, C, V]),
-        Operation::Cmp => Items::of(&[N, Z, C, V]),
-        Operation::Cmn => Items::of(&[N, Z, C, V]),
-        Operation::Orr => Items::of(&[target, N, Z]),
-        Operation::Mul => Items::of(&[target, N, Z]),
-        Operation::Bic => Items::of(&[target, N, Z]),
-        Operation::Mvn => Items::of(&[target, N, Z]),
+        _ => Items::of(&[target, N, Z]),
     }
 }
 

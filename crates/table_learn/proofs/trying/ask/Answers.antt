@@ -3,14 +3,14 @@ use Rattle.std.specs.Prelude.{ℤ}
 use Rattle.cnf_gates.specs.Cnf.{Cnf, AreClausesOf}
 use Rattle.cnf_gates.specs.Meaning.{assigned}
 use Rattle.clause_model.specs.Literals.{codes_of}
-use Rattle.cdcl_core.specs.Solved.{AreBelow}
+use Rattle.cdcl_core.specs.Solved.{AreBelow, VerdictOf}
 use Rattle.bit_blast.specs.Differences.{sides_formula}
 use Rattle.table_learn.proofs.Asking.{model_tells, state_words, refutes, spends, clauses_below}
 use Rattle.table_learn.proofs.trying.ask.Goals as goal
 
 pub returns-in-Sat-clause-answer : goal.returns-in-Sat-clause-answer
 returns-in-Sat-clause-answer g c =
-    let v = rw c.in-Sat.is at c.in_ok-model.ensures.verdict in
+    let v = subst (VerdictOf c.in_ok-formula.formula c.args.budget) c.in-Sat.is c.in_ok-model.ensures.verdict in
     let four : length c.state_of.result.r ≡ 4 = search rules in (
       model_tells c.in_ok-formula.formula c.args.window.now.left c.args.seq.now c.args.window.now.mask.items.bits c.args.window.now.k c.in-Sat.model c.state_of.result c.in_ok-formula.ensures.stated c.requires.left c.requires.right c.args.window.now.mask.in_masks c.requires.mask c.requires.few v c.state_of.ensures.items,
       record { four = four; words = state_words c.state_of.result _ four c.state_of.ensures.items (c.in_ok-formula.ensures.models_tell (assigned c.in-Sat.model) v).0; flags = c.state_of.ensures.flags },
@@ -18,13 +18,13 @@ returns-in-Sat-clause-answer g c =
 
 pub returns-in-Unsat-clause-answer : goal.returns-in-Unsat-clause-answer
 returns-in-Unsat-clause-answer g c =
-    let v = rw c.in-Unsat.is at c.in_ok-model.ensures.verdict in
+    let v = subst (VerdictOf c.in_ok-formula.formula c.args.budget) c.in-Unsat.is c.in_ok-model.ensures.verdict in
     let small : c.args.budget + length c.in_ok-formula.formula.clauses ≤ 4294967295 = omega (arith, c.clauses.ensures, c.from.ensures, c.from-2.ensures, c.if-clauses-from.false) in
     refutes c.args.budget c.in_ok-formula.formula _ c.in-Unsat.log c.in_ok-formula.ensures.stated small v
 
 pub returns-clause-answer : goal.returns-clause-answer
 returns-clause-answer g c =
-    let v = rw c.in-Spent.is at c.in_ok-model.ensures.verdict in
+    let v = subst (VerdictOf c.in_ok-formula.formula c.args.budget) c.in-Spent.is c.in_ok-model.ensures.verdict in
     let small : c.args.budget + length c.in_ok-formula.formula.clauses ≤ 4294967295 = omega (arith, c.clauses.ensures, c.from.ensures, c.from-2.ensures, c.if-clauses-from.false) in
     spends c.args.budget c.in_ok-formula.formula _ c.in-Spent.log c.in_ok-formula.ensures.stated small v
 

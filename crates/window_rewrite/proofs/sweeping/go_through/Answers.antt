@@ -1,17 +1,24 @@
-use Rattle.std.proofs.Common.{◌≡◌, ◌∙◌, ◌+◌, ◌*◌, ◌<◌, ◌≤◌, List, [], ◌∷◌, ◌++◌, All, length, sym, subst, ap, arith}
+use Rattle.std.proofs.Common.{◌≡◌, ◌∙◌, ◌+◌, ◌*◌, ◌<◌, ◌≤◌, List, [], ◌∷◌, ◌++◌, All, Option, Some, length, sym, subst, ap, arith}
+use Rattle.std.specs.Prelude.{IfSome}
 use Rattle.std.specs.Int.{from_bool}
 use Rattle.std.proofs.lemmas.List.Elements.{All-push}
 use Rattle.thumb_model.specs.Listing.{Line, places_of}
+use Rattle.thumb_model.specs.Rewritten.{Setting}
 use Rattle.thumb_model.proofs.LinesKept.{fewer_after}
 use Rattle.steady_layout.specs.Steady.{IsSteady}
 use Rattle.line_cursor.specs.Cursors.{lines_at}
 use Rattle.window_rewrite.specs.Rewriting.{round_cost, visits, IsWhole}
 use Rattle.window_rewrite.specs.Rules.{rules_in}
-use Rattle.window_rewrite.specs.Choices.{setting_of, choice_of}
+use Rattle.window_rewrite.specs.declared.choice.Found.{Found}
+use Rattle.window_rewrite.specs.Choices.{IsFirstChoice, setting_of, choice_of}
 use Rattle.window_rewrite.specs.Sweeps.{MayBeListed}
 use Rattle.window_rewrite.proofs.Rounds.{comes_on, last_tries, longer_by_one, some_more, turn_cost}
 use Rattle.window_rewrite.proofs.Turning.{may_be_listed, still_layable, still_steady}
 use Rattle.window_rewrite.proofs.sweeping.go_through.Goals as goal
+
+-- what was found is the first choice
+found_is : (s : Setting) (lines : List Line) (o : Option Found) (f : Found) → o ≡ Some f → IfSome o (λ f. IsFirstChoice s lines f.choice) → IsFirstChoice s lines f.choice
+found_is s lines o f is some = subst (λ (o : Option Found). IfSome o (λ f. IsFirstChoice s lines f.choice)) is some
 
 -- what is pushed is what was found
 pushed : {A : Type 0} (before after : List A) (x y : A) → after ≡ before ++ x ∷ [] → x ≡ y → after ≡ before ++ y ∷ []
@@ -19,24 +26,24 @@ pushed before after x y e is = e ∙ ap (λ z. before ++ z ∷ []) is
 
 pub returns-then-not-goes_on-clause-listed : goal.returns-then-not-goes_on-clause-listed
 returns-then-not-goes_on-clause-listed g c =
-    let choice = rw c.in-Some.is at c.in_ok-found.ensures.some in
+    let choice = found_is _ _ _ _ c.in-Some.is c.in_ok-found.ensures.some in
     subst MayBeListed (sym c.in_ok-goes_on.ensures.lines)
     (may_be_listed (lines_at c.next.new.cursor) (setting_of c.args.rules.now) (choice_of c.in-Some.found.choice) choice.first.applies c.in_ok-found.ensures.over.over.listed)
 
 pub returns-then-not-goes_on-clause-layable : goal.returns-then-not-goes_on-clause-layable
 returns-then-not-goes_on-clause-layable g c =
-    let choice = rw c.in-Some.is at c.in_ok-found.ensures.some in
+    let choice = found_is _ _ _ _ c.in-Some.is c.in_ok-found.ensures.some in
     still_layable (setting_of c.args.rules.now) (choice_of c.in-Some.found.choice) (lines_at c.next.new.cursor) (lines_at c.turn.new.cursor) choice.first.applies c.in_ok-goes_on.ensures.lines
 
 pub returns-then-not-goes_on-clause-steady : goal.returns-then-not-goes_on-clause-steady
 returns-then-not-goes_on-clause-steady g c = λ h.
-    let choice = rw c.in-Some.is at c.in_ok-found.ensures.some in
+    let choice = found_is _ _ _ _ c.in-Some.is c.in_ok-found.ensures.some in
     subst (IsSteady c.args.rules.now.base) (sym c.in_ok-goes_on.ensures.lines)
     (still_steady (setting_of c.args.rules.now) c.args.rules.now.longest (choice_of c.in-Some.found.choice) (lines_at c.next.new.cursor) c.requires.ready.fit choice.first.applies (c.in_ok-found.ensures.over.over.steady (c.in_ok-found.ensures.steady ∙ c.loop-found.invariant.steady ∙ h)))
 
 pub returns-then-not-goes_on-clause-fewer : goal.returns-then-not-goes_on-clause-fewer
 returns-then-not-goes_on-clause-fewer g c =
-    let choice = rw c.in-Some.is at c.in_ok-found.ensures.some in
+    let choice = found_is _ _ _ _ c.in-Some.is c.in_ok-found.ensures.some in
     let come = comes_on _ _ _ _ _ _ _ _ _ _ _ _ c.in-Some.found.choice.replacement c.loop-found.invariant.come c.in_ok-found.ensures.lines choice.first c.in_ok-goes_on.ensures.lines (pushed _ _ _ _ c.in_ok-push.ensures.items c.into_replacement.ensures) (turn_cost _ _ _ _ _ _ c.in_ok-goes_on.goes_on c.in_ok-found.ensures.lines c.in_ok-found.ensures.cost c.in_ok-goes_on.ensures.cost) in
     let more = some_more _ _ _ _ _ _ _ _ _ c.in-Some.found.choice.replacement c.loop-found.invariant.come (pushed _ _ _ _ c.in_ok-push.ensures.items c.into_replacement.ensures) in
     let fewer = come.fewer in
@@ -59,12 +66,12 @@ returns-clause-cost g c = last_tries _ _ _ _ _ _ _ _ _ c.loop-found.invariant.co
 
 pub returns-then-not-goes_on-clause-whole : goal.returns-then-not-goes_on-clause-whole
 returns-then-not-goes_on-clause-whole g c =
-    let choice = rw c.in-Some.is at c.in_ok-found.ensures.some in
+    let choice = found_is _ _ _ _ c.in-Some.is c.in_ok-found.ensures.some in
     subst (All IsWhole) (sym (pushed _ _ _ _ c.in_ok-push.ensures.items c.into_replacement.ensures)) (All-push IsWhole _ c.in-Some.found.choice.replacement c.loop-found.invariant.whole choice.is.whole)
 
 pub loop-found-smaller : goal.loop-found-smaller
 loop-found-smaller g c =
-    let choice = rw c.in-Some.is at c.in_ok-found.ensures.some in
+    let choice = found_is _ _ _ _ c.in-Some.is c.in_ok-found.ensures.some in
     let less = fewer_after (setting_of c.args.rules.now) (choice_of c.in-Some.found.choice) (lines_at c.next.new.cursor) choice.first.applies in
     let here = ap (λ (l : List Line). length (places_of l)) c.in_ok-found.ensures.lines in
     let there = ap (λ (l : List Line). length (places_of l)) c.in_ok-goes_on.ensures.lines in
@@ -73,7 +80,7 @@ loop-found-smaller g c =
 
 pub loop-found-preserved : goal.loop-found-preserved
 loop-found-preserved g c =
-    let choice = rw c.in-Some.is at c.in_ok-found.ensures.some in
+    let choice = found_is _ _ _ _ c.in-Some.is c.in_ok-found.ensures.some in
     record {
       steady = c.in_ok-goes_on.ensures.steady ∙ c.in_ok-found.ensures.steady ∙ c.loop-found.invariant.steady;
       over = c.in_ok-goes_on.ensures.over c.if-not-goes_on.false;

@@ -1,4 +1,5 @@
-use Rattle.std.proofs.Common.{◌≡◌, ◌∙◌, ◌+◌, ◌<◌, ℕ, arith, subst, sym}
+use Rattle.std.proofs.Common.{◌≡◌, ◌∙◌, ◌+◌, ◌<◌, ℕ, Option, arith, subst, sym}
+use Rattle.std.specs.Prelude.{IfSome, OnSome}
 use Rattle.thumb_model.specs.Rewritten.{Replacement, lines_after}
 use Rattle.line_cursor.specs.Cursors.{lines_at, place_at}
 use Rattle.window_rewrite.specs.declared.choice.Choice.{Choice}
@@ -14,14 +15,14 @@ make-requires-clause-keeps g c =
     c.as_slice-window.ensures.value c.as_slice-new.ensures.value
 
 pub go_back-requires-clause-is : goal.go_back-requires-clause-is
-go_back-requires-clause-is g c = let kept : IsKept c.make.new.cursor = rw c.in-Some.is at c.in_ok-make.ensures.kept in kept.is
+go_back-requires-clause-is g c = let kept = subst (λ (o : Option ℕ). OnSome o (IsKept c.make.new.cursor)) c.in-Some.is c.in_ok-make.ensures.kept in kept.is
 
 pub go_back-requires-clause-ending : goal.go_back-requires-clause-ending
 go_back-requires-clause-ending g c =
     let choice : Choice = c.args.found.now.choice in
     let o : Replacement = choice_of choice in
-    let kept : IsKept c.make.new.cursor = rw c.in-Some.is at c.in_ok-make.ensures.kept in
-    let same : (q : ℕ) → q + c.in-Some.lead < place_at c.args.cursor.now → LosesNone c.args.cursor.now c.make.new.cursor q = rw c.in-Some.is at c.in_ok-make.ensures.after in
+    let kept = subst (λ (o : Option ℕ). OnSome o (IsKept c.make.new.cursor)) c.in-Some.is c.in_ok-make.ensures.kept in
+    let same = subst (λ (o : Option ℕ). IfSome o (λ n. (q : ℕ) → q + n < place_at c.args.cursor.now → LosesNone c.args.cursor.now c.make.new.cursor q)) c.in-Some.is c.in_ok-make.ensures.after in
     let lines : lines_at c.make.new.cursor ≡ lines_after (setting_of c.args.rules.now) o (lines_at c.args.cursor.now) =
     leaves_here (setting_of c.args.rules.now) (lines_at c.args.cursor.now) (lines_at c.make.new.cursor) choice (place_at c.args.cursor.now) c.as_slice-window.result.now c.as_slice-new.result.now
     c.requires.choice.is c.requires.here c.as_slice-window.ensures.value c.as_slice-new.ensures.value c.in_ok-make.ensures.lines in
@@ -36,7 +37,7 @@ give_way-requires g c =
 pub returns-in_ok-go_back-in-Some-clause-over : goal.returns-in_ok-go_back-in-Some-clause-over
 returns-in_ok-go_back-in-Some-clause-over g c =
     let choice : Choice = c.args.found.now.choice in
-    let kept : IsKept c.make.new.cursor = rw c.in-Some.is at c.in_ok-make.ensures.kept in
+    let kept = subst (λ (o : Option ℕ). OnSome o (IsKept c.make.new.cursor)) c.in-Some.is c.in_ok-make.ensures.kept in
     let back = c.in_ok-go_back-in-Some.ensures in
     let layout = c.go_to.ensures.layout c.args.rules.now.base (lines_at c.make.new.cursor) (subst (HasLayout c.args.rules.now.base c.give_way.new.self) (sym c.in_ok-make.ensures.lines) (c.in_ok-give_way.ensures.layout c.args.rules.now.base c.requires.over.over.layout)) in
     let lines : lines_at c.make.new.cursor ≡ lines_after (setting_of c.args.rules.now) (choice_of choice) (lines_at c.args.cursor.now) =
