@@ -79,6 +79,3 @@ pub trait Sink {
         ensures puts { Puts (sunk self.old) (sunk self.new) bytes.now result }
         ensures grows { SinkGrows (sunk self.old) (sunk self.new) };
 }
-
-#[cfg(test)]
-mod tests;

@@ -1,11 +1,5 @@
-//! Tests of the crates that rewrite listings, make images and propagate, over their public names.
+//! Tests of propagation, over the public names of its crates.
 #![tactic(auto)]
 
 #[cfg(test)]
-mod images;
-#[cfg(test)]
 mod propagation;
-#[cfg(test)]
-mod rewrites;
-#[cfg(test)]
-mod steady;

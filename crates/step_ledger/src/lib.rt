@@ -115,38 +115,3 @@ impl<L: Ledger> Steps<L> {
         self.ledger.tick()
     }
 }
-
-#[cfg(test)]
-mod tests {
-    use super::*;
-    use std::marker::Brand;
-
-    fn tick_twice<L: Ledger>(ledger: L) -> Steps<L>
-        requires { L.count ledger ≡ 0 }
-        ensures { result ≡ 2 }
-    {
-        let mut steps = Steps::new(ledger);
-        steps.tick();
-        steps.tick();
-        steps
-    }
-
-    fn tick_free<N: Name>(blank: Blank)
-        requires name { blank.name ≡ N.name }
-        requires parts { blank.parts ≡ N.parts }
-        requires some { 0 < blank.parts }
-    {
-        let _steps = tick_twice(Free::<N>::new(blank));
-    }
-
-    #[test]
-    fn counts(rt: HostRuntime) {
-        assert_eq!(rt; tick_twice(Counted::new()).ledger().count(), 2);
-    }
-
-    #[test]
-    fn holds_nothing(rt: HostRuntime) {
-        tick_free::<Brand>(Blank::new(1));
-        assert_eq!(rt; size_of::<Free<Brand>>(), 0);
-    }
-}

@@ -1,0 +1,84 @@
+//! Runs of images.
+use ascii_scan::number;
+use std::alloc::{AllocError, Global};
+use thumb_assembler::ImageMachine;
+use thumb_machine::{Answer, Answers, Bytes, Event, Stage, State};
+
+/// Zeros, sp 0x20001000 and lr 0xffffffff.
+fn start(alloc: Global) -> State {
+    State {
+        r: [0; 13],
+        sp: 0x2000_1000,
+        lr: 0xffff_ffff,
+        nzcv: 0,
+        bytes: Bytes::new(Vec::new(alloc)),
+        place: 0,
+    }
+}
+
+/// Answers of these words, without flags and bytes.
+fn answers(alloc: Global, words: &[String]) -> Option<Answers> {
+    let mut list = Vec::new(alloc);
+    for word in words {
+        let answer = Answer {
+            words: [number(word.as_bytes())?; 6],
+            nzcv: 0,
+            bytes: Bytes::new(Vec::new(alloc)),
+        };
+        list.push(answer).ok()?;
+    }
+    Some(Answers::new(list))
+}
+
+/// The word for a stage.
+fn stage_word(stage: Stage) -> &'static str {
+    match stage {
+        Stage::Going => "going",
+        Stage::Left => "left",
+        Stage::Fault => "fault",
+        Stage::Astray => "astray",
+        Stage::Fell => "fell",
+        Stage::Wants => "wants",
+    }
+}
+
+/// The word for an event.
+fn event_word(event: &Event) -> &'static str {
+    match event {
+        Event::Load { .. } => " load",
+        Event::Store { .. } => " store",
+        Event::Call { .. } => " call",
+        Event::Sys { .. } => " sys",
+        Event::Left { .. } => " left",
+        Event::Fault { .. } => " fault",
+        Event::Astray { .. } => " astray",
+        Event::Fell => " fell",
+    }
+}
+
+/// The stage of a run, and its events.
+fn told(alloc: Global, stage: Stage, events: &[Event]) -> Result<Vec<u8>, AllocError> {
+    let mut out = stage_word(stage).as_bytes().to_vec(alloc)?;
+    out.push(b':')?;
+    for event in events {
+        out.extend_from_slice(event_word(event).as_bytes())?;
+    }
+    out.push(b'\n')?;
+    Ok(out)
+}
+
+/// The last stage and the events of a run of an image.
+pub(crate) fn image(alloc: Global, words: &[String]) -> Option<Vec<u8>> {
+    let [digits, end, steps, given @ ..] = words else {
+        return None;
+    };
+    let bytes = hex::decode(alloc, digits.as_str()).ok()?;
+    let end = number(end.as_bytes())?;
+    let mut answers = answers(alloc, given)?;
+    let mut machine = ImageMachine::new(alloc, &bytes, 0, end, start(alloc), 0).ok()?;
+    let mut stage = Stage::Going;
+    for _ in 0..number(steps.as_bytes())? {
+        stage = machine.step(&mut answers).ok()?;
+    }
+    told(alloc, stage, machine.events()).ok()
+}

@@ -1,0 +1,84 @@
+//! Cases of listings and where they lie: `printed TEXT`, `refused TEXT`, `laid BASE TEXT` and `addresses BASE TEXT`.
+use crate::printing::Answer;
+use crate::reading::Arguments;
+use label_layout::{Kind, Layout, LayoutError, layout};
+use listing_parser::{Listing, ListingError, parse, print};
+use std::alloc::Global;
+
+/// The listing that a text is.
+pub(crate) fn listing_of(alloc: Global, arguments: Arguments<'_>) -> Option<Listing> {
+    let text = arguments.text(alloc)?;
+    parse(alloc, &text).ok()
+}
+
+/// The listing's text again.
+pub(crate) fn printed(alloc: Global, arguments: Arguments<'_>, answer: &mut Answer) -> Option<()> {
+    let listing = listing_of(alloc, arguments)?;
+    answer.bytes(&print(alloc, &listing).ok()?)
+}
+
+/// The line by which a text is no listing, and the number of the kind of refusal: `no` where it is one.
+pub(crate) fn refused(alloc: Global, arguments: Arguments<'_>, answer: &mut Answer) -> Option<()> {
+    let text = arguments.text(alloc)?;
+    match parse(alloc, &text) {
+        Ok(_) => answer.word("no"),
+        Err(ListingError::Line { number, kind }) => {
+            answer.number(i64::try_from(number).ok()?)?;
+            answer.number(i64::from(kind as u8))
+        }
+        Err(ListingError::Memory) => None,
+    }
+}
+
+fn add_kind(kind: Kind, answer: &mut Answer) -> Option<()> {
+    match kind {
+        Kind::Range(distance) => {
+            answer.word("range")?;
+            answer.number(distance)
+        }
+        Kind::Align(address) => {
+            answer.word("align")?;
+            answer.number(i64::try_from(address).ok()?)
+        }
+    }
+}
+
+/// Where a listing ends, or the line by which it can't be laid out, and why: `full` where the memory's region of code is.
+pub(crate) fn laid(alloc: Global, mut arguments: Arguments<'_>, answer: &mut Answer) -> Option<()> {
+    let base = arguments.hex()?;
+    let listing = listing_of(alloc, arguments)?;
+    match layout(alloc, &listing, base) {
+        Ok(laid) => answer.hex(laid.end()),
+        Err(LayoutError::Line { number, kind }) => {
+            answer.number(i64::try_from(number).ok()?)?;
+            add_kind(kind, answer)
+        }
+        Err(LayoutError::Memory) => answer.word("full"),
+    }
+}
+
+fn add_labels(laid: &Layout, names: &[Vec<u8>], answer: &mut Answer) -> Option<()> {
+    for name in names {
+        answer.bytes(name)?;
+        answer.hex(laid.find_label(name)?)?;
+    }
+    Some(())
+}
+
+/// The addresses of a listing's places, and the names of its labels with theirs.
+pub(crate) fn addresses(
+    alloc: Global,
+    mut arguments: Arguments<'_>,
+    answer: &mut Answer,
+) -> Option<()> {
+    let base = arguments.hex()?;
+    let listing = listing_of(alloc, arguments)?;
+    let laid = layout(alloc, &listing, base).ok()?;
+    for place in 0..listing.place_count() {
+        answer.hex(laid.address(place))?;
+    }
+    for line in listing.lines() {
+        add_labels(&laid, &line.names, answer)?;
+    }
+    Some(())
+}

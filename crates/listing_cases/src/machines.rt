@@ -1,0 +1,135 @@
+//! Cases of listings that run: `named BASE TEXT`, `fits NAMES RETURNS HIGH TEXT` and `run NAMES RETURNS HIGH ANSWERS STEPS TEXT`.
+use crate::listings::listing_of;
+use crate::printing::Answer as Sheet;
+use crate::reading::Arguments;
+use indexmap::IndexMap;
+use label_layout::layout;
+use std::alloc::Global;
+use thumb_machine::{Answer, Answers, Bytes, Event, Machine, Naming, Stage, State};
+
+/// Whether a listing fits the naming that it is laid out with from a base.
+pub(crate) fn named(alloc: Global, mut arguments: Arguments<'_>, sheet: &mut Sheet) -> Option<()> {
+    let base = arguments.hex()?;
+    let listing = listing_of(alloc, arguments)?;
+    let laid = layout(alloc, &listing, base).ok()?;
+    let naming = Naming::laid(alloc, &listing, &laid).ok()?;
+    sheet.bit(naming.fits(&listing))
+}
+
+/// The naming of words for names, as `f=1,g=5`, and for return points, as `7,9`, with a range of code from 0 to below an address.
+fn naming_of(alloc: Global, arguments: &mut Arguments<'_>) -> Option<Naming> {
+    let mut words = IndexMap::new(alloc);
+    for pair in arguments.word().split(',') {
+        let (name, word) = pair.split_once('=')?;
+        let name = name.as_bytes().to_vec(alloc).ok()?;
+        words
+            .insert(name, u32::from_str_radix(word, 16).ok()?)
+            .ok()?;
+    }
+    let returns = arguments.numbers(alloc)?;
+    Some(Naming::new(words, returns, 0, arguments.number()?))
+}
+
+/// Whether a listing fits a naming.
+pub(crate) fn fits(alloc: Global, mut arguments: Arguments<'_>, sheet: &mut Sheet) -> Option<()> {
+    let naming = naming_of(alloc, &mut arguments)?;
+    let listing = listing_of(alloc, arguments)?;
+    sheet.bit(naming.fits(&listing))
+}
+
+/// Answers of these words, each with one word in all registers and a byte.
+fn answers_of(alloc: Global, words: &[u32]) -> Option<Answers> {
+    let mut list = Vec::new(alloc);
+    for word in words {
+        let mut bytes = Vec::new(alloc);
+        bytes.push((0x2000_0000, 7)).ok()?;
+        list.push(Answer {
+            words: [*word; 6],
+            nzcv: 0,
+            bytes: Bytes::new(bytes),
+        })
+        .ok()?;
+    }
+    Some(Answers::new(list))
+}
+
+/// Zeros, sp 0x20001000 and lr 0xffffffff, at the place 0.
+fn start(alloc: Global) -> State {
+    State {
+        r: [0; 13],
+        sp: 0x2000_1000,
+        lr: 0xffff_ffff,
+        nzcv: 0,
+        bytes: Bytes::new(Vec::new(alloc)),
+        place: 0,
+    }
+}
+
+fn name_of(stage: Stage) -> &'static str {
+    match stage {
+        Stage::Going => "going",
+        Stage::Left => "left",
+        Stage::Fault => "fault",
+        Stage::Astray => "astray",
+        Stage::Fell => "fell",
+        Stage::Wants => "wants",
+    }
+}
+
+/// Adds a word and numbers.
+fn add_all(word: &str, numbers: &[u32], sheet: &mut Sheet) -> Option<()> {
+    sheet.word(word)?;
+    sheet.hexes(numbers)
+}
+
+fn add_event(event: &Event, sheet: &mut Sheet) -> Option<()> {
+    match event {
+        Event::Load { address, size } => add_all("load", &[*address, *size], sheet),
+        Event::Store {
+            address,
+            size,
+            value,
+        } => add_all("store", &[*address, *size, *value], sheet),
+        Event::Call { word, arguments } => {
+            add_all("call", &[*word], sheet)?;
+            sheet.hexes(arguments)
+        }
+        Event::Sys { code, values } => {
+            sheet.word("system")?;
+            sheet.number(i64::from(*code))?;
+            sheet.hexes(values.as_slice())
+        }
+        Event::Left { word, registers } => {
+            add_all("leave", &[*word], sheet)?;
+            sheet.hexes(registers)
+        }
+        Event::Fault { address } => add_all("fault", &[*address], sheet),
+        Event::Astray { word } => add_all("astray", &[*word], sheet),
+        Event::Fell => sheet.word("fell"),
+    }
+}
+
+/// Adds a step: what it came to, and the events that came.
+fn add_step(machine: &mut Machine, answers: &mut Answers, sheet: &mut Sheet) -> Option<()> {
+    let before = machine.events().len();
+    let stage = machine.step(answers).ok()?;
+    sheet.word(name_of(stage))?;
+    for event in machine.events().iter().skip(before) {
+        add_event(event, sheet)?;
+    }
+    sheet.end_line()
+}
+
+/// The steps of a run, a line each, and how many answers are left.
+pub(crate) fn run(alloc: Global, mut arguments: Arguments<'_>, sheet: &mut Sheet) -> Option<()> {
+    let naming = naming_of(alloc, &mut arguments)?;
+    let words = arguments.numbers(alloc)?;
+    let mut answers = answers_of(alloc, &words)?;
+    let steps = arguments.number()?;
+    let listing = listing_of(alloc, arguments)?;
+    let mut machine = Machine::new(alloc, &listing, &naming, &start(alloc)).ok()?;
+    for _ in 0..steps {
+        add_step(&mut machine, &mut answers, sheet)?;
+    }
+    sheet.number(i64::try_from(answers.left().len()).ok()?)
+}

@@ -1,0 +1,63 @@
+//! The arguments of cases.
+use crate::escapes::bytes_of;
+use std::alloc::Global;
+
+/// The arguments of a case that are yet to be read.
+#[derive(Clone, Copy)]
+pub(crate) struct Arguments<'a> {
+    rest: &'a str,
+}
+
+impl<'a> Arguments<'a> {
+    pub(crate) fn of(line: &'a str) -> Self {
+        Arguments { rest: line }
+    }
+
+    /// The next word: empty where none is left.
+    pub(crate) fn word(&mut self) -> &'a str {
+        let (word, rest) = self.rest.split_once(' ').unwrap_or((self.rest, ""));
+        self.rest = rest;
+        word
+    }
+
+    /// A hexadecimal number.
+    pub(crate) fn hex(&mut self) -> Option<u32> {
+        u32::from_str_radix(self.word(), 16).ok()
+    }
+
+    /// A hexadecimal number of 16 bits.
+    pub(crate) fn halfword(&mut self) -> Option<u16> {
+        u16::from_str_radix(self.word(), 16).ok()
+    }
+
+    /// A decimal number.
+    pub(crate) fn number(&mut self) -> Option<u32> {
+        self.word().parse().ok()
+    }
+
+    /// A decimal number from 0 to 255.
+    pub(crate) fn byte(&mut self) -> Option<u8> {
+        self.word().parse().ok()
+    }
+
+    /// `1` or `0`.
+    pub(crate) fn bit(&mut self) -> Option<bool> {
+        Some(self.byte()? == 1)
+    }
+
+    /// Decimal numbers that are parted by commas; `-` has none.
+    pub(crate) fn numbers(&mut self, alloc: Global) -> Option<Vec<u32>> {
+        let mut numbers = Vec::new(alloc);
+        for number in self.word().split(',') {
+            if number != "-" {
+                numbers.push(number.parse().ok()?).ok()?;
+            }
+        }
+        Some(numbers)
+    }
+
+    /// The text that goes on to the line's end.
+    pub(crate) fn text(self, alloc: Global) -> Option<Vec<u8>> {
+        bytes_of(alloc, self.rest)
+    }
+}
