@@ -1,0 +1,46 @@
+//! The learner, over a window that is given.
+ghost use Rattle.rule_table.specs.Views.{table_of};
+ghost use Rattle.rule_table.specs.Valid.{IsTable};
+
+use crate::Given;
+use crate::tables::read;
+use crate::texts::tell;
+use rule_table::{Table, write_table};
+use std::str;
+use step_ledger::{Counted, Steps};
+use table_audit::sides_fit;
+use table_learn::{LearnError, Settings, learn};
+
+/// What is learnt from the left side and the mask of a table's last entry, with the settings of its header.
+fn lesson(given: &Given, mut table: Table) -> Option<Result<Table, LearnError>>
+    requires { IsTable (table_of table) }
+{
+    let entry = table.entries.pop()?;
+    if !sides_fit(&table, &entry) {
+        return None;
+    }
+    let settings = Settings {
+        regs: table.regs,
+        left: table.left,
+        budget: table.budget,
+        seed: table.seed,
+        pool: table.pool,
+    };
+    let windows = vec![in given.alloc; (entry.left, entry.mask)].ok()?;
+    Some(learn(
+        given.alloc,
+        windows,
+        settings,
+        &mut Steps::new(Counted::new()),
+    ))
+}
+
+pub(crate) fn learnt(given: &mut Given, rest: &str, out: &mut String) -> Option<()> {
+    let lesson = lesson(given, read(given, rest)?)?;
+    if let Ok(table) = &lesson {
+        let written = write_table(given.alloc, table).ok()?;
+        let text = written.strip_suffix(b"end\n")?;
+        given.text = String::from_str(given.alloc, str::from_utf8(text).ok()?).ok()?;
+    }
+    tell(out, lesson)
+}
