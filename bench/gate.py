@@ -2,11 +2,11 @@
 """Runs the gate from nothing, at the top of the repository, and writes what it took: for each crate the processor seconds of its proof, its tests and its
 must-fail edits, user's and system's together, as a table of docs/MEASURED.md.
 
-    bench/gate.py [--each]      --each: every edit's seconds too, the dearest first
+    bench/gate.py [--each] [NAME..]      --each: every edit's seconds too, the dearest first; NAME..: these crates and those below them alone
 
 It runs `rt ci` from a folder of links to the toolchain, in which this script stands in the prover's place, runs the prover and notes what the process took with
-those that it started. The first edit of a crate is checked from nothing; where it has more, each further one is checked over what those before it left, and so
-is the crate itself, once, behind the last. The status is that of `rt ci`.
+those that it started. What the run keeps goes with that folder, so it spares the gate nothing. The first edit of a crate is checked from nothing; where it has
+more, each further one is checked over what those before it left, and so is the crate itself, once, behind the last. The status is that of `rt ci`.
 """
 import json
 import os
@@ -42,7 +42,7 @@ def prove():
 
 
 def linked(kit, room):
-    """Lays the folder of links to the toolchain, and returns the path of its `rt`."""
+    """Lays a folder of links to the toolchain, and returns the path of its `rt`."""
     os.mkdir(f"{room}/bin")
     for name in os.listdir(kit):
         if name != "bin":
@@ -65,12 +65,14 @@ def edits_of(crate):
 
 def main():
     kit = os.path.dirname(os.path.dirname(os.path.realpath(shutil.which("rt"))))
+    names = [it for it in sys.argv[1:] if it != "--each"]
     with tempfile.TemporaryDirectory(prefix="gate-") as room:
-        rt, log = linked(kit, room), f"{room}/log"
+        # (what a run passed is kept beside the toolchain's folder)
+        os.mkdir(f"{room}/kit")
+        rt, log = linked(kit, f"{room}/kit"), f"{room}/log"
         given = {**os.environ, LOG: log, REAL: f"{kit}/bin/rattle"}
-        anew = "--anew" in subprocess.run([rt, "help"], env=given, capture_output=True, text=True).stderr
         begun = time.time()
-        ran = subprocess.run([rt, "ci", *["--anew"] * anew], env=given)
+        ran = subprocess.run([rt, "ci", *names], env=given)
         took = time.time() - begun
         with open(log, encoding="utf-8") as it:
             notes = [json.loads(line) for line in it]
