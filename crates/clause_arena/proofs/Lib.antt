@@ -11,5 +11,4 @@ pub mod Steps
 pub mod Moves
 pub mod Watchers
 pub mod Copies
-pub mod Walks
 pub mod Followed

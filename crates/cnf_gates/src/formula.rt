@@ -82,25 +82,3 @@ impl Formula {
         self.clauses[(number - 1) as usize].as_slice()
     }
 }
-
-#[cfg(test)]
-mod tests {
-    use super::*;
-    use std::test::Fail;
-
-    // The four clauses over two variables, which no values satisfy.
-    #[test]
-    fn clauses_are_numbered_from_one(rt: HostRuntime) -> Result<(), Fail> {
-        let alloc = rt.alloc();
-        let mut formula = Formula::new(alloc, 2);
-        formula.push_clause(vec![in alloc; 1, 2]?)?;
-        formula.push_clause(vec![in alloc; -1, 2]?)?;
-        formula.push_clause(vec![in alloc; 1, -2]?)?;
-        formula.push_clause(vec![in alloc; -1, -2]?)?;
-        assert_eq!(rt; formula.variables(), 2);
-        assert_eq!(rt; formula.clauses(), 4);
-        assert_eq!(rt; formula.clause(1), [1, 2].as_slice());
-        assert_eq!(rt; formula.clause(4), [-1, -2].as_slice());
-        Ok(())
-    }
-}

@@ -1,5 +1,5 @@
-use Rattle.listing_tests.proofs.GaveWay.{found_gave_way, was_laid}
-use Rattle.listing_tests.proofs.layouts.outcome.Goals as goal
+use Rattle.call_tests.proofs.GaveWay.{found_gave_way, was_laid}
+use Rattle.call_tests.proofs.layouts.outcome.Goals as goal
 
 pub change-requires : goal.change-requires
 change-requires c =

@@ -20,7 +20,7 @@ use Rattle.window_runs.specs.Windows.{IsWindow}
 use Rattle.window_runs.proofs.Joined.{run_window}
 use Rattle.line_cursor.proofs.Settled.{IsGap, settled_stay}
 use Rattle.line_cursor.proofs.Nearer.{first_op, window_within}
-use Rattle.listing_tests.specs.Windows.{GaveWay}
+use Rattle.call_tests.specs.Windows.{GaveWay}
 
 -- a run of two in a listing's rows is a window
 pub run_of_two : (lines : List Line) (all rows : List Row) (place : ℕ) (is : List Instr)

@@ -1,7 +1,7 @@
 use Rattle.std.proofs.Common.{◌≡◌, ◌∙◌, ◌<◌, false, length, ap, arith, sym, subst}
 use Rattle.window_runs.specs.Rows.{rows_from}
-use Rattle.listing_tests.proofs.GaveWay.{run_of_two, window_ops, window_unlabelled, window_joined}
-use Rattle.listing_tests.proofs.windows.with_one.Goals as goal
+use Rattle.call_tests.proofs.GaveWay.{run_of_two, window_ops, window_unlabelled, window_joined}
+use Rattle.call_tests.proofs.windows.with_one.Goals as goal
 
 pub replaced-requires-clause-window : goal.replaced-requires-clause-window
 replaced-requires-clause-window c =

@@ -1,5 +1,5 @@
-use Rattle.listing_tests.proofs.GaveWay.{found_gave_way, was_live}
-use Rattle.listing_tests.proofs.live_items.outcome.Goals as goal
+use Rattle.call_tests.proofs.GaveWay.{found_gave_way, was_live}
+use Rattle.call_tests.proofs.live_items.outcome.Goals as goal
 
 pub change-requires : goal.change-requires
 change-requires c =

@@ -1,1 +1,2 @@
 pub mod GaveWay
+mod Walks

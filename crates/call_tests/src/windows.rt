@@ -2,7 +2,7 @@
 ghost use Rattle.std.specs.Prelude.{◌≡◌, true, IfOk, IfSome};
 ghost use Rattle.thumb_instr.specs.Window.{is_in_window};
 ghost use Rattle.listing_parser.specs.Replacing.{names_no_label};
-ghost use Rattle.listing_tests.specs.Windows.{GaveWay};
+ghost use Rattle.call_tests.specs.Windows.{GaveWay};
 
 use listing_parser::{Listing, Memory};
 use std::alloc::Global;

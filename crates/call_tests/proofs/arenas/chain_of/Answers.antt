@@ -1,8 +1,8 @@
 use Rattle.std.proofs.Common.{◌≡◌, ℕ, ◌+◌, ◌-◌, ◌<◌, List, [], ◌∷◌, ◌++◌, length, length-append, refl, sym, ◌∙◌, ap, arith, subst, Option, Some, None}
 use Rattle.std.proofs.lemmas.List.{append-nil}
 use Rattle.clause_arena.specs.Contents.{Content, IsBetween, chain_of}
-use Rattle.clause_arena.proofs.Walks.{Walks, started, ended, rest, stands, watches, walked, within}
-use Rattle.clause_arena.proofs.tests.chain_of.Goals as goal
+use Rattle.call_tests.proofs.Walks.{Walks, started, ended, rest, stands, watches, walked, within}
+use Rattle.call_tests.proofs.arenas.chain_of.Goals as goal
 
 pub loop-next-init : goal.loop-next-init
 loop-next-init c = (chain_of c.args.arena.now c.args.literal, subst (λ (xs : List (ℕ × ℕ)). Walks c.args.arena.now c.args.literal xs c.first_watch-next.result (chain_of c.args.arena.now c.args.literal)) (sym c.new-watches.ensures.items) (started c.args.arena.now c.args.literal c.first_watch-next.result c.requires c.first_watch-next.ensures.chain))

@@ -1,0 +1,15 @@
+//! Tests of calls that require facts of what they are given: sets and layouts brought up to date, windows to learn from, clauses and their watches.
+#![tactic(auto)]
+
+#[cfg(test)]
+mod arenas;
+#[cfg(test)]
+mod harvests;
+#[cfg(test)]
+mod layouts;
+#[cfg(test)]
+mod live_items;
+#[cfg(test)]
+mod propagation;
+#[cfg(test)]
+mod windows;

@@ -1,5 +1,0 @@
-//! Tests of propagation, over the public names of its crates.
-#![tactic(auto)]
-
-#[cfg(test)]
-mod propagation;
