@@ -29,6 +29,32 @@ take_crates() {
     done
 }
 
+# prove_clause NAME: writes what is to be written of the proof of a program's function `clause`, which reads the literals of a line.
+prove_clause() {
+    local folder=$work/crates/$1/proofs/clause
+    mkdir -p "$folder"
+    cat > "$folder/Invariants.antt" <<ANTT
+use Rattle.cnf_gates.specs.Cnf.{AreLiterals}
+use Rattle.$1.proofs.clause.Given as goal
+
+abbrev pub invariant-loop-word : goal.invariant-loop-word
+invariant-loop-word l = AreLiterals l.clause.items
+ANTT
+    cat > "$folder/Answers.antt" <<ANTT
+use Rattle.std.proofs.Common.{subst, List, ℤ, sym, ◌++◌, ◌∷◌, [], w32}
+use Rattle.std.proofs.lemmas.Int.{to_z-of_z}
+use Rattle.cnf_gates.specs.Cnf.{AreLiterals}
+use Rattle.cnf_gates.proofs.Literals.{AreLiteralsOf-push}
+use Rattle.$1.proofs.clause.Goals as goal
+
+pub loop-word-preserved-in-Continue-1 : goal.loop-word-preserved-in-Continue-1
+loop-word-preserved-in-Continue-1 c =
+    let z : ℤ = c.in-Some-literal.number in
+    let more : AreLiterals (c.loop-word.clause.items ++ z ∷ []) = AreLiteralsOf-push 200000 c.loop-word.clause.items z c.loop-word.invariant c.in-Some-literal.ensures.0 in
+    subst AreLiterals (sym c.in_ok-push.ensures.items) (rw (to_z-of_z w32 z c.in-Some-literal.ensures.1) more)
+ANTT
+}
+
 # build_proved NAME SOURCE DEP..: proves and builds a program over crates that were taken, and prints its path; or stops with the last lines of what rt said.
 # Definitions of its own are written to $work/crates/NAME/specs before.
 build_proved() {

@@ -10,13 +10,14 @@ import shutil
 import subprocess
 
 REPOSITORY = pathlib.Path(__file__).resolve().parent.parent
-CRATES = {
-    "cnf_gates": "indexmap thiserror",
-    "step_ledger": "",
-    "clause_model": "",
-    "lrat_check": "clause_model cnf_gates step_ledger itoa",
-    "lrat_files": "lrat_check cnf_gates step_ledger anyhow",
-}
+TAKEN = ("cnf_gates", "step_ledger", "clause_model", "lrat_check")
+
+
+def crates():
+    """The lines of crates.txt of the crates that are taken, and the program's."""
+    lines = (REPOSITORY / "crates.txt").read_text().splitlines()
+    return [line for line in lines if line.split(":")[0] in TAKEN] + ["lrat_files: lrat_check cnf_gates step_ledger anyhow"]
+
 
 MAIN = r"""//! Checks the lines of a file over the formula of another.
 #![tactic(auto)]
@@ -129,23 +130,20 @@ loop-word-preserved-in-Continue-1 c =
 def build(folder):
     """The program, built in a folder outside the repository."""
     folder = pathlib.Path(folder)
-    crates = folder / "crates"
-    crates.mkdir(parents=True, exist_ok=True)
-    for name in CRATES:
-        if name != "lrat_files":
-            shutil.copytree(
-                REPOSITORY / "crates" / name,
-                crates / name,
-                ignore=shutil.ignore_patterns("out"),
-                dirs_exist_ok=True,
-            )
-    program = crates / "lrat_files"
+    for name in TAKEN:
+        shutil.copytree(
+            REPOSITORY / "crates" / name,
+            folder / "crates" / name,
+            ignore=shutil.ignore_patterns("out"),
+            dirs_exist_ok=True,
+        )
+    program = folder / "crates" / "lrat_files"
     (program / "src").mkdir(parents=True, exist_ok=True)
     (program / "src" / "main.rt").write_text(MAIN)
     (program / "proofs" / "clause").mkdir(parents=True, exist_ok=True)
     (program / "proofs" / "clause" / "Invariants.antt").write_text(INVARIANTS)
     (program / "proofs" / "clause" / "Answers.antt").write_text(ANSWERS)
-    (folder / "crates.txt").write_text("".join(f"{name}: {uses}\n" for name, uses in CRATES.items()))
+    (folder / "crates.txt").write_text("".join(f"{line}\n" for line in crates()))
     work = folder / "work"
     work.mkdir(exist_ok=True)
     (work / "formula.cnf").write_text("p cnf 1 1\n1 0\n")

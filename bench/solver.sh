@@ -6,27 +6,8 @@
 . "$(dirname "$0")/common.sh"
 turns=${1:-5} folder=${2:-}
 take_crates cdcl_core
-mkdir -p "$work/crates/solver_times/proofs/clause" "$work/formulas" "$work/asked"
-cat > "$work/crates/solver_times/proofs/clause/Invariants.antt" <<'ANTT'
-use Rattle.cnf_gates.specs.Cnf.{AreLiterals}
-use Rattle.solver_times.proofs.clause.Given as goal
-
-abbrev pub invariant-loop-word : goal.invariant-loop-word
-invariant-loop-word l = AreLiterals l.clause.items
-ANTT
-cat > "$work/crates/solver_times/proofs/clause/Answers.antt" <<'ANTT'
-use Rattle.std.proofs.Common.{subst, List, ℤ, sym, ◌++◌, ◌∷◌, [], w32}
-use Rattle.std.proofs.lemmas.Int.{to_z-of_z}
-use Rattle.cnf_gates.specs.Cnf.{AreLiterals}
-use Rattle.cnf_gates.proofs.Literals.{AreLiteralsOf-push}
-use Rattle.solver_times.proofs.clause.Goals as goal
-
-pub loop-word-preserved-in-Continue-1 : goal.loop-word-preserved-in-Continue-1
-loop-word-preserved-in-Continue-1 c =
-    let z : ℤ = c.in-Some-literal.number in
-    let more : AreLiterals (c.loop-word.clause.items ++ z ∷ []) = AreLiteralsOf-push 200000 c.loop-word.clause.items z c.loop-word.invariant c.in-Some-literal.ensures.0 in
-    subst AreLiterals (sym c.in_ok-push.ensures.items) (rw (to_z-of_z w32 z c.in-Some-literal.ensures.1) more)
-ANTT
+mkdir -p "$work/formulas" "$work/asked"
+prove_clause solver_times
 proved=$(build_proved solver_times "$top/bench/solver/proved.rs" cdcl_core cnf_gates lrat_check step_ledger anyhow)
 plain=$(build_plain "$top/bench/solver/plain.rs")
 python3 "$top/bench/solver/formulas.py" "$work/formulas"

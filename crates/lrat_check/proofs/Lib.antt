@@ -5,7 +5,7 @@ pub mod Faulty
 pub mod Models
 pub mod Numerals
 pub mod Outcomes
+pub mod Reading
 pub mod Starts
 pub mod Texts
 pub mod Views
-pub mod Words

@@ -1,51 +1,49 @@
 -- What reading a part of a line says of the line.
-use Rattle.std.proofs.Common.{◌≡◌, ℕ, ℤ, List, [], ◌∷◌, ◌++◌, map, decimal, refl, sym, ◌∙◌, ap, subst, Option, Some, None, Result, Ok, Err}
+use Rattle.std.proofs.Common.{◌≡◌, ℕ, ℤ, List, [], ◌∷◌, ◌++◌, map, decimal, refl, sym, ◌∙◌, ap, subst, append_assoc, Option, Some, None, Result, Ok, Err}
 use Rattle.std.specs.Prelude.{All, MatchOption, IfOk}
 use Rattle.std.specs.Fmt.{signed_decimal}
 use Rattle.std.specs.List.{slice_split, join_with_byte}
 use Rattle.std.proofs.Math.Dec.{eqb}
+use Rattle.std.proofs.lemmas.List.{append-nil}
 use Rattle.std.proofs.lemmas.List.Splits.{join_with_byte-slice_split}
 use Rattle.lrat_check.specs.declared.line.Line.{Line}
-use Rattle.lrat_check.specs.Numbers.{IsId}
+use Rattle.lrat_check.specs.Numbers.{IsId, AllWithin}
 use Rattle.lrat_check.specs.Content.{Content, addition, deletion, content_of}
 use Rattle.lrat_check.specs.Text.{text_of, words_of, middle_of, id_of, literal_text, end_word, deletion_word, HasGoodParts, IsLine}
 use Rattle.lrat_check.specs.Reading.{IsLineWith}
-use Rattle.lrat_check.proofs.Texts.{split_unique, literals_not_end, addition_differs, split-text, All-middle, push_same, id_injective, ids_injective, hints_injective, literals_injective}
-
--- words with no `0` are those of no addition
-pub no_end : (words : List (List ℕ)) → All (λ w. w ≡ end_word → ⊥) words → (literals : List ℕ) (hints : List ℤ) → HasGoodParts (addition 0 literals hints) → middle_of (addition 0 literals hints) ≡ words → ⊥
-no_end words h literals hints g e =
-    All-middle (λ w. w ≡ end_word → ⊥) (map literal_text literals) end_word (map signed_decimal hints) (subst (All (λ w. w ≡ end_word → ⊥)) (sym e) h) refl
+use Rattle.lrat_check.proofs.Texts.{split_unique, literals_not_end, addition_differs, split-text, push_same, id_injective, ids_injective, hints_injective, literals_injective}
 
 module _ {E : Type 0} (id : ℕ) where
-  pub addition_outcome : (r : Result (Option Line) E) (words before after : List (List ℕ)) → All (λ w. w ≡ end_word → ⊥) before → words ≡ before ++ end_word ∷ after
-      → IfOk r (λ o. MatchOption o ((literals : List ℕ) (hints : List ℤ) → HasGoodParts (addition id literals hints) → map literal_text literals ≡ before → map signed_decimal hints ≡ after → ⊥) (IsLineWith id (before ++ end_word ∷ after)))
-      → IfOk r (λ o. MatchOption o ((literals : List ℕ) (hints : List ℤ) → HasGoodParts (addition id literals hints) → middle_of (addition id literals hints) ≡ words → ⊥) (IsLineWith id words))
-  addition_outcome (Ok None) words before after n w h = λ literals hints g e.
-      let s = split_unique end_word (map literal_text literals) before (map signed_decimal hints) after (literals_not_end literals g.0) n (e ∙ w) in
-      h literals hints g s.0 s.1
-  addition_outcome (Ok (Some line)) words before after n w h = subst (λ (ws : List (List ℕ)). IsLineWith id ws line) (sym w) h
-  addition_outcome (Err x) words before after n w h = tt
+  -- the literals are known, and the hints are read
+  pub addition_outcome : (r : Result (Option Line) E) (words left : List (List ℕ)) (literals : List ℕ) → AllWithin literals → words ≡ map literal_text literals ++ end_word ∷ left
+      → IfOk r (λ o. MatchOption o ((hints : List ℤ) → HasGoodParts (addition id literals hints) → map signed_decimal hints ++ end_word ∷ [] ≡ left → ⊥) (IsLineWith id (map literal_text literals ++ end_word ∷ left)))
+      → IfOk r (λ o. MatchOption o ((ls : List ℕ) (hints : List ℤ) → HasGoodParts (addition id ls hints) → middle_of (addition id ls hints) ++ end_word ∷ [] ≡ words → ⊥) (IsLineWith id words))
+  addition_outcome (Ok None) words left literals b w h = λ ls hints g e.
+      let s = split_unique end_word (map literal_text ls) (map literal_text literals) (map signed_decimal hints ++ end_word ∷ []) left (literals_not_end ls g.0) (literals_not_end literals b) (sym (append_assoc (map literal_text ls) (end_word ∷ map signed_decimal hints) (end_word ∷ [])) ∙ e ∙ w) in
+      let same : ls ≡ literals = literals_injective ls literals g.0 b s.0 in
+      h hints (subst (λ (xs : List ℕ). HasGoodParts (addition id xs hints)) same g) s.1
+  addition_outcome (Ok (Some line)) words left literals b w h = subst (λ (ws : List (List ℕ)). IsLineWith id ws line) (sym w) h
+  addition_outcome (Err x) words left literals b w h = tt
 
   pub deletion_outcome : (r : Result (Option Line) E) (words after : List (List ℕ)) → words ≡ deletion_word ∷ after
-      → IfOk r (λ o. MatchOption o ((ids : List ℕ) → All IsId ids → map decimal ids ≡ after → ⊥) (IsLineWith id (deletion_word ∷ after)))
-      → IfOk r (λ o. MatchOption o ((content : Content) → HasGoodParts content → middle_of content ≡ words → ⊥) (IsLineWith id words))
+      → IfOk r (λ o. MatchOption o ((ids : List ℕ) → All IsId ids → map decimal ids ++ end_word ∷ [] ≡ after → ⊥) (IsLineWith id (deletion_word ∷ after)))
+      → IfOk r (λ o. MatchOption o ((content : Content) → HasGoodParts content → middle_of content ++ end_word ∷ [] ≡ words → ⊥) (IsLineWith id words))
   deletion_outcome (Ok None) words after w h = λ content g e. other content g (e ∙ w)
     where
-      other : (content : Content) → HasGoodParts content → middle_of content ≡ deletion_word ∷ after → ⊥
-      other (addition n literals hints) g e = addition_differs n literals hints deletion_word after g e refl
-      other (deletion n ids) g e = let f : map decimal ids ≡ after = cc in h ids g f
+      other : (content : Content) → HasGoodParts content → middle_of content ++ end_word ∷ [] ≡ deletion_word ∷ after → ⊥
+      other (addition n literals hints) g e = addition_differs n literals hints deletion_word after (end_word ∷ []) g e refl
+      other (deletion n ids) g e = let f : map decimal ids ++ end_word ∷ [] ≡ after = cc in h ids g f
   deletion_outcome (Ok (Some line)) words after w h = subst (λ (ws : List (List ℕ)). IsLineWith id ws line) (sym w) h
   deletion_outcome (Err x) words after w h = tt
 
   pub other_outcome : (r : Result (Option Line) E) (words : List (List ℕ)) → ((after : List (List ℕ)) → words ≡ deletion_word ∷ after → ⊥)
-      → IfOk r (λ o. MatchOption o ((literals : List ℕ) (hints : List ℤ) → HasGoodParts (addition id literals hints) → middle_of (addition id literals hints) ≡ words → ⊥) (IsLineWith id words))
-      → IfOk r (λ o. MatchOption o ((content : Content) → HasGoodParts content → middle_of content ≡ words → ⊥) (IsLineWith id words))
+      → IfOk r (λ o. MatchOption o ((literals : List ℕ) (hints : List ℤ) → HasGoodParts (addition id literals hints) → middle_of (addition id literals hints) ++ end_word ∷ [] ≡ words → ⊥) (IsLineWith id words))
+      → IfOk r (λ o. MatchOption o ((content : Content) → HasGoodParts content → middle_of content ++ end_word ∷ [] ≡ words → ⊥) (IsLineWith id words))
   other_outcome (Ok None) words n h = λ content g e. other content g e
     where
-      other : (content : Content) → HasGoodParts content → middle_of content ≡ words → ⊥
+      other : (content : Content) → HasGoodParts content → middle_of content ++ end_word ∷ [] ≡ words → ⊥
       other (addition m literals hints) g e = h literals hints g e
-      other (deletion m ids) g e = n (map decimal ids) (sym e)
+      other (deletion m ids) g e = n (map decimal ids ++ end_word ∷ []) (sym e)
   other_outcome (Ok (Some line)) words n h = h
   other_outcome (Err x) words n h = tt
 
@@ -71,8 +69,8 @@ text_of-injective a b g h e =
         let y : literals ≡ ls = literals_injective literals ls g.0 h.0 s.0 in
         let z : hints ≡ hs = hints_injective hints hs g.2 h.2 s.1 in
         rw (x, y, z) refl
-    same (addition id literals hints) (deletion n ids) g h i m = absurd (addition_differs id literals hints deletion_word (map decimal ids) g m refl)
-    same (deletion id ids) (addition n ls hs) g h i m = absurd (addition_differs n ls hs deletion_word (map decimal ids) h (sym m) refl)
+    same (addition id literals hints) (deletion n ids) g h i m = absurd (addition_differs id literals hints deletion_word (map decimal ids) [] g (append-nil (middle_of (addition id literals hints)) ∙ m) refl)
+    same (deletion id ids) (addition n ls hs) g h i m = absurd (addition_differs n ls hs deletion_word (map decimal ids) [] h (append-nil (middle_of (addition n ls hs)) ∙ sym m) refl)
     same (deletion id ids) (deletion n js) g h i m =
         let x : id ≡ n = i in
         let f : map decimal ids ≡ map decimal js = cc in

@@ -1,5 +1,5 @@
 -- Words with one blank between two, and what they are read as.
-use Rattle.std.proofs.Common.{◌≡◌, ℕ, ℤ, pos, negsuc, ◌+◌, ◌<◌, ◌≤◌, ◌&&◌, List, [], ◌∷◌, ◌++◌, length, get_or, map, refl, sym, ◌∙◌, ap, subst, arith, suc, Bool, true, false, true≢false, w64, append_assoc, decimal}
+use Rattle.std.proofs.Common.{◌≡◌, ℕ, ℤ, pos, negsuc, ◌<◌, ◌&&◌, List, [], ◌∷◌, ◌++◌, get_or, map, refl, sym, ◌∙◌, ap, subst, arith, suc, Bool, true, false, true≢false, w64, append_assoc, decimal}
 use Rattle.std.specs.Prelude.{All, FitsSigned}
 use Rattle.std.specs.Fmt.{signed_decimal}
 use Rattle.std.specs.Char.{is_ascii_digit}
@@ -7,7 +7,7 @@ use Rattle.std.specs.List.{join_with_byte, slice_split}
 use Rattle.std.specs.Str.{all_ascii_digits}
 use Rattle.std.specs.Str.Parse.{digits_value}
 use Rattle.std.proofs.Math.Dec.{eqb}
-use Rattle.std.proofs.lemmas.List.Elements.{All-push, All-head, All-tail, All-nil, All-cons, All-map, All-append, All-weaker}
+use Rattle.std.proofs.lemmas.List.Elements.{All-head, All-tail, All-nil, All-cons, All-map, All-append, All-weaker}
 use Rattle.std.proofs.lemmas.List.Splits.{slice_split_none, slice_split_at}
 use Rattle.std.proofs.lemmas.Str.Parse.{IsNumeralModel, numerals_by_value, tells_all_ascii_digits}
 use Rattle.std.proofs.lemmas.Fmt.{digits_decimal, decimal_digit, decimal_injective}
@@ -16,10 +16,6 @@ use Rattle.clause_model.proofs.LiteralLaws.{code_of-number_of, number_of_differs
 use Rattle.lrat_check.specs.Numbers.{IsId, IsHint, AllWithin}
 use Rattle.lrat_check.specs.Content.{Content, addition, deletion}
 use Rattle.lrat_check.specs.Text.{text_of, words_of, middle_of, id_of, spaced, literal_text, end_word, deletion_word, HasGoodParts, IsLine}
-use Rattle.std.proofs.Common.{Bor}
-use Rattle.std.proofs.Common.{take, drop, ◌-◌}
-use Rattle.std.proofs.lemmas.List.{map-append, get_or-map, take-append-drop, take_all, take_more, drop_more, length-drop, length-map}
-use Rattle.lrat_check.specs.Reading.{all_now}
 use Rattle.lrat_check.proofs.Numerals.{same_number, id_fits, hint_fits, literal_fits}
 
 -- ---- blanks
@@ -133,10 +129,16 @@ All-middle P (x ∷ xs) y ys h = All-middle P xs y ys (All-tail P x (xs ++ y ∷
 pub literals_not_end : (literals : List ℕ) → AllWithin literals → All (λ w. w ≡ end_word → ⊥) (map literal_text literals)
 literals_not_end literals h = All-map (λ w. w ≡ end_word → ⊥) literal_text literals (All-weaker (λ l. l < 400000) (λ l. literal_text l ≡ end_word → ⊥) (λ l b. literal_not_end l b) literals h)
 
+pub hints_not_end : (hints : List ℤ) → All IsHint hints → All (λ w. w ≡ end_word → ⊥) (map signed_decimal hints)
+hints_not_end hints h = All-map (λ w. w ≡ end_word → ⊥) signed_decimal hints (All-weaker IsHint (λ z. signed_decimal z ≡ end_word → ⊥) (λ z b e. b.0 (same_number z (pos 0) end_word (hint_fits z b) (omega arith) e end_is_zero)) hints h)
+
+pub ids_not_end : (ids : List ℕ) → All IsId ids → All (λ w. w ≡ end_word → ⊥) (map decimal ids)
+ids_not_end ids h = All-map (λ w. w ≡ end_word → ⊥) decimal ids (All-weaker IsId (λ n. decimal n ≡ end_word → ⊥) (λ n b e. let z : pos n ≡ pos 0 = same_number (pos n) (pos 0) end_word (id_fits n b) (omega arith) e end_is_zero in let same : n ≡ 0 = cc in omega (arith, b.0, same)) ids h)
+
 -- the middle of an addition doesn't begin as that of a deletion
-pub addition_differs : (id : ℕ) (literals : List ℕ) (hints : List ℤ) (first : List ℕ) (rest : List (List ℕ)) → HasGoodParts (addition id literals hints) → middle_of (addition id literals hints) ≡ first ∷ rest → first ≡ deletion_word → ⊥
-addition_differs id [] hints first rest g e f = let d : end_word ≡ deletion_word = cc in let n : get_or end_word 0 0 ≡ get_or deletion_word 0 0 = ap (λ (w : List ℕ). get_or w 0 0) d in omega (arith, n)
-addition_differs id (l ∷ ls) hints first rest g e f =
+pub addition_differs : (id : ℕ) (literals : List ℕ) (hints : List ℤ) (first : List ℕ) (rest more : List (List ℕ)) → HasGoodParts (addition id literals hints) → middle_of (addition id literals hints) ++ more ≡ first ∷ rest → first ≡ deletion_word → ⊥
+addition_differs id [] hints first rest more g e f = let d : end_word ≡ deletion_word = cc in let n : get_or end_word 0 0 ≡ get_or deletion_word 0 0 = ap (λ (w : List ℕ). get_or w 0 0) d in omega (arith, n)
+addition_differs id (l ∷ ls) hints first rest more g e f =
     let d : literal_text l ≡ deletion_word = cc in
     numeral_differs (number_of l) (literal_fits l (All-head (λ l. l < 400000) l ls g.0)) d
 
@@ -152,22 +154,3 @@ push_same (a ∷ xs) (b ∷ ys) x y e =
     let tail : xs ++ x ∷ [] ≡ ys ++ y ∷ [] = cc in
     let rest = push_same xs ys x y tail in
     (rw (head, rest.0) refl, rest.1)
-
--- the words round a place
-module _ (words : List (Bor (List ℕ))) (i : ℕ) (d : Bor (List ℕ)) (b : i < length words) where
-  pub now_at : get_or (all_now words) i d.now ≡ (get_or words i d).now
-  now_at = get_or-map (λ (w : Bor (List ℕ)). w.now) words i d d.now b
-
-  pub cut_at : (get_or words i d).now ≡ end_word → all_now words ≡ all_now (take i words) ++ end_word ∷ all_now (take (length words - (i + 1)) (drop (i + 1) words))
-  cut_at e =
-      let rest : List (Bor (List ℕ)) = drop (i + 1) words in
-      let n : length rest ≤ length words - (i + 1) = omega (arith, length-drop (i + 1) words) in
-      let whole : take (length words - (i + 1)) rest ≡ rest = take_all (length words - (i + 1)) rest n in
-      let cut : words ≡ take i words ++ get_or words i d ∷ rest = sym (take-append-drop i words) ∙ ap (λ (x : List (Bor (List ℕ))). take i words ++ x) (drop_more words i d b) in
-      ap all_now cut ∙ map-append (λ (w : Bor (List ℕ)). w.now) (take i words) (get_or words i d ∷ rest) ∙ ap (λ (x : List ℕ). all_now (take i words) ++ x ∷ all_now rest) e
-      ∙ ap (λ (x : List (Bor (List ℕ))). all_now (take i words) ++ end_word ∷ all_now x) (sym whole)
-
-  pub not_end_more : ((get_or words i d).now ≡ end_word → ⊥) → All (λ w. w ≡ end_word → ⊥) (take i (all_now words)) → All (λ w. w ≡ end_word → ⊥) (take (i + 1) (all_now words))
-  not_end_more n h =
-      let m : i < length (all_now words) = rw length-map b in
-      rw (take_more (all_now words) i d.now m) (All-push (λ w. w ≡ end_word → ⊥) (take i (all_now words)) (get_or (all_now words) i d.now) h (λ e. n (sym now_at ∙ e)))

@@ -131,23 +131,6 @@ impl Entry for Literal {
     }
 }
 
-/// What the words say, if each can stand in a line.
-pub fn read_all<E: Entry + Drop>(
-    alloc: Global,
-    words: &[&[u8]],
-) -> Result<Option<Vec<E>>, AllocError>
-    ensures { IfOk result (λ r. MatchOption r ((xs : List E) → All E.can_stand xs → map E.text xs ≡ map (λ w. w.now) words.entry.now → ⊥) (λ xs. All E.can_stand xs.items × (map E.text xs.items ≡ map (λ w. w.now) words.entry.now))) }
-{
-    let mut entries = Vec::new(alloc);
-    for word in words {
-        match E::read(word) {
-            None => return Ok(None),
-            Some(entry) => entries.push(entry)?,
-        }
-    }
-    Ok(Some(entries))
-}
-
 /// Writes the words, and a blank after each.
 pub fn write_all<E: Entry>(entries: &[E], out: &mut Vec<u8>) -> Result<(), AllocError>
     requires { All E.can_write entries.now }

@@ -9,6 +9,7 @@ pub mod laws;
 mod line;
 mod propagation;
 mod text;
+mod words;
 
 pub use checker::Checker;
 pub use fault::LineFault;

@@ -5,10 +5,11 @@ ghost use Rattle.clause_model.specs.Literals.{HasDistinctVariables};
 ghost use Rattle.lrat_check.specs.Numbers.{IsId, IsHint, AllWithin};
 ghost use Rattle.lrat_check.specs.Content.{Content, content_of, addition, deletion};
 ghost use Rattle.lrat_check.specs.Text.{text_of, words_of, middle_of, id_of, spaced, literal_text, end_word, deletion_word, HasGoodParts, IsLine};
-ghost use Rattle.lrat_check.specs.Reading.{IsLineWith, all_now};
+ghost use Rattle.lrat_check.specs.Reading.{IsLineWith, words_left};
 
-use crate::entry::{Entry, read_all, write_all};
+use crate::entry::{Entry, write_all};
 use crate::line::{Addition, Deletion, Id, Line};
+use crate::words::{next_word, read_last, read_list, split_word};
 use clause_model::Literal;
 use cnf_gates::Memory;
 use std::alloc::{AllocError, Global};
@@ -18,8 +19,7 @@ use std::collections::HashSet;
 pub fn read_line(alloc: Global, bytes: &[u8]) -> Result<Option<Line>, Memory>
     ensures { IfOk result (λ r. MatchOption r ((content : Content) → IsLine content → text_of content ≡ bytes.now → ⊥) (λ line. IsLine (content_of line) × (text_of (content_of line) ≡ bytes.now))) }
 {
-    let words = words_in(alloc, bytes)?;
-    let line = line_of(alloc, &words)?;
+    let line = line_of(alloc, bytes)?;
     Ok(line)
 }
 
@@ -61,20 +61,6 @@ fn write_deletion(line: &Deletion, out: &mut Vec<u8>) -> Result<(), AllocError>
     write_all(&line.ids, out)
 }
 
-/// The parts between blanks.
-fn words_in(alloc: Global, bytes: &[u8]) -> Result<Vec<&[u8]>, AllocError>
-    ensures { IfOk result (λ words. all_now words.items ≡ slice_split (λ b. b == 32) bytes.entry.now) }
-{
-    bytes.split(|b| *b == b' ').collect(alloc)
-}
-
-/// Whether the word is `0`.
-fn is_end(word: &[u8]) -> bool
-    ensures { IsTrue result ↔ (word.now ≡ end_word) }
-{
-    word == b"0".as_slice()
-}
-
 /// Whether the word is `d`.
 fn is_deletion(word: &[u8]) -> bool
     ensures { IsTrue result ↔ (word.now ≡ deletion_word) }
@@ -82,98 +68,65 @@ fn is_deletion(word: &[u8]) -> bool
     word == b"d".as_slice()
 }
 
-/// The line whose words these are.
-fn line_of(alloc: Global, words: &[&[u8]]) -> Result<Option<Line>, AllocError>
-    ensures { IfOk result (λ r. MatchOption r ((content : Content) → IsLine content → words_of content ≡ all_now words.entry.now → ⊥) (λ line. IsLine (content_of line) × (words_of (content_of line) ≡ all_now words.entry.now))) }
+/// The line whose words the bytes have between blanks.
+fn line_of(alloc: Global, bytes: &[u8]) -> Result<Option<Line>, AllocError>
+    ensures { IfOk result (λ r. MatchOption r ((content : Content) → IsLine content → words_of content ≡ slice_split (λ b. b == 32) bytes.now → ⊥) (λ line. IsLine (content_of line) × (words_of (content_of line) ≡ slice_split (λ b. b == 32) bytes.now))) }
 {
-    match parts_of(words) {
+    let (word, rest) = split_word(bytes);
+    match Id::read(word) {
         None => Ok(None),
-        Some((id, middle)) => match Id::read(id) {
-            None => Ok(None),
-            Some(id) => line_with(alloc, id, middle),
-        },
+        Some(id) => line_with(alloc, id, rest),
     }
 }
 
-/// The first word, and those between it and the last, which is `0`.
-fn parts_of<'a, 'b>(words: &'a [&'b [u8]]) -> Option<(&'a &'b [u8], &'a [&'b [u8]])>
-    ensures { MatchOption result ((id : List ℕ) (middle : List (List ℕ)) → all_now words.entry.now ≡ id ∷ (middle ++ end_word ∷ []) → ⊥) (λ p. all_now words.entry.now ≡ p.0.now.now ∷ (all_now p.1.now ++ end_word ∷ [])) }
+/// The line with this id and these words after it.
+fn line_with(alloc: Global, id: Id, rest: Option<&[u8]>) -> Result<Option<Line>, AllocError>
+    ensures { IfOk result (λ r. MatchOption r ((content : Content) → HasGoodParts content → middle_of content ++ end_word ∷ [] ≡ words_left rest.entry → ⊥) (IsLineWith id (words_left rest.entry))) }
 {
-    let Some((id, rest)) = words.split_first() else {
-        return None;
-    };
-    let Some((end, middle)) = rest.split_last() else {
-        return None;
-    };
-    if is_end(end) {
-        Some((id, middle))
-    } else {
-        None
-    }
-}
-
-/// The line with this id and these words between it and the last.
-fn line_with(alloc: Global, id: Id, middle: &[&[u8]]) -> Result<Option<Line>, AllocError>
-    ensures { IfOk result (λ r. MatchOption r ((content : Content) → HasGoodParts content → middle_of content ≡ all_now middle.entry.now → ⊥) (IsLineWith id (all_now middle.entry.now))) }
-{
-    match ids_in(middle) {
+    match ids_in(rest) {
         Some(ids) => deletion_with(alloc, id, ids),
-        None => addition_with(alloc, id, middle),
+        None => addition_with(alloc, id, rest),
     }
 }
 
-/// The words after the first, where that is `d`.
-fn ids_in<'a, 'b>(words: &'a [&'b [u8]]) -> Option<&'a [&'b [u8]]>
-    ensures { MatchOption result ((ids : List (List ℕ)) → all_now words.entry.now ≡ deletion_word ∷ ids → ⊥) (λ ids. all_now words.entry.now ≡ deletion_word ∷ all_now ids.now) }
+/// What stands after the first word, where that is `d`.
+fn ids_in(rest: Option<&[u8]>) -> Option<Option<&[u8]>>
+    ensures { MatchOption result ((ids : List (List ℕ)) → words_left rest.entry ≡ deletion_word ∷ ids → ⊥) (λ ids. words_left rest.entry ≡ deletion_word ∷ words_left ids) }
 {
-    let Some((first, ids)) = words.split_first() else {
+    let Some((first, ids)) = next_word(rest) else {
         return None;
     };
     if is_deletion(first) { Some(ids) } else { None }
 }
 
-fn deletion_with(alloc: Global, id: Id, words: &[&[u8]]) -> Result<Option<Line>, AllocError>
-    ensures { IfOk result (λ r. MatchOption r ((ids : List ℕ) → All IsId ids → map decimal ids ≡ all_now words.entry.now → ⊥) (IsLineWith id (deletion_word ∷ all_now words.entry.now))) }
+fn deletion_with(alloc: Global, id: Id, rest: Option<&[u8]>) -> Result<Option<Line>, AllocError>
+    ensures { IfOk result (λ r. MatchOption r ((ids : List ℕ) → All IsId ids → map decimal ids ++ end_word ∷ [] ≡ words_left rest.entry → ⊥) (IsLineWith id (deletion_word ∷ words_left rest.entry))) }
 {
-    match read_all(alloc, words)? {
+    match read_last(alloc, rest)? {
         None => Ok(None),
         Some(ids) => Ok(Some(Line::Deletion(Deletion { id, ids }))),
     }
 }
 
-fn addition_with(alloc: Global, id: Id, middle: &[&[u8]]) -> Result<Option<Line>, AllocError>
-    ensures { IfOk result (λ r. MatchOption r ((literals : List ℕ) (hints : List ℤ) → HasGoodParts (addition id literals hints) → middle_of (addition id literals hints) ≡ all_now middle.entry.now → ⊥) (IsLineWith id (all_now middle.entry.now))) }
+fn addition_with(alloc: Global, id: Id, rest: Option<&[u8]>) -> Result<Option<Line>, AllocError>
+    ensures { IfOk result (λ r. MatchOption r ((literals : List ℕ) (hints : List ℤ) → HasGoodParts (addition id literals hints) → middle_of (addition id literals hints) ++ end_word ∷ [] ≡ words_left rest.entry → ⊥) (IsLineWith id (words_left rest.entry))) }
 {
-    match split_at_end(middle) {
+    match read_list(alloc, rest)? {
         None => Ok(None),
-        Some((literals, hints)) => addition_of(alloc, id, literals, hints),
+        Some((literals, rest)) => addition_of(alloc, id, literals, rest),
     }
-}
-
-/// The words before the first `0`, and those after it.
-fn split_at_end<'a, 'b>(words: &'a [&'b [u8]]) -> Option<(&'a [&'b [u8]], &'a [&'b [u8]])>
-    ensures { MatchOption result (All (λ w. w ≡ end_word → ⊥) (all_now words.entry.now)) (λ p. All (λ w. w ≡ end_word → ⊥) (all_now p.0.now) × (all_now words.entry.now ≡ all_now p.0.now ++ end_word ∷ all_now p.1.now)) }
-{
-    for (i, word) in words.iter().enumerate() {
-        if is_end(word) {
-            return Some((&words[..i], &words[i + 1..]));
-        }
-    }
-    None
 }
 
 fn addition_of(
     alloc: Global,
     id: Id,
-    literals: &[&[u8]],
-    hints: &[&[u8]],
+    literals: Vec<Literal>,
+    rest: Option<&[u8]>,
 ) -> Result<Option<Line>, AllocError>
-    ensures { IfOk result (λ r. MatchOption r ((ls : List ℕ) (hs : List ℤ) → HasGoodParts (addition id ls hs) → map literal_text ls ≡ all_now literals.entry.now → map signed_decimal hs ≡ all_now hints.entry.now → ⊥) (IsLineWith id (all_now literals.entry.now ++ end_word ∷ all_now hints.entry.now))) }
+    requires { AllWithin literals.items }
+    ensures { IfOk result (λ r. MatchOption r ((hints : List ℤ) → HasGoodParts (addition id literals.items hints) → map signed_decimal hints ++ end_word ∷ [] ≡ words_left rest.entry → ⊥) (IsLineWith id (map literal_text literals.items ++ end_word ∷ words_left rest.entry))) }
 {
-    let Some(literals) = read_all::<Literal>(alloc, literals)? else {
-        return Ok(None);
-    };
-    let Some(hints) = read_all(alloc, hints)? else {
+    let Some(hints) = read_last(alloc, rest)? else {
         return Ok(None);
     };
     if has_distinct_variables(alloc, &literals)? {

@@ -1,5 +1,5 @@
 -- The clauses that the lines of a log add.
-use Rattle.std.proofs.Common.{◌≡◌, ◌≢◌, ℕ, ◌+◌, ◌<◌, List, [], ◌∷◌, ◌++◌, length, get_or, take, drop, sym, ◌∙◌, ap, subst, arith, refl, slice_get, Some, true, false}
+use Rattle.std.proofs.Common.{◌≡◌, ◌≢◌, ℕ, ◌+◌, ◌<◌, List, [], ◌∷◌, ◌++◌, length, get_or, take, drop, sym, ◌∙◌, ap, subst, arith, refl, slice_get, Some, true, false, append_assoc}
 use Rattle.std.specs.Prelude.{All, Contains, ◌==◌}
 use Rattle.std.specs.Option.{option_map}
 use Rattle.std.proofs.lemmas.List.{take_more, append-nil, take-append-drop, length_push, nil_from_length}
@@ -22,6 +22,13 @@ take_got xs i x e = take_more xs i x (slice_get_within xs i x e) ∙ ap (λ y. t
 module _ (lines : List Content) (i : ℕ) (line : Content) (at : slice_get lines i ≡ Some line) where
   pub additions_more : additions (take (i + 1) lines) ≡ additions (take i lines) ++ added line
   additions_more = ap additions (take_got lines i line at) ∙ flat_map-append added (take i lines) (line ∷ []) ∙ ap (λ ys. additions (take i lines) ++ ys) (append-nil (added line))
+
+  -- the clauses before the lines so far, with one more of these
+  pub before_clause : (clauses : List (List ℕ)) (clause : List ℕ) → added line ≡ clause ∷ [] → clauses ++ additions (take (i + 1) lines) ≡ (clauses ++ additions (take i lines)) ++ clause ∷ []
+  before_clause clauses clause e = ap (λ ys. clauses ++ ys) additions_more ∙ sym (append_assoc clauses (additions (take i lines)) (added line)) ∙ ap (λ ys. (clauses ++ additions (take i lines)) ++ ys) e
+
+  pub before_none : (clauses : List (List ℕ)) → added line ≡ [] → clauses ++ additions (take (i + 1) lines) ≡ clauses ++ additions (take i lines)
+  before_none clauses e = ap (λ ys. clauses ++ ys) (additions_more ∙ ap (λ ys. additions (take i lines) ++ ys) e ∙ append-nil (additions (take i lines)))
 
   pub additions_left : additions (drop i lines) ≡ added line ++ additions (drop (i + 1) lines)
   additions_left = ap additions (drop_got lines i line at)

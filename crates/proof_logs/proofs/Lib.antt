@@ -6,3 +6,4 @@ pub mod Newness
 pub mod Checks
 pub mod Sound
 pub mod Renamed
+pub mod Listed

@@ -1,9 +1,9 @@
 -- The literals of a clause as members, and the clauses that are part of it.
-use Rattle.std.proofs.Common.{◌≡◌, ℕ, ◌+◌, ◌<◌, ◌≤◌, List, [], ◌∷◌, ◌++◌, length, get_or, take, sym, ◌∙◌, ap, subst, arith, refl, true, false, Bool, Option, Some, None}
+use Rattle.std.proofs.Common.{◌≡◌, ℕ, ◌+◌, ◌<◌, ◌≤◌, List, ◌∷◌, ◌++◌, length, get_or, take, sym, ◌∙◌, ap, subst, arith, refl, true, false, Bool, Option, Some, None}
 use Rattle.std.specs.Prelude.{All, Contains, sum_by, IsTrue, ◌↔◌}
 use Rattle.std.specs.Option.{option_to_list}
 use Rattle.std.proofs.Math.Seq.{get_or-take}
-use Rattle.std.proofs.lemmas.List.{length-take, get_or_default, take_all, take_more}
+use Rattle.std.proofs.lemmas.List.{length-take, get_or_default, take_all}
 use Rattle.std.proofs.lemmas.List.Elements.{All-more, All-cons, All-tail}
 use Rattle.std.proofs.lemmas.Bool.{false≢true}
 use Rattle.std.proofs.lemmas.List.Sums.{sum_by_more}
@@ -58,10 +58,6 @@ new_all lists members i b h = subst (λ (cs : List (List ℕ)). IsNew cs members
 
 pub part_all : (members clause : List ℕ) (i : ℕ) → length clause ≤ i → All (Contains members) (take i clause) → All (Contains members) clause
 part_all members clause i b h = subst (All (Contains members)) (take_all i clause b) h
-
--- one more clause of the formula
-pub clauses_push : (before after codes : List (List ℕ)) (clause : List ℕ) (i : ℕ) → after ≡ before ++ clause ∷ [] → before ≡ take i codes → i < length codes → get_or codes i clause ≡ clause → after ≡ take (i + 1) codes
-clauses_push before after codes clause i p h b e = p ∙ ap (λ xs. xs ++ clause ∷ []) h ∙ ap (λ (c : List ℕ). take i codes ++ c ∷ []) (sym e) ∙ sym (take_more codes i clause b)
 
 -- a clause whose first literal is a member is a part where the others are members, and so is one without literals
 pub part_first : (members whole rest : List ℕ) (first : Option ℕ) (l : ℕ) (result : Bool) → first ≡ Some l → option_to_list first ++ rest ≡ whole → Contains members l → IsTrue result ↔ All (Contains members) rest → IsTrue result ↔ All (Contains members) whole

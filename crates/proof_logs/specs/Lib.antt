@@ -3,3 +3,4 @@ pub mod Lines
 pub mod Proofs
 pub mod Logs
 pub mod Checked
+pub mod Lists

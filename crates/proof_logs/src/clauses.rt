@@ -1,76 +1,29 @@
-ghost use Rattle.std.specs.Prelude.{◌≡◌, ℕ, ◌+◌, ◌≤◌, ◌++◌, ◌∷◌, ◌↔◌, List, [], All, Contains, IsTrue, IfOk, OnOk, length, map, sum_by};
+ghost use Rattle.std.specs.Prelude.{◌≡◌, ℕ, ◌+◌, ◌≤◌, ◌++◌, ◌∷◌, ◌↔◌, List, [], IsTrue, IfOk, OnOk, length, map, sum_by};
 ghost use Rattle.clause_model.specs.Literals.{codes_of, code_of, HasDistinctVariables};
 ghost use Rattle.clause_model.specs.Asserting.{IsNew};
+ghost use Rattle.proof_logs.specs.Lists.{Holds};
 
+use crate::lists::Lists;
 use clause_model::{Assignment, Literal};
 use cnf_gates::{Formula, Memory};
 use std::alloc::{AllocError, Global};
 use std::marker::Model;
 use step_ledger::{Ledger, Steps};
 
-/// A clause. Its first literal stands beside the others, so that most clauses are seen to be no
-/// part of another without a look at the rest.
-#[derive(Drop)]
-struct Clause {
-    first: Option<Literal>,
-    rest: Vec<Literal>,
-}
-
-impl Model for Clause {
-    ghost use Rattle.std.specs.Prelude.{ℕ, List, ◌++◌};
-    ghost use Rattle.std.specs.Option.{option_to_list};
-
-    ghost Value = { List ℕ };
-
-    ghost view = { λ c. option_to_list c.first ++ c.rest.items };
-}
-
-impl Clause {
-    /// The clause of some literals.
-    fn of(alloc: Global, literals: &[Literal]) -> Result<Clause, AllocError>
-        ensures { IfOk result (λ clause. clause ≡ literals.now) }
-    {
-        match literals.split_first() {
-            None => Ok(Clause {
-                first: None,
-                rest: Vec::new(alloc),
-            }),
-            Some((first, rest)) => Ok(Clause {
-                first: Some(*first),
-                rest: Vec::from_slice(alloc, rest)?,
-            }),
-        }
-    }
-
-    /// Whether each literal is a member, with a step for each that is looked at.
-    fn is_part<L: Ledger>(&self, members: &Assignment, steps: &mut Steps<L>) -> bool
-        ensures part { IsTrue result ↔ All (Contains members.now) self.now }
-        ensures cost { steps.new ≤ steps.old + length self.now }
-    {
-        if let Some(first) = self.first {
-            steps.tick();
-            if !members.is_true(first) {
-                return false;
-            }
-        }
-        are_members(&self.rest, members, steps)
-    }
-}
-
 /// The clauses so far, those that were deleted included.
 #[derive(Drop)]
 pub struct Clauses {
-    alloc: Global,
-    clauses: Vec<Clause>,
+    lists: Lists,
     members: Assignment,
 }
 
 impl Model for Clauses {
     ghost use Rattle.std.specs.Prelude.{◌≡◌, ℕ, List, []};
+    ghost use Rattle.proof_logs.specs.Lists.{Kept};
 
-    ghost Value = { List (List ℕ) };
+    ghost Value = { Kept };
 
-    ghost view = { λ c. c.clauses.items };
+    ghost view = { λ c. c.lists };
 
     ghost invariant = { λ c. c.members ≡ [] };
 }
@@ -78,16 +31,15 @@ impl Model for Clauses {
 impl Clauses {
     /// The clauses of a formula.
     pub fn of(alloc: Global, formula: &Formula) -> Result<Self, Memory>
-        ensures { IfOk result (λ clauses. clauses ≡ codes_of formula.now.clauses) }
+        ensures { IfOk result (λ clauses. Holds clauses (codes_of formula.now.clauses)) }
     {
-        let mut clauses = Vec::new(alloc);
+        let mut lists = Lists::new(alloc);
         for i in 0..formula.clauses() {
             let literals = literals_of(alloc, formula.clause(i + 1))?;
-            clauses.push(Clause::of(alloc, &literals)?)?;
+            lists.keep(&literals)?;
         }
         Ok(Clauses {
-            alloc,
-            clauses,
+            lists,
             members: Assignment::new(alloc),
         })
     }
@@ -99,15 +51,15 @@ impl Clauses {
         steps: &mut Steps<L>,
     ) -> Result<bool, Memory>
         requires { HasDistinctVariables clause.now }
-        ensures new { IfOk result (λ is_new. IsTrue is_new ↔ IsNew self.old clause.now) }
-        ensures added { IfOk result (λ is_new. IsTrue is_new → self.new ≡ self.old ++ clause.now ∷ []) }
-        ensures cost { steps.new ≤ steps.old + sum_by length self.old }
+        ensures new { IfOk result (λ is_new. (clauses : List (List ℕ)) → Holds self.old clauses → IsTrue is_new ↔ IsNew clauses clause.now) }
+        ensures added { IfOk result (λ is_new. IsTrue is_new → (clauses : List (List ℕ)) → Holds self.old clauses → Holds self.new (clauses ++ clause.now ∷ [])) }
+        ensures cost { (clauses : List (List ℕ)) → Holds self.old clauses → steps.new ≤ steps.old + sum_by length clauses }
     {
-        let outcome = is_new(&self.clauses, clause, &mut self.members, steps);
+        let outcome = is_new(&self.lists, clause, &mut self.members, steps);
         self.members.truncate(0);
         let is_new = outcome?;
         if is_new {
-            self.clauses.push(Clause::of(self.alloc, clause)?)?;
+            self.lists.keep(clause)?;
         }
         Ok(is_new)
     }
@@ -123,20 +75,20 @@ fn literals_of(alloc: Global, numbers: &[i32]) -> Result<Vec<Literal>, AllocErro
         .collect(alloc)
 }
 
-/// Whether the clause contains none of the others, begun with no member.
+/// Whether the clause contains none of those kept, begun with no member.
 fn is_new<L: Ledger>(
-    clauses: &[Clause],
+    lists: &Lists,
     clause: &[Literal],
     members: &mut Assignment,
     steps: &mut Steps<L>,
 ) -> Result<bool, AllocError>
     requires empty { members.old ≡ [] }
     requires distinct { HasDistinctVariables clause.now }
-    ensures new { IfOk result (λ is_new. IsTrue is_new ↔ IsNew clauses.now clause.now) }
-    ensures cost { steps.new ≤ steps.old + sum_by length clauses.now }
+    ensures new { IfOk result (λ is_new. (clauses : List (List ℕ)) → Holds lists.now clauses → IsTrue is_new ↔ IsNew clauses clause.now) }
+    ensures cost { (clauses : List (List ℕ)) → Holds lists.now clauses → steps.new ≤ steps.old + sum_by length clauses }
 {
     take_members(clause, members)?;
-    Ok(is_none_part(clauses, members, steps))
+    Ok(lists.is_new(members, steps))
 }
 
 /// Makes the literals of the clause the members.
@@ -149,31 +101,4 @@ fn take_members(clause: &[Literal], members: &mut Assignment) -> Result<(), Allo
         members.set(*literal)?;
     }
     Ok(())
-}
-
-/// Whether each of the clauses has a literal that is no member.
-fn is_none_part<L: Ledger>(clauses: &[Clause], members: &Assignment, steps: &mut Steps<L>) -> bool
-    ensures new { IsTrue result ↔ IsNew clauses.now members.now }
-    ensures cost { steps.new ≤ steps.old + sum_by length clauses.now }
-{
-    for clause in clauses {
-        if clause.is_part(members, steps) {
-            return false;
-        }
-    }
-    true
-}
-
-/// Whether each literal is a member, with a step for each that is looked at.
-fn are_members<L: Ledger>(literals: &[Literal], members: &Assignment, steps: &mut Steps<L>) -> bool
-    ensures part { IsTrue result ↔ All (Contains members.now) literals.now }
-    ensures cost { steps.new ≤ steps.old + length literals.now }
-{
-    for literal in literals {
-        steps.tick();
-        if !members.is_true(*literal) {
-            return false;
-        }
-    }
-    true
 }

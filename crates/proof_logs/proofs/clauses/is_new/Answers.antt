@@ -4,4 +4,4 @@ use Rattle.clause_model.specs.Asserting.{IsNew}
 use Rattle.proof_logs.proofs.clauses.is_new.Goals as goal
 
 pub returns-clause-new : goal.returns-clause-new
-returns-clause-new g c = subst (λ (members : List ℕ). IsTrue c.is_none_part.result ↔ IsNew c.args.clauses.now members) c.in_ok-take_members.ensures c.is_none_part.ensures.new
+returns-clause-new g c = λ clauses h. subst (λ (members : List ℕ). IsTrue c.is_new.result ↔ IsNew clauses members) c.in_ok-take_members.ensures (c.is_new.ensures.new clauses h)

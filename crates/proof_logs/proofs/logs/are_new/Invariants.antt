@@ -1,13 +1,18 @@
-use Rattle.std.proofs.Common.{◌≤◌, ◌+◌, drop}
+use Rattle.std.proofs.Common.{◌≤◌, ◌+◌, ◌++◌, drop, take}
 use Rattle.clause_model.specs.Literals.{codes_of}
 use Rattle.proof_logs.specs.Lines.{additions}
 use Rattle.proof_logs.specs.Logs.{EachIsNew, newness_cost}
+use Rattle.proof_logs.specs.Lists.{Holds}
 use Rattle.proof_logs.specs.Checked.{contents_of}
 use Rattle.proof_logs.proofs.Newness.{NewRest}
 use Rattle.proof_logs.proofs.logs.are_new.Given as goal
 
 abbrev pub invariant-loop-line : goal.invariant-loop-line
-invariant-loop-line g l = record {
-  rest : NewRest l.clauses (additions (drop l.line-index (contents_of l.log))) (EachIsNew (codes_of l.formula.clauses) (additions (contents_of l.log)));
-  cost : l.steps + newness_cost l.clauses (additions (drop l.line-index (contents_of l.log))) ≤ l.initial.steps + newness_cost (codes_of l.formula.clauses) (additions (contents_of l.log));
-}
+invariant-loop-line g l =
+    let before = codes_of l.formula.clauses ++ additions (take l.line-index (contents_of l.log)) in
+    let left = additions (drop l.line-index (contents_of l.log)) in
+    record {
+      held : Holds l.clauses before;
+      rest : NewRest before left (EachIsNew (codes_of l.formula.clauses) (additions (contents_of l.log)));
+      cost : l.steps + newness_cost before left ≤ l.initial.steps + newness_cost (codes_of l.formula.clauses) (additions (contents_of l.log));
+    }

@@ -1,6 +1,7 @@
-use Rattle.std.proofs.Common.{◌≡◌, take}
+use Rattle.std.proofs.Common.{take}
 use Rattle.clause_model.specs.Literals.{codes_of}
+use Rattle.proof_logs.specs.Lists.{Holds}
 use Rattle.proof_logs.proofs.clauses.Clauses.of.Given as goal
 
 abbrev pub invariant-loop-i : goal.invariant-loop-i
-invariant-loop-i l = l.clauses.items ≡ take l.i (codes_of l.formula.clauses)
+invariant-loop-i l = Holds l.lists (take l.i (codes_of l.formula.clauses))

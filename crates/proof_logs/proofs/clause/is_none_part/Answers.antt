@@ -1,7 +1,7 @@
 use Rattle.std.proofs.Common.{◌+◌, arith, length, sym}
 use Rattle.std.proofs.lemmas.List.Sums.{sum_by-take-le}
 use Rattle.proof_logs.proofs.Members.{says_no, says_yes, denied, lengths_next, new_more, new_all, part_found}
-use Rattle.proof_logs.proofs.clauses.is_none_part.Goals as goal
+use Rattle.proof_logs.proofs.clause.is_none_part.Goals as goal
 
 pub returns-then-is_part-clause-new : goal.returns-then-is_part-clause-new
 returns-then-is_part-clause-new g c =

@@ -1,7 +1,7 @@
 use Rattle.std.proofs.Common.{◌≤◌, ◌+◌, take, length}
 use Rattle.std.specs.Prelude.{sum_by}
 use Rattle.clause_model.specs.Asserting.{IsNew}
-use Rattle.proof_logs.proofs.clauses.is_none_part.Given as goal
+use Rattle.proof_logs.proofs.clause.is_none_part.Given as goal
 
 abbrev pub invariant-loop-clause : goal.invariant-loop-clause
 invariant-loop-clause g l = record {

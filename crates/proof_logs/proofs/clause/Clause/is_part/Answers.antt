@@ -1,8 +1,8 @@
 use Rattle.std.proofs.Common.{List, ℕ, subst}
 use Rattle.std.specs.Prelude.{All, Contains, IsTrue, ◌↔◌}
 use Rattle.proof_logs.proofs.Members.{part_first, part_none}
-use Rattle.proof_logs.proofs.clauses.Clause.is_part.Goals as goal
-use Rattle.proof_logs.proofs.clauses.Clause.is_part.Goals.{in-Some+else-not-is_true, in_default}
+use Rattle.proof_logs.proofs.clause.Clause.is_part.Goals as goal
+use Rattle.proof_logs.proofs.clause.Clause.is_part.Goals.{in-Some+else-not-is_true, in_default}
 
 pub returns-clause-part : goal.returns-clause-part
 returns-clause-part g c =

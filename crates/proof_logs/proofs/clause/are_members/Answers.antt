@@ -1,6 +1,6 @@
 use Rattle.std.proofs.Common.{arith}
 use Rattle.proof_logs.proofs.Members.{says_no, says_yes, denied, part_missing, part_more, part_all}
-use Rattle.proof_logs.proofs.clauses.are_members.Goals as goal
+use Rattle.proof_logs.proofs.clause.are_members.Goals as goal
 
 pub returns-then-not-is_true-clause-part : goal.returns-then-not-is_true-clause-part
 returns-then-not-is_true-clause-part g c =

@@ -1,6 +1,6 @@
 use Rattle.std.proofs.Common.{◌≤◌, ◌+◌, take}
 use Rattle.std.specs.Prelude.{All, Contains}
-use Rattle.proof_logs.proofs.clauses.are_members.Given as goal
+use Rattle.proof_logs.proofs.clause.are_members.Given as goal
 
 abbrev pub invariant-loop-literal : goal.invariant-loop-literal
 invariant-loop-literal g l = record {

@@ -1,0 +1,31 @@
+#!/usr/bin/env bash
+# Measures the judgement of logs that spend a budget, each line accepted and each clause new, with the proved crate beside a plain Rust program that keeps the
+# same lists of clauses by literals; both have to say the same. The logs are of LINES clauses of ten literals by chance and of twice as many, and one of 20,000
+# clauses that the plain solver learns of pigeons. Use: bench/newness.sh [LINES [TURNS]]
+. "$(dirname "$0")/common.sh"
+lines=${1:-50000} turns=${2:-5}
+take_crates proof_logs
+prove_clause newness_times
+proved=$(build_proved newness_times "$top/bench/newness/proved.rs" proof_logs cnf_gates lrat_check step_ledger anyhow)
+solver=$(build_plain "$top/bench/solver/plain.rs") && mv "$solver" "$work/solver"
+plain=$(build_plain "$top/bench/newness/plain.rs")
+
+# judging PROGRAM, on the log that is set.
+judging() { "$1" < "$log"; }
+
+# try_log LOG NAME
+try_log() {
+    log=$1
+    in_turns "$turns" judging
+    print_times "$2, $(wc -c < "$log") bytes, $(cat "$work/proved.printed")" us "$proved_time" "$plain_time"
+}
+
+python3 "$top/bench/newness/logs.py" "$lines" 10 > "$work/once"
+python3 "$top/bench/newness/logs.py" $((2 * lines)) 10 > "$work/twice"
+try_log "$work/once" "a log" && proved_once=$proved_time plain_once=$plain_time
+try_log "$work/twice" "a log of twice as many clauses"
+print_factor "twice as many clauses, proved:" us "$proved_once" "$proved_time"
+print_factor "twice as many clauses, plain Rust:" us "$plain_once" "$plain_time"
+python3 "$top/bench/newness/logs.py" pigeons 12 > "$work/formula"
+{ cat "$work/formula" && "$work/solver" < "$work/formula" 2> "$work/told"; } > "$work/learnt"
+try_log "$work/learnt" "a log of the solver"
