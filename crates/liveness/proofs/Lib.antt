@@ -11,5 +11,7 @@ mod Through
 pub mod Weights
 mod Paths
 mod Visits
-mod Onward
+mod Waits
+mod Jumps
+mod Settles
 pub mod Marks

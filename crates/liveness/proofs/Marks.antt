@@ -23,23 +23,23 @@ or_assoc false b c = refl
 
 -- ---- one mark ----
 
-set_here : (marks : List Bool) (p : ℕ) → p < length marks → marked (slice_set marks p true) p ≡ true
-set_here [] p h = absurd (omega arith)
-set_here (m ∷ ms) zero h = refl
-set_here (m ∷ ms) (suc p) h = set_here ms p (omega arith)
+pub set_here : (marks : List Bool) (p : ℕ) (b : Bool) → p < length marks → marked (slice_set marks p b) p ≡ b
+set_here [] p b h = absurd (omega arith)
+set_here (m ∷ ms) zero b h = refl
+set_here (m ∷ ms) (suc p) b h = set_here ms p b (omega arith)
 
-set_else : (marks : List Bool) (p q : ℕ) → q ≢ p → marked (slice_set marks p true) q ≡ marked marks q
-set_else [] p q d = refl
-set_else (m ∷ ms) zero zero d = absurd (d refl)
-set_else (m ∷ ms) zero (suc q) d = refl
-set_else (m ∷ ms) (suc p) zero d = refl
-set_else (m ∷ ms) (suc p) (suc q) d = set_else ms p q (λ e. d (ap suc e))
+pub set_else : (marks : List Bool) (p q : ℕ) (b : Bool) → q ≢ p → marked (slice_set marks p b) q ≡ marked marks q
+set_else [] p q b d = refl
+set_else (m ∷ ms) zero zero b d = absurd (d refl)
+set_else (m ∷ ms) zero (suc q) b d = refl
+set_else (m ∷ ms) (suc p) zero b d = refl
+set_else (m ∷ ms) (suc p) (suc q) b d = set_else ms p q b (λ e. d (ap suc e))
 
 -- marking a place marks it alone
 pub marks_one : (marks : List Bool) (p q : ℕ) → p < length marks → marked (slice_set marks p true) q ≡ (marked marks q || (q == p))
 marks_one marks p q h = elim (cases_eq q p) [
-  | inl e ↦ ap (marked (slice_set marks p true)) e ∙ set_here marks p h ∙ sym (ap (λ t. marked marks q || t) (eq-eqb q p e) ∙ or_true (marked marks q))
-  | inr d ↦ set_else marks p q d ∙ sym (ap (λ t. marked marks q || t) (ne_eqb q p d) ∙ or_false (marked marks q))
+  | inl e ↦ ap (marked (slice_set marks p true)) e ∙ set_here marks p true h ∙ sym (ap (λ t. marked marks q || t) (eq-eqb q p e) ∙ or_true (marked marks q))
+  | inr d ↦ set_else marks p q true d ∙ sym (ap (λ t. marked marks q || t) (ne_eqb q p d) ∙ or_false (marked marks q))
 ]
 
 pub marks_none : (marks : List Bool) (q : ℕ) → marked marks q ≡ (marked marks q || false)

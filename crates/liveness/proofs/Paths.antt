@@ -15,7 +15,7 @@ use Rattle.code_flow.specs.declared.way.Ways.{Ways}
 use Rattle.code_flow.specs.Flow.{way_list, next_of, IsWay, AreWays}
 use Rattle.liveness.specs.Ways.{AreAllWays}
 use Rattle.liveness.specs.Live.{set_at, IsLive}
-use Rattle.liveness.specs.Passes.{there, gained, led, AreSound, AreClosedFrom}
+use Rattle.liveness.specs.Passes.{there, gained, led, AreSound, AreClosed}
 
 pub or_cases : (a b : Bool) → (a || b) ≡ true → (a ≡ true) ⊎ (b ≡ true)
 or_cases true b e = inl refl
@@ -136,7 +136,7 @@ pub record AreFinished (code : Code) (all : List (Option Ways)) (b a : List Item
   pub as_many : length all ≡ length code.places
   pub has_ways : AreAllWays code all
   pub sound : AreSound code b w
-  pub closed : AreClosedFrom 0 all b a w
+  pub closed : AreClosed all b a w
 
 found : {A : Type 0} (xs : List A) (p : ℕ) → p < length xs → (e : A) × (slice_get xs p ≡ Some e)
 found [] p h = absurd (omega arith)
@@ -149,7 +149,7 @@ closed_reads code all b a w x f p₀ r = go p₀ r
     at : (p k : ℕ) (v : ModelWay) → slice_get (ways code p) k ≡ Some v → Helps p b w x v → has (set_at b p) x ≡ true
     at p k v g h =
         let e = found all p (let l = within code p k v g in let m = f.as_many in omega arith) in
-        (f.closed p (omega arith) e.0 e.1).before x (way_gains p b w x (ways code p) (way_list e.0) (f.has_ways p e.0 e.1) k v g h)
+        (f.closed p e.0 e.1).before x (way_gains p b w x (ways code p) (way_list e.0) (f.has_ways p e.0 e.1) k v g h)
 
     go : (p : ℕ) → Reads code x p → has (set_at b p) x ≡ true
     go _ (now p k v g r) = at p k v g (inl r)
@@ -158,7 +158,7 @@ closed_reads code all b a w x f p₀ r = go p₀ r
 finished_after : (code : Code) (all : List (Option Ways)) (b a : List Items) (w : ℕ) → AreFinished code all b a w → (p x : ℕ) → p < length code.places → (has (set_at a p) x ≡ true) ↔ LiveAfter code p x
 finished_after code all b a w f p x l =
     let e = found all p (let m = f.as_many in omega arith) in
-    let c = f.closed p (omega arith) e.0 e.1 in
+    let c = f.closed p e.0 e.1 in
     (λ h. forth e.0 e.1 (sym (c.after x) ∙ h), λ v. c.after x ∙ back e.0 e.1 v)
   where
     forth : (e : Option Ways) → slice_get all p ≡ Some e → led (way_list e) b w x ≡ true → LiveAfter code p x

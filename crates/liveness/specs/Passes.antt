@@ -1,5 +1,5 @@
 -- What a visit of a place finds, by the sets so far.
-use Rattle.std.specs.Prelude.{◌≡◌, ◌≢◌, ℕ, zero, suc, ◌+◌, ◌≤◌, ◌==◌, ◌||◌, ◌&&◌, not, Bool, true, false, List, [], ◌∷◌, Option, Some, slice_get}
+use Rattle.std.specs.Prelude.{◌≡◌, ◌≢◌, ℕ, zero, suc, ◌+◌, ◌≤◌, ◌||◌, ◌&&◌, not, Bool, true, false, List, [], ◌∷◌, Option, Some, slice_get}
 use Rattle.std.specs.Int.{bit_at, from_bool}
 use Rattle.thumb_instr.specs.declared.items.Items.{Items}
 use Rattle.thumb_instr.specs.Items.{has}
@@ -26,16 +26,6 @@ gained (w ∷ ws) sets points x = (has w.uses.bits x || (has (there w.next sets 
 abbrev pub led : List Way → List Items → ℕ → ℕ → Bool
 led [] sets points x = false
 led (w ∷ ws) sets points x = has (there w.next sets points) x || led ws sets points x
-
--- whether a way leads to the place, and whether ways lead there and nowhere else
-abbrev pub leads_to : ℕ → Next → Bool
-leads_to p (Place q) = q == p
-leads_to p Points = false
-leads_to p Out = false
-
-abbrev pub goes_on_to : ℕ → List Way → Bool
-goes_on_to p [] = true
-goes_on_to p (w ∷ ws) = leads_to p w.next && goes_on_to p ws
 
 -- how many items sets have
 unfoldable pub weight_below : ℕ → ℕ → ℕ
@@ -67,9 +57,6 @@ pub record IsClosed (ws : List Way) (p : ℕ) (b a : List Items) (w : ℕ) : Typ
   pub before : (x : ℕ) → gained ws b w x ≡ true → has (set_at b p) x ≡ true
   pub after : (x : ℕ) → has (set_at a p) x ≡ led ws b w x
 
-abbrev pub AreClosedFrom : ℕ → List (Option Ways) → List Items → List Items → ℕ → Type 0
-AreClosedFrom p all b a w = (q : ℕ) → p ≤ q → (ws : Option Ways) → slice_get all q ≡ Some ws → IsClosed (way_list ws) q b a w
-
--- nor would a visit of a place that only goes on to the next
-abbrev pub AreOnwardClosed : List (Option Ways) → List Items → List Items → ℕ → Type 0
-AreOnwardClosed all b a w = (q : ℕ) (ws : Option Ways) → slice_get all q ≡ Some ws → goes_on_to (q + 1) (way_list ws) ≡ true → IsClosed (way_list ws) q b a w
+-- nor would one of any place
+abbrev pub AreClosed : List (Option Ways) → List Items → List Items → ℕ → Type 0
+AreClosed all b a w = (q : ℕ) (ws : Option Ways) → slice_get all q ≡ Some ws → IsClosed (way_list ws) q b a w

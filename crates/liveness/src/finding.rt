@@ -5,10 +5,11 @@ ghost use Rattle.liveness.specs.Ways.{AreAllWays};
 ghost use Rattle.liveness.specs.Live.{IsLive};
 
 use crate::flowing::{Flow, ways_and_flow};
+use crate::graph::graph_of;
 use crate::leaving::ways;
-use crate::passes::settle;
-use crate::points::all_points;
 use crate::sets::Live;
+use crate::settling::settle;
+use crate::visiting::Found;
 use code_flow::Ways;
 use listing_parser::{Listing, Memory};
 use std::alloc::{AllocError, Global};
@@ -58,21 +59,18 @@ fn live_by<L: Ledger>(
     ensures live { IfOk result (λ live. IsLive (code_of listing.now) live) }
     ensures cost { steps.new ≤ steps.old + (19 * length (places_of listing.now) + 1) * length (places_of listing.now) }
 {
+    let graph = graph_of(alloc, listing, ways)?;
     let count = listing.place_count() as usize;
-    let is_point = all_points(alloc, listing)?;
-    let mut before = vec![in alloc; Items::none(); count]?;
-    let mut after = vec![in alloc; Items::none(); count]?;
-    let mut points = Items::none();
-    settle(
-        listing,
-        ways,
-        &is_point,
-        &mut before,
-        &mut after,
-        &mut points,
-        steps,
-    );
-    Ok(Live { before, after })
+    let mut found = Found {
+        before: vec![in alloc; Items::none(); count]?,
+        after: vec![in alloc; Items::none(); count]?,
+        points: Items::none(),
+    };
+    settle(alloc, listing, ways, &graph, &mut found, steps)?;
+    Ok(Live {
+        before: found.before,
+        after: found.after,
+    })
 }
 
 /// The ways of each place.

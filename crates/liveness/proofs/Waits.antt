@@ -1,0 +1,195 @@
+-- Places that begin to wait, and cease to.
+use Rattle.std.proofs.Common.{◌≡◌, ◌≢◌, ℕ, zero, suc, ◌+◌, ◌<◌, ◌≤◌, ◌==◌, ◌||◌, Bool, true, false, List, [], ◌∷◌, ◌++◌, length, length-append, replicate, refl, sym, ap, ◌∙◌, ◌⊎◌, inl, inr, arith, eq-eqb, eqb-true, ne_eqb}
+use Rattle.std.specs.Prelude.{slice_set}
+use Rattle.std.specs.Int.{from_bool}
+use Rattle.std.proofs.lemmas.Bool.{cases_eq}
+use Rattle.std.proofs.lemmas.List.{length-set, length-replicate}
+use Rattle.thumb_instr.specs.Items.{one_of}
+use Rattle.thumb_instr.proofs.Listed.{one_of_append}
+use Rattle.liveness.specs.declared.waiting.Waiting.{Waiting}
+use Rattle.liveness.specs.Points.{marked}
+use Rattle.liveness.specs.Waiting.{count_marked, left, AreWaiting, WaitMore, IsTaken}
+use Rattle.liveness.proofs.Marks.{set_here, set_else}
+use Rattle.liveness.proofs.Paths.{or_cases, or_left, or_right}
+
+-- ---- how many are marked ----
+
+one_at_most : (b : Bool) → from_bool b ≤ 1
+one_at_most true = omega arith
+one_at_most false = omega arith
+
+count_set : (ms : List Bool) (p : ℕ) (b : Bool) → p < length ms → count_marked (slice_set ms p b) + from_bool (marked ms p) ≡ count_marked ms + from_bool b
+unfolding count_marked
+count_set [] p b h = absurd (omega arith)
+count_set (m ∷ ms) zero b h = omega arith
+count_set (m ∷ ms) (suc p) b h = let r = count_set ms p b (omega arith) in omega arith
+
+pub count_bound : (ms : List Bool) → count_marked ms ≤ length ms
+unfolding count_marked
+count_bound [] = omega arith
+count_bound (m ∷ ms) = let h = count_bound ms in let b = one_at_most m in omega arith
+
+count_all : (n : ℕ) → count_marked (replicate n true) ≡ n
+unfolding count_marked
+count_all zero = refl
+count_all (suc n) = let h = count_all n in omega arith
+
+pub all_marked : (n q : ℕ) → q < n → marked (replicate n true) q ≡ true
+all_marked zero q h = absurd (omega arith)
+all_marked (suc n) zero h = refl
+all_marked (suc n) (suc q) h = all_marked n q (omega arith)
+
+marked_within : (ms : List Bool) (q : ℕ) → marked ms q ≡ true → q < length ms
+marked_within [] q h = absurd (cc)
+marked_within (m ∷ ms) zero h = omega arith
+marked_within (m ∷ ms) (suc q) h = let r = marked_within ms q h in omega arith
+
+-- ---- one place ----
+
+pub is_one : (q p : ℕ) → q ≡ p → one_of q (p ∷ []) ≡ true
+is_one q p e = or_left _ _ (eq-eqb q p e)
+
+pub one_is : (q p : ℕ) → one_of q (p ∷ []) ≡ true → q ≡ p
+one_is q p h = elim (or_cases (q == p) false h) [
+  | inl e ↦ eqb-true q p e
+  | inr e ↦ absurd (cc)
+]
+
+pub not_one : (q p : ℕ) → q ≢ p → one_of q (p ∷ []) ≡ false
+not_one q p d = ap (λ b. b || false) (ne_eqb q p d)
+
+in_both : (q p : ℕ) (xs : List ℕ) → one_of q (xs ++ p ∷ []) ≡ true → (one_of q xs ≡ true) ⊎ (q ≡ p)
+in_both q p xs h = elim (or_cases (one_of q xs) (one_of q (p ∷ [])) (sym (one_of_append q xs (p ∷ [])) ∙ h)) [
+  | inl o ↦ inl o
+  | inr o ↦ inr (one_is q p o)
+]
+
+-- ---- begin and cease ----
+
+pub all_wait : (w : Waiting) (n : ℕ) → w.fresh ≡ n → w.again.items ≡ [] → w.marks.items ≡ replicate n true → AreWaiting w
+all_wait w n f a m = record {
+  fresh = omega (arith, f, many);
+  again = λ q h. absurd (let t : one_of q w.again.items ≡ false = ap (one_of q) a in cc);
+  listed = λ q h. inr (let l = marked_within w.marks.items q h in omega (arith, f, many, l));
+  few = omega (arith, f, ap length a, ap count_marked m, count_all n);
+}
+  where
+    many : length w.marks.items ≡ n
+    many = ap length m ∙ length-replicate n true
+
+pub none_waits : (w : Waiting) → AreWaiting w → w.again.items ≡ [] → w.fresh ≡ 0 → (q : ℕ) → marked w.marks.items q ≡ false
+none_waits w a e f q = go (marked w.marks.items q) refl
+  where
+    go : (b : Bool) → marked w.marks.items q ≡ b → marked w.marks.items q ≡ false
+    go false h = h
+    go true h = elim (a.listed q h) [
+      | inl o ↦ absurd (let t : one_of q w.again.items ≡ false = ap (one_of q) e in cc)
+      | inr l ↦ absurd (omega (arith, l, f))
+    ]
+
+pub pushed : (w w' : Waiting) (p : ℕ) → AreWaiting w → p < length w.marks.items → marked w.marks.items p ≡ false → w'.fresh ≡ w.fresh → w'.again.items ≡ w.again.items ++ p ∷ [] → w'.marks.items ≡ slice_set w.marks.items p true → WaitMore w w'
+pushed w w' p a l n f e m = record {
+  waiting = record { fresh = omega (arith, many, f, a.fresh); again = again; listed = listed; few = few };
+  as_many = many;
+  kept = kept;
+}
+  where
+    many : length w'.marks.items ≡ length w.marks.items
+    many = ap length m ∙ length-set w.marks.items p true
+
+    other : (q : ℕ) → q ≢ p → marked w'.marks.items q ≡ marked w.marks.items q
+    other q d = ap (λ (ms : List Bool). marked ms q) m ∙ set_else w.marks.items p q true d
+
+    again : (q : ℕ) → one_of q w'.again.items ≡ true → q < length w'.marks.items
+    again q h = elim (in_both q p w.again.items (sym (ap (one_of q) e) ∙ h)) [
+      | inl o ↦ let r = a.again q o in omega (arith, r, many)
+      | inr s ↦ omega (arith, s, l, many)
+    ]
+
+    more : (q : ℕ) → (one_of q w.again.items || one_of q (p ∷ [])) ≡ true → one_of q w'.again.items ≡ true
+    more q h = ap (one_of q) e ∙ one_of_append q w.again.items (p ∷ []) ∙ h
+
+    listed : (q : ℕ) → marked w'.marks.items q ≡ true → (one_of q w'.again.items ≡ true) ⊎ (q < w'.fresh)
+    listed q h = elim (cases_eq q p) [
+      | inl s ↦ inl (more q (or_right (one_of q w.again.items) _ (is_one q p s)))
+      | inr d ↦ elim (a.listed q (sym (other q d) ∙ h)) [
+        | inl o ↦ inl (more q (or_left _ _ o))
+        | inr r ↦ inr (omega (arith, r, f))
+      ]
+    ]
+
+    few : left w' ≤ count_marked w'.marks.items
+    few = omega (arith, a.few, f, ap length e, length-append w.again.items (p ∷ []), ap count_marked m, count_set w.marks.items p true l, ap from_bool n)
+
+    kept : (q : ℕ) → marked w.marks.items q ≡ true → marked w'.marks.items q ≡ true
+    kept q h = elim (cases_eq q p) [
+      | inl s ↦ absurd (let t : marked w.marks.items q ≡ false = ap (marked w.marks.items) s ∙ n in cc)
+      | inr d ↦ other q d ∙ h
+    ]
+
+pub taken : (w w' : Waiting) (p : ℕ) → AreWaiting w → p < length w.marks.items → w'.marks.items ≡ slice_set w.marks.items p false → left w' + 1 ≡ left w → w'.fresh ≤ w.fresh
+    → ((q : ℕ) → one_of q w'.again.items ≡ true → one_of q w.again.items ≡ true) → ((q : ℕ) → q ≢ p → (one_of q w.again.items ≡ true) ⊎ (q < w.fresh) → (one_of q w'.again.items ≡ true) ⊎ (q < w'.fresh)) → IsTaken p w w'
+taken w w' p a l m less f was still = record {
+  waiting = record { fresh = omega (arith, many, f, a.fresh); again = again; listed = listed; few = few };
+  as_many = many;
+  within = l;
+  others = other;
+  less = less;
+}
+  where
+    many : length w'.marks.items ≡ length w.marks.items
+    many = ap length m ∙ length-set w.marks.items p false
+
+    other : (q : ℕ) → q ≢ p → marked w'.marks.items q ≡ marked w.marks.items q
+    other q d = ap (λ (ms : List Bool). marked ms q) m ∙ set_else w.marks.items p q false d
+
+    again : (q : ℕ) → one_of q w'.again.items ≡ true → q < length w'.marks.items
+    again q h = let r = a.again q (was q h) in omega (arith, r, many)
+
+    listed : (q : ℕ) → marked w'.marks.items q ≡ true → (one_of q w'.again.items ≡ true) ⊎ (q < w'.fresh)
+    listed q h = elim (cases_eq q p) [
+      | inl s ↦ absurd (let t : marked w'.marks.items q ≡ false = ap (marked w'.marks.items) s ∙ ap (λ (ms : List Bool). marked ms p) m ∙ set_here w.marks.items p false l in cc)
+      | inr d ↦ still q d (a.listed q (sym (other q d) ∙ h))
+    ]
+
+    few : left w' ≤ count_marked w'.marks.items
+    few = omega (arith, a.few, less, ap count_marked m, count_set w.marks.items p false l, one_at_most (marked w.marks.items p))
+
+-- the last of those that wait again
+pub last_within : (w : Waiting) (rest : List ℕ) (p : ℕ) → AreWaiting w → w.again.items ≡ rest ++ p ∷ [] → p < length w.marks.items
+last_within w rest p a e = a.again p (ap (one_of p) e ∙ one_of_append p rest (p ∷ []) ∙ or_right (one_of p rest) _ (is_one p p refl))
+
+pub last_taken : (w w' : Waiting) (p : ℕ) → AreWaiting w → w.again.items ≡ w'.again.items ++ p ∷ [] → w'.fresh ≡ w.fresh → w'.marks.items ≡ slice_set w.marks.items p false → IsTaken p w w'
+last_taken w w' p a e f m =
+    taken w w' p a (last_within w w'.again.items p a e) m (omega (arith, f, ap length e, length-append w'.again.items (p ∷ []))) (omega (arith, f)) (λ q h. old q (or_left _ _ h)) still
+  where
+    old : (q : ℕ) → (one_of q w'.again.items || one_of q (p ∷ [])) ≡ true → one_of q w.again.items ≡ true
+    old q h = ap (one_of q) e ∙ one_of_append q w'.again.items (p ∷ []) ∙ h
+
+    still : (q : ℕ) → q ≢ p → (one_of q w.again.items ≡ true) ⊎ (q < w.fresh) → (one_of q w'.again.items ≡ true) ⊎ (q < w'.fresh)
+    still q d (inr r) = inr (omega (arith, r, f))
+    still q d (inl o) = elim (in_both q p w'.again.items (sym (ap (one_of q) e) ∙ o)) [
+      | inl h ↦ inl h
+      | inr s ↦ absurd (d s)
+    ]
+
+-- the last of those that weren't visited yet
+pub fresh_taken : (w w' : Waiting) (p : ℕ) → AreWaiting w → w'.again.items ≡ w.again.items → w.fresh ≡ p + 1 → w'.fresh ≡ p → w'.marks.items ≡ slice_set w.marks.items p false → IsTaken p w w'
+fresh_taken w w' p a e f g m =
+    taken w w' p a (omega (arith, a.fresh, f)) m (omega (arith, ap length e, f, g)) (omega (arith, f, g)) (λ q h. sym (ap (one_of q) e) ∙ h) still
+  where
+    still : (q : ℕ) → q ≢ p → (one_of q w.again.items ≡ true) ⊎ (q < w.fresh) → (one_of q w'.again.items ≡ true) ⊎ (q < w'.fresh)
+    still q d (inl o) = inl (ap (one_of q) e ∙ o)
+    still q d (inr r) = inr (omega (arith, d, r, f, g))
+
+-- ---- more wait ----
+
+pub more_same : (w : Waiting) → AreWaiting w → WaitMore w w
+more_same w a = record { waiting = a; as_many = refl; kept = λ q h. h }
+
+pub more_on : (w w' w'' : Waiting) → WaitMore w w' → WaitMore w' w'' → WaitMore w w''
+more_on w w' w'' a b = record { waiting = b.waiting; as_many = b.as_many ∙ a.as_many; kept = λ q h. b.kept q (a.kept q h) }
+
+-- never more than there are places
+pub few_left : (w : Waiting) → AreWaiting w → left w ≤ length w.marks.items
+few_left w a = let h = count_bound w.marks.items in omega (arith, a.few, h)
