@@ -65,21 +65,21 @@ RaisesBytes old new (Err sink.Failed) = new.script.faults ≡ counted old.script
 RaisesBytes old new (Err sink.Memory) = new.script.faults ≡ old.script.faults
 
 -- a real store
-pub record Calls : Type 0 where
+pub record RealFiles : Type 0 where
   pub faults : ℕ
   pub missing : ℕ
   pub oversize : ℕ
   pub events : List Event
 
 -- it tells nothing of what it holds
-abbrev pub seen_files : Calls → Seen
+abbrev pub seen_files : RealFiles → Seen
 seen_files s = record { tells = false; held = λ _. None; may_fail = true; faults = s.faults; missing = s.missing; oversize = s.oversize; events = s.events }
 
 -- a real sink
-pub record Output : Type 0 where
+pub record RealOutput : Type 0 where
   pub faults : ℕ
   pub events : List Event
 
 -- it tells nothing of what was written
-abbrev pub seen_output : Output → Sunk
+abbrev pub seen_output : RealOutput → Sunk
 seen_output s = record { tells = false; written = []; may_fail = true; faults = s.faults; events = s.events }

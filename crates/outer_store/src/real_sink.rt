@@ -1,6 +1,6 @@
 //! Standard output.
 ghost use Rattle.std.specs.Prelude.{◌≡◌, []};
-ghost use Rattle.outer_store.specs.Scripts.{Output, seen_output};
+ghost use Rattle.outer_store.specs.Scripts.{RealOutput, seen_output};
 
 use crate::history::History;
 use crate::transfer::write_all;
@@ -17,7 +17,7 @@ pub struct RealSink<R: Print> {
 }
 
 impl<R: Print> Model for RealSink<R> {
-    ghost Value = { Output };
+    ghost Value = { RealOutput };
 
     ghost view = { λ s. record { faults = s.faults; events = s.history.events } };
 }

@@ -1,6 +1,6 @@
 //! Files by name.
 ghost use Rattle.std.specs.Prelude.{◌≡◌, []};
-ghost use Rattle.outer_store.specs.Scripts.{Calls, seen_files};
+ghost use Rattle.outer_store.specs.Scripts.{RealFiles, seen_files};
 
 use crate::history::History;
 use crate::transfer::{read_all, write_all};
@@ -22,7 +22,7 @@ pub struct RealStore<R: Files> {
 }
 
 impl<R: Files> Model for RealStore<R> {
-    ghost Value = { Calls };
+    ghost Value = { RealFiles };
 
     ghost view = { λ s. record { faults = s.faults; missing = s.missing; oversize = s.oversize; events = s.history.events } };
 }
