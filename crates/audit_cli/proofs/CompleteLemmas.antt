@@ -7,7 +7,7 @@ use Rattle.command_line.proofs.Usage.{asks_once}
 use Rattle.outer_store.specs.Outside.{Seen, Sunk, Shows, IsTooBig, MissedAt, TooBigAt, limit}
 use Rattle.command_runs.specs.declared.status.Status.{Status}
 use Rattle.command_runs.specs.declared.status.Status.TheVariants as status
-use Rattle.command_runs.specs.Plans.{Refuses, ComesTo, StopsAt, IsStopped}
+use Rattle.command_runs.specs.Plans.{Refuses, ComesTo, StopsAt}
 use Rattle.audit_cli.specs.Peep.{plan_of, Peeps, Ran}
 use Rattle.audit_cli.specs.Complete.{IsWithin, CanBeFetched, CanAllBeFetched, IsUnhindered, IsUnrefused, IsRefusedByFull, IsCarriedOut, IsCarriedOutOrFull, IsComplete, IsCompleteButForFull}
 
@@ -39,10 +39,10 @@ none_stops old new cause f (n ∷ ns) a h = elim h [
 module _ (words : List (List ℕ)) (r : Request) (old new : Seen) (before after : Sunk) (text : All IsUtf8 words) (asks : AskFor words r) where
   -- the run stopped at a name
   stopped : (cause : List ℕ → Type 0) → ((n : List ℕ) → CanBeFetched old new n → cause n → ⊥) → IsUnhindered (plan_of r) old new before after
-      → (q : Request) → AskFor words q → IsStopped (plan_of q) cause old new before after → ⊥
+      → (q : Request) → AskFor words q → StopsAt cause old (plan_of q).names → ⊥
   stopped cause f u q a h =
       let same : q ≡ r = asks_once words text q r a asks in
-      none_stops old new cause f (plan_of r).names u.names (subst (λ (p : Request). StopsAt cause old (plan_of p).names) same h.stops)
+      none_stops old new cause f (plan_of r).names u.names (subst (λ (p : Request). StopsAt cause old (plan_of p).names) same h)
 
   -- the refusal of a run stands
   stands : (q : Request) → AskFor words q → (line : List ℕ) → ComesTo (plan_of q) old (Refuses line) → ComesTo (plan_of r) old (Refuses line)
@@ -58,8 +58,8 @@ module _ (words : List (List ℕ)) (r : Request) (old new : Seen) (before after 
   ends status.Usage h u f = absurd (h.0 r asks)
   ends status.StoreFault h u f = absurd (u.store h.2.rose)
   ends status.SinkFault h u f = absurd (u.sink h.2.rose)
-  ends status.TooBig h u f = absurd (stopped (λ n. TooBigAt old new n) (not_too_big old new) u h.0 h.1 h.2)
-  ends status.Missing h u f = absurd (stopped (λ n. MissedAt old new n) (not_missed old new) u h.0 h.1 h.2)
+  ends status.TooBig h u f = absurd (stopped (λ n. TooBigAt old new n) (not_too_big old new) u h.0 h.1 h.2.stops)
+  ends status.Missing h u f = absurd (stopped (λ n. MissedAt old new n) (not_missed old new) u h.0 h.1 h.2.stops)
 
   pub ends_full : (s : Status) → Peeps words old new before after s → IsUnhindered (plan_of r) old new before after → IsRefusedByFull (plan_of r) old → IsCarriedOutOrFull before after s
   ends_full status.Done h u f = inl (inl refl)
@@ -68,8 +68,8 @@ module _ (words : List (List ℕ)) (r : Request) (old new : Seen) (before after 
   ends_full status.Usage h u f = absurd (h.0 r asks)
   ends_full status.StoreFault h u f = absurd (u.store h.2.rose)
   ends_full status.SinkFault h u f = absurd (u.sink h.2.rose)
-  ends_full status.TooBig h u f = absurd (stopped (λ n. TooBigAt old new n) (not_too_big old new) u h.0 h.1 h.2)
-  ends_full status.Missing h u f = absurd (stopped (λ n. MissedAt old new n) (not_missed old new) u h.0 h.1 h.2)
+  ends_full status.TooBig h u f = absurd (stopped (λ n. TooBigAt old new n) (not_too_big old new) u h.0 h.1 h.2.stops)
+  ends_full status.Missing h u f = absurd (stopped (λ n. MissedAt old new n) (not_missed old new) u h.0 h.1 h.2.stops)
 
 pub complete : IsComplete
 complete words r old new before after s text asks h u f = ends words r old new before after text asks s h u f

@@ -8,7 +8,7 @@ use Rattle.command_runs.specs.Plans.{Runs}
 use Rattle.audit_cli.specs.Peep.{plan_of, IsUntouched, Peeps}
 
 pub untouched : (seen : Seen) (sunk : Sunk) → IsUntouched seen seen sunk sunk
-untouched seen sunk = record { same = λ n. refl; wrote = λ t. refl }
+untouched seen sunk = record { calls = refl; put = refl; same = λ n. refl; wrote = λ t. refl }
 
 pub ran : (words : List (List ℕ)) (r : Request) (old new : Seen) (before after : Sunk) (s : Status) → AskFor words r → Runs (plan_of r) old new before after s → Peeps words old new before after s
 ran words r old new before after status.Done a h = (r, a, h)

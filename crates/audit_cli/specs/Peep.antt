@@ -1,5 +1,5 @@
 -- The whole contract of the top call: what the words ask for, and what the run of it has done.
-use Rattle.std.specs.Prelude.{ℕ, ◌⊎◌, List, [], ◌∷◌}
+use Rattle.std.specs.Prelude.{◌≡◌, ℕ, ◌⊎◌, List, [], ◌∷◌}
 use Rattle.command_line.specs.CommandLine.{Request, rewrite, audit, learn, export, trace, demo, AskFor}
 use Rattle.outer_store.specs.Outside.{Seen, SameHeld, Sunk, WroteNone}
 use Rattle.command_runs.specs.declared.status.Status.{Status}
@@ -27,8 +27,10 @@ plan_of (export table entry cnf lrat) = record { names = table ∷ []; comes = E
 plan_of (trace listing label steps) = record { names = listing ∷ []; comes = TraceComesTo (record { label = label; most = steps }) }
 plan_of (demo windows) = record { names = []; comes = λ texts. DemoComesTo windows }
 
--- nothing was kept or printed
+-- nothing was asked of the store or the sink, and nothing was kept or printed
 pub record IsUntouched (old new : Seen) (before after : Sunk) : Type 0 where
+  pub calls : new.events ≡ old.events
+  pub put : after.events ≡ before.events
   pub same : SameHeld old.held new.held
   pub wrote : WroteNone before after
 

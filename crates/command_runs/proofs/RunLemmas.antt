@@ -1,23 +1,30 @@
 -- The stages of a run make the whole of it.
-use Rattle.std.proofs.Common.{◌≡◌, ◌≢◌, ◌∙◌, ◌≤◌, inl, inr, ℕ, suc, List, [], ◌∷◌, take, length, Some, None, true, refl, sym, ap, subst, arith, Err}
+use Rattle.std.proofs.Common.{◌≡◌, ◌≢◌, ◌∙◌, ◌≤◌, inl, inr, ℕ, suc, List, [], ◌∷◌, ◌++◌, take, length, Some, None, true, refl, sym, ap, subst, arith, Err}
+use Rattle.std.proofs.lemmas.List.{append-nil}
 use Rattle.std.specs.Prelude.{if◌then◌else◌, All}
 use Rattle.std.specs.Str.{bytes_eq}
 use Rattle.std.proofs.lemmas.Bool.{cases_Bool}
 use Rattle.std.proofs.lemmas.Slice.Eq.{bytes_eq-Decides}
 use Rattle.command_runs.specs.declared.status.Status.{Status}
 use Rattle.command_runs.specs.declared.status.Status.TheVariants as status
+use Rattle.outer_store.specs.declared.StoreError.TheVariants as store
+use Rattle.outer_store.specs.Events.{Event, Keeping}
 use Rattle.outer_store.specs.Outside.{Sunk, Seen, Held, SameHeld, SameCounts, Grows, Rose, MissedAt, TooBigAt, IsTooBig, limit}
-use Rattle.command_runs.specs.Plans.{Keep, Outcome, Refuses, Does, Plan, keeps_of, AreTexts, StopsAt, with_text, kept, Kept, FailsAfter, ShortAfter, ComesTo, Runs}
+use Rattle.command_runs.specs.Plans.{Keep, Outcome, Refuses, Does, Plan, keeps_of, AreTexts, StopsAt, ReadsSome, with_text, kept, Kept, FailsAfter, ShortAfter, ComesTo, Runs, at_fetch, at_keep, at_put, fetchings, keepings}
 use Rattle.command_runs.specs.Stages.{Gathers, Stores, Prints, Finishes}
-use Rattle.command_runs.proofs.StageLemmas.{rose_before, same_again, counts_first, counts_again}
+use Rattle.command_runs.proofs.StageLemmas.{rose_before, same_again, counts_first, counts_again, called_then}
 
 -- ---- after the outcome ----
 
+-- no call was made
+uncalled : (seen : Seen) → seen.events ≡ seen.events ++ []
+uncalled seen = sym (append-nil seen.events)
+
 -- one line is put, and nothing is kept
 pub refused : (line : List ℕ) (seen : Seen) (before after : Sunk) (s : Status) → Prints status.Refused line before after s → Finishes (Refuses line) seen seen before after s
-refused line seen before after status.Refused h = (refl, counts_first seen, λ n. refl, h.1, h.2)
-refused line seen before after status.SinkFault h = (h.0, λ t n. refl, h.1)
-refused line seen before after status.Memory h = (record { number = 0; within = omega arith; kept = λ t n. refl }, h)
+refused line seen before after status.Refused h = (refl, counts_first seen, λ n. refl, uncalled seen, h)
+refused line seen before after status.SinkFault h = (λ t n. refl, uncalled seen, h)
+refused line seen before after status.Memory h = inr (λ t n. refl, uncalled seen, h)
 refused line seen before after status.Done h = absurd (cc (h.0))
 refused line seen before after status.Usage h = h
 refused line seen before after status.StoreFault h = absurd h
@@ -26,8 +33,8 @@ refused line seen before after status.Missing h = h
 
 -- a keep failed, or memory was refused at one
 pub unstored : (keeps : List Keep) (lines : List ℕ) (old new : Seen) (sunk : Sunk) (s : Status) → Stores keeps old new (Err s) → Finishes (Does keeps lines) old new sunk sunk s
-unstored keeps lines old new sunk status.StoreFault h = (h.0, h.1, λ t. refl)
-unstored keeps lines old new sunk status.Memory h = (h, λ t. refl)
+unstored keeps lines old new sunk status.StoreFault h = (h.0, h.1, λ t. refl, refl)
+unstored keeps lines old new sunk status.Memory h = inl (h, λ t. refl, refl)
 unstored keeps lines old new sunk status.Done h = absurd h
 unstored keeps lines old new sunk status.Refused h = absurd h
 unstored keeps lines old new sunk status.Usage h = h
@@ -35,15 +42,12 @@ unstored keeps lines old new sunk status.SinkFault h = absurd h
 unstored keeps lines old new sunk status.TooBig h = h
 unstored keeps lines old new sunk status.Missing h = h
 
-all_of : {X : Type 0} (xs : List X) → take (length xs) xs ≡ xs
-all_of [] = refl
-all_of (x ∷ xs) = ap (λ ys. x ∷ ys) (all_of xs)
-
 -- all is kept, and the lines are put
-pub done : (keeps : List Keep) (lines : List ℕ) (old new : Seen) (before after : Sunk) (s : Status) → SameCounts old new × Kept keeps old new → Prints status.Done lines before after s → Finishes (Does keeps lines) old new before after s
-done keeps lines old new before after status.Done k h = (refl, k.0, k.1, h.1, h.2)
-done keeps lines old new before after status.SinkFault k h = (h.0, k.1, h.1)
-done keeps lines old new before after status.Memory k h = (record { number = length keeps; within = omega arith; kept = subst (λ (ks : List Keep). Kept ks old new) (sym (all_of keeps)) k.1 }, h)
+pub done : (keeps : List Keep) (lines : List ℕ) (old new : Seen) (before after : Sunk) (s : Status) → SameCounts old new × Kept keeps old new × (new.events ≡ old.events ++ keepings keeps) → Prints status.Done lines before after s
+    → Finishes (Does keeps lines) old new before after s
+done keeps lines old new before after status.Done k h = (refl, k.0, k.1, k.2, h)
+done keeps lines old new before after status.SinkFault k h = (k.1, k.2, h)
+done keeps lines old new before after status.Memory k h = inr (k.1, k.2, h)
 done keeps lines old new before after status.Refused k h = absurd (cc (h.0))
 done keeps lines old new before after status.Usage k h = h
 done keeps lines old new before after status.StoreFault k h = absurd h
@@ -54,18 +58,30 @@ done keeps lines old new before after status.Missing k h = h
 
 -- the run stops at the fetches
 pub stopped : (plan : Plan) (old new : Seen) (sunk : Sunk) (s : Status) → SameHeld old.held new.held → Gathers plan.names old new (Err s) → Runs plan old new sunk sunk s
-stopped plan old new sunk status.StoreFault same h = record { rose = h; kept = inl same; wrote = λ t. refl }
-stopped plan old new sunk status.Missing same h = record { stops = h; same = same; wrote = λ t. refl }
-stopped plan old new sunk status.TooBig same h = record { stops = h; same = same; wrote = λ t. refl }
-stopped plan old new sunk status.Memory same h = record { kept = inl same; wrote = λ t. refl }
+stopped plan old new sunk status.StoreFault same h = record { rose = h.0; kept = inl (same, h.1); wrote = λ t. refl; put = refl }
+stopped plan old new sunk status.Missing same h = record { stops = h.0; calls = h.1; same = same; wrote = λ t. refl; put = refl }
+stopped plan old new sunk status.TooBig same h = record { stops = h.0; calls = h.1; same = same; wrote = λ t. refl; put = refl }
+stopped plan old new sunk status.Memory same h = record { short = at_fetch same h refl; wrote = λ t. refl }
 stopped plan old new sunk status.Done same h = absurd h
 stopped plan old new sunk status.Refused same h = absurd h
 stopped plan old new sunk status.Usage same h = h
 stopped plan old new sunk status.SinkFault same h = absurd h
 
--- memory was refused before the keeps
-pub short : (plan : Plan) (old new : Seen) (sunk : Sunk) → SameHeld old.held new.held → Runs plan old new sunk sunk status.Memory
-short plan old new sunk same = record { kept = inl same; wrote = λ t. refl }
+all_of : {X : Type 0} (xs : List X) → take (length xs) xs ≡ xs
+all_of [] = refl
+all_of (x ∷ xs) = ap (λ ys. x ∷ ys) (all_of xs)
+
+-- memory was refused between the fetches and the keeps
+pub short : (plan : Plan) (texts : List (List ℕ)) (old new : Seen) (sunk : Sunk) → SameHeld old.held new.held → SameCounts old new × AreTexts old plan.names texts × (new.events ≡ old.events ++ fetchings plan.names texts)
+    → Runs plan old new sunk sunk status.Memory
+short plan texts old new sunk same read = record { short = at_fetch same (inr all) refl; wrote = λ t. refl } where
+  all : ReadsSome plan.names old new
+  all = record {
+    number = length plan.names;
+    texts = texts;
+    read = subst (λ (ns : List (List ℕ)). AreTexts old ns texts) (sym (all_of plan.names)) read.1;
+    calls = read.2 ∙ ap (λ (ns : List (List ℕ)). old.events ++ fetchings ns texts) (sym (all_of plan.names));
+  }
 
 -- ---- the whole run ----
 
@@ -76,33 +92,84 @@ kept_same (x ∷ xs) h k s n = kept_same xs (with_text h x) (with_text k x) (λ 
 kept_before : (ks : List Keep) (a b c : Seen) → Grows a b → SameHeld a.held b.held → Kept ks b c → Kept ks a c
 kept_before ks a b c g s k = λ t n. k (g.tells ∙ t) n ∙ kept_same ks a.held b.held s n
 
-fails_before : (ks : List Keep) (a b c : Seen) → Grows a b → SameHeld a.held b.held → FailsAfter ks b c → FailsAfter ks a c
-fails_before ks a b c g s h = record { number = h.number; failed = h.failed; is_next = h.is_next; kept = λ t n d. h.kept (g.tells ∙ t) n d ∙ kept_same (take h.number ks) a.held b.held s n }
+fails_before : (calls : List Event) (ks : List Keep) (a b c : Seen) → Grows a b → SameHeld a.held b.held → b.events ≡ a.events ++ calls → FailsAfter [] ks b c → FailsAfter calls ks a c
+fails_before calls ks a b c g s p h = record {
+  number = h.number;
+  failed = h.failed;
+  is_next = h.is_next;
+  kept = λ t n d. h.kept (g.tells ∙ t) n d ∙ kept_same (take h.number ks) a.held b.held s n;
+  calls = called_then a.events b.events c.events calls (keepings (take h.number ks) ++ Keeping h.failed.0 h.failed.1 (Err store.Failed) ∷ []) p h.calls;
+}
 
-short_before : (ks : List Keep) (a b c : Seen) → Grows a b → SameHeld a.held b.held → ShortAfter ks b c → ShortAfter ks a c
-short_before ks a b c g s h = record { number = h.number; within = h.within; kept = kept_before (take h.number ks) a b c g s h.kept }
+short_before : (calls : List Event) (ks : List Keep) (a b c : Seen) → Grows a b → SameHeld a.held b.held → b.events ≡ a.events ++ calls → ShortAfter [] ks b c → ShortAfter calls ks a c
+short_before calls ks a b c g s p h = record {
+  number = h.number;
+  failed = h.failed;
+  is_next = h.is_next;
+  kept = kept_before (take h.number ks) a b c g s h.kept;
+  calls = called_then a.events b.events c.events calls (keepings (take h.number ks) ++ Keeping h.failed.0 h.failed.1 (Err store.Memory) ∷ []) p h.calls;
+}
 
 -- the texts were fetched, come to an outcome, and that was finished
-pub finished : (plan : Plan) (texts : List (List ℕ)) (o : Outcome) (old mid new : Seen) (before after : Sunk) (s : Status) → SameCounts old mid × AreTexts old plan.names texts → SameHeld old.held mid.held → Grows old mid
-    → plan.comes texts o → Finishes o mid new before after s → Runs plan old new before after s
+pub finished : (plan : Plan) (texts : List (List ℕ)) (o : Outcome) (old mid new : Seen) (before after : Sunk) (s : Status) → SameCounts old mid × AreTexts old plan.names texts × (mid.events ≡ old.events ++ fetchings plan.names texts)
+    → SameHeld old.held mid.held → Grows old mid → plan.comes texts o → Finishes o mid new before after s → Runs plan old new before after s
 finished plan texts o old mid new before after s read same g comes h = go s h where
-  from : ComesTo plan old o
-  from = record { texts = texts; read = read.1; comes = comes }
+  from : (x : Outcome) → plan.comes texts x → ComesTo plan old x
+  from x c = record { texts = texts; read = read.1; comes = c }
 
-  is_done : (x : Outcome) → ComesTo plan old x → Finishes x mid new before after status.Done → Runs plan old new before after status.Done
+  all : (ks : List Keep) → new.events ≡ mid.events ++ keepings ks → new.events ≡ old.events ++ (fetchings plan.names texts ++ keepings ks)
+  all ks q = called_then old.events mid.events new.events (fetchings plan.names texts) (keepings ks) read.2 q
+
+  is_done : (x : Outcome) → plan.comes texts x → Finishes x mid new before after status.Done → Runs plan old new before after status.Done
   is_done (Refuses line) c f = absurd (cc (f.0))
-  is_done (Does keeps lines) c f = record { counts = counts_again old mid new read.0 f.1; faults = f.3; keeps = keeps; lines = lines; outcome = c; kept = kept_before keeps old mid new g same f.2; wrote = f.4 }
+  is_done (Does keeps lines) c f = record {
+    counts = counts_again old mid new read.0 f.1;
+    faults = f.4.1;
+    keeps = keeps;
+    lines = lines;
+    outcome = from (Does keeps lines) c;
+    kept = kept_before keeps old mid new g same f.2;
+    wrote = f.4.2;
+    calls = all keeps f.3;
+    put = f.4.3;
+  }
 
-  is_refused : (x : Outcome) → ComesTo plan old x → Finishes x mid new before after status.Refused → Runs plan old new before after status.Refused
-  is_refused (Refuses line) c f = record { counts = counts_again old mid new read.0 f.1; faults = f.3; line = line; outcome = c; same = same_again old.held mid.held new.held same f.2; wrote = f.4 }
+  is_refused : (x : Outcome) → plan.comes texts x → Finishes x mid new before after status.Refused → Runs plan old new before after status.Refused
+  is_refused (Refuses line) c f = record {
+    counts = counts_again old mid new read.0 f.1;
+    faults = f.4.1;
+    line = line;
+    outcome = from (Refuses line) c;
+    same = same_again old.held mid.held new.held same f.2;
+    wrote = f.4.2;
+    calls = all [] f.3;
+    put = f.4.3;
+  }
   is_refused (Does keeps lines) c f = absurd (cc (f.0))
 
+  is_short : Finishes o mid new before after status.Memory → Runs plan old new before after status.Memory
+  is_short (inl f) = record { short = at_keep o (from o comes) (short_before (fetchings plan.names texts) (keeps_of o) old mid new g same read.2 f.0) f.2; wrote = f.1 }
+  is_short (inr f) = record { short = at_put o (from o comes) (kept_before (keeps_of o) old mid new g same f.0) (all (keeps_of o) f.1) f.2.1; wrote = f.2.0 }
+
   go : (s : Status) → Finishes o mid new before after s → Runs plan old new before after s
-  go status.Done f = is_done o from f
-  go status.Refused f = is_refused o from f
-  go status.StoreFault f = record { rose = rose_before old.faults mid.faults new.faults g.faults f.0; kept = inr (o, from, fails_before (keeps_of o) old mid new g same f.1); wrote = f.2 }
-  go status.SinkFault f = record { rose = f.0; due_outcome = o; outcome = from; kept = kept_before (keeps_of o) old mid new g same f.1; wrote = f.2 }
-  go status.Memory f = record { kept = inr (o, from, short_before (keeps_of o) old mid new g same f.0); wrote = f.1 }
+  go status.Done f = is_done o comes f
+  go status.Refused f = is_refused o comes f
+  go status.StoreFault f = record {
+    rose = rose_before old.faults mid.faults new.faults g.faults f.0;
+    kept = inr (o, from o comes, fails_before (fetchings plan.names texts) (keeps_of o) old mid new g same read.2 f.1);
+    wrote = f.2;
+    put = f.3;
+  }
+  go status.SinkFault f = record {
+    rose = f.2.0;
+    due_outcome = o;
+    outcome = from o comes;
+    kept = kept_before (keeps_of o) old mid new g same f.0;
+    wrote = f.2.1;
+    calls = all (keeps_of o) f.1;
+    put = f.2.2;
+  }
+  go status.Memory f = is_short f
   go status.Usage f = f
   go status.TooBig f = absurd f
   go status.Missing f = absurd f

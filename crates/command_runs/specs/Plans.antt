@@ -1,8 +1,12 @@
--- What a run of a command has done, by the status that it ends with.
-use Rattle.std.specs.Prelude.{◌≡◌, ◌≢◌, ◌≤◌, ◌⊎◌, ℕ, true, List, [], ◌∷◌, take, length, Some, slice_get, if◌then◌else◌}
+-- What a run of a command has done, by the status that it ends with: what was asked of the store and the sink, call by call, and what they then hold, where they tell it.
+use Rattle.std.specs.Prelude.{◌≡◌, ◌≢◌, ◌≤◌, ◌⊎◌, ℕ, true, List, [], ◌∷◌, ◌++◌, take, length, Some, Ok, Err, slice_get, if◌then◌else◌}
 use Rattle.std.specs.Str.{bytes_eq}
 use Rattle.command_runs.specs.declared.status.Status.{Status}
 use Rattle.command_runs.specs.declared.status.Status.TheVariants as status
+use Rattle.outer_store.specs.declared.StoreError.{StoreError}
+use Rattle.outer_store.specs.declared.StoreError.TheVariants as store
+use Rattle.outer_store.specs.declared.SinkError.TheVariants as sink
+use Rattle.outer_store.specs.Events.{Event, Fetching, Keeping, Putting}
 use Rattle.outer_store.specs.Outside.{Seen, Held, SameHeld, SameCounts, Rose, MissedAt, TooBigAt, Gave, limit, Sunk, Wrote, WrotePart, WroteNone}
 
 -- the number that the process ends with
@@ -42,6 +46,12 @@ due (Does keeps lines) = lines
 
 -- ---- the fetches ----
 
+-- these names were fetched, in order, and these texts were answered
+abbrev pub fetchings : List (List ℕ) → List (List ℕ) → List Event
+fetchings [] ts = []
+fetchings (n ∷ ns) [] = []
+fetchings (n ∷ ns) (t ∷ ts) = Fetching n (Ok t) ∷ fetchings ns ts
+
 -- the text that the run went by is within the limit, and the one held, where the store tells
 abbrev pub IsText : Seen → List ℕ → List ℕ → Type 0
 IsText old name text = (length text ≤ limit) × Gave old name text
@@ -58,7 +68,28 @@ abbrev pub StopsAt : (List ℕ → Type 0) → Seen → List (List ℕ) → Type
 StopsAt cause old [] = ⊥
 StopsAt cause old (n ∷ ns) = cause n ⊎ (((t : List ℕ) × IsText old n t) × StopsAt cause old ns)
 
+-- the first names were fetched, and their texts answered; nothing else was asked
+pub record ReadsSome (names : List (List ℕ)) (old new : Seen) : Type 0 where
+  pub number : ℕ
+  pub texts : List (List ℕ)
+  pub read : AreTexts old (take number names) texts
+  pub calls : new.events ≡ old.events ++ fetchings (take number names) texts
+
+-- the first names were fetched, and their texts answered; then the next was fetched, and this error answered
+pub record ReadsUpTo (error : StoreError) (names : List (List ℕ)) (old new : Seen) : Type 0 where
+  pub number : ℕ
+  pub texts : List (List ℕ)
+  pub failed : List ℕ
+  pub read : AreTexts old (take number names) texts
+  pub is_next : slice_get names number ≡ Some failed
+  pub calls : new.events ≡ old.events ++ (fetchings (take number names) texts ++ Fetching failed (Err error) ∷ [])
+
 -- ---- the keeps ----
+
+-- all of this was kept, in order
+abbrev pub keepings : List Keep → List Event
+keepings [] = []
+keepings (k ∷ ks) = Keeping k.0 k.1 (Ok tt) ∷ keepings ks
 
 -- what is held once bytes were put under a name
 abbrev pub with_text : Held → Keep → Held
@@ -77,18 +108,25 @@ Kept ks old new = old.tells ≡ true → (n : List ℕ) → new.held n ≡ kept 
 abbrev pub KeptBut : List ℕ → List Keep → Seen → Seen → Type 0
 KeptBut name ks old new = old.tells ≡ true → (n : List ℕ) → n ≢ name → new.held n ≡ kept ks old.held n
 
+-- after some calls the first keeps were done, and then the next, which answered this error
+abbrev pub KeepsUpTo : StoreError → List Event → List Keep → ℕ → Keep → Seen → Seen → Type 0
+KeepsUpTo error so_far ks number failed old new = new.events ≡ old.events ++ (so_far ++ (keepings (take number ks) ++ Keeping failed.0 failed.1 (Err error) ∷ []))
+
 -- the first keeps were done, and the next failed
-pub record FailsAfter (ks : List Keep) (old new : Seen) : Type 0 where
+pub record FailsAfter (so_far : List Event) (ks : List Keep) (old new : Seen) : Type 0 where
   pub number : ℕ
   pub failed : Keep
   pub is_next : slice_get ks number ≡ Some failed
   pub kept : KeptBut failed.0 (take number ks) old new
+  pub calls : KeepsUpTo store.Failed so_far ks number failed old new
 
--- the first keeps were done, and then memory was refused
-pub record ShortAfter (ks : List Keep) (old new : Seen) : Type 0 where
+-- the first keeps were done, and memory was refused to the next
+pub record ShortAfter (so_far : List Event) (ks : List Keep) (old new : Seen) : Type 0 where
   pub number : ℕ
-  pub within : number ≤ length ks
+  pub failed : Keep
+  pub is_next : slice_get ks number ≡ Some failed
   pub kept : Kept (take number ks) old new
+  pub calls : KeepsUpTo store.Memory so_far ks number failed old new
 
 -- ---- the whole run ----
 
@@ -98,7 +136,15 @@ pub record ComesTo (plan : Plan) (old : Seen) (outcome : Outcome) : Type 0 where
   pub read : AreTexts old plan.names texts
   pub comes : plan.comes texts outcome
 
--- all was kept, and the lines were printed; no count rose
+-- the calls of the fetches that the run went by
+abbrev pub fetches_of : {plan : Plan} {old : Seen} {o : Outcome} → ComesTo plan old o → List Event
+fetches_of {plan} c = fetchings plan.names c.texts
+
+-- the store was asked for just the texts of the plan's names, in order, and then to keep just this, in order, and did
+abbrev pub DoesAll : {plan : Plan} {old : Seen} {o : Outcome} → ComesTo plan old o → Seen → Type 0
+DoesAll {plan} {old} {o} c new = new.events ≡ old.events ++ (fetches_of c ++ keepings (keeps_of o))
+
+-- all was kept, and the lines were printed, by one put; no count rose
 pub record IsDone (plan : Plan) (old new : Seen) (before after : Sunk) : Type 0 where
   pub counts : SameCounts old new
   pub faults : after.faults ≡ before.faults
@@ -107,8 +153,10 @@ pub record IsDone (plan : Plan) (old new : Seen) (before after : Sunk) : Type 0 
   pub outcome : ComesTo plan old (Does keeps lines)
   pub kept : Kept keeps old new
   pub wrote : Wrote before after lines
+  pub calls : DoesAll outcome new
+  pub put : after.events ≡ before.events ++ Putting lines (Ok tt) ∷ []
 
--- nothing was kept, and one line was printed; no count rose
+-- nothing was kept, and one line was printed, by one put; no count rose
 pub record IsRefused (plan : Plan) (old new : Seen) (before after : Sunk) : Type 0 where
   pub counts : SameCounts old new
   pub faults : after.faults ≡ before.faults
@@ -116,31 +164,44 @@ pub record IsRefused (plan : Plan) (old new : Seen) (before after : Sunk) : Type
   pub outcome : ComesTo plan old (Refuses line)
   pub same : SameHeld old.held new.held
   pub wrote : Wrote before after line
+  pub calls : DoesAll outcome new
+  pub put : after.events ≡ before.events ++ Putting line (Ok tt) ∷ []
 
--- the store failed, at a fetch or at a keep, and nothing was printed
+-- the store failed, at a fetch or at a keep, and nothing was put
 pub record IsStoreFault (plan : Plan) (old new : Seen) (before after : Sunk) : Type 0 where
   pub rose : Rose old.faults new.faults
-  pub kept : SameHeld old.held new.held ⊎ ((o : Outcome) × ComesTo plan old o × FailsAfter (keeps_of o) old new)
+  pub kept : (SameHeld old.held new.held × ReadsUpTo store.Failed plan.names old new) ⊎ ((o : Outcome) × (c : ComesTo plan old o) × FailsAfter (fetches_of c) (keeps_of o) old new)
   pub wrote : WroteNone before after
+  pub put : after.events ≡ before.events
 
--- the sink failed: all was kept, and a prefix of what is due was printed
+-- the sink failed at the one put: all was kept, and a prefix of what is due was printed
 pub record IsSinkFault (plan : Plan) (old new : Seen) (before after : Sunk) : Type 0 where
   pub rose : Rose before.faults after.faults
   pub due_outcome : Outcome
   pub outcome : ComesTo plan old due_outcome
   pub kept : Kept (keeps_of due_outcome) old new
   pub wrote : WrotePart before after (due due_outcome)
+  pub calls : DoesAll outcome new
+  pub put : after.events ≡ before.events ++ Putting (due due_outcome) (Err sink.Failed) ∷ []
 
--- memory was refused, before the keeps or after some of them, and nothing was printed
+-- where memory was refused: at a fetch or behind some of them, at a keep, or at the one put
+pub data ShortAt (plan : Plan) (old new : Seen) (before after : Sunk) : Type 0 where
+  at_fetch : SameHeld old.held new.held → ReadsUpTo store.Memory plan.names old new ⊎ ReadsSome plan.names old new → after.events ≡ before.events → ShortAt plan old new before after
+  at_keep : (o : Outcome) (c : ComesTo plan old o) → ShortAfter (fetches_of c) (keeps_of o) old new → after.events ≡ before.events → ShortAt plan old new before after
+  at_put : (o : Outcome) (c : ComesTo plan old o) → Kept (keeps_of o) old new → DoesAll c new → after.events ≡ before.events ++ Putting (due o) (Err sink.Memory) ∷ [] → ShortAt plan old new before after
+
+-- memory was refused, and nothing was printed
 pub record IsShort (plan : Plan) (old new : Seen) (before after : Sunk) : Type 0 where
-  pub kept : SameHeld old.held new.held ⊎ ((o : Outcome) × ComesTo plan old o × ShortAfter (keeps_of o) old new)
+  pub short : ShortAt plan old new before after
   pub wrote : WroteNone before after
 
--- a name of the plan had no text to go by, for this cause; nothing was kept or printed
-pub record IsStopped (plan : Plan) (reason : List ℕ → Type 0) (old new : Seen) (before after : Sunk) : Type 0 where
+-- a name of the plan had no text to go by, for this cause, as its fetch answered; nothing was kept or put
+pub record IsStopped (plan : Plan) (error : StoreError) (reason : List ℕ → Type 0) (old new : Seen) (before after : Sunk) : Type 0 where
   pub stops : StopsAt reason old plan.names
+  pub calls : ReadsUpTo error plan.names old new
   pub same : SameHeld old.held new.held
   pub wrote : WroteNone before after
+  pub put : after.events ≡ before.events
 
 -- what a run of the plan has done, by its status
 abbrev pub Runs : Plan → Seen → Seen → Sunk → Sunk → Status → Type 0
@@ -150,5 +211,5 @@ Runs plan old new before after status.Usage = ⊥
 Runs plan old new before after status.StoreFault = IsStoreFault plan old new before after
 Runs plan old new before after status.SinkFault = IsSinkFault plan old new before after
 Runs plan old new before after status.Memory = IsShort plan old new before after
-Runs plan old new before after status.TooBig = IsStopped plan (λ n. TooBigAt old new n) old new before after
-Runs plan old new before after status.Missing = IsStopped plan (λ n. MissedAt old new n) old new before after
+Runs plan old new before after status.TooBig = IsStopped plan store.TooBig (λ n. TooBigAt old new n) old new before after
+Runs plan old new before after status.Missing = IsStopped plan store.Missing (λ n. MissedAt old new n) old new before after

@@ -131,7 +131,7 @@ pub trait Command {
 }
 
 /// A whole run: fetches the texts under the names, of which there are as many as the command takes, computes, keeps and prints.
-#[tactic(auto, using(crate::proofs::RunLemmas::stopped, crate::proofs::RunLemmas::short, crate::proofs::RunLemmas::finished, crate::proofs::StageLemmas::grows_again, crate::proofs::StageLemmas::sink_first))]
+#[tactic(auto, using(crate::proofs::RunLemmas::stopped, crate::proofs::RunLemmas::finished, crate::proofs::StageLemmas::grows_again, crate::proofs::StageLemmas::sink_first))]
 pub fn run<C: Command, S: Store, O: Sink, L: Ledger>(
     alloc: Global,
     command: &C,

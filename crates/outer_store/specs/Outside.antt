@@ -1,9 +1,10 @@
--- What a store and a sink mean: what they hold or were given, where they tell it, and their counts.
+-- What a store and a sink mean: what they hold or were given, where they tell it, their counts, and the calls that were made of them.
 use Rattle.std.specs.Prelude.{◌≡◌, ◌≢◌, ◌≤◌, ◌<◌, ◌+◌, ◌-◌, ◌^◌, ℕ, Bool, true, false, List, ◌++◌, take, Option, Some, None, Result, Ok, Err, min, length}
 use Rattle.outer_store.specs.declared.StoreError.{StoreError}
 use Rattle.outer_store.specs.declared.StoreError.TheVariants as store
 use Rattle.outer_store.specs.declared.SinkError.{SinkError}
 use Rattle.outer_store.specs.declared.SinkError.TheVariants as sink
+use Rattle.outer_store.specs.Events.{Event}
 
 -- the most bytes that are fetched
 abbrev pub limit : ℕ
@@ -31,8 +32,8 @@ SameHeld old new = (n : List ℕ) → new n ≡ old n
 abbrev pub OthersStay : List ℕ → Held → Held → Type 0
 OthersStay name old new = (n : List ℕ) → n ≢ name → new n ≡ old n
 
--- a store: what it holds, which counts only where it tells; whether its faults may rise; and its counts of faults, of
--- names not found and of texts over the limit
+-- a store: what it holds, which counts only where it tells; whether its faults may rise; its counts of faults, of names
+-- not found and of texts over the limit; and the calls so far, in order, each with its answer
 pub record Seen : Type 0 where
   pub tells : Bool
   pub held : Held
@@ -40,6 +41,7 @@ pub record Seen : Type 0 where
   pub faults : ℕ
   pub missing : ℕ
   pub oversize : ℕ
+  pub events : List Event
 
 -- no count falls, a store tells as before, and the faults of one that does not fail stay
 pub record Grows (old new : Seen) : Type 0 where
@@ -96,12 +98,14 @@ Keeps old new name bytes (Err store.Memory) = SameHeld old.held new.held
 
 -- ---- sinks ----
 
--- a sink: what was written to it, which counts only where it tells; whether its faults may rise; and their count
+-- a sink: what was written to it, which counts only where it tells; whether its faults may rise; their count; and the
+-- calls so far, in order, each with its answer
 pub record Sunk : Type 0 where
   pub tells : Bool
   pub written : List ℕ
   pub may_fail : Bool
   pub faults : ℕ
+  pub events : List Event
 
 -- the count does not fall, a sink tells as before, and the faults of one that does not fail stay
 pub record SinkGrows (old new : Sunk) : Type 0 where

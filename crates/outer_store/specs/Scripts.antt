@@ -5,6 +5,7 @@ use Rattle.outer_store.specs.declared.StoreError.TheVariants as store
 use Rattle.outer_store.specs.declared.SinkError.{SinkError}
 use Rattle.outer_store.specs.declared.SinkError.TheVariants as sink
 use Rattle.outer_store.specs.Entries.{Entry, text_in}
+use Rattle.outer_store.specs.Events.{Event}
 use Rattle.outer_store.specs.Outside.{Seen, Sunk, counted}
 
 -- there is a number
@@ -33,10 +34,11 @@ pub record Texts : Type 0 where
   pub script : Script
   pub missing : ℕ
   pub oversize : ℕ
+  pub events : List Event
 
 -- it tells what it holds
 abbrev pub seen_texts : Texts → Seen
-seen_texts s = record { tells = true; held = text_in s.entries; may_fail = is_some_number s.script.failing; faults = s.script.faults; missing = s.missing; oversize = s.oversize }
+seen_texts s = record { tells = true; held = text_in s.entries; may_fail = is_some_number s.script.failing; faults = s.script.faults; missing = s.missing; oversize = s.oversize; events = s.events }
 
 -- each answer of a call raises its own count alone
 abbrev pub RaisesTexts : {X : Type 0} → Texts → Texts → Result X StoreError → Type 0
@@ -50,10 +52,11 @@ RaisesTexts old new (Err store.Memory) = (new.script.faults ≡ old.script.fault
 pub record Bytes : Type 0 where
   pub written : List ℕ
   pub script : Script
+  pub events : List Event
 
 -- it tells what was written
 abbrev pub seen_bytes : Bytes → Sunk
-seen_bytes s = record { tells = true; written = s.written; may_fail = is_some_number s.script.failing; faults = s.script.faults }
+seen_bytes s = record { tells = true; written = s.written; may_fail = is_some_number s.script.failing; faults = s.script.faults; events = s.events }
 
 -- only a call that fails raises the count
 abbrev pub RaisesBytes : {X : Type 0} → Bytes → Bytes → Result X SinkError → Type 0
@@ -62,15 +65,21 @@ RaisesBytes old new (Err sink.Failed) = new.script.faults ≡ counted old.script
 RaisesBytes old new (Err sink.Memory) = new.script.faults ≡ old.script.faults
 
 -- a real store
-pub record Counts : Type 0 where
+pub record RealFiles : Type 0 where
   pub faults : ℕ
   pub missing : ℕ
   pub oversize : ℕ
+  pub events : List Event
 
 -- it tells nothing of what it holds
-abbrev pub seen_files : Counts → Seen
-seen_files s = record { tells = false; held = λ _. None; may_fail = true; faults = s.faults; missing = s.missing; oversize = s.oversize }
+abbrev pub seen_files : RealFiles → Seen
+seen_files s = record { tells = false; held = λ _. None; may_fail = true; faults = s.faults; missing = s.missing; oversize = s.oversize; events = s.events }
 
--- a real sink, by its count of faults: it tells nothing of what was written
-abbrev pub seen_output : ℕ → Sunk
-seen_output n = record { tells = false; written = []; may_fail = true; faults = n }
+-- a real sink
+pub record RealOutput : Type 0 where
+  pub faults : ℕ
+  pub events : List Event
+
+-- it tells nothing of what was written
+abbrev pub seen_output : RealOutput → Sunk
+seen_output s = record { tells = false; written = []; may_fail = true; faults = s.faults; events = s.events }

@@ -1,14 +1,17 @@
 //! The outside of the program: stores of texts by name, and sinks of bytes.
 //!
 //! A store and a sink tell contracts what they hold, or do not tell it; either way they count what went
-//! wrong, so that an answer other than `Ok` has its cause.
+//! wrong, so that an answer other than `Ok` has its cause, and keep the history of their calls, so that a
+//! contract can say what was asked of them.
 #![tactic(auto)]
 
-ghost use Rattle.std.specs.Prelude.{◌≡◌, ℕ, List, Result};
+ghost use Rattle.std.specs.Prelude.{◌≡◌, ℕ, List, [], ◌∷◌, ◌++◌, Result};
 ghost use Rattle.std.specs.Result.{result_map_both};
+ghost use Rattle.outer_store.specs.Events.{Fetching, Keeping, Putting};
 ghost use Rattle.outer_store.specs.Outside.{Seen, Grows, SameHeld, OthersStay, Fetches, Keeps, Sunk, SinkGrows, Puts};
 
 mod calls;
+mod history;
 mod mem_sink;
 mod mem_store;
 mod real_sink;
@@ -61,13 +64,15 @@ pub trait Store {
     fn fetch(&mut self, alloc: Global, name: &str) -> Result<Vec<u8>, StoreError>
         ensures fetches { Fetches (seen self.old) (seen self.new) name.now (result_map_both (λ v. v.items) (λ e. e) result) }
         ensures held { SameHeld (seen self.old).held (seen self.new).held }
-        ensures grows { Grows (seen self.old) (seen self.new) };
+        ensures grows { Grows (seen self.old) (seen self.new) }
+        ensures events { (seen self.new).events ≡ (seen self.old).events ++ Fetching name.now (result_map_both (λ v. v.items) (λ e. e) result) ∷ [] };
 
     /// Puts the bytes under a name. After `Failed` nothing is told of that name.
     fn keep(&mut self, name: &str, bytes: &[u8]) -> Result<(), StoreError>
         ensures keeps { Keeps (seen self.old) (seen self.new) name.now bytes.now result }
         ensures others { OthersStay name.now (seen self.old).held (seen self.new).held }
-        ensures grows { Grows (seen self.old) (seen self.new) };
+        ensures grows { Grows (seen self.old) (seen self.new) }
+        ensures events { (seen self.new).events ≡ (seen self.old).events ++ Keeping name.now bytes.now result ∷ [] };
 }
 
 /// A place for what is printed.
@@ -77,5 +82,6 @@ pub trait Sink {
     /// Writes the bytes behind what was written before.
     fn put(&mut self, bytes: &[u8]) -> Result<(), SinkError>
         ensures puts { Puts (sunk self.old) (sunk self.new) bytes.now result }
-        ensures grows { SinkGrows (sunk self.old) (sunk self.new) };
+        ensures grows { SinkGrows (sunk self.old) (sunk self.new) }
+        ensures events { (sunk self.new).events ≡ (sunk self.old).events ++ Putting bytes.now result ∷ [] };
 }

@@ -1,14 +1,16 @@
 //! A store in memory.
-ghost use Rattle.std.specs.Prelude.{◌≡◌, ◌↔◌, ℕ, List, Some, find, slice_get, if◌then◌else◌, OnOk, OnErr, IsErrOf, true};
+ghost use Rattle.std.specs.Prelude.{◌≡◌, ◌↔◌, ℕ, List, [], ◌∷◌, ◌++◌, Some, find, slice_get, if◌then◌else◌, OnOk, OnErr, IsErrOf, true};
 ghost use Rattle.std.specs.List.{position};
 ghost use Rattle.std.specs.Option.{option_copied};
 ghost use Rattle.std.specs.Result.{result_map_both};
 ghost use Rattle.std.specs.Str.{bytes_eq};
 ghost use Rattle.outer_store.specs.Entries.{is_named, text_in};
+ghost use Rattle.outer_store.specs.Events.{Fetching, Keeping};
 ghost use Rattle.outer_store.specs.Outside.{Grows, SameHeld, OthersStay, Fetches, Keeps};
 ghost use Rattle.outer_store.specs.Scripts.{Texts, IsCalled, FailsNext, RaisesTexts, seen_texts};
 
 use crate::calls::Calls;
+use crate::history::History;
 use crate::{Store, StoreError, TEXT_LIMIT};
 use std::alloc::{AllocError, Global};
 use std::marker::Model;
@@ -22,18 +24,19 @@ pub struct MemStore {
     calls: Calls,
     missing: u64,
     oversize: u64,
+    history: History,
 }
 
 impl Model for MemStore {
     ghost Value = { Texts };
 
-    ghost view = { λ s. record { entries = s.held.items; script = record { failing = s.calls.failing.items; calls = s.calls.made; faults = s.calls.faults }; missing = s.missing; oversize = s.oversize } };
+    ghost view = { λ s. record { entries = s.held.items; script = record { failing = s.calls.failing.items; calls = s.calls.made; faults = s.calls.faults }; missing = s.missing; oversize = s.oversize; events = s.history.events } };
 }
 
 impl MemStore {
     /// Holds the texts given. `failing` has the numbers, from 1, of the calls of `fetch` and `keep` that fail.
     pub fn new(alloc: Global, held: Vec<(String, Vec<u8>)>, failing: Vec<u64>) -> MemStore
-        ensures { result ≡ record { entries = held.items; script = record { failing = failing.items; calls = 0; faults = 0 }; missing = 0; oversize = 0 } }
+        ensures { result ≡ record { entries = held.items; script = record { failing = failing.items; calls = 0; faults = 0 }; missing = 0; oversize = 0; events = [] } }
     {
         MemStore {
             alloc,
@@ -41,6 +44,7 @@ impl MemStore {
             calls: Calls::new(failing),
             missing: 0,
             oversize: 0,
+            history: History::new(),
         }
     }
 
@@ -107,48 +111,54 @@ impl Store for MemStore {
         ensures fetches { Fetches (seen_texts self.old) (seen_texts self.new) name.now (result_map_both (λ v. v.items) (λ e. e) result) }
         ensures held { SameHeld (text_in self.old.entries) (text_in self.new.entries) }
         ensures grows { Grows (seen_texts self.old) (seen_texts self.new) }
+        ensures events { self.new.events ≡ self.old.events ++ Fetching name.now (result_map_both (λ v. v.items) (λ e. e) result) ∷ [] }
 
         ensures called { IsCalled self.old.script self.new.script }
         ensures failed { IsErrOf result StoreError.Failed ↔ FailsNext self.old.script }
         ensures raises { RaisesTexts self.old self.new result }
     {
-        if self.calls.fails_next() {
-            return Err(StoreError::Failed);
-        }
-        match text_of(&self.held, name) {
-            None => {
-                self.missing = self.missing.saturating_add(1);
-                Err(StoreError::Missing)
-            }
-            Some(text) => {
-                if text.len() > TEXT_LIMIT {
-                    self.oversize = self.oversize.saturating_add(1);
-                    return Err(StoreError::TooBig);
+        let answer = if self.calls.fails_next() {
+            Err(StoreError::Failed)
+        } else {
+            match text_of(&self.held, name) {
+                None => {
+                    self.missing = self.missing.saturating_add(1);
+                    Err(StoreError::Missing)
                 }
-                match text.to_vec(alloc) {
+                Some(text) if text.len() > TEXT_LIMIT => {
+                    self.oversize = self.oversize.saturating_add(1);
+                    Err(StoreError::TooBig)
+                }
+                Some(text) => match text.to_vec(alloc) {
                     Ok(copy) => Ok(copy),
                     Err(_) => Err(StoreError::Memory),
-                }
+                },
             }
-        }
+        };
+        self.history = self.history.fetched(name, &answer);
+        answer
     }
 
     fn keep(&mut self, name: &str, bytes: &[u8]) -> Result<(), StoreError>
         ensures keeps { Keeps (seen_texts self.old) (seen_texts self.new) name.now bytes.now result }
         ensures others { OthersStay name.now (text_in self.old.entries) (text_in self.new.entries) }
         ensures grows { Grows (seen_texts self.old) (seen_texts self.new) }
+        ensures events { self.new.events ≡ self.old.events ++ Keeping name.now bytes.now result ∷ [] }
 
         ensures called { IsCalled self.old.script self.new.script }
         ensures failed { IsErrOf result StoreError.Failed ↔ FailsNext self.old.script }
         ensures raises { RaisesTexts self.old self.new result }
         ensures unchanged { OnErr result (self.new.entries ≡ self.old.entries) }
     {
-        if self.calls.fails_next() {
-            return Err(StoreError::Failed);
-        }
-        match put_text(self.alloc, &mut self.held, name, bytes) {
-            Ok(()) => Ok(()),
-            Err(_) => Err(StoreError::Memory),
-        }
+        let answer = if self.calls.fails_next() {
+            Err(StoreError::Failed)
+        } else {
+            match put_text(self.alloc, &mut self.held, name, bytes) {
+                Ok(()) => Ok(()),
+                Err(_) => Err(StoreError::Memory),
+            }
+        };
+        self.history = self.history.kept(name, bytes, answer);
+        answer
     }
 }

@@ -1,31 +1,37 @@
 //! Standard output.
-ghost use Rattle.std.specs.Prelude.{◌≡◌, ℕ};
-ghost use Rattle.outer_store.specs.Scripts.{seen_output};
+ghost use Rattle.std.specs.Prelude.{◌≡◌, []};
+ghost use Rattle.outer_store.specs.Scripts.{RealOutput, seen_output};
 
+use crate::history::History;
 use crate::transfer::write_all;
 use crate::{Sink, SinkError};
 use std::io;
 use std::marker::Model;
 
-/// The standard output of the runtime, of which nothing is told.
+/// The standard output of the runtime, of which nothing is told but the pieces that were put.
 #[derive(Drop)]
 pub struct RealSink<R: Print> {
     rt: R,
     faults: u64,
+    history: History,
 }
 
 impl<R: Print> Model for RealSink<R> {
-    ghost Value = { ℕ };
+    ghost Value = { RealOutput };
 
-    ghost view = { λ s. s.faults };
+    ghost view = { λ s. record { faults = s.faults; events = s.history.events } };
 }
 
 impl<R: Print> RealSink<R> {
-    /// What the runtime prints to, with no fault yet.
+    /// What the runtime prints to, with no fault and no call yet.
     pub fn new(rt: R) -> RealSink<R>
-        ensures { result ≡ 0 }
+        ensures { result ≡ record { faults = 0; events = [] } }
     {
-        RealSink { rt, faults: 0 }
+        RealSink {
+            rt,
+            faults: 0,
+            history: History::new(),
+        }
     }
 }
 
@@ -33,11 +39,13 @@ impl<R: Print> Sink for RealSink<R> {
     ghost sunk = { seen_output };
 
     fn put(&mut self, bytes: &[u8]) -> Result<(), SinkError> {
-        let written = write_all(&mut io::writer(&self.rt), bytes);
-        if written {
-            return Ok(());
-        }
-        self.faults = self.faults.saturating_add(1);
-        Err(SinkError::Failed)
+        let answer = if write_all(&mut io::writer(&self.rt), bytes) {
+            Ok(())
+        } else {
+            self.faults = self.faults.saturating_add(1);
+            Err(SinkError::Failed)
+        };
+        self.history = self.history.put(bytes, answer);
+        answer
     }
 }

@@ -1,7 +1,8 @@
 //! Files by name.
-ghost use Rattle.std.specs.Prelude.{◌≡◌};
-ghost use Rattle.outer_store.specs.Scripts.{Counts, seen_files};
+ghost use Rattle.std.specs.Prelude.{◌≡◌, []};
+ghost use Rattle.outer_store.specs.Scripts.{RealFiles, seen_files};
 
+use crate::history::History;
 use crate::transfer::{read_all, write_all};
 use crate::{Store, StoreError};
 use std::alloc::Global;
@@ -9,7 +10,7 @@ use std::fs;
 use std::marker::Model;
 use std::rt::Files;
 
-/// The files of the runtime, of which nothing is told. A file that cannot be opened for a fetch is a name
+/// The files of the runtime, of which nothing is told but the calls. A file that cannot be opened for a fetch is a name
 /// not found.
 #[derive(Drop)]
 pub struct RealStore<R: Files> {
@@ -17,24 +18,26 @@ pub struct RealStore<R: Files> {
     faults: u64,
     missing: u64,
     oversize: u64,
+    history: History,
 }
 
 impl<R: Files> Model for RealStore<R> {
-    ghost Value = { Counts };
+    ghost Value = { RealFiles };
 
-    ghost view = { λ s. record { faults = s.faults; missing = s.missing; oversize = s.oversize } };
+    ghost view = { λ s. record { faults = s.faults; missing = s.missing; oversize = s.oversize; events = s.history.events } };
 }
 
 impl<R: Files> RealStore<R> {
-    /// The files that the runtime reaches, with every count 0.
+    /// The files that the runtime reaches, with every count 0 and no call yet.
     pub fn new(rt: R) -> RealStore<R>
-        ensures { result ≡ record { faults = 0; missing = 0; oversize = 0 } }
+        ensures { result ≡ record { faults = 0; missing = 0; oversize = 0; events = [] } }
     {
         RealStore {
             rt,
             faults: 0,
             missing: 0,
             oversize: 0,
+            history: History::new(),
         }
     }
 }
@@ -43,21 +46,25 @@ impl<R: Files> Store for RealStore<R> {
     ghost seen = { seen_files };
 
     fn fetch(&mut self, alloc: Global, name: &str) -> Result<Vec<u8>, StoreError> {
-        let Ok(mut file) = fs::open(&self.rt, name) else {
-            self.missing = self.missing.saturating_add(1);
-            return Err(StoreError::Missing);
+        let answer = match fs::open(&self.rt, name) {
+            Err(_) => {
+                self.missing = self.missing.saturating_add(1);
+                Err(StoreError::Missing)
+            }
+            Ok(mut file) => match read_all(alloc, &mut file) {
+                Err(StoreError::Failed) => {
+                    self.faults = self.faults.saturating_add(1);
+                    Err(StoreError::Failed)
+                }
+                Err(StoreError::TooBig) => {
+                    self.oversize = self.oversize.saturating_add(1);
+                    Err(StoreError::TooBig)
+                }
+                other => other,
+            },
         };
-        match read_all(alloc, &mut file) {
-            Err(StoreError::Failed) => {
-                self.faults = self.faults.saturating_add(1);
-                Err(StoreError::Failed)
-            }
-            Err(StoreError::TooBig) => {
-                self.oversize = self.oversize.saturating_add(1);
-                Err(StoreError::TooBig)
-            }
-            other => other,
-        }
+        self.history = self.history.fetched(name, &answer);
+        answer
     }
 
     fn keep(&mut self, name: &str, bytes: &[u8]) -> Result<(), StoreError> {
@@ -65,10 +72,13 @@ impl<R: Files> Store for RealStore<R> {
             Ok(mut file) => write_all(&mut file, bytes),
             Err(_) => false,
         };
-        if written {
-            return Ok(());
-        }
-        self.faults = self.faults.saturating_add(1);
-        Err(StoreError::Failed)
+        let answer = if written {
+            Ok(())
+        } else {
+            self.faults = self.faults.saturating_add(1);
+            Err(StoreError::Failed)
+        };
+        self.history = self.history.kept(name, bytes, answer);
+        answer
     }
 }

@@ -1,11 +1,22 @@
 use Rattle.std.proofs.Common.{◌≡◌, ◌∙◌, [], ◌∷◌, ap, string_bytes, subst, sym}
 use Rattle.command_line.specs.declared.command.Command.{Command}
-use Rattle.command_line.specs.declared.command.Command.TheVariants.{Rewrite}
+use Rattle.command_line.specs.declared.command.Command.TheVariants.{Rewrite, Audit, Learn, Export, Trace, Demo}
 use Rattle.command_line.specs.Request.{request_of}
+use Rattle.outer_store.specs.Outside.{Seen, Sunk}
+use Rattle.command_runs.specs.declared.status.Status.{Status}
 use Rattle.command_runs.specs.Plans.{Plan, Runs}
 use Rattle.audit_cli.specs.Rewrite.{RewriteComesTo}
+use Rattle.audit_cli.specs.Audit.{AuditComesTo}
+use Rattle.audit_cli.specs.Learn.{LearnComesTo}
+use Rattle.audit_cli.specs.Export.{ExportComesTo}
+use Rattle.audit_cli.specs.Trace.{TraceComesTo}
+use Rattle.audit_cli.specs.Demo.{DemoComesTo}
 use Rattle.audit_cli.specs.Peep.{plan_of}
 use Rattle.audit_cli.proofs.top.run_command.Goals as goal
+
+-- the plan that was run is the command's
+asked : (p : Plan) (k command : Command) (old new : Seen) (before after : Sunk) (s : Status) → p ≡ plan_of (request_of k) → command ≡ k → Runs p old new before after s → Runs (plan_of (request_of command)) old new before after s
+asked p k command old new before after s same is h = subst (λ (q : Plan). Runs q old new before after s) (same ∙ sym (ap (λ (c : Command). plan_of (request_of c)) is)) h
 
 pub returns-in-Rewrite-clause-runs : goal.returns-in-Rewrite-clause-runs
 returns-in-Rewrite-clause-runs g c =
@@ -13,11 +24,50 @@ returns-in-Rewrite-clause-runs g c =
     let image : c.as_str-in-Rewrite.result.now ≡ string_bytes c.in-Rewrite.image = c.as_str-in-Rewrite.ensures.value in
     let table : c.as_str-in-Rewrite-2.result.now ≡ string_bytes c.in-Rewrite.table = c.as_str-in-Rewrite-2.ensures.value in
     let listing : c.as_str-in-Rewrite-3.result.now ≡ string_bytes c.in-Rewrite.listing = c.as_str-in-Rewrite-3.ensures.value in
-    let asked : plan_of (request_of c.args.command.now) ≡ plan_of (request_of (Rewrite c.in-Rewrite.table c.in-Rewrite.listing c.in-Rewrite.out c.in-Rewrite.image c.in-Rewrite.base)) =
-    ap (λ (k : Command). plan_of (request_of k)) c.in-Rewrite.is in
-    let ran : record {
-      names = c.as_str-in-Rewrite-2.result.now ∷ c.as_str-in-Rewrite-3.result.now ∷ [];
-      comes = RewriteComesTo (record { out = c.as_str.result.now; image = c.as_str-in-Rewrite.result.now; base = c.in-Rewrite.base.address });
-    } ≡ plan_of (request_of (Rewrite c.in-Rewrite.table c.in-Rewrite.listing c.in-Rewrite.out c.in-Rewrite.image c.in-Rewrite.base)) =
-    λ i. record { names = table i ∷ listing i ∷ []; comes = RewriteComesTo (record { out = out i; image = image i; base = c.in-Rewrite.base.address }) } in
-    subst (λ (p : Plan). Runs p (g.S.Store.seen c.args.store.now) (g.S.Store.seen c.run.new.store) (g.O.Sink.sunk c.args.sink.now) (g.O.Sink.sunk c.run.new.sink) c.run.result) (ran ∙ sym asked) c.run.ensures.runs
+    asked _ (Rewrite c.in-Rewrite.table c.in-Rewrite.listing c.in-Rewrite.out c.in-Rewrite.image c.in-Rewrite.base) c.args.command.now
+    (g.S.Store.seen c.args.store.now) (g.S.Store.seen c.run.new.store) (g.O.Sink.sunk c.args.sink.now) (g.O.Sink.sunk c.run.new.sink) c.run.result
+    (λ i. record { names = table i ∷ listing i ∷ []; comes = RewriteComesTo (record { out = out i; image = image i; base = c.in-Rewrite.base.address }) }) c.in-Rewrite.is c.run.ensures.runs
+
+pub returns-in-Audit-clause-runs : goal.returns-in-Audit-clause-runs
+returns-in-Audit-clause-runs g c =
+    let table : c.as_str-in-Audit.result.now ≡ string_bytes c.in-Audit.table = c.as_str-in-Audit.ensures.value in
+    asked _ (Audit c.in-Audit.table) c.args.command.now
+    (g.S.Store.seen c.args.store.now) (g.S.Store.seen c.run-in-Audit.new.store) (g.O.Sink.sunk c.args.sink.now) (g.O.Sink.sunk c.run-in-Audit.new.sink) c.run-in-Audit.result
+    (λ i. record { names = table i ∷ []; comes = AuditComesTo }) c.in-Audit.is c.run-in-Audit.ensures.runs
+
+pub returns-in-Learn-clause-runs : goal.returns-in-Learn-clause-runs
+returns-in-Learn-clause-runs g c =
+    let out : c.as_str-in-Learn.result.now ≡ string_bytes c.in-Learn.out = c.as_str-in-Learn.ensures.value in
+    let listing : c.as_str-in-Learn-2.result.now ≡ string_bytes c.in-Learn.listing = c.as_str-in-Learn-2.ensures.value in
+    asked _ (Learn c.in-Learn.listing c.in-Learn.out c.in-Learn.regs c.in-Learn.left c.in-Learn.budget c.in-Learn.seed c.in-Learn.pool) c.args.command.now
+    (g.S.Store.seen c.args.store.now) (g.S.Store.seen c.run-in-Learn.new.store) (g.O.Sink.sunk c.args.sink.now) (g.O.Sink.sunk c.run-in-Learn.new.sink) c.run-in-Learn.result
+    (λ i. record {
+      names = listing i ∷ [];
+      comes = LearnComesTo (record {
+        out = out i;
+        settings = record { regs = c.in-Learn.regs.number; left = c.in-Learn.left.number; budget = c.in-Learn.budget.number; seed = c.in-Learn.seed; pool = c.in-Learn.pool };
+      });
+    }) c.in-Learn.is c.run-in-Learn.ensures.runs
+
+pub returns-in-Export-clause-runs : goal.returns-in-Export-clause-runs
+returns-in-Export-clause-runs g c =
+    let cnf : c.as_str-in-Export.result.now ≡ string_bytes c.in-Export.cnf = c.as_str-in-Export.ensures.value in
+    let lrat : c.as_str-in-Export-2.result.now ≡ string_bytes c.in-Export.lrat = c.as_str-in-Export-2.ensures.value in
+    let table : c.as_str-in-Export-3.result.now ≡ string_bytes c.in-Export.table = c.as_str-in-Export-3.ensures.value in
+    asked _ (Export c.in-Export.table c.in-Export.entry c.in-Export.cnf c.in-Export.lrat) c.args.command.now
+    (g.S.Store.seen c.args.store.now) (g.S.Store.seen c.run-in-Export.new.store) (g.O.Sink.sunk c.args.sink.now) (g.O.Sink.sunk c.run-in-Export.new.sink) c.run-in-Export.result
+    (λ i. record { names = table i ∷ []; comes = ExportComesTo (record { entry = c.in-Export.entry; cnf = cnf i; lrat = lrat i }) }) c.in-Export.is c.run-in-Export.ensures.runs
+
+pub returns-in-Trace-clause-runs : goal.returns-in-Trace-clause-runs
+returns-in-Trace-clause-runs g c =
+    let label : c.as_str-in-Trace.result.now ≡ string_bytes c.in-Trace.label = c.as_str-in-Trace.ensures.value in
+    let listing : c.as_str-in-Trace-2.result.now ≡ string_bytes c.in-Trace.listing = c.as_str-in-Trace-2.ensures.value in
+    asked _ (Trace c.in-Trace.listing c.in-Trace.label c.in-Trace.most) c.args.command.now
+    (g.S.Store.seen c.args.store.now) (g.S.Store.seen c.run-in-Trace.new.store) (g.O.Sink.sunk c.args.sink.now) (g.O.Sink.sunk c.run-in-Trace.new.sink) c.run-in-Trace.result
+    (λ i. record { names = listing i ∷ []; comes = TraceComesTo (record { label = label i; most = c.in-Trace.most }) }) c.in-Trace.is c.run-in-Trace.ensures.runs
+
+pub returns-in-Demo-clause-runs : goal.returns-in-Demo-clause-runs
+returns-in-Demo-clause-runs g c =
+    asked _ (Demo c.in-Demo.windows) c.args.command.now
+    (g.S.Store.seen c.args.store.now) (g.S.Store.seen c.run-in-Demo.new.store) (g.O.Sink.sunk c.args.sink.now) (g.O.Sink.sunk c.run-in-Demo.new.sink) c.run-in-Demo.result
+    (λ i. record { names = []; comes = λ texts. DemoComesTo c.in-Demo.windows.number }) c.in-Demo.is c.run-in-Demo.ensures.runs

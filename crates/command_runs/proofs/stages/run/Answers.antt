@@ -4,7 +4,7 @@ use Rattle.std.specs.Prelude.{Vec}
 use Rattle.std.specs.declared.alloc.Global.{Global}
 use Rattle.command_runs.specs.Outcomes.{outcome_view}
 use Rattle.command_runs.proofs.StageLemmas.{as_many_texts}
-use Rattle.command_runs.proofs.RunLemmas.{finished}
+use Rattle.command_runs.proofs.RunLemmas.{finished, short}
 use Rattle.command_runs.proofs.stages.run.Goals as goal
 
 -- the texts were fetched and come to the outcome, and that was finished
@@ -14,6 +14,12 @@ returns-in-Ok-compute-clause-runs g c =
     finished (record { names = map (λ n. n.now) c.args.names.now; comes = g.C.Command.comes c.args.command.now }) (map (λ t. t.items) c.in-Ok.texts.items) (outcome_view c.in-Ok-compute.outcome)
     (g.S.Store.seen c.args.store.now) (g.S.Store.seen c.fetch_all.new.store) (g.S.Store.seen c.finish.new.store) (g.O.Sink.sunk c.args.sink.now) (g.O.Sink.sunk c.finish.new.sink) c.finish.result
     c.in-Ok.ensures.gathers c.in-Ok.ensures.held c.in-Ok.ensures.grows comes c.finish.ensures.finishes
+
+-- memory was refused where the outcome was computed
+pub returns-in-Err-compute-clause-runs : goal.returns-in-Err-compute-clause-runs
+returns-in-Err-compute-clause-runs g c =
+    short (record { names = map (λ n. n.now) c.args.names.now; comes = g.C.Command.comes c.args.command.now }) (map (λ t. t.items) c.in-Ok.texts.items)
+    (g.S.Store.seen c.args.store.now) (g.S.Store.seen c.fetch_all.new.store) (g.O.Sink.sunk c.args.sink.now) c.in-Ok.ensures.held c.in-Ok.ensures.gathers
 
 -- there are as many texts as names
 pub compute-requires : goal.compute-requires
