@@ -1,5 +1,6 @@
 -- Learning as its loop sees it.
 use Rattle.std.proofs.Common.{◌≡◌, ℕ, zero, suc, ◌+◌, ◌-◌, ◌*◌, ◌<◌, ◌≤◌, ◌^◌, List, [], ◌∷◌, ◌++◌, All, length, map, get_or, take, refl, sym, ◌∙◌, ap, subst, arith, true}
+use Rattle.std.proofs.Math.Nat.{mul-le-mul_right}
 use Rattle.std.proofs.lemmas.List.{length-map, map_push, take_more, take_all, get_or-map, length-take}
 use Rattle.thumb_instr.specs.declared.instr.Instr.{Instr}
 use Rattle.thumb_instr.specs.declared.items.Mask.{Mask}
@@ -72,12 +73,17 @@ pub learnt_all : (s t : Settings) (ws : Pairs) (n : ℕ) (l : Learner) (table : 
 learnt_all s t ws n l table same narrow h e =
     subst (Learnt s (map window_of (take n ws))) (sym (e ∙ ap (λ u. table_with u (states_in l) (rules_in l)) same)) (learnt s (map window_of (take n ws)) (states_in l) (rules_in l) h.progress narrow)
 
-pub is_full : (s t : Settings) (ws : Pairs) (n : ℕ) (l : Learner) (table : Table) → t ≡ s → width_of s ≤ 5000000 → 1 ≤ n → n ≤ length ws → HasLearnt s (map window_of (take n ws)) l → table ≡ table_with t (states_in l) (rules_in l) → text_limit < l.bytes → IsFull s (map window_of ws) table l.bytes
-is_full s t ws n l table same narrow some low h e long = record {
+pub valid_all : (s t : Settings) (ws : Pairs) (n : ℕ) (l : Learner) (table : Table) → t ≡ s → AreInLimits s → s.seed < 2 ^ 32 → is_pool s.pool ≡ true → width_of s ≤ 5000000 → HasLearnt s (map window_of (take n ws)) l → table ≡ table_with t (states_in l) (rules_in l) → IsTable table
+valid_all s t ws n l table same limits seed pool narrow h e =
+    subst IsTable (sym (e ∙ ap (λ u. table_with u (states_in l) (rules_in l)) same)) (valid s (map window_of (take n ws)) (states_in l) (rules_in l) limits seed pool narrow h.progress)
+
+pub is_full : (s t : Settings) (ws : Pairs) (n : ℕ) (l : Learner) (table : Table) → t ≡ s → AreInLimits s → s.seed < 2 ^ 32 → is_pool s.pool ≡ true → width_of s ≤ 5000000 → 1 ≤ n → n ≤ length ws → HasLearnt s (map window_of (take n ws)) l → table ≡ table_with t (states_in l) (rules_in l) → text_limit < l.bytes → IsFull s (map window_of ws) table l.bytes
+is_full s t ws n l table same limits seed pool narrow some low h e long = record {
   count = n;
   some = some;
   within = (let a = length-map ws window_of in omega (arith, a, low));
   learnt = subst (λ vs. Learnt s vs table) (take-map n ws) (learnt_all s t ws n l table same narrow h e);
+  valid = valid_all s t ws n l table same limits seed pool narrow h e;
   is_length = h.bytes ∙ ap (λ (u : Table). text_length u) (sym (e ∙ ap (λ u. table_with u (states_in l) (rules_in l)) same));
   long = long;
 }
@@ -85,15 +91,12 @@ is_full s t ws n l table same narrow some low h e long = record {
 pub learnt_whole : (s t : Settings) (ws : Pairs) (n : ℕ) (l : Learner) (table : Table) → t ≡ s → width_of s ≤ 5000000 → length ws ≤ n → HasLearnt s (map window_of (take n ws)) l → table ≡ table_with t (states_in l) (rules_in l) → Learnt s (map window_of ws) table
 learnt_whole s t ws n l table same narrow past h e = subst (λ (vs : Pairs). Learnt s (map window_of vs) table) (take_all n ws past) (learnt_all s t ws n l table same narrow h e)
 
-pub valid_all : (s t : Settings) (ws : Pairs) (n : ℕ) (l : Learner) (table : Table) → t ≡ s → AreInLimits s → s.seed < 2 ^ 32 → is_pool s.pool ≡ true → width_of s ≤ 5000000 → HasLearnt s (map window_of (take n ws)) l → table ≡ table_with t (states_in l) (rules_in l) → IsTable table
-valid_all s t ws n l table same limits seed pool narrow h e =
-    subst IsTable (sym (e ∙ ap (λ u. table_with u (states_in l) (rules_in l)) same)) (valid s (map window_of (take n ws)) (states_in l) (rules_in l) limits seed pool narrow h.progress)
-
 pub fits_all : (s t : Settings) (ws : Pairs) (n : ℕ) (l : Learner) (table : Table) → t ≡ s → HasLearnt s (map window_of (take n ws)) l → table ≡ table_with t (states_in l) (rules_in l) → l.bytes ≤ text_limit → text_length table ≤ text_limit
 fits_all s t ws n l table same h e low = subst (λ j. j ≤ text_limit) (h.bytes ∙ ap (λ (u : Table). text_length u) (sym (e ∙ ap (λ u. table_with u (states_in l) (rules_in l)) same))) low
 
-pub cost_all : (s t : Settings) (ws : Pairs) (n after start : ℕ) (l : Learner) (table : Table) → length ws ≤ n → n ≤ length ws → table ≡ table_with t (states_in l) (rules_in l) → after ≤ start + (n * search_cost s (length l.states.items) + drop_cost s (length ws) (length l.states.items - 64)) → after ≤ start + learn_cost s (length ws) (length table.states)
-cost_all s t ws n after start l table past low e h =
-    let same : n ≡ length ws = omega (arith, past, low) in
+-- what the first n windows took is no more than what all may take
+pub cost_all : (s t : Settings) (ws : Pairs) (n after start : ℕ) (l : Learner) (table : Table) → n ≤ length ws → table ≡ table_with t (states_in l) (rules_in l) → after ≤ start + (n * search_cost s (length l.states.items) + drop_cost s (length ws) (length l.states.items - 64)) → after ≤ start + learn_cost s (length ws) (length table.states)
+cost_all s t ws n after start l table low e h =
     let size : length l.states.items ≡ length table.states = sym (ap (λ (u : Table). length u.states) e ∙ length-map l.states.items seen) in
-    subst (λ j. after ≤ start + learn_cost s (length ws) j) size (learn_all s after start (length ws) (length l.states.items) (subst (λ j. after ≤ start + (j * search_cost s (length l.states.items) + drop_cost s (length ws) (length l.states.items - 64))) same h))
+    let most : n * search_cost s (length l.states.items) ≤ length ws * search_cost s (length l.states.items) = mul-le-mul_right (search_cost s (length l.states.items)) low in
+    subst (λ j. after ≤ start + learn_cost s (length ws) j) size (learn_all s after start (length ws) (length l.states.items) (omega (arith, h, most)))

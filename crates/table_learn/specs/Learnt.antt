@@ -12,6 +12,7 @@ use Rattle.cdcl_core.specs.declared.solving.Verdict.TheVariants.{Unsat, Spent}
 use Rattle.cdcl_core.specs.Solved.{VerdictOf}
 use Rattle.rule_table.specs.Table.{Opened, Rule, Table}
 use Rattle.rule_table.specs.Text.{text_of}
+use Rattle.rule_table.specs.Valid.{IsTable}
 use Rattle.rule_table.specs.Views.{table_of}
 use Rattle.table_audit.specs.Sides.{named_count, formula_of, formula_against}
 use Rattle.table_audit.specs.Shorter.{IsTold, sequences_below, shorter, values_in}
@@ -100,12 +101,13 @@ text_length t = length (text_of t)
 abbrev pub width_of : Settings → ℕ
 width_of s = length (sequences_below s.regs s.pool s.left)
 
--- the first windows, at least one, give a table whose text is too long
+-- the first windows, at least one, give a table of which a text could be read, but for its length
 pub record IsFull (s : Settings) (windows : List Window) (t : Table) (bytes : ℕ) : Type 0 where
   pub count : ℕ
   pub some : 1 ≤ count
   pub within : count ≤ length windows
   pub learnt : Learnt s (take count windows) t
+  pub valid : IsTable t
   pub is_length : bytes ≡ text_length t
   pub long : text_limit < bytes
 
@@ -120,3 +122,9 @@ FailsAs s windows Memory = Unit {0}
 -- with so many windows and listed states: runs on states, and decisions and conflicts of the solver, which has 200,000 variables at most
 abbrev pub learn_cost : Settings → ℕ → ℕ → ℕ
 learn_cost s windows states = 4 * (windows * (width_of s * (states * s.left))) + windows * (width_of s * ((s.budget + 1) * 200001))
+
+-- before an error: none where too many sequences are shorter, and where a text is too long no more than the table of these states takes
+abbrev pub SpendsAs : Settings → ℕ → ℕ → ℕ → LearnError → Type 0
+SpendsAs s windows before after (Wide count) = after ≡ before
+SpendsAs s windows before after (Full t bytes) = after ≤ before + learn_cost s windows (length (table_of t).states)
+SpendsAs s windows before after Memory = Unit {0}

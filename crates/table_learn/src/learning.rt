@@ -7,7 +7,7 @@ ghost use Rattle.rule_table.specs.Views.{rule_of, table_of};
 ghost use Rattle.table_audit.specs.Sides.{named_count};
 ghost use Rattle.table_learn.specs.Settings.{Window as Model, settings_of, window_of, AreInLimits, AreWindows, IsWindow};
 ghost use Rattle.table_learn.specs.Found.{window_in};
-ghost use Rattle.table_learn.specs.Learnt.{Learnt, FailsAs, text_limit, text_length, learn_cost, width_of};
+ghost use Rattle.table_learn.specs.Learnt.{Learnt, FailsAs, SpendsAs, text_limit, text_length, learn_cost, width_of};
 ghost use Rattle.table_learn.specs.Progress.{HasLearnt, table_with, states_in, rules_in, search_cost, drop_cost};
 
 use crate::dropping::drop_all_told;
@@ -173,6 +173,7 @@ pub fn learn<L: Ledger>(
     ensures fits { IfOk result (λ t. text_length (table_of t) ≤ text_limit) }
     ensures fails { IfErr result (FailsAs (settings_of settings) (map window_of windows.items)) }
     ensures cost { IfOk result (λ t. steps.new ≤ steps.old + learn_cost (settings_of settings) (length windows.items) (length (table_of t).states)) }
+    ensures spends { IfErr result (SpendsAs (settings_of settings) (length windows.items) steps.old steps.new) }
 {
     let width = count_shorter(settings.regs, &settings.pool, settings.left);
     if width > WIDEST {

@@ -40,7 +40,18 @@ returns-then-learner-gt-TEXT_LIMIT-clause-fails g c =
     learnt_next (settings_of c.args.settings) (settings_of c.in_ok-settings.settings) ws c.loop-left.left-index c.loop-left-item.result c.new-window.result c.loop-left.learner c.in_ok-learner.learner c.in_ok-settings.ensures.same low item
     (same_window c.new-window.result c.loop-left-item.result c.new-window.ensures.left c.new-window.ensures.mask) c.loop-left.invariant.learnt c.in_ok-learner.ensures.learnt in
     let narrow : width_of (settings_of c.args.settings) ≤ 5000000 = omega (arith, c.count_shorter-width.ensures, c.if-width-gt-WIDEST.false) in
-    is_full (settings_of c.args.settings) (settings_of c.in_ok-settings.settings) ws (c.loop-left.left-index + 1) c.in_ok-learner.learner _ c.in_ok-settings.ensures.same narrow (omega arith) (omega (arith, low)) next c.table_of-table.ensures c.if-learner-gt-TEXT_LIMIT.true
+    is_full (settings_of c.args.settings) (settings_of c.in_ok-settings.settings) ws (c.loop-left.left-index + 1) c.in_ok-learner.learner _ c.in_ok-settings.ensures.same c.requires.settings c.in_ok-settings.ensures.seed c.in_ok-settings.ensures.pool narrow (omega arith) (omega (arith, low)) next c.table_of-table.ensures c.if-learner-gt-TEXT_LIMIT.true
+
+pub returns-then-learner-gt-TEXT_LIMIT-clause-spends : goal.returns-then-learner-gt-TEXT_LIMIT-clause-spends
+returns-then-learner-gt-TEXT_LIMIT-clause-spends g c =
+    let ws = c.args.windows.items in
+    let low : c.loop-left.left-index < length c.args.windows.items = subst (λ (vs : Pairs). c.loop-left.left-index < length vs) c.deref-left-items.ensures.value c.loop-left-test.true in
+    let item : c.loop-left-item.result ≡ get_or c.args.windows.items c.loop-left.left-index c.loop-left-item.result = subst (λ (vs : Pairs). c.loop-left-item.result ≡ get_or vs c.loop-left.left-index c.loop-left-item.result) c.deref-left-items.ensures.value c.loop-left-item.is in
+    let next : HasLearnt (settings_of c.args.settings) (map window_of (take (c.loop-left.left-index + 1) c.args.windows.items)) c.in_ok-learner.learner =
+    learnt_next (settings_of c.args.settings) (settings_of c.in_ok-settings.settings) ws c.loop-left.left-index c.loop-left-item.result c.new-window.result c.loop-left.learner c.in_ok-learner.learner c.in_ok-settings.ensures.same low item
+    (same_window c.new-window.result c.loop-left-item.result c.new-window.ensures.left c.new-window.ensures.mask) c.loop-left.invariant.learnt c.in_ok-learner.ensures.learnt in
+    cost_all (settings_of c.args.settings) (settings_of c.in_ok-settings.settings) ws (c.loop-left.left-index + 1) c.learn_window.new.steps c.args.steps.now c.in_ok-learner.learner _ (omega (arith, low)) c.table_of-table.ensures
+    (cost_next (settings_of c.args.settings) (settings_of c.in_ok-settings.settings) ws c.loop-left.left-index c.loop-left.learner c.in_ok-learner.learner c.loop-left.steps c.learn_window.new.steps c.args.steps.now c.in_ok-settings.ensures.same low c.loop-left.invariant.learnt next c.in_ok-learner.ensures.grown c.loop-left.invariant.cost c.in_ok-learner.ensures.cost)
 
 pub returns-clause-learnt : goal.returns-clause-learnt
 returns-clause-learnt g c =
@@ -58,6 +69,5 @@ returns-clause-fits g c = fits_all (settings_of c.args.settings) (settings_of c.
 
 pub returns-clause-cost : goal.returns-clause-cost
 returns-clause-cost g c =
-    let past : length c.args.windows.items ≤ c.loop-left.left-index = subst (λ (vs : Pairs). length vs ≤ c.loop-left.left-index) c.deref-left-items.ensures.value c.loop-left-test.false in
     let within : c.loop-left.left-index ≤ length c.args.windows.items = subst (λ (vs : Pairs). c.loop-left.left-index ≤ length vs) c.deref-left-items.ensures.value (omega arith) in
-    cost_all (settings_of c.args.settings) (settings_of c.in_ok-settings.settings) c.args.windows.items c.loop-left.left-index c.loop-left.steps c.args.steps.now c.loop-left.learner _ past within c.table_of.ensures c.loop-left.invariant.cost
+    cost_all (settings_of c.args.settings) (settings_of c.in_ok-settings.settings) c.args.windows.items c.loop-left.left-index c.loop-left.steps c.args.steps.now c.loop-left.learner _ within c.table_of.ensures c.loop-left.invariant.cost
