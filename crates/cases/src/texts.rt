@@ -1,5 +1,5 @@
 //! The text that is kept.
-use crate::Given;
+use crate::rule_part::Given;
 use std::alloc::Global;
 use std::fmt::{Debug, Write};
 

@@ -2,7 +2,7 @@
 ghost use Rattle.rule_table.specs.Views.{table_of};
 ghost use Rattle.rule_table.specs.Valid.{IsTable};
 
-use crate::Given;
+use crate::rule_part::Given;
 use crate::tables::read;
 use crate::texts::tell;
 use rule_table::{Table, write_table};

@@ -3,7 +3,7 @@ ghost use Rattle.std.specs.Prelude.{IfSome};
 ghost use Rattle.rule_table.specs.Views.{table_of};
 ghost use Rattle.rule_table.specs.Valid.{IsTable};
 
-use crate::Given;
+use crate::rule_part::Given;
 use crate::texts::{changed, push_unescaped, tell};
 use rule_table::{Table, read_table};
 use std::alloc::Global;

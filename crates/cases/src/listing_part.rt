@@ -1,24 +1,12 @@
-//! Answers cases of what reads, lays out and runs listings: a case a line of standard input, and a line or a few of what is answered.
+//! What reads, lays out and runs listings: a case a line, and a line or a few of what is answered.
 //!
 //! A line is blank, a comment from `#` on, or a case: a word that says what is asked, and its arguments, parted by a blank each. The last
 //! argument may be a text, which goes on to the line's end (`escapes` tells its spelling). Words of the machine are hexadecimal, and other numbers
-//! decimal. A case that can't be read is answered by `?`, and so is want of memory.
-#![tactic(auto)]
-
-mod arithmetic;
-mod codes;
-mod escapes;
-mod listings;
-mod living;
-mod machines;
-mod printing;
-mod reading;
-mod stepping;
-
+//! decimal.
 use crate::printing::Answer;
 use crate::reading::Arguments;
+use crate::{arithmetic, codes, listings, living, machines, stepping};
 use std::alloc::Global;
-use std::io;
 
 /// Whether a line asks for something.
 fn is_case(line: &str) -> bool {
@@ -56,24 +44,16 @@ fn answer_case(
     }
 }
 
-/// What a case is answered by.
-fn answer_of(alloc: Global, line: &str) -> Option<String> {
+/// What a line is answered by: a line or a few, and nothing where it asks for nothing.
+pub(crate) fn answer_line(alloc: Global, line: &str) -> Option<Vec<u8>> {
+    if !is_case(line) {
+        return Some(Vec::new(alloc));
+    }
     let mut arguments = Arguments::of(line);
     let kind = arguments.word();
     let mut answer = Answer::new(alloc);
     answer_case(alloc, kind, arguments, &mut answer)?;
-    Some(answer.into_text())
-}
-
-fn main(rt: HostRuntime) -> io::Result<()> {
-    let input = io::read_to_string(rt.alloc(), rt.reader())?;
-    for line in input.lines() {
-        if is_case(line) {
-            match answer_of(rt.alloc(), line) {
-                Some(text) => rt.println(text)?,
-                None => rt.println("?")?,
-            }
-        }
-    }
-    Ok(())
+    let mut text = answer.into_text();
+    text.push('\n').ok()?;
+    Some(text.into_bytes())
 }

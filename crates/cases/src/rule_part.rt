@@ -1,22 +1,25 @@
-//! Calls the crates that make and check rules by cases from standard input, and prints what they answer.
-#![tactic(auto)]
-
-mod formulas;
-mod learning;
-mod proofs;
-mod tables;
-mod texts;
-
+//! What makes and checks rules: a line a case, about the formula and the text that those before it kept.
+use crate::{formulas, learning, proofs, tables, texts};
 use cnf_gates::Formula;
 use std::alloc::Global;
-use std::io;
 
 /// What cases are about: the formula and the text that those before kept.
 #[derive(Drop)]
-struct Given {
-    alloc: Global,
-    formula: Formula,
-    text: String,
+pub(crate) struct Given {
+    pub(crate) alloc: Global,
+    pub(crate) formula: Formula,
+    pub(crate) text: String,
+}
+
+impl Given {
+    /// A formula without variables, and no text.
+    pub(crate) fn new(alloc: Global) -> Given {
+        Given {
+            alloc,
+            formula: Formula::new(alloc, 0),
+            text: String::new(alloc),
+        }
+    }
 }
 
 /// Does what a line says, and writes what comes of it. None where the line can't be read, or memory runs out.
@@ -40,18 +43,11 @@ fn answer(given: &mut Given, line: &str, out: &mut String) -> Option<()> {
     }
 }
 
-fn main(rt: HostRuntime) -> io::Result<()> {
-    let cases = io::read_to_string(rt.alloc(), rt.reader())?;
-    let mut given = Given {
-        alloc: rt.alloc(),
-        formula: Formula::new(rt.alloc(), 0),
-        text: String::new(rt.alloc()),
-    };
-    let mut out = String::new(rt.alloc());
-    for line in cases.as_str().split("\n") {
-        if answer(&mut given, line, &mut out).is_none() {
-            out.push_str("?\n")?;
-        }
+/// What a line is answered by; one that can't be read, or for which memory is wanting, by `?` behind what was answered before that.
+pub(crate) fn answer_line(given: &mut Given, line: &str) -> Option<Vec<u8>> {
+    let mut out = String::new(given.alloc);
+    if answer(given, line, &mut out).is_none() {
+        out.push_str("?\n").ok()?;
     }
-    rt.print(out)
+    Some(out.into_bytes())
 }

@@ -1,5 +1,5 @@
 //! Formulas: of clauses, and of the entries of tables.
-use crate::Given;
+use crate::rule_part::Given;
 use crate::tables::read;
 use cnf_gates::{Bit, Builder, write_dimacs};
 use seq_enum::number_of;

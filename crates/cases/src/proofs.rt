@@ -1,5 +1,5 @@
 //! Lines of proofs, their checker, and the solver.
-use crate::Given;
+use crate::rule_part::Given;
 use crate::texts::tell;
 use cdcl_core::Verdict;
 use lrat_check::{Checker, read_line};
