@@ -16,3 +16,4 @@ pub mod MuteLines
 pub mod DemoTexts
 pub mod DemoLines
 pub mod DemoLemmas
+pub mod HeadlineLemmas
