@@ -11,7 +11,7 @@ use Rattle.kept_layout.specs.declared.stretch.Head.TheVariants as head
 use Rattle.kept_layout.specs.declared.stretch.Aim.{Aim}
 use Rattle.kept_layout.specs.declared.stretch.Stretch.{Stretch}
 use Rattle.kept_layout.specs.declared.kept.KeptLayout.{KeptLayout}
-use Rattle.kept_layout.specs.Stretches.{addresses, end_from, is_loose, shape_of, shapes_of, starts_from, AllReach, IsGrain, Shape}
+use Rattle.kept_layout.specs.Stretches.{addresses, end_from, is_loose, literal_last, shape_of, shapes_of, starts_from, AllReach, Divides, IsGrain, Shape}
 use Rattle.kept_layout.specs.Kept.{AreCut, IsLaid, Lays}
 use Rattle.kept_layout.specs.Cutting.{part_shapes, stretch_in, mentioned, AreMet, KnowCallers, AreCallers}
 use Rattle.kept_layout.specs.Moves.{ungrained}
@@ -29,6 +29,7 @@ pub record IsUnmoved (k : KeptLayout) : Type 0 where
   pub border : k.border ≡ 0
   pub shift : k.shift ≡ 0
   pub grains : (j : ℕ) (s : Stretch) → slice_get k.stretches.items j ≡ Some s → IsGrain s.grain (drop j (shapes_of k.stretches.items))
+  pub literals : (i j : ℕ) (s : Shape) (d : Stretch) → slice_get (shapes_of k.stretches.items) i ≡ Some s → slice_get k.stretches.items j ≡ Some d → j ≤ literal_last i s.head → Divides 4 d.grain
   pub loose : (j : ℕ) (s : Stretch) → slice_get k.stretches.items j ≡ Some s → is_loose j s.head ≡ true → Contains k.loose.items j
   pub loose_within : (j : ℕ) → Contains k.loose.items j → j < length k.stretches.items
 
@@ -44,6 +45,7 @@ is_laid k end starts reach met known callers here first some unmoved =
       border = omega (arith, unmoved.border);
       noted = λ j s e h. omega (arith, unmoved.shift);
       grains = unmoved.grains;
+      literals = unmoved.literals;
       reach = reach;
       targets = λ i t s a e f g. let low = met i t (shape_of s) (shape_at i s e) (aims_at s.head a t f g) in omega arith;
       callers = λ i t s d a e f g h. known i t (shape_of s) d (slice_get_within ss i s e) (shape_at i s e) (aims_at s.head a t f g) h;
@@ -79,12 +81,14 @@ lays_built k built ls same shapes end starts known callers here first unmoved la
     (subst (λ n. KnowCallers n ss) (sym (map_length ungrained ss built same)) (known_same (length built) ss built same known)) (are_callers_same ss built same callers) here first unmoved layable
 
 -- its grains were noted, and the loose mentions were found
-pub unmoved : (k : KeptLayout) (built found : List Stretch) → k.border ≡ 0 → k.shift ≡ 0 → map ungrained k.stretches.items ≡ map ungrained built → ((j : ℕ) (s : Stretch) → slice_get k.stretches.items j ≡ Some s → IsGrain s.grain (drop j (shapes_of built))) → found ≡ k.stretches.items
+pub unmoved : (k : KeptLayout) (built found : List Stretch) → k.border ≡ 0 → k.shift ≡ 0 → map ungrained k.stretches.items ≡ map ungrained built → ((j : ℕ) (s : Stretch) → slice_get k.stretches.items j ≡ Some s → IsGrain s.grain (drop j (shapes_of built)))
+    → ((i j : ℕ) (s : Shape) (d : Stretch) → slice_get (shapes_of built) i ≡ Some s → slice_get k.stretches.items j ≡ Some d → j ≤ literal_last i s.head → Divides 4 d.grain) → found ≡ k.stretches.items
     → ((j : ℕ) (s : Stretch) → slice_get found j ≡ Some s → is_loose j s.head ≡ true → Contains k.loose.items j) → ((j : ℕ) → Contains k.loose.items j → j < length found) → IsUnmoved k
-unmoved k built found border shift same grains e loose within = record {
+unmoved k built found border shift same grains literals e loose within = record {
   border = border;
   shift = shift;
   grains = λ j s f. subst (λ (xs : List Shape). IsGrain s.grain (drop j xs)) (sym (shapes_same k.stretches.items built same)) (grains j s f);
+  literals = λ i j s d f. literals i j s d (subst (λ (xs : List Shape). slice_get xs i ≡ Some s) (shapes_same k.stretches.items built same) f);
   loose = λ j s f g. loose j s (ap (λ (xs : List Stretch). slice_get xs j) e ∙ f) g;
   loose_within = λ j c. let w = within j c in let many = ap (λ (xs : List Stretch). length xs) e in omega arith;
 }

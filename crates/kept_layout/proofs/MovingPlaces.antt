@@ -35,6 +35,7 @@ elsewhere k here first l h f = record {
   border = l.border;
   noted = l.noted;
   grains = l.grains;
+  literals = l.literals;
   reach = l.reach;
   targets = l.targets;
   callers = l.callers;

@@ -11,12 +11,12 @@ use Rattle.kept_layout.specs.declared.stretch.Head.{Head}
 use Rattle.kept_layout.specs.declared.stretch.Head.TheVariants as head
 use Rattle.kept_layout.specs.declared.stretch.Stretch.{Stretch}
 use Rattle.kept_layout.specs.declared.stretch.Target.TheVariants as target
-use Rattle.kept_layout.specs.Stretches.{addresses, end_from, is_loose, lessen, located, shape_of, shapes_of, starts_from, total_places, AllReach, IsGrain, Shape}
+use Rattle.kept_layout.specs.Stretches.{addresses, end_from, is_loose, lessen, literal_last, located, shape_of, shapes_of, starts_from, total_places, AllReach, Divides, IsGrain, Shape}
 use Rattle.kept_layout.specs.Kept.{IsLaid}
 use Rattle.kept_layout.specs.Moves.{end_of, moved_starts, unplaced, IsMove, IsMoved, IsNote}
 use Rattle.kept_layout.proofs.MovingPlaces.{shape_at}
 use Rattle.kept_layout.proofs.ShrinkingPlaces.{addresses_are, get_map, lies_at, located_before, located_behind, moved_among, moved_before, moved_behind, shapes_length}
-use Rattle.kept_layout.proofs.ShrinkingStarts.{grain_lessen, lessen_length, places_lessen, starts_length}
+use Rattle.kept_layout.proofs.ShrinkingStarts.{grain_lessen, lessen_at, lessen_length, places_lessen, starts_length}
 
 -- ---- one stretch ----
 
@@ -275,6 +275,10 @@ laid_after k new by bytes gone ss after l m r a =
       grains = λ j d e.
           let o = laid_at k new by bytes gone ss after j d a e in
           subst (λ g. IsGrain g (drop j (shapes_of after.stretches.items))) (sym o.grain) (subst (λ (xs : List Shape). IsGrain o.s.grain (drop j xs)) (sym shapes) (grain_lessen o.s.grain k.here bytes gone j (shapes_of k.stretches.items) (l.grains j o.s o.is)));
+      literals = λ i j s d e f h.
+          let o = laid_at k new by bytes gone ss after j d a f in
+          let was = lessen_at k.here bytes gone (shapes_of k.stretches.items) i s (subst (λ (xs : List Shape). slice_get xs i ≡ Some s) shapes e) in
+          subst (Divides 4) (sym o.grain) (l.literals i j was.shape o.s was.is o.is (subst (λ (x : Head). j ≤ literal_last i x) (sym was.head) h));
       reach = subst (λ x. AllReach x (shapes_of after.stretches.items)) (sym base) (subst (AllReach k.base) (sym shapes) r);
       targets = λ i t s aim e f g. let o = laid_at k new by bytes gone ss after i s a e in let w = l.targets i t o.s aim o.is (sym o.head ∙ f) g in omega arith;
       callers = laid_callers k new by bytes gone ss after l a;

@@ -1,5 +1,5 @@
 -- What stays within reach when stretches move: what wasn't looked at has both ends where they were, or both moved alike, or they came nearer to each other.
-use Rattle.std.proofs.Common.{◌≡◌, ◌∙◌, ◌↔◌, inl, inr, ℕ, suc, ◌+◌, ◌-◌, ◌*◌, ◌<◌, ◌≤◌, Bool, true, false, List, length, Option, Some, None, refl, sym, ap, subst, arith}
+use Rattle.std.proofs.Common.{◌≡◌, ◌∙◌, ◌↔◌, inl, inr, ℕ, suc, ◌+◌, ◌-◌, ◌<◌, ◌≤◌, max, Bool, true, false, List, length, Option, Some, None, refl, sym, ap, subst, arith}
 use Rattle.std.specs.Prelude.{not, slice_get, Contains}
 use Rattle.std.specs.Option.{is_some, option_map}
 use Rattle.std.proofs.lemmas.Bool.{cases_Bool, cases_lt, le-leb}
@@ -17,7 +17,7 @@ use Rattle.kept_layout.specs.declared.stretch.Head.TheVariants as head
 use Rattle.kept_layout.specs.declared.stretch.Stretch.{Stretch}
 use Rattle.kept_layout.specs.declared.stretch.Target.{Target}
 use Rattle.kept_layout.specs.declared.stretch.Target.TheVariants as target
-use Rattle.kept_layout.specs.Stretches.{address_of, head_fault, is_literal, is_loose, is_loose_to, lessen, shape_of, shapes_of, starts_from, AllReach, AreWide, Shape}
+use Rattle.kept_layout.specs.Stretches.{address_of, head_fault, is_literal, is_loose, is_loose_to, last_to, lessen, literal_last, shape_of, shapes_of, starts_from, AllReach, AreWide, Divides, Shape}
 use Rattle.kept_layout.specs.Kept.{IsLaid}
 use Rattle.kept_layout.specs.Moves.{end_of, moved_starts, starts_of, IsLookedAt, IsMove, IsRight}
 use Rattle.kept_layout.proofs.Distances.{aim_ahead, aim_back, aim_moves}
@@ -110,6 +110,12 @@ label_before k new by bytes j t s at old a m c x e h l =
     let w = was k (moved_starts k new by) j s at old a (Some (target.Stretch t)) m.laid x e in
     subst (λ n. aim_fault n a.instr (slice_get (moved_starts k new by) t) a.plus ≡ None) (sym stays) (subst (λ (o : Option ℕ). aim_fault old a.instr o a.plus ≡ None) (sym (moved_before k new by t m.move h)) w)
 
+-- a literal of a label that moves, moves or sees that move by a multiple of 4
+literal_whole : (k : KeptLayout) (new : List ℕ) (by bytes j t : ℕ) (s : Stretch) (at : ℕ) (a : Aim) → Moves k new by bytes → Mentions k (moved_starts k new by) j s at a (Some (target.Stretch t)) → end_of k new ≤ t → is_literal a.instr ≡ true → Divides 4 by
+literal_whole k new by bytes j t s at a m x h y =
+    let last : literal_last j s.head ≡ max j t = ap (literal_last j) x.head ∙ ap (last_to j a.instr) x.target ∙ rw y refl in
+    m.move.literals j (shape_of s) (shape_at k.stretches.items j s x.is) (omega arith)
+
 -- the label comes nearer
 label_nearer : (k : KeptLayout) (new : List ℕ) (by bytes j t : ℕ) (s : Stretch) (at old to : ℕ) (a : Aim) → Moves k new by bytes → Mentions k (moved_starts k new by) j s at a (Some (target.Stretch t)) → slice_get (starts_of k) j ≡ Some old → slice_get (starts_of k) t ≡ Some to → end_of k new ≤ t → j < k.here
     → aim_fault at a.instr (slice_get (moved_starts k new by) t) a.plus ≡ None
@@ -118,11 +124,9 @@ label_nearer k new by bytes j t s at old to a m x e f h l =
     let moved = moved_behind k new by t to m.move h f in
     let low = m.move.low t to h f in
     let two = apart k new by bytes j t s at (to - by) a (Some (target.Stretch t)) m x l (omega arith) moved in
-    let four = m.move.four in
-    let times : by ≡ 4 * four.0 = let q = four.1 in omega arith in
     let w = was k (moved_starts k new by) j s at old a (Some (target.Stretch t)) m.laid x e in
     let w2 : aim_fault at a.instr (Some to) a.plus ≡ None = subst (λ n. aim_fault n a.instr (Some to) a.plus ≡ None) (sym stays) (subst (λ (o : Option ℕ). aim_fault old a.instr o a.plus ≡ None) f w) in
-    subst (λ (o : Option ℕ). aim_fault at a.instr o a.plus ≡ None) (sym moved) (aim_ahead four.0 by at to a.instr a.plus times (omega arith) w2)
+    subst (λ (o : Option ℕ). aim_fault at a.instr o a.plus ≡ None) (sym moved) (aim_ahead by at to a.instr a.plus (literal_whole k new by bytes j t s at a m x h) (omega arith) w2)
 
 -- both ends move
 label_along : (k : KeptLayout) (new : List ℕ) (by bytes j t : ℕ) (s : Stretch) (at old to : ℕ) (a : Aim) → Moves k new by bytes → Mentions k (moved_starts k new by) j s at a (Some (target.Stretch t)) → slice_get (starts_of k) j ≡ Some old → slice_get (starts_of k) t ≡ Some to → end_of k new ≤ t → end_of k new ≤ j
@@ -132,10 +136,8 @@ label_along k new by bytes j t s at old to a m x e f h l =
     let moved = moved_behind k new by t to m.move h f in
     let low = m.move.low t to h f in
     let under = m.move.low j old l e in
-    let four = m.move.four in
-    let times : by ≡ 4 * four.0 = let q = four.1 in omega arith in
     let w : aim_fault old a.instr (Some to) a.plus ≡ None = subst (λ (o : Option ℕ). aim_fault old a.instr o a.plus ≡ None) f (was k (moved_starts k new by) j s at old a (Some (target.Stretch t)) m.laid x e) in
-    subst (λ (o : Option ℕ). aim_fault at a.instr o a.plus ≡ None) (sym moved) (subst (λ n. aim_fault n a.instr (Some (to - by)) a.plus ≡ None) moves (aim_moves four.0 by old to a.instr a.plus times under low w))
+    subst (λ (o : Option ℕ). aim_fault at a.instr o a.plus ≡ None) (sym moved) (subst (λ n. aim_fault n a.instr (Some (to - by)) a.plus ≡ None) moves (aim_moves by old to a.instr a.plus (literal_whole k new by bytes j t s at a m x h) under low w))
 
 -- the instruction comes nearer
 label_behind : (k : KeptLayout) (new : List ℕ) (by bytes j t : ℕ) (s : Stretch) (at old to : ℕ) (a : Aim) → Moves k new by bytes → IsLookedAt k new by → Mentions k (moved_starts k new by) j s at a (Some (target.Stretch t)) → slice_get (starts_of k) j ≡ Some old → slice_get (starts_of k) t ≡ Some to → t ≤ k.here → end_of k new ≤ j

@@ -10,7 +10,7 @@ use Rattle.kept_layout.specs.declared.stretch.Target.TheVariants as target
 use Rattle.kept_layout.specs.declared.stretch.Head.{Head}
 use Rattle.kept_layout.specs.declared.stretch.Head.TheVariants as head
 use Rattle.kept_layout.specs.declared.stretch.Stretch.{Stretch}
-use Rattle.kept_layout.specs.Stretches.{addresses, end_from, is_loose, shapes_of, starts_from, total_places, AllReach, IsGrain, Shape}
+use Rattle.kept_layout.specs.Stretches.{addresses, end_from, is_loose, literal_last, shapes_of, starts_from, total_places, AllReach, Divides, IsGrain, Shape}
 
 -- ---- stretches of lines ----
 
@@ -123,6 +123,8 @@ pub record IsLaid (k : KeptLayout) : Type 0 where
   pub border : k.border ≤ length k.stretches.items
   pub noted : (j : ℕ) (s : Stretch) → slice_get k.stretches.items j ≡ Some s → k.border ≤ j → k.shift ≤ s.at
   pub grains : (j : ℕ) (s : Stretch) → slice_get k.stretches.items j ≡ Some s → IsGrain s.grain (drop j (shapes_of k.stretches.items))
+  -- 4 divides the grains of those that aren't behind a literal and its label
+  pub literals : (i j : ℕ) (s : Shape) (d : Stretch) → slice_get (shapes_of k.stretches.items) i ≡ Some s → slice_get k.stretches.items j ≡ Some d → j ≤ literal_last i s.head → Divides 4 d.grain
   pub reach : AllReach k.base (shapes_of k.stretches.items)
   pub targets : (i t : ℕ) (s : Stretch) (a : Aim) → slice_get k.stretches.items i ≡ Some s → s.head ≡ head.Aims a → a.to ≡ Some (target.Stretch t) → t < length k.stretches.items
   pub callers : (i t : ℕ) (s d : Stretch) (a : Aim) → slice_get k.stretches.items i ≡ Some s → s.head ≡ head.Aims a → a.to ≡ Some (target.Stretch t) → slice_get k.stretches.items t ≡ Some d → Contains d.callers.items i

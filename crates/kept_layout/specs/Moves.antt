@@ -2,7 +2,7 @@
 use Rattle.std.specs.Prelude.{◌≡◌, ℕ, suc, ◌+◌, ◌-◌, ◌^◌, ◌<◌, ◌≤◌, List, ◌++◌, length, map, take, drop, Some, None, slice_get, Contains}
 use Rattle.kept_layout.specs.declared.kept.KeptLayout.{KeptLayout}
 use Rattle.kept_layout.specs.declared.stretch.Stretch.{Stretch}
-use Rattle.kept_layout.specs.Stretches.{end_from, head_fault, lessen, shapes_of, starts_from, Divides}
+use Rattle.kept_layout.specs.Stretches.{end_from, head_fault, lessen, literal_last, shapes_of, starts_from, Divides, Shape}
 
 -- where each one begins, from the base on
 abbrev pub starts_of : KeptLayout → List ℕ
@@ -20,7 +20,8 @@ moved_starts k new by = take (suc k.here) (starts_of k) ++ (new ++ map (λ a. a 
 pub record IsMove (k : KeptLayout) (new : List ℕ) (by : ℕ) : Type 0 where
   pub within : end_of k new ≤ length k.stretches.items
   pub low : (j a : ℕ) → end_of k new ≤ j → slice_get (starts_of k) j ≡ Some a → by ≤ a
-  pub four : Divides 4 by
+  -- by a multiple of 4 where a literal or its label is one of those
+  pub literals : (i : ℕ) (s : Shape) → slice_get (shapes_of k.stretches.items) i ≡ Some s → end_of k new ≤ literal_last i s.head → Divides 4 by
 
 -- so they move if the one that it stands at takes so many bytes fewer, however many places go with them
 pub record IsMoved (k : KeptLayout) (bytes : ℕ) (new : List ℕ) (by : ℕ) : Type 0 where

@@ -1,5 +1,5 @@
 -- Stretches of lines, one behind the other: where they begin, and whether what they mention is within reach.
-use Rattle.std.specs.Prelude.{◌≡◌, ℕ, zero, suc, ◌+◌, ◌-◌, ◌*◌, ◌&&◌, ◌≤◌, nat_le, nat_lt, Bool, true, false, List, [], ◌∷◌, map, Option, Some, None, slice_get, if◌then◌else◌}
+use Rattle.std.specs.Prelude.{◌≡◌, ℕ, zero, suc, ◌+◌, ◌-◌, ◌*◌, ◌&&◌, ◌≤◌, max, nat_le, nat_lt, Bool, true, false, List, [], ◌∷◌, map, Option, Some, None, slice_get, if◌then◌else◌}
 use Rattle.thumb_instr.specs.declared.instr.Instr.{Instr}
 use Rattle.thumb_instr.specs.declared.instr.Instr.TheVariants as instr
 use Rattle.thumb_model.specs.Layout.{aim_fault, padding, Fault}
@@ -87,9 +87,9 @@ IsGrainOf grain head.Plain = Unit {0}
 IsGrainOf grain (head.Pads size most) = Divides size grain
 IsGrainOf grain (head.Aims aim) = Unit {0}
 
--- 4 and the sizes of all alignments divide the number
+-- the sizes of all alignments divide the number
 abbrev pub IsGrain : ℕ → List Shape → Type 0
-IsGrain grain [] = Divides 4 grain
+IsGrain grain [] = Unit {0}
 IsGrain grain (s ∷ ss) = IsGrainOf grain s.head × IsGrain grain ss
 
 -- whether an instruction is a literal's
@@ -97,6 +97,17 @@ abbrev pub is_literal : Instr → Bool
 is_literal (instr.Literal t s) = true
 is_literal (instr.Address t s) = true
 is_literal i = false
+
+-- in the stretch of this number, the later one of a literal and its label: whether they move by a multiple of 4 matters up to there. It is the first stretch, which never moves, where no label is a literal's
+abbrev pub last_to : ℕ → Instr → Option Target → ℕ
+last_to n i None = 0
+last_to n i (Some (target.Stretch k)) = if is_literal i then max n k else 0
+last_to n i (Some (target.Address a)) = 0
+
+abbrev pub literal_last : ℕ → Head → ℕ
+literal_last n head.Plain = 0
+literal_last n (head.Pads size most) = 0
+literal_last n (head.Aims aim) = last_to n aim.instr aim.to
 
 -- whether a mention may come out of reach by coming nearer, in the stretch of this number: of an address that is set, or by a literal of a label that isn't behind it
 abbrev pub is_loose_to : ℕ → Instr → Option Target → Bool

@@ -14,7 +14,7 @@ go_to-requires c =
     (lays_built k c.note_callers.new.stretches.items c.args.listing.now c.note_grains.ensures.same
     (c.in_ok-note_callers.ensures.shapes ∙ c.in_ok-stretches.ensures.shapes) c.in_ok-stretches.ensures.in_code
     (c.in_ok-note_callers.ensures.starts ∙ c.in_ok-stretches.ensures.starts) c.in_ok-note_callers.ensures.known c.in_ok-note_callers.ensures.callers refl refl
-    (unmoved k c.note_callers.new.stretches.items c.deref.result.now refl refl c.note_grains.ensures.same c.note_grains.ensures.grains c.deref.ensures.value c.in_ok-loose.ensures.all c.in_ok-loose.ensures.within)
+    (unmoved k c.note_callers.new.stretches.items c.deref.result.now refl refl c.note_grains.ensures.same c.note_grains.ensures.grains c.note_grains.ensures.literals c.deref.ensures.value c.in_ok-loose.ensures.all c.in_ok-loose.ensures.within)
     c.requires).laid
 
 pub returns-clause-lays : goal.returns-clause-lays
@@ -24,5 +24,5 @@ returns-clause-lays c =
     (lays_built k c.note_callers.new.stretches.items c.args.listing.now c.note_grains.ensures.same
     (c.in_ok-note_callers.ensures.shapes ∙ c.in_ok-stretches.ensures.shapes) c.in_ok-stretches.ensures.in_code
     (c.in_ok-note_callers.ensures.starts ∙ c.in_ok-stretches.ensures.starts) c.in_ok-note_callers.ensures.known c.in_ok-note_callers.ensures.callers refl refl
-    (unmoved k c.note_callers.new.stretches.items c.deref.result.now refl refl c.note_grains.ensures.same c.note_grains.ensures.grains c.deref.ensures.value c.in_ok-loose.ensures.all c.in_ok-loose.ensures.within)
+    (unmoved k c.note_callers.new.stretches.items c.deref.result.now refl refl c.note_grains.ensures.same c.note_grains.ensures.grains c.note_grains.ensures.literals c.deref.ensures.value c.in_ok-loose.ensures.all c.in_ok-loose.ensures.within)
     c.requires)
