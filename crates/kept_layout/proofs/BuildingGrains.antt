@@ -6,6 +6,7 @@ use Rattle.std.proofs.lemmas.List.{length-set}
 use Rattle.std.proofs.lemmas.List.Elements.{Contains-append_left, Contains-push, Contains-push_cases}
 use Rattle.std.proofs.lemmas.Option.{slice_get_read, slice_get_within}
 use Rattle.thumb_model.proofs.Lists.{present_at}
+use Rattle.kept_layout.specs.declared.grains.Loose.{Loose}
 use Rattle.kept_layout.specs.declared.stretch.Head.{Head}
 use Rattle.kept_layout.specs.declared.stretch.Head.TheVariants as head
 use Rattle.kept_layout.specs.declared.stretch.Stretch.{Stretch}
@@ -155,18 +156,18 @@ fours_all all last grain number ss h none known i j s d e f l =
 -- ---- loose mentions ----
 
 -- those below a number are known
-pub record AreFound (ss : List Stretch) (number : ℕ) (loose : List ℕ) : Type 0 where
-  pub all : (j : ℕ) (s : Stretch) → j < number → slice_get ss j ≡ Some s → is_loose j s.head ≡ true → Contains loose j
+pub record AreFound (of : Loose) (ss : List Stretch) (number : ℕ) (loose : List ℕ) : Type 0 where
+  pub all : (j : ℕ) (s : Stretch) → j < number → slice_get ss j ≡ Some s → is_loose of j s.head ≡ true → Contains loose j
   pub within : (j : ℕ) → Contains loose j → j < length ss
 
-pub found_none : (ss : List Stretch) (loose : List ℕ) → loose ≡ [] → AreFound ss 0 loose
-found_none ss loose e = record {
+pub found_none : (of : Loose) (ss : List Stretch) (loose : List ℕ) → loose ≡ [] → AreFound of ss 0 loose
+found_none of ss loose e = record {
   all = λ j s h f g. absurd (omega arith);
   within = λ j c. absurd (let d = subst (λ xs. Contains xs j) e c in let l = d.1 in omega arith);
 }
 
-pub found_one : (ss : List Stretch) (number following : ℕ) (loose more : List ℕ) → AreFound ss number loose → more ≡ loose ++ number ∷ [] → number < length ss → following ≡ suc number → AreFound ss following more
-found_one ss number following loose more a e h f = record {
+pub found_one : (of : Loose) (ss : List Stretch) (number following : ℕ) (loose more : List ℕ) → AreFound of ss number loose → more ≡ loose ++ number ∷ [] → number < length ss → following ≡ suc number → AreFound of ss following more
+found_one of ss number following loose more a e h f = record {
   all = λ j s l g k. subst (λ xs. Contains xs j) (sym e) (elim (cases_lt j number) [
     | inl before ↦ Contains-append_left loose (number ∷ []) j (a.all j s before g k)
     | inr not ↦ subst (λ x. Contains (loose ++ number ∷ []) x) (let here : number ≡ j = omega arith in here) (Contains-push loose number)
@@ -177,17 +178,20 @@ found_one ss number following loose more a e h f = record {
   ];
 }
 
-pub found_other : (ss : List Stretch) (number following : ℕ) (loose : List ℕ) (s : Stretch) → AreFound ss number loose → slice_get ss number ≡ Some s → (is_loose number s.head ≡ true → ⊥) → following ≡ suc number → AreFound ss following loose
-found_other ss number following loose s a e not f = record {
+pub found_other : (of : Loose) (ss : List Stretch) (number following : ℕ) (loose : List ℕ) (s : Stretch) → AreFound of ss number loose → slice_get ss number ≡ Some s → (is_loose of number s.head ≡ true → ⊥) → following ≡ suc number → AreFound of ss following loose
+found_other of ss number following loose s a e not f = record {
   all = λ j t l g k. elim (cases_lt j number) [
     | inl before ↦ a.all j t before g k
     | inr now ↦
         let here : j ≡ number = omega arith in
         let one : t ≡ s = let v = ap (slice_get ss) (sym here) ∙ g in cc in
-        absurd (not (subst (λ n. is_loose n s.head ≡ true) here (subst (λ (x : Stretch). is_loose j x.head ≡ true) one k)))
+        absurd (not (subst (λ n. is_loose of n s.head ≡ true) here (subst (λ (x : Stretch). is_loose of j x.head ≡ true) one k)))
   ];
   within = a.within;
 }
+
+pub found_all : (of : Loose) (ss : List Stretch) (loose : List ℕ) → ((j : ℕ) (s : Stretch) → slice_get ss j ≡ Some s → is_loose of j s.head ≡ true → Contains loose j) → ((j : ℕ) → Contains loose j → j < length ss) → AreFound of ss (length ss) loose
+found_all of ss loose all within = record { all = λ j s l. all j s; within = within }
 
 -- read twice, a stretch begins with the same
 pub head_read : (ss : List Stretch) (n : ℕ) (s t : Stretch) → n < length ss → s ≡ get_or ss n s → slice_get ss n ≡ Some t → s.head ≡ t.head

@@ -42,6 +42,9 @@ elsewhere k here first l h f = record {
   called = l.called;
   loose = l.loose;
   loose_within = l.loose_within;
+  absolute = l.absolute;
+  absolute_within = l.absolute_within;
+  slack = l.slack;
   here = h;
   first = f;
 }

@@ -3,6 +3,8 @@ use Rattle.std.specs.Prelude.{◌≡◌, ℕ, zero, suc, ◌+◌, ◌-◌, ◌*�
 use Rattle.thumb_instr.specs.declared.instr.Instr.{Instr}
 use Rattle.thumb_instr.specs.declared.instr.Instr.TheVariants as instr
 use Rattle.thumb_model.specs.Layout.{aim_fault, padding, Fault}
+use Rattle.kept_layout.specs.declared.grains.Loose.{Loose}
+use Rattle.kept_layout.specs.declared.grains.Loose.TheVariants as sort
 use Rattle.kept_layout.specs.declared.stretch.Aim.{Aim}
 use Rattle.kept_layout.specs.declared.stretch.Target.{Target}
 use Rattle.kept_layout.specs.declared.stretch.Target.TheVariants as target
@@ -109,16 +111,33 @@ literal_last n head.Plain = 0
 literal_last n (head.Pads size most) = 0
 literal_last n (head.Aims aim) = last_to n aim.instr aim.to
 
--- whether a mention may come out of reach by coming nearer, in the stretch of this number: of an address that is set, or by a literal of a label that isn't behind it
-abbrev pub is_loose_to : ℕ → Instr → Option Target → Bool
-is_loose_to n i None = false
-is_loose_to n i (Some (target.Stretch k)) = is_literal i && nat_le k n
-is_loose_to n i (Some (target.Address a)) = true
+-- whether a mention may come out of reach by coming nearer, in the stretch of this number: of a label, by a literal that it isn't behind, or of an address that is set
+abbrev pub is_loose_to : Loose → ℕ → Instr → Option Target → Bool
+is_loose_to l n i None = false
+is_loose_to sort.Label n i (Some (target.Stretch k)) = is_literal i && nat_le k n
+is_loose_to sort.Address n i (Some (target.Stretch k)) = false
+is_loose_to sort.Label n i (Some (target.Address a)) = false
+is_loose_to sort.Address n i (Some (target.Address a)) = true
 
-abbrev pub is_loose : ℕ → Head → Bool
-is_loose n head.Plain = false
-is_loose n (head.Pads size most) = false
-is_loose n (head.Aims aim) = is_loose_to n aim.instr aim.to
+abbrev pub is_loose : Loose → ℕ → Head → Bool
+is_loose l n head.Plain = false
+is_loose l n (head.Pads size most) = false
+is_loose l n (head.Aims aim) = is_loose_to l n aim.instr aim.to
+
+-- what an instruction mentions is within reach wherever that lies up to so many bytes before an address
+abbrev pub Reaches : ℕ → ℕ → Instr → ℕ → ℕ → Type 0
+Reaches slack at i to plus = (d : ℕ) → d ≤ slack → d ≤ at → aim_fault (at - d) i (Some to) plus ≡ None
+
+-- so it is where an address that is set is mentioned
+abbrev pub HasSlackTo : ℕ → ℕ → Instr → Option Target → ℕ → Type 0
+HasSlackTo slack at i None plus = Unit {0}
+HasSlackTo slack at i (Some (target.Stretch k)) plus = Unit {0}
+HasSlackTo slack at i (Some (target.Address a)) plus = Reaches slack at i a plus
+
+abbrev pub HasSlack : ℕ → ℕ → Head → Type 0
+HasSlack slack at head.Plain = Unit {0}
+HasSlack slack at (head.Pads size most) = Unit {0}
+HasSlack slack at (head.Aims aim) = HasSlackTo slack at aim.instr aim.to aim.plus
 
 -- an instruction that mentions a name has two bytes at least
 abbrev pub AreWide : List Shape → Type 0

@@ -102,28 +102,39 @@ pub(crate) fn note_grains(stretches: &mut Vec<Stretch>)
 
 // ---- loose mentions ----
 
+/// What a mention that may come out of reach by coming nearer is of: a label, or an address that is set.
+#[derive(Clone, Copy)]
+pub enum Loose {
+    Label,
+    Address,
+}
+
 /// Whether what a stretch of a number mentions may come out of reach by coming nearer.
-fn is_loose(number: usize, head: &Head) -> bool
-    ensures { result ≡ comes_loose number head.now }
+fn is_loose(loose: Loose, number: usize, head: &Head) -> bool
+    ensures { result ≡ comes_loose loose number head.now }
 {
     match head {
-        Head::Aims(aim) => match aim.to {
-            None => false,
-            Some(Target::Stretch(to)) => is_literal(&aim.instr) && to <= number,
-            Some(Target::Address(_)) => true,
+        Head::Aims(aim) => match (loose, aim.to) {
+            (Loose::Label, Some(Target::Stretch(to))) => is_literal(&aim.instr) && to <= number,
+            (Loose::Address, Some(Target::Address(_))) => true,
+            _ => false,
         }
         _ => false,
     }
 }
 
 /// The numbers of stretches whose mention is loose.
-pub(crate) fn find_loose(alloc: Global, stretches: &[Stretch]) -> Result<Vec<usize>, Memory>
-    ensures all { IfOk result (λ v. (j : ℕ) (s : OneStretch) → slice_get stretches.now j ≡ Some s → comes_loose j s.head ≡ true → Contains v.items j) }
+pub(crate) fn find_loose(
+    alloc: Global,
+    stretches: &[Stretch],
+    of: Loose,
+) -> Result<Vec<usize>, Memory>
+    ensures all { IfOk result (λ v. (j : ℕ) (s : OneStretch) → slice_get stretches.now j ≡ Some s → comes_loose of j s.head ≡ true → Contains v.items j) }
     ensures within { IfOk result (λ v. (j : ℕ) → Contains v.items j → j < length stretches.now) }
 {
     let mut loose = Vec::new(alloc);
     for number in 0..stretches.len() {
-        if !is_loose(number, &stretches[number].head) {
+        if !is_loose(of, number, &stretches[number].head) {
             continue;
         }
         loose.push(number)?;
