@@ -6,10 +6,11 @@ use Rattle.std.proofs.lemmas.List.{length-set}
 use Rattle.std.proofs.lemmas.List.Elements.{Contains-append_left, Contains-push, Contains-push_cases}
 use Rattle.std.proofs.lemmas.Option.{slice_get_read, slice_get_within}
 use Rattle.thumb_model.proofs.Lists.{present_at}
+use Rattle.kept_layout.specs.declared.grains.Loose.{Loose}
 use Rattle.kept_layout.specs.declared.stretch.Head.{Head}
 use Rattle.kept_layout.specs.declared.stretch.Head.TheVariants as head
 use Rattle.kept_layout.specs.declared.stretch.Stretch.{Stretch}
-use Rattle.kept_layout.specs.Stretches.{addresses, is_loose, shape_of, shapes_of, Divides, IsGrain, IsGrainOf, Shape}
+use Rattle.kept_layout.specs.Stretches.{addresses, is_loose, literal_last, shape_of, shapes_of, Divides, IsGrain, IsGrainOf, Shape}
 use Rattle.kept_layout.specs.Cutting.{AreCallers, KnowCallers}
 use Rattle.kept_layout.specs.Moves.{ungrained}
 use Rattle.kept_layout.proofs.MovingPlaces.{shape_at}
@@ -74,70 +75,99 @@ pub whole : (a b : ℕ) → a % b ≡ 0 → Divides b a
 whole a b e = (a / b, (let split = div-add-mod' a b in omega arith))
 
 -- what a grain divides is one, too
-grain_on : (g h : ℕ) (ss : List Shape) → Divides g h → IsGrain g ss → IsGrain h ss
-grain_on g h [] d i = divides_on 4 g h i d
-grain_on g h (s ∷ ss) d i = (own s.head i.0, grain_on g h ss d i.1)
-  where
-    own : (x : Head) → IsGrainOf g x → IsGrainOf h x
-    own head.Plain j = tt
-    own (head.Pads size most) j = divides_on size g h j d
-    own (head.Aims aim) j = tt
+pub own_on : (g h : ℕ) (x : Head) → Divides g h → IsGrainOf g x → IsGrainOf h x
+own_on g h head.Plain d j = tt
+own_on g h (head.Pads size most) d j = divides_on size g h j d
+own_on g h (head.Aims aim) d j = tt
 
--- the stretches from a number on have their grains
-pub record HaveGrains (all : List Stretch) (grain number : ℕ) (ss : List Stretch) : Type 0 where
+grain_on : (g h : ℕ) (ss : List Shape) → Divides g h → IsGrain g ss → IsGrain h ss
+grain_on g h [] d i = tt
+grain_on g h (s ∷ ss) d i = (own_on g h s.head d i.0, grain_on g h ss d i.1)
+
+-- the stretches from a number on have their grains, those up to the last one of literals and their labels by 4
+pub record HaveGrains (all : List Stretch) (last grain number : ℕ) (ss : List Stretch) : Type 0 where
   pub same : map ungrained ss ≡ map ungrained all
   pub within : number ≤ length ss
   pub next : IsGrain grain (drop number (shapes_of all))
   pub done : (j : ℕ) (s : Stretch) → number ≤ j → slice_get ss j ≡ Some s → IsGrain s.grain (drop j (shapes_of all))
+  pub fours : (j : ℕ) (s : Stretch) → number ≤ j → slice_get ss j ≡ Some s → j ≤ last → Divides 4 s.grain
 
-pub grains_begin : (all : List Stretch) (n : ℕ) → n ≡ length all → HaveGrains all 4 n all
-grains_begin all n e =
+pub grains_begin : (all : List Stretch) (last n : ℕ) → n ≡ length all → HaveGrains all last 1 n all
+grains_begin all last n e =
     let many = shapes_length all in
     record {
       same = refl;
       within = omega arith;
-      next = subst (IsGrain 4) (sym (drop_all n (shapes_of all) (omega arith))) (1, refl);
+      next = subst (IsGrain 1) (sym (drop_all n (shapes_of all) (omega arith))) tt;
       done = λ j s h f. absurd (let w = slice_get_within all j s f in omega arith);
+      fours = λ j s h f. absurd (let w = slice_get_within all j s f in omega arith);
     }
 
-pub grains_on : (all : List Stretch) (grain number : ℕ) (ss : List Stretch) (n more : ℕ) (s t : Stretch) → HaveGrains all grain number ss → number ≡ suc n → slice_get ss n ≡ Some s → Divides grain more → IsGrainOf more s.head → t ≡ (record s { grain = more }) → HaveGrains all more n (slice_set ss n t)
-grains_on all grain number ss n more s t h e f d own g =
+-- one more has its grain
+pub record IsGrained (last grain number : ℕ) (s t : Stretch) : Type 0 where
+  pub from : Divides grain t.grain
+  pub own : IsGrainOf t.grain s.head
+  pub four : number ≤ last → Divides 4 t.grain
+  pub same : ungrained t ≡ ungrained s
+
+pub grains_on : (all : List Stretch) (last grain number : ℕ) (ss : List Stretch) (n : ℕ) (s t : Stretch) → HaveGrains all last grain number ss → number ≡ suc n → slice_get ss n ≡ Some s → IsGrained last grain n s t → HaveGrains all last t.grain n (slice_set ss n t)
+grains_on all last grain number ss n s t h e f g =
     let same = shapes_same ss all h.same in
     let shape : slice_get (shapes_of all) n ≡ Some (shape_of s) = ap (λ (xs : List Shape). slice_get xs n) (sym same) ∙ shape_at ss n s f in
     let one = drop_one (shapes_of all) n (shape_of s) shape in
-    let rest : IsGrain more (drop (suc n) (shapes_of all)) = grain_on grain more (drop (suc n) (shapes_of all)) d (subst (λ m. IsGrain grain (drop m (shapes_of all))) e h.next) in
-    let next : IsGrain more (drop n (shapes_of all)) = subst (IsGrain more) (sym one) (own, rest) in
+    let rest : IsGrain t.grain (drop (suc n) (shapes_of all)) = grain_on grain t.grain (drop (suc n) (shapes_of all)) g.from (subst (λ m. IsGrain grain (drop m (shapes_of all))) e h.next) in
+    let next : IsGrain t.grain (drop n (shapes_of all)) = subst (IsGrain t.grain) (sym one) (g.own, rest) in
     let size = length-set ss n t in
     let low = h.within in
+    let is : slice_get (slice_set ss n t) n ≡ Some t = set_here ss n t (slice_get_within ss n s f) in
     record {
-      same = same_grained ss n s t f (ap ungrained g) ∙ h.same;
+      same = same_grained ss n s t f g.same ∙ h.same;
       within = omega arith;
       next = next;
       done = λ j u l k. elim (cases_lt n j) [
         | inl later ↦ h.done j u (omega arith) (sym (set_else ss n j t (λ x. omega arith)) ∙ k)
         | inr now ↦
             let here : n ≡ j = omega arith in
-            let is : t ≡ u = let w = set_here ss n t (slice_get_within ss n s f) in let v = ap (slice_get (slice_set ss n t)) here ∙ k in cc in
-            let grain_is : u.grain ≡ more = ap (λ (x : Stretch). x.grain) (sym is ∙ g) in
-            subst (λ m. IsGrain u.grain (drop m (shapes_of all))) here (subst (λ m. IsGrain m (drop n (shapes_of all))) (sym grain_is) next)
+            let one : t ≡ u = let v = ap (slice_get (slice_set ss n t)) here ∙ k in cc in
+            subst (λ m. IsGrain u.grain (drop m (shapes_of all))) here (subst (λ (x : Stretch). IsGrain x.grain (drop n (shapes_of all))) one next)
+      ];
+      fours = λ j u l k m. elim (cases_lt n j) [
+        | inl later ↦ h.fours j u (omega arith) (sym (set_else ss n j t (λ x. omega arith)) ∙ k) m
+        | inr now ↦
+            let here : n ≡ j = omega arith in
+            let one : t ≡ u = let v = ap (slice_get (slice_set ss n t)) here ∙ k in cc in
+            subst (λ (x : Stretch). Divides 4 x.grain) one (g.four (omega arith))
       ];
     }
+
+-- by 4, where the last one of literals and their labels is known
+pub fours_all : (all : List Stretch) (last grain number : ℕ) (ss : List Stretch) → HaveGrains all last grain number ss → number ≤ 0 → ((i : ℕ) (s : Stretch) → slice_get all i ≡ Some s → literal_last i s.head ≤ last)
+    → (i j : ℕ) (s : Shape) (d : Stretch) → slice_get (shapes_of all) i ≡ Some s → slice_get ss j ≡ Some d → j ≤ literal_last i s.head → Divides 4 d.grain
+fours_all all last grain number ss h none known i j s d e f l =
+    let within = slice_get_within (shapes_of all) i s e in
+    let count = shapes_length all in
+    let there = present_at all i (omega arith) in
+    let shape = shape_at all i there.0 there.1 in
+    let same : shape_of there.0 ≡ s = cc in
+    let head = ap (λ (x : Shape). literal_last i x.head) same in
+    let low = known i there.0 there.1 in
+    h.fours j d (omega arith) f (omega arith)
 
 -- ---- loose mentions ----
 
 -- those below a number are known
-pub record AreFound (ss : List Stretch) (number : ℕ) (loose : List ℕ) : Type 0 where
-  pub all : (j : ℕ) (s : Stretch) → j < number → slice_get ss j ≡ Some s → is_loose j s.head ≡ true → Contains loose j
+pub record AreFound (of : Loose) (ss : List Stretch) (number : ℕ) (loose : List ℕ) : Type 0 where
+  pub all : (j : ℕ) (s : Stretch) → j < number → slice_get ss j ≡ Some s → is_loose of j s.head ≡ true → Contains loose j
   pub within : (j : ℕ) → Contains loose j → j < length ss
 
-pub found_none : (ss : List Stretch) (loose : List ℕ) → loose ≡ [] → AreFound ss 0 loose
-found_none ss loose e = record {
+pub found_none : (of : Loose) (ss : List Stretch) (loose : List ℕ) → loose ≡ [] → AreFound of ss 0 loose
+found_none of ss loose e = record {
   all = λ j s h f g. absurd (omega arith);
   within = λ j c. absurd (let d = subst (λ xs. Contains xs j) e c in let l = d.1 in omega arith);
 }
 
-pub found_one : (ss : List Stretch) (number following : ℕ) (loose more : List ℕ) → AreFound ss number loose → more ≡ loose ++ number ∷ [] → number < length ss → following ≡ suc number → AreFound ss following more
-found_one ss number following loose more a e h f = record {
+pub found_one : (of : Loose) (ss : List Stretch) (number following : ℕ) (loose more : List ℕ) → AreFound of ss number loose → more ≡ loose ++ number ∷ [] → number < length ss → following ≡ suc number → AreFound of ss following more
+found_one of ss number following loose more a e h f = record {
   all = λ j s l g k. subst (λ xs. Contains xs j) (sym e) (elim (cases_lt j number) [
     | inl before ↦ Contains-append_left loose (number ∷ []) j (a.all j s before g k)
     | inr not ↦ subst (λ x. Contains (loose ++ number ∷ []) x) (let here : number ≡ j = omega arith in here) (Contains-push loose number)
@@ -148,17 +178,20 @@ found_one ss number following loose more a e h f = record {
   ];
 }
 
-pub found_other : (ss : List Stretch) (number following : ℕ) (loose : List ℕ) (s : Stretch) → AreFound ss number loose → slice_get ss number ≡ Some s → (is_loose number s.head ≡ true → ⊥) → following ≡ suc number → AreFound ss following loose
-found_other ss number following loose s a e not f = record {
+pub found_other : (of : Loose) (ss : List Stretch) (number following : ℕ) (loose : List ℕ) (s : Stretch) → AreFound of ss number loose → slice_get ss number ≡ Some s → (is_loose of number s.head ≡ true → ⊥) → following ≡ suc number → AreFound of ss following loose
+found_other of ss number following loose s a e not f = record {
   all = λ j t l g k. elim (cases_lt j number) [
     | inl before ↦ a.all j t before g k
     | inr now ↦
         let here : j ≡ number = omega arith in
         let one : t ≡ s = let v = ap (slice_get ss) (sym here) ∙ g in cc in
-        absurd (not (subst (λ n. is_loose n s.head ≡ true) here (subst (λ (x : Stretch). is_loose j x.head ≡ true) one k)))
+        absurd (not (subst (λ n. is_loose of n s.head ≡ true) here (subst (λ (x : Stretch). is_loose of j x.head ≡ true) one k)))
   ];
   within = a.within;
 }
+
+pub found_all : (of : Loose) (ss : List Stretch) (loose : List ℕ) → ((j : ℕ) (s : Stretch) → slice_get ss j ≡ Some s → is_loose of j s.head ≡ true → Contains loose j) → ((j : ℕ) → Contains loose j → j < length ss) → AreFound of ss (length ss) loose
+found_all of ss loose all within = record { all = λ j s l. all j s; within = within }
 
 -- read twice, a stretch begins with the same
 pub head_read : (ss : List Stretch) (n : ℕ) (s t : Stretch) → n < length ss → s ≡ get_or ss n s → slice_get ss n ≡ Some t → s.head ≡ t.head

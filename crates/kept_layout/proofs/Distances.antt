@@ -1,10 +1,10 @@
--- Mentions whose ends move: together by a multiple of 4, or nearer to each other.
+-- Mentions whose ends move, those of literals by a multiple of 4: together, or nearer to each other.
 use Rattle.std.proofs.Common.{◌≡◌, inl, inr, ℕ, ◌+◌, ◌-◌, ◌*◌, ◌%◌, ◌<◌, ◌≤◌, ◌==◌, ◌&&◌, true, false, Some, None, refl, arith}
 use Rattle.std.specs.Prelude.{nat_le, nat_lt}
 use Rattle.std.proofs.lemmas.Bool.{cases_Bool, and_parts, ltb-true, leb-true, eqb-true, lt-ltb, le-leb, eq-eqb}
 use Rattle.thumb_instr.specs.declared.instr.Instr.{Instr}
 use Rattle.thumb_instr.specs.declared.instr.Instr.TheVariants as instr
-use Rattle.kept_layout.specs.Stretches.{is_literal}
+use Rattle.kept_layout.specs.Stretches.{is_literal, Divides}
 use Rattle.thumb_model.specs.Layout.{literal_base, branch_fault, literal_fault, aim_fault}
 
 -- ---- within reach ----
@@ -46,38 +46,38 @@ literal_from at to plus r = rw (eq-eqb ((to + plus) % 4) 0 r.whole, le-leb (lite
 branch_moves : (half d at to : ℕ) → d ≤ at → d ≤ to → branch_fault half at (Some to) ≡ None → branch_fault half (at - d) (Some (to - d)) ≡ None
 branch_moves half d at to h k e = let r = branch_parts half at to e in let a = r.below in let b = r.above in branch_from half (at - d) (to - d) (record { below = omega arith; above = omega arith })
 
-literal_moves : (q d at to plus : ℕ) → d ≡ 4 * q → d ≤ at → d ≤ to → literal_fault at (Some to) plus ≡ None → literal_fault (at - d) (Some (to - d)) plus ≡ None
-literal_moves q d at to plus f h k e =
-    let r = literal_parts at to plus e in let a = r.whole in let b = r.above in let c = r.below in
+literal_moves : (d at to plus : ℕ) → Divides 4 d → d ≤ at → d ≤ to → literal_fault at (Some to) plus ≡ None → literal_fault (at - d) (Some (to - d)) plus ≡ None
+literal_moves d at to plus f h k e =
+    let q = f.0 in let times = f.1 in let r = literal_parts at to plus e in let a = r.whole in let b = r.above in let c = r.below in
     literal_from (at - d) (to - d) plus (record { whole = omega arith; above = omega arith; below = omega arith })
 
--- what mentions something stays within reach where both move by a multiple of 4: a row each
-pub aim_moves : (q d at to : ℕ) (i : Instr) (plus : ℕ) → d ≡ 4 * q → d ≤ at → d ≤ to → aim_fault at i (Some to) plus ≡ None → aim_fault (at - d) i (Some (to - d)) plus ≡ None
-aim_moves q d at to (instr.Literal t s) plus f h k e = literal_moves q d at to plus f h k e
-aim_moves q d at to (instr.Address t s) plus f h k e = literal_moves q d at to plus f h k e
-aim_moves q d at to (instr.BranchIf c s) plus f h k e = branch_moves 128 d at to h k e
-aim_moves q d at to (instr.Branch s) plus f h k e = branch_moves 1024 d at to h k e
-aim_moves q d at to (instr.Call s) plus f h k e = branch_moves 8388608 d at to h k e
-aim_moves q d at to i plus f h k e = refl
+-- what mentions something stays within reach where both move, and the distance is a multiple of 4 where that is a literal: a row each
+pub aim_moves : (d at to : ℕ) (i : Instr) (plus : ℕ) → (is_literal i ≡ true → Divides 4 d) → d ≤ at → d ≤ to → aim_fault at i (Some to) plus ≡ None → aim_fault (at - d) i (Some (to - d)) plus ≡ None
+aim_moves d at to (instr.Literal t s) plus f h k e = literal_moves d at to plus (f refl) h k e
+aim_moves d at to (instr.Address t s) plus f h k e = literal_moves d at to plus (f refl) h k e
+aim_moves d at to (instr.BranchIf c s) plus f h k e = branch_moves 128 d at to h k e
+aim_moves d at to (instr.Branch s) plus f h k e = branch_moves 1024 d at to h k e
+aim_moves d at to (instr.Call s) plus f h k e = branch_moves 8388608 d at to h k e
+aim_moves d at to i plus f h k e = refl
 
 -- ---- one end moves towards the other ----
 
 branch_ahead : (half d at to : ℕ) → 2 ≤ half → at + 2 + d ≤ to → branch_fault half at (Some to) ≡ None → branch_fault half at (Some (to - d)) ≡ None
 branch_ahead half d at to g h e = let r = branch_parts half at to e in let a = r.below in let b = r.above in branch_from half at (to - d) (record { below = omega arith; above = omega arith })
 
-literal_ahead : (q d at to plus : ℕ) → d ≡ 4 * q → at + 2 + d ≤ to → literal_fault at (Some to) plus ≡ None → literal_fault at (Some (to - d)) plus ≡ None
-literal_ahead q d at to plus f h e =
-    let r = literal_parts at to plus e in let a = r.whole in let b = r.above in let c = r.below in
+literal_ahead : (d at to plus : ℕ) → Divides 4 d → at + 2 + d ≤ to → literal_fault at (Some to) plus ≡ None → literal_fault at (Some (to - d)) plus ≡ None
+literal_ahead d at to plus f h e =
+    let q = f.0 in let times = f.1 in let r = literal_parts at to plus e in let a = r.whole in let b = r.above in let c = r.below in
     literal_from at (to - d) plus (record { whole = omega arith; above = omega arith; below = omega arith })
 
--- a label behind an instruction of two bytes at least comes nearer by a multiple of 4, and stays behind it: a row each
-pub aim_ahead : (q d at to : ℕ) (i : Instr) (plus : ℕ) → d ≡ 4 * q → at + 2 + d ≤ to → aim_fault at i (Some to) plus ≡ None → aim_fault at i (Some (to - d)) plus ≡ None
-aim_ahead q d at to (instr.Literal t s) plus f h e = literal_ahead q d at to plus f h e
-aim_ahead q d at to (instr.Address t s) plus f h e = literal_ahead q d at to plus f h e
-aim_ahead q d at to (instr.BranchIf c s) plus f h e = branch_ahead 128 d at to (omega arith) h e
-aim_ahead q d at to (instr.Branch s) plus f h e = branch_ahead 1024 d at to (omega arith) h e
-aim_ahead q d at to (instr.Call s) plus f h e = branch_ahead 8388608 d at to (omega arith) h e
-aim_ahead q d at to i plus f h e = refl
+-- a label behind an instruction of two bytes at least comes nearer, a literal's by a multiple of 4, and stays behind it: a row each
+pub aim_ahead : (d at to : ℕ) (i : Instr) (plus : ℕ) → (is_literal i ≡ true → Divides 4 d) → at + 2 + d ≤ to → aim_fault at i (Some to) plus ≡ None → aim_fault at i (Some (to - d)) plus ≡ None
+aim_ahead d at to (instr.Literal t s) plus f h e = literal_ahead d at to plus (f refl) h e
+aim_ahead d at to (instr.Address t s) plus f h e = literal_ahead d at to plus (f refl) h e
+aim_ahead d at to (instr.BranchIf c s) plus f h e = branch_ahead 128 d at to (omega arith) h e
+aim_ahead d at to (instr.Branch s) plus f h e = branch_ahead 1024 d at to (omega arith) h e
+aim_ahead d at to (instr.Call s) plus f h e = branch_ahead 8388608 d at to (omega arith) h e
+aim_ahead d at to i plus f h e = refl
 
 branch_back : (half d at to : ℕ) → to + d ≤ at → branch_fault half at (Some to) ≡ None → branch_fault half (at - d) (Some to) ≡ None
 branch_back half d at to h e = let r = branch_parts half at to e in let a = r.below in let b = r.above in branch_from half (at - d) to (record { below = omega arith; above = omega arith })

@@ -16,4 +16,5 @@ pub mod ShrinkingReach
 pub mod ShrinkingStarts
 pub mod ShrinkingWalk
 pub mod ShrinkingWide
+pub mod Nearing
 pub mod Together

@@ -35,12 +35,16 @@ elsewhere k here first l h f = record {
   border = l.border;
   noted = l.noted;
   grains = l.grains;
+  literals = l.literals;
   reach = l.reach;
   targets = l.targets;
   callers = l.callers;
   called = l.called;
   loose = l.loose;
   loose_within = l.loose_within;
+  absolute = l.absolute;
+  absolute_within = l.absolute_within;
+  slack = l.slack;
   here = h;
   first = f;
 }

@@ -5,18 +5,19 @@ use Rattle.std.proofs.lemmas.Bool.{cases_lt}
 use Rattle.std.proofs.lemmas.List.{length-set}
 use Rattle.std.proofs.lemmas.Option.{slice_get_within}
 use Rattle.thumb_model.proofs.Lists.{length_map, present_at}
+use Rattle.kept_layout.specs.declared.grains.Loose.TheVariants as sort
 use Rattle.kept_layout.specs.declared.kept.KeptLayout.{KeptLayout}
 use Rattle.kept_layout.specs.declared.stretch.Aim.{Aim}
 use Rattle.kept_layout.specs.declared.stretch.Head.{Head}
 use Rattle.kept_layout.specs.declared.stretch.Head.TheVariants as head
 use Rattle.kept_layout.specs.declared.stretch.Stretch.{Stretch}
 use Rattle.kept_layout.specs.declared.stretch.Target.TheVariants as target
-use Rattle.kept_layout.specs.Stretches.{addresses, end_from, is_loose, lessen, located, shape_of, shapes_of, starts_from, total_places, AllReach, IsGrain, Shape}
+use Rattle.kept_layout.specs.Stretches.{addresses, end_from, is_loose, lessen, literal_last, located, shape_of, shapes_of, starts_from, total_places, AllReach, Divides, HasSlack, IsGrain, Shape}
 use Rattle.kept_layout.specs.Kept.{IsLaid}
-use Rattle.kept_layout.specs.Moves.{end_of, moved_starts, unplaced, IsMove, IsMoved, IsNote}
+use Rattle.kept_layout.specs.Moves.{end_of, moved_starts, unplaced, AreSlack, IsMove, IsMoved, IsNote}
 use Rattle.kept_layout.proofs.MovingPlaces.{shape_at}
 use Rattle.kept_layout.proofs.ShrinkingPlaces.{addresses_are, get_map, lies_at, located_before, located_behind, moved_among, moved_before, moved_behind, shapes_length}
-use Rattle.kept_layout.proofs.ShrinkingStarts.{grain_lessen, lessen_length, places_lessen, starts_length}
+use Rattle.kept_layout.proofs.ShrinkingStarts.{grain_lessen, lessen_at, lessen_length, places_lessen, starts_length}
 
 -- ---- one stretch ----
 
@@ -215,6 +216,8 @@ pub record IsAfter (k : KeptLayout) (new : List ℕ) (by bytes gone : ℕ) (ss :
   pub here : after.here ≡ k.here
   pub first : after.first ≡ k.first
   pub loose : after.loose.items ≡ k.loose.items
+  pub absolute : after.absolute.items ≡ k.absolute.items
+  pub slack : AreSlack k new by after.slack_from after.slack
   pub border : after.border ≡ end_of k new
   pub shift : after.shift ≡ k.shift + by
   pub noted : AreNoted k new ss
@@ -275,11 +278,21 @@ laid_after k new by bytes gone ss after l m r a =
       grains = λ j d e.
           let o = laid_at k new by bytes gone ss after j d a e in
           subst (λ g. IsGrain g (drop j (shapes_of after.stretches.items))) (sym o.grain) (subst (λ (xs : List Shape). IsGrain o.s.grain (drop j xs)) (sym shapes) (grain_lessen o.s.grain k.here bytes gone j (shapes_of k.stretches.items) (l.grains j o.s o.is)));
+      literals = λ i j s d e f h.
+          let o = laid_at k new by bytes gone ss after j d a f in
+          let was = lessen_at k.here bytes gone (shapes_of k.stretches.items) i s (subst (λ (xs : List Shape). slice_get xs i ≡ Some s) shapes e) in
+          subst (Divides 4) (sym o.grain) (l.literals i j was.shape o.s was.is o.is (subst (λ (x : Head). j ≤ literal_last i x) (sym was.head) h));
       reach = subst (λ x. AllReach x (shapes_of after.stretches.items)) (sym base) (subst (AllReach k.base) (sym shapes) r);
       targets = λ i t s aim e f g. let o = laid_at k new by bytes gone ss after i s a e in let w = l.targets i t o.s aim o.is (sym o.head ∙ f) g in omega arith;
       callers = laid_callers k new by bytes gone ss after l a;
       called = λ t i d e c. let o = laid_at k new by bytes gone ss after t d a e in let w = l.called t i o.s o.is (subst (λ xs. Contains xs i) o.callers c) in omega arith;
-      loose = λ j d e f. let o = laid_at k new by bytes gone ss after j d a e in subst (λ xs. Contains xs j) (sym a.loose) (l.loose j o.s o.is (subst (λ (h : Head). is_loose j h ≡ true) o.head f));
+      loose = λ j d e f. let o = laid_at k new by bytes gone ss after j d a e in subst (λ xs. Contains xs j) (sym a.loose) (l.loose j o.s o.is (subst (λ (h : Head). is_loose sort.Label j h ≡ true) o.head f));
+      absolute = λ j d e f. let o = laid_at k new by bytes gone ss after j d a e in subst (λ xs. Contains xs j) (sym a.absolute) (l.absolute j o.s o.is (subst (λ (h : Head). is_loose sort.Address j h ≡ true) o.head f));
+      absolute_within = λ j c. let w = l.absolute_within j (subst (λ xs. Contains xs j) a.absolute c) in omega arith;
+      slack = λ j at d h e f.
+          let o = laid_at k new by bytes gone ss after j d a e in
+          let there : slice_get (moved_starts k new by) j ≡ Some at = subst (λ (xs : List ℕ). slice_get xs j ≡ Some at) (begins ∙ m.starts gone) f in
+          subst (λ (x : Head). HasSlack after.slack at x) (sym o.head) (a.slack j at o.s h o.is there);
       loose_within = λ j c. let w = l.loose_within j (subst (λ xs. Contains xs j) a.loose c) in omega arith;
       here = let h = a.here in let w = l.here in omega arith;
       first =
@@ -311,16 +324,18 @@ pub record HasShrunk (k l : KeptLayout) (new : List ℕ) (bytes gone : ℕ) (s t
 same_here : (k l : KeptLayout) (new : List ℕ) (bytes gone : ℕ) (s t : Stretch) → HasShrunk k l new bytes gone s t → l.here ≡ k.here
 same_here k l new bytes gone s t h = ap (λ (x : KeptLayout). x.here) h.fields
 
-pub after_shrinking : (k l : KeptLayout) (new : List ℕ) (by bytes gone : ℕ) (s t : Stretch) (after : KeptLayout) → HasShrunk k l new bytes gone s t → after.base ≡ l.base → after.here ≡ l.here → after.first ≡ l.first → after.loose.items ≡ l.loose.items
+pub after_shrinking : (k l : KeptLayout) (new : List ℕ) (by bytes gone : ℕ) (s t : Stretch) (after : KeptLayout) → HasShrunk k l new bytes gone s t → after.base ≡ l.base → after.here ≡ l.here → after.first ≡ l.first → after.loose.items ≡ l.loose.items → after.absolute.items ≡ l.absolute.items → AreSlack k new by after.slack_from after.slack
     → after.border ≡ suc l.here + length new → after.shift ≡ l.shift + by → after.stretches.items ≡ slice_set l.stretches.items l.here t → IsAfter k new by bytes gone l.stretches.items after
-after_shrinking k l new by bytes gone s t after h base here first loose border shift stretches =
+after_shrinking k l new by bytes gone s t after h base here first near absolute slack border shift stretches =
     let same : l.here ≡ k.here = same_here k l new bytes gone s t h in
     let before : l.shift ≡ k.shift = ap (λ (x : KeptLayout). x.shift) h.fields in
     record {
       base = base ∙ ap (λ (x : KeptLayout). x.base) h.fields;
       here = here ∙ same;
       first = first ∙ ap (λ (x : KeptLayout). x.first) h.fields;
-      loose = loose ∙ ap (λ (x : KeptLayout). x.loose.items) h.fields;
+      loose = near ∙ ap (λ (x : KeptLayout). x.loose.items) h.fields;
+      absolute = absolute ∙ ap (λ (x : KeptLayout). x.absolute.items) h.fields;
+      slack = slack;
       border = omega arith;
       shift = omega arith;
       noted = h.noted;

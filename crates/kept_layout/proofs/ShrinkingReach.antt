@@ -1,8 +1,8 @@
 -- What stays within reach when stretches move: what wasn't looked at has both ends where they were, or both moved alike, or they came nearer to each other.
-use Rattle.std.proofs.Common.{◌≡◌, ◌∙◌, ◌↔◌, inl, inr, ℕ, suc, ◌+◌, ◌-◌, ◌*◌, ◌<◌, ◌≤◌, Bool, true, false, List, length, Option, Some, None, refl, sym, ap, subst, arith}
-use Rattle.std.specs.Prelude.{not, slice_get, Contains}
+use Rattle.std.proofs.Common.{◌≡◌, ◌∙◌, ◌↔◌, inl, inr, ℕ, suc, ◌+◌, ◌-◌, ◌<◌, ◌≤◌, max, Bool, true, false, List, length, Option, Some, None, refl, sym, ap, subst, arith}
+use Rattle.std.specs.Prelude.{nat_le, not, slice_get, Contains}
 use Rattle.std.specs.Option.{is_some, option_map}
-use Rattle.std.proofs.lemmas.Bool.{cases_Bool, cases_lt, le-leb}
+use Rattle.std.proofs.lemmas.Bool.{and_parts, cases_Bool, cases_lt, le-leb, leb-true}
 use Rattle.std.proofs.lemmas.Option.{slice_get_within}
 use Rattle.thumb_instr.specs.declared.instr.Instr.{Instr}
 use Rattle.thumb_instr.specs.declared.instr.Instr.TheVariants as instr
@@ -10,6 +10,7 @@ use Rattle.thumb_model.specs.Layout.{aim_fault, Fault}
 use Rattle.thumb_model.proofs.Lists.{present_at}
 use Rattle.label_layout.specs.declared.errors.Kind.{Kind}
 use Rattle.label_layout.specs.Refusals.{fault_of}
+use Rattle.kept_layout.specs.declared.grains.Loose.TheVariants as sort
 use Rattle.kept_layout.specs.declared.kept.KeptLayout.{KeptLayout}
 use Rattle.kept_layout.specs.declared.stretch.Aim.{Aim}
 use Rattle.kept_layout.specs.declared.stretch.Head.{Head}
@@ -17,9 +18,9 @@ use Rattle.kept_layout.specs.declared.stretch.Head.TheVariants as head
 use Rattle.kept_layout.specs.declared.stretch.Stretch.{Stretch}
 use Rattle.kept_layout.specs.declared.stretch.Target.{Target}
 use Rattle.kept_layout.specs.declared.stretch.Target.TheVariants as target
-use Rattle.kept_layout.specs.Stretches.{address_of, head_fault, is_literal, is_loose, is_loose_to, lessen, shape_of, shapes_of, starts_from, AllReach, AreWide, Shape}
+use Rattle.kept_layout.specs.Stretches.{address_of, head_fault, is_literal, is_loose, is_loose_to, last_to, lessen, literal_last, shape_of, shapes_of, starts_from, AllReach, AreWide, Divides, HasSlack, HasSlackTo, Shape}
 use Rattle.kept_layout.specs.Kept.{IsLaid}
-use Rattle.kept_layout.specs.Moves.{end_of, moved_starts, starts_of, IsLookedAt, IsMove, IsRight}
+use Rattle.kept_layout.specs.Moves.{end_of, has_slack, moved_starts, starts_of, IsLookedAt, IsMove, IsMoved, IsRight}
 use Rattle.kept_layout.proofs.Distances.{aim_ahead, aim_back, aim_moves}
 use Rattle.kept_layout.proofs.MovingPlaces.{shape_at}
 use Rattle.kept_layout.proofs.ShrinkingPlaces.{count_of, moved_before, moved_behind, shapes_length}
@@ -82,11 +83,11 @@ looked k starts j s at a to x r =
     subst (λ (t : Option Target). aim_fault at a.instr (address_of starts t) a.plus ≡ None) x.target h
 
 -- a loose one was looked at, or nothing behind the new addresses moves
-loose_kept : (k : KeptLayout) (new : List ℕ) (by j : ℕ) (s : Stretch) (at old : ℕ) (a : Aim) (to : Option Target) → IsLaid k → IsLookedAt k new by → Mentions k (moved_starts k new by) j s at a to → is_loose_to j a.instr to ≡ true
+loose_kept : (k : KeptLayout) (new : List ℕ) (by j : ℕ) (s : Stretch) (at old : ℕ) (a : Aim) (to : Option Target) → IsLaid k → IsLookedAt k new by → Mentions k (moved_starts k new by) j s at a to → is_loose_to sort.Label j a.instr to ≡ true
     → at ≡ old - by → slice_get (starts_of k) j ≡ Some old → address_of (moved_starts k new by) to ≡ address_of (starts_of k) to → aim_fault at a.instr (address_of (moved_starts k new by) to) a.plus ≡ None
-loose_kept k new by j s at old a to l c x loose e f same = elim (cases_lt 0 by) [
+loose_kept k new by j s at old a to l c x near e f same = elim (cases_lt 0 by) [
   | inl some ↦
-      let is : is_loose j s.head ≡ true = subst (λ (h : Head). is_loose j h ≡ true) (sym x.head) (subst (λ (t : Option Target). is_loose_to j a.instr t ≡ true) (sym x.target) loose) in
+      let is : is_loose sort.Label j s.head ≡ true = subst (λ (h : Head). is_loose sort.Label j h ≡ true) (sym x.head) (subst (λ (t : Option Target). is_loose_to sort.Label j a.instr t ≡ true) (sym x.target) near) in
       looked k (moved_starts k new by) j s at a to x (c.loose some j (l.loose j s x.is is))
   | inr none ↦
       let stays : old ≡ at = omega arith in
@@ -110,6 +111,12 @@ label_before k new by bytes j t s at old a m c x e h l =
     let w = was k (moved_starts k new by) j s at old a (Some (target.Stretch t)) m.laid x e in
     subst (λ n. aim_fault n a.instr (slice_get (moved_starts k new by) t) a.plus ≡ None) (sym stays) (subst (λ (o : Option ℕ). aim_fault old a.instr o a.plus ≡ None) (sym (moved_before k new by t m.move h)) w)
 
+-- a literal of a label that moves, moves or sees that move by a multiple of 4
+literal_whole : (k : KeptLayout) (new : List ℕ) (by bytes j t : ℕ) (s : Stretch) (at : ℕ) (a : Aim) → Moves k new by bytes → Mentions k (moved_starts k new by) j s at a (Some (target.Stretch t)) → end_of k new ≤ t → is_literal a.instr ≡ true → Divides 4 by
+literal_whole k new by bytes j t s at a m x h y =
+    let last : literal_last j s.head ≡ max j t = ap (literal_last j) x.head ∙ ap (last_to j a.instr) x.target ∙ rw y refl in
+    m.move.literals j (shape_of s) (shape_at k.stretches.items j s x.is) (omega arith)
+
 -- the label comes nearer
 label_nearer : (k : KeptLayout) (new : List ℕ) (by bytes j t : ℕ) (s : Stretch) (at old to : ℕ) (a : Aim) → Moves k new by bytes → Mentions k (moved_starts k new by) j s at a (Some (target.Stretch t)) → slice_get (starts_of k) j ≡ Some old → slice_get (starts_of k) t ≡ Some to → end_of k new ≤ t → j < k.here
     → aim_fault at a.instr (slice_get (moved_starts k new by) t) a.plus ≡ None
@@ -118,11 +125,9 @@ label_nearer k new by bytes j t s at old to a m x e f h l =
     let moved = moved_behind k new by t to m.move h f in
     let low = m.move.low t to h f in
     let two = apart k new by bytes j t s at (to - by) a (Some (target.Stretch t)) m x l (omega arith) moved in
-    let four = m.move.four in
-    let times : by ≡ 4 * four.0 = let q = four.1 in omega arith in
     let w = was k (moved_starts k new by) j s at old a (Some (target.Stretch t)) m.laid x e in
     let w2 : aim_fault at a.instr (Some to) a.plus ≡ None = subst (λ n. aim_fault n a.instr (Some to) a.plus ≡ None) (sym stays) (subst (λ (o : Option ℕ). aim_fault old a.instr o a.plus ≡ None) f w) in
-    subst (λ (o : Option ℕ). aim_fault at a.instr o a.plus ≡ None) (sym moved) (aim_ahead four.0 by at to a.instr a.plus times (omega arith) w2)
+    subst (λ (o : Option ℕ). aim_fault at a.instr o a.plus ≡ None) (sym moved) (aim_ahead by at to a.instr a.plus (literal_whole k new by bytes j t s at a m x h) (omega arith) w2)
 
 -- both ends move
 label_along : (k : KeptLayout) (new : List ℕ) (by bytes j t : ℕ) (s : Stretch) (at old to : ℕ) (a : Aim) → Moves k new by bytes → Mentions k (moved_starts k new by) j s at a (Some (target.Stretch t)) → slice_get (starts_of k) j ≡ Some old → slice_get (starts_of k) t ≡ Some to → end_of k new ≤ t → end_of k new ≤ j
@@ -132,10 +137,8 @@ label_along k new by bytes j t s at old to a m x e f h l =
     let moved = moved_behind k new by t to m.move h f in
     let low = m.move.low t to h f in
     let under = m.move.low j old l e in
-    let four = m.move.four in
-    let times : by ≡ 4 * four.0 = let q = four.1 in omega arith in
     let w : aim_fault old a.instr (Some to) a.plus ≡ None = subst (λ (o : Option ℕ). aim_fault old a.instr o a.plus ≡ None) f (was k (moved_starts k new by) j s at old a (Some (target.Stretch t)) m.laid x e) in
-    subst (λ (o : Option ℕ). aim_fault at a.instr o a.plus ≡ None) (sym moved) (subst (λ n. aim_fault n a.instr (Some (to - by)) a.plus ≡ None) moves (aim_moves four.0 by old to a.instr a.plus times under low w))
+    subst (λ (o : Option ℕ). aim_fault at a.instr o a.plus ≡ None) (sym moved) (subst (λ n. aim_fault n a.instr (Some (to - by)) a.plus ≡ None) moves (aim_moves by old to a.instr a.plus (literal_whole k new by bytes j t s at a m x h) under low w))
 
 -- the instruction comes nearer
 label_behind : (k : KeptLayout) (new : List ℕ) (by bytes j t : ℕ) (s : Stretch) (at old to : ℕ) (a : Aim) → Moves k new by bytes → IsLookedAt k new by → Mentions k (moved_starts k new by) j s at a (Some (target.Stretch t)) → slice_get (starts_of k) j ≡ Some old → slice_get (starts_of k) t ≡ Some to → t ≤ k.here → end_of k new ≤ j
@@ -179,6 +182,20 @@ label_right k new by bytes j t s at old to a m c x e f = elim (cases_lt k.here t
 
 -- ---- an address that is set ----
 
+-- it was looked at, or it is known to have come near by so many bytes at most
+set_behind : (k : KeptLayout) (new : List ℕ) (by bytes j to : ℕ) (s : Stretch) (at old : ℕ) (a : Aim) → 0 < by → end_of k new ≤ j → at ≡ old - by → Moves k new by bytes → IsLookedAt k new by → Mentions k (moved_starts k new by) j s at a (Some (target.Address to)) → slice_get (starts_of k) j ≡ Some old → aim_fault at a.instr (Some to) a.plus ≡ None
+set_behind k new by bytes j to s at old a some behind moves m c x e = elim (cases_Bool (has_slack k by)) [
+  | inl y ↦
+      let parts = and_parts (nat_le by k.slack) (nat_le k.slack_from k.here) y in
+      let from = leb-true k.slack_from k.here parts.1 in
+      let slack = m.laid.slack j old s (omega arith) x.is e in
+      let own : HasSlackTo k.slack old a.instr (Some (target.Address to)) a.plus = subst (λ (t : Option Target). HasSlackTo k.slack old a.instr t a.plus) x.target (subst (λ (h : Head). HasSlack k.slack old h) x.head slack) in
+      subst (λ n. aim_fault n a.instr (Some to) a.plus ≡ None) (sym moves) (own by (leb-true by k.slack parts.0) (m.move.low j old behind e))
+  | inr n ↦
+      let is : is_loose sort.Address j s.head ≡ true = subst (λ (h : Head). is_loose sort.Address j h ≡ true) (sym x.head) (subst (λ (t : Option Target). is_loose_to sort.Address j a.instr t ≡ true) (sym x.target) refl) in
+      looked k (moved_starts k new by) j s at a (Some (target.Address to)) x (c.absolute some n j (m.laid.absolute j s x.is is))
+]
+
 set_right : (k : KeptLayout) (new : List ℕ) (by bytes j to : ℕ) (s : Stretch) (at old : ℕ) (a : Aim) → Moves k new by bytes → IsLookedAt k new by → Mentions k (moved_starts k new by) j s at a (Some (target.Address to)) → slice_get (starts_of k) j ≡ Some old → aim_fault at a.instr (Some to) a.plus ≡ None
 set_right k new by bytes j to s at old a m c x e = elim (cases_lt j k.here) [
   | inl before ↦
@@ -188,7 +205,10 @@ set_right k new by bytes j to s at old a m c x e = elim (cases_lt j k.here) [
     | inl among ↦ looked k (moved_starts k new by) j s at a (Some (target.Address to)) x (c.heads j (omega arith) among)
     | inr behind ↦
         let moves : at ≡ old - by = let there = x.there in let same = moved_behind k new by j old m.move (omega arith) e in cc in
-        loose_kept k new by j s at old a (Some (target.Address to)) m.laid c x refl moves e refl
+        elim (cases_lt 0 by) [
+          | inl some ↦ set_behind k new by bytes j to s at old a some (omega arith) moves m c x e
+          | inr none ↦ subst (λ n. aim_fault n a.instr (Some to) a.plus ≡ None) (let stays : old ≡ at = omega arith in stays) (was k (moved_starts k new by) j s at old a (Some (target.Address to)) m.laid x e)
+        ]
   ]
 ]
 
@@ -230,7 +250,7 @@ reach_from k new by bytes gone m r j s at e f =
     let right = r j there.0 at there.1 (subst (λ (xs : List ℕ). slice_get xs j ≡ Some at) (m.starts gone) f) in
     subst (λ (h : Head). head_fault (starts_from k.base (lessen k.here bytes gone (shapes_of k.stretches.items))) at h ≡ None) head (subst (λ (xs : List ℕ). head_fault xs at there.0.head ≡ None) (sym (m.starts gone)) right)
 
-pub right_from : (k : KeptLayout) (new : List ℕ) (by bytes gone : ℕ) → Moves k new by bytes → AllReach k.base (lessen k.here bytes gone (shapes_of k.stretches.items)) → (j : ℕ) → IsRight (moved_starts k new by) k.stretches.items j
+pub right_from : (k : KeptLayout) (new : List ℕ) (by bytes gone : ℕ) → IsMoved k bytes new by → AllReach k.base (lessen k.here bytes gone (shapes_of k.stretches.items)) → (j : ℕ) → IsRight (moved_starts k new by) k.stretches.items j
 right_from k new by bytes gone m r j s at e f =
     let there = lessen_there k.here bytes gone (shapes_of k.stretches.items) j (shape_of s) (shape_at k.stretches.items j s e) in
     let reach = r j there.0 at there.1 (subst (λ (xs : List ℕ). slice_get xs j ≡ Some at) (sym (m.starts gone)) f) in
@@ -297,11 +317,4 @@ met_more k new by number following e m own called = record {
     | inl before ↦ m.callers t j d h before f c
     | inr not ↦ called j d (ap (slice_get k.stretches.items) (let here : number ≡ t = omega arith in here) ∙ f) c
   ];
-}
-
-pub met_all : (k : KeptLayout) (new : List ℕ) (by number : ℕ) → end_of k new ≤ number → AreMet k new by number → (0 < by → (j : ℕ) → Contains k.loose.items j → IsRight (moved_starts k new by) k.stretches.items j) → IsLookedAt k new by
-met_all k new by number h m loose = record {
-  heads = λ j f l. m.heads j f (omega arith);
-  callers = λ t j d f l. m.callers t j d f (omega arith);
-  loose = loose;
 }

@@ -9,7 +9,7 @@ use Rattle.kept_layout.specs.Moves.{end_of, starts_of, IsMoved}
 use Rattle.kept_layout.proofs.MovingPlaces.{shape_at}
 use Rattle.kept_layout.proofs.ShrinkingPlaces.{count_of, shapes_length}
 use Rattle.kept_layout.proofs.ShrinkingStarts.{behind_low, drop_one, end_drop, end_lessen, starts_drop, starts_lessen, starts_order}
-use Rattle.kept_layout.proofs.Together.{divides_on, end_moves, of_four, starts_move}
+use Rattle.kept_layout.proofs.Together.{divides_on, end_moves, starts_move}
 
 -- those up to the next one begin at the new addresses, and that begins at the address
 pub record IsWalked (k : KeptLayout) (bytes : ℕ) (new : List ℕ) (at next : ℕ) : Type 0 where
@@ -74,7 +74,7 @@ walk_over k bytes new at next w h =
     let last = drop_all (end_of k new) (starts_of k) (omega arith) in
     let code = w.in_code in
     record {
-      move = record { within = omega arith; low = λ j a l e. omega arith; four = (0, refl) };
+      move = record { within = omega arith; low = λ j a l e. omega arith; literals = λ i s e f. (0, refl) };
       starts = λ gone. w.starts gone ∙ ap (λ (xs : List ℕ). take (suc k.here) (starts_of k) ++ (new ++ xs)) (ap (starts_from at) none ∙ sym (ap (map (λ a. a - 0)) last));
       in_code = λ gone. let e = w.ends gone ∙ ap (end_from at) none in omega arith;
     }
@@ -98,7 +98,7 @@ walk_together k bytes new at next old s l w e f h d =
       move = record {
         within = omega arith;
         low = λ j a m g. let o = starts_order k.base (shapes_of k.stretches.items) next j old a (omega arith) f g in omega arith;
-        four = divides_on 4 s.grain by (of_four s.grain rest grain) d;
+        literals = λ i t x m. divides_on 4 s.grain by (l.literals i next t s x e (omega arith)) d;
       };
       starts = λ gone. w.starts gone ∙ ap (λ (xs : List ℕ). take (suc k.here) (starts_of k) ++ (new ++ xs)) (ap (λ n. starts_from n rest) first ∙ moves ∙ ap (map (λ a. a - by)) (all ∙ ap (λ n. drop n (starts_of k)) (sym count)));
       in_code = λ gone. let g = w.ends gone ∙ ap (λ n. end_from n rest) first ∙ ends in omega arith;

@@ -10,11 +10,6 @@ use Rattle.kept_layout.specs.Stretches.{behind, end_from, padding_of, starts_fro
 pub divides_on : (a b c : ℕ) → Divides a b → Divides b c → Divides a c
 divides_on a b c h k = (k.0 * h.0, k.1 ∙ ap (λ n. k.0 * n) h.1 ∙ sym (mul_assoc k.0 h.0 a))
 
--- 4 divides what alignments divide
-pub of_four : (g : ℕ) (ss : List Shape) → IsGrain g ss → Divides 4 g
-of_four g [] h = h
-of_four g (s ∷ ss) h = of_four g ss h.1
-
 -- what is left over of an address stays where it moves by a multiple
 rest_stays : (size at d : ℕ) → Divides size d → d ≤ at → (at - d) % size ≡ at % size
 rest_stays zero at d h k = ap (λ n. n % 0) (let e = h.1 in let z : h.0 * 0 ≡ 0 = omega arith in let f : at - d ≡ at = omega (arith, e, z, k) in f)

@@ -3,6 +3,7 @@ use Rattle.std.specs.Prelude.{◌≡◌, ℕ, ◌+◌, ◌*◌, ◌<◌, ◌≤�
 use Rattle.thumb_model.specs.Listing.{Name, Statement, Nothing, Runs, Words, Aligns, Sets, Line, places_of}
 use Rattle.thumb_model.specs.Layout.{cleared, instr_size, is_among, set_address}
 use Rattle.window_runs.specs.Rows.{is_unlabelled}
+use Rattle.kept_layout.specs.declared.grains.Loose.TheVariants as sort
 use Rattle.kept_layout.specs.declared.kept.KeptLayout.{KeptLayout}
 use Rattle.kept_layout.specs.declared.stretch.Aim.{Aim}
 use Rattle.kept_layout.specs.declared.stretch.Target.{Target}
@@ -10,7 +11,7 @@ use Rattle.kept_layout.specs.declared.stretch.Target.TheVariants as target
 use Rattle.kept_layout.specs.declared.stretch.Head.{Head}
 use Rattle.kept_layout.specs.declared.stretch.Head.TheVariants as head
 use Rattle.kept_layout.specs.declared.stretch.Stretch.{Stretch}
-use Rattle.kept_layout.specs.Stretches.{addresses, end_from, is_loose, shapes_of, starts_from, total_places, AllReach, IsGrain, Shape}
+use Rattle.kept_layout.specs.Stretches.{addresses, end_from, is_loose, literal_last, shapes_of, starts_from, total_places, AllReach, Divides, HasSlack, IsGrain, Shape}
 
 -- ---- stretches of lines ----
 
@@ -123,13 +124,18 @@ pub record IsLaid (k : KeptLayout) : Type 0 where
   pub border : k.border ≤ length k.stretches.items
   pub noted : (j : ℕ) (s : Stretch) → slice_get k.stretches.items j ≡ Some s → k.border ≤ j → k.shift ≤ s.at
   pub grains : (j : ℕ) (s : Stretch) → slice_get k.stretches.items j ≡ Some s → IsGrain s.grain (drop j (shapes_of k.stretches.items))
+  -- 4 divides the grains of those that aren't behind a literal and its label
+  pub literals : (i j : ℕ) (s : Shape) (d : Stretch) → slice_get (shapes_of k.stretches.items) i ≡ Some s → slice_get k.stretches.items j ≡ Some d → j ≤ literal_last i s.head → Divides 4 d.grain
   pub reach : AllReach k.base (shapes_of k.stretches.items)
   pub targets : (i t : ℕ) (s : Stretch) (a : Aim) → slice_get k.stretches.items i ≡ Some s → s.head ≡ head.Aims a → a.to ≡ Some (target.Stretch t) → t < length k.stretches.items
   pub callers : (i t : ℕ) (s d : Stretch) (a : Aim) → slice_get k.stretches.items i ≡ Some s → s.head ≡ head.Aims a → a.to ≡ Some (target.Stretch t) → slice_get k.stretches.items t ≡ Some d → Contains d.callers.items i
   pub called : (t i : ℕ) (d : Stretch) → slice_get k.stretches.items t ≡ Some d → Contains d.callers.items i → i < length k.stretches.items
-  -- the loose ones are known
-  pub loose : (j : ℕ) (s : Stretch) → slice_get k.stretches.items j ≡ Some s → is_loose j s.head ≡ true → Contains k.loose.items j
+  -- the loose ones are known, and so is by how many bytes those of addresses that are set may all come nearer, behind one of the stretches
+  pub loose : (j : ℕ) (s : Stretch) → slice_get k.stretches.items j ≡ Some s → is_loose sort.Label j s.head ≡ true → Contains k.loose.items j
   pub loose_within : (j : ℕ) → Contains k.loose.items j → j < length k.stretches.items
+  pub absolute : (j : ℕ) (s : Stretch) → slice_get k.stretches.items j ≡ Some s → is_loose sort.Address j s.head ≡ true → Contains k.absolute.items j
+  pub absolute_within : (j : ℕ) → Contains k.absolute.items j → j < length k.stretches.items
+  pub slack : (j at : ℕ) (s : Stretch) → k.slack_from < j → slice_get k.stretches.items j ≡ Some s → slice_get (starts_from k.base (shapes_of k.stretches.items)) j ≡ Some at → HasSlack k.slack at s.head
   -- it stands at one of them, before which there are so many places
   pub here : k.here < length k.stretches.items
   pub first : k.first ≡ total_places (take k.here (shapes_of k.stretches.items))

@@ -1,8 +1,8 @@
 -- Stretches that move since one of them takes fewer bytes.
-use Rattle.std.specs.Prelude.{◌≡◌, ℕ, suc, ◌+◌, ◌-◌, ◌^◌, ◌<◌, ◌≤◌, List, ◌++◌, length, map, take, drop, Some, None, slice_get, Contains}
+use Rattle.std.specs.Prelude.{◌≡◌, ℕ, suc, ◌+◌, ◌-◌, ◌^◌, ◌<◌, ◌≤◌, ◌&&◌, nat_le, Bool, false, List, ◌++◌, length, map, take, drop, Some, None, slice_get, Contains}
 use Rattle.kept_layout.specs.declared.kept.KeptLayout.{KeptLayout}
 use Rattle.kept_layout.specs.declared.stretch.Stretch.{Stretch}
-use Rattle.kept_layout.specs.Stretches.{end_from, head_fault, lessen, shapes_of, starts_from, Divides}
+use Rattle.kept_layout.specs.Stretches.{end_from, head_fault, lessen, literal_last, shapes_of, starts_from, Divides, HasSlack, Shape}
 
 -- where each one begins, from the base on
 abbrev pub starts_of : KeptLayout → List ℕ
@@ -20,7 +20,8 @@ moved_starts k new by = take (suc k.here) (starts_of k) ++ (new ++ map (λ a. a 
 pub record IsMove (k : KeptLayout) (new : List ℕ) (by : ℕ) : Type 0 where
   pub within : end_of k new ≤ length k.stretches.items
   pub low : (j a : ℕ) → end_of k new ≤ j → slice_get (starts_of k) j ≡ Some a → by ≤ a
-  pub four : Divides 4 by
+  -- by a multiple of 4 where a literal or its label is one of those
+  pub literals : (i : ℕ) (s : Shape) → slice_get (shapes_of k.stretches.items) i ≡ Some s → end_of k new ≤ literal_last i s.head → Divides 4 by
 
 -- so they move if the one that it stands at takes so many bytes fewer, however many places go with them
 pub record IsMoved (k : KeptLayout) (bytes : ℕ) (new : List ℕ) (by : ℕ) : Type 0 where
@@ -32,11 +33,20 @@ pub record IsMoved (k : KeptLayout) (bytes : ℕ) (new : List ℕ) (by : ℕ) : 
 abbrev pub IsRight : List ℕ → List Stretch → ℕ → Type 0
 IsRight starts stretches j = (s : Stretch) (at : ℕ) → slice_get stretches j ≡ Some s → slice_get starts j ≡ Some at → head_fault starts at s.head ≡ None
 
+-- whether it is known that no mention of an address that is set comes out of reach where all of them come so many bytes nearer
+abbrev pub has_slack : KeptLayout → ℕ → Bool
+has_slack k by = nat_le by k.slack && nat_le k.slack_from k.here
+
+-- by so many bytes those behind a stretch may all still come nearer then
+abbrev pub AreSlack : KeptLayout → List ℕ → ℕ → ℕ → ℕ → Type 0
+AreSlack k new by from slack = (j at : ℕ) (s : Stretch) → from < j → slice_get k.stretches.items j ≡ Some s → slice_get (moved_starts k new by) j ≡ Some at → HasSlack slack at s.head
+
 -- what can come out of reach was looked at
 pub record IsLookedAt (k : KeptLayout) (new : List ℕ) (by : ℕ) : Type 0 where
   pub heads : (j : ℕ) → k.here ≤ j → j < end_of k new → IsRight (moved_starts k new by) k.stretches.items j
   pub callers : (t j : ℕ) (d : Stretch) → k.here < t → t < end_of k new → slice_get k.stretches.items t ≡ Some d → Contains d.callers.items j → IsRight (moved_starts k new by) k.stretches.items j
   pub loose : 0 < by → (j : ℕ) → Contains k.loose.items j → IsRight (moved_starts k new by) k.stretches.items j
+  pub absolute : 0 < by → has_slack k by ≡ false → (j : ℕ) → Contains k.absolute.items j → IsRight (moved_starts k new by) k.stretches.items j
 
 -- what is noted as the address of a stretch that lay at another one, where those behind the new addresses then lie so many bytes before what is noted of them
 pub record IsNote (k : KeptLayout) (new : List ℕ) (j old note : ℕ) : Type 0 where

@@ -1,8 +1,10 @@
 -- Stretches of lines, one behind the other: where they begin, and whether what they mention is within reach.
-use Rattle.std.specs.Prelude.{◌≡◌, ℕ, zero, suc, ◌+◌, ◌-◌, ◌*◌, ◌&&◌, ◌≤◌, nat_le, nat_lt, Bool, true, false, List, [], ◌∷◌, map, Option, Some, None, slice_get, if◌then◌else◌}
+use Rattle.std.specs.Prelude.{◌≡◌, ℕ, zero, suc, ◌+◌, ◌-◌, ◌*◌, ◌&&◌, ◌≤◌, max, nat_le, nat_lt, Bool, true, false, List, [], ◌∷◌, map, Option, Some, None, slice_get, if◌then◌else◌}
 use Rattle.thumb_instr.specs.declared.instr.Instr.{Instr}
 use Rattle.thumb_instr.specs.declared.instr.Instr.TheVariants as instr
 use Rattle.thumb_model.specs.Layout.{aim_fault, padding, Fault}
+use Rattle.kept_layout.specs.declared.grains.Loose.{Loose}
+use Rattle.kept_layout.specs.declared.grains.Loose.TheVariants as sort
 use Rattle.kept_layout.specs.declared.stretch.Aim.{Aim}
 use Rattle.kept_layout.specs.declared.stretch.Target.{Target}
 use Rattle.kept_layout.specs.declared.stretch.Target.TheVariants as target
@@ -87,9 +89,9 @@ IsGrainOf grain head.Plain = Unit {0}
 IsGrainOf grain (head.Pads size most) = Divides size grain
 IsGrainOf grain (head.Aims aim) = Unit {0}
 
--- 4 and the sizes of all alignments divide the number
+-- the sizes of all alignments divide the number
 abbrev pub IsGrain : ℕ → List Shape → Type 0
-IsGrain grain [] = Divides 4 grain
+IsGrain grain [] = Unit {0}
 IsGrain grain (s ∷ ss) = IsGrainOf grain s.head × IsGrain grain ss
 
 -- whether an instruction is a literal's
@@ -98,16 +100,44 @@ is_literal (instr.Literal t s) = true
 is_literal (instr.Address t s) = true
 is_literal i = false
 
--- whether a mention may come out of reach by coming nearer, in the stretch of this number: of an address that is set, or by a literal of a label that isn't behind it
-abbrev pub is_loose_to : ℕ → Instr → Option Target → Bool
-is_loose_to n i None = false
-is_loose_to n i (Some (target.Stretch k)) = is_literal i && nat_le k n
-is_loose_to n i (Some (target.Address a)) = true
+-- in the stretch of this number, the later one of a literal and its label: whether they move by a multiple of 4 matters up to there. It is the first stretch, which never moves, where no label is a literal's
+abbrev pub last_to : ℕ → Instr → Option Target → ℕ
+last_to n i None = 0
+last_to n i (Some (target.Stretch k)) = if is_literal i then max n k else 0
+last_to n i (Some (target.Address a)) = 0
 
-abbrev pub is_loose : ℕ → Head → Bool
-is_loose n head.Plain = false
-is_loose n (head.Pads size most) = false
-is_loose n (head.Aims aim) = is_loose_to n aim.instr aim.to
+abbrev pub literal_last : ℕ → Head → ℕ
+literal_last n head.Plain = 0
+literal_last n (head.Pads size most) = 0
+literal_last n (head.Aims aim) = last_to n aim.instr aim.to
+
+-- whether a mention may come out of reach by coming nearer, in the stretch of this number: of a label, by a literal that it isn't behind, or of an address that is set
+abbrev pub is_loose_to : Loose → ℕ → Instr → Option Target → Bool
+is_loose_to l n i None = false
+is_loose_to sort.Label n i (Some (target.Stretch k)) = is_literal i && nat_le k n
+is_loose_to sort.Address n i (Some (target.Stretch k)) = false
+is_loose_to sort.Label n i (Some (target.Address a)) = false
+is_loose_to sort.Address n i (Some (target.Address a)) = true
+
+abbrev pub is_loose : Loose → ℕ → Head → Bool
+is_loose l n head.Plain = false
+is_loose l n (head.Pads size most) = false
+is_loose l n (head.Aims aim) = is_loose_to l n aim.instr aim.to
+
+-- what an instruction mentions is within reach wherever that lies up to so many bytes before an address
+abbrev pub Reaches : ℕ → ℕ → Instr → ℕ → ℕ → Type 0
+Reaches slack at i to plus = (d : ℕ) → d ≤ slack → d ≤ at → aim_fault (at - d) i (Some to) plus ≡ None
+
+-- so it is where an address that is set is mentioned
+abbrev pub HasSlackTo : ℕ → ℕ → Instr → Option Target → ℕ → Type 0
+HasSlackTo slack at i None plus = Unit {0}
+HasSlackTo slack at i (Some (target.Stretch k)) plus = Unit {0}
+HasSlackTo slack at i (Some (target.Address a)) plus = Reaches slack at i a plus
+
+abbrev pub HasSlack : ℕ → ℕ → Head → Type 0
+HasSlack slack at head.Plain = Unit {0}
+HasSlack slack at (head.Pads size most) = Unit {0}
+HasSlack slack at (head.Aims aim) = HasSlackTo slack at aim.instr aim.to aim.plus
 
 -- an instruction that mentions a name has two bytes at least
 abbrev pub AreWide : List Shape → Type 0

@@ -2,7 +2,7 @@
 ghost use Rattle.std.specs.Prelude.{◌≡◌, ◌-◌, ◌*◌, ◌≤◌, ◌^◌, length};
 
 use crate::building::{lay, note_callers};
-use crate::grains::{find_loose, note_grains};
+use crate::grains::{Loose, find_loose, note_grains};
 use crate::shrinking::Move;
 use crate::stretch::Stretch;
 use line_cursor::Cursor;
@@ -22,8 +22,13 @@ pub struct KeptLayout {
     /// The stretches from this number on lie `shift` bytes before where they were noted: they moved together, and none was looked at.
     pub border: usize,
     pub shift: u32,
-    /// The numbers of the stretches that begin with a mention that may come out of reach by coming nearer.
+    /// The numbers of the stretches that begin with a mention of a label that may come out of reach by coming nearer.
     pub loose: Vec<usize>,
+    /// The numbers of the stretches that begin with a mention of an address that is set.
+    pub absolute: Vec<usize>,
+    /// By how many bytes those behind the stretch `slack_from` may all still come nearer.
+    pub slack: u32,
+    pub slack_from: usize,
 }
 
 /// How many bytes fewer instructions take than a window, where each takes two.
@@ -57,7 +62,8 @@ impl KeptLayout {
         let mut stretches = lay(alloc, listing, base)?;
         note_callers(&mut stretches)?;
         note_grains(&mut stretches);
-        let loose = find_loose(alloc, &stretches)?;
+        let loose = find_loose(alloc, &stretches, Loose::Label)?;
+        let absolute = find_loose(alloc, &stretches, Loose::Address)?;
         let mut kept = KeptLayout {
             base,
             stretches,
@@ -66,6 +72,9 @@ impl KeptLayout {
             border: 0,
             shift: 0,
             loose,
+            absolute,
+            slack: 0,
+            slack_from: 0,
         };
         kept.go_to(0);
         Ok(kept)

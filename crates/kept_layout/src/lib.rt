@@ -7,6 +7,7 @@ mod grains;
 pub mod kept;
 mod moving;
 pub mod shrinking;
+mod slack;
 pub mod stretch;
 
 pub use kept::KeptLayout;

@@ -1,11 +1,11 @@
 //! What moves when a stretch takes fewer bytes, up to where all that is behind moves by one distance that no padding and no literal notices: that is noted for all of
 //! them at once.
-ghost use Rattle.std.specs.Prelude.{◌≡◌, ◌+◌, ◌-◌, ◌<◌, ◌≤◌, ◌↔◌, ℕ, true, length, slice_get, is_some, IfOk, OnOk, IfSome, Some, map, Contains};
+ghost use Rattle.std.specs.Prelude.{◌≡◌, ◌+◌, ◌-◌, ◌<◌, ◌≤◌, ◌↔◌, ℕ, true, length, slice_get, is_some, IfOk, OnOk, IfSome, Some, map, Contains, false};
 ghost use Rattle.kept_layout.specs.declared.stretch.Stretch.{Stretch as OneStretch};
 ghost use Rattle.kept_layout.specs.declared.stretch.Target.TheVariants.{Stretch as AtStretch};
 ghost use Rattle.kept_layout.specs.Stretches.{address_of, lessen, located, shapes_of, AllReach, AreWide, Divides, Shape};
 ghost use Rattle.kept_layout.specs.Kept.{IsLaid};
-ghost use Rattle.kept_layout.specs.Moves.{moved_starts, unplaced, IsLookedAt, IsMove, IsMoved, IsNote, IsRight};
+ghost use Rattle.kept_layout.specs.Moves.{has_slack, moved_starts, unplaced, IsLookedAt, IsMove, IsMoved, IsNote, IsRight};
 
 use crate::kept::KeptLayout;
 use crate::stretch::{Head, Stretch, Target, behind};
@@ -101,7 +101,7 @@ impl KeptLayout {
     // ---- what is looked at ----
 
     /// Where a stretch begins then.
-    fn new_address(&self, moved: &Move, number: usize) -> u32
+    pub(crate) fn new_address(&self, moved: &Move, number: usize) -> u32
         requires laid { IsLaid self.now }
         requires is { IsMove self.now moved.now.at.items moved.now.by }
         requires within { number < length self.now.stretches.items }
@@ -178,6 +178,16 @@ impl KeptLayout {
         self.is_right(moved, number) && self.are_right(moved, &self.stretches[number].callers)
     }
 
+    /// Whether the mentions of addresses that are set are within reach then: they are looked at where it isn't known.
+    fn keeps_reach(&self, moved: &Move) -> bool
+        requires laid { IsLaid self.now }
+        requires is { IsMove self.now moved.now.at.items moved.now.by }
+        ensures all { result ≡ true → has_slack self.now moved.now.by ≡ false → (j : ℕ) → Contains self.now.absolute.items j → IsRight (moved_starts self.now moved.now.at.items moved.now.by) self.now.stretches.items j }
+        ensures none { ((j : ℕ) → IsRight (moved_starts self.now moved.now.at.items moved.now.by) self.now.stretches.items j) → result ≡ true }
+    {
+        self.has_slack(moved) || self.are_right(moved, &self.absolute)
+    }
+
     /// Whether all that could come out of reach is within reach then.
     fn all_reach(&self, moved: &Move) -> bool
         requires laid { IsLaid self.now }
@@ -194,7 +204,7 @@ impl KeptLayout {
                 return false;
             }
         }
-        moved.by == 0 || self.are_right(moved, &self.loose)
+        moved.by == 0 || (self.are_right(moved, &self.loose) && self.keeps_reach(moved))
     }
 
     /// How stretches move if the one that it stands at takes so many bytes fewer: none where a mention would be out of reach.
@@ -265,7 +275,10 @@ impl KeptLayout {
         if moved.by > u32::MAX - self.shift {
             return Err(Memory);
         }
+        let (slack, slack_from) = self.new_slack(moved);
         self.note_all(moved)?;
+        self.slack = slack;
+        self.slack_from = slack_from;
         self.border = self.here + 1 + moved.at.len();
         self.shift += moved.by;
         let here = self.here;

@@ -49,7 +49,7 @@ pub struct Stretch {
     pub places: usize,
     /// The numbers of the stretches that begin with an instruction that mentions its label.
     pub callers: Vec<usize>,
-    /// A number that 4 and the sizes of all alignments from this stretch on divide: 0 where no other is known.
+    /// A number that the sizes of all alignments from this stretch on divide, and 4 where a literal or a literal's label isn't before it: 0 where no other is known.
     pub grain: u32,
 }
 

@@ -7,10 +7,10 @@ pub loop-number-preserved-then-not-is_loose : goal.loop-number-preserved-then-no
 loop-number-preserved-then-not-is_loose c =
     let ss = c.args.stretches.now in
     let is = slice_get_read ss (length ss) c.loop-number.number c.index-stretches-number.result refl (omega arith) c.index-stretches-number.is in
-    found_other ss c.loop-number.number (c.loop-number.number + 1) c.loop-number.loose.items c.index-stretches-number.result c.loop-number.invariant is (λ t. let e = c.is_loose.ensures in let f = c.if-not-is_loose.true in grind arith) (omega arith)
+    found_other c.args.of ss c.loop-number.number (c.loop-number.number + 1) c.loop-number.loose.items c.index-stretches-number.result c.loop-number.invariant is (λ t. let e = c.is_loose.ensures in let f = c.if-not-is_loose.true in grind arith) (omega arith)
 
 pub loop-number-preserved : goal.loop-number-preserved
-loop-number-preserved c = found_one c.args.stretches.now c.loop-number.number (c.loop-number.number + 1) c.loop-number.loose.items c.push.new.self.items c.loop-number.invariant c.in_ok-push.ensures.items (omega arith) (omega arith)
+loop-number-preserved c = found_one c.args.of c.args.stretches.now c.loop-number.number (c.loop-number.number + 1) c.loop-number.loose.items c.push.new.self.items c.loop-number.invariant c.in_ok-push.ensures.items (omega arith) (omega arith)
 
 pub returns-clause-all : goal.returns-clause-all
 returns-clause-all c = λ j s e f. let within = slice_get_within c.args.stretches.now j s e in c.loop-number.invariant.all j s (omega arith) e f

@@ -1,11 +1,14 @@
-use Rattle.std.proofs.Common.{◌-◌, length, refl, subst, arith}
+use Rattle.std.proofs.Common.{◌∙◌, ◌-◌, List, length, refl, ap, subst, arith}
+use Rattle.std.specs.Prelude.{slice_get}
+use Rattle.std.proofs.lemmas.Bool.{le-leb}
 use Rattle.std.proofs.lemmas.Option.{slice_get_read}
+use Rattle.kept_layout.specs.declared.stretch.Stretch.{Stretch}
 use Rattle.kept_layout.specs.Stretches.{IsGrainOf}
-use Rattle.kept_layout.proofs.BuildingGrains.{grains_begin, grains_on, head_read}
+use Rattle.kept_layout.proofs.BuildingGrains.{fours_all, grains_begin, grains_on, head_read}
 use Rattle.kept_layout.proofs.grains.note_grains.Goals as goal
 
 pub loop-number-init : goal.loop-number-init
-loop-number-init c = grains_begin c.args.stretches.now.items c.len-number.result (omega arith)
+loop-number-init c = grains_begin c.args.stretches.now.items c.last_literal-last.result c.len-number.result (omega arith)
 
 pub loop-number-preserved : goal.loop-number-preserved
 loop-number-preserved c =
@@ -14,4 +17,15 @@ loop-number-preserved c =
     let within = c.loop-number.invariant.within in
     let is = slice_get_read ss (length ss) n c.index_mut.result.now refl (omega arith) c.index_mut.ensures.value in
     let head = head_read ss n c.index.result.now c.index_mut.result.now (omega arith) c.index.ensures is in
-    grains_on c.args.stretches.now.items c.loop-number.grain c.loop-number.number ss n c.grain_of-grain.result c.index_mut.result.now _ c.loop-number.invariant (omega arith) is c.grain_of-grain.ensures.behind (subst (IsGrainOf c.grain_of-grain.result) head c.grain_of-grain.ensures.own) refl
+    grains_on c.args.stretches.now.items c.last_literal-last.result c.loop-number.grain c.loop-number.number ss n c.index_mut.result.now _ c.loop-number.invariant (omega arith) is
+    (record {
+      from = c.grain_of-grain.ensures.behind;
+      own = subst (IsGrainOf c.grain_of-grain.result) head c.grain_of-grain.ensures.own;
+      four = λ l. c.grain_of-grain.ensures.literals (le-leb _ _ l);
+      same = refl;
+    })
+
+pub returns-clause-literals : goal.returns-clause-literals
+returns-clause-literals c =
+    fours_all c.args.stretches.now.items c.last_literal-last.result c.loop-number.grain c.loop-number.number c.loop-number.stretches.items c.loop-number.invariant c.loop-number-test.false
+    (λ i s e. c.last_literal-last.ensures i s (ap (λ (xs : List Stretch). slice_get xs i) c.deref.ensures.value ∙ e))

@@ -13,7 +13,7 @@ told : (k : KeptLayout) (bytes gone : ℕ) (m : Move) (b : Bool) → IsLaid k �
 told k bytes gone m b laid wide moved all none =
     let moves : Moves k m.at.items m.by bytes = record { laid = laid; wide = wide; move = moved.move; starts = moved.starts } in (
       λ t. reach_from k m.at.items m.by bytes gone moves (right_all k m.at.items m.by bytes moves (all t)),
-      λ r. none (right_from k m.at.items m.by bytes gone moves r),
+      λ r. none (right_from k m.at.items m.by bytes gone moved r),
     )
 
 pub returns-then-all_reach-clause-reach : goal.returns-then-all_reach-clause-reach

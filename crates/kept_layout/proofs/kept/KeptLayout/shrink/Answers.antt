@@ -6,6 +6,7 @@ use Rattle.kept_layout.specs.declared.stretch.Stretch.{Stretch}
 use Rattle.kept_layout.specs.Stretches.{shape_of, shapes_of}
 use Rattle.kept_layout.specs.Moves.{unplaced}
 use Rattle.kept_layout.proofs.ShrinkingNotes.{after_shrinking, laid_after, map_length, noted_shape, shapes_after, HasShrunk}
+use Rattle.kept_layout.proofs.ShrinkingReach.{right_from}
 use Rattle.kept_layout.proofs.kept.KeptLayout.shrink.Goals as goal
 
 -- the stretch that it stands at, once all are noted
@@ -20,6 +21,9 @@ here_read k l s fields same within is =
 here_shape : (k l : KeptLayout) (s : Stretch) → l ≡ record k { stretches = l.stretches } → map unplaced l.stretches.items ≡ map unplaced k.stretches.items → k.here < length k.stretches.items → s ≡ slice_index_or l.stretches.items l.here s
     → slice_get (shapes_of k.stretches.items) k.here ≡ Some (shape_of s)
 here_shape k l s fields same within is = noted_shape k l.stretches.items k.here s same (ap (slice_get l.stretches.items) (sym (ap (λ (x : KeptLayout). x.here) fields)) ∙ here_read k l s fields same within is)
+
+pub new_slack-slack-requires-clause-right : goal.new_slack-slack-requires-clause-right
+new_slack-slack-requires-clause-right c = right_from c.args.self.now c.args.moved.now.at.items c.args.moved.now.by c.args.bytes c.args.gone c.requires.moved c.requires.reach
 
 pub take_from-requires-clause-bytes : goal.take_from-requires-clause-bytes
 take_from-requires-clause-bytes c =
@@ -40,7 +44,7 @@ returns-clause-laid c =
     let is = here_read k l s c.in_ok-note_all.ensures.fields c.in_ok-note_all.ensures.same c.requires.laid.here c.index_mut.ensures.value in
     let shrunk : HasShrunk k l m.at.items c.args.bytes c.args.gone s c.take_from.new.stretch = record { fields = c.in_ok-note_all.ensures.fields; noted = record { same = c.in_ok-note_all.ensures.same; notes = c.in_ok-note_all.ensures.notes }; is = is; less = c.take_from.ensures } in
     let border : l.here + 1 + c.len.result ≡ suc l.here + length m.at.items = omega arith in
-    laid_after k m.at.items m.by c.args.bytes c.args.gone l.stretches.items _ c.requires.laid c.requires.moved c.requires.reach (after_shrinking k l m.at.items m.by c.args.bytes c.args.gone s c.take_from.new.stretch _ shrunk refl refl refl refl border refl refl)
+    laid_after k m.at.items m.by c.args.bytes c.args.gone l.stretches.items _ c.requires.laid c.requires.moved c.requires.reach (after_shrinking k l m.at.items m.by c.args.bytes c.args.gone s c.take_from.new.stretch _ shrunk refl refl refl refl refl c.new_slack-slack.ensures border refl refl)
 
 pub returns-clause-shapes : goal.returns-clause-shapes
 returns-clause-shapes c =

@@ -1,0 +1,111 @@
+//! By how many bytes the mentions of addresses that are set may all come nearer: none of them is looked at as long as moves don't use that up.
+ghost use Rattle.std.specs.Prelude.{◌≡◌, ◌<◌, ℕ, true, List, length, slice_get, Some, None};
+ghost use Rattle.thumb_model.specs.Layout.{aim_fault};
+ghost use Rattle.kept_layout.specs.declared.stretch.Stretch.{Stretch as OneStretch};
+ghost use Rattle.kept_layout.specs.Stretches.{head_fault, HasSlack, Reaches};
+ghost use Rattle.kept_layout.specs.Kept.{IsLaid};
+ghost use Rattle.kept_layout.specs.Moves.{has_slack as is_slack_enough, moved_starts, AreSlack, IsMove, IsRight};
+
+use crate::kept::KeptLayout;
+use crate::shrinking::Move;
+use crate::stretch::{Head, Target};
+use thumb_instr::Instr;
+
+/// By how many bytes an instruction that reaches what it mentions may lie earlier and still reach that.
+fn slack_to(at: u32, instr: &Instr, to: u32, plus: u32) -> u32
+    ensures { aim_fault at instr.now (Some to) plus ≡ None → Reaches result at instr.now to plus }
+{
+    let furthest = match instr {
+        Instr::Literal { .. } | Instr::Address { .. } => at
+            .saturating_add(4 + 1020)
+            .saturating_sub(plus),
+        Instr::BranchIf { .. } => at.saturating_add(4 + 2 * 128 - 1),
+        Instr::Branch { .. } => at.saturating_add(4 + 2 * 1024 - 1),
+        Instr::Call { .. } => at.saturating_add(4 + 2 * 8_388_608 - 1),
+        _ => u32::MAX,
+    };
+    furthest.saturating_sub(to)
+}
+
+/// By how many bytes what a stretch at an address begins with may lie earlier and still reach an address that is set, which it reaches.
+fn slack_of(at: u32, head: &Head) -> u32
+    ensures { (starts : List ℕ) → head_fault starts at head.now ≡ None → HasSlack result at head.now }
+{
+    match head {
+        Head::Aims(aim) => match aim.to {
+            Some(Target::Address(to)) => slack_to(at, &aim.instr, to, aim.plus),
+            _ => u32::MAX,
+        }
+        _ => u32::MAX,
+    }
+}
+
+impl KeptLayout {
+    /// Whether it is known that no mention of an address that is set comes out of reach then.
+    pub(crate) fn has_slack(&self, moved: &Move) -> bool
+        ensures { result ≡ is_slack_enough self.now moved.now.by }
+    {
+        moved.by <= self.slack && self.slack_from <= self.here
+    }
+
+    /// By how many bytes what a stretch begins with may come nearer then.
+    fn own_slack(&self, moved: &Move, number: usize) -> u32
+        requires laid { IsLaid self.now }
+        requires is { IsMove self.now moved.now.at.items moved.now.by }
+        requires within { number < length self.now.stretches.items }
+        requires right { IsRight (moved_starts self.now moved.now.at.items moved.now.by) self.now.stretches.items number }
+        ensures { (at : ℕ) (s : OneStretch) → slice_get self.now.stretches.items number ≡ Some s → slice_get (moved_starts self.now moved.now.at.items moved.now.by) number ≡ Some at → HasSlack result at s.head }
+    {
+        slack_of(
+            self.new_address(moved, number),
+            &self.stretches[number].head,
+        )
+    }
+
+    /// By how many bytes they may all come nearer that lie behind the one that it stands at: each of them is looked at.
+    fn slack_behind(&self, moved: &Move) -> u32
+        requires laid { IsLaid self.now }
+        requires is { IsMove self.now moved.now.at.items moved.now.by }
+        requires right { (j : ℕ) → IsRight (moved_starts self.now moved.now.at.items moved.now.by) self.now.stretches.items j }
+        ensures { AreSlack self.now moved.now.at.items moved.now.by self.now.here result }
+    {
+        let mut slack = u32::MAX;
+        for number in &self.absolute {
+            if *number <= self.here {
+                continue;
+            }
+            slack = slack.min(self.own_slack(moved, *number));
+        }
+        slack
+    }
+
+    /// By how many bytes they may all come nearer where those that move together may do so: only those that move by themselves are looked at.
+    fn slack_left(&self, moved: &Move) -> u32
+        requires laid { IsLaid self.now }
+        requires is { IsMove self.now moved.now.at.items moved.now.by }
+        requires right { (j : ℕ) → IsRight (moved_starts self.now moved.now.at.items moved.now.by) self.now.stretches.items j }
+        requires enough { is_slack_enough self.now moved.now.by ≡ true }
+        ensures { AreSlack self.now moved.now.at.items moved.now.by self.now.slack_from result }
+    {
+        let mut slack = self.slack - moved.by;
+        let first = self.here + 1;
+        for number in first..first + moved.at.len() {
+            slack = slack.min(self.own_slack(moved, number));
+        }
+        slack
+    }
+
+    /// By how many bytes they may all come nearer then, and behind which stretch.
+    pub(crate) fn new_slack(&self, moved: &Move) -> (u32, usize)
+        requires laid { IsLaid self.now }
+        requires is { IsMove self.now moved.now.at.items moved.now.by }
+        requires right { (j : ℕ) → IsRight (moved_starts self.now moved.now.at.items moved.now.by) self.now.stretches.items j }
+        ensures { AreSlack self.now moved.now.at.items moved.now.by result.1 result.0 }
+    {
+        if self.has_slack(moved) {
+            (self.slack_left(moved), self.slack_from)
+        } else {
+            (self.slack_behind(moved), self.here)
+        }
+    }
+}
