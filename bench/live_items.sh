@@ -1,6 +1,6 @@
 #!/usr/bin/env bash
 # Measures finding the live items of a listing and harvesting its windows with the proved crates beside a plain Rust program with the same rules: on one listing of about 65,000
-# lines made by repeating the files of a folder, and on a chain of branches backward, each to the one before, where each pass comes one branch further.
+# lines made by repeating the files of a folder, and on a chain of branches backward, each to the one before, along which what is live comes back.
 # Use: bench/live_items.sh FOLDER [TURNS]
 . "$(dirname "$0")/common.sh"
 folder=${1:-} turns=${2:-9}
@@ -41,7 +41,7 @@ run_both "$work/listing.s" "$turns"
 read -r _ _ places visits _ pairs _ < "$work/proved.told"
 print_times "live items of $places places, $visits visits" us "$(shortest proved 1)" "$(shortest plain 1)"
 print_times "windows of $places places, $pairs pairs" us "$(shortest proved 2)" "$(shortest plain 2)"
-for count in 2000 4000; do
+for count in 15000 30000; do
     chain "$count" > "$work/chain.s"
     run_both "$work/chain.s" 3
     read -r _ _ _ visits _ < "$work/proved.told"

@@ -37,10 +37,68 @@ pub struct Ways {
 }
 
 impl Ways {
-    /// Whether they lead to a place and nowhere else.
-    fn go_on_to(&self, place: usize) -> bool {
+    /// Whether one of them leads to a place.
+    fn lead_to(&self, place: usize) -> bool {
         let leads_there = |way: &Way| matches!(way.next, Next::Place(next) if next == place);
-        leads_there(&self.first) && self.second.as_ref().map_or(true, leads_there)
+        leads_there(&self.first) || self.second.as_ref().is_some_and(leads_there)
+    }
+}
+
+/// A place from which a branch or call leads to another, and the number of the one before it that leads there too, counted from 1, or 0.
+struct Jump {
+    place: u32,
+    earlier: u32,
+}
+
+/// For each place the number of the last jump that leads there, counted from 1, or 0; the jumps, and the places from which a way leads to any code point.
+struct Callers {
+    last: Vec<u32>,
+    jumps: Vec<Jump>,
+    returns: Vec<u32>,
+}
+
+impl Callers {
+    fn of(ways: &[Option<Ways>]) -> Callers {
+        let mut callers = Callers { last: vec![0; ways.len()], jumps: Vec::new(), returns: Vec::new() };
+        for (place, ways) in ways.iter().enumerate() {
+            match ways.as_ref().map(|ways| ways.first.next) {
+                Some(Next::Place(target)) if target != place + 1 && target < callers.last.len() => {
+                    callers.jumps.push(Jump { place: place as u32, earlier: callers.last[target] });
+                    callers.last[target] = callers.jumps.len() as u32;
+                }
+                Some(Next::Points) => callers.returns.push(place as u32),
+                _ => {}
+            }
+        }
+        callers
+    }
+}
+
+/// The places that wait for a visit: those below `fresh`, of which none was visited yet, and those that are to be visited again, all of them marked.
+struct Waiting {
+    fresh: usize,
+    again: Vec<u32>,
+    marks: Vec<bool>,
+}
+
+impl Waiting {
+    fn push(&mut self, place: u32) {
+        if !self.marks[place as usize] {
+            self.marks[place as usize] = true;
+            self.again.push(place);
+        }
+    }
+
+    fn pop(&mut self) -> Option<usize> {
+        let place = match self.again.pop() {
+            Some(place) => place as usize,
+            None => {
+                self.fresh = self.fresh.checked_sub(1)?;
+                self.fresh
+            }
+        };
+        self.marks[place] = false;
+        Some(place)
     }
 }
 
@@ -234,35 +292,37 @@ impl Flows {
         seen
     }
 
-    /// Finds the live items by passes backward, and tells how many places were visited. From the second pass on a place that only goes on to the next is visited
-    /// only where the set before that one grew just now.
+    /// Finds the live items by visits of all places, the last first, and of each again where what its ways lead to has grown. Tells how many visits.
     pub fn find(&mut self) -> u64 {
+        let callers = Callers::of(&self.ways);
+        let count = self.ways.len();
+        let mut waiting = Waiting { fresh: count, again: Vec::new(), marks: vec![true; count] };
         let mut visits = 0;
-        let mut visited = false;
-        loop {
-            let mut changed = false;
-            let mut grew = false;
-            for place in (0..self.ways.len()).rev() {
-                if visited && !grew && self.ways[place].as_ref().map_or(true, |ways| ways.go_on_to(place + 1)) {
-                    continue;
-                }
-                visits += 1;
-                let (before, after) = self.seen(place);
-                self.after[place] = after;
-                let new = self.before[place] | before;
-                grew = new != self.before[place];
-                if grew {
-                    self.before[place] = new;
-                    if self.is_point[place] {
-                        self.points |= new;
-                    }
-                    changed = true;
+        while let Some(place) = waiting.pop() {
+            visits += 1;
+            let (before, after) = self.seen(place);
+            self.after[place] = after;
+            let new = self.before[place] | before;
+            if new == self.before[place] {
+                continue;
+            }
+            self.before[place] = new;
+            if place > 0 && self.ways[place - 1].as_ref().is_some_and(|ways| ways.lead_to(place)) {
+                waiting.push(place as u32 - 1);
+            }
+            let mut rest = callers.last[place];
+            while rest > 0 {
+                let jump = &callers.jumps[rest as usize - 1];
+                waiting.push(jump.place);
+                rest = jump.earlier;
+            }
+            if self.is_point[place] && self.points | new != self.points {
+                self.points |= new;
+                for place in &callers.returns {
+                    waiting.push(*place);
                 }
             }
-            if !changed {
-                return visits;
-            }
-            visited = true;
         }
+        visits
     }
 }

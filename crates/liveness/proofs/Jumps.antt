@@ -241,12 +241,6 @@ jump_told all n c t rest k j ms ms' a g r told kept here = (j.place, (a.jumps k 
           ap (marked ms') at ∙ here
     ]
 
-pub all_told : (all : List (Option Ways)) (jumps : List Jump) (t : ℕ) (ms : List Bool) → AreTold all jumps t 0 ms → (q : ℕ) → JumpsTo all t q → marked ms q ≡ true
-all_told all jumps t ms told q h = elim (cases_lt q told.0) [
-  | inl b ↦ let o = told.1.others q b h in absurd (omega (arith, o.2))
-  | inr b ↦ told.2 q b h
-]
-
 pub among_these : (xs : List ℕ) (i : ℕ) → i < length xs → one_of (get_or xs i 0) xs ≡ true
 among_these [] i h = absurd (omega arith)
 among_these (x ∷ xs) zero h = or_left _ _ (eq-eqb x x refl)

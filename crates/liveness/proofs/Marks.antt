@@ -42,9 +42,6 @@ marks_one marks p q h = elim (cases_eq q p) [
   | inr d ↦ set_else marks p q true d ∙ sym (ap (λ t. marked marks q || t) (ne_eqb q p d) ∙ or_false (marked marks q))
 ]
 
-pub marks_none : (marks : List Bool) (q : ℕ) → marked marks q ≡ (marked marks q || false)
-marks_none marks q = sym (or_false (marked marks q))
-
 -- ---- labels ----
 
 pub one_label : (q p : ℕ) (b : Bool) (tail : List ℕ) → one_of q (if b then p ∷ tail else tail) ≡ ((b && (q == p)) || one_of q tail)

@@ -77,16 +77,6 @@ all_wait w n f a m = record {
     many : length w.marks.items ≡ n
     many = ap length m ∙ length-replicate n true
 
-pub none_waits : (w : Waiting) → AreWaiting w → w.again.items ≡ [] → w.fresh ≡ 0 → (q : ℕ) → marked w.marks.items q ≡ false
-none_waits w a e f q = go (marked w.marks.items q) refl
-  where
-    go : (b : Bool) → marked w.marks.items q ≡ b → marked w.marks.items q ≡ false
-    go false h = h
-    go true h = elim (a.listed q h) [
-      | inl o ↦ absurd (let t : one_of q w.again.items ≡ false = ap (one_of q) e in cc)
-      | inr l ↦ absurd (omega (arith, l, f))
-    ]
-
 pub pushed : (w w' : Waiting) (p : ℕ) → AreWaiting w → p < length w.marks.items → marked w.marks.items p ≡ false → w'.fresh ≡ w.fresh → w'.again.items ≡ w.again.items ++ p ∷ [] → w'.marks.items ≡ slice_set w.marks.items p true → WaitMore w w'
 pushed w w' p a l n f e m = record {
   waiting = record { fresh = omega (arith, many, f, a.fresh); again = again; listed = listed; few = few };
