@@ -11,7 +11,7 @@ use Rattle.outer_store.specs.declared.StoreError.{StoreError}
 use Rattle.outer_store.specs.declared.StoreError.TheVariants as store
 use Rattle.outer_store.specs.Events.{Event, Fetching, Keeping}
 use Rattle.outer_store.specs.Outside.{Sunk, Seen, Held, SameHeld, SameCounts, Grows, Rose, MissedAt, TooBigAt, IsTooBig, OthersStay, SinkGrows}
-use Rattle.command_runs.specs.Plans.{Keep, IsText, AreTexts, StopsAt, ReadsSome, ReadsUpTo, with_text, kept, Kept, fetchings, keepings}
+use Rattle.command_runs.specs.Plans.{Keep, IsText, AreTexts, StopsAt, ReadsUpTo, with_text, kept, Kept, fetchings, keepings}
 use Rattle.command_runs.specs.Stages.{Reads, Gathers, StoresOne, Stores}
 
 -- ---- from a later state back to an earlier one ----
