@@ -7,7 +7,7 @@ use Rattle.thumb_model.specs.Same.{Same}
 use Rattle.thumb_model.specs.Rewritten.{Replacement, AreRewritten, AllApplied, NoneApplies}
 use Rattle.listing_parser.specs.Parsing.{IsListing, text_of_lines}
 use Rattle.rule_table.specs.Table.{Table}
-use Rattle.rule_table.specs.Refused as table
+use Rattle.rule_table.specs.Refused.{IsText as IsTableText}
 use Rattle.table_audit.specs.Acceptance.{IsAccepted}
 use Rattle.table_audit.specs.Soundness.{IsSound, rules_of}
 use Rattle.window_rewrite.specs.Rewriting.{setting}
@@ -47,7 +47,7 @@ pub record IsHeadline (table listing : List ℕ) (to : Destination) (old new : S
   pub listing_held : Gave old listing listing_text
   -- the one is a table that the audit accepts
   pub rules : Table
-  pub is_table : table.IsText table_text rules
+  pub is_table : IsTableText table_text rules
   pub accepted : IsAccepted rules
   -- the other is a well-formed listing, which can be laid out
   pub given : List Line
