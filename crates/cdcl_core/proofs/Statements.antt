@@ -11,12 +11,12 @@ use Rattle.std.proofs.lemmas.Option.{get_or_from_slice_get, slice_get_within}
 use Rattle.clause_model.specs.Literals.{negated, code_of, codes_of, literal_value}
 use Rattle.clause_model.specs.Clauses.{IsConsistent}
 use Rattle.clause_arena.specs.Contents.{Content, HasLiteral}
-use Rattle.cnf_gates.specs.Cnf.{IsLiteral}
+use Rattle.cnf_gates.specs.Cnf.{Cnf, IsLiteral}
 use Rattle.cnf_gates.specs.Meaning.{number_value, clause_value, all_true, assigned}
 use Rattle.cdcl_core.specs.Implied.{clauses_of}
 use Rattle.cdcl_core.specs.Held.{Covers}
 use Rattle.cdcl_core.specs.Searched.{IsBase}
-use Rattle.cdcl_core.specs.Solved.{AreBelow}
+use Rattle.cdcl_core.specs.Solved.{AreBelow, HasEmpty, HasValues}
 use Rattle.cdcl_core.proofs.Lists.{nothing_in, All-left, All-right}
 use Rattle.cdcl_core.proofs.Covered.{covers_more}
 
@@ -192,6 +192,13 @@ model_true values variables trail consistent h (c ∷ cs) l b t =
     both (clause_value m c) (all_true m cs)
     (clause_true m c (All-head (λ x. All IsLiteral x) c cs l) (first.0, first.1, first.2, first.3, agrees values variables trail consistent h first.1 here first.4))
     (model_true values variables trail consistent h cs (All-tail (λ x. All IsLiteral x) c cs l) (All-tail (λ x. All (λ y. y < 2 * variables) x) (map code_of c) (codes_of cs) b) (All-tail (λ x. Any (Contains trail) x) (map code_of c) (codes_of cs) t))
+
+-- as many values as the number of variables that the formula reaches
+pub values_for : (model : List Bool) (variables : ℕ) (formula : Cnf) → length model ≡ variables → formula.variables ≤ variables → AreBelow variables (codes_of formula.clauses) → HasValues model formula
+values_for model variables formula e reached below = subst (λ (n : ℕ). (formula.variables ≤ n) × AreBelow n (codes_of formula.clauses)) (sym e) (reached, below)
+
+pub filled_formula : (formula : Cnf) → All (λ clause. clause ≢ []) formula.clauses → HasEmpty formula → ⊥
+filled_formula formula h e = All-contains (λ clause. clause ≢ []) formula.clauses e.1 h (e.0, e.2, e.3) e.4
 
 -- one clause more that the number reaches
 module _ (clauses : List (List ℤ)) (i : ℕ) (x : List ℤ) (e : slice_get clauses (i + 1 - 1) ≡ Some x) (reach reach' : ℕ) where

@@ -1,5 +1,5 @@
 -- What the verdicts say.
-use Rattle.std.specs.Prelude.{ℕ, ◌≡◌, ◌<◌, ◌≤◌, ◌*◌, ◌⊎◌, List, [], ◌∷◌, ◌++◌, All, Any, map, length, take, get_or}
+use Rattle.std.specs.Prelude.{ℕ, ◌≡◌, ◌<◌, ◌≤◌, ◌*◌, ◌⊎◌, Bool, List, [], ◌∷◌, ◌++◌, All, Any, map, length, take, get_or}
 use Rattle.clause_model.specs.Literals.{codes_of}
 use Rattle.clause_model.specs.Asserting.{IsAsserting}
 use Rattle.cnf_gates.specs.Cnf.{Cnf}
@@ -41,9 +41,16 @@ IsLog formula log = (k : ℕ) (d : Line) → k < length log → Teaches (with_lo
 abbrev pub IsRefutation : List (List ℕ) → List Line → Type 0
 IsRefutation formula log = (front : List Line) × (last : Line) × (log ≡ front ++ last ∷ []) × IsLog formula front × Refutes (with_log formula front) last
 
--- a model; a refutation of at most as many lines as the budget, without lines where a clause is empty; or as many asserting clauses as the budget
+-- a value for each variable that the formula has or that a clause of it names
+abbrev pub HasValues : List Bool → Cnf → Type 0
+HasValues model formula = (formula.variables ≤ length model) × AreBelow (length model) (codes_of formula.clauses)
+
+abbrev pub HasEmpty : Cnf → Type 0
+HasEmpty formula = Any (λ clause. clause ≡ []) formula.clauses
+
+-- a model with a value for each variable; a refutation of at most as many lines as the budget, without lines exactly where a clause is empty; or as many asserting clauses as the budget, where none is
 abbrev pub VerdictOf : Cnf → ℕ → Verdict → Type 0
-VerdictOf formula budget (Sat model) = IsModel model formula
+VerdictOf formula budget (Sat model) = IsModel model formula × HasValues model formula
 VerdictOf formula budget (Unsat log) =
-    (length log.items ≤ budget) × (((log.items ≡ []) × Any (λ clause. clause ≡ []) formula.clauses) ⊎ IsRefutation (codes_of formula.clauses) log.items)
-VerdictOf formula budget (Spent log) = (length log.items ≡ budget) × IsLog (codes_of formula.clauses) log.items
+    (length log.items ≤ budget) × (((log.items ≡ []) × HasEmpty formula) ⊎ IsRefutation (codes_of formula.clauses) log.items) × (HasEmpty formula → log.items ≡ [])
+VerdictOf formula budget (Spent log) = (length log.items ≡ budget) × IsLog (codes_of formula.clauses) log.items × (HasEmpty formula → ⊥)

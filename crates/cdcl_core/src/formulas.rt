@@ -51,6 +51,7 @@ pub fn reach(formula: &Formula) -> u32
     ensures few { result ≤ 200000 }
     ensures literals { All (λ clause. All IsLiteral clause) formula.now.clauses }
     ensures below { AreBelow result (codes_of formula.now.clauses) }
+    ensures reached { formula.now.variables ≤ result }
     ensures least { (n : ℕ) → formula.now.variables ≤ n → AreBelow n (codes_of formula.now.clauses) → result ≤ n }
 {
     let mut reach = formula.variables();

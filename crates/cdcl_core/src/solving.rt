@@ -36,7 +36,8 @@ pub enum Verdict {
 /// The values that make the true literals true.
 fn model_of(alloc: Global, variables: u32, trail: &Assignment) -> Result<Model, Memory>
     requires { variables ≤ 200000 }
-    ensures { IfOk result (λ m. (v : ℕ) → v < variables → (IsTrue (assigned m v) ↔ Contains trail.now (2 * v))) }
+    ensures values { IfOk result (λ m. (v : ℕ) → v < variables → (IsTrue (assigned m v) ↔ Contains trail.now (2 * v))) }
+    ensures count { IfOk result (λ m. length m ≡ variables) }
 {
     let mut values = Vec::new(alloc);
     for variable in 0..variables {
@@ -76,6 +77,8 @@ fn run<L: Ledger>(
     requires size { length arena.old.chains ≡ 2 * variables }
     requires literals { All (λ clause. All IsLiteral clause) formula.now.clauses }
     requires below { AreBelow variables (codes_of formula.now.clauses) }
+    requires reached { formula.now.variables ≤ variables }
+    requires filled { All (λ clause. clause ≢ []) formula.now.clauses }
     requires base { IsBase (clauses_of arena.old) (length arena.old.chains) arena.old refs.old.items reasons.old.items trail.old conflict }
     requires covers { Covers (codes_of formula.now.clauses) (clauses_of arena.old) ids.old.items trail.old }
     ensures verdict { IfOk result (VerdictOf formula.now budget) }

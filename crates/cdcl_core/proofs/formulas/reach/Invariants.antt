@@ -8,4 +8,4 @@ use Rattle.cdcl_core.proofs.formulas.reach.Given as goal
 abbrev pub invariant-loop-i : goal.invariant-loop-i
 invariant-loop-i l =
     (l.reach ≤ 200000) × All (λ clause. All IsLiteral clause) (take l.i l.formula.clauses) × AreBelow l.reach (codes_of (take l.i l.formula.clauses))
-    × ((n : ℕ) → l.formula.variables ≤ n → AreBelow n (codes_of (take l.i l.formula.clauses)) → l.reach ≤ n)
+    × (l.formula.variables ≤ l.reach) × ((n : ℕ) → l.formula.variables ≤ n → AreBelow n (codes_of (take l.i l.formula.clauses)) → l.reach ≤ n)

@@ -9,7 +9,7 @@ use Rattle.cdcl_core.specs.Searched.{EndsOver, GoesOn, IsBase}
 use Rattle.cdcl_core.specs.Solved.{with_log}
 use Rattle.cdcl_core.proofs.Adopted.{base_here}
 use Rattle.cdcl_core.proofs.Covered.{covers_grown}
-use Rattle.cdcl_core.proofs.Statements.{model_true}
+use Rattle.cdcl_core.proofs.Statements.{model_true, values_for, filled_formula}
 use Rattle.cdcl_core.proofs.Logs.{asserting_some, formula_holds, next_id, refuted, running_aligned, running_begun, running_more, rounds_more, rounds_within}
 use Rattle.cdcl_core.proofs.solving.run.Goals as goal
 
@@ -62,14 +62,15 @@ pub returns-in-Model-clause-verdict : goal.returns-in-Model-clause-verdict
 returns-in-Model-clause-verdict g c =
     let all = subst (EndsOver (clauses_of c.loop-round.arena) c.deref-in-loop-round.result.now c.loop-round.trail c.new-id.result c.search.new.trail) c.in-Model.is c.in_ok-search.ensures.ends in
     let m = all (with_log (codes_of c.args.formula.now.clauses) c.loop-round.log.items) (subst (λ (ns : List ℕ). Covers (with_log (codes_of c.args.formula.now.clauses) c.loop-round.log.items) (clauses_of c.loop-round.arena) ns c.loop-round.trail) (sym c.deref-in-loop-round.ensures.value) c.loop-round.invariant.0.covers) (next_id (codes_of c.args.formula.now.clauses) (length c.args.arena.now.chains) c.loop-round.arena c.loop-round.refs.items c.loop-round.ids.items c.loop-round.reasons.items c.loop-round.trail c.loop-round.current c.loop-round.log.items c.loop-round.round c.loop-round.invariant.0 c.new-id.result (omega (arith, c.new-id.ensures, c.clauses.ensures, length-map c.args.formula.now.clauses (map code_of)))) in
-    model_true c.in_ok-model-in-Model.model c.args.variables c.search.new.trail c.len-trues.ensures.consistent c.in_ok-model-in-Model.ensures c.args.formula.now.clauses c.requires.literals c.requires.below (formula_holds (codes_of c.args.formula.now.clauses) (length c.args.arena.now.chains) c.loop-round.arena c.loop-round.refs.items c.loop-round.ids.items c.loop-round.reasons.items c.loop-round.trail c.loop-round.current c.loop-round.log.items c.loop-round.round c.loop-round.invariant.0 c.search.new.trail m)
+    let model = model_true c.in_ok-model-in-Model.model c.args.variables c.search.new.trail c.len-trues.ensures.consistent c.in_ok-model-in-Model.ensures.values c.args.formula.now.clauses c.requires.literals c.requires.below (formula_holds (codes_of c.args.formula.now.clauses) (length c.args.arena.now.chains) c.loop-round.arena c.loop-round.refs.items c.loop-round.ids.items c.loop-round.reasons.items c.loop-round.trail c.loop-round.current c.loop-round.log.items c.loop-round.round c.loop-round.invariant.0 c.search.new.trail m) in
+    (model, values_for c.in_ok-model-in-Model.model c.args.variables c.args.formula.now c.in_ok-model-in-Model.ensures.count c.requires.reached c.requires.below)
 
 pub returns-in-Refuted-clause-verdict : goal.returns-in-Refuted-clause-verdict
 returns-in-Refuted-clause-verdict g c =
     let all = subst (EndsOver (clauses_of c.loop-round.arena) c.deref-in-loop-round.result.now c.loop-round.trail c.new-id.result c.search.new.trail) c.in-Refuted.is c.in_ok-search.ensures.ends in
     let r = all (with_log (codes_of c.args.formula.now.clauses) c.loop-round.log.items) (subst (λ (ns : List ℕ). Covers (with_log (codes_of c.args.formula.now.clauses) c.loop-round.log.items) (clauses_of c.loop-round.arena) ns c.loop-round.trail) (sym c.deref-in-loop-round.ensures.value) c.loop-round.invariant.0.covers) (next_id (codes_of c.args.formula.now.clauses) (length c.args.arena.now.chains) c.loop-round.arena c.loop-round.refs.items c.loop-round.ids.items c.loop-round.reasons.items c.loop-round.trail c.loop-round.current c.loop-round.log.items c.loop-round.round c.loop-round.invariant.0 c.new-id.result (omega (arith, c.new-id.ensures, c.clauses.ensures, length-map c.args.formula.now.clauses (map code_of)))) in
     let n : length c.push.new.self.items ≡ length c.loop-round.log.items + 1 = ap length c.in_ok-push-in-Refuted.ensures.items ∙ length-append c.loop-round.log.items (Adding c.in-Refuted.line ∷ []) in
-    (omega (arith, n, c.loop-round.invariant.0.count, c.loop-round-test.true), inr (refuted (codes_of c.args.formula.now.clauses) (length c.args.arena.now.chains) c.loop-round.arena c.loop-round.refs.items c.loop-round.ids.items c.loop-round.reasons.items c.loop-round.trail c.loop-round.current c.loop-round.log.items c.loop-round.round c.loop-round.invariant.0 c.in-Refuted.line c.push.new.self.items c.in_ok-push-in-Refuted.ensures.items r))
+    (omega (arith, n, c.loop-round.invariant.0.count, c.loop-round-test.true), inr (refuted (codes_of c.args.formula.now.clauses) (length c.args.arena.now.chains) c.loop-round.arena c.loop-round.refs.items c.loop-round.ids.items c.loop-round.reasons.items c.loop-round.trail c.loop-round.current c.loop-round.log.items c.loop-round.round c.loop-round.invariant.0 c.in-Refuted.line c.push.new.self.items c.in_ok-push-in-Refuted.ensures.items r), λ e. absurd (filled_formula c.args.formula.now c.requires.filled e))
 
 pub loop-round-preserved : goal.loop-round-preserved
 loop-round-preserved g c =

@@ -12,8 +12,8 @@ pub returns-in-Sat-clause-answer : goal.returns-in-Sat-clause-answer
 returns-in-Sat-clause-answer g c =
     let v = subst (VerdictOf c.in_ok-formula.formula c.args.budget) c.in-Sat.is c.in_ok-model.ensures.verdict in
     let four : length c.state_of.result.r ≡ 4 = search rules in (
-      model_tells c.in_ok-formula.formula c.args.window.now.left c.args.seq.now c.args.window.now.mask.items.bits c.args.window.now.k c.in-Sat.model c.state_of.result c.in_ok-formula.ensures.stated c.requires.left c.requires.right c.args.window.now.mask.in_masks c.requires.mask c.requires.few v c.state_of.ensures.items,
-      record { four = four; words = state_words c.state_of.result _ four c.state_of.ensures.items (c.in_ok-formula.ensures.models_tell (assigned c.in-Sat.model) v).0; flags = c.state_of.ensures.flags },
+      model_tells c.in_ok-formula.formula c.args.window.now.left c.args.seq.now c.args.window.now.mask.items.bits c.args.window.now.k c.in-Sat.model c.state_of.result c.in_ok-formula.ensures.stated c.requires.left c.requires.right c.args.window.now.mask.in_masks c.requires.mask c.requires.few v.0 c.state_of.ensures.items,
+      record { four = four; words = state_words c.state_of.result _ four c.state_of.ensures.items (c.in_ok-formula.ensures.models_tell (assigned c.in-Sat.model) v.0).0; flags = c.state_of.ensures.flags },
     )
 
 pub returns-in-Unsat-clause-answer : goal.returns-in-Unsat-clause-answer
