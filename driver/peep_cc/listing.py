@@ -38,7 +38,7 @@ LEFT_OUT = [
     (re.compile(r"\s*\.(arm|code\s+32)\b"), "Arm code"),
     (re.compile(r"\s*\.(byte|2byte|short|hword|half|8byte|quad|ascii|asciz|string|space|skip|zero|fill|float|double|single|inst|incbin|ltorg|pool|org)\b"), "data in code"),
     (re.compile(r"\s*\.(thumb_set|set|equ|equiv|macro|endm|rept|endr|irp|if|else|endif|include|altmacro)\b"), "a directive in code"),
-    (re.compile(r"\s(?:add|mov|ldr|adds|sub|cmp|bx|blx)\b[^@]*[\s,]pc\b"), "pc as an operand"),
+    (re.compile(r"\s(?:add|mov|ldr|adds|sub|cmp|bx|blx)\b[^@]*[\s,\[]pc\b"), "pc as an operand"),
     (re.compile(r"\s(mrs|msr)\s+(?![^@]*\b(?:primask|ipsr)\b)", re.IGNORECASE), "a special register"),
 ]
 

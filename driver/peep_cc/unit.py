@@ -92,7 +92,7 @@ class Unit:
                 self._assemble(lines, functions)
         finally:
             self._tell(lines, functions, told.replaced if told else 0)
-            facts.notes = told.notes if told else []
+            facts.notes += told.notes if told else []
 
     def _assemble(self, lines: list[str], functions: list[Function]) -> None:
         short, made = self.work / "short" / self.listing.name, self.work / "short.o"
@@ -105,6 +105,7 @@ class Unit:
             raise ProgramError("the assembler refuses the shorter listing: " + (str(error).strip().splitlines() or ["nothing said"])[-1]) from error
         size = text_size(made)
         if size >= self.facts.before:
+            self.facts.notes.append("the object doesn't get smaller by what was replaced: alignment")
             return
         put_in_place(made, self.compilation.target)
         self.facts.after = size
