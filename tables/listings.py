@@ -4,7 +4,8 @@
 Use: listings.py [--most N] [--jobs N] USE SOURCES OUT WORD..
 
 USE is `learn` or `measure`, SOURCES the folder where the packages of packages.txt lie unpacked, OUT that of the listings, OUT/PACKAGE/FILE.s. The words go to the
-compiler behind those of the package. Of a package at most N files are taken, evenly. What doesn't compile for this core, as what wants a system, is left out.
+compiler behind those of the package. Of a package at most N files are taken, evenly. What doesn't compile for this core, as what wants a system, is left out. A listing that is
+there stays, so that a second run goes on.
 PEEP_CC names another compiler than arm-none-eabi-gcc."""
 
 from __future__ import annotations
@@ -58,6 +59,8 @@ def compile_one(package: Package, sources: Path, path: Path, out: Path, words: l
     folder = package.folder(sources)
     name = str(path.relative_to(folder)).replace("/", "_")
     listing = out / package.name / (os.path.splitext(name)[0] + ".s")
+    if listing.exists():
+        return True
     compiler = shlex.split(os.environ.get("PEEP_CC", "arm-none-eabi-gcc"))
     ran = subprocess.run([*compiler, *package.words, "-w", *words, "-S", str(path), "-o", str(listing)], cwd=folder, capture_output=True)
     if ran.returncode and listing.exists():
