@@ -31,11 +31,15 @@ fetch() {
     "$here/prepare.sh" "$folder/sources"
 }
 
-# windows_of LISTING: the windows of what the driver would hand over of a listing.
+# windows_of FOLDER: the windows of what the driver would hand over of the listings of a folder.
 windows_of() {
-    local listing=$1 out
-    out=$folder/windows/$(echo "${listing#"$folder/"}" | tr / _)
-    [ -s "$out" ] || { nice -n 10 "$top/driver/peep-table" cut "$listing" "$out.cut" && nice -n 10 "$folder/harvest" windows "${settings[@]}" < "$out.cut" > "$out" 2> "$out.log"; }
+    local name listing
+    name=$(echo "${1#"$folder/"}" | tr / _)
+    mkdir -p "$folder/cut/$name"
+    [ -e "$folder/cut/$name/done" ] || { nice -n 10 "$top/driver/peep-table" cut "$folder/cut/$name" "$1"/*.s && touch "$folder/cut/$name/done"; }
+    for listing in "$folder/cut/$name"/*.s; do
+        nice -n 10 "$folder/harvest" windows "${settings[@]}" < "$listing" > "$folder/windows/$name-$(basename "$listing")" 2> "$folder/harvest.log"
+    done
 }
 
 # learnt NAME: a table of some windows.
@@ -46,7 +50,7 @@ built learner learner/plain.rs
 fetch
 "$here/listings.py" --most "$most" --jobs "$jobs" learn "$folder/sources" "$folder/Os" "${core[@]}" -Os -ffunction-sections -fdata-sections
 "$here/listings.py" --most "$most" --jobs "$jobs" learn "$folder/sources" "$folder/O2" "${core[@]}" -O2
-for listing in "$folder"/O[s2]/*/*.s; do windows_of "$listing"; done
+for package in "$folder"/O[s2]/*; do windows_of "$package"; done
 "$top/driver/peep-table" windows "$folder/seen.windows" "$folder"/windows/*.s
 learnt seen
 "$top/driver/peep-table" widen "$folder/seen.peep" "$folder/wide.windows"

@@ -107,7 +107,7 @@ class Rewriter:
     def _without_refused(self, functions: list[Function], given: Shown, refused: RefusedLine | None, listing: Path) -> Shown:
         """Leaves out each function that has a refused line, tried by a table without entries, which takes no audit."""
         bare = self.work / "bare.peep"
-        bare.write_text(bare_text(Path(self.tables[0])) if self.tables else "")
+        bare.write_text(bare_text(Path(self.tables[0])))
         while refused is not None:
             owner = given.owner(refused.line)
             if owner is None:

@@ -36,7 +36,7 @@ def why_plain(settings: Settings) -> str | None:
         return "no program peep: PEEP names it, or ./peep builds it"
     if not os.access(settings.program, os.X_OK) and shutil.which(settings.program) is None:
         return f"no program {settings.program}"
-    if not settings.tables and not settings.learns:
+    if not settings.tables:
         return "no table"
     missing = [table for table in settings.tables if not os.access(table, os.R_OK)]
     return f"no table {missing[0]}" if missing else None
@@ -55,9 +55,8 @@ class Unit:
     def compile(self) -> str:
         """Writes the listing and what goes with it, and the object as the compiler has it. Returns what the compiler says."""
         words = self.compilation.listing_words(self.listing)
-        is_clang = "clang" in os.path.basename(self.settings.compiler[0])
-        if not is_clang and not any(word.startswith("-g") for word in words):
-            # tells in comments which line of the source each instruction comes from
+        if not any(word.startswith("-g") for word in words):
+            # gcc then tells in comments which line of the source each instruction comes from
             words.append("-fverbose-asm")
         said = self._compiler(words)
         said += self._compiler(self.compilation.assembler_words(self.listing, self.compilation.target))
@@ -100,13 +99,15 @@ class Unit:
         text = "".join(spliced(lines, functions))
         short.write_text(text, encoding="utf-8", errors="surrogateescape")
         try:
-            self._compiler(self.compilation.assembler_words(short, made))
+            self._compiler(self.compilation.assembler_words(short, made, tells=False))
         except PlainError as error:
             raise ProgramError("the assembler refuses the shorter listing: " + (str(error).strip().splitlines() or ["nothing said"])[-1]) from error
         size = text_size(made)
         if size >= self.facts.before:
             self.facts.notes.append("the object doesn't get smaller by what was replaced: alignment")
             return
+        if self.compilation.asks_assembler_to_tell():
+            self._compiler(self.compilation.assembler_words(short, made))
         put_in_place(made, self.compilation.target)
         self.facts.after = size
         if self.settings.keeps_listings:

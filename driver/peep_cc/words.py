@@ -40,10 +40,15 @@ class Compilation:
                 words += ["-MQ", self.target]
         return words
 
-    def assembler_words(self, listing: Path, target: Path | str) -> list[str]:
-        """The words that assemble a listing."""
-        kept = [word for group in grouped(self.words) if group[0].startswith(TO_ASSEMBLER) for word in group]
-        return [*kept, "-c", str(listing), "-o", str(target)]
+    def assembler_words(self, listing: Path, target: Path | str, tells: bool = True) -> list[str]:
+        """The words that assemble a listing. Where it isn't to tell of it, those that ask for the assembler's own listing are left out."""
+        kept = [word for group in grouped(self.words) if group[0].startswith(TO_ASSEMBLER) and (tells or not group[0].startswith("-Wa,-a")) for word in group]
+        # clang tells of words that it has no use for here
+        return [*kept, "-Wno-unused-command-line-argument", "-c", str(listing), "-o", str(target)]
+
+    def asks_assembler_to_tell(self) -> bool:
+        """Whether the assembler is to write a listing of its own."""
+        return any(word.startswith("-Wa,-a") for word in self.words)
 
 
 def grouped(words: tuple[str, ...] | list[str]) -> list[tuple[str, ...]]:

@@ -2,6 +2,7 @@
 
 import errno
 import os
+import re
 import tempfile
 import unittest
 from pathlib import Path
@@ -190,6 +191,12 @@ class Driver(unittest.TestCase):
         self.compiled(DRIVER / "peep-cc", "out/b.o", "-MMD", "-fstack-usage", "-g")
         self.assertEqual((self.folder / "out" / "b.d").read_text().split()[:2], ["out/b.o:", "a.c"])
         self.assertIn("twice", (self.folder / "out" / "b.su").read_text())
+
+    def test_listing_of_the_assembler_is_that_of_the_object(self) -> None:
+        for peep, there in ((STANDS_IN, 0), ("#!/bin/sh\necho 'replaced 0'\n", 1)):
+            self.peep = self.script(peep)
+            self.compiled(DRIVER / "peep-cc", "a.o", "-Wa,-alms=a.lst")
+            self.assertEqual(len(re.findall(r"\tnop", (self.folder / "a.lst").read_text())), there)
 
     def test_debug_information_of_a_plain_object_is_the_compilers(self) -> None:
         self.peep = self.script("#!/bin/sh\necho 'replaced 0'\n")
