@@ -14,7 +14,7 @@ import tempfile
 from pathlib import Path
 
 TOP = Path(__file__).resolve().parent.parent
-PROGRAMS = ("./peep", "examples/", "arm-none-eabi-", "qemu-system-arm", "cadical", "python3", "cat ", "diff ", "(sleep ", "rt ")
+PROGRAMS = ("./peep", "examples/", "driver/", "arm-none-eabi-", "qemu-system-arm", "cadical", "python3", "cat ", "diff ", "(sleep ", "rt ")
 TOOLS = re.compile(r"(?<![\w/.])(arm-none-eabi-\w+|qemu-system-arm|cadical|rt)(?= )")
 SECONDS = 600
 

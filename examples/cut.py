@@ -1,32 +1,16 @@
 #!/usr/bin/env python3
-"""Cuts a compiler's file to its code, and tells how many lines of which other sections it took out.
+"""Cuts a compiler's file to its code, and tells how many lines of which other sections it took out: the cutter of the driver.
 
 Use: cut.py IN.s CODE.s [REST.s]
 
 CODE.s gets the lines of the sections .text and .text.NAME and those before any section, REST.s all others. `cat CODE.s REST.s` is the whole file again for an
 assembler: labels of the rest are external names for the code, and labels of the code stay where they are."""
-import re
 import sys
-from collections import Counter
 from pathlib import Path
 
-SECTION = re.compile(r"\s*\.(?:(text|data|bss)\s*$|section\s+([^\s,]+))")
+sys.path.insert(0, str(Path(__file__).resolve().parents[1] / "driver"))
 
-
-def cut(text):
-    """The lines of code, the lines of the rest, and how many lines of each other section there are."""
-    code, rest, counts = [], [], Counter()
-    section = ".text"
-    for line in text.splitlines(keepends=True):
-        found = SECTION.match(line)
-        if found:
-            section = f".{found[1]}" if found[1] else found[2]
-        if section == ".text" or section.startswith(".text."):
-            code.append(line)
-        else:
-            rest.append(line)
-            counts[section] += 1
-    return code, rest, counts
+from peep_cc.listing import cut  # noqa: E402
 
 
 def main(given, code_name, rest_name=None):

@@ -1,5 +1,6 @@
 //! Reads a listing from standard input in plain Rust, and finds its live items and its windows by the rules of the proved crates.
-//! Tells on standard error what the proved program tells. With a word it prints the windows as a table of entries without right sides.
+//! Tells on standard error what the proved program tells. With a word it prints the windows as a table of entries without right sides; by the default
+//! settings, or by those behind the word: registers, instructions, budget, and the pool's numbers joined by commas.
 
 #[path = "../listing_lines/plain/instruction.rs"]
 mod instruction;
@@ -71,8 +72,24 @@ fn windows(listing: &Listing, flows: &Flows, regs: usize, left: usize, pool: &[u
     pairs
 }
 
-fn print_windows(pairs: &[(usize, Window)]) {
-    println!("peep 1\nregs 3\nleft 3\nseed 42\nbudget 20000\npool 0 1 2 4 8 16 24 31 255");
+struct Settings {
+    regs: usize,
+    left: usize,
+    budget: usize,
+    pool: Vec<u8>,
+}
+
+/// The settings of words, each that isn't there as it is without options.
+fn settings(words: &[String]) -> Settings {
+    let number = |at: usize, usual| words.get(at).map_or(usual, |word| word.parse().unwrap());
+    let pool = words.get(3).map_or("0,1,2,4,8,16,24,31,255", |word| word);
+    Settings { regs: number(0, 3), left: number(1, 3), budget: number(2, 20_000), pool: pool.split(',').map(|n| n.parse().unwrap()).collect() }
+}
+
+fn print_windows(pairs: &[(usize, Window)], settings: &Settings) {
+    let Settings { regs, left, budget, pool } = settings;
+    let numbers: String = pool.iter().map(|number| format!(" {number}")).collect();
+    println!("peep 1\nregs {regs}\nleft {left}\nseed 42\nbudget {budget}\npool{numbers}");
     for (_, (letters, mask)) in pairs {
         println!("entry");
         for letter in letters.iter().flatten() {
@@ -99,14 +116,16 @@ fn main() -> io::Result<()> {
     let visits = black_box(flows.find());
     let finding = start.elapsed().as_micros();
     let start = Instant::now();
-    let pairs = black_box(windows(&listing, &flows, 3, 3, &[0, 1, 2, 4, 8, 16, 24, 31, 255]));
+    let words: Vec<String> = std::env::args().skip(2).collect();
+    let settings = settings(&words);
+    let pairs = black_box(windows(&listing, &flows, settings.regs, settings.left, &settings.pool));
     let harvesting = start.elapsed().as_micros();
     let digest = flows.after.iter().fold(0u64, |sum, bits| sum.wrapping_mul(31).wrapping_add(u64::from(*bits)));
     let windows_digest = pairs.iter().fold(0u64, |sum, (count, (_, mask))| {
         sum.wrapping_mul(31).wrapping_add(u64::from(*mask)).wrapping_add(*count as u64)
     });
     if std::env::args().len() > 1 {
-        print_windows(&pairs);
+        print_windows(&pairs, &settings);
     }
     eprintln!("{finding} {harvesting} {} {} {digest} {} {windows_digest}", listing.spots.len(), visits, pairs.len());
     Ok(())

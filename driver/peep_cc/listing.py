@@ -1,0 +1,249 @@
+"""What a compiler's listing is made of: its sections, and the functions that `peep` can be shown.
+
+A function is taken whole, from its label to its `.size`. It is left out where its own lines don't say all that its run does (data or jump tables in code, a label
+that something outside reaches), or where `peep` would refuse a line anyway.
+"""
+
+from __future__ import annotations
+
+import re
+from collections import Counter
+from collections.abc import Iterator
+from dataclasses import dataclass, field
+
+LONGEST_LINE = 1024
+
+NAME = r"[A-Za-z_.$][\w.$]*"
+LABEL = re.compile(rf"\s*({NAME}):\s*(?:@.*)?$")
+TYPE = re.compile(rf"\s*\.type\s+({NAME})\s*,\s*[%#@]function\b")
+SIZE = re.compile(rf"\s*\.size\s+({NAME})\s*,")
+SECTION = re.compile(r"\s*\.(?:(text|data|bss)\b|(?:section|pushsection)\s+([^\s,]+)\s*(?:,\s*\"([^\"]*)\")?|(popsection|previous|subsection)\b)")
+MENTION = re.compile(r"\.L[\w.$]+")
+PLACE = re.compile(r"\s*\.loc\s+(\d+)\s+(\d+)")
+FILE = re.compile(r'\s*\.file\s+(\d+)\s+(?:"([^"]*)"\s+)?"([^"]*)"')
+SOURCE_LINE = re.compile(r"@ (\S.*):(\d+): ")
+CORE = re.compile(r"\s*\.(?:cpu\s+cortex-m(?:0|0plus|1)(?:\.small-multiply)?|arch\s+armv6s?-m)\s*(?:@.*)?$")
+OTHER_CORE = re.compile(r"\s*\.(?:cpu|arch)\s")
+# tells the unwinder of C++ what a prologue did, and nothing of what runs
+UNWINDING = re.compile(r"\s*\.(fnstart|fnend|cantunwind|save|pad|setfp|movsp|personality\w*|handlerdata)\b")
+TRAP = re.compile(r"\s*\.inst(?:\.n)?\s+0xde(?:ff|fe)\s*(?:@.*)?$")
+LONG = re.compile(r"(\s*)\.(?:long|4byte)(\s+\S.*)$")
+REGISTERS = {*(f"r{number}" for number in range(13)), "sp", "lr", "pc", "ip", "fp", "sl", "sb"}
+
+# lines by which a function is left out, each with what is said of it
+LEFT_OUT = [
+    (re.compile(r"__gnu_thumb1_case_|__ARM_common_switch|__switch\d+\b"), "a jump table"),
+    (re.compile(r"\sblx?\s+_?_call_via_"), "a call with a convention of its own"),
+    (re.compile(r"\s*\.syntax\s+divided\b"), "inline assembly in the old syntax"),
+    (re.compile(r"\s*\.(arm|code\s+32)\b"), "Arm code"),
+    (re.compile(r"\s*\.(byte|2byte|short|hword|half|8byte|quad|ascii|asciz|string|space|skip|zero|fill|float|double|single|inst|incbin|ltorg|pool|org)\b"), "data in code"),
+    (re.compile(r"\s*\.(thumb_set|set|equ|equiv|macro|endm|rept|endr|irp|if|else|endif|include|altmacro)\b"), "a directive in code"),
+    (re.compile(r"\s(?:add|mov|ldr|adds|sub|cmp|bx|blx)\b[^@]*[\s,\[]pc\b"), "pc as an operand"),
+    (re.compile(r"\s(mrs|msr)\s+(?![^@]*\b(?:primask|ipsr)\b)", re.IGNORECASE), "a special register"),
+]
+
+
+def cut(text: str) -> tuple[list[str], list[str], Counter[str]]:
+    """The lines of code (those of the sections .text and .text.NAME, and those before any section), the other lines, and how many of these each section has."""
+    code, rest, counts = [], [], Counter()
+    section = ".text"
+    for line in text.splitlines(keepends=True):
+        found = SECTION.match(line)
+        if found and not found[4]:
+            section = f".{found[1]}" if found[1] else found[2]
+        if section == ".text" or section.startswith(".text."):
+            code.append(line)
+        else:
+            rest.append(line)
+            counts[section] += 1
+    return code, rest, counts
+
+
+@dataclass
+class Function:
+    """A function of a listing: its lines are those from its label to its `.size`."""
+
+    name: str
+    first: int
+    """The number of its first line in the listing, from 0."""
+    lines: list[str]
+    why: str | None = None
+    """Why it is left as it is."""
+    at: int | None = None
+    """The line of its own, from 0, by which it is left as it is."""
+    new: list[str] | None = field(default=None, repr=False)
+    """Its lines as `peep` leaves them."""
+
+    def leave(self, why: str, at: int | None = None) -> None:
+        """Leaves it as it is, for the first reason that is found."""
+        if self.why is None:
+            self.why, self.at = why, at
+
+    def instructions(self) -> int:
+        """How many instructions it has."""
+        return sum(is_instruction(line) for line in self.lines)
+
+    def labels(self) -> set[str]:
+        """The labels that it defines."""
+        return {found[1] for line in self.lines if (found := LABEL.match(line))}
+
+
+def is_instruction(line: str) -> bool:
+    """Whether a line is an instruction with no label before it."""
+    return re.match(r"\s+[A-Za-z]", line) is not None
+
+
+def statement(line: str) -> str:
+    """A line's text without its comment, with single blanks."""
+    return " ".join(line.split("@")[0].split())
+
+
+@dataclass
+class _Section:
+    name: str = ".text"
+    is_code: bool = True
+
+
+def _section_of(found: re.Match[str], before: _Section, saved: list[_Section], line: str) -> _Section:
+    """The section after a line that changes it."""
+    if found[4]:
+        return saved.pop() if found[4] == "popsection" and saved else before if found[4] == "subsection" else _Section("?", False)
+    if ".pushsection" in line:
+        saved.append(before)
+    name = f".{found[1]}" if found[1] else found[2]
+    return _Section(name, name == ".text" or name.startswith(".text.") or "x" in (found[3] or ""))
+
+
+def functions_of(lines: list[str]) -> tuple[list[Function], Counter[str]]:
+    """The functions of a listing, and how often something outside of them, but debug information, mentions each local label."""
+    functions: list[Function] = []
+    outside: Counter[str] = Counter()
+    marked: set[str] = set()
+    section, saved = _Section(), []
+    is_unified = False
+    start: tuple[str, int] | None = None
+    for number, line in enumerate(lines):
+        if start is None:
+            if found := TYPE.match(line):
+                marked.add(found[1])
+            if (found := LABEL.match(line)) and found[1] in marked and section.is_code and is_unified:
+                start = (found[1], number)
+        elif (found := SIZE.match(line)) and found[1] == start[0]:
+            functions.append(Function(start[0], start[1], lines[start[1] : number + 1]))
+            start = None
+            continue
+        if re.match(r"\s*\.syntax\s", line):
+            is_unified = "unified" in line
+        if found := SECTION.match(line):
+            section = _section_of(found, section, saved, line)
+        if start is None and not section.name.startswith(".debug"):
+            outside.update([] if LABEL.match(line) else MENTION.findall(line.split("@")[0]))
+    return functions, outside
+
+
+def is_for_core(lines: list[str]) -> bool:
+    """Whether a listing is for Armv6-M, by its own `.cpu` and `.arch`."""
+    cores = [CORE.match(line) is not None for line in lines if OTHER_CORE.match(line)]
+    return bool(cores) and all(cores)
+
+
+def judge(functions: list[Function], outside: Counter[str]) -> None:
+    """Leaves out the functions that are known beforehand to be none for `peep`."""
+    local = {function.name for function in functions}
+    mentions = [_mentions(function) for function in functions]
+    everywhere = sum(mentions, Counter(outside))
+    for function, own in zip(functions, mentions):
+        _judge_labels(function, everywhere, own)
+        for number, line in enumerate(function.lines):
+            _judge_line(function, number, line)
+        if keeps_ip(function.lines, local):
+            function.leave("ip kept across a call of this file")
+
+
+def _mentions(function: Function) -> Counter[str]:
+    """How often a function's lines mention each local label, those that define it not counted."""
+    return Counter(label for line in function.lines if not LABEL.match(line) for label in MENTION.findall(line.split("@")[0]))
+
+
+def _judge_labels(function: Function, everywhere: Counter[str], mentions: Counter[str]) -> None:
+    own = function.labels()
+    if function.name.lower() in REGISTERS:
+        function.leave("a name that is a register's", 0)
+    for number, line in enumerate(function.lines):
+        if (found := LABEL.match(line)) and everywhere[found[1]] > mentions[found[1]]:
+            function.leave("a label that something outside mentions", number)
+        elif (found := re.match(rf"\s+b\w*\s+(\.L[\w.$]+)\s*(?:@.*)?$", line)) and found[1] not in own:
+            function.leave("a branch to a label outside", number)
+
+
+def _judge_line(function: Function, number: int, line: str) -> None:
+    if len(line.rstrip("\n").encode()) > LONGEST_LINE:
+        function.leave("a line of more than 1,024 bytes", number)
+    if SECTION.match(line):
+        function.leave("a change of section", number)
+    if not TRAP.match(line) and not line.lstrip().startswith("@"):
+        for pattern, why in LEFT_OUT:
+            if pattern.search(line.split("@")[0].rstrip("\n") + "\n"):
+                function.leave(why, number)
+
+
+def _ways_of_ip(code: str, after: bool, at: dict[str, bool], local: set[str]) -> tuple[bool, bool]:
+    """Whether ip is live before a statement, by whether it is after it and at labels; and whether a call that may keep it stands there with ip live after it."""
+    if found := re.match(r"mov\s+(\w+),\s*(\w+)$", code):
+        return found[2] in ("ip", "r12") or (after and found[1] not in ("ip", "r12")), False
+    if found := re.match(r"blx?\s+(\S+)$", code):
+        return found[1] in ("ip", "r12"), after and (found[1] in local or code.startswith("blx"))
+    if re.match(r"bx\s|pop\b.*\bpc\b", code):
+        return re.search(r"\b(ip|r12)\b", code) is not None, False
+    if found := re.match(r"b(\w*)\s+(\S+)$", code):
+        return (found[1] != "" and after) or at.get(found[2], False), False
+    return after or (re.match(r"[a-z]", code) is not None and re.search(r"\b(ip|r12)\b", code) is not None), False
+
+
+def keeps_ip(lines: list[str], local: set[str]) -> bool:
+    """Whether a call of a function of the same file may leave ip in which something is kept: gcc knows what such a function writes (-fipa-ra), while for `peep`
+    a call of a name that isn't shown to it changes ip."""
+    code = [statement(line) for line in lines]
+    if not any(re.search(r"\b(ip|r12)\b", text) for text in code):
+        return False
+    labels = {index: found[1] for index, line in enumerate(lines) if (found := LABEL.match(line))}
+    at: dict[str, bool] = {}
+    while True:
+        before = dict(at)
+        live = False
+        for index in range(len(code) - 1, -1, -1):
+            if index in labels:
+                at[labels[index]] = at.get(labels[index], False) or live
+                continue
+            live, is_kept = _ways_of_ip(code[index], live, at, local)
+            if is_kept:
+                return True
+        if at == before:
+            return False
+
+
+@dataclass(frozen=True)
+class Origin:
+    """A file of the source and a line of it."""
+
+    file: str
+    line: int
+
+    def __str__(self) -> str:
+        return f"{self.file}:{self.line}"
+
+
+def files_of(lines: list[str]) -> dict[str, str]:
+    """The files that a listing numbers."""
+    return {found[1]: found[3] if found[3].startswith("/") or not found[2] else f"{found[2]}/{found[3]}" for line in lines if (found := FILE.match(line))}
+
+
+def origins(function: Function, files: dict[str, str]) -> Iterator[Origin | None]:
+    """Where each of a function's lines comes from, as far as the compiler tells."""
+    origin: Origin | None = None
+    for line in function.lines:
+        if found := PLACE.match(line):
+            origin = Origin(files.get(found[1], "?"), int(found[2]))
+        elif found := SOURCE_LINE.match(line.strip()):
+            origin = Origin(found[1], int(found[2]))
+        yield origin

@@ -1,0 +1,180 @@
+"""Rewrites the functions of a unit: by the shipped tables, and by tables learnt from the unit itself, in turn until none replaces anything."""
+
+from __future__ import annotations
+
+import re
+from collections import Counter
+from collections.abc import Callable, Iterable
+from dataclasses import dataclass, field
+from pathlib import Path
+
+from .listing import LABEL, Function, statement
+from .program import KINDS, Program, ProgramError, Refused, RefusedLine
+from .splice import Shown, parts, shown, take_back
+from .tables import filtered, read_table, write_table
+
+# what a table is learnt from the unit itself with, one after the other: a budget of 1,000 finds nearly all that one of 20,000 does, in a fraction of the time
+LEARNING = [
+    "--regs 4 --left 3 --budget 1000 --pool own",
+    "--regs 4 --left 3 --budget 1000 --pool derived",
+    "--regs 2 --left 4 --budget 1000 --pool 0,1,255",
+    "--regs 1 --left 4 --budget 1000",
+]
+POOL_SIZE = 16
+DERIVED = 6
+USUAL = [255, 16, 24, 31, 2, 4, 8, 3]
+IN_WINDOWS = re.compile(
+    r"(adds|subs|movs|cmp|lsls|lsrs|asrs|ands|eors|adcs|sbcs|rors|tst|rsbs|negs|cmn|orrs|muls|bics|mvns|mov|add|[su]xt[bh]|rev|rev16|revsh) ((?:r[0-7](?:, )?)+)(?:#(\w+))?$"
+)
+
+
+@dataclass
+class Told:
+    """What came of rewriting the functions of a unit."""
+
+    replaced: int = 0
+    runs: int = 0
+    notes: list[str] = field(default_factory=list)
+
+
+def runs_of_numbers(lines: Iterable[str]) -> list[list[int | None]]:
+    """The numbers of the instructions that stand side by side in windows, nothing where one has none."""
+    runs: list[list[int | None]] = [[]]
+    for line in lines:
+        text = statement(line)
+        if LABEL.match(line) or (text and not text.startswith(".") and not IN_WINDOWS.match(text)):
+            runs.append([])
+        elif found := IN_WINDOWS.match(text):
+            runs[-1].append(int(found[3], 0) if found[3] and re.fullmatch(r"\d+|0x[0-9a-f]+", found[3]) else None)
+    return [run for run in runs if len(run) > 1]
+
+
+def pool(lines: Iterable[str], derived: bool) -> str:
+    """Numbers for `--pool`: those that windows have most often, and where `derived`, in the place of the last ones, sums and differences of neighbours, and 32 less
+    either."""
+    runs = runs_of_numbers(lines)
+    own: Counter[int] = Counter(number for run in runs for number in run if number is not None and number < 256)
+    made: Counter[int] = Counter()
+    for run in runs:
+        for at, one in enumerate(run):
+            for other in run[at + 1 : at + 3]:
+                if one is not None and other is not None:
+                    made.update(number for number in (one + other, one - other, other - one, 32 - one, 32 - other) if 0 <= number < 256)
+    order = [0, 1, *(number for number, _ in sorted(own.items(), key=lambda item: (-item[1], item[0])) if number > 1)]
+    order += [number for number in USUAL if number not in order]
+    if derived:
+        order = order[: POOL_SIZE - DERIVED]
+        order += [number for number, _ in sorted(made.items(), key=lambda item: (-item[1], item[0])) if number not in order]
+    return ",".join(map(str, sorted(order[:POOL_SIZE])))
+
+
+class Rewriter:
+    """Rewrites functions in a folder for its files, by a program, tables, and options of `learn`."""
+
+    def __init__(self, program: Program, tables: list[str], learning: list[str], work: Path):
+        self.program = program
+        self.tables = tables
+        self.learning = learning
+        self.work = work
+        self.told = Told()
+
+    def rewrite(self, functions: list[Function]) -> Told:
+        """Rewrites the functions that aren't left out, and leaves out those in which `peep` refuses a line."""
+        for part in parts(functions):
+            self._rewrite_part(part)
+        return self.told
+
+    def _rewrite_part(self, functions: list[Function]) -> None:
+        listing = self.work / "shown.s"
+        try:
+            given = self._write(functions, listing)
+            replaced = self._steps(listing)
+        except RefusedLine as refused:
+            given = self._without_refused(functions, given, refused, listing)
+            replaced = self._steps(listing) if given.functions else 0
+        if replaced:
+            take_back(given, listing.read_text())
+        else:
+            for function in given.functions:
+                function.new = function.lines
+        self.told.replaced += replaced
+
+    def _write(self, functions: list[Function], listing: Path) -> Shown:
+        given = shown([function for function in functions if function.why is None])
+        listing.write_text(given.text())
+        return given
+
+    def _without_refused(self, functions: list[Function], given: Shown, refused: RefusedLine | None, listing: Path) -> Shown:
+        """Leaves out each function that has a refused line, tried by a table without entries, which takes no audit."""
+        bare = self.work / "bare.peep"
+        bare.write_text(bare_text(Path(self.tables[0])))
+        while refused is not None:
+            owner = given.owner(refused.line)
+            if owner is None:
+                raise refused
+            owner[0].leave(f"peep: {KINDS.get(refused.kind, 'refused')}", owner[1])
+            given = self._write(functions, listing)
+            if not given.functions:
+                break
+            refused = self._refused(bare, listing)
+        return given
+
+    def _refused(self, table: Path, listing: Path) -> RefusedLine | None:
+        self.told.runs += 1
+        try:
+            self.program.rewrite(table, listing, self.work / "tried.s")
+        except RefusedLine as refused:
+            return refused
+        return None
+
+    def _steps(self, listing: Path) -> int:
+        """Takes the tables in turn until as many steps as there are have replaced nothing."""
+        steps: list[Callable[[Path], int]] = [self._by_table(table) for table in self.tables]
+        steps += [self._by_learning(options) for options in self.learning]
+        replaced, quiet, turn = 0, 0, 0
+        while steps and quiet < len(steps):
+            now = steps[turn % len(steps)](listing)
+            turn += 1
+            # what a step has rewritten, it leaves as it is
+            quiet = quiet + 1 if now == 0 else 1
+            replaced += now
+        return replaced
+
+    def _by_table(self, table: str | Path) -> Callable[[Path], int]:
+        def step(listing: Path) -> int:
+            self.told.runs += 1
+            return self.program.rewrite(table, listing, listing)
+
+        return step
+
+    def _by_learning(self, options: str) -> Callable[[Path], int]:
+        def step(listing: Path) -> int:
+            lines = listing.read_text().splitlines()
+            words = [pool(lines, word == "derived") if word in ("own", "derived") else word for word in options.split()]
+            learnt = self.work / "learnt.peep"
+            self.told.runs += 1
+            try:
+                self.program.learn(listing, learnt, words)
+            except RefusedLine:
+                raise
+            except (Refused, ProgramError) as error:
+                self.told.notes.append(str(error))
+                return 0
+            table = filtered(read_table(learnt.read_text()))
+            if not table.entries:
+                return 0
+            write_table(learnt, table)
+            return self._by_table(learnt)(listing)
+
+        return step
+
+
+def bare_text(table: Path) -> str:
+    """A table's header and states, with no entry."""
+    lines = []
+    with table.open() as text:
+        for line in text:
+            if line.startswith(("entry", "end")):
+                break
+            lines.append(line)
+    return "".join(lines) + "end\n"

@@ -1,0 +1,197 @@
+"""One object: compiled, rewritten, assembled, and kept as the compiler wrote it unless it got smaller."""
+
+from __future__ import annotations
+
+import difflib
+import os
+import shutil
+import subprocess
+import sys
+import tempfile
+import time
+from pathlib import Path
+
+from .elf import text_size
+from .listing import Function, Origin, files_of, functions_of, is_for_core, is_instruction, judge, origins, statement
+from .program import Program, ProgramError
+from .recipe import LEARNING, Rewriter
+from .report import Facts, Left, Replacement, write_facts
+from .settings import Settings
+from .splice import SpliceError, spliced
+from .words import Compilation
+
+# what a compiler writes beside its listing, that belongs beside the object
+SIDE_FILES = (".su", ".ci", ".opt.yaml")
+
+
+class PlainError(Exception):
+    """The listing couldn't be made or assembled: the compiler has to be asked as the build asked it."""
+
+
+def why_plain(settings: Settings) -> str | None:
+    """Why nothing can be rewritten with the settings, if it can't."""
+    if settings.wrong:
+        return settings.wrong
+    if not settings.program:
+        return "no program peep: PEEP names it, or ./peep builds it"
+    if not os.access(settings.program, os.X_OK) and shutil.which(settings.program) is None:
+        return f"no program {settings.program}"
+    if not settings.tables:
+        return "no table"
+    missing = [table for table in settings.tables if not os.access(table, os.R_OK)]
+    return f"no table {missing[0]}" if missing else None
+
+
+class Unit:
+    """One object that is being made in a folder for its files."""
+
+    def __init__(self, compilation: Compilation, settings: Settings, work: Path):
+        self.compilation = compilation
+        self.settings = settings
+        self.listing = work / (os.path.splitext(os.path.basename(compilation.target))[0] + ".s")
+        self.work = work
+        self.facts = Facts(os.path.abspath(compilation.target), compilation.source)
+
+    def compile(self) -> str:
+        """Writes the listing and what goes with it, and the object as the compiler has it. Returns what the compiler says."""
+        words = self.compilation.listing_words(self.listing)
+        if not any(word.startswith("-g") for word in words):
+            # gcc then tells in comments which line of the source each instruction comes from
+            words.append("-fverbose-asm")
+        said = self._compiler(words)
+        said += self._compiler(self.compilation.assembler_words(self.listing, self.compilation.target))
+        folder = os.path.dirname(self.compilation.target)
+        for path in self.work.iterdir():
+            if path.name.endswith(SIDE_FILES):
+                shutil.move(str(path), os.path.join(folder, path.name))
+        return said
+
+    def _compiler(self, words: list[str]) -> str:
+        ran = subprocess.run([*self.settings.compiler, *words], stderr=subprocess.PIPE, text=True, errors="replace")
+        if ran.returncode:
+            raise PlainError(ran.stderr)
+        return ran.stderr
+
+    def shorten(self) -> None:
+        """Rewrites the listing, and keeps the object that comes of it where it is smaller."""
+        facts = self.facts
+        facts.before = facts.after = text_size(self.compilation.target)
+        lines = self.listing.read_text(encoding="utf-8", errors="surrogateescape").splitlines(keepends=True)
+        if not is_for_core(lines):
+            facts.error = "not for Armv6-M"
+            return
+        functions, outside = functions_of(lines)
+        judge(functions, outside)
+        told = None
+        try:
+            program = Program(str(self.settings.program), self.settings.seconds)
+            rewriter = Rewriter(program, self.settings.tables, LEARNING if self.settings.learns else [], self.work)
+            told = rewriter.rewrite(functions)
+            if told.replaced:
+                self._assemble(lines, functions)
+        finally:
+            self._tell(lines, functions, told.replaced if told else 0)
+            facts.notes += told.notes if told else []
+
+    def _assemble(self, lines: list[str], functions: list[Function]) -> None:
+        short, made = self.work / "short" / self.listing.name, self.work / "short.o"
+        short.parent.mkdir()
+        text = "".join(spliced(lines, functions))
+        short.write_text(text, encoding="utf-8", errors="surrogateescape")
+        try:
+            self._compiler(self.compilation.assembler_words(short, made, tells=False))
+        except PlainError as error:
+            raise ProgramError("the assembler refuses the shorter listing: " + (str(error).strip().splitlines() or ["nothing said"])[-1]) from error
+        size = text_size(made)
+        if size >= self.facts.before:
+            self.facts.notes.append("the object doesn't get smaller by what was replaced: alignment")
+            return
+        if self.compilation.asks_assembler_to_tell():
+            self._compiler(self.compilation.assembler_words(short, made))
+        put_in_place(made, self.compilation.target)
+        self.facts.after = size
+        if self.settings.keeps_listings:
+            Path(self.compilation.target + ".peep.s").write_text(text, encoding="utf-8", errors="surrogateescape")
+
+    def _tell(self, lines: list[str], functions: list[Function], replaced: int) -> None:
+        facts, files = self.facts, files_of(lines)
+        facts.functions = len(functions)
+        facts.instructions = sum(function.instructions() for function in functions)
+        facts.handed = sum(function.new is not None for function in functions)
+        facts.handed_instructions = sum(function.instructions() for function in functions if function.new is not None)
+        facts.replaced = replaced
+        for function in functions:
+            froms = list(origins(function, files))
+            if function.why is not None:
+                at = function.at or 0
+                facts.left.append(Left(function.name, self._where(froms[at], function, at), statement(function.lines[at]), function.why))
+            elif function.new is not None and function.new != function.lines:
+                facts.replacements += self._replacements(function, froms)
+
+    def _where(self, origin: Origin | None, function: Function, at: int) -> str:
+        """A line of the source, or where the compiler tells none the line of its listing."""
+        return str(origin) if origin else f"{self.compilation.source}: line {function.first + at + 1} of the listing"
+
+    def _replacements(self, function: Function, froms: list[Origin | None]) -> list[Replacement]:
+        assert function.new is not None
+        found = []
+        for kind, first, end, new_first, new_end in difflib.SequenceMatcher(None, function.lines, function.new, autojunk=False).get_opcodes():
+            old = [statement(line) for line in function.lines[first:end] if is_instruction(line)]
+            new = [statement(line) for line in function.new[new_first:new_end] if is_instruction(line)]
+            if kind != "equal" and (old or new):
+                found.append(Replacement(function.name, self._where(froms[min(first, len(froms) - 1)], function, first), old, new))
+        return found
+
+
+def put_in_place(made: Path, target: str) -> None:
+    """Puts a file in the place of another, at once, so that the other stands where the disk is full."""
+    place = os.path.realpath(target)
+    beside = f"{place}.peep-{os.getpid()}"
+    try:
+        shutil.copyfile(made, beside)
+        shutil.copymode(place, beside)
+        os.replace(beside, place)
+    finally:
+        if os.path.exists(beside):
+            os.remove(beside)
+
+
+def plain(settings: Settings, words: list[str]) -> int:
+    """Asks the compiler as the build asked, in our place."""
+    sys.stderr.flush()
+    try:
+        os.execvp(settings.compiler[0], [*settings.compiler, *words])
+    except OSError as error:
+        print(f"peep-cc: {settings.compiler[0]}: {error.strerror}", file=sys.stderr)
+        return 127
+
+
+def make(compilation: Compilation, settings: Settings, words: list[str]) -> int:
+    """Makes an object, and returns the status that the build gets."""
+    start = time.monotonic()
+    facts = Facts(os.path.abspath(compilation.target), compilation.source)
+    facts.error = why_plain(settings)
+    if facts.error:
+        write_facts(settings.log, facts)
+        return plain(settings, words)
+    try:
+        with tempfile.TemporaryDirectory(prefix="peep-cc-", ignore_cleanup_errors=True) as name:
+            unit = Unit(compilation, settings, Path(name))
+            facts = unit.facts
+            said = unit.compile()
+            sys.stderr.write(said)
+            try:
+                unit.shorten()
+            except (ProgramError, SpliceError, OSError, ValueError) as error:
+                # the plain object stands
+                facts.error = str(error)
+    except PlainError:
+        return plain(settings, words)
+    except OSError as error:
+        if not facts.before:
+            facts.error = str(error)
+            write_facts(settings.log, facts)
+            return plain(settings, words)
+    facts.seconds = round(time.monotonic() - start, 3)
+    write_facts(settings.log, facts)
+    return 0
