@@ -1,8 +1,7 @@
 #!/usr/bin/env python3
 """Writes a table and behind it a listing of some hostile shape, of about N lines. Use: bench/growth.py SHAPE N > input
 
-Without arguments: the shapes, each with a number that may also be doubled twice, and how it is run: `rewrite`, or `live` where there is the listing alone.
-Each shape is one that took time growing with the square of the lines or faster in some rewriter, or that could."""
+With `--table` the table alone, and with `--listing` the listing. Without arguments: the shapes, each with a number that may also be doubled twice. Each shape is one that took time growing with the square of the lines or faster in some rewriter, or that could."""
 import os
 import sys
 
@@ -79,11 +78,11 @@ def blx(n):
 
 
 def loop_of_calls(n):
-    """A loop by `bl` with windows in it, whose register is read at its head alone."""
+    """A loop by `bl` with windows in it and calls that go straight on, whose register is read at its head alone."""
     yield "a: adds r6, #1"
     for i in range(n // 4):
         yield from ("mov r6, r6", "adds r0, #1", f"bl b{i}", f"b{i}: adds r1, #1")
-    yield "b a"
+    yield "bl a"
 
 
 def read_far_back(n):
@@ -141,9 +140,10 @@ def collapse_first(n):
 
 
 def collapse_last(n):
-    """Numbers put into one register, one after the other, that collapse only once those behind have."""
-    yield from ["movs r0, r0"] * (n - 3)
-    yield from ("adds r1, r0, r0", "str r1, [r0]", "bx lr")
+    """Moves to and fro whose values nothing reads, so that the last one is always the next window."""
+    for i in range(n // 2):
+        yield from ("mov r2, r1", "mov r1, r2")
+    yield "z: b z"
 
 
 def ends(n):
@@ -155,19 +155,18 @@ def ends(n):
 
 
 def alternating(n):
-    """Windows in two halves, one from the front and one from the back, where each can be replaced once the other's has been: what it reads is read no more."""
-    count = n // 8
-    for i in range(count):
-        # `movs` sets flags that are live by the branch up to where the other half reads no flag any more
-        yield from (f"a{i}: eors r0, r1", "eors r0, r1", f"b c{i}", f"d{i}: bx lr")
-    for i in range(count - 1, -1, -1):
-        yield from (f"c{i}: adcs r2, r3", "movs r2, r2", "cmp r2, #0", f"b d{i}")
+    """Moves whose values nothing but the next one reads, by turns at both ends of the listing: each replacement lets go one at the other end."""
+    count = n // 4
+    for half in (range(0, 2 * count, 2), range(2 * count - 1, 0, -2)):
+        for i in half:
+            yield from (f"g{i}: mov r{1 + i % 2}, r{2 - i % 2}", f"bl g{i + 1}")
+    yield f"g{2 * count}: b g{2 * count}"
 
 
 def return_points(n):
-    """`adcs` windows at return points, where the carry is live by every return."""
-    for _ in range(n // 4):
-        yield from ("blx r4", "adcs r2, r3", "movs r2, r2", "adds r3, #1")
+    """`adcs` windows at return points, where the carry is live at each return by the others alone."""
+    for _ in range(n // 5):
+        yield from ("blx r4", "adcs r2, r3", "movs r2, r2", "movs r3, #0", "cmp r2, #1")
     yield "bx lr"
 
 
@@ -175,7 +174,7 @@ def labels(n):
     """2,000 labels on one place behind windows, and a branch to each."""
     count = min(2000, n // 4)
     for i in range(count):
-        yield f"b a{i}"
+        yield f"bl a{i}"
     for _ in range((n - 2 * count) // 2):
         yield from ("mov r1, r1", "adds r1, #1")
     for i in range(count):
@@ -230,11 +229,9 @@ def refused_behind(n):
 
 
 def set_address(n):
-    """Calls of an address that is set at the end of its reach, and windows between them."""
-    yield f".set f, {16_777_218 + 4 * (n // 4)}"
-    yield from ["adds r0, #1"] * 2
-    yield from (line for _ in range(n // 3) for line in ("bl f", "mov r2, r2", "adds r2, #1"))
-    yield "bx lr"
+    """Calls of an address that is set at the end of the first one's reach, behind a window that is refused for it, and windows between them."""
+    yield f".set f, {16_777_216 + 4}"
+    yield from ("mov r1, r1", *(line for _ in range(n // 3) for line in ("bl f", "mov r2, r2", "adds r2, #1")), "bx lr")
 
 
 # ---- entries ----
@@ -253,7 +250,11 @@ def forbidden_entries(n):
     yield "bx lr"
 
 
+DEAD = "entry\nleft mov r0, r1\nmask r1 n z c v\nproof\n"
+
 TABLES = {
+    collapse_last: lambda n: table(DEAD),
+    alternating: lambda n: table(DEAD),
     equal_entries: lambda n: table(MOV * (n // 4)),
     forbidden_entries: lambda n: table(ADCS * (n // 4), states("rules.peep")),
 }
@@ -293,17 +294,14 @@ def main():
     words = sys.argv[1:]
     if not words:
         for shape, count in SHAPES.items():
-            print(shape.__name__, count, "rewrite")
-        print("chain", SHAPES[chain], "live")
-        print("groups_backward", SHAPES[groups_backward], "live")
+            print(shape.__name__, count)
         return
     shape = {shape.__name__: shape for shape in SHAPES}[words[0]]
     n = int(words[1])
-    if words[2:] == ["--empty"]:
-        sys.stdout.write(TABLES.get(shape, lambda n: rules())(n))
-        return
     if words[2:] != ["--listing"]:
         sys.stdout.write(TABLES.get(shape, lambda n: rules())(n))
+    if words[2:] == ["--table"]:
+        return
     sys.stdout.writelines(f"{line if ':' in line.split(' ')[0] else chr(9) + line}\n" for line in shape(n))
 
 
