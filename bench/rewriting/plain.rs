@@ -15,6 +15,8 @@ mod live;
 mod operands;
 #[path = "../plain_flows.rs"]
 mod plain_flows;
+#[path = "../plain_rules.rs"]
+mod plain_rules;
 #[path = "../plain_tables.rs"]
 mod plain_tables;
 #[path = "../plain_windows.rs"]
@@ -23,102 +25,19 @@ mod reach;
 #[path = "../listing_lines/plain/words.rs"]
 mod words;
 
-use crate::instruction::instruction;
 use crate::layout::{layout, Fault, LayoutError};
-use crate::line::{line, Line, Statement};
 use crate::listing::{parse, print, Listing};
 use crate::live::Live;
-use crate::plain_flows::{shape, N};
-use crate::plain_tables::{read_table, write_instr, Table};
-use crate::plain_windows::{letter_of, rows, Letter, Naming};
+use crate::plain_rules::{instruction_count, left_of, longer, parted, under, Rule, Rules, LONGEST};
+use crate::plain_tables::read_table;
+use crate::plain_windows::{rows, Letter, Naming};
 use crate::reach::Reach;
-use std::collections::HashMap;
-use std::hash::{BuildHasherDefault, Hasher};
 use std::hint::black_box;
 use std::io::{self, Read, Write};
 use std::time::Instant;
 
-/// The most instructions of a left side.
-const LONGEST: usize = 5;
-
 /// The place behind the last one.
 const END: u32 = u32::MAX;
-
-/// A letter as it stands in keys: never 0.
-fn code(letter: &Letter) -> u128 {
-    let [a, b, c] = letter.registers.map(u128::from);
-    u128::from(letter.form) + 1 | a << 6 | b << 8 | c << 10 | u128::from(letter.number) << 12
-}
-
-/// A key with a letter more.
-fn longer(key: u128, letter: &Letter) -> u128 {
-    key << 20 | code(letter)
-}
-
-#[derive(Default)]
-struct Mixed(u64);
-
-impl Hasher for Mixed {
-    fn write(&mut self, _: &[u8]) {
-        unreachable!();
-    }
-
-    fn write_u128(&mut self, key: u128) {
-        let mixed = (key as u64 ^ ((key >> 64) as u64).rotate_left(29)).wrapping_mul(0x9E37_79B9_7F4A_7C15);
-        self.0 = mixed ^ mixed >> 32;
-    }
-
-    fn finish(&self) -> u64 {
-        self.0
-    }
-}
-
-/// An entry that takes instructions away.
-struct Rule {
-    /// The right side, each with the items that it reads and writes.
-    right: Vec<(Letter, u32, u32)>,
-    /// The registers that its left side names and its mask doesn't have, and the flags that its mask doesn't have.
-    dead: u32,
-}
-
-/// The entries of a table by the keys of their left sides, each key's in their order.
-struct Rules {
-    by_left: HashMap<u128, Vec<Rule>, BuildHasherDefault<Mixed>>,
-    longest: usize,
-}
-
-/// A side's instructions, each with the items that it reads and writes.
-fn letters_of(side: &[plain_tables::Instr]) -> Vec<(Letter, u32, u32)> {
-    let letter = |instr| {
-        let mut text = Vec::new();
-        write_instr(&mut text, "", instr);
-        let (instr, _) = instruction(text.trim_ascii_end()).unwrap();
-        let (uses, writes) = shape(&instr);
-        (letter_of(&instr).unwrap(), uses, writes)
-    };
-    side.iter().map(letter).collect()
-}
-
-/// Items by other names, those of r0 to r3.
-fn under(order: &[u8; 8], items: u32) -> u32 {
-    (0..4).filter(|name| items >> name & 1 == 1).fold(items & !0xf, |all, name| all | 1 << order[name])
-}
-
-impl Rules {
-    fn of(table: &Table) -> Rules {
-        let mut rules = Rules { by_left: HashMap::default(), longest: 0 };
-        for entry in table.entries.iter().filter(|entry| entry.right.len() < entry.left.len()) {
-            let left = letters_of(&entry.left);
-            let mut naming = Naming::new();
-            let key = left.iter().fold(0, |key, (letter, ..)| longer(key, &naming.named(letter)));
-            let dead_registers = !entry.mask & ((1 << naming.count) - 1);
-            let dead = u32::from(dead_registers) | u32::from(!entry.mask >> 4) * N;
-            rules.by_left.entry(key).or_default().push(Rule { right: letters_of(&entry.right), dead });
-            rules.longest = rules.longest.max(left.len());
-        }
-        rules
-    }
-}
 
 /// A window of instructions, by their places, and the registers that the names r0, r1 and so on stand for.
 #[derive(Clone, Copy)]
@@ -314,44 +233,13 @@ struct Left {
     is_changed: Vec<bool>,
 }
 
-/// The line of a text, which is one.
-fn line_of(text: &[u8]) -> Line {
-    line(text).expect("a line")
-}
-
 impl Left {
     /// The listing of the lines that are left, of the given one.
     fn listing(&self, given: Listing) -> Listing {
-        let mut lines = Vec::with_capacity(given.lines.len());
-        let mut at = self.first;
-        for (n, line) in given.lines.into_iter().enumerate() {
-            let is_here = |at: u32| at != END && self.home[at as usize] == n as u32;
-            let is_changed = self.is_changed[n];
-            if !is_changed {
-                lines.push(line);
-            } else if !line.names.is_empty() {
-                let mut text = line.text;
-                text.truncate(line.front);
-                text.push(b'\n');
-                lines.push(Line { text, statement: Statement::Nothing, ..line });
-            }
-            while is_here(at) {
-                if let (Some(letter), true) = (self.rows[at as usize].0, is_changed) {
-                    let mut text = vec![b'\t'];
-                    letter.write(&mut text);
-                    text.push(b'\n');
-                    lines.push(line_of(&text));
-                }
-                at = self.next[at as usize];
-            }
-        }
-        Listing::of(lines).unwrap_or_else(|_| unreachable!())
+        let place = |at: u32| (at != END).then_some(at);
+        let kept = std::iter::successors(place(self.first), |at| place(self.next[*at as usize]));
+        left_of(given, kept.map(|at| (self.home[at as usize], self.rows[at as usize].0)), &self.is_changed)
     }
-}
-
-/// How many lines have an instruction.
-fn instruction_count(listing: &Listing) -> usize {
-    listing.lines.iter().filter(|line| matches!(line.statement, Statement::Runs { .. })).count()
 }
 
 /// Whether the listing can be laid out from 0; or what a refusal says.
@@ -365,13 +253,6 @@ fn refusal(listing: &Listing, reach: &Reach) -> Option<String> {
         Err(LayoutError::Line { number, fault: Fault::Align(address) }) => Some(format!("refused listing {number} 5 {address}")),
         Err(LayoutError::Memory) => Some(String::from("memory")),
     }
-}
-
-/// The text of the table, up to its last line, and what is behind it.
-fn parted(text: &[u8]) -> (&[u8], &[u8]) {
-    let last = b"\nend\n";
-    let end = text.windows(last.len()).position(|bytes| bytes == last).map_or(text.len(), |at| at + last.len());
-    text.split_at(end)
 }
 
 fn main() -> io::Result<()> {

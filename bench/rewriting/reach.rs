@@ -145,7 +145,7 @@ fn loose(stretches: &[Stretch]) -> Vec<usize> {
 }
 
 /// Whether each mention stays in reach whichever instructions give way to fewer.
-fn is_steady(listing: &Listing, base: u32) -> bool {
+pub fn is_steady(listing: &Listing, base: u32) -> bool {
     let mut starts = Vec::with_capacity(listing.lines.len());
     let mut here = Start { at: base, aligned: true };
     for line in &listing.lines {

@@ -1,0 +1,308 @@
+#!/usr/bin/env python3
+"""Writes a table and behind it a listing of some hostile shape, of about N lines. Use: bench/growth.py SHAPE N > input
+
+With `--table` the table alone, and with `--listing` the listing. Without arguments: the shapes, each with a number that may also be doubled twice. Each shape is one that took time growing with the square of the lines or faster in some rewriter, or that could."""
+import os
+import sys
+
+TOP = os.path.join(os.path.dirname(os.path.abspath(__file__)), "..")
+STATES = ["peep 1", "regs 2", "left 2", "seed 42", "budget 1", "pool 1 2 3 24 255"]
+MOV = "entry\nleft mov r0, r0\nmask r0 n z c v\nproof\n"
+ADCS = "entry\nleft adcs r0, r1\nleft movs r0, r0\nright adcs r0, r1\nmask r0 n z\nproof\n"
+
+
+def example(name):
+    """The entries of a table among the examples."""
+    with open(os.path.join(TOP, "examples", name)) as file:
+        text = file.read()
+    return text[text.index("entry\n") : text.rindex("end\n")]
+
+
+def states(name):
+    """The states of a table among the examples."""
+    with open(os.path.join(TOP, "examples", name)) as file:
+        return [line.rstrip("\n") for line in file if line.startswith("state")]
+
+
+def table(entries, with_states=()):
+    return "\n".join([*STATES, *with_states]) + "\n" + entries + "end\n"
+
+
+def rules():
+    """The entries of both example tables."""
+    return table(example("rules.peep") + example("moves.peep"), states("rules.peep"))
+
+
+# ---- ways ----
+
+
+def groups_backward(n):
+    """Windows, each in a group that branches to the group before: what is read at one place is live in all groups behind it."""
+    yield "a0: bx lr"
+    for i in range(1, n // 3):
+        yield from (f"a{i}: mov r1, r1", "movs r2, #1", f"b a{i - 1}")
+
+
+def groups_forward(n):
+    """The same with branches to the group behind."""
+    for i in range(n // 3):
+        yield from (f"a{i}: mov r1, r1", "movs r2, #1", f"b a{i + 1}")
+    yield f"a{n // 3}: bx lr"
+
+
+def chain(n):
+    """Branches, each to the one before, and no window."""
+    yield "a0: bx lr"
+    for i in range(1, n):
+        yield f"a{i}: b a{i - 1}"
+
+
+def calls(n):
+    """A window behind each call of one function."""
+    for _ in range(n // 2):
+        yield from ("bl f", "mov r2, r2")
+    yield from ("bx lr", "f: adds r2, #1", "bx lr")
+
+
+def pops(n):
+    """A window behind each return that pops a register."""
+    for i in range(n // 3):
+        yield from (f"f{i}: mov r2, r2", f"adds r{4 + i % 4}, #1", f"pop {{r{4 + i % 4}, pc}}")
+
+
+def blx(n):
+    """Windows between calls by a register, at return points."""
+    for _ in range(n // 3):
+        yield from ("blx r4", "mov r5, r5", "movs r2, #1")
+    yield "bx lr"
+
+
+def loop_of_calls(n):
+    """A loop by `bl` with windows in it and calls that go straight on, whose register is read at its head alone."""
+    yield "a: adds r6, #1"
+    for i in range(n // 4):
+        yield from ("mov r6, r6", "adds r0, #1", f"bl b{i}", f"b{i}: adds r1, #1")
+    yield "bl a"
+
+
+def read_far_back(n):
+    """One loop by `bl` with windows, and a use only at its head, which is far from all of them."""
+    yield "a: str r6, [r0]"
+    for _ in range(n // 2):
+        yield from ("mov r6, r6", "adds r1, #1")
+    yield "bl a"
+
+
+def branches_over(n):
+    """Windows that a branch over them can leave out."""
+    for i in range(n // 3):
+        yield from (f"a{i}: adds r0, #1", f"beq a{i + 1}", "mov r1, r1")
+    yield from (f"a{n // 3}: adds r1, #1", "bx lr")
+
+
+def idle_and_windows(n):
+    """Idle lines, as many windows behind them, and a use."""
+    yield from ["adds r0, #1"] * (n // 2)
+    yield from ["mov r7, r7"] * (n // 2)
+    yield from ("str r7, [r0]", "bx lr")
+
+
+def moves(n):
+    """Straight windows behind as many idle lines, that read and write by turns."""
+    yield from ["adds r0, #1"] * (n // 2)
+    for i in range(n // 4):
+        yield from (f"mov r{i % 7 + 1}, r0", f"mov r{i % 7 + 1}, r{i % 7 + 1}")
+    yield "bx lr"
+
+
+def apart(n):
+    """Windows 70 lines apart behind n/2 idle lines, whose register is read behind all of them alone."""
+    yield from ["adds r0, #1"] * (n // 2)
+    for _ in range(n // 142):
+        yield "mov r7, r7"
+        yield from ["adds r0, #1"] * 70
+    yield from ("str r7, [r0]", "bx lr")
+
+
+def literals(n):
+    """Windows 80 lines before the next read of their register, a literal load in each part, and the literals behind an alignment."""
+    for i in range(n // 100):
+        yield from (f"f{i}: ldr r3, l{i}", "mov r6, r6")
+        yield from ["adds r0, #1"] * 92
+        yield from ("str r6, [r3]", "bx lr", ".align 2", f"l{i}: .word {i}")
+
+
+def collapse_first(n):
+    """Moves there and back, of which the first two are always the next window."""
+    for i in range(n // 2):
+        yield from ("mov r1, r0", "mov r0, r1")
+    yield from ("str r1, [r0]", "bx lr")
+
+
+def collapse_last(n):
+    """Moves to and fro whose values nothing reads, so that the last one is always the next window."""
+    for i in range(n // 2):
+        yield from ("mov r2, r1", "mov r1, r2")
+    yield "z: b z"
+
+
+def ends(n):
+    """Windows at both ends of one listing, with all lines of code between them."""
+    yield from ["mov r1, r1", "adds r1, #1"] * (n // 6)
+    yield from ["adds r0, #1"] * (n // 3)
+    yield from ["mov r1, r1", "adds r1, #1"] * (n // 6)
+    yield "bx lr"
+
+
+def alternating(n):
+    """Moves whose values nothing but the next one reads, by turns at both ends of the listing: each replacement lets go one at the other end."""
+    count = n // 4
+    for half in (range(0, 2 * count, 2), range(2 * count - 1, 0, -2)):
+        for i in half:
+            yield from (f"g{i}: mov r{1 + i % 2}, r{2 - i % 2}", f"bl g{i + 1}")
+    yield f"g{2 * count}: b g{2 * count}"
+
+
+def return_points(n):
+    """`adcs` windows at return points, where the carry is live at each return by the others alone."""
+    for _ in range(n // 5):
+        yield from ("blx r4", "adcs r2, r3", "movs r2, r2", "movs r3, #0", "cmp r2, #1")
+    yield "bx lr"
+
+
+def labels(n):
+    """2,000 labels on one place behind windows, and a branch to each."""
+    count = min(2000, n // 4)
+    for i in range(count):
+        yield f"bl a{i}"
+    for _ in range((n - 2 * count) // 2):
+        yield from ("mov r1, r1", "adds r1, #1")
+    for i in range(count):
+        yield f"a{i}:"
+    yield "bx lr"
+
+
+# ---- layouts ----
+
+
+def aligned(n):
+    """Windows before alignments, each of which takes up what goes, and a branch in each part."""
+    for i in range(n // 5):
+        yield from (f"a{i}: mov r1, r1", f"beq a{i}", "adds r1, #1", ".align 3", f"b{i}: adds r0, #1")
+    yield "bx lr"
+
+
+def moves_on(n):
+    """Windows between branches, with one literal far behind all of them, so that each moves all up to there."""
+    yield from ("ldr r3, loose", "b over", "loose: .word 1", "over:")
+    for i in range(n // 3):
+        yield from (f"a{i}: mov r1, r1", f"beq a{i}", "adds r1, #1")
+    yield from ("ldr r3, last", "bx lr", ".align 2", "last: .word 1")
+
+
+def pools(n):
+    """Windows before literals and their alignments: what goes moves the next pool by four bytes or by none."""
+    for i in range(n // 8):
+        yield from (f"ldr r3, l{i}", "mov r1, r1", f"ldr r2, l{i}", "mov r3, r3", "str r3, [r2]", f"b m{i}", ".align 2", f"l{i}: .word {i}")
+        yield f"m{i}:"
+    yield "bx lr"
+
+
+def refused(n, parts):
+    """Branches at the end of their reach over an alignment, so that the window before each is refused."""
+    for i in parts:
+        yield from (".align 2", f"w{i}: mov r1, r1", f"beq e{i}", *["adds r1, #1"] * 126, ".align 2", f"e{i}: adds r1, #1")
+
+
+def refused_before(n):
+    """Refused windows before as many lines with accepted ones."""
+    yield from refused(n, range(n // 264))
+    yield from ["mov r1, r1", "adds r1, #1"] * (n // 4)
+    yield "bx lr"
+
+
+def refused_behind(n):
+    """Refused windows behind as many lines with accepted ones."""
+    yield from ["mov r1, r1", "adds r1, #1"] * (n // 4)
+    yield from refused(n, range(n // 264))
+    yield "bx lr"
+
+
+def set_address(n):
+    """Calls of an address that is set at the end of the first one's reach, behind a window that is refused for it, and windows between them."""
+    yield f".set f, {16_777_216 + 4}"
+    yield from ("mov r1, r1", *(line for _ in range(n // 3) for line in ("bl f", "mov r2, r2", "adds r2, #1")), "bx lr")
+
+
+# ---- entries ----
+
+
+def equal_entries(n):
+    """As many equal entries as windows, of which the last applies to none: its items are live."""
+    yield from ["mov r2, r2", "adds r2, #1"] * (n // 2)
+    yield "bx lr"
+
+
+def forbidden_entries(n):
+    """As many entries that match each window and are forbidden, as the carry is read behind it."""
+    for _ in range(n // 3):
+        yield from ("adcs r2, r3", "movs r2, r2", "adcs r2, r3")
+    yield "bx lr"
+
+
+DEAD = "entry\nleft mov r0, r1\nmask r1 n z c v\nproof\n"
+
+TABLES = {
+    collapse_last: lambda n: table(DEAD),
+    alternating: lambda n: table(DEAD),
+    equal_entries: lambda n: table(MOV * (n // 4)),
+    forbidden_entries: lambda n: table(ADCS * (n // 4), states("rules.peep")),
+}
+
+SHAPES = {
+    groups_backward: 7_500,
+    groups_forward: 7_500,
+    chain: 15_000,
+    calls: 15_000,
+    pops: 15_000,
+    blx: 15_000,
+    loop_of_calls: 15_000,
+    read_far_back: 15_000,
+    branches_over: 15_000,
+    idle_and_windows: 15_000,
+    moves: 15_000,
+    apart: 15_000,
+    literals: 15_000,
+    collapse_first: 15_000,
+    collapse_last: 15_000,
+    ends: 15_000,
+    alternating: 15_000,
+    return_points: 15_000,
+    labels: 15_000,
+    aligned: 15_000,
+    moves_on: 15_000,
+    pools: 14_000,
+    refused_before: 15_000,
+    refused_behind: 15_000,
+    set_address: 15_000,
+    equal_entries: 8_000,
+    forbidden_entries: 8_000,
+}
+
+
+def main():
+    words = sys.argv[1:]
+    if not words:
+        for shape, count in SHAPES.items():
+            print(shape.__name__, count)
+        return
+    shape = {shape.__name__: shape for shape in SHAPES}[words[0]]
+    n = int(words[1])
+    if words[2:] != ["--listing"]:
+        sys.stdout.write(TABLES.get(shape, lambda n: rules())(n))
+    if words[2:] == ["--table"]:
+        return
+    sys.stdout.writelines(f"{line if ':' in line.split(' ')[0] else chr(9) + line}\n" for line in shape(n))
+
+
+main()

@@ -1,0 +1,96 @@
+//! The places of a listing while some of them go, and which of them are due to be looked at. A place keeps its number.
+
+/// No place.
+pub const NONE: usize = usize::MAX;
+
+/// The places that are kept. A kept place stands also for those right before it that are gone; the place behind the last one is always kept.
+pub struct Kept {
+    /// A place at or behind each, the same where it is kept.
+    onward: Vec<u32>,
+    pub next: Vec<usize>,
+    pub previous: Vec<usize>,
+}
+
+impl Kept {
+    pub fn all(count: usize) -> Kept {
+        Kept {
+            onward: (0..=count as u32).collect(),
+            next: (1..=count + 1).collect(),
+            previous: (0..=count).map(|place| place.wrapping_sub(1)).collect(),
+        }
+    }
+
+    /// The place behind the last one.
+    pub fn end(&self) -> usize {
+        self.onward.len() - 1
+    }
+
+    pub fn is_kept(&self, place: usize) -> bool {
+        self.onward[place] as usize == place
+    }
+
+    /// The kept place that stands for a place.
+    pub fn node(&mut self, place: usize) -> usize {
+        let mut at = place;
+        while self.onward[at] as usize != at {
+            let over = self.onward[self.onward[at] as usize];
+            self.onward[at] = over;
+            at = over as usize;
+        }
+        at
+    }
+
+    /// The first place that a kept place stands for.
+    pub fn start(&self, place: usize) -> usize {
+        self.previous[place].wrapping_add(1)
+    }
+
+    /// Takes a kept place away.
+    pub fn leave(&mut self, place: usize) {
+        let (before, behind) = (self.previous[place], self.next[place]);
+        self.onward[place] = place as u32 + 1;
+        self.previous[behind] = before;
+        if before != NONE {
+            self.next[before] = behind;
+        }
+    }
+}
+
+/// A set of places of which the least is found at once: a bit for each, one for each word of these, and one for each word of those.
+pub struct Due {
+    levels: [Vec<u64>; 3],
+}
+
+impl Due {
+    pub fn none(count: usize) -> Due {
+        let words = |count: usize| vec![0; count / 64 + 1];
+        Due { levels: [words(count), words(count / 64), words(count / 4096)] }
+    }
+
+    pub fn put(&mut self, place: usize) {
+        let mut at = place;
+        for level in &mut self.levels {
+            level[at / 64] |= 1 << (at % 64);
+            at /= 64;
+        }
+    }
+
+    pub fn take(&mut self, place: usize) {
+        let mut at = place;
+        for level in &mut self.levels {
+            level[at / 64] &= !(1 << (at % 64));
+            if level[at / 64] != 0 {
+                return;
+            }
+            at /= 64;
+        }
+    }
+
+    pub fn least(&self) -> Option<usize> {
+        let [low, middle, high] = &self.levels;
+        let word = high.iter().position(|word| *word != 0)?;
+        let word = word * 64 + high[word].trailing_zeros() as usize;
+        let word = word * 64 + middle[word].trailing_zeros() as usize;
+        Some(word * 64 + low[word].trailing_zeros() as usize)
+    }
+}

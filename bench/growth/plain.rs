@@ -1,0 +1,316 @@
+//! Rewrites a listing by a table in plain Rust, in time that grows as little as is known with listings of hostile shapes: live items on a flow graph over the
+//! places of the given listing, the next place by what is due, entries in groups by their left sides, a layout by blocks, and refused windows by where the
+//! distance lies that was out of reach. Standard input and what is told are those of rewriting/plain.rs. With a word it finds the live items of the listing
+//! alone, and tells the microseconds of that and those of reading with it.
+
+#[path = "../listing_lines/plain/instruction.rs"]
+mod instruction;
+#[path = "../listing_lines/plain/layout.rs"]
+mod layout;
+#[path = "../listing_lines/plain/line.rs"]
+mod line;
+#[path = "../listing_lines/plain/listing.rs"]
+mod listing;
+#[path = "../listing_lines/plain/operands.rs"]
+mod operands;
+#[path = "../plain_flows.rs"]
+mod plain_flows;
+#[path = "../plain_rules.rs"]
+mod plain_rules;
+#[path = "../plain_tables.rs"]
+mod plain_tables;
+#[path = "../plain_windows.rs"]
+mod plain_windows;
+#[path = "../rewriting/reach.rs"]
+mod reach;
+#[path = "../listing_lines/plain/words.rs"]
+mod words;
+
+mod blocks;
+mod graph;
+mod kept;
+
+use crate::blocks::{Blocks, Refusals, Refused};
+use crate::graph::Graph;
+use crate::kept::{Due, Kept, NONE};
+use crate::layout::{layout, Fault, LayoutError};
+use crate::listing::{parse, print, Listing};
+use crate::plain_rules::{instruction_count, left_of, longer, parted, under, Rule, Rules, LONGEST};
+use crate::plain_tables::read_table;
+use crate::plain_windows::{rows, Letter, Naming};
+use crate::reach::is_steady;
+use std::hint::black_box;
+use std::io::{self, Read, Write};
+use std::time::Instant;
+
+/// A window of instructions, by their places, and the registers that the names r0, r1 and so on stand for.
+struct Window {
+    places: [usize; LONGEST],
+    count: usize,
+    order: [u8; 8],
+}
+
+impl Window {
+    fn places(&self) -> &[usize] {
+        &self.places[..self.count]
+    }
+}
+
+/// A layout that is kept, and the windows that it refused.
+struct Ground {
+    blocks: Blocks,
+    refusals: Refusals,
+}
+
+/// A listing that is being rewritten. A window's new instructions stand at its first places, and its others are gone.
+struct Rewriter<'a> {
+    rules: &'a Rules,
+    graph: Graph,
+    ground: Option<Ground>,
+    due: Due,
+    /// The letter of each place, and whether nothing stands before it that ends a window.
+    rows: Vec<(Option<Letter>, bool)>,
+    is_labelled: Vec<bool>,
+    /// The line in which each instruction stands, and whether a line's own instruction is gone.
+    home: Vec<u32>,
+    is_changed: Vec<bool>,
+    refused: Vec<Refused>,
+    replaced: u64,
+}
+
+/// Marks the places before one at which a window may begin that comes to it.
+fn put_due(due: &mut Due, kept: &Kept, rows: &[(Option<Letter>, bool)], longest: usize, place: usize) {
+    let mut at = kept.previous[place];
+    for _ in 0..longest {
+        if at == NONE || rows[at].0.is_none() {
+            return;
+        }
+        due.put(at);
+        if !rows[at].1 {
+            return;
+        }
+        at = kept.previous[at];
+    }
+}
+
+impl<'a> Rewriter<'a> {
+    fn of(rules: &'a Rules, listing: &Listing, ground: Option<Ground>) -> Rewriter<'a> {
+        let count = listing.spots.len();
+        let mut is_labelled = vec![false; count + 1];
+        for (line, place) in listing.lines.iter().zip(&listing.passed) {
+            is_labelled[*place as usize] |= !line.names.is_empty();
+        }
+        let mut due = Due::none(count);
+        let mut rows = rows(listing);
+        (0..count).filter(|place| rows[*place].0.is_some()).for_each(|place| due.put(place));
+        rows.push((None, false));
+        Rewriter {
+            rules,
+            graph: Graph::of(listing),
+            ground,
+            due,
+            rows,
+            is_labelled,
+            home: listing.spots.iter().map(|(line, _)| *line).collect(),
+            is_changed: vec![false; listing.lines.len()],
+            refused: Vec::new(),
+            replaced: 0,
+        }
+    }
+
+    /// Whether code labels stay code where a window gives way to so many instructions.
+    fn are_labels_kept(&self, window: &Window, count: usize) -> bool {
+        let [first, .., last] = [window.places[0], window.places[window.count - 1]];
+        count > 0 || !self.is_labelled[first] || self.graph.is_op(self.graph.kept.next[last])
+    }
+
+    /// Whether no mention is out of reach once a window has given way to so many instructions. Then the layout is that of after.
+    fn is_reached(&mut self, window: &Window, new: usize) -> bool {
+        let Some(ground) = &mut self.ground else { return true };
+        let block = ground.blocks.of_line(self.home[window.places[0]] as usize);
+        match ground.blocks.gives_way(block, 2 * (window.count - new) as u32) {
+            Ok(()) => true,
+            Err(refused) => {
+                self.refused.push(refused);
+                false
+            }
+        }
+    }
+
+    fn applies(&mut self, rule: &Rule, window: &Window) -> bool {
+        let behind = self.graph.kept.next[window.places[window.count - 1]];
+        self.graph.live_at(behind) & under(&window.order, rule.dead) == 0
+            && self.are_labels_kept(window, rule.right.len())
+            && self.is_reached(window, rule.right.len())
+    }
+
+    /// The best entry at a place: of those that apply there the lowest with the longest left side.
+    fn best(&mut self, place: usize) -> Option<(Window, &'a Rule)> {
+        let rules = self.rules;
+        let mut window = Window { places: [0; LONGEST], count: 0, order: [0; 8] };
+        let mut keys = [0; LONGEST];
+        let mut naming = Naming::new();
+        let (mut at, mut key) = (place, 0);
+        while window.count < rules.longest {
+            let (Some(letter), is_joined) = self.rows[at] else { break };
+            if !is_joined && window.count > 0 {
+                break;
+            }
+            let named = naming.named(&letter);
+            if naming.count > 4 {
+                break;
+            }
+            key = longer(key, &named);
+            keys[window.count] = key;
+            window.places[window.count] = at;
+            window.count += 1;
+            at = self.graph.kept.next[at];
+        }
+        window.order = naming.order;
+        while window.count > 0 {
+            if let Some(found) = rules.by_left.get(&keys[window.count - 1]) {
+                let mut refused = [false; LONGEST];
+                for rule in found {
+                    // the layout sees lengths alone
+                    if !refused[rule.right.len()] {
+                        let before = self.refused.len();
+                        if self.applies(rule, &window) {
+                            return Some((window, rule));
+                        }
+                        refused[rule.right.len()] = self.refused.len() > before;
+                    }
+                }
+            }
+            window.count -= 1;
+        }
+        None
+    }
+
+    /// Puts an entry's right side in place of a window.
+    fn replace(&mut self, window: &Window, rule: &Rule) {
+        let places = window.places();
+        let home = self.home[places[0]];
+        let mut effects = [(0, 0); LONGEST];
+        for (n, ((letter, uses, writes), place)) in rule.right.iter().zip(places).enumerate() {
+            effects[n] = (under(&window.order, *uses), under(&window.order, *writes));
+            self.rows[*place].0 = Some(letter.with(|name| window.order[usize::from(name)]));
+        }
+        let (first, behind) = (places[0], self.graph.kept.next[places[window.count - 1]]);
+        for place in places {
+            self.is_changed[self.home[*place] as usize] = true;
+            self.home[*place] = home;
+        }
+        if rule.right.is_empty() {
+            self.rows[behind].1 &= self.rows[first].1;
+            self.is_labelled[behind] |= self.is_labelled[first];
+        }
+        let longest = self.rules.longest;
+        let Rewriter { graph, due, rows, .. } = self;
+        graph.replace(places, &effects[..rule.right.len()], |place, kept| put_due(due, kept, rows, longest, place));
+        for (n, place) in places.iter().enumerate() {
+            if n < rule.right.len() {
+                due.put(*place);
+            } else {
+                due.take(*place);
+            }
+        }
+        put_due(due, &graph.kept, rows, longest, if rule.right.is_empty() { behind } else { first });
+        if let Some(Ground { blocks, refusals }) = &mut self.ground {
+            for block in &blocks.changed {
+                refusals.take(*block, |place| {
+                    if graph.kept.is_kept(place) {
+                        due.put(place);
+                    }
+                });
+            }
+        }
+        self.replaced += 1;
+    }
+
+    fn rewrite(&mut self) {
+        while let Some(place) = self.due.least() {
+            self.refused.clear();
+            match self.best(place) {
+                Some((window, rule)) => self.replace(&window, rule),
+                None => {
+                    self.due.take(place);
+                    if let Some(Ground { refusals, .. }) = &mut self.ground {
+                        self.refused.iter().for_each(|refused| refusals.put(refused, place));
+                    }
+                }
+            }
+        }
+    }
+
+    /// The listing of the lines that are left, of the given one.
+    fn left(self, given: Listing) -> Listing {
+        let kept = (0..self.graph.kept.end()).filter(|place| self.graph.kept.is_kept(*place));
+        left_of(given, kept.map(|place| (self.home[place], self.rows[place].0)), &self.is_changed)
+    }
+}
+
+/// What a refusal of a listing says that can't be laid out from 0.
+fn refusal(listing: &Listing) -> Option<String> {
+    match layout(listing, 0) {
+        Ok(_) => None,
+        Err(LayoutError::Line { number, fault: Fault::Range(distance) }) => Some(format!("refused listing {number} 4 {distance}")),
+        Err(LayoutError::Line { number, fault: Fault::Align(address) }) => Some(format!("refused listing {number} 5 {address}")),
+        Err(LayoutError::Memory) => Some(String::from("memory")),
+    }
+}
+
+/// Finds the live items of a listing, and tells a digest of them.
+fn find_live(listing: &Listing, start: Instant) {
+    let begun = Instant::now();
+    let graph = black_box(Graph::of(listing));
+    let (finding, all) = (begun.elapsed().as_micros(), start.elapsed().as_micros());
+    let digest = graph.before().iter().fold(0u64, |sum, bits| sum.wrapping_mul(31).wrapping_add(u64::from(*bits)));
+    eprintln!("{finding} {all} {digest}");
+}
+
+/// Rewrites a listing, and tells what was done.
+fn rewrite(rules: &[u8], listing: Listing, start: Instant) -> io::Result<()> {
+    let Ok(table) = read_table(rules) else {
+        eprintln!("no table");
+        return Ok(());
+    };
+    let before = instruction_count(&listing);
+    let begun = Instant::now();
+    let rules = Rules::of(&table);
+    let is_steady = is_steady(&listing, 0);
+    if let Some(refusal) = if is_steady { None } else { refusal(&listing) } {
+        eprintln!("{refusal}");
+        return Ok(());
+    }
+    let ground = (!is_steady).then(|| {
+        let blocks = Blocks::of(&listing, 0);
+        Ground { refusals: Refusals::none(blocks.count()), blocks }
+    });
+    let mut rewriter = Rewriter::of(&rules, &listing, ground);
+    rewriter.rewrite();
+    let replaced = rewriter.replaced;
+    let listing = black_box(rewriter.left(listing));
+    let rewriting = begun.elapsed().as_micros();
+    let text = black_box(print(&listing));
+    let all = start.elapsed().as_micros();
+    io::stdout().write_all(&text)?;
+    eprintln!("{rewriting} {all} {replaced} {before} {}", instruction_count(&listing));
+    Ok(())
+}
+
+fn main() -> io::Result<()> {
+    let mut text = Vec::new();
+    io::stdin().read_to_end(&mut text)?;
+    let is_live = std::env::args().len() > 1;
+    let (table, text) = if is_live { (&text[..0], &text[..]) } else { parted(&text) };
+    let start = Instant::now();
+    let Ok(listing) = parse(text) else {
+        eprintln!("no listing");
+        return Ok(());
+    };
+    if is_live {
+        find_live(&listing, start);
+        return Ok(());
+    }
+    rewrite(table, listing, start)
+}

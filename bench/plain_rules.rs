@@ -1,0 +1,136 @@
+//! The entries of a table by their left sides, and the listing that rewriting leaves, in plain Rust, which the plain programs that rewrite share.
+
+use crate::instruction::instruction;
+use crate::line::{line, Line, Statement};
+use crate::listing::Listing;
+use crate::plain_flows::{shape, N};
+use crate::plain_tables::{self, write_instr, Table};
+use crate::plain_windows::{letter_of, Letter, Naming};
+use std::collections::HashMap;
+use std::hash::{BuildHasherDefault, Hasher};
+
+/// The most instructions of a left side.
+pub const LONGEST: usize = 5;
+
+/// A letter as it stands in keys: never 0.
+fn code(letter: &Letter) -> u128 {
+    let [a, b, c] = letter.registers.map(u128::from);
+    u128::from(letter.form) + 1 | a << 6 | b << 8 | c << 10 | u128::from(letter.number) << 12
+}
+
+/// A key with a letter more.
+pub fn longer(key: u128, letter: &Letter) -> u128 {
+    key << 20 | code(letter)
+}
+
+#[derive(Default)]
+pub struct Mixed(u64);
+
+impl Hasher for Mixed {
+    fn write(&mut self, _: &[u8]) {
+        unreachable!();
+    }
+
+    fn write_u128(&mut self, key: u128) {
+        let mixed = (key as u64 ^ ((key >> 64) as u64).rotate_left(29)).wrapping_mul(0x9E37_79B9_7F4A_7C15);
+        self.0 = mixed ^ mixed >> 32;
+    }
+
+    fn finish(&self) -> u64 {
+        self.0
+    }
+}
+
+/// An entry that takes instructions away.
+pub struct Rule {
+    /// The right side, each with the items that it reads and writes.
+    pub right: Vec<(Letter, u32, u32)>,
+    /// The registers that its left side names and its mask doesn't have, and the flags that its mask doesn't have.
+    pub dead: u32,
+}
+
+/// The entries of a table by the keys of their left sides, each key's in their order. One that fits only where an earlier one does is left out.
+pub struct Rules {
+    pub by_left: HashMap<u128, Vec<Rule>, BuildHasherDefault<Mixed>>,
+    pub longest: usize,
+}
+
+/// A side's instructions, each with the items that it reads and writes.
+fn letters_of(side: &[plain_tables::Instr]) -> Vec<(Letter, u32, u32)> {
+    let letter = |instr| {
+        let mut text = Vec::new();
+        write_instr(&mut text, "", instr);
+        let (instr, _) = instruction(text.trim_ascii_end()).unwrap();
+        let (uses, writes) = shape(&instr);
+        (letter_of(&instr).unwrap(), uses, writes)
+    };
+    side.iter().map(letter).collect()
+}
+
+/// Items by other names, those of r0 to r3.
+pub fn under(order: &[u8; 8], items: u32) -> u32 {
+    (0..4).filter(|name| items >> name & 1 == 1).fold(items & !0xf, |all, name| all | 1 << order[name])
+}
+
+impl Rules {
+    pub fn of(table: &Table) -> Rules {
+        let mut rules = Rules { by_left: HashMap::default(), longest: 0 };
+        for entry in table.entries.iter().filter(|entry| entry.right.len() < entry.left.len()) {
+            let left = letters_of(&entry.left);
+            let mut naming = Naming::new();
+            let key = left.iter().fold(0, |key, (letter, ..)| longer(key, &naming.named(letter)));
+            let dead_registers = !entry.mask & ((1 << naming.count) - 1);
+            let dead = u32::from(dead_registers) | u32::from(!entry.mask >> 4) * N;
+            let alike = rules.by_left.entry(key).or_default();
+            if !alike.iter().any(|rule| rule.dead == dead && rule.right.len() == entry.right.len()) {
+                alike.push(Rule { right: letters_of(&entry.right), dead });
+            }
+            rules.longest = rules.longest.max(left.len());
+        }
+        rules
+    }
+}
+
+/// The line of a text, which is one.
+fn line_of(text: &[u8]) -> Line {
+    line(text).expect("a line")
+}
+
+/// The listing of the lines that are left of the given one, by the places that are kept, in order: the letter that stands there, and the line of the window
+/// that it came of.
+pub fn left_of(given: Listing, kept: impl Iterator<Item = (u32, Option<Letter>)>, is_changed: &[bool]) -> Listing {
+    let mut lines = Vec::with_capacity(given.lines.len());
+    let mut kept = kept.peekable();
+    for (n, line) in given.lines.into_iter().enumerate() {
+        let is_changed = is_changed[n];
+        if !is_changed {
+            lines.push(line);
+        } else if !line.names.is_empty() {
+            let mut text = line.text;
+            text.truncate(line.front);
+            text.push(b'\n');
+            lines.push(Line { text, statement: Statement::Nothing, ..line });
+        }
+        while let Some((_, letter)) = kept.next_if(|(home, _)| *home == n as u32) {
+            if let (Some(letter), true) = (letter, is_changed) {
+                let mut text = vec![b'\t'];
+                letter.write(&mut text);
+                text.push(b'\n');
+                lines.push(line_of(&text));
+            }
+        }
+    }
+    Listing::of(lines).unwrap_or_else(|_| unreachable!())
+}
+
+/// How many lines have an instruction.
+pub fn instruction_count(listing: &Listing) -> usize {
+    listing.lines.iter().filter(|line| matches!(line.statement, Statement::Runs { .. })).count()
+}
+
+/// The text of the table, up to its last line, and what is behind it.
+pub fn parted(text: &[u8]) -> (&[u8], &[u8]) {
+    let last = b"\nend\n";
+    let end = text.windows(last.len()).position(|bytes| bytes == last).map_or(text.len(), |at| at + last.len());
+    text.split_at(end)
+}
