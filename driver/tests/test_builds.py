@@ -15,8 +15,12 @@ UNITS = ["vectors", "fixed", "states", "text", "uart", "main"]
 WORDS = [*CORE, "-ffreestanding", "-fno-jump-tables"]
 FOR_GCC = ["-fno-tree-loop-distribute-patterns"]
 FOR_CLANG = ["--target=arm-none-eabi", "-fno-builtin"]
+# what clang calls to clear an array
+RUNTIME = """\
+void __aeabi_memclr4(volatile char *at, unsigned count) { while (count--) *at++ = 0; }
+"""
 MAKEFILE = """\
-OBJECTS = vectors.o fixed.o states.o text.o uart.o main.o
+OBJECTS = vectors.o fixed.o states.o text.o uart.o main.o runtime.o
 CFLAGS = {words} -MMD
 VPATH = {examples}
 firmware: $(OBJECTS)
@@ -34,10 +38,10 @@ add_executable(firmware {sources})
 target_link_options(firmware PRIVATE -nostartfiles -T {examples}/link.ld -Wl,-e,reset {core})
 """
 WITHOUT_PROGRAM = lacks_program()
-LINE = b"80Ff7fFe"
+LINE = b"80Ff7fFe\n"
 
 
-def emulated(image: Path, folder: Path) -> str:
+def emulated(image: Path, folder: Path) -> bytes:
     """What the firmware prints for its line on a micro:bit. It ends the emulator itself; the line is sent once its prompt is there."""
     words = ["qemu-system-arm", "-M", "microbit", "-nographic", "-no-reboot", "-kernel", str(image)]
     with subprocess.Popen(words, cwd=folder, stdin=subprocess.PIPE, stdout=subprocess.PIPE, stderr=subprocess.DEVNULL) as emulator:
@@ -50,7 +54,7 @@ def emulated(image: Path, folder: Path) -> str:
         except subprocess.TimeoutExpired:
             emulator.kill()
             raise
-    return (first + rest).decode()
+    return first + rest
 
 
 class Builds(unittest.TestCase):
@@ -66,10 +70,11 @@ class Builds(unittest.TestCase):
 
     def check_image(self, elf: Path) -> None:
         run("arm-none-eabi-objcopy", "-O", "binary", elf, "image", folder=self.folder)
-        self.assertEqual(emulated(self.folder / "image", self.folder), (EXAMPLES / "firmware.out").read_text())
+        self.assertEqual(emulated(self.folder / "image", self.folder), (EXAMPLES / "firmware.out").read_bytes())
 
     def made(self, compiler: str | Path, *words: str, **variables: str) -> list[report.Facts]:
         libgcc = run("arm-none-eabi-gcc", *CORE, "-print-libgcc-file-name", folder=self.folder).stdout.strip()
+        (self.folder / "runtime.c").write_text(RUNTIME)
         (self.folder / "Makefile").write_text(MAKEFILE.format(words=" ".join([*WORDS, *words]), examples=EXAMPLES, libgcc=libgcc))
         for old in [*self.folder.glob("*.o"), *self.folder.glob("firmware")]:
             old.unlink()
@@ -82,7 +87,7 @@ class Builds(unittest.TestCase):
     def before_and_after(self, *words: str, by: str = "arm-none-eabi-gcc") -> list[report.Facts]:
         self.made(by, *words)
         facts = self.made(DRIVER / "peep-cc", *words, PEEP_CC=by, **self.settings())
-        self.assertEqual(len(facts), len(UNITS))
+        self.assertEqual(len(facts), len(UNITS) + 1)
         self.assertEqual([one.error for one in facts if one.error], [])
         self.assertTrue(all(one.after <= one.before for one in facts))
         self.assertGreater(sum(one.handed for one in facts), 15)
