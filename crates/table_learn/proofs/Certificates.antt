@@ -285,6 +285,6 @@ nothing_refutes side mask k budget log over e =
     let some : Any (λ clause. clause ≡ []) (sides_formula side side mask k).clauses = subst (λ (cs : List (List ℤ)). Any (λ clause. clause ≡ []) cs) (sym ends.1) (Any-push (λ clause. clause ≡ []) ends.0 [] refl) in
     record {
       log = log;
-      refutes = ((let l : length log.items ≡ 0 = ap length e in omega (arith, l)), inl (e, some));
+      refutes = ((let l : length log.items ≡ 0 = ap length e in omega (arith, l)), inl (e, some), λ _. e);
       says = ap (map content_of) e;
     }
