@@ -10,10 +10,12 @@
 //! where items may be live no more elsewhere; then another begins.
 #![tactic(auto)]
 
+mod chains;
 mod choice;
 mod errors;
 mod finding;
 mod fitting;
+mod forms;
 mod ground;
 mod growing;
 mod index;
@@ -22,6 +24,7 @@ mod making;
 mod marks;
 mod replacing;
 mod rewriting;
+mod shadows;
 mod shapes;
 mod sweeping;
 
