@@ -105,8 +105,8 @@ replaced_as : (write : Instr → List ℕ) (p count : ℕ) (is js : List Instr) 
 replaced_as write p count is js [] e v w = tt
 replaced_as write p count is js (l ∷ ls) e v w =
     elim (is_op l.statement && (p == 0)) as (λ b. AreLaidAs
-        (if b then labels_kept l l.names ++ (map (new_line write) is ++ without (count - 1) ls) else l ∷ replaced_lines write (p - length (places_in l.statement)) count is ls)
-        (if b then labels_kept l l.names ++ (map (new_line write) js ++ without (count - 1) ls) else l ∷ replaced_lines write (p - length (places_in l.statement)) count js ls)) [
+    (if b then labels_kept l l.names ++ (map (new_line write) is ++ without (count - 1) ls) else l ∷ replaced_lines write (p - length (places_in l.statement)) count is ls)
+    (if b then labels_kept l l.names ++ (map (new_line write) js ++ without (count - 1) ls) else l ∷ replaced_lines write (p - length (places_in l.statement)) count js ls)) [
       | true ↦ behind_as (labels_kept l l.names) (map (new_line write) is ++ without (count - 1) ls) (map (new_line write) js ++ without (count - 1) ls) (new_as write is js (without (count - 1) ls) e v w)
       | false ↦ (same_line l, replaced_as write (p - length (places_in l.statement)) count is js ls e v w)
     ]

@@ -231,9 +231,7 @@ fn lowest<L: Ledger>(
     }
     match Form::of(window, live) {
         None => Ok(None),
-        Some(form) => lowest_by(
-            alloc, rules, ground, cursor, window, &form, refused, steps,
-        ),
+        Some(form) => lowest_by(alloc, rules, ground, cursor, window, &form, refused, steps),
     }
 }
 
