@@ -2,7 +2,7 @@
 use Rattle.std.proofs.Common.{◌≡◌, ℕ, ◌+◌, ◌-◌, ◌<◌, ◌≤◌, ◌&&◌, ◌==◌, Bool, true, false, List, [], ◌∷◌, ◌++◌, length, take, drop, map, Option, Some, None, refl, sym, ap, ◌∙◌, subst, ◌⊎◌, inl, inr, arith}
 use Rattle.std.specs.Prelude.{slice_get, if◌then◌else◌}
 use Rattle.std.specs.List.{list_all}
-use Rattle.std.proofs.lemmas.Bool.{and_parts, cases_Bool, lt-ltb}
+use Rattle.std.proofs.lemmas.Bool.{and_parts, lt-ltb}
 use Rattle.std.proofs.lemmas.List.{length-map}
 use Rattle.std.proofs.lemmas.Option.{slice_get_within}
 use Rattle.thumb_instr.specs.declared.instr.Instr.{Instr}
@@ -21,7 +21,7 @@ use Rattle.line_cursor.proofs.Settled.{left_places, IsGap, settled_stay, stay_se
 use Rattle.line_cursor.proofs.Nearer.{applied_gap, applied_stay}
 use Rattle.window_rewrite.specs.Rewriting.{setting}
 use Rattle.window_rewrite.specs.Rules.{is_marked, AreAlike, AreFit, AreLed}
-use Rattle.window_rewrite.specs.Choices.{FitsIn, Meets}
+use Rattle.window_rewrite.specs.Choices.{Meets}
 use Rattle.window_rewrite.proofs.Applied.{made, letters_all}
 
 -- ---- the layout ----

@@ -1,10 +1,10 @@
 -- The canonical form of a window is each left side that stands in it, and where one fits, its mask has what is live.
-use Rattle.std.proofs.Common.{◌≡◌, ℕ, zero, suc, ◌+◌, ◌<◌, ◌≤◌, ◌==◌, ◌&&◌, ◌||◌, Bool, true, false, List, [], ◌∷◌, ◌++◌, length, map, min, Option, Some, None, refl, sym, ap, ◌∙◌, subst, ◌⊎◌, inl, inr, arith, eqb-true, eq-eqb}
+use Rattle.std.proofs.Common.{◌≡◌, ℕ, zero, suc, ◌<◌, ◌≤◌, ◌==◌, ◌&&◌, ◌||◌, Bool, true, false, List, [], ◌∷◌, ◌++◌, length, map, min, Option, Some, None, refl, sym, ap, ◌∙◌, subst, ◌⊎◌, inl, inr, arith, eqb-true, eq-eqb}
 use Rattle.std.specs.Prelude.{slice_get, bit_and}
 use Rattle.std.specs.Int.{bit_at}
 use Rattle.std.specs.List.{flat_map, list_all}
 use Rattle.std.specs.Option.{option_map}
-use Rattle.std.proofs.lemmas.Bool.{and_parts, cases_Bool, or_cases}
+use Rattle.std.proofs.lemmas.Bool.{and_parts, or_cases}
 use Rattle.std.proofs.lemmas.List.{length-map}
 use Rattle.std.proofs.lemmas.Nat.Bits.{bit_at_and, bit_at-lt, same_from_bits}
 use Rattle.std.proofs.lemmas.Option.{slice_get-map, slice_get_within, same_Some}
@@ -15,22 +15,22 @@ use Rattle.thumb_instr.specs.declared.role.Role.TheVariants.{Register}
 use Rattle.thumb_instr.specs.Items.{has, is_in_masks}
 use Rattle.thumb_instr.specs.Parts.{parts_of}
 use Rattle.thumb_instr.specs.Roles.{roles}
-use Rattle.thumb_instr.specs.Window.{is_in_window, normal_of}
+use Rattle.thumb_instr.specs.Window.{is_in_window}
 use Rattle.thumb_instr.specs.Renaming.{Low, named, named_by, renamed, AreBelow, item_under, number_or}
 use Rattle.thumb_instr.proofs.PartLemmas.{same_parts, same_fields}
 use Rattle.thumb_instr.proofs.RenamingLemmas.{below_parts}
 use Rattle.thumb_model.specs.Items.{one_of}
 use Rattle.thumb_model.specs.Rewrite.{Rule, IsSoundRule, register_count}
 use Rattle.rule_table.specs.Binding.{number_under}
-use Rattle.rule_table.specs.Canonical.{appearing, numbers_of, register_has, masked, IsRenamable, IsCanonical}
+use Rattle.rule_table.specs.Canonical.{numbers_of, register_has, masked, IsRenamable, IsCanonical}
 use Rattle.rule_table.proofs.Renamings.{renamed_parts}
 use Rattle.table_audit.specs.Sides.{IsCanonicalSide}
 use Rattle.table_audit.proofs.CanonicalForms.{form_is_side}
 use Rattle.window_rewrite.specs.declared.forms.Form.{Form}
-use Rattle.window_rewrite.specs.Fitting.{is_allowed, Stands, Fits, IsForm}
+use Rattle.window_rewrite.specs.Fitting.{Stands, Fits, IsForm}
 use Rattle.window_rewrite.specs.Forms.{form_of}
 use Rattle.window_rewrite.proofs.Sides.{AreApart, apart, names_below, windows_over, order, register_at, same_numbers, window_count}
-use Rattle.window_rewrite.proofs.Applied.{Allowed, allowed_true}
+use Rattle.window_rewrite.proofs.Applied.{allowed_true}
 
 -- ---- a window in which a left side stands has a canonical form ----
 

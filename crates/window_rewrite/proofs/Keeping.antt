@@ -1,12 +1,12 @@
 -- Which rules are kept, looked at one by one.
-use Rattle.std.proofs.Common.{◌≡◌, ℕ, zero, suc, ◌+◌, ◌<◌, ◌≤◌, Bool, true, false, List, [], ◌∷◌, length, Option, Some, None, refl, sym, ap, ◌∙◌, subst, arith, inl, inr}
+use Rattle.std.proofs.Common.{◌≡◌, ℕ, zero, suc, ◌+◌, ◌<◌, Bool, true, List, [], ◌∷◌, length, Option, Some, None, refl, sym, ap, ◌∙◌, subst, arith, inl, inr}
 use Rattle.std.specs.Prelude.{slice_get, slice_set}
 use Rattle.std.proofs.lemmas.Bool.{cases_eq, cases_lt}
 use Rattle.std.proofs.lemmas.List.{length-set}
 use Rattle.std.proofs.lemmas.Option.{same_Some}
 use Rattle.thumb_model.specs.Rewrite.{Rule}
 use Rattle.window_rewrite.specs.declared.shadows.Kept.{Kept}
-use Rattle.window_rewrite.specs.Rules.{is_marked, is_shorter, AreAlike, AreKept, AreLed, IsLed}
+use Rattle.window_rewrite.specs.Rules.{is_marked, is_shorter, AreKept, IsLed}
 use Rattle.window_rewrite.proofs.Heads.{marked_here, marked_still}
 use Rattle.window_rewrite.proofs.Keys.{set_here, set_other, some_head}
 

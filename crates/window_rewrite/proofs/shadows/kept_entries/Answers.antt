@@ -1,6 +1,5 @@
 use Rattle.std.proofs.Common.{◌≡◌, ◌∙◌, ℕ, List, Option, Some, length, sym, subst}
 use Rattle.std.specs.Prelude.{slice_get}
-use Rattle.window_rewrite.specs.declared.shadows.Kept.{Kept}
 use Rattle.window_rewrite.specs.Rules.{rules_in}
 use Rattle.window_rewrite.proofs.Accepted.{rules_length}
 use Rattle.window_rewrite.proofs.Keeping.{none_kept}

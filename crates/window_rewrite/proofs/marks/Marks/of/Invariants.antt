@@ -1,4 +1,3 @@
-use Rattle.std.proofs.Common.{length}
 use Rattle.window_rewrite.specs.Rules.{rules_in, HaveMarks}
 use Rattle.window_rewrite.proofs.marks.Marks.of.Given as goal
 
