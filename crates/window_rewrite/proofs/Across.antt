@@ -3,7 +3,7 @@ use Rattle.std.proofs.Common.{◌≡◌, ℕ, zero, suc, ◌+◌, ◌-◌, ◌<�
 use Rattle.std.specs.Prelude.{slice_get}
 use Rattle.std.specs.Option.{option_map}
 use Rattle.std.proofs.lemmas.Bool.{lt-ltb}
-use Rattle.std.proofs.lemmas.Option.{slice_get-map, same_Some}
+use Rattle.std.proofs.lemmas.Option.{slice_get-map, slice_get_within, same_Some}
 use Rattle.thumb_instr.specs.declared.instr.Instr.{Instr}
 use Rattle.thumb_instr.specs.Window.{is_in_window, normal_of}
 use Rattle.thumb_instr.specs.Renaming.{Low, renamed}
@@ -77,7 +77,7 @@ record AreNeighbours (index : Index) (lines : List Line) (place : ℕ) : Type 0 
   behind : Instr
   at_before : letter_at (slice_get (places_of lines) (place - 1)) ≡ Some before
   at_behind : letter_at (slice_get (places_of lines) place) ≡ Some behind
-  marked : is_marked index.pairs.items (shape_of (normal_of before ∷ normal_of behind ∷ [])) ≡ true
+  marked : is_marked index.marks.pairs.items (shape_of (normal_of before ∷ normal_of behind ∷ [])) ≡ true
 
 neighbours : (base longest : ℕ) (rules : List Rule) (index : Index) (lines : List Line) (place : ℕ) (o : Replacement) → AreFit longest rules → IsIndex rules index → FitsIn (setting base rules) o lines → o.place < place
     → place < o.place + left_length rules o.entry → AreNeighbours index lines place
@@ -97,7 +97,7 @@ neighbours base longest rules index lines place o fit is a begins ends =
       behind = behind.letter;
       at_before = before.stands;
       at_behind = behind.stands;
-      marked = pair_marked index.pairs.items o.registers window left k before.letter behind.letter (is.pairs o.entry rule (omega arith) a.is_rule (lt-ltb (length rule.right) (length left) a.applies.shorter)) a.applies.matches before.at behind.at (omega arith);
+      marked = pair_marked index.marks.pairs.items o.registers window left k before.letter behind.letter (is.marks.noted o.entry rule (slice_get_within rules o.entry rule a.is_rule) a.is_rule (lt-ltb (length rule.right) (length left) a.applies.shorter)).pairs a.applies.matches before.at behind.at (omega arith);
     }
 
 -- none reaches across a place before which no instruction stands that may stand in a window
@@ -118,10 +118,10 @@ none_behind base longest rules index lines place behind fit is at none o a begin
 
 -- nor one between two whose number isn't marked
 pub none_marked : (base longest : ℕ) (rules : List Rule) (index : Index) (lines : List Line) (place : ℕ) (before behind : Instr) → AreFit longest rules → IsIndex rules index → (0 < place → Some before ≡ letter_at (slice_get (places_of lines) (place - 1)))
-    → Some behind ≡ letter_at (slice_get (places_of lines) place) → is_marked index.pairs.items (shape_of (normal_of before ∷ normal_of behind ∷ [])) ≡ false → NoneAcross (setting base rules) lines place
+    → Some behind ≡ letter_at (slice_get (places_of lines) place) → is_marked index.marks.pairs.items (shape_of (normal_of before ∷ normal_of behind ∷ [])) ≡ false → NoneAcross (setting base rules) lines place
 none_marked base longest rules index lines place before behind fit is at_before at_behind missing o a begins ends =
     let n = neighbours base longest rules index lines place o fit is a begins ends in
     let one : before ≡ n.before = same_Some before n.before (at_before (omega arith) ∙ n.at_before) in
     let other : behind ≡ n.behind = same_Some behind n.behind (at_behind ∙ n.at_behind) in
-    let bad : true ≡ false = sym n.marked ∙ sym (ap (λ (i : Instr). is_marked index.pairs.items (shape_of (normal_of i ∷ normal_of behind ∷ []))) one ∙ ap (λ (i : Instr). is_marked index.pairs.items (shape_of (normal_of n.before ∷ normal_of i ∷ []))) other) ∙ missing in
+    let bad : true ≡ false = sym n.marked ∙ sym (ap (λ (i : Instr). is_marked index.marks.pairs.items (shape_of (normal_of i ∷ normal_of behind ∷ []))) one ∙ ap (λ (i : Instr). is_marked index.marks.pairs.items (shape_of (normal_of n.before ∷ normal_of i ∷ []))) other) ∙ missing in
     absurd (cc)

@@ -35,14 +35,14 @@ use Rattle.window_rewrite.proofs.Sides.{window_count}
 
 -- ---- items ----
 
-abbrev Allowed : List ℕ → List Low → ℕ → Type 0
+abbrev pub Allowed : List ℕ → List Low → ℕ → Type 0
 Allowed mask registers x = (one_of x (map (item_under registers) mask) ≡ true) ⊎ ((x < 15) × (one_of x (map (λ r. r.number) registers) ≡ false))
 
 not_true : (a : Bool) → not a ≡ true → a ≡ false
 not_true true e = absurd (cc)
 not_true false e = refl
 
-allowed_true : (mask : List ℕ) (registers : List Low) (x : ℕ) → is_allowed mask registers x ≡ true → Allowed mask registers x
+pub allowed_true : (mask : List ℕ) (registers : List Low) (x : ℕ) → is_allowed mask registers x ≡ true → Allowed mask registers x
 allowed_true mask registers x h = elim (or_cases (one_of x (map (item_under registers) mask)) (nat_lt x 15 && not (one_of x (map (λ r. r.number) registers))) h) [
   | inl m ↦ inl m
   | inr o ↦ (let b = and_parts (nat_lt x 15) (not (one_of x (map (λ r. r.number) registers))) o in inr (ltb-true x 15 b.0, not_true _ b.1))

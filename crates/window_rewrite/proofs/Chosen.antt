@@ -8,10 +8,10 @@ use Rattle.std.proofs.lemmas.Option.{slice_get_within}
 use Rattle.std.proofs.lemmas.Bool.{cases_lt, cases_Bool, eqb-true, ltb-true, lt-ltb}
 use Rattle.thumb_instr.specs.declared.instr.Instr.{Instr}
 use Rattle.thumb_instr.specs.Items.{has}
-use Rattle.thumb_instr.specs.Window.{is_in_window}
+use Rattle.thumb_instr.specs.Window.{is_in_window, normal_of}
 use Rattle.thumb_instr.specs.Renaming.{Low}
 use Rattle.thumb_model.specs.Listing.{plain, Place, Label, Line, places_of, labels_from, code_of, is_op_place}
-use Rattle.thumb_model.specs.Rewrite.{Rule}
+use Rattle.thumb_model.specs.Rewrite.{Rule, IsSoundRule}
 use Rattle.thumb_model.specs.Rewritten.{Setting, Replacement, NoneApplies, are_joined_from, left_length, left_length_of}
 use Rattle.thumb_model.specs.Flow.{LiveAfter}
 use Rattle.thumb_model.proofs.Lists.{get_back, length_map, take_all, take_short, length_drop}
@@ -39,13 +39,18 @@ use Rattle.line_cursor.proofs.Labels.{op_within}
 use Rattle.line_cursor.proofs.Nearer.{first_op, places_append}
 use Rattle.window_rewrite.specs.declared.choice.Choice.{Choice}
 use Rattle.window_rewrite.specs.Rewriting.{setting}
-use Rattle.window_rewrite.specs.Rules.{rules_in, is_shorter, AreFit, first_with}
+use Rattle.table_audit.specs.Sides.{IsCanonicalSide}
+use Rattle.window_rewrite.specs.declared.marks.Marks.{Marks}
+use Rattle.window_rewrite.specs.Rules.{rules_in, is_marked, AreFit, AreLed, HaveMarks, first_with}
 use Rattle.window_rewrite.specs.Shapes.{shape_of}
-use Rattle.window_rewrite.specs.Fitting.{Shortens}
+use Rattle.window_rewrite.specs.Forms.{form_of}
+use Rattle.window_rewrite.specs.Fitting.{Shortens, Stands}
 use Rattle.window_rewrite.specs.Choices.{Awaits, choice_of, FitsIn, IsChoice, IsLowest, Meets, NoneOf, IsBest, NoneAt, NoneBefore, IsFirstChoice, of_length, longer}
 use Rattle.window_rewrite.specs.Sweeps.{IsKept}
 use Rattle.window_rewrite.proofs.Applied.{made, back, meets, meets_less}
 use Rattle.window_rewrite.proofs.Keys.{awaited, none_awaited}
+use Rattle.window_rewrite.proofs.Heads.{stands_shape}
+use Rattle.window_rewrite.proofs.Alike.{led_to}
 use Rattle.window_rewrite.proofs.Behind.{IsAhead, op_place, places_there}
 
 -- ---- counts of rules ----
@@ -154,50 +159,62 @@ stands_in base rules lines place window live o there a at long =
     }
 
 -- the search through the rules that may stand in a window: those below k don't meet this
-pub record IsSearch (asked : Bool) (base : ℕ) (rules : List Rule) (lines : List Line) (place : ℕ) (window : List Instr) (at : Option ℕ) (start steps : ℕ) : Type 0 where
+pub record IsSearch (asked : Bool) (base : ℕ) (rules : List Rule) (kept : List Bool) (lines : List Line) (place : ℕ) (window : List Instr) (at : Option ℕ) (start steps : ℕ) : Type 0 where
+  pub longest : ℕ
+  pub fit : AreFit longest rules
+  pub led : AreLed rules kept (length rules)
   pub k : ℕ
-  pub awaits : Awaits rules window k at
+  pub awaits : Awaits rules kept window k at
   pub none : (o : Replacement) → Meets asked (setting base rules) o lines → o.place ≡ place → left_length rules o.entry ≡ length window → o.entry < k → ⊥
   pub cost : steps ≤ start + of_length (length window) (take k rules)
 
-pub search_begins : (asked : Bool) (base : ℕ) (rules : List Rule) (lines : List Line) (place : ℕ) (window : List Instr) (live : ℕ) (at : Option ℕ) (start : ℕ) → StandsThere lines (spot_of place (length window)) window live
-    → Awaits rules window 0 at → IsSearch asked base rules lines place window at start start
-search_begins asked base rules lines place window live at start there awaits = record { k = 0; awaits = awaits; none = λ o a e l h. absurd (omega arith); cost = omega arith }
+pub search_begins : (asked : Bool) (base longest : ℕ) (rules : List Rule) (kept : List Bool) (lines : List Line) (place : ℕ) (window : List Instr) (at : Option ℕ) (start : ℕ) → AreFit longest rules → AreLed rules kept (length rules)
+    → Awaits rules kept window 0 at → IsSearch asked base rules kept lines place window at start start
+search_begins asked base longest rules kept lines place window at start fit led awaits = record { longest = longest; fit = fit; led = led; k = 0; awaits = awaits; none = λ o a e l h. absurd (omega arith); cost = omega arith }
 
--- none meets it below the next rule
-none_before : (asked : Bool) (base : ℕ) (rules : List Rule) (lines : List Line) (place : ℕ) (window : List Instr) (live n : ℕ) (at : Option ℕ) (start steps : ℕ) → StandsThere lines (spot_of place (length window)) window live
-    → IsSearch asked base rules lines place window at start steps → at ≡ Some n
+-- none meets it below the next rule: else one that is kept would
+none_before : (asked : Bool) (base : ℕ) (rules : List Rule) (kept : List Bool) (lines : List Line) (place : ℕ) (window : List Instr) (live n : ℕ) (at : Option ℕ) (start steps : ℕ) → StandsThere lines (spot_of place (length window)) window live
+    → IsSearch asked base rules kept lines place window at start steps → at ≡ Some n
     → (o : Replacement) → Meets asked (setting base rules) o lines → o.place ≡ place → left_length rules o.entry ≡ length window → o.entry < n → ⊥
-none_before asked base rules lines place window live n at start steps there s is o a e l h = elim (cases_lt o.entry s.k) [
-  | inl b ↦ s.none o a e l b
-  | inr b ↦ (
-      let next = awaited rules window s.k n at s.awaits is in
-      let i = stands_in base rules lines place window live o there a.0 e l in
-      next.none o.entry i.rule o.registers b h i.at i.shortens
-      )
-]
+none_before asked base rules kept lines place window live n at start steps there s is o a e l h =
+    let d = led_to asked base s.longest rules kept lines o s.fit s.led a in
+    let no_later = d.no_later in
+    elim (cases_lt d.leader s.k) [
+      | inl b ↦ s.none (made o.place d.leader o.registers) d.meets e (d.as_long ∙ l) b
+      | inr b ↦ (
+          let next = awaited rules kept window s.k n at s.awaits is in
+          let i = stands_in base rules lines place window live (made o.place d.leader o.registers) there d.meets.0 e (d.as_long ∙ l) in
+          next.none d.leader i.rule o.registers b (omega arith) i.at d.is_kept i.shortens
+          )
+    ]
 
-pub search_next : (was asked : Bool) (base : ℕ) (rules : List Rule) (lines : List Line) (place : ℕ) (window : List Instr) (live n : ℕ) (at next : Option ℕ) (start steps after : ℕ) → StandsThere lines (spot_of place (length window)) window live
-    → IsSearch was base rules lines place window at start steps → at ≡ Some n → (was ≡ true → asked ≡ true)
+pub search_next : (was asked : Bool) (base : ℕ) (rules : List Rule) (kept : List Bool) (lines : List Line) (place : ℕ) (window : List Instr) (live n : ℕ) (at next : Option ℕ) (start steps after : ℕ) → StandsThere lines (spot_of place (length window)) window live
+    → IsSearch was base rules kept lines place window at start steps → at ≡ Some n → (was ≡ true → asked ≡ true)
     → (left_length rules n ≡ length window → (registers : List Low) → Meets asked (setting base rules) (made place n registers) lines → ⊥)
-    → ((rule : Rule) → slice_get rules n ≡ Some rule → is_shorter rule ≡ true → next ≡ first_with (shape_of rule.left) (n + 1) (drop (n + 1) rules)) → after ≤ steps + from_bool (left_length rules n == length window)
-    → IsSearch asked base rules lines place window next start after
-search_next was asked base rules lines place window live n at next start steps after there s is stays none more cost =
-    let i = awaited rules window s.k n at s.awaits is in
+    → ((rule : Rule) → slice_get rules n ≡ Some rule → is_marked kept n ≡ true → next ≡ first_with kept (form_of rule.left) (n + 1) (drop (n + 1) rules)) → after ≤ steps + from_bool (left_length rules n == length window)
+    → IsSearch asked base rules kept lines place window next start after
+search_next was asked base rules kept lines place window live n at next start steps after there s is stays none more cost =
+    let i = awaited rules kept window s.k n at s.awaits is in
     let one : of_length (length window) (take n rules) + from_bool (length i.rule.left == length window) ≤ of_length (length window) (take (suc n) rules) = taken_one (length window) rules n i.rule i.at in
     let before : of_length (length window) (take s.k rules) ≤ of_length (length window) (take n rules) = taken_more (length window) rules s.k n i.from in
     let tried : from_bool (left_length rules n == length window) ≡ from_bool (length i.rule.left == length window) = ap (λ m. from_bool (m == length window)) (length_at rules n i.rule i.at) in
     let here = s.cost in
     record {
+      longest = s.longest;
+      fit = s.fit;
+      led = s.led;
       k = n + 1;
-      awaits = i.more next (more i.rule i.at i.shorter);
-      none = λ o a e l h. elim (cases_lt o.entry n) [
-        | inl b ↦ none_before was base rules lines place window live n at start steps there s is o (meets_less was asked (setting base rules) o lines stays a) e l b
-        | inr b ↦ (
-            let same : o.entry ≡ n = omega arith in
-            none (ap (left_length rules) (sym same) ∙ l) o.registers (subst (λ m. Meets asked (setting base rules) (made place m o.registers) lines) same (subst (λ p. Meets asked (setting base rules) (made p o.entry o.registers) lines) e a))
-            )
-      ];
+      awaits = i.more next (more i.rule i.at i.is_kept);
+      none = λ o a e l h.
+          let d = led_to asked base s.longest rules kept lines o s.fit s.led a in
+          let no_later = d.no_later in
+          elim (cases_lt d.leader n) [
+            | inl b ↦ none_before was base rules kept lines place window live n at start steps there s is (made o.place d.leader o.registers) (meets_less was asked (setting base rules) (made o.place d.leader o.registers) lines stays d.meets) e (d.as_long ∙ l) b
+            | inr b ↦ (
+                let same : d.leader ≡ n = omega arith in
+                none (ap (left_length rules) (sym same) ∙ (d.as_long ∙ l)) o.registers (subst (λ m. Meets asked (setting base rules) (made place m o.registers) lines) same (subst (λ p. Meets asked (setting base rules) (made p d.leader o.registers) lines) e d.meets))
+                )
+          ];
       cost = subst (λ m. after ≤ start + of_length (length window) (take m rules)) (let e : suc n ≡ n + 1 = omega arith in e) (omega (arith, one, before, tried, here, cost));
     }
 
@@ -206,39 +223,39 @@ abbrev pub left_of : List Rule → Option ℕ → ℕ
 left_of rules None = 0
 left_of rules (Some n) = length rules - n
 
-pub search_smaller : (asked : Bool) (base : ℕ) (rules : List Rule) (lines : List Line) (place : ℕ) (window : List Instr) (n : ℕ) (at next : Option ℕ) (start steps : ℕ)
-    → IsSearch asked base rules lines place window at start steps → at ≡ Some n → (k : ℕ) → n + 1 ≤ k → Awaits rules window k next → left_of rules next < left_of rules at
-search_smaller asked base rules lines place window n at next start steps s is k h a =
-    let i = awaited rules window s.k n at s.awaits is in
+pub search_smaller : (asked : Bool) (base : ℕ) (rules : List Rule) (kept : List Bool) (lines : List Line) (place : ℕ) (window : List Instr) (n : ℕ) (at next : Option ℕ) (start steps : ℕ)
+    → IsSearch asked base rules kept lines place window at start steps → at ≡ Some n → (k : ℕ) → n + 1 ≤ k → Awaits rules kept window k next → left_of rules next < left_of rules at
+search_smaller asked base rules kept lines place window n at next start steps s is k h a =
+    let i = awaited rules kept window s.k n at s.awaits is in
     let inside : n < length rules = slice_get_within rules n i.rule i.at in
     subst (λ o. left_of rules next < left_of rules o) (sym is) (by next refl inside)
   where
     by : (o : Option ℕ) → next ≡ o → n < length rules → left_of rules o < length rules - n
     by None e g = omega arith
     by (Some m) e g =
-        let j = awaited rules window k m next a e in
+        let j = awaited rules kept window k m next a e in
         let from = j.from in
         let inside : m < length rules = slice_get_within rules m j.rule j.at in
         omega arith
 
-pub search_found : (asked : Bool) (base : ℕ) (rules : List Rule) (lines : List Line) (place : ℕ) (window : List Instr) (live n : ℕ) (at : Option ℕ) (start steps : ℕ) (c : Choice) → StandsThere lines (spot_of place (length window)) window live
-    → IsSearch asked base rules lines place window at start steps → at ≡ Some n
+pub search_found : (asked : Bool) (base : ℕ) (rules : List Rule) (kept : List Bool) (lines : List Line) (place : ℕ) (window : List Instr) (live n : ℕ) (at : Option ℕ) (start steps : ℕ) (c : Choice) → StandsThere lines (spot_of place (length window)) window live
+    → IsSearch asked base rules kept lines place window at start steps → at ≡ Some n
     → left_length rules n ≡ length window → IsChoice (setting base rules) lines c → (choice_of c).place ≡ place → (choice_of c).entry ≡ n → IsLowest (setting base rules) lines place (length window) c
-search_found asked base rules lines place window live n at start steps c there s is long choice here entry =
+search_found asked base rules kept lines place window live n at start steps c there s is long choice here entry =
     record {
       is = choice;
       at = here;
       long = ap (left_length rules) entry ∙ long;
       lowest = λ o a e l. elim (cases_lt o.entry n) [
-        | inl b ↦ absurd (none_before asked base rules lines place window live n at start steps there s is o (meets asked (setting base rules) o lines a) e l b)
+        | inl b ↦ absurd (none_before asked base rules kept lines place window live n at start steps there s is o (meets asked (setting base rules) o lines a) e l b)
         | inr b ↦ omega arith
       ];
     }
 
-pub search_cost : (asked : Bool) (base : ℕ) (rules : List Rule) (lines : List Line) (place : ℕ) (window : List Instr) (n : ℕ) (at : Option ℕ) (start steps after : ℕ) → IsSearch asked base rules lines place window at start steps → at ≡ Some n
+pub search_cost : (asked : Bool) (base : ℕ) (rules : List Rule) (kept : List Bool) (lines : List Line) (place : ℕ) (window : List Instr) (n : ℕ) (at : Option ℕ) (start steps after : ℕ) → IsSearch asked base rules kept lines place window at start steps → at ≡ Some n
     → after ≤ steps + from_bool (left_length rules n == length window) → after ≤ start + of_length (length window) rules
-search_cost asked base rules lines place window n at start steps after s is cost =
-    let i = awaited rules window s.k n at s.awaits is in
+search_cost asked base rules kept lines place window n at start steps after s is cost =
+    let i = awaited rules kept window s.k n at s.awaits is in
     let one : of_length (length window) (take n rules) + from_bool (length i.rule.left == length window) ≤ of_length (length window) (take (suc n) rules) = taken_one (length window) rules n i.rule i.at in
     let before : of_length (length window) (take s.k rules) ≤ of_length (length window) (take n rules) = taken_more (length window) rules s.k n i.from in
     let all : of_length (length window) (take (suc n) rules) ≤ of_length (length window) rules = taken_all (length window) rules (suc n) in
@@ -246,20 +263,42 @@ search_cost asked base rules lines place window n at start steps after s is cost
     let here = s.cost in
     omega (arith, one, before, all, tried, here, cost)
 
-pub search_none : (asked : Bool) (base : ℕ) (rules : List Rule) (lines : List Line) (place : ℕ) (window : List Instr) (live : ℕ) (at : Option ℕ) (start steps : ℕ) → StandsThere lines (spot_of place (length window)) window live
-    → IsSearch asked base rules lines place window at start steps → at ≡ None → NoneOf asked (setting base rules) lines place (length window)
-search_none asked base rules lines place window live at start steps there s is o a e l = elim (cases_lt o.entry s.k) [
-  | inl b ↦ s.none o a e l b
-  | inr b ↦ (let i = stands_in base rules lines place window live o there a.0 e l in none_awaited rules window s.k at s.awaits is o.entry i.rule o.registers b i.at i.shortens)
-]
+pub search_none : (asked : Bool) (base : ℕ) (rules : List Rule) (kept : List Bool) (lines : List Line) (place : ℕ) (window : List Instr) (live : ℕ) (at : Option ℕ) (start steps : ℕ) → StandsThere lines (spot_of place (length window)) window live
+    → IsSearch asked base rules kept lines place window at start steps → at ≡ None → NoneOf asked (setting base rules) lines place (length window)
+search_none asked base rules kept lines place window live at start steps there s is o a e l =
+    let d = led_to asked base s.longest rules kept lines o s.fit s.led a in
+    elim (cases_lt d.leader s.k) [
+      | inl b ↦ s.none (made o.place d.leader o.registers) d.meets e (d.as_long ∙ l) b
+      | inr b ↦ (
+          let i = stands_in base rules lines place window live (made o.place d.leader o.registers) there d.meets.0 e (d.as_long ∙ l) in
+          none_awaited rules kept window s.k at s.awaits is d.leader i.rule o.registers b i.at d.is_kept i.shortens
+          )
+    ]
 
-pub none_cost : (asked : Bool) (base : ℕ) (rules : List Rule) (lines : List Line) (place : ℕ) (window : List Instr) (at : Option ℕ) (start steps : ℕ) → IsSearch asked base rules lines place window at start steps → steps ≤ start + of_length (length window) rules
-none_cost asked base rules lines place window at start steps s = let c = s.cost in let all = taken_all (length window) rules s.k in omega arith
+pub none_cost : (asked : Bool) (base : ℕ) (rules : List Rule) (kept : List Bool) (lines : List Line) (place : ℕ) (window : List Instr) (at : Option ℕ) (start steps : ℕ) → IsSearch asked base rules kept lines place window at start steps → steps ≤ start + of_length (length window) rules
+none_cost asked base rules kept lines place window at start steps s = let c = s.cost in let all = taken_all (length window) rules s.k in omega arith
 
-pub next_within : (entries : List Entry) (window : List Instr) (k n : ℕ) (o : Option ℕ) → Awaits (rules_in entries) window k o → o ≡ Some n → n < length entries
-next_within entries window k n o a e =
-    let i = awaited (rules_in entries) window k n o a e in
+pub next_within : (entries : List Entry) (kept : List Bool) (window : List Instr) (k n : ℕ) (o : Option ℕ) → Awaits (rules_in entries) kept window k o → o ≡ Some n → n < length entries
+next_within entries kept window k n o a e =
+    let i = awaited (rules_in entries) kept window k n o a e in
     omega (arith, slice_get_within (rules_in entries) n i.rule i.at, length_map rewriting_rule (map rule_of entries), length_map rule_of entries)
+
+-- no left side stands in a window whose number isn't marked
+pub none_whole : (asked : Bool) (base : ℕ) (rules : List Rule) (marks : Marks) (lines : List Line) (place shape : ℕ) (window : List Instr) (live : ℕ) → HaveMarks rules (length rules) marks → StandsThere lines (spot_of place (length window)) window live
+    → shape ≡ shape_of (map normal_of window) → is_marked marks.wholes.items shape ≡ false → NoneOf asked (setting base rules) lines place (length window)
+none_whole asked base rules marks lines place shape window live have there is missing o a e l =
+    let i = stands_in base rules lines place window live o there a.0 e l in
+    let noted = have.noted o.entry i.rule (slice_get_within rules o.entry i.rule i.at) i.at (lt-ltb (length i.rule.right) (length i.rule.left) i.shortens.shorter) in
+    let bad : true ≡ false = sym noted.whole ∙ ap (is_marked marks.wholes.items) (stands_shape i.rule o.registers window i.shortens ∙ sym is) ∙ missing in
+    absurd (cc)
+
+-- nor in one that no left side has the form of
+pub none_formed : (asked : Bool) (base longest : ℕ) (rules : List Rule) (lines : List Line) (place : ℕ) (window : List Instr) (live : ℕ) → AreFit longest rules → StandsThere lines (spot_of place (length window)) window live
+    → ((rule : Rule) (registers : List Low) → IsSoundRule rule → IsCanonicalSide rule.left → Stands rule registers window → ⊥) → NoneOf asked (setting base rules) lines place (length window)
+none_formed asked base longest rules lines place window live fit there none o a e l =
+    let i = stands_in base rules lines place window live o there a.0 e l in
+    let f = fit o.entry i.rule i.at in
+    none i.rule o.registers f.sound f.canonical i.shortens.stands
 
 -- ---- the best entry of a place ----
 

@@ -1,8 +1,7 @@
 -- What a left side shares with each window in which it stands.
-use Rattle.std.proofs.Common.{◌≡◌, ℕ, zero, suc, ◌+◌, ◌-◌, ◌*◌, ◌<◌, ◌≤◌, ◌%◌, Bool, true, false, List, [], ◌∷◌, length, take, map, Option, Some, None, refl, sym, ap, ◌∙◌, subst, arith, inl, inr}
+use Rattle.std.proofs.Common.{◌≡◌, ℕ, zero, suc, ◌+◌, ◌-◌, ◌*◌, ◌<◌, ◌≤◌, ◌%◌, Bool, true, false, List, [], ◌∷◌, length, take, map, Some, refl, sym, ap, ◌∙◌, subst, arith, inl, inr}
 use Rattle.std.specs.Prelude.{slice_get, slice_set}
 use Rattle.std.proofs.lemmas.Bool.{cases_lt, lt-ltb}
-use Rattle.std.proofs.lemmas.List.{length-set}
 use Rattle.std.proofs.lemmas.Option.{same_Some, slice_get_within}
 use Rattle.thumb_instr.specs.declared.instr.Instr.{Instr}
 use Rattle.thumb_instr.specs.declared.instr.Instr.TheVariants as instr
@@ -10,11 +9,10 @@ use Rattle.thumb_instr.specs.Window.{normal_of}
 use Rattle.thumb_instr.specs.Renaming.{Low, renamed}
 use Rattle.thumb_model.specs.Rewrite.{Rule, normalised}
 use Rattle.thumb_model.proofs.Lists.{length_map}
-use Rattle.window_rewrite.specs.Rules.{is_marked, is_shorter, AreMarked, ArePaired, IsIndexFrom}
+use Rattle.window_rewrite.specs.Rules.{is_marked, is_shorter, AreMarked, ArePaired, HaveMarks, IsNoted}
 use Rattle.window_rewrite.specs.Shapes.{head_number, next_shape, shape_from, shape_of}
-use Rattle.window_rewrite.specs.declared.index.Index.{Index}
+use Rattle.window_rewrite.specs.declared.marks.Marks.{Marks}
 use Rattle.window_rewrite.specs.Fitting.{Shortens}
-use Rattle.window_rewrite.proofs.Keys.{first_past, first_same, firsts_more, nexts_more}
 
 -- ---- windows ----
 
@@ -106,85 +104,20 @@ pair_more old new side at shape i j kept here some before behind is a = λ b x y
       )
 ]
 
--- ---- the index ----
-
--- of no rules
-pub empty_index : (rules : List Rule) (n : ℕ) (index : Index) → length rules ≤ n → length index.firsts.items ≡ 65536 → ((q : ℕ) (first : Option ℕ) → slice_get index.firsts.items q ≡ Some first → first ≡ None)
-    → length index.nexts.items ≡ length rules → length index.fronts.items ≡ 65536 → length index.pairs.items ≡ 65536 → IsIndexFrom rules n index
-empty_index rules n index h many_firsts none many fronts pairs = record {
-  many_firsts = many_firsts;
-  firsts = λ shape first at. none shape first at ∙ sym (first_past rules shape n h);
-  as_many = many;
-  nexts = λ k rule next l at f g. absurd (omega (arith, l, h, slice_get_within rules k rule at));
-  many_fronts = fronts;
-  fronts = λ k rule l at f. absurd (omega (arith, l, h, slice_get_within rules k rule at));
-  many_pairs = pairs;
-  pairs = λ k rule l at f. absurd (omega (arith, l, h, slice_get_within rules k rule at));
+-- what is marked stays so while marks come
+pub still_noted : (old new : Marks) (rule : Rule) → ((q : ℕ) → is_marked old.wholes.items q ≡ true → is_marked new.wholes.items q ≡ true) → ((q : ℕ) → is_marked old.fronts.items q ≡ true → is_marked new.fronts.items q ≡ true)
+    → ((q : ℕ) → is_marked old.pairs.items q ≡ true → is_marked new.pairs.items q ≡ true) → IsNoted old rule → IsNoted new rule
+still_noted old new rule wholes fronts pairs n = record {
+  whole = wholes (shape_of rule.left) n.whole;
+  fronts = λ a w. fronts (shape_of (take (suc a) rule.left)) (n.fronts a w);
+  pairs = λ a i j w first second. pairs (shape_of (i ∷ j ∷ [])) (n.pairs a i j w first second);
 }
-
--- with one that leaves as many before them
-pub same_index : (rules : List Rule) (n : ℕ) (rule : Rule) (index : Index) → slice_get rules n ≡ Some rule → is_shorter rule ≡ false → IsIndexFrom rules (n + 1) index → IsIndexFrom rules n index
-same_index rules n rule index at f x = record {
-  many_firsts = x.many_firsts;
-  firsts = λ shape first g. x.firsts shape first g ∙ sym (first_same rules shape n rule at f);
-  as_many = x.as_many;
-  nexts = λ k own next l here s g. elim (cases_lt n k) [
-    | inl m ↦ x.nexts k own next (omega arith) here s g
-    | inr m ↦ absurd (none k own l m here s)
-  ];
-  many_fronts = x.many_fronts;
-  fronts = λ k own l here s. elim (cases_lt n k) [
-    | inl m ↦ x.fronts k own (omega arith) here s
-    | inr m ↦ absurd (none k own l m here s)
-  ];
-  many_pairs = x.many_pairs;
-  pairs = λ k own l here s. elim (cases_lt n k) [
-    | inl m ↦ x.pairs k own (omega arith) here s
-    | inr m ↦ absurd (none k own l m here s)
-  ];
-}
-  where
-    none : (k : ℕ) (own : Rule) → n ≤ k → k ≤ n → slice_get rules k ≡ Some own → is_shorter own ≡ true → ⊥
-    none k own l m here s =
-        let same : k ≡ n = omega arith in
-        let is : own ≡ rule = same_Some own rule (sym here ∙ ap (slice_get rules) same ∙ at) in
-        let bad : true ≡ false = sym s ∙ ap is_shorter is ∙ f in
-        absurd (cc)
-
--- with one that leaves fewer
-pub more_index : (rules : List Rule) (n : ℕ) (rule : Rule) (old new : Index) (o : Option ℕ) → slice_get rules n ≡ Some rule → is_shorter rule ≡ true → IsIndexFrom rules (n + 1) old → shape_of rule.left < 65536
-    → slice_get old.firsts.items (shape_of rule.left) ≡ Some o → new.firsts.items ≡ slice_set old.firsts.items (shape_of rule.left) (Some n) → new.nexts.items ≡ slice_set old.nexts.items n o
-    → length new.fronts.items ≡ 65536 → ((q : ℕ) → is_marked old.fronts.items q ≡ true → is_marked new.fronts.items q ≡ true) → AreMarked new.fronts.items rule.left (length rule.left)
-    → length new.pairs.items ≡ 65536 → ((q : ℕ) → is_marked old.pairs.items q ≡ true → is_marked new.pairs.items q ≡ true) → ArePaired new.pairs.items rule.left (length rule.left)
-    → IsIndexFrom rules n new
-more_index rules n rule old new o at f x small was firsts nexts many kept fronts many_pairs pairs_kept pairs =
-    let within : n < length rules = slice_get_within rules n rule at in
-    let room : shape_of rule.left < length old.firsts.items = omega (arith, small, x.many_firsts) in
-    record {
-      many_firsts = ap (λ (l : List (Option ℕ)). length l) firsts ∙ length-set old.firsts.items (shape_of rule.left) (Some n) ∙ x.many_firsts;
-      firsts = firsts_more rules n rule old.firsts.items new.firsts.items at f room firsts x.firsts;
-      as_many = ap (λ (l : List (Option ℕ)). length l) nexts ∙ length-set old.nexts.items n o ∙ x.as_many;
-      nexts = nexts_more rules old.nexts.items new.nexts.items n rule o (omega (arith, within, x.as_many)) at nexts (x.firsts (shape_of rule.left) o was) x.nexts;
-      many_fronts = many;
-      fronts = λ k own l here s. elim (cases_lt n k) [
-        | inl m ↦ λ a w. kept (shape_of (take (suc a) own.left)) (x.fronts k own (omega arith) here s a w)
-        | inr m ↦ subst (λ (r : Rule). AreMarked new.fronts.items r.left (length r.left)) (sym (one k own l m here)) fronts
-      ];
-      many_pairs = many_pairs;
-      pairs = λ k own l here s. elim (cases_lt n k) [
-        | inl m ↦ λ a i j w first second. pairs_kept (shape_of (i ∷ j ∷ [])) (x.pairs k own (omega arith) here s a i j w first second)
-        | inr m ↦ subst (λ (r : Rule). ArePaired new.pairs.items r.left (length r.left)) (sym (one k own l m here)) pairs
-      ];
-    }
-  where
-    one : (k : ℕ) (own : Rule) → n ≤ k → k ≤ n → slice_get rules k ≡ Some own → own ≡ rule
-    one k own l m here = let same : k ≡ n = omega arith in same_Some own rule (sym here ∙ ap (slice_get rules) same ∙ at)
 
 -- where a front of a run isn't marked, no left side that stands first in the run is as long
-pub unreached : (rules : List Rule) (index : Index) (run : List Instr) (at shape : ℕ) → IsIndexFrom rules 0 index → shape ≡ shape_of (take (at + 1) (map normal_of run)) → is_marked index.fronts.items shape ≡ false
+pub unreached : (rules : List Rule) (marks : Marks) (run : List Instr) (at shape : ℕ) → HaveMarks rules (length rules) marks → shape ≡ shape_of (take (at + 1) (map normal_of run)) → is_marked marks.fronts.items shape ≡ false
     → (n k : ℕ) (rule : Rule) (registers : List Low) → at < length rule.left → slice_get rules k ≡ Some rule → Shortens rule registers (take n run) → ⊥
-unreached rules index run at shape is shape_is missing n k rule registers longer is_rule s =
-    let marked : is_marked index.fronts.items (shape_of (take (suc at) rule.left)) ≡ true = is.fronts k rule (omega arith) is_rule (shorter_is rule registers (take n run) s) at longer in
+unreached rules marks run at shape is shape_is missing n k rule registers longer is_rule s =
+    let marked : is_marked marks.fronts.items (shape_of (take (suc at) rule.left)) ≡ true = (is.noted k rule (slice_get_within rules k rule is_rule) is_rule (shorter_is rule registers (take n run) s)).fronts at longer in
     let count = ap (λ (is : List Instr). length is) s.stands.matches in
     let long : suc at ≤ n = omega (arith, count, length_map (renamed registers) rule.left, length_map normalised (take n run), taken n run) in
     let front : take (suc at) (map normal_of run) ≡ map (renamed registers) (take (suc at) rule.left) =
@@ -192,7 +125,7 @@ unreached rules index run at shape is shape_is missing n k rule registers longer
     let same : shape ≡ shape_of (take (suc at) rule.left) =
     shape_is ∙ ap (λ m. shape_of (take m (map normal_of run))) (let one : at + 1 ≡ suc at = omega arith in one)
     ∙ shape_renamed registers 0 (take (suc at) rule.left) (take (suc at) (map normal_of run)) front in
-    let bad : true ≡ false = sym marked ∙ ap (is_marked index.fronts.items) (sym same) ∙ missing in
+    let bad : true ≡ false = sym marked ∙ ap (is_marked marks.fronts.items) (sym same) ∙ missing in
     absurd (cc)
   where
     taken : (n : ℕ) (is : List Instr) → length (take n is) ≤ n
@@ -203,3 +136,40 @@ unreached rules index run at shape is shape_is missing n k rule registers longer
 -- a left side that stands in a window has its number
 pub stands_shape : (rule : Rule) (registers : List Low) (window : List Instr) → Shortens rule registers window → shape_of rule.left ≡ shape_of (map normal_of window)
 stands_shape rule registers window s = sym (shape_renamed registers 0 rule.left (map normal_of window) s.stands.matches)
+
+-- marks of no rules
+pub no_marks : (rules : List Rule) (marks : Marks) → length marks.wholes.items ≡ 65536 → length marks.fronts.items ≡ 65536 → length marks.pairs.items ≡ 65536 → HaveMarks rules 0 marks
+no_marks rules marks wholes fronts pairs = record { many_wholes = wholes; many_fronts = fronts; many_pairs = pairs; noted = λ k rule l at f. absurd (omega (arith, l)) }
+
+-- one rule more that leaves as many
+pub same_marks : (rules : List Rule) (n : ℕ) (rule : Rule) (marks : Marks) → slice_get rules n ≡ Some rule → is_shorter rule ≡ false → HaveMarks rules n marks → HaveMarks rules (n + 1) marks
+same_marks rules n rule marks at f x = record {
+  many_wholes = x.many_wholes;
+  many_fronts = x.many_fronts;
+  many_pairs = x.many_pairs;
+  noted = λ k own l here s. elim (cases_lt k n) [
+    | inl m ↦ x.noted k own m here s
+    | inr m ↦ absurd (
+        let same : k ≡ n = omega arith in
+        let is : own ≡ rule = same_Some own rule (sym here ∙ ap (slice_get rules) same ∙ at) in
+        let bad : true ≡ false = sym s ∙ ap is_shorter is ∙ f in
+        cc)
+  ];
+}
+
+-- one that leaves fewer
+pub more_marks : (rules : List Rule) (n : ℕ) (rule : Rule) (old new : Marks) → slice_get rules n ≡ Some rule → HaveMarks rules n old → length new.wholes.items ≡ 65536 → length new.fronts.items ≡ 65536 → length new.pairs.items ≡ 65536
+    → ((own : Rule) → IsNoted old own → IsNoted new own) → IsNoted new rule → HaveMarks rules (n + 1) new
+more_marks rules n rule old new at x wholes fronts pairs still here = record {
+  many_wholes = wholes;
+  many_fronts = fronts;
+  many_pairs = pairs;
+  noted = λ k own l there s. elim (cases_lt k n) [
+    | inl m ↦ still own (x.noted k own m there s)
+    | inr m ↦ (
+        let same : k ≡ n = omega arith in
+        let is : own ≡ rule = same_Some own rule (sym there ∙ ap (slice_get rules) same ∙ at) in
+        subst (IsNoted new) (sym is) here
+        )
+  ];
+}

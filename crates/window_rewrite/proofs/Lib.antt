@@ -4,7 +4,10 @@ pub mod Live
 pub mod Applied
 pub mod Keys
 pub mod Heads
+pub mod Keeping
 pub mod Behind
+pub mod Alike
+pub mod Formed
 pub mod Chosen
 pub mod Across
 pub mod Accepted

@@ -42,7 +42,7 @@ names_renamed r (i ∷ is) w =
 
 -- ---- first appearances under a map ----
 
-abbrev AreApart : ℕ → (ℕ → ℕ) → Type 0
+abbrev pub AreApart : ℕ → (ℕ → ℕ) → Type 0
 AreApart k f = (x y : ℕ) → x < k → y < k → f x ≡ f y → x ≡ y
 
 has_map : (k : ℕ) (f : ℕ → ℕ) (xs : List ℕ) (x : ℕ) → AreApart k f → AreBelow k xs → x < k → has (map f xs) (f x) ≡ has xs x
@@ -118,7 +118,7 @@ apart registers o x y h k e =
 -- ---- the form ----
 
 -- the map's registers are the window's, in order of first appearance
-order : (rule : Rule) (registers : List Low) (window : List Instr) → IsSoundRule rule → IsCanonicalSide rule.left → Stands rule registers window → numbers_of registers ≡ appearing (map normal_of window)
+pub order : (rule : Rule) (registers : List Low) (window : List Instr) → IsSoundRule rule → IsCanonicalSide rule.left → Stands rule registers window → numbers_of registers ≡ appearing (map normal_of window)
 order rule registers window s c h =
     let count : named_count rule.left ≡ length registers = sym (count_same rule.left c) ∙ sym h.as_many in
     let below : AreBelow (length registers) (flat_map named rule.left) = subst (λ k. AreBelow k (flat_map named rule.left)) (sym h.as_many) (names_below (register_count rule.left) rule.left s.left) in
@@ -132,7 +132,7 @@ order rule registers window s c h =
 pub window_count : (rule : Rule) (registers : List Low) (window : List Instr) → Stands rule registers window → length window ≡ length rule.left
 window_count rule registers window h = sym (length-map window normalised) ∙ ap (λ (is : List Instr). length is) h.matches ∙ length-map rule.left (renamed registers)
 
-same_numbers : (f g : List Low) → numbers_of f ≡ numbers_of g → f ≡ g
+pub same_numbers : (f g : List Low) → numbers_of f ≡ numbers_of g → f ≡ g
 same_numbers [] [] e = refl
 same_numbers [] (y ∷ g) e = absurd (cc)
 same_numbers (x ∷ f) [] e = absurd (cc)

@@ -13,7 +13,7 @@ use Rattle.window_rewrite.specs.declared.choice.Choice.{Choice}
 use Rattle.window_rewrite.specs.declared.finding.Rules.{Rules}
 use Rattle.window_rewrite.specs.Rewriting.{setting, replacement_of, IsWhole}
 use Rattle.window_rewrite.specs.Rules.{rules_in, first_with, AreFit, IsIndex}
-use Rattle.window_rewrite.specs.Shapes.{shape_of}
+use Rattle.window_rewrite.specs.Forms.{form_of}
 use Rattle.window_rewrite.specs.Fitting.{Shortens}
 
 -- the table of a finder, whose index is that of its entries
@@ -26,14 +26,14 @@ pub record AreReady (r : Rules) : Type 0 where
   pub index : IsIndex (rules_in r.entries.now) r.index.now
 
 -- each left side that may give way in the window has this number
-abbrev pub HaveShape : List Rule → List Instr → ℕ → Type 0
-HaveShape rules window shape = (k : ℕ) (rule : Rule) (registers : List Low) → slice_get rules k ≡ Some rule → Shortens rule registers window → shape_of rule.left ≡ shape
+abbrev pub HaveForm : List Rule → List Instr → ℕ → Type 0
+HaveForm rules window form = (k : ℕ) (rule : Rule) (registers : List Low) → slice_get rules k ≡ Some rule → Shortens rule registers window → form_of rule.left ≡ form
 
--- of the rules from the k-th on, the next one whose left side may stand in the window is this
-pub record Awaits (rules : List Rule) (window : List Instr) (k : ℕ) (next : Option ℕ) : Type 0 where
-  pub shape : ℕ
-  pub have : HaveShape rules window shape
-  pub is : next ≡ first_with shape k (drop k rules)
+-- of the rules from the k-th on, the next one that is kept and whose left side may stand in the window is this
+pub record Awaits (rules : List Rule) (kept : List Bool) (window : List Instr) (k : ℕ) (next : Option ℕ) : Type 0 where
+  pub form : ℕ
+  pub have : HaveForm rules window form
+  pub is : next ≡ first_with kept form k (drop k rules)
 
 -- ---- with and without the layout ----
 

@@ -4,7 +4,10 @@ use Rattle.thumb_instr.specs.declared.instr.Instr.{Instr}
 use Rattle.thumb_instr.specs.Items.{has}
 use Rattle.thumb_instr.specs.Renaming.{Low, renamed, item_under}
 use Rattle.thumb_model.specs.Items.{one_of}
-use Rattle.thumb_model.specs.Rewrite.{Rule, IsOneToOne, register_count, normalised}
+use Rattle.thumb_model.specs.Rewrite.{Rule, IsOneToOne, IsSoundRule, register_count, normalised}
+use Rattle.table_audit.specs.Sides.{IsCanonicalSide}
+use Rattle.window_rewrite.specs.declared.forms.Form.{Form}
+use Rattle.window_rewrite.specs.Forms.{form_of}
 
 -- the window, normal, is the rule's left side under the map, which is one to one
 pub record Stands (rule : Rule) (registers : List Low) (window : List Instr) : Type 0 where
@@ -26,3 +29,9 @@ pub record Fits (rule : Rule) (registers : List Low) (window : List Instr) (live
   pub stands : Stands rule registers window
   pub shorter : length rule.right < length rule.left
   pub allowed : (x : ℕ) → has live x ≡ true → is_allowed rule.mask registers x ≡ true
+
+-- what is told of a window is true of each rule that may stand in it
+pub record IsForm (window : List Instr) (f : Form) : Type 0 where
+  pub small : f.number < 65536
+  pub number : (rule : Rule) (registers : List Low) → IsSoundRule rule → IsCanonicalSide rule.left → Stands rule registers window → form_of rule.left ≡ f.number
+  pub mask : (rule : Rule) (registers : List Low) → IsSoundRule rule → IsCanonicalSide rule.left → Fits rule registers window f.live.bits → (x : ℕ) → has f.mask.items.bits x ≡ true → one_of x rule.mask ≡ true

@@ -1,5 +1,6 @@
 pub mod Rewriting
 pub mod Shapes
+pub mod Forms
 pub mod Rules
 pub mod Fitting
 pub mod Choices

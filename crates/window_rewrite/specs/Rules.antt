@@ -6,7 +6,11 @@ use Rattle.rule_table.specs.declared.table.Entry.{Entry}
 use Rattle.rule_table.specs.Views.{rule_of}
 use Rattle.table_audit.specs.Soundness.{rewriting_rule}
 use Rattle.table_audit.specs.Sides.{IsCanonicalSide}
+use Rattle.window_rewrite.specs.declared.chains.Chains.{Chains}
 use Rattle.window_rewrite.specs.declared.index.Index.{Index}
+use Rattle.window_rewrite.specs.declared.marks.Marks.{Marks}
+use Rattle.window_rewrite.specs.declared.shadows.Kept.{Kept}
+use Rattle.window_rewrite.specs.Forms.{form_of}
 use Rattle.window_rewrite.specs.Shapes.{shape_of}
 
 abbrev pub entry_rule : Entry → Rule
@@ -24,20 +28,11 @@ pub record IsFit (longest : ℕ) (rule : Rule) : Type 0 where
 abbrev pub AreFit : ℕ → List Rule → Type 0
 AreFit longest rules = (k : ℕ) (rule : Rule) → slice_get rules k ≡ Some rule → IsFit longest rule
 
--- ---- left sides by their numbers ----
-
 -- it leaves fewer instructions
 abbrev pub is_shorter : Rule → Bool
 is_shorter r = nat_lt (length r.right) (length r.left)
 
--- it leaves fewer instructions, and its left side has this number
-abbrev pub has_shape : ℕ → Rule → Bool
-has_shape shape r = is_shorter r && shape_of r.left == shape
-
--- the first such rule, where they are numbered from n on
-abbrev pub first_with : ℕ → ℕ → List Rule → Option ℕ
-first_with shape n [] = None
-first_with shape n (r ∷ rs) = if has_shape shape r then Some n else first_with shape (n + 1) rs
+-- ---- marks ----
 
 abbrev pub is_true : Option Bool → Bool
 is_true None = false
@@ -54,23 +49,72 @@ AreMarked marks side count = (at : ℕ) → at < count → is_marked marks (shap
 abbrev pub ArePaired : List Bool → List Instr → ℕ → Type 0
 ArePaired marks side count = (at : ℕ) (i j : Instr) → suc at < count → slice_get side at ≡ Some i → slice_get side (suc at) ≡ Some j → is_marked marks (shape_of (i ∷ j ∷ [])) ≡ true
 
--- of each number the first rule from the n-th on, and of each of these rules the next one
-abbrev pub AreFirsts : List Rule → List (Option ℕ) → ℕ → Type 0
-AreFirsts rules firsts n = (shape : ℕ) (first : Option ℕ) → slice_get firsts shape ≡ Some first → first ≡ first_with shape n (drop n rules)
+-- the left side of the rule is marked
+pub record IsNoted (marks : Marks) (rule : Rule) : Type 0 where
+  pub whole : is_marked marks.wholes.items (shape_of rule.left) ≡ true
+  pub fronts : AreMarked marks.fronts.items rule.left (length rule.left)
+  pub pairs : ArePaired marks.pairs.items rule.left (length rule.left)
 
-abbrev pub AreNexts : List Rule → List (Option ℕ) → ℕ → Type 0
-AreNexts rules nexts n = (k : ℕ) (rule : Rule) (next : Option ℕ) → n ≤ k → slice_get rules k ≡ Some rule → is_shorter rule ≡ true → slice_get nexts k ≡ Some next → next ≡ first_with (shape_of rule.left) (k + 1) (drop (k + 1) rules)
+-- those of the first n rules are that leave fewer instructions
+pub record HaveMarks (rules : List Rule) (n : ℕ) (marks : Marks) : Type 0 where
+  pub many_wholes : length marks.wholes.items ≡ 65536
+  pub many_fronts : length marks.fronts.items ≡ 65536
+  pub many_pairs : length marks.pairs.items ≡ 65536
+  pub noted : (k : ℕ) (rule : Rule) → k < n → slice_get rules k ≡ Some rule → is_shorter rule ≡ true → IsNoted marks rule
 
--- the index of the rules from the n-th on
-pub record IsIndexFrom (rules : List Rule) (n : ℕ) (index : Index) : Type 0 where
-  pub many_firsts : length index.firsts.items ≡ 65536
-  pub firsts : AreFirsts rules index.firsts.items n
-  pub as_many : length index.nexts.items ≡ length rules
-  pub nexts : AreNexts rules index.nexts.items n
-  pub many_fronts : length index.fronts.items ≡ 65536
-  pub fronts : (k : ℕ) (rule : Rule) → n ≤ k → slice_get rules k ≡ Some rule → is_shorter rule ≡ true → AreMarked index.fronts.items rule.left (length rule.left)
-  pub many_pairs : length index.pairs.items ≡ 65536
-  pub pairs : (k : ℕ) (rule : Rule) → n ≤ k → slice_get rules k ≡ Some rule → is_shorter rule ≡ true → ArePaired index.pairs.items rule.left (length rule.left)
+-- ---- shadows ----
 
-abbrev pub IsIndex : List Rule → Index → Type 0
-IsIndex rules index = IsIndexFrom rules 0 index
+-- they have one left side and one mask, and right sides of one length
+pub record AreAlike (a b : Rule) : Type 0 where
+  pub left : a.left ≡ b.left
+  pub mask : a.mask ≡ b.mask
+  pub as_long : length a.right ≡ length b.right
+
+-- a rule that is kept is alike and comes no later
+pub record IsLed (rules : List Rule) (kept : List Bool) (k : ℕ) (rule : Rule) : Type 0 where
+  pub leader : ℕ
+  pub no_later : leader ≤ k
+  pub is_kept : is_marked kept leader ≡ true
+  pub other : Rule
+  pub at : slice_get rules leader ≡ Some other
+  pub alike : AreAlike other rule
+
+-- so it is for each of the first n rules that leaves fewer instructions
+abbrev pub AreLed : List Rule → List Bool → ℕ → Type 0
+AreLed rules kept n = (k : ℕ) (rule : Rule) → k < n → slice_get rules k ≡ Some rule → is_shorter rule ≡ true → IsLed rules kept k rule
+
+-- which of the first n rules are kept; from the last of them ways lead back through others
+pub record AreKept (rules : List Rule) (n : ℕ) (k : Kept) : Type 0 where
+  pub many : length k.kept.items ≡ length rules
+  pub many_lasts : length k.lasts.items ≡ length rules
+  pub many_earlier : length k.earlier.items ≡ length rules
+  pub lasts : (q j : ℕ) → slice_get k.lasts.items q ≡ Some (Some j) → (j < n) × (is_marked k.kept.items j ≡ true)
+  pub earlier : (q j : ℕ) → slice_get k.earlier.items q ≡ Some (Some j) → (j < q) × (is_marked k.kept.items j ≡ true)
+  pub led : AreLed rules k.kept.items n
+
+-- ---- left sides by their numbers ----
+
+-- the first rule that is kept and whose left side has this number, where they are numbered from n on
+abbrev pub first_with : List Bool → ℕ → ℕ → List Rule → Option ℕ
+first_with kept form n [] = None
+first_with kept form n (r ∷ rs) = if is_marked kept n && form_of r.left == form then Some n else first_with kept form (n + 1) rs
+
+-- of each number the first rule that is kept from the n-th on, and of each of these rules the next one
+abbrev pub AreFirsts : List Rule → List Bool → List (Option ℕ) → ℕ → Type 0
+AreFirsts rules kept firsts n = (form : ℕ) (first : Option ℕ) → slice_get firsts form ≡ Some first → first ≡ first_with kept form n (drop n rules)
+
+abbrev pub AreNexts : List Rule → List Bool → List (Option ℕ) → ℕ → Type 0
+AreNexts rules kept nexts n = (k : ℕ) (rule : Rule) (next : Option ℕ) → n ≤ k → slice_get rules k ≡ Some rule → is_marked kept k ≡ true → slice_get nexts k ≡ Some next → next ≡ first_with kept (form_of rule.left) (k + 1) (drop (k + 1) rules)
+
+-- the chains of the rules from the n-th on
+pub record AreChains (rules : List Rule) (n : ℕ) (chains : Chains) : Type 0 where
+  pub led : AreLed rules chains.kept.items (length rules)
+  pub many_kept : length chains.kept.items ≡ length rules
+  pub many_firsts : length chains.firsts.items ≡ 65536
+  pub firsts : AreFirsts rules chains.kept.items chains.firsts.items n
+  pub as_many : length chains.nexts.items ≡ length rules
+  pub nexts : AreNexts rules chains.kept.items chains.nexts.items n
+
+pub record IsIndex (rules : List Rule) (index : Index) : Type 0 where
+  pub marks : HaveMarks rules (length rules) index.marks
+  pub chains : AreChains rules 0 index.chains

@@ -14,13 +14,14 @@ ghost use Rattle.std.specs.List.{list_all};
 ghost use Rattle.thumb_instr.specs.Window.{is_in_window};
 ghost use Rattle.window_runs.specs.Windows.{IsWindow};
 ghost use Rattle.window_harvest.specs.Harvest.{spot_of, StandsThere};
-ghost use Rattle.window_rewrite.specs.Fitting.{Shortens};
+ghost use Rattle.window_rewrite.specs.Fitting.{IsForm, Shortens};
 ghost use Rattle.window_rewrite.specs.Rules.{rules_in};
 ghost use Rattle.window_rewrite.specs.Choices.{setting_of, choice_of, of_length, AreReady, Awaits, IsBest, IsChoice, IsFirstChoice, IsLowest, Meets, NoneAt, NoneBefore, NoneOf};
 ghost use Rattle.window_rewrite.specs.Sweeps.{is_steady, IsOver, Moves, StandsAtOp};
 
 use crate::choice::{Choice, Found, Replacement};
 use crate::fitting::fitting;
+use crate::forms::Form;
 use crate::ground::Ground;
 use crate::index::Index;
 use crate::items::registers_of;
@@ -83,7 +84,7 @@ fn copied(window: &[Instr]) -> Seq
     seq
 }
 
-/// What the entry of a number makes of a window behind the cursor, after which these items are live, where its left side is as long. `refused` comes to be true where
+/// What the entry of a number makes of a window behind the cursor, of which this is told, where its left side is as long. `refused` comes to be true where
 /// the entry fits and the layout refuses it.
 fn try_entry<L: Ledger>(
     alloc: Global,
@@ -91,7 +92,7 @@ fn try_entry<L: Ledger>(
     ground: &Ground,
     cursor: &Cursor,
     window: &[Instr],
-    live: Items,
+    form: &Form,
     number: usize,
     refused: &mut bool,
     steps: &mut Steps<L>,
@@ -99,7 +100,8 @@ fn try_entry<L: Ledger>(
     requires ready { AreReady rules.now }
     requires over { IsOver rules.now ground.now cursor.now }
     requires op { StandsAtOp cursor.now }
-    requires stands { StandsThere (lines_at cursor.now) (spot_of (place_at cursor.now) (length window.now)) window.now live.bits }
+    requires stands { StandsThere (lines_at cursor.now) (spot_of (place_at cursor.now) (length window.now)) window.now form.now.live.bits }
+    requires form { IsForm window.now form.now }
     requires number { number < length rules.now.entries.now }
     ensures long { IfOk result (λ o. OnSome o (left_length (rules_in rules.now.entries.now) number ≡ length window.now)) }
     ensures some { IfOk result (λ o. IfSome o (λ c. IsChoice (setting_of rules.now) (lines_at cursor.now) c × ((choice_of c).place ≡ place_at cursor.now) × ((choice_of c).entry ≡ number))) }
@@ -112,8 +114,11 @@ fn try_entry<L: Ledger>(
     if entry.left.len() != window.len() {
         return Ok(None);
     }
+    if !form.may_fit(entry.mask) {
+        return Ok(None);
+    }
     steps.tick();
-    let map = match fitting(entry, window, live) {
+    let map = match fitting(entry, window, form.live) {
         None => return Ok(None),
         Some(map) => map,
     };
@@ -150,19 +155,54 @@ fn reach(rules: &Rules<'_>, run: &[Instr]) -> usize
     let mut shape = 0;
     for at in 0..run.len() {
         shape = next_shape(shape, &normal(run[at]));
-        if !rules.index.has_front(shape) {
+        if !rules.index.marks.has_front(shape) {
             return at;
         }
     }
     run.len()
 }
 
-/// The first entry that leaves fewer instructions and whose left side may stand in a window.
-fn first_number(rules: &Rules<'_>, window: &[Instr]) -> Option<usize>
-    requires { AreReady rules.now }
-    ensures { Awaits (rules_in rules.now.entries.now) window.now 0 result }
+/// The first entry that is kept and whose left side may stand in a window, of which this is told.
+fn first_number(rules: &Rules<'_>, _window: &[Instr], form: &Form) -> Option<usize>
+    requires ready { AreReady rules.now }
+    requires form { IsForm _window.now form.now }
+    ensures { Awaits (rules_in rules.now.entries.now) rules.now.index.now.chains.kept.items _window.now 0 result }
 {
-    rules.index.first(shape_of(window), rules.entries)
+    rules.index.chains.first(form.number, rules.entries)
+}
+
+/// The lowest entry that applies to a window behind the cursor, of which this is told.
+fn lowest_by<L: Ledger>(
+    alloc: Global,
+    rules: &Rules<'_>,
+    ground: &Ground,
+    cursor: &Cursor,
+    window: &[Instr],
+    form: &Form,
+    refused: &mut bool,
+    steps: &mut Steps<L>,
+) -> Result<Option<Choice>, Memory>
+    requires ready { AreReady rules.now }
+    requires over { IsOver rules.now ground.now cursor.now }
+    requires op { StandsAtOp cursor.now }
+    requires stands { StandsThere (lines_at cursor.now) (spot_of (place_at cursor.now) (length window.now)) window.now form.now.live.bits }
+    requires form { IsForm window.now form.now }
+    ensures some { IfOk result (λ o. IfSome o (IsLowest (setting_of rules.now) (lines_at cursor.now) (place_at cursor.now) (length window.now))) }
+    ensures moved { IfOk result (λ o. IfSome o (λ c. Moves ground.now c.window c.new c.moved)) }
+    ensures none { IfOk result (λ o. IfNone o (NoneOf refused.new (setting_of rules.now) (lines_at cursor.now) (place_at cursor.now) (length window.now))) }
+    ensures stays { OnOk result (refused.old ≡ true → refused.new ≡ true) }
+    ensures cost { steps.new ≤ steps.old + of_length (length window.now) (rules_in rules.now.entries.now) }
+{
+    let mut at = first_number(rules, window, form);
+    while let Some(number) = at {
+        if let Some(choice) = try_entry(
+            alloc, rules, ground, cursor, window, form, number, refused, steps,
+        )? {
+            return Ok(Some(choice));
+        }
+        at = rules.index.chains.next(number, rules.entries);
+    }
+    Ok(None)
 }
 
 /// The lowest entry that applies to a window behind the cursor, after which these items are live.
@@ -186,16 +226,13 @@ fn lowest<L: Ledger>(
     ensures stays { OnOk result (refused.old ≡ true → refused.new ≡ true) }
     ensures cost { steps.new ≤ steps.old + of_length (length window.now) (rules_in rules.now.entries.now) }
 {
-    let mut at = first_number(rules, window);
-    while let Some(number) = at {
-        if let Some(choice) = try_entry(
-            alloc, rules, ground, cursor, window, live, number, refused, steps,
-        )? {
-            return Ok(Some(choice));
-        }
-        at = rules.index.next(number, rules.entries);
+    if !rules.index.marks.has_whole(shape_of(window)) {
+        return Ok(None);
     }
-    Ok(None)
+    match Form::of(window, live) {
+        None => Ok(None),
+        Some(form) => lowest_by(alloc, rules, ground, cursor, window, &form, refused, steps),
+    }
 }
 
 /// The best entry at an instruction right behind the cursor: of those that apply there the lowest with the longest left side.

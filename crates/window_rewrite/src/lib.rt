@@ -1,8 +1,10 @@
 //! Rewriting a listing by a table of rules, until no rule applies.
 //!
 //! In turn, at the least place where some entry of the table applies, its left side is replaced: of those that apply there the one with the longest left
-//! side, and of these the lowest. What may be replaced is decided by the items that are live, by the labels and by the layout that would come of it. A place
-//! is compared with few entries: those whose left sides have a number that is the same for all windows that differ in registers alone.
+//! side, and of these the lowest. What may be replaced is decided by the items that are live, by the labels and by the layout that would come of it. Marks of
+//! numbers that all windows share which differ in registers alone reject most windows. Others are put in canonical form, and meet the entries whose left side
+//! that is, but for chance, and of these only such as have the items in their mask that are live. An entry is left out where an earlier one has its left side, its
+//! mask and a right side as long.
 //!
 //! A sweep goes over the listing by a cursor that keeps the live items of all places. Where items are live no more in straight code before a replacement, it
 //! puts in the new sets; where more come to be live, it carries them back along all ways. It goes back to the first place whose sets changed, and further only
@@ -10,10 +12,12 @@
 //! where items may be live no more elsewhere; then another begins.
 #![tactic(auto)]
 
+mod chains;
 mod choice;
 mod errors;
 mod finding;
 mod fitting;
+mod forms;
 mod ground;
 mod growing;
 mod index;
@@ -22,6 +26,7 @@ mod making;
 mod marks;
 mod replacing;
 mod rewriting;
+mod shadows;
 mod shapes;
 mod sweeping;
 

@@ -49,6 +49,7 @@ fn may_reach_across(rules: &Rules<'_>, cursor: &Cursor) -> bool
     };
     rules
         .index
+        .marks
         .has_pair(pair_shape(&normal(before), &normal(behind)))
 }
 

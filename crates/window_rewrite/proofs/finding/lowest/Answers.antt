@@ -1,49 +1,22 @@
-use Rattle.std.proofs.Common.{◌+◌, arith}
+use Rattle.std.proofs.Common.{◌∙◌, length, sym, subst}
+use Rattle.thumb_instr.specs.declared.items.Items.{Items}
 use Rattle.line_cursor.specs.Cursors.{lines_at, place_at}
+use Rattle.window_harvest.specs.Harvest.{spot_of, StandsThere}
 use Rattle.window_rewrite.specs.Rules.{rules_in}
-use Rattle.window_rewrite.proofs.Keys.{awaited}
-use Rattle.window_rewrite.proofs.Chosen.{search_begins, search_next, search_smaller, search_found, search_cost, search_none, none_cost, next_within}
+use Rattle.window_rewrite.proofs.Chosen.{none_whole, none_formed}
 use Rattle.window_rewrite.proofs.finding.lowest.Goals as goal
 
-pub loop-at-init : goal.loop-at-init
-loop-at-init g c = record {
-  search = search_begins _ c.args.rules.now.base (rules_in c.args.rules.now.entries.now) (lines_at c.args.cursor.now) (place_at c.args.cursor.now) c.args.window.now c.args.live.bits c.first_number-at.result _ c.requires.stands c.first_number-at.ensures;
-  stays = λ e. e;
-}
+pub returns-then-not-has_whole-clause-none : goal.returns-then-not-has_whole-clause-none
+returns-then-not-has_whole-clause-none g c =
+    none_whole _ c.args.rules.now.base (rules_in c.args.rules.now.entries.now) c.args.rules.now.index.now.marks (lines_at c.args.cursor.now) (place_at c.args.cursor.now) c.shape_of.result c.args.window.now c.args.live.bits c.requires.ready.index.marks c.requires.stands c.shape_of.ensures.value
+    (sym c.has_whole.ensures ∙ c.if-not-has_whole.true)
 
-pub try_entry-requires-clause-number : goal.try_entry-requires-clause-number
-try_entry-requires-clause-number g c = next_within c.args.rules.now.entries.now c.args.window.now c.loop-at.invariant.search.k c.in-Some.number c.loop-at.at c.loop-at.invariant.search.awaits c.in-Some.is
+pub of-requires : goal.of-requires
+of-requires g c = c.requires.stands.is_window.letters
 
-pub returns-in_err-choice-clause-cost : goal.returns-in_err-choice-clause-cost
-returns-in_err-choice-clause-cost g c = search_cost _ c.args.rules.now.base (rules_in c.args.rules.now.entries.now) (lines_at c.args.cursor.now) (place_at c.args.cursor.now) c.args.window.now c.in-Some.number c.loop-at.at _ _ _ c.loop-at.invariant.search c.in-Some.is c.try_entry.ensures.cost
+pub returns-in-None-clause-none : goal.returns-in-None-clause-none
+returns-in-None-clause-none g c = none_formed _ c.args.rules.now.base c.args.rules.now.longest (rules_in c.args.rules.now.entries.now) (lines_at c.args.cursor.now) (place_at c.args.cursor.now) c.args.window.now c.args.live.bits c.requires.ready.fit c.requires.stands c.in-None.ensures.none
 
-pub returns-in-Some-2-clause-some : goal.returns-in-Some-2-clause-some
-returns-in-Some-2-clause-some g c =
-    let choice = rw c.in-Some-2.is at c.in_ok-choice.ensures.some in
-    let long = rw c.in-Some-2.is at c.in_ok-choice.ensures.long in
-    search_found _ c.args.rules.now.base (rules_in c.args.rules.now.entries.now) (lines_at c.args.cursor.now) (place_at c.args.cursor.now) c.args.window.now c.args.live.bits c.in-Some.number c.loop-at.at _ _ c.in-Some-2.choice c.requires.stands c.loop-at.invariant.search c.in-Some.is long choice.0 choice.1 choice.2
-
-pub returns-in-Some-2-clause-cost : goal.returns-in-Some-2-clause-cost
-returns-in-Some-2-clause-cost g c = search_cost _ c.args.rules.now.base (rules_in c.args.rules.now.entries.now) (lines_at c.args.cursor.now) (place_at c.args.cursor.now) c.args.window.now c.in-Some.number c.loop-at.at _ _ _ c.loop-at.invariant.search c.in-Some.is c.in_ok-choice.ensures.cost
-
-pub next-at-requires-clause-number : goal.next-at-requires-clause-number
-next-at-requires-clause-number g c = next_within c.args.rules.now.entries.now c.args.window.now c.loop-at.invariant.search.k c.in-Some.number c.loop-at.at c.loop-at.invariant.search.awaits c.in-Some.is
-
-pub loop-at-smaller : goal.loop-at-smaller
-loop-at-smaller g c =
-    let i = awaited (rules_in c.args.rules.now.entries.now) c.args.window.now c.loop-at.invariant.search.k c.in-Some.number c.loop-at.at c.loop-at.invariant.search.awaits c.in-Some.is in
-    search_smaller _ c.args.rules.now.base (rules_in c.args.rules.now.entries.now) (lines_at c.args.cursor.now) (place_at c.args.cursor.now) c.args.window.now c.in-Some.number c.loop-at.at c.next-at.result _ _ c.loop-at.invariant.search c.in-Some.is (c.in-Some.number + 1) (omega arith) (i.more c.next-at.result (c.next-at.ensures i.rule i.at i.shorter))
-
-pub loop-at-preserved : goal.loop-at-preserved
-loop-at-preserved g c =
-    let none = rw c.in_default-2.is at c.in_ok-choice.ensures.none in
-    record {
-      search = search_next _ _ c.args.rules.now.base (rules_in c.args.rules.now.entries.now) (lines_at c.args.cursor.now) (place_at c.args.cursor.now) c.args.window.now c.args.live.bits c.in-Some.number c.loop-at.at c.next-at.result _ _ _ c.requires.stands c.loop-at.invariant.search c.in-Some.is c.in_ok-choice.ensures.stays none c.next-at.ensures c.in_ok-choice.ensures.cost;
-      stays = λ e. c.in_ok-choice.ensures.stays (c.loop-at.invariant.stays e);
-    }
-
-pub returns-clause-none : goal.returns-clause-none
-returns-clause-none g c = search_none _ c.args.rules.now.base (rules_in c.args.rules.now.entries.now) (lines_at c.args.cursor.now) (place_at c.args.cursor.now) c.args.window.now c.args.live.bits c.loop-at.at _ _ c.requires.stands c.loop-at.invariant.search c.in_default.is
-
-pub returns-clause-cost : goal.returns-clause-cost
-returns-clause-cost g c = none_cost _ c.args.rules.now.base (rules_in c.args.rules.now.entries.now) (lines_at c.args.cursor.now) (place_at c.args.cursor.now) c.args.window.now c.loop-at.at _ _ c.loop-at.invariant.search
+pub lowest_by-requires-clause-stands : goal.lowest_by-requires-clause-stands
+lowest_by-requires-clause-stands g c =
+    subst (λ (i : Items). StandsThere (lines_at c.args.cursor.now) (spot_of (place_at c.args.cursor.now) (length c.args.window.now)) c.args.window.now i.bits) (sym c.in-Some.ensures.live) c.requires.stands

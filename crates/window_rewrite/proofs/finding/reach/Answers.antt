@@ -16,8 +16,8 @@ returns-then-not-has_front-clause-none c = λ n k rule registers longer at s.
     let there : slice_get (map normal_of run) c.loop-at.at ≡ Some (normal_of c.index-run-at.result) = slice_get-map normal_of run c.loop-at.at ∙ ap (option_map normal_of) here in
     let shape : c.next_shape-shape.result ≡ shape_of (take (c.loop-at.at + 1) (map normal_of run)) =
     c.next_shape-shape.ensures.value ∙ ap (next_shape c.loop-at.shape) c.normal.ensures ∙ front_more c.loop-at.shape c.loop-at.at (map normal_of run) (normal_of c.index-run-at.result) there c.loop-at.invariant.shape in
-    let missing : is_marked c.args.rules.now.index.now.fronts.items c.next_shape-shape.result ≡ false = sym c.has_front.ensures ∙ c.if-not-has_front.true in
-    unreached (rules_in c.args.rules.now.entries.now) c.args.rules.now.index.now run c.loop-at.at c.next_shape-shape.result c.requires.ready.index shape missing n k rule registers longer at s
+    let missing : is_marked c.args.rules.now.index.now.marks.fronts.items c.next_shape-shape.result ≡ false = sym c.has_front.ensures ∙ c.if-not-has_front.true in
+    unreached (rules_in c.args.rules.now.entries.now) c.args.rules.now.index.now.marks run c.loop-at.at c.next_shape-shape.result c.requires.ready.index.marks shape missing n k rule registers longer at s
 
 pub loop-at-preserved : goal.loop-at-preserved
 loop-at-preserved c =

@@ -7,6 +7,7 @@ use Rattle.std.proofs.lemmas.Option.{slice_get_read}
 use Rattle.thumb_instr.specs.declared.instr.Instr.{Instr}
 use Rattle.thumb_instr.specs.Renaming.{Low, renamed}
 use Rattle.thumb_instr.specs.Window.{is_in_window}
+use Rattle.thumb_instr.specs.Items.{has}
 use Rattle.thumb_model.specs.Layout.{Layable}
 use Rattle.thumb_model.specs.Listing.{Line, labels_from, places_of}
 use Rattle.thumb_model.specs.Rewrite.{Rule, register_count}
@@ -14,6 +15,7 @@ use Rattle.thumb_model.specs.Rewritten.{left_length, replaced_lines}
 use Rattle.rule_table.specs.declared.table.Entry.{Entry}
 use Rattle.listing_parser.specs.Replacing.{own_line}
 use Rattle.line_cursor.specs.Cursors.{lines_at, place_at, IsSettled}
+use Rattle.table_audit.proofs.Names.{has_one}
 use Rattle.window_rewrite.specs.declared.finding.Rules.{Rules}
 use Rattle.window_rewrite.specs.Rewriting.{registers_of}
 use Rattle.window_rewrite.specs.Rules.{entry_rule, rules_in, IsFit}
@@ -60,6 +62,15 @@ returns-then-len-window-clause-none g c = λ is registers a.
     let was = long c.args.rules.now.entries.now c.args.number c.index-rules-number.result c.requires.number c.index-rules-number.is in
     absurd (c.if-len-window.true (c.len.ensures.value ∙ sym was ∙ is))
 
+pub returns-then-not-may_fit-clause-none : goal.returns-then-not-may_fit-clause-none
+returns-then-not-may_fit-clause-none g c = λ _ registers a.
+    let e = entry c.args.rules.now c.args.number c.len.result c.args.window.now c.index-rules-number.result c.requires.ready c.requires.number c.index-rules-number.is c.len.ensures.value c.if-len-window.false in
+    let read : Entry = slice_index_or c.args.rules.now.entries.now c.args.number c.index-rules-number.result in
+    let rule : Rule = entry_rule read in
+    let b = back c.args.rules.now.base (rules_in c.args.rules.now.entries.now) (lines_at c.args.cursor.now) (place_at c.args.cursor.now) c.args.number rule registers c.args.window.now c.args.form.now.live.bits e.at e.long c.requires.stands a.0 in
+    let has_all : (x : ℕ) → has c.args.form.now.mask.items.bits x ≡ true → has read.mask.items.bits x ≡ true = λ x h. (has_one read.mask.items.bits x (c.requires.form.mask rule registers e.fit.sound e.fit.canonical b.fits x h)).0 in
+    absurd (true≢false (sym (c.may_fit.ensures has_all) ∙ c.if-not-may_fit.true))
+
 pub fitting-requires-clause-sound : goal.fitting-requires-clause-sound
 fitting-requires-clause-sound g c =
     let e = entry c.args.rules.now c.args.number c.len.result c.args.window.now c.index-rules-number.result c.requires.ready c.requires.number c.index-rules-number.is c.len.ensures.value c.if-len-window.false in
@@ -74,7 +85,7 @@ pub returns-in-None-clause-none : goal.returns-in-None-clause-none
 returns-in-None-clause-none g c = λ _ registers a.
     let e = entry c.args.rules.now c.args.number c.len.result c.args.window.now c.index-rules-number.result c.requires.ready c.requires.number c.index-rules-number.is c.len.ensures.value c.if-len-window.false in
     let rule : Rule = entry_rule (slice_index_or c.args.rules.now.entries.now c.args.number c.index-rules-number.result) in
-    let b = back c.args.rules.now.base (rules_in c.args.rules.now.entries.now) (lines_at c.args.cursor.now) (place_at c.args.cursor.now) c.args.number rule registers c.args.window.now c.args.live.bits e.at e.long c.requires.stands a.0 in
+    let b = back c.args.rules.now.base (rules_in c.args.rules.now.entries.now) (lines_at c.args.cursor.now) (place_at c.args.cursor.now) c.args.number rule registers c.args.window.now c.args.form.now.live.bits e.at e.long c.requires.stands a.0 in
     c.in-None.ensures registers b.fits
 
 pub returns-then-not-is_settled-clause-none : goal.returns-then-not-is_settled-clause-none
@@ -84,7 +95,7 @@ returns-then-not-is_settled-clause-none g c = λ _ given a.
     let registers : List Low = registers_of c.in-Some.map in
     let new : c.renamed_all-new.result ≡ map (renamed registers) rule.right =
     c.renamed_all-new.ensures ∙ ap (λ (rs : List Low). map (renamed rs) c.as_slice.result.now) (c.deref.ensures.0 ∙ c.registers_of.ensures) ∙ ap (map (renamed registers)) c.as_slice.ensures.value in
-    let b = back c.args.rules.now.base (rules_in c.args.rules.now.entries.now) (lines_at c.args.cursor.now) (place_at c.args.cursor.now) c.args.number rule given c.args.window.now c.args.live.bits e.at e.long c.requires.stands a.0 in
+    let b = back c.args.rules.now.base (rules_in c.args.rules.now.entries.now) (lines_at c.args.cursor.now) (place_at c.args.cursor.now) c.args.number rule given c.args.window.now c.args.form.now.live.bits e.at e.long c.requires.stands a.0 in
     let same : given ≡ registers = stands_once rule given registers c.args.window.now e.fit.sound e.fit.canonical b.fits.stands c.in-Some.ensures.0.stands in
     let is : map (renamed given) rule.right ≡ c.as_slice-2.result.now = ap (λ (rs : List Low). map (renamed rs) rule.right) same ∙ sym (c.as_slice-2.ensures.value ∙ new) in
     let settled = c.is_settled.ensures.1 (subst (λ (js : List Instr). IsSettled (places_of (lines_at c.args.cursor.now)) (labels_from 0 (lines_at c.args.cursor.now)) (place_at c.args.cursor.now) (length c.args.window.now) js) is b.settled) in
@@ -120,7 +131,7 @@ returns-in-None-2-clause-none g c = λ _ given a.
     let registers : List Low = registers_of c.in-Some.map in
     let new : c.renamed_all-new.result ≡ map (renamed registers) rule.right =
     c.renamed_all-new.ensures ∙ ap (λ (rs : List Low). map (renamed rs) c.as_slice.result.now) (c.deref.ensures.0 ∙ c.registers_of.ensures) ∙ ap (map (renamed registers)) c.as_slice.ensures.value in
-    let b = back c.args.rules.now.base (rules_in c.args.rules.now.entries.now) (lines_at c.args.cursor.now) (place_at c.args.cursor.now) c.args.number rule given c.args.window.now c.args.live.bits e.at e.long c.requires.stands a.0 in
+    let b = back c.args.rules.now.base (rules_in c.args.rules.now.entries.now) (lines_at c.args.cursor.now) (place_at c.args.cursor.now) c.args.number rule given c.args.window.now c.args.form.now.live.bits e.at e.long c.requires.stands a.0 in
     let laid = back_laid c.args.rules.now.base (rules_in c.args.rules.now.entries.now) (lines_at c.args.cursor.now) (place_at c.args.cursor.now) c.args.number rule given c.args.window.now e.at e.long a in
     let same : given ≡ registers = stands_once rule given registers c.args.window.now e.fit.sound e.fit.canonical b.fits.stands c.in-Some.ensures.0.stands in
     let is : map (renamed given) rule.right ≡ c.as_slice-3.result.now = ap (λ (rs : List Low). map (renamed rs) rule.right) same ∙ sym (c.as_slice-3.ensures.value ∙ new) in
@@ -152,7 +163,7 @@ returns-clause-some g c =
     let asked : is_steady c.args.ground.now ≡ false → Layable c.args.rules.now.base (replaced_lines own_line place (length c.args.window.now) (map (renamed registers) rule.right) lines) =
     λ f. subst (λ (js : List Instr). Layable c.args.rules.now.base (replaced_lines own_line place (length c.args.window.now) js lines)) (c.as_slice-3.ensures.value ∙ new) (c.in_ok-moved_layout.ensures.layable.0 (ap is_some c.in-Some-2.is) f) in
     let m =
-    applied c.args.rules.now.base (rules_in c.args.rules.now.entries.now) lines place c.args.number rule registers c.args.window.now c.args.live.bits c.renamed_all-new.result e.at e.fit.sound c.requires.stands c.in-Some.ensures.0 new settled
+    applied c.args.rules.now.base (rules_in c.args.rules.now.entries.now) lines place c.args.number rule registers c.args.window.now c.args.form.now.live.bits c.renamed_all-new.result e.at e.fit.sound c.requires.stands c.in-Some.ensures.0 new settled
     (laid c.args.rules.now c.args.ground.now lines place rule registers c.args.window.now c.requires.over.over e.fit.sound count asked) in
     let number : c.args.number ≡ c.args.number + 1 - 1 = omega arith in
     let made_at : IsMade (setting_of c.args.rules.now) lines c.place.result (c.args.number + 1 - 1) registers c.copied.result c.renamed_all-new.result =

@@ -21,7 +21,7 @@ returns-in_default-letter_behind c =
 pub returns : goal.returns
 returns c =
     let r : Rules = c.args.rules.now in
-    let marks : List Bool = r.index.now.pairs.items in
+    let marks : List Bool = r.index.now.marks.pairs.items in
     let before : Instr = c.in-Some.before in
     let behind : Instr = c.in-Some-letter_behind.behind in
     let shape : c.pair_shape.result ≡ shape_of (normal_of before ∷ normal_of behind ∷ []) =

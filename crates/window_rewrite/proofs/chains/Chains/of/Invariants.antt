@@ -1,11 +1,11 @@
 use Rattle.std.proofs.Common.{◌≤◌, length}
-use Rattle.window_rewrite.specs.Rules.{rules_in, IsIndexFrom}
-use Rattle.window_rewrite.proofs.index.Index.of.Given as goal
+use Rattle.window_rewrite.specs.Rules.{rules_in, AreChains}
+use Rattle.window_rewrite.proofs.chains.Chains.of.Given as goal
 
 abbrev pub invariant-loop-number : goal.invariant-loop-number
 invariant-loop-number l = record {
   within : l.number ≤ length l.entries;
-  index : IsIndexFrom (rules_in l.entries) l.number l.index;
+  chains : AreChains (rules_in l.entries) l.number l.chains;
 }
 
 abbrev pub decreases-loop-number : goal.decreases-loop-number

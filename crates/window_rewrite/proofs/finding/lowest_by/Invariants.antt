@@ -2,11 +2,11 @@ use Rattle.std.proofs.Common.{◌≡◌, true}
 use Rattle.line_cursor.specs.Cursors.{lines_at, place_at}
 use Rattle.window_rewrite.specs.Rules.{rules_in}
 use Rattle.window_rewrite.proofs.Chosen.{IsSearch, left_of}
-use Rattle.window_rewrite.proofs.finding.lowest.Given as goal
+use Rattle.window_rewrite.proofs.finding.lowest_by.Given as goal
 
 abbrev pub invariant-loop-at : goal.invariant-loop-at
 invariant-loop-at g l = record {
-  search : IsSearch l.refused l.rules.base (rules_in l.rules.entries.now) (lines_at l.cursor) (place_at l.cursor) l.window l.at l.initial.steps l.steps;
+  search : IsSearch l.refused l.rules.base (rules_in l.rules.entries.now) l.rules.index.now.chains.kept.items (lines_at l.cursor) (place_at l.cursor) l.window l.at l.initial.steps l.steps;
   stays : l.initial.refused ≡ true → l.refused ≡ true;
 }
 

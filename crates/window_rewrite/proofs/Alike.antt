@@ -1,0 +1,190 @@
+-- Where a rule fits, so does one that is alike: the layout sees only how many instructions come.
+use Rattle.std.proofs.Common.{◌≡◌, ℕ, ◌+◌, ◌-◌, ◌<◌, ◌≤◌, ◌&&◌, ◌==◌, Bool, true, false, List, [], ◌∷◌, ◌++◌, length, take, drop, map, Option, Some, None, refl, sym, ap, ◌∙◌, subst, ◌⊎◌, inl, inr, arith}
+use Rattle.std.specs.Prelude.{slice_get, if◌then◌else◌}
+use Rattle.std.specs.List.{list_all}
+use Rattle.std.proofs.lemmas.Bool.{and_parts, lt-ltb}
+use Rattle.std.proofs.lemmas.List.{length-map}
+use Rattle.std.proofs.lemmas.Option.{slice_get_within}
+use Rattle.thumb_instr.specs.declared.instr.Instr.{Instr}
+use Rattle.thumb_instr.specs.Window.{is_in_window}
+use Rattle.thumb_instr.specs.Renaming.{Low, renamed, item_under}
+use Rattle.thumb_model.specs.Items.{one_of}
+use Rattle.thumb_model.specs.Listing.{Name, Statement, Nothing, Runs, Words, Aligns, Sets, Line, Label, Code, code_of, plain, is_op_place, places_in}
+use Rattle.thumb_model.specs.Flow.{LiveAfter}
+use Rattle.thumb_model.specs.Layout.{size_at, is_among, label_address, set_in, set_address, cleared, or_else, or_first, lies_in, aim_fault, fault_at, faults_from, Layable}
+use Rattle.thumb_model.specs.Rewrite.{Rule, Applies, moved, register_count}
+use Rattle.thumb_model.specs.Rewritten.{Setting, Replacement, is_op, without, labels_kept, new_line, replaced_lines, lines_after_rule, are_joined_from, left_length, left_length_of}
+use Rattle.listing_parser.specs.Replacing.{own_line}
+use Rattle.kept_layout.proofs.Cutting.{two_bytes}
+use Rattle.line_cursor.specs.Cursors.{IsSettled}
+use Rattle.line_cursor.proofs.Settled.{left_places, IsGap, settled_stay, stay_settled}
+use Rattle.line_cursor.proofs.Nearer.{applied_gap, applied_stay}
+use Rattle.window_rewrite.specs.Rewriting.{setting}
+use Rattle.window_rewrite.specs.Rules.{is_marked, AreAlike, AreFit, AreLed}
+use Rattle.window_rewrite.specs.Choices.{Meets}
+use Rattle.window_rewrite.proofs.Applied.{made, letters_all}
+
+-- ---- the layout ----
+
+-- two lines are laid out alike
+record IsLaidAs (l m : Line) : Type 0 where
+  names : l.names ≡ m.names
+  size : (at : ℕ) → size_at l.statement at ≡ size_at m.statement at
+  sets : (name : Name) (rest : Option ℕ) → set_in name l.statement rest ≡ set_in name m.statement rest
+  fault : (lies other : Name → Option ℕ) → ((name : Name) → lies name ≡ other name) → (at : ℕ) → fault_at lies at l.statement ≡ fault_at other at m.statement
+
+abbrev AreLaidAs : List Line → List Line → Type 0
+AreLaidAs [] [] = Unit {0}
+AreLaidAs [] (m ∷ ms) = ⊥
+AreLaidAs (l ∷ ls) [] = ⊥
+AreLaidAs (l ∷ ls) (m ∷ ms) = IsLaidAs l m × AreLaidAs ls ms
+
+labels_as : (name : Name) (at : ℕ) (ls ms : List Line) → AreLaidAs ls ms → label_address name at ls ≡ label_address name at ms
+labels_as name at [] [] h = refl
+labels_as name at [] (m ∷ ms) h = absurd h
+labels_as name at (l ∷ ls) [] h = absurd h
+labels_as name at (l ∷ ls) (m ∷ ms) h =
+    ap (λ (ns : List Name). if is_among name ns then Some at else label_address name (at + size_at l.statement at) ls) h.0.names
+    ∙ ap (λ n. if is_among name m.names then Some at else label_address name (at + n) ls) (h.0.size at)
+    ∙ ap (λ o. if is_among name m.names then Some at else o) (labels_as name (at + size_at m.statement at) ls ms h.1)
+
+sets_as : (name : Name) (ls ms : List Line) → AreLaidAs ls ms → set_address name ls ≡ set_address name ms
+sets_as name [] [] h = refl
+sets_as name [] (m ∷ ms) h = absurd h
+sets_as name (l ∷ ls) [] h = absurd h
+sets_as name (l ∷ ls) (m ∷ ms) h = h.0.sets name (set_address name ls) ∙ ap (set_in name m.statement) (sets_as name ls ms h.1)
+
+faults_as : (lies other : Name → Option ℕ) → ((name : Name) → lies name ≡ other name) → (n at : ℕ) (ls ms : List Line) → AreLaidAs ls ms → faults_from lies n at ls ≡ faults_from other n at ms
+faults_as lies other e n at [] [] h = refl
+faults_as lies other e n at [] (m ∷ ms) h = absurd h
+faults_as lies other e n at (l ∷ ls) [] h = absurd h
+faults_as lies other e n at (l ∷ ls) (m ∷ ms) h =
+    ap (λ f. or_first n f (faults_from lies (n + 1) (at + size_at l.statement at) ls)) (h.0.fault lies other e at)
+    ∙ ap (λ k. or_first n (fault_at other at m.statement) (faults_from lies (n + 1) (at + k) ls)) (h.0.size at)
+    ∙ ap (or_first n (fault_at other at m.statement)) (faults_as lies other e (n + 1) (at + size_at m.statement at) ls ms h.1)
+
+layable_as : (base : ℕ) (ls ms : List Line) → AreLaidAs ls ms → Layable base ls → Layable base ms
+layable_as base ls ms h laid =
+    sym (faults_as (lies_in base ls) (lies_in base ms) (λ name. ap (λ o. or_else o (cleared (set_address name ls))) (labels_as name base ls ms h) ∙ ap (λ o. or_else (label_address name base ms) (cleared o)) (sets_as name ls ms h)) 1 base ls ms h) ∙ laid
+
+same_fault : (lies other : Name → Option ℕ) → ((name : Name) → lies name ≡ other name) → (at : ℕ) (s : Statement) → fault_at lies at s ≡ fault_at other at s
+same_fault lies other e at Nothing = refl
+same_fault lies other e at (Runs i None) = refl
+same_fault lies other e at (Runs i (Some m)) = ap (λ o. aim_fault at i o m.plus) (e m.name)
+same_fault lies other e at (Words vs) = refl
+same_fault lies other e at (Aligns size most) = refl
+same_fault lies other e at (Sets name address) = refl
+
+same_line : (l : Line) → IsLaidAs l l
+same_line l = record { names = refl; size = λ _. refl; sets = λ _ _. refl; fault = λ lies other e at. same_fault lies other e at l.statement }
+
+same_lines : (ls : List Line) → AreLaidAs ls ls
+same_lines [] = tt
+same_lines (l ∷ ls) = (same_line l, same_lines ls)
+
+behind_as : (xs ls ms : List Line) → AreLaidAs ls ms → AreLaidAs (xs ++ ls) (xs ++ ms)
+behind_as [] ls ms h = h
+behind_as (x ∷ xs) ls ms h = (same_line x, behind_as xs ls ms h)
+
+-- new instructions in front of lines
+new_as : (write : Instr → List ℕ) (is js : List Instr) (ls : List Line) → length is ≡ length js → list_all is_in_window is ≡ true → list_all is_in_window js ≡ true
+    → AreLaidAs (map (new_line write) is ++ ls) (map (new_line write) js ++ ls)
+new_as write [] [] ls e v w = same_lines ls
+new_as write [] (j ∷ js) ls e v w = absurd (omega (arith, e))
+new_as write (i ∷ is) [] ls e v w = absurd (omega (arith, e))
+new_as write (i ∷ is) (j ∷ js) ls e v w =
+    let a = and_parts (is_in_window i) (list_all is_in_window is) v in
+    let b = and_parts (is_in_window j) (list_all is_in_window js) w in (
+      record { names = refl; size = λ _. two_bytes i a.0 ∙ sym (two_bytes j b.0); sets = λ _ _. refl; fault = λ _ _ _ _. refl },
+      new_as write is js ls (omega (arith, e)) a.1 b.1,
+    )
+
+-- lines with new instructions of one number
+replaced_as : (write : Instr → List ℕ) (p count : ℕ) (is js : List Instr) (ls : List Line) → length is ≡ length js → list_all is_in_window is ≡ true → list_all is_in_window js ≡ true
+    → AreLaidAs (replaced_lines write p count is ls) (replaced_lines write p count js ls)
+replaced_as write p count is js [] e v w = tt
+replaced_as write p count is js (l ∷ ls) e v w =
+    elim (is_op l.statement && (p == 0)) as (λ b. AreLaidAs
+    (if b then labels_kept l l.names ++ (map (new_line write) is ++ without (count - 1) ls) else l ∷ replaced_lines write (p - length (places_in l.statement)) count is ls)
+    (if b then labels_kept l l.names ++ (map (new_line write) js ++ without (count - 1) ls) else l ∷ replaced_lines write (p - length (places_in l.statement)) count js ls)) [
+      | true ↦ behind_as (labels_kept l l.names) (map (new_line write) is ++ without (count - 1) ls) (map (new_line write) js ++ without (count - 1) ls) (new_as write is js (without (count - 1) ls) e v w)
+      | false ↦ (same_line l, replaced_as write (p - length (places_in l.statement)) count is js ls e v w)
+    ]
+
+-- ---- the place ----
+
+settled_as : (code : Code) (p count : ℕ) (is js : List Instr) → length is ≡ length js → IsSettled code.places code.labels p count is → IsSettled code.places code.labels p count js
+settled_as code p count is js e (inl n) = inl (omega (arith, e, n))
+settled_as code p count is js e (inr h) = inr h
+
+-- a rule applies where one does that is alike
+applies_as : (a b : Rule) (registers : List Low) (code : Code) (p : ℕ) → AreAlike a b → Applies b registers code p → Applies a registers code p
+applies_as a b registers code p s h =
+    let is : List Instr = map (renamed registers) b.right in
+    let js : List Instr = map (renamed registers) a.right in
+    let count : length a.left ≡ length b.left = ap (λ (l : List Instr). length l) s.left in
+    let m = length-map b.right (renamed registers) in
+    let n = length-map a.right (renamed registers) in
+    let long = s.as_long in
+    let shorter = h.shorter in
+    let gap = applied_gap b registers code p h in
+    let settled = stay_settled code.places code.labels p (length b.left) is gap (applied_stay b registers code p h) in
+    let other : IsGap code.places code.labels p (length b.left) js = record { within = gap.within; shorter = omega arith; first = gap.first; unlabelled = gap.unlabelled } in
+    let stay = settled_stay code.places code.labels p (length b.left) js other (settled_as code p (length b.left) is js (omega arith) settled) in
+    record {
+      as_many = h.as_many ∙ ap register_count (sym s.left);
+      one_to_one = h.one_to_one;
+      window = h.window;
+      stands = subst (λ (l : List Instr). take (length l) (drop p code.places) ≡ map plain h.window) (sym s.left) h.stands;
+      matches = h.matches ∙ ap (map (renamed registers)) (sym s.left);
+      unlabelled = subst (λ (l : List Instr). (k : ℕ) (x : Label) → slice_get code.labels k ≡ Some x → (x.place ≤ p) ⊎ (p + length l ≤ x.place)) (sym s.left) h.unlabelled;
+      shorter = omega arith;
+      live = λ x r. subst (λ (mask : List ℕ). (one_of x (map (item_under registers) mask) ≡ true) ⊎ ((x < 15) × (one_of x (map (λ r. r.number) registers) ≡ false))) (sym s.mask)
+          (h.live x (subst (λ c. LiveAfter code (p + c - 1) x) count r));
+      labels_stay = λ k l e c.
+          subst (λ q. is_op_place (slice_get (left_places p q js code.places) (moved p (q - length a.right) l.place)) ≡ true) (sym count)
+          (subst (λ q. is_op_place (slice_get (left_places p (length b.left) js code.places) (moved p (length b.left - q) l.place)) ≡ true) n (stay k l e c));
+    }
+
+-- ---- the choice ----
+
+-- an entry that is kept meets the same there
+pub record IsLedTo (asked : Bool) (s : Setting) (kept : List Bool) (o : Replacement) (lines : List Line) : Type 0 where
+  pub leader : ℕ
+  pub no_later : leader ≤ o.entry
+  pub is_kept : is_marked kept leader ≡ true
+  pub meets : Meets asked s (made o.place leader o.registers) lines
+  pub as_long : left_length s.table leader ≡ left_length s.table o.entry
+
+pub led_to : (asked : Bool) (base longest : ℕ) (rules : List Rule) (kept : List Bool) (lines : List Line) (o : Replacement) → AreFit longest rules → AreLed rules kept (length rules) → Meets asked (setting base rules) o lines
+    → IsLedTo asked (setting base rules) kept o lines
+led_to asked base longest rules kept lines o fit led m =
+    let s : Setting = setting base rules in
+    let rule : Rule = m.0.rule in
+    let l = led o.entry rule (slice_get_within rules o.entry rule m.0.is_rule) m.0.is_rule (lt-ltb (length rule.right) (length rule.left) m.0.applies.shorter) in
+    let other : Rule = l.other in
+    let count : length other.left ≡ length rule.left = ap (λ (is : List Instr). length is) l.alike.left in
+    let is : List Instr = map (renamed o.registers) rule.right in
+    let js : List Instr = map (renamed o.registers) other.right in
+    let as_many : length is ≡ length js = length-map rule.right (renamed o.registers) ∙ sym l.alike.as_long ∙ sym (length-map other.right (renamed o.registers)) in
+    record {
+      leader = l.leader;
+      no_later = l.no_later;
+      is_kept = l.is_kept;
+      meets = (
+        record {
+          rule = other;
+          is_rule = l.at;
+          applies = applies_as other rule o.registers (code_of lines) o.place l.alike m.0.applies;
+          joined = subst (λ k. are_joined_from o.place k lines ≡ true) (sym count) m.0.joined;
+        },
+        λ e.
+            let laid : Layable base (replaced_lines own_line o.place (length rule.left) is lines) = subst (λ (r : Option Rule). Layable base (lines_after_rule s r o lines)) m.0.is_rule (m.1 e) in
+            let same : Layable base (replaced_lines own_line o.place (length rule.left) js lines) =
+            layable_as base (replaced_lines own_line o.place (length rule.left) is lines) (replaced_lines own_line o.place (length rule.left) js lines)
+            (replaced_as own_line o.place (length rule.left) is js lines as_many (letters_all (register_count rule.left) o.registers rule.right (fit o.entry rule m.0.is_rule).sound.right) (letters_all (register_count other.left) o.registers other.right (fit l.leader other l.at).sound.right)) laid in
+            subst (λ (r : Option Rule). Layable base (lines_after_rule s r (made o.place l.leader o.registers) lines)) (sym l.at)
+            (subst (λ k. Layable base (replaced_lines own_line o.place k js lines)) (sym count) same),
+      );
+      as_long = ap left_length_of l.at ∙ count ∙ ap left_length_of (sym m.0.is_rule);
+    }

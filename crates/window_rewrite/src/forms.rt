@@ -1,0 +1,83 @@
+//! What of a window tells which entries may fit it: a number of its canonical form, and the items that are live after it, by the names of that form.
+ghost use Rattle.std.specs.Prelude.{◌≡◌, ◌<◌, ℕ, List, true, IfSome, IfNone};
+ghost use Rattle.std.specs.List.{list_all};
+ghost use Rattle.thumb_instr.specs.Items.{has};
+ghost use Rattle.thumb_instr.specs.Renaming.{Low};
+ghost use Rattle.thumb_instr.specs.Window.{is_in_window};
+ghost use Rattle.thumb_model.specs.Rewrite.{Rule, IsSoundRule};
+ghost use Rattle.table_audit.specs.Sides.{IsCanonicalSide};
+ghost use Rattle.window_rewrite.specs.Fitting.{IsForm, Stands};
+ghost use Rattle.window_rewrite.specs.Forms.{form_of, letter_number, next_form};
+
+use crate::shapes::SHAPES;
+use rule_table::canonical;
+use seq_enum::rank;
+use thumb_instr::{Instr, Items, Mask, parts};
+
+/// What of a window tells which entries may fit it.
+#[derive(Drop)]
+pub(crate) struct Form {
+    /// The number of each left side that stands in the window.
+    pub(crate) number: usize,
+    /// The items that are live after it.
+    pub(crate) live: Items,
+    /// Those of them that the mask of an entry has if it fits, by its own names for registers.
+    pub(crate) mask: Mask,
+}
+
+/// The number of an instruction with its registers.
+fn letter_number(instr: &Instr) -> usize
+    ensures value { result ≡ letter_number instr.now }
+    ensures small { result < 4928494698496 }
+{
+    let parts = parts(instr);
+    let operands = parts.first as usize + 5 * parts.second as usize + 25 * parts.third as usize;
+    37 * operands + rank(parts.kind).unwrap_or(0)
+}
+
+/// The number of instructions where another stands behind those that have this one.
+fn next_form(form: usize, instr: &Instr) -> usize
+    requires { form < 65536 }
+    ensures value { result ≡ next_form form instr.now }
+    ensures small { result < 65536 }
+{
+    (form * 1283 + letter_number(instr)) % SHAPES
+}
+
+/// The number of instructions with their registers.
+pub(crate) fn form_of(instrs: &[Instr]) -> usize
+    ensures value { result ≡ form_of instrs.now }
+    ensures small { result < 65536 }
+{
+    let mut form = 0;
+    for instr in instrs {
+        form = next_form(form, instr);
+    }
+    form
+}
+
+impl Form {
+    /// The form of a window after which these items are live: none where no left side stands in it.
+    pub(crate) fn of(window: &[Instr], live: Items) -> Option<Form>
+        requires { list_all is_in_window window.now ≡ true }
+        ensures none { IfNone result ((rule : Rule) (registers : List Low) → IsSoundRule rule → IsCanonicalSide rule.left → Stands rule registers window.now → ⊥) }
+        ensures some { IfSome result (IsForm window.now) }
+        ensures live { IfSome result (λ f. f.live ≡ live) }
+    {
+        match canonical(window, live) {
+            None => None,
+            Some((side, _map, mask)) => Some(Form {
+                number: form_of(side.as_slice()),
+                live,
+                mask,
+            }),
+        }
+    }
+
+    /// Whether the mask of an entry has what it must have if the entry fits.
+    pub(crate) fn may_fit(&self, mask: Mask) -> bool
+        ensures { ((x : ℕ) → has self.now.mask.items.bits x ≡ true → has mask.items.bits x ≡ true) → result ≡ true }
+    {
+        self.mask.items.bits & mask.items.bits == self.mask.items.bits
+    }
+}

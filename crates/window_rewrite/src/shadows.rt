@@ -1,0 +1,175 @@
+//! Which entries of a table are looked for. One that has the left side and the mask of an earlier one and a right side as long is never the first that applies:
+//! where it fits, so does the earlier one, and the layout sees only how many instructions go. It is shadowed.
+ghost use Rattle.std.specs.Prelude.{◌≡◌, ◌↔◌, ◌+◌, ◌*◌, ◌/◌, ◌%◌, ◌<◌, length, slice_get, Some, true, IfOk, IsTrue};
+ghost use Rattle.seq_enum.specs.Places.{rank};
+ghost use Rattle.thumb_model.specs.Rewrite.{Rule};
+ghost use Rattle.window_rewrite.specs.Forms.{form_of};
+ghost use Rattle.window_rewrite.specs.Rules.{entry_rule, is_marked, is_shorter, rules_in, AreAlike, AreKept, AreLed, IsLed};
+
+use crate::forms::form_of;
+use listing_parser::Memory;
+use rule_table::Entry;
+use seq_enum::rank;
+use std::alloc::Global;
+use thumb_instr::{Instr, Kind, in_window, parts};
+
+/// Whether an entry leaves fewer instructions.
+pub(crate) fn is_shorter(entry: &Entry) -> bool
+    ensures { result ≡ is_shorter (entry_rule entry.now) }
+{
+    entry.right.len() < entry.left.len()
+}
+
+/// Whether two kinds stand at one place among the mnemonics of windows.
+fn same_kind(kind: Kind, other: Kind) -> bool
+    ensures { IsTrue result ↔ (rank kind ≡ rank other) }
+{
+    rank(kind) == rank(other)
+}
+
+/// Whether an instruction that may stand in a window is another.
+fn is_same(instr: &Instr, other: &Instr) -> bool
+    ensures { result ≡ true → instr.now ≡ other.now }
+{
+    let own = parts(instr);
+    let others = parts(other);
+    if !in_window(instr) {
+        return false;
+    }
+    if !same_kind(own.kind, others.kind) {
+        return false;
+    }
+    if own.first != others.first || own.second != others.second {
+        return false;
+    }
+    own.third == others.third
+}
+
+/// Whether two sides are the same.
+fn are_same(side: &[Instr], other: &[Instr]) -> bool
+    ensures { result ≡ true → side.now ≡ other.now }
+{
+    match side {
+        [] => other.is_empty(),
+        [first, rest @ ..] => match other {
+            [] => false,
+            [second, others @ ..] => is_same(first, second) && are_same(rest, others),
+        },
+    }
+}
+
+/// Whether two entries have one left side and one mask, and right sides of one length.
+fn are_alike(entry: &Entry, other: &Entry) -> bool
+    ensures { result ≡ true → AreAlike (entry_rule entry.now) (entry_rule other.now) }
+{
+    if entry.mask.items.bits != other.mask.items.bits {
+        return false;
+    }
+    if entry.right.len() != other.right.len() {
+        return false;
+    }
+    are_same(entry.left.as_slice(), other.left.as_slice())
+}
+
+/// Whether an entry is alike to another, by their numbers.
+fn leads(entries: &[Entry], earlier: usize, number: usize) -> bool
+    requires earlier { earlier < length entries.now }
+    requires within { number < length entries.now }
+    ensures { result ≡ true → (a b : Rule) → slice_get (rules_in entries.now) earlier ≡ Some a → slice_get (rules_in entries.now) number ≡ Some b → AreAlike a b }
+{
+    are_alike(&entries[earlier], &entries[number])
+}
+
+/// A number that entries share which are alike.
+fn number_of(entry: &Entry) -> usize
+    ensures { result ≡ form_of entry.now.left + 6 * (entry.now.mask.items.bits % 16 + entry.now.mask.items.bits / 2048) + length entry.now.right }
+{
+    let bits = entry.mask.items.bits as usize;
+    let mask = bits % 16 + bits / 2048;
+    form_of(entry.left.as_slice()) + 6 * mask + entry.right.len()
+}
+
+/// The first entries of a table, as far as they are looked at.
+#[derive(Drop)]
+pub(crate) struct Kept {
+    /// Whether an entry is kept.
+    kept: Vec<bool>,
+    /// Of the entries that are kept the last one for each remainder of their numbers by how many entries there are, and of each of these the one before it.
+    lasts: Vec<Option<usize>>,
+    earlier: Vec<Option<usize>>,
+}
+
+impl Kept {
+    /// Where the last entry stands that is kept and may be alike.
+    fn shared(&self, entry: &Entry) -> usize
+        requires { 0 < length self.now.lasts.items }
+        ensures { result < length self.now.lasts.items }
+    {
+        number_of(entry) % self.lasts.len()
+    }
+
+    /// Whether an entry has a kept one before it that is alike.
+    fn has_leader(&self, entries: &[Entry], number: usize) -> bool
+        requires kept { AreKept (rules_in entries.now) number self.now }
+        requires within { number < length entries.now }
+        ensures { result ≡ true → (rule : Rule) → slice_get (rules_in entries.now) number ≡ Some rule → IsLed (rules_in entries.now) self.now.kept.items number rule }
+    {
+        let mut at = self.lasts[self.shared(&entries[number])];
+        while let Some(earlier) = at {
+            if leads(entries, earlier, number) {
+                return true;
+            }
+            at = self.earlier[earlier];
+        }
+        false
+    }
+
+    /// Keeps an entry.
+    fn keep(&mut self, entries: &[Entry], number: usize)
+        requires kept { AreKept (rules_in entries.now) number self.old }
+        requires within { number < length entries.now }
+        ensures { AreKept (rules_in entries.now) (number + 1) self.new }
+    {
+        let shared = self.shared(&entries[number]);
+        let before = self.lasts[shared];
+        self.earlier[number] = before;
+        self.lasts[shared] = Some(number);
+        self.kept[number] = true;
+    }
+
+    /// Looks at one entry more.
+    fn look(&mut self, entries: &[Entry], number: usize)
+        requires kept { AreKept (rules_in entries.now) number self.old }
+        requires within { number < length entries.now }
+        ensures { AreKept (rules_in entries.now) (number + 1) self.new }
+    {
+        if !is_shorter(&entries[number]) {
+            return;
+        }
+        if self.has_leader(entries, number) {
+            return;
+        }
+        self.keep(entries, number);
+    }
+}
+
+/// Which entries are kept: of those that leave fewer instructions and are alike the first.
+pub(crate) fn kept_entries(alloc: Global, entries: &[Entry]) -> Result<Vec<bool>, Memory>
+    ensures led { IfOk result (λ kept. AreLed (rules_in entries.now) kept.items (length entries.now)) }
+    ensures many { IfOk result (λ kept. length kept.items ≡ length entries.now) }
+{
+    let mut all = Kept {
+        kept: vec![in alloc; false; entries.len()]?,
+        lasts: vec![in alloc; None; entries.len()]?,
+        earlier: vec![in alloc; None; entries.len()]?,
+    };
+    for number in 0..entries.len() {
+        all.look(entries, number);
+    }
+    let Kept {
+        kept,
+        lasts: _lasts,
+        earlier: _earlier,
+    } = all;
+    Ok(kept)
+}
