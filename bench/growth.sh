@@ -1,8 +1,8 @@
 #!/usr/bin/env bash
 # Measures how rewriting grows with listings of hostile shapes, beside a plain Rust program of the best algorithms known: each shape at N, 2 N and 4 N, as
 # growth.py says them. Prints a row for each: the processor's seconds of rewriting in both programs, auditing and reading aside, by which factor each doubling
-# takes longer, and the ratio at 4 N. What takes more than LIMIT (60) seconds is told as such, and not tried at more. First both rewrite some random listings, and
-# they have to write the same for each shape, too. Where PROGRAM is given, a build of rewriting/proved.rs, it is measured, and nothing is proved.
+# takes longer, and the ratio at 4 N. What takes more than LIMIT (60) seconds is told as such, and not tried at more. First both rewrite 100 random listings, unless
+# shapes are named. They have to write the same, for each shape too. Where PROGRAM is given, a build of rewriting/proved.rs, it is measured, and nothing is proved.
 # Use: bench/growth.sh [LIMIT [PROGRAM [SHAPE ..]]], PROGRAM - for none
 . "$(dirname "$0")/common.sh"
 limit=${1:-60} given=${2:--}
@@ -97,7 +97,7 @@ measure() {
     echo "| $1, $2 |$said $(quotient "${times[proved2]}" "${times[plain2]}") |"
 }
 
-compare 100
+[ ${#shapes[@]} != 0 ] || compare 100
 echo "| shape, N | proved at N, 2 N, 4 N, in seconds | factors | plain Rust | factors | ratio at 4 N |"
 echo "|---|---|---|---|---|---|"
 python3 "$top/bench/growth.py" | while read -r shape count; do

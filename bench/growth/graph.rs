@@ -119,11 +119,6 @@ impl Graph {
         graph
     }
 
-    /// What is live before each place.
-    pub fn before(&self) -> &[u32] {
-        &self.before
-    }
-
     /// What is live before what stands at a place or behind it.
     pub fn live_at(&self, node: usize) -> u32 {
         self.before[node]

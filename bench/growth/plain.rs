@@ -1,7 +1,6 @@
 //! Rewrites a listing by a table in plain Rust, in time that grows as little as is known with listings of hostile shapes: live items on a flow graph over the
 //! places of the given listing, the next place by what is due, entries in groups by their left sides, a layout by blocks, and refused windows by where the
-//! distance lies that was out of reach. Standard input and what is told are those of rewriting/plain.rs. With a word it finds the live items of the listing
-//! alone, and tells the microseconds of that and those of reading with it.
+//! distance lies that was out of reach. Standard input and what is told are those of rewriting/plain.rs.
 
 #[path = "../listing_lines/plain/instruction.rs"]
 mod instruction;
@@ -259,19 +258,17 @@ fn refusal(listing: &Listing) -> Option<String> {
     }
 }
 
-/// Finds the live items of a listing, and tells a digest of them.
-fn find_live(listing: &Listing, start: Instant) {
-    let begun = Instant::now();
-    let graph = black_box(Graph::of(listing));
-    let (finding, all) = (begun.elapsed().as_micros(), start.elapsed().as_micros());
-    let digest = graph.before().iter().fold(0u64, |sum, bits| sum.wrapping_mul(31).wrapping_add(u64::from(*bits)));
-    eprintln!("{finding} {all} {digest}");
-}
-
-/// Rewrites a listing, and tells what was done.
-fn rewrite(rules: &[u8], listing: Listing, start: Instant) -> io::Result<()> {
-    let Ok(table) = read_table(rules) else {
+fn main() -> io::Result<()> {
+    let mut text = Vec::new();
+    io::stdin().read_to_end(&mut text)?;
+    let (table, text) = parted(&text);
+    let start = Instant::now();
+    let Ok(table) = read_table(table) else {
         eprintln!("no table");
+        return Ok(());
+    };
+    let Ok(listing) = parse(text) else {
+        eprintln!("no listing");
         return Ok(());
     };
     let before = instruction_count(&listing);
@@ -296,21 +293,4 @@ fn rewrite(rules: &[u8], listing: Listing, start: Instant) -> io::Result<()> {
     io::stdout().write_all(&text)?;
     eprintln!("{rewriting} {all} {replaced} {before} {}", instruction_count(&listing));
     Ok(())
-}
-
-fn main() -> io::Result<()> {
-    let mut text = Vec::new();
-    io::stdin().read_to_end(&mut text)?;
-    let is_live = std::env::args().len() > 1;
-    let (table, text) = if is_live { (&text[..0], &text[..]) } else { parted(&text) };
-    let start = Instant::now();
-    let Ok(listing) = parse(text) else {
-        eprintln!("no listing");
-        return Ok(());
-    };
-    if is_live {
-        find_live(&listing, start);
-        return Ok(());
-    }
-    rewrite(table, listing, start)
 }
