@@ -2,7 +2,7 @@
 
 import unittest
 
-from . import TOP
+from . import TOP, lacks_program, program, run
 from peep_cc.tables import Entry, Table, TableError, drop_told, filtered, merged, read_table
 
 
@@ -40,3 +40,16 @@ class Tables(unittest.TestCase):
         self.assertTrue(drop_told(table, "peep audit: refused entry 1 5 4"))
         self.assertEqual(table.entries[0].opens, [(7, [])])
         self.assertFalse(drop_told(table, "peep audit: refused entry 1 3"))
+
+
+class Shipped(unittest.TestCase):
+    def test_each_entry_does_something(self) -> None:
+        for path in sorted((TOP / "tables").glob("*.peep")):
+            table = read_table(path.read_text())
+            self.assertEqual(filtered(table).entries, table.entries, path)
+
+    @unittest.skipIf(reason := lacks_program(), reason or "")
+    def test_the_audit_accepts_them(self) -> None:
+        for path in sorted((TOP / "tables").glob("*.peep")):
+            ran = run(program(), "audit", path, folder=TOP)
+            self.assertEqual(ran.returncode, 0, ran.stdout)
