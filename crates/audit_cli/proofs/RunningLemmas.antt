@@ -2,7 +2,10 @@
 use Rattle.std.proofs.Common.{◌≡◌, ◌∙◌, ℕ, zero, suc, ◌+◌, ◌<◌, true, false, List, [], ◌∷◌, ◌++◌, Option, Some, None, refl, sym, ap, subst, arith, inl, inr, ◌⊎◌, below_more}
 use Rattle.std.specs.Prelude.{slice_get}
 use Rattle.thumb_model.specs.Listing.{Code, Place, Op, Word}
-use Rattle.thumb_model.specs.Machine.{Naming, State, Event, At, Here, Ended, Next, On, Stay, To, Over, act, around_of, arrives, step, step_at, step_on, times}
+use Rattle.thumb_model.specs.Naming.{Naming}
+use Rattle.thumb_model.specs.States.{State, Event, At, Here, Ended, Next, On, Stay, To, Over}
+use Rattle.thumb_model.specs.Acts.{act}
+use Rattle.thumb_model.specs.Steps.{around_of, arrives, step, step_at, step_on, times}
 use Rattle.thumb_model.specs.Same.{has_ended}
 use Rattle.thumb_machine.specs.declared.answers.Answer.{Answer}
 use Rattle.thumb_machine.specs.declared.world.End.{End}
@@ -13,8 +16,8 @@ use Rattle.thumb_machine.specs.declared.machine.Stage.{Stage}
 use Rattle.thumb_machine.specs.declared.machine.Stage.TheVariants as stage
 use Rattle.thumb_machine.specs.declared.machine.Machine.{Machine}
 use Rattle.thumb_machine.specs.Outside.{events_of}
-use Rattle.thumb_machine.specs.Acting.{end_of}
-use Rattle.thumb_machine.specs.Running.{EndedBy, IsStage, Stands, Stepped, at_of, next_at, next_on, stage_of, state_of}
+use Rattle.thumb_machine.specs.Stages.{end_of, next_at, next_on, stage_of}
+use Rattle.thumb_machine.specs.Running.{EndedBy, IsStage, Stands, Stepped, at_of, state_of}
 use Rattle.audit_cli.specs.Running.{GoesOn, IsRun, StandsAfter, goes, wants, ended}
 use Rattle.audit_cli.proofs.StayLemmas.{stays_quiet}
 

@@ -4,7 +4,7 @@ use Rattle.std.specs.Prelude.{nat_lt, slice_index}
 use Rattle.std.proofs.lemmas.Bool.{cases_Bool}
 use Rattle.thumb_model.specs.Items.{sp, lr, n_flag, z_flag, c_flag, v_flag}
 use Rattle.std.proofs.lemmas.List.{map-append}
-use Rattle.thumb_model.specs.Machine as model
+use Rattle.thumb_model.specs.States as model
 use Rattle.thumb_machine.specs.declared.answers.Answer.{Answer}
 use Rattle.thumb_machine.specs.Outside.{answer_of, answers_of}
 use Rattle.audit_cli.specs.Start.{answers_from, numbered_answer, start_values}

@@ -11,8 +11,12 @@ use Rattle.thumb_instr.specs.Items.{has}
 use Rattle.thumb_instr.specs.Shape.{registers_in, pushed, offset_access, word_access}
 use Rattle.thumb_model.specs.Items.{sp}
 use Rattle.thumb_model.specs.Listing.{Code, Place, Op, Word}
-use Rattle.thumb_model.specs.Machine.{Naming, State, At, Here, Ended, World, Answer, Target, Inside, External, Landing, Goes, Leaves, Strays, Around, Act, Event, Call, Sys, Fault, On, Stay, To, Over, act, around_of, puts, ends, branches, tells, takes, aligned, answered, served, handed, answers_with, is_device, access_size, value_at, gets, loads, stores, accesses, behind, below, stores_many, device_words, enough, loads_many, jumps, calls_out, calls, calls_by, with_pc, popped_word, pops_to, pops, holds, hints, special_code, reads_special, offset, step_at, step_on}
-use Rattle.thumb_machine.specs.Running.{next_at, next_on}
+use Rattle.thumb_model.specs.Naming.{Naming}
+use Rattle.thumb_model.specs.States.{State, At, Here, Ended, World, Answer, Target, Inside, External, Landing, Goes, Leaves, Strays, Around, Act, Event, Call, Sys, Fault, On, Stay, To, Over, puts, ends, tells, takes, aligned, answered, served, handed, answers_with}
+use Rattle.thumb_model.specs.Accesses.{is_device, access_size, value_at, gets, loads, stores, accesses, behind, below, stores_many, device_words, enough, loads_many}
+use Rattle.thumb_model.specs.Acts.{act, branches, jumps, calls_out, calls, calls_by, with_pc, popped_word, pops_to, pops, holds, hints, special_code, reads_special, offset}
+use Rattle.thumb_model.specs.Steps.{around_of, step_at, step_on}
+use Rattle.thumb_machine.specs.Stages.{next_at, next_on}
 
 abbrev Quiet : Act → Type 0
 Quiet a = a.next ≡ Stay → a.events ≡ []

@@ -4,7 +4,9 @@ use Rattle.std.specs.Prelude.{IfOk, Some}
 use Rattle.thumb_model.specs.Listing.{Line, code_of, place_of}
 use Rattle.thumb_model.specs.Layout.{Layable}
 use Rattle.listing_parser.specs.Parsing.{IsListing}
-use Rattle.thumb_model.specs.Machine.{Event, Here, Naming, State, step, times, with_bytes}
+use Rattle.thumb_model.specs.Naming.{Naming}
+use Rattle.thumb_model.specs.States.{Event, Here, State, with_bytes}
+use Rattle.thumb_model.specs.Steps.{step, times}
 use Rattle.thumb_model.specs.Same.{begun, here_or_ended}
 use Rattle.thumb_machine.specs.declared.answers.Answer.{Answer}
 use Rattle.thumb_machine.specs.declared.machine.Machine.{Machine}

@@ -2,7 +2,7 @@
 use Rattle.std.specs.Prelude.{◌≡◌, ◌≤◌, ◌+◌, ℕ, List, [], ◌∷◌, ◌++◌, length, codes, if◌then◌else◌}
 use Rattle.thumb_model.specs.Listing.{Name, Line, code_of}
 use Rattle.thumb_model.specs.Layout.{Layable}
-use Rattle.thumb_model.specs.Machine.{Fits}
+use Rattle.thumb_model.specs.Naming.{Fits}
 use Rattle.thumb_model.specs.Laid.{laid}
 use Rattle.thumb_model.specs.Same.{Same}
 use Rattle.thumb_model.specs.Rewritten.{Replacement, AreRewritten, AllApplied, NoneApplies, is_op}

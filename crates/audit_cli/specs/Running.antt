@@ -1,13 +1,14 @@
 -- A run of at most so many steps.
 use Rattle.std.specs.Prelude.{◌≡◌, ℕ, ◌<◌, ◌≤◌, false, true, List, [], ◌∷◌, ◌++◌, Some}
 use Rattle.thumb_model.specs.Listing.{Code}
-use Rattle.thumb_model.specs.Machine.{Naming, State, Event, Stay, step, times}
+use Rattle.thumb_model.specs.Naming.{Naming}
+use Rattle.thumb_model.specs.States.{State, Event, Stay}
+use Rattle.thumb_model.specs.Steps.{step, times}
 use Rattle.thumb_model.specs.Same.{has_ended}
 use Rattle.thumb_machine.specs.declared.world.End.{End}
 use Rattle.thumb_machine.specs.declared.machine.Stage.{Stage}
 use Rattle.thumb_machine.specs.declared.machine.Stage.TheVariants as stage
-use Rattle.thumb_machine.specs.Acting.{end_of}
-use Rattle.thumb_machine.specs.Running.{next_at, stage_of}
+use Rattle.thumb_machine.specs.Stages.{end_of, next_at, stage_of}
 
 -- a step can be taken: the run hasn't ended, and the step doesn't ask for more answers than are left
 pub record GoesOn (names : Naming) (code : Code) (s : State) : Type 0 where

@@ -1,7 +1,7 @@
 -- Where a trace begins: registers, flags, memory and the outside's answers.
 use Rattle.std.specs.Prelude.{ℕ, zero, suc, ◌+◌, ◌==◌, ◌||◌, nat_lt, List, [], ◌∷◌, if◌then◌else◌}
 use Rattle.thumb_model.specs.Items.{Values, sp, lr}
-use Rattle.thumb_model.specs.Machine.{Answer, World}
+use Rattle.thumb_model.specs.States.{Answer, World}
 
 -- sp is 0x20001000, lr 0xffffffff, and all else 0
 abbrev pub start_values : Values

@@ -2,7 +2,8 @@
 use Rattle.std.specs.Prelude.{◌≡◌, ℕ, List, [], ◌∷◌, ◌++◌, Some, None}
 use Rattle.thumb_model.specs.Listing.{Name, Line, code_of, place_of}
 use Rattle.thumb_model.specs.Layout.{Layable}
-use Rattle.thumb_model.specs.Machine.{Naming, step, times}
+use Rattle.thumb_model.specs.Naming.{Naming}
+use Rattle.thumb_model.specs.Steps.{step, times}
 use Rattle.thumb_model.specs.Same.{begun}
 use Rattle.listing_parser.specs.Parsing.{IsListing}
 use Rattle.thumb_machine.specs.declared.machine.Stage.{Stage}

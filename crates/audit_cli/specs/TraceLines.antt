@@ -1,7 +1,7 @@
 -- The printed lines of a trace.
 use Rattle.std.specs.Prelude.{ℕ, ◌+◌, ◌/◌, ◌%◌, nat_lt, List, [], ◌∷◌, ◌++◌, codes, if◌then◌else◌}
 use Rattle.std.specs.List.{flat_map}
-use Rattle.thumb_model.specs.Machine.{Event, Load, Store, Call, Sys, Left, Fault, Astray, Fell}
+use Rattle.thumb_model.specs.States.{Event, Load, Store, Call, Sys, Left, Fault, Astray, Fell}
 use Rattle.thumb_machine.specs.declared.machine.Stage.{Stage}
 use Rattle.thumb_machine.specs.declared.machine.Stage.TheVariants as stage
 use Rattle.audit_cli.specs.Printed.{printed, and_number}

@@ -1,7 +1,8 @@
 //! A machine's run of at most so many steps.
 ghost use Rattle.std.specs.Prelude.{◌≡◌, false, IfOk};
 ghost use Rattle.thumb_model.specs.Listing.{Code};
-ghost use Rattle.thumb_model.specs.Machine.{Naming, step, times};
+ghost use Rattle.thumb_model.specs.Naming.{Naming};
+ghost use Rattle.thumb_model.specs.Steps.{step, times};
 ghost use Rattle.thumb_model.specs.Same.{has_ended};
 ghost use Rattle.thumb_machine.specs.Outside.{events_of};
 ghost use Rattle.thumb_machine.specs.Running.{IsProgram, at_of, state_of};

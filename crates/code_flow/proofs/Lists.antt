@@ -3,7 +3,7 @@ use Rattle.std.proofs.Common.{◌≡◌, ◌∙◌, ℕ, ◌/◌, ◌%◌, ◌<�
 use Rattle.std.proofs.Math.Bool.{or-false}
 use Rattle.thumb_instr.specs.Items.{one_of, has, sp}
 use Rattle.thumb_instr.proofs.Listed.{one_of_append, one_of_filter}
-use Rattle.thumb_model.specs.Machine.{registers_left}
+use Rattle.thumb_model.specs.States.{registers_left}
 use Rattle.thumb_model.specs.Flow.{left_but}
 
 -- the union of two sets has what either list has

@@ -2,7 +2,7 @@
 ghost use Rattle.std.specs.Prelude.{◌≡◌, ◌<◌, ◌≤◌, ◌-◌, ◌^◌, ℕ, List, [], ◌∷◌, Option, Some, None};
 ghost use Rattle.thumb_instr.specs.Items.{one_of, has};
 ghost use Rattle.thumb_instr.specs.Shape.{uses_of, writes_of};
-ghost use Rattle.thumb_model.specs.Machine.{answered, handed, registers_left};
+ghost use Rattle.thumb_model.specs.States.{answered, handed, registers_left};
 ghost use Rattle.thumb_model.specs.Flow.{way, ways_of, jump_way, call_way, Onward};
 ghost use Rattle.code_flow.specs.Flow.{AreWays, IsWay, way_list};
 

@@ -4,7 +4,8 @@ use Rattle.rand_pcg.specs.Lcg.{Lcg}
 use Rattle.std.proofs.lemmas.List.{map-append}
 use Rattle.window_exec.specs.declared.state.WState.{WState}
 use Rattle.window_exec.specs.State.{seen}
-use Rattle.fingerprints.specs.Seeded.{states_from, next_state, FirstOf42}
+use Rattle.fingerprints.specs.Seeded.{states_from, next_state}
+use Rattle.fingerprints.specs.Laws.{FirstOf42}
 
 pub states_from-more : (n i : ℕ) (g : Lcg) → i < n → states_from (n - i) g ≡ (next_state g).0 ∷ states_from (n - (i + 1)) (next_state g).1
 unfolding states_from

@@ -1,5 +1,5 @@
 -- The states of a seed: each takes four words of the generator for r0 to r3, and the low four bits of one more for the flags.
-use Rattle.std.specs.Prelude.{◌≡◌, ℕ, ◌%◌, zero, suc, List, [], ◌∷◌, slice_get, Some}
+use Rattle.std.specs.Prelude.{ℕ, ◌%◌, zero, suc, List, [], ◌∷◌}
 use Rattle.rand_pcg.specs.Lcg.{Lcg, started, increment_of}
 use Rattle.rand_pcg.specs.Pcg.{pcg32, multiplier_64}
 use Rattle.window_exec.specs.State.{Seen}
@@ -21,6 +21,3 @@ states_from (suc n) g = (next_state g).0 ∷ states_from n (next_state g).1
 -- the generator starts from the seed, on stream 54
 abbrev pub seeded_states : ℕ → List Seen
 seeded_states seed = states_from 64 (started 64 multiplier_64 seed (increment_of 64 54))
-
-abbrev pub FirstOf42 : Type 0
-FirstOf42 = slice_get (seeded_states 42) 0 ≡ Some (record { r = 0xa15c02b7 ∷ 0x7b47f409 ∷ 0xba1d3330 ∷ 0x83d2f293 ∷ []; nzcv = 11 })

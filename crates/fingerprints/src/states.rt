@@ -1,7 +1,8 @@
 ghost use Rattle.std.specs.Prelude.{◌≡◌, ◌<◌, [], ◌∷◌, map, IfOk};
 ghost use Rattle.rand_pcg.specs.Lcg.{started, increment_of};
 ghost use Rattle.window_exec.specs.State.{seen};
-ghost use Rattle.fingerprints.specs.Seeded.{next_state, seeded_states, FirstOf42};
+ghost use Rattle.fingerprints.specs.Seeded.{next_state, seeded_states};
+ghost use Rattle.fingerprints.specs.Laws.{FirstOf42};
 
 use rand_core::utils::NextWord;
 use rand_pcg::Lcg64Xsh32;

@@ -6,7 +6,7 @@ use Rattle.std.proofs.lemmas.List.{map-append, reverse-append}
 use Rattle.thumb_instr.specs.declared.instr.Instr.{Instr}
 use Rattle.thumb_instr.specs.declared.instr.Instr.TheVariants as instr
 use Rattle.thumb_model.specs.Listing.{Value, Place, Op, Word, Line, Statement, Nothing, Runs, Words, Aligns, Sets, Code, places_in, places_of}
-use Rattle.thumb_model.specs.Machine.{aim_of}
+use Rattle.thumb_model.specs.Steps.{aim_of}
 use Rattle.thumb_model.specs.Flow.{Way, ways_of, ways_on}
 use Rattle.thumb_model.proofs.Lists.{get_front, get_back}
 use Rattle.listing_parser.specs.Views.{line_view}

@@ -8,7 +8,7 @@ use Rattle.thumb_instr.specs.Items.{has, one_of, sp, lr}
 use Rattle.thumb_instr.specs.Shape.{registers_in}
 use Rattle.thumb_instr.proofs.Listed.{one_of_append}
 use Rattle.thumb_model.specs.Listing.{Mention, Name, Label, Place, Op, Word, Code, is_code, place_among, label_places, return_places}
-use Rattle.thumb_model.specs.Machine.{aim_of}
+use Rattle.thumb_model.specs.Steps.{aim_of}
 use Rattle.thumb_model.specs.Flow.{Onward, AnyPoint, Out, way, left_but, ways_of, ways_on}
 use Rattle.line_cursor.specs.Sources.{is_at, is_point, jumped, AreJumps}
 use Rattle.line_cursor.proofs.Ways.{jump_is}

@@ -6,7 +6,7 @@ use Rattle.thumb_instr.specs.declared.instr.Instr.TheVariants as instr
 use Rattle.thumb_instr.specs.Items.{has, sp}
 use Rattle.thumb_instr.specs.Shape.{registers_in}
 use Rattle.thumb_model.specs.Listing.{Place, Op, Word, Code}
-use Rattle.thumb_model.specs.Machine.{aim_of}
+use Rattle.thumb_model.specs.Steps.{aim_of}
 use Rattle.thumb_model.specs.Flow.{Way, Leads, Onward, ToPlace, AnyPoint, Out, way, left_but, ways_of, ways_on}
 use Rattle.liveness.specs.Kept.{if_onward, onward_writes}
 use Rattle.line_cursor.specs.Sources.{jumps, jumped}

@@ -4,7 +4,7 @@ ghost use Rattle.std.specs.List.{list_any};
 ghost use Rattle.std.specs.Str.{bytes_eq};
 ghost use Rattle.thumb_model.specs.Layout.{is_among};
 ghost use Rattle.thumb_model.specs.Listing.{code_of, places_in, places_of, Code, Name};
-ghost use Rattle.thumb_model.specs.Machine.{aim_of};
+ghost use Rattle.thumb_model.specs.Steps.{aim_of};
 ghost use Rattle.thumb_model.specs.Flow.{ways_of, ways_on};
 ghost use Rattle.listing_parser.specs.Views.{mention_view, statement_view};
 ghost use Rattle.liveness.specs.Kept.{HasThese};

@@ -7,7 +7,8 @@ use Rattle.thumb_instr.specs.declared.instr.Instr.{Instr}
 use Rattle.thumb_instr.specs.declared.instr.Instr.TheVariants as instr
 use Rattle.thumb_model.specs.Listing.{Name, Mention, Value, Statement, Nothing, Runs, Words, Aligns, Sets, Line, Place, Op, Word, places_in, places_of, labels_from, code_of}
 use Rattle.thumb_model.specs.Layout.{is_among}
-use Rattle.thumb_model.specs.Machine.{HasLiterals, is_word_place, label_place, loads_literal}
+use Rattle.thumb_model.specs.Steps.{label_place, loads_literal}
+use Rattle.thumb_model.specs.Literals.{HasLiterals, is_word_place}
 use Rattle.thumb_model.proofs.Lists.{length_map, get_back}
 use Rattle.listing_parser.specs.Targets.{from_label, functions, onward, reaches, is_aimed, is_aimed_at, is_literal, is_on_target, first_target}
 use Rattle.listing_parser.specs.Parsing.{IsListing}

@@ -10,7 +10,8 @@ use Rattle.std.proofs.lemmas.Slice.Eq.{bytes_eq-Decides}
 use Rattle.ascii_scan.specs.Lines.{lines_of}
 use Rattle.thumb_model.specs.Listing.{Name, Line, Place, Label, Code, places_in, places_of, labels_at, labels_from, code_of, has_label, is_call, is_code, is_op_place, place_of, return_places}
 use Rattle.thumb_model.specs.Layout.{is_among}
-use Rattle.thumb_model.specs.Machine.{Naming, Fits, is_in_range, is_odd, label_place, points, points_of, returns_from}
+use Rattle.thumb_model.specs.Naming.{Naming, Fits, is_in_range, is_odd, points, points_of, returns_from}
+use Rattle.thumb_model.specs.Steps.{label_place}
 use Rattle.listing_parser.specs.Parsing.{IsListing}
 use Rattle.listing_parser.specs.Namings.{if_op}
 use Rattle.listing_parser.specs.TableWords.{defined_in, set_names}

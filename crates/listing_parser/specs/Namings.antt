@@ -1,7 +1,9 @@
 -- In each listing that was read a name has one label, literals stand behind their labels, and some naming fits it.
 use Rattle.std.specs.Prelude.{◌≡◌, ℕ, List, Option, Some, None, slice_get, if◌then◌else◌}
 use Rattle.thumb_model.specs.Listing.{Name, Place, Line, code_of, is_op_place, labels_from, place_of, places_of}
-use Rattle.thumb_model.specs.Machine.{Naming, Fits, HasLiterals, label_place}
+use Rattle.thumb_model.specs.Naming.{Naming, Fits}
+use Rattle.thumb_model.specs.Steps.{label_place}
+use Rattle.thumb_model.specs.Literals.{HasLiterals}
 use Rattle.listing_parser.specs.Parsing.{IsListing}
 
 -- from the label that a literal load mentions on there are words of data, up to the one that it loads

@@ -9,7 +9,7 @@ use Rattle.thumb_instr.specs.Items.{has, sp}
 use Rattle.thumb_instr.specs.Shape.{uses_of, writes_of, registers_in}
 use Rattle.thumb_model.specs.Items.{one_of}
 use Rattle.thumb_model.specs.Listing.{Place, Op, plain, Code, is_call, is_call_instr, return_places, label_places, IsPoint}
-use Rattle.thumb_model.specs.Machine.{aim_of}
+use Rattle.thumb_model.specs.Steps.{aim_of}
 use Rattle.thumb_model.specs.Flow.{Way, Leads, Onward, AnyPoint, Out, way, left_but, ways_of, ways_on, ways, Follows}
 use Rattle.thumb_model.specs.Rewrite.{moved, replaced}
 use Rattle.thumb_model.proofs.Lists.{length_map, take_all, length_drop}

@@ -11,7 +11,8 @@ use Rattle.thumb_instr.specs.Shape.{uses_of, writes_of, registers_in}
 use Rattle.thumb_instr.specs.Window.{is_in_window}
 use Rattle.thumb_model.specs.Items.{one_of}
 use Rattle.thumb_model.specs.Listing.{Mention, Place, Op, Word, plain, Label, Code, is_op_place, is_code, is_call, is_call_instr, label_places, return_places, IsPoint}
-use Rattle.thumb_model.specs.Machine.{Naming, aim_of, points_of, returns_from, points}
+use Rattle.thumb_model.specs.Naming.{Naming, points_of, returns_from, points}
+use Rattle.thumb_model.specs.Steps.{aim_of}
 use Rattle.thumb_model.specs.Flow.{Way, Leads, Onward, ToPlace, AnyPoint, Out, way, left_but, ways_of, ways_on, ways, Follows}
 use Rattle.thumb_model.specs.Rewrite.{moved, replaced}
 use Rattle.thumb_model.proofs.Lists.{get_drop, get_take, length_map, take_short, length_drop}

@@ -3,7 +3,7 @@ ghost use Rattle.std.specs.Prelude.{◌≡◌, ◌<◌, ◌-◌, ◌^◌, ℕ, [
 ghost use Rattle.thumb_instr.specs.Items.{has, one_of};
 ghost use Rattle.thumb_instr.specs.Window.{is_in_window};
 ghost use Rattle.thumb_model.specs.Listing.{code_of, places_of};
-ghost use Rattle.thumb_model.specs.Machine.{answered};
+ghost use Rattle.thumb_model.specs.States.{answered};
 ghost use Rattle.thumb_model.specs.Flow.{ways, ways_of};
 ghost use Rattle.code_flow.specs.Flow.{AreWays, way_list};
 ghost use Rattle.liveness.specs.Kept.{is_straight, some_reads, onward_writes, HasThese, FlowOf, AreFlowsFrom};

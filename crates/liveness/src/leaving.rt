@@ -1,7 +1,7 @@
 //! The ways on from a place of a listing.
 ghost use Rattle.std.specs.Prelude.{◌≡◌, is_some, option_map, slice_get};
 ghost use Rattle.thumb_model.specs.Listing.{code_of, is_op_place, places_of};
-ghost use Rattle.thumb_model.specs.Machine.{aim_of};
+ghost use Rattle.thumb_model.specs.Steps.{aim_of};
 ghost use Rattle.thumb_model.specs.Flow.{ways};
 ghost use Rattle.listing_parser.specs.Views.{mention_view};
 ghost use Rattle.code_flow.specs.Flow.{AreWays, way_list};

@@ -10,7 +10,10 @@ use Rattle.thumb_instr.specs.Distance.{bytes_of}
 use Rattle.thumb_syntax.specs.Whole.{is_whole}
 use Rattle.thumb_model.specs.Listing.{Name, Mention, Statement, Runs, Line, Place, Op, Code, places_in, places_of, labels_from, code_of, place_of, is_op_place, has_label, place_mentions, is_mentioned, is_call_instr, call_count}
 use Rattle.thumb_model.specs.Layout.{instr_size, size_at, end_of, is_among, label_address, set_address, cleared, or_else, lies_in, distance, literal_base}
-use Rattle.thumb_model.specs.Machine.{Naming, Fits, label_place, points, point_among, is_in_range, set_bit, World, Around, Inside, External, landing, word_of_mention, word_of_place, word_behind, literal_word, target_at, around_of, act}
+use Rattle.thumb_model.specs.Naming.{Naming, Fits, points, is_in_range}
+use Rattle.thumb_model.specs.States.{World, Around, Inside, External}
+use Rattle.thumb_model.specs.Acts.{act}
+use Rattle.thumb_model.specs.Steps.{label_place, point_among, set_bit, landing, word_of_mention, word_of_place, word_behind, literal_word, target_at, around_of}
 use Rattle.thumb_model.specs.Laid.{laid, word_by}
 use Rattle.thumb_assembler.specs.Bytes.{lies_at, mention_lies, Aims}
 use Rattle.thumb_model.proofs.Tied.{TargetTied}

@@ -6,7 +6,7 @@ use Rattle.thumb_instr.specs.declared.instr.Instr.{Instr}
 use Rattle.thumb_instr.specs.declared.instr.Instr.TheVariants as instr
 use Rattle.thumb_model.specs.Listing.{Name, Mention, Value, Statement, Nothing, Runs, Words, Aligns, Sets, Line, Place, places_in, places_of, labels_from}
 use Rattle.thumb_model.specs.Layout.{instr_size, padding, size_at, end_of, is_among, label_address}
-use Rattle.thumb_model.specs.Machine.{label_place}
+use Rattle.thumb_model.specs.Steps.{label_place}
 use Rattle.thumb_assembler.specs.Bytes.{Laid, words_bytes, IsInstrBytes, IsEncoded, IsStatementBytes, AreLineBytes, half_bytes}
 use Rattle.thumb_model.proofs.Lists.{get_back}
 use Rattle.listing_parser.specs.TableWords.{defined_in, set_names}

@@ -2,7 +2,8 @@
 use Rattle.std.proofs.Common.{◌≡◌, ℕ, ◌+◌, ◌<◌, ap, subst, refl, arith}
 use Rattle.thumb_instr.specs.declared.instr.Instr.{Instr}
 use Rattle.thumb_table.proofs.Codes.{one_instr}
-use Rattle.thumb_model.specs.Machine.{Next, Here, Ended, State, does}
+use Rattle.thumb_model.specs.States.{Next, Here, Ended, State}
+use Rattle.thumb_model.specs.Steps.{does}
 use Rattle.thumb_assembler.specs.Runs.{Loaded, half_at, HasBytes, IsFetched, ImageStep, stays, acts, falls_out, ImageSteps, none, more, act_in, following, RunsAreDetermined}
 
 half_small : (m : Loaded) → HasBytes m → (a : ℕ) → half_at m a < 65536

@@ -10,7 +10,8 @@ use Rattle.thumb_table.specs.Rows.{width, packed}
 use Rattle.thumb_table.specs.Table.{pieces, row_of, code_of, Encodes}
 use Rattle.thumb_model.specs.Listing.{Name, Mention, Value, Number, OfName, Statement, Nothing, Runs, Words, Aligns, Sets, Line, Place, Word, places_in, places_of}
 use Rattle.thumb_model.specs.Layout.{instr_size, padding, size_at, end_of}
-use Rattle.thumb_model.specs.Machine.{Naming, word_of_value}
+use Rattle.thumb_model.specs.Naming.{Naming}
+use Rattle.thumb_model.specs.Steps.{word_of_value}
 use Rattle.thumb_model.specs.Laid.{laid}
 use Rattle.thumb_assembler.specs.Bytes.{Laid, Aims, mention_lies, half_bytes, word_bytes, words_bytes, nops, IsInstrBytes, IsEncoded, IsStatementBytes, AreLineBytes}
 use Rattle.listing_parser.specs.Targets.{onward, reaches}

@@ -8,7 +8,10 @@ use Rattle.thumb_instr.specs.declared.operation.Hint.TheVariants as hint
 use Rattle.thumb_model.specs.Items.{assigned}
 use Rattle.thumb_model.specs.Listing.{Name, Mention, Runs, Line, Place, Op, Word, Code, places_in, places_of, code_of, place_of, is_op_place}
 use Rattle.thumb_model.specs.Layout.{instr_size, size_at, end_of}
-use Rattle.thumb_model.specs.Machine.{Naming, Fits, Answer, World, Event, Fell, Act, Next, On, Stay, To, Over, At, Here, Ended, State, Around, around_of, act, arrives, does, falls, step, step_at, step_on, times}
+use Rattle.thumb_model.specs.Naming.{Naming, Fits}
+use Rattle.thumb_model.specs.States.{Answer, World, Event, Fell, Act, Next, On, Stay, To, Over, At, Here, Ended, State, Around}
+use Rattle.thumb_model.specs.Acts.{act}
+use Rattle.thumb_model.specs.Steps.{around_of, arrives, does, falls, step, step_at, step_on, times}
 use Rattle.thumb_model.specs.Laid.{laid}
 use Rattle.thumb_model.specs.Same.{Alike, has_ended, here_or_ended, begun}
 use Rattle.thumb_model.proofs.Tied.{NextTied, ActTied}

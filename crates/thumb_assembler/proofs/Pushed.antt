@@ -5,7 +5,7 @@ use Rattle.thumb_instr.specs.declared.instr.Instr.{Instr}
 use Rattle.thumb_instr.specs.declared.instr.Instr.TheVariants as instr
 use Rattle.thumb_model.specs.Listing.{Name, Mention, Value, Number, OfName, Nothing, Runs, Words, Aligns, Sets, Line}
 use Rattle.thumb_model.specs.Layout.{instr_size, padding, lies_in}
-use Rattle.thumb_model.specs.Machine.{word_of_value}
+use Rattle.thumb_model.specs.Steps.{word_of_value}
 use Rattle.thumb_model.specs.Laid.{laid}
 use Rattle.thumb_assembler.specs.Bytes.{nops, word_bytes, words_bytes, Aims}
 use Rattle.thumb_machine.specs.Words.{fixed_word}

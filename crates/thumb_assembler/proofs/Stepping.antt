@@ -11,13 +11,15 @@ use Rattle.thumb_machine.specs.declared.world.Next.{Next}
 use Rattle.thumb_machine.specs.declared.world.Next.TheVariants as next
 use Rattle.thumb_machine.specs.declared.machine.Stage.{Stage}
 use Rattle.thumb_machine.specs.declared.machine.Stage.TheVariants as stage
-use Rattle.thumb_machine.specs.Running.{stage_of}
+use Rattle.thumb_machine.specs.Stages.{stage_of}
 use Rattle.thumb_machine.specs.Registers.{values_of}
 use Rattle.thumb_machine.specs.Memory.{memory_of}
 use Rattle.thumb_machine.specs.Outside.{events_of}
 use Rattle.thumb_machine.specs.Acting.{around_of, next_of, target_of, world_of, Acted, Changed, Changes, EndsBy}
-use Rattle.thumb_model.specs.Machine.{Act, State, act, arrives, does, falls, set_bit}
-use Rattle.thumb_model.specs.Machine as model
+use Rattle.thumb_model.specs.States.{Act, State}
+use Rattle.thumb_model.specs.Acts.{act}
+use Rattle.thumb_model.specs.Steps.{arrives, does, falls, set_bit}
+use Rattle.thumb_model.specs.States as model
 use Rattle.thumb_assembler.specs.declared.machine.At.{At}
 use Rattle.thumb_assembler.specs.declared.machine.At.TheVariants as at
 use Rattle.thumb_assembler.specs.declared.machine.ImageMachine.{ImageMachine}

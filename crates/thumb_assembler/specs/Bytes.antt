@@ -9,7 +9,8 @@ use Rattle.thumb_table.specs.Table.{Encodes}
 use Rattle.thumb_model.specs.Listing.{Name, Mention, Value, Statement, Nothing, Runs, Words, Aligns, Sets, Line}
 use Rattle.thumb_model.specs.Layout.{instr_size, padding, size_at, label_address, distance, literal_base}
 use Rattle.thumb_model.specs.Laid.{laid}
-use Rattle.thumb_model.specs.Machine.{Naming, word_of_value}
+use Rattle.thumb_model.specs.Naming.{Naming}
+use Rattle.thumb_model.specs.Steps.{word_of_value}
 
 -- a halfword and a word, the lowest byte first
 abbrev pub half_bytes : ℕ → List ℕ

@@ -2,7 +2,9 @@
 use Rattle.std.specs.Prelude.{◌≡◌, ℕ, ◌≤◌, ◌%◌, ◌^◌, Bool, true, false, List, [], ◌∷◌, None, IsSome}
 use Rattle.thumb_model.specs.Listing.{Name, Line, code_of, place_of}
 use Rattle.thumb_model.specs.Layout.{Layable, end_of, label_address}
-use Rattle.thumb_model.specs.Machine.{Fits, World, IsWorld, Event, Load, Store, Call, Sys, Left, Fault, Astray, Fell, Ended, State, step, times}
+use Rattle.thumb_model.specs.Naming.{Fits}
+use Rattle.thumb_model.specs.States.{World, IsWorld, Event, Load, Store, Call, Sys, Left, Fault, Astray, Fell, Ended, State}
+use Rattle.thumb_model.specs.Steps.{step, times}
 use Rattle.thumb_model.specs.Laid.{laid}
 use Rattle.thumb_model.specs.Same.{Alike, here_or_ended, begun, Same}
 use Rattle.listing_parser.specs.Parsing.{IsListing, text_of_lines}

@@ -10,12 +10,12 @@ use Rattle.thumb_machine.specs.declared.world.Target.{Target}
 use Rattle.thumb_machine.specs.Registers.{values_of}
 use Rattle.thumb_machine.specs.Memory.{memory_of}
 use Rattle.thumb_machine.specs.Outside.{answers_of, events_of}
-use Rattle.thumb_machine.specs.Acting.{end_of, world_of}
+use Rattle.thumb_machine.specs.Acting.{world_of}
+use Rattle.thumb_machine.specs.Stages.{end_of, stage_of}
 use Rattle.thumb_machine.specs.Acting as acting
-use Rattle.thumb_machine.specs.Running.{stage_of}
 use Rattle.thumb_machine.specs.Starting.{start_values}
-use Rattle.thumb_model.specs.Machine.{State, Here, Ended, with_bytes}
-use Rattle.thumb_model.specs.Machine as model
+use Rattle.thumb_model.specs.States.{State, Here, Ended, with_bytes}
+use Rattle.thumb_model.specs.States as model
 use Rattle.thumb_assembler.specs.declared.image.Image.{Image}
 use Rattle.thumb_assembler.specs.declared.machine.At.{At}
 use Rattle.thumb_assembler.specs.declared.machine.At.TheVariants as at

@@ -3,7 +3,7 @@ use Rattle.std.specs.Prelude.{◌≡◌, ℕ, ◌+◌, ◌*◌, true, false, Lis
 use Rattle.thumb_instr.specs.declared.instr.Instr.{Instr}
 use Rattle.thumb_model.specs.Listing.{Name, Value, Statement, Line}
 use Rattle.thumb_model.specs.Layout.{instr_size, size_at}
-use Rattle.thumb_model.specs.Machine.{word_of_value}
+use Rattle.thumb_model.specs.Steps.{word_of_value}
 use Rattle.thumb_model.specs.Laid.{laid}
 use Rattle.thumb_assembler.specs.Bytes.{Laid, word_bytes, words_bytes, IsInstrBytes, IsStatementBytes}
 use Rattle.thumb_assembler.specs.declared.errors.Flaw.{Flaw}

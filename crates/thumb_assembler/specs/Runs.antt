@@ -5,7 +5,10 @@ use Rattle.thumb_instr.specs.declared.instr.Instr.TheVariants as instr
 use Rattle.thumb_instr.specs.Distance.{bytes_of}
 use Rattle.thumb_table.specs.Table.{Encodes}
 use Rattle.thumb_model.specs.Layout.{instr_size, literal_base}
-use Rattle.thumb_model.specs.Machine.{is_odd, set_bit, Target, Inside, External, Landing, Goes, Leaves, Strays, Around, Act, act, Next, Over, Here, Ended, State, does, falls}
+use Rattle.thumb_model.specs.Naming.{is_odd}
+use Rattle.thumb_model.specs.States.{Target, Inside, External, Landing, Goes, Leaves, Strays, Around, Act, Next, Over, Here, Ended, State}
+use Rattle.thumb_model.specs.Acts.{act}
+use Rattle.thumb_model.specs.Steps.{set_bit, does, falls}
 
 -- an image in memory, and where its code ends
 pub record Loaded : Type 0 where

@@ -1,13 +1,13 @@
 //! The machine over an image.
 ghost use Rattle.std.specs.Prelude.{◌≡◌, [], ◌∷◌, ℕ, IfOk, OnErr};
 ghost use Rattle.thumb_instr.specs.declared.instr.Instr.{Instr};
-ghost use Rattle.thumb_model.specs.Machine.{Fell, arrives};
+ghost use Rattle.thumb_model.specs.States.{Fell, with_bytes};
+ghost use Rattle.thumb_model.specs.Steps.{arrives};
 ghost use Rattle.thumb_machine.specs.Acting.{Changes, next_of};
 ghost use Rattle.thumb_machine.specs.Memory.{memory_of};
 ghost use Rattle.thumb_machine.specs.Registers.{values_of};
-ghost use Rattle.thumb_machine.specs.Running.{stage_of};
+ghost use Rattle.thumb_machine.specs.Stages.{stage_of};
 ghost use Rattle.thumb_machine.specs.Starting.{start_values};
-ghost use Rattle.thumb_model.specs.Machine.{with_bytes};
 ghost use Rattle.thumb_assembler.specs.Machines.{IsStage, LeadsTo, Starts, Steps, at_of, loaded_of};
 ghost use Rattle.thumb_assembler.specs.Runs.{IsFetched, following};
 

@@ -11,8 +11,10 @@ use Rattle.thumb_machine.specs.Memory.{memory_of}
 use Rattle.thumb_machine.specs.Outside.{answer_values, answers_of}
 use Rattle.thumb_machine.specs.Acting.{world_of, Changed, Acted, Acts}
 use Rattle.thumb_instr.specs.declared.instr.Instr.{Instr}
-use Rattle.thumb_model.specs.Machine.{Act, act, Fault, On, Stay, access_size, accesses, aligned, all_at, answers_with, behind, device_words, ends, gets, is_device, left_from, load_events, loads, loads_many, many_outputs, puts, stores, stores_many, takes, value_at, with_bytes}
-use Rattle.thumb_model.specs.Machine as model
+use Rattle.thumb_model.specs.States.{Act, Fault, On, Stay, aligned, all_at, answers_with, ends, puts, takes, with_bytes}
+use Rattle.thumb_model.specs.Accesses.{access_size, accesses, behind, device_words, gets, is_device, left_from, load_events, loads, loads_many, many_outputs, stores, stores_many, value_at}
+use Rattle.thumb_model.specs.Acts.{act}
+use Rattle.thumb_model.specs.States as model
 
 pub acts_by : {E : Type 0} (f g : model.World → Act) (old : World) (before : List Answer) (new : World) (left : List Answer) (r : Result Next E)
     → f (world_of old before) ≡ g (world_of old before) → Acts g old before new left r → Acts f old before new left r

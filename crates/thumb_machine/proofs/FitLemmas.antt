@@ -9,7 +9,8 @@ use Rattle.std.specs.declared.vec.Vec.{Vec}
 use Rattle.std.proofs.lemmas.Bool.{cases_Bool, and_parts, or_cases, or_right}
 use Rattle.std.proofs.lemmas.Slice.Eq.{bytes_eq-Decides}
 use Rattle.thumb_model.specs.Listing.{Name, Number, OfName, Place, Op, Word, Label, Code, has_label, is_mentioned, place_mentions}
-use Rattle.thumb_model.specs.Machine.{Naming, Fits, is_in_range, label_place, points}
+use Rattle.thumb_model.specs.Naming.{Naming, Fits, is_in_range, points}
+use Rattle.thumb_model.specs.Steps.{label_place}
 use Rattle.thumb_machine.specs.Fitting.{all_apart, apart, is_code_word, is_outside}
 use Rattle.thumb_machine.specs.Laid.{place_name}
 use Rattle.thumb_machine.proofs.PointsMade.{drop_at}

@@ -4,7 +4,8 @@ use Rattle.std.specs.Prelude.{slice_get}
 use Rattle.std.proofs.lemmas.Bool.{cases_Bool}
 use Rattle.std.proofs.lemmas.Option.{same_Some}
 use Rattle.thumb_model.specs.Listing.{Label, Line, Place, is_call, is_code, is_op_place, labels_at, labels_from, places_in}
-use Rattle.thumb_model.specs.Machine.{Naming, point_among, points_of, returns_from}
+use Rattle.thumb_model.specs.Naming.{Naming, points_of, returns_from}
+use Rattle.thumb_model.specs.Steps.{point_among}
 use Rattle.thumb_machine.specs.Making.{merged}
 use Rattle.thumb_machine.specs.Walking.{name_points}
 

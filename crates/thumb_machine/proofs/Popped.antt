@@ -12,8 +12,10 @@ use Rattle.thumb_machine.specs.Outside.{answers_of, event_of, events_of}
 use Rattle.thumb_machine.specs.Acting.{world_of, next_of, Acted, EndsBy}
 use Rattle.thumb_machine.specs.Landings.{landed_events, landed_next}
 use Rattle.thumb_model.specs.Items.{Values, assigned, sp}
-use Rattle.thumb_model.specs.Machine.{Act, Fault, Landing, Goes, Leaves, Strays, Stay, behind, device_words, ends, left_from, load_events, many_outputs, popped_word, popping, pops, pops_to, puts, with_pc}
-use Rattle.thumb_model.specs.Machine as model
+use Rattle.thumb_model.specs.States.{Act, Fault, Landing, Goes, Leaves, Strays, Stay, ends, puts}
+use Rattle.thumb_model.specs.Accesses.{behind, device_words, left_from, load_events, many_outputs}
+use Rattle.thumb_model.specs.Acts.{popped_word, popping, pops, pops_to, with_pc}
+use Rattle.thumb_model.specs.States as model
 
 pub events_push : (es : List Event) (e : Event) (x : model.Event) → event_of e ≡ x → events_of (es ++ e ∷ []) ≡ events_of es ++ x ∷ []
 events_push es e x h = rw map-append (ap (λ y. events_of es ++ y ∷ []) h)

@@ -4,7 +4,7 @@ use Rattle.std.specs.Prelude.{slice_get}
 use Rattle.std.proofs.lemmas.Bool.{cases_lt, cases_Bool}
 use Rattle.std.proofs.lemmas.Option.{slice_get_past, same_Some}
 use Rattle.thumb_model.specs.Listing.{Code, Place, call_count, is_call}
-use Rattle.thumb_model.specs.Machine.{Naming}
+use Rattle.thumb_model.specs.Naming.{Naming}
 use Rattle.thumb_model.proofs.Lists.{get_front, get_back}
 use Rattle.thumb_machine.specs.declared.program.Row.{Row}
 use Rattle.thumb_machine.specs.Running.{IsRow}

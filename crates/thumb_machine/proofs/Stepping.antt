@@ -19,10 +19,15 @@ use Rattle.thumb_machine.specs.Registers.{values_of}
 use Rattle.thumb_machine.specs.Memory.{memory_of}
 use Rattle.thumb_machine.specs.Outside.{events_of}
 use Rattle.thumb_machine.specs.Acting.{around_of, next_of, world_of, Acted, EndsBy}
-use Rattle.thumb_machine.specs.Running.{EndedBy, IsProgram, IsRow, IsStage, LeadsTo, Stands, Stepped, at_of, lands_in, next_at, next_on, state_of}
+use Rattle.thumb_machine.specs.Running.{EndedBy, IsProgram, IsRow, IsStage, LeadsTo, Stands, Stepped, at_of, lands_in, state_of}
+use Rattle.thumb_machine.specs.Stages.{next_at, next_on}
 use Rattle.thumb_model.specs.Listing.{Code, Mention, Place, Op, Word}
-use Rattle.thumb_model.specs.Machine.{Act, Naming, State, act, arrives, does, landing, point_among, points, step, step_at, step_on}
-use Rattle.thumb_model.specs.Machine as model
+use Rattle.thumb_model.specs.Naming.{Naming, points}
+use Rattle.thumb_model.specs.States.{Act, State}
+use Rattle.thumb_model.specs.Acts.{act}
+use Rattle.thumb_model.specs.Steps.{arrives, does, landing, point_among, step, step_at, step_on}
+use Rattle.thumb_model.specs.States as model
+use Rattle.thumb_model.specs.Steps as model_steps
 
 same_landing : (names : Naming) (word : ℕ) (o : Option ℕ) → landing (record { word_of = λ name. 0; return_word = λ k. 0; low = names.low; high = names.high }) word o ≡ landing names word o
 same_landing names word None = refl
@@ -61,10 +66,10 @@ pub record Done (old : Machine) (before : List Answer) (p : ℕ) (a : Act) (n : 
 
 -- a step that does an act is the definition's where that act is the step's
 does_step : (names : Naming) (code : Code) (old : Machine) (before : List Answer) (p : ℕ) (i : Instr) (m : Option Mention) (n : Next) (middle : World) (new : Machine) (left : List Answer) (s : Stage)
-    → slice_get code.places p ≡ Some (Op i m) → Done old before p (act (model.around_of names code p i m) i (world_of old.world before)) n middle new left s → Stepped names code old before new left s
+    → slice_get code.places p ≡ Some (Op i m) → Done old before p (act (model_steps.around_of names code p i m) i (world_of old.world before)) n middle new left s → Stepped names code old before new left s
 does_step names code old before p i m n middle new left s is d =
     let start : State = state_of old before in
-    let a : Act = act (model.around_of names code p i m) i (world_of old.world before) in
+    let a : Act = act (model_steps.around_of names code p i m) i (world_of old.world before) in
     let here : at_of old.at ≡ model.Here p = ap at_of d.here in
     let steps : step names code start ≡ does p (p + 1) a start = ap (λ (x : model.At). step_at names code x start) here ∙ ap (λ (x : Option Place). step_on names code p x start) is in
     let goes : next_at names code (at_of old.at) start ≡ a.next = ap (λ (x : model.At). next_at names code x start) here ∙ ap (λ (x : Option Place). next_on names code p x start) is in
@@ -92,7 +97,7 @@ row_steps names code old before p None j around n middle new left s is at_p r d 
 row_steps names code old before p (Some (Word v)) j around n middle new left s is at_p r d = absurd r
 row_steps names code old before p (Some (Op i m)) j around n middle new left s is at_p r d =
     let w : model.World = world_of old.world before in
-    let here : around_of around (lands_in old.program) ≡ model.around_of names code p i m =
-    same_around (around_of around (lands_in old.program)) (model.around_of names code p i m) r.1 r.2 r.3 (same_lands names code old.program is) in
-    let e : act (around_of around (lands_in old.program)) j w ≡ act (model.around_of names code p i m) i w = ap (λ (a : model.Around). act a j w) here ∙ ap (λ (k : Instr). act (model.around_of names code p i m) k w) r.0 in
+    let here : around_of around (lands_in old.program) ≡ model_steps.around_of names code p i m =
+    same_around (around_of around (lands_in old.program)) (model_steps.around_of names code p i m) r.1 r.2 r.3 (same_lands names code old.program is) in
+    let e : act (around_of around (lands_in old.program)) j w ≡ act (model_steps.around_of names code p i m) i w = ap (λ (a : model.Around). act a j w) here ∙ ap (λ (k : Instr). act (model_steps.around_of names code p i m) k w) r.0 in
     does_step names code old before p i m n middle new left s at_p (other_act old before p _ _ n middle new left s e d)

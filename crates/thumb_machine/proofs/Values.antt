@@ -2,7 +2,7 @@
 use Rattle.std.proofs.Common.{◌≡◌, ℕ, suc, ◌+◌, ◌*◌, ◌/◌, ◌%◌, ◌^◌, ◌<◌, ◌≤◌, [], ◌∷◌, refl, arith}
 use Rattle.std.proofs.Math.Nat.{pow-succ'}
 use Rattle.thumb_model.specs.Items.{assigned}
-use Rattle.thumb_model.specs.Machine.{with_value}
+use Rattle.thumb_model.specs.Accesses.{with_value}
 
 -- the lowest byte is put over the others
 pub put_step : (m : ℕ → ℕ) (a n k v : ℕ) → n ≡ suc k → assigned ((a, v % 256) ∷ []) (with_value m (a + 1) k (v / 256)) ≡ with_value m a n v

@@ -14,9 +14,10 @@ use Rattle.thumb_machine.specs.declared.world.Around.{Around}
 use Rattle.thumb_machine.specs.Registers.{values_of}
 use Rattle.thumb_machine.specs.Memory.{memory_of}
 use Rattle.thumb_machine.specs.Outside.{events_of, answers_of}
+use Rattle.thumb_machine.specs.Stages.{end_of}
 use Rattle.thumb_model.specs.Items.{assigned}
-use Rattle.thumb_model.specs.Machine.{Act}
-use Rattle.thumb_model.specs.Machine as model
+use Rattle.thumb_model.specs.States.{Act}
+use Rattle.thumb_model.specs.States as model
 
 -- ---- what the machine's types stand for ----
 
@@ -40,17 +41,6 @@ landing_of landing.Strays = model.Strays
 
 abbrev pub around_of : Around → (ℕ → model.Landing) → model.Around
 around_of a lands = record { target = target_of a.target; literal = a.literal; link = a.link; lands = lands }
-
--- how an event ends a run
-abbrev pub end_of : model.Event → Option End
-end_of (model.Load address size) = None
-end_of (model.Store address size value) = None
-end_of (model.Call word arguments) = None
-end_of (model.Sys code values) = None
-end_of (model.Left word registers) = Some end.Left
-end_of (model.Fault address) = Some end.Fault
-end_of (model.Astray word) = Some end.Astray
-end_of model.Fell = Some end.Fell
 
 -- a run that is over ended by its last event
 abbrev pub EndsBy : Next → List model.Event → Type 0

@@ -3,7 +3,7 @@ use Rattle.std.specs.Prelude.{ℕ, ◌==◌, ◌&&◌, ◌||◌, not, max, nat_l
 use Rattle.std.specs.List.{list_all}
 use Rattle.thumb_machine.specs.declared.distinct.Rising.{Rising}
 use Rattle.thumb_model.specs.Listing.{Name, Label, has_label}
-use Rattle.thumb_model.specs.Machine.{Naming, is_in_range, is_odd}
+use Rattle.thumb_model.specs.Naming.{Naming, is_in_range, is_odd}
 
 -- ---- code points ----
 

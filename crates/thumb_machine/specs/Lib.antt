@@ -1,6 +1,7 @@
 pub mod Registers
 pub mod Memory
 pub mod Outside
+pub mod Stages
 pub mod Acting
 pub mod Accesses
 pub mod Lists

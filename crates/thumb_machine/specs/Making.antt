@@ -4,7 +4,7 @@ use Rattle.std.specs.Borrow.{Bor}
 use Rattle.listing_parser.specs.declared.line.Mention.{Mention as Mentions}
 use Rattle.listing_parser.specs.Views.{mention_view}
 use Rattle.thumb_model.specs.Listing.{Mention}
-use Rattle.thumb_model.specs.Machine.{least_or}
+use Rattle.thumb_model.specs.Steps.{least_or}
 
 abbrev pub mention_of : Option (Bor Mentions) → Option Mention
 mention_of m = option_map (λ r. mention_view r.now) m

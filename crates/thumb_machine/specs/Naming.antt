@@ -6,7 +6,7 @@ use Rattle.std.specs.declared.alloc.Global.{Global}
 use Rattle.std.specs.declared.vec.Vec.{Vec}
 use Rattle.thumb_machine.specs.declared.naming.Naming.{Naming}
 use Rattle.thumb_model.specs.Listing.{Name}
-use Rattle.thumb_model.specs.Machine as model
+use Rattle.thumb_model.specs.Naming as model
 
 -- whether a key is the name
 abbrev pub is_named : Name → Vec ℕ Global → Bool

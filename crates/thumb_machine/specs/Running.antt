@@ -17,10 +17,15 @@ use Rattle.thumb_machine.specs.declared.machine.Machine.{Machine}
 use Rattle.thumb_machine.specs.Registers.{values_of}
 use Rattle.thumb_machine.specs.Memory.{memory_of}
 use Rattle.thumb_machine.specs.Outside.{answers_of, events_of}
-use Rattle.thumb_machine.specs.Acting.{end_of, target_of, world_of}
+use Rattle.thumb_machine.specs.Acting.{target_of, world_of}
+use Rattle.thumb_machine.specs.Stages.{end_of, next_at, stage_of}
 use Rattle.thumb_model.specs.Listing.{Code, Place, Op, Word, call_count}
-use Rattle.thumb_model.specs.Machine.{Naming, State, Here, Ended, act, aim_of, around_of, is_in_range, is_odd, literal_at, point_among, points, step, target_at}
-use Rattle.thumb_model.specs.Machine as model
+use Rattle.thumb_model.specs.Naming.{Naming, is_in_range, is_odd, points}
+use Rattle.thumb_model.specs.States.{State, Here, Ended}
+use Rattle.thumb_model.specs.Acts.{act}
+use Rattle.thumb_model.specs.Steps.{aim_of, around_of, literal_at, point_among, step, target_at}
+use Rattle.thumb_model.specs.States as model
+use Rattle.thumb_model.specs.Steps as model_steps
 
 -- ---- programs ----
 
@@ -42,7 +47,7 @@ point_of program word = get nat_eq program.points word
 
 -- where a program says that a word lands
 abbrev pub lands_in : Program → ℕ → model.Landing
-lands_in program word = model.landing (record { word_of = λ name. 0; return_word = λ k. 0; low = program.low; high = program.high }) word (point_of program word)
+lands_in program word = model_steps.landing (record { word_of = λ name. 0; return_word = λ k. 0; low = program.low; high = program.high }) word (point_of program word)
 
 -- a program holds what a naming and a listing say
 pub record IsProgram (names : Naming) (code : Code) (program : Program) : Type 0 where
@@ -69,22 +74,6 @@ pub record Stands (s : State) (m : Machine) (left : List Answer) : Type 0 where
   pub events : events_of m.world.events.items ≡ s.events
 
 -- ---- steps ----
-
--- how the step from a state goes on
-abbrev pub next_on : Naming → Code → ℕ → Option Place → State → model.Next
-next_on names code p None s = model.Over
-next_on names code p (Some (Word v)) s = model.Over
-next_on names code p (Some (Op i mention)) s = (act (around_of names code p i mention) i s.world).next
-
-abbrev pub next_at : Naming → Code → model.At → State → model.Next
-next_at names code Ended s = model.Over
-next_at names code (Here p) s = next_on names code p (slice_get code.places p) s
-
-abbrev pub stage_of : End → Stage
-stage_of end.Left = stage.Left
-stage_of end.Fault = stage.Fault
-stage_of end.Astray = stage.Astray
-stage_of end.Fell = stage.Fell
 
 -- a step goes on, stays for want of answers, or leaves the run ended so
 abbrev pub IsStage : Stage → model.Next → At → Type 0

@@ -7,7 +7,7 @@ use Rattle.thumb_machine.specs.declared.machine.At.TheVariants as at
 use Rattle.thumb_machine.specs.Registers.{values_of}
 use Rattle.thumb_machine.specs.Memory.{memory_of}
 use Rattle.thumb_model.specs.Items.{Values, sp, lr, n_flag, z_flag, c_flag, v_flag}
-use Rattle.thumb_model.specs.Machine.{with_bytes}
+use Rattle.thumb_model.specs.States.{with_bytes}
 
 -- what each item holds; every other number is 0
 abbrev pub start_values : State → Values

@@ -1,7 +1,7 @@
 -- The code points of a listing in the order of its lines, and tests of them one after another.
 use Rattle.std.specs.Prelude.{ℕ, ◌+◌, ◌&&◌, Bool, true, List, [], ◌∷◌, ◌++◌, length}
 use Rattle.thumb_model.specs.Listing.{Name, Line, Place, call_count, labels_at, places_in}
-use Rattle.thumb_model.specs.Machine.{Naming, points_of, returns_from}
+use Rattle.thumb_model.specs.Naming.{Naming, points_of, returns_from}
 
 -- the words of names, at a place
 abbrev pub name_points : Naming → ℕ → List Name → List (ℕ × ℕ)

@@ -1,6 +1,7 @@
 ghost use Rattle.std.specs.Prelude.{◌≡◌, ◌<◌, ◌≤◌, ◌%◌, ◌^◌, [], ◌∷◌, List, true, false};
 ghost use Rattle.thumb_instr.specs.Shape.{offset_access, word_access};
-ghost use Rattle.thumb_model.specs.Machine.{Load, Store, access_size, accesses, gets, is_device, loaded, loads, stored, stores, takes, value_at};
+ghost use Rattle.thumb_model.specs.States.{Load, Store, takes};
+ghost use Rattle.thumb_model.specs.Accesses.{access_size, accesses, gets, is_device, loaded, loads, stored, stores, value_at};
 ghost use Rattle.thumb_machine.specs.declared.answers.Answer.{Answer};
 ghost use Rattle.thumb_machine.specs.Memory.{memory_of};
 ghost use Rattle.thumb_machine.specs.Acting.{Acts, Changes};

@@ -1,5 +1,5 @@
 ghost use Rattle.std.specs.Prelude.{◌≡◌, ◌+◌, ◌%◌, ◌^◌};
-ghost use Rattle.thumb_model.specs.Machine.{act, offset};
+ghost use Rattle.thumb_model.specs.Acts.{act, offset};
 ghost use Rattle.thumb_machine.specs.Acting.{Acts, around_of};
 
 use crate::accessing::{access_size, offset_access, word_access};

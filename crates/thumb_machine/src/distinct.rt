@@ -2,7 +2,7 @@
 ghost use Rattle.std.specs.Prelude.{◌≡◌, ℕ, true, not, ◌==◌, ◌||◌, IsTrue};
 ghost use Rattle.std.specs.List.{list_all};
 ghost use Rattle.thumb_model.specs.Listing.{code_of};
-ghost use Rattle.thumb_model.specs.Machine.{points};
+ghost use Rattle.thumb_model.specs.Naming.{points};
 ghost use Rattle.thumb_machine.specs.Fitting.{all_apart, apart};
 ghost use Rattle.thumb_machine.specs.Naming.{naming_of};
 
@@ -64,7 +64,7 @@ struct EachApart<'a> {
 impl PointTest for EachApart<'_> {
     ghost use Rattle.std.specs.List.{list_all};
     ghost use Rattle.thumb_model.specs.Listing.{code_of};
-    ghost use Rattle.thumb_model.specs.Machine.{points};
+    ghost use Rattle.thumb_model.specs.Naming.{points};
     ghost use Rattle.thumb_machine.specs.Fitting.{apart};
     ghost use Rattle.thumb_machine.specs.Naming.{naming_of};
 

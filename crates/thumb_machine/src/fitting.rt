@@ -2,7 +2,7 @@
 ghost use Rattle.std.specs.Prelude.{◌≡◌, ◌<◌, ◌%◌, ◌^◌, ◌&&◌, ◌==◌, ℕ, Decides, Some, slice_index};
 ghost use Rattle.std.specs.List.{list_all};
 ghost use Rattle.thumb_model.specs.Listing.{Name, code_of, labels_from, places_of};
-ghost use Rattle.thumb_model.specs.Machine.{Fits, is_in_range, points};
+ghost use Rattle.thumb_model.specs.Naming.{Fits, is_in_range, points};
 ghost use Rattle.listing_parser.specs.Views.{place_view};
 ghost use Rattle.thumb_machine.specs.Fitting.{is_code_word, is_outside};
 ghost use Rattle.thumb_machine.specs.Laid.{place_name};

@@ -2,7 +2,8 @@ ghost use Rattle.std.specs.Prelude.{◌≡◌, ◌<◌, ◌≤◌, ◌+◌, ◌*
 ghost use Rattle.thumb_instr.specs.Items.{has};
 ghost use Rattle.thumb_instr.specs.Shape.{registers_in, pushed};
 ghost use Rattle.thumb_model.specs.Items.{assigned, one_of, sp};
-ghost use Rattle.thumb_model.specs.Machine.{behind, below, device_words, left_from, load_events, next_word, store_events, stored_words, stores_many, with_pc, is_device, left_at, word_at, words_from};
+ghost use Rattle.thumb_model.specs.Accesses.{behind, below, device_words, left_from, load_events, next_word, store_events, stored_words, stores_many, is_device, left_at, word_at, words_from};
+ghost use Rattle.thumb_model.specs.Acts.{with_pc};
 ghost use Rattle.thumb_machine.specs.declared.answers.Answer.{Answer};
 ghost use Rattle.thumb_machine.specs.Registers.{values_of};
 ghost use Rattle.thumb_machine.specs.Memory.{memory_of, room_of};

@@ -1,12 +1,15 @@
 ghost use Rattle.std.specs.Prelude.{◌≡◌, ◌<◌, ◌+◌, ◌-◌, ◌^◌, [], ◌∷◌, slice_get, Some, IfOk, OnErr};
 ghost use Rattle.thumb_model.specs.Listing.{Code, code_of};
-ghost use Rattle.thumb_model.specs.Machine.{Naming as Names, Fell, arrives};
+ghost use Rattle.thumb_model.specs.Naming.{Naming as Names};
+ghost use Rattle.thumb_model.specs.States.{Fell};
+ghost use Rattle.thumb_model.specs.Steps.{arrives};
 ghost use Rattle.thumb_machine.specs.Memory.{memory_of};
 ghost use Rattle.thumb_machine.specs.Acting.{Changes, next_of};
 ghost use Rattle.thumb_machine.specs.Registers.{values_of};
 ghost use Rattle.thumb_machine.specs.Naming.{naming_of};
 ghost use Rattle.thumb_machine.specs.Starting.{Starts, start_values};
-ghost use Rattle.thumb_machine.specs.Running.{IsProgram, IsStage, LeadsTo, Steps, at_of, stage_of};
+ghost use Rattle.thumb_machine.specs.Running.{IsProgram, IsStage, LeadsTo, Steps, at_of};
+ghost use Rattle.thumb_machine.specs.Stages.{stage_of};
 
 use crate::answers::{Answers, Bytes};
 use crate::event::Event;

@@ -1,6 +1,6 @@
 ghost use Rattle.std.specs.Prelude.{◌≡◌, ◌<◌, ◌≤◌, ◌+◌, ◌/◌, ◌^◌, ℕ, vec_len, Some, option_map, slice_get, take, length, IfOk, if◌then◌else◌};
 ghost use Rattle.thumb_model.specs.Listing.{code_of, call_count, is_call, places_of};
-ghost use Rattle.thumb_model.specs.Machine.{aim_of, literal_at, literal_word, loads_literal, set_bit, target_at, word_of_mention, word_of_place, word_of_value};
+ghost use Rattle.thumb_model.specs.Steps.{aim_of, literal_at, literal_word, loads_literal, set_bit, target_at, word_of_mention, word_of_place, word_of_value};
 ghost use Rattle.listing_parser.specs.Views.{mention_view, place_view, value_view};
 ghost use Rattle.thumb_machine.specs.Acting.{target_of};
 ghost use Rattle.thumb_machine.specs.Making.{mention_of};

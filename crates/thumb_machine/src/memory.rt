@@ -1,6 +1,7 @@
 ghost use Rattle.std.specs.Prelude.{◌≡◌, ◌<◌, ◌≤◌, ◌+◌, ◌^◌, [], ◌∷◌, length, false, OnOk, ℕ};
 ghost use Rattle.thumb_model.specs.Items.{assigned};
-ghost use Rattle.thumb_model.specs.Machine.{value_at, with_value, stored, with_bytes, is_device};
+ghost use Rattle.thumb_model.specs.States.{with_bytes};
+ghost use Rattle.thumb_model.specs.Accesses.{value_at, with_value, stored, is_device};
 ghost use Rattle.thumb_machine.specs.Memory.{memory_of, room_of};
 
 use std::alloc::{AllocError, Global};

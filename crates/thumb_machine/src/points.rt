@@ -1,7 +1,8 @@
 ghost use Rattle.std.specs.Prelude.{◌≡◌, ◌==◌, ◌<◌, ◌-◌, ◌^◌, ◌∷◌, [], ◌++◌, ℕ, List, map, nat_eq, length, IfOk, OnOk, if◌then◌else◌};
 ghost use Rattle.std.specs.HashMap.{get};
 ghost use Rattle.thumb_model.specs.Listing.{code_of, labels_at, labels_from, places_of};
-ghost use Rattle.thumb_model.specs.Machine.{least_or, point_among, points, points_of, returns_from};
+ghost use Rattle.thumb_model.specs.Naming.{points, points_of, returns_from};
+ghost use Rattle.thumb_model.specs.Steps.{least_or, point_among};
 ghost use Rattle.listing_parser.specs.Views.{line_view, place_view};
 ghost use Rattle.thumb_machine.specs.Making.{merged};
 ghost use Rattle.thumb_machine.specs.Naming.{naming_of};

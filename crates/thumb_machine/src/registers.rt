@@ -1,7 +1,8 @@
 ghost use Rattle.std.specs.Prelude.{◌≡◌, ◌<◌, ◌≤◌, [], ◌∷◌};
 ghost use Rattle.std.specs.Int.{bit_at, from_bool};
 ghost use Rattle.thumb_model.specs.Items.{assigned, written_to, n_flag, z_flag, c_flag, v_flag};
-ghost use Rattle.thumb_model.specs.Machine.{all_at, answered, served, holds};
+ghost use Rattle.thumb_model.specs.States.{all_at, answered, served};
+ghost use Rattle.thumb_model.specs.Acts.{holds};
 ghost use Rattle.thumb_machine.specs.Registers.{values_of};
 ghost use Rattle.thumb_machine.specs.Outside.{answer_values};
 

@@ -1,6 +1,7 @@
 ghost use Rattle.std.specs.Prelude.{◌≡◌, ◌<◌, ◌≤◌, [], ◌∷◌, ◌++◌, List, length, map};
 ghost use Rattle.thumb_model.specs.Items.{sp};
-ghost use Rattle.thumb_model.specs.Machine.{Sys, Call, answered, answers_with, calls, calls_by, calls_out, handed, hints, interrupts_code, barrier_code, reads_special, served, special_code, takes, tells};
+ghost use Rattle.thumb_model.specs.States.{Sys, Call, answered, answers_with, handed, served, takes, tells};
+ghost use Rattle.thumb_model.specs.Acts.{calls, calls_by, calls_out, hints, interrupts_code, barrier_code, reads_special, special_code};
 ghost use Rattle.thumb_machine.specs.declared.answers.Answer.{Answer};
 ghost use Rattle.thumb_machine.specs.Registers.{values_of};
 ghost use Rattle.thumb_machine.specs.Outside.{event_of};

@@ -2,7 +2,7 @@
 ghost use Rattle.std.specs.Prelude.{◌≡◌, ◌&&◌, ◌++◌, ◌+◌, ◌<◌, ◌^◌, ℕ, List, map, length};
 ghost use Rattle.thumb_model.specs.Listing.{call_count, labels_at, places_in, places_of};
 ghost use Rattle.thumb_model.specs.Laid.{ends_in_call};
-ghost use Rattle.thumb_model.specs.Machine.{points_of, returns_from};
+ghost use Rattle.thumb_model.specs.Naming.{points_of, returns_from};
 ghost use Rattle.listing_parser.specs.Views.{line_view, statement_view};
 ghost use Rattle.thumb_machine.specs.Naming.{naming_of};
 ghost use Rattle.thumb_machine.specs.Walking.{all_pass, name_points, points_from};

@@ -1,10 +1,12 @@
 ghost use Rattle.std.specs.Prelude.{◌≡◌, ◌<◌, ◌==◌, ◌%◌, [], ◌∷◌, List, Some, map, if◌then◌else◌};
-ghost use Rattle.thumb_model.specs.Machine.{ends, holds, tells, jumps, puts, branches, registers_left, Left, On};
+ghost use Rattle.thumb_model.specs.States.{ends, tells, puts, registers_left, Left, On};
+ghost use Rattle.thumb_model.specs.Acts.{holds, jumps, branches};
 ghost use Rattle.thumb_machine.specs.declared.answers.Answer.{Answer};
 ghost use Rattle.thumb_machine.specs.Registers.{values_of};
 ghost use Rattle.thumb_machine.specs.Memory.{memory_of};
 ghost use Rattle.thumb_machine.specs.Outside.{event_of};
-ghost use Rattle.thumb_machine.specs.Acting.{Acts, Changes, end_of, landing_of, target_of};
+ghost use Rattle.thumb_machine.specs.Acting.{Acts, Changes, landing_of, target_of};
+ghost use Rattle.thumb_machine.specs.Stages.{end_of};
 
 use crate::event::Event;
 use crate::memory::Memory;
@@ -78,7 +80,7 @@ pub struct Around {
 /// What says where words land: a listing under a naming, or an image.
 pub trait Lands {
     ghost use Rattle.std.specs.Prelude.{◌≡◌, ℕ};
-    ghost use Rattle.thumb_model.specs.Machine.{Landing as Lands};
+    ghost use Rattle.thumb_model.specs.States.{Landing as Lands};
     ghost use Rattle.thumb_machine.specs.Acting.{landing_of};
 
     ghost lands: { Self → ℕ → Lands };

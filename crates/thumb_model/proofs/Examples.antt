@@ -14,7 +14,8 @@ use Rattle.thumb_instr.specs.declared.operation.OffsetAccess.TheVariants as offs
 use Rattle.thumb_instr.specs.declared.within.NotBothSp.{NotBothSp}
 use Rattle.thumb_instr.specs.Shape.{registers_in}
 use Rattle.thumb_model.specs.Items.{Values}
-use Rattle.thumb_model.specs.Machine.{World, Answer, Around, External, Goes, Leaves, Strays, Stay, Load, Store, Call, Sys, Left, Fault, act}
+use Rattle.thumb_model.specs.States.{World, Answer, Around, External, Goes, Leaves, Strays, Stay, Load, Store, Call, Sys, Left, Fault}
+use Rattle.thumb_model.specs.Acts.{act}
 use Rattle.thumb_model.specs.Effect.{after}
 
 abbrev within : (a b n : ℕ) → nat_le a n ≡ true → nat_lt n b ≡ true → Within a b

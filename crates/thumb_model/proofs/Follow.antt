@@ -7,7 +7,11 @@ use Rattle.thumb_instr.specs.declared.instr.Instr.{Instr}
 use Rattle.thumb_model.specs.Items.{Values, AreWords, assigned}
 use Rattle.thumb_model.specs.Effect.{after_all}
 use Rattle.thumb_model.specs.Listing.{Name, Mention, Place, Op, Word, plain, Code, place_of, label_places, return_places, IsPoint}
-use Rattle.thumb_model.specs.Machine.{Naming, Fits, HasLiterals, label_place, loads_literal, word_of_mention, word_of_place, word_behind, literal_word, literal_at, World, IsWorld, Around, Act, Event, Fell, Leaves, Strays, is_odd, is_in_range, Next, On, Stay, To, Over, At, Here, Ended, State, act, arrives, around_of, aim_of, target_at, landing, point_among, points, step_on, step, times}
+use Rattle.thumb_model.specs.Naming.{Naming, Fits, is_odd, is_in_range, points}
+use Rattle.thumb_model.specs.States.{World, IsWorld, Around, Act, Event, Fell, Leaves, Strays, Next, On, Stay, To, Over, At, Here, Ended, State}
+use Rattle.thumb_model.specs.Acts.{act}
+use Rattle.thumb_model.specs.Steps.{label_place, loads_literal, word_of_mention, word_of_place, word_behind, literal_word, literal_at, arrives, around_of, aim_of, target_at, landing, point_among, step_on, step, times}
+use Rattle.thumb_model.specs.Literals.{HasLiterals}
 use Rattle.thumb_model.specs.Flow.{Reads}
 use Rattle.thumb_model.specs.Same.{has_ended, Alike, here_or_ended, begun, Same}
 use Rattle.thumb_model.specs.Rewrite.{moved, replaced}

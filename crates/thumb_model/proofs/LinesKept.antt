@@ -4,7 +4,7 @@ use Rattle.std.specs.Prelude.{slice_get}
 use Rattle.thumb_instr.specs.declared.instr.Instr.{Instr}
 use Rattle.thumb_model.specs.Listing.{Place, Op, Word, plain, Label, Line, Code, places_of, labels_from, code_of}
 use Rattle.thumb_model.specs.Layout.{Layable}
-use Rattle.thumb_model.specs.Machine.{HasLiterals}
+use Rattle.thumb_model.specs.Literals.{HasLiterals}
 use Rattle.thumb_model.specs.Same.{Same}
 use Rattle.thumb_instr.specs.Renaming.{renamed}
 use Rattle.thumb_model.specs.Rewrite.{Rule, AreSound, Applies, replaced}

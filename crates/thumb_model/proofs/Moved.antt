@@ -8,7 +8,9 @@ use Rattle.std.specs.Option.{option_map}
 use Rattle.thumb_instr.specs.declared.instr.Instr.{Instr}
 use Rattle.thumb_model.specs.Items.{one_of}
 use Rattle.thumb_model.specs.Listing.{Name, Mention, Place, Op, Word, plain, Label, Code, is_op_place, is_code, place_among, place_of, has_label, place_mentions, is_mentioned, is_call, call_count, return_places}
-use Rattle.thumb_model.specs.Machine.{Naming, Fits, HasLiterals, is_word_place, label_place, points_of, points, least_or, point_among, returns_from}
+use Rattle.thumb_model.specs.Naming.{Naming, Fits, points_of, points, returns_from}
+use Rattle.thumb_model.specs.Steps.{label_place, least_or, point_among}
+use Rattle.thumb_model.specs.Literals.{HasLiterals, is_word_place}
 use Rattle.thumb_model.specs.Rewrite.{moved, move_label, replaced}
 use Rattle.thumb_model.proofs.Lists.{get_drop, get_take, get_front, get_back, length_map, take_all, take_back, length_drop}
 

@@ -5,7 +5,9 @@ use Rattle.std.specs.Str.{bytes_eq}
 use Rattle.std.proofs.lemmas.Bool.{cases_lt}
 use Rattle.thumb_model.specs.Items.{one_of}
 use Rattle.thumb_model.specs.Listing.{Name, Place, Label, Code, is_code, place_among, is_call, label_places, return_places, IsPoint}
-use Rattle.thumb_model.specs.Machine.{Naming, Goes, Leaves, Strays, landing, is_odd, is_in_range, returns_from, point_among, least_or, points_of, points}
+use Rattle.thumb_model.specs.Naming.{Naming, is_odd, is_in_range, returns_from, points_of, points}
+use Rattle.thumb_model.specs.States.{Goes, Leaves, Strays}
+use Rattle.thumb_model.specs.Steps.{landing, point_among, least_or}
 use Rattle.thumb_model.proofs.Moved.{one_of_back}
 
 some_same : (a b : ℕ) → (let x : Option ℕ = Some a in x) ≡ Some b → b ≡ a

@@ -1,7 +1,7 @@
 -- Two machines of which one follows the other, step by step or in more steps than it: nothing here is about instructions.
 use Rattle.std.proofs.Common.{◌≡◌, ℕ, zero, suc, ◌+◌, ◌-◌, ◌<◌, ◌≤◌, refl, sym, ap, ◌∙◌, subst, ◌⊎◌, inl, inr, arith}
 use Rattle.std.proofs.lemmas.Bool.{cases_lt}
-use Rattle.thumb_model.specs.Machine.{times}
+use Rattle.thumb_model.specs.Steps.{times}
 
 -- m steps and then n are k
 pub times_add : {A : Type 0} (f : A → A) (m n k : ℕ) (a : A) → k ≡ m + n → times f k a ≡ times f n (times f m a)

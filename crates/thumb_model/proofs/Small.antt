@@ -19,7 +19,8 @@ use Rattle.thumb_instr.specs.declared.within.Within.{Within}
 use Rattle.thumb_instr.specs.declared.within.General.{General}
 use Rattle.thumb_model.specs.Items.{one_of, sp, lr}
 use Rattle.thumb_model.specs.Listing.{Place, Op, Word, Code}
-use Rattle.thumb_model.specs.Machine.{registers_left, handed, aim_of}
+use Rattle.thumb_model.specs.States.{registers_left, handed}
+use Rattle.thumb_model.specs.Steps.{aim_of}
 use Rattle.thumb_model.specs.Flow.{Way, way, Onward, AnyPoint, Out, jump_way, call_way, left_but, ways, ways_on, ways_of, Reads, now, later, LiveAfter}
 use Rattle.thumb_instr.specs.Renaming.{AreBelow}
 

@@ -10,7 +10,7 @@ use Rattle.thumb_instr.specs.Renaming.{Low, renamed}
 use Rattle.thumb_model.specs.Items.{Values}
 use Rattle.thumb_model.specs.Effect.{after_all}
 use Rattle.thumb_model.specs.Listing.{Place, plain, Code, is_op_place, is_code, is_call_instr}
-use Rattle.thumb_model.specs.Machine.{aim_of}
+use Rattle.thumb_model.specs.Steps.{aim_of}
 use Rattle.thumb_model.specs.Flow.{way, ways_of, ways_on, Onward, Reads, LiveAfter}
 use Rattle.thumb_model.specs.Rewrite.{Rule, register_count, IsSoundRule, AreOver, normalised, replaced, move_label, Applies}
 use Rattle.thumb_model.proofs.Lists.{get_drop, get_take, length_map, take_all, take_short, length_drop}

@@ -11,7 +11,8 @@ use Rattle.thumb_model.specs.Listing.{plain, Line, Code, code_of}
 use Rattle.thumb_instr.specs.Renaming.{Low, named, renamed, number_or, item_under}
 use Rattle.thumb_model.specs.Rewrite.{Rule, register_count, IsSoundRule, AreSound, AreOver, is_named, normalised, Applies}
 use Rattle.thumb_model.proofs.Lists.{present_at, cons_same}
-use Rattle.thumb_model.specs.Rewritten.{Setting, Replacement, IsFirst, lines_after, AreRewritten, IsDetermined}
+use Rattle.thumb_model.specs.Rewritten.{Setting, Replacement, IsFirst, lines_after, AreRewritten}
+use Rattle.thumb_model.specs.Laws.{IsDetermined}
 
 -- two maps give each of these items the same
 abbrev AgreeOnAll : List Low → List Low → List ℕ → Type 0

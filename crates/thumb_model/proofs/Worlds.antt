@@ -3,7 +3,10 @@ use Rattle.std.proofs.Common.{ℕ, ◌+◌, ◌/◌, ◌<◌, ◌^◌, List, tak
 use Rattle.std.specs.Prelude.{slice_get}
 use Rattle.thumb_instr.specs.declared.instr.Instr.{Instr}
 use Rattle.thumb_model.specs.Listing.{Mention, Value, Number, OfName, Place, Op, Word, Code, call_count}
-use Rattle.thumb_model.specs.Machine.{Naming, IsWorld, Around, At, Here, Ended, State, act, around_of, word_of_mention, word_of_value, word_of_place, word_behind, literal_word, loads_literal, literal_at, label_place, step_on, step_at, step}
+use Rattle.thumb_model.specs.Naming.{Naming}
+use Rattle.thumb_model.specs.States.{IsWorld, Around, At, Here, Ended, State}
+use Rattle.thumb_model.specs.Acts.{act}
+use Rattle.thumb_model.specs.Steps.{around_of, word_of_mention, word_of_value, word_of_place, word_behind, literal_word, loads_literal, literal_at, label_place, step_on, step_at, step}
 use Rattle.thumb_model.proofs.Held.{AreAroundWords, held_of, act_safe, world_after}
 
 mention_small : (names : Naming) (mention : Option Mention) → word_of_mention names mention < 2 ^ 32

@@ -6,7 +6,8 @@ use Rattle.thumb_instr.specs.Items.{has}
 use Rattle.thumb_instr.specs.Shape.{registers_in, uses_of, writes_of, condition_uses}
 use Rattle.thumb_model.specs.Items.{one_of, sp, lr}
 use Rattle.thumb_model.specs.Listing.{Place, Op, Word, Code, IsPoint}
-use Rattle.thumb_model.specs.Machine.{registers_left, handed, answered, aim_of}
+use Rattle.thumb_model.specs.States.{registers_left, handed, answered}
+use Rattle.thumb_model.specs.Steps.{aim_of}
 
 -- where a way leads: to the next place, to a place, to any code point, or out
 pub data Leads : Type 0 where

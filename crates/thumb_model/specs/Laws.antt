@@ -3,7 +3,10 @@ use Rattle.std.specs.Prelude.{◌≡◌, ℕ, ◌+◌, ◌<◌, ◌≤◌, List,
 use Rattle.thumb_instr.specs.Renaming.{renamed}
 use Rattle.thumb_model.specs.Listing.{Name, Line, Code, places_of, code_of, place_of, label_places, return_places}
 use Rattle.thumb_model.specs.Layout.{Layable}
-use Rattle.thumb_model.specs.Machine.{Naming, Fits, HasLiterals, points, State, IsWorld, step}
+use Rattle.thumb_model.specs.Naming.{Naming, Fits, points}
+use Rattle.thumb_model.specs.States.{State, IsWorld}
+use Rattle.thumb_model.specs.Steps.{step}
+use Rattle.thumb_model.specs.Literals.{HasLiterals}
 use Rattle.thumb_model.specs.Flow.{LiveAfter}
 use Rattle.thumb_model.specs.Same.{Same}
 use Rattle.thumb_model.specs.Rewrite.{AreSound, replaced}
@@ -48,3 +51,9 @@ LinesAreReplacedAsPlaces = (s : Setting) (r : Replacement) (ls : List Line) (a :
 -- each code label stays one
 abbrev pub LabelsStayCode : Type 0
 LabelsStayCode = (s : Setting) (r : Replacement) (ls : List Line) → AreSound s.table → AppliesIn s r ls → (label : Name) → IsSome (place_of (code_of ls) label) → IsSome (place_of (code_of (lines_after s r ls)) label)
+
+-- the replacements and the lines are determined
+abbrev pub IsDetermined : Type 0
+IsDetermined =
+    (s : Setting) (ls : List Line) → AreSound s.table →
+    (rs ss : List Replacement) (new other : List Line) → AreRewritten s ls rs new → AreRewritten s ls ss other → (rs ≡ ss) × (new ≡ other)

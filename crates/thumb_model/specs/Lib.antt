@@ -3,7 +3,12 @@ pub mod Effect
 pub mod Listing
 pub mod Layout
 pub mod Reaches
-pub mod Machine
+pub mod Naming
+pub mod States
+pub mod Accesses
+pub mod Acts
+pub mod Steps
+pub mod Literals
 pub mod Flow
 pub mod Same
 pub mod Rewrite

@@ -2,14 +2,8 @@
 use Rattle.std.specs.Prelude.{◌≡◌, ◌↔◌, ℕ, ◌+◌, ◌<◌, true, List, [], ◌∷◌, ◌++◌, length, Contains}
 use Rattle.thumb_model.specs.Listing.{Name, Line, Place, places_of, is_call, call_count}
 use Rattle.thumb_model.specs.Layout.{end_of}
-use Rattle.thumb_model.specs.Laid.{ends_in_call, laid}
-use Rattle.thumb_model.specs.Machine.{Naming, returns_from}
-
--- lines cut at call number k, counted from 0: so many calls stand before it
-pub record IsCutAtCall (lines : List Line) (k : ℕ) (before : List Line) (call : Line) (after : List Line) : Type 0 where
-  pub cut : lines ≡ before ++ call ∷ after
-  pub calls : ends_in_call call.statement ≡ true
-  pub number : k ≡ call_count (places_of before)
+use Rattle.thumb_model.specs.Laid.{IsCutAtCall, laid}
+use Rattle.thumb_model.specs.Naming.{Naming, returns_from}
 
 -- each call's number has a cut
 abbrev pub EachCallIsACut : Type 0

@@ -121,9 +121,3 @@ AreRewritten s ls (r ∷ rs) new = IsFirst s r ls × AreRewritten s (lines_after
 abbrev pub AllApplied : Setting → List Line → List Replacement → Type 0
 AllApplied s ls [] = Unit {0}
 AllApplied s ls (r ∷ rs) = AppliesIn s r ls × AllApplied s (lines_after s r ls) rs
-
--- the replacements and the lines are determined
-abbrev pub IsDetermined : Type 0
-IsDetermined =
-    (s : Setting) (ls : List Line) → AreSound s.table →
-    (rs ss : List Replacement) (new other : List Line) → AreRewritten s ls rs new → AreRewritten s ls ss other → (rs ≡ ss) × (new ≡ other)

@@ -1,7 +1,9 @@
 -- Two listings that run the same.
 use Rattle.std.specs.Prelude.{◌≡◌, ℕ, ◌≤◌, Bool, true, false, List, Option, Some, None, IsSome}
 use Rattle.thumb_model.specs.Listing.{Name, Code, place_of}
-use Rattle.thumb_model.specs.Machine.{Naming, Fits, World, IsWorld, State, At, Here, Ended, Event, step, times}
+use Rattle.thumb_model.specs.Naming.{Naming, Fits}
+use Rattle.thumb_model.specs.States.{World, IsWorld, State, At, Here, Ended, Event}
+use Rattle.thumb_model.specs.Steps.{step, times}
 
 abbrev pub has_ended : At → Bool
 has_ended (Here p) = false

@@ -1,10 +1,9 @@
 //! The laws of runs and of rewriting. Each is the contract of a function that does nothing.
 
 ghost use Rattle.thumb_model.specs.Cuts.{ReplacedLinesAreACut};
-ghost use Rattle.thumb_model.specs.Laws.{StepsKeepWorlds, OnlyItemsAreLive, ReplacingKeepsRuns, RewritingKeepsRuns, RewritingIsComplete, RewritingStaysLayable, RewritingShortens, PointsArePlaces, LabelsStayCode, LinesAreReplacedAsPlaces};
+ghost use Rattle.thumb_model.specs.Laws.{StepsKeepWorlds, OnlyItemsAreLive, ReplacingKeepsRuns, RewritingKeepsRuns, RewritingIsComplete, RewritingStaysLayable, RewritingShortens, PointsArePlaces, LabelsStayCode, LinesAreReplacedAsPlaces, IsDetermined};
 ghost use Rattle.thumb_model.specs.Reaches.{ReachesAreFields};
 ghost use Rattle.thumb_model.specs.Returns.{ReturnsAreCuts};
-ghost use Rattle.thumb_model.specs.Rewritten.{IsDetermined};
 
 /// A step leaves each number in its range, under a naming that fits.
 pub fn steps_keep_worlds()

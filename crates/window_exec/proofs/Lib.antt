@@ -1,3 +1,4 @@
+pub mod FlagLemmas
 pub mod WindowForms
 pub mod Differences
 pub mod Normal

@@ -11,14 +11,16 @@ use thumb_instr::items::{C, N, V, Z};
 use thumb_instr::{Mask, Seq};
 
 /// The registers and flags after a sequence of instructions that may stand in a window and name r0 to r3 alone, from the first to the last.
+/// The bits above the flags are 0.
 pub fn run_seq(seq: &Seq, mut state: WState) -> WState
     requires { AreOver 4 seq.now }
-    ensures { values_of result ≡ after_all seq.now (values_of state) }
+    ensures values { values_of result ≡ after_all seq.now (values_of state) }
+    ensures flags { result.nzcv < 16 }
 {
     for instr in seq.as_slice() {
         state = step(instr, state);
     }
-    state
+    state.with_flags_alone()
 }
 
 /// Whether some item of the mask differs after the two sequences, each run from the state. Both are of instructions that may stand in a

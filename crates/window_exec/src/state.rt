@@ -32,6 +32,16 @@ impl WState {
         (self.nzcv >> (V - flag)) & 1
     }
 
+    /// The state with 0 in the bits above its flags.
+    #[tactic(auto, using(crate::proofs::FlagLemmas::flags_alone))]
+    pub(crate) fn with_flags_alone(mut self) -> WState
+        ensures values { values_of result ≡ values_of self }
+        ensures flags { result.nzcv < 16 }
+    {
+        self.nzcv %= 16;
+        self
+    }
+
     /// V.
     fn overflow(&self) -> bool
         ensures { from_bool result ≡ values_of self.now v_flag }

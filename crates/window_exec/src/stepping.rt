@@ -1,4 +1,4 @@
-ghost use Rattle.std.specs.Prelude.{◌≡◌, true};
+ghost use Rattle.std.specs.Prelude.{◌≡◌, ◌<◌, true};
 ghost use Rattle.thumb_instr.specs.Window.{is_in_window};
 ghost use Rattle.thumb_instr.specs.Renaming.{named, AreBelow};
 ghost use Rattle.thumb_model.specs.Effect.{after};
@@ -9,12 +9,14 @@ use crate::state::WState;
 use thumb_instr::Instr;
 
 /// The registers and flags after an instruction that may stand in a window and names r0 to r3 alone.
+/// The bits above the flags are 0.
 #[tactic(auto, using(crate::proofs::WindowForms::window_computes))]
 pub fn step(instr: &Instr, mut state: WState) -> WState
     requires window { is_in_window instr.now ≡ true }
     requires registers { AreBelow 4 (named instr.now) }
-    ensures { values_of result ≡ after instr.now (values_of state) }
+    ensures values { values_of result ≡ after instr.now (values_of state) }
+    ensures flags { result.nzcv < 16 }
 {
     compute(&mut state, instr);
-    state
+    state.with_flags_alone()
 }

@@ -1,6 +1,6 @@
 use Rattle.std.proofs.Common.{◌≡◌}
 use Rattle.thumb_model.specs.Listing.{Code}
-use Rattle.thumb_model.specs.Machine.{Naming}
+use Rattle.thumb_model.specs.Naming.{Naming}
 use Rattle.thumb_machine.specs.Running.{IsProgram, state_of}
 use Rattle.audit_cli.proofs.RunningLemmas.{SoFar}
 use Rattle.audit_cli.proofs.running.run.Given as goal

@@ -1,5 +1,5 @@
 use Rattle.std.proofs.Common.{[], ◌∷◌, refl}
-use Rattle.thumb_model.specs.Machine.{registers_left}
+use Rattle.thumb_model.specs.States.{registers_left}
 use Rattle.code_flow.proofs.Lists.{united}
 use Rattle.code_flow.proofs.finding.branches_by.Goals as goal
 

@@ -1,5 +1,5 @@
 use Rattle.std.proofs.Common.{[], ◌∷◌, refl}
-use Rattle.thumb_model.specs.Machine.{handed}
+use Rattle.thumb_model.specs.States.{handed}
 use Rattle.code_flow.proofs.Lists.{united}
 use Rattle.code_flow.proofs.finding.calls_by.Goals as goal
 

@@ -5,7 +5,7 @@ use Rattle.std.specs.Str.{bytes_eq}
 use Rattle.listing_parser.specs.Views.{mention_view}
 use Rattle.thumb_model.specs.Listing.{Name}
 use Rattle.thumb_model.specs.Layout.{is_among}
-use Rattle.thumb_model.specs.Machine.{aim_of}
+use Rattle.thumb_model.specs.Steps.{aim_of}
 use Rattle.line_cursor.specs.Sources.{is_at}
 use Rattle.line_cursor.proofs.sources.is_named.Goals as goal
 

@@ -1,5 +1,5 @@
 use Rattle.std.proofs.Common.{◌≡◌, drop}
-use Rattle.thumb_model.specs.Machine.{behind}
+use Rattle.thumb_model.specs.Accesses.{behind}
 use Rattle.thumb_machine.proofs.lists.behind.Given as goal
 
 abbrev pub invariant-loop-word : goal.invariant-loop-word

@@ -1,5 +1,5 @@
 use Rattle.std.proofs.Common.{◌≡◌, ◌≤◌, ◌+◌, drop}
-use Rattle.thumb_model.specs.Machine.{device_words}
+use Rattle.thumb_model.specs.Accesses.{device_words}
 use Rattle.thumb_machine.proofs.lists.device_words.Given as goal
 
 abbrev pub invariant-loop-word : goal.invariant-loop-word

@@ -1,5 +1,5 @@
 use Rattle.std.proofs.Common.{◌≡◌, ◌+◌, ◌++◌, drop}
-use Rattle.thumb_model.specs.Machine.{load_events}
+use Rattle.thumb_model.specs.Accesses.{load_events}
 use Rattle.thumb_machine.specs.Outside.{events_of}
 use Rattle.thumb_machine.proofs.lists.tell_loads.Given as goal
 

@@ -1,5 +1,5 @@
 use Rattle.std.proofs.Common.{◌≡◌, ◌+◌, ◌++◌, drop}
-use Rattle.thumb_model.specs.Machine.{store_events}
+use Rattle.thumb_model.specs.Accesses.{store_events}
 use Rattle.thumb_machine.specs.Outside.{events_of}
 use Rattle.thumb_machine.proofs.lists.tell_stores.Given as goal
 

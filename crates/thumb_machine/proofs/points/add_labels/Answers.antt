@@ -2,7 +2,8 @@ use Rattle.std.proofs.Common.{◌≡◌, ◌+◌, ◌∙◌, ◌++◌, ◌∷◌
 use Rattle.std.proofs.lemmas.Grind.{common_steps}
 use Rattle.std.specs.HashMap.{get}
 use Rattle.thumb_model.specs.Listing.{Line, labels_at, labels_from, places_in, places_of}
-use Rattle.thumb_model.specs.Machine.{point_among, points_of}
+use Rattle.thumb_model.specs.Naming.{points_of}
+use Rattle.thumb_model.specs.Steps.{point_among}
 use Rattle.listing_parser.specs.Views.{line_view}
 use Rattle.thumb_machine.specs.Making.{merged}
 use Rattle.thumb_machine.specs.Naming.{naming_of}

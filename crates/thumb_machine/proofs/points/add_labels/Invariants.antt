@@ -1,7 +1,8 @@
 use Rattle.std.proofs.Common.{◌≡◌, ◌+◌, ◌++◌, ℕ, List, drop, length, map, nat_eq}
 use Rattle.std.specs.HashMap.{get}
 use Rattle.thumb_model.specs.Listing.{labels_from, places_of}
-use Rattle.thumb_model.specs.Machine.{point_among, points_of}
+use Rattle.thumb_model.specs.Naming.{points_of}
+use Rattle.thumb_model.specs.Steps.{point_among}
 use Rattle.listing_parser.specs.Views.{line_view}
 use Rattle.thumb_machine.specs.Making.{merged}
 use Rattle.thumb_machine.specs.Naming.{naming_of}

@@ -1,6 +1,6 @@
 use Rattle.std.proofs.Common.{◌≡◌, ◌++◌, ℕ, List, drop, map, nat_eq}
 use Rattle.std.specs.HashMap.{get}
-use Rattle.thumb_model.specs.Machine.{point_among}
+use Rattle.thumb_model.specs.Steps.{point_among}
 use Rattle.thumb_machine.specs.Making.{merged}
 use Rattle.thumb_machine.specs.Naming.{naming_of}
 use Rattle.thumb_machine.specs.Walking.{name_points}

@@ -2,7 +2,7 @@ use Rattle.std.proofs.Common.{◌≡◌, ◌+◌, ◌∙◌, ◌++◌, drop, Som
 use Rattle.std.specs.Prelude.{slice_get}
 use Rattle.thumb_model.specs.Listing.{places_of}
 use Rattle.listing_parser.specs.Views.{place_view}
-use Rattle.thumb_model.specs.Machine.{returns_from}
+use Rattle.thumb_model.specs.Naming.{returns_from}
 use Rattle.thumb_machine.specs.Naming.{naming_of}
 use Rattle.thumb_machine.proofs.PointsMade.{returns_next}
 use Rattle.thumb_machine.proofs.points.add_returns.Goals as goal

@@ -1,7 +1,8 @@
 use Rattle.std.proofs.Common.{◌≡◌, ◌≤◌, ◌++◌, ℕ, List, drop, nat_eq}
 use Rattle.std.specs.HashMap.{get}
 use Rattle.thumb_model.specs.Listing.{places_of}
-use Rattle.thumb_model.specs.Machine.{point_among, returns_from}
+use Rattle.thumb_model.specs.Naming.{returns_from}
+use Rattle.thumb_model.specs.Steps.{point_among}
 use Rattle.thumb_machine.specs.Making.{merged}
 use Rattle.thumb_machine.specs.Naming.{naming_of}
 use Rattle.thumb_machine.proofs.points.add_returns.Given as goal

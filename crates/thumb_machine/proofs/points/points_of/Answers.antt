@@ -2,7 +2,8 @@ use Rattle.std.proofs.Common.{◌≡◌, ◌∙◌, ◌++◌, [], ℕ, List, Opt
 use Rattle.std.specs.Map.{lookup}
 use Rattle.std.specs.HashMap.{get}
 use Rattle.thumb_model.specs.Listing.{Line, labels_from, places_of}
-use Rattle.thumb_model.specs.Machine.{point_among, points_of, returns_from}
+use Rattle.thumb_model.specs.Naming.{points_of, returns_from}
+use Rattle.thumb_model.specs.Steps.{point_among}
 use Rattle.listing_parser.specs.Views.{line_view}
 use Rattle.thumb_machine.specs.Making.{merged}
 use Rattle.thumb_machine.specs.Naming.{naming_of}

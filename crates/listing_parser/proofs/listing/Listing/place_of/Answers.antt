@@ -1,7 +1,7 @@
 use Rattle.std.proofs.Common.{◌≡◌, ◌∙◌, Bool, true, false, ℕ, List, [], Option, Some, None, sym, ap, refl, subst}
 use Rattle.std.specs.Prelude.{slice_get}
 use Rattle.thumb_model.specs.Listing.{Name, Line, Place, code_of, place_of, places_of, labels_from, is_op_place}
-use Rattle.thumb_model.specs.Machine.{label_place}
+use Rattle.thumb_model.specs.Steps.{label_place}
 use Rattle.listing_parser.specs.TableWords.{DefineOnce}
 use Rattle.listing_parser.proofs.TwiceLemmas.{once_none}
 use Rattle.listing_parser.proofs.LabelLemmas.{one_label, code_place}

@@ -1,5 +1,7 @@
 use Rattle.std.proofs.Common.{◌∙◌, ℕ, ap, subst}
-use Rattle.thumb_model.specs.Machine.{Around, act, arrives}
+use Rattle.thumb_model.specs.States.{Around}
+use Rattle.thumb_model.specs.Acts.{act}
+use Rattle.thumb_model.specs.Steps.{arrives}
 use Rattle.thumb_machine.specs.Acting.{Acted, next_of, world_of}
 use Rattle.thumb_assembler.specs.Machines.{loaded_of}
 use Rattle.thumb_assembler.proofs.Stepping.{around_is, does_step}

@@ -1,5 +1,5 @@
 use Rattle.std.proofs.Common.{◌≡◌, ◌≤◌, length, drop}
-use Rattle.thumb_model.specs.Machine.{with_bytes}
+use Rattle.thumb_model.specs.States.{with_bytes}
 use Rattle.thumb_machine.specs.Memory.{memory_of, room_of}
 use Rattle.thumb_machine.proofs.memory.Memory.put_bytes.Given as goal
 

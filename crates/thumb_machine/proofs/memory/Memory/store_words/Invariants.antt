@@ -1,5 +1,5 @@
 use Rattle.std.proofs.Common.{◌≡◌, ◌≤◌, ◌*◌, drop, length}
-use Rattle.thumb_model.specs.Machine.{stored_words}
+use Rattle.thumb_model.specs.Accesses.{stored_words}
 use Rattle.thumb_machine.specs.Memory.{memory_of, room_of}
 use Rattle.thumb_machine.proofs.memory.Memory.store_words.Given as goal
 

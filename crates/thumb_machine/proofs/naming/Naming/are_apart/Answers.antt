@@ -1,7 +1,7 @@
 use Rattle.std.proofs.Common.{◌∙◌, ℕ, sym}
 use Rattle.std.specs.List.{list_all}
 use Rattle.thumb_model.specs.Listing.{code_of, places_of}
-use Rattle.thumb_model.specs.Machine.{points}
+use Rattle.thumb_model.specs.Naming.{points}
 use Rattle.thumb_machine.specs.declared.distinct.EachApart.{EachApart}
 use Rattle.thumb_machine.specs.Fitting.{apart}
 use Rattle.thumb_machine.specs.Naming.{naming_of}

@@ -1,7 +1,7 @@
 use Rattle.std.proofs.Common.{◌≡◌, ◌∙◌, true, false, ap, sym}
 use Rattle.std.specs.Prelude.{is_some, not}
 use Rattle.thumb_model.specs.Listing.{has_label, labels_from}
-use Rattle.thumb_model.specs.Machine.{is_in_range}
+use Rattle.thumb_model.specs.Naming.{is_in_range}
 use Rattle.thumb_machine.specs.Naming.{naming_of}
 use Rattle.thumb_machine.proofs.FitLemmas.{labelled}
 use Rattle.thumb_machine.proofs.naming.Naming.is_outside.Goals as goal

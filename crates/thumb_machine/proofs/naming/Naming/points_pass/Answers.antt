@@ -1,7 +1,7 @@
 use Rattle.std.proofs.Common.{◌≡◌, ◌∙◌, ◌+◌, ◌++◌, ◌∷◌, ◌&&◌, ℕ, true, List, drop, length, map, sym, ap, ap₂, append_assoc, arith, rules}
 use Rattle.std.proofs.lemmas.Grind.{common_steps}
 use Rattle.thumb_model.specs.Listing.{Line, call_count, labels_at, places_in, places_of}
-use Rattle.thumb_model.specs.Machine.{points_of, returns_from}
+use Rattle.thumb_model.specs.Naming.{points_of, returns_from}
 use Rattle.listing_parser.specs.Views.{line_view}
 use Rattle.thumb_machine.specs.Naming.{naming_of}
 use Rattle.thumb_machine.specs.Walking.{all_pass, points_from}

@@ -1,6 +1,6 @@
 use Rattle.std.proofs.Common.{◌∙◌, arith, sym}
 use Rattle.thumb_model.specs.Listing.{code_of, places_of}
-use Rattle.thumb_model.specs.Machine.{points}
+use Rattle.thumb_model.specs.Naming.{points}
 use Rattle.thumb_machine.specs.Naming.{naming_of}
 use Rattle.thumb_machine.specs.Walking.{points_from}
 use Rattle.thumb_machine.proofs.RisingLemmas.{apart_all, rising_apart}

@@ -1,5 +1,5 @@
 use Rattle.std.proofs.Common.{sym}
-use Rattle.thumb_model.specs.Machine.{accesses, stores}
+use Rattle.thumb_model.specs.Accesses.{accesses, stores}
 use Rattle.thumb_machine.specs.Acting.{world_of}
 use Rattle.thumb_machine.proofs.Acts.{acts_by, is_stored}
 use Rattle.thumb_machine.proofs.world.World.access.Goals as goal

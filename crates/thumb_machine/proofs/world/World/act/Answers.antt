@@ -2,7 +2,9 @@ use Rattle.std.proofs.Common.{[], ◌∷◌, ◌+◌, map, refl, if◌then◌els
 use Rattle.thumb_instr.specs.declared.instr.Instr.TheVariants as instr
 use Rattle.thumb_instr.specs.Shape.{pushed, registers_in}
 use Rattle.thumb_model.specs.Items.{sp}
-use Rattle.thumb_model.specs.Machine.{behind, below, branches, holds, hints, jumps, puts, stores_many, tells, On, Sys}
+use Rattle.thumb_model.specs.States.{puts, tells, On, Sys}
+use Rattle.thumb_model.specs.Accesses.{behind, below, stores_many}
+use Rattle.thumb_model.specs.Acts.{branches, holds, hints, jumps}
 use Rattle.thumb_machine.specs.Acting.{around_of, landing_of, target_of}
 use Rattle.thumb_machine.proofs.Acts.{acts_row}
 use Rattle.thumb_machine.proofs.world.World.act.Goals as goal

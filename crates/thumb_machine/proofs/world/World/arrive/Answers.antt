@@ -1,5 +1,5 @@
 use Rattle.std.proofs.Common.{[], map, refl}
-use Rattle.thumb_model.specs.Machine.{Left, Astray, registers_left}
+use Rattle.thumb_model.specs.States.{Left, Astray, registers_left}
 use Rattle.thumb_machine.specs.Registers.{values_of}
 use Rattle.thumb_machine.proofs.Popped.{events_push}
 use Rattle.thumb_machine.proofs.world.World.arrive.Goals as goal

@@ -1,5 +1,6 @@
 use Rattle.std.proofs.Common.{[], refl, if◌then◌else◌}
-use Rattle.thumb_model.specs.Machine.{holds, jumps, puts, On}
+use Rattle.thumb_model.specs.States.{puts, On}
+use Rattle.thumb_model.specs.Acts.{holds, jumps}
 use Rattle.thumb_machine.specs.Acting.{target_of}
 use Rattle.thumb_machine.proofs.Acts.{acts_by}
 use Rattle.thumb_machine.proofs.world.World.jump_if.Goals as goal

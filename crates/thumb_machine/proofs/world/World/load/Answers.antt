@@ -1,5 +1,6 @@
 use Rattle.std.proofs.Common.{sym}
-use Rattle.thumb_model.specs.Machine.{access_size, loads, ends, gets, value_at, Fault}
+use Rattle.thumb_model.specs.States.{ends, Fault}
+use Rattle.thumb_model.specs.Accesses.{access_size, loads, gets, value_at}
 use Rattle.thumb_machine.specs.Acting.{world_of}
 use Rattle.thumb_machine.proofs.Acts.{acts_by, load_faults, load_read}
 use Rattle.thumb_machine.proofs.world.World.load.Goals as goal

@@ -1,5 +1,6 @@
 use Rattle.std.proofs.Common.{sym}
-use Rattle.thumb_model.specs.Machine.{loads_many, ends, Fault}
+use Rattle.thumb_model.specs.States.{ends, Fault}
+use Rattle.thumb_model.specs.Accesses.{loads_many}
 use Rattle.thumb_machine.specs.Acting.{world_of}
 use Rattle.thumb_machine.proofs.Acts.{acts_by, load_many_faults}
 use Rattle.thumb_machine.proofs.world.World.load_many.Goals as goal

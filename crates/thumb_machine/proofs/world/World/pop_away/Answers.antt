@@ -1,5 +1,6 @@
 use Rattle.std.proofs.Common.{sym}
-use Rattle.thumb_model.specs.Machine.{popped_word, pops, ends, Fault}
+use Rattle.thumb_model.specs.States.{ends, Fault}
+use Rattle.thumb_model.specs.Acts.{popped_word, pops}
 use Rattle.thumb_machine.specs.Acting.{world_of}
 use Rattle.thumb_machine.proofs.Acts.{acts_by}
 use Rattle.thumb_machine.proofs.Popped.{pop_faults}

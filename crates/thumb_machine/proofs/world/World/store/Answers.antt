@@ -1,5 +1,6 @@
 use Rattle.std.proofs.Common.{sym}
-use Rattle.thumb_model.specs.Machine.{stores, ends, Fault}
+use Rattle.thumb_model.specs.States.{ends, Fault}
+use Rattle.thumb_model.specs.Accesses.{stores}
 use Rattle.thumb_machine.specs.Acting.{world_of}
 use Rattle.thumb_machine.proofs.Acts.{acts_by, store_faults}
 use Rattle.thumb_machine.proofs.world.World.store.Goals as goal

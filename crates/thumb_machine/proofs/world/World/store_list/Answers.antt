@@ -1,6 +1,6 @@
 use Rattle.std.proofs.Common.{ℕ, List, map, refl, sym, ap, ◌∙◌, ◌≡◌}
 use Rattle.thumb_instr.specs.Shape.{registers_in}
-use Rattle.thumb_model.specs.Machine.{behind, stores_many}
+use Rattle.thumb_model.specs.Accesses.{behind, stores_many}
 use Rattle.thumb_machine.specs.Registers.{values_of}
 use Rattle.thumb_machine.specs.Acting.{world_of}
 use Rattle.thumb_machine.proofs.Acts.{acts_by, same_stores}

@@ -1,0 +1,45 @@
+-- Namings: the words of names and return points, and which can be a listing's.
+use Rattle.std.specs.Prelude.{◌≡◌, ◌≢◌, ℕ, ◌+◌, ◌%◌, ◌^◌, ◌<◌, ◌==◌, ◌&&◌, Bool, true, false, nat_lt, nat_le, List, [], ◌∷◌, ◌++◌, Some, slice_get, if◌then◌else◌}
+use Rattle.thumb_model.specs.Listing.{Name, Place, Label, Code, is_code, has_label, is_mentioned, is_call}
+
+-- a word for each name and for the return point of each call by its number, and the range of code
+pub record Naming : Type 0 where
+  pub word_of : Name → ℕ
+  pub return_word : ℕ → ℕ
+  pub low : ℕ
+  pub high : ℕ
+
+abbrev pub is_odd : ℕ → Bool
+is_odd n = n % 2 == 1
+
+abbrev pub is_in_range : Naming → ℕ → Bool
+is_in_range names word = nat_le names.low word && nat_lt word names.high
+
+-- the code labels' words and places
+abbrev pub points_of : Naming → List Place → List Label → List (ℕ × ℕ)
+points_of names places [] = []
+points_of names places (l ∷ ls) =
+    if is_code places l then (names.word_of l.name, l.place) ∷ points_of names places ls else points_of names places ls
+
+-- the return points of the calls among places from p on, of which the first has the number k
+abbrev pub returns_from : Naming → ℕ → ℕ → List Place → List (ℕ × ℕ)
+returns_from names k p [] = []
+returns_from names k p (x ∷ xs) =
+    if is_call x then (names.return_word k, p + 1) ∷ returns_from names (k + 1) (p + 1) xs else returns_from names k (p + 1) xs
+
+-- the code points: their words and places
+abbrev pub points : Naming → Code → List (ℕ × ℕ)
+points names code = points_of names code.places code.labels ++ returns_from names 0 0 code.places
+
+-- the naming can be the listing's
+pub record Fits (names : Naming) (code : Code) : Type 0 where
+  pub words : (n : Name) → names.word_of n < 2 ^ 32
+  pub return_words : (k : ℕ) → names.return_word k < 2 ^ 32
+  pub low_even : names.low % 2 ≡ 0
+  pub high_even : names.high % 2 ≡ 0
+  -- a code point's word is odd and in the range
+  pub are_code : (k : ℕ) (w p : ℕ) → slice_get (points names code) k ≡ Some (w, p) → (is_odd w && is_in_range names w) ≡ true
+  -- code points at different places have different words
+  pub distinct : (j k : ℕ) (v w p q : ℕ) → slice_get (points names code) j ≡ Some (v, p) → slice_get (points names code) k ≡ Some (w, q) → p ≢ q → v ≢ w
+  -- an external name's word is outside the range
+  pub outside : (n : Name) → is_mentioned n code.places ≡ true → has_label n code.labels ≡ false → is_in_range names (names.word_of n) ≡ false

@@ -1,0 +1,137 @@
+-- What a machine holds and what can be seen of it, and what an instruction may do to it.
+use Rattle.std.specs.Prelude.{◌≡◌, ℕ, ◌%◌, ◌<◌, ◌==◌, List, [], ◌∷◌, if◌then◌else◌}
+use Rattle.thumb_model.specs.Items.{Values, AreWords, assigned, sp, lr, n_flag, z_flag, c_flag, v_flag}
+
+-- ---- states ----
+
+-- what can be seen of a run
+pub data Event : Type 0 where
+  Load : (address size : ℕ) → Event
+  Store : (address size value : ℕ) → Event
+  Call : (word : ℕ) (arguments : List ℕ) → Event
+  Sys : (code : ℕ) (values : List ℕ) → Event
+  Left : (word : ℕ) (registers : List ℕ) → Event
+  Fault : (address : ℕ) → Event
+  Astray : (word : ℕ) → Event
+  Fell : Event
+
+-- what the outside answers: what some items hold afterwards, and bytes that it wrote, by address
+pub record Answer : Type 0 where
+  pub values : Values
+  pub bytes : List (ℕ × ℕ)
+
+-- what the machine holds: its items, the bytes of its memory, and the answers that are left
+pub record World : Type 0 where
+  pub values : Values
+  pub memory : ℕ → ℕ
+  pub answers : List Answer
+
+abbrev pub AreBytes : List (ℕ × ℕ) → Type 0
+AreBytes [] = Unit {0}
+AreBytes (b ∷ bs) = (b.1 < 256) × AreBytes bs
+
+abbrev pub AreAnswers : List Answer → Type 0
+AreAnswers [] = Unit {0}
+AreAnswers (a ∷ rest) = AreWords a.values × AreBytes a.bytes × AreAnswers rest
+
+-- each number is in its range, and sp's two low bits are zero
+pub record IsWorld (w : World) : Type 0 where
+  pub values : AreWords w.values
+  pub stack : w.values sp % 4 ≡ 0
+  pub memory : (a : ℕ) → w.memory a < 256
+  pub answers : AreAnswers w.answers
+
+-- where the machine is: at a place, or ended
+pub data At : Type 0 where
+  Here : (at : ℕ) → At
+  Ended : At
+
+pub record State : Type 0 where
+  pub world : World
+  pub at : At
+  pub events : List Event
+
+-- ---- what an instruction does ----
+
+-- where a direct branch goes: to a place, or to an external word
+pub data Target : Type 0 where
+  Inside : (at : ℕ) → Target
+  External : (word : ℕ) → Target
+
+-- where a branch by a word goes: to a place, out of the listing, or nowhere
+pub data Landing : Type 0 where
+  Goes : (at : ℕ) → Landing
+  Leaves : Landing
+  Strays : Landing
+
+-- all that a naming and a listing, or an image, say where an instruction stands
+pub record Around : Type 0 where
+  pub target : Target
+  pub literal : ℕ
+  pub link : ℕ
+  pub lands : ℕ → Landing
+
+-- where a step goes on: behind the instruction, nowhere for want of answers, to a place, or not at all
+pub data Next : Type 0 where
+  On : Next
+  Stay : Next
+  To : (at : ℕ) → Next
+  Over : Next
+
+-- what an instruction does
+pub record Act : Type 0 where
+  pub outputs : List (ℕ × ℕ)
+  pub memory : ℕ → ℕ
+  pub answers : List Answer
+  pub events : List Event
+  pub next : Next
+
+-- r0 to r11, sp and lr
+abbrev pub registers_left : List ℕ
+registers_left = 0 ∷ 1 ∷ 2 ∷ 3 ∷ 4 ∷ 5 ∷ 6 ∷ 7 ∷ 8 ∷ 9 ∷ 10 ∷ 11 ∷ 13 ∷ 14 ∷ []
+
+-- puts values into items, and goes on there
+abbrev pub puts : List (ℕ × ℕ) → Next → World → Act
+puts os next w = record { outputs = os; memory = w.memory; answers = w.answers; events = []; next = next }
+
+-- ends the run with an event
+abbrev pub ends : Event → World → Act
+ends e w = record { outputs = []; memory = w.memory; answers = w.answers; events = e ∷ []; next = Over }
+
+-- an event, and on
+abbrev pub tells : Event → World → Act
+tells e w = record { outputs = []; memory = w.memory; answers = w.answers; events = e ∷ []; next = On }
+
+-- goes on with the next answer, or stays until there is one
+abbrev pub takes : (Answer → List Answer → Act) → World → List Answer → Act
+takes go w [] = puts [] Stay w
+takes go w (a ∷ rest) = go a rest
+
+-- nothing but a fault where the address isn't a multiple of the size
+abbrev pub aligned : ℕ → ℕ → World → Act → Act
+aligned address size w a = if address % size == 0 then a else ends (Fault address) w
+
+-- r0 to r3 and sp, that a call hands out; and r0 to r3, r12, lr and the flags, that it brings back
+abbrev pub handed : List ℕ
+handed = 0 ∷ 1 ∷ 2 ∷ 3 ∷ sp ∷ []
+
+abbrev pub answered : List ℕ
+answered = 0 ∷ 1 ∷ 2 ∷ 3 ∷ 12 ∷ lr ∷ n_flag ∷ z_flag ∷ c_flag ∷ v_flag ∷ []
+
+-- SVC: r0 to r3, r12 and sp; and r0 to r3 and r12
+abbrev pub served : List ℕ
+served = 0 ∷ 1 ∷ 2 ∷ 3 ∷ 12 ∷ []
+
+-- what items hold
+abbrev pub all_at : List ℕ → Values → List (ℕ × ℕ)
+all_at [] v = []
+all_at (x ∷ xs) v = (x, v x) ∷ all_at xs v
+
+-- the memory after bytes were written by address, of which the later stands where two have one address
+abbrev pub with_bytes : List (ℕ × ℕ) → (ℕ → ℕ) → ℕ → ℕ
+with_bytes [] memory = memory
+with_bytes (b ∷ bs) memory = with_bytes bs (assigned (b ∷ []) memory)
+
+-- an answer's items and bytes, after an event
+abbrev pub answers_with : List ℕ → Event → World → Answer → List Answer → Act
+answers_with xs e w a rest = record { outputs = all_at xs a.values; memory = with_bytes a.bytes w.memory; answers = rest; events = e ∷ []; next = On }
