@@ -9,7 +9,8 @@ use Rattle.thumb_instr.specs.Renaming.{Low, renamed}
 use Rattle.thumb_model.specs.Listing.{Statement, Nothing, Runs, Words, Aligns, Sets, Line, Place, Op, Word, plain, Label, Code, places_in, places_of, is_op_place}
 use Rattle.thumb_model.specs.Flow.{LiveAfter}
 use Rattle.thumb_model.specs.Rewrite.{Rule, Applies, moved, move_label, replaced}
-use Rattle.thumb_model.specs.Rewritten.{is_op, is_align, are_joined, are_joined_from, AreOps}
+use Rattle.thumb_model.specs.Rewritten.{is_op, is_align, are_joined, are_joined_from}
+use Rattle.thumb_model.specs.Cuts.{AreOps}
 use Rattle.thumb_model.proofs.Lists.{get_drop, get_take, length_map, take_all, take_short, length_drop}
 use Rattle.thumb_model.proofs.Table.{window_length}
 use Rattle.line_cursor.specs.Cursors.{IsSettled}

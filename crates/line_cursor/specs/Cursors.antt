@@ -1,7 +1,7 @@
 -- A cursor in lines: what stands before it and behind it, and what is kept of places.
 use Rattle.std.specs.Prelude.{◌≡◌, ◌==◌, ◌||◌, ◌+◌, ◌<◌, ◌⊎◌, true, ℕ, Bool, false, [], ◌∷◌, Some, slice_get, List, ◌++◌, map, length, drop, reverse}
 use Rattle.thumb_model.specs.Listing.{Line, Label, Place, places_of, is_op_place}
-use Rattle.thumb_model.specs.Rewritten.{AreOps}
+use Rattle.thumb_model.specs.Cuts.{AreOps}
 use Rattle.thumb_instr.specs.declared.instr.Instr.{Instr}
 use Rattle.liveness.specs.Live.{Sets}
 use Rattle.line_cursor.specs.declared.cursor.Cursor.{Cursor}

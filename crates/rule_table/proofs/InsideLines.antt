@@ -20,7 +20,7 @@ use Rattle.lrat_check.specs.Content.{Content, addition, deletion}
 use Rattle.lrat_check.specs.Numbers.{IsId, IsHint}
 use Rattle.lrat_check.specs.Text.{IsLine, HasGoodParts, id_of, middle_of, words_of, literal_text, end_word, deletion_word, text_of as text_of_line}
 use Rattle.lrat_check.proofs.Numerals.{hint_fits, literal_fits}
-use Rattle.window_exec.specs.State.{Seen}
+use Rattle.window_exec.specs.Seen.{Seen}
 use Rattle.rule_table.specs.Text.{hex_digit, hex_of, after_blanks, named}
 
 abbrev pub IsInside : List ℕ → Type 0

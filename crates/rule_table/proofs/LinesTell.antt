@@ -8,7 +8,7 @@ use Rattle.std.proofs.lemmas.Fmt.{decimal_injective}
 use Rattle.ascii_scan.specs.FirstLine.{is_inside}
 use Rattle.lrat_check.specs.Text.{text_of as text_of_line}
 use Rattle.lrat_check.proofs.Outcomes.{text_of-injective}
-use Rattle.window_exec.specs.State.{Seen}
+use Rattle.window_exec.specs.Seen.{Seen}
 use Rattle.rule_table.specs.declared.words.Word.TheVariants as word
 use Rattle.rule_table.specs.Text.{Item, Version, Regs, Longest, Seed, Budget, Pool, State, Entry, Left, Right, Mask, Proof, Logged, Open, End, line_of, instr_text, after_blanks, hex_of, mask_text, mask_rows, named}
 use Rattle.rule_table.specs.Valid.{IsState, IsInstr}

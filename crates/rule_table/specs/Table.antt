@@ -2,7 +2,7 @@
 use Rattle.std.specs.Prelude.{ℕ, List}
 use Rattle.thumb_instr.specs.declared.instr.Instr.{Instr}
 use Rattle.lrat_check.specs.Content.{Content}
-use Rattle.window_exec.specs.State.{Seen}
+use Rattle.window_exec.specs.Seen.{Seen}
 
 -- a sequence by its number, left open, and the log of the search for a state that tells it
 pub record Opened : Type 0 where

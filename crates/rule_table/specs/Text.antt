@@ -7,7 +7,7 @@ use Rattle.thumb_syntax.specs.Spelling.{text_of as text_of_shown}
 use Rattle.thumb_syntax.specs.Whole.{shown_with}
 use Rattle.lrat_check.specs.Content.{Content}
 use Rattle.lrat_check.specs.Text.{text_of as text_of_line}
-use Rattle.window_exec.specs.State.{Seen}
+use Rattle.window_exec.specs.Seen.{Seen}
 use Rattle.rule_table.specs.Table.{Opened, Rule, Table}
 
 -- a digit of a hexadecimal number, in lower case, and the last n digits of a number

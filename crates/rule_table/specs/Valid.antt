@@ -8,7 +8,7 @@ use Rattle.thumb_instr.specs.Renaming.{named, AreBelow}
 use Rattle.seq_enum.specs.Lists.{ascends_from}
 use Rattle.seq_enum.specs.Pools.{is_pool}
 use Rattle.lrat_check.specs.Text.{IsLine}
-use Rattle.window_exec.specs.State.{Seen}
+use Rattle.window_exec.specs.Seen.{Seen}
 use Rattle.rule_table.specs.Table.{Opened, Rule, Table}
 
 -- four words, and the four flags

@@ -10,7 +10,7 @@ use Rattle.thumb_instr.specs.declared.instr.Instr.{Instr}
 use Rattle.thumb_model.specs.Items.{AreWords, one_of}
 use Rattle.thumb_model.specs.Rewrite.{Equal, IsSoundRule, AreOver, AreSound, is_named, register_count}
 use Rattle.thumb_model.specs.Rewrite as model
-use Rattle.window_exec.specs.State.{Seen}
+use Rattle.window_exec.specs.Seen.{Seen}
 use Rattle.seq_enum.specs.Alphabet.{sequences}
 use Rattle.bit_blast.specs.Exactness.{IsMask, HasNoModel, AreEqual}
 use Rattle.bit_blast.proofs.Exact.{no_model_is_equal}

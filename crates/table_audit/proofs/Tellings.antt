@@ -9,7 +9,8 @@ use Rattle.std.proofs.lemmas.Option.{slice_get_cases, slice_get-map}
 use Rattle.thumb_instr.specs.declared.instr.Instr.{Instr}
 use Rattle.thumb_model.specs.Items.{Values}
 use Rattle.thumb_model.specs.Effect.{after_all}
-use Rattle.window_exec.specs.State.{values_of, Seen, seen}
+use Rattle.window_exec.specs.State.{values_of, seen}
+use Rattle.window_exec.specs.Seen.{Seen}
 use Rattle.window_exec.specs.Telling.{Differ, Tells}
 use Rattle.proof_logs.proofs.Turns.{got}
 use Rattle.table_audit.specs.declared.trials.Trial.{Trial}

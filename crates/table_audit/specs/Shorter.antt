@@ -5,7 +5,7 @@ use Rattle.std.specs.Int.{bit_at}
 use Rattle.thumb_instr.specs.declared.instr.Instr.{Instr}
 use Rattle.thumb_model.specs.Items.{Values, n_flag, z_flag, c_flag, v_flag}
 use Rattle.window_exec.specs.Telling.{Tells}
-use Rattle.window_exec.specs.State.{Seen}
+use Rattle.window_exec.specs.Seen.{Seen}
 use Rattle.seq_enum.specs.Lists.{numbers_from}
 use Rattle.seq_enum.specs.Alphabet.{alphabet, words}
 use Rattle.rule_table.specs.Table.{Opened, Rule, Table}

@@ -2,7 +2,8 @@
 use Rattle.std.specs.Prelude.{◌≡◌, List, All, map}
 use Rattle.thumb_instr.specs.declared.instr.Instr.{Instr}
 use Rattle.thumb_model.specs.Effect.{after_all}
-use Rattle.window_exec.specs.State.{values_of, Seen, seen}
+use Rattle.window_exec.specs.State.{values_of, seen}
+use Rattle.window_exec.specs.Seen.{Seen}
 use Rattle.table_audit.specs.declared.trials.Trial.{Trial}
 
 abbrev pub start_of : Trial → Seen

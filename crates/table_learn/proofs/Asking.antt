@@ -10,7 +10,8 @@ use Rattle.std.proofs.lemmas.List.{get_or_default, map-append, take-append-drop}
 use Rattle.thumb_model.specs.Items.{Values, AreWords}
 use Rattle.table_audit.proofs.Names.{of_four}
 use Rattle.window_exec.specs.declared.state.WState.{WState}
-use Rattle.window_exec.specs.State.{values_of, Seen, seen}
+use Rattle.window_exec.specs.State.{values_of, seen}
+use Rattle.window_exec.specs.Seen.{Seen}
 use Rattle.clause_model.specs.Literals.{code_of, codes_of}
 use Rattle.cnf_gates.specs.Cnf.{Cnf, IsLiteral, IsLiteralOf, AreLiteralsOf, AreClausesOf, AreClauses}
 use Rattle.cnf_gates.specs.Meaning.{IsModel, assigned}

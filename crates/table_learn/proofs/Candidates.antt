@@ -10,7 +10,8 @@ use Rattle.thumb_instr.specs.declared.instr.Instr.{Instr}
 use Rattle.thumb_model.specs.Items.{Values}
 use Rattle.cdcl_core.proofs.Lists.{All-left}
 use Rattle.window_exec.specs.declared.state.WState.{WState}
-use Rattle.window_exec.specs.State.{values_of, Seen, seen}
+use Rattle.window_exec.specs.State.{values_of, seen}
+use Rattle.window_exec.specs.Seen.{Seen}
 use Rattle.window_exec.specs.Telling.{Tells}
 use Rattle.seq_enum.specs.Lists.{ascends_from}
 use Rattle.seq_enum.specs.Alphabet.{alphabet, sequences}

@@ -3,7 +3,7 @@ use Rattle.std.proofs.Common.{◌≡◌, ℕ, zero, suc, ◌+◌, ◌<◌, ◌�
 use Rattle.std.proofs.lemmas.Bool.{cases_Bool, or_cases, or_left, or_right, false≢true, and_parts, leb-true, le-leb}
 use Rattle.thumb_instr.specs.declared.instr.Instr.{Instr}
 use Rattle.seq_enum.specs.Lists.{ascends_from}
-use Rattle.window_exec.specs.State.{Seen}
+use Rattle.window_exec.specs.Seen.{Seen}
 use Rattle.clause_model.specs.Literals.{codes_of}
 use Rattle.rule_table.specs.Table.{Opened, Rule, Table}
 use Rattle.rule_table.specs.Valid.{numbers_of}

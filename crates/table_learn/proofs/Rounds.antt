@@ -7,7 +7,8 @@ use Rattle.std.proofs.lemmas.Option.{slice_get_within}
 use Rattle.thumb_instr.specs.declared.instr.Instr.{Instr}
 use Rattle.thumb_model.specs.Rewrite.{AreOver}
 use Rattle.window_exec.specs.declared.state.WState.{WState}
-use Rattle.window_exec.specs.State.{Seen, seen}
+use Rattle.window_exec.specs.State.{seen}
+use Rattle.window_exec.specs.Seen.{Seen}
 use Rattle.rule_table.specs.declared.table.Entry.{Entry}
 use Rattle.rule_table.specs.Views.{rule_of}
 use Rattle.table_audit.proofs.Appearing.{names_register}

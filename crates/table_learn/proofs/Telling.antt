@@ -9,7 +9,7 @@ use Rattle.thumb_instr.specs.Items.{has, is_in_masks}
 use Rattle.thumb_model.specs.Items.{Values, one_of}
 use Rattle.thumb_model.specs.Effect.{after_all}
 use Rattle.window_exec.specs.Telling.{Differ, Tells}
-use Rattle.window_exec.specs.State.{Seen}
+use Rattle.window_exec.specs.Seen.{Seen}
 use Rattle.bit_blast.specs.Exactness.{IsMask}
 use Rattle.table_audit.specs.Soundness.{items_in}
 use Rattle.table_audit.specs.Shorter.{values_in, IsTold}

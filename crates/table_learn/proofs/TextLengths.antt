@@ -17,7 +17,7 @@ use Rattle.rule_table.specs.declared.table.Open as code
 use Rattle.rule_table.specs.Views.{opened_of}
 use Rattle.seq_enum.specs.Pools.{inside, is_pool}
 use Rattle.seq_enum.proofs.Bounds.{bounds}
-use Rattle.window_exec.specs.State.{Seen}
+use Rattle.window_exec.specs.Seen.{Seen}
 use Rattle.rule_table.specs.Table.{Opened, Rule, Table}
 use Rattle.rule_table.specs.Valid.{IsState}
 use Rattle.rule_table.specs.Text.{Item, Version, Regs, Longest, Seed, Budget, Pool, State, Entry, Left, Right, Mask, Proof, Logged, Open, End, hex_of, instr_text, named, mask_text, after_blanks, line_of, text_of_items, open_items, rule_items, header_items, items_of, text_of}

@@ -3,7 +3,7 @@ use Rattle.std.specs.Prelude.{ℕ, ◌≡◌, ◌<◌, ◌⊎◌, ◌^◌, Bool,
 use Rattle.thumb_instr.specs.declared.instr.Instr.{Instr}
 use Rattle.seq_enum.specs.Lists.{ascends_from}
 use Rattle.seq_enum.specs.Alphabet.{IsOver}
-use Rattle.window_exec.specs.State.{Seen}
+use Rattle.window_exec.specs.Seen.{Seen}
 use Rattle.lrat_check.specs.Text.{IsLine}
 use Rattle.bit_blast.specs.Exactness.{IsMask}
 use Rattle.rule_table.specs.Table.{Opened, Rule}

@@ -1,7 +1,8 @@
 -- What becomes of a shorter sequence.
 use Rattle.std.specs.Prelude.{ℕ, ◌≡◌, true, false, List, All, map}
 use Rattle.thumb_instr.specs.declared.instr.Instr.{Instr}
-use Rattle.window_exec.specs.State.{Seen, seen}
+use Rattle.window_exec.specs.State.{seen}
+use Rattle.window_exec.specs.Seen.{Seen}
 use Rattle.lrat_check.specs.Content.{content_of}
 use Rattle.lrat_check.specs.Text.{IsLine}
 use Rattle.bit_blast.specs.Differences.{sides_formula}

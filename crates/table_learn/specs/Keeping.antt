@@ -1,6 +1,7 @@
 -- The index of prints that is kept from window to window.
 use Rattle.std.specs.Prelude.{ℕ, ◌≡◌, ◌<◌, ◌≤◌, ◌+◌, ◌++◌, List, length, map}
-use Rattle.window_exec.specs.State.{values_of, Seen, seen}
+use Rattle.window_exec.specs.State.{values_of, seen}
+use Rattle.window_exec.specs.Seen.{Seen}
 use Rattle.fingerprints.specs.Sequences.{prints_within}
 use Rattle.fingerprints.specs.Index.{IsIndexOf}
 use Rattle.seq_enum.specs.Alphabet.{alphabet}

@@ -4,7 +4,7 @@ use Rattle.std.specs.Prelude.{ℕ, ◌≡◌, ◌<◌, ◌≤◌, ◌+◌, ◌*�
 use Rattle.thumb_instr.specs.declared.instr.Instr.{Instr}
 use Rattle.window_exec.specs.Telling.{Tells}
 use Rattle.seq_enum.specs.Alphabet.{IsOver}
-use Rattle.window_exec.specs.State.{Seen}
+use Rattle.window_exec.specs.Seen.{Seen}
 use Rattle.cnf_gates.specs.Cnf.{Cnf}
 use Rattle.lrat_check.specs.declared.line.Line.{Line}
 use Rattle.lrat_check.specs.Content.{Content, content_of}

@@ -1,6 +1,7 @@
 -- What holds after some windows.
 use Rattle.std.specs.Prelude.{ℕ, ◌≡◌, ◌≤◌, ◌+◌, ◌*◌, ◌-◌, List, Some, All, IfSome, length, map, slice_get, take}
-use Rattle.window_exec.specs.State.{Seen, seen}
+use Rattle.window_exec.specs.State.{seen}
+use Rattle.window_exec.specs.Seen.{Seen}
 use Rattle.fingerprints.specs.Seeded.{seeded_states}
 use Rattle.rule_table.specs.Table.{Rule, Table}
 use Rattle.rule_table.specs.Valid.{IsState}

@@ -1,6 +1,7 @@
 //! The right side of a window: the first of the shorter sequences that no state tells from it.
 ghost use Rattle.std.specs.Prelude.{◌≡◌, ◌<◌, ◌≤◌, ◌+◌, ◌*◌, ◌++◌, List, All, Some, IfOk, OnOk, length, map, slice_get};
-ghost use Rattle.window_exec.specs.State.{Seen, seen};
+ghost use Rattle.window_exec.specs.State.{seen};
+ghost use Rattle.window_exec.specs.Seen.{Seen};
 ghost use Rattle.rule_table.specs.Views.{opened_of, rule_of};
 ghost use Rattle.table_audit.specs.Sides.{named_count};
 ghost use Rattle.table_learn.specs.Settings.{settings_of, IsWindow};

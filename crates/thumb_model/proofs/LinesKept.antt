@@ -8,7 +8,8 @@ use Rattle.thumb_model.specs.Literals.{HasLiterals}
 use Rattle.thumb_model.specs.Same.{Same}
 use Rattle.thumb_instr.specs.Renaming.{renamed}
 use Rattle.thumb_model.specs.Rewrite.{Rule, AreSound, Applies, replaced}
-use Rattle.thumb_model.specs.Rewritten.{Setting, Replacement, replaced_lines, lines_after_rule, lines_after, AppliesIn, NoneApplies, AreRewritten, AllApplied, AreOps}
+use Rattle.thumb_model.specs.Rewritten.{Setting, Replacement, replaced_lines, lines_after_rule, lines_after, AppliesIn, NoneApplies, AreRewritten, AllApplied}
+use Rattle.thumb_model.specs.Cuts.{AreOps}
 use Rattle.thumb_model.proofs.Lists.{length_map}
 use Rattle.thumb_model.proofs.LinesReplaced.{AllOutside, code_replaced, lines_fewer}
 use Rattle.thumb_model.proofs.Table.{window_length, one_keeps, fewer_places}

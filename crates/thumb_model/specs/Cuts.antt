@@ -1,8 +1,15 @@
 -- What a replacement makes of lines that are cut at its window.
-use Rattle.std.specs.Prelude.{◌≡◌, ℕ, ◌+◌, List, [], ◌∷◌, ◌++◌, length, map, true, if◌then◌else◌}
+use Rattle.std.specs.Prelude.{◌≡◌, ℕ, zero, suc, ◌+◌, List, [], ◌∷◌, ◌++◌, length, map, true, if◌then◌else◌}
 use Rattle.thumb_instr.specs.declared.instr.Instr.{Instr}
-use Rattle.thumb_model.specs.Listing.{Line, places_of}
+use Rattle.thumb_model.specs.Listing.{Line, Place, Op, Word, places_of}
 use Rattle.thumb_model.specs.Rewritten.{is_op, labels_kept, new_line, replaced_lines}
+
+-- the first n places are instructions
+abbrev pub AreOps : ℕ → List Place → Type 0
+AreOps zero ps = Unit {0}
+AreOps (suc n) [] = ⊥
+AreOps (suc n) (Op i mention ∷ ps) = AreOps n ps
+AreOps (suc n) (Word w ∷ ps) = ⊥
 
 -- how many of the lines are instructions, and the others
 abbrev pub op_count : List Line → ℕ

@@ -1,10 +1,10 @@
 -- Rewriting a listing's lines by a table.
 use Rattle.std.specs.Prelude.{◌≡◌, ℕ, zero, suc, ◌-◌, ◌≤◌, ◌==◌, ◌&&◌, Bool, true, false, List, [], ◌∷◌, ◌++◌, length, map, Option, Some, None, slice_get, if◌then◌else◌}
 use Rattle.thumb_instr.specs.declared.instr.Instr.{Instr}
-use Rattle.thumb_model.specs.Listing.{Name, Statement, Nothing, Runs, Words, Aligns, Sets, Line, Place, Op, Word, places_in, code_of}
+use Rattle.thumb_model.specs.Listing.{Name, Statement, Nothing, Runs, Words, Aligns, Sets, Line, places_in, code_of}
 use Rattle.thumb_model.specs.Layout.{Layable}
 use Rattle.thumb_instr.specs.Renaming.{Low, renamed}
-use Rattle.thumb_model.specs.Rewrite.{Rule, AreSound, Applies}
+use Rattle.thumb_model.specs.Rewrite.{Rule, Applies}
 
 -- what rewriting is given: the table, the base, and the bytes of an instruction's own line
 pub record Setting : Type 0 where
@@ -55,13 +55,6 @@ replaced_lines write p count is [] = []
 replaced_lines write p count is (l ∷ ls) =
     if is_op l.statement && (p == 0) then labels_kept l l.names ++ (map (new_line write) is ++ without (count - 1) ls)
     else l ∷ replaced_lines write (p - length (places_in l.statement)) count is ls
-
--- the first n places are instructions
-abbrev pub AreOps : ℕ → List Place → Type 0
-AreOps zero ps = Unit {0}
-AreOps (suc n) [] = ⊥
-AreOps (suc n) (Op i mention ∷ ps) = AreOps n ps
-AreOps (suc n) (Word w ∷ ps) = ⊥
 
 -- no alignment line stands between the next n instructions
 abbrev pub are_joined : ℕ → List Line → Bool

@@ -1,8 +1,9 @@
 -- What a state of a window holds, item by item.
-use Rattle.std.specs.Prelude.{ℕ, ◌==◌, List, slice_index, if◌then◌else◌}
+use Rattle.std.specs.Prelude.{◌==◌, slice_index, if◌then◌else◌}
 use Rattle.std.specs.Int.{bit_at}
 use Rattle.window_exec.specs.declared.state.WState.{WState}
 use Rattle.thumb_model.specs.Items.{Values, n_flag, z_flag, c_flag, v_flag}
+use Rattle.window_exec.specs.Seen.{Seen}
 
 -- r0 to r3, and the flags N, Z, C, V as bits 3 to 0; every other item is 0
 abbrev pub values_of : WState → Values
@@ -13,10 +14,6 @@ values_of s = λ x.
     else if x == v_flag then bit_at s.nzcv 0
     else slice_index s.r x
 
--- what a state holds: r0 to r3, and the flags with N as 8, Z as 4, C as 2 and V as 1
-pub record Seen : Type 0 where
-  pub r : List ℕ
-  pub nzcv : ℕ
-
+-- what a state holds
 abbrev pub seen : WState → Seen
 seen s = record { r = s.r; nzcv = s.nzcv }

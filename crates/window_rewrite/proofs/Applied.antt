@@ -14,7 +14,8 @@ use Rattle.thumb_model.specs.Listing.{Place, Op, Word, plain, Label, Line, place
 use Rattle.thumb_model.specs.Flow.{LiveAfter}
 use Rattle.thumb_model.specs.Layout.{Layable}
 use Rattle.thumb_model.specs.Rewrite.{Rule, Applies, AreOver, IsSoundRule, moved, normalised}
-use Rattle.thumb_model.specs.Rewritten.{Setting, Replacement, replaced_lines, lines_after_rule, lines_after, are_joined_from, AppliesIn, AreOps}
+use Rattle.thumb_model.specs.Rewritten.{Setting, Replacement, replaced_lines, lines_after_rule, lines_after, are_joined_from, AppliesIn}
+use Rattle.thumb_model.specs.Cuts.{AreOps}
 use Rattle.thumb_model.proofs.Lists.{get_drop, length_drop}
 use Rattle.listing_parser.specs.Replacing.{own_line, names_no_label}
 use Rattle.liveness.specs.Kept.{KeepsAt}

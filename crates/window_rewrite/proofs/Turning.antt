@@ -10,7 +10,8 @@ use Rattle.thumb_model.specs.Listing.{Statement, Nothing, Runs, Words, Aligns, S
 use Rattle.thumb_model.specs.Flow.{LiveAfter}
 use Rattle.thumb_model.specs.Layout.{Layable}
 use Rattle.thumb_model.specs.Rewrite.{Rule, Applies, replaced}
-use Rattle.thumb_model.specs.Rewritten.{Setting, Replacement, AppliesIn, is_op, replaced_lines, lines_after_rule, lines_after, left_length, left_length_of, AreOps}
+use Rattle.thumb_model.specs.Rewritten.{Setting, Replacement, AppliesIn, is_op, replaced_lines, lines_after_rule, lines_after, left_length, left_length_of}
+use Rattle.thumb_model.specs.Cuts.{AreOps}
 use Rattle.thumb_model.proofs.LinesKept.{fewer_after, code_of_after}
 use Rattle.thumb_model.proofs.Table.{window_length}
 use Rattle.listing_parser.specs.Replacing.{own_line}

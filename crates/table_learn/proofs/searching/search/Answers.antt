@@ -1,6 +1,7 @@
 use Rattle.std.proofs.Common.{ℕ, ◌≡◌, ◌≤◌, ◌+◌, ◌*◌, ◌∙◌, sym, ap, subst, arith, refl, map, length, List}
 use Rattle.std.proofs.lemmas.List.{length-map}
-use Rattle.window_exec.specs.State.{Seen, seen}
+use Rattle.window_exec.specs.State.{seen}
+use Rattle.window_exec.specs.Seen.{Seen}
 use Rattle.rule_table.specs.Views.{opened_of, rule_of}
 use Rattle.table_audit.specs.Sides.{named_count}
 use Rattle.table_audit.specs.Shorter.{sequences_below}

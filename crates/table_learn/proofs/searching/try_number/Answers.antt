@@ -2,7 +2,8 @@ use Rattle.std.proofs.Common.{ℕ, ◌≡◌, ◌∷◌, ◌++◌, [], ◌∙◌
 use Rattle.std.proofs.lemmas.List.{map_push}
 use Rattle.thumb_instr.specs.declared.instr.Instr.{Instr}
 use Rattle.thumb_model.specs.Rewrite.{AreOver}
-use Rattle.window_exec.specs.State.{Seen, seen}
+use Rattle.window_exec.specs.State.{seen}
+use Rattle.window_exec.specs.Seen.{Seen}
 use Rattle.lrat_check.specs.Content.{content_of}
 use Rattle.rule_table.specs.Views.{opened_of}
 use Rattle.table_audit.specs.Shorter.{sequences_below}
