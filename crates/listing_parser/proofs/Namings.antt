@@ -13,7 +13,7 @@ use Rattle.thumb_model.specs.Layout.{is_among}
 use Rattle.thumb_model.specs.Machine.{Naming, Fits, is_in_range, is_odd, label_place, points, points_of, returns_from}
 use Rattle.listing_parser.specs.Parsing.{IsListing}
 use Rattle.listing_parser.specs.Namings.{if_op}
-use Rattle.listing_parser.specs.TableWords.{defined_in, set_names}
+use Rattle.listing_parser.specs.Targets.{defined_in, set_names}
 use Rattle.listing_parser.proofs.FirstTwice.{first_twice, is_again}
 use Rattle.listing_parser.proofs.TwiceLemmas.{once_none}
 use Rattle.listing_parser.proofs.FewLemmas.{all_few, counts_bare}
