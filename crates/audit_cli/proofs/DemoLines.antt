@@ -23,13 +23,12 @@ use Rattle.thumb_syntax.specs.Spelling.{text_of}
 use Rattle.seq_enum.specs.Alphabet.{wide}
 use Rattle.thumb_model.specs.Listing.{Name, Nothing, Line}
 use Rattle.thumb_model.specs.Rewritten.{new_line}
-use Rattle.listing_parser.specs.Grammar.{Read, read_lines}
-use Rattle.listing_parser.specs.Bare.{shown_of}
+use Rattle.listing_parser.specs.Grammar.{Read, read_lines, shown_of}
 use Rattle.listing_parser.proofs.FirstTwice.{first_twice}
 use Rattle.listing_parser.proofs.TwiceLemmas.{none_once}
 use Rattle.listing_parser.specs.Targets.{functions}
-use Rattle.listing_parser.specs.Parsing.{IsListing, text_of_lines}
-use Rattle.listing_parser.specs.Replacing.{names_no_label, own_line}
+use Rattle.listing_parser.specs.Parsing.{IsListing, text_of_lines, own_line}
+use Rattle.listing_parser.specs.Replacing.{names_no_label}
 use Rattle.listing_parser.proofs.CanonicalLines.{is_clear, unnamed, told_of, labels_only, canonical_text, canonical_line_checked, label_line_checked}
 use Rattle.listing_parser.proofs.JoinedLines.{Ends, AreEnded, inside_ends, text, joined_split, ReadsAs, AreRead, all_same, all_read}
 use Rattle.listing_parser.proofs.OldLines.{content_newline}

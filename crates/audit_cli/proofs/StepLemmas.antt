@@ -10,7 +10,7 @@ use Rattle.thumb_model.specs.Listing.{Line}
 use Rattle.thumb_model.specs.Layout.{Fault, Layable}
 use Rattle.listing_parser.specs.declared.errors.Kind.{Kind}
 use Rattle.listing_parser.specs.Parsing.{IsListing, IsRefused}
-use Rattle.label_layout.specs.Refusals.{first_fault}
+use Rattle.label_layout.specs.Faults.{first_fault}
 use Rattle.label_layout.specs.Addresses.{Addresses}
 use Rattle.command_runs.specs.Plans.{Outcome, Refuses}
 use Rattle.audit_cli.specs.declared.refusal.Refusal.{Refusal}

@@ -14,8 +14,7 @@ use Rattle.thumb_model.specs.Rewritten.{Replacement, AppliesIn, AreRewritten, li
 use Rattle.thumb_model.proofs.Lists.{get_drop, get_take}
 use Rattle.thumb_model.proofs.LinesKept.{fewer_lines, one_line_keeps}
 use Rattle.thumb_model.proofs.Table.{window_length}
-use Rattle.listing_parser.specs.Grammar.{Bare, Read}
-use Rattle.listing_parser.specs.Bare.{bare}
+use Rattle.listing_parser.specs.Grammar.{Bare, Read, bare}
 use Rattle.listing_parser.specs.Parsing.{IsListing, text_of_lines}
 use Rattle.listing_parser.specs.Replacing.{names_no_label}
 use Rattle.listing_parser.proofs.FewLemmas.{all_few}

@@ -10,7 +10,7 @@ use Rattle.rule_table.specs.Table.{Table}
 use Rattle.table_audit.specs.Soundness.{IsSound, rules_of}
 use Rattle.listing_parser.specs.Parsing.{IsListing, text_of_lines}
 use Rattle.window_rewrite.specs.Rewriting.{setting}
-use Rattle.thumb_assembler.specs.Images.{IsSetBy}
+use Rattle.thumb_assembler.specs.Bytes.{IsSetBy}
 use Rattle.thumb_assembler.specs.Following.{IsAssembled, Follows}
 use Rattle.command_runs.specs.Plans.{Outcome, Refuses, Does}
 use Rattle.audit_cli.specs.Printed.{report_of, image_line}

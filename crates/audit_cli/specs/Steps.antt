@@ -9,7 +9,7 @@ use Rattle.table_audit.specs.declared.errors.AuditError.TheVariants as audit
 use Rattle.table_audit.specs.Acceptance.{TableVerdict, IsAccepted}
 use Rattle.listing_parser.specs.declared.errors.Kind.{Kind}
 use Rattle.listing_parser.specs.Parsing.{IsListing, IsRefused}
-use Rattle.label_layout.specs.Refusals.{first_fault}
+use Rattle.label_layout.specs.Faults.{first_fault}
 use Rattle.label_layout.specs.Addresses.{Addresses, AreAddresses}
 use Rattle.thumb_assembler.specs.declared.errors.ImageError.TheVariants as image
 use Rattle.thumb_assembler.specs.Refusals.{IsRefusal}

@@ -1,4 +1,4 @@
--- What is asked of live sets and layouts that are brought up to date, where a window of two gave way to one instruction.
+-- What is asked of live sets that are brought up to date, where a window of two gave way to one instruction.
 use Rattle.std.proofs.Common.{◌≡◌, ◌∙◌, ℕ, zero, suc, ◌+◌, ◌<◌, ◌≤◌, ◌⊎◌, inl, List, [], ◌∷◌, true, false, Option, Some, length, take, drop, map, refl, ap, arith, sym, subst}
 use Rattle.std.specs.Prelude.{slice_get, IfSome}
 use Rattle.std.proofs.lemmas.Bool.{and_from}
@@ -8,11 +8,9 @@ use Rattle.thumb_instr.specs.Window.{is_in_window}
 use Rattle.thumb_model.specs.Listing.{Place, plain, Label, Line, places_of, labels_from, code_of, is_op_place}
 use Rattle.thumb_model.specs.Rewritten.{are_joined_from}
 use Rattle.thumb_model.proofs.Lists.{get_drop, get_take}
-use Rattle.listing_parser.specs.Replacing.{own_line}
+use Rattle.listing_parser.specs.Parsing.{own_line}
 use Rattle.liveness.specs.Live.{Sets, IsLive}
 use Rattle.liveness.specs.Changes.{WasLive}
-use Rattle.label_layout.specs.Addresses.{Addresses, AreAddresses}
-use Rattle.label_layout.specs.Changes.{WasLaid}
 use Rattle.window_runs.specs.declared.rows.Row.{Row}
 use Rattle.window_runs.specs.Rows.{rows_from}
 use Rattle.window_runs.specs.Runs.{run}
@@ -80,21 +78,5 @@ was_live before place instr lines sets g letter live = record {
   new_letters = and_from (is_in_window instr) true letter refl;
   unlabelled = window_unlabelled before place g.window 2 g.two g.stood;
   labels_stay = settled_stay (places_of before) (labels_from 0 before) place 2 (instr ∷ []) (gap_of_two before place instr lines g) (inl (omega arith));
-  is = g.is;
-}
-
--- ---- layouts ----
-
-pub was_laid : (before : List Line) (place : ℕ) (instr : Instr) (lines : List Line) (a : Addresses) → GaveWay before place instr lines → AreAddresses before a → WasLaid lines place 2 1 a
-was_laid before place instr lines a g laid = record {
-  before = before;
-  instrs = instr ∷ [];
-  write = own_line;
-  laid = laid;
-  some = omega arith;
-  few = omega arith;
-  as_many = refl;
-  stood = λ k h. window_ops before place g.window g.stood k (subst (λ n. k < n) (sym g.two) h);
-  unlabelled = window_unlabelled before place g.window 2 g.two g.stood;
   is = g.is;
 }

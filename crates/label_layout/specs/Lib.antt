@@ -1,3 +1,3 @@
 pub mod Addresses
-pub mod Changes
+pub mod Faults
 pub mod Refusals

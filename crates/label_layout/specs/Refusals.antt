@@ -1,11 +1,12 @@
 -- When lines are refused.
-use Rattle.std.specs.Prelude.{◌≡◌, ℕ, List, Option, Some}
+use Rattle.std.specs.Prelude.{◌≡◌, ℕ, List, Some}
 use Rattle.thumb_model.specs.Listing.{Line as ListingLine}
-use Rattle.thumb_model.specs.Layout.{Fault, Range, Align, lies_in, faults_from}
+use Rattle.thumb_model.specs.Layout.{Fault, Range, Align}
 use Rattle.label_layout.specs.declared.errors.Kind.{Kind}
 use Rattle.label_layout.specs.declared.errors.Kind.TheVariants as kind
 use Rattle.label_layout.specs.declared.errors.LayoutError.{LayoutError}
 use Rattle.label_layout.specs.declared.errors.LayoutError.TheVariants as error
+use Rattle.label_layout.specs.Faults.{first_fault}
 
 -- the fault that is told
 abbrev pub fault_of : Kind → Fault
@@ -14,10 +15,6 @@ fault_of (kind.Align address) = Align address
 
 abbrev pub numbered : ℕ × Kind → ℕ × Fault
 numbered found = (found.0, fault_of found.1)
-
--- the first line with a fault, by its number from 1
-abbrev pub first_fault : ℕ → List ListingLine → Option (ℕ × Fault)
-first_fault base lines = faults_from (lies_in base lines) 1 base lines
 
 -- a line is refused exactly where it is the first with a fault, by what its first fault is
 abbrev pub IsRefusal : ℕ → List ListingLine → LayoutError → Type 0

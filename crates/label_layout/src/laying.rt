@@ -7,7 +7,6 @@ ghost use Rattle.thumb_model.specs.Layout.{is_among, or_else, size_at, Layable};
 ghost use Rattle.label_layout.specs.Addresses.{is_key};
 ghost use Rattle.listing_parser.specs.Views.{value_view, statement_view, line_view};
 ghost use Rattle.label_layout.specs.Addresses.{word_addresses, addresses_in, AreAddresses};
-ghost use Rattle.label_layout.specs.Changes.{WasLaid};
 ghost use Rattle.label_layout.specs.Refusals.{IsRefusal};
 
 use crate::addresses::Layout;
@@ -109,7 +108,7 @@ pub fn layout(alloc: Global, listing: &Listing, base: u32) -> Result<Layout, Lay
 
 impl Layout {
     /// Lays out the listing that the layout's own has become, in which `new` instructions stand at the place where `old` stood. It is then what `layout` gives
-    /// from the same base.
+    /// from the same base. All is laid out anew, so nothing rests on the three numbers.
     ///
     /// A line is refused as `layout` refuses it. The layout is then as it was, and so it is where memory is wanting.
     pub fn change(
@@ -120,7 +119,6 @@ impl Layout {
         old: u32,
         new: u32,
     ) -> Result<(), LayoutError>
-        requires { WasLaid listing.now place old new self.old }
         ensures base { self.new.base ≡ self.old.base }
         ensures laid { OnOk result (AreAddresses listing.now self.new) }
         ensures counted { OnOk result (length self.new.places ≡ length (places_of listing.now)) }

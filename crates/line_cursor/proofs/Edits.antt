@@ -11,7 +11,7 @@ use Rattle.thumb_model.proofs.LinesReplaced.{places_replaced}
 use Rattle.thumb_model.proofs.Lists.{length_map, take_all, length_drop}
 use Rattle.line_cursor.proofs.Nearer.{places_append}
 use Rattle.listing_parser.specs.Views.{line_view}
-use Rattle.listing_parser.specs.Replacing.{own_line}
+use Rattle.listing_parser.specs.Parsing.{own_line}
 use Rattle.listing_parser.specs.declared.line.Line.{Line as Lines}
 use Rattle.line_cursor.specs.Cursors.{AreAhead}
 use Rattle.line_cursor.specs.Lines.{lines_in, lines_of, labels_left, begins_op}

@@ -2,7 +2,7 @@
 use Rattle.std.proofs.Common.{◌≡◌, ℕ, ◌+◌, true, false, List, [], ◌∷◌, ◌++◌, None, refl, ◌∙◌}
 use Rattle.thumb_model.specs.Listing.{Name, Line}
 use Rattle.thumb_model.specs.Layout.{is_among}
-use Rattle.listing_parser.specs.TableWords.{defined_in, set_names, DefineOnce}
+use Rattle.listing_parser.specs.Targets.{defined_in, set_names, DefineOnce}
 use Rattle.listing_parser.proofs.FirstTwice.{first_twice}
 use Rattle.listing_parser.proofs.TwiceLemmas.{once_none}
 use Rattle.listing_parser.proofs.LabelLemmas.{again_front, among_append, among_front, not_again}

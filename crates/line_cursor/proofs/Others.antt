@@ -5,7 +5,7 @@ use Rattle.thumb_instr.specs.declared.instr.Instr.{Instr}
 use Rattle.thumb_model.specs.Listing.{Line, places_of}
 use Rattle.thumb_model.specs.Rewritten.{new_line, replaced_lines, without}
 use Rattle.thumb_model.proofs.Cuts.{without_none}
-use Rattle.listing_parser.specs.Replacing.{own_line}
+use Rattle.listing_parser.specs.Parsing.{own_line}
 use Rattle.listing_parser.specs.Views.{line_view}
 use Rattle.listing_parser.specs.declared.line.Line.{Line as Lines}
 use Rattle.line_cursor.specs.Lines.{begins_op, labels_left, lines_in, lines_of}

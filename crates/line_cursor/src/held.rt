@@ -1,7 +1,7 @@
 //! What lines are to windows: places, labels, letters, straight code.
 ghost use Rattle.std.specs.Prelude.{◌≡◌, ◌++◌, length, map, None, OnOk};
 ghost use Rattle.listing_parser.specs.Views.{statement_view};
-ghost use Rattle.listing_parser.specs.Replacing.{own_line};
+ghost use Rattle.listing_parser.specs.Parsing.{own_line};
 ghost use Rattle.thumb_model.specs.Listing.{places_of};
 ghost use Rattle.thumb_model.specs.Rewritten.{new_line};
 ghost use Rattle.window_runs.specs.Rows.{letter_of};

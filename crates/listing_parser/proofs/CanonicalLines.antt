@@ -20,7 +20,7 @@ use Rattle.thumb_syntax.specs.Slots.{Fields, at, empty}
 use Rattle.thumb_syntax.specs.Rows.{Row, Shown, data_rows, memory_rows, control_rows, reading}
 use Rattle.thumb_syntax.specs.RowLaws.{rows}
 use Rattle.thumb_instr.specs.Parts.{parts_of}
-use Rattle.thumb_syntax.specs.Canonical.{mnemonic}
+use Rattle.thumb_syntax.specs.Forms.{mnemonic}
 use Rattle.thumb_syntax.specs.Spelling.{register_text, number_text, has_bit, separator, member_text, members, low_bits, stack_bits, slot_text, slots_text, operands_text, text_of}
 use Rattle.thumb_syntax.specs.Whole.{is_whole}
 use Rattle.thumb_syntax.proofs.SlotText.{stored_by, slot_fits, follows, slots_fit}
@@ -28,9 +28,8 @@ use Rattle.thumb_syntax.proofs.WrittenRows.{fields, row_at}
 use Rattle.thumb_syntax.proofs.Written.{written}
 use Rattle.thumb_syntax.proofs.RoundTrip.{writing_reads_back}
 use Rattle.thumb_model.specs.Listing.{Name, Nothing}
-use Rattle.listing_parser.specs.Views.{front_of}
-use Rattle.listing_parser.specs.Grammar.{Unmarked, Plain, Instruction, Told, says, Read, instruction, said, statement, is_no_colon, is_no_at, begins_hash, is_some_byte, without_first, front_name, from_colon, begins_label, labels_at_front, without_return, body, code, with_labels, read_line, checked_line}
-use Rattle.listing_parser.specs.Bare.{shown_of}
+use Rattle.listing_parser.specs.Grammar.{front_of, Read, is_no_colon, is_no_at, begins_hash, is_some_byte, without_first, front_name, from_colon, begins_label, labels_at_front, without_return, body, code, with_labels, read_line, checked_line, shown_of}
+use Rattle.listing_parser.specs.Directives.{Unmarked, Plain, Instruction, Told, says, instruction, said, statement}
 use Rattle.listing_parser.specs.Replacing.{names_no_label}
 use Rattle.listing_parser.proofs.ReadingLemmas.{last_other, labels_more, labels_none}
 

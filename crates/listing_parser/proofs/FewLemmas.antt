@@ -13,8 +13,9 @@ use Rattle.thumb_model.proofs.Lists.{length_map}
 use Rattle.thumb_model.specs.Listing.{Name, Value, Statement, Nothing, Runs, Words, Aligns, Sets, Line, Word, places_in, places_of}
 use Rattle.listing_parser.specs.declared.directive.Directive.{Directive}
 use Rattle.listing_parser.specs.declared.directive.Directive.TheVariants as directive
-use Rattle.listing_parser.specs.Grammar.{Unmarked, NextMarked, NameMarked, Said, Plain, Instruction, Told, Bare, Read, says, says_if, marks, value, values, onto_values, aligns_at_most, aligned, alone, gapped, pair, sets, sets_by, typed_by, directed, directed_by, directive_named, is_word_byte, is_bare, is_alone, is_code_section, instruction, said, statement, begins_label, from_colon, without_first, without_return, labels_within, labels_at_front, is_no_at, begins_hash, body, code, read_lines}
-use Rattle.listing_parser.specs.Bare.{said_of, bare}
+use Rattle.listing_parser.specs.Grammar.{Bare, Read, begins_label, from_colon, without_first, without_return, labels_within, labels_at_front, is_no_at, begins_hash, body, code, read_lines, said_of, bare}
+use Rattle.listing_parser.specs.Directives.{Unmarked, NextMarked, NameMarked, Said, Plain, Instruction, Told, says, says_if, marks, aligns_at_most, aligned, sets, sets_by, typed_by, directed, directed_by, directive_named, is_word_byte, is_bare, is_alone, is_code_section, instruction, said, statement}
+use Rattle.listing_parser.specs.Values.{value, values, onto_values, alone, gapped, pair}
 use Rattle.listing_parser.proofs.ReadingLemmas.{rest_short, after_shorter}
 use Rattle.listing_parser.proofs.PrintLemmas.{OfLine, of_checked, cut, none_read}
 
@@ -34,7 +35,7 @@ grown_short b [] = omega arith
 grown_short b (word w ∷ ts) = omega arith
 grown_short b (mark m ∷ ts) = omega arith
 
-tokens_short : (bs : List ℕ) → length (tokens bs) ≤ length bs
+pub tokens_short : (bs : List ℕ) → length (tokens bs) ≤ length bs
 unfolding tokens
 tokens_short [] = omega arith
 tokens_short (b ∷ bs) = elim (cases_Bool (is_blank b)) [
@@ -182,7 +183,7 @@ front_short p (b ∷ bs) = elim (cases_Bool (p b)) [
   | inr e ↦ rw e (omega arith)
 ]
 
-code_short : (bs : List ℕ) → length (code bs) ≤ length bs
+pub code_short : (bs : List ℕ) → length (code bs) ≤ length bs
 unfolding code
 code_short bs = elim (cases_Bool (begins_hash (rest is_blank bs))) [
   | inl e ↦ rw e (omega arith)
@@ -194,7 +195,7 @@ return_short [] = omega arith
 return_short (b ∷ []) = elim (cases_Bool (b == 13)) [ inl e ↦ rw e (omega arith) | inr e ↦ rw e (omega arith) ]
 return_short (b ∷ c ∷ bs) = omega (arith, return_short (c ∷ bs))
 
-body_short : (l : Placed) → length (body l) ≤ length l.text
+pub body_short : (l : Placed) → length (body l) ≤ length l.text
 body_short l = by l.is_ended where
   by : (b : Bool) → length (if b then without_return l.text else l.text) ≤ length l.text
   by true = return_short l.text
@@ -208,7 +209,7 @@ within_short (suc n) bs = elim (cases_Bool (begins_label bs)) [
   | inr e ↦ rw e (omega arith)
 ]
 
-labels_short : (bs : List ℕ) → length (labels_at_front bs).1 ≤ length bs
+pub labels_short : (bs : List ℕ) → length (labels_at_front bs).1 ≤ length bs
 unfolding labels_at_front
 labels_short bs = within_short (length bs) bs
 
@@ -223,7 +224,7 @@ line_few l r o =
 
 -- ---- all lines ----
 
-or_false : (a b : Bool) → (a || b) ≡ false → (a ≡ false) × (b ≡ false)
+pub or_false : (a b : Bool) → (a || b) ≡ false → (a ≡ false) × (b ≡ false)
 or_false true b e = absurd (true≢false e)
 or_false false b e = (refl, e)
 

@@ -2,7 +2,7 @@
 use Rattle.std.specs.Prelude.{ℕ, ◌+◌, ◌||◌, Bool, false, List, [], ◌∷◌, ◌++◌, Option, Some, None, if◌then◌else◌}
 use Rattle.thumb_model.specs.Listing.{Name, Line}
 use Rattle.thumb_model.specs.Layout.{is_among}
-use Rattle.listing_parser.specs.TableWords.{defined_in}
+use Rattle.listing_parser.specs.Targets.{defined_in}
 
 -- whether one of the names is known, or stands among them before itself
 abbrev pub is_again : List Name → List Name → Bool

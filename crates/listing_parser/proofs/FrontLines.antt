@@ -9,8 +9,8 @@ use Rattle.ascii_scan.specs.Tokens.{is_blank, begins_blank, front, rest}
 use Rattle.ascii_scan.proofs.TokenLemmas.{no_blank_after}
 use Rattle.thumb_syntax.specs.Operands.{is_name}
 use Rattle.thumb_model.specs.Listing.{Name}
-use Rattle.listing_parser.specs.Views.{front_of}
-use Rattle.listing_parser.specs.Grammar.{Told, Read, statement, is_no_colon, is_no_at, begins_hash, is_some_byte, without_first, front_name, from_colon, begins_label, labels_within, labels_at_front, without_return, body, code, read_line}
+use Rattle.listing_parser.specs.Grammar.{front_of, Read, is_no_colon, is_no_at, begins_hash, is_some_byte, without_first, front_name, from_colon, begins_label, labels_within, labels_at_front, without_return, body, code, read_line}
+use Rattle.listing_parser.specs.Directives.{Told, statement}
 use Rattle.listing_parser.proofs.ReadingLemmas.{last_other, labels_more, labels_none, within_zero, within_none, within_more, all_at_front}
 use Rattle.listing_parser.proofs.CanonicalLines.{labels_only, front_stops, front_all, take_front, front_of_named, labels_read, and_both}
 

@@ -9,8 +9,7 @@ use Rattle.ascii_scan.proofs.LineLemmas.{lines_nil, lines_newline, lines_other}
 use Rattle.thumb_model.specs.Listing.{Line}
 use Rattle.listing_parser.specs.declared.errors.Kind.{Kind}
 use Rattle.listing_parser.specs.declared.errors.Kind.TheVariants as kind
-use Rattle.listing_parser.specs.Grammar.{Bare, Read, read_line, checked_line, with_first, read_lines}
-use Rattle.listing_parser.specs.Bare.{bare}
+use Rattle.listing_parser.specs.Grammar.{Bare, Read, read_line, checked_line, with_first, read_lines, bare}
 use Rattle.listing_parser.specs.Parsing.{text_of_lines}
 use Rattle.listing_parser.proofs.LabelLemmas.{or_false}
 use Rattle.listing_parser.proofs.PrintLemmas.{shaped_ok}

@@ -8,10 +8,10 @@ use Rattle.std.proofs.lemmas.Slice.Eq.{bytes_eq-Decides}
 use Rattle.thumb_model.specs.Listing.{Name, Line, Place, Label, places_in, places_of, labels_at, labels_from, is_op_place, place_among, has_label}
 use Rattle.thumb_model.specs.Layout.{is_among}
 use Rattle.thumb_model.specs.Steps.{label_place}
-use Rattle.listing_parser.specs.TableWords.{label_line, set_names, defined_in, passed_from}
+use Rattle.listing_parser.specs.TableWords.{label_line, passed_from}
+use Rattle.listing_parser.specs.Targets.{set_names, defined_in, from_label}
 use Rattle.listing_parser.proofs.FirstTwice.{first_twice, is_again}
 use Rattle.listing_parser.specs.declared.index.Passed.{Passed}
-use Rattle.listing_parser.specs.Targets.{from_label}
 use Rattle.listing_parser.proofs.SpotLemmas.{before_line}
 
 pub or_true : (a b : Bool) → (a || b) ≡ true → (a ≡ true) ⊎ (b ≡ true)

@@ -4,9 +4,9 @@ use Rattle.ascii_scan.specs.Lines.{lines_in}
 use Rattle.thumb_instr.proofs.PartLemmas.{same_parts}
 use Rattle.thumb_syntax.specs.Rows.{Shown}
 use Rattle.thumb_model.specs.Listing.{Mention, Statement, Runs, Line}
-use Rattle.listing_parser.specs.Grammar.{Plain, Instruction, Bare, Read, read_lines}
-use Rattle.listing_parser.specs.Bare.{shown_of, said_of, bare}
-use Rattle.listing_parser.specs.Parsing.{OneListing}
+use Rattle.listing_parser.specs.Grammar.{Bare, Read, read_lines, shown_of, said_of, bare}
+use Rattle.listing_parser.specs.Directives.{Plain, Instruction}
+use Rattle.listing_parser.specs.Verdicts.{OneListing}
 
 -- ---- lines ----
 

@@ -6,7 +6,7 @@ use Rattle.std.specs.Str.{bytes_eq}
 use Rattle.std.specs.declared.alloc.Global.{Global}
 use Rattle.std.proofs.lemmas.Bool.{cases_Bool}
 use Rattle.std.proofs.lemmas.Slice.Eq.{bytes_eq-Decides}
-use Rattle.thumb_syntax.specs.Registers.{or_else}
+use Rattle.thumb_syntax.specs.Operands.{or_else}
 use Rattle.thumb_model.specs.Listing.{Name}
 use Rattle.listing_parser.specs.TableWords.{is_key}
 

@@ -14,7 +14,7 @@ use Rattle.thumb_model.specs.Naming.{Naming, Fits, is_in_range, is_odd, points, 
 use Rattle.thumb_model.specs.Steps.{label_place}
 use Rattle.listing_parser.specs.Parsing.{IsListing}
 use Rattle.listing_parser.specs.Namings.{if_op}
-use Rattle.listing_parser.specs.TableWords.{defined_in, set_names}
+use Rattle.listing_parser.specs.Targets.{defined_in, set_names}
 use Rattle.listing_parser.proofs.FirstTwice.{first_twice, is_again}
 use Rattle.listing_parser.proofs.TwiceLemmas.{once_none}
 use Rattle.listing_parser.proofs.FewLemmas.{all_few, counts_bare}

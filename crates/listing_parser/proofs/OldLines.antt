@@ -1,9 +1,8 @@
 -- What is known of each line of a listing that was read.
 use Rattle.std.proofs.Common.{◌≡◌, ◌∙◌, inl, inr, ℕ, ◌+◌, ◌≤◌, ◌==◌, ◌&&◌, Bool, true, false, List, [], ◌∷◌, ◌++◌, length, map, refl, sym, ap, arith, subst, true≢false, Option, Some, None, Ok, length-append}
-use Rattle.std.specs.Prelude.{option_map}
+use Rattle.std.specs.Prelude.{option_map, codes}
 use Rattle.std.specs.List.{list_all}
 use Rattle.std.specs.Str.{bytes_eq}
-use Rattle.std.specs.Prelude.{codes}
 use Rattle.std.proofs.lemmas.Bool.{cases_Bool, and_parts}
 use Rattle.std.proofs.lemmas.List.Folds.{list_all-append}
 use Rattle.ascii_scan.specs.Lines.{Placed, content_of, is_ended, placed, placed_from, whole}
@@ -16,8 +15,9 @@ use Rattle.thumb_model.specs.Listing.{Name, Value, Statement, Nothing, Runs, Wor
 use Rattle.thumb_model.specs.Rewritten.{is_op}
 use Rattle.listing_parser.specs.declared.directive.Directive.{Directive}
 use Rattle.listing_parser.specs.declared.directive.Directive.TheVariants as directive
-use Rattle.listing_parser.specs.Grammar.{Mark, Unmarked, NameMarked, Said, Plain, Instruction, Told, says, marks, alone as alone_word, pair, gapped, instruction, values, aligns_at_most, whole_size, aligned, sets, sets_by, typed_by, says_if, is_bare, is_alone, directed, directive_named, directed_by, is_word_byte, said, statement, body, code, labels_at_front, Bare, Read, read_line, checked_line, read_lines}
-use Rattle.listing_parser.specs.Bare.{said_of, bare}
+use Rattle.listing_parser.specs.Grammar.{body, code, labels_at_front, Bare, Read, read_line, checked_line, read_lines, said_of, bare}
+use Rattle.listing_parser.specs.Directives.{Mark, Unmarked, NameMarked, Said, Plain, Instruction, Told, says, marks, instruction, aligns_at_most, whole_size, aligned, sets, sets_by, typed_by, says_if, is_bare, is_alone, directed, directive_named, directed_by, is_word_byte, said, statement}
+use Rattle.listing_parser.specs.Values.{alone as alone_word, pair, gapped, values}
 use Rattle.listing_parser.proofs.PrintLemmas.{of_read, cut, none_read}
 use Rattle.listing_parser.proofs.CanonicalLines.{labels_only, read_checked}
 use Rattle.listing_parser.proofs.FrontLines.{alone}

@@ -7,14 +7,13 @@ use Rattle.listing_parser.specs.declared.errors.Kind.TheVariants as kind
 use Rattle.listing_parser.specs.declared.errors.ListingError.{ListingError}
 use Rattle.listing_parser.specs.declared.errors.ListingError.TheVariants as errors
 use Rattle.listing_parser.specs.declared.line.Line.{Line as Lines}
-use Rattle.listing_parser.specs.TableWords.{DefineOnce, IsFirstAgain}
+use Rattle.listing_parser.specs.Targets.{DefineOnce, IsFirstAgain, functions, first_target}
 use Rattle.listing_parser.specs.Views.{line_view}
 use Rattle.listing_parser.specs.ToldView.{read_view}
-use Rattle.listing_parser.specs.Grammar.{Bare, Read, read_lines}
-use Rattle.listing_parser.specs.Bare.{bare}
+use Rattle.listing_parser.specs.Grammar.{Bare, Read, read_lines, bare}
 use Rattle.listing_parser.specs.Results.{Fails}
-use Rattle.listing_parser.specs.Targets.{functions, first_target}
-use Rattle.listing_parser.specs.Parsing.{AreLines, IsListing, IsRefused, AtLine, AtTwice, AtTarget, Parses}
+use Rattle.listing_parser.specs.Parsing.{AreLines, IsListing, IsRefused, AtLine, AtTwice, AtTarget}
+use Rattle.listing_parser.specs.Verdicts.{Parses}
 use Rattle.listing_parser.proofs.TargetLemmas.{target_same}
 
 pub refused_line : (bytes : List ℕ) (e : ListingError) → Fails e (read_lines (lines_in bytes)) → Parses bytes (Err e)

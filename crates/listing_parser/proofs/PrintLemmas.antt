@@ -8,10 +8,10 @@ use Rattle.ascii_scan.proofs.LineLemmas.{lines_join_whole}
 use Rattle.thumb_model.specs.Listing.{Name, Line}
 use Rattle.listing_parser.specs.declared.errors.Kind.{Kind}
 use Rattle.listing_parser.specs.declared.errors.Kind.TheVariants as kind
-use Rattle.listing_parser.specs.Views.{front_of}
-use Rattle.listing_parser.specs.Grammar.{Told, Bare, Read, body, code, statement, labels_at_front, read_line, shaped, checked_line, with_first, read_lines}
-use Rattle.listing_parser.specs.Bare.{bare}
-use Rattle.listing_parser.specs.Parsing.{text_of_lines, PrintsBack}
+use Rattle.listing_parser.specs.Grammar.{front_of, Bare, Read, body, code, labels_at_front, read_line, shaped, checked_line, with_first, read_lines, bare}
+use Rattle.listing_parser.specs.Directives.{Told, statement}
+use Rattle.listing_parser.specs.Parsing.{text_of_lines}
+use Rattle.listing_parser.specs.Verdicts.{PrintsBack}
 
 -- what is told of a line that was read
 pub record OfLine (l : Placed) (r : Read) : Type 0 where

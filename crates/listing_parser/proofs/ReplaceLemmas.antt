@@ -12,7 +12,7 @@ use Rattle.thumb_model.specs.Cuts.{AreOps}
 use Rattle.thumb_model.proofs.Lists.{get_drop, length_map, length_drop}
 use Rattle.thumb_model.proofs.Cuts.{without_none}
 use Rattle.thumb_model.proofs.LinesReplaced.{places_replaced}
-use Rattle.listing_parser.specs.TableWords.{set_names, defined_in, DefineOnce}
+use Rattle.listing_parser.specs.Targets.{set_names, defined_in, DefineOnce}
 use Rattle.listing_parser.proofs.FirstTwice.{first_twice, is_again}
 use Rattle.listing_parser.proofs.LabelLemmas.{or_false, or_true, among_append}
 use Rattle.listing_parser.proofs.TwiceLemmas.{once_none, none_once}

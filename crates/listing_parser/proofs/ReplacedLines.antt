@@ -14,14 +14,13 @@ use Rattle.thumb_model.specs.Layout.{is_among}
 use Rattle.thumb_model.specs.Rewritten.{is_op, without, labels_kept, new_line, replaced_lines}
 use Rattle.thumb_model.specs.Cuts.{AreOps}
 use Rattle.thumb_model.proofs.Lists.{get_drop}
-use Rattle.listing_parser.specs.TableWords.{defined_in, set_names, DefineOnce}
+use Rattle.listing_parser.specs.Targets.{defined_in, set_names, DefineOnce, marked_by_name, is_next, marked_first, still_waits, functions, first_target}
 use Rattle.listing_parser.proofs.TwiceLemmas.{once_none}
 use Rattle.listing_parser.proofs.FirstTwice.{first_twice}
-use Rattle.listing_parser.specs.Grammar.{Mark, Unmarked, Bare, Read, read_lines}
-use Rattle.listing_parser.specs.Bare.{shown_of}
-use Rattle.listing_parser.specs.Targets.{marked_by_name, is_next, marked_first, still_waits, functions, first_target}
-use Rattle.listing_parser.specs.Parsing.{IsListing, text_of_lines}
-use Rattle.listing_parser.specs.Replacing.{names_no_label, own_line}
+use Rattle.listing_parser.specs.Grammar.{Bare, Read, read_lines, shown_of}
+use Rattle.listing_parser.specs.Directives.{Mark, Unmarked}
+use Rattle.listing_parser.specs.Parsing.{IsListing, text_of_lines, own_line}
+use Rattle.listing_parser.specs.Replacing.{names_no_label}
 use Rattle.listing_parser.specs.ReadAgain.{KeepsCode, ReplacedReadsAgain}
 use Rattle.listing_parser.proofs.LabelLemmas.{among_front, among_append, not_again, again_front}
 use Rattle.listing_parser.proofs.ReplaceLemmas.{once_parts, are_ops, still_once}

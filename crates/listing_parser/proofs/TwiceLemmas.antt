@@ -10,7 +10,7 @@ use Rattle.std.proofs.lemmas.Slice.Eq.{bytes_eq-Decides}
 use Rattle.thumb_model.specs.Listing.{Name, Line}
 use Rattle.listing_parser.proofs.LabelLemmas.{among_append, among_front, among_last}
 use Rattle.thumb_model.specs.Layout.{is_among}
-use Rattle.listing_parser.specs.TableWords.{defined_in, DefineOnce, IsAgain, Known, Twice, IsFirstAgain}
+use Rattle.listing_parser.specs.Targets.{defined_in, DefineOnce, IsAgain, Known, Twice, IsFirstAgain}
 use Rattle.listing_parser.proofs.FirstTwice.{first_twice, is_again}
 
 pub among_keys : (name : Name) (ks : List (Vec ℕ Global)) → list_any (λ (k : Vec ℕ Global). bytes_eq name k.items) ks ≡ is_among name (map (λ (k : Vec ℕ Global). k.items) ks)

@@ -3,7 +3,8 @@ use Rattle.std.proofs.Common.{◌≡◌, ◌∙◌, ℕ, ◌==◌, Bool, true, f
 use Rattle.std.proofs.lemmas.Bool.{false_from_ne_true}
 use Rattle.ascii_scan.specs.Tokens.{Token, word, mark}
 use Rattle.thumb_model.specs.Listing.{Value}
-use Rattle.listing_parser.specs.Grammar.{value, values, onto_values, first_value}
+use Rattle.listing_parser.specs.Values.{value, values, onto_values}
+use Rattle.listing_parser.specs.Results.{first_value}
 
 -- values before those that are read
 abbrev pub with_values : List Value → Option (List Value) → Option (List Value)

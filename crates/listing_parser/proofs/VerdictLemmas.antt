@@ -3,11 +3,11 @@ use Rattle.std.proofs.Common.{◌≡◌, ◌∙◌, ℕ, List, map, false, refl,
 use Rattle.ascii_scan.specs.Lines.{lines_in}
 use Rattle.thumb_model.specs.Listing.{Line}
 use Rattle.listing_parser.specs.declared.errors.Kind.{Kind}
-use Rattle.listing_parser.specs.TableWords.{DefineOnce, IsFirstAgain}
+use Rattle.listing_parser.specs.Targets.{DefineOnce, IsFirstAgain, functions, first_target}
 use Rattle.listing_parser.proofs.TwiceLemmas.{once_none, first_some}
 use Rattle.listing_parser.specs.Grammar.{Read, read_lines}
-use Rattle.listing_parser.specs.Targets.{functions, first_target}
-use Rattle.listing_parser.specs.Parsing.{AreLines, AtLine, AtTwice, AtTarget, NotBoth, RefusedOnce, OneVerdict}
+use Rattle.listing_parser.specs.Parsing.{AreLines, AtLine, AtTwice, AtTarget}
+use Rattle.listing_parser.specs.Verdicts.{NotBoth, RefusedOnce, OneVerdict}
 use Rattle.listing_parser.proofs.MadeLemmas.{same_lines, same_reads}
 
 -- the lines that a text is read as

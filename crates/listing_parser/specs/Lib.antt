@@ -1,12 +1,14 @@
 pub mod Views
 pub mod TableWords
 pub mod Tables
+pub mod Values
+pub mod Directives
 pub mod Grammar
 pub mod DirectiveView
-pub mod Bare
 pub mod ToldView
 pub mod Targets
 pub mod Parsing
+pub mod Verdicts
 pub mod Replacing
 pub mod Results
 pub mod ReadAgain

@@ -5,8 +5,8 @@ use Rattle.thumb_instr.specs.declared.instr.Instr.{Instr}
 use Rattle.thumb_model.specs.Listing.{Name, Line, places_of, is_op_place}
 use Rattle.thumb_model.specs.Rewritten.{replaced_lines}
 use Rattle.listing_parser.specs.Targets.{is_code_label}
-use Rattle.listing_parser.specs.Replacing.{names_no_label, own_line}
-use Rattle.listing_parser.specs.Parsing.{IsListing, text_of_lines}
+use Rattle.listing_parser.specs.Replacing.{names_no_label}
+use Rattle.listing_parser.specs.Parsing.{own_line, IsListing, text_of_lines}
 
 -- each code label of the old lines is one of the new
 abbrev pub KeepsCode : List Line → List Line → Type 0

@@ -1,6 +1,5 @@
--- Where places stand, what stands before a line, and which names lines define.
-use Rattle.std.specs.Prelude.{◌≡◌, ℕ, ◌+◌, List, [], ◌∷◌, ◌++◌, length, Bool, true, Option, Some, None, if◌then◌else◌}
-use Rattle.std.specs.List.{flat_map}
+-- Where places stand, and what stands before a line and behind it.
+use Rattle.std.specs.Prelude.{ℕ, ◌+◌, List, [], ◌∷◌, ◌++◌, length, Bool, Option, Some, None, if◌then◌else◌}
 use Rattle.std.specs.Str.{bytes_eq}
 use Rattle.std.specs.declared.alloc.Global.{Global}
 use Rattle.std.specs.declared.vec.Vec.{Vec}
@@ -43,40 +42,6 @@ runs_from (l ∷ ls) = words_from (l ∷ ls) ∷ runs_from ls
 abbrev pub label_line : Name → ℕ → List Line → Option ℕ
 label_line name n [] = None
 label_line name n (l ∷ ls) = if is_among name l.names then Some n else label_line name (n + 1) ls
-
--- the names that a line defines: its labels, and the name whose address it sets
-abbrev pub set_names : Statement → List Name
-set_names Nothing = []
-set_names (Runs i mention) = []
-set_names (Words vs) = []
-set_names (Aligns size most) = []
-set_names (Sets name address) = name ∷ []
-
-abbrev pub defined_in : Line → List Name
-defined_in l = l.names ++ set_names l.statement
-
--- one of the names is known, or stands twice among them
-pub data IsAgain (known names : List Name) : Type 0 where
-  Known : (name : Name) → is_among name names ≡ true → is_among name known ≡ true → IsAgain known names
-  Twice : (front : List Name) (name : Name) (back : List Name) → names ≡ front ++ name ∷ back → is_among name front ≡ true → IsAgain known names
-
--- behind these lines, the line defines a name again: one that a line before it defines, or one that it defines twice itself
-abbrev pub DefinesAgain : List Line → Line → Type 0
-DefinesAgain before l = IsAgain (flat_map defined_in before) (defined_in l)
-
--- no line defines a name again
-abbrev pub DefineOnce : List Line → Type 0
-DefineOnce lines = (before : List Line) (l : Line) (after : List Line) → lines ≡ before ++ l ∷ after → DefinesAgain before l → ⊥
-
--- line n, counted from 1, is the first that defines a name again
-pub record IsFirstAgain (lines : List Line) (n : ℕ) : Type 0 where
-  pub before : List Line
-  pub line : Line
-  pub after : List Line
-  pub cut : lines ≡ before ++ line ∷ after
-  pub number : n ≡ length before + 1
-  pub again : DefinesAgain before line
-  pub once : DefineOnce before
 
 abbrev pub is_key : Name → Vec ℕ Global → Bool
 is_key name key = bytes_eq name key.items

@@ -4,7 +4,8 @@ use Rattle.std.specs.Map.{lookup}
 use Rattle.thumb_model.specs.Listing.{Name, Line, places_of}
 use Rattle.thumb_model.specs.Layout.{set_address}
 use Rattle.listing_parser.specs.declared.index.Index.{Index}
-use Rattle.listing_parser.specs.TableWords.{spots_from, passed_from, runs_from, label_line, is_key, DefineOnce}
+use Rattle.listing_parser.specs.TableWords.{spots_from, passed_from, runs_from, label_line, is_key}
+use Rattle.listing_parser.specs.Targets.{DefineOnce}
 
 -- the tables are those of the lines
 pub record IsIndex (lines : List Line) (index : Index) : Type 0 where

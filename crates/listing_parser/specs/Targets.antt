@@ -1,10 +1,48 @@
--- Names that instructions and data words mention, and what they must be there.
-use Rattle.std.specs.Prelude.{ℕ, ◌+◌, ◌-◌, ◌/◌, ◌%◌, ◌==◌, ◌&&◌, ◌||◌, not, nat_lt, nat_le, Bool, true, false, List, [], ◌∷◌, ◌++◌, length, Option, Some, None, is_some, if◌then◌else◌}
+-- Names: those that lines define, and those that instructions and data words mention, with what they must be there.
+use Rattle.std.specs.Prelude.{◌≡◌, ℕ, ◌+◌, List, [], ◌∷◌, ◌++◌, length, Bool, true, Option, Some, None, if◌then◌else◌, ◌-◌, ◌/◌, ◌%◌, ◌==◌, ◌&&◌, ◌||◌, not, nat_lt, nat_le, false, is_some}
+use Rattle.std.specs.List.{flat_map}
+use Rattle.thumb_model.specs.Listing.{Name, Statement, Nothing, Runs, Words, Aligns, Sets, Line, Mention, Value, Number, OfName, labels_from, code_of, place_of, has_label}
+use Rattle.thumb_model.specs.Layout.{is_among}
 use Rattle.thumb_instr.specs.declared.instr.Instr.{Instr}
 use Rattle.thumb_instr.specs.declared.instr.Instr.TheVariants as instr
-use Rattle.thumb_model.specs.Listing.{Name, Mention, Value, Number, OfName, Statement, Nothing, Runs, Words, Aligns, Sets, Line, labels_from, code_of, place_of, has_label}
-use Rattle.thumb_model.specs.Layout.{is_among}
-use Rattle.listing_parser.specs.Grammar.{Mark, Unmarked, NextMarked, NameMarked, Read}
+use Rattle.listing_parser.specs.Grammar.{Read}
+use Rattle.listing_parser.specs.Directives.{Mark, Unmarked, NextMarked, NameMarked}
+
+-- ---- definitions ----
+
+-- the names that a line defines: its labels, and the name whose address it sets
+abbrev pub set_names : Statement → List Name
+set_names Nothing = []
+set_names (Runs i mention) = []
+set_names (Words vs) = []
+set_names (Aligns size most) = []
+set_names (Sets name address) = name ∷ []
+
+abbrev pub defined_in : Line → List Name
+defined_in l = l.names ++ set_names l.statement
+
+-- one of the names is known, or stands twice among them
+pub data IsAgain (known names : List Name) : Type 0 where
+  Known : (name : Name) → is_among name names ≡ true → is_among name known ≡ true → IsAgain known names
+  Twice : (front : List Name) (name : Name) (back : List Name) → names ≡ front ++ name ∷ back → is_among name front ≡ true → IsAgain known names
+
+-- behind these lines, the line defines a name again: one that a line before it defines, or one that it defines twice itself
+abbrev pub DefinesAgain : List Line → Line → Type 0
+DefinesAgain before l = IsAgain (flat_map defined_in before) (defined_in l)
+
+-- no line defines a name again
+abbrev pub DefineOnce : List Line → Type 0
+DefineOnce lines = (before : List Line) (l : Line) (after : List Line) → lines ≡ before ++ l ∷ after → DefinesAgain before l → ⊥
+
+-- line n, counted from 1, is the first that defines a name again
+pub record IsFirstAgain (lines : List Line) (n : ℕ) : Type 0 where
+  pub before : List Line
+  pub line : Line
+  pub after : List Line
+  pub cut : lines ≡ before ++ line ∷ after
+  pub number : n ≡ length before + 1
+  pub again : DefinesAgain before line
+  pub once : DefineOnce before
 
 -- ---- marks of functions ----
 

@@ -3,9 +3,9 @@ use Rattle.listing_parser.specs.declared.line.Mark.{Mark as Marks}
 use Rattle.listing_parser.specs.declared.line.Mark.TheVariants as mark
 use Rattle.listing_parser.specs.declared.line.Line.{Line as Lines}
 use Rattle.listing_parser.specs.declared.statement.Told.{Told as Tolds}
-use Rattle.listing_parser.specs.Grammar.{Mark, Unmarked, NextMarked, NameMarked, Told, Read}
+use Rattle.listing_parser.specs.Grammar.{Read, said_of, bare}
+use Rattle.listing_parser.specs.Directives.{Mark, Unmarked, NextMarked, NameMarked, Told}
 use Rattle.listing_parser.specs.Views.{statement_view, line_view}
-use Rattle.listing_parser.specs.Bare.{said_of, bare}
 
 abbrev pub mark_view : Marks → Mark
 mark_view mark.Nothing = Unmarked

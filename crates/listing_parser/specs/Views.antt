@@ -1,5 +1,5 @@
 -- Lines of the code as lines of a listing.
-use Rattle.std.specs.Prelude.{ℕ, List, [], ◌∷◌, ◌++◌, map, take, option_map}
+use Rattle.std.specs.Prelude.{List, map, option_map}
 use Rattle.thumb_model.specs.Listing.{Name, Mention, Value, Number, OfName, Statement, Nothing, Runs, Words, Aligns, Sets, Line, Place, Op, Word}
 use Rattle.listing_parser.specs.declared.line.Mention.{Mention as Mentions}
 use Rattle.listing_parser.specs.declared.line.Value.{Value as Values}
@@ -9,6 +9,7 @@ use Rattle.listing_parser.specs.declared.line.Statement.TheVariants as statement
 use Rattle.listing_parser.specs.declared.line.Line.{Line as Lines}
 use Rattle.listing_parser.specs.declared.line.Place.{Place as Places}
 use Rattle.listing_parser.specs.declared.line.Place.TheVariants as place
+use Rattle.listing_parser.specs.Grammar.{front_of}
 
 abbrev pub mention_view : Mentions → Mention
 mention_view m = record { name = m.name.items; plus = m.plus }
@@ -23,11 +24,6 @@ statement_view (statement.Runs i m) = Runs i (option_map mention_view m)
 statement_view (statement.Words vs) = Words (map value_view vs.items)
 statement_view (statement.Aligns size most) = Aligns size most
 statement_view (statement.Sets name address) = Sets name.items address
-
--- the bytes up to the last label's colon, and a newline: nothing where there is no label
-abbrev pub front_of : List Name → ℕ → List ℕ → List ℕ
-front_of [] n text = []
-front_of (name ∷ names) n text = take n text ++ 10 ∷ []
 
 abbrev pub names_view : Lines → List Name
 names_view l = map (λ name. name.items) l.names.items

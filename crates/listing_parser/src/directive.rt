@@ -1,6 +1,6 @@
 //! The directives of a listing, by name.
 ghost use Rattle.std.specs.Prelude.{◌≡◌, map};
-ghost use Rattle.listing_parser.specs.Grammar.{directives, directive_in, directive_named};
+ghost use Rattle.listing_parser.specs.Directives.{directives, directive_in, directive_named};
 ghost use Rattle.listing_parser.specs.DirectiveView.{row_of};
 
 /// What a directive is read as.
@@ -151,7 +151,7 @@ static DIRECTIVES: [Named; 28] = [
     },
 ];
 
-#[tactic(auto, unfolding(crate::specs::Grammar::directives))]
+#[tactic(auto, unfolding(crate::specs::Directives::directives))]
 fn directives() -> &'static [Named]
     ensures { map row_of result.now ≡ directives }
 {
@@ -171,7 +171,7 @@ fn directive_in(rows: &[Named], word: &[u8]) -> Option<Directive>
 }
 
 /// The directive of that name.
-#[tactic(auto, unfolding(crate::specs::Grammar::directive_named))]
+#[tactic(auto, unfolding(crate::specs::Directives::directive_named))]
 pub fn directive_named(word: &[u8]) -> Option<Directive>
     ensures { result ≡ directive_named word.now }
 {

@@ -2,7 +2,7 @@
 ghost use Rattle.std.specs.Prelude.{◌≡◌, ◌+◌, ◌<◌, ◌^◌, ◌++◌, ℕ, Bool, List, None, Some, map, length, IfOk, OnOk, if◌then◌else◌};
 ghost use Rattle.std.specs.Map.{lookup};
 ghost use Rattle.std.specs.Str.{bytes_eq};
-ghost use Rattle.thumb_syntax.specs.Registers.{or_else};
+ghost use Rattle.thumb_syntax.specs.Operands.{or_else};
 ghost use Rattle.thumb_model.specs.Listing.{places_in, places_of};
 ghost use Rattle.thumb_model.specs.Layout.{is_among, set_address, set_in};
 ghost use Rattle.listing_parser.specs.Views.{line_view, statement_view};
@@ -173,7 +173,7 @@ impl Index {
     ghost use Rattle.std.specs.Prelude.{◌<◌, ◌^◌, map, length, IfOk};
     ghost use Rattle.thumb_model.specs.Listing.{places_of};
     ghost use Rattle.listing_parser.specs.Views.{line_view};
-    ghost use Rattle.listing_parser.specs.TableWords.{DefineOnce};
+    ghost use Rattle.listing_parser.specs.Targets.{DefineOnce};
     ghost use Rattle.listing_parser.specs.Tables.{IsIndex};
 
     /// The tables of lines that define no name twice.

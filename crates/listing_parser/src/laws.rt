@@ -1,6 +1,6 @@
 //! What holds of every listing that is read.
 ghost use Rattle.listing_parser.specs.Namings.{CodeLabelsAreLabels, LiteralsStand, SomeNamingFits};
-ghost use Rattle.listing_parser.specs.Parsing.{OneListing, OneVerdict, PrintsBack};
+ghost use Rattle.listing_parser.specs.Verdicts.{OneListing, OneVerdict, PrintsBack};
 ghost use Rattle.listing_parser.specs.ReadAgain.{ReplacedReadsAgain};
 
 /// A listing's lines, joined, are the text that was read, byte for byte.

@@ -63,9 +63,11 @@ impl Listing {
     ghost use Rattle.thumb_model.specs.Steps.{label_place};
     ghost use Rattle.thumb_model.specs.Rewritten.{are_joined_from, replaced_lines};
     ghost use Rattle.std.specs.List.{list_all};
-    ghost use Rattle.listing_parser.specs.Replacing.{names_no_label, own_line};
+    ghost use Rattle.listing_parser.specs.Replacing.{names_no_label};
+    ghost use Rattle.listing_parser.specs.Parsing.{own_line};
     ghost use Rattle.listing_parser.specs.Views.{line_view, place_view};
-    ghost use Rattle.listing_parser.specs.TableWords.{label_line, words_from, DefineOnce};
+    ghost use Rattle.listing_parser.specs.TableWords.{label_line, words_from};
+    ghost use Rattle.listing_parser.specs.Targets.{DefineOnce};
     ghost use Rattle.listing_parser.specs.Targets.{from_label};
 
     /// The listing of lines that define no name twice and have fewer than 2^32 places.

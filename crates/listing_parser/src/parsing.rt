@@ -1,6 +1,7 @@
 //! Texts as listings.
 ghost use Rattle.std.specs.Prelude.{◌≡◌, IfOk};
-ghost use Rattle.listing_parser.specs.Parsing.{Parses, text_of_lines};
+ghost use Rattle.listing_parser.specs.Parsing.{text_of_lines};
+ghost use Rattle.listing_parser.specs.Verdicts.{Parses};
 
 use crate::errors::{Kind, ListingError, Memory};
 use crate::listing::Listing;

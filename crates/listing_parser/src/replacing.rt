@@ -3,7 +3,7 @@ ghost use Rattle.std.specs.Prelude.{◌≡◌, ◌≤◌, ◌&&◌, ◌∷◌, �
 ghost use Rattle.thumb_model.specs.Rewritten.{is_op, labels_kept, new_line, replaced_lines, without};
 ghost use Rattle.listing_parser.specs.Views.{line_view, mention_view, names_view, statement_view, value_view};
 ghost use Rattle.listing_parser.specs.ToldView.{mark_view};
-ghost use Rattle.listing_parser.specs.Replacing.{own_line};
+ghost use Rattle.listing_parser.specs.Parsing.{own_line};
 
 use crate::errors::Memory;
 use crate::line::{Line, Mark, Mention, Statement, Value};
@@ -177,7 +177,7 @@ pub fn add_labels(alloc: Global, out: &mut Vec<Line>, line: &Line) -> Result<(),
 }
 
 /// The line of a new instruction: a tab, its canonical text and a newline.
-#[tactic(auto, unfolding(crate::specs::Replacing::own_line))]
+#[tactic(auto, unfolding(crate::specs::Parsing::own_line))]
 fn own_text(alloc: Global, instr: &Instr) -> Result<Vec<u8>, Memory>
     ensures { IfOk result (λ v. v.items ≡ own_line instr.now) }
 {

@@ -3,7 +3,8 @@ ghost use Rattle.std.specs.Prelude.{◌≡◌, length};
 ghost use Rattle.std.specs.List.{prefix_len};
 ghost use Rattle.ascii_scan.specs.Names.{is_name_byte};
 ghost use Rattle.ascii_scan.specs.Tokens.{front, rest, is_blank};
-ghost use Rattle.listing_parser.specs.Grammar.{is_word_byte, is_no_colon, is_no_at, begins_hash, code};
+ghost use Rattle.listing_parser.specs.Grammar.{is_no_colon, is_no_at, begins_hash, code};
+ghost use Rattle.listing_parser.specs.Directives.{is_word_byte};
 
 use ascii_scan::is_name_byte;
 

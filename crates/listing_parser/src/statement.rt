@@ -5,8 +5,9 @@ ghost use Rattle.ascii_scan.specs.Names.{is_name_byte};
 ghost use Rattle.thumb_syntax.specs.FieldViews.{label_of};
 ghost use Rattle.thumb_model.specs.Listing.{Words};
 ghost use Rattle.listing_parser.specs.Views.{statement_view};
-ghost use Rattle.listing_parser.specs.Bare.{said_of};
-ghost use Rattle.listing_parser.specs.Grammar.{after_comma, alignment, alone, behind_comma, Unmarked, directive_named, first_word, gapped, marks, pair, says, says_if, values, directed, directed_by, instruction, is_alone, is_bare, is_code_section, is_word_byte, said, setting, size_of, statement, typing, whole_size};
+ghost use Rattle.listing_parser.specs.Grammar.{said_of};
+ghost use Rattle.listing_parser.specs.Values.{after_comma, alone, behind_comma, first_word, gapped, pair, values};
+ghost use Rattle.listing_parser.specs.Directives.{alignment, Unmarked, directive_named, marks, says, says_if, directed, directed_by, instruction, is_alone, is_bare, is_code_section, is_word_byte, said, setting, size_of, statement, typing, whole_size};
 ghost use Rattle.listing_parser.specs.ToldView.{mark_view, told_view};
 
 use crate::directive::{Directive, directive_named};
@@ -65,7 +66,7 @@ fn mention_of(alloc: Global, label: Option<Label<'_>>) -> Result<Option<Mention>
     }
 }
 
-#[tactic(auto, unfolding(crate::specs::Grammar::instruction))]
+#[tactic(auto, unfolding(crate::specs::Directives::instruction))]
 fn instruction(alloc: Global, bytes: &[u8]) -> Result<Option<Told>, AllocError>
     ensures { IfOk result (λ o. option_map told_view o ≡ instruction bytes.now) }
 {
@@ -323,7 +324,7 @@ fn directive(alloc: Global, bytes: &[u8]) -> Result<Option<Told>, AllocError>
 }
 
 /// What a statement says. None where it is outside the grammar.
-#[tactic(auto, unfolding(crate::specs::Grammar::statement))]
+#[tactic(auto, unfolding(crate::specs::Directives::statement))]
 pub fn statement(alloc: Global, bytes: &[u8]) -> Result<Option<Told>, AllocError>
     ensures { IfOk result (λ o. option_map told_view o ≡ statement bytes.now) }
 {

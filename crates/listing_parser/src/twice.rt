@@ -2,7 +2,7 @@
 ghost use Rattle.std.specs.Prelude.{◌≡◌, ◌++◌, ◌∷◌, [], true, false, map, Decides, IfOk, MatchOption};
 ghost use Rattle.listing_parser.specs.Views.{line_view, statement_view};
 ghost use Rattle.thumb_model.specs.Layout.{is_among};
-ghost use Rattle.listing_parser.specs.TableWords.{defined_in, set_names, DefineOnce, IsAgain, IsFirstAgain};
+ghost use Rattle.listing_parser.specs.Targets.{defined_in, set_names, DefineOnce, IsAgain, IsFirstAgain};
 
 use crate::errors::Memory;
 use crate::line::{Line, Statement};

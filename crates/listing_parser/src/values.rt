@@ -4,7 +4,8 @@ ghost use Rattle.std.specs.List.{prefix_len};
 ghost use Rattle.ascii_scan.specs.Names.{is_digit, is_name_byte};
 ghost use Rattle.ascii_scan.specs.Tokens.{front, rest, tokens};
 ghost use Rattle.thumb_syntax.specs.Operands.{is_name};
-ghost use Rattle.listing_parser.specs.Grammar.{added, named_value, first_value, negated, sum, value, values};
+ghost use Rattle.listing_parser.specs.Values.{added, named_value, negated, sum, value, values};
+ghost use Rattle.listing_parser.specs.Results.{first_value};
 ghost use Rattle.listing_parser.specs.Views.{value_view};
 
 use crate::line::{Mention, Value};
@@ -72,7 +73,7 @@ fn named_value(alloc: Global, name: &[u8], after: &[u8]) -> Result<Option<Value>
 }
 
 /// The value of a word: a numeral, `-` and a numeral, or a name with what is added.
-#[tactic(auto, unfolding(crate::specs::Grammar::value))]
+#[tactic(auto, unfolding(crate::specs::Values::value))]
 fn value(alloc: Global, word: &[u8]) -> Result<Option<Value>, AllocError>
     ensures { IfOk result (λ o. option_map value_view o ≡ value word.now) }
 {

@@ -28,10 +28,10 @@ use Rattle.thumb_syntax.specs.declared.form.Place.TheVariants as place
 use Rattle.thumb_syntax.specs.declared.form.Slot.{Slot}
 use Rattle.thumb_syntax.specs.declared.form.Slot.TheVariants as slot
 use Rattle.thumb_syntax.specs.Slots.{Fields, at}
-use Rattle.thumb_syntax.specs.Rows.{Shown, reading}
-use Rattle.thumb_syntax.specs.Canonical.{mnemonic, slots}
-use Rattle.thumb_syntax.specs.Spelling.{register_text, number_text, slot_text, slots_text, operands_text}
-use Rattle.thumb_syntax.specs.Whole.{is_whole, shown_with}
+use Rattle.thumb_syntax.specs.Rows.{Shown, reading, shown_with}
+use Rattle.thumb_syntax.specs.Forms.{mnemonic}
+use Rattle.thumb_syntax.specs.Spelling.{slots, register_text, number_text, slot_text, slots_text, operands_text}
+use Rattle.thumb_syntax.specs.Whole.{is_whole}
 use Rattle.thumb_syntax.proofs.RoundTrip.{writing_reads_back}
 use Rattle.rule_table.specs.Text.{instr_text}
 use Rattle.rule_table.specs.Valid.{IsInstr}

@@ -4,7 +4,7 @@ use Rattle.std.specs.List.{flat_map}
 use Rattle.thumb_instr.specs.declared.instr.Instr.{Instr}
 use Rattle.thumb_instr.specs.Items.{has}
 use Rattle.thumb_syntax.specs.Spelling.{text_of as text_of_shown}
-use Rattle.thumb_syntax.specs.Whole.{shown_with}
+use Rattle.thumb_syntax.specs.Rows.{shown_with}
 use Rattle.lrat_check.specs.Content.{Content}
 use Rattle.lrat_check.specs.Text.{text_of as text_of_line}
 use Rattle.window_exec.specs.Seen.{Seen}

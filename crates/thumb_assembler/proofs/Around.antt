@@ -15,7 +15,7 @@ use Rattle.thumb_model.specs.States.{World, Around, Inside, External}
 use Rattle.thumb_model.specs.Acts.{act}
 use Rattle.thumb_model.specs.Steps.{label_place, point_among, set_bit, landing, word_of_mention, word_of_place, word_behind, literal_word, target_at, around_of}
 use Rattle.thumb_model.specs.Laid.{laid, word_by}
-use Rattle.thumb_assembler.specs.Bytes.{lies_at, mention_lies, Aims}
+use Rattle.thumb_assembler.specs.Bytes.{lies_at, mention_lies, Aims, IsSetBy}
 use Rattle.thumb_model.proofs.Tied.{TargetTied}
 use Rattle.listing_parser.specs.TableWords.{words_from}
 use Rattle.listing_parser.specs.Targets.{from_label, reaches, is_literal, is_code_label, is_label}
@@ -24,7 +24,6 @@ use Rattle.listing_parser.proofs.RunLemmas.{reaches_by_count}
 use Rattle.label_layout.proofs.Sums.{at_end}
 use Rattle.thumb_assembler.specs.declared.errors.Flaw.{Flaw}
 use Rattle.thumb_assembler.specs.declared.errors.Flaw.TheVariants as flaw
-use Rattle.thumb_assembler.specs.Images.{IsSetBy}
 use Rattle.thumb_assembler.specs.Fair.{label_in, is_fair}
 use Rattle.thumb_assembler.specs.Refusals.{lies_nowhere, branch_lost, flaw_of, flaws_from, or_first}
 use Rattle.thumb_assembler.specs.Runs.{Loaded, word_at, is_code_address, aim_from, goes_to, target_in, literal_in, following, around_in, lands_at}

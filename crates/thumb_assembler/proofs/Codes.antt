@@ -4,8 +4,8 @@ use Rattle.thumb_instr.specs.declared.instr.Instr.{Instr}
 use Rattle.thumb_instr.specs.declared.instr.Instr.TheVariants as instr
 use Rattle.thumb_instr.specs.declared.kind.Kind.TheVariants as kind
 use Rattle.thumb_instr.specs.Parts.{parts_of}
-use Rattle.thumb_table.specs.Rows.{width}
-use Rattle.thumb_table.specs.Table.{row_of, code_of, whole, IsCode}
+use Rattle.thumb_table.specs.Table.{width, row_of, code_of, whole}
+use Rattle.thumb_table.specs.Decoding.{IsCode}
 use Rattle.thumb_table.specs.declared.row.Code.TheVariants as code
 use Rattle.thumb_table.proofs.Apart.{row_width}
 use Rattle.thumb_model.specs.Layout.{instr_size}

@@ -9,9 +9,8 @@ use Rattle.thumb_model.specs.Layout.{instr_size, padding, size_at, end_of, is_am
 use Rattle.thumb_model.specs.Steps.{label_place}
 use Rattle.thumb_assembler.specs.Bytes.{Laid, words_bytes, IsInstrBytes, IsEncoded, IsStatementBytes, AreLineBytes, half_bytes}
 use Rattle.thumb_model.proofs.Lists.{get_back}
-use Rattle.listing_parser.specs.TableWords.{defined_in, set_names}
+use Rattle.listing_parser.specs.Targets.{defined_in, set_names, from_label}
 use Rattle.listing_parser.proofs.FirstTwice.{first_twice, is_again}
-use Rattle.listing_parser.specs.Targets.{from_label}
 use Rattle.listing_parser.proofs.LabelLemmas.{label_at, not_again, again_front, among_append, among_front}
 use Rattle.label_layout.specs.Addresses.{addresses_in, addresses_from}
 use Rattle.label_layout.proofs.Sums.{places_counted}

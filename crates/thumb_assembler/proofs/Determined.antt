@@ -4,7 +4,8 @@ use Rattle.thumb_instr.specs.declared.instr.Instr.{Instr}
 use Rattle.thumb_table.proofs.Codes.{one_instr}
 use Rattle.thumb_model.specs.States.{Next, Here, Ended, State}
 use Rattle.thumb_model.specs.Steps.{does}
-use Rattle.thumb_assembler.specs.Runs.{Loaded, half_at, HasBytes, IsFetched, ImageStep, stays, acts, falls_out, ImageSteps, none, more, act_in, following, RunsAreDetermined}
+use Rattle.thumb_assembler.specs.Runs.{Loaded, half_at, IsFetched, ImageStep, stays, acts, falls_out, ImageSteps, none, more, act_in, following}
+use Rattle.thumb_assembler.specs.Promises.{HasBytes, RunsAreDetermined}
 
 half_small : (m : Loaded) → HasBytes m → (a : ℕ) → half_at m a < 65536
 half_small m h a = let low = h a in let high = h (a + 1) in omega arith

@@ -16,8 +16,9 @@ use Rattle.thumb_syntax.proofs.ReadWhole.{reading_is_whole}
 use Rattle.thumb_model.specs.Listing.{Name, Value, Statement, Nothing, Runs, Words, Aligns, Sets, Line}
 use Rattle.listing_parser.specs.declared.directive.Directive.{Directive}
 use Rattle.listing_parser.specs.declared.directive.Directive.TheVariants as directive
-use Rattle.listing_parser.specs.Grammar.{Said, Plain, Instruction, Told, Bare, Read, Unmarked, NextMarked, NameMarked, says, says_if, marks, values, size_of, aligns_at_most, aligned, alone, gapped, pair, sets, sets_by, typed_by, directed, directed_by, directive_named, is_word_byte, is_bare, is_alone, is_code_section, instruction, said, statement, labels_at_front, body, code, read_lines}
-use Rattle.listing_parser.specs.Bare.{said_of, bare}
+use Rattle.listing_parser.specs.Grammar.{Bare, Read, labels_at_front, body, code, read_lines, said_of, bare}
+use Rattle.listing_parser.specs.Directives.{Said, Plain, Instruction, Told, Unmarked, NextMarked, NameMarked, says, says_if, marks, size_of, aligns_at_most, aligned, sets, sets_by, typed_by, directed, directed_by, directive_named, is_word_byte, is_bare, is_alone, is_code_section, instruction, said, statement}
+use Rattle.listing_parser.specs.Values.{values, alone, gapped, pair}
 use Rattle.listing_parser.specs.Parsing.{IsListing, text_of_lines}
 use Rattle.listing_parser.specs.Targets.{is_aimed_at, is_on_target, first_target}
 use Rattle.listing_parser.proofs.PrintLemmas.{of_checked, cut, none_read, prints_back}

@@ -6,17 +6,15 @@ use Rattle.thumb_model.proofs.Lists.{length_map}
 use Rattle.thumb_instr.specs.declared.instr.Instr.{Instr}
 use Rattle.thumb_instr.specs.declared.instr.Instr.TheVariants as instr
 use Rattle.thumb_instr.specs.declared.operation.Hint.TheVariants as hint
-use Rattle.thumb_table.specs.Rows.{width, packed}
-use Rattle.thumb_table.specs.Table.{pieces, row_of, code_of, Encodes}
+use Rattle.thumb_table.specs.Table.{width, packed, pieces, row_of, code_of, Encodes}
 use Rattle.thumb_model.specs.Listing.{Name, Mention, Value, Number, OfName, Statement, Nothing, Runs, Words, Aligns, Sets, Line, Place, Word, places_in, places_of}
 use Rattle.thumb_model.specs.Layout.{instr_size, padding, size_at, end_of}
 use Rattle.thumb_model.specs.Naming.{Naming}
 use Rattle.thumb_model.specs.Steps.{word_of_value}
 use Rattle.thumb_model.specs.Laid.{laid}
-use Rattle.thumb_assembler.specs.Bytes.{Laid, Aims, mention_lies, half_bytes, word_bytes, words_bytes, nops, IsInstrBytes, IsEncoded, IsStatementBytes, AreLineBytes}
+use Rattle.thumb_assembler.specs.Bytes.{Laid, Aims, mention_lies, half_bytes, word_bytes, words_bytes, nops, IsInstrBytes, IsEncoded, IsStatementBytes, AreLineBytes, IsSetBy}
 use Rattle.listing_parser.specs.Targets.{onward, reaches}
 use Rattle.label_layout.proofs.Sums.{at_end}
-use Rattle.thumb_assembler.specs.Images.{IsSetBy}
 use Rattle.thumb_assembler.specs.Fair.{is_fair, are_fair}
 use Rattle.thumb_assembler.specs.Pushes.{placed}
 use Rattle.thumb_assembler.specs.Runs.{Loaded, byte_at, half_at, word_at, IsFetched}

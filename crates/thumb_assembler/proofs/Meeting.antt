@@ -15,9 +15,10 @@ use Rattle.thumb_model.specs.Steps.{around_of, arrives, does, falls, step, step_
 use Rattle.thumb_model.specs.Laid.{laid}
 use Rattle.thumb_model.specs.Same.{Alike, has_ended, here_or_ended, begun}
 use Rattle.thumb_model.proofs.Tied.{NextTied, ActTied}
-use Rattle.thumb_assembler.specs.Images.{IsSetBy}
+use Rattle.thumb_assembler.specs.Bytes.{IsSetBy}
 use Rattle.thumb_assembler.specs.Runs.{Loaded, around_in, following, ImageStep, acts, ImageSteps, none, more}
-use Rattle.thumb_assembler.specs.Following.{IsAssembled, loaded, ends_in_loss, IsLost, Meets, begun_in, Follows, ImagesFollow, ImagesFollowGiven}
+use Rattle.thumb_assembler.specs.Following.{IsAssembled, loaded, ends_in_loss, IsLost, Meets, begun_in, Follows}
+use Rattle.thumb_assembler.specs.Promises.{ImagesFollow, ImagesFollowGiven}
 use Rattle.thumb_assembler.proofs.Loose.{IsLostAct, ends_behind, act_loose}
 use Rattle.thumb_assembler.proofs.Cuts.{next_end, next_places, next_cut, two_or_four}
 use Rattle.thumb_assembler.proofs.Fetched.{fetched_here, out_of_image}

@@ -7,11 +7,10 @@ use Rattle.thumb_model.specs.Listing.{Name, Mention, Value, Number, OfName, Noth
 use Rattle.thumb_model.specs.Layout.{instr_size, padding, lies_in}
 use Rattle.thumb_model.specs.Steps.{word_of_value}
 use Rattle.thumb_model.specs.Laid.{laid}
-use Rattle.thumb_assembler.specs.Bytes.{nops, word_bytes, words_bytes, Aims}
+use Rattle.thumb_assembler.specs.Bytes.{nops, word_bytes, words_bytes, Aims, IsSetBy}
 use Rattle.thumb_machine.specs.Words.{fixed_word}
 use Rattle.thumb_assembler.specs.declared.errors.Flaw.{Flaw}
 use Rattle.thumb_assembler.specs.declared.errors.Flaw.TheVariants as flaw
-use Rattle.thumb_assembler.specs.Images.{IsSetBy}
 use Rattle.thumb_assembler.specs.Fair.{is_fair}
 use Rattle.thumb_assembler.specs.Refusals.{lies_inside, may_leave, branch_lost, value_lost, values_lost, flaw_of}
 use Rattle.thumb_assembler.specs.Pushes.{PushedCode, PushedLaid, Pushes, PushedValue, PushedValues, PushesValues}

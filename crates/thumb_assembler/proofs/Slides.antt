@@ -17,14 +17,14 @@ use Rattle.thumb_model.specs.Laid.{laid, word_by}
 use Rattle.listing_parser.proofs.LabelLemmas.{one_label, code_place}
 use Rattle.label_layout.specs.Addresses.{addresses_in, addresses_from}
 use Rattle.label_layout.proofs.Calls.{return_point}
-use Rattle.thumb_assembler.specs.Images.{IsSetBy}
+use Rattle.thumb_assembler.specs.Bytes.{IsSetBy}
 use Rattle.thumb_assembler.specs.Fair.{is_fair}
 use Rattle.thumb_assembler.specs.Runs.{Loaded, IsFetched, lands_at, is_code_address}
 use Rattle.thumb_assembler.specs.Following.{IsAssembled, loaded}
 use Rattle.thumb_assembler.proofs.Places.{padding_even}
 use Rattle.thumb_assembler.proofs.Loose.{LandingLoose}
 use Rattle.thumb_assembler.proofs.Cuts.{next_end, next_places, next_cut, places_append, first_behind, address_behind, places_taken, label_cut, no_label, first_label, first_place}
-use Rattle.listing_parser.specs.TableWords.{DefineOnce}
+use Rattle.listing_parser.specs.Targets.{DefineOnce}
 use Rattle.listing_parser.proofs.FirstTwice.{first_twice}
 use Rattle.listing_parser.proofs.TwiceLemmas.{once_none}
 use Rattle.thumb_machine.proofs.PointsMade.{points_append}

@@ -7,7 +7,7 @@ use Rattle.thumb_instr.specs.declared.distance.Distance.{Distance}
 use Rattle.thumb_instr.specs.Distance.{bytes_of}
 use Rattle.thumb_table.specs.Table.{Encodes}
 use Rattle.thumb_model.specs.Listing.{Name, Mention, Value, Statement, Nothing, Runs, Words, Aligns, Sets, Line}
-use Rattle.thumb_model.specs.Layout.{instr_size, padding, size_at, label_address, distance, literal_base}
+use Rattle.thumb_model.specs.Layout.{instr_size, padding, size_at, label_address, distance, literal_base, set_address}
 use Rattle.thumb_model.specs.Laid.{laid}
 use Rattle.thumb_model.specs.Naming.{Naming}
 use Rattle.thumb_model.specs.Steps.{word_of_value}
@@ -78,3 +78,11 @@ AreLineBytes laid at (l ∷ ls) bytes = (here : List ℕ) × (rest : List ℕ) �
 -- the image of a listing at a base
 abbrev pub IsImage : ℕ → (Name → ℕ) → List Line → List ℕ → Type 0
 IsImage base set all bytes = AreLineBytes (record { base = base; names = laid base set all; lines = all }) base all bytes
+
+-- what stands for external names is what the lines set for them, where they set it
+abbrev pub IsSetBy : List Line → (Name → ℕ) → Type 0
+IsSetBy lines set = (name : Name) (address : ℕ) → set_address name lines ≡ Some address → set name ≡ address
+
+-- the bytes are the image of the lines at a base, with the addresses that the lines set
+abbrev pub AreImage : ℕ → List Line → List ℕ → Type 0
+AreImage base lines bytes = (set : Name → ℕ) → IsSetBy lines set → IsImage base set lines bytes

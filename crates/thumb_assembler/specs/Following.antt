@@ -2,13 +2,12 @@
 use Rattle.std.specs.Prelude.{◌≡◌, ℕ, ◌≤◌, ◌%◌, ◌^◌, Bool, true, false, List, [], ◌∷◌, None, IsSome}
 use Rattle.thumb_model.specs.Listing.{Name, Line, code_of, place_of}
 use Rattle.thumb_model.specs.Layout.{Layable, end_of, label_address}
-use Rattle.thumb_model.specs.Naming.{Fits}
 use Rattle.thumb_model.specs.States.{World, IsWorld, Event, Load, Store, Call, Sys, Left, Fault, Astray, Fell, Ended, State}
 use Rattle.thumb_model.specs.Steps.{step, times}
 use Rattle.thumb_model.specs.Laid.{laid}
-use Rattle.thumb_model.specs.Same.{Alike, here_or_ended, begun, Same}
+use Rattle.thumb_model.specs.Same.{Alike, here_or_ended, begun}
 use Rattle.listing_parser.specs.Parsing.{IsListing, text_of_lines}
-use Rattle.thumb_assembler.specs.Images.{IsSetBy, AreImage}
+use Rattle.thumb_assembler.specs.Bytes.{AreImage}
 use Rattle.thumb_assembler.specs.Refusals.{first_flaw}
 use Rattle.thumb_assembler.specs.Runs.{Loaded, ImageSteps}
 
@@ -64,15 +63,3 @@ abbrev pub Follows : ℕ → (Name → ℕ) → List Line → List ℕ → List 
 Follows base set lines bytes given =
     (label : Name) → IsSome (place_of (code_of given) label) → (w : World) → IsWorld w → (es : List Event) → (n : ℕ) → (IsLost (times (step (laid base set lines) (code_of given)) n (begun (code_of given) label w es)) → ⊥)
     → Meets (loaded base set lines bytes) (begun_in base lines label w es) (times (step (laid base set lines) (code_of given)) n (begun (code_of given) label w es))
-
--- the image's run meets that of its listing, where the laid naming fits
-abbrev pub ImagesFollow : Type 0
-ImagesFollow =
-    (base : ℕ) (set : Name → ℕ) (lines : List Line) (bytes : List ℕ) → IsAssembled base lines bytes → IsSetBy lines set → Fits (laid base set lines) (code_of lines)
-    → Follows base set lines bytes lines
-
--- and that of a listing with the same runs, which it was rewritten from, where the naming fits that too
-abbrev pub ImagesFollowGiven : Type 0
-ImagesFollowGiven =
-    (base : ℕ) (set : Name → ℕ) (lines given : List Line) (bytes : List ℕ) → IsAssembled base lines bytes → IsSetBy lines set → Fits (laid base set lines) (code_of lines)
-    → Fits (laid base set lines) (code_of given) → Same (code_of given) (code_of lines) → Follows base set lines bytes given

@@ -1,9 +1,9 @@
 pub mod Bytes
 pub mod Sizes
-pub mod Images
 pub mod Refusals
 pub mod Fair
 pub mod Pushes
 pub mod Runs
 pub mod Following
+pub mod Promises
 pub mod Machines

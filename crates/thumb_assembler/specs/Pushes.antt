@@ -5,11 +5,12 @@ use Rattle.thumb_model.specs.Listing.{Name, Value, Statement, Line}
 use Rattle.thumb_model.specs.Layout.{instr_size, size_at}
 use Rattle.thumb_model.specs.Steps.{word_of_value}
 use Rattle.thumb_model.specs.Laid.{laid}
-use Rattle.thumb_assembler.specs.Bytes.{Laid, word_bytes, words_bytes, IsInstrBytes, IsStatementBytes}
+use Rattle.thumb_assembler.specs.Bytes.{Laid, word_bytes, words_bytes, IsInstrBytes, IsStatementBytes, IsSetBy}
 use Rattle.thumb_assembler.specs.declared.errors.Flaw.{Flaw}
 use Rattle.thumb_assembler.specs.declared.errors.Flaw.TheVariants as flaw
-use Rattle.thumb_assembler.specs.Images.{IsSetBy}
 use Rattle.thumb_assembler.specs.Refusals.{flaw_of, value_lost, values_lost}
+use Rattle.thumb_assembler.specs.declared.errors.ImageError.{ImageError}
+use Rattle.thumb_assembler.specs.declared.errors.ImageError.TheVariants as error
 
 -- lines laid from a base, with what stands for external names
 abbrev pub placed : ℕ → (Name → ℕ) → List Line → Laid
@@ -63,3 +64,9 @@ PushesValues base all vs old new (Ok t) = PushedValues base all vs old new
 PushesValues base all vs old new (Err flaw.NoAddress) = values_lost base all vs ≡ true
 PushesValues base all vs old new (Err flaw.Inside) = ⊥
 PushesValues base all vs old new (Err flaw.Memory) = Unit {0}
+
+-- how it is told
+abbrev pub told_at : Flaw → ℕ → ImageError
+told_at flaw.NoAddress line = error.NoAddress line
+told_at flaw.Inside line = error.Inside line
+told_at flaw.Memory line = error.Memory

@@ -56,12 +56,6 @@ flaws_from base all n (l ∷ ls) = or_first n (flaw_of base all l.statement) (fl
 abbrev pub first_flaw : ℕ → List Line → Option (ℕ × Flaw)
 first_flaw base all = flaws_from base all 1 all
 
--- how it is told
-abbrev pub told_at : Flaw → ℕ → ImageError
-told_at flaw.NoAddress line = error.NoAddress line
-told_at flaw.Inside line = error.Inside line
-told_at flaw.Memory line = error.Memory
-
 -- lines have no image exactly where a line has a flaw, by the first one's
 abbrev pub IsRefusal : ℕ → List Line → ImageError → Type 0
 IsRefusal base all (error.NoAddress line) = first_flaw base all ≡ Some (line, flaw.NoAddress)

@@ -1,5 +1,5 @@
 -- The machine that runs an image: the listing's acts, with addresses for places.
-use Rattle.std.specs.Prelude.{◌≡◌, ℕ, zero, suc, ◌+◌, ◌-◌, ◌*◌, ◌%◌, ◌^◌, ◌<◌, ◌&&◌, Bool, true, nat_le, nat_lt, List, length, slice_index, ℤ, pos, negsuc, if◌then◌else◌}
+use Rattle.std.specs.Prelude.{◌≡◌, ℕ, zero, suc, ◌+◌, ◌-◌, ◌*◌, ◌%◌, ◌^◌, ◌&&◌, Bool, true, nat_le, nat_lt, List, length, slice_index, ℤ, pos, negsuc, if◌then◌else◌}
 use Rattle.thumb_instr.specs.declared.instr.Instr.{Instr}
 use Rattle.thumb_instr.specs.declared.instr.Instr.TheVariants as instr
 use Rattle.thumb_instr.specs.Distance.{bytes_of}
@@ -86,11 +86,3 @@ pub data ImageStep (m : Loaded) (s : State) : Next → State → Type 0 where
 pub data ImageSteps (m : Loaded) : ℕ → State → State → Type 0 where
   none : (s : State) → ImageSteps m zero s s
   more : (n : ℕ) (next : Next) (r s t : State) → ImageStep m r next s → ImageSteps m n s t → ImageSteps m (suc n) r t
-
--- its bytes are bytes
-abbrev pub HasBytes : Loaded → Type 0
-HasBytes m = (a : ℕ) → byte_at m a < 256
-
--- a state has one way on, and so a run has one state after so many steps
-abbrev pub RunsAreDetermined : Type 0
-RunsAreDetermined = (m : Loaded) (n : ℕ) (s t u : State) → HasBytes m → ImageSteps m n s t → ImageSteps m n s u → t ≡ u

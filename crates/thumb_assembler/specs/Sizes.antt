@@ -1,8 +1,7 @@
 -- The bytes by which an instruction is laid out are those of its encoding.
 use Rattle.std.specs.Prelude.{◌≡◌, ◌*◌}
 use Rattle.thumb_instr.specs.declared.instr.Instr.{Instr}
-use Rattle.thumb_table.specs.Rows.{width}
-use Rattle.thumb_table.specs.Table.{row_of}
+use Rattle.thumb_table.specs.Table.{width, row_of}
 use Rattle.thumb_model.specs.Layout.{instr_size}
 
 abbrev pub SizesAreWidths : Type 0

@@ -38,7 +38,7 @@ impl From<AllocError> for Flaw {
 }
 
 impl Flaw {
-    ghost use Rattle.thumb_assembler.specs.Refusals.{told_at};
+    ghost use Rattle.thumb_assembler.specs.Pushes.{told_at};
     ghost use Rattle.std.specs.Prelude.{◌≡◌};
 
     /// What is told of it at the line of a number.

@@ -1,7 +1,6 @@
 //! The laws of images. Each is the contract of a function that does nothing.
 
-ghost use Rattle.thumb_assembler.specs.Following.{ImagesFollow, ImagesFollowGiven};
-ghost use Rattle.thumb_assembler.specs.Runs.{RunsAreDetermined};
+ghost use Rattle.thumb_assembler.specs.Promises.{ImagesFollow, ImagesFollowGiven, RunsAreDetermined};
 ghost use Rattle.thumb_assembler.specs.Sizes.{SizesAreWidths};
 
 /// Begun at a code label's address, an image's run has the events, the memory and the answers that are left of its listing's, and ends where that does.

@@ -16,7 +16,7 @@ use Rattle.thumb_model.specs.Layout.{cleared, is_among, label_address, lies_in, 
 use Rattle.thumb_model.specs.Laid.{word_by}
 use Rattle.listing_parser.proofs.LabelLemmas.{among_append}
 use Rattle.label_layout.proofs.Labels.{or_none}
-use Rattle.listing_parser.specs.TableWords.{defined_in, set_names}
+use Rattle.listing_parser.specs.Targets.{defined_in, set_names}
 use Rattle.thumb_machine.specs.Laid.{firsts, lies_nowhere, outside_word, own_word, nowhere, place_name}
 use Rattle.thumb_machine.specs.Words.{AreFixed, AreOwn, Entries, fixed_by, fixed_word, with_name, word_in}
 

@@ -3,7 +3,7 @@ ghost use Rattle.std.specs.Prelude.{◌≡◌, ◌<◌, ◌≤◌, ◌+◌, ◌^
 ghost use Rattle.thumb_model.specs.Listing.{Line as ListingLine, Name, call_count, places_of};
 ghost use Rattle.thumb_model.specs.Laid.{last_is_call, return_address};
 ghost use Rattle.listing_parser.specs.Views.{line_view, place_view, statement_view};
-ghost use Rattle.listing_parser.specs.TableWords.{defined_in, set_names};
+ghost use Rattle.listing_parser.specs.Targets.{defined_in, set_names};
 ghost use Rattle.label_layout.specs.Addresses.{AreAddresses};
 ghost use Rattle.thumb_machine.specs.Laid.{IsLaid, nowhere, place_name};
 ghost use Rattle.thumb_machine.specs.Naming.{naming_of};

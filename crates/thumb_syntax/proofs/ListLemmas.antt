@@ -1,7 +1,7 @@
 -- Items of a list.
 use Rattle.std.proofs.Common.{◌≡◌, ℕ, true, List, ◌∷◌, Option, Some, refl}
 use Rattle.thumb_syntax.specs.Operands.{Operand}
-use Rattle.thumb_syntax.specs.Lists.{is_sign, added, items}
+use Rattle.thumb_syntax.specs.Slots.{is_sign, added, items}
 
 -- an item and a comma
 pub items_more : (extra : Option ℕ) (list : ℕ) (os mids after : List Operand) (item s : Operand) (more : ℕ)

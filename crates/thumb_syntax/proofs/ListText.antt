@@ -5,7 +5,7 @@ use Rattle.std.proofs.lemmas.Bool.{cases_Bool, and_parts, ltb-true, agree_below,
 use Rattle.ascii_scan.specs.Tokens.{Token, mark, tokens, begins_inner}
 use Rattle.ascii_scan.proofs.TokenLemmas.{tokens_mark, tokens_blank, tokens_nil}
 use Rattle.thumb_syntax.specs.Operands.{Operand, register, sign, operand}
-use Rattle.thumb_syntax.specs.Lists.{listed}
+use Rattle.thumb_syntax.specs.Slots.{listed}
 use Rattle.thumb_syntax.specs.Spelling.{has_bit, member_text, members, list_text, low_bits, stack_bits}
 use Rattle.thumb_syntax.proofs.Words.{word_read, register_read}
 

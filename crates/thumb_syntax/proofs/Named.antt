@@ -7,8 +7,7 @@ use Rattle.std.specs.List.{filter, list_all}
 use Rattle.std.specs.Char.{to_ascii_lowercase}
 use Rattle.std.proofs.lemmas.Bool.{cases_Bool, lt-ltb, le-leb}
 use Rattle.ascii_scan.specs.Names.{is_spelled}
-use Rattle.thumb_syntax.specs.Registers.{first_some, or_else}
-use Rattle.thumb_syntax.specs.Operands.{Operand}
+use Rattle.thumb_syntax.specs.Operands.{first_some, or_else, Operand}
 use Rattle.thumb_syntax.specs.Rows.{Row, Shown, read_as, read_all}
 use Rattle.thumb_syntax.specs.RowLaws.{rows}
 use Rattle.thumb_syntax.specs.Mnemonics.{Group, group_of, groups_at, rows_of, named_forms, forms_of, place_of, is_named, is_between, are_there, are_there_at, rows_in, read_by}

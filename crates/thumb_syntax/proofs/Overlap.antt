@@ -19,7 +19,7 @@ use Rattle.thumb_instr.specs.declared.kind.Parts.{Parts}
 use Rattle.thumb_instr.specs.Parts.{made, is_low, are_low, are_registers}
 use Rattle.thumb_instr.proofs.PartLemmas.{when_some}
 use Rattle.thumb_syntax.specs.Slots.{Fields, empty, at, put, held_by, filled}
-use Rattle.thumb_syntax.specs.Forms.{first, second, same}
+use Rattle.thumb_syntax.specs.Shapes.{first, second, same}
 use Rattle.thumb_syntax.specs.Rows.{Row, Shown, with_label, shown_by, read_as, data_rows, memory_rows, control_rows}
 use Rattle.thumb_syntax.specs.RowLaws.{rows}
 use Rattle.thumb_syntax.specs.Agreeing.{takes_one}

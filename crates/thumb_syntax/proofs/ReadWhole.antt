@@ -15,19 +15,17 @@ use Rattle.thumb_syntax.specs.declared.form.Slot.{Slot}
 use Rattle.thumb_syntax.specs.declared.form.Slot.TheVariants as slot
 use Rattle.thumb_instr.specs.declared.kind.Kind.{Kind}
 use Rattle.thumb_instr.specs.declared.kind.Kind.TheVariants as kind
-use Rattle.thumb_syntax.specs.Registers.{register_named}
-use Rattle.thumb_syntax.specs.Operands.{Operand, register, base, number, sign, name, sum, operand, of_word, plain, numbered, or_stray, sum_of, range_to, after_register, after_name, is_plain, is_name}
-use Rattle.thumb_syntax.specs.Lists.{listed}
+use Rattle.thumb_syntax.specs.Operands.{register_named, Operand, register, base, number, sign, name, sum, operand, of_word, plain, numbered, or_stray, sum_of, range_to, after_register, after_name, is_plain, is_name}
+use Rattle.thumb_syntax.specs.Slots.{listed, Fields, empty, at, put, named, is_in_list, held_by, list_held, taken, filled}
 use Rattle.thumb_instr.specs.declared.kind.Parts.{Parts}
 use Rattle.thumb_instr.specs.declared.role.Role.{Role}
 use Rattle.thumb_instr.specs.declared.role.Role.TheVariants as role
 use Rattle.thumb_instr.specs.Parts.{made, parts_of, is_instr, kept, kept_of}
 use Rattle.thumb_instr.specs.Roles.{roles}
 use Rattle.thumb_instr.proofs.PartLemmas.{made_kind, when_some}
-use Rattle.thumb_syntax.specs.Slots.{Fields, empty, at, put, named, is_in_list, held_by, list_held, taken, filled}
-use Rattle.thumb_syntax.specs.Rows.{Row, Shown, data_rows, memory_rows, control_rows}
+use Rattle.thumb_syntax.specs.Rows.{Row, Shown, data_rows, memory_rows, control_rows, shown_with}
 use Rattle.thumb_syntax.specs.RowLaws.{rows, by_row}
-use Rattle.thumb_syntax.specs.Whole.{is_label, is_label_sum, is_unlabelled, is_whole, shown_with, ReadingIsWhole}
+use Rattle.thumb_syntax.specs.Whole.{is_label, is_label_sum, is_unlabelled, is_whole, ReadingIsWhole}
 use Rattle.thumb_syntax.proofs.Steps.{and_then_some, map_some, kept_some, took, none_left, number_put, register_held, mark_held}
 use Rattle.thumb_syntax.proofs.Overlap.{Read, read_by}
 use Rattle.thumb_syntax.proofs.RowRelation.{reads_some_row}

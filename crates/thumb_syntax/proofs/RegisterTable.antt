@@ -7,7 +7,7 @@ use Rattle.std.proofs.lemmas.Bool.{cases_Bool}
 use Rattle.std.proofs.lemmas.List.FromFn.{get_or-map-range_with_len}
 use Rattle.ascii_scan.specs.Names.{is_spelled}
 use Rattle.thumb_syntax.specs.declared.registers.Register.{Register}
-use Rattle.thumb_syntax.specs.Registers.{register_named, register_in, registers}
+use Rattle.thumb_syntax.specs.Operands.{register_named, register_in, registers}
 use Rattle.thumb_syntax.specs.RegisterView.{named}
 use Rattle.thumb_syntax.specs.RegisterPlaces.{named_at, registers_at, registers_by_place, second_place}
 use Rattle.thumb_syntax.proofs.Spelled.{lowered_alike, lowered_place}

@@ -16,7 +16,7 @@ use Rattle.thumb_instr.proofs.PartLemmas.{made_parts}
 use Rattle.thumb_syntax.specs.Slots.{Fields, empty, filled}
 use Rattle.thumb_syntax.specs.Rows.{Row, with_label, shown_by, read_as, reading, data_rows, memory_rows, control_rows}
 use Rattle.thumb_syntax.specs.RowLaws.{rows, by_row}
-use Rattle.thumb_syntax.specs.Canonical.{mnemonic}
+use Rattle.thumb_syntax.specs.Forms.{mnemonic}
 use Rattle.thumb_syntax.specs.Spelling.{slots_text, operands_text, text_of}
 use Rattle.thumb_syntax.specs.Whole.{WritingReadsBack}
 use Rattle.thumb_syntax.proofs.RowRelation.{reads_some_row}

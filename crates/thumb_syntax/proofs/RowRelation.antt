@@ -2,8 +2,7 @@
 use Rattle.std.proofs.Common.{◌≡◌, ◌∙◌, ◌⊎◌, inl, inr, ℕ, zero, suc, List, [], ◌∷◌, ◌++◌, map, Option, Some, None, refl, sym, ap}
 use Rattle.std.specs.Prelude.{slice_get}
 use Rattle.ascii_scan.specs.Tokens.{Token, word, mark, tokens}
-use Rattle.thumb_syntax.specs.Registers.{first_some, or_else}
-use Rattle.thumb_syntax.specs.Operands.{Operand, operand}
+use Rattle.thumb_syntax.specs.Operands.{first_some, or_else, Operand, operand}
 use Rattle.thumb_syntax.specs.Rows.{Row, Shown, read_as, read_in, read_all, reading_of, data_rows, memory_rows, control_rows}
 use Rattle.thumb_syntax.specs.RowLaws.{rows, by_row, ReadsBySomeRow, RowsAgree}
 use Rattle.thumb_syntax.proofs.Overlap.{rows_alike}

@@ -11,8 +11,7 @@ use Rattle.thumb_syntax.specs.declared.form.Place.{Place}
 use Rattle.thumb_syntax.specs.declared.form.Slot.{Slot}
 use Rattle.thumb_syntax.specs.declared.form.Slot.TheVariants as slot
 use Rattle.thumb_syntax.specs.Operands.{Operand, register, base, number, name, operand, is_name}
-use Rattle.thumb_syntax.specs.Lists.{listed}
-use Rattle.thumb_syntax.specs.Slots.{Fields, at, put, is_in_list, number_held, list_held, taken, filled}
+use Rattle.thumb_syntax.specs.Slots.{listed, Fields, at, put, is_in_list, number_held, list_held, taken, filled}
 use Rattle.thumb_syntax.specs.Spelling.{register_text, number_text, mark_text, list_text, low_bits, stack_bits, sum_text, label_text, label_sum_text, slot_text, slots_text}
 use Rattle.thumb_syntax.specs.Whole.{is_label, is_label_sum}
 use Rattle.thumb_syntax.proofs.Words.{word_read, register_read, base_read, number_read, name_read, label_sum_read, sum_operand}

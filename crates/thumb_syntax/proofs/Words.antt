@@ -14,8 +14,7 @@ use Rattle.ascii_scan.specs.Names.{is_name_byte, is_opening, is_register, is_spe
 use Rattle.ascii_scan.specs.Tokens.{word, tokens, is_inner, begins_inner, front, rest}
 use Rattle.ascii_scan.proofs.TokenLemmas.{tokens_written}
 use Rattle.ascii_scan.proofs.NumeralLemmas.{numeral_decimal}
-use Rattle.thumb_syntax.specs.Registers.{register_named, register_in, registers}
-use Rattle.thumb_syntax.specs.Operands.{Operand, register, base, number, name, sum, operand, or_stray, sum_of, is_plain, is_name}
+use Rattle.thumb_syntax.specs.Operands.{register_named, register_in, registers, Operand, register, base, number, name, sum, operand, or_stray, sum_of, is_plain, is_name}
 use Rattle.thumb_syntax.specs.Spelling.{register_text, number_text, sum_text}
 
 -- a text is one word, which is read as the operand

@@ -9,11 +9,11 @@ use Rattle.thumb_instr.specs.declared.kind.Kind.{Kind}
 use Rattle.thumb_instr.specs.declared.kind.Parts.{Parts}
 use Rattle.thumb_instr.specs.Parts.{of}
 use Rattle.thumb_syntax.specs.Slots.{Fields, empty, is_in_list}
-use Rattle.thumb_syntax.specs.Forms.{first, second, comma, two, three, amount, byte_number, byte_alone, one, label, labelled, same_last, indexed, with_offset, without_offset, from_sp, at_sp, sp_again, written_back, load_apart, load_within}
+use Rattle.thumb_syntax.specs.Shapes.{first, second, comma, two, three, amount, byte_number, byte_alone, one, label, labelled, same_last, indexed, with_offset, without_offset, from_sp, at_sp, sp_again, written_back, load_apart, load_within}
 use Rattle.thumb_syntax.specs.Rows.{Row}
 use Rattle.thumb_syntax.specs.RowLaws.{rows}
-use Rattle.thumb_syntax.specs.Canonical.{mnemonic, slots as canonical}
-use Rattle.thumb_syntax.specs.Spelling.{operands_text}
+use Rattle.thumb_syntax.specs.Forms.{mnemonic}
+use Rattle.thumb_syntax.specs.Spelling.{slots as canonical, operands_text}
 use Rattle.thumb_syntax.specs.Whole.{is_label, is_label_sum, is_unlabelled}
 use Rattle.thumb_syntax.proofs.SlotText.{stored, slots_fit, number_fits}
 

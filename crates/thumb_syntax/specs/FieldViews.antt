@@ -1,11 +1,17 @@
--- The fields of an instruction without where its label lies in memory.
-use Rattle.std.specs.Prelude.{ℕ, List, option_map}
+-- The fields and forms of an instruction without where they lie in memory.
+use Rattle.std.specs.Prelude.{ℕ, List, option_map, map}
 use Rattle.thumb_syntax.specs.declared.fields.Label.{Label}
 use Rattle.thumb_syntax.specs.declared.fields.Fields.{Fields as Slices}
 use Rattle.thumb_syntax.specs.Slots.{Fields}
+use Rattle.std.specs.Borrow.{Bor}
+use Rattle.thumb_syntax.specs.declared.form.Slot.{Slot}
 
 abbrev pub label_of : Label → List ℕ × ℕ
 label_of l = (l.name.now, l.added)
 
 abbrev pub held : Slices → Fields
 held f = record { first = f.first; second = f.second; third = f.third; label = option_map label_of f.label }
+
+-- the forms without where they lie
+abbrev pub forms_at : List (Bor (List Slot)) → List (List Slot)
+forms_at fs = map (λ (ss : Bor (List Slot)). ss.now) fs

@@ -19,104 +19,7 @@ use Rattle.thumb_syntax.specs.declared.form.Slot.{Slot}
 use Rattle.thumb_syntax.specs.declared.form.Slot.TheVariants as slot
 use Rattle.thumb_instr.specs.declared.kind.Kind.{Kind}
 use Rattle.thumb_instr.specs.declared.kind.Kind.TheVariants as kind
-
-abbrev pub first : Slot
-first = slot.Register place.First
-
-abbrev pub second : Slot
-second = slot.Register place.Second
-
-abbrev pub third : Slot
-third = slot.Register place.Third
-
--- one register for the first two
-abbrev pub twice : Slot
-twice = slot.Twice place.First place.Second
-
--- the first register once more
-abbrev pub same : Slot
-same = slot.Same place.First
-
-abbrev pub comma : Slot
-comma = slot.Mark 44
-
-abbrev pub open' : Slot
-open' = slot.Mark 91
-
-abbrev pub close : Slot
-close = slot.Mark 93
-
--- what may follow a mnemonic
-abbrev pub one : List Slot
-one = first ∷ []
-
-abbrev pub two : List Slot
-two = first ∷ comma ∷ second ∷ []
-
--- `d, d, m` and `d, m, d`
-abbrev pub same_first : List Slot
-same_first = first ∷ comma ∷ same ∷ comma ∷ second ∷ []
-
-abbrev pub same_last : List Slot
-same_last = first ∷ comma ∷ second ∷ comma ∷ same ∷ []
-
-abbrev pub three : List Slot
-three = first ∷ comma ∷ second ∷ comma ∷ third ∷ []
-
-abbrev pub twice_and_third : List Slot
-twice_and_third = twice ∷ comma ∷ third ∷ []
-
-abbrev pub amount : ℕ → ℕ → List Slot
-amount least most = first ∷ comma ∷ second ∷ comma ∷ slot.Number place.Third least most 1 ∷ []
-
-abbrev pub twice_amount : ℕ → ℕ → List Slot
-twice_amount least most = twice ∷ comma ∷ slot.Number place.Third least most 1 ∷ []
-
-abbrev pub byte_number : List Slot
-byte_number = first ∷ comma ∷ slot.Number place.Second 0 255 1 ∷ []
-
-abbrev pub same_and_byte : List Slot
-same_and_byte = first ∷ comma ∷ same ∷ comma ∷ slot.Number place.Second 8 255 1 ∷ []
-
-abbrev pub byte_alone : List Slot
-byte_alone = slot.Number place.First 0 255 1 ∷ []
-
-abbrev pub label : List Slot
-label = slot.Label ∷ []
-
-abbrev pub labelled : List Slot
-labelled = first ∷ comma ∷ slot.LabelSum ∷ []
-
-abbrev pub indexed : List Slot
-indexed = first ∷ comma ∷ open' ∷ second ∷ comma ∷ third ∷ close ∷ []
-
-abbrev pub with_offset : ℕ → ℕ → List Slot
-with_offset most step = first ∷ comma ∷ open' ∷ second ∷ comma ∷ slot.Number place.Third 0 most step ∷ close ∷ []
-
-abbrev pub without_offset : List Slot
-without_offset = first ∷ comma ∷ open' ∷ second ∷ close ∷ []
-
-abbrev pub from_sp : List Slot
-from_sp = first ∷ comma ∷ open' ∷ slot.Sp ∷ comma ∷ slot.Number place.Second 0 1020 4 ∷ close ∷ []
-
-abbrev pub at_sp : List Slot
-at_sp = first ∷ comma ∷ open' ∷ slot.Sp ∷ close ∷ []
-
-abbrev pub sp_again : List Slot
-sp_again = slot.Sp ∷ comma ∷ slot.Sp ∷ comma ∷ slot.Number place.First 0 508 4 ∷ []
-
-abbrev pub sp_alone : List Slot
-sp_alone = slot.Sp ∷ comma ∷ slot.Number place.First 0 508 4 ∷ []
-
-abbrev pub written_back : List Slot
-written_back = slot.Base place.First ∷ comma ∷ slot.LowList place.Second ∷ []
-
--- a base that isn't in the list, and one that is
-abbrev pub load_apart : List Slot
-load_apart = slot.Base place.First ∷ comma ∷ slot.LowList place.Second ∷ slot.NotInList place.First place.Second ∷ []
-
-abbrev pub load_within : List Slot
-load_within = first ∷ comma ∷ slot.LowList place.Second ∷ slot.InList place.First place.Second ∷ []
+use Rattle.thumb_syntax.specs.Shapes.{first, second, comma, one, two, same_first, same_last, three, twice_and_third, amount, twice_amount, byte_number, same_and_byte, byte_alone, label, labelled, indexed, with_offset, without_offset, from_sp, at_sp, sp_again, sp_alone, written_back, load_apart, load_within}
 
 pub record Spelling : Type 0 where
   pub mnemonic : List ℕ
@@ -223,3 +126,9 @@ spelling (kind.Barrier barrier.Isb) = spelled (codes "isb") ((slot.Sy ∷ []) �
 spelling (kind.ReadSpecial special.Primask) = spelled (codes "mrs") ((first ∷ comma ∷ slot.Primask ∷ []) ∷ [])
 spelling (kind.ReadSpecial special.Ipsr) = spelled (codes "mrs") ((first ∷ comma ∷ slot.Ipsr ∷ []) ∷ [])
 spelling kind.WriteMask = spelled (codes "msr") ((slot.Primask ∷ comma ∷ first ∷ []) ∷ [])
+
+abbrev pub mnemonic : Kind → List ℕ
+mnemonic k = (spelling k).mnemonic
+
+abbrev pub forms : Kind → List (List Slot)
+forms k = (spelling k).forms

@@ -1,14 +1,12 @@
-pub mod Registers
 pub mod RegisterView
 pub mod RegisterPlaces
 pub mod Operands
 pub mod Views
-pub mod Lists
 pub mod Slots
 pub mod Agreeing
 pub mod FieldViews
+pub mod Shapes
 pub mod Forms
-pub mod Canonical
 pub mod Rows
 pub mod ParsedView
 pub mod Spelling

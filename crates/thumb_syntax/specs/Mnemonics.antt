@@ -6,8 +6,12 @@ use Rattle.ascii_scan.specs.Names.{is_spelled}
 use Rattle.thumb_syntax.specs.declared.form.Mnemonic.{Mnemonic}
 use Rattle.thumb_syntax.specs.Operands.{Operand}
 use Rattle.thumb_syntax.specs.Slots.{empty, filled}
-use Rattle.thumb_syntax.specs.Rows.{Row, Shown, row_of, shown_by}
+use Rattle.thumb_syntax.specs.Rows.{Row, Shown, shown_by}
 use Rattle.thumb_syntax.specs.RowLaws.{rows}
+use Rattle.thumb_syntax.specs.declared.form.Form.{Form}
+
+abbrev pub row_of : Form → Row
+row_of f = record { mnemonic = f.mnemonic.now; slots = f.slots.now; kind = f.kind }
 
 pub record Group : Type 0 where
   pub name : List ℕ

@@ -3,7 +3,7 @@ use Rattle.std.specs.Prelude.{ℕ, ◌%◌, ◌==◌, List, [], ◌∷◌, map}
 use Rattle.std.specs.List.{filter, range_with_len}
 use Rattle.std.specs.Borrow.{Bor}
 use Rattle.thumb_syntax.specs.declared.registers.Register.{Register}
-use Rattle.thumb_syntax.specs.Registers.{registers}
+use Rattle.thumb_syntax.specs.Operands.{registers}
 use Rattle.thumb_syntax.specs.RegisterView.{named}
 
 -- the place of a word's second byte, the same in either case

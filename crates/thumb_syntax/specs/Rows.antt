@@ -16,26 +16,22 @@ use Rattle.thumb_instr.specs.declared.operation.Barrier.TheVariants as barrier
 use Rattle.thumb_instr.specs.declared.operation.Special.TheVariants as special
 use Rattle.ascii_scan.specs.Tokens.{Token, word as text, mark, tokens}
 use Rattle.ascii_scan.specs.Names.{is_spelled}
-use Rattle.thumb_syntax.specs.declared.form.Form.{Form}
 use Rattle.thumb_syntax.specs.declared.form.Slot.{Slot}
 use Rattle.thumb_syntax.specs.declared.form.Slot.TheVariants as slot
 use Rattle.thumb_instr.specs.declared.kind.Kind.{Kind}
 use Rattle.thumb_instr.specs.declared.kind.Kind.TheVariants as kind
-use Rattle.thumb_syntax.specs.Forms.{first, second, twice, comma, two}
-use Rattle.thumb_syntax.specs.Canonical.{mnemonic, forms}
-use Rattle.thumb_syntax.specs.Registers.{first_some, or_else}
-use Rattle.thumb_syntax.specs.Operands.{Operand, operand}
+use Rattle.thumb_syntax.specs.Forms.{mnemonic, forms}
+use Rattle.thumb_syntax.specs.Shapes.{first, second, twice, comma, two}
+use Rattle.thumb_syntax.specs.Operands.{first_some, or_else, Operand, operand}
 use Rattle.thumb_instr.specs.declared.kind.Parts.{Parts}
-use Rattle.thumb_instr.specs.Parts.{made}
+use Rattle.thumb_instr.specs.Parts.{made, parts_of}
 use Rattle.thumb_syntax.specs.Slots.{Fields, empty, filled}
+use Rattle.thumb_instr.specs.declared.instr.Instr.{Instr}
 
 pub record Row : Type 0 where
   pub mnemonic : List ℕ
   pub slots : List Slot
   pub kind : Kind
-
-abbrev pub row_of : Form → Row
-row_of f = record { mnemonic = f.mnemonic.now; slots = f.slots.now; kind = f.kind }
 
 abbrev row : List ℕ → List Slot → Kind → Row
 row m ss k = record { mnemonic = m; slots = ss; kind = k }
@@ -105,6 +101,9 @@ control_rows =
 pub record Shown : Type 0 where
   pub made : Parts
   pub label : Option (List ℕ × ℕ)
+
+abbrev pub shown_with : Instr → Option (List ℕ × ℕ) → Shown
+shown_with i l = record { made = parts_of i; label = l }
 
 abbrev pub with_label : Option (List ℕ × ℕ) → Parts → Shown
 with_label l m = record { made = m; label = l }

@@ -3,9 +3,34 @@ use Rattle.std.specs.Prelude.{ℕ, ◌*◌, ◌/◌, ◌%◌, ◌^◌, ◌++◌,
 use Rattle.std.specs.Fmt.{decimal}
 use Rattle.thumb_syntax.specs.declared.form.Slot.{Slot}
 use Rattle.thumb_syntax.specs.declared.form.Slot.TheVariants as slot
-use Rattle.thumb_syntax.specs.Slots.{Fields, at}
-use Rattle.thumb_syntax.specs.Canonical.{mnemonic, slots}
+use Rattle.thumb_syntax.specs.Slots.{Fields, at, is_in_list}
+use Rattle.thumb_syntax.specs.Forms.{mnemonic, forms}
 use Rattle.thumb_syntax.specs.Rows.{Shown}
+use Rattle.thumb_instr.specs.declared.kind.Kind.{Kind}
+use Rattle.thumb_instr.specs.declared.kind.Kind.TheVariants as kind
+
+-- ---- which form is written ----
+
+-- an offset of 0 isn't written, and the base is written with `!` exactly where it isn't in the list
+abbrev pub is_second : Kind → ℕ → ℕ → ℕ → Bool
+is_second (kind.Offset x) a b c = c == 0
+is_second (kind.Stack x) a b c = b == 0
+is_second kind.LoadMany a b c = is_in_list a b
+is_second k a b c = false
+
+abbrev pub first_of : List (List Slot) → List Slot
+first_of [] = []
+first_of (ss ∷ more) = ss
+
+abbrev pub second_of : List (List Slot) → List Slot
+second_of [] = []
+second_of (ss ∷ more) = first_of more
+
+-- what follows the mnemonic of a kind with these registers and numbers
+abbrev pub slots : Kind → ℕ → ℕ → ℕ → List Slot
+slots k a b c = if is_second k a b c then second_of (forms k) else first_of (forms k)
+
+-- ---- its text ----
 
 -- `r0` to `r12`, `sp`, `lr`, `pc`
 abbrev pub register_text : ℕ → List ℕ

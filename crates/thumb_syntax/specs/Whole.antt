@@ -3,8 +3,7 @@ use Rattle.std.specs.Prelude.{◌≡◌, ℕ, ◌^◌, ◌==◌, ◌&&◌, Bool,
 use Rattle.thumb_instr.specs.declared.instr.Instr.{Instr}
 use Rattle.thumb_instr.specs.declared.instr.Instr.TheVariants as instr
 use Rattle.thumb_syntax.specs.Operands.{is_name}
-use Rattle.thumb_instr.specs.Parts.{parts_of}
-use Rattle.thumb_syntax.specs.Rows.{Shown, reading}
+use Rattle.thumb_syntax.specs.Rows.{reading, shown_with}
 use Rattle.thumb_syntax.specs.Spelling.{text_of}
 
 -- a name with nothing added
@@ -29,9 +28,6 @@ is_whole (instr.BranchIf c i) l = (i.field == 0) && is_label l
 is_whole (instr.Branch i) l = (i.field == 0) && is_label l
 is_whole (instr.Call i) l = (i.field == 0) && is_label l
 is_whole i l = is_unlabelled l
-
-abbrev pub shown_with : Instr → Option (List ℕ × ℕ) → Shown
-shown_with i l = record { made = parts_of i; label = l }
 
 -- the text of an instruction with its label is read as these
 abbrev pub WritingReadsBack : Type 0

@@ -1,6 +1,7 @@
 //! The form of each instruction's canonical text.
 ghost use Rattle.std.specs.Prelude.{◌≡◌};
-ghost use Rattle.thumb_syntax.specs.Canonical.{forms_at, is_second, first_of, second_of, slots};
+ghost use Rattle.thumb_syntax.specs.FieldViews.{forms_at};
+ghost use Rattle.thumb_syntax.specs.Spelling.{is_second, first_of, second_of, slots};
 
 use crate::fields::is_in_list;
 use crate::form::Slot;

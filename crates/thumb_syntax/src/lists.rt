@@ -2,7 +2,7 @@
 ghost use Rattle.std.specs.Prelude.{◌≡◌, ◌<◌, ◌≤◌, ◌+◌, ◌-◌, ◌^◌, option_map};
 ghost use Rattle.thumb_syntax.specs.Views.{view};
 ghost use Rattle.thumb_syntax.specs.LeftView.{left};
-ghost use Rattle.thumb_syntax.specs.Lists.{is_sign, bits_of, joined, added, items, listed};
+ghost use Rattle.thumb_syntax.specs.Slots.{is_sign, bits_of, joined, added, items, listed};
 
 use crate::left::Left;
 use crate::operands::Operand;

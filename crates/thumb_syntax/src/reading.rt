@@ -1,13 +1,12 @@
 //! Which instruction a text is.
 ghost use Rattle.std.specs.Prelude.{◌≡◌, ◌<◌, map, option_map};
 ghost use Rattle.ascii_scan.specs.Tokens.{tokens};
-ghost use Rattle.thumb_syntax.specs.Operands.{operand};
+ghost use Rattle.thumb_syntax.specs.Operands.{operand, first_some};
 ghost use Rattle.thumb_syntax.specs.FieldViews.{held};
 ghost use Rattle.thumb_syntax.specs.LeftView.{left};
 ghost use Rattle.thumb_syntax.specs.ParsedView.{shown};
-ghost use Rattle.thumb_syntax.specs.Registers.{first_some};
-ghost use Rattle.thumb_syntax.specs.Rows.{row_of, shown_by, read_all, reading};
-ghost use Rattle.thumb_syntax.specs.Mnemonics.{group_of, place_of, rows_in, rows_of, read_by};
+ghost use Rattle.thumb_syntax.specs.Rows.{shown_by, read_all, reading};
+ghost use Rattle.thumb_syntax.specs.Mnemonics.{row_of, group_of, place_of, rows_in, rows_of, read_by};
 
 use crate::fields::{Fields, Label, filled};
 use crate::form::{Form, Mnemonic};

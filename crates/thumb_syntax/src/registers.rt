@@ -1,7 +1,7 @@
 //! The names of registers.
 ghost use Rattle.std.specs.Prelude.{◌≡◌, ◌<◌, map, length};
 ghost use Rattle.ascii_scan.specs.Names.{is_spelled};
-ghost use Rattle.thumb_syntax.specs.Registers.{register_named, register_in};
+ghost use Rattle.thumb_syntax.specs.Operands.{register_named, register_in};
 ghost use Rattle.thumb_syntax.specs.RegisterPlaces.{named_at, registers_by_place, second_place};
 ghost use Rattle.thumb_syntax.specs.RegisterView.{named};
 

@@ -1,7 +1,8 @@
 //! The one table of texts: each mnemonic with its kinds of instructions, and what may follow it. Reader and writer both go by it.
 ghost use Rattle.std.specs.Prelude.{◌≡◌, ◌<◌, true, map, length};
 ghost use Rattle.thumb_syntax.specs.Mnemonics.{are_there, are_there_at, forms_of, group_of, named_forms, groups_at};
-ghost use Rattle.thumb_syntax.specs.Canonical.{mnemonic, forms, forms_at};
+ghost use Rattle.thumb_syntax.specs.Forms.{mnemonic, forms};
+ghost use Rattle.thumb_syntax.specs.FieldViews.{forms_at};
 
 use crate::form::{Form, Mnemonic, Place, Slot};
 use thumb_instr::{

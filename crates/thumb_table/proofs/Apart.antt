@@ -24,8 +24,10 @@ use Rattle.thumb_instr.specs.declared.operation.Barrier.TheVariants as barrier
 use Rattle.thumb_instr.specs.declared.operation.Special.TheVariants as special
 use Rattle.thumb_table.specs.declared.row.Piece.{Piece}
 use Rattle.thumb_table.specs.declared.row.Piece.TheVariants.{Fixed}
-use Rattle.thumb_table.specs.Rows.{width, packed, agrees, are_narrow, most}
-use Rattle.thumb_table.specs.Table.{pieces, kinds, kinds_at, whole, begins_with}
+use Rattle.thumb_table.specs.Table.{width, packed, pieces, whole}
+use Rattle.thumb_table.specs.ReadBits.{agrees, are_narrow, most}
+use Rattle.thumb_table.specs.Kinds.{kinds, kinds_at}
+use Rattle.thumb_table.specs.Decoding.{begins_with}
 use Rattle.thumb_table.proofs.Rows.{clash, clash_apart, padded, width_padded, agrees_padded, packed_below}
 
 -- the upper four bits of a row

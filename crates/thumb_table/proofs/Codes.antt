@@ -10,8 +10,10 @@ use Rattle.thumb_table.specs.declared.row.Code.{Code}
 use Rattle.thumb_table.specs.declared.row.Code.TheVariants as code
 use Rattle.thumb_table.specs.declared.row.Operand.{Operand}
 use Rattle.thumb_table.specs.declared.row.Operand.TheVariants as operand
-use Rattle.thumb_table.specs.Rows.{width, number, packed, agrees, read_on}
-use Rattle.thumb_table.specs.Table.{pieces, kinds_at, row_of, whole, begins_with, Encodes, IsCode, read_parts, IsNotOf}
+use Rattle.thumb_table.specs.Table.{width, number, packed, pieces, row_of, whole, Encodes}
+use Rattle.thumb_table.specs.ReadBits.{agrees, read_on}
+use Rattle.thumb_table.specs.Kinds.{kinds_at}
+use Rattle.thumb_table.specs.Decoding.{begins_with, IsCode, read_parts, IsNotOf}
 use Rattle.thumb_table.proofs.Rows.{packed_agrees}
 use Rattle.thumb_table.proofs.Apart.{listed, narrow, one_row, upper, upper_is, begun}
 use Rattle.thumb_table.proofs.Reading.{fit, read_is}

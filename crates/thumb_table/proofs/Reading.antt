@@ -21,8 +21,9 @@ use Rattle.thumb_instr.specs.Roles.{roles}
 use Rattle.thumb_table.specs.declared.row.Operand.{Operand}
 use Rattle.thumb_table.specs.declared.row.Operand.TheVariants as operand
 use Rattle.thumb_table.specs.declared.row.Piece.{Piece}
-use Rattle.thumb_table.specs.Rows.{width_of, number, same, is_about, read_on}
-use Rattle.thumb_table.specs.Table.{pieces, kinds, row_of, code_of}
+use Rattle.thumb_table.specs.Table.{width_of, number, same, pieces, row_of, code_of}
+use Rattle.thumb_table.specs.ReadBits.{is_about, read_on}
+use Rattle.thumb_table.specs.Kinds.{kinds}
 use Rattle.thumb_table.proofs.Rows.{fits, are_free, free_fits, gathered, spans, spanned, read_packed}
 use Rattle.thumb_table.proofs.Apart.{are_all, every, narrow}
 

@@ -10,7 +10,8 @@ use Rattle.thumb_table.specs.declared.row.Operand.{Operand}
 use Rattle.thumb_table.specs.declared.row.Operand.TheVariants as operand
 use Rattle.thumb_table.specs.declared.row.Piece.{Piece}
 use Rattle.thumb_table.specs.declared.row.Piece.TheVariants.{Fixed, Bits, Amount, Same}
-use Rattle.thumb_table.specs.Rows.{width_of, width, number, same, value_of, packed, holds, agrees, is_operand, told, is_about, read_on, is_narrow, are_narrow, most_of, most}
+use Rattle.thumb_table.specs.Table.{width_of, width, number, same, value_of, packed}
+use Rattle.thumb_table.specs.ReadBits.{holds, agrees, is_operand, told, is_about, read_on, is_narrow, are_narrow, most_of, most}
 
 -- ---- what a row makes ----
 

@@ -1,5 +1,10 @@
--- The encodings of instructions, as the tables of the ARM manual's section on the Thumb instruction set encoding.
-use Rattle.std.specs.Prelude.{◌≡◌, ℕ, ◌+◌, ◌-◌, ◌*◌, ◌/◌, ◌^◌, ◌<◌, ◌==◌, ◌||◌, nat_lt, Bool, true, List, [], ◌∷◌, if◌then◌else◌, slice_index_or}
+-- The encodings of instructions, as the tables of the ARM manual's section on the Thumb instruction set encoding: a row is a list of pieces from the highest bit.
+use Rattle.std.specs.Prelude.{ℕ, ◌+◌, ◌*◌, ◌/◌, ◌%◌, ◌^◌, ◌==◌, List, [], ◌∷◌, if◌then◌else◌, ◌≡◌}
+use Rattle.thumb_instr.specs.declared.kind.Parts.{Parts}
+use Rattle.thumb_table.specs.declared.row.Operand.{Operand}
+use Rattle.thumb_table.specs.declared.row.Operand.TheVariants as operand
+use Rattle.thumb_table.specs.declared.row.Piece.{Piece}
+use Rattle.thumb_table.specs.declared.row.Piece.TheVariants.{Fixed, Bits, Amount, Same}
 use Rattle.thumb_instr.specs.declared.instr.Instr.{Instr}
 use Rattle.thumb_instr.specs.declared.kind.Kind.{Kind}
 use Rattle.thumb_instr.specs.declared.kind.Kind.TheVariants as kind
@@ -17,14 +22,42 @@ use Rattle.thumb_instr.specs.declared.operation.Hint.TheVariants as hint
 use Rattle.thumb_instr.specs.declared.operation.Condition.TheVariants as condition
 use Rattle.thumb_instr.specs.declared.operation.Barrier.TheVariants as barrier
 use Rattle.thumb_instr.specs.declared.operation.Special.TheVariants as special
-use Rattle.thumb_instr.specs.declared.kind.Parts.{Parts}
-use Rattle.thumb_instr.specs.Parts.{of, parts_of}
-use Rattle.thumb_table.specs.declared.row.Code.{Code}
-use Rattle.thumb_table.specs.declared.row.Code.TheVariants as code
-use Rattle.thumb_table.specs.declared.row.Operand.TheVariants as operand
-use Rattle.thumb_table.specs.declared.row.Piece.{Piece}
-use Rattle.thumb_table.specs.declared.row.Piece.TheVariants.{Fixed, Bits, Amount, Same}
-use Rattle.thumb_table.specs.Rows.{width, packed, agrees, read_on}
+use Rattle.thumb_instr.specs.Parts.{parts_of}
+
+-- how many bits a piece has, and a row
+abbrev pub width_of : Piece → ℕ
+width_of (Fixed w x) = w
+width_of (Bits w o from least) = w
+width_of (Amount w o) = w
+width_of (Same o a b) = 1
+
+abbrev pub width : List Piece → ℕ
+width [] = 0
+width (p ∷ ps) = width_of p + width ps
+
+-- a register or number of an instruction
+abbrev pub number : Operand → Parts → ℕ
+number operand.First m = m.first
+number operand.Second m = m.second
+number operand.Third m = m.third
+
+-- 1 where two bits are equal: NOT(a EOR b)
+abbrev pub same : ℕ → ℕ → ℕ
+same a b = if a == b then 1 else 0
+
+-- what a piece holds of an instruction
+abbrev pub value_of : Piece → Parts → ℕ
+value_of (Fixed w x) m = x
+value_of (Bits w o from least) m = number o m / 2 ^ from % 2 ^ w
+value_of (Amount w o) m = number o m % 2 ^ w
+value_of (Same o a b) m = same (number o m / 2 ^ a % 2) (number o m / 2 ^ b % 2)
+
+-- the number that the pieces make of an instruction
+unfoldable pub packed : List Piece → Parts → ℕ
+packed [] m = 0
+packed (p ∷ ps) m = value_of p m * 2 ^ width ps + packed ps m
+
+-- ---- the rows ----
 
 -- a low register, and the highest bit of a register where it stands apart
 abbrev first : Piece
@@ -153,161 +186,3 @@ whole ps first second = if width ps == 16 then first else first * 65536 + second
 -- the halfwords are the instruction's, of which a short one has the first alone
 pub record Encodes (i : Instr) (first second : ℕ) : Type 0 where
   pub is : code_of i ≡ whole (row_of i) first second
-
--- no instruction has the halfwords
-abbrev pub IsNoCode : ℕ → ℕ → Type 0
-IsNoCode first second = (i : Instr) → Encodes i first second → ⊥
-
--- how many halfwords a code has, and the number that they make
-abbrev pub halfwords : Code → ℕ
-halfwords (code.One a) = 1
-halfwords (code.Two a b) = 2
-
-abbrev pub whole_of : Code → ℕ
-whole_of (code.One a) = a
-whole_of (code.Two a b) = a * 65536 + b
-
--- the code is the instruction's
-pub record IsCode (i : Instr) (c : Code) : Type 0 where
-  pub long : width (row_of i) ≡ 16 * halfwords c
-  pub is : code_of i ≡ whole_of c
-
--- no two halfwords have the bits of two rows
-abbrev pub AreApart : Type 0
-AreApart = (k l : Kind) (first second : ℕ) → first < 65536 → second < 65536
-    → agrees (pieces k) (whole (pieces k) first second) ≡ true → agrees (pieces l) (whole (pieces l) first second) ≡ true → k ≡ l
-
--- ---- of a row ----
-
--- a first halfword has the fixed bits that a row begins with
-abbrev pub begins_with : List Piece → ℕ → Bool
-begins_with (Fixed w x ∷ ps) a = nat_lt 16 w || (a / 2 ^ (16 - w) == x)
-begins_with ps a = true
-
--- what a code tells of a kind's registers and numbers
-abbrev pub read_parts : Kind → ℕ → Parts
-read_parts k c = of k (read_on operand.First (pieces k) c 0) (read_on operand.Second (pieces k) c 0) (read_on operand.Third (pieces k) c 0)
-
--- no instruction of the row has the halfwords
-abbrev pub IsNotOf : Kind → ℕ → ℕ → Type 0
-IsNotOf k first second = (i : Instr) → (parts_of i).kind ≡ k → Encodes i first second → ⊥
-
--- the kinds by the upper four bits of their rows
-unfoldable pub kinds : List (List Kind)
-kinds =
-    (kind.Movs
-    ∷ kind.ShiftLeft
-    ∷ kind.ShiftRight right.Lsr
-    ∷ [])
-    ∷ (kind.ShiftRight right.Asr
-    ∷ kind.Three sum.Add
-    ∷ kind.Three sum.Sub
-    ∷ kind.ThreeNumber sum.Add
-    ∷ kind.ThreeNumber sum.Sub
-    ∷ [])
-    ∷ (kind.TwoNumber byte.Mov
-    ∷ kind.TwoNumber byte.Cmp
-    ∷ [])
-    ∷ (kind.TwoNumber byte.Add
-    ∷ kind.TwoNumber byte.Sub
-    ∷ [])
-    ∷ (kind.Two operation.And
-    ∷ kind.Two operation.Eor
-    ∷ kind.Two operation.Lsl
-    ∷ kind.Two operation.Lsr
-    ∷ kind.Two operation.Asr
-    ∷ kind.Two operation.Adc
-    ∷ kind.Two operation.Sbc
-    ∷ kind.Two operation.Ror
-    ∷ kind.Two operation.Tst
-    ∷ kind.Two operation.Rsb
-    ∷ kind.Two operation.Cmp
-    ∷ kind.Two operation.Cmn
-    ∷ kind.Two operation.Orr
-    ∷ kind.Two operation.Mul
-    ∷ kind.Two operation.Bic
-    ∷ kind.Two operation.Mvn
-    ∷ kind.Add
-    ∷ kind.Compare
-    ∷ kind.Mov
-    ∷ kind.Bx
-    ∷ kind.Blx
-    ∷ kind.Literal
-    ∷ [])
-    ∷ (kind.Indexed access.Str
-    ∷ kind.Indexed access.Strh
-    ∷ kind.Indexed access.Strb
-    ∷ kind.Indexed access.Ldrsb
-    ∷ kind.Indexed access.Ldr
-    ∷ kind.Indexed access.Ldrh
-    ∷ kind.Indexed access.Ldrb
-    ∷ kind.Indexed access.Ldrsh
-    ∷ [])
-    ∷ (kind.Offset offset.Str
-    ∷ kind.Offset offset.Ldr
-    ∷ [])
-    ∷ (kind.Offset offset.Strb
-    ∷ kind.Offset offset.Ldrb
-    ∷ [])
-    ∷ (kind.Offset offset.Strh
-    ∷ kind.Offset offset.Ldrh
-    ∷ [])
-    ∷ (kind.Stack word.Str
-    ∷ kind.Stack word.Ldr
-    ∷ [])
-    ∷ (kind.Address
-    ∷ kind.StackAddress
-    ∷ [])
-    ∷ (kind.StackMove sum.Add
-    ∷ kind.StackMove sum.Sub
-    ∷ kind.Extend extension.Sxth
-    ∷ kind.Extend extension.Sxtb
-    ∷ kind.Extend extension.Uxth
-    ∷ kind.Extend extension.Uxtb
-    ∷ kind.Push
-    ∷ kind.ChangeState interrupts.Enable
-    ∷ kind.ChangeState interrupts.Disable
-    ∷ kind.Reverse reversal.Rev
-    ∷ kind.Reverse reversal.Rev16
-    ∷ kind.Reverse reversal.Revsh
-    ∷ kind.Pop
-    ∷ kind.Breakpoint
-    ∷ kind.Hint hint.Nop
-    ∷ kind.Hint hint.Yield
-    ∷ kind.Hint hint.Wfe
-    ∷ kind.Hint hint.Wfi
-    ∷ kind.Hint hint.Sev
-    ∷ [])
-    ∷ (kind.StoreMany
-    ∷ kind.LoadMany
-    ∷ [])
-    ∷ (kind.BranchIf condition.Eq
-    ∷ kind.BranchIf condition.Ne
-    ∷ kind.BranchIf condition.Cs
-    ∷ kind.BranchIf condition.Cc
-    ∷ kind.BranchIf condition.Mi
-    ∷ kind.BranchIf condition.Pl
-    ∷ kind.BranchIf condition.Vs
-    ∷ kind.BranchIf condition.Vc
-    ∷ kind.BranchIf condition.Hi
-    ∷ kind.BranchIf condition.Ls
-    ∷ kind.BranchIf condition.Ge
-    ∷ kind.BranchIf condition.Lt
-    ∷ kind.BranchIf condition.Gt
-    ∷ kind.BranchIf condition.Le
-    ∷ kind.Service
-    ∷ [])
-    ∷ (kind.Branch
-    ∷ [])
-    ∷ (kind.Call
-    ∷ kind.Barrier barrier.Dsb
-    ∷ kind.Barrier barrier.Dmb
-    ∷ kind.Barrier barrier.Isb
-    ∷ kind.ReadSpecial special.Primask
-    ∷ kind.ReadSpecial special.Ipsr
-    ∷ kind.WriteMask
-    ∷ [])
-    ∷ []
-
-abbrev pub kinds_at : ℕ → List Kind
-kinds_at n = slice_index_or kinds n []

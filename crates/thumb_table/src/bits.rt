@@ -1,6 +1,7 @@
 //! Rows of bits, packed and taken apart.
 ghost use Rattle.std.specs.Prelude.{◌≡◌, ◌+◌, ◌%◌, ◌<◌, ◌≤◌, ◌^◌, true, if◌then◌else◌};
-ghost use Rattle.thumb_table.specs.Rows.{width_of, width, number, same, value_of, packed, holds, agrees, is_operand, is_about, told, read_on, is_narrow, are_narrow, most_of, most};
+ghost use Rattle.thumb_table.specs.Table.{width_of, width, number, same, value_of, packed};
+ghost use Rattle.thumb_table.specs.ReadBits.{holds, agrees, is_operand, is_about, told, read_on, is_narrow, are_narrow, most_of, most};
 
 use crate::row::{Operand, Piece};
 use thumb_instr::Parts;
@@ -50,7 +51,7 @@ fn lowest(number: u64, bits: u32) -> u64
 }
 
 /// Whether a number has the bits of a row that is so many bits wide.
-#[tactic(auto, unfolding(crate::specs::Rows::agrees))]
+#[tactic(auto, unfolding(crate::specs::ReadBits::agrees))]
 pub fn agrees(pieces: &[Piece], wide: u32, code: u32) -> bool
     requires wide { wide ≡ width pieces.now }
     requires long { wide ≤ 32 }
@@ -106,7 +107,7 @@ fn value_of(piece: &Piece, parts: &Parts) -> u64
 }
 
 /// The number that a row, so many bits wide, makes of an instruction.
-#[tactic(auto, using(crate::proofs::Rows::packed_word), unfolding(crate::specs::Rows::packed, crate::specs::Rows::are_narrow))]
+#[tactic(auto, using(crate::proofs::Rows::packed_word), unfolding(crate::specs::Table::packed, crate::specs::ReadBits::are_narrow))]
 pub fn packed(pieces: &[Piece], wide: u32, parts: &Parts) -> u32
     requires wide { wide ≡ width pieces.now }
     requires long { wide ≤ 32 }
@@ -165,7 +166,7 @@ fn told(operand: Operand, piece: &Piece, value: u64, known: u64) -> u64
 }
 
 /// The register or number that a code tells by a row that is so many bits wide.
-#[tactic(auto, unfolding(crate::specs::Rows::read_on, crate::specs::Rows::are_narrow))]
+#[tactic(auto, unfolding(crate::specs::ReadBits::read_on, crate::specs::ReadBits::are_narrow))]
 pub fn read(operand: Operand, pieces: &[Piece], wide: u32, code: u32) -> u32
     requires wide { wide ≡ width pieces.now }
     requires long { wide ≤ 32 }

@@ -1,8 +1,8 @@
 //! Instructions to codes and back.
 ghost use Rattle.std.specs.Prelude.{◌≡◌, ◌+◌, ◌*◌, ◌^◌, ◌==◌, ◌<◌, ◌≤◌, Some, IfSome, IfNone, if◌then◌else◌};
 ghost use Rattle.thumb_instr.specs.declared.instr.Instr.{Instr};
-ghost use Rattle.thumb_table.specs.Rows.{width, packed};
-ghost use Rattle.thumb_table.specs.Table.{pieces, begins_with, halfwords, whole_of, read_parts, IsCode, Encodes, IsNoCode, IsNotOf};
+ghost use Rattle.thumb_table.specs.Table.{width, packed, pieces, Encodes};
+ghost use Rattle.thumb_table.specs.Decoding.{begins_with, halfwords, whole_of, read_parts, IsCode, IsNoCode, IsNotOf};
 
 use crate::bits::{agrees, packed, read, width};
 use crate::row::{Code, Operand, Piece};

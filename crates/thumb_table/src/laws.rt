@@ -1,6 +1,6 @@
 //! What holds of codes and instructions together.
 ghost use Rattle.std.specs.Prelude.{◌≡◌, Some};
-ghost use Rattle.thumb_table.specs.Table.{AreApart};
+ghost use Rattle.thumb_table.specs.Decoding.{AreApart};
 
 use crate::code::{decode, encode};
 use crate::row::Code;

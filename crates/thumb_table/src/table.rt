@@ -1,6 +1,7 @@
 //! The rows.
 ghost use Rattle.std.specs.Prelude.{◌≡◌, ◌<◌};
-ghost use Rattle.thumb_table.specs.Table.{pieces, kinds_at};
+ghost use Rattle.thumb_table.specs.Table.{pieces};
+ghost use Rattle.thumb_table.specs.Kinds.{kinds_at};
 
 use crate::row::Operand::{First, Second, Third};
 use crate::row::Piece::{self, Amount, Bits, Fixed, Same};
@@ -22,7 +23,7 @@ const THIRD: Piece = Bits(3, Third, 0, 0);
 const HIGH: Piece = Bits(1, First, 3, 0);
 
 /// The kinds by the upper four bits of their rows.
-#[tactic(auto, unfolding(crate::specs::Table::kinds))]
+#[tactic(auto, unfolding(crate::specs::Kinds::kinds))]
 pub fn kinds_at(upper: u32) -> &'static [Kind]
     requires { upper < 16 }
     ensures { result.now ≡ kinds_at upper }

@@ -14,7 +14,7 @@ use Rattle.thumb_model.specs.Flow.{LiveAfter}
 use Rattle.thumb_model.specs.Layout.{size_at, is_among, label_address, set_in, set_address, cleared, or_else, or_first, lies_in, aim_fault, fault_at, faults_from, Layable}
 use Rattle.thumb_model.specs.Rewrite.{Rule, Applies, moved, register_count}
 use Rattle.thumb_model.specs.Rewritten.{Setting, Replacement, is_op, without, labels_kept, new_line, replaced_lines, lines_after_rule, are_joined_from, left_length, left_length_of}
-use Rattle.listing_parser.specs.Replacing.{own_line}
+use Rattle.listing_parser.specs.Parsing.{own_line}
 use Rattle.kept_layout.proofs.Cutting.{two_bytes}
 use Rattle.line_cursor.specs.Cursors.{IsSettled}
 use Rattle.line_cursor.proofs.Settled.{left_places, IsGap, settled_stay, stay_settled}

@@ -17,7 +17,8 @@ use Rattle.thumb_model.specs.Rewrite.{Rule, Applies, AreOver, IsSoundRule, moved
 use Rattle.thumb_model.specs.Rewritten.{Setting, Replacement, replaced_lines, lines_after_rule, lines_after, are_joined_from, AppliesIn}
 use Rattle.thumb_model.specs.Cuts.{AreOps}
 use Rattle.thumb_model.proofs.Lists.{get_drop, length_drop}
-use Rattle.listing_parser.specs.Replacing.{own_line, names_no_label}
+use Rattle.listing_parser.specs.Replacing.{names_no_label}
+use Rattle.listing_parser.specs.Parsing.{own_line}
 use Rattle.liveness.specs.Kept.{KeepsAt}
 use Rattle.liveness.proofs.Applied.{applies_keeps}
 use Rattle.steady_layout.proofs.Laws.{steady_is_layable, steady_stays}

@@ -16,7 +16,7 @@ use Rattle.thumb_model.specs.Rewritten.{replaced_lines}
 use Rattle.thumb_model.specs.Cuts.{AreOps}
 use Rattle.thumb_model.proofs.Lists.{get_front, get_back, get_drop, length_map, length_drop, take_all, take_short}
 use Rattle.thumb_model.proofs.LinesReplaced.{AllOutside, code_replaced}
-use Rattle.listing_parser.specs.Replacing.{own_line}
+use Rattle.listing_parser.specs.Parsing.{own_line}
 use Rattle.liveness.specs.declared.flowing.Flow.{Flow}
 use Rattle.liveness.specs.declared.kept.NewSets.{NewSets}
 use Rattle.liveness.specs.Live.{Sets, set_at, IsLive}

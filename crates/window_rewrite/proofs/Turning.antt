@@ -14,8 +14,8 @@ use Rattle.thumb_model.specs.Rewritten.{Setting, Replacement, AppliesIn, is_op, 
 use Rattle.thumb_model.specs.Cuts.{AreOps}
 use Rattle.thumb_model.proofs.LinesKept.{fewer_after, code_of_after}
 use Rattle.thumb_model.proofs.Table.{window_length}
-use Rattle.listing_parser.specs.Replacing.{own_line}
-use Rattle.listing_parser.specs.TableWords.{DefineOnce}
+use Rattle.listing_parser.specs.Parsing.{own_line}
+use Rattle.listing_parser.specs.Targets.{DefineOnce}
 use Rattle.listing_parser.proofs.ReplaceLemmas.{still_once}
 use Rattle.liveness.specs.Live.{word_of, set_at, IsLive}
 use Rattle.liveness.specs.Kept.{AreFlows, KeepsAt}

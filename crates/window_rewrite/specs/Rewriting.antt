@@ -6,8 +6,9 @@ use Rattle.thumb_model.specs.Rewrite.{Rule}
 use Rattle.thumb_model.specs.Rewritten.{Setting, Replacement}
 use Rattle.label_layout.specs.declared.errors.LayoutError.{LayoutError}
 use Rattle.label_layout.specs.declared.errors.LayoutError.TheVariants as layout
-use Rattle.label_layout.specs.Refusals.{fault_of, first_fault}
-use Rattle.listing_parser.specs.Replacing.{own_line}
+use Rattle.label_layout.specs.Refusals.{fault_of}
+use Rattle.label_layout.specs.Faults.{first_fault}
+use Rattle.listing_parser.specs.Parsing.{own_line}
 use Rattle.window_rewrite.specs.declared.choice.Replacement.{Replacement as Made}
 use Rattle.window_rewrite.specs.declared.errors.RewriteError.{RewriteError}
 use Rattle.window_rewrite.specs.declared.errors.RewriteError.TheVariants as error

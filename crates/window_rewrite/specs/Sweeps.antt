@@ -8,8 +8,8 @@ use Rattle.thumb_model.specs.Listing.{Line, code_of, places_of}
 use Rattle.thumb_model.specs.Layout.{Layable}
 use Rattle.thumb_model.specs.Rewrite.{replaced}
 use Rattle.thumb_model.specs.Rewritten.{Setting, Replacement, AreRewritten, replaced_lines}
-use Rattle.listing_parser.specs.Replacing.{own_line}
-use Rattle.listing_parser.specs.TableWords.{DefineOnce}
+use Rattle.listing_parser.specs.Parsing.{own_line}
+use Rattle.listing_parser.specs.Targets.{DefineOnce}
 use Rattle.liveness.specs.Live.{set_at, IsLive}
 use Rattle.liveness.specs.Growing.{IsGrowing}
 use Rattle.liveness.specs.declared.kept.NewSets.{NewSets}

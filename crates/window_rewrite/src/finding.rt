@@ -6,7 +6,7 @@ ghost use Rattle.thumb_model.specs.Layout.{Layable};
 ghost use Rattle.thumb_model.specs.Listing.{places_of};
 ghost use Rattle.thumb_model.specs.Rewrite.{Rule};
 ghost use Rattle.thumb_model.specs.Rewritten.{NoneApplies, left_length, replaced_lines};
-ghost use Rattle.listing_parser.specs.Replacing.{own_line};
+ghost use Rattle.listing_parser.specs.Parsing.{own_line};
 ghost use Rattle.listing_parser.specs.declared.line.Line.{Line as Lines};
 ghost use Rattle.line_cursor.specs.Lines.{begins_op, lines_in};
 ghost use Rattle.line_cursor.specs.Cursors.{lines_at, place_at};

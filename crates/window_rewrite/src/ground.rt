@@ -18,7 +18,7 @@ impl Ground {
     ghost use Rattle.thumb_model.specs.Layout.{Layable};
     ghost use Rattle.thumb_model.specs.Listing.{Line as Listed};
     ghost use Rattle.thumb_model.specs.Rewritten.{replaced_lines};
-    ghost use Rattle.listing_parser.specs.Replacing.{own_line};
+    ghost use Rattle.listing_parser.specs.Parsing.{own_line};
     ghost use Rattle.line_cursor.specs.Cursors.{lines_at, place_at};
     ghost use Rattle.kept_layout.specs.Kept.{IsLaid};
     ghost use Rattle.window_rewrite.specs.Sweeps.{is_steady, Allows, HasLayout, StandsNear};

@@ -1,7 +1,7 @@
 //! What more comes to be live before a place, carried back along all ways until no set grows any more.
 ghost use Rattle.std.specs.Prelude.{◌≡◌, ◌∷◌, [], ◌+◌, ◌<◌, ◌≤◌, ℕ, Some, length, slice_get, OnOk};
 ghost use Rattle.thumb_model.specs.Listing.{code_of, places_of};
-ghost use Rattle.listing_parser.specs.TableWords.{DefineOnce};
+ghost use Rattle.listing_parser.specs.Targets.{DefineOnce};
 ghost use Rattle.liveness.specs.declared.growing.Source.{Source};
 ghost use Rattle.liveness.specs.Live.{IsLive};
 ghost use Rattle.liveness.specs.Kept.{AreFlows};

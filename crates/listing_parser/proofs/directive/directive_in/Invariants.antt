@@ -1,5 +1,5 @@
 use Rattle.std.proofs.Common.{◌≡◌, map, drop}
-use Rattle.listing_parser.specs.Grammar.{directive_in}
+use Rattle.listing_parser.specs.Directives.{directive_in}
 use Rattle.listing_parser.specs.DirectiveView.{row_of}
 use Rattle.listing_parser.proofs.directive.directive_in.Given as goal
 

@@ -1,7 +1,7 @@
 use Rattle.std.proofs.Common.{◌≡◌, List, ℕ, Some, None, drop, map}
 use Rattle.std.specs.Prelude.{if◌then◌else◌}
 use Rattle.std.specs.Map.{lookup}
-use Rattle.thumb_syntax.specs.Registers.{or_else}
+use Rattle.thumb_syntax.specs.Operands.{or_else}
 use Rattle.thumb_model.specs.Layout.{is_among}
 use Rattle.listing_parser.specs.TableWords.{is_key}
 use Rattle.listing_parser.proofs.index.add_labels.Given as goal

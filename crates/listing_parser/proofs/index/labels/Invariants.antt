@@ -1,6 +1,6 @@
 use Rattle.std.proofs.Common.{◌≡◌, List, ℕ, drop, map}
 use Rattle.std.specs.Map.{lookup}
-use Rattle.thumb_syntax.specs.Registers.{or_else}
+use Rattle.thumb_syntax.specs.Operands.{or_else}
 use Rattle.listing_parser.specs.Views.{line_view}
 use Rattle.listing_parser.specs.TableWords.{is_key, label_line}
 use Rattle.listing_parser.proofs.index.labels.Given as goal

@@ -2,7 +2,7 @@ use Rattle.std.proofs.Common.{List, map, refl, subst}
 use Rattle.listing_parser.specs.declared.line.Line.{Line as Lines}
 use Rattle.listing_parser.specs.Views.{line_view}
 use Rattle.listing_parser.specs.ToldView.{read_view}
-use Rattle.listing_parser.specs.TableWords.{DefineOnce}
+use Rattle.listing_parser.specs.Targets.{DefineOnce}
 use Rattle.listing_parser.proofs.FewLemmas.{few_places}
 use Rattle.listing_parser.proofs.ParseLemmas.{refused_line, defined_twice, listed, off_target}
 use Rattle.listing_parser.proofs.parsing.parse.Goals as goal

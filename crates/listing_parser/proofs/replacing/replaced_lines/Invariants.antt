@@ -1,7 +1,7 @@
 use Rattle.std.proofs.Common.{◌≡◌, ◌++◌, map, drop}
 use Rattle.thumb_model.specs.Rewritten.{replaced_lines}
 use Rattle.listing_parser.specs.Views.{line_view}
-use Rattle.listing_parser.specs.Replacing.{own_line}
+use Rattle.listing_parser.specs.Parsing.{own_line}
 use Rattle.listing_parser.proofs.replacing.replaced_lines.Given as goal
 
 abbrev pub invariant-loop-n : goal.invariant-loop-n

@@ -2,7 +2,7 @@ use Rattle.std.proofs.Common.{◌≡◌, ◌∙◌, ◌++◌, List, map, ap, app
 use Rattle.std.specs.Prelude.{Decides}
 use Rattle.thumb_model.specs.Listing.{Name}
 use Rattle.listing_parser.specs.Views.{statement_view, names_view}
-use Rattle.listing_parser.specs.TableWords.{set_names, IsAgain}
+use Rattle.listing_parser.specs.Targets.{set_names, IsAgain}
 use Rattle.listing_parser.proofs.FirstTwice.{is_again}
 use Rattle.listing_parser.proofs.TwiceLemmas.{again_decides, again_is, again_then, again_else}
 use Rattle.listing_parser.proofs.twice.add_line.Goals as goal

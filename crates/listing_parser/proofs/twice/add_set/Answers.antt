@@ -4,7 +4,7 @@ use Rattle.std.proofs.lemmas.Result.{IfOk-weaker}
 use Rattle.thumb_model.specs.Layout.{is_among}
 use Rattle.thumb_model.specs.Listing.{Name}
 use Rattle.listing_parser.specs.Views.{statement_view}
-use Rattle.listing_parser.specs.TableWords.{set_names, IsAgain}
+use Rattle.listing_parser.specs.Targets.{set_names, IsAgain}
 use Rattle.listing_parser.proofs.FirstTwice.{is_again}
 use Rattle.listing_parser.proofs.TwiceLemmas.{again_decides, one_again}
 use Rattle.listing_parser.proofs.twice.add_set.Goals as goal

@@ -1,7 +1,7 @@
 use Rattle.std.proofs.Common.{◌≡◌, ◌+◌, [], Some, None, map, sym, arith}
 use Rattle.std.proofs.lemmas.Grind.{common_steps}
 use Rattle.listing_parser.specs.Views.{line_view}
-use Rattle.listing_parser.specs.TableWords.{defined_in}
+use Rattle.listing_parser.specs.Targets.{defined_in}
 use Rattle.listing_parser.proofs.FirstTwice.{first_twice, is_again}
 use Rattle.listing_parser.proofs.TwiceLemmas.{again_is, none_once, some_first}
 use Rattle.listing_parser.proofs.twice.first_twice.Goals as goal

@@ -1,6 +1,6 @@
 use Rattle.std.proofs.Common.{◌≡◌, length, map}
 use Rattle.ascii_scan.specs.Tokens.{tokens}
-use Rattle.listing_parser.specs.Grammar.{values}
+use Rattle.listing_parser.specs.Values.{values}
 use Rattle.listing_parser.specs.Views.{value_view}
 use Rattle.listing_parser.proofs.ValueLemmas.{with_values}
 use Rattle.listing_parser.proofs.values.values.Given as goal

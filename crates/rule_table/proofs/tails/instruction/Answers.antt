@@ -3,10 +3,9 @@ use Rattle.std.specs.Prelude.{option_map}
 use Rattle.std.proofs.lemmas.Bool.{false≢true}
 use Rattle.std.proofs.lemmas.Option.{same_Some}
 use Rattle.thumb_instr.specs.declared.instr.Instr.{Instr}
-use Rattle.thumb_syntax.specs.Rows.{Shown, reading}
+use Rattle.thumb_syntax.specs.Rows.{Shown, reading, shown_with}
 use Rattle.thumb_syntax.specs.FieldViews.{label_of}
 use Rattle.thumb_syntax.specs.ParsedView.{shown}
-use Rattle.thumb_syntax.specs.Whole.{shown_with}
 use Rattle.thumb_syntax.specs.declared.reading.Parsed.{Parsed}
 use Rattle.rule_table.specs.Text.{instr_text}
 use Rattle.rule_table.specs.Valid.{IsInstr}

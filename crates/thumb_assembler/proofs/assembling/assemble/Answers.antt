@@ -5,7 +5,7 @@ use Rattle.listing_parser.specs.Parsing.{text_of_lines}
 use Rattle.listing_parser.specs.Views.{line_view, statement_view}
 use Rattle.label_layout.proofs.Sums.{at_end}
 use Rattle.thumb_model.proofs.Lists.{length_map}
-use Rattle.thumb_assembler.specs.Images.{AreImage}
+use Rattle.thumb_assembler.specs.Bytes.{AreImage}
 use Rattle.thumb_assembler.specs.Pushes.{PushedLaid}
 use Rattle.thumb_assembler.specs.Refusals.{first_flaw}
 use Rattle.thumb_assembler.proofs.Fairness.{listed_fair, few_lines}

@@ -3,7 +3,7 @@ use Rattle.std.specs.List.{flat_map}
 use Rattle.std.proofs.lemmas.List.{take_all}
 use Rattle.thumb_model.specs.Listing.{Line}
 use Rattle.listing_parser.specs.Views.{line_view}
-use Rattle.listing_parser.specs.TableWords.{defined_in}
+use Rattle.listing_parser.specs.Targets.{defined_in}
 use Rattle.thumb_machine.specs.Words.{AreFixed}
 use Rattle.thumb_machine.proofs.WordLemmas.{all_fixed}
 use Rattle.thumb_machine.proofs.laying.fixed_words.Goals as goal

@@ -1,7 +1,7 @@
 use Rattle.std.proofs.Common.{map, take}
 use Rattle.std.specs.List.{flat_map}
 use Rattle.listing_parser.specs.Views.{line_view}
-use Rattle.listing_parser.specs.TableWords.{defined_in}
+use Rattle.listing_parser.specs.Targets.{defined_in}
 use Rattle.thumb_machine.specs.Words.{AreFixed}
 use Rattle.thumb_machine.proofs.laying.fixed_words.Given as goal
 

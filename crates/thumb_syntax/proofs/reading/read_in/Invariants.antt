@@ -1,8 +1,7 @@
 use Rattle.std.proofs.Common.{◌≡◌, map, drop}
 use Rattle.thumb_syntax.specs.LeftView.{left}
-use Rattle.thumb_syntax.specs.Registers.{first_some}
-use Rattle.thumb_syntax.specs.Rows.{row_of}
-use Rattle.thumb_syntax.specs.Mnemonics.{read_by}
+use Rattle.thumb_syntax.specs.Operands.{first_some}
+use Rattle.thumb_syntax.specs.Mnemonics.{row_of, read_by}
 use Rattle.thumb_syntax.proofs.reading.read_in.Given as goal
 
 abbrev pub invariant-loop-form : goal.invariant-loop-form

@@ -1,5 +1,5 @@
 use Rattle.std.proofs.Common.{◌≡◌, map, drop}
-use Rattle.thumb_syntax.specs.Registers.{register_in}
+use Rattle.thumb_syntax.specs.Operands.{register_in}
 use Rattle.thumb_syntax.specs.RegisterView.{named}
 use Rattle.thumb_syntax.proofs.registers.number_in.Given as goal
 

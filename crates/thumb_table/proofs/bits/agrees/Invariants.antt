@@ -1,5 +1,6 @@
 use Rattle.std.proofs.Common.{◌≡◌, ◌≤◌, drop}
-use Rattle.thumb_table.specs.Rows.{width, agrees}
+use Rattle.thumb_table.specs.Table.{width}
+use Rattle.thumb_table.specs.ReadBits.{agrees}
 use Rattle.thumb_table.proofs.bits.agrees.Given as goal
 
 abbrev pub invariant-loop-piece : goal.invariant-loop-piece

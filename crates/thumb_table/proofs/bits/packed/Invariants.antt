@@ -1,5 +1,6 @@
 use Rattle.std.proofs.Common.{◌≡◌, ◌+◌, ◌≤◌, ◌<◌, ◌^◌, true, drop}
-use Rattle.thumb_table.specs.Rows.{width, packed, are_narrow}
+use Rattle.thumb_table.specs.Table.{width, packed}
+use Rattle.thumb_table.specs.ReadBits.{are_narrow}
 use Rattle.thumb_table.proofs.bits.packed.Given as goal
 
 abbrev pub invariant-loop-piece : goal.invariant-loop-piece

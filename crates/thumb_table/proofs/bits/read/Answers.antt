@@ -2,7 +2,8 @@ use Rattle.std.proofs.Common.{◌≡◌, ◌∙◌, ◌+◌, ◌-◌, ◌%◌, �
 use Rattle.std.specs.Prelude.{if◌then◌else◌}
 use Rattle.thumb_table.specs.declared.row.Piece.{Piece}
 use Rattle.thumb_table.specs.declared.row.Piece.TheVariants.{Fixed}
-use Rattle.thumb_table.specs.Rows.{width_of, width, is_about, told, most_of, most}
+use Rattle.thumb_table.specs.Table.{width_of, width}
+use Rattle.thumb_table.specs.ReadBits.{is_about, told, most_of, most}
 use Rattle.thumb_table.proofs.Rows.{cut_at, upper_below}
 use Rattle.thumb_table.proofs.bits.read.Goals as goal
 

@@ -1,5 +1,6 @@
 use Rattle.std.proofs.Common.{◌≡◌, ◌+◌, ◌≤◌, ◌<◌, ◌^◌, true, drop}
-use Rattle.thumb_table.specs.Rows.{width, read_on, are_narrow, most}
+use Rattle.thumb_table.specs.Table.{width}
+use Rattle.thumb_table.specs.ReadBits.{read_on, are_narrow, most}
 use Rattle.thumb_table.proofs.bits.read.Given as goal
 
 abbrev pub invariant-loop-piece : goal.invariant-loop-piece

@@ -1,5 +1,5 @@
 use Rattle.std.proofs.Common.{◌≡◌, ◌+◌, drop}
-use Rattle.thumb_table.specs.Rows.{width}
+use Rattle.thumb_table.specs.Table.{width}
 use Rattle.thumb_table.proofs.bits.width.Given as goal
 
 abbrev pub invariant-loop-piece : goal.invariant-loop-piece

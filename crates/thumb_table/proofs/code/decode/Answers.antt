@@ -4,7 +4,8 @@ use Rattle.std.proofs.lemmas.Option.{slice_get_within, get_or_from_slice_get}
 use Rattle.std.proofs.lemmas.Bool.{cases_lt}
 use Rattle.thumb_instr.specs.declared.kind.Kind.{Kind}
 use Rattle.thumb_instr.specs.declared.kind.Kind.TheVariants as kind
-use Rattle.thumb_table.specs.Table.{kinds_at, IsNotOf}
+use Rattle.thumb_table.specs.Kinds.{kinds_at}
+use Rattle.thumb_table.specs.Decoding.{IsNotOf}
 use Rattle.thumb_table.proofs.Codes.{none_encodes, one_instr}
 use Rattle.thumb_table.proofs.code.decode.Goals as goal
 

@@ -1,7 +1,8 @@
 use Rattle.std.proofs.Common.{◌≡◌, ℕ, ◌/◌, ◌<◌, Some}
 use Rattle.std.specs.Prelude.{slice_get}
 use Rattle.thumb_instr.specs.declared.kind.Kind.{Kind}
-use Rattle.thumb_table.specs.Table.{kinds_at, IsNotOf}
+use Rattle.thumb_table.specs.Kinds.{kinds_at}
+use Rattle.thumb_table.specs.Decoding.{IsNotOf}
 use Rattle.thumb_table.proofs.code.decode.Given as goal
 
 abbrev pub invariant-loop-kind : goal.invariant-loop-kind

@@ -4,7 +4,7 @@ use Rattle.std.proofs.lemmas.Result.{IfOk-weaker}
 use Rattle.thumb_model.specs.Layout.{Layable}
 use Rattle.thumb_model.specs.Listing.{Line}
 use Rattle.thumb_model.specs.Rewritten.{replaced_lines}
-use Rattle.listing_parser.specs.Replacing.{own_line}
+use Rattle.listing_parser.specs.Parsing.{own_line}
 use Rattle.line_cursor.specs.Cursors.{lines_at, place_at}
 use Rattle.kept_layout.specs.Kept.{Lays}
 use Rattle.kept_layout.specs.declared.shrinking.Move.{Move}

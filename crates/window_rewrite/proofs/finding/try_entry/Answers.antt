@@ -13,7 +13,7 @@ use Rattle.thumb_model.specs.Listing.{Line, labels_from, places_of}
 use Rattle.thumb_model.specs.Rewrite.{Rule, register_count}
 use Rattle.thumb_model.specs.Rewritten.{left_length, replaced_lines}
 use Rattle.rule_table.specs.declared.table.Entry.{Entry}
-use Rattle.listing_parser.specs.Replacing.{own_line}
+use Rattle.listing_parser.specs.Parsing.{own_line}
 use Rattle.line_cursor.specs.Cursors.{lines_at, place_at, IsSettled}
 use Rattle.table_audit.proofs.Names.{has_one}
 use Rattle.window_rewrite.specs.declared.finding.Rules.{Rules}

@@ -1,6 +1,6 @@
 use Rattle.std.proofs.Common.{◌≡◌, ◌∙◌, ◌<◌, ◌+◌, ◌-◌, ◌*◌, ◌≤◌, ◌∷◌, ◌++◌, [], ℕ, List, length, length-append, ap, arith, sym, subst, mul-le-mul_right}
 use Rattle.thumb_model.specs.Listing.{code_of, places_of, Line}
-use Rattle.listing_parser.specs.TableWords.{DefineOnce}
+use Rattle.listing_parser.specs.Targets.{DefineOnce}
 use Rattle.line_cursor.proofs.Onces.{once_each}
 use Rattle.liveness.specs.Live.{Sets}
 use Rattle.liveness.specs.Growing.{IsGrowing}

@@ -2,7 +2,7 @@ use Rattle.std.proofs.Common.{◌∙◌, ◌-◌, ℕ, List, length, take, drop,
 use Rattle.thumb_model.specs.Listing.{Line}
 use Rattle.thumb_model.specs.Rewritten.{replaced_lines}
 use Rattle.thumb_model.proofs.Lists.{take_all}
-use Rattle.listing_parser.specs.Replacing.{own_line}
+use Rattle.listing_parser.specs.Parsing.{own_line}
 use Rattle.liveness.specs.declared.kept.NewSets.{NewSets}
 use Rattle.line_cursor.specs.declared.cursor.Spot.{Spot}
 use Rattle.line_cursor.specs.Cursors.{place_at, lines_at}

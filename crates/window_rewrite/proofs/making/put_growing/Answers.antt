@@ -2,8 +2,8 @@ use Rattle.std.proofs.Common.{◌∙◌, ◌∷◌, [], ℕ, List, length, ap, a
 use Rattle.thumb_model.specs.Listing.{code_of, places_of, Line}
 use Rattle.liveness.specs.Live.{IsLive}
 use Rattle.line_cursor.specs.declared.cursor.Spot.{Spot}
-use Rattle.listing_parser.specs.Replacing.{own_line}
-use Rattle.listing_parser.specs.TableWords.{DefineOnce}
+use Rattle.listing_parser.specs.Parsing.{own_line}
+use Rattle.listing_parser.specs.Targets.{DefineOnce}
 use Rattle.listing_parser.proofs.ReplaceLemmas.{still_once}
 use Rattle.line_cursor.specs.Cursors.{lines_at, place_at, spots_at, sets_of}
 use Rattle.liveness.specs.Growing.{IsGrowing}

@@ -5,7 +5,7 @@ use Rattle.thumb_instr.specs.declared.instr.Instr.{Instr}
 use Rattle.thumb_model.specs.Layout.{Layable}
 use Rattle.thumb_model.specs.Listing.{Line}
 use Rattle.thumb_model.specs.Rewritten.{replaced_lines}
-use Rattle.listing_parser.specs.Replacing.{own_line}
+use Rattle.listing_parser.specs.Parsing.{own_line}
 use Rattle.kept_layout.specs.declared.kept.KeptLayout.{KeptLayout}
 use Rattle.kept_layout.specs.Stretches.{lessen, shapes_of, AllReach}
 use Rattle.kept_layout.proofs.Giving.{bytes_few, bytes_within, gives, layable_after, reach_after, GivesWay}

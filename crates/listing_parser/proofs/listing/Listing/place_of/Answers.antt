@@ -2,7 +2,7 @@ use Rattle.std.proofs.Common.{◌≡◌, ◌∙◌, Bool, true, false, ℕ, List
 use Rattle.std.specs.Prelude.{slice_get}
 use Rattle.thumb_model.specs.Listing.{Name, Line, Place, code_of, place_of, places_of, labels_from, is_op_place}
 use Rattle.thumb_model.specs.Steps.{label_place}
-use Rattle.listing_parser.specs.TableWords.{DefineOnce}
+use Rattle.listing_parser.specs.Targets.{DefineOnce}
 use Rattle.listing_parser.proofs.TwiceLemmas.{once_none}
 use Rattle.listing_parser.proofs.LabelLemmas.{one_label, code_place}
 use Rattle.listing_parser.proofs.listing.Listing.place_of.Goals as goal

@@ -3,9 +3,9 @@ use Rattle.std.specs.Prelude.{slice_get}
 use Rattle.thumb_model.specs.Listing.{Line, places_of, is_op_place}
 use Rattle.thumb_model.specs.Rewritten.{replaced_lines}
 use Rattle.listing_parser.specs.declared.line.Line.{Line as Lines}
-use Rattle.listing_parser.specs.TableWords.{DefineOnce}
+use Rattle.listing_parser.specs.Targets.{DefineOnce}
 use Rattle.listing_parser.specs.Views.{line_view}
-use Rattle.listing_parser.specs.Replacing.{own_line}
+use Rattle.listing_parser.specs.Parsing.{own_line}
 use Rattle.listing_parser.proofs.ReplaceLemmas.{still_once, still_few}
 use Rattle.listing_parser.proofs.listing.Listing.replaced.Goals as goal
 

@@ -1,43 +1,10 @@
--- A row of bits, as pieces from the highest bit: the number that it makes of an instruction's registers and numbers, and the numbers that have its bits.
+-- The numbers that have a row's bits, and what they tell of an instruction's registers and numbers.
+use Rattle.thumb_table.specs.Table.{width, same}
 use Rattle.std.specs.Prelude.{ℕ, ◌+◌, ◌*◌, ◌/◌, ◌%◌, ◌^◌, ◌==◌, ◌&&◌, Bool, true, false, nat_le, nat_lt, List, [], ◌∷◌, if◌then◌else◌}
-use Rattle.thumb_instr.specs.declared.kind.Parts.{Parts}
 use Rattle.thumb_table.specs.declared.row.Operand.{Operand}
 use Rattle.thumb_table.specs.declared.row.Operand.TheVariants as operand
 use Rattle.thumb_table.specs.declared.row.Piece.{Piece}
 use Rattle.thumb_table.specs.declared.row.Piece.TheVariants.{Fixed, Bits, Amount, Same}
-
--- how many bits a piece has, and a row
-abbrev pub width_of : Piece → ℕ
-width_of (Fixed w x) = w
-width_of (Bits w o from least) = w
-width_of (Amount w o) = w
-width_of (Same o a b) = 1
-
-abbrev pub width : List Piece → ℕ
-width [] = 0
-width (p ∷ ps) = width_of p + width ps
-
--- a register or number of an instruction
-abbrev pub number : Operand → Parts → ℕ
-number operand.First m = m.first
-number operand.Second m = m.second
-number operand.Third m = m.third
-
--- 1 where two bits are equal: NOT(a EOR b)
-abbrev pub same : ℕ → ℕ → ℕ
-same a b = if a == b then 1 else 0
-
--- what a piece holds of an instruction
-abbrev pub value_of : Piece → Parts → ℕ
-value_of (Fixed w x) m = x
-value_of (Bits w o from least) m = number o m / 2 ^ from % 2 ^ w
-value_of (Amount w o) m = number o m % 2 ^ w
-value_of (Same o a b) m = same (number o m / 2 ^ a % 2) (number o m / 2 ^ b % 2)
-
--- the number that the pieces make of an instruction
-unfoldable pub packed : List Piece → Parts → ℕ
-packed [] m = 0
-packed (p ∷ ps) m = value_of p m * 2 ^ width ps + packed ps m
 
 -- whether a piece can hold a number
 abbrev pub holds : Piece → ℕ → Bool
