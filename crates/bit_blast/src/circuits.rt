@@ -1,3 +1,5 @@
+//! The circuits that instructions share, word by word: choosing, comparing with zero and adding. Each says its meaning in truth values, so that no proof
+//! above speaks of single gates.
 ghost use Rattle.std.specs.Prelude.{◌≡◌, IfOk, true, false};
 ghost use Rattle.cnf_gates.specs.declared.bit.Bit.TheVariants.{Constant};
 ghost use Rattle.bit_blast.specs.Words.{filled};

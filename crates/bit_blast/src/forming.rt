@@ -1,3 +1,5 @@
+//! What one instruction does, as gates: a row for each kind, over the same parts and sums as the model, so that a formed state means what the model's
+//! step gives.
 ghost use Rattle.std.specs.Prelude.{◌≡◌, ◌<◌, ◌≤◌, IfOk};
 ghost use Rattle.thumb_model.specs.Effect.{right_shift};
 ghost use Rattle.bit_blast.specs.Forming.{result_of, summed, unflagged, joined_of, shifted_of, rotated_of, multiplied_of, three_of, two_of, byte_of, number_shift};

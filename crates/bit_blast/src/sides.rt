@@ -1,3 +1,4 @@
+//! The formula of a pair of sides: both formed from the same inputs, and one clause that some item of the mask differs.
 ghost use Rattle.std.specs.Prelude.{◌≡◌, ◌↔◌, IfOk, length, take};
 ghost use Rattle.cnf_gates.specs.Gates.{nothing_built};
 ghost use Rattle.thumb_model.specs.Rewrite.{AreOver};

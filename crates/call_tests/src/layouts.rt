@@ -1,3 +1,4 @@
+//! `Layout::change` asks how the lines changed, so it is run here, beside a layout of the changed lines from scratch.
 ghost use Rattle.std.specs.Prelude.{◌≡◌, length};
 ghost use Rattle.thumb_model.specs.Listing.{places_of};
 

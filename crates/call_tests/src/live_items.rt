@@ -1,3 +1,4 @@
+//! `Live::change` asks how the lines changed, so it is run here, beside the sets of the changed lines from scratch.
 use crate::windows::{uxtb, with_one};
 use listing_parser::parse;
 use liveness::{Live, live};

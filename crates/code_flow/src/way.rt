@@ -1,3 +1,4 @@
+//! The edges of the flow graph: what is read and written on the way from an instruction to what may run next.
 use thumb_instr::Items;
 
 /// Where a way leads.

@@ -1,3 +1,4 @@
+//! What is asked of a layout once it is found: addresses by place and by name.
 ghost use Rattle.std.specs.Prelude.{◌≡◌};
 ghost use Rattle.thumb_model.specs.Layout.{cleared as cleared_of};
 

@@ -1,3 +1,4 @@
+//! Why a line can't be laid out, with the number that is told of it.
 use std::alloc::AllocError;
 use thiserror::Error;
 

@@ -1,3 +1,4 @@
+//! The kinds by which a listing's first refused line is told. Their numbers are printed, so their order stays.
 pub use std::alloc::AllocError as Memory;
 use std::alloc::{AllocError, AllocFailed};
 use thiserror::Error;

@@ -1,3 +1,4 @@
+//! A listing is its lines. The tables beside them are found again from the lines alone, so that nothing can disagree with the text.
 ghost use Rattle.std.specs.Prelude.{◌≡◌, option_map, slice_get};
 ghost use Rattle.thumb_model.specs.Listing.{places_in};
 ghost use Rattle.listing_parser.specs.Views.{line_view, place_view};

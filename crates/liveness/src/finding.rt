@@ -1,3 +1,4 @@
+//! Live items from scratch: every place waits once, the last first, and again only where a set that it reads has grown.
 ghost use Rattle.std.specs.Prelude.{◌≡◌, ◌+◌, ◌*◌, ◌≤◌, length, IfOk};
 ghost use Rattle.thumb_model.specs.Listing.{code_of, places_of};
 ghost use Rattle.liveness.specs.Kept.{AreFlows};

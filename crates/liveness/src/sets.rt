@@ -1,3 +1,4 @@
+//! Sets are kept before and after each place, since windows ask for those after and changes of a listing begin from those before.
 use std::marker::Model;
 use thumb_instr::Items;
 

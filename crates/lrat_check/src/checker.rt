@@ -1,3 +1,4 @@
+//! The checker itself. It keeps each live clause under its id and believes no line: a line is added only where its hints make its clause follow.
 ghost use Rattle.std.specs.Prelude.{◌≡◌, ℕ, ◌+◌, ◌≤◌, ◌⊎◌, map, unsigned_abs, OnOk, OnErr, IfErr, IfOk, Bool, true, false, [], All, Any};
 ghost use Rattle.clause_model.specs.Literals.{code_of, codes_of};
 ghost use Rattle.lrat_check.specs.Live.{clause_at, listed, Adds};

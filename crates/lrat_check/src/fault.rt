@@ -1,3 +1,4 @@
+//! Why a line is refused, by what was the first to fail.
 ghost use Rattle.std.specs.Prelude.{◌≡◌};
 
 use std::alloc::{AllocError, AllocFailed};

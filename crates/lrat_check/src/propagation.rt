@@ -1,3 +1,4 @@
+//! The one rule of proof, reverse unit propagation by hints: no search, so a line takes as long as the clauses that it names.
 ghost use Rattle.std.specs.Prelude.{◌≡◌, ℕ, ◌+◌, ◌≤◌, ◌⊎◌, map, unsigned_abs, OnOk, IfErr, [], length};
 ghost use Rattle.clause_model.specs.Literals.{negated, HasDistinctVariables};
 ghost use Rattle.clause_model.specs.Propagation.{Refutes, ReverseUnitPropagation, Stop, StopsAs, hint_lengths};

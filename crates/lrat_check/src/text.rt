@@ -1,3 +1,4 @@
+//! Lines as the common text form has them, read word by word where they lie, so that a long line needs no list of its words.
 ghost use Rattle.std.specs.Prelude.{◌≡◌, ℕ, ℤ, List, [], ◌∷◌, ◌++◌, ◌==◌, map, decimal, All, MatchOption, OnOk, IfOk, IsTrue, ◌↔◌, false};
 ghost use Rattle.std.specs.Fmt.{signed_decimal};
 ghost use Rattle.std.specs.List.{slice_split};

@@ -1,3 +1,5 @@
+//! A log of a search that spent its budget has to add clauses that are each new. Kept are all clauses, deleted ones too, since a log could else add one
+//! clause for ever.
 ghost use Rattle.std.specs.Prelude.{◌≡◌, ℕ, ◌+◌, ◌≤◌, ◌++◌, ◌∷◌, ◌↔◌, List, [], IsTrue, IfOk, OnOk, length, map, sum_by};
 ghost use Rattle.clause_model.specs.Literals.{codes_of, code_of, HasDistinctVariables};
 ghost use Rattle.clause_model.specs.Asserting.{IsNew};

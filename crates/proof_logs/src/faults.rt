@@ -1,3 +1,4 @@
+//! Why a proof or a log is refused, with the number of the line.
 ghost use Rattle.std.specs.Prelude.{◌≡◌};
 
 use std::alloc::AllocError;

@@ -1,3 +1,4 @@
+//! The least line at which a text is no table.
 use std::alloc::AllocError;
 use thiserror::Error;
 

@@ -1,3 +1,4 @@
+//! What one line of a table says. A table is read as a list of such items, whose order is checked apart from their texts.
 use lrat_check::Line;
 use seq_enum::Pool;
 use thumb_instr::{Instr, Mask};

@@ -1,3 +1,4 @@
+//! A map names registers in the order in which a window meets them: canonical register i stands for its i-th.
 ghost use Rattle.std.specs.Prelude.{◌≡◌, ◌≤◌, length, map, slice_get, Some};
 ghost use Rattle.std.specs.Option.{option_and_then};
 

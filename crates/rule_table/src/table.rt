@@ -1,3 +1,4 @@
+//! A table as its text has it. Nothing here says that it is true: that is the audit's work.
 use lrat_check::Line;
 use seq_enum::Pool;
 use thumb_instr::{Mask, Seq};

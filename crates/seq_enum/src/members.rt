@@ -1,3 +1,4 @@
+//! One row of the alphabet, the instructions of one kind: registers and numbers as the digits of a place.
 ghost use Rattle.std.specs.Prelude.{◌≡◌, ◌≤◌, ◌<◌, ◌*◌, length, slice_get, IfSome, IsSome};
 ghost use Rattle.thumb_instr.specs.Parts.{of};
 ghost use Rattle.thumb_instr.specs.Roles.{roles};

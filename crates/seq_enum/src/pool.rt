@@ -1,3 +1,4 @@
+//! The pool of numbers. How many of them an operand takes depends on its range, so counts by range stand here.
 ghost use Rattle.std.specs.Prelude.{◌≡◌, ◌≤◌, ◌<◌, slice_get, length, filter, IfSome, IsSome, IsTrue, ◌↔◌, Some, true};
 ghost use Rattle.seq_enum.specs.Lists.{ascends_from, IsPlace};
 ghost use Rattle.seq_enum.specs.Places.{place_of};

@@ -1,3 +1,4 @@
+//! The order of the rows is part of what a table's numbers mean, so it stands in one list.
 ghost use Rattle.std.specs.Prelude.{◌≡◌, ◌<◌, length, IfSome, IsSome, All};
 ghost use Rattle.seq_enum.specs.Places.{rank};
 ghost use Rattle.seq_enum.specs.Alphabet.{rows};

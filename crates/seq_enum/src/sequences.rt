@@ -1,3 +1,4 @@
+//! Sequences by number: shorter ones first, and among those of one length the first instruction counts most.
 ghost use Rattle.std.specs.Prelude.{◌≡◌, ◌≤◌, ◌<◌, ◌^◌, length, slice_get, Some};
 ghost use Rattle.seq_enum.specs.Alphabet.{alphabet, words, sequences};
 

@@ -1,3 +1,4 @@
+//! An `Audited` is made by the audit alone. Rewriting takes nothing else, so that no rule is applied that was not checked.
 ghost use Rattle.std.specs.Prelude.{◌≡◌};
 ghost use Rattle.rule_table.specs.Valid.{IsTable};
 ghost use Rattle.rule_table.specs.Views.{table_of};

@@ -1,3 +1,4 @@
+//! The causes of a refused table, in the order in which they are looked for; the first entry's first cause is told.
 ghost use Rattle.std.specs.Prelude.{◌≡◌};
 
 use std::alloc::{AllocError, AllocFailed};

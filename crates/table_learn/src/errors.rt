@@ -1,3 +1,4 @@
+//! Why no table is learnt; `Full` carries the table that would be too long, for its size is told.
 ghost use Rattle.std.specs.Prelude.{◌≡◌};
 
 use rule_table::Table;

@@ -1,3 +1,4 @@
+//! The settings are the header that a learnt table gets, so that the audit asks with the same ones.
 ghost use Rattle.std.specs.Prelude.{◌≡◌, ◌<◌, ◌^◌, true};
 ghost use Rattle.seq_enum.specs.Pools.{is_pool};
 

@@ -1,3 +1,4 @@
+//! A line has no bytes for two reasons alone, as what was laid out is within reach: an address that is wanted and not set, or one inside the image.
 use std::alloc::AllocError;
 use thiserror::Error;
 

@@ -1,3 +1,4 @@
+//! Loads and stores. All room that an access needs is asked for before anything is written, so that a refusal of memory changes nothing.
 ghost use Rattle.std.specs.Prelude.{◌≡◌, ◌<◌, ◌≤◌, ◌%◌, ◌^◌, [], ◌∷◌, List, true, false};
 ghost use Rattle.thumb_instr.specs.Shape.{offset_access, word_access};
 ghost use Rattle.thumb_model.specs.States.{Load, Store, takes};

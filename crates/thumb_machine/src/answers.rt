@@ -1,3 +1,4 @@
+//! What the outside answers, by value: a run is a function of these and of its start.
 ghost use Rattle.std.specs.Prelude.{◌≡◌, ◌<◌, [], ◌∷◌, length, drop, MatchOption};
 
 use std::marker::Model;

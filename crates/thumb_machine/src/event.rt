@@ -1,3 +1,4 @@
+//! What can be seen of a run. Two listings are the same where these are.
 use arrayvec::ArrayVec;
 
 /// What can be seen of a run. Sizes are in bytes, and a word is one that a branch went by.

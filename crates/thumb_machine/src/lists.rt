@@ -1,3 +1,4 @@
+//! Instructions with lists of registers, whose parts happen in order and all or not at all.
 ghost use Rattle.std.specs.Prelude.{◌≡◌, ◌<◌, ◌≤◌, ◌+◌, ◌*◌, [], ◌∷◌, ◌++◌, List, filter, true, length, map, if◌then◌else◌};
 ghost use Rattle.thumb_instr.specs.Items.{has};
 ghost use Rattle.thumb_instr.specs.Shape.{registers_in, pushed};

@@ -1,3 +1,4 @@
+//! The machine that a caller steps: a world, a program and where it is.
 ghost use Rattle.std.specs.Prelude.{◌≡◌, ◌<◌, ◌+◌, ◌-◌, ◌^◌, [], ◌∷◌, slice_get, Some, IfOk, OnErr};
 ghost use Rattle.thumb_model.specs.Listing.{Code, code_of};
 ghost use Rattle.thumb_model.specs.Naming.{Naming as Names};

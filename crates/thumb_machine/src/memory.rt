@@ -1,3 +1,4 @@
+//! Memory as the map that the model has, changed in place.
 ghost use Rattle.std.specs.Prelude.{◌≡◌, ◌<◌, ◌≤◌, ◌+◌, ◌^◌, [], ◌∷◌, length, false, OnOk, ℕ};
 ghost use Rattle.thumb_model.specs.Items.{assigned};
 ghost use Rattle.thumb_model.specs.States.{with_bytes};

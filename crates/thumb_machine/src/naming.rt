@@ -1,3 +1,4 @@
+//! A naming says at which addresses names and return points lie, without saying where anything else does: so two listings can be run under one.
 ghost use Rattle.std.specs.Prelude.{◌≡◌};
 ghost use Rattle.thumb_machine.specs.Naming.{naming_of};
 

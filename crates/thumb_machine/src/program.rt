@@ -1,3 +1,4 @@
+//! What stands at each place, worked out once, so that a step looks no name up.
 ghost use Rattle.std.specs.Prelude.{◌<◌, ◌^◌, vec_len};
 
 use crate::world::{Around, Landing, Lands};

@@ -1,3 +1,4 @@
+//! The registers of a machine; computing on them is shared with windows.
 ghost use Rattle.std.specs.Prelude.{◌≡◌, ◌<◌, ◌≤◌, [], ◌∷◌};
 ghost use Rattle.std.specs.Int.{bit_at, from_bool};
 ghost use Rattle.thumb_model.specs.Items.{assigned, written_to, n_flag, z_flag, c_flag, v_flag};

@@ -1,3 +1,4 @@
+//! Instructions that only the system sees: each is one event with a code.
 ghost use Rattle.std.specs.Prelude.{◌≡◌, ◌<◌, ◌≤◌, [], ◌∷◌, ◌++◌, List, length, map};
 ghost use Rattle.thumb_model.specs.Items.{sp};
 ghost use Rattle.thumb_model.specs.States.{Sys, Call, answered, answers_with, handed, served, takes, tells};

@@ -1,3 +1,4 @@
+//! What listings and images have in common when they run: what changes, and what has to be said of a place.
 ghost use Rattle.std.specs.Prelude.{◌≡◌, ◌<◌, ◌==◌, ◌%◌, [], ◌∷◌, List, Some, map, if◌then◌else◌};
 ghost use Rattle.thumb_model.specs.States.{ends, tells, puts, registers_left, Left, On};
 ghost use Rattle.thumb_model.specs.Acts.{holds, jumps, branches};

@@ -1,3 +1,5 @@
+//! The form of a row of the encoding table: data, so that encoding, decoding and the laws about both go by the same rows.
+
 /// Which register or number of an instruction, in the order of its text.
 #[derive(Clone, Copy, Debug)]
 pub enum Operand {

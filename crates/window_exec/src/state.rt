@@ -1,3 +1,4 @@
+//! A window's state is small: four registers and the flags, as no rule names more.
 ghost use Rattle.std.specs.Prelude.{◌≡◌, ◌<◌, ◌≤◌, ◌==◌};
 ghost use Rattle.std.specs.Int.{from_bool};
 ghost use Rattle.thumb_model.specs.Items.{v_flag};

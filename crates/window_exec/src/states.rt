@@ -1,3 +1,4 @@
+//! Lists of states that contracts see as lists.
 ghost use Rattle.std.specs.Prelude.{◌≡◌};
 
 use crate::state::WState;

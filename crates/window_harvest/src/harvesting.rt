@@ -1,3 +1,4 @@
+//! The walk over a listing that gathers windows; a pair is known again by its number, so that nothing is hashed twice.
 ghost use Rattle.std.specs.Prelude.{◌≤◌, map, IfOk};
 ghost use Rattle.thumb_model.specs.Listing.{code_of};
 ghost use Rattle.liveness.specs.Live.{IsLive};

@@ -1,3 +1,4 @@
+//! What a search for a replacement finds: the choice with all that is needed to make it, since the search has looked it up already.
 use kept_layout::Move;
 use listing_parser::Listing;
 use rule_table::Map;

@@ -1,3 +1,4 @@
+//! Rewriting refuses nothing but a listing that can't be laid out as it was given.
 use label_layout::{Kind, LayoutError};
 use std::alloc::{AllocError, AllocFailed};
 use thiserror::Error;
