@@ -1,10 +1,8 @@
-//! Tests of calls that require facts of what they are given: sets and layouts brought up to date, windows to learn from, clauses and their watches.
+//! Tests of calls that require facts of what they are given: sets and layouts brought up to date, clauses and their watches.
 #![tactic(auto)]
 
 #[cfg(test)]
 mod arenas;
-#[cfg(test)]
-mod harvests;
 #[cfg(test)]
 mod layouts;
 #[cfg(test)]
