@@ -1,1 +1,4 @@
 pub mod Unique
+pub mod Ways
+pub mod Going
+pub mod GoneRuns
