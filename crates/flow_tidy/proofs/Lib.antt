@@ -2,3 +2,4 @@ pub mod Unique
 pub mod Ways
 pub mod Going
 pub mod GoneRuns
+pub mod Removed
