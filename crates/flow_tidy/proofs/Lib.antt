@@ -3,3 +3,4 @@ pub mod Ways
 pub mod Going
 pub mod GoneRuns
 pub mod Removed
+pub mod Aimed
