@@ -4,3 +4,5 @@ pub mod Going
 pub mod GoneRuns
 pub mod Removed
 pub mod Aimed
+pub mod AimedRuns
+pub mod Whole

@@ -95,11 +95,11 @@ next_may_go code p g = record {
   next = λ h. point (p + 1) (aim_is_point code g.mention (p + 1) g.next);
 }
 
-append_nothing : (xs : List Event) → xs ++ [] ≡ xs
+pub append_nothing : (xs : List Event) → xs ++ [] ≡ xs
 append_nothing [] = refl
 append_nothing (x ∷ xs) = ap (λ l. x ∷ l) (append_nothing xs)
 
-same_events : (w : World) (q : ℕ) (es fs : List Event) → es ≡ fs → state w (Here q) es ≡ state w (Here q) fs
+pub same_events : (w : World) (q : ℕ) (es fs : List Event) → es ≡ fs → state w (Here q) es ≡ state w (Here q) fs
 same_events w q es fs e = ap (state w (Here q)) e
 
 -- a row: such a branch does nothing but go there

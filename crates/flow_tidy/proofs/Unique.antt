@@ -5,7 +5,7 @@ use Rattle.std.proofs.lemmas.Option.{same_Some}
 use Rattle.thumb_instr.specs.declared.instr.Instr.{Instr}
 use Rattle.thumb_model.specs.Listing.{Name, Mention, Place, Op, Line, Code, code_of, place_of}
 use Rattle.thumb_model.proofs.Lists.{cons_same}
-use Rattle.flow_tidy.specs.Chains.{Hops, Leads, IsEnd}
+use Rattle.flow_tidy.specs.Chains.{Hops, HopsBy, IsEnd}
 use Rattle.flow_tidy.specs.Tidied.{Setting, Cause, ToNext, ToEnd, Idle, Change, lines_after, GoesToEnd, IsPossible, HasCause, rank, IsFirst, NonePossible, AreTidied, AllPossible}
 
 -- ---- chains ----
@@ -22,12 +22,12 @@ hop_same code from a b h k =
     sym h.named ∙ same_mention _ _ _ _ here ∙ k.named
 
 -- so is a chain's end
-ends_same : (code : Code) (m n : ℕ) (from a b : Name) → Leads code m from a → ((next : Name) → Hops code a next → ⊥) → Leads code n from b → ((next : Name) → Hops code b next → ⊥) → a ≡ b
+ends_same : (code : Code) (m n : ℕ) (from a b : Name) → HopsBy code m from a → ((next : Name) → Hops code a next → ⊥) → HopsBy code n from b → ((next : Name) → Hops code b next → ⊥) → a ≡ b
 ends_same code zero zero from a b h s k t = sym h ∙ k
 ends_same code zero (suc n) from a b h s k t = absurd (s k.0 (subst (λ (x : Name). Hops code x k.0) h k.1))
 ends_same code (suc m) zero from a b h s k t = absurd (t h.0 (subst (λ (x : Name). Hops code x h.0) k h.1))
 ends_same code (suc m) (suc n) from a b h s k t =
-    ends_same code m n h.0 a b h.2 s (subst (λ (x : Name). Leads code n x b) (sym (hop_same code from h.0 k.0 h.1 k.1)) k.2) t
+    ends_same code m n h.0 a b h.2 s (subst (λ (x : Name). HopsBy code n x b) (sym (hop_same code from h.0 k.0 h.1 k.1)) k.2) t
 
 pub end_same : (code : Code) (from a b : Name) → IsEnd code from a → IsEnd code from b → a ≡ b
 end_same code from a b h k = ends_same code (suc h.more) (suc k.more) from a b h.leads h.stops k.leads k.stops

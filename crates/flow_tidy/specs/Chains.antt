@@ -21,12 +21,12 @@ pub record Hops (code : Code) (from to : Name) : Type 0 where
   pub code_label : IsSome (place_of code to)
 
 -- so many hops lead from a label to a label
-abbrev pub Leads : Code → ℕ → Name → Name → Type 0
-Leads code zero from to = from ≡ to
-Leads code (suc n) from to = (via : Name) × Hops code from via × Leads code n via to
+abbrev pub HopsBy : Code → ℕ → Name → Name → Type 0
+HopsBy code zero from to = from ≡ to
+HopsBy code (suc n) from to = (via : Name) × Hops code from via × HopsBy code n via to
 
 -- the end of the chain that begins at a label: the last label that is hopped to, from which no hop leads on. A label without a hop has none, and nor has a cycle, where a hop always leads on
 pub record IsEnd (code : Code) (from to : Name) : Type 0 where
   pub more : ℕ
-  pub leads : Leads code (suc more) from to
+  pub leads : HopsBy code (suc more) from to
   pub stops : (next : Name) → Hops code to next → ⊥
