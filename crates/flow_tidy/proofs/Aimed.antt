@@ -1,5 +1,5 @@
 -- The listing in which a branch goes to another code label: its places, labels, points and ways.
-use Rattle.std.proofs.Common.{◌≡◌, ◌≢◌, ℕ, zero, suc, ◌+◌, ◌-◌, ◌/◌, ◌≤◌, ◌==◌, ◌&&◌, ◌||◌, Bool, true, false, List, [], ◌∷◌, ◌++◌, length, take, map, Option, Some, None, IsSome, refl, sym, ap, ◌∙◌, subst, ◌⊎◌, inl, inr, arith, eq-eqb, ne_eqb, if◌then◌else◌}
+use Rattle.std.proofs.Common.{◌≡◌, ◌≢◌, ℕ, zero, suc, ◌+◌, ◌-◌, ◌/◌, ◌==◌, ◌&&◌, ◌||◌, Bool, true, false, List, [], ◌∷◌, ◌++◌, length, take, map, Option, Some, None, refl, sym, ap, ◌∙◌, ◌⊎◌, inl, inr, arith, ne_eqb, if◌then◌else◌}
 use Rattle.std.specs.Prelude.{slice_get}
 use Rattle.std.specs.Str.{bytes_eq}
 use Rattle.std.proofs.lemmas.Bool.{cases_eq}
@@ -8,8 +8,8 @@ use Rattle.std.proofs.lemmas.Slice.Eq.{bytes_eq-Decides}
 use Rattle.thumb_instr.specs.declared.instr.Instr.{Instr}
 use Rattle.thumb_instr.specs.declared.instr.Instr.TheVariants as instr
 use Rattle.thumb_model.specs.Items.{one_of}
-use Rattle.thumb_model.specs.Listing.{Name, Mention, Value, Statement, Nothing, Runs, Words, Aligns, Sets, Line, Place, Op, Word, Label, Code, code_of, places_in, places_of, labels_at, labels_from, is_op_place, is_code, place_among, place_of, has_label, mentions, place_mentions, is_mentioned, is_call, call_count, label_places, return_places, IsPoint}
-use Rattle.thumb_model.specs.Machine.{Naming, Fits, HasLiterals, is_word_place, label_place, loads_literal, word_of_place, word_behind, literal_word, word_of_mention, literal_at, points_of, returns_from, points, point_among, aim_of}
+use Rattle.thumb_model.specs.Listing.{Name, Mention, Value, Statement, Nothing, Runs, Words, Aligns, Sets, Line, Place, Op, Word, Label, Code, code_of, places_in, places_of, labels_at, labels_from, is_op_place, is_code, place_among, place_of, has_label, place_mentions, is_mentioned, is_call, call_count, label_places, return_places, IsPoint}
+use Rattle.thumb_model.specs.Machine.{Naming, Fits, HasLiterals, is_word_place, label_place, loads_literal, word_of_place, word_behind, literal_word, word_of_mention, literal_at, points_of, returns_from, points, aim_of}
 use Rattle.thumb_model.specs.Rewritten.{is_op, labels_kept}
 use Rattle.thumb_model.proofs.Points.{point_places}
 use Rattle.flow_tidy.specs.Tidied.{aimed, aimed_line, aimed_lines, is_branch}

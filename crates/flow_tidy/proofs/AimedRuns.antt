@@ -1,5 +1,5 @@
 -- The listing in which a branch goes to the end of its chain runs the same, and reaches the same.
-use Rattle.std.proofs.Common.{◌≡◌, ◌≢◌, ◌↔◌, ℕ, zero, suc, ◌+◌, ◌<◌, ◌≤◌, Bool, true, false, List, [], ◌∷◌, ◌++◌, take, map, Option, Some, None, IsSome, refl, sym, ap, ◌∙◌, subst, ◌⊎◌, inl, inr, arith, if◌then◌else◌}
+use Rattle.std.proofs.Common.{◌≡◌, ◌≢◌, ◌↔◌, ℕ, zero, suc, ◌+◌, ◌<◌, ◌≤◌, Bool, true, false, List, [], Option, Some, None, IsSome, refl, sym, ap, ◌∙◌, subst, ◌⊎◌, inl, inr, arith, if◌then◌else◌}
 use Rattle.std.specs.Prelude.{slice_get}
 use Rattle.std.proofs.lemmas.Bool.{cases_eq}
 use Rattle.std.proofs.lemmas.Option.{same_Some}
@@ -7,14 +7,14 @@ use Rattle.thumb_instr.specs.declared.instr.Instr.{Instr}
 use Rattle.thumb_instr.specs.declared.instr.Instr.TheVariants as instr
 use Rattle.thumb_instr.specs.Shape.{condition_uses}
 use Rattle.thumb_model.specs.Items.{Values}
-use Rattle.thumb_model.specs.Listing.{Name, Mention, Place, Op, Word, Line, Code, code_of, place_of, IsPoint, call_count}
-use Rattle.thumb_model.specs.Machine.{Naming, HasLiterals, World, Around, Target, Inside, Event, At, Here, Ended, State, On, holds, act, jumps, puts, does, around_of, aim_of, target_at, landing, point_among, points, literal_at, step_on, step_at, step, times}
+use Rattle.thumb_model.specs.Listing.{Name, Mention, Place, Op, Word, Line, Code, code_of, place_of, IsPoint}
+use Rattle.thumb_model.specs.Machine.{Naming, World, Around, Target, Event, At, Here, Ended, State, On, holds, act, jumps, puts, does, around_of, aim_of, target_at, landing, point_among, points, step_on, step_at, step, times}
 use Rattle.thumb_model.specs.Flow.{Way, way, Leads, Onward, ToPlace, AnyPoint, Out, jump_way, ways, ways_on, ways_of, Follows}
-use Rattle.thumb_model.specs.Same.{Alike, begun, here_or_ended, Same}
+use Rattle.thumb_model.specs.Same.{Alike, begun, here_or_ended}
 use Rattle.thumb_model.proofs.Simulation.{Advance, sooner, reached}
 use Rattle.thumb_model.proofs.Follow.{Keeps, state}
 use Rattle.flow_tidy.specs.Reached.{Reached, point, along}
-use Rattle.flow_tidy.specs.Chains.{is_always, Hops, HopsBy, IsEnd}
+use Rattle.flow_tidy.specs.Chains.{is_always, Hops, HopsBy}
 use Rattle.flow_tidy.specs.Tidied.{Setting, is_branch, GoesToEnd, aimed_lines}
 use Rattle.flow_tidy.proofs.Ways.{label_is_point}
 use Rattle.flow_tidy.proofs.Removed.{append_nothing, same_events}

@@ -1,19 +1,19 @@
 -- The listing without an instruction that does nothing but go on to the next place runs the same.
-use Rattle.std.proofs.Common.{◌≡◌, ◌≢◌, ℕ, zero, suc, ◌+◌, ◌<◌, ◌≤◌, ◌/◌, ◌&&◌, not, Bool, true, false, List, [], ◌∷◌, ◌++◌, map, Option, Some, None, IsSome, refl, sym, ap, ◌∙◌, subst, ◌⊎◌, inl, inr, arith, if◌then◌else◌}
+use Rattle.std.proofs.Common.{◌≡◌, ◌≢◌, ℕ, zero, suc, ◌+◌, ◌<◌, ◌≤◌, ◌/◌, ◌&&◌, not, true, false, List, [], ◌++◌, Option, Some, None, IsSome, refl, sym, ap, ◌∙◌, subst, ◌⊎◌, inl, inr, arith, if◌then◌else◌}
 use Rattle.std.specs.Prelude.{slice_get}
 use Rattle.std.specs.Option.{option_map}
 use Rattle.std.proofs.lemmas.Bool.{cases_eq}
 use Rattle.thumb_instr.specs.declared.instr.Instr.{Instr}
 use Rattle.thumb_model.specs.Items.{Values, assigned}
-use Rattle.thumb_model.specs.Listing.{Name, Mention, Place, Op, Word, Code, IsPoint, place_of}
-use Rattle.thumb_model.specs.Machine.{Naming, Fits, HasLiterals, label_place, loads_literal, word_of_mention, word_of_place, word_behind, literal_word, literal_at, World, Answer, Around, Act, Event, Fell, Landing, Leaves, Strays, is_odd, is_in_range, Next, On, Stay, To, Over, At, Here, Ended, State, act, arrives, around_of, aim_of, target_at, landing, point_among, points, step_on, step, times}
+use Rattle.thumb_model.specs.Listing.{Name, Mention, Place, Op, Word, Code, place_of}
+use Rattle.thumb_model.specs.Machine.{Naming, HasLiterals, label_place, loads_literal, word_of_mention, word_of_place, word_behind, literal_word, literal_at, World, Answer, Around, Event, Landing, Leaves, Strays, is_odd, is_in_range, Next, On, Stay, To, Over, At, Here, Ended, State, act, arrives, around_of, aim_of, target_at, landing, point_among, points, step_on, step, times}
 use Rattle.thumb_model.specs.Flow.{Leads, Onward, ways, ways_on, ways_of, Follows}
-use Rattle.thumb_model.specs.Same.{has_ended, Alike, here_or_ended, begun, Same}
-use Rattle.thumb_model.specs.Rewrite.{moved, replaced}
+use Rattle.thumb_model.specs.Same.{has_ended, Alike, here_or_ended, begun}
+use Rattle.thumb_model.specs.Rewrite.{replaced}
 use Rattle.thumb_model.proofs.Law.{inside_of, Matches, Taken, law, keys}
 use Rattle.thumb_model.proofs.Simulation.{Advance, sooner, reached}
 use Rattle.thumb_model.proofs.Tied.{TargetTied, LandingTied, NextTied, ActTied, AroundTied, looks_tied, act_tied}
-use Rattle.thumb_model.proofs.Moved.{IsOutside, data_moved, label_place_moved, name_outside, point_at_moved, count_stays, place_moved, fits_stays, literals_stay}
+use Rattle.thumb_model.proofs.Moved.{data_moved, label_place_moved, point_at_moved, count_stays, place_moved, fits_stays, literals_stay}
 use Rattle.thumb_model.proofs.Points.{point_is}
 use Rattle.thumb_model.proofs.Follow.{Keeps, state}
 use Rattle.flow_tidy.specs.Reached.{Reached, point, along}

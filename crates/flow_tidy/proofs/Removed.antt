@@ -1,5 +1,5 @@
 -- Branches to the next place and instructions that nothing reaches may go, from a listing's lines too.
-use Rattle.std.proofs.Common.{◌≡◌, ◌≢◌, ◌↔◌, ℕ, zero, suc, ◌+◌, ◌<◌, ◌≤◌, ◌&&◌, Bool, true, false, List, [], ◌∷◌, ◌++◌, length, drop, Option, Some, None, IsSome, refl, sym, ap, ◌∙◌, subst, ◌⊎◌, inl, inr, arith, eq-eqb, if◌then◌else◌}
+use Rattle.std.proofs.Common.{◌≡◌, ◌≢◌, ◌↔◌, ℕ, zero, suc, ◌+◌, ◌≤◌, ◌&&◌, true, false, List, [], ◌∷◌, ◌++◌, drop, Option, Some, None, refl, sym, ap, ◌∙◌, subst, ◌⊎◌, inl, inr, arith, eq-eqb, if◌then◌else◌}
 use Rattle.std.specs.Prelude.{slice_get}
 use Rattle.std.specs.Str.{bytes_eq}
 use Rattle.std.proofs.lemmas.Bool.{cases_lt}
@@ -8,9 +8,9 @@ use Rattle.thumb_instr.specs.declared.instr.Instr.{Instr}
 use Rattle.thumb_instr.specs.declared.instr.Instr.TheVariants as instr
 use Rattle.thumb_instr.specs.Shape.{condition_uses}
 use Rattle.thumb_model.specs.Items.{one_of}
-use Rattle.thumb_model.specs.Listing.{Name, Mention, Place, Op, Word, Label, Line, Code, code_of, places_of, labels_from, is_code, is_op_place, is_call_instr, place_among, place_of, label_places, return_places, IsPoint}
-use Rattle.thumb_model.specs.Machine.{Naming, World, Target, Inside, Event, Here, State, holds, target_at, jumps, puts, On, does, step, step_on, aim_of, around_of, HasLiterals}
-use Rattle.thumb_model.specs.Flow.{Way, way, Onward, ToPlace, jump_way, ways, ways_on, ways_of, Follows}
+use Rattle.thumb_model.specs.Listing.{Name, Mention, Place, Op, Word, Label, Line, Code, code_of, places_of, labels_from, is_code, is_op_place, is_call_instr, place_among, label_places, return_places, IsPoint}
+use Rattle.thumb_model.specs.Machine.{Naming, World, Target, Inside, Event, Here, holds, target_at, jumps, puts, On, does, step_on, aim_of}
+use Rattle.thumb_model.specs.Flow.{Way, way, Onward, jump_way, ways_on, ways_of, Follows}
 use Rattle.thumb_model.specs.Rewrite.{moved, replaced}
 use Rattle.thumb_model.specs.Rewritten.{AreOps}
 use Rattle.thumb_model.proofs.Lists.{get_drop}
@@ -18,8 +18,7 @@ use Rattle.thumb_model.proofs.Moved.{one_of_back}
 use Rattle.thumb_model.proofs.LinesReplaced.{code_replaced}
 use Rattle.thumb_model.proofs.LinesKept.{outside_of}
 use Rattle.thumb_model.proofs.Follow.{Keeps, state}
-use Rattle.flow_tidy.specs.Reached.{Reached, point, along}
-use Rattle.flow_tidy.specs.Chains.{is_always}
+use Rattle.flow_tidy.specs.Reached.{Reached, point}
 use Rattle.flow_tidy.specs.Tidied.{Setting, is_branch, GoesToNext, IsIdle, lines_without}
 use Rattle.flow_tidy.proofs.Ways.{one_of_first, aim_is_point}
 use Rattle.flow_tidy.proofs.Going.{MayGo, reached_forth, reached_back}

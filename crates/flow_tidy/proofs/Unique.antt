@@ -1,12 +1,12 @@
 -- What tidying leaves is determined and complete.
-use Rattle.std.proofs.Common.{◌≡◌, ℕ, zero, suc, ◌≤◌, true, List, [], ◌∷◌, Option, Some, refl, sym, ap, ◌∙◌, subst, arith}
+use Rattle.std.proofs.Common.{◌≡◌, ℕ, zero, suc, List, [], ◌∷◌, Some, refl, sym, ap, ◌∙◌, subst, arith}
 use Rattle.std.specs.Prelude.{slice_get}
 use Rattle.std.proofs.lemmas.Option.{same_Some}
 use Rattle.thumb_instr.specs.declared.instr.Instr.{Instr}
-use Rattle.thumb_model.specs.Listing.{Name, Mention, Place, Op, Line, Code, code_of, place_of}
+use Rattle.thumb_model.specs.Listing.{Name, Mention, Op, Line, Code, code_of}
 use Rattle.thumb_model.proofs.Lists.{cons_same}
 use Rattle.flow_tidy.specs.Chains.{Hops, HopsBy, IsEnd}
-use Rattle.flow_tidy.specs.Tidied.{Setting, Cause, ToNext, ToEnd, Idle, Change, lines_after, GoesToEnd, IsPossible, HasCause, rank, IsFirst, NonePossible, AreTidied, AllPossible}
+use Rattle.flow_tidy.specs.Tidied.{Setting, Cause, ToNext, ToEnd, Idle, Change, lines_after, GoesToEnd, HasCause, rank, IsFirst, NonePossible, AreTidied, AllPossible}
 
 -- ---- chains ----
 

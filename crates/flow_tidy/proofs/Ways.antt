@@ -1,5 +1,5 @@
 -- Ways, points and marks of places that move.
-use Rattle.std.proofs.Common.{◌≡◌, ℕ, zero, suc, ◌+◌, ◌==◌, ◌&&◌, ◌||◌, Bool, true, false, List, [], ◌∷◌, ◌++◌, map, Option, Some, None, refl, sym, ap, ◌∙◌, subst, ◌⊎◌, inl, inr, arith, eq-eqb, eqb-true, if◌then◌else◌}
+use Rattle.std.proofs.Common.{◌≡◌, ℕ, zero, suc, ◌==◌, ◌&&◌, ◌||◌, Bool, true, false, List, [], ◌∷◌, ◌++◌, map, Option, Some, None, refl, sym, ap, ◌∙◌, eq-eqb, eqb-true, if◌then◌else◌}
 use Rattle.std.specs.Prelude.{slice_get}
 use Rattle.std.specs.Option.{option_map}
 use Rattle.std.specs.Str.{bytes_eq}
@@ -9,9 +9,9 @@ use Rattle.thumb_instr.specs.Shape.{registers_in}
 use Rattle.thumb_instr.specs.declared.instr.Instr.{Instr}
 use Rattle.thumb_instr.specs.declared.instr.Instr.TheVariants as instr
 use Rattle.thumb_model.specs.Items.{one_of, sp}
-use Rattle.thumb_model.specs.Listing.{Name, Mention, Place, Op, Word, Label, Code, is_code, place_among, place_of, label_places, return_places, IsPoint}
+use Rattle.thumb_model.specs.Listing.{Name, Mention, Place, Label, Code, is_code, place_among, place_of, label_places, return_places, IsPoint}
 use Rattle.thumb_model.specs.Machine.{Naming, aim_of, points}
-use Rattle.thumb_model.specs.Flow.{Way, way, Leads, Onward, ToPlace, AnyPoint, Out, left_but, jump_way, call_way, ways_of, ways_on, ways, Follows}
+use Rattle.thumb_model.specs.Flow.{Way, way, Leads, Onward, ToPlace, AnyPoint, Out, left_but, ways_of}
 use Rattle.thumb_model.proofs.Moved.{one_of_back}
 use Rattle.thumb_model.proofs.Points.{point_places}
 

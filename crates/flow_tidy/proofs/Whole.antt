@@ -1,6 +1,6 @@
 -- Each change, and all changes of tidying, keep the runs and what is reached.
-use Rattle.std.proofs.Common.{◌≡◌, ◌↔◌, ℕ, List, [], ◌∷◌, IsSome, refl, sym, subst}
-use Rattle.thumb_model.specs.Listing.{Name, Line, Code, code_of, place_of}
+use Rattle.std.proofs.Common.{◌↔◌, ℕ, List, [], ◌∷◌, sym, subst}
+use Rattle.thumb_model.specs.Listing.{Line, code_of}
 use Rattle.thumb_model.specs.Layout.{Layable}
 use Rattle.thumb_model.proofs.Follow.{Keeps, keeps_refl, keeps_trans}
 use Rattle.flow_tidy.specs.Reached.{Reached}
