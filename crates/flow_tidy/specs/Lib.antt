@@ -1,0 +1,4 @@
+pub mod Reached
+pub mod Chains
+pub mod Tidied
+pub mod Laws

@@ -1,0 +1,43 @@
+//! The laws of tidying. Each is the contract of a function that does nothing.
+
+ghost use Rattle.flow_tidy.specs.Laws.{TidyingIsDetermined, TidyingIsComplete, TidyingKeepsRuns, TidyingStaysLayable, ChangesKeepRuns, LabelsStayCode, ReachedStays, ReachedStaysByEach};
+
+/// The changes and the lines that are left are determined.
+pub fn tidying_is_determined()
+    ensures { TidyingIsDetermined }
+{}
+
+/// Each change was possible in the lines as they then were, and none is in those that are left.
+pub fn tidying_is_complete()
+    ensures { TidyingIsComplete }
+{}
+
+/// Tidying keeps the runs.
+pub fn tidying_keeps_runs()
+    ensures { TidyingKeepsRuns }
+{}
+
+/// Lines that can be laid out stay so.
+pub fn tidying_stays_layable()
+    ensures { TidyingStaysLayable }
+{}
+
+/// One change keeps the runs: a branch to the next place goes, a branch goes to the end of its chain, or an instruction goes that nothing reaches.
+pub fn changes_keep_runs()
+    ensures { ChangesKeepRuns }
+{}
+
+/// Each code label stays one.
+pub fn labels_stay_code()
+    ensures { LabelsStayCode }
+{}
+
+/// What is reached never changes while tidying.
+pub fn reached_stays()
+    ensures { ReachedStays }
+{}
+
+/// What is reached stays so after each change.
+pub fn reached_stays_by_each()
+    ensures { ReachedStaysByEach }
+{}
