@@ -1,5 +1,5 @@
 -- How sets settle, and in how many visits.
-use Rattle.std.proofs.Common.{◌≡◌, ◌≢◌, ℕ, zero, suc, replicate, ◌+◌, ◌-◌, ◌*◌, ◌<◌, ◌≤◌, Bool, true, false, List, [], ◌∷◌, length, mul-le-mul_right, Option, Some, refl, sym, ap, ◌∙◌, ◌⊎◌, inl, inr, arith}
+use Rattle.std.proofs.Common.{◌≡◌, ◌≢◌, ℕ, zero, suc, replicate, ◌+◌, ◌-◌, ◌*◌, ◌^◌, ◌<◌, ◌≤◌, min, Bool, true, false, List, [], ◌∷◌, length, mul-le-mul_right, Option, Some, refl, sym, ap, ◌∙◌, ◌⊎◌, inl, inr, arith}
 use Rattle.std.specs.Prelude.{slice_get}
 use Rattle.thumb_instr.specs.declared.items.Items.{Items}
 use Rattle.thumb_instr.specs.Items.{one_of, has}
@@ -104,3 +104,10 @@ falls left before more q t u b m few (inr e) = let c : (19 * q - u) * (q + 1) �
 
 pub in_all : (start now q t : ℕ) → now ≤ start + (t + 1) * q → t ≤ 19 * q → now ≤ start + (19 * q + 1) * q
 in_all start now q t h few = let c : (t + 1) * q ≤ (19 * q + 1) * q = mul-le-mul_right q (omega arith) in omega arith
+
+-- each visit counts, up to the greatest count
+pub counts : (all steps now left before more : ℕ) → min all (2 ^ 64 - 1) ≤ steps + left → now ≡ min (steps + 1) (2 ^ 64 - 1) → before + 1 ≡ left → before ≤ more → min all (2 ^ 64 - 1) ≤ now + more
+counts all steps now left before more h a b m = omega arith
+
+pub at_most_one : (steps now : ℕ) → now ≡ min (steps + 1) (2 ^ 64 - 1) → now ≤ steps + 1
+at_most_one steps now e = omega arith

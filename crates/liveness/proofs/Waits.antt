@@ -82,6 +82,7 @@ pushed w w' p a l n f e m = record {
   waiting = record { fresh = omega (arith, many, f, a.fresh); again = again; listed = listed; few = few };
   as_many = many;
   kept = kept;
+  no_fewer = omega (arith, f, ap length e, length-append w.again.items (p ∷ []));
 }
   where
     many : length w'.marks.items ≡ length w.marks.items
@@ -175,11 +176,20 @@ fresh_taken w w' p a e f g m =
 -- ---- more wait ----
 
 pub more_same : (w : Waiting) → AreWaiting w → WaitMore w w
-more_same w a = record { waiting = a; as_many = refl; kept = λ q h. h }
+more_same w a = record { waiting = a; as_many = refl; kept = λ q h. h; no_fewer = omega arith }
 
 pub more_on : (w w' w'' : Waiting) → WaitMore w w' → WaitMore w' w'' → WaitMore w w''
-more_on w w' w'' a b = record { waiting = b.waiting; as_many = b.as_many ∙ a.as_many; kept = λ q h. b.kept q (a.kept q h) }
+more_on w w' w'' a b = record { waiting = b.waiting; as_many = b.as_many ∙ a.as_many; kept = λ q h. b.kept q (a.kept q h); no_fewer = omega (arith, a.no_fewer, b.no_fewer) }
 
 -- never more than there are places
 pub few_left : (w : Waiting) → AreWaiting w → left w ≤ length w.marks.items
 few_left w a = let h = count_bound w.marks.items in omega (arith, a.few, h)
+
+none_marked : (ms : List Bool) → ((q : ℕ) → marked ms q ≡ false) → count_marked ms ≡ 0
+unfolding count_marked
+none_marked [] h = refl
+none_marked (m ∷ ms) h = let first : from_bool m ≡ 0 = ap from_bool (h 0) in let rest = none_marked ms (λ q. h (suc q)) in omega arith
+
+-- none waits where none is marked
+pub none_left : (w : Waiting) → AreWaiting w → ((q : ℕ) → marked w.marks.items q ≡ false) → left w ≡ 0
+none_left w a h = let n = none_marked w.marks.items h in omega (arith, a.few, n)

@@ -26,6 +26,7 @@ pub record WaitMore (w w' : Waiting) : Type 0 where
   pub waiting : AreWaiting w'
   pub as_many : length w'.marks.items ≡ length w.marks.items
   pub kept : (q : ℕ) → marked w.marks.items q ≡ true → marked w'.marks.items q ≡ true
+  pub no_fewer : left w ≤ left w'
 
 -- p waits no more
 pub record IsTaken (p : ℕ) (w w' : Waiting) : Type 0 where

@@ -1,5 +1,5 @@
 //! Live items from scratch: every place waits once, the last first, and again only where a set that it reads has grown.
-ghost use Rattle.std.specs.Prelude.{◌≡◌, ◌+◌, ◌*◌, ◌≤◌, length, IfOk};
+ghost use Rattle.std.specs.Prelude.{◌≡◌, ◌+◌, ◌-◌, ◌*◌, ◌^◌, ◌≤◌, min, length, IfOk, OnOk};
 ghost use Rattle.thumb_model.specs.Listing.{code_of, places_of};
 ghost use Rattle.liveness.specs.Kept.{AreFlows};
 ghost use Rattle.liveness.specs.Ways.{AreAllWays};
@@ -19,7 +19,7 @@ use thumb_instr::Items;
 
 /// The items that are live before and after each place of a listing.
 ///
-/// A step is a visit of a place: a look at its ways together with its set.
+/// A step is a visit of a place: a look at its ways together with its set. Each place is visited once at least.
 pub fn live<L: Ledger>(
     alloc: Global,
     listing: &Listing,
@@ -27,6 +27,7 @@ pub fn live<L: Ledger>(
 ) -> Result<Live, Memory>
     ensures live { IfOk result (λ live. IsLive (code_of listing.now) live) }
     ensures cost { steps.new ≤ steps.old + (19 * length (places_of listing.now) + 1) * length (places_of listing.now) }
+    ensures visited { OnOk result (min (steps.old + length (places_of listing.now)) (2 ^ 64 - 1) ≤ steps.new) }
 {
     let ways = all_ways(alloc, listing)?;
     live_by(alloc, listing, &ways, steps)
@@ -42,6 +43,7 @@ pub fn live_and_flows<L: Ledger>(
     ensures live { IfOk result (λ r. IsLive (code_of listing.now) r.0) }
     ensures flows { IfOk result (λ r. AreFlows (code_of listing.now) r.1.items) }
     ensures cost { steps.new ≤ steps.old + (19 * length (places_of listing.now) + 1) * length (places_of listing.now) }
+    ensures visited { OnOk result (min (steps.old + length (places_of listing.now)) (2 ^ 64 - 1) ≤ steps.new) }
 {
     let (ways, flows) = all_ways_and_flows(alloc, listing)?;
     let live = live_by(alloc, listing, &ways, steps)?;
@@ -59,6 +61,7 @@ fn live_by<L: Ledger>(
     requires ways { AreAllWays (code_of listing.now) ways.now }
     ensures live { IfOk result (λ live. IsLive (code_of listing.now) live) }
     ensures cost { steps.new ≤ steps.old + (19 * length (places_of listing.now) + 1) * length (places_of listing.now) }
+    ensures visited { OnOk result (min (steps.old + length (places_of listing.now)) (2 ^ 64 - 1) ≤ steps.new) }
 {
     let graph = graph_of(alloc, listing, ways)?;
     let count = listing.place_count() as usize;

@@ -1,5 +1,5 @@
 //! Visits of places until none would change anything: where the set before a place grows, those from which ways lead to it wait for another visit.
-ghost use Rattle.std.specs.Prelude.{[], ◌∷◌, ◌≡◌, ℕ, ◌+◌, ◌*◌, ◌<◌, ◌≤◌, true, length, OnOk};
+ghost use Rattle.std.specs.Prelude.{[], ◌∷◌, ◌≡◌, ℕ, ◌+◌, ◌-◌, ◌*◌, ◌^◌, ◌<◌, ◌≤◌, true, min, length, OnOk};
 ghost use Rattle.thumb_instr.specs.Items.{one_of};
 ghost use Rattle.thumb_model.specs.Listing.{code_of};
 ghost use Rattle.code_flow.specs.Flow.{way_list};
@@ -7,7 +7,7 @@ ghost use Rattle.liveness.specs.Ways.{AreAllWays};
 ghost use Rattle.liveness.specs.Points.{marked};
 ghost use Rattle.liveness.specs.Passes.{AreClosed, AreSound};
 ghost use Rattle.liveness.specs.Graph.{leads_to, some_leads, ways_at, JumpsTo, AreCallers, IsGraph};
-ghost use Rattle.liveness.specs.Waiting.{AreWaiting, WaitMore};
+ghost use Rattle.liveness.specs.Waiting.{left, AreWaiting, WaitMore};
 ghost use Rattle.liveness.specs.Settling.{IsSettling, Advances};
 
 use crate::graph::{Callers, Graph};
@@ -129,7 +129,8 @@ fn advance<L: Ledger>(
     requires settling { IsSettling (code_of listing.now) ways.now (place ∷ []) found.old waiting.old }
     ensures settling { OnOk result (IsSettling (code_of listing.now) ways.now [] found.new waiting.new) }
     ensures advances { OnOk result (Advances found.old waiting.old found.new waiting.new) }
-    ensures cost { steps.new ≤ steps.old + 1 }
+    ensures more { OnOk result (left waiting.old ≤ left waiting.new) }
+    ensures count { steps.new ≡ min (steps.old + 1) (2 ^ 64 - 1) }
 {
     let points = found.points;
     let at = place as usize;
@@ -164,6 +165,7 @@ pub(crate) fn settle<L: Ledger>(
     ensures sound { OnOk result (AreSound (code_of listing.now) found.new.before.items found.new.points.bits) }
     ensures closed { OnOk result (AreClosed ways.now found.new.before.items found.new.after.items found.new.points.bits) }
     ensures cost { steps.new ≤ steps.old + (19 * length ways.now + 1) * length ways.now }
+    ensures visited { OnOk result (min (steps.old + length ways.now) (2 ^ 64 - 1) ≤ steps.new) }
 {
     let mut waiting = Waiting::all(alloc, listing.place_count())?;
     while let Some(place) = waiting.pop() {

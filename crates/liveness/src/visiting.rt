@@ -1,5 +1,5 @@
 //! A visit of a place: what its ways find by the sets so far comes into the sets before and after it.
-ghost use Rattle.std.specs.Prelude.{[], ◌∷◌, ◌≡◌, ℕ, ◌+◌, ◌<◌, ◌≤◌, length};
+ghost use Rattle.std.specs.Prelude.{[], ◌∷◌, ◌≡◌, ℕ, ◌+◌, ◌-◌, ◌^◌, ◌<◌, min, length};
 ghost use Rattle.thumb_instr.specs.Items.{has};
 ghost use Rattle.code_flow.specs.Flow.{way_list};
 ghost use Rattle.liveness.specs.Passes.{gained, led, there, IsVisit};
@@ -88,7 +88,7 @@ pub(crate) fn visit<L: Ledger>(
     ensures visit { IsVisit (way_list ways) is_point place found.old.before.items found.old.after.items found.old.points.bits found.new.before.items found.new.after.items found.new.points.bits result }
     ensures before_len { length found.new.before.items ≡ length found.old.before.items }
     ensures after_len { length found.new.after.items ≡ length found.old.after.items }
-    ensures cost { steps.new ≤ steps.old + 1 }
+    ensures count { steps.new ≡ min (steps.old + 1) (2 ^ 64 - 1) }
 {
     steps.tick();
     let seen = look(ways, found.before.as_slice(), found.points);

@@ -1,4 +1,4 @@
-use Rattle.std.proofs.Common.{[], ◌+◌, ◌-◌, ◌*◌, ◌≤◌, length}
+use Rattle.std.proofs.Common.{[], ◌+◌, ◌-◌, ◌*◌, ◌^◌, ◌≤◌, min, length}
 use Rattle.thumb_model.specs.Listing.{code_of}
 use Rattle.liveness.specs.Passes.{total}
 use Rattle.liveness.specs.Waiting.{left}
@@ -8,6 +8,7 @@ use Rattle.liveness.proofs.settling.settle.Given as goal
 abbrev pub invariant-loop-place : goal.invariant-loop-place
 invariant-loop-place g l = record {
   settling : IsSettling (code_of l.listing) l.ways [] l.found l.waiting;
+  visited : min (l.fn.steps + length l.ways) (2 ^ 64 - 1) ≤ l.steps + left l.waiting;
   cost : l.steps + left l.waiting ≤ l.fn.steps + (total l.found.before.items + 1) * length l.ways;
 }
 
