@@ -1,4 +1,5 @@
 ghost use Rattle.std.specs.Prelude.{◌≡◌, ℕ, ◌+◌, ◌≤◌, ◌++◌, ◌∷◌, ◌↔◌, List, [], IsTrue, IfOk, OnOk, length, map, sum_by};
+ghost use Rattle.step_ledger.specs.Counts.{RisesByAtLeast};
 ghost use Rattle.clause_model.specs.Literals.{codes_of, code_of, HasDistinctVariables};
 ghost use Rattle.clause_model.specs.Asserting.{IsNew};
 ghost use Rattle.proof_logs.specs.Lists.{Holds};
@@ -54,6 +55,7 @@ impl Clauses {
         ensures new { IfOk result (λ is_new. (clauses : List (List ℕ)) → Holds self.old clauses → IsTrue is_new ↔ IsNew clauses clause.now) }
         ensures added { IfOk result (λ is_new. IsTrue is_new → (clauses : List (List ℕ)) → Holds self.old clauses → Holds self.new (clauses ++ clause.now ∷ [])) }
         ensures cost { (clauses : List (List ℕ)) → Holds self.old clauses → steps.new ≤ steps.old + sum_by length clauses }
+        ensures rises { RisesByAtLeast steps.old steps.new 0 }
     {
         let outcome = is_new(&self.lists, clause, &mut self.members, steps);
         self.members.truncate(0);
@@ -86,6 +88,7 @@ fn is_new<L: Ledger>(
     requires distinct { HasDistinctVariables clause.now }
     ensures new { IfOk result (λ is_new. (clauses : List (List ℕ)) → Holds lists.now clauses → IsTrue is_new ↔ IsNew clauses clause.now) }
     ensures cost { (clauses : List (List ℕ)) → Holds lists.now clauses → steps.new ≤ steps.old + sum_by length clauses }
+    ensures rises { RisesByAtLeast steps.old steps.new 0 }
 {
     take_members(clause, members)?;
     Ok(lists.is_new(members, steps))
