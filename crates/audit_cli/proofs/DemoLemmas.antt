@@ -16,7 +16,7 @@ use Rattle.table_audit.specs.Acceptance.{TableVerdict, IsAccepted}
 use Rattle.table_audit.specs.Shorter.{sequences_below}
 use Rattle.table_audit.specs.Soundness.{rules_of}
 use Rattle.table_audit.proofs.Determined.{table_same}
-use Rattle.table_learn.specs.Settings.{AreInLimits}
+use Rattle.table_learn.specs.Given.{AreInLimits}
 use Rattle.table_learn.specs.Learnt.{width_of}
 use Rattle.window_rewrite.specs.Rewriting.{setting}
 use Rattle.thumb_assembler.specs.Refusals.{first_flaw}

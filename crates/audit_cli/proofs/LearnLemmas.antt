@@ -13,7 +13,8 @@ use Rattle.window_harvest.specs.Harvest.{Pair, Spot, pair_of, spot_of, spots_at,
 use Rattle.table_audit.specs.Canonical.{IsSideOf}
 use Rattle.table_audit.proofs.CanonicalForms.{form_is_side}
 use Rattle.rule_table.specs.Table.{Table}
-use Rattle.table_learn.specs.Settings.{Settings, Window, window_of, IsWindow, AreWindows}
+use Rattle.table_learn.specs.Settings.{Settings, Window}
+use Rattle.table_learn.specs.Given.{window_of, IsWindow, AreWindows}
 use Rattle.command_runs.specs.Plans.{Outcome, Refuses}
 use Rattle.audit_cli.specs.declared.refusal.Refusal.{Refusal}
 use Rattle.audit_cli.specs.Refusals.{refusal_line}

@@ -7,7 +7,7 @@ ghost use Rattle.listing_parser.specs.Parsing.{IsListing, text_of_lines};
 ghost use Rattle.rule_table.specs.Valid.{IsTable};
 ghost use Rattle.rule_table.specs.Views.{table_of};
 ghost use Rattle.table_audit.specs.Acceptance.{IsAccepted};
-ghost use Rattle.table_learn.specs.Settings.{settings_of};
+ghost use Rattle.table_learn.specs.Given.{settings_of};
 ghost use Rattle.thumb_assembler.specs.Following.{IsAssembled};
 ghost use Rattle.thumb_assembler.specs.Refusals.{first_flaw};
 ghost use Rattle.audit_cli.specs.Demo.{DemoComesTo, IsDemo, IsDemoListing, IsRewritingTold, demo_settings, demo_text, own, pair, window_text};

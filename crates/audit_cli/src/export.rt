@@ -3,7 +3,8 @@ ghost use Rattle.std.specs.Prelude.{◌≡◌, ℕ, List, IfOk, map, option_map}
 ghost use Rattle.lrat_check.specs.Content.{content_of};
 ghost use Rattle.rule_table.specs.Refused.{IsText};
 ghost use Rattle.rule_table.specs.Views.{rule_of, table_of};
-ghost use Rattle.table_audit.specs.Sides.{HasFormula, formula_of};
+ghost use Rattle.table_audit.specs.Sides.{formula_of};
+ghost use Rattle.table_audit.specs.Canonical.{HasFormula};
 ghost use Rattle.command_runs.specs.Outcomes.{outcome_view};
 ghost use Rattle.audit_cli.specs.Export.{Exports, entry_at, extracted, proof_text};
 ghost use Rattle.audit_cli.specs.Extracts.{extract_of};

@@ -3,7 +3,7 @@ ghost use Rattle.std.specs.Prelude.{◌≡◌, ◌≤◌, IfOk};
 ghost use Rattle.command_runs.specs.Outcomes.{outcome_view};
 ghost use Rattle.rule_table.specs.Valid.{IsTable};
 ghost use Rattle.rule_table.specs.Views.{table_of};
-ghost use Rattle.table_learn.specs.Settings.{settings_of, AreInLimits};
+ghost use Rattle.table_learn.specs.Given.{settings_of, AreInLimits};
 ghost use Rattle.table_learn.specs.Learnt.{text_length, text_limit};
 ghost use Rattle.audit_cli.specs.Learn.{Learns, LinesLearn, kept_table};
 ghost use Rattle.audit_cli.specs.Lessons.{lesson_of, settings_for};

@@ -11,7 +11,7 @@ ghost use Rattle.rule_table.specs.Valid.{IsTable};
 ghost use Rattle.rule_table.specs.Views.{table_of};
 ghost use Rattle.audit_cli.specs.Refusals.{unlaid_refusal};
 ghost use Rattle.label_layout.specs.Refusals.{fault_of};
-ghost use Rattle.table_learn.specs.Settings.{settings_of, AreInLimits};
+ghost use Rattle.table_learn.specs.Given.{settings_of, AreInLimits};
 ghost use Rattle.table_learn.specs.Learnt.{text_length, text_limit};
 ghost use Rattle.window_harvest.specs.Harvest.{AreHarvest, pair_of};
 ghost use Rattle.audit_cli.specs.Audit.{opens_of};

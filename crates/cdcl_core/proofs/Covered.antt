@@ -11,8 +11,8 @@ use Rattle.clause_model.specs.Asserting.{IsClosed, Frees, IsFreed, IsAsserting}
 use Rattle.clause_model.specs.Propagation.{numbered}
 use Rattle.lrat_check.specs.declared.line.Addition.{Addition}
 use Rattle.cdcl_core.specs.Held.{AreNumbered, Covers}
-use Rattle.cdcl_core.specs.Hinted.{TidyPropagation}
-use Rattle.cdcl_core.specs.Searched.{IsModelOf, Adds}
+use Rattle.cdcl_core.specs.Solved.{TidyPropagation, Adds}
+use Rattle.cdcl_core.specs.Searched.{IsModelOf}
 
 any_within : (a b clause : List ℕ) → All (Contains b) a → Any (Contains a) clause → Any (Contains b) clause
 any_within a b clause w t = (t.0, t.1, t.2, t.3, All-contains (Contains b) a t.1 w t.4)

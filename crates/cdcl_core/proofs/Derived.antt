@@ -15,7 +15,8 @@ use Rattle.unit_propagation.specs.Watching.{IsLater, Rule}
 use Rattle.cdcl_core.specs.Implied.{clauses_of, Level, level_of, IsConflict, IsGround, IsJustified, IsRefutable}
 use Rattle.cdcl_core.specs.Held.{AreNumbered}
 use Rattle.cdcl_core.specs.Assumed.{CanFalsify, IsAssumed}
-use Rattle.cdcl_core.specs.Hinted.{HasReasons, RefutesTidily, TidyPropagation}
+use Rattle.cdcl_core.specs.Hinted.{HasReasons}
+use Rattle.cdcl_core.specs.Solved.{RefutesTidily, TidyPropagation}
 use Rattle.cdcl_core.proofs.Lists.{entry_append, entry_replicate, entry_take, grown_from_keeps}
 use Rattle.cdcl_core.proofs.Grounds.{ground_assumed, ground_later, ground_closed, justified_later, justified_assumed}
 use Rattle.cdcl_core.proofs.Assumptions.{assumed_bounded}

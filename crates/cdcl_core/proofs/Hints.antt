@@ -15,7 +15,8 @@ use Rattle.unit_propagation.specs.Watching.{IsReason}
 use Rattle.cdcl_core.specs.Implied.{clauses_of}
 use Rattle.cdcl_core.specs.Held.{AreNumbered}
 use Rattle.cdcl_core.specs.Analysed.{Sees}
-use Rattle.cdcl_core.specs.Hinted.{HasReasons, IsUsed, RefutesTidily}
+use Rattle.cdcl_core.specs.Hinted.{HasReasons}
+use Rattle.cdcl_core.specs.Solved.{IsUsed, RefutesTidily}
 use Rattle.cdcl_core.proofs.Grounds.{found_at}
 use Rattle.cdcl_core.proofs.Lists.{place_in, nothing_in}
 

@@ -16,5 +16,6 @@ pub mod Sparing
 pub mod Moved
 pub mod Adopted
 pub mod Searches
+pub mod Endings
 pub mod Statements
 pub mod Logs

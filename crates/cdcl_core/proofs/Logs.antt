@@ -11,8 +11,8 @@ use Rattle.lrat_check.specs.declared.line.Line.TheVariants.{Addition as Adding}
 use Rattle.lrat_check.specs.declared.line.Addition.{Addition}
 use Rattle.cdcl_core.specs.Implied.{clauses_of}
 use Rattle.cdcl_core.specs.Held.{Covers}
-use Rattle.cdcl_core.specs.Searched.{IsBase, IsModelOf, Adds}
-use Rattle.cdcl_core.specs.Solved.{literals_in, with_log, Teaches, IsLog, IsRefutation}
+use Rattle.cdcl_core.specs.Searched.{IsBase, IsModelOf}
+use Rattle.cdcl_core.specs.Solved.{Adds, literals_in, with_log, Teaches, IsLog, IsRefutation}
 use Rattle.cdcl_core.proofs.Lists.{All-left}
 use Rattle.cdcl_core.proofs.Covered.{covers_more}
 

@@ -18,7 +18,8 @@ use Rattle.cdcl_core.specs.declared.search.Ending.TheVariants.{Model, Refuted, T
 use Rattle.cdcl_core.specs.Implied.{clauses_of, IsConflict, IsJustified, IsCovered, IsGround, Level, level_of}
 use Rattle.cdcl_core.specs.Assumed.{IsAssumed}
 use Rattle.cdcl_core.specs.Analysed.{AtConflict}
-use Rattle.cdcl_core.specs.Hinted.{HasReasons, RefutesTidily, TidyPropagation}
+use Rattle.cdcl_core.specs.Hinted.{HasReasons}
+use Rattle.cdcl_core.specs.Solved.{RefutesTidily, TidyPropagation}
 use Rattle.cdcl_core.specs.Held.{Covers}
 use Rattle.cdcl_core.specs.Searched.{IsBase, IsModelOf, EndsOver, GoesOn}
 use Rattle.cdcl_core.proofs.Lists.{nothing_in}

@@ -1,3 +1,5 @@
+pub mod Solved
+pub mod Costs
 pub mod Implied
 pub mod Held
 pub mod Assumed
@@ -6,4 +8,3 @@ pub mod Analysed
 pub mod Hinted
 pub mod Dropped
 pub mod Searched
-pub mod Solved

@@ -1,16 +1,14 @@
 -- What a search begins with, and how it ends.
-use Rattle.std.specs.Prelude.{ℕ, pos, ◌≡◌, ◌+◌, List, [], All, Any, Contains, Option, Some, None, map, length}
+use Rattle.std.specs.Prelude.{ℕ, ◌≡◌, ◌+◌, List, [], All, Any, Contains, Option, Some, None, length}
 use Rattle.clause_model.specs.Clauses.{IsConsistent}
 use Rattle.clause_model.specs.Asserting.{IsAsserting}
-use Rattle.clause_model.specs.Propagation.{numbered}
 use Rattle.clause_arena.specs.Contents.{Content, HasLiteral, references_of}
 use Rattle.unit_propagation.specs.Watching.{IsAttached, IsKnown}
-use Rattle.lrat_check.specs.declared.line.Addition.{Addition}
 use Rattle.cdcl_core.specs.declared.search.Ending.{Ending}
 use Rattle.cdcl_core.specs.declared.search.Ending.TheVariants.{Model, Refuted, Taught}
 use Rattle.cdcl_core.specs.Implied.{clauses_of, IsConflict, IsJustified, IsCovered, AreSpare}
 use Rattle.cdcl_core.specs.Held.{Covers}
-use Rattle.cdcl_core.specs.Hinted.{TidyPropagation}
+use Rattle.cdcl_core.specs.Solved.{Adds}
 
 -- the arena has the clauses; what is true follows from them, and either a clause is false, or each watches two literals or has a true one, and those that are dropped are spare
 pub record IsBase (clauses : List (List ℕ)) (size : ℕ) (content : Content) (references : List ℕ) (reasons : List (Option ℕ)) (trail : List ℕ) (conflict : Option ℕ) : Type 0 where
@@ -29,13 +27,6 @@ pub record IsBase (clauses : List (List ℕ)) (size : ℕ) (content : Content) (
 pub record IsModelOf (clauses : List (List ℕ)) (a : List ℕ) : Type 0 where
   pub consistent : IsConsistent a
   pub holds : All (λ clause. Any (Contains a) clause) clauses
-
--- a line adds these literals under the number after those of the clauses, by hints with none to spare
-pub record Adds (clauses : List (List ℕ)) (line : Addition) : Type 0 where
-  pub id : line.id ≡ length clauses + 1
-  pub hints : List ℕ
-  pub hints_are : line.hints.items ≡ map pos hints
-  pub tidy : TidyPropagation (numbered clauses) line.literals.items hints
 
 -- a model, the empty clause, or an asserting clause
 abbrev pub EndsAs : List (List ℕ) → List ℕ → Ending → Type 0

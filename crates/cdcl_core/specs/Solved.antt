@@ -1,18 +1,40 @@
 -- What the verdicts say.
-use Rattle.std.specs.Prelude.{ℕ, ◌≡◌, ◌<◌, ◌≤◌, ◌*◌, ◌⊎◌, Bool, List, [], ◌∷◌, ◌++◌, All, Any, map, length, take, get_or}
-use Rattle.clause_model.specs.Literals.{codes_of}
+use Rattle.std.specs.Prelude.{ℕ, pos, ◌≡◌, ◌<◌, ◌≤◌, ◌+◌, ◌*◌, ◌⊎◌, Bool, List, [], ◌∷◌, ◌++◌, All, Any, Contains, Option, Some, map, length, take, get_or}
+use Rattle.clause_model.specs.Literals.{codes_of, negated}
+use Rattle.clause_model.specs.Clauses.{AllFalse, IsUnit}
+use Rattle.clause_model.specs.Propagation.{numbered}
 use Rattle.clause_model.specs.Asserting.{IsAsserting}
 use Rattle.cnf_gates.specs.Cnf.{Cnf}
 use Rattle.cnf_gates.specs.Meaning.{IsModel}
+use Rattle.lrat_check.specs.declared.line.Addition.{Addition}
 use Rattle.lrat_check.specs.declared.line.Line.{Line}
 use Rattle.lrat_check.specs.declared.line.Line.TheVariants.{Addition as Adding, Deletion as Deleting}
 use Rattle.cdcl_core.specs.declared.solving.Verdict.{Verdict}
 use Rattle.cdcl_core.specs.declared.solving.Verdict.TheVariants.{Sat, Unsat, Spent}
-use Rattle.cdcl_core.specs.Searched.{Adds}
 
--- each literal is one of the first n variables' (2v and 2v + 1 are those of the variable v, counted from 0)
-abbrev pub AreBelow : ℕ → List (List ℕ) → Type 0
-AreBelow n clauses = All (λ clause. All (λ l. l < 2 * n) clause) clauses
+-- ---- lines ----
+
+-- a clause that the hints name has the literal
+abbrev pub IsUsed : (ℕ → Option (List ℕ)) → ℕ → List ℕ → Type 0
+IsUsed live l [] = ⊥
+IsUsed live l (h ∷ hints) = ((clause : List ℕ) × (live h ≡ Some clause) × Contains clause l) ⊎ IsUsed live l hints
+
+-- the hints refute: none comes twice or after the one whose clause became false, and each before it makes a literal true whose contrary stands in a later hint's clause
+abbrev pub RefutesTidily : (ℕ → Option (List ℕ)) → List ℕ → List ℕ → Type 0
+RefutesTidily live a [] = ⊥
+RefutesTidily live a (h ∷ hints) = (clause : List ℕ) × (live h ≡ Some clause) × (Contains hints h → ⊥)
+    × ((AllFalse a clause × (hints ≡ [])) ⊎ ((u : ℕ) × IsUnit a clause u × IsUsed live (negated u) hints × RefutesTidily live (a ++ u ∷ []) hints))
+
+-- with each literal of the clause false, the hints refute, and none is to spare
+abbrev pub TidyPropagation : (ℕ → Option (List ℕ)) → List ℕ → List ℕ → Type 0
+TidyPropagation live clause hints = RefutesTidily live (map negated clause) hints
+
+-- a line adds these literals under the number after those of the clauses, by hints with none to spare
+pub record Adds (clauses : List (List ℕ)) (line : Addition) : Type 0 where
+  pub id : line.id ≡ length clauses + 1
+  pub hints : List ℕ
+  pub hints_are : line.hints.items ≡ map pos hints
+  pub tidy : TidyPropagation (numbered clauses) line.literals.items hints
 
 -- the literals of the clause that a line adds
 abbrev pub literals_in : Line → List ℕ
@@ -40,6 +62,12 @@ IsLog formula log = (k : ℕ) (d : Line) → k < length log → Teaches (with_lo
 -- and the last line adds the empty clause
 abbrev pub IsRefutation : List (List ℕ) → List Line → Type 0
 IsRefutation formula log = (front : List Line) × (last : Line) × (log ≡ front ++ last ∷ []) × IsLog formula front × Refutes (with_log formula front) last
+
+-- ---- verdicts ----
+
+-- each literal is one of the first n variables' (2v and 2v + 1 are those of the variable v, counted from 0)
+abbrev pub AreBelow : ℕ → List (List ℕ) → Type 0
+AreBelow n clauses = All (λ clause. All (λ l. l < 2 * n) clause) clauses
 
 -- a value for each variable that the formula has or that a clause of it names
 abbrev pub HasValues : List Bool → Cnf → Type 0

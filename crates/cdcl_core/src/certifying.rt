@@ -7,7 +7,7 @@ ghost use Rattle.clause_arena.specs.Contents.{references_of, HasLiteral};
 ghost use Rattle.cdcl_core.specs.Implied.{clauses_of, IsRefutable, IsGround, level_of};
 ghost use Rattle.cdcl_core.specs.Assumed.{CanFalsify};
 ghost use Rattle.cdcl_core.specs.Held.{AreNumbered};
-ghost use Rattle.cdcl_core.specs.Hinted.{TidyPropagation};
+ghost use Rattle.cdcl_core.specs.Solved.{TidyPropagation};
 
 use crate::assumption::{assume, back};
 use crate::hinting::derive;

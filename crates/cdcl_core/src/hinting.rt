@@ -8,7 +8,8 @@ ghost use Rattle.clause_model.specs.Literals.{negated};
 ghost use Rattle.clause_arena.specs.Contents.{references_of};
 ghost use Rattle.cdcl_core.specs.Implied.{clauses_of};
 ghost use Rattle.cdcl_core.specs.Held.{AreNumbered};
-ghost use Rattle.cdcl_core.specs.Hinted.{HasReasons, RefutesTidily};
+ghost use Rattle.cdcl_core.specs.Hinted.{HasReasons};
+ghost use Rattle.cdcl_core.specs.Solved.{RefutesTidily};
 
 use crate::analysis::see;
 use clause_arena::{Arena, Memory, Ref};

@@ -2,7 +2,7 @@
 
 ghost use Rattle.std.specs.Prelude.{ℕ, List, Option};
 ghost use Rattle.clause_model.specs.Propagation.{ReverseUnitPropagation};
-ghost use Rattle.cdcl_core.specs.Hinted.{TidyPropagation};
+ghost use Rattle.cdcl_core.specs.Solved.{TidyPropagation};
 
 /// Hints with none to spare are accepted by reverse unit propagation.
 pub fn tidy_hints_are_accepted()

@@ -6,7 +6,7 @@ ghost use Rattle.clause_arena.specs.Contents.{references_of, HasLiteral};
 ghost use Rattle.cdcl_core.specs.Implied.{clauses_of, IsGround, level_of};
 ghost use Rattle.cdcl_core.specs.Analysed.{AtConflict};
 ghost use Rattle.cdcl_core.specs.Held.{AreNumbered};
-ghost use Rattle.cdcl_core.specs.Hinted.{TidyPropagation};
+ghost use Rattle.cdcl_core.specs.Solved.{TidyPropagation};
 
 use crate::analysis::analyse;
 use crate::certifying::certify;

@@ -4,6 +4,8 @@ ghost use Rattle.std.specs.Prelude.{◌≡◌, ℕ, ◌+◌, ◌*◌, ◌<◌, �
 ghost use Rattle.clause_model.specs.Clauses.{IsUnset};
 ghost use Rattle.unit_propagation.specs.Watching.{Rule};
 ghost use Rattle.cdcl_core.specs.Implied.{clauses_of, IsConflict};
+ghost use Rattle.step_ledger.specs.Counts.{RisesByAtLeast};
+ghost use Rattle.cdcl_core.specs.Costs.{conflicts_in};
 ghost use Rattle.cdcl_core.specs.Searched.{IsBase, EndsOver, GoesOn};
 
 use crate::assumption::back;
@@ -104,6 +106,7 @@ fn decide<L: Ledger>(
     ensures ends { IfOk result (EndsOver (clauses_of arena.old) ids.now trail.old id trail.new) }
     ensures goes_on { IfOk result (GoesOn (clauses_of arena.old) (length arena.old.chains) arena.new refs.now reasons.new.items trail.old trail.new) }
     ensures cost { steps.new ≤ steps.old + variables + 1 }
+    ensures rises { IfOk result (λ ending. RisesByAtLeast steps.old steps.new (conflicts_in ending)) }
 {
     let low = trail.len();
     order.begin();
@@ -156,6 +159,7 @@ pub fn search<L: Ledger>(
     ensures ends { IfOk result (EndsOver (clauses_of arena.old) ids.now trail.old id trail.new) }
     ensures goes_on { IfOk result (GoesOn (clauses_of arena.old) (length arena.old.chains) arena.new refs.now reasons.new.items trail.old trail.new) }
     ensures cost { steps.new ≤ steps.old + variables + 1 }
+    ensures rises { IfOk result (λ ending. RisesByAtLeast steps.old steps.new (conflicts_in ending)) }
 {
     match conflict {
         Some(at) => {

@@ -7,6 +7,8 @@ ghost use Rattle.cnf_gates.specs.Meaning.{assigned};
 ghost use Rattle.cdcl_core.specs.Implied.{clauses_of};
 ghost use Rattle.cdcl_core.specs.Held.{Covers};
 ghost use Rattle.cdcl_core.specs.Searched.{IsBase};
+ghost use Rattle.step_ledger.specs.Counts.{RisesByAtLeast};
+ghost use Rattle.cdcl_core.specs.Costs.{lines_in};
 ghost use Rattle.cdcl_core.specs.Solved.{AreBelow, VerdictOf, literals_in};
 
 use crate::adopting::adopt;
@@ -83,6 +85,7 @@ fn run<L: Ledger>(
     requires covers { Covers (codes_of formula.now.clauses) (clauses_of arena.old) ids.old.items trail.old }
     ensures verdict { IfOk result (VerdictOf formula.now budget) }
     ensures cost { steps.new ≤ steps.old + budget * (variables + 1) }
+    ensures rises { IfOk result (λ verdict. RisesByAtLeast steps.old steps.new (lines_in verdict)) }
 {
     let mut log = Vec::new(alloc);
     let mut seen = Assignment::new(alloc);
@@ -120,7 +123,7 @@ fn run<L: Ledger>(
 ///
 /// The log has no deletion, and its lines follow by reverse unit propagation, with the hints that
 /// show it; each but the empty one adds a clause that is new and has no literal to spare. The steps
-/// are the decisions and conflicts.
+/// are the decisions and conflicts, of which there is one at least for each line of the log.
 pub fn solve<L: Ledger>(
     alloc: Global,
     formula: &Formula,
@@ -130,6 +133,7 @@ pub fn solve<L: Ledger>(
     requires { budget + length formula.now.clauses ≤ 4294967295 }
     ensures verdict { IfOk result (VerdictOf formula.now budget) }
     ensures cost { (n : ℕ) → formula.now.variables ≤ n → AreBelow n (codes_of formula.now.clauses) → steps.new ≤ steps.old + (budget + 1) * (n + 1) }
+    ensures rises { IfOk result (λ verdict. RisesByAtLeast steps.old steps.new (lines_in verdict)) }
 {
     if has_empty(formula) {
         return Ok(Verdict::Unsat(Vec::new(alloc)));

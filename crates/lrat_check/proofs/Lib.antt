@@ -2,6 +2,7 @@ pub mod Accepted
 pub mod Deletions
 pub mod Distinct
 pub mod Faulty
+pub mod Looked
 pub mod Models
 pub mod Numerals
 pub mod Outcomes

@@ -5,7 +5,7 @@ ghost use Rattle.lrat_check.specs.Live.{clause_at, listed, Adds};
 ghost use Rattle.lrat_check.specs.Checking.{State, live_at, Starts, AddsClause, DeletesClauses, Accepts, HoldsAt};
 ghost use Rattle.lrat_check.specs.Faults.{IsFaultOf};
 ghost use Rattle.lrat_check.specs.Content.{content_of, addition, deletion};
-ghost use Rattle.lrat_check.specs.Costs.{cost_of};
+ghost use Rattle.lrat_check.specs.Costs.{cost_of, Counts};
 ghost use Rattle.cnf_gates.specs.Meaning.{all_true};
 ghost use Rattle.lrat_check.specs.Numbers.{is_negative};
 ghost use Rattle.clause_model.specs.Propagation.{hint_lengths};
@@ -57,13 +57,16 @@ impl Checker {
     }
 
     /// Adds or deletes clauses as the line says, where each added clause follows from the live ones
-    /// by its hints, and each deleted one is live. After a fault the checker is as before.
+    /// by its hints, and each deleted one is live. After a fault the checker is as before. Each look at
+    /// a literal of a hint's clause is a step.
     pub fn add<L: Ledger>(&mut self, line: &Line, steps: &mut Steps<L>) -> Result<(), LineFault>
         ensures ok { OnOk result (Accepts self.old (content_of line.now) self.new) }
         ensures sound { (v : ℕ → Bool) → HoldsAt v self.old → HoldsAt v self.new }
         ensures err { IfErr result (λ e. (e ≡ LineFault.Memory) ⊎ IsFaultOf self.old (content_of line.now) e) }
         ensures unchanged { OnErr result (self.new ≡ self.old) }
         ensures cost { steps.new ≤ steps.old + cost_of self.old (content_of line.now) }
+        ensures count { OnOk result (Counts self.old (content_of line.now) steps.old steps.new) }
+        ensures fault_count { IfErr result (λ e. (e ≡ LineFault.Memory) ⊎ Counts self.old (content_of line.now) steps.old steps.new) }
     {
         self.accept(line, steps)
     }
@@ -92,6 +95,8 @@ impl Checker {
         ensures err { IfErr result (λ e. (e ≡ LineFault.Memory) ⊎ IsFaultOf self.old (content_of line.now) e) }
         ensures unchanged { OnErr result (self.new ≡ self.old) }
         ensures cost { steps.new ≤ steps.old + cost_of self.old (content_of line.now) }
+        ensures count { OnOk result (Counts self.old (content_of line.now) steps.old steps.new) }
+        ensures fault_count { IfErr result (λ e. (e ≡ LineFault.Memory) ⊎ Counts self.old (content_of line.now) steps.old steps.new) }
     {
         match line {
             Line::Addition(addition) => self.add_clause(addition, steps),
@@ -110,6 +115,8 @@ impl Checker {
         ensures err { IfErr result (λ e. (e ≡ LineFault.Memory) ⊎ IsFaultOf self.old (addition line.now.id line.now.literals.items line.now.hints.items) e) }
         ensures unchanged { OnErr result (self.new ≡ self.old) }
         ensures cost { steps.new ≤ steps.old + hint_lengths (live_at self.old) (map unsigned_abs line.now.hints.items) }
+        ensures count { OnOk result (Counts self.old (addition line.now.id line.now.literals.items line.now.hints.items) steps.old steps.new) }
+        ensures fault_count { IfErr result (λ e. (e ≡ LineFault.Memory) ⊎ Counts self.old (addition line.now.id line.now.literals.items line.now.hints.items) steps.old steps.new) }
     {
         let id = u64::from(line.id.number());
         if id <= self.last {

@@ -3,7 +3,9 @@ ghost use Rattle.std.specs.Prelude.{◌≡◌, ℕ, ◌+◌, ◌≤◌, ◌⊎�
 ghost use Rattle.clause_model.specs.Literals.{negated, HasDistinctVariables};
 ghost use Rattle.clause_model.specs.Propagation.{Refutes, ReverseUnitPropagation, Stop, StopsAs, hint_lengths};
 ghost use Rattle.clause_model.specs.Standings.{StandsAs};
+ghost use Rattle.step_ledger.specs.Counts.{RisesBy};
 ghost use Rattle.lrat_check.specs.Live.{clause_at};
+ghost use Rattle.lrat_check.specs.Costs.{LooksAt};
 ghost use Rattle.lrat_check.specs.Faults.{fault_of};
 
 use crate::fault::LineFault;
@@ -20,15 +22,12 @@ fn counted_standing_of<L: Ledger>(
     steps: &mut Steps<L>,
 ) -> Standing
     ensures standing { StandsAs assignment.now clause.now result }
-    ensures cost { steps.new ≤ steps.old + length clause.now }
+    ensures cost { RisesBy steps.old steps.new (length clause.now) }
 {
     let mut standing = Standing::Conflict;
     for literal in clause {
         steps.tick();
         standing = standing_with(standing, *literal, assignment);
-        if let Standing::Open = standing {
-            return Standing::Open;
-        }
     }
     standing
 }
@@ -43,6 +42,8 @@ fn refute<L: Ledger>(
     ensures ok { OnOk result (Refutes (clause_at live.now) assignment.old (map unsigned_abs hints.now)) }
     ensures err { IfErr result (λ e. (e ≡ LineFault.Memory) ⊎ ((stop : Stop) × StopsAs (clause_at live.now) assignment.old (map unsigned_abs hints.now) 1 stop × (e ≡ fault_of stop))) }
     ensures cost { steps.new ≤ steps.old + hint_lengths (clause_at live.now) (map unsigned_abs hints.now) }
+    ensures count { OnOk result ((n : ℕ) × LooksAt (clause_at live.now) assignment.old (map unsigned_abs hints.now) n × RisesBy steps.old steps.new n) }
+    ensures fault_count { IfErr result (λ e. (e ≡ LineFault.Memory) ⊎ ((n : ℕ) × LooksAt (clause_at live.now) assignment.old (map unsigned_abs hints.now) n × RisesBy steps.old steps.new n)) }
 {
     let mut place = 0;
     for hint in hints {
@@ -84,6 +85,8 @@ pub fn check<L: Ledger>(
     ensures ok { OnOk result (ReverseUnitPropagation (clause_at live.now) literals.now (map unsigned_abs hints.now)) }
     ensures err { IfErr result (λ e. (e ≡ LineFault.Memory) ⊎ ((stop : Stop) × StopsAs (clause_at live.now) (map negated literals.now) (map unsigned_abs hints.now) 1 stop × (e ≡ fault_of stop))) }
     ensures cost { steps.new ≤ steps.old + hint_lengths (clause_at live.now) (map unsigned_abs hints.now) }
+    ensures count { OnOk result ((n : ℕ) × LooksAt (clause_at live.now) (map negated literals.now) (map unsigned_abs hints.now) n × RisesBy steps.old steps.new n) }
+    ensures fault_count { IfErr result (λ e. (e ≡ LineFault.Memory) ⊎ ((n : ℕ) × LooksAt (clause_at live.now) (map negated literals.now) (map unsigned_abs hints.now) n × RisesBy steps.old steps.new n)) }
 {
     assume_false(literals, assignment)?;
     refute(live, hints, assignment, steps)

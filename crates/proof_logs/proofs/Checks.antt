@@ -21,7 +21,8 @@ use Rattle.lrat_check.specs.Deleting.{without, Deletes, DeadAt}
 use Rattle.lrat_check.specs.Checking.{State, live_at, Starts, Accepts as Leads}
 use Rattle.lrat_check.specs.Faults.{IsFaultOf}
 use Rattle.proof_logs.specs.Verdicts.{Tests, Then}
-use Rattle.proof_logs.specs.Lines.{Known, started, with_clause, without_all, after_line, Accepts, AllAccepted, added, additions, line_cost, lines_cost}
+use Rattle.proof_logs.specs.Lines.{Known, started, with_clause, without_all, after_line, Accepts, AllAccepted, added, additions}
+use Rattle.proof_logs.specs.Costs.{line_cost, lines_cost}
 use Rattle.proof_logs.specs.Proofs.{LinesVerdict}
 use Rattle.proof_logs.specs.Checked.{known_of}
 use Rattle.proof_logs.proofs.Turns.{drop_got, then_passed}

@@ -2,7 +2,8 @@
 use Rattle.std.proofs.Common.{◌≡◌, ℕ, ◌+◌, ◌≤◌, List, [], ◌∷◌, ◌++◌, length, sym, subst, arith, ap}
 use Rattle.std.specs.Prelude.{sum_by}
 use Rattle.clause_model.specs.Asserting.{IsNew}
-use Rattle.proof_logs.specs.Logs.{EachIsNew, newness_cost}
+use Rattle.proof_logs.specs.Logs.{EachIsNew}
+use Rattle.proof_logs.specs.Costs.{newness_cost}
 
 pub record NewRest (before clauses : List (List ℕ)) (whole : Type 0) : Type 0 where
   pub forth : whole → EachIsNew before clauses

@@ -1,7 +1,7 @@
 -- The lines of a proof, one after another.
-use Rattle.std.specs.Prelude.{ℕ, ℤ, ◌≡◌, ◌<◌, ◌+◌, List, [], ◌∷◌, Option, Some, All, cond, false, nat_eq, length, map, unsigned_abs}
+use Rattle.std.specs.Prelude.{ℕ, ℤ, ◌≡◌, ◌<◌, List, [], ◌∷◌, Option, Some, All, cond, false, nat_eq, length, map, unsigned_abs}
 use Rattle.std.specs.List.{flat_map}
-use Rattle.clause_model.specs.Propagation.{ReverseUnitPropagation, numbered, hint_lengths}
+use Rattle.clause_model.specs.Propagation.{ReverseUnitPropagation, numbered}
 use Rattle.lrat_check.specs.Numbers.{is_negative}
 use Rattle.lrat_check.specs.Content.{Content, addition, deletion}
 use Rattle.lrat_check.specs.Deleting.{without, Deletes}
@@ -29,10 +29,6 @@ abbrev pub after_line : Known → Content → Known
 after_line known (addition id literals hints) = record { live = with_clause known.live id literals; last = id }
 after_line known (deletion id ids) = record { live = without_all known.live ids; last = known.last }
 
-abbrev pub after_lines : Known → List Content → Known
-after_lines known [] = known
-after_lines known (line ∷ lines) = after_lines (after_line known line) lines
-
 -- the clause's id is above all before, no hint has a minus, and the clause follows by its hints
 pub record AcceptsAddition (known : Known) (id : ℕ) (literals : List ℕ) (hints : List ℤ) : Type 0 where
   pub later : known.last < id
@@ -56,12 +52,3 @@ added (deletion id ids) = []
 
 abbrev pub additions : List Content → List (List ℕ)
 additions lines = flat_map added lines
-
--- the lengths of the live clauses that the hints name, line by line
-abbrev pub line_cost : Known → Content → ℕ
-line_cost known (addition id literals hints) = hint_lengths known.live (map unsigned_abs hints)
-line_cost known (deletion id ids) = 0
-
-abbrev pub lines_cost : Known → List Content → ℕ
-lines_cost known [] = 0
-lines_cost known (line ∷ lines) = line_cost known line + lines_cost (after_line known line) lines

@@ -1,8 +1,8 @@
 -- Logs of a search that spent its budget.
-use Rattle.std.specs.Prelude.{ℕ, ◌≡◌, ◌≢◌, ◌+◌, ◌++◌, List, [], ◌∷◌, All, length, sum_by}
+use Rattle.std.specs.Prelude.{ℕ, ◌≡◌, ◌≢◌, ◌++◌, List, [], ◌∷◌, All, length}
 use Rattle.clause_model.specs.Asserting.{IsNew}
 use Rattle.lrat_check.specs.Content.{Content}
-use Rattle.proof_logs.specs.Lines.{started, AllAccepted, additions, lines_cost}
+use Rattle.proof_logs.specs.Lines.{started, AllAccepted, additions}
 
 -- each clause in turn contains no clause before it, those that were deleted included
 abbrev pub EachIsNew : List (List ℕ) → List (List ℕ) → Type 0
@@ -18,11 +18,3 @@ pub record IsSpentLog (budget : ℕ) (clauses : List (List ℕ)) (log : List Con
   pub spends : Spends budget log
   pub accepted : AllAccepted (started clauses) log
   pub new : EachIsNew clauses (additions log)
-
--- the lengths of all clauses before each of the clauses
-abbrev pub newness_cost : List (List ℕ) → List (List ℕ) → ℕ
-newness_cost before [] = 0
-newness_cost before (clause ∷ clauses) = sum_by length before + newness_cost (before ++ clause ∷ []) clauses
-
-abbrev pub spent_cost : List (List ℕ) → List Content → ℕ
-spent_cost clauses log = lines_cost (started clauses) log + newness_cost clauses (additions log)

@@ -1,5 +1,6 @@
 //! Clauses, and whether one is part of another.
 ghost use Rattle.std.specs.Prelude.{◌≡◌, ℕ, ◌+◌, ◌≤◌, ◌↔◌, List, All, Contains, IsTrue, IfOk, length, sum_by};
+ghost use Rattle.step_ledger.specs.Counts.{RisesByAtLeast};
 ghost use Rattle.clause_model.specs.Asserting.{IsNew};
 
 use clause_model::{Assignment, Literal};
@@ -45,6 +46,7 @@ impl Clause {
     fn is_part<L: Ledger>(&self, members: &Assignment, steps: &mut Steps<L>) -> bool
         ensures part { IsTrue result ↔ All (Contains members.now) self.now }
         ensures cost { steps.new ≤ steps.old + length self.now }
+        ensures rises { RisesByAtLeast steps.old steps.new 0 }
     {
         if let Some(first) = self.first {
             steps.tick();
@@ -64,6 +66,7 @@ pub(crate) fn is_none_part<L: Ledger>(
 ) -> bool
     ensures new { IsTrue result ↔ IsNew clauses.now members.now }
     ensures cost { steps.new ≤ steps.old + sum_by length clauses.now }
+    ensures rises { RisesByAtLeast steps.old steps.new 0 }
 {
     for clause in clauses {
         if clause.is_part(members, steps) {
@@ -77,6 +80,7 @@ pub(crate) fn is_none_part<L: Ledger>(
 fn are_members<L: Ledger>(literals: &[Literal], members: &Assignment, steps: &mut Steps<L>) -> bool
     ensures part { IsTrue result ↔ All (Contains members.now) literals.now }
     ensures cost { steps.new ≤ steps.old + length literals.now }
+    ensures rises { RisesByAtLeast steps.old steps.new 0 }
 {
     for literal in literals {
         steps.tick();

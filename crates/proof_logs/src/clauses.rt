@@ -1,6 +1,7 @@
 //! A log of a search that spent its budget has to add clauses that are each new. Kept are all clauses, deleted ones too, since a log could else add one
 //! clause for ever.
 ghost use Rattle.std.specs.Prelude.{◌≡◌, ℕ, ◌+◌, ◌≤◌, ◌++◌, ◌∷◌, ◌↔◌, List, [], IsTrue, IfOk, OnOk, length, map, sum_by};
+ghost use Rattle.step_ledger.specs.Counts.{RisesByAtLeast};
 ghost use Rattle.clause_model.specs.Literals.{codes_of, code_of, HasDistinctVariables};
 ghost use Rattle.clause_model.specs.Asserting.{IsNew};
 ghost use Rattle.proof_logs.specs.Lists.{Holds};
@@ -56,6 +57,7 @@ impl Clauses {
         ensures new { IfOk result (λ is_new. (clauses : List (List ℕ)) → Holds self.old clauses → IsTrue is_new ↔ IsNew clauses clause.now) }
         ensures added { IfOk result (λ is_new. IsTrue is_new → (clauses : List (List ℕ)) → Holds self.old clauses → Holds self.new (clauses ++ clause.now ∷ [])) }
         ensures cost { (clauses : List (List ℕ)) → Holds self.old clauses → steps.new ≤ steps.old + sum_by length clauses }
+        ensures rises { RisesByAtLeast steps.old steps.new 0 }
     {
         let outcome = is_new(&self.lists, clause, &mut self.members, steps);
         self.members.truncate(0);
@@ -88,6 +90,7 @@ fn is_new<L: Ledger>(
     requires distinct { HasDistinctVariables clause.now }
     ensures new { IfOk result (λ is_new. (clauses : List (List ℕ)) → Holds lists.now clauses → IsTrue is_new ↔ IsNew clauses clause.now) }
     ensures cost { (clauses : List (List ℕ)) → Holds lists.now clauses → steps.new ≤ steps.old + sum_by length clauses }
+    ensures rises { RisesByAtLeast steps.old steps.new 0 }
 {
     take_members(clause, members)?;
     Ok(lists.is_new(members, steps))

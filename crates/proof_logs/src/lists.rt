@@ -1,5 +1,6 @@
 //! Clauses in lists by their literals, so that those which another contains are looked for among few.
 ghost use Rattle.std.specs.Prelude.{◌≡◌, ℕ, ◌+◌, ◌^◌, ◌<◌, ◌≤◌, ◌++◌, ◌∷◌, ◌↔◌, List, [], All, Contains, IsTrue, OnOk, MatchOption, length, sum_by};
+ghost use Rattle.step_ledger.specs.Counts.{RisesByAtLeast};
 ghost use Rattle.clause_model.specs.Asserting.{IsNew};
 ghost use Rattle.proof_logs.specs.Lists.{Holds, Keeps, listed, under};
 
@@ -56,6 +57,7 @@ impl Lists {
     pub(crate) fn is_new<L: Ledger>(&self, members: &Assignment, steps: &mut Steps<L>) -> bool
         ensures new { (clauses : List (List ℕ)) → Holds self.now clauses → IsTrue result ↔ IsNew clauses members.now }
         ensures cost { (clauses : List (List ℕ)) → Holds self.now clauses → steps.new ≤ steps.old + sum_by length clauses }
+        ensures rises { RisesByAtLeast steps.old steps.new 0 }
     {
         !self.has_empty && is_new_among(&self.lists, members, steps)
     }
@@ -117,6 +119,7 @@ fn is_new_among<L: Ledger>(
 ) -> bool
     ensures new { IsTrue result ↔ All (λ l. IsNew (under (listed lists.now) l) members.now) members.now }
     ensures cost { steps.new ≤ steps.old + sum_by (sum_by length) (listed lists.now) }
+    ensures rises { RisesByAtLeast steps.old steps.new 0 }
 {
     let literals = members.literals();
     for literal in literals {

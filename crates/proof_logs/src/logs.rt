@@ -1,10 +1,12 @@
 //! An open name isn't proved to differ, so its log is the evidence that the search was really made: as many lines as the budget allows, each of which
 //! follows.
 ghost use Rattle.std.specs.Prelude.{◌≡◌, ◌≢◌, ℕ, ◌+◌, ◌≤◌, ◌∷◌, ◌↔◌, List, [], All, IsTrue, IfOk, IfSome, MatchOption, Option, length};
+ghost use Rattle.step_ledger.specs.Counts.{RisesByAtLeast};
 ghost use Rattle.clause_model.specs.Literals.{codes_of, HasDistinctVariables};
 ghost use Rattle.lrat_check.specs.Content.{content_of};
-ghost use Rattle.proof_logs.specs.Lines.{started, lines_cost, AllAccepted, added, additions};
-ghost use Rattle.proof_logs.specs.Logs.{IsSpentLog, EachIsNew, Spends, newness_cost, spent_cost};
+ghost use Rattle.proof_logs.specs.Lines.{started, AllAccepted, added, additions};
+ghost use Rattle.proof_logs.specs.Costs.{lines_cost, newness_cost, spent_cost};
+ghost use Rattle.proof_logs.specs.Logs.{IsSpentLog, EachIsNew, Spends};
 ghost use Rattle.proof_logs.specs.Checked.{contents_of};
 
 use crate::clauses::Clauses;
@@ -27,6 +29,7 @@ pub fn is_spent<L: Ledger>(
 ) -> Result<bool, Memory>
     ensures spent { IfOk result (λ is_spent. IsTrue is_spent ↔ IsSpentLog budget (codes_of formula.now.clauses) (contents_of log.now)) }
     ensures cost { steps.new ≤ steps.old + spent_cost (codes_of formula.now.clauses) (contents_of log.now) }
+    ensures rises { IfOk result (λ is_spent. IsTrue is_spent → RisesByAtLeast steps.old steps.new 0) }
 {
     if !spends(log, budget) {
         return Ok(false);
@@ -73,6 +76,7 @@ fn are_accepted<L: Ledger>(
 ) -> Result<bool, Memory>
     ensures accepted { IfOk result (λ are_accepted. IsTrue are_accepted ↔ AllAccepted (started (codes_of formula.now.clauses)) (contents_of log.now)) }
     ensures cost { steps.new ≤ steps.old + lines_cost (started (codes_of formula.now.clauses)) (contents_of log.now) }
+    ensures rises { IfOk result (λ are_accepted. IsTrue are_accepted → RisesByAtLeast steps.old steps.new 0) }
 {
     match check_lines(alloc, formula, log, steps) {
         Ok(_) => Ok(true),
@@ -90,6 +94,7 @@ fn are_new<L: Ledger>(
 ) -> Result<bool, Memory>
     ensures new { IfOk result (λ are_new. IsTrue are_new ↔ EachIsNew (codes_of formula.now.clauses) (additions (contents_of log.now))) }
     ensures cost { steps.new ≤ steps.old + newness_cost (codes_of formula.now.clauses) (additions (contents_of log.now)) }
+    ensures rises { RisesByAtLeast steps.old steps.new 0 }
 {
     let mut clauses = Clauses::of(alloc, formula)?;
     for line in log {

@@ -2,8 +2,10 @@
 ghost use Rattle.std.specs.Prelude.{◌≡◌, ℕ, ◌+◌, ◌≤◌, ◌↔◌, ◌⊎◌, IsTrue, IfOk, OnOk, Bool, true, Some};
 ghost use Rattle.cnf_gates.specs.Meaning.{all_true};
 ghost use Rattle.clause_model.specs.Literals.{codes_of};
+ghost use Rattle.step_ledger.specs.Counts.{RisesByAtLeast};
 ghost use Rattle.proof_logs.specs.Verdicts.{Answers};
-ghost use Rattle.proof_logs.specs.Lines.{started, lines_cost};
+ghost use Rattle.proof_logs.specs.Lines.{started};
+ghost use Rattle.proof_logs.specs.Costs.{lines_cost};
 ghost use Rattle.proof_logs.specs.Proofs.{LinesVerdict, HasEmpty, ProofVerdict};
 ghost use Rattle.proof_logs.specs.Checked.{known_of, contents_of};
 
@@ -24,6 +26,7 @@ pub fn check_proof<L: Ledger>(
     ensures answers { Answers ProofFault.Memory result (ProofVerdict ProofFault.Line ProofFault.Unfinished (codes_of formula.now.clauses) (contents_of lines.now)) }
     ensures sound { OnOk result ((v : ℕ → Bool) → all_true v formula.now.clauses ≡ true → ⊥) }
     ensures cost { steps.new ≤ steps.old + lines_cost (started (codes_of formula.now.clauses)) (contents_of lines.now) }
+    ensures rises { OnOk result (RisesByAtLeast steps.old steps.new 0) }
 {
     let checker = check_lines(alloc, formula, lines, steps)?;
     if checker.refuted() {
@@ -43,6 +46,7 @@ pub(crate) fn check_lines<L: Ledger>(
     ensures answers { Answers ProofFault.Memory result (LinesVerdict ProofFault.Line (started (codes_of formula.now.clauses)) 1 (contents_of lines.now)) }
     ensures refuted { IfOk result (λ checker. IsTrue checker.refuted ↔ HasEmpty (codes_of formula.now.clauses) (contents_of lines.now)) }
     ensures cost { steps.new ≤ steps.old + lines_cost (started (codes_of formula.now.clauses)) (contents_of lines.now) }
+    ensures rises { OnOk result (RisesByAtLeast steps.old steps.new 0) }
 {
     let mut checker = Checker::new(alloc, formula)?;
     for (place, line) in lines.iter().enumerate() {

@@ -16,7 +16,8 @@ use Rattle.rule_table.specs.Grammar.{Stage, Start, Done, step, run}
 use Rattle.rule_table.specs.Steps.{Follows, StepsTo}
 use Rattle.rule_table.specs.declared.errors.TableError.TheVariants as error
 use Rattle.rule_table.specs.Views.{table_of}
-use Rattle.rule_table.specs.Refused.{IsText, Begins, Stops, IsRefused, OneTable, NotBoth, RefusedOnce, WrittenReadsBack}
+use Rattle.rule_table.specs.Refused.{IsText, Begins, Stops, IsRefused}
+use Rattle.rule_table.specs.Reading.{OneTable, NotBoth, RefusedOnce, WrittenReadsBack}
 use Rattle.rule_table.proofs.ReadBack.{run-append, reads}
 use Rattle.rule_table.proofs.Beginnings.{Opens, read_opens, read_whole}
 use Rattle.rule_table.proofs.HexTexts.{same_front}

@@ -6,6 +6,7 @@ pub mod Valid
 pub mod Items
 pub mod Grammar
 pub mod Refused
+pub mod Reading
 pub mod Fronts
 pub mod Digits
 pub mod Steps

@@ -1,5 +1,5 @@
 //! What follows from the definitions, each as the contract of a function that does nothing.
-ghost use Rattle.rule_table.specs.Refused.{OneTable, NotBoth, RefusedOnce, WrittenReadsBack, ReadWritesBack};
+ghost use Rattle.rule_table.specs.Reading.{OneTable, NotBoth, RefusedOnce, WrittenReadsBack, ReadWritesBack};
 ghost use Rattle.rule_table.specs.Matching.{OneMap};
 
 /// A text is the text of one table at most.

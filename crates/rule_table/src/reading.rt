@@ -3,7 +3,7 @@ ghost use Rattle.std.specs.Prelude.{IfOk};
 ghost use Rattle.ascii_scan.specs.Source.{line_view};
 ghost use Rattle.rule_table.specs.StageView.{stage_of, goes};
 ghost use Rattle.rule_table.specs.Steps.{StepsTo};
-ghost use Rattle.rule_table.specs.Refused.{Reads};
+ghost use Rattle.rule_table.specs.Reading.{Reads};
 
 use crate::errors::TableError;
 use crate::stages::{Head, Reading, finished, step};

@@ -9,7 +9,8 @@ use Rattle.seq_enum.specs.Lists.{IsPlace}
 use Rattle.seq_enum.specs.Alphabet.{alphabet, sequences, IsOver}
 use Rattle.rule_table.specs.Canonical.{appearing}
 use Rattle.rule_table.specs.Table.{Rule, Table}
-use Rattle.table_audit.specs.Sides.{named_count, IsCanonicalSide, SidesFit, HasFormula}
+use Rattle.table_audit.specs.Sides.{named_count, IsCanonicalSide, SidesFit}
+use Rattle.table_audit.specs.Canonical.{HasFormula}
 use Rattle.table_audit.specs.Orders.{IsInOrder, AreWithin}
 use Rattle.table_audit.proofs.Numbering.{over_sequences, has_number}
 use Rattle.fingerprints.proofs.Letters.{IsLetter, letter}

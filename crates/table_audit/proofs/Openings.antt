@@ -12,7 +12,8 @@ use Rattle.window_exec.specs.Seen.{Seen}
 use Rattle.seq_enum.specs.Lists.{ascends_from}
 use Rattle.rule_table.specs.Table.{Opened, Rule, Table}
 use Rattle.rule_table.specs.Valid.{numbers_of}
-use Rattle.proof_logs.specs.Logs.{IsSpentLog, spent_cost}
+use Rattle.proof_logs.specs.Logs.{IsSpentLog}
+use Rattle.proof_logs.specs.Costs.{spent_cost}
 use Rattle.table_audit.specs.Sides.{named_count, formula_against}
 use Rattle.table_audit.specs.Shorter.{sequences_below, shorter, IsTold}
 use Rattle.table_audit.specs.Trials.{start_of, AreTrials}

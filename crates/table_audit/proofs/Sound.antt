@@ -21,7 +21,8 @@ use Rattle.proof_logs.proofs.Turns.{turn_each}
 use Rattle.proof_logs.proofs.Sound.{proved_unsatisfied}
 use Rattle.table_audit.specs.declared.errors.EntryFault.TheVariants.{Proof, Unfinished}
 use Rattle.table_audit.specs.declared.errors.AuditError.TheVariants.{Entry}
-use Rattle.table_audit.specs.Sides.{named_count, SidesFit, HasFormula, formula_of}
+use Rattle.table_audit.specs.Sides.{named_count, SidesFit, formula_of}
+use Rattle.table_audit.specs.Canonical.{HasFormula}
 use Rattle.table_audit.specs.Shorter.{shorter, values_in, IsTold}
 use Rattle.table_audit.specs.Acceptance.{EntryVerdict, EntryProofVerdict, ToldTest, ToldVerdict, OpenTest, OpensVerdict, IsAccepted}
 use Rattle.table_audit.specs.Soundness.{items_in, rewriting_rule, rules_of, IsShortest, IsSound}

@@ -1,10 +1,11 @@
--- What the canonical form of a window is.
+-- What the canonical form of a window is, and of which entries there is a formula.
 use Rattle.std.specs.Prelude.{◌≡◌, ℕ, List, Option, length}
 use Rattle.thumb_instr.specs.declared.instr.Instr.{Instr}
 use Rattle.thumb_instr.specs.Renaming.{Low}
-use Rattle.thumb_model.specs.Rewrite.{register_count}
+use Rattle.thumb_model.specs.Rewrite.{AreOver, register_count}
 use Rattle.bit_blast.specs.Exactness.{IsMaskOver}
 use Rattle.rule_table.specs.Canonical.{IsRenamable, IsCanonical}
+use Rattle.rule_table.specs.Table.{Rule}
 use Rattle.table_audit.specs.Sides.{named_count, IsCanonicalSide}
 
 -- the sequence is a canonical side as long as the window, its registers are counted alike in both ways, and the mask has no register but those that it names, which are those below their count
@@ -19,3 +20,10 @@ abbrev pub CanonicalFormIsSide : Type 0
 CanonicalFormIsSide =
     (window : List Instr) (items : ℕ) (seq : List Instr) (given : List (Option Low)) (mask : ℕ)
     → IsRenamable window → IsCanonical window items seq given mask → IsSideOf window seq mask
+
+-- an entry with a formula: its left side is canonical, and sides and mask are over the registers that it names
+pub record HasFormula (e : Rule) : Type 0 where
+  pub canonical : IsCanonicalSide e.left
+  pub left : AreOver (named_count e.left) e.left
+  pub right : AreOver (named_count e.left) e.right
+  pub mask : IsMaskOver (named_count e.left) e.mask

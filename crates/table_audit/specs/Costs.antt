@@ -3,8 +3,8 @@ use Rattle.std.specs.Prelude.{ℕ, ◌+◌, ◌*◌, List, Option, Some, None, l
 use Rattle.thumb_instr.specs.declared.instr.Instr.{Instr}
 use Rattle.clause_model.specs.Literals.{codes_of}
 use Rattle.rule_table.specs.Table.{Opened, Rule, Table}
-use Rattle.proof_logs.specs.Lines.{started, lines_cost}
-use Rattle.proof_logs.specs.Logs.{spent_cost}
+use Rattle.proof_logs.specs.Lines.{started}
+use Rattle.proof_logs.specs.Costs.{lines_cost, spent_cost}
 use Rattle.table_audit.specs.Sides.{formula_against, formula_of}
 use Rattle.table_audit.specs.Shorter.{shorter}
 

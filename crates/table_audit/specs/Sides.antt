@@ -2,7 +2,6 @@
 use Rattle.std.specs.Prelude.{◌≡◌, ◌≤◌, ℕ, List, length, map}
 use Rattle.thumb_instr.specs.declared.instr.Instr.{Instr}
 use Rattle.thumb_instr.specs.Window.{normal_of}
-use Rattle.thumb_model.specs.Rewrite.{AreOver}
 use Rattle.seq_enum.specs.Lists.{numbers_from}
 use Rattle.seq_enum.specs.Alphabet.{IsOver}
 use Rattle.cnf_gates.specs.Cnf.{Cnf}
@@ -40,10 +39,3 @@ formula_against e seq = sides_formula e.left seq e.mask (named_count e.left)
 -- that of the two sides
 abbrev pub formula_of : Rule → Cnf
 formula_of e = formula_against e e.right
-
--- an entry with a formula: its left side is canonical, and sides and mask are over the registers that it names
-pub record HasFormula (e : Rule) : Type 0 where
-  pub canonical : IsCanonicalSide e.left
-  pub left : AreOver (named_count e.left) e.left
-  pub right : AreOver (named_count e.left) e.right
-  pub mask : IsMaskOver (named_count e.left) e.mask

@@ -3,7 +3,7 @@ ghost use Rattle.std.specs.Prelude.{◌≡◌, ◌≤◌, ◌+◌};
 ghost use Rattle.rule_table.specs.Views.{rule_of};
 ghost use Rattle.proof_logs.specs.Verdicts.{Answers};
 ghost use Rattle.table_audit.specs.declared.errors.AuditError.TheVariants.{Memory};
-ghost use Rattle.table_audit.specs.Sides.{HasFormula};
+ghost use Rattle.table_audit.specs.Canonical.{HasFormula};
 ghost use Rattle.table_audit.specs.Acceptance.{EntryProofVerdict};
 ghost use Rattle.table_audit.specs.Faults.{fault_of};
 ghost use Rattle.table_audit.specs.Costs.{proof_cost};

@@ -10,7 +10,8 @@ ghost use Rattle.bit_blast.specs.Differences.{sides_formula};
 ghost use Rattle.bit_blast.specs.Exactness.{IsMaskOver};
 ghost use Rattle.rule_table.specs.Canonical.{firsts, numbers_of, appearing};
 ghost use Rattle.rule_table.specs.Views.{rule_of, table_of};
-ghost use Rattle.table_audit.specs.Sides.{named_count, IsCanonicalSide, SidesFit, HasFormula, formula_against, formula_of};
+ghost use Rattle.table_audit.specs.Sides.{named_count, IsCanonicalSide, SidesFit, formula_against, formula_of};
+ghost use Rattle.table_audit.specs.Canonical.{HasFormula};
 ghost use Rattle.table_audit.specs.Orders.{IsAstray, IsInOrder, AreWithin};
 
 use bit_blast::formula;

@@ -4,7 +4,7 @@ ghost use Rattle.seq_enum.specs.Lists.{ascends_from};
 ghost use Rattle.rule_table.specs.Valid.{IsTable, numbers_of};
 ghost use Rattle.rule_table.specs.Views.{opened_of, rule_of, table_of};
 ghost use Rattle.proof_logs.specs.Verdicts.{Answers, Then};
-ghost use Rattle.table_audit.specs.Sides.{HasFormula};
+ghost use Rattle.table_audit.specs.Canonical.{HasFormula};
 ghost use Rattle.table_audit.specs.Acceptance.{ToldVerdict, OpensVerdict, EntryVerdict, EntriesVerdict, TableVerdict};
 ghost use Rattle.table_audit.specs.Costs.{runs_cost, open_cost, entry_cost, table_cost};
 

@@ -1,13 +1,12 @@
 -- The solver's logs are proofs, and logs that spend a budget.
 use Rattle.std.specs.Global.{Global}
 use Rattle.std.proofs.Common.{◌≡◌, ℕ, zero, suc, ◌+◌, ◌-◌, ◌<◌, ◌≤◌, ◌^◌, ◌∷◌, ◌++◌, ◌⊎◌, inl, inr, List, [], Option, Some, None, All, Contains, length, take, get_or, map, slice_get, nat_eq, refl, sym, ◌∙◌, ap, subst, arith, append_assoc, append-nil, length-append, true, false}
-use Rattle.std.specs.Prelude.{◌≢◌, ℤ, pos, negsuc, Any, unsigned_abs, cond}
+use Rattle.std.specs.Prelude.{◌≢◌, ℤ, pos, negsuc, Any, unsigned_abs, cond, Vec}
 use Rattle.std.proofs.Math.Seq.{take-append_seam}
 use Rattle.std.proofs.lemmas.Bool.{cases_eq, cases_lt}
 use Rattle.std.proofs.lemmas.Bool.Decides.{nat_tests}
 use Rattle.std.proofs.lemmas.List.{length-map, map_push, get_or_append_left}
 use Rattle.std.proofs.lemmas.List.Elements.{All-nil, All-cons}
-use Rattle.std.specs.Prelude.{Vec}
 use Rattle.std.specs.Option.{option_map}
 use Rattle.std.proofs.lemmas.List.Quantifiers.{Any-push}
 use Rattle.std.proofs.lemmas.Option.{slice_get-map, slice_get-get_or, slice_get_within, get_or_from_slice_get}
@@ -30,9 +29,7 @@ use Rattle.proof_logs.specs.Lines.{Known, started, with_clause, after_line, Acce
 use Rattle.proof_logs.specs.Logs.{IsSpentLog, EachIsNew}
 use Rattle.proof_logs.specs.Proofs.{LinesVerdict, HasEmpty, ProofVerdict}
 use Rattle.proof_logs.proofs.Checks.{same_known}
-use Rattle.cdcl_core.specs.Hinted.{RefutesTidily, TidyPropagation}
-use Rattle.cdcl_core.specs.Searched.{Adds}
-use Rattle.cdcl_core.specs.Solved.{literals_in, with_log, Teaches, Refutes, IsLog}
+use Rattle.cdcl_core.specs.Solved.{RefutesTidily, TidyPropagation, Adds, literals_in, with_log, Teaches, Refutes, IsLog}
 use Rattle.cdcl_core.proofs.Logs.{asserting_some}
 use Rattle.table_learn.specs.Learnt.{IsRefutation as IsRefutationOf, IsSpentSearch}
 

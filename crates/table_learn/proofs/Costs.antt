@@ -9,7 +9,8 @@ use Rattle.seq_enum.specs.Lists.{ascends_from}
 use Rattle.rule_table.specs.Table.{Opened, Rule}
 use Rattle.rule_table.specs.Valid.{numbers_of}
 use Rattle.table_learn.specs.Settings.{Settings}
-use Rattle.table_learn.specs.Learnt.{width_of, learn_cost}
+use Rattle.table_learn.specs.Learnt.{width_of}
+use Rattle.table_learn.specs.Failing.{learn_cost}
 use Rattle.table_learn.specs.Searching.{query_cost}
 use Rattle.table_learn.specs.Progress.{search_cost, drop_cost}
 

@@ -11,9 +11,11 @@ use Rattle.rule_table.specs.Valid.{IsTable}
 use Rattle.rule_table.specs.Views.{rule_of}
 use Rattle.table_learn.specs.declared.window.Window as code
 use Rattle.table_learn.specs.declared.learning.Learner.{Learner}
-use Rattle.table_learn.specs.Settings.{Settings, Window, window_of, IsWindow, AreInLimits, AreWindows}
+use Rattle.table_learn.specs.Settings.{Settings, Window}
+use Rattle.table_learn.specs.Given.{window_of, IsWindow, AreInLimits, AreWindows}
 use Rattle.table_learn.specs.Found.{window_in}
-use Rattle.table_learn.specs.Learnt.{Learnt, IsFull, learnt_from, width_of, text_length, text_limit, learn_cost}
+use Rattle.table_learn.specs.Learnt.{Learnt, IsFull, learnt_from, width_of, text_length, text_limit}
+use Rattle.table_learn.specs.Failing.{learn_cost}
 use Rattle.table_learn.specs.Progress.{Progress, HasLearnt, table_with, states_in, rules_in, search_cost, drop_cost}
 use Rattle.table_learn.proofs.Gains.{learnt, valid}
 use Rattle.table_learn.proofs.Costs.{learn_more, learn_all}

@@ -24,7 +24,8 @@ use Rattle.table_audit.specs.Acceptance.{StateTest, EntryVerdict, IsAccepted}
 use Rattle.table_audit.proofs.Appearing.{names_register}
 use Rattle.table_audit.proofs.Fitting.{are_over, ordered_of}
 use Rattle.table_audit.proofs.Walking.{over_more}
-use Rattle.table_learn.specs.Settings.{Settings, Window, AreInLimits}
+use Rattle.table_learn.specs.Settings.{Settings, Window}
+use Rattle.table_learn.specs.Given.{AreInLimits}
 use Rattle.table_learn.specs.Learnt.{Learnt, TellsFirst, IsEarned, AreEarned, learnt_from, width_of, KeepsOrShortens, IsProvedBySolver, IsOpenBySolver, IsSpentSearch}
 use Rattle.table_learn.specs.Fitness.{IsFit, shorter_of, without_told}
 use Rattle.table_learn.specs.Searching.{EarnedFrom}

@@ -18,7 +18,8 @@ use Rattle.rule_table.specs.Text.{rule_items}
 use Rattle.table_audit.specs.Sides.{named_count, IsCanonicalSide}
 use Rattle.table_audit.proofs.Fitting.{are_over, ordered_of}
 use Rattle.table_audit.proofs.Walking.{over_more}
-use Rattle.table_learn.specs.Settings.{Settings, Window, IsWindow, AreInLimits}
+use Rattle.table_learn.specs.Settings.{Settings, Window}
+use Rattle.table_learn.specs.Given.{IsWindow, AreInLimits}
 use Rattle.table_learn.specs.Learnt.{learnt_from, text_length, width_of}
 use Rattle.table_learn.specs.Fitness.{IsFit, shorter_of, tells_number, stays_open, without_told}
 use Rattle.table_learn.specs.Searching.{shorter_than, AreCandidates, IsGrown, EarnedFrom, query_cost}

@@ -16,7 +16,8 @@ use Rattle.bit_blast.specs.Differences.{sides_formula}
 use Rattle.bit_blast.specs.Exactness.{IsMask}
 use Rattle.rule_table.specs.Table.{Opened, Rule}
 use Rattle.table_audit.specs.Sides.{named_count}
-use Rattle.table_learn.specs.Settings.{Settings, Window, IsWindow}
+use Rattle.table_learn.specs.Settings.{Settings, Window}
+use Rattle.table_learn.specs.Given.{IsWindow}
 use Rattle.table_learn.specs.Learnt.{IsProvedBySolver, IsRefutation, learnt_from}
 use Rattle.table_learn.specs.Fitness.{IsFit, shorter_of}
 use Rattle.table_learn.specs.Searching.{shorter_than, AreCandidates, IsSearching, is_below}

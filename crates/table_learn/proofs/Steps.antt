@@ -18,7 +18,8 @@ use Rattle.table_audit.specs.Sides.{named_count}
 use Rattle.table_audit.specs.Shorter.{sequences_below, is_named, values_in}
 use Rattle.table_audit.proofs.Numbering.{below_in, below_from, over_sequences}
 use Rattle.table_audit.proofs.Walking.{present_at}
-use Rattle.table_learn.specs.Settings.{Settings, Window, IsWindow}
+use Rattle.table_learn.specs.Settings.{Settings, Window}
+use Rattle.table_learn.specs.Given.{IsWindow}
 use Rattle.table_learn.specs.Learnt.{TellsFirst, IsSpentSearch, IsProvedBySolver, learnt_from}
 use Rattle.table_learn.specs.Tellings.{told, tells_apart}
 use Rattle.table_learn.specs.Fitness.{IsFit, shorter_of}

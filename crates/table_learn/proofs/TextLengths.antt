@@ -21,7 +21,8 @@ use Rattle.window_exec.specs.Seen.{Seen}
 use Rattle.rule_table.specs.Table.{Opened, Rule, Table}
 use Rattle.rule_table.specs.Valid.{IsState}
 use Rattle.rule_table.specs.Text.{Item, Version, Regs, Longest, Seed, Budget, Pool, State, Entry, Left, Right, Mask, Proof, Logged, Open, End, hex_of, instr_text, named, mask_text, after_blanks, line_of, text_of_items, open_items, rule_items, header_items, items_of, text_of}
-use Rattle.table_learn.specs.Settings.{Settings, AreInLimits}
+use Rattle.table_learn.specs.Settings.{Settings}
+use Rattle.table_learn.specs.Given.{AreInLimits}
 use Rattle.table_learn.specs.Learnt.{text_length}
 use Rattle.table_learn.specs.Lengths.{lines_length, log_length, opens_length, rules_length, instr_length, item_length}
 use Rattle.table_learn.specs.Progress.{table_with}

@@ -10,7 +10,8 @@ use Rattle.rule_table.specs.Table.{Opened, Rule}
 use Rattle.rule_table.specs.Valid.{numbers_of}
 use Rattle.table_audit.specs.Sides.{named_count, formula_against}
 use Rattle.table_audit.specs.Shorter.{sequences_below, is_named}
-use Rattle.table_learn.specs.Settings.{Settings, Window, IsWindow}
+use Rattle.table_learn.specs.Settings.{Settings, Window}
+use Rattle.table_learn.specs.Given.{IsWindow}
 use Rattle.table_learn.specs.Learnt.{learnt_from, KeepsOrShortens, IsProvedBySolver, IsSpentSearch}
 use Rattle.table_learn.specs.Tellings.{told}
 

@@ -1,6 +1,6 @@
 -- Tables that are learnt from windows.
 use Rattle.std.specs.Global.{Global}
-use Rattle.std.specs.Prelude.{ℕ, ◌≡◌, ◌<◌, ◌≤◌, ◌+◌, ◌*◌, ◌⊎◌, List, Some, All, Vec, length, map, slice_get, take}
+use Rattle.std.specs.Prelude.{ℕ, ◌≡◌, ◌<◌, ◌≤◌, ◌⊎◌, List, Some, All, Vec, length, map, slice_get, take}
 use Rattle.thumb_instr.specs.declared.instr.Instr.{Instr}
 use Rattle.window_exec.specs.Telling.{Tells}
 use Rattle.seq_enum.specs.Alphabet.{IsOver}
@@ -13,12 +13,9 @@ use Rattle.cdcl_core.specs.Solved.{VerdictOf}
 use Rattle.rule_table.specs.Table.{Opened, Rule, Table}
 use Rattle.rule_table.specs.Text.{text_of}
 use Rattle.rule_table.specs.Valid.{IsTable}
-use Rattle.rule_table.specs.Views.{table_of}
 use Rattle.table_audit.specs.Sides.{named_count, formula_of, formula_against}
 use Rattle.table_audit.specs.Shorter.{IsTold, sequences_below, shorter, values_in}
 use Rattle.table_audit.specs.Acceptance.{IsAccepted}
-use Rattle.table_learn.specs.declared.errors.LearnError.{LearnError}
-use Rattle.table_learn.specs.declared.errors.LearnError.TheVariants.{Wide, Full, Memory}
 use Rattle.table_learn.specs.Settings.{Settings, Window}
 
 -- ---- entries ----
@@ -110,21 +107,3 @@ pub record IsFull (s : Settings) (windows : List Window) (t : Table) (bytes : �
   pub valid : IsTable t
   pub is_length : bytes ≡ text_length t
   pub long : text_limit < bytes
-
--- when each error comes
-abbrev pub FailsAs : Settings → List Window → LearnError → Type 0
-FailsAs s windows (Wide count) = (count ≡ width_of s) × (5000000 < count)
-FailsAs s windows (Full t bytes) = IsFull s windows (table_of t) bytes
-FailsAs s windows Memory = Unit {0}
-
--- ---- steps ----
-
--- with so many windows and listed states: runs on states, and decisions and conflicts of the solver, which has 200,000 variables at most
-abbrev pub learn_cost : Settings → ℕ → ℕ → ℕ
-learn_cost s windows states = 4 * (windows * (width_of s * (states * s.left))) + windows * (width_of s * ((s.budget + 1) * 200001))
-
--- before an error: none where too many sequences are shorter, and where a text is too long no more than the table of these states takes
-abbrev pub SpendsAs : Settings → ℕ → ℕ → ℕ → LearnError → Type 0
-SpendsAs s windows before after (Wide count) = after ≡ before
-SpendsAs s windows before after (Full t bytes) = after ≤ before + learn_cost s windows (length (table_of t).states)
-SpendsAs s windows before after Memory = Unit {0}

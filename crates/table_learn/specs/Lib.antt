@@ -1,5 +1,7 @@
 pub mod Settings
 pub mod Learnt
+pub mod Given
+pub mod Failing
 pub mod Tellings
 pub mod Fitness
 pub mod Searching

@@ -6,7 +6,7 @@ use Rattle.rule_table.specs.Table.{Table}
 use Rattle.rule_table.specs.Text.{text_of}
 use Rattle.rule_table.specs.Valid.{IsTable}
 use Rattle.rule_table.specs.Views.{table_of}
-use Rattle.rule_table.specs.Refused.{Reads}
+use Rattle.rule_table.specs.Reading.{Reads}
 use Rattle.proof_logs.specs.Verdicts.{Answers}
 use Rattle.table_audit.specs.declared.errors.AuditError.{AuditError}
 use Rattle.table_audit.specs.declared.errors.AuditError.TheVariants.{Memory}

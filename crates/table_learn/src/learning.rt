@@ -5,9 +5,11 @@ ghost use Rattle.window_exec.specs.State.{seen};
 ghost use Rattle.seq_enum.specs.Pools.{is_pool};
 ghost use Rattle.rule_table.specs.Views.{rule_of, table_of};
 ghost use Rattle.table_audit.specs.Sides.{named_count};
-ghost use Rattle.table_learn.specs.Settings.{Window as Model, settings_of, window_of, AreInLimits, AreWindows, IsWindow};
+ghost use Rattle.table_learn.specs.Settings.{Window as Model};
+ghost use Rattle.table_learn.specs.Given.{settings_of, window_of, AreInLimits, AreWindows, IsWindow};
 ghost use Rattle.table_learn.specs.Found.{window_in};
-ghost use Rattle.table_learn.specs.Learnt.{Learnt, FailsAs, SpendsAs, text_limit, text_length, learn_cost, width_of};
+ghost use Rattle.table_learn.specs.Learnt.{Learnt, text_limit, text_length, width_of};
+ghost use Rattle.table_learn.specs.Failing.{FailsAs, SpendsAs, learn_cost};
 ghost use Rattle.table_learn.specs.Progress.{HasLearnt, table_with, states_in, rules_in, search_cost, drop_cost};
 
 use crate::dropping::drop_all_told;

@@ -4,7 +4,7 @@ ghost use Rattle.window_exec.specs.State.{seen};
 ghost use Rattle.window_exec.specs.Seen.{Seen};
 ghost use Rattle.rule_table.specs.Views.{opened_of, rule_of};
 ghost use Rattle.table_audit.specs.Sides.{named_count};
-ghost use Rattle.table_learn.specs.Settings.{settings_of, IsWindow};
+ghost use Rattle.table_learn.specs.Given.{settings_of, IsWindow};
 ghost use Rattle.table_learn.specs.Learnt.{learnt_from};
 ghost use Rattle.table_learn.specs.Fitness.{IsFit};
 ghost use Rattle.table_learn.specs.Found.{window_in};

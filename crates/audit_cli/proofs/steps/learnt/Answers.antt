@@ -2,8 +2,9 @@ use Rattle.std.proofs.Common.{◌≡◌, ◌<◌, rules, map, subst, sym}
 use Rattle.rule_table.specs.Views.{table_of}
 use Rattle.table_learn.specs.declared.errors.LearnError.{LearnError}
 use Rattle.table_learn.specs.declared.errors.LearnError.TheVariants as learn
-use Rattle.table_learn.specs.Settings.{settings_of, window_of}
-use Rattle.table_learn.specs.Learnt.{FailsAs, IsFull}
+use Rattle.table_learn.specs.Given.{settings_of, window_of}
+use Rattle.table_learn.specs.Learnt.{IsFull}
+use Rattle.table_learn.specs.Failing.{FailsAs}
 use Rattle.audit_cli.specs.declared.refusal.Refusal.TheVariants as refusal
 use Rattle.audit_cli.specs.Learn.{IsUnlearnt, too_wide, too_long}
 use Rattle.audit_cli.proofs.LearnLemmas.{are_windows_of, harvest_windows}

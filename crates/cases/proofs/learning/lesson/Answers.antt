@@ -2,7 +2,8 @@ use Rattle.std.proofs.Common.{◌≡◌, [], ◌∷◌, List, map, refl, rules}
 use Rattle.std.proofs.lemmas.List.Elements.{All-cons, All-nil}
 use Rattle.thumb_instr.specs.declared.instr.Instr.{Instr}
 use Rattle.thumb_instr.specs.declared.items.Mask.{Mask}
-use Rattle.table_learn.specs.Settings.{Settings, window_of, AreWindows, IsWindow}
+use Rattle.table_learn.specs.Settings.{Settings}
+use Rattle.table_learn.specs.Given.{window_of, AreWindows, IsWindow}
 use Rattle.cases.proofs.learning.lesson.Goals as goal
 
 only_window : (s : Settings) (w : List Instr × Mask) → IsWindow s (window_of w) → AreWindows s (map window_of (w ∷ []))

@@ -1,7 +1,7 @@
 use Rattle.std.proofs.Common.{ℕ, List, [], ◌∷◌, ◌++◌, Option, inl, inr, map}
 use Rattle.clause_model.specs.Literals.{negated}
 use Rattle.clause_model.specs.Propagation.{Refutes}
-use Rattle.cdcl_core.specs.Hinted.{RefutesTidily}
+use Rattle.cdcl_core.specs.Solved.{RefutesTidily}
 use Rattle.cdcl_core.proofs.laws.tidy_hints_are_accepted.Goals as goal
 
 tidy_refutes : (live : ℕ → Option (List ℕ)) (a hints : List ℕ) → RefutesTidily live a hints → Refutes live a hints

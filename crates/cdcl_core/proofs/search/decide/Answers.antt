@@ -1,4 +1,5 @@
 use Rattle.std.proofs.Common.{◌≡◌, ℕ, ◌+◌, ◌*◌, ◌≤◌, List, length, refl, sym, ◌∙◌, subst, arith, ap, length-append, [], ◌∷◌}
+use Rattle.step_ledger.proofs.Rises.{at_least-stays, at_least-goes_on, at_least-fewer, at_least-ticks}
 use Rattle.clause_model.specs.Asserting.{IsAsserting}
 use Rattle.cdcl_core.specs.Implied.{clauses_of, level_of}
 use Rattle.cdcl_core.proofs.Grounds.{ground_again, ground_onto}
@@ -10,7 +11,7 @@ use Rattle.cdcl_core.proofs.Searches.{deciding_begun, model_of, decided_ground, 
 use Rattle.cdcl_core.proofs.search.decide.Goals as goal
 
 pub deciding-init : goal.deciding-init
-deciding-init g c = (deciding_begun (clauses_of c.args.arena.now) (length c.args.arena.now.chains) c.args.arena.now c.args.refs.now c.args.reasons.now.items c.args.trail.now c.len-low.result c.requires.base c.requires.rule c.len-low.ensures.value, omega arith)
+deciding-init g c = (deciding_begun (clauses_of c.args.arena.now) (length c.args.arena.now.chains) c.args.arena.now c.args.refs.now c.args.reasons.now.items c.args.trail.now c.len-low.result c.requires.base c.requires.rule c.len-low.ensures.value, omega arith, at_least-stays _)
 
 pub pick-requires-clause-bounded : goal.pick-requires-clause-bounded
 pick-requires-clause-bounded g c = bounded_by (level_of c.args.arena.now c.args.trail.now c.len-low.result) c.deciding.arena c.deciding.reasons.items c.deciding.trail (2 * c.args.variables) c.deciding.invariant.0.ground c.requires.size
@@ -42,7 +43,7 @@ propagate-requires-clause-rule g c = decided_rule (level_of c.args.arena.now c.a
 pub deciding-preserved : goal.deciding-preserved
 deciding-preserved g c =
     let n : length c.set.new.self ≡ length c.deciding.trail + 1 = ap length c.in_ok-set-in-Some.ensures.ok ∙ length-append c.deciding.trail (c.in-Some.literal ∷ []) in
-    (deciding_later (level_of c.args.arena.now c.args.trail.now c.len-low.result) c.deciding.arena c.deciding.reasons.items c.deciding.trail c.deciding.invariant.0 c.in-Some.literal (known_below (level_of c.args.arena.now c.args.trail.now c.len-low.result) c.deciding.arena c.deciding.reasons.items c.deciding.trail (2 * c.args.variables) c.in-Some.literal c.deciding.invariant.0.ground c.requires.size c.in-Some.ensures.some.1) c.push.new.self.items c.set.new.self c.in_ok-push-in-Some.ensures.items c.in_ok-set-in-Some.ensures.ok c.propagate.new.arena c.propagate.new.reasons.items c.propagate.new.assignment c.in_ok-propagate-in-Some.ensures.later (c.in_ok-propagate-in-Some.ensures.done c.in-None-2.is), omega (arith, n, c.tick.ensures, c.deciding.invariant.1, c.in_ok-propagate-in-Some.ensures.later.longer))
+    (deciding_later (level_of c.args.arena.now c.args.trail.now c.len-low.result) c.deciding.arena c.deciding.reasons.items c.deciding.trail c.deciding.invariant.0 c.in-Some.literal (known_below (level_of c.args.arena.now c.args.trail.now c.len-low.result) c.deciding.arena c.deciding.reasons.items c.deciding.trail (2 * c.args.variables) c.in-Some.literal c.deciding.invariant.0.ground c.requires.size c.in-Some.ensures.some.1) c.push.new.self.items c.set.new.self c.in_ok-push-in-Some.ensures.items c.in_ok-set-in-Some.ensures.ok c.propagate.new.arena c.propagate.new.reasons.items c.propagate.new.assignment c.in_ok-propagate-in-Some.ensures.later (c.in_ok-propagate-in-Some.ensures.done c.in-None-2.is), omega (arith, n, c.tick.ensures, c.deciding.invariant.1, c.in_ok-propagate-in-Some.ensures.later.longer), at_least-goes_on _ _ _ 0 0 c.deciding.invariant.2 (at_least-fewer _ _ 1 0 (omega arith) (at_least-ticks _ _ c.tick.ensures)))
 
 pub learn-requires-clause-ground : goal.learn-requires-clause-ground
 learn-requires-clause-ground g c = ground_again (level_of c.args.arena.now c.args.trail.now c.len-low.result) c.propagate.new.arena c.propagate.new.reasons.items c.propagate.new.assignment (later_ground (level_of c.args.arena.now c.args.trail.now c.len-low.result) c.deciding.arena c.deciding.reasons.items c.deciding.trail c.deciding.invariant.0 c.in-Some.literal (known_below (level_of c.args.arena.now c.args.trail.now c.len-low.result) c.deciding.arena c.deciding.reasons.items c.deciding.trail (2 * c.args.variables) c.in-Some.literal c.deciding.invariant.0.ground c.requires.size c.in-Some.ensures.some.1) c.push.new.self.items c.set.new.self c.in_ok-push-in-Some.ensures.items c.in_ok-set-in-Some.ensures.ok c.propagate.new.arena c.propagate.new.reasons.items c.propagate.new.assignment c.in_ok-propagate-in-Some.ensures.later)

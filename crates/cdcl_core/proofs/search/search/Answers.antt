@@ -1,9 +1,12 @@
 use Rattle.std.proofs.Common.{ℕ, List, length, sym, subst, ap, map, Option, Some, None}
+use Rattle.step_ledger.proofs.Rises.{at_least-fewer, at_least-ticks}
 use Rattle.clause_arena.specs.Contents.{Clause}
 use Rattle.cdcl_core.specs.Implied.{clauses_of}
+use Rattle.cdcl_core.specs.Costs.{conflicts_in}
 use Rattle.cdcl_core.specs.Searched.{IsBase, GoesOn}
 use Rattle.cdcl_core.proofs.Adopted.{base_later, base_here, conflict_is, no_conflict_is}
 use Rattle.cdcl_core.proofs.Lists.{grown_from_keeps}
+use Rattle.cdcl_core.proofs.Endings.{one_at_most}
 use Rattle.cdcl_core.proofs.Searches.{ends_onto, goes_onto}
 use Rattle.cdcl_core.proofs.search.search.Goals as goal
 
@@ -29,3 +32,9 @@ returns-in_ok-ending-in-None-2-clause-ends g c = ends_onto (clauses_of c.args.ar
 
 pub returns-in_ok-ending-in-None-2-clause-goes_on : goal.returns-in_ok-ending-in-None-2-clause-goes_on
 returns-in_ok-ending-in-None-2-clause-goes_on g c = goes_onto (clauses_of c.args.arena.now) (clauses_of c.propagate.new.arena) (length c.args.arena.now.chains) (length c.propagate.new.arena.chains) c.decide.new.arena c.args.refs.now c.decide.new.reasons.items c.args.trail.now c.propagate.new.assignment c.decide.new.trail c.in_ok-ending-in-None-2.ending (ap (λ (cs : List Clause). map (λ (x : Clause). x.literals) cs) c.in_ok-at-in-None.ensures.later.clauses) c.in_ok-at-in-None.ensures.later.size (grown_from_keeps c.args.trail.now c.propagate.new.assignment c.in_ok-at-in-None.ensures.later.prefix) c.in_ok-ending-in-None-2.ensures.goes_on
+
+pub returns-in_ok-ending-in-Some-clause-rises : goal.returns-in_ok-ending-in-Some-clause-rises
+returns-in_ok-ending-in-Some-clause-rises g c = at_least-fewer _ _ 1 (conflicts_in c.in_ok-ending-in-Some.ending) (one_at_most c.in_ok-ending-in-Some.ending) (at_least-ticks _ _ c.tick.ensures)
+
+pub returns-in_ok-ending-in-Some-2-clause-rises : goal.returns-in_ok-ending-in-Some-2-clause-rises
+returns-in_ok-ending-in-Some-2-clause-rises g c = at_least-fewer _ _ 1 (conflicts_in c.in_ok-ending-in-Some-2.ending) (one_at_most c.in_ok-ending-in-Some-2.ending) (at_least-ticks _ _ c.tick-in-Some-2.ensures)

@@ -1,8 +1,12 @@
 use Rattle.std.proofs.Common.{◌≡◌, ℕ, ◌+◌, ◌*◌, ◌<◌, ◌≤◌, List, [], ◌∷◌, None, length, length-append, inr, ap, sym, subst, ◌∙◌, arith}
 use Rattle.std.specs.Prelude.{All, map}
 use Rattle.std.proofs.lemmas.List.{length-map}
+use Rattle.step_ledger.specs.Counts.{RisesByAtLeast}
+use Rattle.step_ledger.proofs.Rises.{at_least-stays, at_least-fewer, at_least-goes_on}
 use Rattle.clause_model.specs.Literals.{code_of, codes_of}
 use Rattle.lrat_check.specs.declared.line.Line.TheVariants.{Addition as Adding}
+use Rattle.cdcl_core.specs.declared.search.Ending.{Ending}
+use Rattle.cdcl_core.specs.Costs.{conflicts_in}
 use Rattle.cdcl_core.specs.Implied.{clauses_of}
 use Rattle.cdcl_core.specs.Held.{Covers}
 use Rattle.cdcl_core.specs.Searched.{EndsOver, GoesOn, IsBase}
@@ -31,6 +35,7 @@ pub loop-round-init : goal.loop-round-init
 loop-round-init g c = (
   running_begun (codes_of c.args.formula.now.clauses) (length c.args.arena.now.chains) c.args.arena.now c.args.refs.now.items c.args.ids.now.items c.args.reasons.now.items c.args.trail.now c.args.conflict c.new-log.result.items c.requires.base c.requires.covers c.new-log.ensures.items,
   omega arith,
+  rw c.new-log.ensures.items (at_least-stays _),
 )
 
 pub drop_true-requires-clause-base : goal.drop_true-requires-clause-base
@@ -74,6 +79,8 @@ returns-in-Refuted-clause-verdict g c =
 
 pub loop-round-preserved : goal.loop-round-preserved
 loop-round-preserved g c =
+    let one = subst (λ (e : Ending). RisesByAtLeast c.loop-round.steps c.search.new.steps (conflicts_in e)) c.in-Taught.is c.in_ok-search.ensures.rises in
+    let longer : length c.push-in-Taught.new.self.items ≡ length c.loop-round.log.items + 1 = ap length c.in_ok-push-in-Taught.ensures.items ∙ length-append c.loop-round.log.items (Adding c.in-Taught.line ∷ []) in
     let formula : List (List ℕ) = codes_of c.args.formula.now.clauses in
     let clauses : List (List ℕ) = with_log formula c.loop-round.log.items in
     let all = subst (EndsOver (clauses_of c.loop-round.arena) c.deref-in-loop-round.result.now c.loop-round.trail c.new-id.result c.search.new.trail) c.in-Taught.is c.in_ok-search.ensures.ends in
@@ -87,6 +94,7 @@ loop-round-preserved g c =
           (c.deref-in-Taught.ensures.value ∙ c.in_ok-literals-in-Taught.ensures) (omega (arith, c.new-id.ensures, c.clauses.ensures, length-map c.args.formula.now.clauses (map code_of))) t (clauses_of c.drop_true.new.arena) c.drop_true.new.ids.items c.search.new.trail dropped
           (length c.drop_true.new.arena.chains) c.adopt.new.arena c.adopt.new.refs.items c.adopt.new.ids.items c.adopt.new.reasons.items c.adopt.new.trail c.in_ok-current-in-Taught.current size c.in_ok-current-in-Taught.ensures.ids c.in_ok-current-in-Taught.ensures.grows c.in_ok-current-in-Taught.ensures.base,
       omega (arith, c.search.ensures.cost, c.loop-round.invariant.1, rounds_more c.loop-round.round (c.args.variables + 1)),
+      rw longer (at_least-goes_on _ _ _ (length c.loop-round.log.items) 1 c.loop-round.invariant.2 one),
     )
 
 pub returns-in_err-search-clause-cost : goal.returns-in_err-search-clause-cost
@@ -115,3 +123,14 @@ returns-in_err-current-in-Taught-clause-cost g c = cost_after c.loop-round.steps
 
 pub returns-in_err-push-in-Taught-clause-cost : goal.returns-in_err-push-in-Taught-clause-cost
 returns-in_err-push-in-Taught-clause-cost g c = cost_after c.loop-round.steps c.args.steps.now c.search.new.steps c.loop-round.round c.args.budget c.args.variables c.loop-round.invariant.1 c.search.ensures.cost c.loop-round-test.true
+
+pub returns-in-Model-clause-rises : goal.returns-in-Model-clause-rises
+returns-in-Model-clause-rises g c =
+    let none = subst (λ (e : Ending). RisesByAtLeast c.loop-round.steps c.search.new.steps (conflicts_in e)) c.in-Model.is c.in_ok-search.ensures.rises in
+    at_least-fewer _ _ (length c.loop-round.log.items + 0) 0 (omega arith) (at_least-goes_on _ _ _ (length c.loop-round.log.items) 0 c.loop-round.invariant.2 none)
+
+pub returns-in-Refuted-clause-rises : goal.returns-in-Refuted-clause-rises
+returns-in-Refuted-clause-rises g c =
+    let one = subst (λ (e : Ending). RisesByAtLeast c.loop-round.steps c.search.new.steps (conflicts_in e)) c.in-Refuted.is c.in_ok-search.ensures.rises in
+    let longer : length c.push.new.self.items ≡ length c.loop-round.log.items + 1 = ap length c.in_ok-push-in-Refuted.ensures.items ∙ length-append c.loop-round.log.items (Adding c.in-Refuted.line ∷ []) in
+    rw longer (at_least-goes_on _ _ _ (length c.loop-round.log.items) 1 c.loop-round.invariant.2 one)

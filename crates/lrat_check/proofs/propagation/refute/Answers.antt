@@ -1,7 +1,9 @@
-use Rattle.std.proofs.Common.{◌+◌, refl, inr, map, arith}
+use Rattle.std.proofs.Common.{◌≤◌, ◌+◌, length, refl, inl, inr, map, arith}
 use Rattle.std.specs.Prelude.{unsigned_abs}
+use Rattle.std.proofs.lemmas.List.{length-map}
 use Rattle.clause_model.proofs.Runs.{Continues-dead, Continues-open, Continues-conflict, Continues-unit, hint_lengths-step}
 use Rattle.lrat_check.proofs.Views.{hint_within, hint_some, hint_none}
+use Rattle.lrat_check.proofs.Looked.{Looked-all, Looked-dead, Looked-ends, Looked-unit}
 use Rattle.clause_model.specs.Propagation.{dead, unfit}
 use Rattle.lrat_check.specs.Live.{clause_at}
 use Rattle.lrat_check.proofs.propagation.refute.Goals as goal
@@ -36,7 +38,8 @@ loop-hint-preserved g c =
     let step = hint_lengths-step (clause_at c.args.live.now) (map unsigned_abs c.args.hints.now) c.loop-hint.hint-index c.deref.result.now (hint_within _ _ _ _ b is e) some in (
       rw c.loop-hint.invariant.0 refl,
       rw c.in_ok-set-in-Unit.ensures.ok (Continues-unit _ _ _ _ _ (hint_within _ _ _ _ b is e) c.loop-hint.invariant.1 _ _ some c.in-Unit.ensures.standing),
-      omega (arith, c.counted_standing_of.ensures.cost, c.loop-hint.invariant.2, step),
+      omega (arith, c.counted_standing_of.ensures.cost.1, c.loop-hint.invariant.2, step),
+      rw c.in_ok-set-in-Unit.ensures.ok (Looked-unit _ _ _ _ _ _ _ (hint_within _ _ _ _ b is e) c.loop-hint.invariant.3 _ some _ c.counted_standing_of.ensures.cost _ c.in-Unit.ensures.standing),
     )
 
 pub returns-in-Conflict-clause-cost : goal.returns-in-Conflict-clause-cost
@@ -45,7 +48,7 @@ returns-in-Conflict-clause-cost g c =
     let is = c.hint-item.is in
     let e = c.id.ensures in
     let step = hint_lengths-step (clause_at c.args.live.now) (map unsigned_abs c.args.hints.now) c.loop-hint.hint-index c.deref.result.now (hint_within _ _ _ _ b is e) (hint_some _ _ _ _ b is e c.args.live.now c.in-Some.clause.now c.deref.result.now c.in-Some.ensures.value c.deref.ensures.value) in
-    omega (arith, c.counted_standing_of.ensures.cost, c.loop-hint.invariant.2, step)
+    omega (arith, c.counted_standing_of.ensures.cost.1, c.loop-hint.invariant.2, step)
 
 pub returns-in_err-set-in-Unit-clause-cost : goal.returns-in_err-set-in-Unit-clause-cost
 returns-in_err-set-in-Unit-clause-cost g c =
@@ -53,7 +56,7 @@ returns-in_err-set-in-Unit-clause-cost g c =
     let is = c.hint-item.is in
     let e = c.id.ensures in
     let step = hint_lengths-step (clause_at c.args.live.now) (map unsigned_abs c.args.hints.now) c.loop-hint.hint-index c.deref.result.now (hint_within _ _ _ _ b is e) (hint_some _ _ _ _ b is e c.args.live.now c.in-Some.clause.now c.deref.result.now c.in-Some.ensures.value c.deref.ensures.value) in
-    omega (arith, c.counted_standing_of.ensures.cost, c.loop-hint.invariant.2, step)
+    omega (arith, c.counted_standing_of.ensures.cost.1, c.loop-hint.invariant.2, step)
 
 pub returns-in-Open-clause-cost : goal.returns-in-Open-clause-cost
 returns-in-Open-clause-cost g c =
@@ -61,4 +64,30 @@ returns-in-Open-clause-cost g c =
     let is = c.hint-item.is in
     let e = c.id.ensures in
     let step = hint_lengths-step (clause_at c.args.live.now) (map unsigned_abs c.args.hints.now) c.loop-hint.hint-index c.deref.result.now (hint_within _ _ _ _ b is e) (hint_some _ _ _ _ b is e c.args.live.now c.in-Some.clause.now c.deref.result.now c.in-Some.ensures.value c.deref.ensures.value) in
-    omega (arith, c.counted_standing_of.ensures.cost, c.loop-hint.invariant.2, step)
+    omega (arith, c.counted_standing_of.ensures.cost.1, c.loop-hint.invariant.2, step)
+
+pub returns-in-None-clause-fault_count : goal.returns-in-None-clause-fault_count
+returns-in-None-clause-fault_count g c =
+    let b = c.loop-hint-test.true in
+    let is = c.hint-item.is in
+    let e = c.id.ensures in
+    inr (Looked-dead _ _ _ _ _ _ _ (hint_within _ _ _ _ b is e) c.loop-hint.invariant.3 (hint_none _ _ _ _ b is e c.args.live.now c.in-None.ensures.value))
+
+pub returns-in-Conflict-clause-count : goal.returns-in-Conflict-clause-count
+returns-in-Conflict-clause-count g c =
+    let b = c.loop-hint-test.true in
+    let is = c.hint-item.is in
+    let e = c.id.ensures in
+    Looked-ends _ _ _ _ _ _ _ (hint_within _ _ _ _ b is e) c.loop-hint.invariant.3 _ (hint_some _ _ _ _ b is e c.args.live.now c.in-Some.clause.now c.deref.result.now c.in-Some.ensures.value c.deref.ensures.value) _ c.counted_standing_of.ensures.cost (inl c.in-Conflict.ensures.standing)
+
+pub returns-in-Open-clause-fault_count : goal.returns-in-Open-clause-fault_count
+returns-in-Open-clause-fault_count g c =
+    let b = c.loop-hint-test.true in
+    let is = c.hint-item.is in
+    let e = c.id.ensures in
+    inr (Looked-ends _ _ _ _ _ _ _ (hint_within _ _ _ _ b is e) c.loop-hint.invariant.3 _ (hint_some _ _ _ _ b is e c.args.live.now c.in-Some.clause.now c.deref.result.now c.in-Some.ensures.value c.deref.ensures.value) _ c.counted_standing_of.ensures.cost (inr c.in-Open.ensures.standing))
+
+pub returns-clause-fault_count : goal.returns-clause-fault_count
+returns-clause-fault_count g c =
+    let end : length (map unsigned_abs c.args.hints.now) ≤ c.loop-hint.hint-index = rw (length-map c.args.hints.now unsigned_abs) c.loop-hint-test.false in
+    inr (Looked-all _ _ _ _ c.loop-hint.hint-index _ _ end c.loop-hint.invariant.3)

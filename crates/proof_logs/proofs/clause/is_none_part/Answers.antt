@@ -1,5 +1,6 @@
 use Rattle.std.proofs.Common.{◌+◌, arith, length, sym}
 use Rattle.std.proofs.lemmas.List.Sums.{sum_by-take-le}
+use Rattle.step_ledger.proofs.Rises.{at_least-goes_on}
 use Rattle.proof_logs.proofs.Members.{says_no, says_yes, denied, lengths_next, new_more, new_all, part_found}
 use Rattle.proof_logs.proofs.clause.is_none_part.Goals as goal
 
@@ -16,6 +17,7 @@ pub loop-clause-preserved : goal.loop-clause-preserved
 loop-clause-preserved g c = record {
   new = new_more c.args.clauses.now c.args.members.now c.clause-item.result c.loop-clause.clause-index c.loop-clause-test.true (sym c.clause-item.is) c.loop-clause.invariant.new (denied _ c.if-is_part.ensures.part);
   cost = lengths_next c.args.clauses.now c.loop-clause.steps c.is_part.new.steps c.args.steps.now c.loop-clause.clause-index c.clause-item.result c.loop-clause-test.true (sym c.clause-item.is) c.loop-clause.invariant.cost c.is_part.ensures.cost;
+  rises = at_least-goes_on _ _ _ 0 0 c.loop-clause.invariant.rises c.is_part.ensures.rises;
 }
 
 pub returns-clause-new : goal.returns-clause-new

@@ -2,6 +2,7 @@ use Rattle.std.proofs.Common.{◌≤◌, ◌+◌, ◌≢◌, arith, List, ℕ, l
 use Rattle.std.specs.Prelude.{AllPairs, IsTrue, sum_by, ◌↔◌}
 use Rattle.clause_model.specs.Asserting.{IsNew}
 use Rattle.proof_logs.specs.Lists.{listed}
+use Rattle.step_ledger.proofs.Rises.{at_least-goes_on}
 use Rattle.proof_logs.proofs.Members.{says_no, says_yes, denied}
 use Rattle.proof_logs.proofs.Listed.{list_fails, list_more, looked_more, looked_within, all_looked}
 use Rattle.proof_logs.proofs.lists.is_new_among.Goals as goal
@@ -33,6 +34,7 @@ loop-literal-preserved g c =
       new = list_more lists members literals i c.literal-item.result c.loop-literal-test.true c.literal-item.is c.loop-literal.invariant.new
           (subst (λ (clauses : List (List ℕ)). IsNew clauses members) c.list_of.ensures (c.is_none_part.ensures.new.0 c.if-not-is_none_part.false));
       cost = looked_more lists members literals i c.literal-item.result c.loop-literal-test.true c.literal-item.is c.loop-literal.steps c.is_none_part.new.steps c.args.steps.now c.loop-literal.invariant.cost cost;
+      rises = at_least-goes_on _ _ _ 0 0 c.loop-literal.invariant.rises c.is_none_part.ensures.rises;
     }
 
 pub returns-clause-new : goal.returns-clause-new

@@ -5,6 +5,7 @@ use Rattle.clause_model.specs.Asserting.{IsNew}
 use Rattle.proof_logs.specs.Lines.{additions}
 use Rattle.proof_logs.specs.Lists.{Holds}
 use Rattle.proof_logs.specs.Checked.{contents_of}
+use Rattle.step_ledger.proofs.Rises.{at_least-goes_on}
 use Rattle.proof_logs.proofs.Additions.{content_at, additions_clause, additions_none, before_clause, before_none}
 use Rattle.proof_logs.proofs.Newness.{newness_within, newness_next, new_fault, new_step, new_same, newness_same}
 use Rattle.proof_logs.proofs.Members.{says_no, denied}
@@ -50,6 +51,7 @@ loop-line-preserved g c =
             held = rw w.clauses-is (subst (Holds w.add_new.new.self) (sym later) (w.in_ok-add_new.ensures.added w.if-not-branch.false before held));
             rest = new_step before after _ left w.in-Some.clause.now _ first c.loop-line.invariant.rest ((w.in_ok-add_new.ensures.new before held).0 w.if-not-branch.false) later;
             cost = newness_next before after _ left w.in-Some.clause.now c.loop-line.steps c.match-clause_of.steps _ first later c.loop-line.invariant.cost (omega (arith, w.steps-is, w.add_new.ensures.cost before held));
+            rises = rw w.steps-is (at_least-goes_on _ _ _ 0 0 c.loop-line.invariant.rises w.add_new.ensures.rises);
           }
       | in_default w ↦
           let none = additions_none log i _ at w.in_default.ensures.added in
@@ -58,5 +60,6 @@ loop-line-preserved g c =
             held = held;
             rest = new_same before _ left _ none c.loop-line.invariant.rest;
             cost = newness_same before _ left c.loop-line.steps _ none c.loop-line.invariant.cost;
+            rises = c.loop-line.invariant.rises;
           })
     ]

@@ -1,7 +1,9 @@
 use Rattle.std.proofs.Common.{◌≤◌, ◌+◌, ◌++◌, drop, take}
+use Rattle.step_ledger.specs.Counts.{RisesByAtLeast}
 use Rattle.clause_model.specs.Literals.{codes_of}
 use Rattle.proof_logs.specs.Lines.{additions}
-use Rattle.proof_logs.specs.Logs.{EachIsNew, newness_cost}
+use Rattle.proof_logs.specs.Logs.{EachIsNew}
+use Rattle.proof_logs.specs.Costs.{newness_cost}
 use Rattle.proof_logs.specs.Lists.{Holds}
 use Rattle.proof_logs.specs.Checked.{contents_of}
 use Rattle.proof_logs.proofs.Newness.{NewRest}
@@ -15,4 +17,5 @@ invariant-loop-line g l =
       held : Holds l.clauses before;
       rest : NewRest before left (EachIsNew (codes_of l.formula.clauses) (additions (contents_of l.log)));
       cost : l.steps + newness_cost before left ≤ l.initial.steps + newness_cost (codes_of l.formula.clauses) (additions (contents_of l.log));
+      rises : RisesByAtLeast l.initial.steps l.steps 0;
     }

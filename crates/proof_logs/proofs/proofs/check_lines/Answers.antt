@@ -1,6 +1,7 @@
 use Rattle.std.proofs.Common.{◌≡◌, ◌≤◌, length, slice_get, Some, inr, arith, sym, subst}
 use Rattle.std.specs.Prelude.{Any, IsTrue, ◌↔◌, ◌++◌, []}
 use Rattle.std.proofs.lemmas.List.{length-map, take_all, append-nil}
+use Rattle.step_ledger.proofs.Rises.{at_least-stays, at_least-goes_on, at_least-fewer}
 use Rattle.clause_model.specs.Literals.{codes_of}
 use Rattle.lrat_check.specs.Content.{Content, content_of}
 use Rattle.proof_logs.specs.Lines.{additions}
@@ -25,6 +26,7 @@ loop-place-init g c =
       rest = record { leads = λ o p. p };
       refuted = subst (λ (xs : List (List ℕ)). IsTrue c.in_ok-checker.checker.refuted ↔ Any (λ clause. clause ≡ []) xs) (sym (append-nil (codes_of c.args.formula.now.clauses))) c.in_ok-checker.ensures.starts.refuted;
       cost = omega arith;
+      rises = at_least-stays _;
     })
 
 pub returns-in-Err-clause-answers : goal.returns-in-Err-clause-answers
@@ -52,6 +54,7 @@ loop-place-preserved g c =
       rest = line_step _ _ _ _ (contents_of c.args.lines.now) c.loop-place.place _ _ at c.loop-place.invariant.rest (led_accepts _ _ _ led) (led_known _ _ _ led);
       refuted = refuted_more _ _ (codes_of c.args.formula.now.clauses) (contents_of c.args.lines.now) c.loop-place.place _ at led c.loop-place.invariant.refuted;
       cost = cost_next _ _ (contents_of c.args.lines.now) c.loop-place.place _ c.loop-place.steps _ _ at led c.loop-place.invariant.cost c.add.ensures.cost;
+      rises = let count = c.in_default.ensures.count in at_least-goes_on _ _ _ 0 0 c.loop-place.invariant.rises (at_least-fewer _ _ count.0 0 (omega arith) count.2.0);
     }
 
 pub returns-clause-answers : goal.returns-clause-answers

@@ -1,8 +1,10 @@
 use Rattle.std.proofs.Common.{◌≡◌, ◌≤◌, ◌+◌, ◌++◌, [], drop, take}
 use Rattle.std.specs.Prelude.{Any, IsTrue, ◌↔◌}
+use Rattle.step_ledger.specs.Counts.{RisesByAtLeast}
 use Rattle.clause_model.specs.Literals.{codes_of}
 use Rattle.proof_logs.specs.declared.faults.ProofFault.TheVariants.{Line as LineOf}
-use Rattle.proof_logs.specs.Lines.{started, additions, lines_cost}
+use Rattle.proof_logs.specs.Lines.{started, additions}
+use Rattle.proof_logs.specs.Costs.{lines_cost}
 use Rattle.proof_logs.specs.Proofs.{LinesVerdict}
 use Rattle.proof_logs.specs.Checked.{known_of, contents_of}
 use Rattle.proof_logs.proofs.Checks.{LinesRest}
@@ -13,4 +15,5 @@ invariant-loop-place g l = record {
   rest : LinesRest LineOf (known_of l.checker) (l.place + 1) (drop l.place (contents_of l.lines)) (LinesVerdict LineOf (started (codes_of l.formula.clauses)) 1 (contents_of l.lines));
   refuted : IsTrue l.checker.refuted ↔ Any (λ clause. clause ≡ []) (codes_of l.formula.clauses ++ additions (take l.place (contents_of l.lines)));
   cost : l.steps + lines_cost (known_of l.checker) (drop l.place (contents_of l.lines)) ≤ l.initial.steps + lines_cost (started (codes_of l.formula.clauses)) (contents_of l.lines);
+  rises : RisesByAtLeast l.initial.steps l.steps 0;
 }

@@ -5,7 +5,7 @@ use Rattle.thumb_model.specs.Rewrite.{AreOver}
 use Rattle.clause_model.specs.Literals.{codes_of}
 use Rattle.lrat_check.specs.Content.{content_of}
 use Rattle.rule_table.specs.Views.{opened_of, rule_of, table_of}
-use Rattle.proof_logs.specs.Logs.{spent_cost}
+use Rattle.proof_logs.specs.Costs.{spent_cost}
 use Rattle.table_audit.specs.Sides.{formula_against}
 use Rattle.table_audit.specs.Shorter.{shorter, IsTold}
 use Rattle.table_audit.proofs.Tellings.{told_is}

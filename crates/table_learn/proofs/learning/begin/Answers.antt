@@ -7,7 +7,7 @@ use Rattle.rule_table.specs.declared.table.Entry.{Entry}
 use Rattle.rule_table.specs.Table.{Rule, Table}
 use Rattle.rule_table.specs.Text.{text_of}
 use Rattle.rule_table.specs.Views.{rule_of, table_of}
-use Rattle.table_learn.specs.Settings.{settings_of}
+use Rattle.table_learn.specs.Given.{settings_of}
 use Rattle.table_learn.specs.Learnt.{text_length}
 use Rattle.table_learn.specs.Progress.{Progress, table_with}
 use Rattle.table_learn.proofs.Gains.{start, length-states_from}

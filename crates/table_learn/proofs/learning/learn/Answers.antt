@@ -1,5 +1,5 @@
 use Rattle.std.proofs.Common.{ℕ, ◌≡◌, ◌<◌, ◌≤◌, ◌+◌, ◌∙◌, sym, ap, subst, arith, map, length, take, get_or, List}
-use Rattle.table_learn.specs.Settings.{settings_of, window_of, AreWindows, IsWindow}
+use Rattle.table_learn.specs.Given.{settings_of, window_of, AreWindows, IsWindow}
 use Rattle.table_learn.specs.Found.{window_in}
 use Rattle.table_learn.specs.Learnt.{width_of}
 use Rattle.table_learn.specs.Progress.{HasLearnt}

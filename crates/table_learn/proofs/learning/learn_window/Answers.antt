@@ -6,7 +6,8 @@ use Rattle.window_exec.specs.State.{seen}
 use Rattle.rule_table.specs.Table.{Rule}
 use Rattle.rule_table.specs.Text.{rule_items}
 use Rattle.rule_table.specs.Views.{rule_of}
-use Rattle.table_learn.specs.Settings.{settings_of, Window}
+use Rattle.table_learn.specs.Settings.{Window}
+use Rattle.table_learn.specs.Given.{settings_of}
 use Rattle.table_learn.specs.Found.{window_in}
 use Rattle.table_learn.specs.Dropping.{IsSided}
 use Rattle.table_learn.specs.Lengths.{lines_length}

@@ -5,7 +5,7 @@ use Rattle.window_exec.specs.Seen.{Seen}
 use Rattle.rule_table.specs.Views.{opened_of, rule_of}
 use Rattle.table_audit.specs.Sides.{named_count}
 use Rattle.table_audit.specs.Shorter.{sequences_below}
-use Rattle.table_learn.specs.Settings.{settings_of}
+use Rattle.table_learn.specs.Given.{settings_of}
 use Rattle.table_learn.specs.Found.{window_in}
 use Rattle.table_learn.specs.Searching.{EarnedFrom, query_cost}
 use Rattle.table_learn.specs.Tried.{Tried}

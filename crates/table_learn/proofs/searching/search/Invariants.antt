@@ -1,7 +1,7 @@
 use Rattle.std.proofs.Common.{◌≤◌, ◌+◌, ◌*◌, length, map, take, drop}
 use Rattle.window_exec.specs.State.{seen}
 use Rattle.rule_table.specs.Views.{opened_of}
-use Rattle.table_learn.specs.Settings.{settings_of}
+use Rattle.table_learn.specs.Given.{settings_of}
 use Rattle.table_learn.specs.Found.{window_in}
 use Rattle.table_learn.specs.Searching.{IsSearching, query_cost}
 use Rattle.table_learn.proofs.searching.search.Given as goal

@@ -7,7 +7,7 @@ use Rattle.window_exec.specs.Seen.{Seen}
 use Rattle.lrat_check.specs.Content.{content_of}
 use Rattle.rule_table.specs.Views.{opened_of}
 use Rattle.table_audit.specs.Shorter.{sequences_below}
-use Rattle.table_learn.specs.Settings.{settings_of}
+use Rattle.table_learn.specs.Given.{settings_of}
 use Rattle.table_learn.specs.Found.{IsFinding, window_in}
 use Rattle.table_learn.specs.Searching.{shorter_than}
 use Rattle.table_learn.proofs.Rounds.{side_over}

@@ -1,0 +1,35 @@
+-- What is asked of the settings and the windows that are given.
+use Rattle.std.specs.Prelude.{◌≤◌, List, All, length}
+use Rattle.thumb_instr.specs.declared.instr.Instr.{Instr}
+use Rattle.thumb_instr.specs.declared.items.Mask.{Mask}
+use Rattle.seq_enum.specs.Alphabet.{IsOver}
+use Rattle.bit_blast.specs.Exactness.{IsMaskOver}
+use Rattle.table_audit.specs.Sides.{named_count, IsCanonicalSide}
+use Rattle.table_learn.specs.declared.settings.Settings as code
+use Rattle.table_learn.specs.Settings.{Settings, Window}
+
+abbrev pub settings_of : code.Settings → Settings
+settings_of s = record { regs = s.regs; left = s.left; budget = s.budget; seed = s.seed; pool = s.pool }
+
+-- each lies in its limits; the seed and the pool do so by their types
+pub record AreInLimits (s : Settings) : Type 0 where
+  pub some_regs : 1 ≤ s.regs
+  pub few_regs : s.regs ≤ 4
+  pub some_left : 1 ≤ s.left
+  pub few_left : s.left ≤ 5
+  pub some_budget : 1 ≤ s.budget
+  pub few_budget : s.budget ≤ 1000000
+
+abbrev pub window_of : List Instr × Mask → Window
+window_of p = record { seq = p.0; mask = p.1.items.bits }
+
+-- a window is its own canonical form, no longer than the settings say, and over the registers that it names and the pool; its mask has no other register
+pub record IsWindow (s : Settings) (w : Window) : Type 0 where
+  pub canonical : IsCanonicalSide w.seq
+  pub short : length w.seq ≤ s.left
+  pub few : named_count w.seq ≤ s.regs
+  pub over : IsOver (named_count w.seq) s.pool w.seq
+  pub mask : IsMaskOver (named_count w.seq) w.mask
+
+abbrev pub AreWindows : Settings → List Window → Type 0
+AreWindows s windows = All (IsWindow s) windows
