@@ -50,7 +50,7 @@ passed_step names code p i mention w es b t = absurd (cc)
 
 -- ---- chains ----
 
-some_of : (o : Option ℕ) → IsSome o → (q : ℕ) × (o ≡ Some q)
+pub some_of : (o : Option ℕ) → IsSome o → (q : ℕ) × (o ≡ Some q)
 some_of None h = absurd (cc)
 some_of (Some q) h = (q, refl)
 
@@ -63,7 +63,7 @@ always_taken (instr.Branch d) v h = refl
 always_taken i v h = absurd (cc)
 
 -- the last label of a chain is a code label
-last_is_code : (code : Code) (n : ℕ) (from to : Name) → HopsBy code (suc n) from to → IsSome (place_of code to)
+pub last_is_code : (code : Code) (n : ℕ) (from to : Name) → HopsBy code (suc n) from to → IsSome (place_of code to)
 last_is_code code zero from to h = subst (λ (x : Name). IsSome (place_of code x)) h.2 h.1.code_label
 last_is_code code (suc n) from to h = last_is_code code n h.0 to h.2
 

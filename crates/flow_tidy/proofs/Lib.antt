@@ -6,3 +6,4 @@ pub mod Removed
 pub mod Aimed
 pub mod AimedRuns
 pub mod Whole
+pub mod Ends

@@ -1,6 +1,6 @@
 -- What holds of tidying.
-use Rattle.std.specs.Prelude.{◌≡◌, ◌≢◌, ◌↔◌, ℕ, List, [], ◌∷◌, IsSome}
-use Rattle.thumb_model.specs.Listing.{Name, Line, code_of, place_of}
+use Rattle.std.specs.Prelude.{◌≡◌, ◌≢◌, ◌↔◌, ℕ, ◌+◌, ◌*◌, ◌≤◌, List, [], ◌∷◌, length, IsSome}
+use Rattle.thumb_model.specs.Listing.{Name, Line, places_of, code_of, place_of}
 use Rattle.thumb_model.specs.Literals.{HasLiterals}
 use Rattle.thumb_model.specs.Layout.{Layable}
 use Rattle.thumb_model.specs.Same.{Same}
@@ -17,6 +17,10 @@ TidyingIsDetermined = (s : Setting) (ls : List Line) (cs ds : List Change) (new 
 -- each change was possible in the lines as they then were, and none is in those that are left
 abbrev pub TidyingIsComplete : Type 0
 TidyingIsComplete = (s : Setting) (ls : List Line) (cs : List Change) (new : List Line) → AreTidied s ls cs new → AllPossible s ls cs × NonePossible s new
+
+-- tidying ends: of n places there are at most n * (n + 1) changes, as each takes a place away, or a branch from a chain; and no more places are left
+abbrev pub TidyingEnds : Type 0
+TidyingEnds = (s : Setting) (ls : List Line) (cs : List Change) (new : List Line) → AreTidied s ls cs new → (length cs ≤ length (places_of ls) * (length (places_of ls) + 1)) × (length (places_of new) ≤ length (places_of ls))
 
 -- tidied lines run the same, where the literals of the given ones stand behind their labels
 abbrev pub TidyingKeepsRuns : Type 0

@@ -1,6 +1,6 @@
 //! The laws of tidying. Each is the contract of a function that does nothing.
 
-ghost use Rattle.flow_tidy.specs.Laws.{TidyingIsDetermined, TidyingIsComplete, TidyingKeepsRuns, TidyingStaysLayable, ChangesKeepRuns, LabelsStayCode, ReachedStays, ReachedStaysByEach};
+ghost use Rattle.flow_tidy.specs.Laws.{TidyingIsDetermined, TidyingIsComplete, TidyingEnds, TidyingKeepsRuns, TidyingStaysLayable, ChangesKeepRuns, LabelsStayCode, ReachedStays, ReachedStaysByEach};
 
 /// The changes and the lines that are left are determined.
 pub fn tidying_is_determined()
@@ -10,6 +10,11 @@ pub fn tidying_is_determined()
 /// Each change was possible in the lines as they then were, and none is in those that are left.
 pub fn tidying_is_complete()
     ensures { TidyingIsComplete }
+{}
+
+/// There are at most so many changes, and no more places are left.
+pub fn tidying_ends()
+    ensures { TidyingEnds }
 {}
 
 /// Tidying keeps the runs.
