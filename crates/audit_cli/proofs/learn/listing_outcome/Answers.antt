@@ -4,7 +4,7 @@ use Rattle.table_learn.specs.Settings.{Settings}
 use Rattle.table_learn.specs.Given.{settings_of}
 use Rattle.command_runs.specs.Outcomes.{outcome_view}
 use Rattle.audit_cli.specs.Learn.{IsLearnt, IsUnlearnt}
-use Rattle.audit_cli.specs.Lessons.{lesson_of}
+use Rattle.audit_cli.specs.Commands.{lesson_of}
 use Rattle.audit_cli.proofs.LearnLemmas.{is_learnt, is_taught, is_unlearnt, not_taught}
 use Rattle.audit_cli.proofs.learn.listing_outcome.Goals as goal
 
