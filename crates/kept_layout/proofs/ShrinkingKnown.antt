@@ -147,8 +147,8 @@ seen_by_reach k bytes gone new at next h w reach j s e known =
     let starts = starts_from k.base shapes in
     let high = ltb-true (later_end j s.head) (end_of k new) known in
     let right : IsRight starts k.stretches.items j = λ t a f g.
-        let there = lessen_there k.here bytes gone (shapes_of k.stretches.items) j (shape_of t) (shape_at k.stretches.items j t f) in
-        subst (λ (x : Head). head_fault starts a x ≡ None) there.2 (reach j there.0 a there.1 g) in
+    let there = lessen_there k.here bytes gone (shapes_of k.stretches.items) j (shape_of t) (shape_at k.stretches.items j t f) in
+    subst (λ (x : Head). head_fault starts a x ≡ None) there.2 (reach j there.0 a there.1 g) in
     right_alike (end_of k new) j starts (moved_starts k new 0) k.stretches.items s
     (subst (λ (xs : List ℕ). AreAlike (end_of k new) xs (moved_starts k new 0)) (sym (w.starts gone)) (starts_alike k new (starts_from at (drop next (shapes_of k.stretches.items))) (map (λ a. a - 0) (drop (end_of k new) (starts_of k))) h)) e high right
 
