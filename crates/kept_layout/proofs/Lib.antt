@@ -10,6 +10,7 @@ pub mod Giving
 pub mod MovingPlaces
 pub mod Reaching
 pub mod SetsKept
+pub mod ShrinkingKnown
 pub mod ShrinkingNotes
 pub mod ShrinkingPlaces
 pub mod ShrinkingReach

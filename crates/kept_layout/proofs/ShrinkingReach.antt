@@ -289,9 +289,9 @@ none_told k starts j s is not other at e f =
 pub called_within : (k : KeptLayout) (t : ℕ) (d : Stretch) (numbers : List ℕ) → IsLaid k → slice_get k.stretches.items t ≡ Some d → numbers ≡ d.callers.items → (j : ℕ) → Contains numbers j → j < length k.stretches.items
 called_within k t d numbers l e f j c = l.called t j d e (subst (λ xs. Contains xs j) f c)
 
-pub called_right : (k : KeptLayout) (starts : List ℕ) (t : ℕ) (d : Stretch) (numbers : List ℕ) → slice_get k.stretches.items t ≡ Some d → numbers ≡ d.callers.items → ((j : ℕ) → Contains numbers j → IsRight starts k.stretches.items j)
-    → (j : ℕ) (other : Stretch) → slice_get k.stretches.items t ≡ Some other → Contains other.callers.items j → IsRight starts k.stretches.items j
-called_right k starts t d numbers e f h j other g c =
+pub called_right : (k : KeptLayout) (P : ℕ → Type 0) (t : ℕ) (d : Stretch) (numbers : List ℕ) → slice_get k.stretches.items t ≡ Some d → numbers ≡ d.callers.items → ((j : ℕ) → Contains numbers j → P j)
+    → (j : ℕ) (other : Stretch) → slice_get k.stretches.items t ≡ Some other → Contains other.callers.items j → P j
+called_right k P t d numbers e f h j other g c =
     let one : d ≡ other = cc in
     h j (subst (λ xs. Contains xs j) (sym (f ∙ ap (λ (x : Stretch). x.callers.items) one)) c)
 

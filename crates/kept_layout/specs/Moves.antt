@@ -1,8 +1,9 @@
 -- Stretches that move since one of them takes fewer bytes.
-use Rattle.std.specs.Prelude.{◌≡◌, ℕ, suc, ◌+◌, ◌-◌, ◌^◌, ◌<◌, ◌≤◌, ◌&&◌, nat_le, Bool, false, List, ◌++◌, length, map, take, drop, Some, None, slice_get, Contains}
+use Rattle.std.specs.Prelude.{◌≡◌, ℕ, suc, ◌+◌, ◌-◌, ◌^◌, ◌<◌, ◌≤◌, ◌&&◌, nat_le, nat_lt, Bool, false, List, ◌++◌, length, map, take, drop, Some, None, slice_get, Contains}
 use Rattle.kept_layout.specs.declared.kept.KeptLayout.{KeptLayout}
 use Rattle.kept_layout.specs.declared.stretch.Stretch.{Stretch}
-use Rattle.kept_layout.specs.Stretches.{end_from, head_fault, lessen, literal_last, shapes_of, starts_from, Divides, HasSlack, Shape}
+use Rattle.kept_layout.specs.declared.stretch.Head.{Head}
+use Rattle.kept_layout.specs.Stretches.{end_from, head_fault, later_end, lessen, literal_last, shapes_of, starts_from, Divides, HasSlack, Shape}
 
 -- where each one begins, from the base on
 abbrev pub starts_of : KeptLayout → List ℕ
@@ -32,6 +33,18 @@ pub record IsMoved (k : KeptLayout) (bytes : ℕ) (new : List ℕ) (by : ℕ) : 
 -- what one of them mentions is within reach, where they begin at these addresses
 abbrev pub IsRight : List ℕ → List Stretch → ℕ → Type 0
 IsRight starts stretches j = (s : Stretch) (at : ℕ) → slice_get stretches j ≡ Some s → slice_get starts j ≡ Some at → head_fault starts at s.head ≡ None
+
+-- whether that one and the one whose label it mentions, by this head, lie before those that move together
+abbrev pub is_known : KeptLayout → List ℕ → ℕ → Head → Bool
+is_known k new j head = nat_lt (later_end j head) (end_of k new)
+
+-- what it mentions is within reach, if so it is, or if so it isn't
+abbrev pub IsRightIf : Bool → KeptLayout → List ℕ → ℕ → ℕ → Type 0
+IsRightIf known k new by j = (s : Stretch) → slice_get k.stretches.items j ≡ Some s → is_known k new j s.head ≡ known → IsRight (moved_starts k new by) k.stretches.items j
+
+-- within reach is whatever is mentioned from or to one that begins at a new address, where none of both moves with those behind
+abbrev pub AreKnownRight : KeptLayout → List ℕ → ℕ → Type 0
+AreKnownRight k new by = (j : ℕ) (s : Stretch) → slice_get k.stretches.items j ≡ Some s → k.here < later_end j s.head → later_end j s.head < end_of k new → IsRight (moved_starts k new by) k.stretches.items j
 
 -- whether it is known that no mention of an address that is set comes out of reach where all of them come so many bytes nearer
 abbrev pub has_slack : KeptLayout → ℕ → Bool

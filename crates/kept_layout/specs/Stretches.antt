@@ -111,6 +111,17 @@ literal_last n head.Plain = 0
 literal_last n (head.Pads size most) = 0
 literal_last n (head.Aims aim) = last_to n aim.instr aim.to
 
+-- of the stretch of this number and of that whose label it mentions the later one
+abbrev pub later_to : ℕ → Option Target → ℕ
+later_to n None = n
+later_to n (Some (target.Stretch k)) = max n k
+later_to n (Some (target.Address a)) = n
+
+abbrev pub later_end : ℕ → Head → ℕ
+later_end n head.Plain = n
+later_end n (head.Pads size most) = n
+later_end n (head.Aims aim) = later_to n aim.to
+
 -- whether a mention may come out of reach by coming nearer, in the stretch of this number: of a label, by a literal that it isn't behind, or of an address that is set
 abbrev pub is_loose_to : Loose → ℕ → Instr → Option Target → Bool
 is_loose_to l n i None = false

@@ -9,6 +9,7 @@ mod moving;
 pub mod shrinking;
 mod slack;
 pub mod stretch;
+mod walking;
 
 pub use kept::KeptLayout;
 pub use shrinking::Move;

@@ -1,20 +1,14 @@
 //! What moves when a stretch takes fewer bytes, up to where all that is behind moves by one distance that no padding and no literal notices: that is noted for all of
 //! them at once.
-ghost use Rattle.std.specs.Prelude.{◌≡◌, ◌+◌, ◌-◌, ◌<◌, ◌≤◌, ◌↔◌, ℕ, true, length, slice_get, is_some, IfOk, OnOk, IfSome, Some, map, Contains, false};
+ghost use Rattle.std.specs.Prelude.{◌≡◌, ◌+◌, ◌-◌, ◌<◌, ◌≤◌, ℕ, length, slice_get, IfOk, OnOk, Some, map};
 ghost use Rattle.kept_layout.specs.declared.stretch.Stretch.{Stretch as OneStretch};
-ghost use Rattle.kept_layout.specs.declared.stretch.Target.TheVariants.{Stretch as AtStretch};
-ghost use Rattle.kept_layout.specs.Stretches.{address_of, lessen, located, shapes_of, AllReach, AreWide, Divides, Shape};
+ghost use Rattle.kept_layout.specs.Stretches.{lessen, located, shapes_of, AllReach, Shape};
 ghost use Rattle.kept_layout.specs.Kept.{IsLaid};
-ghost use Rattle.kept_layout.specs.Moves.{has_slack, moved_starts, unplaced, IsLookedAt, IsMove, IsMoved, IsNote, IsRight};
+ghost use Rattle.kept_layout.specs.Moves.{moved_starts, unplaced, IsMove, IsMoved, IsNote};
 
 use crate::kept::KeptLayout;
-use crate::stretch::{Head, Stretch, Target, behind};
-use label_layout::aim_fault;
+use crate::stretch::Stretch;
 use listing_parser::Memory;
-use std::alloc::Global;
-
-/// Memory for so many new addresses is asked for at once: seldom do more stretches move by themselves.
-const FEW: usize = 64;
 
 /// How stretches move if one of them takes fewer bytes.
 #[derive(Drop)]
@@ -23,13 +17,6 @@ pub struct Move {
     pub at: Vec<u32>,
     /// How many bytes earlier all those lie that are behind these.
     pub by: u32,
-}
-
-/// Whether the new address lies before the old one by a multiple of the grain.
-fn is_together(new: u32, old: u32, grain: u32) -> bool
-    ensures { result ≡ true → (new ≤ old) × Divides grain (old - new) }
-{
-    new <= old && (new == old || (grain != 0 && (old - new) % grain == 0))
 }
 
 /// Takes so many bytes and places from a stretch.
@@ -59,7 +46,7 @@ fn note(kept: &KeptLayout, moved: &Move, number: usize, old: u32) -> Result<u32,
 
 impl KeptLayout {
     /// Where a stretch begins.
-    fn address(&self, number: usize) -> u32
+    pub(crate) fn address(&self, number: usize) -> u32
         requires within { number < length self.now.stretches.items }
         requires noted { (s : OneStretch) → slice_get self.now.stretches.items number ≡ Some s → self.now.border ≤ number → self.now.shift ≤ s.at }
         ensures { (s : OneStretch) → slice_get self.now.stretches.items number ≡ Some s → result ≡ located self.now.border self.now.shift number s.at }
@@ -71,34 +58,6 @@ impl KeptLayout {
             at - self.shift
         }
     }
-
-    /// How stretches move if the one that it stands at takes so many bytes fewer.
-    fn moved(&self, alloc: Global, bytes: u32) -> Result<Move, Memory>
-        requires laid { IsLaid self.now }
-        requires few { (s : Shape) → slice_get (shapes_of self.now.stretches.items) self.now.here ≡ Some s → bytes ≤ s.bytes }
-        ensures { IfOk result (λ m. IsMoved self.now bytes m.at.items m.by) }
-    {
-        let here = &self.stretches[self.here];
-        let mut at = behind(self.address(self.here), &here.head, here.bytes - bytes)?;
-        let mut new = Vec::with_capacity(alloc, FEW)?;
-        let mut next = self.here + 1;
-        while next < self.stretches.len() {
-            let stretch = &self.stretches[next];
-            let old = self.address(next);
-            if is_together(at, old, stretch.grain) {
-                return Ok(Move {
-                    at: new,
-                    by: old - at,
-                });
-            }
-            new.push(at)?;
-            at = behind(at, &stretch.head, stretch.bytes)?;
-            next += 1;
-        }
-        Ok(Move { at: new, by: 0 })
-    }
-
-    // ---- what is looked at ----
 
     /// Where a stretch begins then.
     pub(crate) fn new_address(&self, moved: &Move, number: usize) -> u32
@@ -116,114 +75,6 @@ impl KeptLayout {
             moved.at[index]
         } else {
             old - moved.by
-        }
-    }
-
-    /// Where a target lies then.
-    fn new_target(&self, moved: &Move, target: Option<Target>) -> Option<u32>
-        requires laid { IsLaid self.now }
-        requires is { IsMove self.now moved.now.at.items moved.now.by }
-        requires within { (t : ℕ) → target ≡ Some (AtStretch t) → t < length self.now.stretches.items }
-        ensures { result ≡ address_of (moved_starts self.now moved.now.at.items moved.now.by) target }
-    {
-        match target {
-            None => None,
-            Some(Target::Stretch(number)) => Some(self.new_address(moved, number)),
-            Some(Target::Address(address)) => Some(address),
-        }
-    }
-
-    /// Whether what a stretch mentions is within reach then.
-    fn is_right(&self, moved: &Move, number: usize) -> bool
-        requires laid { IsLaid self.now }
-        requires is { IsMove self.now moved.now.at.items moved.now.by }
-        requires within { number < length self.now.stretches.items }
-        ensures { (result ≡ true) ↔ IsRight (moved_starts self.now moved.now.at.items moved.now.by) self.now.stretches.items number }
-    {
-        match self.stretches[number].head {
-            Head::Aims(aim) => {
-                let at = self.new_address(moved, number);
-                let to = self.new_target(moved, aim.to);
-                aim_fault(at, &aim.instr, to, aim.plus).is_none()
-            }
-            _ => true,
-        }
-    }
-
-    /// Whether what these stretches mention is within reach then.
-    fn are_right(&self, moved: &Move, numbers: &[usize]) -> bool
-        requires laid { IsLaid self.now }
-        requires is { IsMove self.now moved.now.at.items moved.now.by }
-        requires within { (j : ℕ) → Contains numbers.now j → j < length self.now.stretches.items }
-        ensures all { result ≡ true → (j : ℕ) → Contains numbers.now j → IsRight (moved_starts self.now moved.now.at.items moved.now.by) self.now.stretches.items j }
-        ensures none { ((j : ℕ) → IsRight (moved_starts self.now moved.now.at.items moved.now.by) self.now.stretches.items j) → result ≡ true }
-    {
-        for number in numbers {
-            if !self.is_right(moved, *number) {
-                return false;
-            }
-        }
-        true
-    }
-
-    /// Whether what a stretch mentions and what mentions its label is within reach then.
-    fn is_met(&self, moved: &Move, number: usize) -> bool
-        requires laid { IsLaid self.now }
-        requires is { IsMove self.now moved.now.at.items moved.now.by }
-        requires within { number < length self.now.stretches.items }
-        ensures own { result ≡ true → IsRight (moved_starts self.now moved.now.at.items moved.now.by) self.now.stretches.items number }
-        ensures callers { result ≡ true → (j : ℕ) (d : OneStretch) → slice_get self.now.stretches.items number ≡ Some d → Contains d.callers.items j → IsRight (moved_starts self.now moved.now.at.items moved.now.by) self.now.stretches.items j }
-        ensures none { ((j : ℕ) → IsRight (moved_starts self.now moved.now.at.items moved.now.by) self.now.stretches.items j) → result ≡ true }
-    {
-        self.is_right(moved, number) && self.are_right(moved, &self.stretches[number].callers)
-    }
-
-    /// Whether the mentions of addresses that are set are within reach then: they are looked at where it isn't known.
-    fn keeps_reach(&self, moved: &Move) -> bool
-        requires laid { IsLaid self.now }
-        requires is { IsMove self.now moved.now.at.items moved.now.by }
-        ensures all { result ≡ true → has_slack self.now moved.now.by ≡ false → (j : ℕ) → Contains self.now.absolute.items j → IsRight (moved_starts self.now moved.now.at.items moved.now.by) self.now.stretches.items j }
-        ensures none { ((j : ℕ) → IsRight (moved_starts self.now moved.now.at.items moved.now.by) self.now.stretches.items j) → result ≡ true }
-    {
-        self.has_slack(moved) || self.are_right(moved, &self.absolute)
-    }
-
-    /// Whether all that could come out of reach is within reach then.
-    fn all_reach(&self, moved: &Move) -> bool
-        requires laid { IsLaid self.now }
-        requires is { IsMove self.now moved.now.at.items moved.now.by }
-        ensures all { result ≡ true → IsLookedAt self.now moved.now.at.items moved.now.by }
-        ensures none { ((j : ℕ) → IsRight (moved_starts self.now moved.now.at.items moved.now.by) self.now.stretches.items j) → result ≡ true }
-    {
-        if !self.is_right(moved, self.here) {
-            return false;
-        }
-        let first = self.here + 1;
-        for number in first..first + moved.at.len() {
-            if !self.is_met(moved, number) {
-                return false;
-            }
-        }
-        moved.by == 0 || (self.are_right(moved, &self.loose) && self.keeps_reach(moved))
-    }
-
-    /// How stretches move if the one that it stands at takes so many bytes fewer: none where a mention would be out of reach.
-    pub(crate) fn move_within_reach(
-        &self,
-        alloc: Global,
-        bytes: u32,
-    ) -> Result<Option<Move>, Memory>
-        requires laid { IsLaid self.now }
-        requires wide { AreWide (shapes_of self.now.stretches.items) }
-        requires few { (s : Shape) → slice_get (shapes_of self.now.stretches.items) self.now.here ≡ Some s → bytes ≤ s.bytes }
-        ensures reach { IfOk result (λ o. (gone : ℕ) → (is_some o ≡ true) ↔ AllReach self.now.base (lessen self.now.here bytes gone (shapes_of self.now.stretches.items))) }
-        ensures moved { IfOk result (λ o. IfSome o (λ m. IsMoved self.now bytes m.at.items m.by)) }
-    {
-        let moved = self.moved(alloc, bytes)?;
-        if self.all_reach(&moved) {
-            Ok(Some(moved))
-        } else {
-            Ok(None)
         }
     }
 

@@ -16,12 +16,25 @@ told k bytes gone m b laid wide moved all none =
       λ r. none (right_from k m.at.items m.by bytes gone moved r),
     )
 
+pub all_reach-requires-clause-is : goal.all_reach-requires-clause-is
+all_reach-requires-clause-is c = let moved = rw c.in-Some.is at c.in_ok-moved.ensures.moved in moved.move
+
+pub all_reach-requires-clause-right : goal.all_reach-requires-clause-right
+all_reach-requires-clause-right c = rw c.in-Some.is at c.in_ok-moved.ensures.right
+
 pub returns-then-all_reach-clause-reach : goal.returns-then-all_reach-clause-reach
 returns-then-all_reach-clause-reach c = λ gone.
-    let t = told c.args.self.now c.args.bytes gone c.in_ok-moved.moved c.all_reach.result c.requires.laid c.requires.wide c.in_ok-moved.ensures c.all_reach.ensures.all c.all_reach.ensures.none in
+    let moved = rw c.in-Some.is at c.in_ok-moved.ensures.moved in
+    let t = told c.args.self.now c.args.bytes gone c.in-Some.moved c.all_reach.result c.requires.laid c.requires.wide moved c.all_reach.ensures.all c.all_reach.ensures.none in
     (λ _. t.0 c.if-all_reach.true, λ _. refl)
 
 pub returns-else-all_reach-clause-reach : goal.returns-else-all_reach-clause-reach
 returns-else-all_reach-clause-reach c = λ gone.
-    let t = told c.args.self.now c.args.bytes gone c.in_ok-moved.moved c.all_reach.result c.requires.laid c.requires.wide c.in_ok-moved.ensures c.all_reach.ensures.all c.all_reach.ensures.none in
+    let moved = rw c.in-Some.is at c.in_ok-moved.ensures.moved in
+    let t = told c.args.self.now c.args.bytes gone c.in-Some.moved c.all_reach.result c.requires.laid c.requires.wide moved c.all_reach.ensures.all c.all_reach.ensures.none in
     (λ e. t.0 (c.if-all_reach.false ∙ e), λ r. sym c.if-all_reach.false ∙ t.1 r)
+
+pub returns-in_default-clause-reach : goal.returns-in_default-clause-reach
+returns-in_default-clause-reach c = λ gone.
+    let none = rw c.in_default.is at c.in_ok-moved.ensures.none in
+    (λ e. let never : false ≡ true = e in absurd (cc), λ r. absurd (none gone r))

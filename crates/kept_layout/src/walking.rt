@@ -1,0 +1,209 @@
+//! What moves when a stretch takes fewer bytes, up to where all that is behind moves by one distance that no padding and no literal notices. What comes out of reach is
+//! seen on the way, as soon as it is known where both of its ends lie, and ends the way there.
+ghost use Rattle.std.specs.Prelude.{◌≡◌, ◌+◌, ◌-◌, ◌<◌, ◌≤◌, ◌↔◌, ℕ, Bool, true, length, slice_get, is_some, IfOk, IfSome, IfNone, Some, Contains, false};
+ghost use Rattle.kept_layout.specs.declared.stretch.Stretch.{Stretch as OneStretch};
+ghost use Rattle.kept_layout.specs.declared.stretch.Target.TheVariants.{Stretch as AtStretch};
+ghost use Rattle.kept_layout.specs.Stretches.{address_of, later_end, lessen, shapes_of, AllReach, AreWide, Divides, Shape};
+ghost use Rattle.kept_layout.specs.Kept.{IsLaid};
+ghost use Rattle.kept_layout.specs.Moves.{has_slack, is_known, moved_starts, AreKnownRight, IsLookedAt, IsMove, IsMoved, IsRight, IsRightIf};
+
+use crate::kept::KeptLayout;
+use crate::shrinking::Move;
+use crate::stretch::{Head, Target, behind};
+use label_layout::aim_fault;
+use listing_parser::Memory;
+use std::alloc::Global;
+
+/// Memory for so many new addresses is asked for at once: seldom do more stretches move by themselves.
+const FEW: usize = 64;
+
+/// Whether the new address lies before the old one by a multiple of the grain.
+fn is_together(new: u32, old: u32, grain: u32) -> bool
+    ensures { result ≡ true → (new ≤ old) × Divides grain (old - new) }
+{
+    new <= old && (new == old || (grain != 0 && (old - new) % grain == 0))
+}
+
+/// Of a stretch of this number and of that whose label it mentions the later one.
+fn later_end(number: usize, head: &Head) -> usize
+    ensures { result ≡ later_end number head.now }
+{
+    match head {
+        Head::Aims(aim) => match aim.to {
+            Some(Target::Stretch(to)) => number.max(to),
+            _ => number,
+        }
+        _ => number,
+    }
+}
+
+impl KeptLayout {
+    /// Where a target lies then.
+    fn new_target(&self, moved: &Move, target: Option<Target>) -> Option<u32>
+        requires laid { IsLaid self.now }
+        requires is { IsMove self.now moved.now.at.items moved.now.by }
+        requires within { (t : ℕ) → target ≡ Some (AtStretch t) → t < length self.now.stretches.items }
+        ensures { result ≡ address_of (moved_starts self.now moved.now.at.items moved.now.by) target }
+    {
+        match target {
+            None => None,
+            Some(Target::Stretch(number)) => Some(self.new_address(moved, number)),
+            Some(Target::Address(address)) => Some(address),
+        }
+    }
+
+    /// Whether what a stretch mentions is within reach then.
+    fn is_right(&self, moved: &Move, number: usize) -> bool
+        requires laid { IsLaid self.now }
+        requires is { IsMove self.now moved.now.at.items moved.now.by }
+        requires within { number < length self.now.stretches.items }
+        ensures { (result ≡ true) ↔ IsRight (moved_starts self.now moved.now.at.items moved.now.by) self.now.stretches.items number }
+    {
+        match self.stretches[number].head {
+            Head::Aims(aim) => {
+                let at = self.new_address(moved, number);
+                let to = self.new_target(moved, aim.to);
+                aim_fault(at, &aim.instr, to, aim.plus).is_none()
+            }
+            _ => true,
+        }
+    }
+
+    /// Whether a stretch and the one whose label it mentions lie before those that move together.
+    fn is_known(&self, moved: &Move, number: usize) -> bool
+        requires within { number < length self.now.stretches.items }
+        requires here { self.now.here < length self.now.stretches.items }
+        ensures { (s : OneStretch) → slice_get self.now.stretches.items number ≡ Some s → result ≡ is_known self.now moved.now.at.items number s.head }
+    {
+        later_end(number, &self.stretches[number].head) < self.here + 1 + moved.at.len()
+    }
+
+    /// Whether what a stretch mentions is within reach then. It is looked at where both lie before those that move together, or where they don't.
+    fn is_right_if(&self, known: bool, moved: &Move, number: usize) -> bool
+        requires laid { IsLaid self.now }
+        requires is { IsMove self.now moved.now.at.items moved.now.by }
+        requires within { number < length self.now.stretches.items }
+        ensures { (result ≡ true) ↔ IsRightIf known self.now moved.now.at.items moved.now.by number }
+    {
+        if self.is_known(moved, number) == known {
+            self.is_right(moved, number)
+        } else {
+            true
+        }
+    }
+
+    /// Whether what these stretches mention, as far as it is looked at, is within reach then.
+    fn are_right_if(&self, known: bool, moved: &Move, numbers: &[usize]) -> bool
+        requires laid { IsLaid self.now }
+        requires is { IsMove self.now moved.now.at.items moved.now.by }
+        requires within { (j : ℕ) → Contains numbers.now j → j < length self.now.stretches.items }
+        ensures all { result ≡ true → (j : ℕ) → Contains numbers.now j → IsRightIf known self.now moved.now.at.items moved.now.by j }
+        ensures none { ((j : ℕ) → IsRightIf known self.now moved.now.at.items moved.now.by j) → result ≡ true }
+    {
+        for number in numbers {
+            if !self.is_right_if(known, moved, *number) {
+                return false;
+            }
+        }
+        true
+    }
+
+    /// Whether what a stretch mentions and what mentions its label, as far as it is looked at, is within reach then.
+    fn is_met(&self, known: bool, moved: &Move, number: usize) -> bool
+        requires laid { IsLaid self.now }
+        requires is { IsMove self.now moved.now.at.items moved.now.by }
+        requires within { number < length self.now.stretches.items }
+        ensures own { result ≡ true → IsRightIf known self.now moved.now.at.items moved.now.by number }
+        ensures callers { result ≡ true → (j : ℕ) (d : OneStretch) → slice_get self.now.stretches.items number ≡ Some d → Contains d.callers.items j → IsRightIf known self.now moved.now.at.items moved.now.by j }
+        ensures none { ((j : ℕ) → IsRightIf known self.now moved.now.at.items moved.now.by j) → result ≡ true }
+    {
+        self.is_right_if(known, moved, number)
+            && self.are_right_if(known, moved, &self.stretches[number].callers)
+    }
+
+    // ---- the way ----
+
+    /// How stretches move if the one that it stands at takes so many bytes fewer: none where a mention is seen to come out of reach on the way.
+    fn walk(&self, alloc: Global, bytes: u32) -> Result<Option<Move>, Memory>
+        requires laid { IsLaid self.now }
+        requires few { (s : Shape) → slice_get (shapes_of self.now.stretches.items) self.now.here ≡ Some s → bytes ≤ s.bytes }
+        ensures moved { IfOk result (λ o. IfSome o (λ m. IsMoved self.now bytes m.at.items m.by)) }
+        ensures right { IfOk result (λ o. IfSome o (λ m. AreKnownRight self.now m.at.items m.by)) }
+        ensures none { IfOk result (λ o. IfNone o ((gone : ℕ) → AllReach self.now.base (lessen self.now.here bytes gone (shapes_of self.now.stretches.items)) → ⊥)) }
+    {
+        let here = &self.stretches[self.here];
+        let mut at = behind(self.address(self.here), &here.head, here.bytes - bytes)?;
+        let new = Vec::with_capacity(alloc, FEW)?;
+        let mut moved = Move { at: new, by: 0 };
+        let mut next = self.here + 1;
+        while next < self.stretches.len() {
+            let stretch = &self.stretches[next];
+            let old = self.address(next);
+            if is_together(at, old, stretch.grain) {
+                moved.by = old - at;
+                return Ok(Some(moved));
+            }
+            moved.at.push(at)?;
+            at = behind(at, &stretch.head, stretch.bytes)?;
+            if !self.is_met(true, &moved, next) {
+                return Ok(None);
+            }
+            next += 1;
+        }
+        Ok(Some(moved))
+    }
+
+    // ---- the end of the way ----
+
+    /// Whether the mentions of addresses that are set are within reach then: they are looked at where it isn't known.
+    fn keeps_reach(&self, moved: &Move) -> bool
+        requires laid { IsLaid self.now }
+        requires is { IsMove self.now moved.now.at.items moved.now.by }
+        ensures all { result ≡ true → has_slack self.now moved.now.by ≡ false → (j : ℕ) → Contains self.now.absolute.items j → IsRightIf false self.now moved.now.at.items moved.now.by j }
+        ensures none { ((j : ℕ) → IsRightIf false self.now moved.now.at.items moved.now.by j) → result ≡ true }
+    {
+        self.has_slack(moved) || self.are_right_if(false, moved, &self.absolute)
+    }
+
+    /// Whether all that could come out of reach is within reach then, where all is that was seen on the way.
+    fn all_reach(&self, moved: &Move) -> bool
+        requires laid { IsLaid self.now }
+        requires is { IsMove self.now moved.now.at.items moved.now.by }
+        requires right { AreKnownRight self.now moved.now.at.items moved.now.by }
+        ensures all { result ≡ true → IsLookedAt self.now moved.now.at.items moved.now.by }
+        ensures none { ((j : ℕ) → IsRight (moved_starts self.now moved.now.at.items moved.now.by) self.now.stretches.items j) → result ≡ true }
+    {
+        if !self.is_right_if(false, moved, self.here) {
+            return false;
+        }
+        let first = self.here + 1;
+        for number in first..first + moved.at.len() {
+            if !self.is_met(false, moved, number) {
+                return false;
+            }
+        }
+        moved.by == 0 || (self.are_right_if(false, moved, &self.loose) && self.keeps_reach(moved))
+    }
+
+    /// How stretches move if the one that it stands at takes so many bytes fewer: none where a mention would be out of reach.
+    pub(crate) fn move_within_reach(
+        &self,
+        alloc: Global,
+        bytes: u32,
+    ) -> Result<Option<Move>, Memory>
+        requires laid { IsLaid self.now }
+        requires wide { AreWide (shapes_of self.now.stretches.items) }
+        requires few { (s : Shape) → slice_get (shapes_of self.now.stretches.items) self.now.here ≡ Some s → bytes ≤ s.bytes }
+        ensures reach { IfOk result (λ o. (gone : ℕ) → (is_some o ≡ true) ↔ AllReach self.now.base (lessen self.now.here bytes gone (shapes_of self.now.stretches.items))) }
+        ensures moved { IfOk result (λ o. IfSome o (λ m. IsMoved self.now bytes m.at.items m.by)) }
+    {
+        let Some(moved) = self.walk(alloc, bytes)? else {
+            return Ok(None);
+        };
+        if self.all_reach(&moved) {
+            Ok(Some(moved))
+        } else {
+            Ok(None)
+        }
+    }
+}
