@@ -52,11 +52,11 @@ near size at some =
     elim (is_zero (at % size)) [
       | inl e ↦ (let g = none_left size at some e in record { number = at / size; ends = omega (arith, g, e, whole); short = omega (arith, g) })
       | inr e ↦ (
-        let g = some_left size at some e in
-        let m : suc (at / size) * size ≡ at / size * size + size = suc-mul (at / size) size in
-        let pos : 0 < at % size = omega (arith, e) in
-        record { number = suc (at / size); ends = omega (arith, g, m, whole, less); short = omega (arith, g, pos, less) }
-      )
+          let g = some_left size at some e in
+          let m : suc (at / size) * size ≡ at / size * size + size = suc-mul (at / size) size in
+          let pos : 0 < at % size = omega (arith, e) in
+          record { number = suc (at / size); ends = omega (arith, g, m, whole, less); short = omega (arith, g, pos, less) }
+          )
     ]
 
 -- so far before a multiple the gap is just that
@@ -75,6 +75,7 @@ no_size : (most at : ℕ) → padding 0 most at ≡ 0
 no_size most at = go (nat_le (gap 0 at) most) where
   none : gap 0 at ≡ 0
   none = mod-zero (0 - at % 0) ∙ (let z : 0 - at % 0 ≡ 0 = omega arith in z)
+
   go : (b : Bool) → (if b then gap 0 at else 0) ≡ 0
   go true = none
   go false = refl
@@ -85,23 +86,23 @@ grown zero most x y l = let a = no_size most x in let b = no_size most y in omeg
 grown (suc n) most x y l = elim (cases_Bool (nat_le (gap (suc n) x) most)) [
   | inr far ↦ (let p = padded (suc n) most x false far in omega (arith, p, l))
   | inl there ↦ (
-    let p : padding (suc n) most x ≡ gap (suc n) x = padded (suc n) most x true there in
-    let within : gap (suc n) x ≤ most = leb-true (gap (suc n) x) most there in
-    let k = near (suc n) x (omega arith) in
-    let ends : x + gap (suc n) x ≡ k.number * suc n = k.ends in
-    let short : gap (suc n) x < suc n = k.short in
-    elim (cases_Bool (nat_le (x + gap (suc n) x) y)) [
-      | inl past ↦ (let q = leb-true (x + gap (suc n) x) y past in omega (arith, p, q))
-      | inr inside ↦ (
-        let q : y < x + gap (suc n) x = leb-false (x + gap (suc n) x) y inside in
-        let d : ℕ = x + gap (suc n) x - y in
-        let same : gap (suc n) y ≡ d = gap_is (suc n) y k.number d (omega (arith, q)) (omega (arith, q, l, short)) (omega (arith, q, ends)) in
-        let small : nat_le (gap (suc n) y) most ≡ true = le-leb (gap (suc n) y) most (omega (arith, same, q, l, within)) in
-        let r : padding (suc n) most y ≡ gap (suc n) y = padded (suc n) most y true small in
-        omega (arith, p, r, same, q)
+      let p : padding (suc n) most x ≡ gap (suc n) x = padded (suc n) most x true there in
+      let within : gap (suc n) x ≤ most = leb-true (gap (suc n) x) most there in
+      let k = near (suc n) x (omega arith) in
+      let ends : x + gap (suc n) x ≡ k.number * suc n = k.ends in
+      let short : gap (suc n) x < suc n = k.short in
+      elim (cases_Bool (nat_le (x + gap (suc n) x) y)) [
+        | inl past ↦ (let q = leb-true (x + gap (suc n) x) y past in omega (arith, p, q))
+        | inr inside ↦ (
+            let q : y < x + gap (suc n) x = leb-false (x + gap (suc n) x) y inside in
+            let d : ℕ = x + gap (suc n) x - y in
+            let same : gap (suc n) y ≡ d = gap_is (suc n) y k.number d (omega (arith, q)) (omega (arith, q, l, short)) (omega (arith, q, ends)) in
+            let small : nat_le (gap (suc n) y) most ≡ true = le-leb (gap (suc n) y) most (omega (arith, same, q, l, within)) in
+            let r : padding (suc n) most y ≡ gap (suc n) y = padded (suc n) most y true small in
+            omega (arith, p, r, same, q)
+            )
+      ]
       )
-    ]
-  )
 ]
 
 -- ---- ends ----
@@ -272,9 +273,9 @@ sets_replaced : (name : Name) (write : Instr → List ℕ) (p count : ℕ) (is :
 sets_replaced name write p count is [] = refl
 sets_replaced name write p count is (l ∷ ls) = elim (cases_Bool (is_op l.statement && (p == 0))) [
   | inl here ↦ rw here (
-    sets_kept name l l.names (map (new_line write) is ++ without (count - 1) ls)
-    ∙ (sets_new name write is (without (count - 1) ls) ∙ (sets_without name (count - 1) ls ∙ sym (sets_nothing name l.statement (set_address name ls) (op_here (is_op l.statement) (p == 0) here))))
-  )
+      sets_kept name l l.names (map (new_line write) is ++ without (count - 1) ls)
+      ∙ (sets_new name write is (without (count - 1) ls) ∙ (sets_without name (count - 1) ls ∙ sym (sets_nothing name l.statement (set_address name ls) (op_here (is_op l.statement) (p == 0) here))))
+      )
   | inr here ↦ rw here (ap (set_in name l.statement) (sets_replaced name write (p - length (places_in l.statement)) count is ls))
 ]
   where
@@ -340,10 +341,10 @@ module _ (base : ℕ) (old new : List Line) (lies : (name : Name) → lies_nowhe
   outside_stays address true e h = elim (cases_Bool (nat_lt address (end_of base old))) [
     | inl within ↦ absurd (let bad : Some flaw.Inside ≡ None = rw (e, within) at h in cc)
     | inr past ↦ (
-      let far : end_of base old ≤ address = ltb-false address (end_of base old) past in
-      let still : nat_lt address (end_of base new) ≡ false = le-ltb address (end_of base new) (omega (arith, far, ends)) in
-      rw (e, still) refl
-    )
+        let far : end_of base old ≤ address = ltb-false address (end_of base old) past in
+        let still : nat_lt address (end_of base new) ≡ false = le-ltb address (end_of base new) (omega (arith, far, ends)) in
+        rw (e, still) refl
+        )
   ]
 
   flaw_stays : (s : Statement) → flaw_of base old s ≡ None → flaw_of base new s ≡ None

@@ -62,19 +62,19 @@ short_bytes size a b c d two same =
 bytes_once : (i : Instr) (bs cs : List ℕ) → IsInstrBytes i bs → IsInstrBytes i cs → bs ≡ cs
 bytes_once i bs cs (a, b, e, la, lb, is) (c, d, f, lc, ld, js) = elim (cases_Bool (width (row_of i) == 16)) [
   | inl short ↦ (
-    let x : code_of i ≡ a = rw short at e.is in
-    let y : code_of i ≡ c = rw short at f.is in
-    let long : width (row_of i) ≡ 16 = eqb-true (width (row_of i)) 16 short in
-    let bits = eight_bits i in
-    is ∙ (short_bytes (instr_size i) a b c d (omega (arith, long, bits)) (sym x ∙ y) ∙ sym js)
-  )
+      let x : code_of i ≡ a = rw short at e.is in
+      let y : code_of i ≡ c = rw short at f.is in
+      let long : width (row_of i) ≡ 16 = eqb-true (width (row_of i)) 16 short in
+      let bits = eight_bits i in
+      is ∙ (short_bytes (instr_size i) a b c d (omega (arith, long, bits)) (sym x ∙ y) ∙ sym js)
+      )
   | inr long ↦ (
-    let x : code_of i ≡ a * 65536 + b = rw long at e.is in
-    let y : code_of i ≡ c * 65536 + d = rw long at f.is in
-    let first : a ≡ c = omega (arith, x, y, lb, ld) in
-    let second : b ≡ d = omega (arith, x, y, lb, ld) in
-    is ∙ ((λ k. take (instr_size i) (half_bytes (first k) ++ half_bytes (second k))) ∙ sym js)
-  )
+      let x : code_of i ≡ a * 65536 + b = rw long at e.is in
+      let y : code_of i ≡ c * 65536 + d = rw long at f.is in
+      let first : a ≡ c = omega (arith, x, y, lb, ld) in
+      let second : b ≡ d = omega (arith, x, y, lb, ld) in
+      is ∙ ((λ k. take (instr_size i) (half_bytes (first k) ++ half_bytes (second k))) ∙ sym js)
+      )
 ]
 
 -- ---- lines ----

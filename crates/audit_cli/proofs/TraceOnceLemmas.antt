@@ -57,15 +57,15 @@ returns_same : (a b : Naming) (places : List Place) (k p : ℕ) → ((n : ℕ) �
 returns_same a b [] k p h = refl
 returns_same a b (x ∷ xs) k p h = elim (cases_Bool (is_call x)) [
   | inl call ↦ (
-    let more : call_count (x ∷ xs) ≡ call_count xs + 1 = rw call refl in
-    let first : a.return_word k ≡ b.return_word k = h k (omega (arith, more)) in
-    let rest = returns_same a b xs (k + 1) (p + 1) (λ n less. h n (omega (arith, more, less))) in
-    rw call (λ i. (first i, p + 1) ∷ rest i)
-  )
+      let more : call_count (x ∷ xs) ≡ call_count xs + 1 = rw call refl in
+      let first : a.return_word k ≡ b.return_word k = h k (omega (arith, more)) in
+      let rest = returns_same a b xs (k + 1) (p + 1) (λ n less. h n (omega (arith, more, less))) in
+      rw call (λ i. (first i, p + 1) ∷ rest i)
+      )
   | inr other ↦ (
-    let more : call_count (x ∷ xs) ≡ call_count xs = rw other refl in
-    rw other (returns_same a b xs k (p + 1) (λ n less. h n (omega (arith, more, less))))
-  )
+      let more : call_count (x ∷ xs) ≡ call_count xs = rw other refl in
+      rw other (returns_same a b xs k (p + 1) (λ n less. h n (omega (arith, more, less))))
+      )
 ]
 
 -- the link counts for calls alone
@@ -84,17 +84,17 @@ call_before (y ∷ ys) zero x e c =
     omega (arith, more)
 call_before (y ∷ ys) (suc p) x e c = elim (cases_Bool (is_call y)) [
   | inl call ↦ (
-    let here : call_count (y ∷ take p ys) ≡ call_count (take p ys) + 1 = rw call refl in
-    let more : call_count (y ∷ ys) ≡ call_count ys + 1 = rw call refl in
-    let rest = call_before ys p x e c in
-    omega (arith, here, more, rest)
-  )
+      let here : call_count (y ∷ take p ys) ≡ call_count (take p ys) + 1 = rw call refl in
+      let more : call_count (y ∷ ys) ≡ call_count ys + 1 = rw call refl in
+      let rest = call_before ys p x e c in
+      omega (arith, here, more, rest)
+      )
   | inr other ↦ (
-    let here : call_count (y ∷ take p ys) ≡ call_count (take p ys) = rw other refl in
-    let more : call_count (y ∷ ys) ≡ call_count ys = rw other refl in
-    let rest = call_before ys p x e c in
-    omega (arith, here, more, rest)
-  )
+      let here : call_count (y ∷ take p ys) ≡ call_count (take p ys) = rw other refl in
+      let more : call_count (y ∷ ys) ≡ call_count ys = rw other refl in
+      let rest = call_before ys p x e c in
+      omega (arith, here, more, rest)
+      )
 ]
 
 module _ (code : Code) (a b : Naming) (agree : Agree (call_count code.places) a b) where
@@ -119,9 +119,9 @@ module _ (code : Code) (a b : Naming) (agree : Agree (call_count code.places) a 
   acts_same : (p : ℕ) (i : Instr) (mention : Option Mention) (w : World) → slice_get code.places p ≡ Some (Op i mention) → act (around_of mid code p i mention) i w ≡ act (around_of b code p i mention) i w
   acts_same p i mention w e = ap (λ (around : Around). act around i w) (linked p i mention) ∙ elim (cases_Bool (is_call_instr i)) [
     | inl call ↦ (
-      let less = call_before code.places p (Op i mention) e call in
-      ap (λ (link : ℕ). act (record (around_of b code p i mention) { link = link }) i w) (agree.returns (call_count (take p code.places)) less)
-    )
+        let less = call_before code.places p (Op i mention) e call in
+        ap (λ (link : ℕ). act (record (around_of b code p i mention) { link = link }) i w) (agree.returns (call_count (take p code.places)) less)
+        )
     | inr other ↦ link_free (around_of b code p i mention) (mid.return_word (call_count (take p code.places))) (b.return_word (call_count (take p code.places))) i w other
   ]
 
