@@ -7,7 +7,8 @@ use Rattle.command_line.proofs.Usage.{asks_once}
 use Rattle.outer_store.specs.Outside.{Seen, Sunk, Shows, IsTooBig, MissedAt, TooBigAt, limit}
 use Rattle.command_runs.specs.declared.status.Status.{Status}
 use Rattle.command_runs.specs.declared.status.Status.TheVariants as status
-use Rattle.command_runs.specs.Plans.{Refuses, ComesTo, StopsAt}
+use Rattle.command_runs.specs.Plans.{Refuses, StopsAt}
+use Rattle.command_runs.specs.Runs.{ComesTo}
 use Rattle.audit_cli.specs.Peep.{plan_of, Peeps, Ran}
 use Rattle.audit_cli.specs.Complete.{IsWithin, CanBeFetched, CanAllBeFetched, IsUnhindered, IsUnrefused, IsRefusedByFull, IsCarriedOut, IsCarriedOutOrFull, IsComplete, IsCompleteButForFull}
 

@@ -23,9 +23,8 @@ use Rattle.thumb_assembler.specs.Refusals.{first_flaw}
 use Rattle.thumb_assembler.specs.Following.{IsAssembled}
 use Rattle.command_runs.specs.Plans.{Outcome, Refuses, Does}
 use Rattle.audit_cli.specs.declared.refusal.Refusal.{Refusal}
-use Rattle.audit_cli.specs.Refusals.{refusal_line}
-use Rattle.audit_cli.specs.Printed.{demo_line, learnt_line, report_of, image_line}
-use Rattle.audit_cli.specs.Audit.{opens_of}
+use Rattle.audit_cli.specs.Printed.{refusal_line, demo_line, learnt_line, report_of, image_line}
+use Rattle.audit_cli.specs.Tables.{opens_of}
 use Rattle.audit_cli.specs.Learn.{IsUnlearnt, IsLearnt, too_wide, too_long as long_text}
 use Rattle.audit_cli.specs.Steps.{IsUnread, unread, IsUnlisted, unlisted, IsUnaudited, no_table, other_state, too_wide as wide_table, bad_entry, HasNoImage, no_address, inside}
 use Rattle.audit_cli.specs.Rewrite.{instruction_count}

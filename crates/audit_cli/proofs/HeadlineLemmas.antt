@@ -9,14 +9,14 @@ use Rattle.listing_parser.specs.Parsing.{IsListing, text_of_lines}
 use Rattle.rule_table.specs.Table.{Table}
 use Rattle.command_line.specs.CommandLine.{Request, rewrite, AskFor}
 use Rattle.command_line.proofs.Usage.{asks_once}
-use Rattle.outer_store.specs.Events.{Event, Putting}
-use Rattle.outer_store.specs.Outside.{Seen, Sunk, Gave}
+use Rattle.outer_store.specs.Outside.{Event, Putting, Seen, Sunk, Gave}
 use Rattle.command_runs.specs.declared.status.Status.TheVariants as status
-use Rattle.command_runs.specs.Plans.{Outcome, Refuses, Does, Keep, keeps_of, due, fetchings, keepings, IsDone, AreTexts}
+use Rattle.command_runs.specs.Plans.{Outcome, Refuses, Does, Keep, keeps_of, due, fetchings, keepings, AreTexts}
+use Rattle.command_runs.specs.Runs.{IsDone}
 use Rattle.audit_cli.specs.Steps.{IsAudited}
 use Rattle.thumb_assembler.specs.Following.{IsAssembled}
 use Rattle.audit_cli.specs.Printed.{report_of}
-use Rattle.audit_cli.specs.Rewrite.{Destination, Counts, Leaves, alone, pair, no_image, RunsAsGiven, IsRewriting, LinesRewrite, unlaid, rewritten, Rewrites, unread, read, Comes, unaudited, audited}
+use Rattle.audit_cli.specs.Rewrite.{Destination, Counts, Leaves, alone, pair, no_image, RunsAsPromised, IsRewriting, LinesRewrite, unlaid, rewritten, Rewrites, unread, read, Comes, unaudited, audited}
 use Rattle.audit_cli.specs.Peep.{plan_of, Peeps}
 use Rattle.audit_cli.specs.Headline.{IsHeadline, IsImage, RewritesAsPromised, image_kept, image_told}
 
@@ -56,7 +56,7 @@ record Handed (to : Destination) (given lines : List Line) (c : Counts) (o : Out
   keeps : keeps_of o ≡ (to.out, text_of_lines lines) ∷ image_kept to.image image
   told : due o ≡ report_of c.replaced c.before c.after ++ image_told image
 
-handed : (to : Destination) (given lines : List Line) (c : Counts) (o : Outcome) → ((bytes : List ℕ) → IsAssembled to.base lines bytes → RunsAsGiven to.base given lines bytes) → Leaves to lines c o → IsAct o → Handed to given lines c o
+handed : (to : Destination) (given lines : List Line) (c : Counts) (o : Outcome) → ((bytes : List ℕ) → IsAssembled to.base lines bytes → RunsAsPromised to.base given lines bytes) → Leaves to lines c o → IsAct o → Handed to given lines c o
 unfolding IsAct
 handed to given lines c _ runs (alone none) act = record { image = None; is = none; keeps = refl; told = sym (append-nil (report_of c.replaced c.before c.after)) }
 handed to given lines c _ runs (pair some bytes made) act = record { image = Some bytes; is = (some, made, runs bytes made); keeps = refl; told = refl }

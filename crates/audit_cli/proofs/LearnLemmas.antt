@@ -16,8 +16,9 @@ use Rattle.rule_table.specs.Table.{Table}
 use Rattle.table_learn.specs.Settings.{Settings, Window, window_of, IsWindow, AreWindows}
 use Rattle.command_runs.specs.Plans.{Outcome, Refuses}
 use Rattle.audit_cli.specs.declared.refusal.Refusal.{Refusal}
-use Rattle.audit_cli.specs.Refusals.{refusal_line}
-use Rattle.audit_cli.specs.Learn.{Lesson, limits_of, window_for, AreWindowsOf, kept_table, IsUnlearnt, IsLearnt, Teach, LinesLearn, unlearnt, learnt}
+use Rattle.audit_cli.specs.Printed.{refusal_line}
+use Rattle.audit_cli.specs.Learn.{Lesson, limits_of, window_for, AreWindowsOf, kept_table, IsUnlearnt, IsLearnt, LinesLearn, unlearnt, learnt}
+use Rattle.audit_cli.specs.Answers.{Teach}
 
 -- ---- windows ----
 

@@ -4,7 +4,7 @@ use Rattle.command_line.specs.CommandLine.{Request, AskFor}
 use Rattle.outer_store.specs.Outside.{Seen, Sunk}
 use Rattle.command_runs.specs.declared.status.Status.{Status}
 use Rattle.command_runs.specs.declared.status.Status.TheVariants as status
-use Rattle.command_runs.specs.Plans.{Runs}
+use Rattle.command_runs.specs.Runs.{Runs}
 use Rattle.audit_cli.specs.Peep.{plan_of, IsUntouched, Peeps}
 
 pub untouched : (seen : Seen) (sunk : Sunk) → IsUntouched seen seen sunk sunk

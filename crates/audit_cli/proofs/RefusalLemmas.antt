@@ -4,7 +4,7 @@ use Rattle.std.specs.Prelude.{codes}
 use Rattle.std.specs.Fmt.{decimal, signed_decimal}
 use Rattle.listing_parser.specs.declared.errors.Kind.{Kind}
 use Rattle.audit_cli.specs.declared.refusal.Refusal.TheVariants as refusal
-use Rattle.audit_cli.specs.Refusals.{kind_number, refusal_line}
+use Rattle.audit_cli.specs.Printed.{kind_number, refusal_line}
 
 -- three pieces and a newline, from the left and from the right
 pub three : (a b c : List ℕ) → ((a ++ b) ++ c) ++ 10 ∷ [] ≡ a ++ (b ++ (c ++ 10 ∷ []))

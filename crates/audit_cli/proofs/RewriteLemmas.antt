@@ -10,11 +10,10 @@ use Rattle.listing_parser.specs.Parsing.{IsListing, text_of_lines}
 use Rattle.listing_parser.proofs.Literals.{literals_stand}
 use Rattle.window_rewrite.specs.Rewriting.{setting}
 use Rattle.thumb_assembler.specs.Following.{IsAssembled}
-use Rattle.thumb_assembler.proofs.Meeting.{images_follow_given}
+use Rattle.thumb_assembler.proofs.Meeting.{images_follow, images_follow_given}
 use Rattle.command_runs.specs.Plans.{Outcome, Does, Refuses}
 use Rattle.audit_cli.specs.declared.refusal.Refusal.{Refusal}
-use Rattle.audit_cli.specs.Refusals.{refusal_line}
-use Rattle.audit_cli.specs.Printed.{report_of, image_line}
+use Rattle.audit_cli.specs.Printed.{refusal_line, report_of, image_line}
 use Rattle.audit_cli.specs.Steps.{HasNoImage}
 use Rattle.audit_cli.specs.Rewrite.{Destination, Counts, WantsNone, Leaves, alone, pair, no_image, IsRewriting, instruction_count}
 use Rattle.audit_cli.proofs.WellFormed.{still_reads}
@@ -47,7 +46,10 @@ is_rewriting to t given lines replacements c o sound is laid r e k =
       no_longer = no_more_lines s given replacements lines r;
       layable = still_layable s given replacements lines laid r;
       same = same;
-      runs = λ bytes assembled set is_set fits fits_given. images_follow_given to.base set lines given bytes assembled is_set fits fits_given same;
+      runs = λ bytes assembled. record {
+        as_left = λ set is_set fits. images_follow to.base set lines bytes assembled is_set fits;
+        as_given = λ set is_set fits fits_given. images_follow_given to.base set lines given bytes assembled is_set fits fits_given same;
+      };
       finished = none_left s given replacements lines r;
       applied = all_applied s given replacements lines r;
       sound = sound;

@@ -15,7 +15,7 @@ use Rattle.thumb_machine.specs.declared.machine.Machine.{Machine}
 use Rattle.thumb_machine.specs.Outside.{events_of}
 use Rattle.thumb_machine.specs.Acting.{end_of}
 use Rattle.thumb_machine.specs.Running.{EndedBy, IsStage, Stands, Stepped, at_of, next_at, next_on, stage_of, state_of}
-use Rattle.audit_cli.specs.Running.{GoesOn, IsRun, StandsAfter, goes, wants, ended}
+use Rattle.audit_cli.specs.Trace.{GoesOn, IsRun, StandsAfter, goes, wants, ended}
 use Rattle.audit_cli.proofs.StayLemmas.{stays_quiet}
 
 -- ---- what a stage tells of a step ----

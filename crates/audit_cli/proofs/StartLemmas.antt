@@ -7,7 +7,7 @@ use Rattle.std.proofs.lemmas.List.{map-append}
 use Rattle.thumb_model.specs.Machine as model
 use Rattle.thumb_machine.specs.declared.answers.Answer.{Answer}
 use Rattle.thumb_machine.specs.Outside.{answer_of, answers_of}
-use Rattle.audit_cli.specs.Start.{answers_from, numbered_answer, start_values}
+use Rattle.audit_cli.specs.Trace.{answers_from, numbered_answer, start_values}
 
 -- one more answer than before
 pub answers_more : (before after : List Answer) (a : Answer) (n : ℕ) → n < 257 → after ≡ before ++ a ∷ [] → answer_of a ≡ numbered_answer n

@@ -15,11 +15,12 @@ use Rattle.label_layout.specs.Addresses.{Addresses}
 use Rattle.command_runs.specs.Plans.{Outcome, Refuses}
 use Rattle.audit_cli.specs.declared.refusal.Refusal.{Refusal}
 use Rattle.audit_cli.specs.declared.refusal.Refusal.TheVariants as refusal
-use Rattle.audit_cli.specs.Refusals.{unlaid_refusal, refusal_line}
+use Rattle.audit_cli.specs.Printed.{unlaid_refusal, refusal_line}
 use Rattle.thumb_assembler.specs.declared.errors.ImageError.TheVariants as image
 use Rattle.thumb_assembler.specs.Refusals.{IsRefusal}
 use Rattle.thumb_assembler.specs.Following.{IsAssembled}
-use Rattle.audit_cli.specs.Steps.{HasNoImage, MakesImage, no_address, inside, AuditsTable, IsAudited, IsUnaudited, ReadsTable, IsUnlisted, unlisted, IsUnread, unread, IsUnlaid, unlaid, ReadsListing, LaysOut}
+use Rattle.audit_cli.specs.Steps.{HasNoImage, no_address, inside, IsAudited, IsUnaudited, IsUnlisted, unlisted, IsUnread, unread, IsUnlaid, unlaid}
+use Rattle.audit_cli.specs.Answers.{MakesImage, AuditsTable, ReadsTable, ReadsListing, LaysOut}
 
 pub is_unlisted : (text : List ℕ) (line : ℕ) → IsRefusedTable text line → IsUnlisted text (refusal.Table line)
 is_unlisted text line h = unlisted line h

@@ -6,7 +6,7 @@ use Rattle.std.proofs.lemmas.List.Sums.{sum_by-cons}
 use Rattle.rule_table.specs.Table.{Opened, Rule, Table}
 use Rattle.rule_table.specs.Text.{Item, State, Left, Right, Mask, Proof, Logged, End, header_items, items_of, line_of, open_items, rule_items, text_of_items}
 use Rattle.rule_table.specs.Refused.{IsText}
-use Rattle.audit_cli.specs.Audit.{open_count, opens_of}
+use Rattle.audit_cli.specs.Tables.{open_count, opens_of}
 
 items_short : (items : List Item) → length items ≤ length (text_of_items items)
 items_short [] = omega arith

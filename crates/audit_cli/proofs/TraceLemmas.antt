@@ -14,13 +14,10 @@ use Rattle.thumb_machine.specs.Outside.{answers_of, events_of}
 use Rattle.thumb_machine.specs.Running.{at_of, state_of}
 use Rattle.thumb_machine.specs.Starting.{Starts, start_values as values_at}
 use Rattle.thumb_machine.specs.Laid.{IsLaid}
-use Rattle.audit_cli.specs.Running.{IsRun}
-use Rattle.audit_cli.specs.Start.{answers_from, start_values, start_world}
+use Rattle.audit_cli.specs.Trace.{IsRun, answers_from, start_values, start_world, event_lines, steps_line, Journey, LinesTrace, ran, Traces, read}
 use Rattle.command_runs.specs.declared.outcome.Outcome.{Outcome as Outcomes}
 use Rattle.command_runs.specs.Outcomes.{outcome_view}
 use Rattle.command_runs.specs.Plans.{Does}
-use Rattle.audit_cli.specs.TraceLines.{event_lines, steps_line}
-use Rattle.audit_cli.specs.Trace.{Journey, LinesTrace, ran, Traces, read}
 
 pub goes_on : {E : Type 0} (journey : Journey) (text : List ℕ) (lines : List Line) (r : Result Outcomes E) → IsListing text lines → IfOk r (λ o. LinesTrace journey lines (outcome_view o)) → IfOk r (λ o. Traces journey text (outcome_view o))
 goes_on journey text lines (Ok o) is h = read lines is (outcome_view o) h

@@ -3,7 +3,7 @@ use Rattle.std.proofs.Common.{◌≡◌, ◌++◌, ◌∷◌, [], ℕ}
 use Rattle.std.specs.Prelude.{codes}
 use Rattle.std.specs.Fmt.{decimal}
 use Rattle.thumb_machine.specs.declared.machine.Stage.{Stage}
-use Rattle.audit_cli.specs.TraceLines.{stage_word, steps_line}
+use Rattle.audit_cli.specs.Trace.{stage_word, steps_line}
 use Rattle.audit_cli.proofs.RefusalLemmas.{three}
 
 pub steps_line_is : (n : ℕ) (s : Stage) → steps_line n s ≡ codes "steps " ++ (decimal n ++ 32 ∷ (stage_word s ++ 10 ∷ []))

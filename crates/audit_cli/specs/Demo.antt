@@ -12,9 +12,8 @@ use Rattle.window_rewrite.specs.Rewriting.{setting}
 use Rattle.thumb_assembler.specs.Following.{IsAssembled}
 use Rattle.command_runs.specs.Plans.{Outcome, Refuses, Does}
 use Rattle.audit_cli.specs.declared.refusal.Refusal.TheVariants as refusal
-use Rattle.audit_cli.specs.Refusals.{refusal_line}
-use Rattle.audit_cli.specs.Printed.{demo_line, learnt_line, report_of, image_line}
-use Rattle.audit_cli.specs.Audit.{opens_of}
+use Rattle.audit_cli.specs.Printed.{refusal_line, demo_line, learnt_line, report_of, image_line}
+use Rattle.audit_cli.specs.Tables.{opens_of}
 use Rattle.audit_cli.specs.Learn.{AreWindowsOf, IsLearnt}
 use Rattle.audit_cli.specs.Rewrite.{instruction_count}
 

@@ -13,20 +13,19 @@ use Rattle.table_audit.specs.Soundness.{IsSound, rules_of}
 use Rattle.window_rewrite.specs.Rewriting.{setting}
 use Rattle.thumb_assembler.specs.Following.{IsAssembled}
 use Rattle.command_line.specs.CommandLine.{rewrite, AskFor}
-use Rattle.outer_store.specs.Events.{Putting}
-use Rattle.outer_store.specs.Outside.{Seen, Sunk, Gave}
+use Rattle.outer_store.specs.Outside.{Putting, Seen, Sunk, Gave}
 use Rattle.command_runs.specs.declared.status.Status.TheVariants as status
 use Rattle.command_runs.specs.Plans.{Keep, Kept, fetchings, keepings}
 use Rattle.audit_cli.specs.Printed.{report_of, image_line}
-use Rattle.audit_cli.specs.Rewrite.{Destination, WantsNone, RunsAsGiven, instruction_count}
+use Rattle.audit_cli.specs.Rewrite.{Destination, WantsNone, RunsAsPromised, instruction_count}
 use Rattle.audit_cli.specs.Peep.{Peeps}
 
 -- ---- the image, where one is asked for ----
 
--- none is asked for, or the bytes of these lines, whose run meets that of the given ones
+-- none is asked for, or the bytes of these lines, whose run meets theirs, and that of the given ones, wherever the laid naming fits
 abbrev pub IsImage : Destination → List Line → List Line → Option (List ℕ) → Type 0
 IsImage to given lines None = WantsNone to
-IsImage to given lines (Some bytes) = (WantsNone to → ⊥) × IsAssembled to.base lines bytes × RunsAsGiven to.base given lines bytes
+IsImage to given lines (Some bytes) = (WantsNone to → ⊥) × IsAssembled to.base lines bytes × RunsAsPromised to.base given lines bytes
 
 abbrev pub image_kept : List ℕ → Option (List ℕ) → List Keep
 image_kept name None = []
@@ -69,7 +68,7 @@ pub record IsHeadline (table listing : List ℕ) (to : Destination) (old new : S
   pub no_longer : length lines ≤ length given
   pub layable : Layable to.base lines
   pub read_again : IsListing (text_of_lines lines) lines
-  -- and so is their image, where one is asked for
+  -- where an image is asked for, it is theirs, and its run meets theirs and that of the given lines, wherever the laid naming fits
   pub image : Option (List ℕ)
   pub is_image : IsImage to given lines image
   -- the store was asked for the two texts, then to keep the lines' text and the image, and for nothing else; it holds them, where it tells
@@ -77,7 +76,7 @@ pub record IsHeadline (table listing : List ℕ) (to : Destination) (old new : S
   pub kept_are : keeps ≡ (to.out, text_of_lines lines) ∷ image_kept to.image image
   pub asked : new.events ≡ old.events ++ (fetchings (table ∷ listing ∷ []) (table_text ∷ listing_text ∷ []) ++ keepings keeps)
   pub held : Kept keeps old new
-  -- and the counts of replacements, of instructions before and after, and of the image's bytes were put, as one piece
+  -- the counts of replacements, of instructions before and after, and of the image's bytes were put, as one piece, and nothing else
   pub put : after.events ≡ before.events ++ Putting (report_of (length replacements) (instruction_count given) (instruction_count lines) ++ image_told image) (Ok tt) ∷ []
 
 -- every call that ends done did so, for words that ask for it

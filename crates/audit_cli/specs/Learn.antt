@@ -1,5 +1,5 @@
 -- What `learn` comes to.
-use Rattle.std.specs.Prelude.{◌≡◌, ◌<◌, ◌≤◌, ℕ, List, [], ◌∷◌, length, map, Result, Ok, Err}
+use Rattle.std.specs.Prelude.{◌≡◌, ◌<◌, ◌≤◌, ℕ, List, [], ◌∷◌, length, map}
 use Rattle.thumb_model.specs.Listing.{Line}
 use Rattle.listing_parser.specs.Parsing.{IsListing}
 use Rattle.window_harvest.specs.Harvest.{Pair, Limits, AreHarvest}
@@ -11,10 +11,9 @@ use Rattle.table_learn.specs.Learnt.{Learnt, IsFull, text_length, text_limit, wi
 use Rattle.command_runs.specs.Plans.{Outcome, Refuses, Does}
 use Rattle.audit_cli.specs.declared.refusal.Refusal.{Refusal}
 use Rattle.audit_cli.specs.declared.refusal.Refusal.TheVariants as refusal
-use Rattle.audit_cli.specs.Refusals.{refusal_line}
+use Rattle.audit_cli.specs.Printed.{refusal_line, learnt_line}
 use Rattle.audit_cli.specs.Steps.{IsUnread}
-use Rattle.audit_cli.specs.Printed.{learnt_line}
-use Rattle.audit_cli.specs.Audit.{opens_of}
+use Rattle.audit_cli.specs.Tables.{opens_of}
 
 -- the name that a table is kept under, and the settings that it is learnt with
 pub record Lesson : Type 0 where
@@ -50,11 +49,6 @@ pub record IsLearnt (s : Settings) (lines : List Line) (t : Table) : Type 0 wher
   pub learnt : Learnt s windows t
   pub valid : IsTable t
   pub fits : text_length t ≤ text_limit
-
--- what comes of learning from lines
-abbrev pub Teach : Settings → List Line → Result Table Refusal → Type 0
-Teach s lines (Ok t) = IsLearnt s lines t
-Teach s lines (Err r) = IsUnlearnt s lines r
 
 -- what the lines of a listing come to: nothing is learnt from them, or a table, which is kept
 pub data LinesLearn (to : Lesson) (lines : List Line) : Outcome → Type 0 where

@@ -4,11 +4,11 @@ use Rattle.command_line.specs.CommandLine.{Request, rewrite, audit, learn, expor
 use Rattle.outer_store.specs.Outside.{Seen, SameHeld, Sunk, WroteNone}
 use Rattle.command_runs.specs.declared.status.Status.{Status}
 use Rattle.command_runs.specs.declared.status.Status.TheVariants as status
-use Rattle.command_runs.specs.Plans.{Plan, Runs}
+use Rattle.command_runs.specs.Plans.{Plan}
+use Rattle.command_runs.specs.Runs.{Runs}
 use Rattle.audit_cli.specs.Rewrite.{RewriteComesTo}
-use Rattle.audit_cli.specs.Audit.{AuditComesTo}
+use Rattle.audit_cli.specs.Tables.{AuditComesTo, ExportComesTo}
 use Rattle.audit_cli.specs.Learn.{LearnComesTo}
-use Rattle.audit_cli.specs.Export.{ExportComesTo}
 use Rattle.audit_cli.specs.Trace.{TraceComesTo}
 use Rattle.audit_cli.specs.Demo.{DemoComesTo}
 

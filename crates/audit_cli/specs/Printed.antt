@@ -1,6 +1,13 @@
--- The bytes that are kept and printed.
+-- The lines that are printed, and why runs are refused.
 use Rattle.std.specs.Prelude.{ℕ, List, [], ◌∷◌, ◌++◌, codes}
-use Rattle.std.specs.Fmt.{decimal}
+use Rattle.std.specs.Fmt.{decimal, signed_decimal}
+use Rattle.thumb_model.specs.Layout as layout
+use Rattle.listing_parser.specs.declared.errors.Kind.{Kind}
+use Rattle.listing_parser.specs.declared.errors.Kind.TheVariants as kind
+use Rattle.table_audit.specs.declared.errors.EntryFault.{EntryFault}
+use Rattle.table_audit.specs.declared.errors.EntryFault.TheVariants as fault
+use Rattle.audit_cli.specs.declared.refusal.Refusal.{Refusal}
+use Rattle.audit_cli.specs.declared.refusal.Refusal.TheVariants as refusal
 
 -- a line of words, with a newline
 abbrev pub printed : List ℕ → List ℕ
@@ -33,3 +40,41 @@ demo_line windows = printed (codes "demo" ++ and_number windows)
 -- `variables V clauses C lines P`
 abbrev pub formula_line : ℕ → ℕ → ℕ → List ℕ
 formula_line variables clauses lines = printed (codes "variables" ++ and_number variables ++ codes " clauses" ++ and_number clauses ++ codes " lines" ++ and_number lines)
+
+-- ---- refusals ----
+
+abbrev pub kind_number : Kind → ℕ
+kind_number kind.Shape = 1
+kind_number kind.Twice = 2
+kind_number kind.Target = 3
+kind_number kind.Limit = 6
+
+-- `1`, `2 LINE`, `3`, `4 SEQUENCE` and `5 SEQUENCE`, each behind a blank
+abbrev pub fault_words : EntryFault → List ℕ
+fault_words fault.Sides = codes " 1"
+fault_words (fault.Proof line) = codes " 2" ++ and_number line
+fault_words fault.Unfinished = codes " 3"
+fault_words (fault.Untold sequence) = codes " 4" ++ and_number sequence
+fault_words (fault.Open sequence) = codes " 5" ++ and_number sequence
+
+-- `refused table LINE`, `refused states PLACE`, `refused wide COUNT`, `refused entry NUMBER KIND ..`, `refused number`,
+-- `refused listing LINE KIND`, `refused listing LINE 4 DISTANCE`, `refused listing LINE 5 ADDRESS`, `refused label`, `refused address LINE`,
+-- `refused inside LINE` and `refused full BYTES`
+abbrev pub refusal_line : Refusal → List ℕ
+refusal_line (refusal.Table line) = printed (codes "refused table" ++ and_number line)
+refusal_line (refusal.States place) = printed (codes "refused states" ++ and_number place)
+refusal_line (refusal.Wide count) = printed (codes "refused wide" ++ and_number count)
+refusal_line (refusal.Entry number k) = printed (codes "refused entry" ++ and_number number ++ fault_words k)
+refusal_line refusal.Number = printed (codes "refused number")
+refusal_line (refusal.Listing line k) = printed (codes "refused listing" ++ and_number line ++ and_number (kind_number k))
+refusal_line (refusal.Range line distance) = printed (codes "refused listing" ++ and_number line ++ codes " 4 " ++ signed_decimal distance)
+refusal_line (refusal.Align line address) = printed (codes "refused listing" ++ and_number line ++ codes " 5" ++ and_number address)
+refusal_line refusal.Label = printed (codes "refused label")
+refusal_line (refusal.Address line) = printed (codes "refused address" ++ and_number line)
+refusal_line (refusal.Inside line) = printed (codes "refused inside" ++ and_number line)
+refusal_line (refusal.Full bytes) = printed (codes "refused full" ++ and_number bytes)
+
+-- the refusal of a line that can't be laid out
+abbrev pub unlaid_refusal : ℕ → layout.Fault → Refusal
+unlaid_refusal line (layout.Range distance) = refusal.Range line distance
+unlaid_refusal line (layout.Align address) = refusal.Align line address

@@ -13,9 +13,8 @@ use Rattle.window_rewrite.specs.Rewriting.{setting}
 use Rattle.thumb_assembler.specs.Images.{IsSetBy}
 use Rattle.thumb_assembler.specs.Following.{IsAssembled, Follows}
 use Rattle.command_runs.specs.Plans.{Outcome, Refuses, Does}
-use Rattle.audit_cli.specs.Printed.{report_of, image_line}
+use Rattle.audit_cli.specs.Printed.{report_of, image_line, refusal_line}
 use Rattle.audit_cli.specs.declared.refusal.Refusal.{Refusal}
-use Rattle.audit_cli.specs.Refusals.{refusal_line}
 use Rattle.audit_cli.specs.Steps.{HasNoImage, IsAudited, IsUnaudited, IsUnread, IsUnlaid}
 
 -- the names that a rewritten listing and its image are kept under, and where the image lies
@@ -50,10 +49,12 @@ pub data Leaves (to : Destination) (lines : List Line) (c : Counts) : Outcome �
 
 -- ---- the headline ----
 
--- where the naming of the lines that are left fits them and the given ones, the run of an image of theirs meets that of the given lines
-abbrev pub RunsAsGiven : ℕ → List Line → List Line → List ℕ → Type 0
-RunsAsGiven base given lines bytes =
-    (set : Name → ℕ) → IsSetBy lines set → Fits (laid base set lines) (code_of lines) → Fits (laid base set lines) (code_of given) → Follows base set lines bytes given
+-- the run of an image of lines that were rewritten
+pub record RunsAsPromised (base : ℕ) (given lines : List Line) (bytes : List ℕ) : Type 0 where
+  -- wherever the laid naming fits these lines, it meets their run
+  pub as_left : (set : Name → ℕ) → IsSetBy lines set → Fits (laid base set lines) (code_of lines) → Follows base set lines bytes lines
+  -- and the given lines' run, wherever it fits those too
+  pub as_given : (set : Name → ℕ) → IsSetBy lines set → Fits (laid base set lines) (code_of lines) → Fits (laid base set lines) (code_of given) → Follows base set lines bytes given
 
 -- a listing is rewritten by a table
 pub record IsRewriting (to : Destination) (t : Table) (given : List Line) (o : Outcome) : Type 0 where
@@ -73,8 +74,8 @@ pub record IsRewriting (to : Destination) (t : Table) (given : List Line) (o : O
   -- does, save those that it names open, each of which has its log
   pub applied : AllApplied (setting to.base (rules_of t)) given replacements
   pub sound : IsSound t
-  -- and so has its image
-  pub runs : (bytes : List ℕ) → IsAssembled to.base lines bytes → RunsAsGiven to.base given lines bytes
+  -- the run of each image of it meets both, wherever the laid naming fits
+  pub runs : (bytes : List ℕ) → IsAssembled to.base lines bytes → RunsAsPromised to.base given lines bytes
   -- it is kept, and its image
   pub left : Leaves to lines (record { replaced = length replacements; before = instruction_count given; after = instruction_count lines }) o
 

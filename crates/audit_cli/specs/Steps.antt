@@ -1,22 +1,20 @@
--- The steps that commands share: a table's text is read and audited, a listing's text is read, and its lines are laid out.
-use Rattle.std.specs.Prelude.{◌≡◌, ℕ, List, Result, Ok, Err, Some}
+-- Why texts are refused in the steps that commands share: a table's text is read and audited, a listing's text is read, its lines are laid out and made an image.
+use Rattle.std.specs.Prelude.{◌≡◌, ℕ, List, Some}
 use Rattle.thumb_model.specs.Listing.{Line}
-use Rattle.thumb_model.specs.Layout.{Fault, Layable}
+use Rattle.thumb_model.specs.Layout.{Fault}
 use Rattle.rule_table.specs.Table.{Table}
 use Rattle.rule_table.specs.Refused.{IsText, IsRefused as IsRefusedTable}
 use Rattle.table_audit.specs.declared.errors.EntryFault.{EntryFault}
 use Rattle.table_audit.specs.declared.errors.AuditError.TheVariants as audit
 use Rattle.table_audit.specs.Acceptance.{TableVerdict, IsAccepted}
 use Rattle.listing_parser.specs.declared.errors.Kind.{Kind}
-use Rattle.listing_parser.specs.Parsing.{IsListing, IsRefused}
+use Rattle.listing_parser.specs.Parsing.{IsRefused}
 use Rattle.label_layout.specs.Refusals.{first_fault}
-use Rattle.label_layout.specs.Addresses.{Addresses, AreAddresses}
 use Rattle.thumb_assembler.specs.declared.errors.ImageError.TheVariants as image
 use Rattle.thumb_assembler.specs.Refusals.{IsRefusal}
-use Rattle.thumb_assembler.specs.Following.{IsAssembled}
 use Rattle.audit_cli.specs.declared.refusal.Refusal.{Refusal}
 use Rattle.audit_cli.specs.declared.refusal.Refusal.TheVariants as refusal
-use Rattle.audit_cli.specs.Refusals.{unlaid_refusal}
+use Rattle.audit_cli.specs.Printed.{unlaid_refusal}
 
 -- a text is refused at the least line such that so many first lines begin no table
 pub data IsUnlisted (text : List ℕ) : Refusal → Type 0 where
@@ -46,27 +44,3 @@ pub data HasNoImage (base : ℕ) (lines : List Line) : Refusal → Type 0 where
 pub record IsAudited (text : List ℕ) (t : Table) : Type 0 where
   pub is : IsText text t
   pub accepted : IsAccepted t
-
--- what comes of reading a table's text, and of auditing it
-abbrev pub ReadsTable : List ℕ → Result Table Refusal → Type 0
-ReadsTable text (Ok t) = IsText text t
-ReadsTable text (Err r) = IsUnlisted text r
-
-abbrev pub AuditsTable : List ℕ → Result Table Refusal → Type 0
-AuditsTable text (Ok t) = IsAudited text t
-AuditsTable text (Err r) = IsUnaudited text r
-
--- what comes of reading a text
-abbrev pub ReadsListing : List ℕ → Result (List Line) Refusal → Type 0
-ReadsListing text (Ok lines) = IsListing text lines
-ReadsListing text (Err r) = IsUnread text r
-
--- what comes of making an image of lines
-abbrev pub MakesImage : ℕ → List Line → Result (List ℕ) Refusal → Type 0
-MakesImage base lines (Ok bytes) = IsAssembled base lines bytes
-MakesImage base lines (Err r) = HasNoImage base lines r
-
--- what comes of laying lines out
-abbrev pub LaysOut : ℕ → List Line → Result Addresses Refusal → Type 0
-LaysOut base lines (Ok laid) = AreAddresses lines laid × (laid.base ≡ base) × Layable base lines
-LaysOut base lines (Err r) = IsUnlaid base lines r

@@ -1,20 +1,111 @@
 -- What `trace` comes to.
-use Rattle.std.specs.Prelude.{◌≡◌, ℕ, List, [], ◌∷◌, ◌++◌, Some, None}
-use Rattle.thumb_model.specs.Listing.{Name, Line, code_of, place_of}
-use Rattle.thumb_model.specs.Layout.{Layable}
-use Rattle.thumb_model.specs.Machine.{Naming, step, times}
-use Rattle.thumb_model.specs.Same.{begun}
-use Rattle.listing_parser.specs.Parsing.{IsListing}
+use Rattle.std.specs.Prelude.{ℕ, zero, suc, ◌+◌, ◌==◌, ◌||◌, nat_lt, List, [], ◌∷◌, if◌then◌else◌, ◌≡◌, ◌<◌, ◌≤◌, false, true, ◌++◌, Some, ◌/◌, ◌%◌, codes, None}
+use Rattle.thumb_model.specs.Items.{Values, sp, lr}
+use Rattle.thumb_model.specs.Machine.{Answer, World, Naming, State, Event, Stay, step, times, Load, Store, Call, Sys, Left, Fault, Astray, Fell}
+use Rattle.thumb_model.specs.Listing.{Code, Name, Line, code_of, place_of}
+use Rattle.thumb_model.specs.Same.{has_ended, begun}
+use Rattle.thumb_machine.specs.declared.world.End.{End}
 use Rattle.thumb_machine.specs.declared.machine.Stage.{Stage}
+use Rattle.thumb_machine.specs.declared.machine.Stage.TheVariants as stage
+use Rattle.thumb_machine.specs.Acting.{end_of}
+use Rattle.thumb_machine.specs.Running.{next_at, stage_of}
+use Rattle.std.specs.List.{flat_map}
+use Rattle.audit_cli.specs.Printed.{printed, and_number, refusal_line}
+use Rattle.thumb_model.specs.Layout.{Layable}
+use Rattle.listing_parser.specs.Parsing.{IsListing}
 use Rattle.thumb_machine.specs.Laid.{IsLaid}
 use Rattle.command_runs.specs.Plans.{Outcome, Refuses, Does}
-use Rattle.audit_cli.specs.Running.{IsRun}
-use Rattle.audit_cli.specs.Start.{start_world}
 use Rattle.audit_cli.specs.declared.refusal.Refusal.{Refusal}
 use Rattle.audit_cli.specs.declared.refusal.Refusal.TheVariants as refusal
-use Rattle.audit_cli.specs.Refusals.{refusal_line}
 use Rattle.audit_cli.specs.Steps.{IsUnread, IsUnlaid}
-use Rattle.audit_cli.specs.TraceLines.{event_lines, steps_line}
+
+-- ---- where a run begins ----
+
+-- sp is 0x20001000, lr 0xffffffff, and all else 0
+abbrev pub start_values : Values
+start_values = λ x. if x == sp then 536875008 else if x == lr then 4294967295 else 0
+
+-- the n-th answer: n in r0 to r3, r12 and lr, flags 0 and no bytes
+abbrev pub numbered_answer : ℕ → Answer
+numbered_answer n = record { values = λ x. if nat_lt x 4 || (x == 12) || (x == lr) then n else 0; bytes = [] }
+
+-- so many answers, from the n-th on
+unfoldable pub answers_from : ℕ → ℕ → List Answer
+answers_from n zero = []
+answers_from n (suc k) = numbered_answer n ∷ answers_from (n + 1) k
+
+abbrev pub start_world : World
+start_world = record { values = start_values; memory = λ a. 0; answers = answers_from 1 256 }
+
+-- ---- a run of at most so many steps ----
+
+-- a step can be taken: the run hasn't ended, and the step doesn't ask for more answers than are left
+pub record GoesOn (names : Naming) (code : Code) (s : State) : Type 0 where
+  pub running : has_ended s.at ≡ false
+  pub enough : next_at names code s.at s ≡ Stay → ⊥
+
+-- how a run stands after n of at most so many steps: all were taken, or the next one asks for more answers, or the last one ended the run, by its last event
+pub data StandsAfter (names : Naming) (code : Code) (most n : ℕ) (s : State) : Stage → Type 0 where
+  goes : has_ended s.at ≡ false → n ≡ most → StandsAfter names code most n s stage.Going
+  wants : n < most → next_at names code s.at s ≡ Stay → StandsAfter names code most n s stage.Wants
+  ended : has_ended s.at ≡ true → (front : List Event) (last : Event) (e : End) → s.events ≡ front ++ last ∷ [] → end_of last ≡ Some e → StandsAfter names code most n s (stage_of e)
+
+-- a run takes n steps, at most so many: each where one can be taken, and no more
+pub record IsRun (names : Naming) (code : Code) (start : State) (most n : ℕ) (s : Stage) : Type 0 where
+  pub within : n ≤ most
+  pub goes_on : (k : ℕ) → k < n → GoesOn names code (times (step names code) k start)
+  pub stands : StandsAfter names code most n (times (step names code) n start) s
+
+-- ---- words ----
+
+-- 0 to 9 and a to f
+abbrev pub hex_digit : ℕ → ℕ
+hex_digit d = if nat_lt d 10 then 48 + d else 87 + d
+
+-- eight hexadecimal digits, the highest first
+abbrev pub word_text : ℕ → List ℕ
+word_text w =
+    hex_digit (w / 268435456) ∷ hex_digit (w / 16777216 % 16) ∷ hex_digit (w / 1048576 % 16) ∷ hex_digit (w / 65536 % 16)
+    ∷ hex_digit (w / 4096 % 16) ∷ hex_digit (w / 256 % 16) ∷ hex_digit (w / 16 % 16) ∷ hex_digit (w % 16) ∷ []
+
+-- ` ` and a word
+abbrev pub and_word : ℕ → List ℕ
+and_word w = 32 ∷ word_text w
+
+abbrev pub and_words : List ℕ → List ℕ
+and_words ws = flat_map and_word ws
+
+-- ---- events ----
+
+-- `load A S`, `store A S V`, `call W R0 R1 R2 R3 SP`, `sys CODE V ..`, `left W R0 .. R11 SP LR`, `fault A`, `astray W`, `fell`
+abbrev pub event_line : Event → List ℕ
+event_line (Load address size) = printed (codes "load" ++ and_word address ++ and_number size)
+event_line (Store address size value) = printed (codes "store" ++ and_word address ++ and_number size ++ and_word value)
+event_line (Call word arguments) = printed (codes "call" ++ and_word word ++ and_words arguments)
+event_line (Sys code values) = printed (codes "sys" ++ and_number code ++ and_words values)
+event_line (Left word registers) = printed (codes "left" ++ and_word word ++ and_words registers)
+event_line (Fault address) = printed (codes "fault" ++ and_word address)
+event_line (Astray word) = printed (codes "astray" ++ and_word word)
+event_line Fell = printed (codes "fell")
+
+abbrev pub event_lines : List Event → List ℕ
+event_lines es = flat_map event_line es
+
+-- ---- the end of a run ----
+
+abbrev pub stage_word : Stage → List ℕ
+stage_word stage.Going = codes "going"
+stage_word stage.Left = codes "left"
+stage_word stage.Fault = codes "fault"
+stage_word stage.Astray = codes "astray"
+stage_word stage.Fell = codes "fell"
+stage_word stage.Wants = codes "wants"
+
+-- `steps N STAGE`
+abbrev pub steps_line : ℕ → Stage → List ℕ
+steps_line n s = printed (codes "steps" ++ and_number n ++ (32 ∷ stage_word s))
+
+-- ---- the whole ----
 
 -- what is asked for: the label where the run begins, and the most steps
 pub record Journey : Type 0 where

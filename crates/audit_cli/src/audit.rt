@@ -2,7 +2,7 @@
 ghost use Rattle.std.specs.Prelude.{◌≡◌, ◌<◌, ◌^◌, [], IfOk, length, map, sum_by};
 ghost use Rattle.command_runs.specs.Outcomes.{outcome_view};
 ghost use Rattle.rule_table.specs.Views.{rule_of, table_of};
-ghost use Rattle.audit_cli.specs.Audit.{Audits, open_count};
+ghost use Rattle.audit_cli.specs.Tables.{Audits, open_count};
 
 use crate::printing::{entries_report, prints};
 use crate::refusal::refused;
@@ -51,7 +51,7 @@ fn outcome<L: Ledger>(
 }
 
 impl command_runs::Command for Audit {
-    ghost use Rattle.audit_cli.specs.Audit.{AuditComesTo};
+    ghost use Rattle.audit_cli.specs.Tables.{AuditComesTo};
 
     ghost takes = { 1 };
 

@@ -5,8 +5,8 @@ ghost use Rattle.rule_table.specs.Refused.{IsText};
 ghost use Rattle.rule_table.specs.Views.{rule_of, table_of};
 ghost use Rattle.table_audit.specs.Sides.{HasFormula, formula_of};
 ghost use Rattle.command_runs.specs.Outcomes.{outcome_view};
-ghost use Rattle.audit_cli.specs.Export.{Exports, entry_at, extracted, proof_text};
-ghost use Rattle.audit_cli.specs.Extracts.{extract_of};
+ghost use Rattle.audit_cli.specs.Tables.{Exports, entry_at, extracted, proof_text};
+ghost use Rattle.audit_cli.specs.Commands.{extract_of};
 
 use crate::printing::{formula_report, keeps_two};
 use crate::refusal::{Refusal, refused};
@@ -112,8 +112,8 @@ fn outcome(alloc: Global, to: &Export<'_>, text: &[u8]) -> Result<Outcome, Alloc
 }
 
 impl command_runs::Command for Export<'_> {
-    ghost use Rattle.audit_cli.specs.Export.{ExportComesTo};
-    ghost use Rattle.audit_cli.specs.Extracts.{extract_of};
+    ghost use Rattle.audit_cli.specs.Tables.{ExportComesTo};
+    ghost use Rattle.audit_cli.specs.Commands.{extract_of};
 
     ghost takes = { 1 };
 

@@ -6,7 +6,7 @@ ghost use Rattle.rule_table.specs.Views.{table_of};
 ghost use Rattle.table_learn.specs.Settings.{settings_of, AreInLimits};
 ghost use Rattle.table_learn.specs.Learnt.{text_length, text_limit};
 ghost use Rattle.audit_cli.specs.Learn.{Learns, LinesLearn, kept_table};
-ghost use Rattle.audit_cli.specs.Lessons.{lesson_of, settings_for};
+ghost use Rattle.audit_cli.specs.Commands.{lesson_of, settings_for};
 
 use crate::printing::keeps_text;
 use crate::refusal::refused;
@@ -105,7 +105,7 @@ fn outcome<L: Ledger>(
 
 impl command_runs::Command for Learn<'_> {
     ghost use Rattle.audit_cli.specs.Learn.{LearnComesTo};
-    ghost use Rattle.audit_cli.specs.Lessons.{lesson_of};
+    ghost use Rattle.audit_cli.specs.Commands.{lesson_of};
 
     ghost takes = { 1 };
 

@@ -2,7 +2,7 @@
 ghost use Rattle.std.specs.Prelude.{◌≡◌, IfOk};
 ghost use Rattle.command_runs.specs.Outcomes.{outcome_view};
 ghost use Rattle.command_runs.specs.Plans.{Refuses};
-ghost use Rattle.audit_cli.specs.Refusals.{fault_words, kind_number, refusal_line};
+ghost use Rattle.audit_cli.specs.Printed.{fault_words, kind_number, refusal_line};
 
 use command_runs::Outcome;
 use listing_parser::Kind;

@@ -6,7 +6,7 @@ ghost use Rattle.thumb_model.specs.Layout.{Layable};
 ghost use Rattle.command_runs.specs.Plans.{Does};
 ghost use Rattle.rule_table.specs.Views.{table_of};
 ghost use Rattle.table_audit.specs.Soundness.{IsSound};
-ghost use Rattle.audit_cli.specs.Destinations.{counts_of, destination_of};
+ghost use Rattle.audit_cli.specs.Commands.{counts_of, destination_of};
 ghost use Rattle.audit_cli.specs.Printed.{report_of, image_line};
 ghost use Rattle.audit_cli.specs.Rewrite.{Comes, Leaves, LinesRewrite, Rewrites};
 
@@ -181,7 +181,7 @@ fn outcome<L: Ledger>(
 
 impl command_runs::Command for Rewrite<'_> {
     ghost use Rattle.audit_cli.specs.Rewrite.{RewriteComesTo};
-    ghost use Rattle.audit_cli.specs.Destinations.{destination_of};
+    ghost use Rattle.audit_cli.specs.Commands.{destination_of};
 
     ghost takes = { 2 };
 

@@ -5,7 +5,7 @@ ghost use Rattle.thumb_model.specs.Machine.{Naming, step, times};
 ghost use Rattle.thumb_model.specs.Same.{has_ended};
 ghost use Rattle.thumb_machine.specs.Outside.{events_of};
 ghost use Rattle.thumb_machine.specs.Running.{IsProgram, at_of, state_of};
-ghost use Rattle.audit_cli.specs.Running.{IsRun};
+ghost use Rattle.audit_cli.specs.Trace.{IsRun};
 
 use std::alloc::AllocError;
 use thumb_machine::{Answers, Machine, Stage};

@@ -2,7 +2,7 @@
 ghost use Rattle.std.specs.Prelude.{◌≡◌, [], IfOk};
 ghost use Rattle.thumb_machine.specs.Outside.{answer_of, answers_of};
 ghost use Rattle.thumb_machine.specs.Starting.{start_values as start_values_of};
-ghost use Rattle.audit_cli.specs.Start.{answers_from, numbered_answer as numbered_answer_of, start_values};
+ghost use Rattle.audit_cli.specs.Trace.{answers_from, numbered_answer as numbered_answer_of, start_values};
 
 use std::alloc::{AllocError, Global};
 use thumb_machine::{Answer, Bytes, State};

@@ -1,8 +1,8 @@
 //! The top call: all that the program does.
 ghost use Rattle.std.specs.Prelude.{◌≡◌, map, string_bytes};
-ghost use Rattle.outer_store.specs.Outside.{Grows, SinkGrows};
+ghost use Rattle.outer_store.specs.Answers.{Grows, SinkGrows};
 ghost use Rattle.command_line.specs.Request.{request_of};
-ghost use Rattle.command_runs.specs.Plans.{Runs};
+ghost use Rattle.command_runs.specs.Runs.{Runs};
 ghost use Rattle.audit_cli.specs.Peep.{plan_of, Peeps};
 
 use crate::audit::Audit;

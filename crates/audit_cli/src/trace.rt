@@ -4,7 +4,7 @@ ghost use Rattle.thumb_model.specs.Listing.{code_of, place_of};
 ghost use Rattle.thumb_model.specs.Layout.{Layable};
 ghost use Rattle.label_layout.specs.Addresses.{AreAddresses};
 ghost use Rattle.command_runs.specs.Outcomes.{outcome_view};
-ghost use Rattle.audit_cli.specs.Journeys.{journey_of};
+ghost use Rattle.audit_cli.specs.Commands.{journey_of};
 ghost use Rattle.audit_cli.specs.Trace.{LinesTrace, Traces};
 
 use crate::printing::prints;
@@ -96,7 +96,7 @@ fn outcome(alloc: Global, trace: &Trace<'_>, text: &[u8]) -> Result<Outcome, All
 
 impl command_runs::Command for Trace<'_> {
     ghost use Rattle.audit_cli.specs.Trace.{TraceComesTo};
-    ghost use Rattle.audit_cli.specs.Journeys.{journey_of};
+    ghost use Rattle.audit_cli.specs.Commands.{journey_of};
 
     ghost takes = { 1 };
 

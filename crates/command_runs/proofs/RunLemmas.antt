@@ -8,9 +8,10 @@ use Rattle.std.proofs.lemmas.Slice.Eq.{bytes_eq-Decides}
 use Rattle.command_runs.specs.declared.status.Status.{Status}
 use Rattle.command_runs.specs.declared.status.Status.TheVariants as status
 use Rattle.outer_store.specs.declared.StoreError.TheVariants as store
-use Rattle.outer_store.specs.Events.{Event, Keeping}
-use Rattle.outer_store.specs.Outside.{Sunk, Seen, Held, SameHeld, SameCounts, Grows, Rose, MissedAt, TooBigAt, IsTooBig, limit}
-use Rattle.command_runs.specs.Plans.{Keep, Outcome, Refuses, Does, Plan, keeps_of, AreTexts, StopsAt, ReadsSome, with_text, kept, Kept, FailsAfter, ShortAfter, ComesTo, Runs, at_fetch, at_keep, at_put, fetchings, keepings}
+use Rattle.outer_store.specs.Outside.{Event, Keeping, Sunk, Seen, Held, SameHeld, SameCounts, Rose, MissedAt, TooBigAt, IsTooBig, limit}
+use Rattle.outer_store.specs.Answers.{Grows}
+use Rattle.command_runs.specs.Plans.{Keep, Outcome, Refuses, Does, Plan, keeps_of, AreTexts, StopsAt, ReadsSome, with_text, kept, Kept, FailsAfter, ShortAfter, fetchings, keepings}
+use Rattle.command_runs.specs.Runs.{ComesTo, Runs, at_fetch, at_keep, at_put}
 use Rattle.command_runs.specs.Stages.{Gathers, Stores, Prints, Finishes}
 use Rattle.command_runs.proofs.StageLemmas.{rose_before, same_again, counts_first, counts_again, called_then}
 

@@ -9,8 +9,8 @@ use Rattle.command_runs.specs.declared.status.Status.{Status}
 use Rattle.command_runs.specs.declared.status.Status.TheVariants as status
 use Rattle.outer_store.specs.declared.StoreError.{StoreError}
 use Rattle.outer_store.specs.declared.StoreError.TheVariants as store
-use Rattle.outer_store.specs.Events.{Event, Fetching, Keeping}
-use Rattle.outer_store.specs.Outside.{Sunk, Seen, Held, SameHeld, SameCounts, Grows, Rose, MissedAt, TooBigAt, IsTooBig, OthersStay, SinkGrows}
+use Rattle.outer_store.specs.Outside.{Event, Fetching, Keeping, Sunk, Seen, Held, SameHeld, SameCounts, Rose, MissedAt, TooBigAt, IsTooBig}
+use Rattle.outer_store.specs.Answers.{Grows, OthersStay, SinkGrows}
 use Rattle.command_runs.specs.Plans.{Keep, IsText, AreTexts, StopsAt, ReadsUpTo, with_text, kept, Kept, fetchings, keepings}
 use Rattle.command_runs.specs.Stages.{Reads, Gathers, StoresOne, Stores}
 

@@ -1,3 +1,4 @@
 pub mod Plans
+pub mod Runs
 pub mod Stages
 pub mod Outcomes

@@ -4,8 +4,7 @@ use Rattle.command_runs.specs.declared.status.Status.{Status}
 use Rattle.command_runs.specs.declared.status.Status.TheVariants as status
 use Rattle.outer_store.specs.declared.StoreError.TheVariants as store
 use Rattle.outer_store.specs.declared.SinkError.TheVariants as sink
-use Rattle.outer_store.specs.Events.{Fetching, Keeping, Putting}
-use Rattle.outer_store.specs.Outside.{Seen, SameHeld, SameCounts, Rose, MissedAt, TooBigAt, Sunk, Wrote, WrotePart, WroteNone}
+use Rattle.outer_store.specs.Outside.{Fetching, Keeping, Putting, Seen, SameHeld, SameCounts, Rose, MissedAt, TooBigAt, Sunk, Wrote, WrotePart, WroteNone}
 use Rattle.command_runs.specs.Plans.{Keep, Outcome, Refuses, Does, keeps_of, due, IsText, AreTexts, StopsAt, ReadsSome, ReadsUpTo, Kept, KeptBut, FailsAfter, ShortAfter, fetchings, keepings}
 
 -- one text was fetched, or why not

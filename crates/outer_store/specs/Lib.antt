@@ -1,5 +1,6 @@
-pub mod Events
-pub mod Notes
 pub mod Outside
+pub mod Answers
+pub mod EventCodes
+pub mod Notes
 pub mod Entries
 pub mod Scripts

@@ -2,7 +2,7 @@
 use Rattle.std.specs.Prelude.{Ok, Err}
 use Rattle.outer_store.specs.declared.history.Note.{Note}
 use Rattle.outer_store.specs.declared.history.Note.TheVariants as note
-use Rattle.outer_store.specs.Events.{Event, Fetching, Keeping, Putting}
+use Rattle.outer_store.specs.Outside.{Event, Fetching, Keeping, Putting}
 
 -- the call that a note is of
 abbrev pub event_of : Note → Event

@@ -1,10 +1,17 @@
 -- What a store and a sink mean: what they hold or were given, where they tell it, their counts, and the calls that were made of them.
-use Rattle.std.specs.Prelude.{◌≡◌, ◌≢◌, ◌≤◌, ◌<◌, ◌+◌, ◌-◌, ◌^◌, ℕ, Bool, true, false, List, ◌++◌, take, Option, Some, None, Result, Ok, Err, min, length}
+use Rattle.std.specs.Prelude.{◌≡◌, ◌≤◌, ◌<◌, ◌+◌, ◌-◌, ◌^◌, ℕ, Bool, true, false, List, ◌++◌, take, Option, Some, None, Result, min, length}
 use Rattle.outer_store.specs.declared.StoreError.{StoreError}
-use Rattle.outer_store.specs.declared.StoreError.TheVariants as store
 use Rattle.outer_store.specs.declared.SinkError.{SinkError}
-use Rattle.outer_store.specs.declared.SinkError.TheVariants as sink
-use Rattle.outer_store.specs.Events.{Event}
+
+-- ---- calls ----
+
+-- one call with its answer: a name was fetched, bytes were kept under a name, or a piece was put
+pub data Event : Type 0 where
+  Fetching : (name : List ℕ) (answer : Result (List ℕ) StoreError) → Event
+  Keeping : (name bytes : List ℕ) (answer : Result (Unit {0}) StoreError) → Event
+  Putting : (bytes : List ℕ) (answer : Result (Unit {0}) SinkError) → Event
+
+-- ---- counts ----
 
 -- the most bytes that are fetched
 abbrev pub limit : ℕ
@@ -18,6 +25,10 @@ counted n = min (n + 1) (2 ^ 64 - 1)
 abbrev pub Rose : ℕ → ℕ → Type 0
 Rose before now = counted before ≤ now
 
+-- what is told of the content of a store or a sink, where it tells it
+abbrev pub WhereTold : Bool → Type 0 → Type 0
+WhereTold tells told = tells ≡ true → told
+
 -- ---- stores ----
 
 -- the text under each name
@@ -27,10 +38,6 @@ Held = List ℕ → Option (List ℕ)
 -- each name has what it had
 abbrev pub SameHeld : Held → Held → Type 0
 SameHeld old new = (n : List ℕ) → new n ≡ old n
-
--- each name but one has what it had
-abbrev pub OthersStay : List ℕ → Held → Held → Type 0
-OthersStay name old new = (n : List ℕ) → n ≢ name → new n ≡ old n
 
 -- a store: what it holds, which counts only where it tells; whether its faults may rise; its counts of faults, of names
 -- not found and of texts over the limit; and the calls so far, in order, each with its answer
@@ -42,15 +49,6 @@ pub record Seen : Type 0 where
   pub missing : ℕ
   pub oversize : ℕ
   pub events : List Event
-
--- no count falls, a store tells as before, and the faults of one that does not fail stay
-pub record Grows (old new : Seen) : Type 0 where
-  pub tells : new.tells ≡ old.tells
-  pub may_fail : new.may_fail ≡ old.may_fail
-  pub faults : old.faults ≤ new.faults
-  pub missing : old.missing ≤ new.missing
-  pub oversize : old.oversize ≤ new.oversize
-  pub steady : old.may_fail ≡ false → new.faults ≡ old.faults
 
 -- each count is as it was
 pub record SameCounts (old new : Seen) : Type 0 where
@@ -78,23 +76,7 @@ TooBigAt old new name = Shows old.tells (IsTooBig (old.held name)) (Rose old.ove
 
 -- the bytes are those held, where the store tells
 abbrev pub Gave : Seen → List ℕ → List ℕ → Type 0
-Gave old name bytes = old.tells ≡ true → old.held name ≡ Some bytes
-
--- what each answer of a fetch says
-abbrev pub Fetches : Seen → Seen → List ℕ → Result (List ℕ) StoreError → Type 0
-Fetches old new name (Ok bytes) = SameCounts old new × (length bytes ≤ limit) × Gave old name bytes
-Fetches old new name (Err store.Failed) = Rose old.faults new.faults
-Fetches old new name (Err store.Missing) = (new.faults ≡ old.faults) × MissedAt old new name
-Fetches old new name (Err store.TooBig) = (new.faults ≡ old.faults) × TooBigAt old new name
-Fetches old new name (Err store.Memory) = Unit {0}
-
--- what each answer of a keep says
-abbrev pub Keeps : Seen → Seen → List ℕ → List ℕ → Result (Unit {0}) StoreError → Type 0
-Keeps old new name bytes (Ok u) = SameCounts old new × (old.tells ≡ true → new.held name ≡ Some bytes)
-Keeps old new name bytes (Err store.Failed) = Rose old.faults new.faults
-Keeps old new name bytes (Err store.Missing) = ⊥
-Keeps old new name bytes (Err store.TooBig) = ⊥
-Keeps old new name bytes (Err store.Memory) = SameHeld old.held new.held
+Gave old name bytes = WhereTold old.tells (old.held name ≡ Some bytes)
 
 -- ---- sinks ----
 
@@ -107,16 +89,9 @@ pub record Sunk : Type 0 where
   pub faults : ℕ
   pub events : List Event
 
--- the count does not fall, a sink tells as before, and the faults of one that does not fail stay
-pub record SinkGrows (old new : Sunk) : Type 0 where
-  pub tells : new.tells ≡ old.tells
-  pub may_fail : new.may_fail ≡ old.may_fail
-  pub faults : old.faults ≤ new.faults
-  pub steady : old.may_fail ≡ false → new.faults ≡ old.faults
-
 -- the bytes were written behind what was there
 abbrev pub Wrote : Sunk → Sunk → List ℕ → Type 0
-Wrote old new bytes = old.tells ≡ true → new.written ≡ old.written ++ bytes
+Wrote old new bytes = WhereTold old.tells (new.written ≡ old.written ++ bytes)
 
 -- a prefix of the bytes was written
 abbrev pub WrotePart : Sunk → Sunk → List ℕ → Type 0
@@ -124,10 +99,4 @@ WrotePart old new bytes = (k : ℕ) × Wrote old new (take k bytes)
 
 -- nothing was written
 abbrev pub WroteNone : Sunk → Sunk → Type 0
-WroteNone old new = old.tells ≡ true → new.written ≡ old.written
-
--- what each answer of a put says
-abbrev pub Puts : Sunk → Sunk → List ℕ → Result (Unit {0}) SinkError → Type 0
-Puts old new bytes (Ok u) = (new.faults ≡ old.faults) × Wrote old new bytes
-Puts old new bytes (Err sink.Failed) = Rose old.faults new.faults × WrotePart old new bytes
-Puts old new bytes (Err sink.Memory) = WroteNone old new
+WroteNone old new = WhereTold old.tells (new.written ≡ old.written)

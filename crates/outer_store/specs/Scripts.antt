@@ -5,8 +5,7 @@ use Rattle.outer_store.specs.declared.StoreError.TheVariants as store
 use Rattle.outer_store.specs.declared.SinkError.{SinkError}
 use Rattle.outer_store.specs.declared.SinkError.TheVariants as sink
 use Rattle.outer_store.specs.Entries.{Entry, text_in}
-use Rattle.outer_store.specs.Events.{Event}
-use Rattle.outer_store.specs.Outside.{Seen, Sunk, counted}
+use Rattle.outer_store.specs.Outside.{Event, Seen, Sunk, counted}
 
 -- there is a number
 abbrev pub is_some_number : List ℕ → Bool

@@ -2,7 +2,8 @@
 ghost use Rattle.std.specs.Prelude.{◌≡◌, ℕ, List, [], ◌∷◌, ◌++◌, Result};
 ghost use Rattle.std.specs.Result.{result_map_both};
 ghost use Rattle.std.specs.Borrow.{ftrue};
-ghost use Rattle.outer_store.specs.Events.{Event, Fetching, Keeping, Putting, events_code};
+ghost use Rattle.outer_store.specs.Outside.{Event, Fetching, Keeping, Putting};
+ghost use Rattle.outer_store.specs.EventCodes.{events_code};
 
 use crate::{SinkError, StoreError};
 use std::marker::Model;

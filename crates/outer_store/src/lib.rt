@@ -7,8 +7,8 @@
 
 ghost use Rattle.std.specs.Prelude.{◌≡◌, ℕ, List, [], ◌∷◌, ◌++◌, Result};
 ghost use Rattle.std.specs.Result.{result_map_both};
-ghost use Rattle.outer_store.specs.Events.{Fetching, Keeping, Putting};
-ghost use Rattle.outer_store.specs.Outside.{Seen, Grows, SameHeld, OthersStay, Fetches, Keeps, Sunk, SinkGrows, Puts};
+ghost use Rattle.outer_store.specs.Outside.{Fetching, Keeping, Putting, Seen, SameHeld, Sunk};
+ghost use Rattle.outer_store.specs.Answers.{Grows, OthersStay, Fetches, Keeps, SinkGrows, Puts};
 
 mod calls;
 mod history;

@@ -1,7 +1,7 @@
 //! A sink in memory.
 ghost use Rattle.std.specs.Prelude.{◌≡◌, ◌↔◌, [], ◌∷◌, ◌++◌, IsErrOf, OnErr, true};
-ghost use Rattle.outer_store.specs.Events.{Putting};
-ghost use Rattle.outer_store.specs.Outside.{SinkGrows, Puts};
+ghost use Rattle.outer_store.specs.Outside.{Putting};
+ghost use Rattle.outer_store.specs.Answers.{SinkGrows, Puts};
 ghost use Rattle.outer_store.specs.Scripts.{Bytes, IsCalled, FailsNext, RaisesBytes, seen_bytes};
 
 use crate::calls::Calls;

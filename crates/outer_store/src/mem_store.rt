@@ -5,8 +5,8 @@ ghost use Rattle.std.specs.Option.{option_copied};
 ghost use Rattle.std.specs.Result.{result_map_both};
 ghost use Rattle.std.specs.Str.{bytes_eq};
 ghost use Rattle.outer_store.specs.Entries.{is_named, text_in};
-ghost use Rattle.outer_store.specs.Events.{Fetching, Keeping};
-ghost use Rattle.outer_store.specs.Outside.{Grows, SameHeld, OthersStay, Fetches, Keeps};
+ghost use Rattle.outer_store.specs.Outside.{Fetching, Keeping, SameHeld};
+ghost use Rattle.outer_store.specs.Answers.{Grows, OthersStay, Fetches, Keeps};
 ghost use Rattle.outer_store.specs.Scripts.{Texts, IsCalled, FailsNext, RaisesTexts, seen_texts};
 
 use crate::calls::Calls;

@@ -3,7 +3,7 @@
 
 ghost use Rattle.std.specs.Prelude.{◌≡◌, ◌<◌, IfOk, drop, map, option_map, string_bytes};
 ghost use Rattle.std.specs.Vec.Iter.{into_iter_items};
-ghost use Rattle.outer_store.specs.Outside.{Grows, SinkGrows};
+ghost use Rattle.outer_store.specs.Answers.{Grows, SinkGrows};
 ghost use Rattle.audit_cli.specs.Peep.{Peeps};
 ghost use Rattle.peep.specs.Words.{word_of};
 

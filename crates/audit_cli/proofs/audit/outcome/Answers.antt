@@ -4,7 +4,7 @@ use Rattle.std.proofs.lemmas.List.{length-map}
 use Rattle.rule_table.specs.Views.{rule_of, table_of}
 use Rattle.command_runs.specs.Plans.{Does}
 use Rattle.command_runs.specs.Outcomes.{outcome_view}
-use Rattle.audit_cli.specs.Audit.{Audits, refused, accepted, open_count, opens_of}
+use Rattle.audit_cli.specs.Tables.{Audits, unaudited, accepted, open_count, opens_of}
 use Rattle.audit_cli.specs.Printed.{entries_line}
 use Rattle.audit_cli.proofs.StepLemmas.{is_audited, not_audited, refused_so}
 use Rattle.audit_cli.proofs.TableTexts.{opens_within}
@@ -13,7 +13,7 @@ use Rattle.audit_cli.proofs.audit.outcome.Goals as goal
 pub returns-in_ok-outcome-in-Err : goal.returns-in_ok-outcome-in-Err
 returns-in_ok-outcome-in-Err g c =
     refused_so (Audits c.args.text.now) c.in-Err.refusal (outcome_view c.in_ok-outcome-in-Err.outcome) c.in_ok-outcome-in-Err.ensures
-    (refused c.in-Err.refusal (not_audited table_of c.args.text.now c.in_ok-refusal.field-0 c.in-Err.refusal c.in_ok-refusal.ensures c.in-Err.is))
+    (unaudited c.in-Err.refusal (not_audited table_of c.args.text.now c.in_ok-refusal.field-0 c.in-Err.refusal c.in_ok-refusal.ensures c.in-Err.is))
 
 pub returns-in_ok-lines-in-Ok : goal.returns-in_ok-lines-in-Ok
 returns-in_ok-lines-in-Ok g c =

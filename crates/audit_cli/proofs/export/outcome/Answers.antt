@@ -1,7 +1,7 @@
 use Rattle.rule_table.specs.Views.{table_of}
 use Rattle.command_runs.specs.Outcomes.{outcome_view}
-use Rattle.audit_cli.specs.Extracts.{extract_of}
-use Rattle.audit_cli.specs.Export.{Exports, refused}
+use Rattle.audit_cli.specs.Commands.{extract_of}
+use Rattle.audit_cli.specs.Tables.{Exports, refused}
 use Rattle.audit_cli.proofs.StepLemmas.{is_listed, not_listed, refused_so}
 use Rattle.audit_cli.proofs.export.outcome.Goals as goal
 

@@ -1,6 +1,6 @@
 use Rattle.std.proofs.Common.{◌≡◌, take, map}
 use Rattle.lrat_check.specs.Content.{content_of}
-use Rattle.audit_cli.specs.Export.{proof_text}
+use Rattle.audit_cli.specs.Tables.{proof_text}
 use Rattle.audit_cli.proofs.export.proof_text.Given as goal
 
 abbrev pub invariant-loop-line : goal.invariant-loop-line

@@ -4,9 +4,9 @@ use Rattle.table_audit.specs.declared.errors.EntryFault.TheVariants as fault
 use Rattle.command_runs.specs.Plans.{Refuses}
 use Rattle.command_runs.specs.Outcomes.{outcome_view}
 use Rattle.audit_cli.specs.declared.refusal.Refusal.TheVariants as refusal
-use Rattle.audit_cli.specs.Refusals.{refusal_line}
-use Rattle.audit_cli.specs.Extracts.{extract_of}
-use Rattle.audit_cli.specs.Export.{Exports, absent, unfit, found, entry_at}
+use Rattle.audit_cli.specs.Printed.{refusal_line}
+use Rattle.audit_cli.specs.Commands.{extract_of}
+use Rattle.audit_cli.specs.Tables.{Exports, absent, unfit, found, entry_at}
 use Rattle.audit_cli.proofs.StepLemmas.{refused_so}
 use Rattle.audit_cli.proofs.export.table_outcome.Goals as goal
 

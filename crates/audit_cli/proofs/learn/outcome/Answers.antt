@@ -1,6 +1,6 @@
 use Rattle.command_runs.specs.Outcomes.{outcome_view}
 use Rattle.audit_cli.specs.Learn.{Learns, unread, read}
-use Rattle.audit_cli.specs.Lessons.{lesson_of}
+use Rattle.audit_cli.specs.Commands.{lesson_of}
 use Rattle.audit_cli.proofs.StepLemmas.{is_read, not_read, refused_so}
 use Rattle.audit_cli.proofs.learn.outcome.Goals as goal
 

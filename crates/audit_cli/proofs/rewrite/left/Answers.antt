@@ -1,7 +1,7 @@
 use Rattle.std.proofs.Common.{◌≡◌, ℕ, Vec, codes, refl, sym, true≢false}
 use Rattle.std.specs.Global.{Global}
 use Rattle.command_runs.specs.Outcomes.{outcome_view}
-use Rattle.audit_cli.specs.Destinations.{counts_of, destination_of}
+use Rattle.audit_cli.specs.Commands.{counts_of, destination_of}
 use Rattle.audit_cli.proofs.StepLemmas.{is_made, not_made}
 use Rattle.audit_cli.proofs.RewriteLemmas.{kept_alone, kept_none, kept_pair}
 use Rattle.audit_cli.proofs.rewrite.left.Goals as goal

@@ -8,7 +8,7 @@ use Rattle.rule_table.specs.Views.{table_of}
 use Rattle.table_audit.specs.Soundness.{rules_of}
 use Rattle.window_rewrite.specs.Rewriting.{replacement_of, setting}
 use Rattle.command_runs.specs.Outcomes.{outcome_view}
-use Rattle.audit_cli.specs.Destinations.{destination_of}
+use Rattle.audit_cli.specs.Commands.{destination_of}
 use Rattle.audit_cli.specs.Rewrite.{LinesRewrite, instruction_count, unlaid, rewritten}
 use Rattle.audit_cli.proofs.StepLemmas.{is_unlaid, refused_so}
 use Rattle.audit_cli.proofs.RewriteLemmas.{is_rewriting}

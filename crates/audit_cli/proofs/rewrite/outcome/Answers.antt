@@ -1,7 +1,7 @@
 use Rattle.rule_table.specs.Views.{table_of}
 use Rattle.table_audit.proofs.Sound.{accepted_sound}
 use Rattle.command_runs.specs.Outcomes.{outcome_view}
-use Rattle.audit_cli.specs.Destinations.{destination_of}
+use Rattle.audit_cli.specs.Commands.{destination_of}
 use Rattle.audit_cli.specs.Rewrite.{Comes, unaudited, audited}
 use Rattle.audit_cli.proofs.StepLemmas.{is_audited, not_audited, refused_so}
 use Rattle.audit_cli.proofs.rewrite.outcome.Goals as goal

@@ -3,7 +3,7 @@ use Rattle.listing_parser.specs.Parsing.{IsListing}
 use Rattle.listing_parser.proofs.PrintLemmas.{prints_back}
 use Rattle.rule_table.specs.Views.{table_of}
 use Rattle.command_runs.specs.Outcomes.{outcome_view}
-use Rattle.audit_cli.specs.Destinations.{destination_of}
+use Rattle.audit_cli.specs.Commands.{destination_of}
 use Rattle.audit_cli.specs.Rewrite.{Rewrites, unread, read}
 use Rattle.audit_cli.proofs.StepLemmas.{is_read, not_read, refused_so}
 use Rattle.audit_cli.proofs.rewrite.text_outcome.Goals as goal

@@ -1,7 +1,7 @@
 use Rattle.std.proofs.Common.{◌≡◌, ◌∙◌, ◌++◌, ◌-◌, ℕ, List, append-nil, ap, arith, sym}
 use Rattle.thumb_model.specs.Machine as model
 use Rattle.thumb_machine.specs.Outside.{answers_of}
-use Rattle.audit_cli.specs.Start.{answers_from}
+use Rattle.audit_cli.specs.Trace.{answers_from}
 use Rattle.audit_cli.proofs.StartLemmas.{answers_more, no_answers}
 use Rattle.audit_cli.proofs.start.answers.Goals as goal
 

@@ -1,6 +1,6 @@
 use Rattle.std.proofs.Common.{◌≡◌, ◌++◌, ◌-◌}
 use Rattle.thumb_machine.specs.Outside.{answers_of}
-use Rattle.audit_cli.specs.Start.{answers_from}
+use Rattle.audit_cli.specs.Trace.{answers_from}
 use Rattle.audit_cli.proofs.start.answers.Given as goal
 
 abbrev pub invariant-loop-n : goal.invariant-loop-n

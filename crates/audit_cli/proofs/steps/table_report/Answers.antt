@@ -1,7 +1,7 @@
 use Rattle.std.proofs.Common.{◌<◌, ◌^◌, rules, arith, refl}
 use Rattle.rule_table.specs.Views.{table_of}
 use Rattle.rule_table.specs.Text.{text_of}
-use Rattle.audit_cli.specs.Audit.{opens_of}
+use Rattle.audit_cli.specs.Tables.{opens_of}
 use Rattle.audit_cli.proofs.TableTexts.{opens_within}
 use Rattle.audit_cli.proofs.steps.table_report.Goals as goal
 

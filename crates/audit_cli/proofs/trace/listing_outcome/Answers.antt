@@ -3,7 +3,7 @@ use Rattle.std.specs.Prelude.{None}
 use Rattle.thumb_model.specs.Listing.{code_of, place_of}
 use Rattle.command_runs.specs.Outcomes.{outcome_view}
 use Rattle.audit_cli.specs.declared.refusal.Refusal.TheVariants as refusal
-use Rattle.audit_cli.specs.Journeys.{journey_of}
+use Rattle.audit_cli.specs.Commands.{journey_of}
 use Rattle.audit_cli.specs.Trace.{LinesTrace, unlaid, unlabelled}
 use Rattle.audit_cli.proofs.StepLemmas.{is_laid, not_laid, refused_so}
 use Rattle.audit_cli.proofs.trace.listing_outcome.Goals as goal

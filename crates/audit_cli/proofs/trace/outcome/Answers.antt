@@ -1,5 +1,5 @@
 use Rattle.command_runs.specs.Outcomes.{outcome_view}
-use Rattle.audit_cli.specs.Journeys.{journey_of}
+use Rattle.audit_cli.specs.Commands.{journey_of}
 use Rattle.audit_cli.specs.Trace.{Traces, unread, read}
 use Rattle.audit_cli.proofs.StepLemmas.{is_read, not_read, refused_so}
 use Rattle.audit_cli.proofs.trace.outcome.Goals as goal

@@ -6,10 +6,9 @@ use Rattle.thumb_machine.specs.Naming.{naming_of}
 use Rattle.thumb_machine.specs.Outside.{answers_of, events_of}
 use Rattle.thumb_machine.specs.Running.{state_of}
 use Rattle.thumb_machine.specs.Laid.{IsLaid}
-use Rattle.audit_cli.specs.Journeys.{journey_of}
+use Rattle.audit_cli.specs.Commands.{journey_of}
 use Rattle.command_runs.specs.Plans.{Outcome}
-use Rattle.audit_cli.specs.TraceLines.{event_lines, steps_line}
-use Rattle.audit_cli.specs.Trace.{LinesTrace}
+use Rattle.audit_cli.specs.Trace.{event_lines, steps_line, LinesTrace}
 use Rattle.audit_cli.proofs.TraceLemmas.{begins, runs}
 use Rattle.audit_cli.proofs.trace.traced.Goals as goal
 

@@ -1,5 +1,5 @@
 use Rattle.std.proofs.Common.{◌≡◌, ◌++◌, take}
-use Rattle.audit_cli.specs.TraceLines.{and_words}
+use Rattle.audit_cli.specs.Trace.{and_words}
 use Rattle.audit_cli.proofs.trace_lines.add_words.Given as goal
 
 abbrev pub invariant-loop-word : goal.invariant-loop-word

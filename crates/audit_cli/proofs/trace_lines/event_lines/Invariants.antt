@@ -1,6 +1,6 @@
 use Rattle.std.proofs.Common.{◌≡◌, map, take}
 use Rattle.thumb_machine.specs.Outside.{event_of}
-use Rattle.audit_cli.specs.TraceLines.{event_lines}
+use Rattle.audit_cli.specs.Trace.{event_lines}
 use Rattle.audit_cli.proofs.trace_lines.event_lines.Given as goal
 
 abbrev pub invariant-loop-event : goal.invariant-loop-event

@@ -1,6 +1,7 @@
 use Rattle.std.proofs.Common.{◌≡◌, ◌++◌, map, take}
 use Rattle.command_runs.specs.Plans.{AreTexts, fetchings}
-use Rattle.outer_store.specs.Outside.{Grows, SameHeld, SameCounts}
+use Rattle.outer_store.specs.Answers.{Grows}
+use Rattle.outer_store.specs.Outside.{SameHeld, SameCounts}
 use Rattle.command_runs.proofs.stages.fetch_all.Given as goal
 
 abbrev pub invariant-loop-name : goal.invariant-loop-name

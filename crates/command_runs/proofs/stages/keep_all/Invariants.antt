@@ -1,6 +1,7 @@
 use Rattle.std.proofs.Common.{◌≡◌, ◌++◌, map, take}
 use Rattle.command_runs.specs.Plans.{Kept, keepings}
-use Rattle.outer_store.specs.Outside.{Grows, SameCounts}
+use Rattle.outer_store.specs.Answers.{Grows}
+use Rattle.outer_store.specs.Outside.{SameCounts}
 use Rattle.command_runs.specs.Outcomes.{deed_view}
 use Rattle.command_runs.proofs.stages.keep_all.Given as goal
 

@@ -1,20 +1,39 @@
--- What `export` comes to.
-use Rattle.std.specs.Prelude.{◌≡◌, ◌-◌, ◌==◌, ℕ, List, [], ◌∷◌, ◌++◌, length, Option, Some, None, slice_get, if◌then◌else◌}
+-- What the commands come to that read a table alone: `audit` and `export`.
+use Rattle.std.specs.Prelude.{◌≡◌, ℕ, List, [], ◌∷◌, length, sum_by, ◌-◌, ◌==◌, ◌++◌, Option, Some, None, slice_get, if◌then◌else◌}
+use Rattle.rule_table.specs.Table.{Rule, Table}
+use Rattle.command_runs.specs.Plans.{Outcome, Refuses, Does}
+use Rattle.audit_cli.specs.declared.refusal.Refusal.{Refusal}
+use Rattle.audit_cli.specs.Printed.{refusal_line, entries_line, formula_line}
+use Rattle.audit_cli.specs.Steps.{IsUnaudited, IsAudited, IsUnlisted}
 use Rattle.std.specs.List.{flat_map}
 use Rattle.cnf_gates.specs.Cnf.{Cnf}
 use Rattle.cnf_gates.specs.Dimacs.{dimacs}
 use Rattle.lrat_check.specs.Content.{Content}
 use Rattle.lrat_check.specs.Text.{text_of}
-use Rattle.rule_table.specs.Table.{Rule, Table}
 use Rattle.rule_table.specs.Refused.{IsText}
 use Rattle.table_audit.specs.declared.errors.EntryFault.TheVariants as fault
 use Rattle.table_audit.specs.Sides.{SidesFit, formula_of}
-use Rattle.command_runs.specs.Plans.{Outcome, Refuses, Does}
-use Rattle.audit_cli.specs.declared.refusal.Refusal.{Refusal}
 use Rattle.audit_cli.specs.declared.refusal.Refusal.TheVariants as refusal
-use Rattle.audit_cli.specs.Refusals.{refusal_line}
-use Rattle.audit_cli.specs.Steps.{IsUnlisted}
-use Rattle.audit_cli.specs.Printed.{formula_line}
+
+-- ---- `audit` ----
+
+-- how many numbers an entry names open, and all entries of a table
+abbrev pub open_count : Rule → ℕ
+open_count e = length e.opens
+
+abbrev pub opens_of : Table → ℕ
+opens_of t = sum_by open_count t.rules
+
+-- what a text comes to: it is no table, or one that the audit refuses, or its entries and open numbers are counted
+pub data Audits (text : List ℕ) : Outcome → Type 0 where
+  unaudited : (r : Refusal) → IsUnaudited text r → Audits text (Refuses (refusal_line r))
+  accepted : (t : Table) → IsAudited text t → Audits text (Does [] (entries_line (length t.rules) (opens_of t)))
+
+-- `audit` goes by one text
+abbrev pub AuditComesTo : List (List ℕ) → Outcome → Type 0
+AuditComesTo texts o = (text : List ℕ) × (texts ≡ text ∷ []) × Audits text o
+
+-- ---- `export` ----
 
 -- which entry, counted from 1, and the names that its formula and its proof are kept under
 pub record Extract : Type 0 where

@@ -1,18 +1,9 @@
--- What was asked of a store or a sink, one call after another, with what was answered.
-use Rattle.std.specs.Prelude.{◌≡◌, ℕ, ◌==◌, cond, List, [], Result, Ok, Err, refl}
+-- How the logic stores calls with their answers: as numbers.
+use Rattle.std.specs.Prelude.{◌≡◌, ℕ, ◌==◌, cond, List, [], Ok, Err, refl}
 use Rattle.std.specs.Coded.{Coded, code_by, coded×, coded_ℕ, coded_list}
-use Rattle.outer_store.specs.declared.StoreError.{StoreError}
 use Rattle.outer_store.specs.declared.StoreError.TheVariants as store
-use Rattle.outer_store.specs.declared.SinkError.{SinkError}
 use Rattle.outer_store.specs.declared.SinkError.TheVariants as sink
-
--- one call with its answer: a name was fetched, bytes were kept under a name, or a piece was put
-pub data Event : Type 0 where
-  Fetching : (name : List ℕ) (answer : Result (List ℕ) StoreError) → Event
-  Keeping : (name bytes : List ℕ) (answer : Result (Unit {0}) StoreError) → Event
-  Putting : (bytes : List ℕ) (answer : Result (Unit {0}) SinkError) → Event
-
--- ---- how the logic stores them ----
+use Rattle.outer_store.specs.Outside.{Event, Fetching, Keeping, Putting}
 
 abbrev Parts : Type 0
 Parts = ℕ × (List ℕ × List ℕ)

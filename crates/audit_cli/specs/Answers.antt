@@ -1,0 +1,42 @@
+-- What the steps of the code answer.
+use Rattle.std.specs.Prelude.{◌≡◌, ℕ, List, Result, Ok, Err}
+use Rattle.thumb_model.specs.Listing.{Line}
+use Rattle.thumb_model.specs.Layout.{Layable}
+use Rattle.listing_parser.specs.Parsing.{IsListing}
+use Rattle.label_layout.specs.Addresses.{Addresses, AreAddresses}
+use Rattle.rule_table.specs.Table.{Table}
+use Rattle.rule_table.specs.Refused.{IsText}
+use Rattle.table_learn.specs.Settings.{Settings}
+use Rattle.thumb_assembler.specs.Following.{IsAssembled}
+use Rattle.audit_cli.specs.declared.refusal.Refusal.{Refusal}
+use Rattle.audit_cli.specs.Steps.{IsUnlisted, IsUnaudited, IsUnread, IsUnlaid, HasNoImage, IsAudited}
+use Rattle.audit_cli.specs.Learn.{IsLearnt, IsUnlearnt}
+
+-- what comes of reading a table's text, and of auditing it
+abbrev pub ReadsTable : List ℕ → Result Table Refusal → Type 0
+ReadsTable text (Ok t) = IsText text t
+ReadsTable text (Err r) = IsUnlisted text r
+
+abbrev pub AuditsTable : List ℕ → Result Table Refusal → Type 0
+AuditsTable text (Ok t) = IsAudited text t
+AuditsTable text (Err r) = IsUnaudited text r
+
+-- what comes of reading a text
+abbrev pub ReadsListing : List ℕ → Result (List Line) Refusal → Type 0
+ReadsListing text (Ok lines) = IsListing text lines
+ReadsListing text (Err r) = IsUnread text r
+
+-- what comes of making an image of lines
+abbrev pub MakesImage : ℕ → List Line → Result (List ℕ) Refusal → Type 0
+MakesImage base lines (Ok bytes) = IsAssembled base lines bytes
+MakesImage base lines (Err r) = HasNoImage base lines r
+
+-- what comes of laying lines out
+abbrev pub LaysOut : ℕ → List Line → Result Addresses Refusal → Type 0
+LaysOut base lines (Ok laid) = AreAddresses lines laid × (laid.base ≡ base) × Layable base lines
+LaysOut base lines (Err r) = IsUnlaid base lines r
+
+-- what comes of learning from lines
+abbrev pub Teach : Settings → List Line → Result Table Refusal → Type 0
+Teach s lines (Ok t) = IsLearnt s lines t
+Teach s lines (Err r) = IsUnlearnt s lines r
