@@ -2,7 +2,7 @@
 use Rattle.std.proofs.Common.{◌≡◌, ◌∙◌, inl, inr, ◌⊎◌, ℕ, zero, suc, ◌+◌, ◌-◌, ◌*◌, ◌/◌, ◌%◌, ◌<◌, ◌≤◌, ◌==◌, ◌&&◌, ◌||◌, not, Bool, true, false, List, [], ◌∷◌, ◌++◌, length, map, take, drop, refl, sym, ap, subst, arith, true≢false, Option, Some, None, ne_eqb, if◌then◌else◌}
 use Rattle.std.specs.Prelude.{is_some, nat_le, nat_lt}
 use Rattle.std.specs.Str.{bytes_eq}
-use Rattle.std.proofs.Math.Nat.{mod-add-div', mod-lt, mod-eq_of_lt, mod_self, mod-zero, suc-mul}
+use Rattle.std.proofs.Math.Nat.{zero-mul, mod-add-div', mod-lt, mod-eq_of_lt, mod_self, mod-zero, suc-mul}
 use Rattle.std.proofs.lemmas.Nat.{mod-mul-add}
 use Rattle.std.proofs.lemmas.Bool.{cases_Bool, leb-true, leb-false, le-leb, ltb-false, le-ltb}
 use Rattle.thumb_instr.specs.declared.instr.Instr.{Instr}
@@ -60,7 +60,7 @@ near size at some =
 
 -- so far before a multiple the gap is just that
 gap_is : (size at number d : ℕ) → 0 < d → d < size → at + d ≡ number * size → gap size at ≡ d
-gap_is size at zero d some less e = absurd (let z : zero * size ≡ 0 = refl in omega (arith, e, z, some))
+gap_is size at zero d some less e = absurd (let z : zero * size ≡ 0 = zero-mul size in omega (arith, e, z, some))
 gap_is size at (suc k) d some less e =
     let m : suc k * size ≡ k * size + size = suc-mul k size in
     let here : at ≡ k * size + (size - d) = omega (arith, e, m, less) in

@@ -11,9 +11,15 @@ pub mod StayLemmas
 pub mod RunningLemmas
 pub mod StartLemmas
 pub mod TraceLemmas
-pub mod CompleteLemmas
 pub mod MuteLines
 pub mod DemoTexts
 pub mod DemoLines
 pub mod DemoLemmas
 pub mod HeadlineLemmas
+pub mod AddressLemmas
+pub mod ImageLemmas
+pub mod OnceLemmas
+pub mod TraceOnceLemmas
+pub mod OutcomeLemmas
+pub mod FitLemmas
+pub mod CompleteLemmas

@@ -89,7 +89,7 @@ unaudited_once text r s h k = go (by_audit text r h) (by_audit text s k) where
   go (inr a) (inl b) = absurd (never_unlisted text a.rules s a.is b)
   go (inr a) (inr b) = told_once text r s a b
 
-one_audited : (text : List ℕ) (t u : Table) → IsAudited text t → IsAudited text u → u ≡ t
+pub one_audited : (text : List ℕ) (t u : Table) → IsAudited text t → IsAudited text u → u ≡ t
 one_audited text t u h k = one_table text u t k.is h.is
 
 -- ---- listings ----
@@ -167,13 +167,13 @@ comes_once to table listing _ _ (rewriting.audited t is o h) (rewriting.audited 
 
 -- ---- one text or two ----
 
-first_same : (a b : List ℕ) (xs ys : List (List ℕ)) → (let l : List (List ℕ) = a ∷ xs in l) ≡ b ∷ ys → a ≡ b
+pub first_same : (a b : List ℕ) (xs ys : List (List ℕ)) → (let l : List (List ℕ) = a ∷ xs in l) ≡ b ∷ ys → a ≡ b
 first_same a b xs ys e = ap (λ (l : List (List ℕ)). first l) e where
   first : List (List ℕ) → List ℕ
   first [] = a
   first (x ∷ rest) = x
 
-second_same : (a b c d : List ℕ) (xs ys : List (List ℕ)) → (let l : List (List ℕ) = a ∷ b ∷ xs in l) ≡ c ∷ d ∷ ys → b ≡ d
+pub second_same : (a b c d : List ℕ) (xs ys : List (List ℕ)) → (let l : List (List ℕ) = a ∷ b ∷ xs in l) ≡ c ∷ d ∷ ys → b ≡ d
 second_same a b c d xs ys e = ap (λ (l : List (List ℕ)). second l) e where
   second : List (List ℕ) → List ℕ
   second [] = b

@@ -10,7 +10,7 @@ use Rattle.table_audit.specs.Acceptance.{IsAccepted}
 use Rattle.table_audit.specs.Sides.{SidesFit}
 use Rattle.table_learn.specs.Settings.{Settings}
 use Rattle.table_learn.specs.Learnt.{width_of}
-use Rattle.thumb_assembler.specs.Refusals.{flaw_of}
+use Rattle.thumb_assembler.specs.Refusals.{first_flaw}
 use Rattle.command_line.specs.CommandLine.{Request, rewrite, audit, learn, export, trace, demo, AskFor}
 use Rattle.outer_store.specs.Outside.{Event, Seen, Sunk, Rose, Shows, Wrote, limit}
 use Rattle.command_runs.specs.declared.status.Status.{Status}
@@ -84,10 +84,6 @@ IsCompleteButForFull = (words : List (List ℕ)) (r : Request) (old new : Seen) 
 
 -- ---- in words ----
 
--- each name that `b`, `bl` or `.word` mentions has a label or an address that the lines set, and none that they set lies in the image
-abbrev pub HaveAddresses : ℕ → List Line → Type 0
-HaveAddresses base lines = All (λ l. flaw_of base lines l.statement ≡ None) lines
-
 -- an accepted table, and a well-formed listing that can be laid out, where an image is asked for with an address for each external name and none in the image
 pub record FitRewriting (image : List ℕ) (base : ℕ) (texts : List (List ℕ)) : Type 0 where
   pub table_text : List ℕ
@@ -99,7 +95,8 @@ pub record FitRewriting (image : List ℕ) (base : ℕ) (texts : List (List ℕ)
   pub given : List Line
   pub is_listing : IsListing listing_text given
   pub layable : Layable base given
-  pub addresses : (image ≡ codes "-" → ⊥) → HaveAddresses base given
+  -- each name that `b`, `bl` or `.word` mentions has a label or an address that a line sets, and no address that is set lies in the image
+  pub addresses : (image ≡ codes "-" → ⊥) → first_flaw base given ≡ None
 
 -- an accepted table
 pub record FitAudit (texts : List (List ℕ)) : Type 0 where
