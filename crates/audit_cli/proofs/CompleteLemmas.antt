@@ -8,10 +8,9 @@ use Rattle.outer_store.specs.Outside.{Seen, Sunk, Shows, IsTooBig, MissedAt, Too
 use Rattle.command_runs.specs.declared.status.Status.{Status}
 use Rattle.command_runs.specs.declared.status.Status.TheVariants as status
 use Rattle.command_runs.specs.Plans.{Refuses, StopsAt}
-use Rattle.command_runs.specs.Runs.{IsRefused}
+use Rattle.command_runs.specs.Runs.{ComesTo}
 use Rattle.audit_cli.specs.Peep.{plan_of, Peeps, Ran}
-use Rattle.audit_cli.proofs.FitLemmas.{never_refuses, fit_full}
-use Rattle.audit_cli.specs.Complete.{FitTextsAreCarriedOut, FitTextsAreLearntFrom, IsWithin, CanBeFetched, CanAllBeFetched, IsUnhindered, WereRead, IsUnrefused, IsRefusedByFull, IsCarriedOut, IsCarriedOutOrFull, IsComplete, IsCompleteButForFull}
+use Rattle.audit_cli.specs.Complete.{IsWithin, CanBeFetched, CanAllBeFetched, IsUnhindered, IsUnrefused, IsRefusedByFull, IsCarriedOut, IsCarriedOutOrFull, IsComplete, IsCompleteButForFull}
 
 not_both : (a b : ℕ) → a ≤ b → b < a → ⊥
 not_both a b l g = omega arith
@@ -47,30 +46,23 @@ module _ (words : List (List ℕ)) (r : Request) (old new : Seen) (before after 
       none_stops old new cause f (plan_of r).names u.names (subst (λ (p : Request). StopsAt cause old (plan_of p).names) same h)
 
   -- the refusal of a run stands
-  refused_run : (q : Request) → AskFor words q → IsRefused (plan_of q) old new before after → IsRefused (plan_of r) old new before after
-  refused_run q a h = let same : q ≡ r = asks_once words text q r a asks in subst (λ (p : Request). IsRefused (plan_of p) old new before after) same h
+  stands : (q : Request) → AskFor words q → (line : List ℕ) → ComesTo (plan_of q) old (Refuses line) → ComesTo (plan_of r) old (Refuses line)
+  stands q a line h = let same : q ≡ r = asks_once words text q r a asks in subst (λ (p : Request). ComesTo (plan_of p) old (Refuses line)) same h
 
-  -- and its texts were read
-  were_read : (h : IsRefused (plan_of r) old new before after) → WereRead old new (plan_of r).names h.outcome.texts
-  were_read h = record { are = h.outcome.read; later = []; answered = h.calls }
+  full_stands : IsRefusedByFull (plan_of r) old → Ran words old new before after status.Refused → IsCarriedOutOrFull before after status.Refused
+  full_stands f h = inr (refl, h.2.line, f h.2.line (stands h.0 h.1 h.2.line h.2.outcome), h.2.wrote)
 
-  full_stands : IsRefusedByFull (plan_of r) old new → Ran words old new before after status.Refused → IsCarriedOutOrFull before after status.Refused
-  full_stands f h = let k = refused_run h.0 h.1 h.2 in inr (refl, k.line, f k.outcome.texts k.line (were_read k) k.outcome.comes, k.wrote)
-
-  unrefused : IsUnrefused (plan_of r) old new → Ran words old new before after status.Refused → ⊥
-  unrefused f h = let k = refused_run h.0 h.1 h.2 in f k.outcome.texts k.line (were_read k) k.outcome.comes
-
-  pub ends : (s : Status) → Peeps words old new before after s → IsUnhindered (plan_of r) old new before after → IsUnrefused (plan_of r) old new → IsCarriedOut s
+  pub ends : (s : Status) → Peeps words old new before after s → IsUnhindered (plan_of r) old new before after → IsUnrefused (plan_of r) old → IsCarriedOut s
   ends status.Done h u f = inl refl
   ends status.Memory h u f = inr refl
-  ends status.Refused h u f = absurd (unrefused f h)
+  ends status.Refused h u f = absurd (f h.2.line (stands h.0 h.1 h.2.line h.2.outcome))
   ends status.Usage h u f = absurd (h.0 r asks)
   ends status.StoreFault h u f = absurd (u.store h.2.rose)
   ends status.SinkFault h u f = absurd (u.sink h.2.rose)
   ends status.TooBig h u f = absurd (stopped (λ n. TooBigAt old new n) (not_too_big old new) u h.0 h.1 h.2.stops)
   ends status.Missing h u f = absurd (stopped (λ n. MissedAt old new n) (not_missed old new) u h.0 h.1 h.2.stops)
 
-  pub ends_full : (s : Status) → Peeps words old new before after s → IsUnhindered (plan_of r) old new before after → IsRefusedByFull (plan_of r) old new → IsCarriedOutOrFull before after s
+  pub ends_full : (s : Status) → Peeps words old new before after s → IsUnhindered (plan_of r) old new before after → IsRefusedByFull (plan_of r) old → IsCarriedOutOrFull before after s
   ends_full status.Done h u f = inl (inl refl)
   ends_full status.Memory h u f = inl (inr refl)
   ends_full status.Refused h u f = full_stands f h
@@ -85,11 +77,3 @@ complete words r old new before after s text asks h u f = ends words r old new b
 
 pub complete_but_for_full : IsCompleteButForFull
 complete_but_for_full words r old new before after s text asks h u f = ends_full words r old new before after text asks s h u f
-
--- ---- in words ----
-
-pub fit_carried_out : FitTextsAreCarriedOut
-fit_carried_out words r old new before after s text asks h u fit plain = ends words r old new before after text asks s h u (λ texts line read comes. never_refuses r texts line plain (fit texts read) comes)
-
-pub fit_learnt_from : FitTextsAreLearntFrom
-fit_learnt_from words r old new before after s text asks h u fit = ends_full words r old new before after text asks s h u (λ texts line read comes. fit_full r texts line (fit texts read) comes)

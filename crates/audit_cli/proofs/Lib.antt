@@ -16,10 +16,4 @@ pub mod DemoTexts
 pub mod DemoLines
 pub mod DemoLemmas
 pub mod HeadlineLemmas
-pub mod AddressLemmas
-pub mod ImageLemmas
-pub mod OnceLemmas
-pub mod TraceOnceLemmas
-pub mod OutcomeLemmas
-pub mod FitLemmas
 pub mod CompleteLemmas

@@ -1,9 +1,0 @@
-use Rattle.audit_cli.proofs.OnceLemmas.{learning_once}
-use Rattle.audit_cli.proofs.OutcomeLemmas.{come_to_one}
-use Rattle.audit_cli.proofs.laws.texts_come_to_one_outcome.Goals as goal
-
-pub returns-clause-one : goal.returns-clause-one
-returns-clause-one c = come_to_one
-
-pub returns-clause-learning : goal.returns-clause-learning
-returns-clause-learning c = learning_once
