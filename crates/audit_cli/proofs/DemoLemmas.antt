@@ -28,7 +28,8 @@ use Rattle.audit_cli.specs.Tables.{opens_of}
 use Rattle.audit_cli.specs.Learn.{IsUnlearnt, IsLearnt, too_wide, too_long as long_text}
 use Rattle.audit_cli.specs.Steps.{IsUnread, unread, IsUnlisted, unlisted, IsUnaudited, no_table, other_state, too_wide as wide_table, bad_entry, HasNoImage, no_address, inside}
 use Rattle.audit_cli.specs.Rewrite.{instruction_count}
-use Rattle.audit_cli.specs.Demo.{demo_text, demo_settings, IsDemoListing, IsRewritingTold, IsDemo, DemoComesTo, shown, too_long}
+use Rattle.audit_cli.specs.Demo.{demo_text, demo_settings, IsRewritingTold, IsDemo, DemoComesTo, shown, too_long}
+use Rattle.audit_cli.specs.Answers.{IsDemoListing}
 use Rattle.audit_cli.proofs.MuteLines.{AreMute}
 use Rattle.audit_cli.proofs.DemoLines.{demo_lines, demo_listed, demo_mute}
 

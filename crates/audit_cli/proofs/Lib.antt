@@ -11,9 +11,9 @@ pub mod StayLemmas
 pub mod RunningLemmas
 pub mod StartLemmas
 pub mod TraceLemmas
-pub mod CompleteLemmas
 pub mod MuteLines
 pub mod DemoTexts
 pub mod DemoLines
 pub mod DemoLemmas
 pub mod HeadlineLemmas
+pub mod CompleteLemmas

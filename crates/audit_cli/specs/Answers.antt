@@ -1,5 +1,5 @@
 -- What the steps of the code answer.
-use Rattle.std.specs.Prelude.{◌≡◌, ℕ, List, Result, Ok, Err}
+use Rattle.std.specs.Prelude.{◌≡◌, ◌≤◌, ℕ, List, Result, Ok, Err}
 use Rattle.thumb_model.specs.Listing.{Line}
 use Rattle.thumb_model.specs.Layout.{Layable}
 use Rattle.listing_parser.specs.Parsing.{IsListing}
@@ -11,6 +11,7 @@ use Rattle.thumb_assembler.specs.Following.{IsAssembled}
 use Rattle.audit_cli.specs.declared.refusal.Refusal.{Refusal}
 use Rattle.audit_cli.specs.Steps.{IsUnlisted, IsUnaudited, IsUnread, IsUnlaid, HasNoImage, IsAudited}
 use Rattle.audit_cli.specs.Learn.{IsLearnt, IsUnlearnt}
+use Rattle.audit_cli.specs.Demo.{demo_text}
 
 -- what comes of reading a table's text, and of auditing it
 abbrev pub ReadsTable : List ℕ → Result Table Refusal → Type 0
@@ -40,3 +41,7 @@ LaysOut base lines (Err r) = IsUnlaid base lines r
 abbrev pub Teach : Settings → List Line → Result Table Refusal → Type 0
 Teach s lines (Ok t) = IsLearnt s lines t
 Teach s lines (Err r) = IsUnlearnt s lines r
+
+-- lines are the listing that `demo` makes of so many windows
+abbrev pub IsDemoListing : List Line → Type 0
+IsDemoListing lines = (n : ℕ) × (n ≤ 20000) × IsListing (demo_text n) lines

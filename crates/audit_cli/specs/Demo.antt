@@ -1,5 +1,5 @@
 -- What `demo` comes to: a listing is made, a table learnt from its windows, the listing rewritten by that table, and its image made.
-use Rattle.std.specs.Prelude.{◌≡◌, ℕ, zero, suc, ◌≤◌, ◌%◌, ◌==◌, List, [], ◌∷◌, ◌++◌, length, codes, if◌then◌else◌}
+use Rattle.std.specs.Prelude.{◌≡◌, ℕ, zero, suc, ◌%◌, ◌==◌, List, [], ◌∷◌, ◌++◌, length, codes, if◌then◌else◌}
 use Rattle.std.specs.Fmt.{decimal}
 use Rattle.thumb_model.specs.Listing.{Line}
 use Rattle.thumb_model.specs.Rewritten.{Replacement, AreRewritten}
@@ -76,8 +76,3 @@ pub data DemoComesTo (n : ℕ) : Outcome → Type 0 where
   shown : (told : List ℕ) → IsDemo n told → DemoComesTo n (Does [] told)
   too_long : (lines : List Line) → IsListing (demo_text n) lines → (windows : List Window) → AreWindowsOf demo_settings lines windows
       → (t : Table) (bytes : ℕ) → IsFull demo_settings windows t bytes → DemoComesTo n (Refuses (refusal_line (refusal.Full bytes)))
-
--- ---- lines of such a listing ----
-
-abbrev pub IsDemoListing : List Line → Type 0
-IsDemoListing lines = (n : ℕ) × (n ≤ 20000) × IsListing (demo_text n) lines

@@ -10,7 +10,8 @@ ghost use Rattle.table_audit.specs.Acceptance.{IsAccepted};
 ghost use Rattle.table_learn.specs.Given.{settings_of};
 ghost use Rattle.thumb_assembler.specs.Following.{IsAssembled};
 ghost use Rattle.thumb_assembler.specs.Refusals.{first_flaw};
-ghost use Rattle.audit_cli.specs.Demo.{DemoComesTo, IsDemo, IsDemoListing, IsRewritingTold, demo_settings, demo_text, own, pair, window_text};
+ghost use Rattle.audit_cli.specs.Demo.{DemoComesTo, IsDemo, IsRewritingTold, demo_settings, demo_text, own, pair, window_text};
+ghost use Rattle.audit_cli.specs.Answers.{IsDemoListing};
 ghost use Rattle.audit_cli.specs.Learn.{IsLearnt};
 
 use crate::printing::{demo_report, prints};
