@@ -1,5 +1,5 @@
 -- Small listings are tidied so.
-use Rattle.std.proofs.Common.{◌≡◌, ◌≢◌, ℕ, zero, suc, ◌+◌, ◌<◌, ◌≤◌, ◌==◌, Bool, true, false, List, [], ◌∷◌, length, Option, Some, None, IsSome, refl, sym, ap, ◌∙◌, subst, ◌⊎◌, inl, inr, arith, eq-eqb}
+use Rattle.std.proofs.Common.{◌≡◌, ◌≢◌, ℕ, zero, suc, ◌+◌, ◌≤◌, ◌==◌, true, false, List, [], ◌∷◌, length, Option, Some, None, refl, sym, ap, ◌∙◌, subst, arith, eq-eqb}
 use Rattle.std.specs.Prelude.{slice_get}
 use Rattle.std.proofs.lemmas.Option.{same_Some}
 use Rattle.thumb_instr.specs.declared.instr.Instr.{Instr}
@@ -11,12 +11,12 @@ use Rattle.thumb_instr.specs.declared.operation.Condition.{Condition}
 use Rattle.thumb_instr.specs.declared.operation.ByteOperation.TheVariants as byte
 use Rattle.thumb_instr.specs.declared.operation.Hint.TheVariants as hint
 use Rattle.thumb_instr.specs.Shape.{condition_uses, uses_of, writes_of}
-use Rattle.thumb_model.specs.Listing.{Name, Mention, Place, Op, Word, Line, Code, code_of, places_of, place_of, is_call_instr, IsPoint}
+use Rattle.thumb_model.specs.Listing.{Name, Mention, Op, Line, Code, code_of, place_of, is_call_instr, IsPoint}
 use Rattle.thumb_model.specs.Machine.{aim_of, registers_left}
-use Rattle.thumb_model.specs.Flow.{Way, way, Leads, Onward, ToPlace, AnyPoint, Out, jump_way, ways, ways_on, Follows}
+use Rattle.thumb_model.specs.Flow.{Way, way, Onward, AnyPoint, Out, jump_way, ways, Follows}
 use Rattle.flow_tidy.specs.Reached.{Reached, point, along}
 use Rattle.flow_tidy.specs.Chains.{is_always, Hops, HopsBy, IsEnd}
-use Rattle.flow_tidy.specs.Tidied.{Setting, Cause, ToNext, ToEnd, Idle, Change, is_branch, GoesToNext, GoesToEnd, IsIdle, HasCause, lines_after, line_length, IsPossible, rank, IsFirst, NonePossible, AreTidied}
+use Rattle.flow_tidy.specs.Tidied.{Cause, ToNext, ToEnd, Idle, is_branch, GoesToNext, GoesToEnd, IsIdle, HasCause, line_length, rank, IsFirst, AreTidied}
 use Rattle.flow_tidy.specs.Worked.{roomy, labels, does, goes, change, a, c, e, f, crossing, crossed, next_branch, loop, idle_call, SmallListings}
 use Rattle.flow_tidy.proofs.Whole.{change_keeps}
 
