@@ -1,5 +1,5 @@
 -- Tidying ends: each change takes a place away, or a branch from a chain.
-use Rattle.std.proofs.Common.{◌≡◌, ◌≢◌, ℕ, zero, suc, ◌+◌, ◌-◌, ◌*◌, ◌<◌, ◌≤◌, ◌&&◌, Bool, true, false, List, [], ◌∷◌, ◌++◌, length, length-append, take, drop, Option, Some, None, IsSome, refl, sym, ap, ◌∙◌, subst, inl, inr, arith, if◌then◌else◌}
+use Rattle.std.proofs.Common.{◌≡◌, ℕ, zero, suc, ◌+◌, ◌*◌, ◌<◌, ◌≤◌, ◌&&◌, Bool, true, false, List, [], ◌∷◌, ◌++◌, length, length-append, take, drop, Option, Some, None, IsSome, refl, sym, ap, ◌∙◌, subst, inl, inr, arith, if◌then◌else◌}
 use Rattle.std.specs.Prelude.{slice_get, is_some}
 use Rattle.std.proofs.Math.Nat.{mul-suc, suc-mul}
 use Rattle.std.proofs.lemmas.Bool.{cases_eq}
@@ -7,11 +7,11 @@ use Rattle.std.proofs.lemmas.Option.{same_Some, slice_get_within}
 use Rattle.thumb_instr.specs.declared.instr.Instr.{Instr}
 use Rattle.thumb_model.specs.Listing.{Name, Mention, Place, Op, Word, Line, Code, code_of, places_of, place_of}
 use Rattle.thumb_model.proofs.Lists.{take_all, length_drop}
-use Rattle.flow_tidy.specs.Chains.{is_always, Hops, HopsBy, IsEnd}
+use Rattle.flow_tidy.specs.Chains.{is_always, Hops, HopsBy}
 use Rattle.flow_tidy.specs.Tidied.{Setting, Cause, ToNext, ToEnd, Idle, Change, is_branch, GoesToEnd, HasCause, aimed_lines, lines_without, lines_by, lines_after, AreTidied}
 use Rattle.flow_tidy.proofs.Removed.{code_without}
 use Rattle.flow_tidy.proofs.Aimed.{to_label, aimed_places, aimed_code, get_aimed, get_other, name_stays, code_aimed}
-use Rattle.flow_tidy.proofs.AimedRuns.{some_of, last_is_code}
+use Rattle.flow_tidy.proofs.AimedRuns.{last_is_code}
 
 -- ---- hops as a test ----
 

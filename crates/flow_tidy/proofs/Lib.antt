@@ -7,3 +7,4 @@ pub mod Aimed
 pub mod AimedRuns
 pub mod Whole
 pub mod Ends
+pub mod Worked

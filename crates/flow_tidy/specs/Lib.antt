@@ -2,3 +2,4 @@ pub mod Reached
 pub mod Chains
 pub mod Tidied
 pub mod Laws
+pub mod Worked

@@ -1,5 +1,6 @@
 //! The laws of tidying. Each is the contract of a function that does nothing.
 
+ghost use Rattle.flow_tidy.specs.Worked.{SmallListings};
 ghost use Rattle.flow_tidy.specs.Laws.{TidyingIsDetermined, TidyingIsComplete, TidyingEnds, TidyingKeepsRuns, TidyingStaysLayable, ChangesKeepRuns, LabelsStayCode, ReachedStays, ReachedStaysByEach};
 
 /// The changes and the lines that are left are determined.
@@ -45,4 +46,9 @@ pub fn reached_stays()
 /// What is reached stays so after each change.
 pub fn reached_stays_by_each()
     ensures { ReachedStaysByEach }
+{}
+
+/// What tidying makes of four small listings: of a branch to a branch and an idle instruction, of a branch to the next place, of a loop and of a call that nothing reaches.
+pub fn small_listings_are_tidied()
+    ensures { SmallListings }
 {}
