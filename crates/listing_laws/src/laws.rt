@@ -1,0 +1,14 @@
+//! The laws. Each is the contract of a function that does nothing.
+
+ghost use Rattle.listing_laws.specs.Fitting.{LaidNamingsFit};
+ghost use Rattle.listing_laws.specs.Limits.{TextsEndInCode};
+
+/// A text's lines end before the Code region does, from a base in its lower half on: so no text within the limits is refused for want of that region.
+pub fn texts_end_in_the_code_region()
+    ensures { TextsEndInCode }
+{}
+
+/// Where lines begin at even addresses, each name has one label and external names lie elsewhere, the lines' laid naming fits them.
+pub fn laid_namings_fit()
+    ensures { LaidNamingsFit }
+{}
