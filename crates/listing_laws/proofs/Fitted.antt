@@ -13,19 +13,14 @@ use Rattle.thumb_model.specs.Layout.{instr_size, size_at, end_of, is_among, labe
 use Rattle.thumb_model.specs.Naming.{Naming, Fits, is_in_range, is_odd, points, points_of, returns_from}
 use Rattle.thumb_model.specs.Steps.{label_place}
 use Rattle.thumb_model.specs.Laid.{laid, word_by, ends_in_call, last_is_call, return_address}
+use Rattle.listing_parser.proofs.LabelLemmas.{label_at}
+use Rattle.thumb_assembler.proofs.Cuts.{end_append, places_append}
 use Rattle.listing_laws.specs.Fitting.{LiesApart, LaidNamingsFit}
+use Rattle.listing_laws.proofs.Once.{either_part}
 use Rattle.thumb_model.proofs.Moved.{count_append}
 use Rattle.thumb_model.proofs.Returns.{laid_behind, no_words}
 
 -- ---- lines and their places ----
-
-places_append : (xs ys : List Line) → places_of (xs ++ ys) ≡ places_of xs ++ places_of ys
-places_append [] ys = refl
-places_append (x ∷ xs) ys = ap (λ (ps : List Place). places_in x.statement ++ ps) (places_append xs ys) ∙ sym (append_assoc (places_in x.statement) (places_of xs) (places_of ys))
-
-end_append : (a : ℕ) (xs ys : List Line) → end_of a (xs ++ ys) ≡ end_of (end_of a xs) ys
-end_append a [] ys = refl
-end_append a (x ∷ xs) ys = end_append (a + size_at x.statement a) xs ys
 
 words_length : (vs : List Value) → length (map Word vs) ≡ length vs
 words_length [] = refl
@@ -92,13 +87,6 @@ within_count xs zs h =
 -- ---- labels ----
 
 -- a label among names
-label_at : (name : Name) (p : ℕ) (ns : List Name) (rest : List Label) → label_place name (labels_at p ns ++ rest) ≡ (if is_among name ns then Some p else label_place name rest)
-label_at name p [] rest = refl
-label_at name p (n ∷ ns) rest = elim (cases_Bool (bytes_eq name n)) [
-  | inl h ↦ rw h refl
-  | inr h ↦ rw h (label_at name p ns rest)
-]
-
 has_at : (name : Name) (p : ℕ) (ns : List Name) (rest : List Label) → has_label name (labels_at p ns ++ rest) ≡ (if is_among name ns then true else has_label name rest)
 has_at name p [] rest = refl
 has_at name p (n ∷ ns) rest = elim (cases_Bool (bytes_eq name n)) [
@@ -145,7 +133,7 @@ label_cut name base p q (l ∷ ls) e = elim (cases_Bool (is_among name l.names))
       cut_later_on name base p q l ls t (label_cut name (base + size_at l.statement base) (p + length (places_in l.statement)) q ls later)
 ]
 
-no_address : (name : Name) (base p : ℕ) (all : List Line) → has_label name (labels_from p all) ≡ false → label_address name base all ≡ None
+pub no_address : (name : Name) (base p : ℕ) (all : List Line) → has_label name (labels_from p all) ≡ false → label_address name base all ≡ None
 no_address name base p [] e = refl
 no_address name base p (l ∷ ls) e = elim (cases_Bool (is_among name l.names)) [
   | inl t ↦ absurd (true≢false (sym (has_at name p l.names _ ∙ rw t refl) ∙ e))
@@ -215,12 +203,6 @@ of_labels names places (m ∷ ls) k w p e = elim (cases_Bool (is_code places m))
   | inl t ↦ first_label names places m ls w p t (λ n f. of_labels names places ls n w p f) k (rw t at e)
   | inr t ↦ further_label names places m ls w p (of_labels names places ls k w p (rw t at e))
 ]
-
--- what is in two lists, one behind the other, is in one of them
-either_part : (xs ys : List (ℕ × ℕ)) (k : ℕ) (x : ℕ × ℕ) → slice_get (xs ++ ys) k ≡ Some x → (slice_get xs k ≡ Some x) ⊎ ((j : ℕ) × (slice_get ys j ≡ Some x))
-either_part [] ys k x e = inr (k, e)
-either_part (z ∷ xs) ys zero x e = inl e
-either_part (z ∷ xs) ys (suc k) x e = either_part xs ys k x e
 
 last_call : (xs : List Place) (x : Place) → is_call x ≡ true → last_is_call (xs ++ x ∷ []) ≡ true
 last_call [] x h = h

@@ -1,5 +1,6 @@
 //! The laws. Each is the contract of a function that does nothing.
 
+ghost use Rattle.listing_laws.specs.Assembled.{AssembledListingsFit, AssembledImagesFollow};
 ghost use Rattle.listing_laws.specs.Fitting.{LaidNamingsFit};
 ghost use Rattle.listing_laws.specs.Limits.{TextsEndInCode};
 
@@ -11,4 +12,14 @@ pub fn texts_end_in_the_code_region()
 /// Where lines begin at even addresses, each name has one label and external names lie elsewhere, the lines' laid naming fits them.
 pub fn laid_namings_fit()
     ensures { LaidNamingsFit }
+{}
+
+/// The laid naming of an assembled listing fits it, where behind a call at its end no name is set that it uses.
+pub fn assembled_listings_fit()
+    ensures { AssembledListingsFit }
+{}
+
+/// So an assembled image's run meets its listing's, whatever the naming.
+pub fn assembled_images_follow()
+    ensures { AssembledImagesFollow }
 {}
