@@ -14,12 +14,12 @@ pub fn laid_namings_fit()
     ensures { LaidNamingsFit }
 {}
 
-/// The laid naming of an assembled listing fits it, where behind a call at its end no name is set that it uses.
+/// The laid naming of an assembled listing fits it, unless behind a call at its end a name is set that it mentions.
 pub fn assembled_listings_fit()
     ensures { AssembledListingsFit }
 {}
 
-/// So an assembled image's run meets its listing's, whatever the naming.
+/// So an assembled image's run meets its listing's, with nothing asked of a naming.
 pub fn assembled_images_follow()
     ensures { AssembledImagesFollow }
 {}
