@@ -1,17 +1,14 @@
--- How many bytes a text's lines may take: twice as many as it has, since a word of four takes two of it, and 255 a line, as alignments pad.
+-- How many bytes the lines of a listing may take: each twice as many as its text has, since a word of four takes two of it, or 255, as alignments pad.
 use Rattle.std.proofs.Common.{◌≡◌, inl, inr, ℕ, zero, suc, ◌+◌, ◌-◌, ◌*◌, ◌%◌, ◌^◌, ◌≤◌, ◌==◌, ◌&&◌, Bool, true, false, List, [], ◌∷◌, map, length, min, refl, ap, arith, ltb-false, Option, Some, None, Ok, option_map}
 use Rattle.std.specs.Prelude.{nat_lt, nat_le, if◌then◌else◌, codes, option_and_then}
 use Rattle.std.specs.Str.{bytes_eq}
-use Rattle.std.specs.List.{concat}
 use Rattle.std.proofs.lemmas.Bool.{cases_Bool, leb-true}
-use Rattle.std.proofs.lemmas.List.{length-append}
 use Rattle.std.proofs.lemmas.Nat.{mod_below}
 use Rattle.std.proofs.Math.Pow.{pow_mono}
-use Rattle.ascii_scan.specs.Lines.{Placed, placed, placed_from, lines_of, content_of}
+use Rattle.ascii_scan.specs.Lines.{Placed, placed, placed_from, lines_of}
 use Rattle.ascii_scan.specs.Names.{is_name_byte}
 use Rattle.ascii_scan.specs.Numeral.{numeral}
 use Rattle.ascii_scan.specs.Tokens.{Token, word, mark, front, rest, is_blank, tokens}
-use Rattle.ascii_scan.proofs.LineLemmas.{lines_join_whole}
 use Rattle.thumb_instr.specs.declared.instr.Instr.{Instr}
 use Rattle.thumb_instr.specs.declared.instr.Instr.TheVariants as instr
 use Rattle.thumb_syntax.specs.Operands.{is_name}
@@ -25,7 +22,7 @@ use Rattle.listing_parser.specs.Directives.{Unmarked, NextMarked, NameMarked, Sa
 use Rattle.listing_parser.specs.Grammar.{Bare, Read, labels_at_front, body, code, read_lines, said_of, bare}
 use Rattle.listing_parser.proofs.ReadingLemmas.{rest_short}
 use Rattle.listing_parser.proofs.PrintLemmas.{OfLine, of_checked, cut, none_read}
-use Rattle.listing_parser.proofs.FewLemmas.{tokens_short, labels_short, code_short, body_short, all_few}
+use Rattle.listing_parser.proofs.FewLemmas.{or_false, tokens_short, labels_short, code_short, body_short, all_few}
 use Rattle.listing_laws.specs.Limits.{TextsEndInCode}
 
 -- ---- the most that a statement takes ----
@@ -218,23 +215,17 @@ line_room l r o =
 
 -- ---- all lines ----
 
-content_short : (t : List ℕ) → length (content_of t) ≤ length t
-content_short [] = omega arith
-content_short (b ∷ bs) = elim (cases_Bool (b == 10)) [
-  | inl e ↦ rw e (omega arith)
-  | inr e ↦ rw e (omega (arith, content_short bs))
-]
-
-all_room : (n start : ℕ) (ts : List (List ℕ)) (rs : List Read) → read_lines (placed_from n start ts) ≡ Ok rs → rooms rs ≤ 2 * length (concat ts) + 255 * length rs
+all_room : (n start : ℕ) (ts : List (List ℕ)) (rs : List Read) → read_lines (placed_from n start ts) ≡ Ok rs → rooms rs ≤ 2303 * length rs
 all_room n start [] rs e = let none = none_read rs e in omega (arith, ap rooms none)
 all_room n start (t ∷ ts) rs e =
     let c = cut (placed n start t) (placed_from (n + 1) (start + length t) ts) rs e in
-    let here = line_room (placed n start t) c.first (of_checked (placed n start t) c.first c.checked).line in
+    let o = of_checked (placed n start t) c.first c.checked in
+    let bounds = or_false (nat_lt 65536 n) _ o.within in
+    let short = ltb-false 1024 _ bounds.1 in
+    let here = line_room (placed n start t) c.first o.line in
     let next = all_room (n + 1) (start + length t) ts c.others c.read in
-    let short : length (placed n start t).text ≤ length t = content_short t in
     let size = ap (λ (xs : List Read). length xs) c.is in
     let sum = ap rooms c.is in
-    let whole : length (concat (t ∷ ts)) ≡ length t + length (concat ts) = length-append t (concat ts) in
     omega arith
 
 end_room : (at : ℕ) (rs : List Read) (ls : List Line) → map (λ r. r.line) rs ≡ map bare ls → end_of at ls ≤ at + rooms rs
@@ -250,9 +241,8 @@ end_room at (r ∷ rs) (l ∷ ls) e =
     omega arith
 
 pub texts_end : TextsEndInCode
-texts_end base bytes lines h low short =
+texts_end base bytes lines h low =
     let taken = all_room 1 0 (lines_of bytes) h.reads h.are.read in
     let few = all_few 1 0 (lines_of bytes) h.reads h.are.read (omega arith) in
-    let joined = ap (λ (w : List ℕ). length w) (lines_join_whole bytes).0 in
     let ends = end_room base h.reads lines h.are.same in
     omega (arith, few.0)

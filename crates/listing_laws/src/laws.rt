@@ -4,7 +4,7 @@ ghost use Rattle.listing_laws.specs.Assembled.{AssembledListingsFit, AssembledIm
 ghost use Rattle.listing_laws.specs.Fitting.{LaidNamingsFit};
 ghost use Rattle.listing_laws.specs.Limits.{TextsEndInCode};
 
-/// A text's lines end before the Code region does, from a base in its lower half on: so no text within the limits is refused for want of that region.
+/// A listing's lines end before the Code region does, from a base in its lower half on: so none is refused there for want of that region.
 pub fn texts_end_in_the_code_region()
     ensures { TextsEndInCode }
 {}
