@@ -1,0 +1,4 @@
+pub mod Room
+pub mod Once
+pub mod Fitted
+pub mod Assembled

@@ -1,0 +1,23 @@
+-- The laid naming of an assembled listing fits it, and so its image's run is the listing's.
+use Rattle.std.specs.Prelude.{◌≡◌, ℕ, ◌+◌, ◌^◌, ◌<◌, ◌≤◌, true, List, Some}
+use Rattle.thumb_model.specs.Listing.{Name, Line, code_of, places_of, is_mentioned}
+use Rattle.thumb_model.specs.Layout.{end_of, set_address}
+use Rattle.thumb_model.specs.Naming.{Fits}
+use Rattle.thumb_model.specs.Laid.{laid, last_is_call}
+use Rattle.thumb_assembler.specs.Bytes.{IsSetBy}
+use Rattle.thumb_assembler.specs.Following.{IsAssembled, Follows}
+
+-- what stands for external names is what the lines set for them, and a word. Behind a call at the end the code goes on for two bytes: there no name that is mentioned is set
+pub record IsOutside (base : ℕ) (set : Name → ℕ) (lines : List Line) : Type 0 where
+  pub set_by : IsSetBy lines set
+  pub words : (n : Name) → set n < 2 ^ 32
+  pub behind : last_is_call (places_of lines) ≡ true → (n : Name) (address : ℕ) → is_mentioned n (places_of lines) ≡ true → set_address n lines ≡ Some address
+      → end_of base lines ≤ address → end_of base lines + 2 ≤ address
+
+-- its laid naming fits it
+abbrev pub AssembledListingsFit : Type 0
+AssembledListingsFit = (base : ℕ) (set : Name → ℕ) (lines : List Line) (bytes : List ℕ) → IsAssembled base lines bytes → IsOutside base set lines → Fits (laid base set lines) (code_of lines)
+
+-- and so its image's run meets its own
+abbrev pub AssembledImagesFollow : Type 0
+AssembledImagesFollow = (base : ℕ) (set : Name → ℕ) (lines : List Line) (bytes : List ℕ) → IsAssembled base lines bytes → IsOutside base set lines → Follows base set lines bytes lines
