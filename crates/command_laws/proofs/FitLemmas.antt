@@ -1,0 +1,170 @@
+-- Fit texts come to no refusal, but that a learnt table's text is too long.
+use Rattle.std.proofs.Common.{◌≡◌, ◌∙◌, ◌≤◌, ℕ, List, [], ◌∷◌, true≢false, refl, sym, subst, arith, Option, Some, None}
+use Rattle.std.specs.Prelude.{IsSome}
+use Rattle.thumb_model.specs.Listing.{Line, code_of, place_of}
+use Rattle.thumb_model.specs.Layout.{Layable}
+use Rattle.listing_parser.proofs.MadeLemmas.{one_listing}
+use Rattle.rule_table.specs.Table.{Table}
+use Rattle.rule_table.proofs.Progress.{one_table}
+use Rattle.table_audit.specs.Sides.{SidesFit}
+use Rattle.table_audit.specs.Soundness.{rules_of}
+use Rattle.table_learn.specs.Settings.{Settings}
+use Rattle.table_learn.specs.Learnt.{width_of}
+use Rattle.window_rewrite.specs.Rewriting.{setting}
+use Rattle.thumb_assembler.specs.Refusals.{first_flaw}
+use Rattle.command_line.specs.CommandLine.{Request, rewrite, audit, learn, export, trace, demo}
+use Rattle.command_runs.specs.Plans.{Outcome, Refuses, Does}
+use Rattle.audit_cli.specs.Printed.{refusal_line}
+use Rattle.audit_cli.specs.Rewrite.{Destination, Counts, Leaves, alone, pair, no_image, WantsNone, LinesRewrite, Rewrites, Comes}
+use Rattle.audit_cli.specs.Rewrite as rewriting
+use Rattle.audit_cli.specs.Steps.{IsAudited}
+use Rattle.audit_cli.specs.Tables.{Extract, entry_at}
+use Rattle.audit_cli.specs.Tables as tables
+use Rattle.audit_cli.specs.Learn.{Lesson}
+use Rattle.audit_cli.specs.Learn as learning
+use Rattle.audit_cli.specs.Trace.{Journey}
+use Rattle.audit_cli.specs.Trace as tracing
+use Rattle.audit_cli.specs.Demo as showing
+use Rattle.audit_cli.specs.Peep.{plan_of}
+use Rattle.command_laws.specs.Once.{IsLearning}
+use Rattle.audit_cli.specs.Complete.{TellsFull}
+use Rattle.command_laws.specs.Fit.{FitRewriting, FitExport, FitTrace, FitLearning, AreFit}
+use Rattle.command_laws.proofs.AddressLemmas.{still_flawless}
+use Rattle.audit_cli.proofs.DemoLemmas.{never_unaudited, none_some, never_without_image}
+use Rattle.command_laws.proofs.OnceLemmas.{Cause, never_unlisted, some_same, first_same, second_same, never_unread_listing, never_unlaid}
+
+-- it refuses
+IsRefusing : Outcome → Type 0
+IsRefusing (Refuses line) = Unit {0}
+IsRefusing (Does keeps lines) = ⊥
+
+-- ---- `rewrite` ----
+
+leaves_something : (to : Destination) (lines : List Line) (c : Counts) (o : Outcome) → ((WantsNone to → ⊥) → first_flaw to.base lines ≡ None) → Leaves to lines c o → IsRefusing o → ⊥
+unfolding IsRefusing
+leaves_something to lines c _ none (alone n) r = r
+leaves_something to lines c _ none (pair some bytes made) r = r
+leaves_something to lines c _ none (no_image some cause h) r = never_without_image to.base lines cause (none some) h
+
+lines_fit : (to : Destination) (t : Table) (given : List Line) (o : Outcome) → Layable to.base given → ((WantsNone to → ⊥) → first_flaw to.base given ≡ None) → LinesRewrite to t given o → IsRefusing o → ⊥
+lines_fit to t given _ laid none (rewriting.unlaid cause h) r = never_unlaid to.base given cause laid h
+lines_fit to t given _ laid none (rewriting.rewritten too o h) r =
+    leaves_something to h.lines _ o (λ some. still_flawless (setting to.base (rules_of t)) given h.replacements h.lines h.sound.sound h.rewritten (none some)) h.left r
+
+module _ (to : Destination) (texts : List (List ℕ)) (fit : FitRewriting to.image to.base texts) where
+  text_fit : (t : Table) (o : Outcome) → Rewrites to t fit.listing_text o → IsRefusing o → ⊥
+  text_fit t _ (rewriting.unread cause h) r = never_unread_listing fit.listing_text fit.given cause fit.is_listing h
+  text_fit t _ (rewriting.read lines is o h) r =
+      lines_fit to t fit.given o fit.layable fit.addresses (subst (λ (ls : List Line). LinesRewrite to t ls o) (one_listing fit.listing_text lines fit.given is fit.is_listing) h) r
+
+  table_fit : (o : Outcome) → Comes to fit.table_text fit.listing_text o → IsRefusing o → ⊥
+  table_fit _ (rewriting.unaudited cause h) r = never_unaudited fit.table_text fit.rules cause fit.is_table fit.accepted h
+  table_fit _ (rewriting.audited t is o h) r = text_fit t o h r
+
+  rewriting_fit : (o : Outcome) → rewriting.RewriteComesTo to texts o → IsRefusing o → ⊥
+  rewriting_fit o (table, listing, are, h) r =
+      let e : (let l : List (List ℕ) = table ∷ listing ∷ [] in l) ≡ fit.table_text ∷ fit.listing_text ∷ [] = sym are ∙ fit.are in
+      let first : table ≡ fit.table_text = first_same table fit.table_text (listing ∷ []) (fit.listing_text ∷ []) e in
+      let second : listing ≡ fit.listing_text = second_same table listing fit.table_text fit.listing_text [] [] e in
+      table_fit o (subst (λ (x : List ℕ × List ℕ). Comes to x.0 x.1 o) (λ i. (first i, second i)) h) r
+
+-- ---- of one text ----
+
+by_text : (P : List ℕ → Outcome → Type 0) (texts : List (List ℕ)) (text : List ℕ) (o : Outcome) → texts ≡ text ∷ [] → (t : List ℕ) × (texts ≡ t ∷ []) × P t o → P text o
+by_text P texts text o is (t, are, h) = let e : (let l : List (List ℕ) = t ∷ [] in l) ≡ text ∷ [] = sym are ∙ is in subst (λ (x : List ℕ). P x o) (first_same t text [] [] e) h
+
+audits_fit : (text : List ℕ) (t : Table) (o : Outcome) → IsAudited text t → tables.Audits text o → IsRefusing o → ⊥
+unfolding IsRefusing
+audits_fit text t _ is (tables.unaudited cause h) r = never_unaudited text t cause is.is is.accepted h
+audits_fit text t _ is (tables.accepted u are) r = r
+
+module _ (to : Extract) (texts : List (List ℕ)) (fit : FitExport to.entry texts) where
+  exports_fit : (o : Outcome) → tables.Exports to fit.text o → IsRefusing o → ⊥
+  unfolding IsRefusing
+  exports_fit _ (tables.refused cause h) r = never_unlisted fit.text fit.rules cause fit.is_table h
+  exports_fit _ (tables.absent t is none) r =
+      let same : t ≡ fit.rules = one_table fit.text t fit.rules is fit.is_table in
+      none_some (entry_at fit.rules.rules to.entry) fit.entry (subst (λ (u : Table). entry_at u.rules to.entry ≡ None) same none) fit.is_entry
+  exports_fit _ (tables.unfit t is e there not) r =
+      let same : t ≡ fit.rules = one_table fit.text t fit.rules is fit.is_table in
+      let at : entry_at fit.rules.rules to.entry ≡ Some e = subst (λ (u : Table). entry_at u.rules to.entry ≡ Some e) same there in
+      not (subst (λ (u : Table). SidesFit u e) (sym same) (subst (SidesFit fit.rules) (some_same fit.entry e (sym fit.is_entry ∙ at)) fit.fit))
+  exports_fit _ (tables.found t is e there so) r = r
+
+module _ (journey : Journey) (texts : List (List ℕ)) (fit : FitTrace journey.label texts) where
+  no_label : (o : Option ℕ) → IsSome o → o ≡ None → ⊥
+  no_label None s e = absurd (true≢false (sym s))
+  no_label (Some p) s e = absurd (let bad : Some p ≡ None = e in cc)
+
+  traces_lines : (o : Outcome) → tracing.LinesTrace journey fit.lines o → IsRefusing o → ⊥
+  unfolding IsRefusing
+  traces_lines _ (tracing.unlaid cause h) r = never_unlaid 0 fit.lines cause fit.layable h
+  traces_lines _ (tracing.unlabelled laid none) r = no_label (place_of (code_of fit.lines) journey.label) fit.labelled none
+  traces_lines _ (tracing.ran laid p at names is n s run) r = r
+
+  traces_fit : (o : Outcome) → tracing.Traces journey fit.text o → IsRefusing o → ⊥
+  traces_fit _ (tracing.unread cause h) r = never_unread_listing fit.text fit.lines cause fit.is_listing h
+  traces_fit _ (tracing.read lines is o h) r = traces_lines o (subst (λ (ls : List Line). tracing.LinesTrace journey ls o) (one_listing fit.text lines fit.lines is fit.is_listing) h) r
+
+-- ---- all that learn no table ----
+
+fit_unrefused : (r : Request) (texts : List (List ℕ)) (o : Outcome) → (IsLearning r → ⊥) → AreFit r texts → (plan_of r).comes texts o → IsRefusing o → ⊥
+fit_unrefused (rewrite table listing out image base) texts o plain fit h = rewriting_fit (record { out = out; image = image; base = base }) texts fit o h
+fit_unrefused (audit table) texts o plain fit h = audits_fit fit.text fit.rules o (record { is = fit.is_table; accepted = fit.accepted }) (by_text tables.Audits texts fit.text o fit.is_text h)
+fit_unrefused (learn listing out settings) texts o plain fit h = absurd (plain tt)
+fit_unrefused (export table entry cnf lrat) texts o plain fit h =
+    let to : Extract = record { entry = entry; cnf = cnf; lrat = lrat } in
+    exports_fit to texts fit o (by_text (tables.Exports to) texts fit.text o fit.is_text h)
+fit_unrefused (trace listing label steps) texts o plain fit h =
+    let journey : Journey = record { label = label; most = steps } in
+    traces_fit journey texts fit o (by_text (tracing.Traces journey) texts fit.text o fit.is_text h)
+fit_unrefused (demo windows) texts o plain fit h = absurd (plain tt)
+
+pub never_refuses : (r : Request) (texts : List (List ℕ)) (line : List ℕ) → (IsLearning r → ⊥) → AreFit r texts → (plan_of r).comes texts (Refuses line) → ⊥
+unfolding IsRefusing
+never_refuses r texts line plain fit h = fit_unrefused r texts (Refuses line) plain fit h tt
+
+-- ---- where a table is learnt ----
+
+-- a refusal is that of a text that is too long
+TellsFullIf : Outcome → Type 0
+TellsFullIf (Refuses line) = TellsFull line
+TellsFullIf (Does keeps lines) = Unit {0}
+
+none_so : (o : Outcome) → (IsRefusing o → ⊥) → TellsFullIf o
+unfolding IsRefusing TellsFullIf
+none_so (Refuses line) h = absurd (h tt)
+none_so (Does keeps lines) h = tt
+
+unlearnt_full : (s : Settings) (lines : List Line) (cause : Cause) → width_of s ≤ 5000000 → learning.IsUnlearnt s lines cause → TellsFull (refusal_line cause)
+unlearnt_full s lines _ narrow (learning.too_wide wide) = absurd (omega (arith, narrow, wide))
+unlearnt_full s lines _ narrow (learning.too_long windows are t bytes full) = (bytes, refl)
+
+module _ (to : Lesson) (texts : List (List ℕ)) (fit : FitLearning to.settings texts) where
+  learns_lines : (o : Outcome) → learning.LinesLearn to fit.lines o → TellsFullIf o
+  unfolding TellsFullIf
+  learns_lines _ (learning.unlearnt cause h) = unlearnt_full to.settings fit.lines cause fit.narrow h
+  learns_lines _ (learning.learnt t h) = tt
+
+  learns_fit : (o : Outcome) → learning.Learns to fit.text o → TellsFullIf o
+  learns_fit _ (learning.unread cause h) = absurd (never_unread_listing fit.text fit.lines cause fit.is_listing h)
+  learns_fit _ (learning.read lines is o h) = learns_lines o (subst (λ (ls : List Line). learning.LinesLearn to ls o) (one_listing fit.text lines fit.lines is fit.is_listing) h)
+
+shows_full : (n : ℕ) (o : Outcome) → showing.DemoComesTo n o → TellsFullIf o
+unfolding TellsFullIf
+shows_full n _ (showing.shown told h) = tt
+shows_full n _ (showing.too_long lines is windows are t bytes full) = (bytes, refl)
+
+tells_full : (r : Request) (texts : List (List ℕ)) (o : Outcome) → AreFit r texts → (plan_of r).comes texts o → TellsFullIf o
+tells_full (rewrite table listing out image base) texts o fit h = none_so o (fit_unrefused (rewrite table listing out image base) texts o (λ x. x) fit h)
+tells_full (audit table) texts o fit h = none_so o (fit_unrefused (audit table) texts o (λ x. x) fit h)
+tells_full (export table entry cnf lrat) texts o fit h = none_so o (fit_unrefused (export table entry cnf lrat) texts o (λ x. x) fit h)
+tells_full (trace listing label steps) texts o fit h = none_so o (fit_unrefused (trace listing label steps) texts o (λ x. x) fit h)
+tells_full (learn listing out s) texts o fit h =
+    let to : Lesson = record { out = out; settings = record { regs = s.regs; left = s.left; budget = s.budget; seed = s.seed; pool = s.pool } } in
+    learns_fit to texts fit o (by_text (learning.Learns to) texts fit.text o fit.is_text h)
+tells_full (demo windows) texts o fit h = shows_full windows o h
+
+pub fit_full : (r : Request) (texts : List (List ℕ)) (line : List ℕ) → AreFit r texts → (plan_of r).comes texts (Refuses line) → TellsFull line
+unfolding TellsFullIf
+fit_full r texts line fit h = tells_full r texts (Refuses line) fit h

@@ -1,0 +1,7 @@
+pub mod ImageLemmas
+pub mod OnceLemmas
+pub mod TraceOnceLemmas
+pub mod OutcomeLemmas
+pub mod AddressLemmas
+pub mod FitLemmas
+pub mod CarriedLemmas

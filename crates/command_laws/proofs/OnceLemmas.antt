@@ -1,0 +1,267 @@
+-- Why texts come to one outcome: tables, listings, layouts, rewritings and images are each determined, and so is the first cause by which one is refused.
+use Rattle.std.proofs.Common.{◌≡◌, ◌∙◌, ◌≤◌, ◌<◌, ◌⊎◌, inl, inr, ℕ, List, [], ◌∷◌, ◌++◌, length, refl, sym, ap, subst, arith, Option, Some, None}
+use Rattle.std.specs.Prelude.{nat_le, unwrap_or}
+use Rattle.std.proofs.lemmas.Bool.{cases_Bool, leb-true, leb-false}
+use Rattle.thumb_model.specs.Listing.{Line}
+use Rattle.thumb_model.specs.Layout.{Fault, Layable}
+use Rattle.thumb_model.specs.Rewritten.{Replacement}
+use Rattle.thumb_model.proofs.Unique.{is_determined}
+use Rattle.listing_parser.specs.Parsing.{IsListing, text_of_lines}
+use Rattle.listing_parser.proofs.MadeLemmas.{one_listing}
+use Rattle.listing_parser.proofs.VerdictLemmas.{one_verdict}
+use Rattle.label_layout.specs.Faults.{first_fault}
+use Rattle.rule_table.specs.Table.{Rule, Table}
+use Rattle.rule_table.specs.Refused.{IsText}
+use Rattle.rule_table.proofs.Progress.{one_table, refused_once, not_both}
+use Rattle.table_audit.specs.declared.errors.AuditError.{AuditError}
+use Rattle.table_audit.specs.declared.errors.AuditError.TheVariants as audit
+use Rattle.table_audit.specs.Acceptance.{TableVerdict}
+use Rattle.table_audit.specs.Sides.{SidesFit, formula_of}
+use Rattle.table_audit.specs.Soundness.{rules_of}
+use Rattle.table_audit.proofs.Determined.{table_same}
+use Rattle.table_audit.specs.Shorter.{sequences_below}
+use Rattle.table_learn.specs.Settings.{Settings, Window}
+use Rattle.table_learn.specs.Learnt.{Learnt, width_of}
+use Rattle.window_rewrite.specs.Rewriting.{setting}
+use Rattle.thumb_assembler.specs.Refusals.{first_flaw}
+use Rattle.command_runs.specs.Plans.{Outcome, Refuses, Does}
+use Rattle.audit_cli.specs.Printed.{refusal_line, unlaid_refusal, report_of, image_line, entries_line}
+use Rattle.audit_cli.specs.Steps.{IsUnlisted, unlisted, IsUnaudited, no_table, other_state, too_wide, bad_entry, IsUnread, unread, IsUnlaid, unlaid, HasNoImage, no_address, inside, IsAudited}
+use Rattle.audit_cli.specs.Rewrite.{Destination, Counts, Leaves, alone, pair, no_image, IsRewriting, instruction_count}
+use Rattle.audit_cli.specs.Rewrite as rewriting
+use Rattle.audit_cli.specs.Tables.{Extract, entry_at, extracted}
+use Rattle.audit_cli.specs.Tables as tables
+use Rattle.audit_cli.specs.Learn.{Lesson, IsUnlearnt, LinesLearn, Learns, LearnComesTo}
+use Rattle.audit_cli.specs.Learn as learning
+use Rattle.command_laws.specs.Once.{IsOne, AreOfOneListing, LearningIsOneButForTables}
+use Rattle.audit_cli.proofs.DemoLemmas.{never_unaudited, none_some, never_without_image}
+use Rattle.command_laws.proofs.ImageLemmas.{image_once}
+
+-- what a family goes over; a cause of refusal has no name outside its crate
+abbrev pub Domain : {A : Type 0} → (A → Type 0) → Type 0
+Domain {A} P = A
+
+abbrev pub Cause : Type 0
+Cause = Domain (IsUnlisted [])
+
+pub some_same : {A : Type 0} (a b : A) → Some a ≡ Some b → a ≡ b
+some_same {A} a b e = ap (λ (o : Option A). unwrap_or o a) e
+
+pub refuses_same : (r s : Cause) → r ≡ s → Refuses (refusal_line r) ≡ Refuses (refusal_line s)
+refuses_same r s e = ap (λ (x : Cause). Refuses (refusal_line x)) e
+
+-- ---- tables ----
+
+unlisted_once : (text : List ℕ) (r s : Cause) → IsUnlisted text r → IsUnlisted text s → r ≡ s
+unlisted_once text _ _ (unlisted n h) (unlisted m k) = let same : n ≡ m = refused_once text n m h k in cc
+
+pub never_unlisted : (text : List ℕ) (t : Table) (r : Cause) → IsText text t → IsUnlisted text r → ⊥
+never_unlisted text t _ is (unlisted line h) = not_both text t line is h
+
+-- a text has one table, and that one verdict
+errors_same : (text : List ℕ) (t u : Table) (e f : AuditError) → IsText text t → IsText text u → TableVerdict t (Some e) → TableVerdict u (Some f) → e ≡ f
+errors_same text t u e f is are v w = some_same e f (table_same t (Some e) (Some f) v (subst (λ (x : Table). TableVerdict x (Some f)) (one_table text u t are is) w))
+
+unaudited_once : (text : List ℕ) (r s : Cause) → IsUnaudited text r → IsUnaudited text s → r ≡ s
+unaudited_once text _ _ (no_table r h) (no_table s k) = unlisted_once text r s h k
+unaudited_once text _ _ (no_table r h) (other_state t is place v) = absurd (never_unlisted text t r is h)
+unaudited_once text _ _ (no_table r h) (too_wide t is count v) = absurd (never_unlisted text t r is h)
+unaudited_once text _ _ (no_table r h) (bad_entry t is number k v) = absurd (never_unlisted text t r is h)
+unaudited_once text _ _ (other_state t is place v) (no_table s k) = absurd (never_unlisted text t s is k)
+unaudited_once text _ _ (too_wide t is count v) (no_table s k) = absurd (never_unlisted text t s is k)
+unaudited_once text _ _ (bad_entry t is number h v) (no_table s k) = absurd (never_unlisted text t s is k)
+unaudited_once text _ _ (other_state t is p v) (other_state u are q w) = let e : audit.States p ≡ audit.States q = errors_same text t u _ _ is are v w in cc
+unaudited_once text _ _ (other_state t is p v) (too_wide u are q w) = absurd (let e : audit.States p ≡ audit.Wide q = errors_same text t u _ _ is are v w in cc)
+unaudited_once text _ _ (other_state t is p v) (bad_entry u are q k w) = absurd (let e : audit.States p ≡ audit.Entry q k = errors_same text t u _ _ is are v w in cc)
+unaudited_once text _ _ (too_wide t is p v) (other_state u are q w) = absurd (let e : audit.Wide p ≡ audit.States q = errors_same text t u _ _ is are v w in cc)
+unaudited_once text _ _ (too_wide t is p v) (too_wide u are q w) = let e : audit.Wide p ≡ audit.Wide q = errors_same text t u _ _ is are v w in cc
+unaudited_once text _ _ (too_wide t is p v) (bad_entry u are q k w) = absurd (let e : audit.Wide p ≡ audit.Entry q k = errors_same text t u _ _ is are v w in cc)
+unaudited_once text _ _ (bad_entry t is p h v) (other_state u are q w) = absurd (let e : audit.Entry p h ≡ audit.States q = errors_same text t u _ _ is are v w in cc)
+unaudited_once text _ _ (bad_entry t is p h v) (too_wide u are q w) = absurd (let e : audit.Entry p h ≡ audit.Wide q = errors_same text t u _ _ is are v w in cc)
+unaudited_once text _ _ (bad_entry t is p h v) (bad_entry u are q k w) = let e : audit.Entry p h ≡ audit.Entry q k = errors_same text t u _ _ is are v w in cc
+
+pub one_audited : (text : List ℕ) (t u : Table) → IsAudited text t → IsAudited text u → u ≡ t
+one_audited text t u h k = one_table text u t k.is h.is
+
+-- ---- listings ----
+
+pub unread_once : (text : List ℕ) (r s : Cause) → IsUnread text r → IsUnread text s → r ≡ s
+unread_once text _ _ (unread n k h) (unread m j g) = let both = one_verdict.refused_once text n m k j h g in let line : n ≡ m = both.0 in let kind : k ≡ j = both.1 in cc
+
+pub never_unread_listing : (text : List ℕ) (lines : List Line) (r : Cause) → IsListing text lines → IsUnread text r → ⊥
+never_unread_listing text lines _ is (unread n k h) = one_verdict.not_both text lines n k is h
+
+pub unlaid_once : (base : ℕ) (lines : List Line) (r s : Cause) → IsUnlaid base lines r → IsUnlaid base lines s → r ≡ s
+unlaid_once base lines _ _ (unlaid n f h) (unlaid m g k) = ap (λ (x : ℕ × Fault). unlaid_refusal x.0 x.1) (let both : Some (n, f) ≡ Some (m, g) = sym h ∙ k in some_same (n, f) (m, g) both)
+
+pub never_unlaid : (base : ℕ) (lines : List Line) (r : Cause) → Layable base lines → IsUnlaid base lines r → ⊥
+never_unlaid base lines _ laid (unlaid n f h) = none_some (first_fault base lines) (n, f) laid h
+
+-- ---- images ----
+
+numbers_same : {A : Type 0} (o : Option (ℕ × A)) (n m : ℕ) (f g : A) → o ≡ Some (n, f) → o ≡ Some (m, g) → n ≡ m
+numbers_same {A} o n m f g h k = ap (λ (x : ℕ × A). x.0) (some_same (n, f) (m, g) (sym h ∙ k))
+
+flaws_same : {A : Type 0} (o : Option (ℕ × A)) (n m : ℕ) (f g : A) → o ≡ Some (n, f) → o ≡ Some (m, g) → f ≡ g
+flaws_same {A} o n m f g h k = ap (λ (x : ℕ × A). x.1) (some_same (n, f) (m, g) (sym h ∙ k))
+
+without_image_once : (base : ℕ) (lines : List Line) (r s : Cause) → HasNoImage base lines r → HasNoImage base lines s → r ≡ s
+without_image_once base lines _ _ (no_address n h) (no_address m k) = let same : n ≡ m = numbers_same (first_flaw base lines) n m _ _ h k in cc
+without_image_once base lines _ _ (no_address n h) (inside m k) = absurd (let bad = flaws_same (first_flaw base lines) n m _ _ h k in cc)
+without_image_once base lines _ _ (inside n h) (no_address m k) = absurd (let bad = flaws_same (first_flaw base lines) n m _ _ h k in cc)
+without_image_once base lines _ _ (inside n h) (inside m k) = let same : n ≡ m = numbers_same (first_flaw base lines) n m _ _ h k in cc
+
+-- ---- `rewrite` ----
+
+leaves_once : (to : Destination) (lines : List Line) (c : Counts) (o p : Outcome) → Leaves to lines c o → Leaves to lines c p → o ≡ p
+leaves_once to lines c _ _ (alone n) (alone m) = refl
+leaves_once to lines c _ _ (alone n) (pair some bytes made) = absurd (some n)
+leaves_once to lines c _ _ (alone n) (no_image some r h) = absurd (some n)
+leaves_once to lines c _ _ (pair some bytes made) (alone n) = absurd (some n)
+leaves_once to lines c _ _ (pair some bytes made) (pair other others too) =
+    ap (λ (bs : List ℕ). Does ((to.out, text_of_lines lines) ∷ (to.image, bs) ∷ []) (report_of c.replaced c.before c.after ++ image_line (length bs))) (image_once to.base lines bytes others made.image too.image)
+leaves_once to lines c _ _ (pair some bytes made) (no_image other r h) = absurd (never_without_image to.base lines r made.sound h)
+leaves_once to lines c _ _ (no_image some r h) (alone n) = absurd (some n)
+leaves_once to lines c _ _ (no_image some r h) (pair other bytes made) = absurd (never_without_image to.base lines r made.sound h)
+leaves_once to lines c _ _ (no_image some r h) (no_image other s k) = refuses_same r s (without_image_once to.base lines r s h k)
+
+rewriting_once : (to : Destination) (t : Table) (given : List Line) (o p : Outcome) → IsRewriting to t given o → IsRewriting to t given p → o ≡ p
+rewriting_once to t given o p h k =
+    let d = is_determined (setting to.base (rules_of t)) given h.sound.sound h.replacements k.replacements h.lines k.lines h.rewritten k.rewritten in
+    let replacements : k.replacements ≡ h.replacements = sym d.0 in
+    let lines : k.lines ≡ h.lines = sym d.1 in
+    let left : Leaves to h.lines (record { replaced = length h.replacements; before = instruction_count given; after = instruction_count h.lines }) p =
+    subst (λ (x : List Replacement × List Line). Leaves to x.1 (record { replaced = length x.0; before = instruction_count given; after = instruction_count x.1 }) p) (λ i. (replacements i, lines i)) k.left in
+    leaves_once to h.lines _ o p h.left left
+
+lines_rewrite_once : (to : Destination) (t : Table) (given : List Line) (o p : Outcome) → rewriting.LinesRewrite to t given o → rewriting.LinesRewrite to t given p → o ≡ p
+lines_rewrite_once to t given _ _ (rewriting.unlaid r h) (rewriting.unlaid s k) = refuses_same r s (unlaid_once to.base given r s h k)
+lines_rewrite_once to t given _ p (rewriting.unlaid r h) (rewriting.rewritten layable p' k) = absurd (never_unlaid to.base given r layable h)
+lines_rewrite_once to t given o _ (rewriting.rewritten layable o' h) (rewriting.unlaid s k) = absurd (never_unlaid to.base given s layable k)
+lines_rewrite_once to t given _ _ (rewriting.rewritten layable o h) (rewriting.rewritten other p k) = rewriting_once to t given o p h k
+
+rewrites_once : (to : Destination) (t : Table) (text : List ℕ) (o p : Outcome) → rewriting.Rewrites to t text o → rewriting.Rewrites to t text p → o ≡ p
+rewrites_once to t text _ _ (rewriting.unread r h) (rewriting.unread s k) = refuses_same r s (unread_once text r s h k)
+rewrites_once to t text _ _ (rewriting.unread r h) (rewriting.read lines is p k) = absurd (never_unread_listing text lines r is h)
+rewrites_once to t text _ _ (rewriting.read lines is o h) (rewriting.unread s k) = absurd (never_unread_listing text lines s is k)
+rewrites_once to t text _ _ (rewriting.read lines is o h) (rewriting.read others are p k) =
+    lines_rewrite_once to t lines o p h (subst (λ (ls : List Line). rewriting.LinesRewrite to t ls p) (one_listing text others lines are is) k)
+
+comes_once : (to : Destination) (table listing : List ℕ) (o p : Outcome) → rewriting.Comes to table listing o → rewriting.Comes to table listing p → o ≡ p
+comes_once to table listing _ _ (rewriting.unaudited r h) (rewriting.unaudited s k) = refuses_same r s (unaudited_once table r s h k)
+comes_once to table listing _ _ (rewriting.unaudited r h) (rewriting.audited t is p k) = absurd (never_unaudited table t r is.is is.accepted h)
+comes_once to table listing _ _ (rewriting.audited t is o h) (rewriting.unaudited s k) = absurd (never_unaudited table t s is.is is.accepted k)
+comes_once to table listing _ _ (rewriting.audited t is o h) (rewriting.audited u are p k) =
+    rewrites_once to t listing o p h (subst (λ (x : Table). rewriting.Rewrites to x listing p) (one_audited table t u is are) k)
+
+-- ---- one text or two ----
+
+pub first_same : (a b : List ℕ) (xs ys : List (List ℕ)) → (let l : List (List ℕ) = a ∷ xs in l) ≡ b ∷ ys → a ≡ b
+first_same a b xs ys e = ap (λ (l : List (List ℕ)). first l) e where
+  first : List (List ℕ) → List ℕ
+  first [] = a
+  first (x ∷ rest) = x
+
+pub second_same : (a b c d : List ℕ) (xs ys : List (List ℕ)) → (let l : List (List ℕ) = a ∷ b ∷ xs in l) ≡ c ∷ d ∷ ys → b ≡ d
+second_same a b c d xs ys e = ap (λ (l : List (List ℕ)). second l) e where
+  second : List (List ℕ) → List ℕ
+  second [] = b
+  second (x ∷ []) = b
+  second (x ∷ (y ∷ rest)) = y
+
+-- what one text comes to once, texts come to once
+pub one_text : (Comes : List ℕ → Outcome → Type 0) → ((text : List ℕ) (o p : Outcome) → Comes text o → Comes text p → o ≡ p) → IsOne (λ texts o. (text : List ℕ) × (texts ≡ text ∷ []) × Comes text o)
+one_text Comes once texts o p (text, is, h) (other, are, k) =
+    let same : other ≡ text = first_same other text [] [] (sym are ∙ is) in
+    once text o p h (subst (λ (t : List ℕ). Comes t p) same k)
+
+pub rewrite_once : (to : Destination) → IsOne (rewriting.RewriteComesTo to)
+rewrite_once to texts o p (table, listing, is, h) (other, another, are, k) =
+    let e : (let l : List (List ℕ) = other ∷ another ∷ [] in l) ≡ table ∷ listing ∷ [] = sym are ∙ is in
+    let first : other ≡ table = first_same other table (another ∷ []) (listing ∷ []) e in
+    let second : another ≡ listing = second_same other another table listing [] [] e in
+    comes_once to table listing o p h (subst (λ (x : List ℕ × List ℕ). rewriting.Comes to x.0 x.1 p) (λ i. (first i, second i)) k)
+
+-- ---- `audit` and `export` ----
+
+audits_once : (text : List ℕ) (o p : Outcome) → tables.Audits text o → tables.Audits text p → o ≡ p
+audits_once text _ _ (tables.unaudited r h) (tables.unaudited s k) = refuses_same r s (unaudited_once text r s h k)
+audits_once text _ _ (tables.unaudited r h) (tables.accepted t is) = absurd (never_unaudited text t r is.is is.accepted h)
+audits_once text _ _ (tables.accepted t is) (tables.unaudited s k) = absurd (never_unaudited text t s is.is is.accepted k)
+audits_once text _ _ (tables.accepted t is) (tables.accepted u are) = ap (λ (x : Table). Does [] (entries_line (length x.rules) (tables.opens_of x))) (sym (one_audited text t u is are))
+
+pub audit_once : IsOne tables.AuditComesTo
+audit_once = one_text tables.Audits audits_once
+
+-- a text's table has one entry of a number
+entries_same : (to : Extract) (text : List ℕ) (t u : Table) (o p : Option Rule) → IsText text t → IsText text u → entry_at t.rules to.entry ≡ o → entry_at u.rules to.entry ≡ p → o ≡ p
+entries_same to text t u o p is are h k = sym h ∙ (ap (λ (x : Table). entry_at x.rules to.entry) (one_table text t u is are) ∙ k)
+
+no_entry : (e : Rule) → None ≡ Some e → ⊥
+no_entry e h = none_some None e refl h
+
+fit_same : (to : Extract) (text : List ℕ) (t u : Table) (e f : Rule) → IsText text t → IsText text u → entry_at t.rules to.entry ≡ Some e → entry_at u.rules to.entry ≡ Some f → SidesFit t e → SidesFit u f
+fit_same to text t u e f is are h k fit =
+    let tables : t ≡ u = one_table text t u is are in
+    let entries : e ≡ f = some_same e f (entries_same to text t u (Some e) (Some f) is are h k) in
+    subst (λ (x : Table × Rule). SidesFit x.0 x.1) (λ i. (tables i, entries i)) fit
+
+exports_once : (to : Extract) (text : List ℕ) (o p : Outcome) → tables.Exports to text o → tables.Exports to text p → o ≡ p
+exports_once to text _ _ (tables.refused r h) (tables.refused s k) = refuses_same r s (unlisted_once text r s h k)
+exports_once to text _ _ (tables.refused r h) (tables.absent t is k) = absurd (never_unlisted text t r is h)
+exports_once to text _ _ (tables.refused r h) (tables.unfit t is e k v) = absurd (never_unlisted text t r is h)
+exports_once to text _ _ (tables.refused r h) (tables.found t is e k v) = absurd (never_unlisted text t r is h)
+exports_once to text _ _ (tables.absent t is h) (tables.refused s k) = absurd (never_unlisted text t s is k)
+exports_once to text _ _ (tables.unfit t is e h v) (tables.refused s k) = absurd (never_unlisted text t s is k)
+exports_once to text _ _ (tables.found t is e h v) (tables.refused s k) = absurd (never_unlisted text t s is k)
+exports_once to text _ _ (tables.absent t is h) (tables.absent u are k) = refl
+exports_once to text _ _ (tables.absent t is h) (tables.unfit u are f k w) = absurd (no_entry f (entries_same to text t u None (Some f) is are h k))
+exports_once to text _ _ (tables.absent t is h) (tables.found u are f k w) = absurd (no_entry f (entries_same to text t u None (Some f) is are h k))
+exports_once to text _ _ (tables.unfit t is e h v) (tables.absent u are k) = absurd (no_entry e (entries_same to text u t None (Some e) are is k h))
+exports_once to text _ _ (tables.found t is e h v) (tables.absent u are k) = absurd (no_entry e (entries_same to text u t None (Some e) are is k h))
+exports_once to text _ _ (tables.unfit t is e h v) (tables.unfit u are f k w) = refl
+exports_once to text _ _ (tables.unfit t is e h v) (tables.found u are f k w) = absurd (v (fit_same to text u t f e are is k h w))
+exports_once to text _ _ (tables.found t is e h v) (tables.unfit u are f k w) = absurd (w (fit_same to text t u e f is are h k v))
+exports_once to text _ _ (tables.found t is e h v) (tables.found u are f k w) =
+    ap (λ (x : Rule). extracted to x (formula_of x)) (some_same e f (entries_same to text t u (Some e) (Some f) is are h k))
+
+pub export_once : (to : Extract) → IsOne (tables.ExportComesTo to)
+export_once to = one_text (tables.Exports to) (exports_once to)
+
+-- ---- `learn` ----
+
+-- the audit accepts no table with more sequences
+narrow_learnt : (s : Settings) (windows : List Window) (t : Table) → Learnt s windows t → width_of s ≤ 5000000
+narrow_learnt s windows t h =
+    let width : length (sequences_below t.regs t.pool t.left) ≤ 5000000 = h.accepted.1.0 in
+    subst (λ (n : ℕ). n ≤ 5000000) (λ i. length (sequences_below (h.regs i) (h.pool i) (h.left i))) width
+
+-- with many sequences lines are refused for that
+wide_causes : (s : Settings) (lines : List Line) (r q : Cause) → 5000000 < width_of s → IsUnlearnt s lines r → IsUnlearnt s lines q → r ≡ q
+wide_causes s lines _ _ many (learning.too_wide w) (learning.too_wide v) = refl
+wide_causes s lines _ q many (learning.too_long windows are t bytes full) k = absurd (let few = narrow_learnt s _ t full.learnt in omega (arith, few, many))
+wide_causes s lines r _ many h (learning.too_long windows are t bytes full) = absurd (let few = narrow_learnt s _ t full.learnt in omega (arith, few, many))
+
+wide : (to : Lesson) (lines : List Line) (o p : Outcome) → 5000000 < width_of to.settings → LinesLearn to lines o → LinesLearn to lines p → o ≡ p
+wide to lines _ _ many (learning.unlearnt r h) (learning.unlearnt s k) = refuses_same r s (wide_causes to.settings lines r s many h k)
+wide to lines _ p many (learning.learnt t h) k = absurd (let few = narrow_learnt to.settings h.windows t h.learnt in omega (arith, few, many))
+wide to lines o _ many h (learning.learnt t k) = absurd (let few = narrow_learnt to.settings k.windows t k.learnt in omega (arith, few, many))
+
+lines_learn_once : (to : Lesson) (texts : List (List ℕ)) (text : List ℕ) (lines : List Line) (o p : Outcome) → texts ≡ text ∷ [] → IsListing text lines → LinesLearn to lines o → LinesLearn to lines p
+    → (o ≡ p) ⊎ AreOfOneListing to texts o p
+lines_learn_once to texts text lines o p are is h k = elim (cases_Bool (nat_le (width_of to.settings) 5000000)) [
+  | inl few ↦ inr (record { text = text; is_text = are; lines = lines; listing = is; narrow = leb-true (width_of to.settings) 5000000 few; first = h; second = k })
+  | inr many ↦ inl (let w = leb-false (width_of to.settings) 5000000 many in wide to lines o p w h k)
+]
+
+learns_once : (to : Lesson) (texts : List (List ℕ)) (text : List ℕ) (o p : Outcome) → texts ≡ text ∷ [] → Learns to text o → Learns to text p → (o ≡ p) ⊎ AreOfOneListing to texts o p
+learns_once to texts text _ _ are (learning.unread r h) (learning.unread s k) = inl (refuses_same r s (unread_once text r s h k))
+learns_once to texts text _ _ are (learning.unread r h) (learning.read lines is p k) = absurd (never_unread_listing text lines r is h)
+learns_once to texts text _ _ are (learning.read lines is o h) (learning.unread s k) = absurd (never_unread_listing text lines s is k)
+learns_once to texts text _ _ are (learning.read lines is o h) (learning.read others js p k) =
+    lines_learn_once to texts text lines o p are is h (subst (λ (ls : List Line). LinesLearn to ls p) (one_listing text others lines js is) k)
+
+pub learning_once : LearningIsOneButForTables
+learning_once to texts o p (text, is, h) (other, are, k) =
+    let same : other ≡ text = first_same other text [] [] (sym are ∙ is) in
+    learns_once to texts text o p is h (subst (λ (t : List ℕ). Learns to t p) same k)

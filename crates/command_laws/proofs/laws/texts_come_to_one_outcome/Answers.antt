@@ -1,0 +1,9 @@
+use Rattle.command_laws.proofs.OnceLemmas.{learning_once}
+use Rattle.command_laws.proofs.OutcomeLemmas.{come_to_one}
+use Rattle.command_laws.proofs.laws.texts_come_to_one_outcome.Goals as goal
+
+pub returns-clause-one : goal.returns-clause-one
+returns-clause-one c = come_to_one
+
+pub returns-clause-learning : goal.returns-clause-learning
+returns-clause-learning c = learning_once

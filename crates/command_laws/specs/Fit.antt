@@ -1,0 +1,102 @@
+-- Fit texts are carried out: what a text must be that nothing in it stands in the way of a command.
+use Rattle.std.specs.Prelude.{◌≡◌, ◌≤◌, ℕ, All, List, [], ◌∷◌, ◌++◌, Some, None, IsSome, codes}
+use Rattle.std.specs.Str.{IsUtf8}
+use Rattle.thumb_model.specs.Listing.{Line, code_of, place_of}
+use Rattle.thumb_model.specs.Layout.{Layable}
+use Rattle.listing_parser.specs.Parsing.{IsListing}
+use Rattle.rule_table.specs.Table.{Rule, Table}
+use Rattle.rule_table.specs.Refused.{IsText as IsTableText}
+use Rattle.table_audit.specs.Acceptance.{IsAccepted}
+use Rattle.table_audit.specs.Sides.{SidesFit}
+use Rattle.table_learn.specs.Settings.{Settings}
+use Rattle.table_learn.specs.Learnt.{width_of}
+use Rattle.thumb_assembler.specs.Refusals.{first_flaw}
+use Rattle.command_line.specs.CommandLine.{Request, rewrite, audit, learn, export, trace, demo, AskFor}
+use Rattle.outer_store.specs.Outside.{Event, Seen, Sunk}
+use Rattle.command_runs.specs.declared.status.Status.{Status}
+use Rattle.command_runs.specs.Plans.{AreTexts, fetchings}
+use Rattle.audit_cli.specs.Tables.{entry_at}
+use Rattle.audit_cli.specs.Peep.{plan_of, Peeps}
+use Rattle.audit_cli.specs.Complete.{IsUnhindered, IsCarriedOut, IsCarriedOutOrFull}
+use Rattle.command_laws.specs.Once.{IsLearning}
+
+-- ---- what is fit ----
+
+-- an accepted table, and a well-formed listing that can be laid out, where an image is asked for with an address for each external name and none in the image
+pub record FitRewriting (image : List ℕ) (base : ℕ) (texts : List (List ℕ)) : Type 0 where
+  pub table_text : List ℕ
+  pub listing_text : List ℕ
+  pub are : texts ≡ table_text ∷ listing_text ∷ []
+  pub rules : Table
+  pub is_table : IsTableText table_text rules
+  pub accepted : IsAccepted rules
+  pub given : List Line
+  pub is_listing : IsListing listing_text given
+  pub layable : Layable base given
+  -- each name that `b`, `bl` or `.word` mentions has a label or an address that a line sets, and no address that is set lies in the image
+  pub addresses : (image ≡ codes "-" → ⊥) → first_flaw base given ≡ None
+
+-- an accepted table
+pub record FitAudit (texts : List (List ℕ)) : Type 0 where
+  pub text : List ℕ
+  pub is_text : texts ≡ text ∷ []
+  pub rules : Table
+  pub is_table : IsTableText text rules
+  pub accepted : IsAccepted rules
+
+-- a table with an entry of this number, whose sides are what its header allows
+pub record FitExport (number : ℕ) (texts : List (List ℕ)) : Type 0 where
+  pub text : List ℕ
+  pub is_text : texts ≡ text ∷ []
+  pub rules : Table
+  pub is_table : IsTableText text rules
+  pub entry : Rule
+  pub is_entry : entry_at rules.rules number ≡ Some entry
+  pub fit : SidesFit rules entry
+
+-- a well-formed listing that can be laid out from 0 on, with this code label
+pub record FitTrace (label : List ℕ) (texts : List (List ℕ)) : Type 0 where
+  pub text : List ℕ
+  pub is_text : texts ≡ text ∷ []
+  pub lines : List Line
+  pub is_listing : IsListing text lines
+  pub layable : Layable 0 lines
+  pub labelled : IsSome (place_of (code_of lines) label)
+
+-- a well-formed listing, and settings with at most 5,000,000 sequences that are shorter than the longest windows
+pub record FitLearning (s : Settings) (texts : List (List ℕ)) : Type 0 where
+  pub text : List ℕ
+  pub is_text : texts ≡ text ∷ []
+  pub lines : List Line
+  pub is_listing : IsListing text lines
+  pub narrow : width_of s ≤ 5000000
+
+-- the texts are what a request needs
+abbrev pub AreFit : Request → List (List ℕ) → Type 0
+AreFit (rewrite table listing out image base) texts = FitRewriting image base texts
+AreFit (audit table) texts = FitAudit texts
+AreFit (learn listing out s) texts = FitLearning (record { regs = s.regs; left = s.left; budget = s.budget; seed = s.seed; pool = s.pool }) texts
+AreFit (export table entry cnf lrat) texts = FitExport entry texts
+AreFit (trace listing label steps) texts = FitTrace label texts
+AreFit (demo windows) texts = Unit {0}
+
+-- ---- the laws ----
+
+-- these are the texts that a call read under the names: those held, where the store tells, and those that its fetches answered
+pub record WereRead (old new : Seen) (names texts : List (List ℕ)) : Type 0 where
+  pub are : AreTexts old names texts
+  pub later : List Event
+  pub answered : new.events ≡ old.events ++ (fetchings names texts ++ later)
+
+-- the texts that the call read are
+abbrev pub ReadsFit : Request → Seen → Seen → Type 0
+ReadsFit r old new = (texts : List (List ℕ)) → WereRead old new (plan_of r).names texts → AreFit r texts
+
+-- where fit texts are read, what the words ask for is carried out; where a table is learnt, or its text is too long
+abbrev pub FitTextsAreCarriedOut : Type 0
+FitTextsAreCarriedOut = (words : List (List ℕ)) (r : Request) (old new : Seen) (before after : Sunk) (s : Status) → All IsUtf8 words → AskFor words r → Peeps words old new before after s
+    → IsUnhindered (plan_of r) old new before after → ReadsFit r old new → (IsLearning r → ⊥) → IsCarriedOut s
+
+abbrev pub FitTextsAreLearntFrom : Type 0
+FitTextsAreLearntFrom = (words : List (List ℕ)) (r : Request) (old new : Seen) (before after : Sunk) (s : Status) → All IsUtf8 words → AskFor words r → Peeps words old new before after s
+    → IsUnhindered (plan_of r) old new before after → ReadsFit r old new → IsCarriedOutOrFull before after s

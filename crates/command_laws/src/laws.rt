@@ -1,0 +1,19 @@
+//! The laws of the commands. Each is the contract of a function that does nothing.
+
+ghost use Rattle.command_laws.specs.Fit.{FitTextsAreCarriedOut, FitTextsAreLearntFrom};
+ghost use Rattle.command_laws.specs.Once.{LearningIsOneButForTables, TextsComeToOne};
+
+/// The texts that `rewrite`, `audit`, `export` or `trace` reads come to one outcome: whether they are refused, by which line, and what is kept and printed are
+/// fixed. So it is with `learn`, but where a table is learnt from one listing's lines: it may be another, and its text may be too long.
+pub fn texts_come_to_one_outcome()
+    ensures one { TextsComeToOne }
+    ensures learning { LearningIsOneButForTables }
+{}
+
+/// Where the words ask for a command and nothing fails, texts that are fit for it give Done or Memory: for `rewrite` an accepted table, and a well-formed
+/// listing that can be laid out, where an image is asked for with an address for each external name and none inside the image. Where a table is learnt,
+/// it may also be that its text is too long.
+pub fn fit_texts_are_carried_out()
+    ensures carried_out { FitTextsAreCarriedOut }
+    ensures learnt { FitTextsAreLearntFrom }
+{}
