@@ -101,6 +101,14 @@ class Writer:
         return lines
 
 
+def stands_before_words(lines):
+    """Whether a word comes before the next instruction."""
+    for line in lines:
+        if not line.startswith(".") and not line.endswith(":"):
+            return ".word" in line
+    return False
+
+
 def main():
     folder, count, seed = sys.argv[1], int(sys.argv[2]), int(sys.argv[3]) if len(sys.argv) > 3 else 1
     rng = random.Random(seed)
@@ -109,7 +117,7 @@ def main():
         code = []
         for at, line in enumerate(lines):
             # a label of code alone: words behind it make it one of data, that no branch names
-            if line.endswith(":") and at + 1 < len(lines) and lines[at + 1].startswith((".", "l")) and ".word" in "".join(lines[at + 1 : at + 3]):
+            if line.endswith(":") and stands_before_words(lines[at + 1 :]):
                 code += [line, "\tmov\tr1, r1"]
             else:
                 code.append(line if ":" in line else "\t" + line)
