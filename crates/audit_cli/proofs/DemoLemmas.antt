@@ -1,7 +1,7 @@
 -- Why what `demo` tells is what its definition says, and why nothing is refused but a text that is too long.
 use Rattle.std.proofs.Common.{◌≡◌, ◌∙◌, ℕ, ◌≤◌, List, [], ◌++◌, append_assoc, length, refl, sym, subst, arith, Option, Some, None, leb-true}
 use Rattle.thumb_model.specs.Listing.{Line}
-use Rattle.thumb_model.specs.Rewritten.{Replacement, AreRewritten}
+use Rattle.rule_model.specs.Rewriting.{Replacement, AreRewritten}
 use Rattle.seq_enum.specs.Lists.{numbers_from, held_in, grid2, grid3}
 use Rattle.seq_enum.specs.Alphabet.{rows, members, alphabet, words}
 use Rattle.listing_parser.specs.Parsing.{IsListing}

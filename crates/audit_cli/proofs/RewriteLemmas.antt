@@ -2,8 +2,8 @@
 use Rattle.std.proofs.Common.{◌≡◌, ℕ, List, [], ◌∷◌, ◌++◌, length, sym, subst}
 use Rattle.thumb_model.specs.Listing.{Line}
 use Rattle.thumb_model.specs.Layout.{Layable}
-use Rattle.thumb_model.specs.Rewritten.{Replacement, AreRewritten}
-use Rattle.thumb_model.proofs.LinesKept.{lines_same, none_left, all_applied, no_more_lines, still_layable}
+use Rattle.rule_model.specs.Rewriting.{Replacement, AreRewritten}
+use Rattle.rule_model.proofs.LinesKept.{lines_same, none_left, all_applied, no_more_lines, still_layable}
 use Rattle.rule_table.specs.Table.{Table}
 use Rattle.table_audit.specs.Soundness.{IsSound, rules_of}
 use Rattle.listing_parser.specs.Parsing.{IsListing, text_of_lines}

@@ -9,11 +9,12 @@ use Rattle.thumb_instr.specs.Renaming.{Low, renamed}
 use Rattle.thumb_instr.specs.Window.{is_in_window}
 use Rattle.ascii_scan.specs.Lines.{lines_of}
 use Rattle.thumb_model.specs.Listing.{Line, Place, plain, places_of, code_of, is_op_place}
-use Rattle.thumb_model.specs.Rewrite.{Rule, Applies, AreOver, AreSound}
-use Rattle.thumb_model.specs.Rewritten.{Replacement, AppliesIn, AreRewritten, lines_after, lines_after_rule}
+use Rattle.rule_model.specs.Rules.{Rule, Applies, AreSound}
+use Rattle.thumb_model.specs.Sides.{AreOver}
+use Rattle.rule_model.specs.Rewriting.{Replacement, AppliesIn, AreRewritten, lines_after, lines_after_rule}
 use Rattle.thumb_model.proofs.Lists.{get_drop, get_take}
-use Rattle.thumb_model.proofs.LinesKept.{fewer_lines, one_line_keeps}
-use Rattle.thumb_model.proofs.Table.{window_length}
+use Rattle.rule_model.proofs.LinesKept.{fewer_lines, one_line_keeps}
+use Rattle.rule_model.proofs.Table.{window_length}
 use Rattle.listing_parser.specs.Grammar.{Bare, Read, bare}
 use Rattle.listing_parser.specs.Parsing.{IsListing, text_of_lines}
 use Rattle.listing_parser.specs.Replacing.{names_no_label}

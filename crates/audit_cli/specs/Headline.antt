@@ -4,7 +4,7 @@ use Rattle.std.specs.Str.{IsUtf8}
 use Rattle.thumb_model.specs.Listing.{Line, code_of}
 use Rattle.thumb_model.specs.Layout.{Layable}
 use Rattle.thumb_model.specs.Same.{Same}
-use Rattle.thumb_model.specs.Rewritten.{Replacement, AreRewritten, AllApplied, NoneApplies}
+use Rattle.rule_model.specs.Rewriting.{Replacement, AreRewritten, AllApplied, NoneApplies}
 use Rattle.listing_parser.specs.Parsing.{IsListing, text_of_lines}
 use Rattle.rule_table.specs.Table.{Table}
 use Rattle.rule_table.specs.Refused.{IsText as IsTableText}

@@ -5,7 +5,8 @@ use Rattle.thumb_model.specs.Layout.{Layable}
 use Rattle.thumb_model.specs.Naming.{Fits}
 use Rattle.thumb_model.specs.Laid.{laid}
 use Rattle.thumb_model.specs.Same.{Same}
-use Rattle.thumb_model.specs.Rewritten.{Replacement, AreRewritten, AllApplied, NoneApplies, is_op}
+use Rattle.rule_model.specs.Rewriting.{Replacement, AreRewritten, AllApplied, NoneApplies}
+use Rattle.thumb_model.specs.ReplacedLines.{is_op}
 use Rattle.rule_table.specs.Table.{Table}
 use Rattle.table_audit.specs.Soundness.{IsSound, rules_of}
 use Rattle.listing_parser.specs.Parsing.{IsListing, text_of_lines}

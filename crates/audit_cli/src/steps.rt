@@ -3,7 +3,7 @@
 ghost use Rattle.std.specs.Prelude.{◌≡◌, ◌≤◌, ◌%◌, ◌++◌, ℕ, List, IfOk, length, map};
 ghost use Rattle.std.specs.Result.{result_map_both};
 ghost use Rattle.thumb_model.specs.Layout.{Layable};
-ghost use Rattle.thumb_model.specs.Rewritten.{is_op};
+ghost use Rattle.thumb_model.specs.ReplacedLines.{is_op};
 ghost use Rattle.listing_parser.specs.Parsing.{IsListing, text_of_lines};
 ghost use Rattle.listing_parser.specs.Views.{line_view};
 ghost use Rattle.rule_table.specs.Refused.{IsText};

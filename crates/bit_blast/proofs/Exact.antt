@@ -14,7 +14,7 @@ use Rattle.thumb_instr.specs.declared.instr.Instr.{Instr}
 use Rattle.thumb_instr.specs.Items.{has, n_flag, z_flag, c_flag, v_flag}
 use Rattle.thumb_model.specs.Items.{Values}
 use Rattle.thumb_model.specs.Effect.{after_all}
-use Rattle.thumb_model.specs.Rewrite.{AreOver}
+use Rattle.thumb_model.specs.Sides.{AreOver}
 use Rattle.window_exec.specs.Telling.{Tells}
 use Rattle.bit_blast.specs.declared.circuits.Connective.TheVariants.{Xor}
 use Rattle.bit_blast.specs.Circuits.{each_of}

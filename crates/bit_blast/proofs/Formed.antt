@@ -23,7 +23,7 @@ use Rattle.thumb_instr.specs.Window.{is_in_window}
 use Rattle.thumb_model.specs.Items.{Values, assigned, n_flag, z_flag, c_flag, v_flag}
 use Rattle.thumb_model.specs.Effect.{complement, three_sum, product, right_shift, extension_of, reversal_of, after, after_all}
 use Rattle.thumb_instr.specs.Renaming.{named, AreBelow}
-use Rattle.thumb_model.specs.Rewrite.{AreOver}
+use Rattle.thumb_model.specs.Sides.{AreOver}
 use Rattle.cnf_gates.specs.declared.bit.Bit.{Bit}
 use Rattle.cnf_gates.specs.declared.bit.Bit.TheVariants.{Constant}
 use Rattle.cnf_gates.specs.Gates.{Built}

@@ -2,7 +2,7 @@
 ghost use Rattle.std.specs.Prelude.{◌≡◌, ◌<◌, ◌+◌, IfOk, length, true};
 ghost use Rattle.thumb_instr.specs.Window.{is_in_window};
 ghost use Rattle.thumb_instr.specs.Renaming.{named, AreBelow};
-ghost use Rattle.thumb_model.specs.Rewrite.{AreOver};
+ghost use Rattle.thumb_model.specs.Sides.{AreOver};
 ghost use Rattle.bit_blast.specs.Forming.{Bits, word, outcome_of, written, formed, formed_all};
 ghost use Rattle.bit_blast.specs.Differences.{input_word, start_bits, start_built};
 ghost use Rattle.cnf_gates.specs.Gates.{nothing_built};

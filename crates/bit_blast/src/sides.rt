@@ -1,7 +1,7 @@
 //! The formula of a pair of sides: both formed from the same inputs, and one clause that some item of the mask differs.
 ghost use Rattle.std.specs.Prelude.{◌≡◌, ◌↔◌, IfOk, length, take};
 ghost use Rattle.cnf_gates.specs.Gates.{nothing_built};
-ghost use Rattle.thumb_model.specs.Rewrite.{AreOver};
+ghost use Rattle.thumb_model.specs.Sides.{AreOver};
 ghost use Rattle.bit_blast.specs.declared.circuits.Connective.TheVariants.{Xor};
 ghost use Rattle.bit_blast.specs.Circuits.{each_of, before_word};
 ghost use Rattle.bit_blast.specs.Differences.{flag_difference, register_differences, differences, both_sides, sides_formula};

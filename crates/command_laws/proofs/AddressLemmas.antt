@@ -12,12 +12,16 @@ use Rattle.thumb_instr.specs.Renaming.{Low, renamed}
 use Rattle.thumb_instr.proofs.RenamingLemmas.{window_renamed}
 use Rattle.thumb_model.specs.Listing.{Name, Mention, Value, Number, OfName, Statement, Nothing, Runs, Words, Aligns, Sets, Line, Place, Word, Label, places_in, places_of, labels_from, code_of, has_label}
 use Rattle.thumb_model.specs.Layout.{instr_size, padding, size_at, end_of, is_among, label_address, set_in, set_address, cleared, or_else, lies_in}
-use Rattle.thumb_model.specs.Rewrite.{Rule, AreOver, AreSound, move_label}
-use Rattle.thumb_model.specs.Rewritten.{Setting, Replacement, AppliesIn, AreRewritten, is_op, is_align, are_joined, are_joined_from, without, labels_kept, new_line, replaced_lines, lines_after, lines_after_rule}
+use Rattle.rule_model.specs.Rules.{Rule, AreSound}
+use Rattle.thumb_model.specs.Sides.{AreOver}
+use Rattle.thumb_model.specs.Replaced.{move_label}
+use Rattle.rule_model.specs.Rewriting.{Setting, Replacement, AppliesIn, AreRewritten, lines_after, lines_after_rule}
+use Rattle.thumb_model.specs.ReplacedLines.{is_op, is_align, are_joined, are_joined_from, without, labels_kept, new_line, replaced_lines}
 use Rattle.thumb_model.specs.Cuts.{AreOps}
 use Rattle.thumb_model.proofs.Lists.{length_map, drop_back}
-use Rattle.thumb_model.proofs.Table.{window_length}
-use Rattle.thumb_model.proofs.LinesKept.{ops_of, before, code_of_after}
+use Rattle.rule_model.proofs.Table.{window_length}
+use Rattle.thumb_model.proofs.LinesReplaced.{ops_of, before}
+use Rattle.rule_model.proofs.LinesKept.{code_of_after}
 use Rattle.listing_parser.proofs.LabelLemmas.{label_among}
 use Rattle.thumb_assembler.specs.Refusals.{lies_nowhere, may_leave, branch_lost, value_lost, values_lost, lies_inside, flaw_of, or_first, flaws_from, first_flaw}
 

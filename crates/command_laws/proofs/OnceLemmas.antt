@@ -4,8 +4,8 @@ use Rattle.std.specs.Prelude.{nat_le, unwrap_or}
 use Rattle.std.proofs.lemmas.Bool.{cases_Bool, leb-true, leb-false}
 use Rattle.thumb_model.specs.Listing.{Line}
 use Rattle.thumb_model.specs.Layout.{Fault, Layable}
-use Rattle.thumb_model.specs.Rewritten.{Replacement}
-use Rattle.thumb_model.proofs.Unique.{is_determined}
+use Rattle.rule_model.specs.Rewriting.{Replacement}
+use Rattle.rule_model.proofs.Unique.{is_determined}
 use Rattle.listing_parser.specs.Parsing.{IsListing, text_of_lines}
 use Rattle.listing_parser.proofs.MadeLemmas.{one_listing}
 use Rattle.listing_parser.proofs.VerdictLemmas.{one_verdict}

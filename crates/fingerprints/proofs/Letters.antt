@@ -14,7 +14,7 @@ use Rattle.thumb_instr.specs.declared.kind.Kind.{Kind}
 use Rattle.thumb_instr.specs.declared.kind.Kind.TheVariants as kind
 use Rattle.seq_enum.proofs.Numbered.{flat_map_at, flat_map_from}
 use Rattle.seq_enum.proofs.Fields.{register_low}
-use Rattle.thumb_model.specs.Rewrite.{AreOver}
+use Rattle.thumb_model.specs.Sides.{AreOver}
 use Rattle.thumb_model.proofs.Small.{below_more}
 
 -- what a letter of the registers below k is

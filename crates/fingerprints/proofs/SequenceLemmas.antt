@@ -11,7 +11,7 @@ use Rattle.thumb_model.specs.Items.{Values}
 use Rattle.thumb_model.specs.Effect.{after, after_all}
 use Rattle.window_exec.specs.declared.state.WState.{WState}
 use Rattle.window_exec.specs.State.{values_of}
-use Rattle.thumb_model.specs.Rewrite.{AreOver}
+use Rattle.thumb_model.specs.Sides.{AreOver}
 use Rattle.seq_enum.specs.Lists.{numbers_from}
 use Rattle.seq_enum.specs.Alphabet.{words}
 use Rattle.fingerprints.specs.declared.columns.Column.{Column}

@@ -4,7 +4,7 @@ ghost use Rattle.std.specs.Prelude.{◌≡◌, ℕ, ◌<◌, ◌≤◌, Some, sl
 ghost use Rattle.thumb_instr.specs.Window.{is_in_window};
 ghost use Rattle.thumb_model.specs.Effect.{after, after_all};
 ghost use Rattle.thumb_instr.specs.Renaming.{named, AreBelow};
-ghost use Rattle.thumb_model.specs.Rewrite.{AreOver};
+ghost use Rattle.thumb_model.specs.Sides.{AreOver};
 ghost use Rattle.window_exec.specs.State.{values_of};
 
 use crate::lanes::Lanes;
@@ -26,7 +26,7 @@ impl Column {
     ghost use Rattle.thumb_instr.specs.Window.{is_in_window};
     ghost use Rattle.thumb_instr.specs.Renaming.{named, AreBelow};
     ghost use Rattle.thumb_model.specs.Effect.{after, after_all};
-    ghost use Rattle.thumb_model.specs.Rewrite.{AreOver};
+    ghost use Rattle.thumb_model.specs.Sides.{AreOver};
     ghost use Rattle.window_exec.specs.State.{values_of};
     ghost use Rattle.fingerprints.specs.Columns.{states_of};
 

@@ -12,7 +12,7 @@ use Rattle.thumb_model.specs.Listing.{Name, Mention, Value, Statement, Nothing, 
 use Rattle.thumb_model.specs.Naming.{Naming, Fits, points_of, returns_from, points}
 use Rattle.thumb_model.specs.Steps.{label_place, loads_literal, word_of_place, word_behind, literal_word, word_of_mention, literal_at, aim_of}
 use Rattle.thumb_model.specs.Literals.{HasLiterals, is_word_place}
-use Rattle.thumb_model.specs.Rewritten.{is_op, labels_kept}
+use Rattle.thumb_model.specs.ReplacedLines.{is_op, labels_kept}
 use Rattle.thumb_model.proofs.Points.{point_places}
 use Rattle.flow_tidy.specs.Tidied.{aimed, aimed_line, aimed_lines, is_branch}
 use Rattle.flow_tidy.proofs.Ways.{second, some_naming}

@@ -9,7 +9,7 @@ use Rattle.thumb_model.specs.Items.{one_of}
 use Rattle.thumb_model.specs.Listing.{Mention, Place, Op, Word, Label, Code, is_op_place, is_code, is_call, is_call_instr, label_places, return_places, IsPoint}
 use Rattle.thumb_model.specs.Steps.{aim_of}
 use Rattle.thumb_model.specs.Flow.{Way, Leads, Onward, ToPlace, AnyPoint, Out, ways_of, ways_on, ways, Follows}
-use Rattle.thumb_model.specs.Rewrite.{moved, move_label, replaced}
+use Rattle.thumb_model.specs.Replaced.{moved, move_label, replaced}
 use Rattle.thumb_model.proofs.Lists.{get_drop, get_take, get_front, get_back, take_all}
 use Rattle.thumb_model.proofs.Moved.{AreNoCalls, IsReplacement, IsOutside, fetch_outside, points_moved, place_moved}
 use Rattle.flow_tidy.specs.Reached.{Reached, point, along}
@@ -69,7 +69,8 @@ module _ (code : Code) (p : ℕ) where
         let l = within in
         record {
           within = omega arith;
-          shorter = omega arith;
+          some = omega arith;
+          no_longer = omega arith;
           first = ap is_op_place m.stands;
           no_call = no_calls_at (drop p code.places) (get_drop p code.places 0 p (omega arith) ∙ m.stands);
           no_new_call = tt;

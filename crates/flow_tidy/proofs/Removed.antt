@@ -14,12 +14,12 @@ use Rattle.thumb_model.specs.States.{World, Target, Inside, Event, Here, puts, O
 use Rattle.thumb_model.specs.Acts.{holds, jumps}
 use Rattle.thumb_model.specs.Steps.{target_at, does, step_on, aim_of}
 use Rattle.thumb_model.specs.Flow.{Way, way, Onward, jump_way, ways_on, ways_of, Follows}
-use Rattle.thumb_model.specs.Rewrite.{moved, replaced}
+use Rattle.thumb_model.specs.Replaced.{moved, replaced}
 use Rattle.thumb_model.specs.Cuts.{AreOps}
 use Rattle.thumb_model.proofs.Lists.{get_drop}
 use Rattle.thumb_model.proofs.Moved.{one_of_back}
 use Rattle.thumb_model.proofs.LinesReplaced.{code_replaced}
-use Rattle.thumb_model.proofs.LinesKept.{outside_of}
+use Rattle.thumb_model.proofs.LinesReplaced.{outside_of}
 use Rattle.thumb_model.proofs.Follow.{Keeps, state}
 use Rattle.flow_tidy.specs.Reached.{Reached, point}
 use Rattle.flow_tidy.specs.Tidied.{Setting, is_branch, GoesToNext, IsIdle, lines_without}

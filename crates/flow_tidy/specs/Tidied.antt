@@ -5,7 +5,7 @@ use Rattle.thumb_instr.specs.declared.instr.Instr.TheVariants as instr
 use Rattle.thumb_model.specs.Listing.{Name, Mention, Statement, Nothing, Runs, Words, Aligns, Sets, Line, Op, Code, code_of, place_of, places_in, is_call_instr}
 use Rattle.thumb_model.specs.Steps.{aim_of}
 use Rattle.thumb_model.specs.Layout.{Layable}
-use Rattle.thumb_model.specs.Rewritten.{is_op, labels_kept, replaced_lines}
+use Rattle.thumb_model.specs.ReplacedLines.{is_op, labels_kept, replaced_lines}
 use Rattle.flow_tidy.specs.Reached.{Reached}
 use Rattle.flow_tidy.specs.Chains.{is_always, IsEnd}
 

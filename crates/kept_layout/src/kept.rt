@@ -45,7 +45,7 @@ impl KeptLayout {
     ghost use Rattle.std.specs.List.{list_all};
     ghost use Rattle.thumb_instr.specs.Window.{is_in_window};
     ghost use Rattle.thumb_model.specs.Layout.{Layable};
-    ghost use Rattle.thumb_model.specs.Rewritten.{replaced_lines};
+    ghost use Rattle.thumb_model.specs.ReplacedLines.{replaced_lines};
     ghost use Rattle.listing_parser.specs.Parsing.{own_line};
     ghost use Rattle.line_cursor.specs.Cursors.{lines_at, place_at};
     ghost use Rattle.window_runs.specs.Windows.{IsWindow};

@@ -4,7 +4,7 @@ use Rattle.std.specs.Prelude.{slice_get}
 use Rattle.std.proofs.lemmas.Bool.{cases_Bool}
 use Rattle.std.proofs.lemmas.List.{take_more}
 use Rattle.thumb_model.specs.Listing.{Name, Value, Statement, Nothing, Runs, Words, Aligns, Sets, Line, Label, Place, Word, places_in, places_of, labels_at, labels_from, is_op_place}
-use Rattle.thumb_model.specs.Rewritten.{is_op}
+use Rattle.thumb_model.specs.ReplacedLines.{is_op}
 use Rattle.thumb_model.proofs.Lists.{get_back}
 use Rattle.listing_parser.specs.declared.line.Line.{Line as Lines}
 use Rattle.line_cursor.specs.Lines.{lines_in, lines_of, begins_op, begins_labelled}

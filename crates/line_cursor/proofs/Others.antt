@@ -3,7 +3,7 @@ use Rattle.std.proofs.Common.{◌≡◌, ◌∙◌, ℕ, zero, suc, ◌+◌, ◌
 use Rattle.std.proofs.lemmas.List.{drop-drop, drop_more, length-drop, take_all}
 use Rattle.thumb_instr.specs.declared.instr.Instr.{Instr}
 use Rattle.thumb_model.specs.Listing.{Line, places_of}
-use Rattle.thumb_model.specs.Rewritten.{new_line, replaced_lines, without}
+use Rattle.thumb_model.specs.ReplacedLines.{new_line, replaced_lines, without}
 use Rattle.thumb_model.proofs.Cuts.{without_none}
 use Rattle.listing_parser.specs.Parsing.{own_line}
 use Rattle.listing_parser.specs.Views.{line_view}

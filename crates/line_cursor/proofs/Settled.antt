@@ -4,7 +4,7 @@ use Rattle.std.specs.Prelude.{slice_get}
 use Rattle.std.proofs.lemmas.Bool.{cases_lt, cases_Bool}
 use Rattle.thumb_instr.specs.declared.instr.Instr.{Instr}
 use Rattle.thumb_model.specs.Listing.{Place, plain, Label, is_op_place}
-use Rattle.thumb_model.specs.Rewrite.{moved}
+use Rattle.thumb_model.specs.Replaced.{moved}
 use Rattle.line_cursor.specs.Cursors.{IsSettled}
 use Rattle.thumb_model.proofs.Lists.{get_drop, get_take, get_front, get_back, length_map, take_all}
 

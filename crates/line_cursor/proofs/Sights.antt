@@ -3,7 +3,7 @@ use Rattle.std.proofs.Common.{◌≡◌, ℕ, suc, ◌+◌, ◌-◌, ◌<◌, �
 use Rattle.std.proofs.lemmas.List.{map-append, take_more, take-append-drop}
 use Rattle.thumb_model.specs.Listing.{Line, Place, places_in, places_of}
 use Rattle.thumb_model.specs.Layout.{is_among}
-use Rattle.thumb_model.specs.Rewritten.{is_op}
+use Rattle.thumb_model.specs.ReplacedLines.{is_op}
 use Rattle.listing_parser.specs.Views.{line_view}
 use Rattle.listing_parser.specs.declared.line.Line.{Line as Lines}
 use Rattle.liveness.specs.Points.{some_name}

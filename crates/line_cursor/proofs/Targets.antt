@@ -6,7 +6,7 @@ use Rattle.thumb_instr.specs.Items.{one_of}
 use Rattle.thumb_instr.proofs.Listed.{one_of_append}
 use Rattle.thumb_model.specs.Listing.{Name, Value, Place, Word, Line, Label, Statement, Nothing, Runs, Words, Aligns, Sets, code_of, places_in, places_of, place_of, labels_at, labels_from, place_among, label_places, return_places, is_op_place, is_call_instr}
 use Rattle.thumb_model.specs.Layout.{is_among}
-use Rattle.thumb_model.specs.Rewritten.{is_op}
+use Rattle.thumb_model.specs.ReplacedLines.{is_op}
 use Rattle.liveness.proofs.Marks.{one_label, labels_here}
 use Rattle.liveness.specs.Points.{some_name}
 use Rattle.line_cursor.specs.declared.sources.Sight.{Sight}

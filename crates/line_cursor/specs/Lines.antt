@@ -1,7 +1,7 @@
 -- The lines that a cursor holds.
 use Rattle.std.specs.Prelude.{Bool, false, List, [], ◌∷◌, map}
 use Rattle.thumb_model.specs.Listing.{Line}
-use Rattle.thumb_model.specs.Rewritten.{is_op, labels_kept}
+use Rattle.thumb_model.specs.ReplacedLines.{is_op, labels_kept}
 use Rattle.listing_parser.specs.Views.{line_view, names_view}
 use Rattle.liveness.specs.Points.{some_name}
 use Rattle.listing_parser.specs.declared.line.Line.{Line as Lines}

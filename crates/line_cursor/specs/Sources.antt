@@ -3,7 +3,7 @@ use Rattle.std.specs.Prelude.{◌≡◌, ℕ, ◌+◌, ◌-◌, ◌<◌, ◌==�
 use Rattle.thumb_instr.specs.Items.{one_of, has}
 use Rattle.thumb_model.specs.Listing.{Name, Line, Place, Code, places_in, place_of, label_places, return_places, is_call}
 use Rattle.thumb_model.specs.Layout.{is_among}
-use Rattle.thumb_model.specs.Rewritten.{is_op}
+use Rattle.thumb_model.specs.ReplacedLines.{is_op}
 use Rattle.thumb_model.specs.Flow.{Way, Leads, Onward, ToPlace, AnyPoint, Out, ways}
 use Rattle.liveness.specs.declared.growing.Source.{Source}
 use Rattle.liveness.specs.Points.{some_name}

@@ -1,7 +1,7 @@
 //! A cursor in a listing that is being rewritten: what stands before it and behind it, with what is kept of places.
 ghost use Rattle.std.specs.Prelude.{◌≡◌, ◌+◌, ◌-◌, ◌<◌, ◌≤◌, ◌↔◌, ◌++◌, ◌∷◌, [], ℕ, List, length, min, drop, map, reverse, slice_get, true, false, IfOk, OnOk, Some};
 ghost use Rattle.thumb_model.specs.Listing.{Place, code_of, is_op_place, labels_from, places_of};
-ghost use Rattle.thumb_model.specs.Rewritten.{replaced_lines, without};
+ghost use Rattle.thumb_model.specs.ReplacedLines.{replaced_lines, without};
 ghost use Rattle.thumb_model.specs.Cuts.{AreOps};
 ghost use Rattle.listing_parser.specs.Parsing.{own_line};
 ghost use Rattle.listing_parser.specs.Views.{line_view};

@@ -3,7 +3,7 @@ ghost use Rattle.std.specs.Prelude.{◌≡◌, ◌++◌, length, map, None, OnOk
 ghost use Rattle.listing_parser.specs.Views.{statement_view};
 ghost use Rattle.listing_parser.specs.Parsing.{own_line};
 ghost use Rattle.thumb_model.specs.Listing.{places_of};
-ghost use Rattle.thumb_model.specs.Rewritten.{new_line};
+ghost use Rattle.thumb_model.specs.ReplacedLines.{new_line};
 ghost use Rattle.window_runs.specs.Rows.{letter_of};
 ghost use Rattle.line_cursor.specs.Lines.{begins_labelled, begins_op, labels_left, lines_in, lines_of};
 ghost use Rattle.line_cursor.specs.Looks.{look_letter, look_lines, look_statement};

@@ -9,7 +9,7 @@ use Rattle.thumb_instr.specs.Shape.{uses_of, writes_of}
 use Rattle.thumb_instr.specs.Window.{is_in_window}
 use Rattle.thumb_model.specs.Listing.{plain, Code}
 use Rattle.thumb_model.specs.Flow.{Way, Leads, Onward, ToPlace, AnyPoint, Out, way, ways_of, ways}
-use Rattle.thumb_model.specs.Rewrite.{moved, replaced}
+use Rattle.thumb_model.specs.Replaced.{moved, replaced}
 use Rattle.thumb_model.proofs.Lists.{get_drop, get_take, get_front, get_back, length_map, take_all, length_drop}
 use Rattle.liveness.specs.declared.flowing.Flow.{Flow}
 use Rattle.liveness.specs.Kept.{some_reads, if_onward, onward_writes, HasThese, FlowOf, AreFlowsFrom, AreFlows, KeepsAt}

@@ -11,7 +11,7 @@ use Rattle.thumb_model.specs.Items.{one_of}
 use Rattle.thumb_model.specs.Listing.{Place, Op, plain, Code, is_call, is_call_instr, return_places, label_places, IsPoint}
 use Rattle.thumb_model.specs.Steps.{aim_of}
 use Rattle.thumb_model.specs.Flow.{Way, Leads, Onward, AnyPoint, Out, way, left_but, ways_of, ways_on, ways, Follows}
-use Rattle.thumb_model.specs.Rewrite.{moved, replaced}
+use Rattle.thumb_model.specs.Replaced.{moved, replaced}
 use Rattle.thumb_model.proofs.Lists.{length_map, take_all, length_drop}
 use Rattle.thumb_model.proofs.Moved.{IsOutside, one_of_append}
 use Rattle.thumb_model.proofs.Points.{IsLabelsPlace, label_of_place}

@@ -14,7 +14,7 @@ use Rattle.thumb_model.specs.Listing.{Mention, Place, Op, Word, plain, Label, Co
 use Rattle.thumb_model.specs.Naming.{Naming, points_of, returns_from, points}
 use Rattle.thumb_model.specs.Steps.{aim_of}
 use Rattle.thumb_model.specs.Flow.{Way, Leads, Onward, ToPlace, AnyPoint, Out, way, left_but, ways_of, ways_on, ways, Follows}
-use Rattle.thumb_model.specs.Rewrite.{moved, replaced}
+use Rattle.thumb_model.specs.Replaced.{moved, replaced}
 use Rattle.thumb_model.proofs.Lists.{get_drop, get_take, length_map, take_short, length_drop}
 use Rattle.thumb_model.proofs.Moved.{IsReplacement, IsOutside, AreNoCalls, fetch_window, fetch_outside, place_moved, points_moved, return_outside, one_of_append}
 use Rattle.thumb_model.proofs.Points.{IsLabelsPlace, label_of_name, label_of_place}
@@ -195,7 +195,8 @@ module _ (code : Code) (p : ℕ) (window new : List Instr) (at : KeepsAt code p 
   pub fits_in : IsReplacement code p (length window) new
   fits_in = record {
     within = is_within;
-    shorter = at.shorter;
+    some = let s = at.shorter in omega arith;
+    no_longer = let s = at.shorter in omega arith;
     first = first_is (drop_at window 0 (let s = at.shorter in omega arith));
     no_call = subst AreNoCalls (sym at.stands) (no_calls window at.letters);
     no_new_call = no_calls new at.new_letters;

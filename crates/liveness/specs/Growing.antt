@@ -6,7 +6,7 @@ use Rattle.thumb_instr.specs.declared.items.Items.{Items}
 use Rattle.thumb_instr.specs.Items.{one_of, has}
 use Rattle.thumb_model.specs.Listing.{Code}
 use Rattle.thumb_model.specs.Flow.{Way, ways, Follows, Reads, LiveAfter}
-use Rattle.thumb_model.specs.Rewrite.{replaced}
+use Rattle.thumb_model.specs.Replaced.{replaced}
 use Rattle.liveness.specs.declared.flowing.Flow.{Flow}
 use Rattle.liveness.specs.declared.growing.Source.{Source}
 use Rattle.liveness.specs.declared.kept.NewSets.{NewSets}

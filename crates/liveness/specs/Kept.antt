@@ -8,7 +8,7 @@ use Rattle.thumb_instr.specs.Items.{one_of, has}
 use Rattle.thumb_instr.specs.Window.{is_in_window}
 use Rattle.thumb_model.specs.Listing.{plain, Mention, Op, Label, Code, is_code}
 use Rattle.thumb_model.specs.Flow.{Way, Leads, Onward, ToPlace, AnyPoint, Out, ways}
-use Rattle.thumb_model.specs.Rewrite.{move_label, replaced}
+use Rattle.thumb_model.specs.Replaced.{move_label, replaced}
 use Rattle.liveness.specs.declared.flowing.Flow.{Flow}
 use Rattle.liveness.specs.declared.kept.NewSets.{NewSets}
 use Rattle.liveness.specs.Live.{Sets, set_at, IsLive}

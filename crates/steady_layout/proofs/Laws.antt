@@ -3,7 +3,7 @@ use Rattle.std.proofs.Common.{◌≡◌, ◌∙◌, ◌⊎◌, inl, inr, ℕ, ze
 use Rattle.std.specs.Prelude.{slice_get}
 use Rattle.std.proofs.lemmas.Bool.{cases_Bool, and_parts, and_from}
 use Rattle.std.proofs.lemmas.List.{append-nil}
-use Rattle.thumb_model.proofs.LinesKept.{outside_of, before}
+use Rattle.thumb_model.proofs.LinesReplaced.{outside_of, before}
 use Rattle.thumb_instr.specs.declared.instr.Instr.{Instr}
 use Rattle.thumb_instr.specs.declared.instr.Instr.TheVariants as instr
 use Rattle.thumb_instr.specs.Renaming.{Low, renamed}
@@ -11,10 +11,9 @@ use Rattle.thumb_instr.specs.Window.{is_in_window}
 use Rattle.thumb_instr.proofs.RenamingLemmas.{window_renamed}
 use Rattle.thumb_model.specs.Listing.{Name, Statement, Nothing, Runs, Words, Aligns, Sets, Line, Place, Op, Word, plain, Label, code_of, places_of, labels_from}
 use Rattle.thumb_model.specs.Layout.{instr_size, size_at, is_among, label_address, set_in, set_address, cleared, or_else, lies_in, fault_at, faults_from, Layable}
-use Rattle.thumb_model.specs.Rewrite.{Rule, IsSoundRule, AreOver, normalised, Applies}
-use Rattle.thumb_model.specs.Rewritten.{replaced_lines}
+use Rattle.thumb_model.specs.Sides.{AreOver, normalised}
+use Rattle.thumb_model.specs.ReplacedLines.{replaced_lines}
 use Rattle.thumb_model.proofs.Lists.{length_map}
-use Rattle.thumb_model.proofs.Table.{window_length}
 use Rattle.thumb_model.proofs.Window.{normal_in_window}
 use Rattle.thumb_model.proofs.LinesReplaced.{AllOutside}
 use Rattle.steady_layout.specs.declared.starts.Start.{Start}
@@ -115,7 +114,7 @@ front_sets : (name : Name) (xs ys zs : List Line) → set_address name ys ≡ se
 front_sets name [] ys zs e = e
 front_sets name (x ∷ xs) ys zs e = ap (set_in name x.statement) (front_sets name xs ys zs e)
 
-cut_stays : (base : ℕ) (ls news : List Line) → IsCut ls news → IsSteady base ls → IsSteady base news
+pub cut_stays : (base : ℕ) (ls news : List Line) → IsCut ls news → IsSteady base ls → IsSteady base news
 cut_stays base ls news c h =
     let r = c.shorter in
     let start : Start = first base in
@@ -153,7 +152,7 @@ cut_stays base ls news c h =
           ∙ and_from _ _ w.steady (steady_append most ln zn base o c.new c.back ∙ and_from _ _ (steady_bare ln zn base o c.new r.bare_new) v.steady);
     }
 
--- ---- where an entry applies ----
+-- ---- windows and what stands for them ----
 
 abbrev AreIn : List Instr → Type 0
 AreIn [] = Unit {0}
@@ -164,15 +163,15 @@ two_bytes : (i : Instr) → is_in_window i ≡ true → instr_size i ≡ 2
 two_bytes (instr.Mov d m) h = refl
 two_bytes i h = cc
 
-twos_of : (is : List Instr) → AreIn is → AreTwos is
+pub twos_of : (is : List Instr) → AreIn is → AreTwos is
 twos_of [] h = tt
 twos_of (i ∷ is) h = (two_bytes i h.0, twos_of is h.1)
 
-renamed_in : (registers : List Low) (k : ℕ) (is : List Instr) → AreOver k is → AreIn (map (renamed registers) is)
+pub renamed_in : (registers : List Low) (k : ℕ) (is : List Instr) → AreOver k is → AreIn (map (renamed registers) is)
 renamed_in registers k [] h = tt
 renamed_in registers k (i ∷ is) h = (window_renamed registers i h.0, renamed_in registers k is h.2)
 
-window_in : (is js : List Instr) → map normalised is ≡ js → AreIn js → AreIn is
+pub window_in : (is js : List Instr) → map normalised is ≡ js → AreIn js → AreIn is
 window_in [] js e h = tt
 window_in (i ∷ is) [] e h = absurd (cc)
 window_in (i ∷ is) (j ∷ js) e h =
@@ -180,7 +179,7 @@ window_in (i ∷ is) (j ∷ js) e h =
     let there : map normalised is ≡ js = cc in
     (sym (normal_in_window i) ∙ ap is_in_window here ∙ h.0, window_in is js there h.1)
 
-plain_of : (is : List Instr) (n : ℕ) (ps : List Place) → n ≡ length is → take n ps ≡ map plain is → AreTwos is → ArePlain n ps
+pub plain_of : (is : List Instr) (n : ℕ) (ps : List Place) → n ≡ length is → take n ps ≡ map plain is → AreTwos is → ArePlain n ps
 plain_of [] zero ps e h t = tt
 plain_of (i ∷ is) zero ps e h t = absurd (omega arith)
 plain_of [] (suc n) ps e h t = absurd (omega arith)
@@ -188,19 +187,3 @@ plain_of (i ∷ is) (suc n) [] e h t = absurd (cc)
 plain_of (i ∷ is) (suc n) (Op j None ∷ ps) e h t = let same : j ≡ i = cc in (ap instr_size same ∙ t.0, plain_of is n ps (omega arith) (cc) t.1)
 plain_of (i ∷ is) (suc n) (Op j (Some m) ∷ ps) e h t = absurd (cc)
 plain_of (i ∷ is) (suc n) (Word w ∷ ps) e h t = absurd (cc)
-
-pub steady_stays : (base : ℕ) (write : Instr → List ℕ) (rule : Rule) (registers : List Low) (place : ℕ) (ls : List Line) → IsSoundRule rule → Applies rule registers (code_of ls) place → IsSteady base ls
-    → IsSteady base (replaced_lines write place (length rule.left) (map (renamed registers) rule.right) ls)
-steady_stays base write rule registers place ls sound a h =
-    let is : List Instr = map (renamed registers) rule.right in
-    let m = length_map (renamed registers) rule.right in
-    let shorter = a.shorter in
-    let b = before (length rule.left) (omega arith) in
-    let n : ℕ = b.0 in
-    let e : length rule.left ≡ suc n = b.1 in
-    let k : length a.window ≡ length rule.left = window_length rule registers (code_of ls) place a in
-    let twos = twos_of a.window (window_in a.window (map (renamed registers) rule.left) a.matches (renamed_in registers _ rule.left sound.left)) in
-    let ops = plain_of a.window (suc n) (drop place (places_of ls)) (omega arith) (ap (λ c. take c (drop place (places_of ls))) (sym e) ∙ a.stands) twos in
-    let outside = outside_of place (suc n) (labels_from 0 ls) (subst (λ c. (k : ℕ) (l : Label) → slice_get (labels_from 0 ls) k ≡ Some l → (l.place ≤ place) ⊎ (place + c ≤ l.place)) e a.unlabelled) in
-    let c = cut write place n is (omega arith) (twos_of is (renamed_in registers _ rule.right sound.right)) ls 0 place (omega arith) outside ops in
-    subst (λ j. IsSteady base (replaced_lines write place j is ls)) (sym e) (cut_stays base ls (replaced_lines write place (suc n) is ls) c h)

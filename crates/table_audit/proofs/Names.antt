@@ -7,7 +7,7 @@ use Rattle.thumb_instr.specs.declared.instr.Instr.{Instr}
 use Rattle.thumb_instr.specs.Items.{has as has_item, is_in_masks}
 use Rattle.thumb_instr.specs.Renaming.{named}
 use Rattle.thumb_model.specs.Items.{one_of}
-use Rattle.thumb_model.specs.Rewrite.{is_named, above, register_count}
+use Rattle.thumb_model.specs.Sides.{is_named, above, register_count}
 use Rattle.seq_enum.specs.Lists.{numbers_from}
 use Rattle.rule_table.specs.Canonical.{has, with_first, firsts, appearing}
 use Rattle.rule_table.specs.Table.{Opened}

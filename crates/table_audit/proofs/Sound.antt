@@ -8,8 +8,9 @@ use Rattle.std.proofs.lemmas.Bool.Decides.{leb_tells}
 use Rattle.std.proofs.lemmas.Bool.{false≢true, or_cases, and_parts, ltb-true, cases_Bool, eqb-true, ne_eqb}
 use Rattle.thumb_instr.specs.declared.instr.Instr.{Instr}
 use Rattle.thumb_model.specs.Items.{AreWords, one_of}
-use Rattle.thumb_model.specs.Rewrite.{Equal, IsSoundRule, AreOver, AreSound, is_named, register_count}
-use Rattle.thumb_model.specs.Rewrite as model
+use Rattle.thumb_model.specs.Sides.{Equal, AreOver, is_named, register_count}
+use Rattle.rule_model.specs.Rules.{IsSoundRule, AreSound}
+use Rattle.rule_model.specs.Rules as model
 use Rattle.window_exec.specs.Seen.{Seen}
 use Rattle.seq_enum.specs.Alphabet.{sequences}
 use Rattle.bit_blast.specs.Exactness.{IsMask, HasNoModel, AreEqual}

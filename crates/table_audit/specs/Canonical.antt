@@ -2,7 +2,7 @@
 use Rattle.std.specs.Prelude.{◌≡◌, ℕ, List, Option, length}
 use Rattle.thumb_instr.specs.declared.instr.Instr.{Instr}
 use Rattle.thumb_instr.specs.Renaming.{Low}
-use Rattle.thumb_model.specs.Rewrite.{AreOver, register_count}
+use Rattle.thumb_model.specs.Sides.{AreOver, register_count}
 use Rattle.bit_blast.specs.Exactness.{IsMaskOver}
 use Rattle.rule_table.specs.Canonical.{IsRenamable, IsCanonical}
 use Rattle.rule_table.specs.Table.{Rule}

@@ -3,7 +3,8 @@ use Rattle.std.specs.Prelude.{ℕ, ◌≡◌, ◌<◌, false, List, [], ◌∷�
 use Rattle.thumb_instr.specs.declared.instr.Instr.{Instr}
 use Rattle.thumb_instr.specs.Items.{has}
 use Rattle.thumb_model.specs.Items.{one_of}
-use Rattle.thumb_model.specs.Rewrite.{Rule, Equal, AreSound, register_count}
+use Rattle.rule_model.specs.Rules.{Rule, AreSound}
+use Rattle.thumb_model.specs.Sides.{Equal, register_count}
 use Rattle.seq_enum.specs.Alphabet.{sequences}
 use Rattle.rule_table.specs.Table as table
 use Rattle.table_audit.specs.Acceptance.{IsRightlyOpen}

@@ -1,7 +1,7 @@
 //! The numbers that an entry names open.
 ghost use Rattle.std.specs.Prelude.{◌≡◌, ◌<◌, ◌≤◌, ◌+◌, ◌*◌, ◌↔◌, true, IfOk, IfSome, IsTrue, length, map, slice_get, sum_by};
 ghost use Rattle.window_exec.specs.State.{seen};
-ghost use Rattle.thumb_model.specs.Rewrite.{AreOver};
+ghost use Rattle.thumb_model.specs.Sides.{AreOver};
 ghost use Rattle.seq_enum.specs.Lists.{ascends_from};
 ghost use Rattle.rule_table.specs.Valid.{numbers_of};
 ghost use Rattle.rule_table.specs.Views.{opened_of, rule_of, table_of};

@@ -1,7 +1,7 @@
 -- Entries before and after numbers are dropped.
 use Rattle.std.specs.Prelude.{ℕ, ◌≡◌, ◌≤◌, ◌+◌, ◌*◌, List, length, sum_by}
 use Rattle.window_exec.specs.Seen.{Seen}
-use Rattle.thumb_model.specs.Rewrite.{AreOver}
+use Rattle.thumb_model.specs.Sides.{AreOver}
 use Rattle.rule_table.specs.Table.{Rule}
 use Rattle.table_audit.specs.Sides.{IsCanonicalSide}
 use Rattle.table_learn.specs.Fitness.{without_told}

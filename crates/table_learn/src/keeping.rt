@@ -3,7 +3,7 @@
 //! An index is of the sequences that are shorter than the window for which it is built, in the first eight states, one column of
 //! lanes: these tell nearly all, and what they leave is run on all listed states. So a state that is listed later needs no new index.
 ghost use Rattle.std.specs.Prelude.{◌≡◌, ◌<◌, ◌≤◌, ◌↔◌, All, IfOk, IfSome, IsTrue, filter, length, map, nat_lt, take};
-ghost use Rattle.thumb_model.specs.Rewrite.{AreOver};
+ghost use Rattle.thumb_model.specs.Sides.{AreOver};
 ghost use Rattle.window_exec.specs.State.{seen};
 ghost use Rattle.rule_table.specs.Valid.{IsState};
 ghost use Rattle.table_audit.specs.Sides.{named_count};

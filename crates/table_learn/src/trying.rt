@@ -1,7 +1,7 @@
 //! One shorter sequence: the listed states, and then the solver.
 ghost use Rattle.std.specs.Prelude.{◌≡◌, ◌<◌, ◌≤◌, ◌+◌, ◌*◌, OnOk, IfOk, length, map};
 ghost use Rattle.std.specs.List.{list_any};
-ghost use Rattle.thumb_model.specs.Rewrite.{AreOver};
+ghost use Rattle.thumb_model.specs.Sides.{AreOver};
 ghost use Rattle.bit_blast.specs.Exactness.{IsMaskOver};
 ghost use Rattle.window_exec.specs.State.{seen};
 ghost use Rattle.table_audit.specs.Sides.{named_count};

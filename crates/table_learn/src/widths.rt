@@ -1,7 +1,7 @@
 //! How many shorter sequences there are, and which they are.
 ghost use Rattle.std.specs.Prelude.{◌≡◌, ◌<◌, ◌≤◌, ◌*◌, ◌^◌, Some, length, slice_get};
 ghost use Rattle.seq_enum.specs.Places.{sum_below};
-ghost use Rattle.thumb_model.specs.Rewrite.{AreOver};
+ghost use Rattle.thumb_model.specs.Sides.{AreOver};
 ghost use Rattle.table_audit.specs.Shorter.{sequences_below};
 
 use seq_enum::{Pool, seq_at, size};

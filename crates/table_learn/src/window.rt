@@ -2,7 +2,7 @@
 ghost use Rattle.std.specs.Prelude.{◌≡◌, ◌<◌, ◌≤◌, ◌+◌, true, length, map, max};
 ghost use Rattle.std.specs.List.{list_all};
 ghost use Rattle.thumb_instr.specs.Window.{is_in_window};
-ghost use Rattle.thumb_model.specs.Rewrite.{above, register_count};
+ghost use Rattle.thumb_model.specs.Sides.{above, register_count};
 ghost use Rattle.table_audit.specs.Sides.{named_count, IsCanonicalSide};
 
 use thumb_instr::{Instr, Low, Mask, Seq, registers_of};

@@ -14,7 +14,7 @@ use Rattle.thumb_model.specs.Steps.{label_place, loads_literal, word_of_mention,
 use Rattle.thumb_model.specs.Literals.{HasLiterals}
 use Rattle.thumb_model.specs.Flow.{Reads}
 use Rattle.thumb_model.specs.Same.{has_ended, Alike, here_or_ended, begun, Same}
-use Rattle.thumb_model.specs.Rewrite.{moved, replaced}
+use Rattle.thumb_model.specs.Replaced.{moved, replaced}
 use Rattle.thumb_model.proofs.Simulation.{times_add, Advance, sooner, reached}
 use Rattle.thumb_model.proofs.Tied.{TargetTied, LandingTied, NextTied, ActTied, AroundTied, looks_tied, act_tied}
 use Rattle.thumb_model.proofs.Held.{IsSafe, held_of, act_safe, world_after}
@@ -135,7 +135,7 @@ module _ (names : Naming) (small : AreSmall names) (code : Code) (literals : Has
 
   next_place : (q : ℕ) → q ≢ p → IsOutside p (length left) q → (to q + 1 ≡ to (q + 1)) × IsOutside p (length left) (q + 1)
   next_place q ne (inl h) = (omega arith, inl (omega arith))
-  next_place q ne (inr h) = let s = sound.fits_in.shorter in (omega arith, inr (omega arith))
+  next_place q ne (inr h) = let s = sound.fits_in.no_longer in (omega arith, inr (omega arith))
 
   -- where both come to
   arrive : (q : ℕ) (n n' : Next) (u v : Values) → NextTied CameTo n n' → q ≢ p → IsOutside p (length left) q → ((r x : ℕ) → GoesTo q n r → Reads code x r → u x ≡ v x) → AtBoth (arrives q (q + 1) n) (arrives (to q) (to q + 1) n') u v
@@ -230,7 +230,8 @@ module _ (names : Naming) (small : AreSmall names) (code : Code) (literals : Has
   at_window u v es fs r =
       let s : State = state u (Here p) es in
       let t : State = state v (Here p) fs in
-      let shorter = sound.fits_in.shorter in
+      let no_longer = sound.fits_in.no_longer in
+      let some = sound.fits_in.some in
       let a : times (step names code) (length left) s ≡ went s past (after_all left u.values) = straight_run names code s left p u.values sound.stands sound.left_straight in
       let b : times (step names new) (length right) t ≡ went t (p + length right) (after_all right v.values) = straight_run names new t right p v.values right_stands sound.right_straight in
       let at : p + length right ≡ to past = omega arith in

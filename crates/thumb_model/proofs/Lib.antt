@@ -10,10 +10,7 @@ pub mod Moved
 pub mod Points
 pub mod Window
 pub mod Follow
-pub mod Table
 pub mod LinesReplaced
-pub mod LinesKept
-pub mod Unique
 pub mod Examples
 pub mod Cuts
 pub mod Reaches

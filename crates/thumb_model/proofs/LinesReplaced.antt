@@ -1,11 +1,12 @@
 -- Replacing lines replaces places and labels.
 use Rattle.std.proofs.Common.{◌≡◌, ℕ, zero, suc, ◌+◌, ◌-◌, ◌<◌, ◌≤◌, ◌==◌, ◌&&◌, List, [], ◌∷◌, ◌++◌, length, length-append, take, drop, map, refl, sym, ap, ◌∙◌, subst, ◌⊎◌, inl, inr, arith, append_assoc, ne_eqb, if◌then◌else◌}
+use Rattle.std.specs.Prelude.{Some, slice_get}
 use Rattle.std.proofs.lemmas.List.{map-append}
 use Rattle.thumb_instr.specs.declared.instr.Instr.{Instr}
 use Rattle.thumb_model.specs.Listing.{Name, Value, Statement, Runs, Words, Line, Place, Op, Word, plain, Label, Code, places_in, places_of, labels_at, labels_from, code_of}
 use Rattle.thumb_model.proofs.Lists.{length_map, take_back, drop_back}
-use Rattle.thumb_model.specs.Rewrite.{moved, move_label, replaced}
-use Rattle.thumb_model.specs.Rewritten.{is_op, without, labels_kept, new_line, replaced_lines}
+use Rattle.thumb_model.specs.Replaced.{moved, move_label, replaced}
+use Rattle.thumb_model.specs.ReplacedLines.{is_op, without, labels_kept, new_line, replaced_lines}
 use Rattle.thumb_model.specs.Cuts.{AreOps}
 
 abbrev append : List Place → List Place → List Place
@@ -248,3 +249,21 @@ pub lines_fewer : (write : Instr → List ℕ) (n : ℕ) (is : List Instr) (ls :
 unfolding LinesRec
 lines_fewer write n is [] p short h = omega arith
 lines_fewer write n is (l ∷ ls) p short h = fewer_step write n p is l l.statement ls short (λ q h. lines_fewer write n is ls q short h) h
+
+-- ---- windows ----
+
+pub ops_of : (is : List Instr) (n : ℕ) (ps : List Place) → n ≡ length is → take n ps ≡ map plain is → AreOps n ps
+ops_of [] zero ps e h = tt
+ops_of (i ∷ is) zero ps e h = absurd (omega arith)
+ops_of [] (suc n) ps e h = absurd (omega arith)
+ops_of (i ∷ is) (suc n) [] e h = absurd (cc)
+ops_of (i ∷ is) (suc n) (Op j mention ∷ ps) e h = ops_of is n ps (omega arith) (cc)
+ops_of (i ∷ is) (suc n) (Word w ∷ ps) e h = absurd (cc)
+
+pub outside_of : (p count : ℕ) (ls : List Label) → ((k : ℕ) (l : Label) → slice_get ls k ≡ Some l → (l.place ≤ p) ⊎ (p + count ≤ l.place)) → AllOutside p count ls
+outside_of p count [] h = tt
+outside_of p count (l ∷ ls) h = (h 0 l refl, outside_of p count ls (λ k m e. h (suc k) m e))
+
+pub before : (n : ℕ) → 0 < n → (m : ℕ) × (n ≡ suc m)
+before zero h = absurd (omega arith)
+before (suc m) h = (m, refl)

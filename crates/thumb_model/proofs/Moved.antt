@@ -11,7 +11,7 @@ use Rattle.thumb_model.specs.Listing.{Name, Mention, Place, Op, Word, plain, Lab
 use Rattle.thumb_model.specs.Naming.{Naming, Fits, points_of, points, returns_from}
 use Rattle.thumb_model.specs.Steps.{label_place, least_or, point_among}
 use Rattle.thumb_model.specs.Literals.{HasLiterals, is_word_place}
-use Rattle.thumb_model.specs.Rewrite.{moved, move_label, replaced}
+use Rattle.thumb_model.specs.Replaced.{moved, move_label, replaced}
 use Rattle.thumb_model.proofs.Lists.{get_drop, get_take, get_front, get_back, length_map, take_all, take_back, length_drop}
 
 -- ---- calls ----
@@ -145,7 +145,8 @@ mentioned_more n front window back h =
 -- what is asked of a replacement, but for what the instructions do
 pub record IsReplacement (code : Code) (p count : ℕ) (is : List Instr) : Type 0 where
   pub within : p + count ≤ length code.places
-  pub shorter : length is < count
+  pub some : 0 < count
+  pub no_longer : length is ≤ count
   pub first : is_op_place (slice_get code.places p) ≡ true
   pub no_call : AreNoCalls (take count (drop p code.places))
   pub no_new_call : AreNoCalls (map plain is)
@@ -214,7 +215,7 @@ module _ (code : Code) (p count : ℕ) (is : List Instr) where
     fetch_after q h =
         let n : length (take p code.places) ≡ p = take_all p code.places (omega (arith, r.within)) in
         let m : length (map plain is) ≡ length is = length_map plain is in
-        let s = r.shorter in
+        let s = r.no_longer in let o = r.some in
         let t : to q ≡ q - (count - length is) = omega arith in
         ap (slice_get places') t
         ∙ get_back (take p code.places) _ (q - (count - length is) - p) _ (omega arith)
@@ -234,7 +235,7 @@ module _ (code : Code) (p count : ℕ) (is : List Instr) where
           | inr l ↦ absurd (not_both (slice_get code.places p) r.first (ap (λ n. is_word_place (slice_get code.places n)) (let e : p ≡ q + (p - q) = omega arith in e) ∙ w (p - q) (omega arith)))
         ]
     data_moved q k (inr h) w =
-        let s = r.shorter in
+        let s = r.no_longer in let o = r.some in
         ap (slice_get places') (let e : to q + k ≡ to (q + k) = omega arith in e) ∙ fetch_after (q + k) (omega arith)
 
     -- where a name's label stands moves
@@ -264,7 +265,7 @@ module _ (code : Code) (p count : ℕ) (is : List Instr) where
           | inl l ↦ (q, sym (fetch_before q l) ∙ e)
           | inr l ↦ elim (cases_lt q (p + length is)) [
             | inl k ↦ absurd (plain_none is (q - p) i m (sym (fetch_window (q - p) (omega arith)) ∙ ap (slice_get places') (let f : p + (q - p) ≡ q = omega arith in f) ∙ e))
-            | inr k ↦ (let s = r.shorter in (q + (count - length is), sym (fetch_after (q + (count - length is)) (omega arith)) ∙ ap (slice_get places') (let f : to (q + (count - length is)) ≡ q = omega arith in f) ∙ e))
+            | inr k ↦ (let s = r.no_longer in let o = r.some in (q + (count - length is), sym (fetch_after (q + (count - length is)) (omega arith)) ∙ ap (slice_get places') (let f : to (q + (count - length is)) ≡ q = omega arith in f) ∙ e))
           ]
         ]
 
@@ -338,7 +339,7 @@ module _ (code : Code) (p count : ℕ) (is : List Instr) where
     returns_stay : (names : Naming) → returns_from names 0 0 places' ≡ map move_point (returns_from names 0 0 code.places)
     returns_stay names =
         let fl = front_length in
-        let s = r.shorter in
+        let s = r.no_longer in let o = r.some in
         let a : returns_from names 0 0 front ≡ map move_point (returns_from names 0 0 front) = returns_moved names to 0 0 0 front (omega arith) (λ j l. omega arith) in
         let b : returns_from names (call_count front) (p + length is) back ≡ map move_point (returns_from names (call_count front) (p + count) back) = returns_moved names to (call_count front) (p + count) (p + length is) back (omega arith) (λ j l. omega arith) in
         returns_split' names
@@ -396,7 +397,7 @@ module _ (code : Code) (p count : ℕ) (is : List Instr) where
         let fl = front_length in
         let wl = window_length in
         let il = length_map plain is in
-        let s = r.shorter in
+        let s = r.no_longer in let o = r.some in
         let n = count_none (map plain is) r.no_new_call in
         let m = count_none window r.no_call in
         let a : call_count (take (to q) places') ≡ call_count front + call_count (take (to q - p - length is) back) =

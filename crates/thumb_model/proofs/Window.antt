@@ -25,7 +25,7 @@ use Rattle.thumb_model.specs.States.{World, Landing, Goes, Around, Act, Here, St
 use Rattle.thumb_model.specs.Acts.{act}
 use Rattle.thumb_model.specs.Steps.{around_of, aim_of, target_at, step, times}
 use Rattle.thumb_model.specs.Flow.{ways_on, ways_of, ways, Leads, Onward, ToPlace, AnyPoint, Follows, Reads, now, later}
-use Rattle.thumb_model.specs.Rewrite.{IsOneToOne, AreOver, Equal, normalised}
+use Rattle.thumb_model.specs.Sides.{IsOneToOne, AreOver, Equal, normalised}
 use Rattle.thumb_model.proofs.Lists.{present_at}
 use Rattle.thumb_model.proofs.Law.{keys, AgreeOn, assigned_agree, assigned_other, inside_of, Matches, Taken, AlikeBut, law, ap_two}
 use Rattle.thumb_model.proofs.Held.{values_of, are_held, AreHeld}

@@ -1,16 +1,10 @@
--- What holds of runs, of live items and of rewriting.
-use Rattle.std.specs.Prelude.{◌≡◌, ℕ, ◌+◌, ◌<◌, ◌≤◌, List, ◌++◌, length, map, IsSome}
-use Rattle.thumb_instr.specs.Renaming.{renamed}
-use Rattle.thumb_model.specs.Listing.{Name, Line, Code, places_of, code_of, place_of, label_places, return_places}
-use Rattle.thumb_model.specs.Layout.{Layable}
+-- What holds of runs and of live items.
+use Rattle.std.specs.Prelude.{◌≡◌, ℕ, ◌<◌, ◌++◌, map}
+use Rattle.thumb_model.specs.Listing.{Code, label_places, return_places}
 use Rattle.thumb_model.specs.Naming.{Naming, Fits, points}
 use Rattle.thumb_model.specs.States.{State, IsWorld}
 use Rattle.thumb_model.specs.Steps.{step}
-use Rattle.thumb_model.specs.Literals.{HasLiterals}
 use Rattle.thumb_model.specs.Flow.{LiveAfter}
-use Rattle.thumb_model.specs.Same.{Same}
-use Rattle.thumb_model.specs.Rewrite.{AreSound, replaced}
-use Rattle.thumb_model.specs.Rewritten.{Setting, Replacement, lines_after, AppliesIn, NoneApplies, AreRewritten, AllApplied}
 
 -- a step leaves each number in its range
 abbrev pub StepsKeepWorlds : Type 0
@@ -20,40 +14,6 @@ StepsKeepWorlds = (names : Naming) (code : Code) → Fits names code → (s : St
 abbrev pub OnlyItemsAreLive : Type 0
 OnlyItemsAreLive = (code : Code) (p x : ℕ) → LiveAfter code p x → x < 19
 
--- one replacement by a sound table keeps the runs of lines whose literals stand behind their labels
-abbrev pub ReplacingKeepsRuns : Type 0
-ReplacingKeepsRuns = (s : Setting) (r : Replacement) (ls : List Line) → AreSound s.table → HasLiterals (code_of ls) → AppliesIn s r ls → Same (code_of ls) (code_of (lines_after s r ls))
-
--- so does rewriting
-abbrev pub RewritingKeepsRuns : Type 0
-RewritingKeepsRuns = (s : Setting) (ls : List Line) (rs : List Replacement) (new : List Line) → AreSound s.table → HasLiterals (code_of ls) → AreRewritten s ls rs new → Same (code_of ls) (code_of new)
-
--- each replacement applied in the lines as they then were, and none applies in those that are left
-abbrev pub RewritingIsComplete : Type 0
-RewritingIsComplete = (s : Setting) (ls : List Line) (rs : List Replacement) (new : List Line) → AreRewritten s ls rs new → AllApplied s ls rs × NoneApplies s new
-
--- lines that can be laid out stay so
-abbrev pub RewritingStaysLayable : Type 0
-RewritingStaysLayable = (s : Setting) (ls : List Line) (rs : List Replacement) (new : List Line) → Layable s.base ls → AreRewritten s ls rs new → Layable s.base new
-
--- each replacement takes a place away, and there are no more lines
-abbrev pub RewritingShortens : Type 0
-RewritingShortens = (s : Setting) (ls : List Line) (rs : List Replacement) (new : List Line) → AreRewritten s ls rs new → (length (places_of new) + length rs ≤ length (places_of ls)) × (length new ≤ length ls)
-
 -- the places to which the words of code points lead are those of code labels and return points
 abbrev pub PointsArePlaces : Type 0
 PointsArePlaces = (names : Naming) (code : Code) → map (λ a. a.1) (points names code) ≡ label_places code.places code.labels ++ return_places 0 code.places
-
--- replacing lines replaces their places and labels
-abbrev pub LinesAreReplacedAsPlaces : Type 0
-LinesAreReplacedAsPlaces = (s : Setting) (r : Replacement) (ls : List Line) (a : AppliesIn s r ls) → code_of (lines_after s r ls) ≡ replaced (code_of ls) r.place (length a.rule.left) (map (renamed r.registers) a.rule.right)
-
--- each code label stays one
-abbrev pub LabelsStayCode : Type 0
-LabelsStayCode = (s : Setting) (r : Replacement) (ls : List Line) → AreSound s.table → AppliesIn s r ls → (label : Name) → IsSome (place_of (code_of ls) label) → IsSome (place_of (code_of (lines_after s r ls)) label)
-
--- the replacements and the lines are determined
-abbrev pub IsDetermined : Type 0
-IsDetermined =
-    (s : Setting) (ls : List Line) → AreSound s.table →
-    (rs ss : List Replacement) (new other : List Line) → AreRewritten s ls rs new → AreRewritten s ls ss other → (rs ≡ ss) × (new ≡ other)

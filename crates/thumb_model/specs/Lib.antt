@@ -11,8 +11,9 @@ pub mod Steps
 pub mod Literals
 pub mod Flow
 pub mod Same
-pub mod Rewrite
-pub mod Rewritten
+pub mod Sides
+pub mod Replaced
+pub mod ReplacedLines
 pub mod Cuts
 pub mod Laid
 pub mod Returns

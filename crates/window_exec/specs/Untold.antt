@@ -3,7 +3,7 @@ use Rattle.std.specs.Prelude.{◌≡◌, ◌↔◌, ℕ, List}
 use Rattle.thumb_instr.specs.declared.instr.Instr.{Instr}
 use Rattle.thumb_instr.specs.Items.{has, one_of}
 use Rattle.thumb_model.specs.Items.{Values, AreWords}
-use Rattle.thumb_model.specs.Rewrite.{Equal}
+use Rattle.thumb_model.specs.Sides.{Equal}
 use Rattle.window_exec.specs.Telling.{Tells}
 
 -- a mask as a list of items, by which equality is said, and as a word, by which states tell

@@ -2,7 +2,7 @@
 ghost use Rattle.std.specs.Prelude.{◌≡◌, ◌<◌, ◌≤◌, ◌↔◌, ◌==◌, ◌&&◌, not, IsTrue};
 ghost use Rattle.thumb_instr.specs.Items.{has};
 ghost use Rattle.thumb_model.specs.Effect.{after_all};
-ghost use Rattle.thumb_model.specs.Rewrite.{AreOver};
+ghost use Rattle.thumb_model.specs.Sides.{AreOver};
 ghost use Rattle.window_exec.specs.State.{values_of};
 ghost use Rattle.window_exec.specs.Telling.{Differ, Tells};
 

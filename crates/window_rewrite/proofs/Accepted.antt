@@ -3,7 +3,7 @@ use Rattle.std.proofs.Common.{◌≡◌, ℕ, zero, suc, ◌+◌, ◌≤◌, Lis
 use Rattle.std.specs.Option.{option_map}
 use Rattle.std.proofs.lemmas.List.{length-map}
 use Rattle.std.proofs.lemmas.Option.{slice_get-map, same_Some}
-use Rattle.thumb_model.specs.Rewrite as model
+use Rattle.rule_model.specs.Rules as model
 use Rattle.rule_table.specs.Table.{Rule, Table}
 use Rattle.proof_logs.specs.Verdicts.{InTurn}
 use Rattle.table_audit.specs.Sides.{SidesFit, IsCanonicalSide}

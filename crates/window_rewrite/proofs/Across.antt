@@ -8,11 +8,12 @@ use Rattle.thumb_instr.specs.declared.instr.Instr.{Instr}
 use Rattle.thumb_instr.specs.Window.{is_in_window, normal_of}
 use Rattle.thumb_instr.specs.Renaming.{Low, renamed}
 use Rattle.thumb_model.specs.Listing.{plain, Line, Place, places_of, code_of}
-use Rattle.thumb_model.specs.Rewrite.{Rule, normalised}
-use Rattle.thumb_model.specs.Rewritten.{Replacement, left_length, left_length_of}
+use Rattle.rule_model.specs.Rules.{Rule}
+use Rattle.thumb_model.specs.Sides.{normalised}
+use Rattle.rule_model.specs.Rewriting.{Replacement, left_length, left_length_of}
 use Rattle.thumb_model.proofs.Lists.{get_drop, get_take}
 use Rattle.thumb_model.proofs.Window.{AreStraight}
-use Rattle.thumb_model.proofs.Table.{window_length, applies_sound}
+use Rattle.rule_model.proofs.Table.{window_length, applies_sound}
 use Rattle.line_cursor.specs.Looks.{letter_at}
 use Rattle.window_rewrite.specs.declared.index.Index.{Index}
 use Rattle.window_rewrite.specs.Rewriting.{setting}

@@ -12,13 +12,16 @@ use Rattle.thumb_model.specs.Items.{one_of}
 use Rattle.thumb_model.specs.Listing.{Name, Statement, Nothing, Runs, Words, Aligns, Sets, Line, Label, Code, code_of, plain, is_op_place, places_in}
 use Rattle.thumb_model.specs.Flow.{LiveAfter}
 use Rattle.thumb_model.specs.Layout.{size_at, is_among, label_address, set_in, set_address, cleared, or_else, or_first, lies_in, aim_fault, fault_at, faults_from, Layable}
-use Rattle.thumb_model.specs.Rewrite.{Rule, Applies, moved, register_count}
-use Rattle.thumb_model.specs.Rewritten.{Setting, Replacement, is_op, without, labels_kept, new_line, replaced_lines, lines_after_rule, are_joined_from, left_length, left_length_of}
+use Rattle.rule_model.specs.Rules.{Rule, Applies}
+use Rattle.thumb_model.specs.Replaced.{moved}
+use Rattle.thumb_model.specs.Sides.{register_count}
+use Rattle.rule_model.specs.Rewriting.{Setting, Replacement, lines_after_rule, left_length, left_length_of}
+use Rattle.thumb_model.specs.ReplacedLines.{is_op, without, labels_kept, new_line, replaced_lines, are_joined_from}
 use Rattle.listing_parser.specs.Parsing.{own_line}
 use Rattle.kept_layout.proofs.Cutting.{two_bytes}
 use Rattle.line_cursor.specs.Cursors.{IsSettled}
 use Rattle.line_cursor.proofs.Settled.{left_places, IsGap, settled_stay, stay_settled}
-use Rattle.line_cursor.proofs.Nearer.{applied_gap, applied_stay}
+use Rattle.window_rewrite.proofs.RuleWindows.{applied_gap, applied_stay}
 use Rattle.window_rewrite.specs.Rewriting.{setting}
 use Rattle.window_rewrite.specs.Rules.{is_marked, AreAlike, AreFit, AreLed}
 use Rattle.window_rewrite.specs.Choices.{Meets}

@@ -13,20 +13,23 @@ use Rattle.thumb_model.specs.Items.{one_of}
 use Rattle.thumb_model.specs.Listing.{Place, Op, Word, plain, Label, Line, places_of, labels_from, code_of, is_op_place}
 use Rattle.thumb_model.specs.Flow.{LiveAfter}
 use Rattle.thumb_model.specs.Layout.{Layable}
-use Rattle.thumb_model.specs.Rewrite.{Rule, Applies, AreOver, IsSoundRule, moved, normalised}
-use Rattle.thumb_model.specs.Rewritten.{Setting, Replacement, replaced_lines, lines_after_rule, lines_after, are_joined_from, AppliesIn}
+use Rattle.rule_model.specs.Rules.{Rule, Applies, IsSoundRule}
+use Rattle.thumb_model.specs.Sides.{AreOver, normalised}
+use Rattle.thumb_model.specs.Replaced.{moved}
+use Rattle.rule_model.specs.Rewriting.{Setting, Replacement, lines_after_rule, lines_after, AppliesIn}
+use Rattle.thumb_model.specs.ReplacedLines.{replaced_lines, are_joined_from}
 use Rattle.thumb_model.specs.Cuts.{AreOps}
 use Rattle.thumb_model.proofs.Lists.{get_drop, length_drop}
 use Rattle.listing_parser.specs.Replacing.{names_no_label}
 use Rattle.listing_parser.specs.Parsing.{own_line}
 use Rattle.liveness.specs.Kept.{KeepsAt}
-use Rattle.liveness.proofs.Applied.{applies_keeps}
-use Rattle.steady_layout.proofs.Laws.{steady_is_layable, steady_stays}
+use Rattle.window_rewrite.proofs.RuleWindows.{applies_keeps, steady_stays, applied_gap, applied_stay}
+use Rattle.steady_layout.proofs.Laws.{steady_is_layable}
 use Rattle.window_runs.specs.Windows.{IsWindow}
 use Rattle.window_harvest.specs.Harvest.{spot_of, StandsThere}
 use Rattle.line_cursor.specs.Cursors.{IsSettled}
 use Rattle.line_cursor.proofs.Settled.{left_places, IsGap, settled_stay, stay_settled}
-use Rattle.line_cursor.proofs.Nearer.{first_op, window_within, applied_gap, applied_stay}
+use Rattle.line_cursor.proofs.Nearer.{first_op, window_within}
 use Rattle.window_rewrite.specs.declared.finding.Rules.{Rules}
 use Rattle.window_rewrite.specs.declared.ground.Ground.{Ground}
 use Rattle.window_rewrite.specs.Rewriting.{setting}

@@ -5,7 +5,7 @@ use Rattle.thumb_instr.specs.declared.instr.Instr.{Instr}
 use Rattle.thumb_instr.specs.Items.{has}
 use Rattle.thumb_model.specs.Listing.{Statement, Nothing, Runs, Words, Aligns, Sets, Place, Line, places_in, places_of, code_of}
 use Rattle.thumb_model.specs.Flow.{LiveAfter}
-use Rattle.thumb_model.specs.Rewritten.{is_op}
+use Rattle.thumb_model.specs.ReplacedLines.{is_op}
 use Rattle.liveness.specs.Live.{IsLive, set_at}
 use Rattle.liveness.specs.Kept.{AreFlows}
 use Rattle.window_runs.specs.declared.rows.Row.{Row}

@@ -11,12 +11,13 @@ use Rattle.thumb_instr.specs.Items.{has}
 use Rattle.thumb_instr.specs.Window.{is_in_window, normal_of}
 use Rattle.thumb_instr.specs.Renaming.{Low}
 use Rattle.thumb_model.specs.Listing.{plain, Place, Label, Line, places_of, labels_from, code_of, is_op_place}
-use Rattle.thumb_model.specs.Rewrite.{Rule, IsSoundRule}
-use Rattle.thumb_model.specs.Rewritten.{Setting, Replacement, NoneApplies, are_joined_from, left_length, left_length_of}
+use Rattle.rule_model.specs.Rules.{Rule, IsSoundRule}
+use Rattle.rule_model.specs.Rewriting.{Setting, Replacement, NoneApplies, left_length, left_length_of}
+use Rattle.thumb_model.specs.ReplacedLines.{are_joined_from}
 use Rattle.thumb_model.specs.Flow.{LiveAfter}
 use Rattle.thumb_model.proofs.Lists.{get_back, length_map, take_all, take_short, length_drop}
 use Rattle.thumb_model.proofs.Window.{AreStraight}
-use Rattle.thumb_model.proofs.Table.{window_length, applies_sound}
+use Rattle.rule_model.proofs.Table.{window_length, applies_sound}
 use Rattle.window_runs.specs.Windows.{IsWindow}
 use Rattle.liveness.specs.Live.{Sets as LiveSets, set_at}
 use Rattle.rule_table.specs.declared.table.Entry.{Entry}

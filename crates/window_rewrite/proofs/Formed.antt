@@ -20,7 +20,8 @@ use Rattle.thumb_instr.specs.Renaming.{Low, named, named_by, renamed, AreBelow, 
 use Rattle.thumb_instr.proofs.PartLemmas.{same_parts, same_fields}
 use Rattle.thumb_instr.proofs.RenamingLemmas.{below_parts}
 use Rattle.thumb_model.specs.Items.{one_of}
-use Rattle.thumb_model.specs.Rewrite.{Rule, IsSoundRule, register_count}
+use Rattle.rule_model.specs.Rules.{Rule, IsSoundRule}
+use Rattle.thumb_model.specs.Sides.{register_count}
 use Rattle.rule_table.specs.Binding.{number_under}
 use Rattle.rule_table.specs.Canonical.{numbers_of, register_has, masked, IsRenamable, IsCanonical}
 use Rattle.rule_table.proofs.Renamings.{renamed_parts}

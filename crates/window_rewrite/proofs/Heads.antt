@@ -7,7 +7,8 @@ use Rattle.thumb_instr.specs.declared.instr.Instr.{Instr}
 use Rattle.thumb_instr.specs.declared.instr.Instr.TheVariants as instr
 use Rattle.thumb_instr.specs.Window.{normal_of}
 use Rattle.thumb_instr.specs.Renaming.{Low, renamed}
-use Rattle.thumb_model.specs.Rewrite.{Rule, normalised}
+use Rattle.rule_model.specs.Rules.{Rule}
+use Rattle.thumb_model.specs.Sides.{normalised}
 use Rattle.thumb_model.proofs.Lists.{length_map}
 use Rattle.window_rewrite.specs.Rules.{is_marked, is_shorter, AreMarked, ArePaired, HaveMarks, IsNoted}
 use Rattle.window_rewrite.specs.Shapes.{head_number, next_shape, shape_from, shape_of}

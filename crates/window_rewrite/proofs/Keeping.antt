@@ -4,7 +4,7 @@ use Rattle.std.specs.Prelude.{slice_get, slice_set}
 use Rattle.std.proofs.lemmas.Bool.{cases_eq, cases_lt}
 use Rattle.std.proofs.lemmas.List.{length-set}
 use Rattle.std.proofs.lemmas.Option.{same_Some}
-use Rattle.thumb_model.specs.Rewrite.{Rule}
+use Rattle.rule_model.specs.Rules.{Rule}
 use Rattle.window_rewrite.specs.declared.shadows.Kept.{Kept}
 use Rattle.window_rewrite.specs.Rules.{is_marked, is_shorter, AreKept, IsLed}
 use Rattle.window_rewrite.proofs.Heads.{marked_here, marked_still}

@@ -11,8 +11,8 @@ use Rattle.thumb_instr.specs.declared.instr.Instr.{Instr}
 use Rattle.thumb_instr.specs.declared.items.Items.{Items}
 use Rattle.thumb_model.specs.Listing.{Label, Line, Code, Place, plain, places_of, labels_from, code_of}
 use Rattle.thumb_model.specs.Flow.{ways_of, ways}
-use Rattle.thumb_model.specs.Rewrite.{replaced}
-use Rattle.thumb_model.specs.Rewritten.{replaced_lines}
+use Rattle.thumb_model.specs.Replaced.{replaced}
+use Rattle.thumb_model.specs.ReplacedLines.{replaced_lines}
 use Rattle.thumb_model.specs.Cuts.{AreOps}
 use Rattle.thumb_model.proofs.Lists.{get_front, get_back, get_drop, length_map, length_drop, take_all, take_short}
 use Rattle.thumb_model.proofs.LinesReplaced.{AllOutside, code_replaced}

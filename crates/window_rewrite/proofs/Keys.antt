@@ -6,7 +6,7 @@ use Rattle.std.proofs.lemmas.List.{length-set}
 use Rattle.std.proofs.lemmas.Option.{slice_get_within}
 use Rattle.thumb_instr.specs.declared.instr.Instr.{Instr}
 use Rattle.thumb_instr.specs.Renaming.{Low}
-use Rattle.thumb_model.specs.Rewrite.{Rule}
+use Rattle.rule_model.specs.Rules.{Rule}
 use Rattle.thumb_model.proofs.Lists.{get_drop, length_drop}
 use Rattle.window_rewrite.specs.Rules.{is_marked, first_with, AreFirsts, AreNexts, AreLed, AreChains}
 use Rattle.window_rewrite.specs.Forms.{form_of}

@@ -11,7 +11,8 @@ use Rattle.thumb_instr.specs.Window.{is_in_window}
 use Rattle.thumb_instr.specs.Renaming.{Low, named, renamed, AreBelow, number_or}
 use Rattle.thumb_instr.proofs.RenamingLemmas.{below_parts}
 use Rattle.thumb_model.specs.Items.{one_of}
-use Rattle.thumb_model.specs.Rewrite.{Rule, IsSoundRule, register_count, is_named}
+use Rattle.rule_model.specs.Rules.{Rule, IsSoundRule}
+use Rattle.thumb_model.specs.Sides.{register_count, is_named}
 use Rattle.thumb_model.proofs.Lists.{get_front, get_take, take_all}
 use Rattle.rule_table.specs.Canonical.{has}
 use Rattle.rule_table.proofs.Renamings.{AllNamed, IsSameUnder, renamed_alike}

@@ -3,8 +3,8 @@ use Rattle.std.proofs.Common.{◌≡◌, ℕ, ◌+◌, ◌*◌, ◌≤◌, Bool,
 use Rattle.std.specs.Int.{from_bool}
 use Rattle.std.proofs.lemmas.List.{map-append}
 use Rattle.thumb_model.specs.Listing.{Line, places_of}
-use Rattle.thumb_model.specs.Rewritten.{Setting, Replacement, IsFirst, NoneApplies, AreRewritten, lines_after}
-use Rattle.thumb_model.proofs.LinesKept.{fewer_after}
+use Rattle.rule_model.specs.Rewriting.{Setting, Replacement, IsFirst, NoneApplies, AreRewritten, lines_after}
+use Rattle.rule_model.proofs.LinesKept.{fewer_after}
 use Rattle.window_rewrite.specs.declared.choice.Replacement.{Replacement as Made}
 use Rattle.window_rewrite.specs.Rewriting.{replacement_of, round_cost, visits}
 use Rattle.window_rewrite.specs.Sweeps.{Completes}

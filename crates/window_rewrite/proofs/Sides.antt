@@ -9,7 +9,8 @@ use Rattle.thumb_instr.specs.Window.{is_in_window, normal_of}
 use Rattle.thumb_instr.specs.Renaming.{Low, named, renamed, AreBelow, item_under, number_or}
 use Rattle.thumb_instr.proofs.Registers.{low_is}
 use Rattle.thumb_instr.proofs.RenamingLemmas.{named_renamed}
-use Rattle.thumb_model.specs.Rewrite.{Rule, AreOver, IsOneToOne, IsSoundRule, register_count, normalised}
+use Rattle.rule_model.specs.Rules.{Rule, IsSoundRule}
+use Rattle.thumb_model.specs.Sides.{IsOneToOne, AreOver, register_count, normalised}
 use Rattle.seq_enum.specs.Lists.{numbers_from}
 use Rattle.rule_table.specs.Canonical.{has, with_first, firsts, numbers_of, appearing}
 use Rattle.table_audit.specs.Sides.{IsCanonicalSide, named_count}

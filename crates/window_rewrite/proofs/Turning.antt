@@ -9,25 +9,27 @@ use Rattle.thumb_instr.specs.Renaming.{renamed}
 use Rattle.thumb_model.specs.Listing.{Statement, Nothing, Runs, Words, Aligns, Sets, Line, Code, places_in, places_of, labels_from, code_of}
 use Rattle.thumb_model.specs.Flow.{LiveAfter}
 use Rattle.thumb_model.specs.Layout.{Layable}
-use Rattle.thumb_model.specs.Rewrite.{Rule, Applies, replaced}
-use Rattle.thumb_model.specs.Rewritten.{Setting, Replacement, AppliesIn, is_op, replaced_lines, lines_after_rule, lines_after, left_length, left_length_of}
+use Rattle.rule_model.specs.Rules.{Rule, Applies}
+use Rattle.thumb_model.specs.Replaced.{replaced}
+use Rattle.rule_model.specs.Rewriting.{Setting, Replacement, AppliesIn, lines_after_rule, lines_after, left_length, left_length_of}
+use Rattle.thumb_model.specs.ReplacedLines.{is_op, replaced_lines}
 use Rattle.thumb_model.specs.Cuts.{AreOps}
-use Rattle.thumb_model.proofs.LinesKept.{fewer_after, code_of_after}
-use Rattle.thumb_model.proofs.Table.{window_length}
+use Rattle.rule_model.proofs.LinesKept.{fewer_after, code_of_after}
+use Rattle.rule_model.proofs.Table.{window_length}
 use Rattle.listing_parser.specs.Parsing.{own_line}
 use Rattle.listing_parser.specs.Targets.{DefineOnce}
 use Rattle.listing_parser.proofs.ReplaceLemmas.{still_once}
 use Rattle.liveness.specs.Live.{word_of, set_at, IsLive}
 use Rattle.liveness.specs.Kept.{AreFlows, KeepsAt}
 use Rattle.steady_layout.specs.Steady.{IsSteady}
-use Rattle.steady_layout.proofs.Laws.{steady_stays}
+use Rattle.window_rewrite.proofs.RuleWindows.{steady_stays, applied_before, applied_gap}
 use Rattle.window_runs.specs.Windows.{IsWindow}
 use Rattle.kept_layout.specs.Kept.{Lays}
 use Rattle.line_cursor.specs.declared.cursor.Cursor.{Cursor}
 use Rattle.line_cursor.specs.declared.cursor.Spot.{Spot}
 use Rattle.line_cursor.specs.Cursors.{lines_behind, lines_ahead, lines_at, place_at, spots_at, sets_of, flows_of, IsCursor}
 use Rattle.line_cursor.proofs.Settled.{IsGap}
-use Rattle.line_cursor.proofs.Nearer.{places_append, applied_before, applied_gap, joined_stays}
+use Rattle.line_cursor.proofs.Nearer.{places_append, joined_stays}
 use Rattle.window_rewrite.specs.Rules.{AreFit}
 use Rattle.window_rewrite.specs.declared.choice.Choice.{Choice}
 use Rattle.window_rewrite.specs.declared.finding.Rules.{Rules}

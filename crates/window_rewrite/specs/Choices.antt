@@ -6,8 +6,9 @@ use Rattle.thumb_instr.specs.Renaming.{Low}
 use Rattle.thumb_model.specs.Listing.{Line, code_of}
 use Rattle.liveness.specs.Kept.{KeepsAt}
 use Rattle.thumb_model.specs.Layout.{Layable}
-use Rattle.thumb_model.specs.Rewrite.{Rule, Applies}
-use Rattle.thumb_model.specs.Rewritten.{Setting, Replacement, AppliesIn, IsFirst, are_joined_from, replaced_lines, lines_after, left_length}
+use Rattle.rule_model.specs.Rules.{Rule, Applies}
+use Rattle.rule_model.specs.Rewriting.{Setting, Replacement, AppliesIn, IsFirst, lines_after, left_length}
+use Rattle.thumb_model.specs.ReplacedLines.{are_joined_from, replaced_lines}
 use Rattle.window_runs.specs.Windows.{IsWindow}
 use Rattle.window_rewrite.specs.declared.choice.Choice.{Choice}
 use Rattle.window_rewrite.specs.declared.finding.Rules.{Rules}

@@ -4,7 +4,8 @@ use Rattle.thumb_instr.specs.declared.instr.Instr.{Instr}
 use Rattle.thumb_instr.specs.Items.{has}
 use Rattle.thumb_instr.specs.Renaming.{Low, renamed, item_under}
 use Rattle.thumb_model.specs.Items.{one_of}
-use Rattle.thumb_model.specs.Rewrite.{Rule, IsOneToOne, IsSoundRule, register_count, normalised}
+use Rattle.rule_model.specs.Rules.{Rule, IsSoundRule}
+use Rattle.thumb_model.specs.Sides.{IsOneToOne, register_count, normalised}
 use Rattle.table_audit.specs.Sides.{IsCanonicalSide}
 use Rattle.window_rewrite.specs.declared.forms.Form.{Form}
 use Rattle.window_rewrite.specs.Forms.{form_of}

@@ -2,8 +2,8 @@
 use Rattle.std.specs.Prelude.{◌≡◌, ℕ, zero, suc, ◌≤◌, ◌-◌, ◌+◌, ◌*◌, List, [], ◌∷◌, length, Option, Some, None}
 use Rattle.thumb_instr.specs.Renaming.{Low}
 use Rattle.thumb_model.specs.Listing.{Line, places_of}
-use Rattle.thumb_model.specs.Rewrite.{Rule}
-use Rattle.thumb_model.specs.Rewritten.{Setting, Replacement}
+use Rattle.rule_model.specs.Rules.{Rule}
+use Rattle.rule_model.specs.Rewriting.{Setting, Replacement}
 use Rattle.label_layout.specs.declared.errors.LayoutError.{LayoutError}
 use Rattle.label_layout.specs.declared.errors.LayoutError.TheVariants as layout
 use Rattle.label_layout.specs.Refusals.{fault_of}

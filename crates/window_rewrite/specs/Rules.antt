@@ -1,7 +1,7 @@
 -- The rules of a table, and how they are found by their left sides.
 use Rattle.std.specs.Prelude.{◌≡◌, ℕ, suc, ◌+◌, ◌==◌, ◌<◌, ◌≤◌, ◌&&◌, Bool, true, false, List, [], ◌∷◌, length, map, take, drop, nat_lt, Option, Some, None, slice_get, if◌then◌else◌}
 use Rattle.thumb_instr.specs.declared.instr.Instr.{Instr}
-use Rattle.thumb_model.specs.Rewrite.{Rule, IsSoundRule}
+use Rattle.rule_model.specs.Rules.{Rule, IsSoundRule}
 use Rattle.rule_table.specs.declared.table.Entry.{Entry}
 use Rattle.rule_table.specs.Views.{rule_of}
 use Rattle.table_audit.specs.Soundness.{rewriting_rule}

@@ -6,8 +6,9 @@ use Rattle.thumb_instr.specs.Items.{has}
 use Rattle.thumb_instr.specs.Window.{is_in_window}
 use Rattle.thumb_model.specs.Listing.{Line, code_of, places_of}
 use Rattle.thumb_model.specs.Layout.{Layable}
-use Rattle.thumb_model.specs.Rewrite.{replaced}
-use Rattle.thumb_model.specs.Rewritten.{Setting, Replacement, AreRewritten, replaced_lines}
+use Rattle.thumb_model.specs.Replaced.{replaced}
+use Rattle.rule_model.specs.Rewriting.{Setting, Replacement, AreRewritten}
+use Rattle.thumb_model.specs.ReplacedLines.{replaced_lines}
 use Rattle.listing_parser.specs.Parsing.{own_line}
 use Rattle.listing_parser.specs.Targets.{DefineOnce}
 use Rattle.liveness.specs.Live.{set_at, IsLive}

@@ -1,6 +1,6 @@
 //! The entries of a table by their left sides.
 ghost use Rattle.std.specs.Prelude.{◌≡◌, ◌+◌, ◌<◌, length, drop, slice_get, true, Some, IfOk};
-ghost use Rattle.thumb_model.specs.Rewrite.{Rule};
+ghost use Rattle.rule_model.specs.Rules.{Rule};
 ghost use Rattle.window_rewrite.specs.Rules.{first_with, is_marked, rules_in, AreChains};
 ghost use Rattle.window_rewrite.specs.Forms.{form_of};
 

@@ -3,7 +3,7 @@ ghost use Rattle.std.specs.Prelude.{◌≡◌, List, length, true, MatchOption};
 ghost use Rattle.std.specs.List.{list_all};
 ghost use Rattle.thumb_instr.specs.Renaming.{Low};
 ghost use Rattle.thumb_instr.specs.Window.{is_in_window};
-ghost use Rattle.thumb_model.specs.Rewrite.{IsSoundRule};
+ghost use Rattle.rule_model.specs.Rules.{IsSoundRule};
 ghost use Rattle.table_audit.specs.Sides.{IsCanonicalSide};
 ghost use Rattle.window_rewrite.specs.Rewriting.{map_of, registers_of};
 ghost use Rattle.window_rewrite.specs.Rules.{entry_rule};

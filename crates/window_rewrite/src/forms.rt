@@ -4,7 +4,7 @@ ghost use Rattle.std.specs.List.{list_all};
 ghost use Rattle.thumb_instr.specs.Items.{has};
 ghost use Rattle.thumb_instr.specs.Renaming.{Low};
 ghost use Rattle.thumb_instr.specs.Window.{is_in_window};
-ghost use Rattle.thumb_model.specs.Rewrite.{Rule, IsSoundRule};
+ghost use Rattle.rule_model.specs.Rules.{Rule, IsSoundRule};
 ghost use Rattle.table_audit.specs.Sides.{IsCanonicalSide};
 ghost use Rattle.window_rewrite.specs.Fitting.{IsForm, Stands};
 ghost use Rattle.window_rewrite.specs.Forms.{form_of, letter_number, next_form};

@@ -17,7 +17,7 @@ impl Ground {
     ghost use Rattle.std.specs.Prelude.{◌≡◌, ℕ, length, List, IfOk, OnOk, IfSome};
     ghost use Rattle.thumb_model.specs.Layout.{Layable};
     ghost use Rattle.thumb_model.specs.Listing.{Line as Listed};
-    ghost use Rattle.thumb_model.specs.Rewritten.{replaced_lines};
+    ghost use Rattle.thumb_model.specs.ReplacedLines.{replaced_lines};
     ghost use Rattle.listing_parser.specs.Parsing.{own_line};
     ghost use Rattle.line_cursor.specs.Cursors.{lines_at, place_at};
     ghost use Rattle.kept_layout.specs.Kept.{IsLaid};

@@ -5,7 +5,7 @@ ghost use Rattle.std.specs.List.{list_all};
 ghost use Rattle.thumb_instr.specs.Window.{is_in_window};
 ghost use Rattle.thumb_model.specs.Listing.{code_of, places_of};
 ghost use Rattle.thumb_model.specs.Flow.{ways_of};
-ghost use Rattle.thumb_model.specs.Rewritten.{replaced_lines};
+ghost use Rattle.thumb_model.specs.ReplacedLines.{replaced_lines};
 ghost use Rattle.listing_parser.specs.Parsing.{own_line};
 ghost use Rattle.listing_parser.specs.Targets.{DefineOnce};
 ghost use Rattle.liveness.specs.Kept.{FlowOf, KeepsAt, LeadsUp};

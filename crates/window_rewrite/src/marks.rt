@@ -1,6 +1,6 @@
 //! Marks of numbers that left sides share with all that differ from them in registers alone.
 ghost use Rattle.std.specs.Prelude.{◌≡◌, ◌+◌, ◌<◌, ℕ, length, slice_get, Some, true, IfOk};
-ghost use Rattle.thumb_model.specs.Rewrite.{Rule};
+ghost use Rattle.rule_model.specs.Rules.{Rule};
 ghost use Rattle.window_rewrite.specs.Rules.{entry_rule, is_marked, is_shorter, rules_in, AreMarked, ArePaired, HaveMarks};
 ghost use Rattle.window_rewrite.specs.Shapes.{shape_of};
 

@@ -3,7 +3,7 @@ ghost use Rattle.std.specs.Prelude.{◌+◌, ◌≤◌, All, length, map, IfOk, 
 ghost use Rattle.rule_table.specs.Views.{table_of};
 ghost use Rattle.table_audit.specs.Soundness.{rules_of};
 ghost use Rattle.thumb_model.specs.Layout.{Layable};
-ghost use Rattle.thumb_model.specs.Rewritten.{AreRewritten};
+ghost use Rattle.rule_model.specs.Rewriting.{AreRewritten};
 ghost use Rattle.window_rewrite.specs.Rewriting.{setting, replacement_of, rewriting_cost, IsRefusal, IsWhole};
 ghost use Rattle.window_rewrite.specs.Rules.{rules_in};
 ghost use Rattle.window_rewrite.specs.Choices.{setting_of, AreReady};

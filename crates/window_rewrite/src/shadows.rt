@@ -2,7 +2,7 @@
 //! where it fits, so does the earlier one, and the layout sees only how many instructions go. It is shadowed.
 ghost use Rattle.std.specs.Prelude.{◌≡◌, ◌↔◌, ◌+◌, ◌*◌, ◌/◌, ◌%◌, ◌<◌, length, slice_get, Some, true, IfOk, IsTrue};
 ghost use Rattle.seq_enum.specs.Places.{rank};
-ghost use Rattle.thumb_model.specs.Rewrite.{Rule};
+ghost use Rattle.rule_model.specs.Rules.{Rule};
 ghost use Rattle.window_rewrite.specs.Forms.{form_of};
 ghost use Rattle.window_rewrite.specs.Rules.{entry_rule, is_marked, is_shorter, rules_in, AreAlike, AreKept, AreLed, IsLed};
 

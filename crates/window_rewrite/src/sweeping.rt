@@ -3,7 +3,7 @@ ghost use Rattle.std.specs.Prelude.{◌≡◌, ◌+◌, ◌*◌, ◌%◌, ◌<�
 ghost use Rattle.std.specs.Int.{from_bool};
 ghost use Rattle.thumb_model.specs.Layout.{Layable};
 ghost use Rattle.thumb_model.specs.Listing.{Line as Listed, code_of, places_of};
-ghost use Rattle.thumb_model.specs.Rewritten.{NoneApplies, lines_after};
+ghost use Rattle.rule_model.specs.Rewriting.{NoneApplies, lines_after};
 ghost use Rattle.line_cursor.specs.Cursors.{flows_of, lines_at, place_at, sets_of, spots_at, IsCursor};
 ghost use Rattle.listing_parser.specs.Views.{line_view};
 ghost use Rattle.liveness.specs.Kept.{AreFlows};

@@ -1,7 +1,7 @@
 use Rattle.std.proofs.Common.{◌≡◌, ◌∙◌, rules, map, length, Some, ap}
 use Rattle.std.proofs.lemmas.List.{length-map}
 use Rattle.thumb_model.specs.Layout.{Layable}
-use Rattle.thumb_model.proofs.LinesKept.{still_layable}
+use Rattle.rule_model.proofs.LinesKept.{still_layable}
 use Rattle.label_layout.specs.Refusals.{fault_of}
 use Rattle.label_layout.specs.Faults.{first_fault}
 use Rattle.listing_parser.specs.Parsing.{text_of_lines}

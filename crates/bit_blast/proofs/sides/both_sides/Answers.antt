@@ -1,5 +1,5 @@
 use Rattle.std.proofs.Common.{◌≡◌, ◌∙◌, ap, sym, subst, length, IfOk}
-use Rattle.thumb_model.specs.Rewrite.{AreOver}
+use Rattle.thumb_model.specs.Sides.{AreOver}
 use Rattle.bit_blast.proofs.Ends.{length-words_from}
 use Rattle.bit_blast.proofs.Inputs.{both_done}
 use Rattle.bit_blast.proofs.sides.both_sides.Goals as goal

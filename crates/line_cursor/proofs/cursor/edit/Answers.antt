@@ -1,6 +1,6 @@
 use Rattle.std.proofs.Common.{◌≡◌, ◌-◌, ◌∙◌, ◌++◌, List, [], ◌∷◌, length, map, refl, reverse, ap, sym}
 use Rattle.thumb_model.specs.Listing.{places_of}
-use Rattle.thumb_model.specs.Rewritten.{new_line, replaced_lines, without}
+use Rattle.thumb_model.specs.ReplacedLines.{new_line, replaced_lines, without}
 use Rattle.listing_parser.specs.Parsing.{own_line}
 use Rattle.listing_parser.specs.declared.line.Line.{Line as Lines}
 use Rattle.line_cursor.specs.Lines.{labels_left, lines_of}

@@ -1,6 +1,6 @@
 use Rattle.std.proofs.Common.{◌≡◌, ◌++◌, length, reverse}
 use Rattle.thumb_model.specs.Listing.{places_of}
-use Rattle.thumb_model.specs.Rewritten.{without}
+use Rattle.thumb_model.specs.ReplacedLines.{without}
 use Rattle.thumb_model.specs.Cuts.{AreOps}
 use Rattle.line_cursor.specs.Lines.{lines_of}
 use Rattle.line_cursor.specs.Jumping.{jumps_from}

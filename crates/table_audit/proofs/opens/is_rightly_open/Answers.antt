@@ -1,7 +1,7 @@
 use Rattle.std.proofs.Common.{arith, refl, sym, subst, ap, ◌∙◌, ◌≡◌, ◌≤◌, slice_get, Some, length, map}
 use Rattle.std.proofs.lemmas.Bool.{false≢true}
 use Rattle.window_exec.specs.State.{seen}
-use Rattle.thumb_model.specs.Rewrite.{AreOver}
+use Rattle.thumb_model.specs.Sides.{AreOver}
 use Rattle.clause_model.specs.Literals.{codes_of}
 use Rattle.lrat_check.specs.Content.{content_of}
 use Rattle.rule_table.specs.Views.{opened_of, rule_of, table_of}

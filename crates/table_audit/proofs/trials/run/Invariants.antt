@@ -1,6 +1,6 @@
 use Rattle.std.proofs.Common.{◌≡◌, ◌≤◌, ◌+◌, drop}
 use Rattle.thumb_model.specs.Effect.{after_all}
-use Rattle.thumb_model.specs.Rewrite.{AreOver}
+use Rattle.thumb_model.specs.Sides.{AreOver}
 use Rattle.window_exec.specs.State.{values_of}
 use Rattle.table_audit.proofs.trials.run.Given as goal
 

@@ -1,5 +1,5 @@
 use Rattle.std.proofs.Common.{subst, sym}
-use Rattle.thumb_model.specs.Rewrite.{AreOver}
+use Rattle.thumb_model.specs.Sides.{AreOver}
 use Rattle.table_audit.proofs.Fitting.{ordered_of}
 use Rattle.table_audit.proofs.Walking.{over_more}
 use Rattle.table_audit.proofs.verdict.check_shorter.Goals as goal

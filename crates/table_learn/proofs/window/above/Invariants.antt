@@ -1,5 +1,5 @@
 use Rattle.std.proofs.Common.{◌≡◌, ◌≤◌, drop, map, max}
-use Rattle.thumb_model.specs.Rewrite.{above}
+use Rattle.thumb_model.specs.Sides.{above}
 use Rattle.table_learn.proofs.window.above.Given as goal
 
 abbrev pub invariant-loop-register : goal.invariant-loop-register

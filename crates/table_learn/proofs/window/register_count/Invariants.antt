@@ -1,7 +1,7 @@
 use Rattle.std.proofs.Common.{◌≡◌, ◌≤◌, drop, max, true}
 use Rattle.std.specs.List.{list_all}
 use Rattle.thumb_instr.specs.Window.{is_in_window}
-use Rattle.thumb_model.specs.Rewrite.{register_count}
+use Rattle.thumb_model.specs.Sides.{register_count}
 use Rattle.table_learn.proofs.window.register_count.Given as goal
 
 abbrev pub invariant-loop-instr : goal.invariant-loop-instr

@@ -1,5 +1,5 @@
 use Rattle.std.proofs.Common.{◌≡◌, ◌∙◌, None, Some, refl, sym, ap, subst, arith}
-use Rattle.thumb_model.specs.Rewrite.{register_count}
+use Rattle.thumb_model.specs.Sides.{register_count}
 use Rattle.seq_enum.specs.Lists.{IsPlace}
 use Rattle.seq_enum.specs.Alphabet.{IsOver, sequences}
 use Rattle.window_harvest.proofs.Alphabet.{number_over, over_number, over_none}

@@ -10,8 +10,10 @@ use Rattle.thumb_instr.specs.Window.{is_in_window}
 use Rattle.thumb_instr.specs.Items.{has}
 use Rattle.thumb_model.specs.Layout.{Layable}
 use Rattle.thumb_model.specs.Listing.{Line, labels_from, places_of}
-use Rattle.thumb_model.specs.Rewrite.{Rule, register_count}
-use Rattle.thumb_model.specs.Rewritten.{left_length, replaced_lines}
+use Rattle.rule_model.specs.Rules.{Rule}
+use Rattle.thumb_model.specs.Sides.{register_count}
+use Rattle.rule_model.specs.Rewriting.{left_length}
+use Rattle.thumb_model.specs.ReplacedLines.{replaced_lines}
 use Rattle.rule_table.specs.declared.table.Entry.{Entry}
 use Rattle.listing_parser.specs.Parsing.{own_line}
 use Rattle.line_cursor.specs.Cursors.{lines_at, place_at, IsSettled}

@@ -1,6 +1,6 @@
 use Rattle.std.proofs.Common.{◌∙◌, ◌-◌, ℕ, List, length, take, drop, map, ap, refl, arith}
 use Rattle.thumb_model.specs.Listing.{Line}
-use Rattle.thumb_model.specs.Rewritten.{replaced_lines}
+use Rattle.thumb_model.specs.ReplacedLines.{replaced_lines}
 use Rattle.thumb_model.proofs.Lists.{take_all}
 use Rattle.listing_parser.specs.Parsing.{own_line}
 use Rattle.liveness.specs.declared.kept.NewSets.{NewSets}

@@ -1,6 +1,6 @@
 use Rattle.std.proofs.Common.{◌≡◌, ◌∙◌, ◌≤◌, ◌+◌, List, length, map, ap, subst, sym}
-use Rattle.thumb_model.specs.Rewrite.{Rule}
-use Rattle.thumb_model.specs.Rewritten.{AreRewritten}
+use Rattle.rule_model.specs.Rules.{Rule}
+use Rattle.rule_model.specs.Rewriting.{AreRewritten}
 use Rattle.rule_table.specs.declared.table.Entry.{Entry}
 use Rattle.rule_table.specs.declared.table.Table.{Table}
 use Rattle.rule_table.specs.Views.{table_of}

@@ -1,7 +1,7 @@
 use Rattle.std.proofs.Common.{◌≡◌, ◌∙◌, Some, refl, subst, sym}
 use Rattle.std.specs.Prelude.{slice_get}
 use Rattle.std.proofs.lemmas.Option.{slice_get_read, same_Some}
-use Rattle.thumb_model.specs.Rewrite.{Rule}
+use Rattle.rule_model.specs.Rules.{Rule}
 use Rattle.rule_table.specs.declared.table.Entry.{Entry}
 use Rattle.window_rewrite.specs.Rules.{entry_rule, AreAlike}
 use Rattle.window_rewrite.proofs.Accepted.{entry_at}

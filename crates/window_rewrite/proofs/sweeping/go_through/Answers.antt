@@ -3,8 +3,8 @@ use Rattle.std.specs.Prelude.{IfSome}
 use Rattle.std.specs.Int.{from_bool}
 use Rattle.std.proofs.lemmas.List.Elements.{All-push}
 use Rattle.thumb_model.specs.Listing.{Line, places_of}
-use Rattle.thumb_model.specs.Rewritten.{Setting}
-use Rattle.thumb_model.proofs.LinesKept.{fewer_after}
+use Rattle.rule_model.specs.Rewriting.{Setting}
+use Rattle.rule_model.proofs.LinesKept.{fewer_after}
 use Rattle.steady_layout.specs.Steady.{IsSteady}
 use Rattle.line_cursor.specs.Cursors.{lines_at}
 use Rattle.window_rewrite.specs.Rewriting.{round_cost, visits, IsWhole}

@@ -2,7 +2,7 @@ use Rattle.std.proofs.Common.{◌≡◌, ℕ, ◌+◌, ◌*◌, ◌≤◌, List,
 use Rattle.std.specs.Int.{from_bool}
 use Rattle.thumb_model.specs.Layout.{Layable}
 use Rattle.thumb_model.specs.Listing.{Line, code_of, places_of}
-use Rattle.thumb_model.specs.Rewritten.{Setting, AppliesIn}
+use Rattle.rule_model.specs.Rewriting.{Setting, AppliesIn}
 use Rattle.listing_parser.specs.Targets.{DefineOnce}
 use Rattle.listing_parser.specs.Views.{line_view}
 use Rattle.steady_layout.specs.Steady.{IsSteady}

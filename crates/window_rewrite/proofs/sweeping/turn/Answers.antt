@@ -1,6 +1,6 @@
 use Rattle.std.proofs.Common.{◌≡◌, ◌∙◌, ◌+◌, ◌<◌, ℕ, Option, arith, subst, sym}
 use Rattle.std.specs.Prelude.{IfSome, OnSome}
-use Rattle.thumb_model.specs.Rewritten.{Replacement, lines_after}
+use Rattle.rule_model.specs.Rewriting.{Replacement, lines_after}
 use Rattle.line_cursor.specs.Cursors.{lines_at, place_at}
 use Rattle.window_rewrite.specs.declared.choice.Choice.{Choice}
 use Rattle.window_rewrite.specs.Choices.{setting_of, choice_of}

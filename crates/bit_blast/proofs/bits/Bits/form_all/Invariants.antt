@@ -1,5 +1,5 @@
 use Rattle.std.proofs.Common.{◌≡◌, drop, length}
-use Rattle.thumb_model.specs.Rewrite.{AreOver}
+use Rattle.thumb_model.specs.Sides.{AreOver}
 use Rattle.bit_blast.specs.Forming.{formed_all}
 use Rattle.bit_blast.proofs.bits.Bits.form_all.Given as goal
 

@@ -1,5 +1,5 @@
 use Rattle.std.proofs.Common.{◌≡◌, ◌∙◌, ap, arith}
-use Rattle.thumb_model.specs.Rewrite.{register_count}
+use Rattle.thumb_model.specs.Sides.{register_count}
 use Rattle.table_audit.specs.Sides.{named_count}
 use Rattle.table_audit.proofs.Fitting.{ordered_of}
 use Rattle.table_audit.proofs.Names.{count_same}

@@ -9,10 +9,11 @@ use Rattle.thumb_instr.proofs.RenamingLemmas.{named_renamed}
 use Rattle.thumb_model.specs.Items.{one_of}
 use Rattle.thumb_model.specs.Listing.{plain, Line, Code, code_of}
 use Rattle.thumb_instr.specs.Renaming.{Low, named, renamed, number_or, item_under}
-use Rattle.thumb_model.specs.Rewrite.{Rule, register_count, IsSoundRule, AreSound, AreOver, is_named, normalised, Applies}
+use Rattle.rule_model.specs.Rules.{Rule, IsSoundRule, AreSound, Applies}
+use Rattle.thumb_model.specs.Sides.{register_count, AreOver, is_named, normalised}
 use Rattle.thumb_model.proofs.Lists.{present_at, cons_same}
-use Rattle.thumb_model.specs.Rewritten.{Setting, Replacement, IsFirst, lines_after, AreRewritten}
-use Rattle.thumb_model.specs.Laws.{IsDetermined}
+use Rattle.rule_model.specs.Rewriting.{Setting, Replacement, IsFirst, lines_after, AreRewritten}
+use Rattle.rule_model.specs.Laws.{IsDetermined}
 
 -- two maps give each of these items the same
 abbrev AgreeOnAll : List Low → List Low → List ℕ → Type 0

@@ -12,7 +12,9 @@ use Rattle.thumb_model.specs.Effect.{after_all}
 use Rattle.thumb_model.specs.Listing.{Place, plain, Code, is_op_place, is_code, is_call_instr}
 use Rattle.thumb_model.specs.Steps.{aim_of}
 use Rattle.thumb_model.specs.Flow.{way, ways_of, ways_on, Onward, Reads, LiveAfter}
-use Rattle.thumb_model.specs.Rewrite.{Rule, register_count, IsSoundRule, AreOver, normalised, replaced, move_label, Applies}
+use Rattle.rule_model.specs.Rules.{Rule, IsSoundRule, Applies}
+use Rattle.thumb_model.specs.Sides.{register_count, AreOver, normalised}
+use Rattle.thumb_model.specs.Replaced.{replaced, move_label}
 use Rattle.thumb_model.proofs.Lists.{get_drop, get_take, length_map, take_all, take_short, length_drop}
 use Rattle.thumb_model.proofs.Moved.{IsReplacement, AreNoCalls}
 use Rattle.thumb_model.proofs.Window.{StandsAt, AreStraight, sides_agree, normal_in_window, normal_after}
@@ -86,7 +88,8 @@ applies_sound rule registers code p eq a =
     record {
       fits_in = subst (λ c. IsReplacement code p c r) (sym n) (record {
         within = omega arith;
-        shorter = omega arith;
+        some = omega arith;
+        no_longer = omega arith;
         first = first_is l (omega arith) stands;
         no_call = subst AreNoCalls (sym a.stands) (no_calls l straight_l);
         no_new_call = no_calls r straight_r;

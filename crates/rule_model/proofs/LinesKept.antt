@@ -7,29 +7,15 @@ use Rattle.thumb_model.specs.Layout.{Layable}
 use Rattle.thumb_model.specs.Literals.{HasLiterals}
 use Rattle.thumb_model.specs.Same.{Same}
 use Rattle.thumb_instr.specs.Renaming.{renamed}
-use Rattle.thumb_model.specs.Rewrite.{Rule, AreSound, Applies, replaced}
-use Rattle.thumb_model.specs.Rewritten.{Setting, Replacement, replaced_lines, lines_after_rule, lines_after, AppliesIn, NoneApplies, AreRewritten, AllApplied}
+use Rattle.rule_model.specs.Rules.{Rule, AreSound, Applies}
+use Rattle.thumb_model.specs.Replaced.{replaced}
+use Rattle.rule_model.specs.Rewriting.{Setting, Replacement, lines_after_rule, lines_after, AppliesIn, NoneApplies, AreRewritten, AllApplied}
+use Rattle.thumb_model.specs.ReplacedLines.{replaced_lines}
 use Rattle.thumb_model.specs.Cuts.{AreOps}
 use Rattle.thumb_model.proofs.Lists.{length_map}
-use Rattle.thumb_model.proofs.LinesReplaced.{AllOutside, code_replaced, lines_fewer}
-use Rattle.thumb_model.proofs.Table.{window_length, one_keeps, fewer_places}
+use Rattle.thumb_model.proofs.LinesReplaced.{AllOutside, ops_of, outside_of, before, code_replaced, lines_fewer}
+use Rattle.rule_model.proofs.Table.{window_length, one_keeps, fewer_places}
 use Rattle.thumb_model.proofs.Follow.{Keeps, keeps_refl, keeps_trans}
-
-pub ops_of : (is : List Instr) (n : ℕ) (ps : List Place) → n ≡ length is → take n ps ≡ map plain is → AreOps n ps
-ops_of [] zero ps e h = tt
-ops_of (i ∷ is) zero ps e h = absurd (omega arith)
-ops_of [] (suc n) ps e h = absurd (omega arith)
-ops_of (i ∷ is) (suc n) [] e h = absurd (cc)
-ops_of (i ∷ is) (suc n) (Op j mention ∷ ps) e h = ops_of is n ps (omega arith) (cc)
-ops_of (i ∷ is) (suc n) (Word w ∷ ps) e h = absurd (cc)
-
-pub outside_of : (p count : ℕ) (ls : List Label) → ((k : ℕ) (l : Label) → slice_get ls k ≡ Some l → (l.place ≤ p) ⊎ (p + count ≤ l.place)) → AllOutside p count ls
-outside_of p count [] h = tt
-outside_of p count (l ∷ ls) h = (h 0 l refl, outside_of p count ls (λ k m e. h (suc k) m e))
-
-pub before : (n : ℕ) → 0 < n → (m : ℕ) × (n ≡ suc m)
-before zero h = absurd (omega arith)
-before (suc m) h = (m, refl)
 
 -- a rule applies to lines whose instructions from the place on it takes, and whose labels stand outside
 pub record IsLineWindow (rule : Rule) (r : Replacement) (ls : List Line) : Type 0 where

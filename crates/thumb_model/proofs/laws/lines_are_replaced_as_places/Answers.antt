@@ -1,5 +1,0 @@
-use Rattle.thumb_model.proofs.LinesKept.{code_of_after}
-use Rattle.thumb_model.proofs.laws.lines_are_replaced_as_places.Goals as goal
-
-pub returns : goal.returns
-returns c = code_of_after

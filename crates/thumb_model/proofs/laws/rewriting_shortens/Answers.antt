@@ -1,5 +1,0 @@
-use Rattle.thumb_model.proofs.LinesKept.{places_gone, no_more_lines}
-use Rattle.thumb_model.proofs.laws.rewriting_shortens.Goals as goal
-
-pub returns : goal.returns
-returns c = λ s ls rs new h. (places_gone s ls rs new h, no_more_lines s ls rs new h)
