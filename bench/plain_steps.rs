@@ -234,8 +234,12 @@ pub fn run(sequence: &[Instr], state: WState) -> WState {
     sequence.iter().fold(state, |state, instr| step(instr, state))
 }
 
+/// Whether two states differ in what counts.
+pub fn differ(a: &WState, b: &WState, mask: Mask) -> bool {
+    (a.nzcv ^ b.nzcv) & mask.nzcv != 0 || (0..4).any(|register| mask.registers[register] && a.r[register] != b.r[register])
+}
+
 /// Whether two sequences leave something different in a state.
 pub fn tells(state: WState, left: &[Instr], right: &[Instr], mask: Mask) -> bool {
-    let (a, b) = (run(left, state), run(right, state));
-    (a.nzcv ^ b.nzcv) & mask.nzcv != 0 || (0..4).any(|register| mask.registers[register] && a.r[register] != b.r[register])
+    differ(&run(left, state), &run(right, state), mask)
 }

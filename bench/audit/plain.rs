@@ -1,5 +1,5 @@
-//! Audits the table whose text stands on standard input in plain Rust: each entry's proof is checked over the formula of its sides, and each shorter sequence
-//! is run on the states until one tells it. Tells on standard error the microseconds of the audit and those of reading.
+//! Audits the table whose text stands on standard input in plain Rust: each entry's proof is checked over the formula of its sides; the shorter sequences that
+//! the first state doesn't tell are looked up, and run on the other states until one tells them. Tells on standard error the microseconds of the audit and those of reading.
 
 #[path = "../plain_checker.rs"]
 mod plain_checker;
@@ -7,6 +7,8 @@ mod plain_checker;
 mod plain_formulas;
 #[path = "../plain_letters.rs"]
 mod plain_letters;
+#[path = "../plain_outcomes.rs"]
+mod plain_outcomes;
 #[path = "../plain_steps.rs"]
 mod plain_steps;
 #[path = "../plain_tables.rs"]
@@ -15,7 +17,8 @@ mod plain_tables;
 use plain_checker::{Checker, code};
 use plain_formulas::formula;
 use plain_letters::{alphabet, text_of};
-use plain_steps::{Instr, Mask, WState, run};
+use plain_outcomes::Outcomes;
+use plain_steps::{Instr, Mask, WState, differ, run};
 use plain_tables::{Entry, Line, read_table, write_instr};
 use std::collections::HashMap;
 use std::io::{self, Read};
@@ -36,30 +39,17 @@ fn is_refuted(left: &[Instr], right: &[Instr], mask: Mask, k: usize, proof: &[Li
     checker.refuted
 }
 
-fn differ(a: &WState, b: &WState, mask: Mask) -> bool {
-    (a.nzcv ^ b.nzcv) & mask.nzcv != 0 || (0..4).any(|register| mask.registers[register] && a.r[register] != b.r[register])
-}
-
 /// Whether some sequence of fewer instructions is told by no state.
-fn has_untold(letters: &[Instr], states: &[WState], left: &[Instr], count: usize, mask: Mask) -> bool {
-    let ends: Vec<WState> = states.iter().map(|state| run(left, *state)).collect();
-    let is_told = |sequence: &[Instr]| states.iter().zip(&ends).any(|(state, end)| differ(end, &run(sequence, *state), mask));
-    (0..count).any(|length| {
-        let mut digits = vec![0; length];
-        let mut sequence = vec![letters[0]; length];
-        loop {
-            if !is_told(&sequence) {
-                return true;
-            }
-            let Some(at) = (0..length).rev().find(|at| digits[*at] + 1 < letters.len()) else {
-                return false;
-            };
-            digits[at] += 1;
-            digits[at + 1..].fill(0);
-            for (letter, digit) in sequence.iter_mut().zip(&digits).skip(at) {
-                *letter = letters[*digit];
-            }
-        }
+fn has_untold(outcomes: &mut Outcomes, states: &[WState], left: &[Instr], count: usize, mask: Mask) -> bool {
+    let Some(longest) = count.checked_sub(1) else {
+        return false;
+    };
+    outcomes.grow(longest);
+    let trials: Vec<(WState, WState)> = states.iter().map(|state| (*state, run(left, *state))).collect();
+    let numbers = outcomes.agreeing(&trials[0].1, mask, outcomes.count_below(count));
+    numbers.iter().any(|number| {
+        let sequence = outcomes.sequence(*number as usize);
+        !trials[1..].iter().rev().any(|(state, end)| differ(end, &run(&sequence, *state), mask))
     })
 }
 
@@ -93,12 +83,13 @@ fn main() -> io::Result<()> {
         String::from_utf8(text).unwrap().lines().map(|line| named[line]).collect()
     };
     let states: Vec<WState> = table.states.iter().map(|(r, nzcv)| WState { r: *r, nzcv: *nzcv }).collect();
-    let is_refused = |entry: &Entry| {
+    let mut outcomes: Vec<Outcomes> = letters.iter().enumerate().map(|(k, letters)| Outcomes::new(k, letters.clone(), &states[0])).collect();
+    let mut is_refused = |entry: &Entry| {
         let (left, right, mask) = (side(&entry.left), side(&entry.right), mask_of(entry.mask));
         let k = register_count(&left);
-        !is_refuted(&left, &right, mask, k as usize, &entry.proof) || has_untold(&letters[k as usize], &states, &left, right.len(), mask)
+        !is_refuted(&left, &right, mask, k as usize, &entry.proof) || has_untold(&mut outcomes[k as usize], &states, &left, right.len(), mask)
     };
-    let bad = table.entries.iter().position(is_refused);
+    let bad = table.entries.iter().position(|entry| is_refused(entry));
     let auditing = start.elapsed().as_micros();
     match bad {
         Some(place) => println!("entry {} is refused", place + 1),

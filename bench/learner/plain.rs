@@ -5,20 +5,20 @@
 
 #[path = "../plain_formulas.rs"]
 mod plain_formulas;
-#[path = "../plain_lanes.rs"]
-mod plain_lanes;
 #[path = "../plain_letters.rs"]
 mod plain_letters;
+#[path = "../plain_outcomes.rs"]
+mod plain_outcomes;
 #[path = "../plain_solver.rs"]
 mod plain_solver;
 #[path = "../plain_steps.rs"]
 mod plain_steps;
 
 use plain_formulas::{Builder, formula};
-use plain_lanes::{Column, columns_of, index, print_of, prints_within};
 use plain_letters::{alphabet, seeded, text_of};
+use plain_outcomes::Outcomes;
 use plain_solver::{Line, Verdict, number, solve};
-use plain_steps::{Instr, Mask, WState, tells};
+use plain_steps::{Instr, Mask, WState, differ, run, tells};
 use std::collections::HashMap;
 use std::fmt::Write as _;
 use std::io::{self, Read, Write as _};
@@ -26,7 +26,6 @@ use std::time::{Duration, Instant};
 
 const TEXT_LIMIT: usize = 67_108_864;
 const STATE_LINE: usize = 44;
-const PRINTED: usize = 8;
 
 struct Settings {
     regs: u32,
@@ -54,15 +53,6 @@ struct Entry {
     k: u32,
     proof: String,
     opens: Vec<Open>,
-}
-
-/// An index of prints, kept while windows name as many registers under the same mask.
-struct Kept {
-    k: u32,
-    mask: Mask,
-    longest: usize,
-    columns: Vec<Column>,
-    pairs: Vec<(u64, u64)>,
 }
 
 #[derive(Default)]
@@ -120,21 +110,6 @@ fn state_text(state: &WState) -> String {
     format!("state {a:08x} {b:08x} {c:08x} {d:08x} {:x}\n", state.nzcv)
 }
 
-fn count_below(size: usize, length: usize) -> u64 {
-    (0..length as u32).map(|n| (size as u64).pow(n)).sum()
-}
-
-/// The sequence of a number.
-fn sequence_at(letters: &[Instr], number: u64) -> Vec<Instr> {
-    let size = letters.len() as u64;
-    let (mut rest, mut length) = (number, 0);
-    while rest >= size.pow(length) {
-        rest -= size.pow(length);
-        length += 1;
-    }
-    (0..length).rev().map(|place| letters[(rest / size.pow(place) % size) as usize]).collect()
-}
-
 fn state_of(values: &[bool], k: usize) -> WState {
     let word = |register: usize| (0..32).map(|i| u32::from(values[32 * register + i]) << i).sum();
     let mut state = WState { r: [0; 4], nzcv: 0 };
@@ -159,11 +134,10 @@ fn write_formula(folder: &str, place: u32, formula: &Builder, verdict: &Verdict)
 
 struct Learner {
     settings: Settings,
-    letters: Vec<Vec<Instr>>,
     states: Vec<WState>,
     entries: Vec<Entry>,
     bytes: usize,
-    kept: Option<Kept>,
+    outcomes: Vec<Outcomes>,
     shares: Shares,
     folder: Option<String>,
     asked: u32,
@@ -172,47 +146,34 @@ struct Learner {
 impl Learner {
     fn new(settings: Settings) -> Learner {
         let states = seeded(settings.seed);
-        let letters = (0..=4).map(|k| alphabet(k, &settings.pool)).collect();
+        let outcomes = (0..=4).map(|k| Outcomes::new(k, alphabet(k as u32, &settings.pool), &states[0])).collect();
         let bytes = header_text(&settings).len() + states.len() * STATE_LINE + "end\n".len();
-        Learner { settings, letters, states, entries: Vec::new(), bytes, kept: None, shares: Shares::default(), folder: std::env::args().nth(1), asked: 0 }
+        Learner { settings, states, entries: Vec::new(), bytes, outcomes, shares: Shares::default(), folder: std::env::args().nth(1), asked: 0 }
     }
 
-    fn candidates(&mut self, window: &Window) -> Vec<u64> {
-        let Window { left, mask, k } = window;
-        let letters = &self.letters[*k as usize];
-        let serves = |kept: &Kept| kept.k == *k && kept.mask == *mask && left.len() <= kept.longest + 1;
-        let kept = match self.kept.take().filter(serves) {
-            Some(kept) => kept,
-            None => {
-                let columns = columns_of(&self.states[..PRINTED]);
-                let longest = left.len() - 1;
-                let pairs = index(&prints_within(letters, &columns, *mask, longest));
-                Kept { k: *k, mask: *mask, longest, columns, pairs }
-            }
-        };
-        let print = print_of(left, &kept.columns, *mask);
-        let from = kept.pairs.partition_point(|pair| pair.0 < print);
-        let end = count_below(letters.len(), left.len());
-        let numbers = kept.pairs[from..].iter().take_while(|pair| pair.0 == print).map(|pair| pair.1).filter(|number| *number < end).collect();
-        self.kept = Some(kept);
-        numbers
+    /// The shorter sequences that the first state doesn't tell from the window.
+    fn candidates(&mut self, window: &Window) -> Vec<u32> {
+        let outcomes = &mut self.outcomes[window.k as usize];
+        outcomes.grow(window.left.len() - 1);
+        let end = run(&window.left, self.states[0]);
+        outcomes.agreeing(&end, window.mask, outcomes.count_below(window.left.len()))
     }
 
-    fn search(&mut self, window: Window, numbers: &[u64]) -> Entry {
+    fn search(&mut self, window: Window, numbers: &[u32]) -> Entry {
         let Window { left, mask, k } = window;
         let mut opens = Vec::new();
-        for number in numbers {
-            let right = sequence_at(&self.letters[k as usize], *number);
-            let start = Instant::now();
-            let told = self.states.iter().any(|state| tells(*state, &left, &right, mask));
-            self.shares.states += start.elapsed();
-            if told {
+        let mut trials: Vec<(WState, WState)> = self.states.iter().map(|state| (*state, run(&left, *state))).collect();
+        let mut start = Instant::now();
+        for number in numbers.iter().map(|number| u64::from(*number)) {
+            let right = self.outcomes[k as usize].sequence(number as usize);
+            if trials[1..].iter().rev().any(|(state, end)| differ(end, &run(&right, *state), mask)) {
                 continue;
             }
-            let start = Instant::now();
+            self.shares.states += start.elapsed();
+            start = Instant::now();
             let formula = formula(&left, &right, mask, k as usize);
             self.shares.formulas += start.elapsed();
-            let start = Instant::now();
+            start = Instant::now();
             let verdict = solve(formula.variables as usize, &formula.clauses, self.settings.budget);
             self.shares.solver += start.elapsed();
             if let Some(folder) = &self.folder {
@@ -220,27 +181,33 @@ impl Learner {
                 write_formula(folder, self.asked, &formula, &verdict);
             }
             match verdict {
-                Verdict::Sat(values) => self.states.push(state_of(&values, k as usize)),
-                Verdict::Spent(log) => opens.push(Open { number: *number, log: log_text(&log, formula.clauses.len()) }),
+                Verdict::Sat(values) => {
+                    let state = state_of(&values, k as usize);
+                    trials.push((state, run(&left, state)));
+                    self.states.push(state);
+                }
+                Verdict::Spent(log) => opens.push(Open { number, log: log_text(&log, formula.clauses.len()) }),
                 Verdict::Unsat(log) => {
-                    let end = count_below(self.letters[k as usize].len(), right.len());
-                    opens.retain(|open| open.number < end);
+                    let end = self.outcomes[k as usize].count_below(right.len());
+                    opens.retain(|open| open.number < end as u64);
                     return Entry { left, right, mask, k, proof: log_text(&log, formula.clauses.len()), opens };
                 }
             }
+            start = Instant::now();
         }
+        self.shares.states += start.elapsed();
         Entry { right: left.clone(), left, mask, k, proof: String::new(), opens }
     }
 
     /// Drops the open numbers that a state from a place on tells.
     fn drop_told(&mut self, from: usize) {
         let start = Instant::now();
-        let Learner { states, entries, letters, bytes, .. } = self;
+        let Learner { states, entries, outcomes, bytes, .. } = self;
         let found = &states[from..];
         for entry in entries {
             let Entry { left, right, mask, k, opens, .. } = entry;
             opens.retain(|open| {
-                let sequence = sequence_at(&letters[*k as usize], open.number);
+                let sequence = outcomes[*k as usize].sequence(open.number as usize);
                 let told = sequence.len() < right.len() && found.iter().any(|state| tells(*state, left, &sequence, *mask));
                 if told {
                     *bytes -= open_text(open).len();
