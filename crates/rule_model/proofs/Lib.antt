@@ -1,3 +1,4 @@
 pub mod Table
 pub mod LinesKept
 pub mod Unique
+pub mod Given

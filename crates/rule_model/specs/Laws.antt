@@ -1,8 +1,9 @@
 -- What holds of rewriting.
-use Rattle.std.specs.Prelude.{◌≡◌, ℕ, ◌+◌, ◌≤◌, List, length, map, IsSome}
+use Rattle.std.specs.Prelude.{◌≡◌, ◌≢◌, ℕ, ◌+◌, ◌≤◌, List, length, map, Some, IsSome, slice_get}
 use Rattle.thumb_instr.specs.Renaming.{renamed}
-use Rattle.thumb_model.specs.Listing.{Name, Line, places_of, code_of, place_of}
+use Rattle.thumb_model.specs.Listing.{Name, Line, Code, places_of, code_of, place_of}
 use Rattle.thumb_model.specs.Layout.{Layable}
+use Rattle.thumb_model.specs.Naming.{Naming, Fits, points}
 use Rattle.thumb_model.specs.Literals.{HasLiterals}
 use Rattle.thumb_model.specs.Same.{Same}
 use Rattle.thumb_model.specs.Replaced.{replaced}
@@ -42,3 +43,13 @@ abbrev pub IsDetermined : Type 0
 IsDetermined =
     (s : Setting) (ls : List Line) → AreSound s.table →
     (rs ss : List Replacement) (new other : List Line) → AreRewritten s ls rs new → AreRewritten s ls ss other → (rs ≡ ss) × (new ≡ other)
+
+-- code points at different places have different words
+abbrev pub TellsApart : Naming → Code → Type 0
+TellsApart names code = (j k : ℕ) (v w p q : ℕ) → slice_get (points names code) j ≡ Some (v, p) → slice_get (points names code) k ≡ Some (w, q) → p ≢ q → v ≢ w
+
+-- a naming that fits the lines that are left, and tells the given lines' code points apart, fits those
+abbrev pub LeftNamingsFitGiven : Type 0
+LeftNamingsFitGiven =
+    (s : Setting) (ls : List Line) (rs : List Replacement) (new : List Line) → AreSound s.table → AreRewritten s ls rs new →
+    (names : Naming) → Fits names (code_of new) → TellsApart names (code_of ls) → Fits names (code_of ls)
