@@ -5,16 +5,16 @@ use Rattle.std.specs.Option.{option_map, unwrap_or}
 use Rattle.std.proofs.lemmas.Option.{slice_get-map}
 use Rattle.thumb_instr.specs.declared.instr.Instr.{Instr}
 use Rattle.thumb_instr.specs.Renaming.{renamed}
-use Rattle.thumb_model.specs.Listing.{Name, Place, plain, Label, Code, Line, code_of, place_mentions, is_mentioned, has_label}
+use Rattle.thumb_model.specs.Listing.{Name, Place, plain, Label, Code, Line, code_of, places_of, place_mentions, is_mentioned, has_label}
 use Rattle.thumb_model.specs.Naming.{Naming, Fits, points}
 use Rattle.thumb_model.specs.Replaced.{moved, move_label, replaced}
 use Rattle.thumb_model.proofs.Moved.{points_moved}
 use Rattle.thumb_model.proofs.Follow.{IsSound}
 use Rattle.rule_model.specs.Rules.{Rule, IsSoundRule, AreSound, Applies}
 use Rattle.rule_model.specs.Rewriting.{Setting, Replacement, AppliesIn, AreRewritten, lines_after}
-use Rattle.rule_model.specs.Laws.{TellsApart}
+use Rattle.rule_model.specs.Laws.{TellsApart, LeftNamingsFitGiven}
 use Rattle.rule_model.proofs.Table.{window_length, applies_sound}
-use Rattle.rule_model.proofs.LinesKept.{code_of_after}
+use Rattle.rule_model.proofs.LinesKept.{some_left, code_of_after}
 
 -- ---- names ----
 
@@ -91,3 +91,24 @@ module _ (names : Naming) (code : Code) (p : ℕ) (left right : List Instr) (sou
     distinct = apart;
     outside = λ n h g. f.outside n (mentioned_still n left right p code.places stands h) (sym (labels_still n p (length left - length right) code.labels) ∙ g);
   }
+
+-- ---- all ----
+
+fitted_by : (s : Setting) (r : Replacement) (ls : List Line) → AreSound s.table → (a : AppliesIn s r ls) → (names : Naming) → TellsApart names (code_of ls)
+    → TellsApart names (code_of (lines_after s r ls)) × (Fits names (code_of (lines_after s r ls)) → Fits names (code_of ls))
+fitted_by s r ls sound a names apart =
+    let right : List Instr = map (renamed r.registers) a.rule.right in
+    let n : length a.applies.window ≡ length a.rule.left = window_length a.rule r.registers (code_of ls) r.place a.applies in
+    let stands : take (length a.applies.window) (drop r.place (places_of ls)) ≡ map plain a.applies.window = ap (λ k. take k (drop r.place (places_of ls))) n ∙ a.applies.stands in
+    let good = applies_sound a.rule r.registers (code_of ls) r.place (sound r.entry r.instance a.rule a.is_rule) (some_left s r ls a) a.applies in
+    let same : replaced (code_of ls) r.place (length a.applies.window) right ≡ code_of (lines_after s r ls) =
+    ap (λ k. replaced (code_of ls) r.place k right) n ∙ sym (code_of_after s r ls sound a) in (
+      subst (TellsApart names) same (tells_on names (code_of ls) r.place a.applies.window right good stands apart),
+      λ f. fitted names (code_of ls) r.place a.applies.window right good stands (subst (Fits names) (sym same) f) apart,
+    )
+
+pub left_namings_fit : LeftNamingsFitGiven
+left_namings_fit s ls [] new sound h names f apart = subst (λ (l : List Line). Fits names (code_of l)) h.1 f
+left_namings_fit s ls (r ∷ rs) new sound h names f apart =
+    let step = fitted_by s r ls sound h.0.applies names apart in
+    step.1 (left_namings_fit s (lines_after s r ls) rs new sound h.1 names f step.0)

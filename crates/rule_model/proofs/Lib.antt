@@ -1,4 +1,6 @@
+pub mod AsMany
 pub mod Table
+pub mod Costs
 pub mod LinesKept
 pub mod Unique
 pub mod Given

@@ -1,18 +1,18 @@
--- An entry whose sides are equal keeps the runs where it applies.
-use Rattle.std.proofs.Common.{◌≡◌, ℕ, suc, ◌+◌, ◌-◌, ◌<◌, ◌≤◌, true, false, List, [], ◌∷◌, ◌++◌, length, length-append, take, drop, map, Option, Some, None, refl, sym, ap, ◌∙◌, subst, ◌⊎◌, arith}
+-- A rule whose sides are equal keeps the runs where it applies.
+use Rattle.std.proofs.Common.{◌≡◌, ℕ, suc, ◌+◌, ◌-◌, ◌<◌, ◌≤◌, true, false, List, [], ◌∷◌, ◌++◌, length, length-append, take, drop, map, Option, Some, None, refl, sym, ap, ◌∙◌, subst, inl, inr, arith}
 use Rattle.std.specs.Prelude.{slice_get}
 use Rattle.thumb_instr.specs.declared.instr.Instr.{Instr}
 use Rattle.thumb_instr.specs.declared.instr.Instr.TheVariants as instr
 use Rattle.thumb_instr.specs.Shape.{uses_of, writes_of}
 use Rattle.thumb_instr.specs.Window.{is_in_window}
 use Rattle.thumb_instr.proofs.RenamingLemmas.{window_renamed}
-use Rattle.thumb_instr.specs.Renaming.{Low, renamed}
+use Rattle.thumb_instr.specs.Renaming.{Low, AreBelow, named, renamed}
 use Rattle.thumb_model.specs.Items.{Values}
 use Rattle.thumb_model.specs.Effect.{after_all}
 use Rattle.thumb_model.specs.Listing.{Place, plain, Code, is_op_place, is_code, is_call_instr}
 use Rattle.thumb_model.specs.Steps.{aim_of}
 use Rattle.thumb_model.specs.Flow.{way, ways_of, ways_on, Onward, Reads, LiveAfter}
-use Rattle.rule_model.specs.Rules.{Rule, IsSoundRule, Applies}
+use Rattle.rule_model.specs.Rules.{Rule, rule_registers, IsSoundRule, Applies}
 use Rattle.thumb_model.specs.Sides.{register_count, AreOver, normalised}
 use Rattle.thumb_model.specs.Replaced.{replaced, move_label}
 use Rattle.thumb_model.proofs.Lists.{get_drop, get_take, length_map, take_all, take_short, length_drop}
@@ -64,22 +64,33 @@ no_calls (i ∷ is) h = (no_call i h.0, no_calls is h.1)
 pub window_length : (rule : Rule) (registers : List Low) (code : Code) (p : ℕ) → (a : Applies rule registers code p) → length a.window ≡ length rule.left
 window_length rule registers code p a = sym (length_map normalised a.window) ∙ ap length a.matches ∙ length_map (renamed registers) rule.left
 
--- an entry whose sides are equal makes a sound replacement where it applies
-pub applies_sound : (rule : Rule) (registers : List Low) (code : Code) (p : ℕ) → IsSoundRule rule → (a : Applies rule registers code p) → IsSound code p a.window (map (renamed registers) rule.right)
-applies_sound rule registers code p eq a =
+-- what names registers below a count does so below a greater one
+below_wider : (j k : ℕ) (xs : List ℕ) → j ≤ k → AreBelow j xs → AreBelow k xs
+below_wider j k [] l h = tt
+below_wider j k (x ∷ xs) l h = (omega (arith, h.0), below_wider j k xs l h.1)
+
+pub over_wider : (j k : ℕ) (is : List Instr) → j ≤ k → AreOver j is → AreOver k is
+over_wider j k [] l h = tt
+over_wider j k (i ∷ is) l h = (h.0, below_wider j k (named i) l h.1, over_wider j k is l h.2)
+
+-- a rule whose sides are equal makes a sound replacement where it applies
+pub applies_sound : (rule : Rule) (registers : List Low) (code : Code) (p : ℕ) → IsSoundRule rule → 0 < length rule.left → (a : Applies rule registers code p) → IsSound code p a.window (map (renamed registers) rule.right)
+applies_sound rule registers code p eq some a =
     let l : List Instr = a.window in
     let r : List Instr = map (renamed registers) rule.right in
     let n : length l ≡ length rule.left = window_length rule registers code p a in
     let m : length r ≡ length rule.right = length_map (renamed registers) rule.right in
-    let over : (is : List Instr) → AreOver (register_count rule.left) is → AreOver (length registers) is = λ is o. subst (λ k. AreOver k is) (sym a.as_many) o in
-    let shorter = a.shorter in
+    let as_many = a.as_many in
+    let no_longer = eq.no_longer in
+    let left_over : AreOver (length registers) rule.left = over_wider (register_count rule.left) (length registers) rule.left (omega arith) eq.left in
+    let right_over : AreOver (length registers) rule.right = subst (λ k. AreOver k rule.right) (sym as_many) eq.right in
     let op : List Place = map plain l in
     let k : length op ≡ length l = length_map plain l in
     let w : length (take (length rule.left) (drop p code.places)) ≡ length op = ap length a.stands in
     let stands : StandsAt code.places p l =
     stands_from code.places p l (λ j lt. sym (get_drop p code.places j (p + j) refl) ∙ sym (get_take (length rule.left) (drop p code.places) j (omega arith)) ∙ ap (λ xs. slice_get xs j) a.stands) in
     let straight_l : AreStraight l = straight_window l (map (renamed registers) rule.left) a.matches (straight registers (register_count rule.left) rule.left eq.left) in
-    let straight_r : AreStraight r = straight registers (register_count rule.left) rule.right eq.right in
+    let straight_r : AreStraight r = straight registers (rule_registers rule) rule.right eq.right in
     let last = last_of l (omega arith) straight_l in
     let at_last : slice_get code.places (p + length rule.left - 1) ≡ Some (plain last.0) =
     sym (get_drop p code.places (length l - 1) (p + length rule.left - 1) (omega arith)) ∙ sym (get_take (length rule.left) (drop p code.places) (length l - 1) (omega arith)) ∙ ap (λ xs. slice_get xs (length l - 1)) a.stands ∙ last.1 in
@@ -102,7 +113,7 @@ applies_sound rule registers code p eq a =
       agree = λ t words x rd.
           let rd' : Reads code x (p + length rule.left - 1 + 1) = subst (Reads code x) (let e : p + length l ≡ p + length rule.left - 1 + 1 = omega arith in e) rd in
           let live = a.live x (live_there code (p + length rule.left - 1) last.0 at_last last.2 x rd') in
-          let sides = sides_agree registers (omega (arith, a.as_many, eq.few)) a.one_to_one rule.left rule.right rule.mask t eq.equal (over rule.left eq.left) (over rule.right eq.right) (λ y m. subst (λ k. (y < k) ⊎ ((15 ≤ y) × (y < 19))) (sym a.as_many) (eq.mask y m)) words x live in
+          let sides = sides_agree registers (omega (arith, a.as_many, eq.few)) a.one_to_one rule.left rule.right rule.mask t eq.equal left_over right_over (λ y m. elim (eq.mask y m) [ inl l ↦ inl (omega arith) | inr l ↦ inr l ]) words x live in
           ap (λ (v : Values). v x) (sym (normal_after l t) ∙ ap (λ (is : List Instr). after_all is t) a.matches) ∙ sides;
     }
   where
@@ -110,18 +121,17 @@ applies_sound rule registers code p eq a =
     first_is [] h s = absurd (omega arith)
     first_is (i ∷ is) h s = ap is_op_place s.0
 
--- one replacement by a sound entry
-pub one_keeps : (rule : Rule) (registers : List Low) (code : Code) (p : ℕ) → IsSoundRule rule → Applies rule registers code p → Keeps code (replaced code p (length rule.left) (map (renamed registers) rule.right))
-one_keeps rule registers code p eq a =
-    subst (λ c. Keeps code (replaced code p c (map (renamed registers) rule.right))) (window_length rule registers code p a) (replaced_keeps code p _ _ (applies_sound rule registers code p eq a))
+-- one replacement by a sound rule
+pub one_keeps : (rule : Rule) (registers : List Low) (code : Code) (p : ℕ) → IsSoundRule rule → 0 < length rule.left → Applies rule registers code p → Keeps code (replaced code p (length rule.left) (map (renamed registers) rule.right))
+one_keeps rule registers code p eq some a =
+    subst (λ c. Keeps code (replaced code p c (map (renamed registers) rule.right))) (window_length rule registers code p a) (replaced_keeps code p _ _ (applies_sound rule registers code p eq some a))
 
--- an entry that is left shorter leaves fewer places
-pub fewer_places : (rule : Rule) (registers : List Low) (code : Code) (p : ℕ) → Applies rule registers code p → length (replaced code p (length rule.left) (map (renamed registers) rule.right)).places < length code.places
-fewer_places rule registers code p a =
+-- the places of the right side come for those of the left side
+pub places_after : (rule : Rule) (registers : List Low) (code : Code) (p : ℕ) → 0 < length rule.left → Applies rule registers code p → length (replaced code p (length rule.left) (map (renamed registers) rule.right)).places + length rule.left ≡ length code.places + length rule.right
+places_after rule registers code p some a =
     let n : length a.window ≡ length rule.left = window_length rule registers code p a in
     let r : List Instr = map (renamed registers) rule.right in
     let m : length r ≡ length rule.right = length_map (renamed registers) rule.right in
-    let shorter = a.shorter in
     let k : length (map plain a.window) ≡ length a.window = length_map plain a.window in
     let w : length (take (length rule.left) (drop p code.places)) ≡ length (map plain a.window) = ap length a.stands in
     let short = take_short (length rule.left) (drop p code.places) in

@@ -1,7 +1,8 @@
 -- What rewriting leaves is determined.
-use Rattle.std.proofs.Common.{◌≡◌, ℕ, suc, ◌<◌, ◌==◌, ◌||◌, true, false, List, [], ◌∷◌, length, map, Some, refl, sym, ap, ◌∙◌, subst, arith, eqb-true}
+use Rattle.std.proofs.Common.{◌≡◌, ℕ, zero, suc, ◌<◌, ◌==◌, ◌||◌, true, false, List, [], ◌∷◌, length, take, map, Some, refl, sym, ap, ◌∙◌, subst, inl, inr, arith, eqb-true, eq-eqb}
 use Rattle.std.specs.Prelude.{slice_get}
-use Rattle.std.proofs.lemmas.Option.{same_Some}
+use Rattle.std.proofs.lemmas.Bool.{cases_lt}
+use Rattle.std.proofs.lemmas.Option.{same_Some, slice_get_past, slice_get_within}
 use Rattle.thumb_instr.specs.declared.instr.Instr.{Instr}
 use Rattle.thumb_instr.specs.Window.{is_in_window}
 use Rattle.thumb_instr.proofs.Registers.{low_is}
@@ -9,10 +10,10 @@ use Rattle.thumb_instr.proofs.RenamingLemmas.{named_renamed}
 use Rattle.thumb_model.specs.Items.{one_of}
 use Rattle.thumb_model.specs.Listing.{plain, Line, Code, code_of}
 use Rattle.thumb_instr.specs.Renaming.{Low, named, renamed, number_or, item_under}
-use Rattle.rule_model.specs.Rules.{Rule, IsSoundRule, AreSound, Applies}
+use Rattle.rule_model.specs.Rules.{Rule, IsSoundRule, rule_at, AreSound, Applies}
 use Rattle.thumb_model.specs.Sides.{register_count, AreOver, is_named, normalised}
-use Rattle.thumb_model.proofs.Lists.{present_at, cons_same}
-use Rattle.rule_model.specs.Rewriting.{Setting, Replacement, IsFirst, lines_after, AreRewritten}
+use Rattle.thumb_model.proofs.Lists.{present_at, get_take, take_all, cons_same}
+use Rattle.rule_model.specs.Rewriting.{Setting, Replacement, IsLeastScratch, IsFirst, lines_after, AreRewritten}
 use Rattle.rule_model.specs.Laws.{IsDetermined}
 
 -- two maps give each of these items the same
@@ -63,20 +64,108 @@ plain_same (i ∷ is) (j ∷ js) e =
     let there : map plain is ≡ map plain js = cc in
     cons_same i j is js here (plain_same is js there)
 
--- an entry applies at a place under one map at most
-pub same_registers : (rule : Rule) (xs ys : List Low) (code : Code) (p : ℕ) → IsSoundRule rule → Applies rule xs code p → Applies rule ys code p → xs ≡ ys
-same_registers rule xs ys code p s a b =
+-- ---- the scratch register ----
+
+-- what is among the numbers of registers is that of one of them, and the other way round
+among : {A : Type 0} (f : A → ℕ) (xs : List A) (x : ℕ) → one_of x (map f xs) ≡ true → (k : ℕ) × (y : A) × (slice_get xs k ≡ Some y) × (x ≡ f y)
+among f [] x h = absurd (cc)
+among f (y ∷ xs) x h =
+    elim (x == f y) as (λ t. (x == f y) ≡ t → (t || one_of x (map f xs)) ≡ true → (k : ℕ) × (z : _) × (slice_get (y ∷ xs) k ≡ Some z) × (x ≡ f z)) [
+      | true ↦ λ e _. (0, y, refl, eqb-true x (f y) e)
+      | false ↦ λ e j. let r = among f xs x j in (suc r.0, r.1, r.2, r.3)
+    ] refl h
+
+is_among : {A : Type 0} (f : A → ℕ) (xs : List A) (k : ℕ) (y : A) → slice_get xs k ≡ Some y → one_of (f y) (map f xs) ≡ true
+is_among f [] k y e = absurd (cc)
+is_among f (x ∷ xs) zero y e = ap (λ b. b || one_of (f y) (map f xs)) (eq-eqb (f y) (f x) (ap f (sym (same_Some x y e))))
+is_among f (x ∷ xs) (suc k) y e = elim (f y == f x) as (λ b. (b || one_of (f y) (map f xs)) ≡ true) [ true ↦ refl | false ↦ is_among f xs k y e ]
+
+is_in : (ns : List ℕ) (k z : ℕ) → slice_get ns k ≡ Some z → one_of z ns ≡ true
+is_in [] k z e = absurd (cc)
+is_in (n ∷ ns) zero z e = ap (λ b. b || one_of z ns) (eq-eqb z n (sym (same_Some n z e)))
+is_in (n ∷ ns) (suc k) z e = elim (z == n) as (λ b. (b || one_of z ns) ≡ true) [ true ↦ refl | false ↦ is_in ns k z e ]
+
+-- two maps that are the same on the left side's registers: the scratch register of the first is not below that of the second, which is the least
+not_below : (rule : Rule) (xs ys : List Low) (code : Code) (p : ℕ) → IsSoundRule rule → Applies rule xs code p
+    → ((k : ℕ) → k < register_count rule.left → slice_get xs k ≡ slice_get ys k) → IsLeastScratch rule ys code p
+    → (x y : Low) → slice_get xs (register_count rule.left) ≡ Some x → slice_get ys (register_count rule.left) ≡ Some y → x.number < y.number → ⊥
+not_below rule xs ys code p s a fronts least x y ex ey lt =
+    elim (least y ey x.number lt) [
+      | inl h ↦
+          let m = among (λ (r : Low). r.number) (take (register_count rule.left) ys) x.number h in
+          let short : m.0 < register_count rule.left = below_count m.0 m.1 m.2 in
+          taken m.0 m.1 short (fronts m.0 short ∙ sym (get_take (register_count rule.left) ys m.0 short) ∙ m.2) m.3
+      | inr h ↦ elim (a.live x.number h) [
+        | inl g ↦ masked (among (item_under xs) rule.mask x.number g)
+        | inr g ↦ absurd (let t : one_of x.number (map (λ r. r.number) xs) ≡ true = is_among (λ (r : Low). r.number) xs (register_count rule.left) x ex in cc)
+      ]
+    ]
+  where
+    below_count : (k : ℕ) (r : Low) → slice_get (take (register_count rule.left) ys) k ≡ Some r → k < register_count rule.left
+    below_count k r e =
+        let w = slice_get_within (take (register_count rule.left) ys) k r e in
+        let within = slice_get_within ys (register_count rule.left) y ey in
+        let t = take_all (register_count rule.left) ys (omega arith) in
+        omega arith
+
+    -- no register of the left side is the scratch register
+    taken : (k : ℕ) (r : Low) → k < register_count rule.left → slice_get xs k ≡ Some r → x.number ≡ r.number → ⊥
+    taken k r l e same = absurd (let at = a.one_to_one.distinct k (register_count rule.left) r e x ex (sym same) in omega arith)
+
+    masked : (m : (k : ℕ) × (z : ℕ) × (slice_get rule.mask k ≡ Some z) × (x.number ≡ item_under xs z)) → ⊥
+    masked m =
+        let z : ℕ = m.1 in
+        let as_many = a.as_many in
+        elim (s.mask z (is_in rule.mask m.0 z m.2)) [
+          | inl l ↦
+              let r = present_at xs z (omega arith) in
+              taken z r.0 l r.1 (m.3 ∙ ap (λ o. number_or o z) r.1)
+          | inr l ↦
+              let few = s.few in
+              let same : x.number ≡ z = m.3 ∙ ap (λ o. number_or o z) (slice_get_past xs z (omega (arith, l.0))) in
+              let low = x.below in
+              absurd (omega (arith, l.0))
+        ]
+
+-- ---- what comes first ----
+
+-- a rule applies at a place under one map at most
+pub same_registers : (rule : Rule) (xs ys : List Low) (code : Code) (p : ℕ) → IsSoundRule rule → Applies rule xs code p → IsLeastScratch rule xs code p → Applies rule ys code p → IsLeastScratch rule ys code p → xs ≡ ys
+same_registers rule xs ys code p s a least b also_least =
     let m = a.as_many in
     let n = b.as_many in
-    let window : a.window ≡ b.window = plain_same a.window b.window (sym a.stands ∙ b.stands) in
-    let sides : map (renamed xs) rule.left ≡ map (renamed ys) rule.left = sym a.matches ∙ ap (map normalised) window ∙ b.matches in
     same_list xs ys (omega arith) (λ k l.
-    let t = all_tell xs ys (register_count rule.left) rule.left k s.left sides (s.all_named k (omega arith)) in
-    let x = present_at xs k l in
-    let y = present_at ys k (omega arith) in
-    let ex : item_under xs k ≡ x.0.number = ap (λ o. number_or o k) x.1 in
-    let ey : item_under ys k ≡ y.0.number = ap (λ o. number_or o k) y.1 in
-    x.1 ∙ ap Some (low_is x.0 y.0 (sym ex ∙ t ∙ ey)) ∙ sym y.1)
+    elim (cases_lt k (register_count rule.left)) [
+      | inl h ↦ front k h
+      | inr h ↦
+          let near = s.near in
+          let last : k ≡ register_count rule.left = omega arith in
+          subst (λ j. slice_get xs j ≡ slice_get ys j) (sym last) (scratch (present_at xs (register_count rule.left) (omega arith)) (present_at ys (register_count rule.left) (omega arith)))
+    ])
+  where
+    front : (k : ℕ) → k < register_count rule.left → slice_get xs k ≡ slice_get ys k
+    front k l =
+        let m = a.as_many in
+        let n = b.as_many in
+        let window : a.window ≡ b.window = plain_same a.window b.window (sym a.stands ∙ b.stands) in
+        let sides : map (renamed xs) rule.left ≡ map (renamed ys) rule.left = sym a.matches ∙ ap (map normalised) window ∙ b.matches in
+        let t = all_tell xs ys (register_count rule.left) rule.left k s.left sides (s.all_named k l) in
+        let x = present_at xs k (omega arith) in
+        let y = present_at ys k (omega arith) in
+        let ex : item_under xs k ≡ x.0.number = ap (λ o. number_or o k) x.1 in
+        let ey : item_under ys k ≡ y.0.number = ap (λ o. number_or o k) y.1 in
+        x.1 ∙ ap Some (low_is x.0 y.0 (sym ex ∙ t ∙ ey)) ∙ sym y.1
+
+    scratch : (x : Low) × (slice_get xs (register_count rule.left) ≡ Some x) → (y : Low) × (slice_get ys (register_count rule.left) ≡ Some y) → slice_get xs (register_count rule.left) ≡ slice_get ys (register_count rule.left)
+    scratch x y =
+        let same : x.0.number ≡ y.0.number = elim (cases_lt x.0.number y.0.number) [
+          | inl l ↦ absurd (not_below rule xs ys code p s a front also_least x.0 y.0 x.1 y.1 l)
+          | inr l ↦ elim (cases_lt y.0.number x.0.number) [
+            | inl k ↦ absurd (not_below rule ys xs code p s b (λ j g. sym (front j g)) least y.0 x.0 y.1 x.1 k)
+            | inr k ↦ omega arith
+          ]
+        ] in
+        x.1 ∙ ap Some (low_is x.0 y.0 same) ∙ sym y.1
 
 -- one replacement comes first at most
 pub first_same : (s : Setting) (ls : List Line) (r o : Replacement) → AreSound s.table → IsFirst s r ls → IsFirst s o ls → r ≡ o
@@ -89,13 +178,17 @@ first_same s ls r o sound f g =
     let e1 = f.lowest o g.applies (sym place) (omega arith) in
     let e2 = g.lowest r f.applies place (omega arith) in
     let entry : r.entry ≡ o.entry = omega arith in
-    let rule : f.applies.rule ≡ g.applies.rule = same_Some _ _ (sym f.applies.is_rule ∙ ap (slice_get s.table) entry ∙ g.applies.is_rule) in
+    let i1 = f.lowest_instance o g.applies (sym place) (omega arith) (sym entry) in
+    let i2 = g.lowest_instance r f.applies place (omega arith) entry in
+    let instance : r.instance ≡ o.instance = omega arith in
+    let rule : f.applies.rule ≡ g.applies.rule = same_Some _ _ (sym f.applies.is_rule ∙ ap (λ e. rule_at s.table e r.instance) entry ∙ ap (rule_at s.table o.entry) instance ∙ g.applies.is_rule) in
     let here : Applies f.applies.rule o.registers (code_of ls) r.place = subst (λ n. Applies f.applies.rule o.registers (code_of ls) n) (sym place) (subst (λ (k : Rule). Applies k o.registers (code_of ls) o.place) (sym rule) g.applies.applies) in
-    let registers = same_registers f.applies.rule r.registers o.registers (code_of ls) r.place (sound r.entry f.applies.rule f.applies.is_rule) f.applies.applies here in
-    same r o place entry registers
+    let least : IsLeastScratch f.applies.rule o.registers (code_of ls) r.place = subst (λ n. IsLeastScratch f.applies.rule o.registers (code_of ls) n) (sym place) (subst (λ (k : Rule). IsLeastScratch k o.registers (code_of ls) o.place) (sym rule) g.applies.least) in
+    let registers = same_registers f.applies.rule r.registers o.registers (code_of ls) r.place (sound r.entry r.instance f.applies.rule f.applies.is_rule) f.applies.applies f.applies.least here least in
+    same r o place entry instance registers
   where
-    same : (r s : Replacement) → r.place ≡ s.place → r.entry ≡ s.entry → r.registers ≡ s.registers → r ≡ s
-    same r s a b c = λ i. record { place = a i; entry = b i; registers = c i }
+    same : (r s : Replacement) → r.place ≡ s.place → r.entry ≡ s.entry → r.instance ≡ s.instance → r.registers ≡ s.registers → r ≡ s
+    same r s a b c d = λ i. record { place = a i; entry = b i; instance = c i; registers = d i }
 
 -- the replacements and the lines are determined
 pub is_determined : IsDetermined

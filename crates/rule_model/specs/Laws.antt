@@ -1,14 +1,31 @@
 -- What holds of rewriting.
-use Rattle.std.specs.Prelude.{◌≡◌, ◌≢◌, ℕ, ◌+◌, ◌≤◌, List, length, map, Some, IsSome, slice_get}
-use Rattle.thumb_instr.specs.Renaming.{renamed}
-use Rattle.thumb_model.specs.Listing.{Name, Line, Code, places_of, code_of, place_of}
+use Rattle.std.specs.Prelude.{◌≡◌, ◌≢◌, ℕ, ◌+◌, ◌≤◌, max, List, [], ◌∷◌, length, map, Some, IsSome, slice_get}
+use Rattle.thumb_instr.specs.declared.instr.Instr.{Instr}
+use Rattle.thumb_instr.specs.Renaming.{Low, renamed}
+use Rattle.thumb_model.specs.Listing.{Name, Place, Op, Word, Line, Code, places_of, code_of, place_of}
 use Rattle.thumb_model.specs.Layout.{Layable}
 use Rattle.thumb_model.specs.Naming.{Naming, Fits, points}
 use Rattle.thumb_model.specs.Literals.{HasLiterals}
 use Rattle.thumb_model.specs.Same.{Same}
+use Rattle.thumb_model.specs.Sides.{normalised}
 use Rattle.thumb_model.specs.Replaced.{replaced}
-use Rattle.rule_model.specs.Rules.{AreSound}
+use Rattle.rule_model.specs.Rules.{AreSound, weight}
 use Rattle.rule_model.specs.Rewriting.{Setting, Replacement, lines_after, AppliesIn, NoneApplies, AreRewritten, AllApplied}
+
+-- the instructions among places
+abbrev pub instructions : List Place → List Instr
+instructions [] = []
+instructions (Op i mention ∷ ps) = i ∷ instructions ps
+instructions (Word v ∷ ps) = instructions ps
+
+-- renaming an instruction and taking its normal form keep its cost
+pub record CostsAreKept (cost : Instr → ℕ) : Type 0 where
+  pub renaming : (registers : List Low) (i : Instr) → cost (renamed registers i) ≡ cost i
+  pub normal : (i : Instr) → cost (normalised i) ≡ cost i
+
+-- each instruction costs 1
+abbrev pub CostsOne : Setting → Type 0
+CostsOne s = (i : Instr) → s.cost i ≡ 1
 
 -- one replacement by a sound table keeps the runs of lines whose literals stand behind their labels
 abbrev pub ReplacingKeepsRuns : Type 0
@@ -26,13 +43,21 @@ RewritingIsComplete = (s : Setting) (ls : List Line) (rs : List Replacement) (ne
 abbrev pub RewritingStaysLayable : Type 0
 RewritingStaysLayable = (s : Setting) (ls : List Line) (rs : List Replacement) (new : List Line) → Layable s.base ls → AreRewritten s ls rs new → Layable s.base new
 
--- each replacement takes a place away, and there are no more lines
+-- each replacement lowers the cost, no place comes, and the lines stay within their limit
+abbrev pub RewritingLowers : Type 0
+RewritingLowers =
+    (s : Setting) (ls : List Line) (rs : List Replacement) (new : List Line) → CostsAreKept s.cost → AreSound s.table → AreRewritten s ls rs new →
+    (weight s.cost (instructions (places_of new)) + length rs ≤ weight s.cost (instructions (places_of ls)))
+    × (length (places_of new) ≤ length (places_of ls))
+    × (length new ≤ max (length ls) s.most_lines)
+
+-- where each instruction costs 1, each replacement takes a place away, and there are no more lines
 abbrev pub RewritingShortens : Type 0
-RewritingShortens = (s : Setting) (ls : List Line) (rs : List Replacement) (new : List Line) → AreRewritten s ls rs new → (length (places_of new) + length rs ≤ length (places_of ls)) × (length new ≤ length ls)
+RewritingShortens = (s : Setting) (ls : List Line) (rs : List Replacement) (new : List Line) → CostsOne s → AreRewritten s ls rs new → (length (places_of new) + length rs ≤ length (places_of ls)) × (length new ≤ length ls)
 
 -- replacing lines replaces their places and labels
 abbrev pub LinesAreReplacedAsPlaces : Type 0
-LinesAreReplacedAsPlaces = (s : Setting) (r : Replacement) (ls : List Line) (a : AppliesIn s r ls) → code_of (lines_after s r ls) ≡ replaced (code_of ls) r.place (length a.rule.left) (map (renamed r.registers) a.rule.right)
+LinesAreReplacedAsPlaces = (s : Setting) (r : Replacement) (ls : List Line) → AreSound s.table → (a : AppliesIn s r ls) → code_of (lines_after s r ls) ≡ replaced (code_of ls) r.place (length a.rule.left) (map (renamed r.registers) a.rule.right)
 
 -- each code label stays one
 abbrev pub LabelsStayCode : Type 0

@@ -1,13 +1,13 @@
 //! The laws of rewriting. Each is the contract of a function that does nothing.
 
-ghost use Rattle.rule_model.specs.Laws.{ReplacingKeepsRuns, RewritingKeepsRuns, RewritingIsComplete, RewritingStaysLayable, RewritingShortens, LabelsStayCode, LinesAreReplacedAsPlaces, IsDetermined};
+ghost use Rattle.rule_model.specs.Laws.{ReplacingKeepsRuns, RewritingKeepsRuns, RewritingIsComplete, RewritingStaysLayable, RewritingLowers, RewritingShortens, LabelsStayCode, LinesAreReplacedAsPlaces, IsDetermined, LeftNamingsFitGiven};
 
-/// One replacement by a table of entries with equal sides keeps the runs of lines whose literals stand behind their labels.
+/// One replacement by a table of rules with equal sides keeps the runs of lines whose literals stand behind their labels.
 pub fn replacing_keeps_runs()
     ensures { ReplacingKeepsRuns }
 {}
 
-/// Rewriting by a table of entries with equal sides keeps the runs.
+/// Rewriting by a table of rules with equal sides keeps the runs.
 pub fn rewriting_keeps_runs()
     ensures { RewritingKeepsRuns }
 {}
@@ -27,7 +27,12 @@ pub fn rewriting_stays_layable()
     ensures { RewritingStaysLayable }
 {}
 
-/// Each replacement takes a place away, and there are no more lines.
+/// Each replacement lowers the cost, no place comes, and the lines stay within their limit.
+pub fn rewriting_lowers()
+    ensures { RewritingLowers }
+{}
+
+/// Where each instruction costs 1, each replacement takes a place away, and there are no more lines.
 pub fn rewriting_shortens()
     ensures { RewritingShortens }
 {}
@@ -37,7 +42,12 @@ pub fn lines_are_replaced_as_places()
     ensures { LinesAreReplacedAsPlaces }
 {}
 
-/// Each code label stays one where an entry is used.
+/// Each code label stays one where a rule is used.
 pub fn labels_stay_code()
     ensures { LabelsStayCode }
+{}
+
+/// A naming that fits the lines that are left fits the given lines too, where it gives code points at different places different words.
+pub fn left_namings_fit_given()
+    ensures { LeftNamingsFitGiven }
 {}
