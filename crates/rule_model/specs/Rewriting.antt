@@ -25,8 +25,9 @@ pub record Replacement : Type 0 where
   pub instance : ℕ
   pub registers : List Low
 
-abbrev pub rule_of : Setting → Replacement → Option Rule
-rule_of s r = rule_at s.table r.entry r.instance
+-- the rule that a replacement uses
+abbrev pub used_rule : Setting → Replacement → Option Rule
+used_rule s r = rule_at s.table r.entry r.instance
 
 abbrev pub lines_after_rule : Setting → Option Rule → Replacement → List Line → List Line
 lines_after_rule s None r ls = ls
@@ -34,7 +35,7 @@ lines_after_rule s (Some rule) r ls = replaced_lines s.write r.place (length rul
 
 -- the lines after a replacement by the table
 abbrev pub lines_after : Setting → Replacement → List Line → List Line
-lines_after s r ls = lines_after_rule s (rule_of s r) r ls
+lines_after s r ls = lines_after_rule s (used_rule s r) r ls
 
 -- the scratch register, where the map has one, is the least that is free: each lesser register is one of the left side's or live after the window
 abbrev pub IsLeastScratch : Rule → List Low → Code → ℕ → Type 0
@@ -44,7 +45,7 @@ IsLeastScratch rule registers code p = (scratch : Low) → slice_get registers (
 -- this rule of the table lowers the cost and applies there, under this map, and the lines that it leaves are not too many and can be laid out
 pub record AppliesIn (s : Setting) (r : Replacement) (ls : List Line) : Type 0 where
   pub rule : Rule
-  pub is_rule : rule_of s r ≡ Some rule
+  pub is_rule : used_rule s r ≡ Some rule
   pub lowers : weight s.cost rule.right < weight s.cost rule.left
   pub applies : Applies rule r.registers (code_of ls) r.place
   pub least : IsLeastScratch rule r.registers (code_of ls) r.place
@@ -57,7 +58,7 @@ left_length_of None = 0
 left_length_of (Some rule) = length rule.left
 
 abbrev pub left_length : Setting → Replacement → ℕ
-left_length s r = left_length_of (rule_of s r)
+left_length s r = left_length_of (used_rule s r)
 
 -- no other choice comes before: at a lesser place, with a longer left side, or a lower entry or instance
 pub record IsFirst (s : Setting) (r : Replacement) (ls : List Line) : Type 0 where

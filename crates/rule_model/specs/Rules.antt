@@ -1,5 +1,5 @@
 -- Rules, and where they apply.
-use Rattle.std.specs.Prelude.{◌≡◌, ℕ, ◌+◌, ◌-◌, ◌<◌, ◌≤◌, max, true, false, List, length, take, drop, map, sum_by, Option, Some, None, slice_get, ◌⊎◌}
+use Rattle.std.specs.Prelude.{◌≡◌, ℕ, ◌+◌, ◌-◌, ◌<◌, ◌≤◌, max, true, false, List, [], ◌∷◌, length, take, drop, map, sum_by, Option, Some, None, slice_get, ◌⊎◌}
 use Rattle.thumb_instr.specs.declared.instr.Instr.{Instr}
 use Rattle.thumb_instr.specs.Renaming.{Low, renamed, item_under}
 use Rattle.thumb_model.specs.Items.{one_of}
@@ -43,6 +43,10 @@ rule_among (Some rules) instance = slice_get rules instance
 
 abbrev pub rule_at : List (List Rule) → ℕ → ℕ → Option Rule
 rule_at table entry instance = rule_among (slice_get table entry) instance
+
+-- a table whose numbers stand for one rule each
+abbrev pub alone : List Rule → List (List Rule)
+alone rules = map (λ rule. rule ∷ []) rules
 
 abbrev pub AreSound : List (List Rule) → Type 0
 AreSound table = (entry instance : ℕ) (rule : Rule) → rule_at table entry instance ≡ Some rule → IsSoundRule rule

@@ -9,8 +9,9 @@ use Rattle.std.proofs.lemmas.Bool.{false≢true, or_cases, and_parts, ltb-true, 
 use Rattle.thumb_instr.specs.declared.instr.Instr.{Instr}
 use Rattle.thumb_model.specs.Items.{AreWords, one_of}
 use Rattle.thumb_model.specs.Sides.{Equal, AreOver, is_named, register_count}
-use Rattle.rule_model.specs.Rules.{IsSoundRule, AreSound}
+use Rattle.rule_model.specs.Rules.{IsSoundRule}
 use Rattle.rule_model.specs.Rules as model
+use Rattle.rule_model.proofs.Alone.{alone_sound, own_registers}
 use Rattle.window_exec.specs.Seen.{Seen}
 use Rattle.seq_enum.specs.Alphabet.{sequences}
 use Rattle.bit_blast.specs.Exactness.{IsMask, HasNoModel, AreEqual}
@@ -100,10 +101,14 @@ sound_rule : (t : Table) (n : ℕ) (e : Rule) → SidesFit t e → IsMask e.mask
 sound_rule t n e sides masks p =
     let f = formula_fits t e sides in
     let is : register_count e.left ≡ named_count e.left = count_same e.left sides.canonical in
+    let right : AreOver (register_count e.left) e.right = subst (λ k. AreOver k e.right) (sym is) f.right in
+    let own = own_registers (rewriting_rule e) right in
     record {
-      few = omega (arith, is, (ordered_of e.left sides.canonical).few);
+      few = omega (arith, own, is, (ordered_of e.left sides.canonical).few);
+      near = omega (arith, own);
+      no_longer = sides.no_longer;
       left = subst (λ k. AreOver k e.left) (sym is) f.left;
-      right = subst (λ k. AreOver k e.right) (sym is) f.right;
+      right = subst (λ k. AreOver k e.right) (sym own) right;
       mask = mask_over (register_count e.left) e is f;
       all_named = λ x low. all_named e.left sides.canonical x (omega (arith, low, is));
       equal = equal_sides n e f masks p;
@@ -148,9 +153,9 @@ rule_at {P} t k rule at next = go (slice_get t.rules k) refl (sym (slice_get-map
 
 pub accepted_sound : (t : Table) → IsTable t → IsAccepted t → IsSound t
 accepted_sound t valid p = record {
-  sound = λ k rule at. rule_at t k rule at (λ e there is.
+  sound = alone_sound (rules_of t) (λ k rule at. rule_at t k rule at (λ e there is.
       let q = passed t k e valid p there in
-      subst IsSoundRule is (sound_rule t (1 + k) e q.sides q.rule.mask q.proof));
+      subst IsSoundRule is (sound_rule t (1 + k) e q.sides q.rule.mask q.proof)));
   shortest = λ k rule at. rule_at t k rule at (λ e there is.
       let q = passed t k e valid p there in
       subst (IsShortest t.pool) is (shortest_rule t (1 + k) e valid q.rule q.sides q.told));

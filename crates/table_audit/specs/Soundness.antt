@@ -3,7 +3,7 @@ use Rattle.std.specs.Prelude.{ℕ, ◌≡◌, ◌<◌, false, List, [], ◌∷�
 use Rattle.thumb_instr.specs.declared.instr.Instr.{Instr}
 use Rattle.thumb_instr.specs.Items.{has}
 use Rattle.thumb_model.specs.Items.{one_of}
-use Rattle.rule_model.specs.Rules.{Rule, AreSound}
+use Rattle.rule_model.specs.Rules.{Rule, alone, AreSound}
 use Rattle.thumb_model.specs.Sides.{Equal, register_count}
 use Rattle.seq_enum.specs.Alphabet.{sequences}
 use Rattle.rule_table.specs.Table as table
@@ -24,6 +24,10 @@ rewriting_rule e = record { left = e.left; right = e.right; mask = items_in e.ma
 abbrev pub rules_of : table.Table → List Rule
 rules_of t = map rewriting_rule t.rules
 
+-- each number of a table stands for the rule of its entry
+abbrev pub numbers_of : table.Table → List (List Rule)
+numbers_of t = alone (rules_of t)
+
 -- ---- shortness ----
 
 -- of the alphabet of the registers that its left side names, no sequence with fewer instructions than an entry's right side leaves the same under its mask, save those that the entry names open
@@ -41,6 +45,6 @@ AreRightlyOpen t = (k : ℕ) (e : table.Rule) → slice_get t.rules k ≡ Some e
 
 -- a table's rules are sound and shortest, and what they name open is rightly so
 pub record IsSound (t : table.Table) : Type 0 where
-  pub sound : AreSound (rules_of t)
+  pub sound : AreSound (numbers_of t)
   pub shortest : AreShortest t.pool (rules_of t)
   pub opens : AreRightlyOpen t
