@@ -1,11 +1,14 @@
 -- Lines that can be read so far begin a table, and only those do.
-use Rattle.std.proofs.Common.{◌≡◌, ℕ, suc, ◌<◌, ◌≤◌, ◌^◌, ◌&&◌, Bool, true, false, List, [], ◌∷◌, ◌++◌, length, map, nat_le, nat_lt, refl, sym, ◌∙◌, ap, arith, Some, append_assoc, append-nil, length-append, lt-ltb, le-leb, ltb-true, subst}
+use Rattle.std.proofs.Common.{◌≡◌, ℕ, suc, ◌-◌, ◌<◌, ◌≤◌, ◌^◌, ◌&&◌, inl, inr, take, drop, Bool, true, false, List, [], ◌∷◌, ◌++◌, length, map, nat_le, nat_lt, refl, sym, ◌∙◌, ap, arith, Some, append_assoc, append-nil, length-append, lt-ltb, le-leb, ltb-true, subst}
 use Rattle.std.specs.List.{flat_map, All}
-use Rattle.std.proofs.lemmas.Bool.{and_parts}
+use Rattle.std.specs.Option.{option_map}
+use Rattle.std.proofs.Math.Seq.{take-append_seam}
+use Rattle.std.proofs.lemmas.Bool.{and_parts, cases_Bool}
 use Rattle.std.proofs.lemmas.Nat.Bits.{bit_at-zero}
 use Rattle.std.specs.Prelude.{◌==◌}
 use Rattle.std.proofs.lemmas.Option.{cond_some, same_Some, option_and_then_some}
-use Rattle.std.proofs.lemmas.List.{map-append}
+use Rattle.std.proofs.lemmas.List.{map-append, length-map, take-append-drop}
+use Rattle.thumb_syntax.proofs.Steps.{map_some}
 use Rattle.std.proofs.lemmas.List.Concat.{flat_map-append}
 use Rattle.std.proofs.lemmas.List.Elements.{All-nil, All-cons, All-head, All-tail, All-push}
 use Rattle.seq_enum.specs.Lists.{ascends_from}
@@ -15,24 +18,24 @@ use Rattle.thumb_instr.specs.declared.instr.Instr.TheVariants as instr
 use Rattle.thumb_instr.specs.declared.within.Within.{Within}
 use Rattle.lrat_check.specs.Content.{Content}
 use Rattle.lrat_check.specs.Text.{IsLine}
+use Rattle.rule_table.specs.declared.header.Field.{Field}
+use Rattle.rule_table.specs.declared.header.Field.TheVariants as field
+use Rattle.rule_table.specs.declared.header.Head.{Head}
+use Rattle.rule_table.specs.declared.header.Head.TheVariants as head
+use Rattle.rule_table.specs.Header.{Header, heads, number_in, with_number, is_same, blank, IsWithin, IsHeader}
 use Rattle.rule_table.specs.Table.{Opened, Rule, Table}
-use Rattle.rule_table.specs.Text.{Item, Version, Regs, Longest, Seed, Budget, Pool, State, Entry, Left, Right, Mask, Proof, Logged, Open, End, rule_items, header_items, items_of}
+use Rattle.rule_table.specs.Text.{Item, Number, Pool, State, Entry, Left, Right, Mask, Proof, Logged, Open, End, rule_items, said, header_items, items_of}
 use Rattle.rule_table.specs.Valid.{IsState, IsInstr, IsMask, IsOpened, IsRule, IsTable, numbers_of}
 use Rattle.rule_table.specs.Items.{IsItem}
-use Rattle.rule_table.specs.Grammar.{Stage, Start, Versioned, HasRegs, HasLeft, HasSeed, HasBudget, Stated, Sided, Masked, Proved, Opening, Done, with_state, with_rule, with_opened, is_empty, step, run}
+use Rattle.rule_table.specs.Grammar.{Stage, Start, Heading, Stated, Sided, Masked, Proved, Opening, Done, with_state, with_rule, with_opened, is_empty, heard, go_on, step, run}
 
 -- a header, states and finished rules
 abbrev pub front_items : Table → List Item
-front_items t = header_items t ++ (map State t.states ++ flat_map rule_items t.rules)
+front_items t = header_items t.header ++ (map State t.states ++ flat_map rule_items t.rules)
 
--- the lines that were read to come to a stage
+-- the lines that were read to come to a stage; of a header those before the lines that are due
 unfoldable pub written : Stage → List Item
-written Start = []
-written Versioned = Version ∷ []
-written (HasRegs n) = Version ∷ Regs n ∷ []
-written (HasLeft n l) = Version ∷ Regs n ∷ Longest l ∷ []
-written (HasSeed n l s) = Version ∷ Regs n ∷ Longest l ∷ Seed s ∷ []
-written (HasBudget n l s b) = Version ∷ Regs n ∷ Longest l ∷ Seed s ∷ Budget b ∷ []
+written (Heading h due) = take (length heads - length due) (header_items h)
 written (Stated t) = front_items t
 written (Sided t ls rs) = front_items t ++ (Entry ∷ (map Left ls ++ map Right rs))
 written (Masked t ls rs m) = front_items t ++ (Entry ∷ (map Left ls ++ (map Right rs ++ Mask m ∷ [])))
@@ -50,12 +53,7 @@ pub record AreSides (ls rs : List Instr) : Type 0 where
 
 -- what holds at a stage
 unfoldable pub Fine : Stage → Type 0
-Fine Start = Unit {0}
-Fine Versioned = Unit {0}
-Fine (HasRegs n) = IsItem (Regs n)
-Fine (HasLeft n l) = IsItem (Regs n) × IsItem (Longest l)
-Fine (HasSeed n l s) = IsItem (Regs n) × IsItem (Longest l) × IsItem (Seed s)
-Fine (HasBudget n l s b) = IsItem (Regs n) × IsItem (Longest l) × IsItem (Seed s) × IsItem (Budget b)
+Fine (Heading h due) = IsHeader h × ((read : List Head) × (read ++ due ≡ heads))
 Fine (Stated t) = IsTable t × (t.rules ≡ [])
 Fine (Sided t ls rs) = IsTable t × AreSides ls rs
 Fine (Masked t ls rs m) = IsTable t × AreSides ls rs × (0 < length ls) × IsMask m
@@ -71,28 +69,14 @@ record Steps (s t : Stage) (i : Item) : Type 0 where
 
 table_state : (t : Table) (s : _) → IsTable t → IsState s → IsTable (with_state t s)
 table_state t s is state = record {
-  some_regs = is.some_regs;
-  few_regs = is.few_regs;
-  some_left = is.some_left;
-  few_left = is.few_left;
-  seed = is.seed;
-  some_budget = is.some_budget;
-  few_budget = is.few_budget;
-  pool = is.pool;
+  header = is.header;
   states = All-push IsState t.states s is.states state;
   rules = is.rules;
 }
 
 table_rule : (t : Table) (r : Rule) → IsTable t → IsRule r → IsTable (with_rule t r)
 table_rule t r is rule = record {
-  some_regs = is.some_regs;
-  few_regs = is.few_regs;
-  some_left = is.some_left;
-  few_left = is.few_left;
-  seed = is.seed;
-  some_budget = is.some_budget;
-  few_budget = is.few_budget;
-  pool = is.pool;
+  header = is.header;
   states = is.states;
   rules = All-push IsRule t.rules r is.rules rule;
 }
@@ -210,7 +194,7 @@ table_more : (t : Table) → items_of t ≡ front_items t ++ End ∷ []
 table_more t = simp append_assoc refl
 
 state_more : (t : Table) (s : _) → t.rules ≡ [] → front_items (with_state t s) ≡ front_items t ++ State s ∷ []
-state_more t s none = rw none (ap (λ us. header_items t ++ us) (last_more State t.states s))
+state_more t s none = rw none (ap (λ us. header_items t.header ++ us) (last_more State t.states s))
 
 empty : (xs : List Instr) → is_empty xs ≡ true → xs ≡ []
 empty [] e = refl
@@ -219,34 +203,151 @@ empty (x ∷ xs) e = cc
 no_sides : AreSides [] []
 no_sides = record { few_left = omega arith; few_right = omega arith; left = All-nil IsInstr; right = All-nil IsInstr; after_left = λ e. absurd cc }
 
+-- ---- the header
+
+same_field : (f x : Field) → is_same f x ≡ true → f ≡ x
+same_field field.Version field.Version e = refl
+same_field field.Regs field.Regs e = refl
+same_field field.Left field.Left e = refl
+same_field field.Seed field.Seed e = refl
+same_field field.Budget field.Budget e = refl
+same_field f x e = absurd cc
+
+number_set : (h : Header) (f : Field) (n : ℕ) → number_in (with_number h f n) f ≡ n
+number_set h field.Version n = refl
+number_set h field.Regs n = refl
+number_set h field.Left n = refl
+number_set h field.Seed n = refl
+number_set h field.Budget n = refl
+
+-- what else the header says stays
+number_kept : (h : Header) (f x : Field) (n : ℕ) → is_same f x ≡ false → number_in (with_number h f n) x ≡ number_in h x
+number_kept h field.Version field.Version n e = absurd cc
+number_kept h field.Regs field.Regs n e = absurd cc
+number_kept h field.Left field.Left n e = absurd cc
+number_kept h field.Seed field.Seed n e = absurd cc
+number_kept h field.Budget field.Budget n e = absurd cc
+number_kept h f x n e = refl
+
+pool_kept : (h : Header) (f : Field) (n : ℕ) → (with_number h f n).pool ≡ h.pool
+pool_kept h field.Version n = refl
+pool_kept h field.Regs n = refl
+pool_kept h field.Left n = refl
+pool_kept h field.Seed n = refl
+pool_kept h field.Budget n = refl
+
+number_fine : (h : Header) (f : Field) (n : ℕ) → IsHeader h → IsWithin f n → IsHeader (with_number h f n)
+number_fine h f n is within = record { numbers = each; pool = ap is_pool (pool_kept h f n) ∙ is.pool }
+  where
+    each : (x : Field) → IsWithin x (number_in (with_number h f n) x)
+    each x = elim (cases_Bool (is_same f x)) [
+      | inl e ↦ subst (λ y. IsWithin y (number_in (with_number h f n) y)) (same_field f x e) (subst (IsWithin f) (sym (number_set h f n)) within)
+      | inr e ↦ subst (IsWithin x) (sym (number_kept h f x n e)) (is.numbers x)
+    ]
+
+-- where a line stands
+abbrev place : Head → ℕ
+place (head.Number field.Version) = 0
+place (head.Number field.Regs) = 1
+place (head.Number field.Left) = 2
+place (head.Number field.Seed) = 3
+place (head.Number field.Budget) = 4
+place head.Pool = 5
+
+abbrev StandFrom : ℕ → List Head → Type 0
+StandFrom from [] = Unit {0}
+StandFrom from (line ∷ lines) = (place line ≡ from) × StandFrom (suc from) lines
+
+heads_stand : StandFrom 0 heads
+heads_stand = (refl, (refl, (refl, (refl, (refl, (refl, tt))))))
+
+stands_later : (from : ℕ) (read : List Head) (line : Head) (due : List Head) → StandFrom from (read ++ line ∷ due) → from ≤ place line
+stands_later from [] line due o = omega (arith, o.0)
+stands_later from (l ∷ read) line due o = omega (arith, stands_later (suc from) read line due o.1)
+
+-- one more line: what it says is held, and what was read before stays
+record Hears (h g : Header) (line : Head) (i : Item) : Type 0 where
+  fine : IsHeader g
+  says : said g line ≡ i
+  kept : (l : Head) → place l < place line → said g l ≡ said h l
+
+number_heard : (h : Header) (f : Field) (n : ℕ) → IsHeader h → IsWithin f n → Hears h (with_number h f n) (head.Number f) (Number f n)
+number_heard h f n is within = record { fine = number_fine h f n is within; says = ap (Number f) (number_set h f n); kept = kept }
+  where
+    kept : (l : Head) → place l < place (head.Number f) → said (with_number h f n) l ≡ said h l
+    kept (head.Number x) less = elim (cases_Bool (is_same f x)) [
+      | inl e ↦ absurd (omega (arith, ap (λ y. place (head.Number y)) (same_field f x e), less))
+      | inr e ↦ ap (Number x) (number_kept h f x n e)
+    ]
+    kept head.Pool less = ap Pool (pool_kept h f n)
+
+hears : (h g : Header) (line : Head) (i : Item) → IsHeader h → IsItem i → heard h line i ≡ Some g → Hears h g line i
+hears h g (head.Number due) (Number f n) is within e =
+    let parts = cond_some (is_same due f) (with_number h f n) g e in
+    let at : Hears h g (head.Number f) (Number f n) = subst (λ k. Hears h k (head.Number f) (Number f n)) parts.1 (number_heard h f n is within) in
+    subst (λ d. Hears h g (head.Number d) (Number f n)) (sym (same_field due f parts.0)) at
+hears h g head.Pool (Pool ns) is pool e =
+    subst (λ k. Hears h k head.Pool (Pool ns)) (same_Some _ _ e) (record { fine = record { numbers = λ x. numbers x; pool = pool }; says = refl; kept = λ l less. kept l less })
+  where
+    numbers : (x : Field) → IsWithin x (number_in (record h { pool = ns }) x)
+    numbers field.Version = is.numbers field.Version
+    numbers field.Regs = is.numbers field.Regs
+    numbers field.Left = is.numbers field.Left
+    numbers field.Seed = is.numbers field.Seed
+    numbers field.Budget = is.numbers field.Budget
+
+    kept : (l : Head) → place l < 5 → said (record h { pool = ns }) l ≡ said h l
+    kept (head.Number field.Version) less = refl
+    kept (head.Number field.Regs) less = refl
+    kept (head.Number field.Left) less = refl
+    kept (head.Number field.Seed) less = refl
+    kept (head.Number field.Budget) less = refl
+    kept head.Pool less = absurd (omega (arith, less))
+hears h g line i is item e = absurd cc
+
+read_kept : (h g : Header) (line : Head) (from : ℕ) (read due : List Head) → ((l : Head) → place l < place line → said g l ≡ said h l) → StandFrom from (read ++ line ∷ due)
+    → map (said g) read ≡ map (said h) read
+read_kept h g line from [] due kept o = refl
+read_kept h g line from (l ∷ read) due kept o =
+    let less : place l < place line = omega (arith, o.0, stands_later (suc from) read line due o.1) in
+    ap (λ j. j ∷ map (said g) read) (kept l less) ∙ ap (λ js. said h l ∷ js) (read_kept h g line (suc from) read due kept o.1)
+
+-- what was written of a header are the lines that are read
+before : (h : Header) (read due : List Head) → read ++ due ≡ heads → take (length heads - length due) (header_items h) ≡ map (said h) read
+before h read due e = subst (λ ls. take (length ls - length due) (map (said h) ls) ≡ map (said h) read) e
+    (ap (λ k. take k (map (said h) (read ++ due))) size ∙ ap (take (length (map (said h) read))) (map-append (said h) read due) ∙ take-append_seam (map (said h) read) (map (said h) due))
+  where
+    size : length (read ++ due) - length due ≡ length (map (said h) read)
+    size = omega (arith, length-append read due, length-map read (said h))
+
+goes_on : (g : Header) (read due : List Head) → IsHeader g → read ++ due ≡ heads → (written (go_on due g) ≡ map (said g) read) × Fine (go_on due g)
+unfolding written Fine
+goes_on g read [] is e = (
+  append-nil (header_items g) ∙ ap (map (said g)) (sym e ∙ append-nil read),
+  (record { header = is; states = All-nil IsState; rules = All-nil IsRule }, refl),
+)
+goes_on g read (line ∷ due) is e = (before g read (line ∷ due) e, (is, (read, e)))
+
+heading_step : (h : Header) (line : Head) (due : List Head) (i : Item) (t : Stage) → IsHeader h → (read : List Head) → read ++ line ∷ due ≡ heads → IsItem i
+    → option_map (go_on due) (heard h line i) ≡ Some t → Steps (Heading h (line ∷ due)) t i
+unfolding written
+heading_step h line due i t is read split item e =
+    let found = map_some (heard h line i) (go_on due) t e in
+    let new = hears h found.0 line i is item found.1 in
+    let all : (read ++ line ∷ []) ++ due ≡ heads = append_assoc read (line ∷ []) due ∙ split in
+    let next = goes_on found.0 (read ++ line ∷ []) due new.fine all in
+    let old : map (said found.0) read ≡ map (said h) read = read_kept h found.0 line 0 read due new.kept (subst (StandFrom 0) (sym split) heads_stand) in
+    subst (λ u. Steps (Heading h (line ∷ due)) u i) found.2 (record {
+      more = next.0 ∙ map-append (said found.0) read (line ∷ []) ∙ ap (λ us. us ++ said found.0 line ∷ []) (old ∙ sym (before h read (line ∷ due) split))
+          ∙ ap (λ j. take (length heads - length (line ∷ due)) (header_items h) ++ j ∷ []) new.says;
+      fine = next.1;
+    })
+
 -- ---- one line
 
 step_written : (s : Stage) (i : Item) (t : Stage) → Fine s → IsItem i → step s i ≡ Some t → Steps s t i
 unfolding step written Fine ascends_from
-step_written Start Version t f is e = rw (← same_Some _ _ e) (record { more = refl; fine = tt })
-step_written Versioned (Regs n) t f is e = rw (← same_Some _ _ e) (record { more = refl; fine = is })
-step_written (HasRegs n) (Longest l) t f is e = rw (← same_Some _ _ e) (record { more = refl; fine = (f, is) })
-step_written (HasLeft n l) (Seed s) t f is e = rw (← same_Some _ _ e) (record { more = refl; fine = (f.0, f.1, is) })
-step_written (HasSeed n l s) (Budget b) t f is e = rw (← same_Some _ _ e) (record { more = refl; fine = (f.0, f.1, f.2, is) })
-step_written (HasBudget n l s b) (Pool ns) t f is e =
-    rw (← same_Some _ _ e) (record {
-      more = refl;
-      fine = (
-        record {
-          some_regs = f.0.0;
-          few_regs = f.0.1;
-          some_left = f.1.0;
-          few_left = f.1.1;
-          seed = f.2;
-          some_budget = f.3.0;
-          few_budget = f.3.1;
-          pool = is;
-          states = All-nil IsState;
-          rules = All-nil IsRule;
-        },
-        refl,
-      );
-    })
+step_written (Heading h (line ∷ due)) i t f is e = heading_step h line due i t f.0 f.1.0 f.1.1 is e
 step_written (Stated b) (State s) t f is e = rw (← same_Some _ _ e) (record { more = state_more b s f.1; fine = (table_state b s f.0 is, f.1) })
 step_written (Stated b) Entry t f is e = rw (← same_Some _ _ e) (record { more = refl; fine = (f.0, no_sides) })
 step_written (Stated b) End t f is e = rw (← same_Some _ _ e) (record { more = table_more b; fine = f.0 })
@@ -412,39 +513,19 @@ from_stated : (t : Table) → Fine (Stated t) → Opens (written (Stated t))
 unfolding step
 from_stated t f = by_step (Stated t) End (Done t) f tt refl (done t)
 
-from_budget : (n l s b : ℕ) → Fine (HasBudget n l s b) → Opens (written (HasBudget n l s b))
-unfolding step is_pool ascends_from
-from_budget n l s b f =
-    by_step (HasBudget n l s b) (Pool (0 ∷ [])) (Stated (record { regs = n; left = l; seed = s; budget = b; pool = 0 ∷ []; states = []; rules = [] })) f refl refl
-    (from_stated (record { regs = n; left = l; seed = s; budget = b; pool = 0 ∷ []; states = []; rules = [] }))
-
-from_seed : (n l s : ℕ) → Fine (HasSeed n l s) → Opens (written (HasSeed n l s))
-unfolding step
-from_seed n l s f = by_step (HasSeed n l s) (Budget 1) (HasBudget n l s 1) f (omega arith, omega arith) refl (from_budget n l s 1)
-
-from_left : (n l : ℕ) → Fine (HasLeft n l) → Opens (written (HasLeft n l))
-unfolding step
-from_left n l f = by_step (HasLeft n l) (Seed 0) (HasSeed n l 0) f (omega arith) refl (from_seed n l 0)
-
-from_regs : (n : ℕ) → Fine (HasRegs n) → Opens (written (HasRegs n))
-unfolding step
-from_regs n f = by_step (HasRegs n) (Longest 1) (HasLeft n 1) f (omega arith, omega arith) refl (from_left n 1)
-
-from_versioned : Fine Versioned → Opens (written Versioned)
-unfolding step
-from_versioned f = by_step Versioned (Regs 1) (HasRegs 1) f (omega arith, omega arith) refl (from_regs 1)
-
-from_start : Fine Start → Opens (written Start)
-unfolding step
-from_start f = by_step Start Version Versioned f tt refl from_versioned
+-- of a header its other lines as they are held
+from_heading : (h : Header) (due : List Head) → Fine (Heading h due) → Opens (written (Heading h due))
+unfolding written Fine
+from_heading h due f = record {
+  table = record { header = h; states = []; rules = [] };
+  valid = record { header = f.0; states = All-nil IsState; rules = All-nil IsRule };
+  rest = drop (length heads - length due) (header_items h) ++ End ∷ [];
+  whole = ap (λ us. us ++ End ∷ []) (sym (take-append-drop (length heads - length due) (header_items h)))
+      ∙ append_assoc (take (length heads - length due) (header_items h)) (drop (length heads - length due) (header_items h)) (End ∷ []);
+}
 
 pub completes : (s : Stage) → Fine s → Opens (written s)
-completes Start f = from_start f
-completes Versioned f = from_versioned f
-completes (HasRegs n) f = from_regs n f
-completes (HasLeft n l) f = from_left n l f
-completes (HasSeed n l s) f = from_seed n l s f
-completes (HasBudget n l s b) f = from_budget n l s b f
+completes (Heading h due) f = from_heading h due f
 completes (Stated t) f = from_stated t f
 completes (Sided t ls rs) f = from_sided t ls rs f
 completes (Masked t ls rs m) f = from_masked t ls rs m f
@@ -452,13 +533,24 @@ completes (Proved t r) f = from_proved t r f
 completes (Opening t r o) f = from_opening t r o f
 completes (Done t) f = done t f
 
+blank_fine : IsHeader blank
+unfolding is_pool ascends_from
+blank_fine = record { numbers = least; pool = refl }
+  where
+    least : (x : Field) → IsWithin x (number_in blank x)
+    least field.Version = (omega arith, omega arith)
+    least field.Regs = (omega arith, omega arith)
+    least field.Left = (omega arith, omega arith)
+    least field.Seed = (omega arith, omega arith)
+    least field.Budget = (omega arith, omega arith)
+
 -- what is read from the start begins a table, and what a whole table's lines are read as is that table
 pub read_opens : (p : List Item) (s : Stage) → All IsItem p → run Start p ≡ Some s → Opens p
 unfolding written Fine
 read_opens p s all e =
-    let reached = run_written p Start s tt all e in
+    let reached = run_written p Start s (blank_fine, ([], refl)) all e in
     subst Opens reached.0 (completes s reached.1)
 
 pub read_whole : (p : List Item) (t : Table) → All IsItem p → run Start p ≡ Some (Done t) → IsTable t × (items_of t ≡ p)
 unfolding written Fine
-read_whole p t all e = let reached = run_written p Start (Done t) tt all e in (reached.1, reached.0)
+read_whole p t all e = let reached = run_written p Start (Done t) (blank_fine, ([], refl)) all e in (reached.1, reached.0)

@@ -9,8 +9,11 @@ use Rattle.ascii_scan.specs.FirstLine.{is_inside}
 use Rattle.lrat_check.specs.Text.{text_of as text_of_line}
 use Rattle.lrat_check.proofs.Outcomes.{text_of-injective}
 use Rattle.window_exec.specs.Seen.{Seen}
+use Rattle.rule_table.specs.declared.header.Field.{Field}
+use Rattle.rule_table.specs.declared.header.Field.TheVariants as field
 use Rattle.rule_table.specs.declared.words.Word.TheVariants as word
-use Rattle.rule_table.specs.Text.{Item, Version, Regs, Longest, Seed, Budget, Pool, State, Entry, Left, Right, Mask, Proof, Logged, Open, End, line_of, instr_text, after_blanks, hex_of, mask_text, mask_rows, named}
+use Rattle.rule_table.specs.Header.{row, IsWithin}
+use Rattle.rule_table.specs.Text.{Item, Number, Pool, State, Entry, Left, Right, Mask, Proof, Logged, Open, End, line_of, instr_text, after_blanks, hex_of, mask_text, mask_rows, named}
 use Rattle.rule_table.specs.Valid.{IsState, IsInstr}
 use Rattle.rule_table.specs.Items.{IsItem}
 use Rattle.rule_table.specs.Fronts.{words, front, word_of, tail_of}
@@ -29,11 +32,11 @@ digit_front bs d = ap front d.is ∙ rw d.tells (ap (λ us. Some (word.Digit, us
 
 pub front_line : (i : Item) → IsItem i → front (line_of i) ≡ Some (word_of i, tail_of i)
 unfolding front words
-front_line Version is = refl
-front_line (Regs n) is = refl
-front_line (Longest n) is = refl
-front_line (Seed n) is = refl
-front_line (Budget n) is = refl
+front_line (Number field.Version n) is = refl
+front_line (Number field.Regs n) is = refl
+front_line (Number field.Left n) is = refl
+front_line (Number field.Seed n) is = refl
+front_line (Number field.Budget n) is = refl
 front_line (Pool ns) is = refl
 front_line (State s) is = refl
 front_line Entry is = refl
@@ -59,12 +62,22 @@ mask_inside m = rows mask_rows refl
 number_inside : (w : List ℕ) (n : ℕ) → IsInside w → n < 2 ^ 64 → IsInside (w ++ decimal n)
 number_inside w n h small = inside_both w (decimal n) h (decimal_inside n small)
 
+word_inside : (f : Field) → IsInside (row f).word
+word_inside field.Version = refl
+word_inside field.Regs = refl
+word_inside field.Left = refl
+word_inside field.Seed = refl
+word_inside field.Budget = refl
+
+pub within_small : (f : Field) (n : ℕ) → IsWithin f n → n < 2 ^ 64
+within_small field.Version n is = omega (arith, is.1)
+within_small field.Regs n is = omega (arith, is.1)
+within_small field.Left n is = omega (arith, is.1)
+within_small field.Seed n is = omega (arith, is.1)
+within_small field.Budget n is = omega (arith, is.1)
+
 pub line_inside : (i : Item) → IsItem i → IsInside (line_of i)
-line_inside Version is = refl
-line_inside (Regs n) is = number_inside (codes "regs ") n refl (omega (arith, is.1))
-line_inside (Longest n) is = number_inside (codes "left ") n refl (omega (arith, is.1))
-line_inside (Seed n) is = number_inside (codes "seed ") n refl (omega (arith, is))
-line_inside (Budget n) is = number_inside (codes "budget ") n refl (omega (arith, is.1))
+line_inside (Number field n) is = number_inside (row field).word n (word_inside field) (within_small field n is)
 line_inside (Pool ns) is = inside_both (codes "pool") (after_blanks (map decimal ns)) refl (pool_inside ns is)
 line_inside (State s) is = inside_both (codes "state") (after_blanks (map (hex_of 8) s.r) ++ 32 ∷ hex_of 1 s.nzcv) refl (state_inside s)
 line_inside Entry is = refl
@@ -99,16 +112,14 @@ states s t a b e =
     same_seen s t parts.0 parts.1
 
 tails_tell : (i j : Item) → IsItem i → IsItem j → word_of i ≡ word_of j → tail_of i ≡ tail_of j → i ≡ j
-tails_tell Version Version a b w e = refl
-tails_tell (Regs m) (Regs n) a b w e = ap Regs (numbers m n (omega (arith, a.1)) (omega (arith, b.1)) e)
-tails_tell (Longest m) (Longest n) a b w e = ap Longest (numbers m n (omega (arith, a.1)) (omega (arith, b.1)) e)
-tails_tell (Longest m) (Left i) a b w e = absurd (no_instr m i (omega (arith, a.1)) b e)
-tails_tell (Seed m) (Seed n) a b w e = ap Seed (numbers m n (omega (arith, a)) (omega (arith, b)) e)
-tails_tell (Budget m) (Budget n) a b w e = ap Budget (numbers m n (omega (arith, a.1)) (omega (arith, b.1)) e)
+tails_tell (Number f m) (Number g n) a b w e =
+    let same : f ≡ g = cc in
+    ap (λ h. Number h m) same ∙ ap (Number g) (numbers m n (within_small f m a) (within_small g n b) e)
+tails_tell (Number f m) (Left i) a b w e = absurd (no_instr m i (within_small f m a) b e)
 tails_tell (Pool ms) (Pool ns) a b w e = ap Pool (pools_tell ms ns a b e)
 tails_tell (State s) (State t) a b w e = ap State (states s t a b e)
 tails_tell Entry Entry a b w e = refl
-tails_tell (Left i) (Longest n) a b w e = absurd (no_instr n i (omega (arith, b.1)) a (sym e))
+tails_tell (Left i) (Number f n) a b w e = absurd (no_instr n i (within_small f n b) a (sym e))
 tails_tell (Left i) (Left j) a b w e = ap Left (instr_tells i j a b e)
 tails_tell (Right i) (Right j) a b w e = ap Right (instr_tells i j a b e)
 tails_tell (Mask m) (Mask n) a b w e = ap Mask (mask_tells m n a b e)

@@ -8,8 +8,11 @@ use Rattle.std.proofs.lemmas.List.{map-append, length-map}
 use Rattle.std.proofs.lemmas.List.Elements.{All-nil, All-cons, All-head, All-tail, All-append, All-map, All-push}
 use Rattle.ascii_scan.specs.Lines.{lines_of, onto_first, content_of, is_ended, Placed, placed, placed_from, lines_in, whole}
 use Rattle.ascii_scan.proofs.LineLemmas.{lines_nil, lines_newline, lines_other, lines_join, map-whole, length-lines_in}
+use Rattle.rule_table.specs.declared.header.Head.{Head}
+use Rattle.rule_table.specs.declared.header.Head.TheVariants as head
+use Rattle.rule_table.specs.Header.{Header, heads, number_in, IsHeader}
 use Rattle.rule_table.specs.Table.{Opened, Rule, Table}
-use Rattle.rule_table.specs.Text.{Item, Version, Regs, Longest, Seed, Budget, Pool, State, Entry, Left, Right, Mask, Proof, Logged, Open, End, line_of, text_of_items, text_of, open_items, rule_items, items_of}
+use Rattle.rule_table.specs.Text.{Item, Number, Pool, State, Entry, Left, Right, Mask, Proof, Logged, Open, End, line_of, text_of_items, text_of, open_items, rule_items, said, header_items, items_of}
 use Rattle.rule_table.specs.Valid.{IsOpened, IsRule, IsTable}
 use Rattle.rule_table.specs.Items.{IsItem}
 use Rattle.rule_table.specs.Grammar.{Stage, Start, Done, step, run}
@@ -88,19 +91,19 @@ rule_all r is =
     (All-append IsItem (map Logged r.proof) opens (All-map IsItem Logged r.proof is.proof)
     (many_items IsOpened open_items opened_items r.opens is.opens))))))
 
+heads_all : (h : Header) → IsHeader h → (lines : List Head) → All IsItem (map (said h) lines)
+heads_all h is [] = All-nil IsItem
+heads_all h is (head.Number field ∷ lines) = All-cons IsItem (Number field (number_in h field)) (map (said h) lines) (is.numbers field) (heads_all h is lines)
+heads_all h is (head.Pool ∷ lines) = All-cons IsItem (Pool h.pool) (map (said h) lines) is.pool (heads_all h is lines)
+
 pub table_all : (t : Table) → IsTable t → All IsItem (items_of t)
 table_all t is =
     let rules = flat_map rule_items t.rules ++ End ∷ [] in
     let body = map State t.states ++ rules in
-    All-cons IsItem Version (Regs t.regs ∷ Longest t.left ∷ Seed t.seed ∷ Budget t.budget ∷ Pool t.pool ∷ body) tt
-    (All-cons IsItem (Regs t.regs) (Longest t.left ∷ Seed t.seed ∷ Budget t.budget ∷ Pool t.pool ∷ body) (is.some_regs, is.few_regs)
-    (All-cons IsItem (Longest t.left) (Seed t.seed ∷ Budget t.budget ∷ Pool t.pool ∷ body) (is.some_left, is.few_left)
-    (All-cons IsItem (Seed t.seed) (Budget t.budget ∷ Pool t.pool ∷ body) is.seed
-    (All-cons IsItem (Budget t.budget) (Pool t.pool ∷ body) (is.some_budget, is.few_budget)
-    (All-cons IsItem (Pool t.pool) body is.pool
+    All-append IsItem (header_items t.header) body (heads_all t.header is.header heads)
     (All-append IsItem (map State t.states) rules (All-map IsItem State t.states is.states)
     (All-append IsItem (flat_map rule_items t.rules) (End ∷ []) (many_items IsRule rule_items rule_all t.rules is.rules)
-    (All-cons IsItem End [] tt (All-nil IsItem)))))))))
+    (All-cons IsItem End [] tt (All-nil IsItem))))
 
 pub table_lines : (t : Table) → IsTable t → lines_of (text_of t) ≡ map ended (items_of t)
 table_lines t is = lines_items (items_of t) (table_all t is)

@@ -25,17 +25,17 @@ run-append s (i ∷ p) q = from (step s i) (λ t. run-append t p q)
 
 -- a table with more states, more rules
 more_states : Table → List Seen → Table
-more_states t ss = record { regs = t.regs; left = t.left; seed = t.seed; budget = t.budget; pool = t.pool; states = t.states ++ ss; rules = t.rules }
+more_states t ss = record { header = t.header; states = t.states ++ ss; rules = t.rules }
 
 more_rules : Table → List Rule → Table
-more_rules t rs = record { regs = t.regs; left = t.left; seed = t.seed; budget = t.budget; pool = t.pool; states = t.states; rules = t.rules ++ rs }
+more_rules t rs = record { header = t.header; states = t.states; rules = t.rules ++ rs }
 
 reads_states : (t : Table) (ss : List Seen) (rest : List Item) → run (Stated t) (map State ss ++ rest) ≡ run (Stated (more_states t ss)) rest
 unfolding run step more_states
-reads_states t [] rest = ap (λ us. run (Stated (record { regs = t.regs; left = t.left; seed = t.seed; budget = t.budget; pool = t.pool; states = us; rules = t.rules })) rest) (sym (append-nil t.states))
+reads_states t [] rest = ap (λ us. run (Stated (record { header = t.header; states = us; rules = t.rules })) rest) (sym (append-nil t.states))
 reads_states t (s ∷ ss) rest =
     reads_states (with_state t s) ss rest
-    ∙ ap (λ us. run (Stated (record { regs = t.regs; left = t.left; seed = t.seed; budget = t.budget; pool = t.pool; states = us; rules = t.rules })) rest) (append_assoc t.states (s ∷ []) ss)
+    ∙ ap (λ us. run (Stated (record { header = t.header; states = us; rules = t.rules })) rest) (append_assoc t.states (s ∷ []) ss)
 
 reads_left : (t : Table) (ls is : List Instr) (rest : List Item) → length ls + length is ≤ 5 → run (Sided t ls []) (map Left is ++ rest) ≡ run (Sided t (ls ++ is) []) rest
 unfolding run step
@@ -136,21 +136,21 @@ reads_rules t r (q ∷ rs) all =
     ap (run (Sided (with_rule t r) [] [])) (append_assoc (tail_items q) (flat_map rule_items rs) (End ∷ []))
     ∙ reads_rule (with_rule t r) q (flat_map rule_items rs ++ End ∷ []) (All-head IsRule q rs all) (closes_rules rs)
     ∙ reads_rules (with_rule t r) q rs (All-tail IsRule q rs all)
-    ∙ ap (λ us. Some (Done (record { regs = t.regs; left = t.left; seed = t.seed; budget = t.budget; pool = t.pool; states = t.states; rules = us }))) (append_assoc t.rules (r ∷ []) (q ∷ rs))
+    ∙ ap (λ us. Some (Done (record { header = t.header; states = t.states; rules = us }))) (append_assoc t.rules (r ∷ []) (q ∷ rs))
 
 reads_all : (t : Table) (rs : List Rule) → t.rules ≡ [] → All IsRule rs
-    → run (Stated t) (flat_map rule_items rs ++ End ∷ []) ≡ Some (Done (record { regs = t.regs; left = t.left; seed = t.seed; budget = t.budget; pool = t.pool; states = t.states; rules = rs }))
+    → run (Stated t) (flat_map rule_items rs ++ End ∷ []) ≡ Some (Done (record { header = t.header; states = t.states; rules = rs }))
 unfolding run step more_rules tail_items
-reads_all t [] none all = ap (λ us. Some (Done (record { regs = t.regs; left = t.left; seed = t.seed; budget = t.budget; pool = t.pool; states = t.states; rules = us }))) none
+reads_all t [] none all = ap (λ us. Some (Done (record { header = t.header; states = t.states; rules = us }))) none
 reads_all t (r ∷ rs) none all =
     ap (run (Sided t [] [])) (append_assoc (tail_items r) (flat_map rule_items rs) (End ∷ []))
     ∙ reads_rule t r (flat_map rule_items rs ++ End ∷ []) (All-head IsRule r rs all) (closes_rules rs)
     ∙ reads_rules t r rs (All-tail IsRule r rs all)
-    ∙ ap (λ us. Some (Done (record { regs = t.regs; left = t.left; seed = t.seed; budget = t.budget; pool = t.pool; states = t.states; rules = us ++ r ∷ rs }))) none
+    ∙ ap (λ us. Some (Done (record { header = t.header; states = t.states; rules = us ++ r ∷ rs }))) none
 
 pub reads : (t : Table) → IsTable t → run Start (items_of t) ≡ Some (Done t)
 unfolding run step more_states
 reads t is =
-    let begun : Table = record { regs = t.regs; left = t.left; seed = t.seed; budget = t.budget; pool = t.pool; states = []; rules = [] } in
+    let begun : Table = record { header = t.header; states = []; rules = [] } in
     reads_states begun t.states (flat_map rule_items t.rules ++ End ∷ [])
-    ∙ reads_all (record { regs = t.regs; left = t.left; seed = t.seed; budget = t.budget; pool = t.pool; states = t.states; rules = [] }) t.rules refl is.rules
+    ∙ reads_all (record { header = t.header; states = t.states; rules = [] }) t.rules refl is.rules

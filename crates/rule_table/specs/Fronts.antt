@@ -3,22 +3,19 @@ use Rattle.std.specs.Prelude.{ℕ, ◌==◌, ◌++◌, Bool, false, List, [], �
 use Rattle.std.specs.Char.{is_ascii_digit}
 use Rattle.std.specs.Borrow.{Bor}
 use Rattle.lrat_check.specs.Text.{text_of as text_of_line}
+use Rattle.rule_table.specs.declared.header.Field.TheVariants as field
+use Rattle.rule_table.specs.declared.header.Head.TheVariants as head
 use Rattle.rule_table.specs.declared.words.Word.{Word}
 use Rattle.rule_table.specs.declared.words.Word.TheVariants as word
-use Rattle.rule_table.specs.Text.{Item, Version, Regs, Longest, Seed, Budget, Pool, State, Entry, Left, Right, Mask, Proof, Logged, Open, End, after_blanks, hex_of, instr_text, mask_text}
+use Rattle.rule_table.specs.Header.{heads, row}
+use Rattle.rule_table.specs.Text.{Item, Number, Pool, State, Entry, Left, Right, Mask, Proof, Logged, Open, End, after_blanks, hex_of, instr_text, mask_text}
 
 unfoldable pub words : List Word
-words =
-    word.Version ∷ word.Regs ∷ word.Left ∷ word.Seed ∷ word.Budget ∷ word.Pool ∷ word.State
-    ∷ word.Entry ∷ word.Right ∷ word.Mask ∷ word.Proof ∷ word.Open ∷ word.End ∷ []
+words = map word.Head heads ++ word.State ∷ word.Entry ∷ word.Right ∷ word.Mask ∷ word.Proof ∷ word.Open ∷ word.End ∷ []
 
 abbrev pub word_text : Word → List ℕ
-word_text word.Version = codes "peep 1"
-word_text word.Regs = codes "regs "
-word_text word.Left = codes "left "
-word_text word.Seed = codes "seed "
-word_text word.Budget = codes "budget "
-word_text word.Pool = codes "pool"
+word_text (word.Head (head.Number field)) = (row field).word
+word_text (word.Head head.Pool) = codes "pool"
 word_text word.State = codes "state"
 word_text word.Entry = codes "entry"
 word_text word.Right = codes "right "
@@ -71,11 +68,7 @@ taken (r ∷ rs) bs = and_taken bs r.0 (strip r.1 bs) (taken rs)
 
 -- what stands behind the word
 abbrev pub tail_of : Item → List ℕ
-tail_of Version = []
-tail_of (Regs n) = decimal n
-tail_of (Longest n) = decimal n
-tail_of (Seed n) = decimal n
-tail_of (Budget n) = decimal n
+tail_of (Number field n) = decimal n
 tail_of (Pool ns) = after_blanks (map decimal ns)
 tail_of (State s) = after_blanks (map (hex_of 8) s.r) ++ 32 ∷ hex_of 1 s.nzcv
 tail_of Entry = []
@@ -87,16 +80,13 @@ tail_of (Logged c) = text_of_line c
 tail_of (Open n) = decimal n
 tail_of End = []
 
+-- a left side's instructions stand behind the word of the header's number
 abbrev pub word_of : Item → Word
-word_of Version = word.Version
-word_of (Regs n) = word.Regs
-word_of (Longest n) = word.Left
-word_of (Seed n) = word.Seed
-word_of (Budget n) = word.Budget
-word_of (Pool ns) = word.Pool
+word_of (Number field n) = word.Head (head.Number field)
+word_of (Pool ns) = word.Head head.Pool
 word_of (State s) = word.State
 word_of Entry = word.Entry
-word_of (Left i) = word.Left
+word_of (Left i) = word.Head (head.Number field.Left)
 word_of (Right i) = word.Right
 word_of (Mask m) = word.Mask
 word_of Proof = word.Proof

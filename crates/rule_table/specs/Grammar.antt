@@ -1,20 +1,18 @@
 -- The lines of a table one after the other: what has been read so far, and which line may follow.
 use Rattle.std.specs.Prelude.{ℕ, ◌&&◌, Bool, true, false, List, [], ◌∷◌, ◌++◌, length, nat_lt, Option, Some, None, if◌then◌else◌}
-use Rattle.std.specs.Option.{option_and_then}
+use Rattle.std.specs.Option.{option_and_then, option_map}
 use Rattle.thumb_instr.specs.declared.instr.Instr.{Instr}
 use Rattle.window_exec.specs.Seen.{Seen}
+use Rattle.rule_table.specs.declared.header.Head.{Head}
+use Rattle.rule_table.specs.declared.header.Head.TheVariants as head
+use Rattle.rule_table.specs.Header.{Header, heads, with_number, is_same, blank}
 use Rattle.rule_table.specs.Table.{Opened, Rule, Table}
-use Rattle.rule_table.specs.Text.{Item, Version, Regs, Longest, Seed, Budget, Pool, State, Entry, Left, Right, Mask, Proof, Logged, Open, End}
+use Rattle.rule_table.specs.Text.{Item, Number, Pool, State, Entry, Left, Right, Mask, Proof, Logged, Open, End}
 
--- what has been read: nothing, the first line, then the numbers one by one; a header with its states; behind the rules before, the sides of a rule, a rule with its mask,
--- one with its proof, one with the number that was opened last; all
+-- what has been read: some lines of the header, with those that are due; a header with its states; behind the rules before, the sides of a rule, a rule with its
+-- mask, one with its proof, one with the number that was opened last; all
 pub data Stage : Type 0 where
-  Start : Stage
-  Versioned : Stage
-  HasRegs : (regs : ℕ) → Stage
-  HasLeft : (regs left : ℕ) → Stage
-  HasSeed : (regs left seed : ℕ) → Stage
-  HasBudget : (regs left seed budget : ℕ) → Stage
+  Heading : Header → (due : List Head) → Stage
   Stated : Table → Stage
   Sided : Table → (left right : List Instr) → Stage
   Masked : Table → (left right : List Instr) → (mask : ℕ) → Stage
@@ -23,10 +21,10 @@ pub data Stage : Type 0 where
   Done : Table → Stage
 
 abbrev pub with_state : Table → Seen → Table
-with_state t s = record { regs = t.regs; left = t.left; seed = t.seed; budget = t.budget; pool = t.pool; states = t.states ++ s ∷ []; rules = t.rules }
+with_state t s = record { header = t.header; states = t.states ++ s ∷ []; rules = t.rules }
 
 abbrev pub with_rule : Table → Rule → Table
-with_rule t r = record { regs = t.regs; left = t.left; seed = t.seed; budget = t.budget; pool = t.pool; states = t.states; rules = t.rules ++ r ∷ [] }
+with_rule t r = record { header = t.header; states = t.states; rules = t.rules ++ r ∷ [] }
 
 abbrev pub with_opened : Rule → Opened → Rule
 with_opened r o = record { left = r.left; right = r.right; mask = r.mask; proof = r.proof; opens = r.opens ++ o ∷ [] }
@@ -35,13 +33,23 @@ abbrev pub is_empty : List Instr → Bool
 is_empty [] = true
 is_empty (i ∷ is) = false
 
+-- before the first line all lines of the header are due
+abbrev pub Start : Stage
+Start = Heading blank heads
+
+-- the header with what a line says, where it is the one that is due
+abbrev pub heard : Header → Head → Item → Option Header
+heard h (head.Number due) (Number field n) = if is_same due field then Some (with_number h field n) else None
+heard h head.Pool (Pool ns) = Some (record h { pool = ns })
+heard h due i = None
+
+-- behind the last line of the header come the states
+abbrev pub go_on : List Head → Header → Stage
+go_on [] h = Stated (record { header = h; states = []; rules = [] })
+go_on (line ∷ due) h = Heading h (line ∷ due)
+
 unfoldable pub step : Stage → Item → Option Stage
-step Start Version = Some Versioned
-step Versioned (Regs n) = Some (HasRegs n)
-step (HasRegs n) (Longest l) = Some (HasLeft n l)
-step (HasLeft n l) (Seed s) = Some (HasSeed n l s)
-step (HasSeed n l s) (Budget b) = Some (HasBudget n l s b)
-step (HasBudget n l s b) (Pool ns) = Some (Stated (record { regs = n; left = l; seed = s; budget = b; pool = ns; states = []; rules = [] }))
+step (Heading h (line ∷ due)) i = option_map (go_on due) (heard h line i)
 step (Stated t) (State s) = Some (Stated (with_state t s))
 step (Stated t) Entry = Some (Sided t [] [])
 step (Stated t) End = Some (Done t)

@@ -3,14 +3,10 @@ use Rattle.lrat_check.specs.Content.{content_of}
 use Rattle.window_exec.specs.State.{seen}
 use Rattle.rule_table.specs.declared.item.Item.{Item as Code}
 use Rattle.rule_table.specs.declared.item.Item.TheVariants as code
-use Rattle.rule_table.specs.Text.{Item, Version, Regs, Longest, Seed, Budget, Pool, State, Entry, Left, Right, Mask, Proof, Logged, Open, End}
+use Rattle.rule_table.specs.Text.{Item, Number, Pool, State, Entry, Left, Right, Mask, Proof, Logged, Open, End}
 
 abbrev pub item_of : Code → Item
-item_of code.Version = Version
-item_of (code.Regs n) = Regs n
-item_of (code.Longest n) = Longest n
-item_of (code.Seed n) = Seed n
-item_of (code.Budget n) = Budget n
+item_of (code.Number field n) = Number field n
 item_of (code.Pool ns) = Pool ns
 item_of (code.State s) = State (seen s)
 item_of code.Entry = Entry

@@ -1,17 +1,14 @@
 -- Which lines there are, each by what it says.
-use Rattle.std.specs.Prelude.{◌≡◌, ◌<◌, ◌≤◌, ◌^◌, true}
+use Rattle.std.specs.Prelude.{◌≡◌, ◌<◌, ◌^◌, true}
 use Rattle.seq_enum.specs.Pools.{is_pool}
 use Rattle.lrat_check.specs.Text.{IsLine}
-use Rattle.rule_table.specs.Text.{Item, Version, Regs, Longest, Seed, Budget, Pool, State, Entry, Left, Right, Mask, Proof, Logged, Open, End}
+use Rattle.rule_table.specs.Header.{IsWithin}
+use Rattle.rule_table.specs.Text.{Item, Number, Pool, State, Entry, Left, Right, Mask, Proof, Logged, Open, End}
 use Rattle.rule_table.specs.Valid.{IsState, IsInstr, IsMask}
 
 -- what a line says lies in its limits
 abbrev pub IsItem : Item → Type 0
-IsItem Version = Unit {0}
-IsItem (Regs n) = (1 ≤ n) × (n ≤ 4)
-IsItem (Longest n) = (1 ≤ n) × (n ≤ 5)
-IsItem (Seed n) = n < 2 ^ 32
-IsItem (Budget n) = (1 ≤ n) × (n ≤ 1000000)
+IsItem (Number field n) = IsWithin field n
 IsItem (Pool ns) = is_pool ns ≡ true
 IsItem (State s) = IsState s
 IsItem Entry = Unit {0}

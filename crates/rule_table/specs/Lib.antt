@@ -1,3 +1,4 @@
+pub mod Header
 pub mod Table
 pub mod Text
 pub mod Views

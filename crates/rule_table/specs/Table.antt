@@ -3,6 +3,7 @@ use Rattle.std.specs.Prelude.{ℕ, List}
 use Rattle.thumb_instr.specs.declared.instr.Instr.{Instr}
 use Rattle.lrat_check.specs.Content.{Content}
 use Rattle.window_exec.specs.Seen.{Seen}
+use Rattle.rule_table.specs.Header.{Header}
 
 -- a sequence by its number, left open, and the log of the search for a state that tells it
 pub record Opened : Type 0 where
@@ -18,10 +19,6 @@ pub record Rule : Type 0 where
   pub opens : List Opened
 
 pub record Table : Type 0 where
-  pub regs : ℕ
-  pub left : ℕ
-  pub seed : ℕ
-  pub budget : ℕ
-  pub pool : List ℕ
+  pub header : Header
   pub states : List Seen
   pub rules : List Rule

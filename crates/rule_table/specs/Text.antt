@@ -8,6 +8,10 @@ use Rattle.thumb_syntax.specs.Rows.{shown_with}
 use Rattle.lrat_check.specs.Content.{Content}
 use Rattle.lrat_check.specs.Text.{text_of as text_of_line}
 use Rattle.window_exec.specs.Seen.{Seen}
+use Rattle.rule_table.specs.declared.header.Field.{Field}
+use Rattle.rule_table.specs.declared.header.Head.{Head}
+use Rattle.rule_table.specs.declared.header.Head.TheVariants as head
+use Rattle.rule_table.specs.Header.{Header, heads, number_in, row}
 use Rattle.rule_table.specs.Table.{Opened, Rule, Table}
 
 -- a digit of a hexadecimal number, in lower case, and the last n digits of a number
@@ -37,11 +41,7 @@ mask_text m = flat_map (λ (r : ℕ × List ℕ). named m r.0 r.1) mask_rows
 
 -- what a line says
 pub data Item : Type 0 where
-  Version : Item
-  Regs : ℕ → Item
-  Longest : ℕ → Item
-  Seed : ℕ → Item
-  Budget : ℕ → Item
+  Number : Field → ℕ → Item
   Pool : List ℕ → Item
   State : Seen → Item
   Entry : Item
@@ -59,11 +59,7 @@ after_blanks words = flat_map (λ w. 32 ∷ w) words
 
 -- a line, without its newline
 abbrev pub line_of : Item → List ℕ
-line_of Version = codes "peep 1"
-line_of (Regs n) = codes "regs " ++ decimal n
-line_of (Longest n) = codes "left " ++ decimal n
-line_of (Seed n) = codes "seed " ++ decimal n
-line_of (Budget n) = codes "budget " ++ decimal n
+line_of (Number field n) = (row field).word ++ decimal n
 line_of (Pool ns) = codes "pool" ++ after_blanks (map decimal ns)
 line_of (State s) = codes "state" ++ (after_blanks (map (hex_of 8) s.r) ++ 32 ∷ hex_of 1 s.nzcv)
 line_of Entry = codes "entry"
@@ -86,12 +82,17 @@ open_items o = Open o.number ∷ map Logged o.log
 abbrev pub rule_items : Rule → List Item
 rule_items r = Entry ∷ (map Left r.left ++ (map Right r.right ++ Mask r.mask ∷ Proof ∷ (map Logged r.proof ++ flat_map open_items r.opens)))
 
-abbrev pub header_items : Table → List Item
-header_items t = Version ∷ Regs t.regs ∷ Longest t.left ∷ Seed t.seed ∷ Budget t.budget ∷ Pool t.pool ∷ []
+-- what a line of a header says
+abbrev pub said : Header → Head → Item
+said h (head.Number field) = Number field (number_in h field)
+said h head.Pool = Pool h.pool
+
+abbrev pub header_items : Header → List Item
+header_items h = map (said h) heads
 
 -- the lines of a table
 abbrev pub items_of : Table → List Item
-items_of t = header_items t ++ (map State t.states ++ (flat_map rule_items t.rules ++ End ∷ []))
+items_of t = header_items t.header ++ (map State t.states ++ (flat_map rule_items t.rules ++ End ∷ []))
 
 abbrev pub text_of : Table → List ℕ
 text_of t = text_of_items (items_of t)

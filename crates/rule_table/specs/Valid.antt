@@ -6,9 +6,9 @@ use Rattle.thumb_instr.specs.Items.{has, is_in_masks}
 use Rattle.thumb_instr.specs.Window.{is_in_window}
 use Rattle.thumb_instr.specs.Renaming.{named, AreBelow}
 use Rattle.seq_enum.specs.Lists.{ascends_from}
-use Rattle.seq_enum.specs.Pools.{is_pool}
 use Rattle.lrat_check.specs.Text.{IsLine}
 use Rattle.window_exec.specs.Seen.{Seen}
+use Rattle.rule_table.specs.Header.{IsHeader}
 use Rattle.rule_table.specs.Table.{Opened, Rule, Table}
 
 -- four words, and the four flags
@@ -46,15 +46,8 @@ pub record IsRule (r : Rule) : Type 0 where
   pub opens : All IsOpened r.opens
   pub ascending : ascends_from 0 (numbers_of r.opens) ≡ true
 
--- the numbers of the first lines lie in their limits, and each state and rule is one that has lines
+-- the header is one, and so is each state and rule
 pub record IsTable (t : Table) : Type 0 where
-  pub some_regs : 1 ≤ t.regs
-  pub few_regs : t.regs ≤ 4
-  pub some_left : 1 ≤ t.left
-  pub few_left : t.left ≤ 5
-  pub seed : t.seed < 2 ^ 32
-  pub some_budget : 1 ≤ t.budget
-  pub few_budget : t.budget ≤ 1000000
-  pub pool : is_pool t.pool ≡ true
+  pub header : IsHeader t.header
   pub states : All IsState t.states
   pub rules : All IsRule t.rules

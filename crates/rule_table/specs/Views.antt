@@ -1,11 +1,24 @@
--- What tables and entries hold.
+-- What tables, their headers and entries hold.
 use Rattle.std.specs.Prelude.{map}
 use Rattle.lrat_check.specs.Content.{content_of}
 use Rattle.window_exec.specs.State.{seen}
+use Rattle.rule_table.specs.declared.header.Header as heading
+use Rattle.rule_table.specs.declared.header.Row as line
 use Rattle.rule_table.specs.declared.table.Open as opening
 use Rattle.rule_table.specs.declared.table.Entry as entry
 use Rattle.rule_table.specs.declared.table.Table as code
+use Rattle.rule_table.specs.Header.{Header, Row}
 use Rattle.rule_table.specs.Table.{Opened, Rule, Table}
+
+abbrev pub row_of : line.Row → Row
+row_of r = record { word = r.word.now; least = r.least; greatest = r.greatest }
+
+-- the version is 1
+abbrev pub header_of : heading.Header → Header
+header_of h = record { version = 1; regs = h.regs; left = h.left; seed = h.seed; budget = h.budget; pool = h.pool }
+
+abbrev pub header_in : code.Table → Header
+header_in t = record { version = 1; regs = t.regs; left = t.left; seed = t.seed; budget = t.budget; pool = t.pool }
 
 abbrev pub opened_of : opening.Open → Opened
 opened_of o = record { number = o.number; log = map content_of o.log.items }
@@ -14,4 +27,4 @@ abbrev pub rule_of : entry.Entry → Rule
 rule_of e = record { left = e.left; right = e.right; mask = e.mask.items.bits; proof = map content_of e.proof.items; opens = map opened_of e.opens.items }
 
 abbrev pub table_of : code.Table → Table
-table_of t = record { regs = t.regs; left = t.left; seed = t.seed; budget = t.budget; pool = t.pool; states = map seen t.states; rules = map rule_of t.entries.items }
+table_of t = record { header = header_in t; states = map seen t.states; rules = map rule_of t.entries.items }

@@ -1,24 +1,30 @@
-//! What has been read of a table behind its first lines. A line changes it in place.
+//! What has been read of a table. A line changes it in place.
 ghost use Rattle.std.specs.Prelude.{◌≡◌, ◌<◌, ◌∷◌, ◌++◌, [], map, length, IfOk, OnOk, MatchOption};
 ghost use Rattle.lrat_check.specs.Content.{content_of};
 ghost use Rattle.window_exec.specs.State.{seen};
 ghost use Rattle.rule_table.specs.Table.{Table as Held};
-ghost use Rattle.rule_table.specs.Views.{table_of, rule_of, opened_of};
+ghost use Rattle.rule_table.specs.Views.{header_in, table_of, rule_of, opened_of};
+ghost use Rattle.rule_table.specs.Items.{IsItem};
 ghost use Rattle.rule_table.specs.ItemView.{item_of};
-ghost use Rattle.rule_table.specs.StageView.{draft_stage, goes};
-ghost use Rattle.rule_table.specs.Grammar.{step, is_empty, with_state, with_rule, with_opened, Stated as stated, Sided as sided, Masked as masked, Proved as proved, Opening as opening, Done as done};
+ghost use Rattle.rule_table.specs.Header.{blank, with_number, IsWithin};
+ghost use Rattle.rule_table.specs.StageView.{stage_of, goes};
+ghost use Rattle.rule_table.specs.Grammar.{step, heard, is_empty, with_state, with_rule, with_opened, Start, Heading as heading, Stated as stated, Sided as sided, Masked as masked, Proved as proved, Opening as opening, Done as done};
 ghost use Rattle.rule_table.specs.declared.draft.Part.TheVariants as part;
 
+use crate::header::{Field, Head, heads, is_same};
 use crate::item::Item;
 use crate::table::{Entry, Open, Table};
+use seq_enum::Pool;
 use std::alloc::{AllocError, Global};
 use std::mem;
 use thumb_instr::{Instr, Items, Mask, Seq};
 use window_exec::{States, WState};
 
-/// How far the lines behind the first ones have come.
+/// How far the lines have come.
 #[derive(Clone, Copy)]
 pub(crate) enum Part {
+    /// some lines of the header, of which these are due
+    Heading(&'static [Head]),
     /// states
     Stated,
     /// the sides of an entry, its mask, its proof, and a number that it leaves open
@@ -37,6 +43,65 @@ pub(crate) struct Draft {
     table: Table,
     entry: Entry,
     last: Open,
+}
+
+/// A table of which nothing was read.
+#[tactic(auto, unfolding(seq_enum::specs::Pools::is_pool, seq_enum::specs::Lists::ascends_from))]
+fn blank(alloc: Global) -> Table
+    ensures { header_in result ≡ blank }
+{
+    let Some(pool) = Pool::new(&[0]) else {
+        unreachable!();
+    };
+    Table {
+        regs: 1,
+        left: 1,
+        seed: 0,
+        budget: 1,
+        pool,
+        states: States::new(Vec::new(alloc)),
+        entries: Vec::new(alloc),
+    }
+}
+
+/// Puts a number into the header of a table.
+fn set_number(table: &mut Table, field: Field, number: u32)
+    requires { IsWithin field number }
+    ensures { header_in table.new ≡ with_number (header_in table.old) field number }
+{
+    match field {
+        Field::Version => {}
+        Field::Regs => table.regs = number as u8,
+        Field::Left => table.left = number as u8,
+        Field::Seed => table.seed = number,
+        Field::Budget => table.budget = number,
+    }
+}
+
+/// Puts what a line of the header says into a table; false where it isn't the line that is due.
+fn hear(table: &mut Table, line: Head, item: Item) -> bool
+    requires { IsItem (item_of item) }
+    ensures { goes result (header_in table.new) ≡ heard (header_in table.old) line (item_of item) }
+{
+    match line {
+        Head::Number(due) => match item {
+            Item::Number(field, number) => {
+                if !is_same(due, field) {
+                    return false;
+                }
+                set_number(table, field, number);
+                true
+            }
+            _ => false,
+        },
+        Head::Pool => match item {
+            Item::Pool(pool) => {
+                table.pool = pool;
+                true
+            }
+            _ => false,
+        },
+    }
 }
 
 /// An entry of which nothing was read.
@@ -81,13 +146,13 @@ fn add_state(alloc: Global, table: &mut Table, state: WState) -> Result<(), Allo
 }
 
 impl Draft {
-    /// What stands behind the first lines: nothing yet.
-    pub(crate) fn new(alloc: Global, table: Table) -> Self
-        ensures { draft_stage result ≡ stated (table_of table) }
+    /// Before the first line.
+    pub(crate) fn new(alloc: Global) -> Self
+        ensures { stage_of result ≡ Start }
     {
         Draft {
-            part: Part::Stated,
-            table,
+            part: Part::Heading(heads()),
+            table: blank(alloc),
             entry: empty(alloc),
             last: opened(alloc, 0),
         }
@@ -95,7 +160,7 @@ impl Draft {
 
     /// Goes on to a new entry.
     fn begin(&mut self)
-        ensures { draft_stage self.new ≡ sided (table_of self.old.table) [] [] }
+        ensures { stage_of self.new ≡ sided (table_of self.old.table) [] [] }
     {
         self.entry.left = Seq::new();
         self.entry.right = Seq::new();
@@ -125,9 +190,11 @@ impl Draft {
     /// Goes on by one line; false where it may not follow.
     #[tactic(auto, unfolding(crate::specs::Grammar::step))]
     pub(crate) fn take(&mut self, alloc: Global, item: Item) -> Result<bool, AllocError>
-        ensures { IfOk result (λ b. goes b (draft_stage self.new) ≡ step (draft_stage self.old) (item_of item)) }
+        requires { IsItem (item_of item) }
+        ensures { IfOk result (λ b. goes b (stage_of self.new) ≡ step (stage_of self.old) (item_of item)) }
     {
         match self.part {
+            Part::Heading(due) => Ok(self.take_heading(alloc, due, item)),
             Part::Stated => self.take_stated(alloc, item),
             Part::Sided => Ok(self.take_sided(item)),
             Part::Masked => Ok(self.take_masked(alloc, item)),
@@ -137,10 +204,32 @@ impl Draft {
         }
     }
 
+    /// The states begin behind the last line of the header.
+    #[tactic(auto, unfolding(crate::specs::Grammar::step))]
+    fn take_heading(&mut self, alloc: Global, due: &'static [Head], item: Item) -> bool
+        requires { IsItem (item_of item) }
+        ensures { goes result (stage_of self.new) ≡ step (heading (header_in self.old.table) due.entry.now) (item_of item) }
+    {
+        let Some((line, rest)) = due.split_first() else {
+            return false;
+        };
+        if !hear(&mut self.table, *line, item) {
+            return false;
+        }
+        if rest.is_empty() {
+            self.table.states = States::new(Vec::new(alloc));
+            self.table.entries = Vec::new(alloc);
+            self.part = Part::Stated;
+        } else {
+            self.part = Part::Heading(rest);
+        }
+        true
+    }
+
     #[tactic(auto, unfolding(crate::specs::Grammar::step))]
     fn take_stated(&mut self, alloc: Global, item: Item) -> Result<bool, AllocError>
         requires { self.old.part ≡ part.Stated }
-        ensures { IfOk result (λ b. goes b (draft_stage self.new) ≡ step (stated (table_of self.old.table)) (item_of item)) }
+        ensures { IfOk result (λ b. goes b (stage_of self.new) ≡ step (stated (table_of self.old.table)) (item_of item)) }
     {
         match item {
             Item::State(state) => {
@@ -162,7 +251,7 @@ impl Draft {
     #[tactic(auto, unfolding(crate::specs::Grammar::step))]
     fn take_sided(&mut self, item: Item) -> bool
         requires { self.old.part ≡ part.Sided }
-        ensures { goes result (draft_stage self.new) ≡ step (sided (table_of self.old.table) self.old.entry.left self.old.entry.right) (item_of item) }
+        ensures { goes result (stage_of self.new) ≡ step (sided (table_of self.old.table) self.old.entry.left self.old.entry.right) (item_of item) }
     {
         match item {
             Item::Left(instr) => {
@@ -197,7 +286,7 @@ impl Draft {
     #[tactic(auto, unfolding(crate::specs::Grammar::step))]
     fn take_masked(&mut self, alloc: Global, item: Item) -> bool
         requires { self.old.part ≡ part.Masked }
-        ensures { goes result (draft_stage self.new) ≡ step (masked (table_of self.old.table) self.old.entry.left self.old.entry.right self.old.entry.mask.items.bits) (item_of item) }
+        ensures { goes result (stage_of self.new) ≡ step (masked (table_of self.old.table) self.old.entry.left self.old.entry.right self.old.entry.mask.items.bits) (item_of item) }
     {
         match item {
             Item::Proof => {
@@ -213,7 +302,7 @@ impl Draft {
     #[tactic(auto, unfolding(crate::specs::Grammar::step))]
     fn take_proved(&mut self, alloc: Global, item: Item) -> Result<bool, AllocError>
         requires { self.old.part ≡ part.Proved }
-        ensures { IfOk result (λ b. goes b (draft_stage self.new) ≡ step (proved (table_of self.old.table) (rule_of self.old.entry)) (item_of item)) }
+        ensures { IfOk result (λ b. goes b (stage_of self.new) ≡ step (proved (table_of self.old.table) (rule_of self.old.entry)) (item_of item)) }
     {
         match item {
             Item::Logged(line) => {
@@ -242,7 +331,7 @@ impl Draft {
     #[tactic(auto, unfolding(crate::specs::Grammar::step))]
     fn take_opening(&mut self, alloc: Global, item: Item) -> Result<bool, AllocError>
         requires { self.old.part ≡ part.Opening }
-        ensures { IfOk result (λ b. goes b (draft_stage self.new) ≡ step (opening (table_of self.old.table) (rule_of self.old.entry) (opened_of self.old.last)) (item_of item)) }
+        ensures { IfOk result (λ b. goes b (stage_of self.new) ≡ step (opening (table_of self.old.table) (rule_of self.old.entry) (opened_of self.old.last)) (item_of item)) }
     {
         match item {
             Item::Logged(line) => {
@@ -276,7 +365,7 @@ impl Draft {
 
     /// The table, where all was read.
     pub(crate) fn finished(self) -> Option<Table>
-        ensures { MatchOption result ((t : Held) → draft_stage self ≡ done t → ⊥) (λ table. draft_stage self ≡ done (table_of table)) }
+        ensures { MatchOption result ((t : Held) → stage_of self ≡ done t → ⊥) (λ table. stage_of self ≡ done (table_of table)) }
     {
         match self.part {
             Part::Done => Some(self.table),

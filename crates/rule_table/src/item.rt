@@ -1,4 +1,5 @@
 //! What one line of a table says. A table is read as a list of such items, whose order is checked apart from their texts.
+use crate::header::Field;
 use lrat_check::Line;
 use seq_enum::Pool;
 use thumb_instr::{Instr, Mask};
@@ -7,11 +8,7 @@ use window_exec::WState;
 /// What a line of a table says.
 #[derive(Drop)]
 pub(crate) enum Item {
-    Version,
-    Regs(u8),
-    Longest(u8),
-    Seed(u32),
-    Budget(u32),
+    Number(Field, u32),
     Pool(Pool),
     State(WState),
     Entry,

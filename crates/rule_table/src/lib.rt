@@ -22,6 +22,7 @@
 mod binding;
 mod draft;
 mod errors;
+mod header;
 mod item;
 pub mod laws;
 mod lines;
@@ -29,7 +30,6 @@ mod map;
 mod matching;
 mod numbers;
 mod reading;
-mod stages;
 mod table;
 mod tails;
 mod telling;
@@ -38,6 +38,7 @@ mod words;
 mod writing;
 
 pub use errors::TableError;
+pub use header::Header;
 pub use map::Map;
 pub use matching::matches;
 pub use reading::read_table;

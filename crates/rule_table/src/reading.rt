@@ -5,23 +5,23 @@ ghost use Rattle.rule_table.specs.StageView.{stage_of, goes};
 ghost use Rattle.rule_table.specs.Steps.{StepsTo};
 ghost use Rattle.rule_table.specs.Reading.{Reads};
 
+use crate::draft::Draft;
 use crate::errors::TableError;
-use crate::stages::{Head, Reading, finished, step};
 use crate::table::Table;
 use crate::telling::read_item;
 use ascii_scan::{Lines, SourceLine};
 use std::alloc::{AllocError, Global};
 
 /// Goes on by one line; false where it lacks its newline, says nothing, or may not follow.
-fn step_line(alloc: Global, reading: &mut Reading, line: SourceLine<'_>) -> Result<bool, AllocError>
-    ensures { IfOk result (λ b. StepsTo (stage_of reading.old) (line_view line.entry) (goes b (stage_of reading.new))) }
+fn step_line(alloc: Global, draft: &mut Draft, line: SourceLine<'_>) -> Result<bool, AllocError>
+    ensures { IfOk result (λ b. StepsTo (stage_of draft.old) (line_view line.entry) (goes b (stage_of draft.new))) }
 {
     if !line.is_ended {
         return Ok(false);
     }
     match read_item(alloc, line.text)? {
         None => Ok(false),
-        Some(item) => step(alloc, reading, item),
+        Some(item) => draft.take(alloc, item),
     }
 }
 
@@ -31,15 +31,15 @@ fn step_line(alloc: Global, reading: &mut Reading, line: SourceLine<'_>) -> Resu
 pub fn read_table(alloc: Global, text: &[u8]) -> Result<Table, TableError>
     ensures { Reads text.now result }
 {
-    let mut reading = Reading::Head(Head::Start);
+    let mut draft = Draft::new(alloc);
     let mut number = 1u64;
     for line in Lines::new(text) {
-        if !step_line(alloc, &mut reading, line)? {
+        if !step_line(alloc, &mut draft, line)? {
             return Err(TableError::Line(number));
         }
         number += 1;
     }
-    match finished(reading) {
+    match draft.finished() {
         Some(table) => Ok(table),
         None => Err(TableError::Line(number)),
     }

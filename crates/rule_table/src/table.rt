@@ -1,4 +1,9 @@
 //! A table as its text has it. Nothing here says that it is true: that is the audit's work.
+ghost use Rattle.std.specs.Prelude.{◌≡◌, map};
+ghost use Rattle.window_exec.specs.State.{seen};
+ghost use Rattle.rule_table.specs.Views.{header_of, rule_of, table_of};
+
+use crate::header::Header;
 use lrat_check::Line;
 use seq_enum::Pool;
 use thumb_instr::{Mask, Seq};
@@ -22,8 +27,7 @@ pub struct Entry {
     pub proof: Vec<Line>,
 }
 
-/// A table: how many registers (1 to 4) and instructions (1 to 5) its left sides have at most, the seed of its first states,
-/// how many clauses a query may have (1 to 1,000,000), its pool of numbers, states and entries.
+/// A table: what its header says, states and entries.
 #[derive(Drop)]
 pub struct Table {
     pub regs: u8,
@@ -33,4 +37,35 @@ pub struct Table {
     pub pool: Pool,
     pub states: States,
     pub entries: Vec<Entry>,
+}
+
+impl Table {
+    /// The table with a header.
+    pub fn new(header: Header, states: States, entries: Vec<Entry>) -> Table
+        ensures { table_of result ≡ record { header = header_of header; states = map seen states; rules = map rule_of entries.items } }
+    {
+        Table {
+            regs: header.regs,
+            left: header.left,
+            seed: header.seed,
+            budget: header.budget,
+            pool: header.pool,
+            states,
+            entries,
+        }
+    }
+
+    /// Its header, states and entries.
+    pub fn into_parts(self) -> (Header, States, Vec<Entry>)
+        ensures { table_of self ≡ record { header = header_of result.0; states = map seen result.1; rules = map rule_of result.2.items } }
+    {
+        let header = Header {
+            regs: self.regs,
+            left: self.left,
+            seed: self.seed,
+            budget: self.budget,
+            pool: self.pool,
+        };
+        (header, self.states, self.entries)
+    }
 }

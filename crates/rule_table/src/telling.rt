@@ -1,7 +1,10 @@
 //! What a line says.
 ghost use Rattle.std.specs.Prelude.{◌≡◌, [], ℕ, IfOk, MatchOption};
 ghost use Rattle.rule_table.specs.Told.{Tells, Says};
+ghost use Rattle.rule_table.specs.declared.header.Head.TheVariants as head;
+ghost use Rattle.rule_table.specs.declared.words.Word.TheVariants as word;
 
+use crate::header::{Field, Head, Row};
 use crate::item::Item;
 use crate::numbers::{number, number_within};
 use crate::tails::{instruction, mask, pool, state};
@@ -16,30 +19,25 @@ fn alone(tail: &[u8], item: Item) -> Option<Item>
     if tail.is_empty() { Some(item) } else { None }
 }
 
-fn regs(tail: &[u8]) -> Option<Item>
-    ensures { Tells Word.Regs tail.now result }
+/// A number of the header, or an instruction of a left side.
+fn numbered(alloc: Global, field: Field, tail: &[u8]) -> Result<Option<Item>, AllocError>
+    ensures { IfOk result (Tells (word.Head (head.Number field)) tail.now) }
 {
-    match number_within(tail, 1, 4) {
-        None => None,
-        Some(number) => Some(Item::Regs(number as u8)),
-    }
-}
-
-/// How many instructions left sides have at most, or an instruction of one.
-fn left(alloc: Global, tail: &[u8]) -> Result<Option<Item>, AllocError>
-    ensures { IfOk result (Tells Word.Left tail.now) }
-{
-    match number_within(tail, 1, 5) {
-        Some(number) => Ok(Some(Item::Longest(number as u8))),
-        None => match instruction(alloc, tail)? {
-            Some(instr) => Ok(Some(Item::Left(instr))),
-            None => Ok(None),
+    let row = Row::of(field);
+    match number_within(tail, u64::from(row.least), u64::from(row.greatest)) {
+        Some(number) => Ok(Some(Item::Number(field, number as u32))),
+        None => match field {
+            Field::Left => match instruction(alloc, tail)? {
+                Some(instr) => Ok(Some(Item::Left(instr))),
+                None => Ok(None),
+            },
+            _ => Ok(None),
         },
     }
 }
 
 fn right(alloc: Global, tail: &[u8]) -> Result<Option<Item>, AllocError>
-    ensures { IfOk result (Tells Word.Right tail.now) }
+    ensures { IfOk result (Tells word.Right tail.now) }
 {
     match instruction(alloc, tail)? {
         Some(instr) => Ok(Some(Item::Right(instr))),
@@ -47,26 +45,8 @@ fn right(alloc: Global, tail: &[u8]) -> Result<Option<Item>, AllocError>
     }
 }
 
-fn seed(tail: &[u8]) -> Option<Item>
-    ensures { Tells Word.Seed tail.now result }
-{
-    match number_within(tail, 0, 4_294_967_295) {
-        None => None,
-        Some(number) => Some(Item::Seed(number as u32)),
-    }
-}
-
-fn budget(tail: &[u8]) -> Option<Item>
-    ensures { Tells Word.Budget tail.now result }
-{
-    match number_within(tail, 1, 1_000_000) {
-        None => None,
-        Some(number) => Some(Item::Budget(number as u32)),
-    }
-}
-
 fn pool_line(alloc: Global, tail: &[u8]) -> Result<Option<Item>, AllocError>
-    ensures { IfOk result (Tells Word.Pool tail.now) }
+    ensures { IfOk result (Tells (word.Head head.Pool) tail.now) }
 {
     match pool(alloc, tail)? {
         None => Ok(None),
@@ -75,7 +55,7 @@ fn pool_line(alloc: Global, tail: &[u8]) -> Result<Option<Item>, AllocError>
 }
 
 fn state_line(tail: &[u8]) -> Option<Item>
-    ensures { Tells Word.State tail.now result }
+    ensures { Tells word.State tail.now result }
 {
     match state(tail) {
         None => None,
@@ -84,7 +64,7 @@ fn state_line(tail: &[u8]) -> Option<Item>
 }
 
 fn mask_line(tail: &[u8]) -> Option<Item>
-    ensures { Tells Word.Mask tail.now result }
+    ensures { Tells word.Mask tail.now result }
 {
     match mask(tail) {
         None => None,
@@ -93,7 +73,7 @@ fn mask_line(tail: &[u8]) -> Option<Item>
 }
 
 fn logged(alloc: Global, line: &[u8]) -> Result<Option<Item>, AllocError>
-    ensures { IfOk result (Tells Word.Digit line.now) }
+    ensures { IfOk result (Tells word.Digit line.now) }
 {
     match read_line(alloc, line)? {
         None => Ok(None),
@@ -102,7 +82,7 @@ fn logged(alloc: Global, line: &[u8]) -> Result<Option<Item>, AllocError>
 }
 
 fn open(tail: &[u8]) -> Option<Item>
-    ensures { Tells Word.Open tail.now result }
+    ensures { Tells word.Open tail.now result }
 {
     match number(tail) {
         None => None,
@@ -115,12 +95,8 @@ fn told(alloc: Global, word: Word, tail: &[u8]) -> Result<Option<Item>, AllocErr
     ensures { IfOk result (Tells word tail.now) }
 {
     match word {
-        Word::Version => Ok(alone(tail, Item::Version)),
-        Word::Regs => Ok(regs(tail)),
-        Word::Left => left(alloc, tail),
-        Word::Seed => Ok(seed(tail)),
-        Word::Budget => Ok(budget(tail)),
-        Word::Pool => pool_line(alloc, tail),
+        Word::Head(Head::Number(field)) => numbered(alloc, field, tail),
+        Word::Head(Head::Pool) => pool_line(alloc, tail),
         Word::State => Ok(state_line(tail)),
         Word::Entry => Ok(alone(tail, Item::Entry)),
         Word::Right => right(alloc, tail),

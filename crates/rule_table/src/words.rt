@@ -2,15 +2,12 @@
 ghost use Rattle.std.specs.Prelude.{◌≡◌, option_map};
 ghost use Rattle.rule_table.specs.Fronts.{words, word_text, strip, front_in, front, seen_front};
 
+use crate::header::{Field, Head, Row};
+
 /// What a line begins with: a word of its own, or a digit, as the lines of a proof do.
 #[derive(Clone, Copy)]
 pub(crate) enum Word {
-    Version,
-    Regs,
-    Left,
-    Seed,
-    Budget,
-    Pool,
+    Head(Head),
     State,
     Entry,
     Right,
@@ -23,12 +20,12 @@ pub(crate) enum Word {
 
 /// All words but the digits.
 static WORDS: [Word; 13] = [
-    Word::Version,
-    Word::Regs,
-    Word::Left,
-    Word::Seed,
-    Word::Budget,
-    Word::Pool,
+    Word::Head(Head::Number(Field::Version)),
+    Word::Head(Head::Number(Field::Regs)),
+    Word::Head(Head::Number(Field::Left)),
+    Word::Head(Head::Number(Field::Seed)),
+    Word::Head(Head::Number(Field::Budget)),
+    Word::Head(Head::Pool),
     Word::State,
     Word::Entry,
     Word::Right,
@@ -50,12 +47,8 @@ fn word_text(word: Word) -> &'static [u8]
     ensures { result.now ≡ word_text word }
 {
     match word {
-        Word::Version => b"peep 1",
-        Word::Regs => b"regs ",
-        Word::Left => b"left ",
-        Word::Seed => b"seed ",
-        Word::Budget => b"budget ",
-        Word::Pool => b"pool",
+        Word::Head(Head::Number(field)) => Row::of(field).word,
+        Word::Head(Head::Pool) => b"pool",
         Word::State => b"state",
         Word::Entry => b"entry",
         Word::Right => b"right ",

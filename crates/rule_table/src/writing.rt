@@ -3,10 +3,12 @@ ghost use Rattle.std.specs.Prelude.{◌≡◌, ◌++◌, ◌∷◌, [], codes, O
 ghost use Rattle.std.specs.List.{flat_map};
 ghost use Rattle.lrat_check.specs.Content.{content_of};
 ghost use Rattle.window_exec.specs.State.{seen};
-ghost use Rattle.rule_table.specs.Text.{text_of_items, text_of, header_items, rule_items, open_items};
+ghost use Rattle.rule_table.specs.Text.{text_of_items, text_of, said, header_items, rule_items, open_items};
 ghost use Rattle.rule_table.specs.Text as item;
-ghost use Rattle.rule_table.specs.Views.{table_of, rule_of, opened_of};
+ghost use Rattle.rule_table.specs.Views.{header_in, table_of, rule_of, opened_of};
+ghost use Rattle.rule_table.specs.Header.{number_in};
 
+use crate::header::{Field, Head, Row, heads};
 use crate::lines::{
     write_instruction, write_logged, write_mask, write_number, write_pool, write_state,
 };
@@ -28,29 +30,40 @@ pub fn write_table(alloc: Global, table: &Table) -> Result<Vec<u8>, AllocError>
     Ok(out)
 }
 
-/// The numbers of registers and instructions.
-fn write_sizes(out: &mut Vec<u8>, regs: u8, left: u8) -> Result<(), AllocError>
-    ensures { OnOk result (out.new.items ≡ out.old.items ++ text_of_items (item.Regs regs ∷ item.Longest left ∷ [])) }
+/// A number of a table's header.
+fn number_in(table: &Table, field: Field) -> u32
+    ensures { result ≡ number_in (header_in table.now) field }
 {
-    write_number(out, b"regs ", u64::from(regs))?;
-    write_number(out, b"left ", u64::from(left))
+    match field {
+        Field::Version => 1,
+        Field::Regs => u32::from(table.regs),
+        Field::Left => u32::from(table.left),
+        Field::Seed => table.seed,
+        Field::Budget => table.budget,
+    }
 }
 
-/// The seed and the budget.
-fn write_limits(out: &mut Vec<u8>, seed: u32, budget: u32) -> Result<(), AllocError>
-    ensures { OnOk result (out.new.items ≡ out.old.items ++ text_of_items (item.Seed seed ∷ item.Budget budget ∷ [])) }
+/// A line of a table's header.
+fn write_head(out: &mut Vec<u8>, table: &Table, line: Head) -> Result<(), AllocError>
+    ensures { OnOk result (out.new.items ≡ out.old.items ++ text_of_items (said (header_in table.now) line ∷ [])) }
 {
-    write_number(out, b"seed ", u64::from(seed))?;
-    write_number(out, b"budget ", u64::from(budget))
+    match line {
+        Head::Number(field) => write_number(
+            out,
+            Row::of(field).word,
+            u64::from(number_in(table, field)),
+        ),
+        Head::Pool => write_pool(out, table.pool.numbers()),
+    }
 }
 
 fn write_header(out: &mut Vec<u8>, table: &Table) -> Result<(), AllocError>
-    ensures { OnOk result (out.new.items ≡ out.old.items ++ text_of_items (header_items (table_of table.entry.now))) }
+    ensures { OnOk result (out.new.items ≡ out.old.items ++ text_of_items (header_items (header_in table.entry.now))) }
 {
-    out.extend_from_slice(b"peep 1\n")?;
-    write_sizes(out, table.regs, table.left)?;
-    write_limits(out, table.seed, table.budget)?;
-    write_pool(out, table.pool.numbers())
+    for line in heads() {
+        write_head(out, table, *line)?;
+    }
+    Ok(())
 }
 
 fn write_states(out: &mut Vec<u8>, states: &[WState]) -> Result<(), AllocError>

@@ -10,9 +10,9 @@ use Rattle.rule_table.proofs.reading.step_line.Goals as goal
 
 pub returns-in-Some : goal.returns-in-Some
 returns-in-Some c =
-    let s = stage_of c.args.reading.now in
-    let t = stage_of c.step.new.reading in
+    let s = stage_of c.args.draft.now in
+    let t = stage_of c.take.new.self in
     let line = line_view c.args.line in
     let i = item_of c.in-Some.item in
     let says = rw c.in-Some.is at c.in_ok-read_item.ensures in
-    also (λ (b : Bool). goes b t ≡ step s i) (λ (b : Bool). StepsTo s line (goes b t)) (λ b e. line_steps s line i (goes b t) c.if-not-line.false says.0 says.1 e) c.step.result c.step.ensures
+    also (λ (b : Bool). goes b t ≡ step s i) (λ (b : Bool). StepsTo s line (goes b t)) (λ b e. line_steps s line i (goes b t) c.if-not-line.false says.0 says.1 e) c.take.result c.take.ensures

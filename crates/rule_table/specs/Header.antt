@@ -1,0 +1,71 @@
+-- The header of a table, which its first lines say: the record, and the lines in order, each with its word and its limits. A further line is a field
+-- of the record and a row of each list here.
+use Rattle.std.specs.Prelude.{◌≡◌, ◌≤◌, ℕ, Bool, true, false, List, [], ◌∷◌, codes}
+use Rattle.seq_enum.specs.Pools.{is_pool}
+use Rattle.rule_table.specs.declared.header.Field.{Field}
+use Rattle.rule_table.specs.declared.header.Field.TheVariants.{Version, Regs, Left, Seed, Budget}
+use Rattle.rule_table.specs.declared.header.Head.{Head}
+use Rattle.rule_table.specs.declared.header.Head.TheVariants.{Number, Pool}
+
+pub record Header : Type 0 where
+  pub version : ℕ
+  -- how many registers and instructions left sides have at most
+  pub regs : ℕ
+  pub left : ℕ
+  -- what the first states are made of
+  pub seed : ℕ
+  -- how many clauses a query may learn
+  pub budget : ℕ
+  -- the numbers of the alphabet
+  pub pool : List ℕ
+
+-- the lines in order: five numbers and the pool
+abbrev pub heads : List Head
+heads = Number Version ∷ Number Regs ∷ Number Left ∷ Number Seed ∷ Number Budget ∷ Pool ∷ []
+
+abbrev pub number_in : Header → Field → ℕ
+number_in h Version = h.version
+number_in h Regs = h.regs
+number_in h Left = h.left
+number_in h Seed = h.seed
+number_in h Budget = h.budget
+
+abbrev pub with_number : Header → Field → ℕ → Header
+with_number h Version n = record h { version = n }
+with_number h Regs n = record h { regs = n }
+with_number h Left n = record h { left = n }
+with_number h Seed n = record h { seed = n }
+with_number h Budget n = record h { budget = n }
+
+abbrev pub is_same : Field → Field → Bool
+is_same Version Version = true
+is_same Regs Regs = true
+is_same Left Left = true
+is_same Seed Seed = true
+is_same Budget Budget = true
+is_same a b = false
+
+-- what the line of a number begins with, and the least and the greatest number that it may have
+pub record Row : Type 0 where
+  pub word : List ℕ
+  pub least : ℕ
+  pub greatest : ℕ
+
+abbrev pub row : Field → Row
+row Version = record { word = codes "peep "; least = 1; greatest = 1 }
+row Regs = record { word = codes "regs "; least = 1; greatest = 4 }
+row Left = record { word = codes "left "; least = 1; greatest = 5 }
+row Seed = record { word = codes "seed "; least = 0; greatest = 4294967295 }
+row Budget = record { word = codes "budget "; least = 1; greatest = 1000000 }
+
+abbrev pub IsWithin : Field → ℕ → Type 0
+IsWithin field n = ((row field).least ≤ n) × (n ≤ (row field).greatest)
+
+-- each number lies in its limits, and the pool is one
+pub record IsHeader (h : Header) : Type 0 where
+  pub numbers : (field : Field) → IsWithin field (number_in h field)
+  pub pool : is_pool h.pool ≡ true
+
+-- the least header: what is held of one before its lines are read
+abbrev pub blank : Header
+blank = record { version = 1; regs = 1; left = 1; seed = 0; budget = 1; pool = 0 ∷ [] }

@@ -1,0 +1,93 @@
+//! The header of a table, and its lines. What they begin with and which numbers they may have stands in rows, by which they are read and
+//! written: a further line is a row more.
+ghost use Rattle.std.specs.Prelude.{◌≡◌};
+ghost use Rattle.rule_table.specs.Header.{heads, is_same, row};
+ghost use Rattle.rule_table.specs.Views.{row_of};
+
+use seq_enum::Pool;
+
+/// What the first lines of a table say: how many registers (1 to 4) and instructions (1 to 5) left sides have at most, the seed of the first
+/// states, how many clauses a query may learn (1 to 1,000,000), and the pool of the alphabet's numbers.
+#[derive(Drop)]
+pub struct Header {
+    pub regs: u8,
+    pub left: u8,
+    pub seed: u32,
+    pub budget: u32,
+    pub pool: Pool,
+}
+
+/// A number of the header.
+#[derive(Clone, Copy, PartialEq, Eq)]
+pub(crate) enum Field {
+    Version,
+    Regs,
+    Left,
+    Seed,
+    Budget,
+}
+
+/// Whether two are one.
+pub(crate) fn is_same(a: Field, b: Field) -> bool
+    ensures { result ≡ is_same a b }
+{
+    a == b
+}
+
+/// What a line of the header says.
+#[derive(Clone, Copy)]
+pub(crate) enum Head {
+    Number(Field),
+    Pool,
+}
+
+/// The lines of the header, in order.
+static HEADS: [Head; 6] = [
+    Head::Number(Field::Version),
+    Head::Number(Field::Regs),
+    Head::Number(Field::Left),
+    Head::Number(Field::Seed),
+    Head::Number(Field::Budget),
+    Head::Pool,
+];
+
+pub(crate) fn heads() -> &'static [Head]
+    ensures { result.now ≡ heads }
+{
+    &HEADS
+}
+
+/// What the line of a number begins with, and the least and the greatest number that it may have.
+#[derive(Clone, Copy)]
+pub(crate) struct Row {
+    pub word: &'static [u8],
+    pub least: u32,
+    pub greatest: u32,
+}
+
+impl Row {
+    fn new(word: &'static [u8], least: u32, greatest: u32) -> Row
+        ensures word { result.word.now ≡ word.entry.now }
+        ensures least { result.least ≡ least }
+        ensures greatest { result.greatest ≡ greatest }
+    {
+        Row {
+            word,
+            least,
+            greatest,
+        }
+    }
+
+    /// The row of a number.
+    pub(crate) fn of(field: Field) -> Row
+        ensures { row_of result ≡ row field }
+    {
+        match field {
+            Field::Version => Row::new(b"peep ", 1, 1),
+            Field::Regs => Row::new(b"regs ", 1, 4),
+            Field::Left => Row::new(b"left ", 1, 5),
+            Field::Seed => Row::new(b"seed ", 0, u32::MAX),
+            Field::Budget => Row::new(b"budget ", 1, 1_000_000),
+        }
+    }
+}
