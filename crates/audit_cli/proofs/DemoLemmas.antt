@@ -14,7 +14,7 @@ use Rattle.table_audit.specs.declared.errors.AuditError.{AuditError}
 use Rattle.table_audit.specs.declared.errors.AuditError.TheVariants as audit
 use Rattle.table_audit.specs.Acceptance.{TableVerdict, IsAccepted}
 use Rattle.table_audit.specs.Shorter.{sequences_below}
-use Rattle.table_audit.specs.Soundness.{rules_of}
+use Rattle.table_audit.specs.Soundness.{numbers_of}
 use Rattle.table_audit.proofs.Determined.{table_same}
 use Rattle.table_learn.specs.Given.{AreInLimits}
 use Rattle.table_learn.specs.Learnt.{width_of}
@@ -74,7 +74,7 @@ made_mute lines (n, few, is) = subst AreMute (one_listing (demo_text n) (demo_li
 -- ---- what is told ----
 
 pub is_rewriting_told : (t : Table) (given lines : List Line) (rs : List Replacement) (bytes : List ℕ) (replaced before after size : ℕ) (told : List ℕ)
-    → AreRewritten (setting 0 (rules_of t)) given rs lines → IsAssembled 0 lines bytes
+    → AreRewritten (setting 0 (numbers_of t)) given rs lines → IsAssembled 0 lines bytes
     → replaced ≡ length rs → before ≡ instruction_count given → after ≡ instruction_count lines → size ≡ length bytes
     → told ≡ report_of replaced before after ++ image_line size → IsRewritingTold t given told
 is_rewriting_told t given lines rs bytes replaced before after size told rewritten image r b a s is = record {

@@ -1,11 +1,11 @@
 -- Why what is kept of a rewritten listing is the headline's.
-use Rattle.std.proofs.Common.{◌≡◌, ℕ, List, [], ◌∷◌, ◌++◌, length, sym, subst}
+use Rattle.std.proofs.Common.{◌≡◌, ℕ, List, [], ◌∷◌, ◌++◌, length, refl, sym, subst}
 use Rattle.thumb_model.specs.Listing.{Line}
 use Rattle.thumb_model.specs.Layout.{Layable}
 use Rattle.rule_model.specs.Rewriting.{Replacement, AreRewritten}
 use Rattle.rule_model.proofs.LinesKept.{lines_same, none_left, all_applied, no_more_lines, still_layable}
 use Rattle.rule_table.specs.Table.{Table}
-use Rattle.table_audit.specs.Soundness.{IsSound, rules_of}
+use Rattle.table_audit.specs.Soundness.{IsSound, numbers_of}
 use Rattle.listing_parser.specs.Parsing.{IsListing, text_of_lines}
 use Rattle.listing_parser.proofs.Literals.{literals_stand}
 use Rattle.window_rewrite.specs.Rewriting.{setting}
@@ -33,17 +33,17 @@ kept_none to lines c r o some h e = subst (Leaves to lines c) (sym e) (no_image 
 
 -- rewriting by the definition is the headline
 pub is_rewriting : (to : Destination) (t : Table) (given lines : List Line) (replacements : List Replacement) (c : Counts) (o : Outcome) → IsSound t → IsListing (text_of_lines given) given → Layable to.base given
-    → AreRewritten (setting to.base (rules_of t)) given replacements lines → c ≡ record { replaced = length replacements; before = instruction_count given; after = instruction_count lines } → Leaves to lines c o
+    → AreRewritten (setting to.base (numbers_of t)) given replacements lines → c ≡ record { replaced = length replacements; before = instruction_count given; after = instruction_count lines } → Leaves to lines c o
     → IsRewriting to t given o
 is_rewriting to t given lines replacements c o sound is laid r e k =
-    let s = setting to.base (rules_of t) in
+    let s = setting to.base (numbers_of t) in
     let same = lines_same s given replacements lines sound.sound (literals_stand (text_of_lines given) given is) r in
     record {
       replacements = replacements;
       lines = lines;
       rewritten = r;
-      listed = still_reads to.base (rules_of t) (text_of_lines given) given replacements lines sound.sound r is;
-      no_longer = no_more_lines s given replacements lines r;
+      listed = still_reads to.base (numbers_of t) (text_of_lines given) given replacements lines sound.sound r is;
+      no_longer = no_more_lines s given replacements lines (λ i. refl) r;
       layable = still_layable s given replacements lines laid r;
       same = same;
       runs = λ bytes assembled. record {

@@ -13,7 +13,7 @@ use Rattle.rule_model.specs.Rules.{Rule, Applies, AreSound}
 use Rattle.thumb_model.specs.Sides.{AreOver}
 use Rattle.rule_model.specs.Rewriting.{Replacement, AppliesIn, AreRewritten, lines_after, lines_after_rule}
 use Rattle.thumb_model.proofs.Lists.{get_drop, get_take}
-use Rattle.rule_model.proofs.LinesKept.{fewer_lines, one_line_keeps}
+use Rattle.rule_model.proofs.LinesKept.{fewer_lines, one_line_keeps, some_left}
 use Rattle.rule_model.proofs.Table.{window_length}
 use Rattle.listing_parser.specs.Grammar.{Bare, Read, bare}
 use Rattle.listing_parser.specs.Parsing.{IsListing, text_of_lines}
@@ -58,28 +58,28 @@ stand_there rule r ls a k lt =
     sym (get_drop r.place (places_of ls) k (r.place + k) refl) ∙ sym (get_take (length rule.left) (drop r.place (places_of ls)) k lt) ∙ ap (λ (ps : List Place). slice_get ps k) a.stands in
     ap is_op_place there ∙ plain_at a.window k (omega arith)
 
-reads_after : (base : ℕ) (rules : List Rule) (r : Replacement) (bytes : List ℕ) (ls : List Line) → AreSound rules → AppliesIn (setting base rules) r ls → IsListing bytes ls
+reads_after : (base : ℕ) (rules : List (List Rule)) (r : Replacement) (bytes : List ℕ) (ls : List Line) → AreSound rules → AppliesIn (setting base rules) r ls → IsListing bytes ls
     → IsListing (text_of_lines (lines_after (setting base rules) r ls)) (lines_after (setting base rules) r ls)
 reads_after base rules r bytes ls sound a is =
     let s = setting base rules in
     let rule = a.rule in
     let instrs = map (renamed r.registers) rule.right in
     let keeps = one_line_keeps s r ls sound a in
-    let fewer = fewer_lines s r ls a in
+    let fewer = fewer_lines s r ls (λ i. refl) a in
     let few = few_lines bytes ls is in
     replaced_reads_again bytes ls r.place (length rule.left) instrs (lines_after s r ls) is
     (record {
       are = ap (λ o. lines_after_rule s o r ls) a.is_rule;
-      some = (let shorter = a.applies.shorter in omega arith);
+      some = some_left s r ls a;
       window = stand_there rule r ls a.applies;
-      plain = all_unlabelled r.registers _ rule.right (sound r.entry rule a.is_rule).right;
+      plain = all_unlabelled r.registers _ rule.right (sound r.entry r.instance rule a.is_rule).right;
       kept = λ name h. keeps.entry name h;
       few = omega arith;
     })
 
 -- ---- all of them ----
 
-pub still_reads : (base : ℕ) (rules : List Rule) (bytes : List ℕ) (given : List Line) (rs : List Replacement) (new : List Line) → AreSound rules → AreRewritten (setting base rules) given rs new → IsListing bytes given
+pub still_reads : (base : ℕ) (rules : List (List Rule)) (bytes : List ℕ) (given : List Line) (rs : List Replacement) (new : List Line) → AreSound rules → AreRewritten (setting base rules) given rs new → IsListing bytes given
     → IsListing (text_of_lines new) new
 still_reads base rules bytes given [] new sound h is = subst (λ (ls : List Line). IsListing (text_of_lines ls) ls) (sym h.1) (subst (λ (bs : List ℕ). IsListing bs given) (sym (prints_back bytes given is)) is)
 still_reads base rules bytes given (r ∷ rs) new sound h is =

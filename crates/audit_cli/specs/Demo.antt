@@ -5,7 +5,7 @@ use Rattle.thumb_model.specs.Listing.{Line}
 use Rattle.rule_model.specs.Rewriting.{Replacement, AreRewritten}
 use Rattle.listing_parser.specs.Parsing.{IsListing}
 use Rattle.rule_table.specs.Table.{Table}
-use Rattle.table_audit.specs.Soundness.{rules_of}
+use Rattle.table_audit.specs.Soundness.{numbers_of}
 use Rattle.table_learn.specs.Settings.{Settings, Window}
 use Rattle.table_learn.specs.Learnt.{IsFull}
 use Rattle.window_rewrite.specs.Rewriting.{setting}
@@ -56,7 +56,7 @@ demo_settings = record { regs = 1; left = 2; budget = 20000; seed = 42; pool = 1
 pub record IsRewritingTold (t : Table) (given : List Line) (told : List ℕ) : Type 0 where
   pub replacements : List Replacement
   pub lines : List Line
-  pub rewritten : AreRewritten (setting 0 (rules_of t)) given replacements lines
+  pub rewritten : AreRewritten (setting 0 (numbers_of t)) given replacements lines
   pub bytes : List ℕ
   pub image : IsAssembled 0 lines bytes
   pub are_told : told ≡ report_of (length replacements) (instruction_count given) (instruction_count lines) ++ image_line (length bytes)

@@ -21,7 +21,7 @@ use Rattle.thumb_model.specs.Cuts.{AreOps}
 use Rattle.thumb_model.proofs.Lists.{length_map, drop_back}
 use Rattle.rule_model.proofs.Table.{window_length}
 use Rattle.thumb_model.proofs.LinesReplaced.{ops_of, before}
-use Rattle.rule_model.proofs.LinesKept.{code_of_after}
+use Rattle.rule_model.proofs.LinesKept.{some_left, code_of_after}
 use Rattle.listing_parser.proofs.LabelLemmas.{label_among}
 use Rattle.thumb_assembler.specs.Refusals.{lies_nowhere, may_leave, branch_lost, value_lost, values_lost, lies_inside, flaw_of, or_first, flaws_from, first_flaw}
 
@@ -189,7 +189,7 @@ ends_behind write n p m is l s ls e rec x y less g ops joined =
     subst (λ (q : ℕ). end_of (x + size_at l.statement x) (replaced_lines write q (suc n) is ls) ≤ end_of (y + size_at s y) ls) (sym same)
     (rec m (x + size_at l.statement x) (y + size_at s y) size there stays)
 
-ends_step : (write : Instr → List ℕ) (n p : ℕ) (is : List Instr) (l : Line) (s : Statement) (ls : List Line) → l.statement ≡ s → length is < suc n → AreTwos is → EndsRec write n is ls → (x y : ℕ) → x ≤ y
+ends_step : (write : Instr → List ℕ) (n p : ℕ) (is : List Instr) (l : Line) (s : Statement) (ls : List Line) → l.statement ≡ s → length is ≤ suc n → AreTwos is → EndsRec write n is ls → (x y : ℕ) → x ≤ y
     → AreOps (suc n) (drop p (places_in s ++ places_of ls))
     → (if is_op s && (p == 0) then are_joined (suc n - 1) ls else are_joined_from (p - length (places_in s)) (suc n) ls) ≡ true
     → end_of x (if is_op s && (p == 0) then labels_kept l l.names ++ (map (new_line write) is ++ without (suc n - 1) ls) else l ∷ replaced_lines write (p - length (places_in s)) (suc n) is ls) ≤ end_of (y + size_at s y) ls
@@ -212,7 +212,7 @@ ends_step write n (suc p) is l (Runs i mention) ls e short twos rec x y less ops
     (ends_behind write n (suc p) p is l (Runs i mention) ls e rec x y less (omega arith) ops j)
 ends_step write n p is l s ls e short twos rec x y less ops joined = ends_behind write n p p is l s ls e rec x y less (omega arith) ops joined
 
-ends_replaced : (write : Instr → List ℕ) (n : ℕ) (is : List Instr) (ls : List Line) (p x y : ℕ) → length is < suc n → AreTwos is → x ≤ y → AreOps (suc n) (drop p (places_of ls)) → are_joined_from p (suc n) ls ≡ true
+ends_replaced : (write : Instr → List ℕ) (n : ℕ) (is : List Instr) (ls : List Line) (p x y : ℕ) → length is ≤ suc n → AreTwos is → x ≤ y → AreOps (suc n) (drop p (places_of ls)) → are_joined_from p (suc n) ls ≡ true
     → end_of x (replaced_lines write p (suc n) is ls) ≤ end_of y ls
 unfolding EndsRec
 ends_replaced write n is [] p x y short twos less ops joined = less
@@ -235,13 +235,14 @@ end_after s r ls sound a =
     let rule = a.rule in
     let is : List Instr = map (renamed r.registers) rule.right in
     let m = length_map (renamed r.registers) rule.right in
-    let shorter = a.applies.shorter in
-    let n = before (length rule.left) (omega arith) in
+    let good = sound r.entry r.instance rule a.is_rule in
+    let no_longer = good.no_longer in
+    let n = before (length rule.left) (some_left s r ls a) in
     let e : length rule.left ≡ suc n.0 = n.1 in
     let k : length a.applies.window ≡ length rule.left = window_length rule r.registers (code_of ls) r.place a.applies in
     let ops : AreOps (suc n.0) (drop r.place (places_of ls)) = ops_of a.applies.window (suc n.0) _ (omega arith) (ap (λ c. take c (drop r.place (places_of ls))) (sym e) ∙ a.applies.stands) in
     let joined : are_joined_from r.place (suc n.0) ls ≡ true = subst (λ (c : ℕ). are_joined_from r.place c ls ≡ true) e a.joined in
-    let twos = renamed_twos r.registers _ rule.right (sound r.entry rule a.is_rule).right in
+    let twos = renamed_twos r.registers _ rule.right good.right in
     let there : end_of s.base (replaced_lines s.write r.place (suc n.0) is ls) ≤ end_of s.base ls = ends_replaced s.write n.0 is ls r.place s.base s.base (omega arith) twos (omega arith) ops joined in
     subst (λ (o : Option Rule). end_of s.base (lines_after_rule s o r ls) ≤ end_of s.base ls) (sym a.is_rule)
     (subst (λ (c : ℕ). end_of s.base (replaced_lines s.write r.place c is ls) ≤ end_of s.base ls) (sym e) there)
@@ -314,11 +315,11 @@ lies_told base ls name =
     ∙ (ap (λ (b : Bool). b || is_some (cleared (set_address name ls))) (sym (labelled name 0 base ls)) ∙ ap (λ (b : Bool). has_label name (labels_from 0 ls) || b) (some_cleared (set_address name ls)))
 
 -- a name lies somewhere as before
-lies_after : (s : Setting) (r : Replacement) (ls : List Line) (base : ℕ) (name : Name) → AppliesIn s r ls → lies_nowhere base (lines_after s r ls) name ≡ lies_nowhere base ls name
-lies_after s r ls base name a =
+lies_after : (s : Setting) (r : Replacement) (ls : List Line) (base : ℕ) (name : Name) → AreSound s.table → AppliesIn s r ls → lies_nowhere base (lines_after s r ls) name ≡ lies_nowhere base ls name
+lies_after s r ls base name sound a =
     let new = lines_after s r ls in
     let labels : has_label name (labels_from 0 new) ≡ has_label name (labels_from 0 ls) =
-    ap (λ c. has_label name c.labels) (code_of_after s r ls a) ∙ moved_label name r.place (length a.rule.left - length (map (renamed r.registers) a.rule.right)) (labels_from 0 ls) in
+    ap (λ c. has_label name c.labels) (code_of_after s r ls sound a) ∙ moved_label name r.place (length a.rule.left - length (map (renamed r.registers) a.rule.right)) (labels_from 0 ls) in
     let sets : set_address name new ≡ set_address name ls = sets_after name s _ r ls in
     ap not (lies_told base new name ∙ ((λ i. labels i || is_some (sets i)) ∙ sym (lies_told base ls name)))
 
@@ -431,5 +432,5 @@ still_flawless s ls (r ∷ rs) new sound h none =
     let next = lines_after s r ls in
     let a = h.0.applies in
     let each = flawless_after s.base ls s _ r ls (flawless_from s.base ls 1 ls none) in
-    let stays = all_stay s.base ls next (λ name. lies_after s r ls s.base name a) (end_after s r ls sound a) next each in
+    let stays = all_stay s.base ls next (λ name. lies_after s r ls s.base name sound a) (end_after s r ls sound a) next each in
     still_flawless s next rs new sound h.1 (from_flawless s.base next 1 next stays)

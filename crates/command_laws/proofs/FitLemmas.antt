@@ -7,7 +7,7 @@ use Rattle.listing_parser.proofs.MadeLemmas.{one_listing}
 use Rattle.rule_table.specs.Table.{Table}
 use Rattle.rule_table.proofs.Progress.{one_table}
 use Rattle.table_audit.specs.Sides.{SidesFit}
-use Rattle.table_audit.specs.Soundness.{rules_of}
+use Rattle.table_audit.specs.Soundness.{numbers_of}
 use Rattle.table_learn.specs.Settings.{Settings}
 use Rattle.table_learn.specs.Learnt.{width_of}
 use Rattle.window_rewrite.specs.Rewriting.{setting}
@@ -49,7 +49,7 @@ leaves_something to lines c _ none (no_image some cause h) r = never_without_ima
 lines_fit : (to : Destination) (t : Table) (given : List Line) (o : Outcome) → Layable to.base given → ((WantsNone to → ⊥) → first_flaw to.base given ≡ None) → LinesRewrite to t given o → IsRefusing o → ⊥
 lines_fit to t given _ laid none (rewriting.unlaid cause h) r = never_unlaid to.base given cause laid h
 lines_fit to t given _ laid none (rewriting.rewritten too o h) r =
-    leaves_something to h.lines _ o (λ some. still_flawless (setting to.base (rules_of t)) given h.replacements h.lines h.sound.sound h.rewritten (none some)) h.left r
+    leaves_something to h.lines _ o (λ some. still_flawless (setting to.base (numbers_of t)) given h.replacements h.lines h.sound.sound h.rewritten (none some)) h.left r
 
 module _ (to : Destination) (texts : List (List ℕ)) (fit : FitRewriting to.image to.base texts) where
   text_fit : (t : Table) (o : Outcome) → Rewrites to t fit.listing_text o → IsRefusing o → ⊥

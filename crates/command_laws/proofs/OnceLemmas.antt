@@ -17,7 +17,7 @@ use Rattle.table_audit.specs.declared.errors.AuditError.{AuditError}
 use Rattle.table_audit.specs.declared.errors.AuditError.TheVariants as audit
 use Rattle.table_audit.specs.Acceptance.{TableVerdict}
 use Rattle.table_audit.specs.Sides.{SidesFit, formula_of}
-use Rattle.table_audit.specs.Soundness.{rules_of}
+use Rattle.table_audit.specs.Soundness.{numbers_of}
 use Rattle.table_audit.proofs.Determined.{table_same}
 use Rattle.table_audit.specs.Shorter.{sequences_below}
 use Rattle.table_learn.specs.Settings.{Settings, Window}
@@ -127,7 +127,7 @@ leaves_once to lines c _ _ (no_image some r h) (no_image other s k) = refuses_sa
 
 rewriting_once : (to : Destination) (t : Table) (given : List Line) (o p : Outcome) → IsRewriting to t given o → IsRewriting to t given p → o ≡ p
 rewriting_once to t given o p h k =
-    let d = is_determined (setting to.base (rules_of t)) given h.sound.sound h.replacements k.replacements h.lines k.lines h.rewritten k.rewritten in
+    let d = is_determined (setting to.base (numbers_of t)) given h.sound.sound h.replacements k.replacements h.lines k.lines h.rewritten k.rewritten in
     let replacements : k.replacements ≡ h.replacements = sym d.0 in
     let lines : k.lines ≡ h.lines = sym d.1 in
     let left : Leaves to h.lines (record { replaced = length h.replacements; before = instruction_count given; after = instruction_count h.lines }) p =
