@@ -5,3 +5,5 @@ pub mod OutcomeLemmas
 pub mod AddressLemmas
 pub mod FitLemmas
 pub mod CarriedLemmas
+mod DemoOnceLemmas
+mod ImageRuns

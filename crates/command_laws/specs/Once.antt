@@ -6,6 +6,7 @@ use Rattle.table_learn.specs.Learnt.{width_of}
 use Rattle.command_line.specs.CommandLine.{Request, rewrite, audit, learn, export, trace, demo}
 use Rattle.command_runs.specs.Plans.{Outcome}
 use Rattle.audit_cli.specs.Learn.{Lesson, LinesLearn, LearnComesTo}
+use Rattle.audit_cli.specs.Demo.{IsDemo}
 use Rattle.audit_cli.specs.Peep.{plan_of}
 
 -- texts come to at most one outcome
@@ -38,3 +39,7 @@ pub record AreOfOneListing (to : Lesson) (texts : List (List ℕ)) (o p : Outcom
 -- and so with `learn`, but for which table that is
 abbrev pub LearningIsOneButForTables : Type 0
 LearningIsOneButForTables = (to : Lesson) (texts : List (List ℕ)) (o p : Outcome) → LearnComesTo to texts o → LearnComesTo to texts p → (o ≡ p) ⊎ AreOfOneListing to texts o p
+
+-- and with `demo`: by one table so many windows come to one thing
+abbrev pub DemosOfOneTableAreOne : Type 0
+DemosOfOneTableAreOne = (n : ℕ) (told other : List ℕ) (h : IsDemo n told) (k : IsDemo n other) → h.table ≡ k.table → told ≡ other

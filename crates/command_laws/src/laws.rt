@@ -1,13 +1,16 @@
 //! The laws of the commands. Each is the contract of a function that does nothing.
 
 ghost use Rattle.command_laws.specs.Fit.{FitTextsAreCarriedOut, FitTextsAreLearntFrom};
-ghost use Rattle.command_laws.specs.Once.{LearningIsOneButForTables, TextsComeToOne};
+ghost use Rattle.command_laws.specs.Images.{KeptImagesFollow};
+ghost use Rattle.command_laws.specs.Once.{DemosOfOneTableAreOne, LearningIsOneButForTables, TextsComeToOne};
 
 /// The texts that `rewrite`, `audit`, `export` or `trace` reads come to one outcome: whether they are refused, by which line, and what is kept and printed are
-/// fixed. So it is with `learn`, but where a table is learnt from one listing's lines: it may be another, and its text may be too long.
+/// fixed. So it is with `learn`, but where a table is learnt from one listing's lines: it may be another, and its text may be too long. What `demo` tells is fixed by
+/// the table that it learns.
 pub fn texts_come_to_one_outcome()
     ensures one { TextsComeToOne }
     ensures learning { LearningIsOneButForTables }
+    ensures demo { DemosOfOneTableAreOne }
 {}
 
 /// Where the words ask for a command and nothing fails, texts that are fit for it give Done or Memory: for `rewrite` an accepted table, and a well-formed
@@ -16,4 +19,10 @@ pub fn texts_come_to_one_outcome()
 pub fn fit_texts_are_carried_out()
     ensures carried_out { FitTextsAreCarriedOut }
     ensures learnt { FitTextsAreLearntFrom }
+{}
+
+/// The image that `rewrite` keeps runs as the listing that is left, and as the given one where no two of its code points at different places came to one
+/// address: nothing else is asked of a naming, but that no name is set within two bytes behind a call at the end.
+pub fn kept_images_follow()
+    ensures { KeptImagesFollow }
 {}

@@ -1,3 +1,4 @@
+use Rattle.command_laws.proofs.DemoOnceLemmas.{demos_once}
 use Rattle.command_laws.proofs.OnceLemmas.{learning_once}
 use Rattle.command_laws.proofs.OutcomeLemmas.{come_to_one}
 use Rattle.command_laws.proofs.laws.texts_come_to_one_outcome.Goals as goal
@@ -7,3 +8,6 @@ returns-clause-one c = come_to_one
 
 pub returns-clause-learning : goal.returns-clause-learning
 returns-clause-learning c = learning_once
+
+pub returns-clause-demo : goal.returns-clause-demo
+returns-clause-demo c = demos_once
