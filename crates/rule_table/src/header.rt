@@ -19,7 +19,7 @@ pub struct Header {
 
 /// A number of the header.
 #[derive(Clone, Copy, PartialEq, Eq)]
-pub(crate) enum Field {
+pub enum Field {
     Version,
     Regs,
     Left,
@@ -36,7 +36,7 @@ pub(crate) fn is_same(a: Field, b: Field) -> bool
 
 /// What a line of the header says.
 #[derive(Clone, Copy)]
-pub(crate) enum Head {
+pub enum Head {
     Number(Field),
     Pool,
 }

@@ -38,7 +38,7 @@ mod words;
 mod writing;
 
 pub use errors::TableError;
-pub use header::Header;
+pub use header::{Field, Head, Header};
 pub use map::Map;
 pub use matching::matches;
 pub use reading::read_table;

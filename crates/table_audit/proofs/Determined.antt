@@ -12,7 +12,7 @@ unfolding EntryVerdict
 entry_one t n e =
     let told = turn_one (ToldTest t n e) 0 _ (λ q s. tests_one _ _) in
     let opens = turn_one (OpenTest t n e) 0 e.opens (λ i o. tests_one _ _) in
-    then_one (SidesVerdict t n e) _ (tests_one _ _) (then_one (EntryProofVerdict n e) _ (proof_one _ _ _ _) (then_one (ToldVerdict t n e) (OpensVerdict t n e) told opens))
+    then_one (SidesVerdict t n e) _ (tests_one _ _) (then_one (EntryProofVerdict t n e) _ (proof_one _ _ _ _) (then_one (ToldVerdict t n e) (OpensVerdict t n e) told opens))
 
 table_one : (t : Table) → IsOne (TableVerdict t)
 table_one t =

@@ -9,7 +9,7 @@ use Rattle.seq_enum.specs.Lists.{IsPlace}
 use Rattle.seq_enum.specs.Alphabet.{alphabet, sequences, IsOver}
 use Rattle.rule_table.specs.Canonical.{appearing}
 use Rattle.rule_table.specs.Table.{Rule, Table}
-use Rattle.table_audit.specs.Sides.{named_count, IsCanonicalSide, SidesFit}
+use Rattle.table_audit.specs.Sides.{named_count, alphabet_registers, IsCanonicalSide, SidesFit}
 use Rattle.table_audit.specs.Canonical.{HasFormula}
 use Rattle.table_audit.specs.Orders.{IsInOrder, AreWithin}
 use Rattle.table_audit.proofs.Numbering.{over_sequences, has_number}
@@ -58,29 +58,30 @@ canonical k pool s few short o over =
 pub ordered_of : (s : List Instr) → IsCanonicalSide s → IsInOrder s
 ordered_of s c = record { some = c.renamable.some; windows = c.renamable.windows; in_order = c.in_order; few = subst (λ is. length (appearing is) ≤ 4) c.normal c.renamable.registers }
 
-pub formula_fits : (t : Table) (e : Rule) → SidesFit t e → HasFormula e
+pub formula_fits : (t : Table) (e : Rule) → SidesFit t e → HasFormula t.header e
 formula_fits t e f =
     let k = named_count e.left in
     let few : k ≤ 8 = omega (arith, (ordered_of e.left f.canonical).few) in
     record {
       canonical = f.canonical;
-      left = are_over k t.pool e.left few f.left;
-      right = are_over k t.pool e.right few f.right;
+      left = are_over k t.header.pool e.left few f.left;
+      right = are_over k t.header.pool e.right few f.right;
       mask = f.mask;
     }
 
 -- the test of sides, where the left side's registers are in order
-pub fits : (t : Table) (e : Rule) (k : ℕ) → length e.left ≤ 5 → IsInOrder e.left → k ≡ named_count e.left → AreWithin t e k ↔ SidesFit t e
-fits t e k short o is = (forth, back)
+pub fits : (t : Table) (e : Rule) (k registers : ℕ) → length e.left ≤ 5 → IsInOrder e.left → k ≡ named_count e.left → registers ≡ alphabet_registers t.header e.left
+    → AreWithin t e k registers ↔ SidesFit t e
+fits t e k registers short o is these = (forth, back)
   where
     few : named_count e.left ≤ 8
     few = omega (arith, o.few)
 
-    forth : AreWithin t e k → SidesFit t e
+    forth : AreWithin t e k registers → SidesFit t e
     forth w =
-        let v : AreWithin t e (named_count e.left) = subst (AreWithin t e) is w in
+        let v : AreWithin t e (named_count e.left) (alphabet_registers t.header e.left) = subst (AreWithin t e (named_count e.left)) these (subst (λ j. AreWithin t e j registers) is w) in
         record {
-          canonical = canonical (named_count e.left) t.pool e.left few short o v.left;
+          canonical = canonical (named_count e.left) t.header.pool e.left few short o v.left;
           short = v.short;
           few = v.few;
           left = v.left;
@@ -89,5 +90,5 @@ fits t e k short o is = (forth, back)
           mask = v.mask;
         }
 
-    back : SidesFit t e → AreWithin t e k
-    back f = subst (AreWithin t e) (sym is) (record { short = f.short; few = f.few; left = f.left; right = f.right; no_longer = f.no_longer; mask = f.mask })
+    back : SidesFit t e → AreWithin t e k registers
+    back f = subst (λ j. AreWithin t e j registers) (sym is) (subst (AreWithin t e (named_count e.left)) (sym these) (record { short = f.short; few = f.few; left = f.left; right = f.right; no_longer = f.no_longer; mask = f.mask }))

@@ -14,34 +14,45 @@ use Rattle.rule_table.specs.Table.{Opened, Rule, Table}
 use Rattle.rule_table.specs.Valid.{numbers_of}
 use Rattle.proof_logs.specs.Logs.{IsSpentLog}
 use Rattle.proof_logs.specs.Costs.{spent_cost}
-use Rattle.table_audit.specs.Sides.{named_count, formula_against}
-use Rattle.table_audit.specs.Shorter.{sequences_below, shorter, IsTold}
+use Rattle.table_audit.specs.Sides.{named_count, alphabet_registers, formula_against}
+use Rattle.table_audit.specs.Shorter.{sequences_below, shorter, IsBelow, IsTold}
 use Rattle.table_audit.specs.Trials.{start_of, AreTrials}
 use Rattle.table_audit.specs.declared.trials.Trial.{Trial}
 use Rattle.table_audit.specs.Naming.{run_share, told_cost}
 use Rattle.table_audit.specs.Acceptance.{IsRightlyOpen}
 use Rattle.table_audit.specs.Costs.{log_cost, open_cost}
+use Rattle.table_audit.proofs.Numbering.{below_in, below_from}
+
+-- a sequence below the right side stands among the shorter ones, and the other way round
+below_shorter : (t : Table) (e : Rule) (number : ℕ) (seq : List Instr) → length e.right ≤ 5 → IsBelow t.header e.left e.right number seq → slice_get (shorter t e) number ≡ Some seq
+below_shorter t e number seq few b = below_from (alphabet_registers t.header e.left) t.header.pool (length e.right) number seq (omega (arith, few)) b.at b.lighter
+
+shorter_below : (t : Table) (e : Rule) (number : ℕ) (seq : List Instr) → length e.right ≤ 5 → length e.right ≤ length e.left → slice_get (shorter t e) number ≡ Some seq
+    → IsBelow t.header e.left e.right number seq
+shorter_below t e number seq few no_longer at =
+    let whole = below_in (alphabet_registers t.header e.left) t.header.pool (length e.right) number seq (omega (arith, few)) at in
+    record { at = whole.0; no_longer = omega (arith, whole.1, no_longer); lighter = whole.1 }
 
 -- the sequence of a number, as the test finds it
-pub found : (t : Table) (e : Rule) (number k count : ℕ) (o : Option (List Instr)) → k ≡ named_count e.left → count ≡ length e.right → o ≡ slice_get (sequences_below k t.pool count) number
+pub found : (t : Table) (e : Rule) (number k count : ℕ) (o : Option (List Instr)) → k ≡ named_count e.left → count ≡ length e.right → o ≡ slice_get (sequences_below k t.header.pool count) number
     → slice_get (shorter t e) number ≡ o
-found t e number k count o f g is = sym (is ∙ ap (λ j. slice_get (sequences_below j t.pool count) number) f ∙ ap (λ n. slice_get (sequences_below (named_count e.left) t.pool n) number) g)
+found t e number k count o f g is = sym (is ∙ ap (λ j. slice_get (sequences_below j t.header.pool count) number) f ∙ ap (λ n. slice_get (sequences_below (named_count e.left) t.header.pool n) number) g)
 
-pub none_open : (t : Table) (e : Rule) (o : Opened) → slice_get (shorter t e) o.number ≡ None → IsRightlyOpen t e o → ⊥
-none_open t e o at r = let no : None ≡ Some r.seq = sym at ∙ r.is_shorter in absurd (cc)
+pub none_open : (t : Table) (e : Rule) (o : Opened) → length e.right ≤ 5 → slice_get (shorter t e) o.number ≡ None → IsRightlyOpen t e o → ⊥
+none_open t e o few at r = let no : None ≡ Some r.seq = sym at ∙ below_shorter t e o.number r.seq few r.below in absurd (cc)
 
-pub told_open : (t : Table) (e : Rule) (o : Opened) (seq : List Instr) → slice_get (shorter t e) o.number ≡ Some seq → IsTold t.states e.left seq e.mask → IsRightlyOpen t e o → ⊥
-told_open t e o seq at told r =
-    let same : seq ≡ r.seq = same_Some _ _ (sym at ∙ r.is_shorter) in
+pub told_open : (t : Table) (e : Rule) (o : Opened) (seq : List Instr) → length e.right ≤ 5 → slice_get (shorter t e) o.number ≡ Some seq → IsTold t.states e.left seq e.mask → IsRightlyOpen t e o → ⊥
+told_open t e o seq few at told r =
+    let same : seq ≡ r.seq = same_Some _ _ (sym at ∙ below_shorter t e o.number r.seq few r.below) in
     r.untold (subst (λ s. IsTold t.states e.left s e.mask) same told)
 
-pub spent_open : (t : Table) (e : Rule) (o : Opened) (seq : List Instr) (r : Bool) → slice_get (shorter t e) o.number ≡ Some seq → (IsTold t.states e.left seq e.mask → ⊥)
-    → IsTrue r ↔ IsSpentLog t.budget (codes_of (formula_against e seq).clauses) o.log → IsTrue r ↔ IsRightlyOpen t e o
-spent_open t e o seq r at untold spent = (
-  λ h. record { seq = seq; is_shorter = at; untold = untold; spent = spent.0 h },
+pub spent_open : (t : Table) (e : Rule) (o : Opened) (seq : List Instr) (r : Bool) → length e.right ≤ 5 → length e.right ≤ length e.left → slice_get (shorter t e) o.number ≡ Some seq → (IsTold t.states e.left seq e.mask → ⊥)
+    → IsTrue r ↔ IsSpentLog t.header.budget (codes_of (formula_against t.header e seq).clauses) o.log → IsTrue r ↔ IsRightlyOpen t e o
+spent_open t e o seq r few no_longer at untold spent = (
+  λ h. record { seq = seq; below = shorter_below t e o.number seq few no_longer at; untold = untold; spent = spent.0 h },
   λ right. (
-      let same : right.seq ≡ seq = same_Some _ _ (sym right.is_shorter ∙ at) in
-      spent.1 (subst (λ s. IsSpentLog t.budget (codes_of (formula_against e s).clauses) o.log) same right.spent)
+      let same : right.seq ≡ seq = same_Some _ _ (sym (below_shorter t e o.number right.seq few right.below) ∙ at) in
+      spent.1 (subst (λ s. IsSpentLog t.header.budget (codes_of (formula_against t.header e s).clauses) o.log) same right.spent)
       ),
 )
 
@@ -61,10 +72,10 @@ told_within t e o seq start after u s at is short h =
 
 -- else its log's are added
 pub spent_within : (t : Table) (e : Rule) (o : Opened) (seq : List Instr) (start before after u s log : ℕ) → slice_get (shorter t e) o.number ≡ Some seq → u ≡ length t.states → s ≤ length e.right
-    → before ≤ start + u * s → after ≤ before + log → log ≡ spent_cost (codes_of (formula_against e seq).clauses) o.log → after ≤ start + (told_cost t e o + open_cost t e o)
+    → before ≤ start + u * s → after ≤ before + log → log ≡ spent_cost (codes_of (formula_against t.header e seq).clauses) o.log → after ≤ start + (told_cost t e o + open_cost t e o)
 spent_within t e o seq start before after u s log at is short h k f =
     let share : told_cost t e o ≡ length t.states * length e.right = ap (run_share t e) at in
-    let logs : open_cost t e o ≡ spent_cost (codes_of (formula_against e seq).clauses) o.log = ap (log_cost e o) at in
+    let logs : open_cost t e o ≡ spent_cost (codes_of (formula_against t.header e seq).clauses) o.log = ap (log_cost t e o) at in
     let more : u * s ≤ u * length e.right = mul-le-mul_left u short in
     let same : u * length e.right ≡ length t.states * length e.right = ap (λ n. n * length e.right) is in
     omega (arith, h, k, f, share, logs, more, same)
@@ -72,14 +83,14 @@ spent_within t e o seq start before after u s log at is short h k f =
 -- ---- the answer ----
 
 pub spent_answers : {E : Type 0} (t : Table) (e : Rule) (o : Opened) (seq : List Instr) (budget : ℕ) (clauses : List (List ℕ)) (log : List Content) (r : Result Bool E)
-    → slice_get (shorter t e) o.number ≡ Some seq → (IsTold t.states e.left seq e.mask → ⊥) → budget ≡ t.budget → clauses ≡ codes_of (formula_against e seq).clauses → log ≡ o.log
+    → length e.right ≤ 5 → length e.right ≤ length e.left → slice_get (shorter t e) o.number ≡ Some seq → (IsTold t.states e.left seq e.mask → ⊥) → budget ≡ t.header.budget → clauses ≡ codes_of (formula_against t.header e seq).clauses → log ≡ o.log
     → IfOk r (λ spent. IsTrue spent ↔ IsSpentLog budget clauses log) → IfOk r (λ right. IsTrue right ↔ IsRightlyOpen t e o)
-spent_answers t e o seq budget clauses log (Ok b) at untold f g h spent =
-    spent_open t e o seq b at untold
-    (subst (λ ls. IsTrue b ↔ IsSpentLog t.budget (codes_of (formula_against e seq).clauses) ls) h
-    (subst (λ cs. IsTrue b ↔ IsSpentLog t.budget cs log) g
+spent_answers t e o seq budget clauses log (Ok b) few no_longer at untold f g h spent =
+    spent_open t e o seq b few no_longer at untold
+    (subst (λ ls. IsTrue b ↔ IsSpentLog t.header.budget (codes_of (formula_against t.header e seq).clauses) ls) h
+    (subst (λ cs. IsTrue b ↔ IsSpentLog t.header.budget cs log) g
     (subst (λ n. IsTrue b ↔ IsSpentLog n clauses log) f spent)))
-spent_answers t e o seq budget clauses log (Err x) at untold f g h spent = tt
+spent_answers t e o seq budget clauses log (Err x) few no_longer at untold f g h spent = tt
 
 -- ---- one number named open after the other ----
 
@@ -95,8 +106,8 @@ number_place low (p ∷ opens) (suc i) o a e =
     omega (arith, leb-true low p.number parts.0, number_place (suc p.number) opens i o parts.1 e)
 
 -- as many pass as there are sequences
-pub few_pass : (t : Table) (e : Rule) (i : ℕ) (o : Opened) → ascends_from 0 (numbers_of e.opens) ≡ true → slice_get e.opens i ≡ Some o → IsRightlyOpen t e o → i + 1 ≤ length (shorter t e)
-few_pass t e i o a at r = omega (arith, number_place 0 e.opens i o a at, slice_get_within (shorter t e) o.number r.seq r.is_shorter)
+pub few_pass : (t : Table) (e : Rule) (i : ℕ) (o : Opened) → ascends_from 0 (numbers_of e.opens) ≡ true → length e.right ≤ 5 → slice_get e.opens i ≡ Some o → IsRightlyOpen t e o → i + 1 ≤ length (shorter t e)
+few_pass t e i o a few at r = omega (arith, number_place 0 e.opens i o a at, slice_get_within (shorter t e) o.number r.seq (below_shorter t e o.number r.seq few r.below))
 
 -- the runs for one more number are within those for all sequences
 runs_within : (t : Table) (e : Rule) (i : ℕ) (o : Opened) → ascends_from 0 (numbers_of e.opens) ≡ true → slice_get e.opens i ≡ Some o → i ≤ length (shorter t e)

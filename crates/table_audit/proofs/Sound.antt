@@ -13,7 +13,6 @@ use Rattle.rule_model.specs.Rules.{IsSoundRule}
 use Rattle.rule_model.specs.Rules as model
 use Rattle.rule_model.proofs.Alone.{alone_sound, own_registers}
 use Rattle.window_exec.specs.Seen.{Seen}
-use Rattle.seq_enum.specs.Alphabet.{sequences}
 use Rattle.bit_blast.specs.Exactness.{IsMask, HasNoModel, AreEqual}
 use Rattle.bit_blast.proofs.Exact.{no_model_is_equal}
 use Rattle.rule_table.specs.Table.{Rule, Table}
@@ -23,14 +22,15 @@ use Rattle.proof_logs.proofs.Turns.{turn_each}
 use Rattle.proof_logs.proofs.Sound.{proved_unsatisfied}
 use Rattle.table_audit.specs.declared.errors.EntryFault.TheVariants.{Proof, Unfinished}
 use Rattle.table_audit.specs.declared.errors.AuditError.TheVariants.{Entry}
-use Rattle.table_audit.specs.Sides.{named_count, SidesFit, formula_of}
+use Rattle.table_audit.specs.Sides.{named_count, alphabet_registers, SidesFit, formula_of}
 use Rattle.table_audit.specs.Canonical.{HasFormula}
-use Rattle.table_audit.specs.Shorter.{shorter, values_in, IsTold}
+use Rattle.table_audit.specs.Shorter.{shorter, IsBelow, values_in, IsTold}
+use Rattle.table_audit.specs.Shorter.{is_named as is_open}
 use Rattle.table_audit.specs.Acceptance.{EntryVerdict, EntryProofVerdict, ToldTest, ToldVerdict, OpenTest, OpensVerdict, IsAccepted}
 use Rattle.table_audit.specs.Soundness.{items_in, rewriting_rule, rules_of, IsShortest, IsSound}
 use Rattle.table_audit.proofs.Numbering.{below_from}
 use Rattle.table_audit.proofs.Fitting.{formula_fits, ordered_of}
-use Rattle.table_audit.proofs.Names.{count_same, all_named, open_is, has_one, one_has, of_four}
+use Rattle.table_audit.proofs.Names.{count_same, all_named, has_one, one_has, of_four}
 
 -- ---- the words of listed states ----
 
@@ -69,9 +69,9 @@ are_words s valid = record {
 -- ---- one entry ----
 
 -- both sides leave the same
-equal_sides : (n : ℕ) (e : Rule) → HasFormula e → IsMask e.mask → EntryProofVerdict n e None → Equal e.left e.right (items_in e.mask)
-equal_sides n e f masks p v words x h =
-    let none : HasNoModel (formula_of e) = proved_unsatisfied (λ line. Entry n (Proof line)) (Entry n Unfinished) (formula_of e).clauses e.proof p in
+equal_sides : (t : Table) (n : ℕ) (e : Rule) → HasFormula t.header e → IsMask e.mask → EntryProofVerdict t n e None → Equal e.left e.right (items_in e.mask)
+equal_sides t n e f masks p v words x h =
+    let none : HasNoModel (formula_of t.header e) = proved_unsatisfied (λ line. Entry n (Proof line)) (Entry n Unfinished) (formula_of t.header e).clauses e.proof p in
     let same : AreEqual e.left e.right e.mask = (no_model_is_equal e.left e.right e.mask (named_count e.left) f.left f.right masks f.mask).0 none in
     same v words x (has_one e.mask x h).0
 
@@ -83,8 +83,8 @@ told_differs states left seq mask valid masks told same =
     let differ = told.4 in
     differ.2 (same (values_in s) (are_words s state) differ.0 (one_has mask differ.0 differ.1 (masks differ.0 differ.1)))
 
-mask_over : (k : ℕ) (e : Rule) → k ≡ named_count e.left → HasFormula e → (x : ℕ) → one_of x (items_in e.mask) ≡ true → (x < k) ⊎ ((15 ≤ x) × (x < 19))
-mask_over k e is f x h =
+mask_over : (t : Table) (k : ℕ) (e : Rule) → k ≡ named_count e.left → HasFormula t.header e → (x : ℕ) → one_of x (items_in e.mask) ≡ true → (x < k) ⊎ ((15 ≤ x) × (x < 19))
+mask_over t k e is f x h =
     let item = has_one e.mask x h in
     elim (f.mask x item.0) [
       | inl low ↦ inl (omega (arith, low, is))
@@ -97,7 +97,7 @@ mask_over k e is f x h =
       )
     ]
 
-sound_rule : (t : Table) (n : ℕ) (e : Rule) → SidesFit t e → IsMask e.mask → EntryProofVerdict n e None → IsSoundRule (rewriting_rule e)
+sound_rule : (t : Table) (n : ℕ) (e : Rule) → SidesFit t e → IsMask e.mask → EntryProofVerdict t n e None → IsSoundRule (rewriting_rule e)
 sound_rule t n e sides masks p =
     let f = formula_fits t e sides in
     let is : register_count e.left ≡ named_count e.left = count_same e.left sides.canonical in
@@ -109,22 +109,24 @@ sound_rule t n e sides masks p =
       no_longer = sides.no_longer;
       left = subst (λ k. AreOver k e.left) (sym is) f.left;
       right = subst (λ k. AreOver k e.right) (sym own) right;
-      mask = mask_over (register_count e.left) e is f;
+      mask = mask_over t (register_count e.left) e is f;
       all_named = λ x low. all_named e.left sides.canonical x (omega (arith, low, is));
-      equal = equal_sides n e f masks p;
+      equal = equal_sides t n e f masks p;
     }
 
-shortest_rule : (t : Table) (n : ℕ) (e : Rule) → IsTable t → IsRule e → SidesFit t e → ToldVerdict t n e None → IsShortest t.pool (rewriting_rule e)
-shortest_rule t n e valid rule sides told number seq at short unnamed same =
-    let is : register_count e.left ≡ named_count e.left = count_same e.left sides.canonical in
-    let there : slice_get (shorter t e) number ≡ Some seq =
-    below_from (named_count e.left) t.pool (length e.right) number seq (omega (arith, rule.few_right)) (ap (λ k. slice_get (sequences k t.pool) number) (sym is) ∙ at) short in
-    let here = turn_each (ToldTest t n e) 0 (shorter t e) number seq told there in
-    let found : ToldTest t n e number seq None = subst (λ j. ToldTest t n e j seq None) (zero-add number) here in
-    elim found [
-      | inl named ↦ false≢true (sym unnamed ∙ sym (open_is e.opens number) ∙ named)
-      | inr tells ↦ told_differs t.states e.left seq e.mask valid.states rule.mask tells same
-    ]
+shortest_rule : (t : Table) (n : ℕ) (e : Rule) → IsTable t → IsRule e → SidesFit t e → ToldVerdict t n e None → IsShortest t.header e
+shortest_rule t n e valid rule sides told = record { no_longer = sides.no_longer; least = least }
+  where
+    least : (number : ℕ) (seq : List Instr) → IsBelow t.header e.left e.right number seq → is_open e.opens number ≡ false → Equal e.left seq (items_in e.mask) → ⊥
+    least number seq below unnamed same =
+        let there : slice_get (shorter t e) number ≡ Some seq =
+        below_from (alphabet_registers t.header e.left) t.header.pool (length e.right) number seq (omega (arith, rule.few_right)) below.at below.lighter in
+        let here = turn_each (ToldTest t n e) 0 (shorter t e) number seq told there in
+        let found : ToldTest t n e number seq None = subst (λ j. ToldTest t n e j seq None) (zero-add number) here in
+        elim found [
+          | inl named ↦ false≢true (sym unnamed ∙ named)
+          | inr tells ↦ told_differs t.states e.left seq e.mask valid.states rule.mask tells same
+        ]
 
 -- ---- the table ----
 
@@ -132,7 +134,7 @@ shortest_rule t n e valid rule sides told number seq at short unnamed same =
 record IsPassed (t : Table) (n : ℕ) (e : Rule) : Type 0 where
   rule : IsRule e
   sides : SidesFit t e
-  proof : EntryProofVerdict n e None
+  proof : EntryProofVerdict t n e None
   told : ToldVerdict t n e None
   opens : OpensVerdict t n e None
 
@@ -156,9 +158,7 @@ accepted_sound t valid p = record {
   sound = alone_sound (rules_of t) (λ k rule at. rule_at t k rule at (λ e there is.
       let q = passed t k e valid p there in
       subst IsSoundRule is (sound_rule t (1 + k) e q.sides q.rule.mask q.proof)));
-  shortest = λ k rule at. rule_at t k rule at (λ e there is.
-      let q = passed t k e valid p there in
-      subst (IsShortest t.pool) is (shortest_rule t (1 + k) e valid q.rule q.sides q.told));
+  shortest = λ k e there. (let q = passed t k e valid p there in shortest_rule t (1 + k) e valid q.rule q.sides q.told);
   opens = λ k e there i o at.
       let q = passed t k e valid p there in
       turn_each (OpenTest t (1 + k) e) 0 e.opens i o q.opens at;

@@ -12,7 +12,7 @@ use Rattle.table_audit.specs.declared.errors.EntryFault.TheVariants.{Sides, Proo
 use Rattle.table_audit.specs.declared.errors.AuditError.{AuditError}
 use Rattle.table_audit.specs.declared.errors.AuditError.TheVariants.{States, Wide, Entry}
 use Rattle.table_audit.specs.Sides.{SidesFit, formula_against, formula_of}
-use Rattle.table_audit.specs.Shorter.{sequences_below, shorter, IsTold, is_named}
+use Rattle.table_audit.specs.Shorter.{sequences_below, shorter, IsBelow, IsTold, is_named}
 
 -- ---- the table ----
 
@@ -21,11 +21,11 @@ abbrev pub StateTest : Table → ℕ → Seen → Option AuditError → Type 0
 StateTest t n s = Tests (slice_get t.states n ≡ Some s) (States (n + 1))
 
 abbrev pub StatesVerdict : Table → Option AuditError → Type 0
-StatesVerdict t = InTurn (StateTest t) 0 (seeded_states t.seed)
+StatesVerdict t = InTurn (StateTest t) 0 (seeded_states t.header.seed)
 
 -- how many sequences an entry of a table may have to be told from, at most
 abbrev pub width : Table → ℕ
-width t = length (sequences_below t.regs t.pool t.left)
+width t = length (sequences_below t.header.regs t.header.pool t.header.left)
 
 abbrev pub WideVerdict : Table → Option AuditError → Type 0
 WideVerdict t = Tests (width t ≤ 5000000) (Wide (width t))
@@ -36,8 +36,8 @@ abbrev pub SidesVerdict : Table → ℕ → Rule → Option AuditError → Type 
 SidesVerdict t n e = Tests (SidesFit t e) (Entry n Sides)
 
 -- the proof shows that no state tells the sides apart: its first line that isn't accepted, or that there is no empty clause
-abbrev pub EntryProofVerdict : ℕ → Rule → Option AuditError → Type 0
-EntryProofVerdict n e = ProofVerdict (λ line. Entry n (Proof line)) (Entry n Unfinished) (codes_of (formula_of e).clauses) e.proof
+abbrev pub EntryProofVerdict : Table → ℕ → Rule → Option AuditError → Type 0
+EntryProofVerdict t n e = ProofVerdict (λ line. Entry n (Proof line)) (Entry n Unfinished) (codes_of (formula_of t.header e).clauses) e.proof
 
 -- each shorter sequence is named open, or some state tells it from the left side
 abbrev pub ToldTest : Table → ℕ → Rule → ℕ → List Instr → Option AuditError → Type 0
@@ -49,9 +49,9 @@ ToldVerdict t n e = InTurn (ToldTest t n e) 0 (shorter t e)
 -- an open number is that of a shorter sequence, which no state tells from the left side, and its log spends the budget on the formula of the two
 pub record IsRightlyOpen (t : Table) (e : Rule) (o : Opened) : Type 0 where
   pub seq : List Instr
-  pub is_shorter : slice_get (shorter t e) o.number ≡ Some seq
+  pub below : IsBelow t.header e.left e.right o.number seq
   pub untold : IsTold t.states e.left seq e.mask → ⊥
-  pub spent : IsSpentLog t.budget (codes_of (formula_against e seq).clauses) o.log
+  pub spent : IsSpentLog t.header.budget (codes_of (formula_against t.header e seq).clauses) o.log
 
 abbrev pub OpenTest : Table → ℕ → Rule → ℕ → Opened → Option AuditError → Type 0
 OpenTest t n e i o = Tests (IsRightlyOpen t e o) (Entry n (Open o.number))
@@ -60,7 +60,7 @@ abbrev pub OpensVerdict : Table → ℕ → Rule → Option AuditError → Type 
 OpensVerdict t n e = InTurn (OpenTest t n e) 0 e.opens
 
 unfoldable pub EntryVerdict : Table → ℕ → Rule → Option AuditError → Type 0
-EntryVerdict t n e = Then (SidesVerdict t n e) (Then (EntryProofVerdict n e) (Then (ToldVerdict t n e) (OpensVerdict t n e)))
+EntryVerdict t n e = Then (SidesVerdict t n e) (Then (EntryProofVerdict t n e) (Then (ToldVerdict t n e) (OpensVerdict t n e)))
 
 -- ---- all ----
 

@@ -5,8 +5,9 @@ use Rattle.thumb_instr.specs.Renaming.{Low}
 use Rattle.thumb_model.specs.Sides.{AreOver, register_count}
 use Rattle.bit_blast.specs.Exactness.{IsMaskOver}
 use Rattle.rule_table.specs.Canonical.{IsRenamable, IsCanonical}
+use Rattle.rule_table.specs.Header.{Header}
 use Rattle.rule_table.specs.Table.{Rule}
-use Rattle.table_audit.specs.Sides.{named_count, IsCanonicalSide}
+use Rattle.table_audit.specs.Sides.{named_count, alphabet_registers, IsCanonicalSide}
 
 -- the sequence is a canonical side as long as the window, its registers are counted alike in both ways, and the mask has no register but those that it names, which are those below their count
 pub record IsSideOf (window seq : List Instr) (mask : ℕ) : Type 0 where
@@ -21,9 +22,9 @@ CanonicalFormIsSide =
     (window : List Instr) (items : ℕ) (seq : List Instr) (given : List (Option Low)) (mask : ℕ)
     → IsRenamable window → IsCanonical window items seq given mask → IsSideOf window seq mask
 
--- an entry with a formula: its left side is canonical, and sides and mask are over the registers that it names
-pub record HasFormula (e : Rule) : Type 0 where
+-- an entry with a formula: its left side is canonical and over the registers that it names, as the mask is, and the right side over those of the alphabet
+pub record HasFormula (h : Header) (e : Rule) : Type 0 where
   pub canonical : IsCanonicalSide e.left
   pub left : AreOver (named_count e.left) e.left
-  pub right : AreOver (named_count e.left) e.right
+  pub right : AreOver (alphabet_registers h e.left) e.right
   pub mask : IsMaskOver (named_count e.left) e.mask

@@ -13,19 +13,19 @@ abbrev pub runs_cost : Table → Rule → ℕ
 runs_cost t e = (2 * length (shorter t e) + 1) * (length t.states * (length e.left + length e.right))
 
 -- looks at literals: those of the proof's lines
-abbrev pub proof_cost : Rule → ℕ
-proof_cost e = lines_cost (started (codes_of (formula_of e).clauses)) e.proof
+abbrev pub proof_cost : Table → Rule → ℕ
+proof_cost t e = lines_cost (started (codes_of (formula_of t.header e).clauses)) e.proof
 
 -- and those of an open number's log
-abbrev pub log_cost : Rule → Opened → Option (List Instr) → ℕ
-log_cost e o None = 0
-log_cost e o (Some seq) = spent_cost (codes_of (formula_against e seq).clauses) o.log
+abbrev pub log_cost : Table → Rule → Opened → Option (List Instr) → ℕ
+log_cost t e o None = 0
+log_cost t e o (Some seq) = spent_cost (codes_of (formula_against t.header e seq).clauses) o.log
 
 abbrev pub open_cost : Table → Rule → Opened → ℕ
-open_cost t e o = log_cost e o (slice_get (shorter t e) o.number)
+open_cost t e o = log_cost t e o (slice_get (shorter t e) o.number)
 
 abbrev pub entry_cost : Table → Rule → ℕ
-entry_cost t e = runs_cost t e + proof_cost e + sum_by (open_cost t e) e.opens
+entry_cost t e = runs_cost t e + proof_cost t e + sum_by (open_cost t e) e.opens
 
 abbrev pub table_cost : Table → ℕ
 table_cost t = sum_by (entry_cost t) t.rules

@@ -24,11 +24,11 @@ pub record IsInOrder (side : List Instr) : Type 0 where
   pub in_order : appearing side ≡ numbers_from 0 (named_count side)
   pub few : named_count side ≤ 4
 
--- sides and mask are over the registers below k and the pool, and within the header's numbers
-pub record AreWithin (t : Table) (e : Rule) (k : ℕ) : Type 0 where
-  pub short : length e.left ≤ t.left
-  pub few : k ≤ t.regs
-  pub left : IsOver k t.pool e.left
-  pub right : IsOver k t.pool e.right
+-- left side and mask are over the registers below k, the right side over so many, and all are within the header's numbers
+pub record AreWithin (t : Table) (e : Rule) (k registers : ℕ) : Type 0 where
+  pub short : length e.left ≤ t.header.left
+  pub few : k ≤ t.header.regs
+  pub left : IsOver k t.header.pool e.left
+  pub right : IsOver registers t.header.pool e.right
   pub no_longer : length e.right ≤ length e.left
   pub mask : IsMaskOver k e.mask

@@ -8,11 +8,16 @@ use Rattle.cnf_gates.specs.Cnf.{Cnf}
 use Rattle.bit_blast.specs.Differences.{sides_formula}
 use Rattle.bit_blast.specs.Exactness.{IsMaskOver}
 use Rattle.rule_table.specs.Canonical.{IsRenamable, appearing}
+use Rattle.rule_table.specs.Header.{Header}
 use Rattle.rule_table.specs.Table.{Rule, Table}
 
 -- how many registers instructions name
 abbrev pub named_count : List Instr → ℕ
 named_count instrs = length (appearing instrs)
+
+-- how many registers the sequences of an entry have that stand against a left side, its right side too: those that the left side names
+abbrev pub alphabet_registers : Header → List Instr → ℕ
+alphabet_registers h left = named_count left
 
 -- a sequence is its own canonical form: it has one, each instruction is normal, and its registers are r0, r1 and so on by first appearance
 pub record IsCanonicalSide (side : List Instr) : Type 0 where
@@ -23,19 +28,19 @@ pub record IsCanonicalSide (side : List Instr) : Type 0 where
 -- an entry's sides and its mask are what the table's header allows
 pub record SidesFit (t : Table) (e : Rule) : Type 0 where
   pub canonical : IsCanonicalSide e.left
-  pub short : length e.left ≤ t.left
-  pub few : named_count e.left ≤ t.regs
-  -- both are of the alphabet of the registers that the left side names
-  pub left : IsOver (named_count e.left) t.pool e.left
-  pub right : IsOver (named_count e.left) t.pool e.right
+  pub short : length e.left ≤ t.header.left
+  pub few : named_count e.left ≤ t.header.regs
+  -- the left side is of the alphabet of the registers that it names, the right side of the entry's
+  pub left : IsOver (named_count e.left) t.header.pool e.left
+  pub right : IsOver (alphabet_registers t.header e.left) t.header.pool e.right
   pub no_longer : length e.right ≤ length e.left
-  -- the mask has no other register
+  -- the mask has no register that the left side doesn't name
   pub mask : IsMaskOver (named_count e.left) e.mask
 
--- the formula that an entry's left side and a sequence differ in some item of its mask, over the registers that the left side names
-abbrev pub formula_against : Rule → List Instr → Cnf
-formula_against e seq = sides_formula e.left seq e.mask (named_count e.left)
+-- the formula that an entry's left side and a sequence differ in some item of its mask
+abbrev pub formula_against : Header → Rule → List Instr → Cnf
+formula_against h e seq = sides_formula e.left seq e.mask (alphabet_registers h e.left)
 
 -- that of the two sides
-abbrev pub formula_of : Rule → Cnf
-formula_of e = formula_against e e.right
+abbrev pub formula_of : Header → Rule → Cnf
+formula_of h e = formula_against h e e.right

@@ -1,12 +1,12 @@
 -- What the entries of an accepted table are.
-use Rattle.std.specs.Prelude.{ℕ, ◌≡◌, ◌<◌, false, List, [], ◌∷◌, Some, filter, length, map, slice_get}
+use Rattle.std.specs.Prelude.{ℕ, ◌≡◌, ◌≤◌, false, List, [], ◌∷◌, Some, filter, length, map, slice_get}
 use Rattle.thumb_instr.specs.declared.instr.Instr.{Instr}
 use Rattle.thumb_instr.specs.Items.{has}
-use Rattle.thumb_model.specs.Items.{one_of}
 use Rattle.rule_model.specs.Rules.{Rule, alone, AreSound}
-use Rattle.thumb_model.specs.Sides.{Equal, register_count}
-use Rattle.seq_enum.specs.Alphabet.{sequences}
+use Rattle.thumb_model.specs.Sides.{Equal}
+use Rattle.rule_table.specs.Header.{Header}
 use Rattle.rule_table.specs.Table as table
+use Rattle.table_audit.specs.Shorter.{IsBelow, is_named}
 use Rattle.table_audit.specs.Acceptance.{IsRightlyOpen}
 
 -- ---- entries as rewriting has them ----
@@ -30,14 +30,13 @@ numbers_of t = alone (rules_of t)
 
 -- ---- shortness ----
 
--- of the alphabet of the registers that its left side names, no sequence with fewer instructions than an entry's right side leaves the same under its mask, save those that the entry names open
-abbrev pub IsShortest : List ℕ → Rule → Type 0
-IsShortest pool rule =
-    (number : ℕ) (shorter : List Instr) → slice_get (sequences (register_count rule.left) pool) number ≡ Some shorter → length shorter < length rule.right
-    → one_of number rule.open_numbers ≡ false → Equal rule.left shorter rule.mask → ⊥
+-- an entry's right side is no longer than its left side, and no sequence below it leaves the same under the mask, save those that the entry names open
+pub record IsShortest (h : Header) (e : table.Rule) : Type 0 where
+  pub no_longer : length e.right ≤ length e.left
+  pub least : (number : ℕ) (other : List Instr) → IsBelow h e.left e.right number other → is_named e.opens number ≡ false → Equal e.left other (items_in e.mask) → ⊥
 
-abbrev pub AreShortest : List ℕ → List Rule → Type 0
-AreShortest pool rules = (k : ℕ) (rule : Rule) → slice_get rules k ≡ Some rule → IsShortest pool rule
+abbrev pub AreShortest : table.Table → Type 0
+AreShortest t = (k : ℕ) (e : table.Rule) → slice_get t.rules k ≡ Some e → IsShortest t.header e
 
 -- each number that an entry names open is that of a shorter sequence and has its log
 abbrev pub AreRightlyOpen : table.Table → Type 0
@@ -46,5 +45,5 @@ AreRightlyOpen t = (k : ℕ) (e : table.Rule) → slice_get t.rules k ≡ Some e
 -- a table's rules are sound and shortest, and what they name open is rightly so
 pub record IsSound (t : table.Table) : Type 0 where
   pub sound : AreSound (numbers_of t)
-  pub shortest : AreShortest t.pool (rules_of t)
+  pub shortest : AreShortest t
   pub opens : AreRightlyOpen t

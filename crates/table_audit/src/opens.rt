@@ -4,9 +4,9 @@ ghost use Rattle.window_exec.specs.State.{seen};
 ghost use Rattle.thumb_model.specs.Sides.{AreOver};
 ghost use Rattle.seq_enum.specs.Lists.{ascends_from};
 ghost use Rattle.rule_table.specs.Valid.{numbers_of};
-ghost use Rattle.rule_table.specs.Views.{opened_of, rule_of, table_of};
+ghost use Rattle.rule_table.specs.Views.{header_in, opened_of, rule_of, table_of};
 ghost use Rattle.proof_logs.specs.Verdicts.{Answers};
-ghost use Rattle.table_audit.specs.Sides.{named_count};
+ghost use Rattle.table_audit.specs.Sides.{alphabet_registers};
 ghost use Rattle.table_audit.specs.Canonical.{HasFormula};
 ghost use Rattle.table_audit.specs.Shorter.{sequences_below, shorter};
 ghost use Rattle.table_audit.specs.Trials.{AreTrials};
@@ -51,10 +51,11 @@ fn is_rightly_open<L: Ledger>(
     open: &Open,
     steps: &mut Steps<L>,
 ) -> Result<bool, Memory>
-    requires count { k ≡ named_count entry.now.left }
+    requires count { k ≡ alphabet_registers (header_in table.now) entry.now.left }
     requires some { 0 < k }
     requires few { k ≤ 4 }
-    requires formula { HasFormula (rule_of entry.now) }
+    requires formula { HasFormula (header_in table.now) (rule_of entry.now) }
+    requires no_longer { length entry.now.right ≤ length entry.now.left }
     requires trials { AreTrials entry.now.left (map seen table.now.states) trials.now }
     ensures right { IfOk result (λ right. IsTrue right ↔ IsRightlyOpen (table_of table.now) (rule_of entry.now) (opened_of open.now)) }
     ensures cost { steps.new ≤ steps.old + (told_cost (table_of table.now) (rule_of entry.now) (opened_of open.now) + open_cost (table_of table.now) (rule_of entry.now) (opened_of open.now)) }
@@ -65,7 +66,7 @@ fn is_rightly_open<L: Ledger>(
             if is_told(trials, seq.as_slice(), entry.mask, steps) {
                 return Ok(false);
             }
-            let formula = formula_against(alloc, entry, &seq)?;
+            let formula = formula_against(alloc, table, entry, &seq)?;
             is_spent(alloc, &formula, &open.log, table.budget, steps)
         }
     }
@@ -81,10 +82,11 @@ pub(crate) fn check_opens<L: Ledger>(
     trials: &[Trial],
     steps: &mut Steps<L>,
 ) -> Result<(), AuditError>
-    requires count { k ≡ named_count entry.now.left }
+    requires count { k ≡ alphabet_registers (header_in table.now) entry.now.left }
     requires some { 0 < k }
     requires few { k ≤ 4 }
-    requires formula { HasFormula (rule_of entry.now) }
+    requires formula { HasFormula (header_in table.now) (rule_of entry.now) }
+    requires no_longer { length entry.now.right ≤ length entry.now.left }
     requires ascending { ascends_from 0 (numbers_of (map opened_of entry.now.opens.items)) ≡ true }
     requires trials { AreTrials entry.now.left (map seen table.now.states) trials.now }
     ensures answers { Answers AuditError.Memory result (OpensVerdict (table_of table.now) number (rule_of entry.now)) }

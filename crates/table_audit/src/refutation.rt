@@ -1,6 +1,6 @@
 //! The proof of an entry.
 ghost use Rattle.std.specs.Prelude.{◌≡◌, ◌≤◌, ◌+◌};
-ghost use Rattle.rule_table.specs.Views.{rule_of};
+ghost use Rattle.rule_table.specs.Views.{header_in, rule_of, table_of};
 ghost use Rattle.proof_logs.specs.Verdicts.{Answers};
 ghost use Rattle.table_audit.specs.declared.errors.AuditError.TheVariants.{Memory};
 ghost use Rattle.table_audit.specs.Canonical.{HasFormula};
@@ -11,7 +11,7 @@ ghost use Rattle.table_audit.specs.Costs.{proof_cost};
 use crate::errors::{AuditError, EntryFault};
 use crate::sides::entry_formula;
 use proof_logs::ProofFault;
-use rule_table::Entry;
+use rule_table::{Entry, Table};
 use std::alloc::Global;
 use step_ledger::{Ledger, Steps};
 
@@ -35,15 +35,16 @@ fn fault_of(number: u64, fault: ProofFault) -> AuditError
 /// Tells the first line of an entry's proof that isn't accepted, or that it comes to no empty clause.
 pub(crate) fn check_proof<L: Ledger>(
     alloc: Global,
+    table: &Table,
     number: u64,
     entry: &Entry,
     steps: &mut Steps<L>,
 ) -> Result<(), AuditError>
-    requires { HasFormula (rule_of entry.now) }
-    ensures answers { Answers Memory result (EntryProofVerdict number (rule_of entry.now)) }
-    ensures cost { steps.new ≤ steps.old + proof_cost (rule_of entry.now) }
+    requires { HasFormula (header_in table.now) (rule_of entry.now) }
+    ensures answers { Answers Memory result (EntryProofVerdict (table_of table.now) number (rule_of entry.now)) }
+    ensures cost { steps.new ≤ steps.old + proof_cost (table_of table.now) (rule_of entry.now) }
 {
-    let formula = entry_formula(alloc, entry)?;
+    let formula = entry_formula(alloc, table, entry)?;
     match proof_logs::check_proof(alloc, &formula, &entry.proof, steps) {
         Ok(()) => Ok(()),
         Err(fault) => Err(fault_of(number, fault)),

@@ -9,8 +9,8 @@ ghost use Rattle.seq_enum.specs.Alphabet.{IsOver};
 ghost use Rattle.bit_blast.specs.Differences.{sides_formula};
 ghost use Rattle.bit_blast.specs.Exactness.{IsMaskOver};
 ghost use Rattle.rule_table.specs.Canonical.{firsts, numbers_of, appearing};
-ghost use Rattle.rule_table.specs.Views.{rule_of, table_of};
-ghost use Rattle.table_audit.specs.Sides.{named_count, IsCanonicalSide, SidesFit, formula_against, formula_of};
+ghost use Rattle.rule_table.specs.Views.{header_in, rule_of, table_of};
+ghost use Rattle.table_audit.specs.Sides.{named_count, alphabet_registers, IsCanonicalSide, SidesFit, formula_against, formula_of};
 ghost use Rattle.table_audit.specs.Canonical.{HasFormula};
 ghost use Rattle.table_audit.specs.Orders.{IsAstray, IsInOrder, AreWithin};
 
@@ -102,34 +102,35 @@ fn is_mask_over(k: u8, mask: Mask) -> bool
     true
 }
 
-/// Whether sides and mask are over the first `k` registers and the pool, and within the header's numbers.
-fn are_within(table: &Table, entry: &Entry, k: u8) -> bool
-    requires some { 0 < k }
-    requires few { k ≤ 4 }
-    ensures { IsTrue result ↔ AreWithin (table_of table.now) (rule_of entry.now) k }
+/// Whether left side and mask are over the first `k` registers, the right side over the first `registers`, and all within the header's
+/// numbers.
+fn are_within(table: &Table, entry: &Entry, k: u8, registers: u8) -> bool
+    requires some { (0 < k) × (0 < registers) }
+    requires few { (k ≤ 4) × (registers ≤ 4) }
+    ensures { IsTrue result ↔ AreWithin (table_of table.now) (rule_of entry.now) k registers }
 {
     entry.left.len() <= usize::from(table.left)
         && entry.right.len() <= entry.left.len()
         && k <= table.regs
         && is_over(k, &table.pool, &entry.left)
-        && is_over(k, &table.pool, &entry.right)
+        && is_over(registers, &table.pool, &entry.right)
         && is_mask_over(k, entry.mask)
 }
 
 /// Whether the sides and the mask of an entry are what the table's header allows.
 pub fn sides_fit(table: &Table, entry: &Entry) -> bool
     ensures fit { IsTrue result ↔ SidesFit (table_of table.now) (rule_of entry.now) }
-    ensures formula { IsTrue result → HasFormula (rule_of entry.now) }
+    ensures formula { IsTrue result → HasFormula (header_in table.now) (rule_of entry.now) }
 {
     match names_in_order(&entry.left) {
         None => false,
-        Some(k) => are_within(table, entry, k),
+        Some(k) => are_within(table, entry, k, alphabet_registers(table, entry)),
     }
 }
 
-/// How many registers a canonical side names.
-pub(crate) fn named_count(side: &Seq) -> u8
-    requires { IsCanonicalSide side.now }
+/// How many registers a side names, where they are in order.
+fn named_count(side: &Seq) -> u8
+    requires { IsInOrder side.now }
     ensures value { result ≡ named_count side.now }
     ensures some { 0 < result }
     ensures few { result ≤ 4 }
@@ -140,26 +141,37 @@ pub(crate) fn named_count(side: &Seq) -> u8
     }
 }
 
-/// The formula that the left side of an entry and a sequence differ in some item of the mask, over the registers that the left side names.
-pub(crate) fn formula_against(alloc: Global, entry: &Entry, seq: &Seq) -> Result<Formula, Memory>
-    requires entry { HasFormula (rule_of entry.now) }
-    requires seq { AreOver (named_count entry.now.left) seq.now }
-    ensures { IfOk result (λ f. f ≡ formula_against (rule_of entry.now) seq.now) }
+/// How many registers the alphabet of an entry has: those that its left side names, whatever the header.
+pub(crate) fn alphabet_registers(_table: &Table, entry: &Entry) -> u8
+    requires { IsInOrder entry.now.left }
+    ensures value { result ≡ alphabet_registers (header_in _table.now) entry.now.left }
+    ensures some { 0 < result }
+    ensures few { result ≤ 4 }
 {
-    formula(
-        alloc,
-        &entry.left,
-        seq,
-        entry.mask,
-        named_count(&entry.left),
-    )
+    named_count(&entry.left)
+}
+
+/// The formula that the left side of an entry and a sequence differ in some item of the mask, over the registers of the entry's alphabet.
+#[tactic(auto, using(crate::proofs::Fitting::ordered_of))]
+pub(crate) fn formula_against(
+    alloc: Global,
+    table: &Table,
+    entry: &Entry,
+    seq: &Seq,
+) -> Result<Formula, Memory>
+    requires entry { HasFormula (header_in table.now) (rule_of entry.now) }
+    requires seq { AreOver (alphabet_registers (header_in table.now) entry.now.left) seq.now }
+    ensures { IfOk result (λ f. f ≡ formula_against (header_in table.now) (rule_of entry.now) seq.now) }
+{
+    let registers = alphabet_registers(table, entry);
+    formula(alloc, &entry.left, seq, entry.mask, registers)
 }
 
 /// The formula that the sides of an entry differ, whose sides fit a table: the proof of the entry is a proof of this formula, and its DIMACS
 /// text is what a checker of its own is given.
-pub fn entry_formula(alloc: Global, entry: &Entry) -> Result<Formula, Memory>
-    requires { HasFormula (rule_of entry.now) }
-    ensures { IfOk result (λ f. f ≡ formula_of (rule_of entry.now)) }
+pub fn entry_formula(alloc: Global, table: &Table, entry: &Entry) -> Result<Formula, Memory>
+    requires { HasFormula (header_in table.now) (rule_of entry.now) }
+    ensures { IfOk result (λ f. f ≡ formula_of (header_in table.now) (rule_of entry.now)) }
 {
-    formula_against(alloc, entry, &entry.right)
+    formula_against(alloc, table, entry, &entry.right)
 }

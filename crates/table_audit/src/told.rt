@@ -3,10 +3,10 @@ ghost use Rattle.std.specs.Prelude.{◌≡◌, ◌<◌, ◌≤◌, ◌+◌, ◌*
 ghost use Rattle.window_exec.specs.State.{seen};
 ghost use Rattle.seq_enum.specs.Lists.{ascends_from};
 ghost use Rattle.rule_table.specs.Valid.{numbers_of};
-ghost use Rattle.rule_table.specs.Views.{opened_of, rule_of, table_of};
+ghost use Rattle.rule_table.specs.Views.{header_in, opened_of, rule_of, table_of};
 ghost use Rattle.proof_logs.specs.Verdicts.{Answers};
 ghost use Rattle.table_audit.specs.declared.errors.AuditError.TheVariants.{Memory};
-ghost use Rattle.table_audit.specs.Sides.{named_count};
+ghost use Rattle.table_audit.specs.Sides.{alphabet_registers};
 ghost use Rattle.table_audit.specs.Shorter.{shorter};
 ghost use Rattle.table_audit.specs.Trials.{AreTrials};
 ghost use Rattle.table_audit.specs.Naming.{is_number_at};
@@ -31,7 +31,7 @@ fn is_number_at(opens: &[Open], place: usize, number: u64) -> bool
 }
 
 /// Tells the lowest number of a sequence, shorter than the right side, that isn't named open and that no state tells from the left side,
-/// which names `k` registers. The numbers named open ascend, so that one place among them serves.
+/// with an alphabet of `k` registers. The numbers named open ascend, so that one place among them serves.
 pub(crate) fn check_told<L: Ledger>(
     alloc: Global,
     table: &Table,
@@ -41,7 +41,7 @@ pub(crate) fn check_told<L: Ledger>(
     trials: &[Trial],
     steps: &mut Steps<L>,
 ) -> Result<(), AuditError>
-    requires count { k ≡ named_count entry.now.left }
+    requires count { k ≡ alphabet_registers (header_in table.now) entry.now.left }
     requires some { 0 < k }
     requires few { k ≤ 4 }
     requires ascending { ascends_from 0 (numbers_of (map opened_of entry.now.opens.items)) ≡ true }

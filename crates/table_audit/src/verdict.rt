@@ -1,8 +1,8 @@
 //! The audit: its tests in order, and tables that passed it.
-ghost use Rattle.std.specs.Prelude.{◌≡◌, ◌≤◌, ◌+◌, IfOk, true, map, sum_by};
+ghost use Rattle.std.specs.Prelude.{◌≡◌, ◌≤◌, ◌+◌, IfOk, true, length, map, sum_by};
 ghost use Rattle.seq_enum.specs.Lists.{ascends_from};
 ghost use Rattle.rule_table.specs.Valid.{IsTable, numbers_of};
-ghost use Rattle.rule_table.specs.Views.{opened_of, rule_of, table_of};
+ghost use Rattle.rule_table.specs.Views.{header_in, opened_of, rule_of, table_of};
 ghost use Rattle.proof_logs.specs.Verdicts.{Answers, Then};
 ghost use Rattle.table_audit.specs.Canonical.{HasFormula};
 ghost use Rattle.table_audit.specs.Acceptance.{ToldVerdict, OpensVerdict, EntryVerdict, EntriesVerdict, TableVerdict};
@@ -12,7 +12,7 @@ use crate::audited::Audited;
 use crate::errors::{AuditError, EntryFault};
 use crate::opens::check_opens;
 use crate::refutation::check_proof;
-use crate::sides::{named_count, sides_fit};
+use crate::sides::{alphabet_registers, sides_fit};
 use crate::states::check_states;
 use crate::told::check_told;
 use crate::trials::trials_of;
@@ -22,6 +22,7 @@ use std::alloc::Global;
 use step_ledger::{Ledger, Steps};
 
 /// Tells the lowest shorter sequence that is neither named open nor told by a state, or the first number that isn't rightly named open.
+#[tactic(auto, using(crate::proofs::Fitting::ordered_of))]
 fn check_shorter<L: Ledger>(
     alloc: Global,
     table: &Table,
@@ -29,12 +30,13 @@ fn check_shorter<L: Ledger>(
     entry: &Entry,
     steps: &mut Steps<L>,
 ) -> Result<(), AuditError>
-    requires formula { HasFormula (rule_of entry.now) }
+    requires formula { HasFormula (header_in table.now) (rule_of entry.now) }
+    requires no_longer { length entry.now.right ≤ length entry.now.left }
     requires ascending { ascends_from 0 (numbers_of (map opened_of entry.now.opens.items)) ≡ true }
     ensures answers { Answers AuditError.Memory result (Then (ToldVerdict (table_of table.now) number (rule_of entry.now)) (OpensVerdict (table_of table.now) number (rule_of entry.now))) }
     ensures cost { steps.new ≤ steps.old + (runs_cost (table_of table.now) (rule_of entry.now) + sum_by (open_cost (table_of table.now) (rule_of entry.now)) (map opened_of entry.now.opens.items)) }
 {
-    let k = named_count(&entry.left);
+    let k = alphabet_registers(table, entry);
     let trials = trials_of(alloc, entry.left.as_slice(), table.states.as_slice(), steps)?;
     check_told(alloc, table, number, entry, k, &trials, steps)?;
     check_opens(alloc, table, number, entry, k, &trials, steps)
@@ -59,7 +61,7 @@ fn check_entry<L: Ledger>(
             kind: EntryFault::Sides,
         });
     }
-    check_proof(alloc, number, entry, steps)?;
+    check_proof(alloc, table, number, entry, steps)?;
     check_shorter(alloc, table, number, entry, steps)
 }
 

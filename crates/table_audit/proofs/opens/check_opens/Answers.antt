@@ -1,4 +1,4 @@
-use Rattle.std.proofs.Common.{inr, refl, sym, subst, ◌∙◌, ◌≡◌, slice_get, Some, map}
+use Rattle.std.proofs.Common.{arith, inr, refl, sym, subst, ◌∙◌, ◌≡◌, slice_get, Some, map}
 use Rattle.std.proofs.lemmas.Bool.{false≢true}
 use Rattle.rule_table.specs.Views.{opened_of, rule_of, table_of}
 use Rattle.proof_logs.proofs.Turns.{turn_step, turn_fault}
@@ -33,6 +33,6 @@ loop-open-preserved g c =
     let right = c.in_ok-is_rightly_open.ensures.right.0 c.if-not-branch.false in
     record {
       rest = turn_step (OpenTest (table_of c.args.table.now) c.args.number (rule_of c.args.entry.now)) _ _ c.loop-open.open-index _ _ at c.loop-open.invariant.rest right;
-      few = few_pass (table_of c.args.table.now) (rule_of c.args.entry.now) c.loop-open.open-index (opened_of c.open-item.result) c.requires.ascending at right;
+      few = few_pass (table_of c.args.table.now) (rule_of c.args.entry.now) c.loop-open.open-index (opened_of c.open-item.result) c.requires.ascending (omega (arith, c.requires.no_longer, c.requires.formula.canonical.renamable.few)) at right;
       cost = opens_next (table_of c.args.table.now) (rule_of c.args.entry.now) c.loop-open.open-index _ _ _ (opened_of c.open-item.result) at c.loop-open.invariant.cost c.is_rightly_open.ensures.cost;
     }

@@ -4,10 +4,10 @@ use Rattle.table_audit.proofs.sides.sides_fit.Goals as goal
 
 pub returns-in-Some-clause-fit : goal.returns-in-Some-clause-fit
 returns-in-Some-clause-fit c =
-    let same = fits (table_of c.args.table.now) (rule_of c.args.entry.now) c.in-Some.k c.in-Some.ensures.short c.in-Some.ensures.value.0 c.in-Some.ensures.value.1 in
+    let same = fits (table_of c.args.table.now) (rule_of c.args.entry.now) c.in-Some.k _ c.in-Some.ensures.short c.in-Some.ensures.value.0 c.in-Some.ensures.value.1 c.alphabet_registers.ensures.value in
     (λ h. same.0 (c.are_within.ensures.0 h), λ f. c.are_within.ensures.1 (same.1 f))
 
 pub returns-in-Some-clause-formula : goal.returns-in-Some-clause-formula
 returns-in-Some-clause-formula c h =
-    let same = fits (table_of c.args.table.now) (rule_of c.args.entry.now) c.in-Some.k c.in-Some.ensures.short c.in-Some.ensures.value.0 c.in-Some.ensures.value.1 in
+    let same = fits (table_of c.args.table.now) (rule_of c.args.entry.now) c.in-Some.k _ c.in-Some.ensures.short c.in-Some.ensures.value.0 c.in-Some.ensures.value.1 c.alphabet_registers.ensures.value in
     formula_fits (table_of c.args.table.now) (rule_of c.args.entry.now) (same.0 (c.are_within.ensures.0 h))

@@ -1,9 +1,19 @@
 use Rattle.std.proofs.Common.{inr, ap, ◌≡◌, arith}
+use Rattle.rule_table.specs.declared.header.Field.TheVariants.{Regs, Left}
 use Rattle.rule_table.specs.Views.{table_of}
 use Rattle.table_audit.specs.declared.errors.AuditError.TheVariants.{Wide}
 use Rattle.table_audit.specs.Acceptance.{width}
 use Rattle.table_audit.proofs.Numbering.{count_is}
 use Rattle.table_audit.proofs.widths.check_width.Goals as goal
+
+pub size-requires-clause-some : goal.size-requires-clause-some
+size-requires-clause-some c = omega (arith, (c.requires.header.numbers Regs).0)
+
+pub size-requires-clause-few : goal.size-requires-clause-few
+size-requires-clause-few c = omega (arith, (c.requires.header.numbers Regs).1)
+
+pub count_below-width-requires-clause-short : goal.count_below-width-requires-clause-short
+count_below-width-requires-clause-short c = omega (arith, (c.requires.header.numbers Left).1, c.from.ensures)
 
 pub returns-then-width-gt-WIDEST : goal.returns-then-width-gt-WIDEST
 returns-then-width-gt-WIDEST c =
