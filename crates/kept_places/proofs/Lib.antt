@@ -1,0 +1,5 @@
+pub mod Ranks
+pub mod Counts
+pub mod Ways
+pub mod Bits
+pub mod Members

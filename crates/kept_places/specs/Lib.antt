@@ -1,0 +1,4 @@
+pub mod Marks
+pub mod Kept
+pub mod Members
+pub mod Laws

@@ -1,0 +1,6 @@
+pub mod Kept
+pub mod Padded
+pub mod Exchanged
+pub mod Windows
+pub mod Fitting
+pub mod Lines

@@ -1,0 +1,5 @@
+pub mod Padding
+pub mod Exchange
+pub mod Windows
+pub mod Fitting
+pub mod Lines

@@ -1,0 +1,14 @@
+pub mod Forward
+pub mod Exchange
+pub mod Cleared
+pub mod Points
+pub mod Closed
+pub mod Enters
+pub mod Walk
+pub mod Window
+pub mod Steps
+pub mod Growing
+pub mod Lost
+pub mod Replaced
+pub mod Padding
+pub mod Anew

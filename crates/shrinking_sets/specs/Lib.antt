@@ -1,0 +1,4 @@
+pub mod Straight
+pub mod Marks
+pub mod Clearing
+pub mod Laws
