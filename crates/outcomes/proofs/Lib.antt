@@ -1,0 +1,5 @@
+pub mod Tried
+pub mod Kept
+pub mod Holding
+pub mod Looking
+pub mod Growing

@@ -1,0 +1,15 @@
+use Rattle.std.proofs.Common.{◌≡◌, ◌≤◌, ◌-◌, ◌*◌, ◌++◌, List, length, take}
+use Rattle.std.specs.List.{flat_map}
+use Rattle.thumb_instr.specs.declared.instr.Instr.{Instr}
+use Rattle.step_ledger.specs.Counts.{RisesBy}
+use Rattle.outcomes.specs.Columns.{extended, Holds}
+use Rattle.outcomes.proofs.columns.Columns.push_length.Given as goal
+
+-- so many of the longest sequences have each letter behind them
+abbrev pub invariant-loop-place : goal.invariant-loop-place
+invariant-loop-place g l = record {
+  holds : (shorter longest : List (List Instr)) → length shorter ≡ l.first → Holds l.k l.start (shorter ++ longest) l.initial.self
+      → Holds l.k l.start (shorter ++ longest ++ flat_map (extended l.letters) (take (l.place - l.first) longest)) l.self;
+  more : length l.initial.self.flags.items ≤ length l.self.flags.items;
+  count : RisesBy l.initial.steps l.steps ((l.place - l.first) * length l.letters);
+}

@@ -1,0 +1,62 @@
+use Rattle.std.proofs.Common.{◌≡◌, ◌<◌, ◌≤◌, ◌+◌, ◌-◌, ◌*◌, ◌++◌, subst, max, length, arith}
+use Rattle.step_ledger.specs.Counts.{RisesBy}
+use Rattle.step_ledger.proofs.Rises.{goes_on}
+use Rattle.std.specs.List.{flat_map}
+use Rattle.outcomes.specs.Columns.{extended, Holds}
+use Rattle.outcomes.specs.Outcomes.{sequences_below, Extent, added}
+use Rattle.outcomes.proofs.Growing.{IsGrown, grown_first, grown_count, grown_once, below_longer}
+use Rattle.outcomes.proofs.outcomes.Outcomes.grow.Goals as goal
+
+pub push_length-requires-clause-within : goal.push_length-requires-clause-within
+push_length-requires-clause-within g c = grown_first c.self.inside.k c.self.inside.letters.items c.self.inside.start c.loop-length._length c.loop-length.first c.loop-length.columns c.loop-length.invariant.grown
+
+pub returns-in_err-push_length-clause-most : goal.returns-in_err-push_length-clause-most
+returns-in_err-push_length-clause-most g c =
+    let e : Extent = record { registers = c.self.inside.k; letters = c.self.inside.letters.items; start = c.self.inside.start; longest = c.self.inside.longest } in
+    let letters = c.self.inside.letters.items in
+    let n = c.loop-length._length in
+    let low : n < c.args.longest = c.loop-length-test.true in
+    let past : c.self.inside.longest ≤ n = c.loop-length.auto._length in
+    let one = grown_count c.self.inside.k letters c.self.inside.start n c.loop-length.first c.loop-length.columns c.loop-length.invariant.grown in
+    let so_far : length (sequences_below letters (c.self.inside.longest + 1)) ≤ length (sequences_below letters (n + 1)) = below_longer letters (c.self.inside.longest + 1) (n + 1) (omega (arith, past)) in
+    let to_come : length (sequences_below letters (n + 1 + 1)) ≤ length (sequences_below letters (max c.self.inside.longest c.args.longest + 1)) = below_longer letters (n + 1 + 1) (max c.self.inside.longest c.args.longest + 1) (omega (arith, low)) in
+    let step : c.push_length.new.steps ≤ c.loop-length.steps + (length c.loop-length.columns.flags.items - c.loop-length.first) * length letters =
+    subst (λ ls. c.push_length.new.steps ≤ c.loop-length.steps + (length c.loop-length.columns.flags.items - c.loop-length.first) * length ls) c.deref.ensures.value c.push_length.ensures.most in
+    let before = c.loop-length.invariant.count.1 in
+    subst (λ (x : Extent). c.push_length.new.steps ≤ c.args.steps.now + added c.args.longest x) c.self.view_is (omega (arith, one, so_far, to_come, step, before))
+
+pub loop-length-preserved : goal.loop-length-preserved
+loop-length-preserved g c =
+    let letters = c.self.inside.letters.items in
+    let n = c.loop-length._length in
+    let past : c.self.inside.longest ≤ n = c.loop-length.auto._length in
+    let one = grown_count c.self.inside.k letters c.self.inside.start n c.loop-length.first c.loop-length.columns c.loop-length.invariant.grown in
+    let so_far : length (sequences_below letters (c.self.inside.longest + 1)) ≤ length (sequences_below letters (n + 1)) = below_longer letters (c.self.inside.longest + 1) (n + 1) (omega (arith, past)) in
+    let block = (length c.loop-length.columns.flags.items - c.loop-length.first) * length letters in
+    let step : RisesBy c.loop-length.steps c.push_length.new.steps block =
+    subst (λ ls. RisesBy c.loop-length.steps c.push_length.new.steps ((length c.loop-length.columns.flags.items - c.loop-length.first) * length ls)) c.deref.ensures.value c.in_ok-push_length.ensures.count in
+    let whole = goes_on c.args.steps.now c.loop-length.steps c.push_length.new.steps (length (sequences_below letters (n + 1)) - length (sequences_below letters (c.self.inside.longest + 1))) block c.loop-length.invariant.count step in
+    let sum : length (sequences_below letters (n + 1)) - length (sequences_below letters (c.self.inside.longest + 1)) + block ≡ length (sequences_below letters (n + 1 + 1)) - length (sequences_below letters (c.self.inside.longest + 1)) = omega (arith, one, so_far) in
+    record {
+      grown = grown_once c.self.inside.k letters c.self.inside.start n c.loop-length.first c.len-next.result c.loop-length.columns c.push_length.new.self c.loop-length.invariant.grown c.len-next.ensures
+          (λ shorter longest size h. subst (λ ls. Holds c.self.inside.k c.self.inside.start (shorter ++ longest ++ flat_map (extended ls) longest) c.push_length.new.self) c.deref.ensures.value (c.in_ok-push_length.ensures.holds shorter longest size h));
+      count = subst (RisesBy c.args.steps.now c.push_length.new.steps) sum whole;
+    }
+
+pub invariant_of-self : goal.invariant_of-self
+invariant_of-self g c =
+    let n = c.loop-length._length in
+    let at_most : n ≤ c.args.longest = omega (arith, c.loop-length.auto._length-end, c.if-longest-self.false) in
+    let whole : n ≡ c.args.longest = omega (arith, at_most, c.loop-length-test.false) in
+    let grown : IsGrown c.self.inside.k c.self.inside.letters.items c.self.inside.start c.args.longest c.loop-length.first c.loop-length.columns =
+    subst (λ j. IsGrown c.self.inside.k c.self.inside.letters.items c.self.inside.start j c.loop-length.first c.loop-length.columns) whole c.loop-length.invariant.grown in
+    record {
+      some = c.self.invariant.some;
+      few = c.self.invariant.few;
+      some_letters = c.self.invariant.some_letters;
+      few_letters = c.self.invariant.few_letters;
+      over = c.self.invariant.over;
+      short = c.requires;
+      before = grown.before;
+      holds = grown.holds;
+    }

@@ -1,0 +1,5 @@
+pub mod Columns
+pub mod Looks
+pub mod Outcomes
+pub mod Tables
+pub mod Trials

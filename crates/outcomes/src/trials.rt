@@ -1,0 +1,117 @@
+//! Sequences run from the listed states, beside what the left side leaves of each, which is worked out once.
+ghost use Rattle.std.specs.Prelude.{◌≡◌, ◌<◌, ◌≤◌, ◌+◌, ◌*◌, ◌==◌, ◌&&◌, ◌↔◌, not, Any, IfOk, OnOk, IsTrue, length, map};
+ghost use Rattle.thumb_instr.specs.Items.{has};
+ghost use Rattle.thumb_model.specs.Effect.{after_all};
+ghost use Rattle.thumb_model.specs.Sides.{AreOver};
+ghost use Rattle.window_exec.specs.State.{values_of, seen};
+ghost use Rattle.window_exec.specs.Telling.{Differ};
+ghost use Rattle.step_ledger.specs.Counts.{RisesBy};
+ghost use Rattle.outcomes.specs.Trials.{AreTrials};
+
+use std::alloc::{AllocError, Global};
+use step_ledger::{Ledger, Steps};
+use thumb_instr::items::{C, N, V, Z};
+use thumb_instr::{Instr, Mask};
+use window_exec::{WState, step};
+
+/// A listed state, and the state that the left side leaves of it.
+#[derive(Clone, Copy)]
+pub struct Trial {
+    pub start: WState,
+    pub end: WState,
+}
+
+/// The registers and flags after instructions that may stand in a window and name r0 to r3 alone, with a step for each.
+pub fn run<L: Ledger>(instrs: &[Instr], mut state: WState, steps: &mut Steps<L>) -> WState
+    requires { AreOver 4 instrs.now }
+    ensures end { values_of result ≡ after_all instrs.now (values_of state) }
+    ensures count { RisesBy steps.old steps.new (length instrs.now) }
+{
+    for instr in instrs {
+        steps.tick();
+        state = step(instr, state);
+    }
+    state
+}
+
+/// Each of the states, with what the left side leaves of it, and a step for each instruction that is run.
+pub fn trials_of<L: Ledger>(
+    alloc: Global,
+    left: &[Instr],
+    states: &[WState],
+    steps: &mut Steps<L>,
+) -> Result<Vec<Trial>, AllocError>
+    requires { AreOver 4 left.now }
+    ensures trials { IfOk result (λ trials. AreTrials left.now (map seen states.now) trials.items) }
+    ensures count { OnOk result (RisesBy steps.old steps.new (length states.now * length left.now)) }
+    ensures cost { steps.new ≤ steps.old + length states.now * length left.now }
+{
+    let mut trials = Vec::with_capacity(alloc, states.len())?;
+    for state in states {
+        let end = run(left, *state, steps);
+        trials.push(Trial { start: *state, end })?;
+    }
+    Ok(trials)
+}
+
+/// Whether a sequence leaves of some state, in some item of the mask, another value than the left side does. The states are tried from the
+/// last to the first: those that were found for a sequence alike tell most often.
+pub fn is_told<L: Ledger>(
+    trials: &[Trial],
+    instrs: &[Instr],
+    mask: Mask,
+    steps: &mut Steps<L>,
+) -> bool
+    requires { AreOver 4 instrs.now }
+    ensures told { IsTrue result ↔ Any (λ t. Differ (values_of t.end) (after_all instrs.now (values_of t.start)) mask.items.bits) trials.now }
+    ensures cost { steps.new ≤ steps.old + length trials.now * length instrs.now }
+{
+    for passed in 0..trials.len() {
+        let trial = &trials[trials.len() - 1 - passed];
+        let end = run(instrs, trial.start, steps);
+        if differ(&trial.end, &end, mask) {
+            return true;
+        }
+    }
+    false
+}
+
+/// Whether some item of the mask differs between the states.
+pub fn differ(left: &WState, right: &WState, mask: Mask) -> bool
+    ensures { IsTrue result ↔ Differ (values_of left.now) (values_of right.now) mask.items.bits }
+{
+    differ_in_register(left, right, mask, 0)
+        | differ_in_register(left, right, mask, 1)
+        | differ_in_register(left, right, mask, 2)
+        | differ_in_register(left, right, mask, 3)
+        | differ_in_flag(left, right, mask, N)
+        | differ_in_flag(left, right, mask, Z)
+        | differ_in_flag(left, right, mask, C)
+        | differ_in_flag(left, right, mask, V)
+}
+
+/// Whether a register is in the mask and differs between the states.
+fn differ_in_register(left: &WState, right: &WState, mask: Mask, register: u8) -> bool
+    requires { register < 4 }
+    ensures { result ≡ (has mask.items.bits register && not (values_of left.now register == values_of right.now register)) }
+{
+    mask.has(register) && left.get(u32::from(register)) != right.get(u32::from(register))
+}
+
+/// Whether a flag is in the mask and differs between the states.
+fn differ_in_flag(left: &WState, right: &WState, mask: Mask, flag: u8) -> bool
+    requires first { 15 ≤ flag }
+    requires last { flag < 19 }
+    ensures { result ≡ (has mask.items.bits flag && not (values_of left.now flag == values_of right.now flag)) }
+{
+    mask.has(flag) && flag_of(left, flag) != flag_of(right, flag)
+}
+
+/// The value of a flag, by its number among the items.
+fn flag_of(state: &WState, flag: u8) -> u8
+    requires first { 15 ≤ flag }
+    requires last { flag < 19 }
+    ensures { result ≡ values_of state.now flag }
+{
+    (state.nzcv >> (V - flag)) & 1
+}
