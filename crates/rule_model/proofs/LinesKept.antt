@@ -147,11 +147,14 @@ no_more_places s ls (r ∷ rs) new sound h =
     omega arith
 
 -- the lines stay within their limit
+pub few_after : (s : Setting) (r : Replacement) (ls : List Line) → AppliesIn s r ls → length (lines_after s r ls) ≤ max (length ls) s.most_lines
+few_after s r ls a = subst (λ (o : Option Rule). length (lines_after_rule s o r ls) ≤ max (length ls) s.most_lines) (sym a.is_rule) a.few
+
+-- through all replacements
 pub few_lines : (s : Setting) (ls : List Line) (rs : List Replacement) (new : List Line) → AreRewritten s ls rs new → length new ≤ max (length ls) s.most_lines
 few_lines s ls [] new h = let e : length new ≡ length ls = ap (λ (l : List Line). length l) h.1 in omega arith
 few_lines s ls (r ∷ rs) new h =
-    let a = h.0.applies in
-    let one : length (lines_after s r ls) ≤ max (length ls) s.most_lines = subst (λ (o : Option Rule). length (lines_after_rule s o r ls) ≤ max (length ls) s.most_lines) (sym a.is_rule) a.few in
+    let one = few_after s r ls h.0.applies in
     let rest = few_lines s (lines_after s r ls) rs new h.1 in
     omega arith
 

@@ -48,6 +48,7 @@ rule_at table entry instance = rule_among (slice_get table entry) instance
 abbrev pub alone : List Rule → List (List Rule)
 alone rules = map (λ rule. rule ∷ []) rules
 
+-- each rule of the table is sound
 abbrev pub AreSound : List (List Rule) → Type 0
 AreSound table = (entry instance : ℕ) (rule : Rule) → rule_at table entry instance ≡ Some rule → IsSoundRule rule
 

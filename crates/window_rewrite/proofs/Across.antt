@@ -8,7 +8,7 @@ use Rattle.thumb_instr.specs.declared.instr.Instr.{Instr}
 use Rattle.thumb_instr.specs.Window.{is_in_window, normal_of}
 use Rattle.thumb_instr.specs.Renaming.{Low, renamed}
 use Rattle.thumb_model.specs.Listing.{plain, Line, Place, places_of, code_of}
-use Rattle.rule_model.specs.Rules.{Rule}
+use Rattle.rule_model.specs.Rules.{Rule, alone}
 use Rattle.thumb_model.specs.Sides.{normalised}
 use Rattle.rule_model.specs.Rewriting.{Replacement, left_length, left_length_of}
 use Rattle.thumb_model.proofs.Lists.{get_drop, get_take}
@@ -20,6 +20,7 @@ use Rattle.window_rewrite.specs.Rewriting.{setting}
 use Rattle.window_rewrite.specs.Rules.{is_marked, ArePaired, AreFit, IsIndex}
 use Rattle.window_rewrite.specs.Shapes.{shape_of}
 use Rattle.window_rewrite.specs.Choices.{FitsIn, NoneAcross}
+use Rattle.window_rewrite.proofs.Applied.{rule_there, fits_shorter}
 use Rattle.window_rewrite.proofs.Heads.{shape_renamed}
 
 -- an instruction of a window, which is the one that stands at a place
@@ -80,15 +81,17 @@ record AreNeighbours (index : Index) (lines : List Line) (place : ℕ) : Type 0 
   at_behind : letter_at (slice_get (places_of lines) place) ≡ Some behind
   marked : is_marked index.marks.pairs.items (shape_of (normal_of before ∷ normal_of behind ∷ [])) ≡ true
 
-neighbours : (base longest : ℕ) (rules : List Rule) (index : Index) (lines : List Line) (place : ℕ) (o : Replacement) → AreFit longest rules → IsIndex rules index → FitsIn (setting base rules) o lines → o.place < place
-    → place < o.place + left_length rules o.entry → AreNeighbours index lines place
+neighbours : (base longest : ℕ) (rules : List Rule) (index : Index) (lines : List Line) (place : ℕ) (o : Replacement) → AreFit longest rules → IsIndex rules index → FitsIn (setting base (alone rules)) o lines → o.place < place
+    → place < o.place + left_length (setting base (alone rules)) o → AreNeighbours index lines place
 neighbours base longest rules index lines place o fit is a begins ends =
     let rule : Rule = a.rule in
     let window : List Instr = a.applies.window in
     let left : List Instr = rule.left in
-    let f = fit o.entry rule a.is_rule in
-    let straight : AreStraight window = (applies_sound rule o.registers (code_of lines) o.place f.sound a.applies).left_straight in
-    let long : left_length rules o.entry ≡ length left = ap left_length_of a.is_rule in
+    let there = rule_there base rules o rule a.is_rule in
+    let shorter = fits_shorter base rules o lines a in
+    let f = fit o.entry rule there in
+    let straight : AreStraight window = (applies_sound rule o.registers (code_of lines) o.place f.sound (omega arith) a.applies).left_straight in
+    let long : left_length (setting base (alone rules)) o ≡ length left = ap left_length_of a.is_rule in
     let n : length window ≡ length left = window_length rule o.registers (code_of lines) o.place a.applies in
     let k : ℕ = place - 1 - o.place in
     let before = letter (places_of lines) o.place (length left) window k (place - 1) straight a.applies.stands (omega arith) (omega arith) (let e : place - 1 ≡ o.place + k = omega arith in e) in
@@ -98,12 +101,12 @@ neighbours base longest rules index lines place o fit is a begins ends =
       behind = behind.letter;
       at_before = before.stands;
       at_behind = behind.stands;
-      marked = pair_marked index.marks.pairs.items o.registers window left k before.letter behind.letter (is.marks.noted o.entry rule (slice_get_within rules o.entry rule a.is_rule) a.is_rule (lt-ltb (length rule.right) (length left) a.applies.shorter)).pairs a.applies.matches before.at behind.at (omega arith);
+      marked = pair_marked index.marks.pairs.items o.registers window left k before.letter behind.letter (is.marks.noted o.entry rule (slice_get_within rules o.entry rule there) there (lt-ltb (length rule.right) (length left) shorter)).pairs a.applies.matches before.at behind.at (omega arith);
     }
 
 -- none reaches across a place before which no instruction stands that may stand in a window
 pub none_before : (base longest : ℕ) (rules : List Rule) (index : Index) (lines : List Line) (place : ℕ) (before : Option Instr) → AreFit longest rules → IsIndex rules index → (0 < place → before ≡ letter_at (slice_get (places_of lines) (place - 1)))
-    → before ≡ None → NoneAcross (setting base rules) lines place
+    → before ≡ None → NoneAcross (setting base (alone rules)) lines place
 none_before base longest rules index lines place before fit is at none o a begins ends =
     let n = neighbours base longest rules index lines place o fit is a begins ends in
     let e : before ≡ Some n.before = at (omega arith) ∙ n.at_before in
@@ -111,7 +114,7 @@ none_before base longest rules index lines place before fit is at none o a begin
 
 -- nor one behind which none does
 pub none_behind : (base longest : ℕ) (rules : List Rule) (index : Index) (lines : List Line) (place : ℕ) (behind : Option Instr) → AreFit longest rules → IsIndex rules index → behind ≡ letter_at (slice_get (places_of lines) place) → behind ≡ None
-    → NoneAcross (setting base rules) lines place
+    → NoneAcross (setting base (alone rules)) lines place
 none_behind base longest rules index lines place behind fit is at none o a begins ends =
     let n = neighbours base longest rules index lines place o fit is a begins ends in
     let e : behind ≡ Some n.behind = at ∙ n.at_behind in
@@ -119,7 +122,7 @@ none_behind base longest rules index lines place behind fit is at none o a begin
 
 -- nor one between two whose number isn't marked
 pub none_marked : (base longest : ℕ) (rules : List Rule) (index : Index) (lines : List Line) (place : ℕ) (before behind : Instr) → AreFit longest rules → IsIndex rules index → (0 < place → Some before ≡ letter_at (slice_get (places_of lines) (place - 1)))
-    → Some behind ≡ letter_at (slice_get (places_of lines) place) → is_marked index.marks.pairs.items (shape_of (normal_of before ∷ normal_of behind ∷ [])) ≡ false → NoneAcross (setting base rules) lines place
+    → Some behind ≡ letter_at (slice_get (places_of lines) place) → is_marked index.marks.pairs.items (shape_of (normal_of before ∷ normal_of behind ∷ [])) ≡ false → NoneAcross (setting base (alone rules)) lines place
 none_marked base longest rules index lines place before behind fit is at_before at_behind missing o a begins ends =
     let n = neighbours base longest rules index lines place o fit is a begins ends in
     let one : before ≡ n.before = same_Some before n.before (at_before (omega arith) ∙ n.at_before) in

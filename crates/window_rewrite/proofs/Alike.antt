@@ -12,10 +12,12 @@ use Rattle.thumb_model.specs.Items.{one_of}
 use Rattle.thumb_model.specs.Listing.{Name, Statement, Nothing, Runs, Words, Aligns, Sets, Line, Label, Code, code_of, plain, is_op_place, places_in}
 use Rattle.thumb_model.specs.Flow.{LiveAfter}
 use Rattle.thumb_model.specs.Layout.{size_at, is_among, label_address, set_in, set_address, cleared, or_else, or_first, lies_in, aim_fault, fault_at, faults_from, Layable}
-use Rattle.rule_model.specs.Rules.{Rule, Applies}
+use Rattle.rule_model.specs.Rules.{Rule, rule_registers, Applies, alone}
 use Rattle.thumb_model.specs.Replaced.{moved}
 use Rattle.thumb_model.specs.Sides.{register_count}
-use Rattle.rule_model.specs.Rewriting.{Setting, Replacement, lines_after_rule, left_length, left_length_of}
+use Rattle.rule_model.specs.Rewriting.{Setting, Replacement, used_rule, lines_after_rule, left_length, left_length_of}
+use Rattle.rule_model.proofs.Alone.{alone_at, no_scratch}
+use Rattle.rule_model.proofs.Costs.{shorter_lowers}
 use Rattle.thumb_model.specs.ReplacedLines.{is_op, without, labels_kept, new_line, replaced_lines, are_joined_from}
 use Rattle.listing_parser.specs.Parsing.{own_line}
 use Rattle.kept_layout.proofs.Cutting.{two_bytes}
@@ -25,7 +27,7 @@ use Rattle.window_rewrite.proofs.RuleWindows.{applied_gap, applied_stay}
 use Rattle.window_rewrite.specs.Rewriting.{setting}
 use Rattle.window_rewrite.specs.Rules.{is_marked, AreAlike, AreFit, AreLed}
 use Rattle.window_rewrite.specs.Choices.{Meets}
-use Rattle.window_rewrite.proofs.Applied.{made, letters_all}
+use Rattle.window_rewrite.proofs.Applied.{made, rule_there, fits_shorter, letters_all}
 
 -- ---- the layout ----
 
@@ -121,27 +123,26 @@ settled_as code p count is js e (inl n) = inl (omega (arith, e, n))
 settled_as code p count is js e (inr h) = inr h
 
 -- a rule applies where one does that is alike
-applies_as : (a b : Rule) (registers : List Low) (code : Code) (p : ℕ) → AreAlike a b → Applies b registers code p → Applies a registers code p
-applies_as a b registers code p s h =
+applies_as : (a b : Rule) (registers : List Low) (code : Code) (p : ℕ) → AreAlike a b → rule_registers a ≡ register_count a.left → rule_registers b ≡ register_count b.left → length b.right < length b.left
+    → Applies b registers code p → Applies a registers code p
+applies_as a b registers code p s own other_own shorter h =
     let is : List Instr = map (renamed registers) b.right in
     let js : List Instr = map (renamed registers) a.right in
     let count : length a.left ≡ length b.left = ap (λ (l : List Instr). length l) s.left in
     let m = length-map b.right (renamed registers) in
     let n = length-map a.right (renamed registers) in
     let long = s.as_long in
-    let shorter = h.shorter in
-    let gap = applied_gap b registers code p h in
+    let gap = applied_gap b registers code p shorter h in
     let settled = stay_settled code.places code.labels p (length b.left) is gap (applied_stay b registers code p h) in
     let other : IsGap code.places code.labels p (length b.left) js = record { within = gap.within; shorter = omega arith; first = gap.first; unlabelled = gap.unlabelled } in
     let stay = settled_stay code.places code.labels p (length b.left) js other (settled_as code p (length b.left) is js (omega arith) settled) in
     record {
-      as_many = h.as_many ∙ ap register_count (sym s.left);
+      as_many = h.as_many ∙ other_own ∙ ap register_count (sym s.left) ∙ sym own;
       one_to_one = h.one_to_one;
       window = h.window;
       stands = subst (λ (l : List Instr). take (length l) (drop p code.places) ≡ map plain h.window) (sym s.left) h.stands;
       matches = h.matches ∙ ap (map (renamed registers)) (sym s.left);
       unlabelled = subst (λ (l : List Instr). (k : ℕ) (x : Label) → slice_get code.labels k ≡ Some x → (x.place ≤ p) ⊎ (p + length l ≤ x.place)) (sym s.left) h.unlabelled;
-      shorter = omega arith;
       live = λ x r. subst (λ (mask : List ℕ). (one_of x (map (item_under registers) mask) ≡ true) ⊎ ((x < 15) × (one_of x (map (λ r. r.number) registers) ≡ false))) (sym s.mask)
           (h.live x (subst (λ c. LiveAfter code (p + c - 1) x) count r));
       labels_stay = λ k l e c.
@@ -157,15 +158,21 @@ pub record IsLedTo (asked : Bool) (s : Setting) (kept : List Bool) (o : Replacem
   pub no_later : leader ≤ o.entry
   pub is_kept : is_marked kept leader ≡ true
   pub meets : Meets asked s (made o.place leader o.registers) lines
-  pub as_long : left_length s.table leader ≡ left_length s.table o.entry
+  pub as_long : left_length s (made o.place leader o.registers) ≡ left_length s o
 
-pub led_to : (asked : Bool) (base longest : ℕ) (rules : List Rule) (kept : List Bool) (lines : List Line) (o : Replacement) → AreFit longest rules → AreLed rules kept (length rules) → Meets asked (setting base rules) o lines
-    → IsLedTo asked (setting base rules) kept o lines
+pub led_to : (asked : Bool) (base longest : ℕ) (rules : List Rule) (kept : List Bool) (lines : List Line) (o : Replacement) → AreFit longest rules → AreLed rules kept (length rules) → Meets asked (setting base (alone rules)) o lines
+    → IsLedTo asked (setting base (alone rules)) kept o lines
 led_to asked base longest rules kept lines o fit led m =
-    let s : Setting = setting base rules in
+    let s : Setting = setting base (alone rules) in
     let rule : Rule = m.0.rule in
-    let l = led o.entry rule (slice_get_within rules o.entry rule m.0.is_rule) m.0.is_rule (lt-ltb (length rule.right) (length rule.left) m.0.applies.shorter) in
+    let there = rule_there base rules o rule m.0.is_rule in
+    let shorter = fits_shorter base rules o lines m.0 in
+    let l = led o.entry rule (slice_get_within rules o.entry rule there) there (lt-ltb (length rule.right) (length rule.left) shorter) in
     let other : Rule = l.other in
+    let as_long = l.alike.as_long in
+    let rule_fit = fit o.entry rule there in
+    let other_fit = fit l.leader other l.at in
+    let used : used_rule s (made o.place l.leader o.registers) ≡ Some other = alone_at rules l.leader other l.at in
     let count : length other.left ≡ length rule.left = ap (λ (is : List Instr). length is) l.alike.left in
     let is : List Instr = map (renamed o.registers) rule.right in
     let js : List Instr = map (renamed o.registers) other.right in
@@ -177,17 +184,19 @@ led_to asked base longest rules kept lines o fit led m =
       meets = (
         record {
           rule = other;
-          is_rule = l.at;
-          applies = applies_as other rule o.registers (code_of lines) o.place l.alike m.0.applies;
+          is_rule = used;
+          lowers = shorter_lowers (λ i. 1) (λ i. refl) other.left other.right (omega arith);
+          applies = applies_as other rule o.registers (code_of lines) o.place l.alike other_fit.own rule_fit.own shorter m.0.applies;
+          least = no_scratch other o.registers (code_of lines) o.place other_fit.own (m.0.applies.as_many ∙ rule_fit.own ∙ ap register_count (sym l.alike.left) ∙ sym other_fit.own);
           joined = subst (λ k. are_joined_from o.place k lines ≡ true) (sym count) m.0.joined;
         },
         λ e.
             let laid : Layable base (replaced_lines own_line o.place (length rule.left) is lines) = subst (λ (r : Option Rule). Layable base (lines_after_rule s r o lines)) m.0.is_rule (m.1 e) in
             let same : Layable base (replaced_lines own_line o.place (length rule.left) js lines) =
             layable_as base (replaced_lines own_line o.place (length rule.left) is lines) (replaced_lines own_line o.place (length rule.left) js lines)
-            (replaced_as own_line o.place (length rule.left) is js lines as_many (letters_all (register_count rule.left) o.registers rule.right (fit o.entry rule m.0.is_rule).sound.right) (letters_all (register_count other.left) o.registers other.right (fit l.leader other l.at).sound.right)) laid in
-            subst (λ (r : Option Rule). Layable base (lines_after_rule s r (made o.place l.leader o.registers) lines)) (sym l.at)
+            (replaced_as own_line o.place (length rule.left) is js lines as_many (letters_all (rule_registers rule) o.registers rule.right rule_fit.sound.right) (letters_all (rule_registers other) o.registers other.right other_fit.sound.right)) laid in
+            subst (λ (r : Option Rule). Layable base (lines_after_rule s r (made o.place l.leader o.registers) lines)) (sym used)
             (subst (λ k. Layable base (replaced_lines own_line o.place k js lines)) (sym count) same),
       );
-      as_long = ap left_length_of l.at ∙ count ∙ ap left_length_of (sym m.0.is_rule);
+      as_long = ap left_length_of used ∙ count ∙ ap left_length_of (sym m.0.is_rule);
     }

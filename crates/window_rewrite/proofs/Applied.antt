@@ -13,10 +13,13 @@ use Rattle.thumb_model.specs.Items.{one_of}
 use Rattle.thumb_model.specs.Listing.{Place, Op, Word, plain, Label, Line, places_of, labels_from, code_of, is_op_place}
 use Rattle.thumb_model.specs.Flow.{LiveAfter}
 use Rattle.thumb_model.specs.Layout.{Layable}
-use Rattle.rule_model.specs.Rules.{Rule, Applies, IsSoundRule}
-use Rattle.thumb_model.specs.Sides.{AreOver, normalised}
+use Rattle.rule_model.specs.Rules.{Rule, rule_registers, Applies, IsSoundRule, alone}
+use Rattle.thumb_model.specs.Sides.{AreOver, register_count, normalised}
 use Rattle.thumb_model.specs.Replaced.{moved}
-use Rattle.rule_model.specs.Rewriting.{Setting, Replacement, lines_after_rule, lines_after, AppliesIn}
+use Rattle.rule_model.specs.Rewriting.{Setting, Replacement, used_rule, lines_after_rule, lines_after, AppliesIn}
+use Rattle.rule_model.proofs.Alone.{alone_at, alone_is, no_scratch}
+use Rattle.rule_model.proofs.Costs.{weight_is_length, shorter_lowers}
+use Rattle.rule_model.proofs.LinesKept.{fewer_lines_by}
 use Rattle.thumb_model.specs.ReplacedLines.{replaced_lines, are_joined_from}
 use Rattle.thumb_model.specs.Cuts.{AreOps}
 use Rattle.thumb_model.proofs.Lists.{get_drop, length_drop}
@@ -136,14 +139,29 @@ letters_all k r (i ∷ is) h = and_from (is_in_window (renamed r i)) (list_all i
 
 -- the replacement by a rule of a number under a map
 abbrev pub made : ℕ → ℕ → List Low → Replacement
-made place number registers = record { place = place; entry = number; registers = registers }
+made place number registers = record { place = place; entry = number; instance = 0; registers = registers }
+
+-- where each number stands for one rule, a replacement by a rule is of this form, and the rule is the number's
+pub is_made : (base : ℕ) (rules : List Rule) (o : Replacement) (rule : Rule) → used_rule (setting base (alone rules)) o ≡ Some rule → o ≡ made o.place o.entry o.registers
+is_made base rules o rule at = let none = (alone_is rules o.entry o.instance rule at).1 in λ i. record { place = o.place; entry = o.entry; instance = none i; registers = o.registers }
+
+pub rule_there : (base : ℕ) (rules : List Rule) (o : Replacement) (rule : Rule) → used_rule (setting base (alone rules)) o ≡ Some rule → slice_get rules o.entry ≡ Some rule
+rule_there base rules o rule at = (alone_is rules o.entry o.instance rule at).0
+
+-- a rule that fits leaves fewer instructions
+pub fits_shorter : (base : ℕ) (rules : List Rule) (o : Replacement) (lines : List Line) → (a : FitsIn (setting base (alone rules)) o lines) → length a.rule.right < length a.rule.left
+fits_shorter base rules o lines a =
+    let lowers = a.lowers in
+    let left = weight_is_length (λ i. 1) (λ i. refl) a.rule.left in
+    let right = weight_is_length (λ i. 1) (λ i. refl) a.rule.right in
+    omega arith
 
 -- ---- forth ----
 
 -- a rule that fits a window applies there, where labels stay code
-pub fitted : (lines : List Line) (place : ℕ) (rule : Rule) (registers : List Low) (window : List Instr) (live : ℕ) → StandsThere lines (spot_of place (length window)) window live → Fits rule registers window live
+pub fitted : (lines : List Line) (place : ℕ) (rule : Rule) (registers : List Low) (window : List Instr) (live : ℕ) → rule_registers rule ≡ register_count rule.left → StandsThere lines (spot_of place (length window)) window live → Fits rule registers window live
     → IsSettled (places_of lines) (labels_from 0 lines) place (length window) (map (renamed registers) rule.right) → Applies rule registers (code_of lines) place
-fitted lines place rule registers window live there fits settled =
+fitted lines place rule registers window live own there fits settled =
     let is : List Instr = map (renamed registers) rule.right in
     let w = there.is_window in
     let n : length window ≡ length rule.left = window_count rule registers window fits.stands in
@@ -151,13 +169,12 @@ fitted lines place rule registers window live there fits settled =
     let shorter = fits.shorter in
     let stay = settled_stay (places_of lines) (labels_from 0 lines) place (length window) is (window_gap lines place window is w (omega arith)) settled in
     record {
-      as_many = fits.stands.as_many;
+      as_many = fits.stands.as_many ∙ sym own;
       one_to_one = fits.stands.one_to_one;
       window = window;
       stands = ap (λ k. take k (drop place (places_of lines))) (sym n) ∙ w.stands;
       matches = fits.stands.matches;
       unlabelled = subst (λ k. (j : ℕ) (l : Label) → slice_get (labels_from 0 lines) j ≡ Some l → (l.place ≤ place) ⊎ (place + k ≤ l.place)) n w.unlabelled;
-      shorter = shorter;
       live = λ x h. allowed_true rule.mask registers x (fits.allowed x ((there.live x).1 (subst (λ k. LiveAfter (code_of lines) (place + k - 1) x) (sym n) h)));
       labels_stay = λ k l e h.
           subst (λ c. is_op_place (slice_get (left_places place c is (places_of lines)) (moved place (c - length rule.right) l.place)) ≡ true) n
@@ -165,13 +182,13 @@ fitted lines place rule registers window live there fits settled =
     }
 
 -- in the lines of a sweep, what a rule leaves can be laid out: where its ground isn't steady, that is asked for
-pub laid : (r : Rules) (g : Ground) (lines : List Line) (place : ℕ) (rule : Rule) (registers : List Low) (window : List Instr) → AreLaid r g lines → IsSoundRule rule → length window ≡ length rule.left
+pub laid : (r : Rules) (g : Ground) (lines : List Line) (place : ℕ) (rule : Rule) (registers : List Low) (window : List Instr) → AreLaid r g lines → IsSoundRule rule → length rule.right < length rule.left → length window ≡ length rule.left
     → (is_steady g ≡ false → Layable r.base (replaced_lines own_line place (length window) (map (renamed registers) rule.right) lines)) → Applies rule registers (code_of lines) place
     → Layable r.base (replaced_lines own_line place (length rule.left) (map (renamed registers) rule.right) lines)
-laid r g lines place rule registers window over sound n asked a =
+laid r g lines place rule registers window over sound shorter n asked a =
     let is : List Instr = map (renamed registers) rule.right in
     elim (cases_Bool (is_steady g)) [
-      | inl s ↦ steady_is_layable r.base (replaced_lines own_line place (length rule.left) is lines) (over.aligned s) (steady_stays r.base own_line rule registers place lines sound a (over.steady s))
+      | inl s ↦ steady_is_layable r.base (replaced_lines own_line place (length rule.left) is lines) (over.aligned s) (steady_stays r.base own_line rule registers place lines sound shorter a (over.steady s))
       | inr s ↦ subst (λ c. Layable r.base (replaced_lines own_line place c is lines)) n (asked s)
     ]
 
@@ -183,36 +200,40 @@ pub record IsMade (s : Setting) (lines : List Line) (place number : ℕ) (regist
   pub leaves : replaced_lines s.write place (length window) new lines ≡ lines_after s (made place number registers) lines
 
 pub applied : (base : ℕ) (rules : List Rule) (lines : List Line) (place number : ℕ) (rule : Rule) (registers : List Low) (window : List Instr) (live : ℕ) (new : List Instr)
-    → slice_get rules number ≡ Some rule → IsSoundRule rule → StandsThere lines (spot_of place (length window)) window live → Fits rule registers window live → new ≡ map (renamed registers) rule.right
+    → slice_get rules number ≡ Some rule → IsSoundRule rule → rule_registers rule ≡ register_count rule.left → StandsThere lines (spot_of place (length window)) window live → Fits rule registers window live → new ≡ map (renamed registers) rule.right
     → IsSettled (places_of lines) (labels_from 0 lines) place (length window) new
     → (Applies rule registers (code_of lines) place → Layable base (replaced_lines own_line place (length rule.left) (map (renamed registers) rule.right) lines))
-    → IsMade (setting base rules) lines place number registers window new
-applied base rules lines place number rule registers window live new at sound there fits same settled layable =
-    let s : Setting = setting base rules in
+    → IsMade (setting base (alone rules)) lines place number registers window new
+applied base rules lines place number rule registers window live new at sound own there fits same settled layable =
+    let s : Setting = setting base (alone rules) in
     let r : Replacement = made place number registers in
+    let used : used_rule s r ≡ Some rule = alone_at rules number rule at in
     let is : List Instr = map (renamed registers) rule.right in
     let n : length window ≡ length rule.left = window_count rule registers window fits.stands in
-    let a = fitted lines place rule registers window live there fits (subst (λ (js : List Instr). IsSettled (places_of lines) (labels_from 0 lines) place (length window) js) same settled) in
-    let after : lines_after s r lines ≡ replaced_lines own_line place (length rule.left) is lines = ap (λ o. lines_after_rule s o r lines) at in
+    let a = fitted lines place rule registers window live own there fits (subst (λ (js : List Instr). IsSettled (places_of lines) (labels_from 0 lines) place (length window) js) same settled) in
+    let after : lines_after s r lines ≡ replaced_lines own_line place (length rule.left) is lines = ap (λ o. lines_after_rule s o r lines) used in
     record {
       applies = record {
         rule = rule;
-        is_rule = at;
+        is_rule = used;
+        lowers = shorter_lowers (λ i. 1) (λ i. refl) rule.left rule.right fits.shorter;
         applies = a;
+        least = no_scratch rule registers (code_of lines) place own a.as_many;
         joined = subst (λ k. are_joined_from place k lines ≡ true) n there.is_window.joined;
+        few = (let fewer = fewer_lines_by s rule r lines fits.shorter a in omega arith);
         layable = layable a;
       };
       is_window = there.is_window;
       keeps =
           subst (λ (js : List Instr). KeepsAt (code_of lines) place window js) (sym same)
-          (subst (λ (js : List Instr). KeepsAt (code_of lines) place js is) (same_window rule registers lines place window (sym n) there.is_window a) (applies_keeps rule registers (code_of lines) place sound a));
+          (subst (λ (js : List Instr). KeepsAt (code_of lines) place js is) (same_window rule registers lines place window (sym n) there.is_window a) (applies_keeps rule registers (code_of lines) place sound fits.shorter a));
       leaves = ap (λ (js : List Instr). replaced_lines own_line place (length window) js lines) same ∙ ap (λ k. replaced_lines own_line place k is lines) n ∙ sym after;
     }
 
 -- what applies meets this, whether the layout is asked or not
 pub meets : (asked : Bool) (s : Setting) (o : Replacement) (lines : List Line) → AppliesIn s o lines → Meets asked s o lines
 meets asked s o lines a = (
-  record { rule = a.rule; is_rule = a.is_rule; applies = a.applies; joined = a.joined },
+  record { rule = a.rule; is_rule = a.is_rule; lowers = a.lowers; applies = a.applies; least = a.least; joined = a.joined },
   λ _. subst (λ (r : Option Rule). Layable s.base (lines_after_rule s r o lines)) (sym a.is_rule) a.layable,
 )
 
@@ -231,34 +252,35 @@ pub record IsFitted (lines : List Line) (place : ℕ) (rule : Rule) (registers :
   pub settled : IsSettled (places_of lines) (labels_from 0 lines) place (length window) (map (renamed registers) rule.right)
 
 pub back : (base : ℕ) (rules : List Rule) (lines : List Line) (place number : ℕ) (rule : Rule) (registers : List Low) (window : List Instr) (live : ℕ)
-    → slice_get rules number ≡ Some rule → length rule.left ≡ length window → StandsThere lines (spot_of place (length window)) window live → FitsIn (setting base rules) (made place number registers) lines
+    → slice_get rules number ≡ Some rule → rule_registers rule ≡ register_count rule.left → length rule.left ≡ length window → StandsThere lines (spot_of place (length window)) window live → FitsIn (setting base (alone rules)) (made place number registers) lines
     → IsFitted lines place rule registers window live
-back base rules lines place number rule registers window live at n there a =
+back base rules lines place number rule registers window live at own n there a =
     let is : List Instr = map (renamed registers) rule.right in
-    let same : a.rule ≡ rule = same_rule a.rule rule (slice_get rules number) a.is_rule at in
+    let same : a.rule ≡ rule = same_rule a.rule rule (slice_get rules number) (rule_there base rules (made place number registers) a.rule a.is_rule) at in
+    let shorter : length rule.right < length rule.left = subst (λ (k : Rule). length k.right < length k.left) same (fits_shorter base rules (made place number registers) lines a) in
     let applies : Applies rule registers (code_of lines) place = subst (λ (k : Rule). Applies k registers (code_of lines) place) same a.applies in
     let w : applies.window ≡ window = same_window rule registers lines place window n there.is_window applies in
     record {
       fits = record {
         stands = record {
-          as_many = applies.as_many;
+          as_many = applies.as_many ∙ own;
           one_to_one = applies.one_to_one;
           matches = ap (map normalised) (sym w) ∙ applies.matches;
         };
-        shorter = applies.shorter;
+        shorter = shorter;
         allowed = λ x h. true_allowed rule.mask registers x (applies.live x (subst (λ k. LiveAfter (code_of lines) (place + k - 1) x) (sym n) ((there.live x).0 h)));
       };
       settled =
           subst (λ k. IsSettled (places_of lines) (labels_from 0 lines) place k is) n
-          (stay_settled (places_of lines) (labels_from 0 lines) place (length rule.left) is (applied_gap rule registers (code_of lines) place applies) (applied_stay rule registers (code_of lines) place applies));
+          (stay_settled (places_of lines) (labels_from 0 lines) place (length rule.left) is (applied_gap rule registers (code_of lines) place shorter applies) (applied_stay rule registers (code_of lines) place applies));
     }
 
 -- and where it meets what the layout says, what the window gives way to can be laid out
 pub back_laid : (base : ℕ) (rules : List Rule) (lines : List Line) (place number : ℕ) (rule : Rule) (registers : List Low) (window : List Instr)
-    → slice_get rules number ≡ Some rule → length rule.left ≡ length window → Meets true (setting base rules) (made place number registers) lines
+    → slice_get rules number ≡ Some rule → length rule.left ≡ length window → Meets true (setting base (alone rules)) (made place number registers) lines
     → Layable base (replaced_lines own_line place (length window) (map (renamed registers) rule.right) lines)
 back_laid base rules lines place number rule registers window at n m =
-    let s : Setting = setting base rules in
+    let s : Setting = setting base (alone rules) in
     let r : Replacement = made place number registers in
     subst (λ k. Layable base (replaced_lines own_line place k (map (renamed registers) rule.right) lines)) n
-    (subst (λ (o : Option Rule). Layable base (lines_after_rule s o r lines)) at (m.1 refl))
+    (subst (λ (o : Option Rule). Layable base (lines_after_rule s o r lines)) (alone_at rules number rule at) (m.1 refl))

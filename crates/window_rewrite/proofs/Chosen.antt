@@ -11,7 +11,7 @@ use Rattle.thumb_instr.specs.Items.{has}
 use Rattle.thumb_instr.specs.Window.{is_in_window, normal_of}
 use Rattle.thumb_instr.specs.Renaming.{Low}
 use Rattle.thumb_model.specs.Listing.{plain, Place, Label, Line, places_of, labels_from, code_of, is_op_place}
-use Rattle.rule_model.specs.Rules.{Rule, IsSoundRule}
+use Rattle.rule_model.specs.Rules.{Rule, IsSoundRule, alone}
 use Rattle.rule_model.specs.Rewriting.{Setting, Replacement, NoneApplies, left_length, left_length_of}
 use Rattle.thumb_model.specs.ReplacedLines.{are_joined_from}
 use Rattle.thumb_model.specs.Flow.{LiveAfter}
@@ -42,13 +42,13 @@ use Rattle.window_rewrite.specs.declared.choice.Choice.{Choice}
 use Rattle.window_rewrite.specs.Rewriting.{setting}
 use Rattle.table_audit.specs.Sides.{IsCanonicalSide}
 use Rattle.window_rewrite.specs.declared.marks.Marks.{Marks}
-use Rattle.window_rewrite.specs.Rules.{rules_in, is_marked, AreFit, AreLed, HaveMarks, first_with}
+use Rattle.window_rewrite.specs.Rules.{rules_in, side_length, is_marked, AreFit, AreLed, HaveMarks, first_with}
 use Rattle.window_rewrite.specs.Shapes.{shape_of}
 use Rattle.window_rewrite.specs.Forms.{form_of}
 use Rattle.window_rewrite.specs.Fitting.{Shortens, Stands}
 use Rattle.window_rewrite.specs.Choices.{Awaits, choice_of, FitsIn, IsChoice, IsLowest, Meets, NoneOf, IsBest, NoneAt, NoneBefore, IsFirstChoice, of_length, longer}
 use Rattle.window_rewrite.specs.Sweeps.{IsKept}
-use Rattle.window_rewrite.proofs.Applied.{made, back, meets, meets_less}
+use Rattle.window_rewrite.proofs.Applied.{made, is_made, rule_there, fits_shorter, back, meets, meets_less}
 use Rattle.window_rewrite.proofs.Keys.{awaited, none_awaited}
 use Rattle.window_rewrite.proofs.Heads.{stands_shape}
 use Rattle.window_rewrite.proofs.Alike.{led_to}
@@ -139,8 +139,12 @@ longer_all m (r ∷ rs) =
 
 -- ---- the lowest entry of a length ----
 
-pub length_at : (rules : List Rule) (k : ℕ) (rule : Rule) → slice_get rules k ≡ Some rule → left_length rules k ≡ length rule.left
+pub length_at : (rules : List Rule) (k : ℕ) (rule : Rule) → slice_get rules k ≡ Some rule → side_length rules k ≡ length rule.left
 length_at rules k rule e = ap left_length_of e
+
+-- a rule that fits is as long as that of its number
+fit_length : (base : ℕ) (rules : List Rule) (o : Replacement) (lines : List Line) → FitsIn (setting base (alone rules)) o lines → side_length rules o.entry ≡ left_length (setting base (alone rules)) o
+fit_length base rules o lines a = ap left_length_of (rule_there base rules o a.rule a.is_rule) ∙ sym (ap left_length_of a.is_rule)
 
 -- the rule of a choice at the place by a left side of the window's length stands in the window
 pub record StandsIn (rules : List Rule) (window : List Instr) (o : Replacement) : Type 0 where
@@ -148,15 +152,17 @@ pub record StandsIn (rules : List Rule) (window : List Instr) (o : Replacement) 
   pub at : slice_get rules o.entry ≡ Some rule
   pub shortens : Shortens rule o.registers window
 
-stands_in : (base : ℕ) (rules : List Rule) (lines : List Line) (place : ℕ) (window : List Instr) (live : ℕ) (o : Replacement) → StandsThere lines (spot_of place (length window)) window live
-    → FitsIn (setting base rules) o lines → o.place ≡ place → left_length rules o.entry ≡ length window → StandsIn rules window o
-stands_in base rules lines place window live o there a at long =
-    let moved : FitsIn (setting base rules) (made place o.entry o.registers) lines = subst (λ p. FitsIn (setting base rules) (made p o.entry o.registers) lines) at a in
-    let n : length a.rule.left ≡ length window = sym (length_at rules o.entry a.rule a.is_rule) ∙ long in
+stands_in : (base longest : ℕ) (rules : List Rule) (lines : List Line) (place : ℕ) (window : List Instr) (live : ℕ) (o : Replacement) → AreFit longest rules → StandsThere lines (spot_of place (length window)) window live
+    → FitsIn (setting base (alone rules)) o lines → o.place ≡ place → left_length (setting base (alone rules)) o ≡ length window → StandsIn rules window o
+stands_in base longest rules lines place window live o fit there a at long =
+    let here : FitsIn (setting base (alone rules)) (made o.place o.entry o.registers) lines = subst (λ (r : Replacement). FitsIn (setting base (alone rules)) r lines) (is_made base rules o a.rule a.is_rule) a in
+    let moved : FitsIn (setting base (alone rules)) (made place o.entry o.registers) lines = subst (λ p. FitsIn (setting base (alone rules)) (made p o.entry o.registers) lines) at here in
+    let n : length a.rule.left ≡ length window = sym (ap left_length_of a.is_rule) ∙ long in
+    let there_at = rule_there base rules o a.rule a.is_rule in
     record {
       rule = a.rule;
-      at = a.is_rule;
-      shortens = let f = (back base rules lines place o.entry a.rule o.registers window live a.is_rule n there moved).fits in record { stands = f.stands; shorter = f.shorter };
+      at = there_at;
+      shortens = let f = (back base rules lines place o.entry a.rule o.registers window live there_at (fit o.entry a.rule there_at).own n there moved).fits in record { stands = f.stands; shorter = f.shorter };
     }
 
 -- the search through the rules that may stand in a window: those below k don't meet this
@@ -166,7 +172,7 @@ pub record IsSearch (asked : Bool) (base : ℕ) (rules : List Rule) (kept : List
   pub led : AreLed rules kept (length rules)
   pub k : ℕ
   pub awaits : Awaits rules kept window k at
-  pub none : (o : Replacement) → Meets asked (setting base rules) o lines → o.place ≡ place → left_length rules o.entry ≡ length window → o.entry < k → ⊥
+  pub none : (o : Replacement) → Meets asked (setting base (alone rules)) o lines → o.place ≡ place → left_length (setting base (alone rules)) o ≡ length window → o.entry < k → ⊥
   pub cost : steps ≤ start + of_length (length window) (take k rules)
 
 pub search_begins : (asked : Bool) (base longest : ℕ) (rules : List Rule) (kept : List Bool) (lines : List Line) (place : ℕ) (window : List Instr) (at : Option ℕ) (start : ℕ) → AreFit longest rules → AreLed rules kept (length rules)
@@ -176,7 +182,7 @@ search_begins asked base longest rules kept lines place window at start fit led 
 -- none meets it below the next rule: else one that is kept would
 none_before : (asked : Bool) (base : ℕ) (rules : List Rule) (kept : List Bool) (lines : List Line) (place : ℕ) (window : List Instr) (live n : ℕ) (at : Option ℕ) (start steps : ℕ) → StandsThere lines (spot_of place (length window)) window live
     → IsSearch asked base rules kept lines place window at start steps → at ≡ Some n
-    → (o : Replacement) → Meets asked (setting base rules) o lines → o.place ≡ place → left_length rules o.entry ≡ length window → o.entry < n → ⊥
+    → (o : Replacement) → Meets asked (setting base (alone rules)) o lines → o.place ≡ place → left_length (setting base (alone rules)) o ≡ length window → o.entry < n → ⊥
 none_before asked base rules kept lines place window live n at start steps there s is o a e l h =
     let d = led_to asked base s.longest rules kept lines o s.fit s.led a in
     let no_later = d.no_later in
@@ -184,21 +190,21 @@ none_before asked base rules kept lines place window live n at start steps there
       | inl b ↦ s.none (made o.place d.leader o.registers) d.meets e (d.as_long ∙ l) b
       | inr b ↦ (
           let next = awaited rules kept window s.k n at s.awaits is in
-          let i = stands_in base rules lines place window live (made o.place d.leader o.registers) there d.meets.0 e (d.as_long ∙ l) in
+          let i = stands_in base s.longest rules lines place window live (made o.place d.leader o.registers) s.fit there d.meets.0 e (d.as_long ∙ l) in
           next.none d.leader i.rule o.registers b (omega arith) i.at d.is_kept i.shortens
           )
     ]
 
 pub search_next : (was asked : Bool) (base : ℕ) (rules : List Rule) (kept : List Bool) (lines : List Line) (place : ℕ) (window : List Instr) (live n : ℕ) (at next : Option ℕ) (start steps after : ℕ) → StandsThere lines (spot_of place (length window)) window live
     → IsSearch was base rules kept lines place window at start steps → at ≡ Some n → (was ≡ true → asked ≡ true)
-    → (left_length rules n ≡ length window → (registers : List Low) → Meets asked (setting base rules) (made place n registers) lines → ⊥)
-    → ((rule : Rule) → slice_get rules n ≡ Some rule → is_marked kept n ≡ true → next ≡ first_with kept (form_of rule.left) (n + 1) (drop (n + 1) rules)) → after ≤ steps + from_bool (left_length rules n == length window)
+    → (side_length rules n ≡ length window → (registers : List Low) → Meets asked (setting base (alone rules)) (made place n registers) lines → ⊥)
+    → ((rule : Rule) → slice_get rules n ≡ Some rule → is_marked kept n ≡ true → next ≡ first_with kept (form_of rule.left) (n + 1) (drop (n + 1) rules)) → after ≤ steps + from_bool (side_length rules n == length window)
     → IsSearch asked base rules kept lines place window next start after
 search_next was asked base rules kept lines place window live n at next start steps after there s is stays none more cost =
     let i = awaited rules kept window s.k n at s.awaits is in
     let one : of_length (length window) (take n rules) + from_bool (length i.rule.left == length window) ≤ of_length (length window) (take (suc n) rules) = taken_one (length window) rules n i.rule i.at in
     let before : of_length (length window) (take s.k rules) ≤ of_length (length window) (take n rules) = taken_more (length window) rules s.k n i.from in
-    let tried : from_bool (left_length rules n == length window) ≡ from_bool (length i.rule.left == length window) = ap (λ m. from_bool (m == length window)) (length_at rules n i.rule i.at) in
+    let tried : from_bool (side_length rules n == length window) ≡ from_bool (length i.rule.left == length window) = ap (λ m. from_bool (m == length window)) (length_at rules n i.rule i.at) in
     let here = s.cost in
     record {
       longest = s.longest;
@@ -210,10 +216,10 @@ search_next was asked base rules kept lines place window live n at next start st
           let d = led_to asked base s.longest rules kept lines o s.fit s.led a in
           let no_later = d.no_later in
           elim (cases_lt d.leader n) [
-            | inl b ↦ none_before was base rules kept lines place window live n at start steps there s is (made o.place d.leader o.registers) (meets_less was asked (setting base rules) (made o.place d.leader o.registers) lines stays d.meets) e (d.as_long ∙ l) b
+            | inl b ↦ none_before was base rules kept lines place window live n at start steps there s is (made o.place d.leader o.registers) (meets_less was asked (setting base (alone rules)) (made o.place d.leader o.registers) lines stays d.meets) e (d.as_long ∙ l) b
             | inr b ↦ (
                 let same : d.leader ≡ n = omega arith in
-                none (ap (left_length rules) (sym same) ∙ (d.as_long ∙ l)) o.registers (subst (λ m. Meets asked (setting base rules) (made place m o.registers) lines) same (subst (λ p. Meets asked (setting base rules) (made p d.leader o.registers) lines) e d.meets))
+                none (ap (side_length rules) (sym same) ∙ (fit_length base rules (made o.place d.leader o.registers) lines d.meets.0 ∙ (d.as_long ∙ l))) o.registers (subst (λ m. Meets asked (setting base (alone rules)) (made place m o.registers) lines) same (subst (λ p. Meets asked (setting base (alone rules)) (made p d.leader o.registers) lines) e d.meets))
                 )
           ];
       cost = subst (λ m. after ≤ start + of_length (length window) (take m rules)) (let e : suc n ≡ n + 1 = omega arith in e) (omega (arith, one, before, tried, here, cost));
@@ -241,37 +247,37 @@ search_smaller asked base rules kept lines place window n at next start steps s 
 
 pub search_found : (asked : Bool) (base : ℕ) (rules : List Rule) (kept : List Bool) (lines : List Line) (place : ℕ) (window : List Instr) (live n : ℕ) (at : Option ℕ) (start steps : ℕ) (c : Choice) → StandsThere lines (spot_of place (length window)) window live
     → IsSearch asked base rules kept lines place window at start steps → at ≡ Some n
-    → left_length rules n ≡ length window → IsChoice (setting base rules) lines c → (choice_of c).place ≡ place → (choice_of c).entry ≡ n → IsLowest (setting base rules) lines place (length window) c
+    → side_length rules n ≡ length window → IsChoice (setting base (alone rules)) lines c → (choice_of c).place ≡ place → (choice_of c).entry ≡ n → IsLowest (setting base (alone rules)) lines place (length window) c
 search_found asked base rules kept lines place window live n at start steps c there s is long choice here entry =
     record {
       is = choice;
       at = here;
-      long = ap (left_length rules) entry ∙ long;
+      long = sym (fit_length base rules (choice_of c) lines (meets asked (setting base (alone rules)) (choice_of c) lines choice.applies).0) ∙ ap (side_length rules) entry ∙ long;
       lowest = λ o a e l. elim (cases_lt o.entry n) [
-        | inl b ↦ absurd (none_before asked base rules kept lines place window live n at start steps there s is o (meets asked (setting base rules) o lines a) e l b)
+        | inl b ↦ absurd (none_before asked base rules kept lines place window live n at start steps there s is o (meets asked (setting base (alone rules)) o lines a) e l b)
         | inr b ↦ omega arith
       ];
     }
 
 pub search_cost : (asked : Bool) (base : ℕ) (rules : List Rule) (kept : List Bool) (lines : List Line) (place : ℕ) (window : List Instr) (n : ℕ) (at : Option ℕ) (start steps after : ℕ) → IsSearch asked base rules kept lines place window at start steps → at ≡ Some n
-    → after ≤ steps + from_bool (left_length rules n == length window) → after ≤ start + of_length (length window) rules
+    → after ≤ steps + from_bool (side_length rules n == length window) → after ≤ start + of_length (length window) rules
 search_cost asked base rules kept lines place window n at start steps after s is cost =
     let i = awaited rules kept window s.k n at s.awaits is in
     let one : of_length (length window) (take n rules) + from_bool (length i.rule.left == length window) ≤ of_length (length window) (take (suc n) rules) = taken_one (length window) rules n i.rule i.at in
     let before : of_length (length window) (take s.k rules) ≤ of_length (length window) (take n rules) = taken_more (length window) rules s.k n i.from in
     let all : of_length (length window) (take (suc n) rules) ≤ of_length (length window) rules = taken_all (length window) rules (suc n) in
-    let tried : from_bool (left_length rules n == length window) ≡ from_bool (length i.rule.left == length window) = ap (λ m. from_bool (m == length window)) (length_at rules n i.rule i.at) in
+    let tried : from_bool (side_length rules n == length window) ≡ from_bool (length i.rule.left == length window) = ap (λ m. from_bool (m == length window)) (length_at rules n i.rule i.at) in
     let here = s.cost in
     omega (arith, one, before, all, tried, here, cost)
 
 pub search_none : (asked : Bool) (base : ℕ) (rules : List Rule) (kept : List Bool) (lines : List Line) (place : ℕ) (window : List Instr) (live : ℕ) (at : Option ℕ) (start steps : ℕ) → StandsThere lines (spot_of place (length window)) window live
-    → IsSearch asked base rules kept lines place window at start steps → at ≡ None → NoneOf asked (setting base rules) lines place (length window)
+    → IsSearch asked base rules kept lines place window at start steps → at ≡ None → NoneOf asked (setting base (alone rules)) lines place (length window)
 search_none asked base rules kept lines place window live at start steps there s is o a e l =
     let d = led_to asked base s.longest rules kept lines o s.fit s.led a in
     elim (cases_lt d.leader s.k) [
       | inl b ↦ s.none (made o.place d.leader o.registers) d.meets e (d.as_long ∙ l) b
       | inr b ↦ (
-          let i = stands_in base rules lines place window live (made o.place d.leader o.registers) there d.meets.0 e (d.as_long ∙ l) in
+          let i = stands_in base s.longest rules lines place window live (made o.place d.leader o.registers) s.fit there d.meets.0 e (d.as_long ∙ l) in
           none_awaited rules kept window s.k at s.awaits is d.leader i.rule o.registers b i.at d.is_kept i.shortens
           )
     ]
@@ -285,19 +291,19 @@ next_within entries kept window k n o a e =
     omega (arith, slice_get_within (rules_in entries) n i.rule i.at, length_map rewriting_rule (map rule_of entries), length_map rule_of entries)
 
 -- no left side stands in a window whose number isn't marked
-pub none_whole : (asked : Bool) (base : ℕ) (rules : List Rule) (marks : Marks) (lines : List Line) (place shape : ℕ) (window : List Instr) (live : ℕ) → HaveMarks rules (length rules) marks → StandsThere lines (spot_of place (length window)) window live
-    → shape ≡ shape_of (map normal_of window) → is_marked marks.wholes.items shape ≡ false → NoneOf asked (setting base rules) lines place (length window)
-none_whole asked base rules marks lines place shape window live have there is missing o a e l =
-    let i = stands_in base rules lines place window live o there a.0 e l in
+pub none_whole : (asked : Bool) (base longest : ℕ) (rules : List Rule) (marks : Marks) (lines : List Line) (place shape : ℕ) (window : List Instr) (live : ℕ) → AreFit longest rules → HaveMarks rules (length rules) marks → StandsThere lines (spot_of place (length window)) window live
+    → shape ≡ shape_of (map normal_of window) → is_marked marks.wholes.items shape ≡ false → NoneOf asked (setting base (alone rules)) lines place (length window)
+none_whole asked base longest rules marks lines place shape window live fit have there is missing o a e l =
+    let i = stands_in base longest rules lines place window live o fit there a.0 e l in
     let noted = have.noted o.entry i.rule (slice_get_within rules o.entry i.rule i.at) i.at (lt-ltb (length i.rule.right) (length i.rule.left) i.shortens.shorter) in
     let bad : true ≡ false = sym noted.whole ∙ ap (is_marked marks.wholes.items) (stands_shape i.rule o.registers window i.shortens ∙ sym is) ∙ missing in
     absurd (cc)
 
 -- nor in one that no left side has the form of
 pub none_formed : (asked : Bool) (base longest : ℕ) (rules : List Rule) (lines : List Line) (place : ℕ) (window : List Instr) (live : ℕ) → AreFit longest rules → StandsThere lines (spot_of place (length window)) window live
-    → ((rule : Rule) (registers : List Low) → IsSoundRule rule → IsCanonicalSide rule.left → Stands rule registers window → ⊥) → NoneOf asked (setting base rules) lines place (length window)
+    → ((rule : Rule) (registers : List Low) → IsSoundRule rule → IsCanonicalSide rule.left → Stands rule registers window → ⊥) → NoneOf asked (setting base (alone rules)) lines place (length window)
 none_formed asked base longest rules lines place window live fit there none o a e l =
-    let i = stands_in base rules lines place window live o there a.0 e l in
+    let i = stands_in base longest rules lines place window live o fit there a.0 e l in
     let f = fit o.entry i.rule i.at in
     none i.rule o.registers f.sound f.canonical i.shortens.stands
 
@@ -308,28 +314,28 @@ straight_letters [] h = refl
 straight_letters (i ∷ is) h = rw (h.0) (straight_letters is h.1)
 
 -- where an entry fits stands a window as long as its left side, which is no longer than the longest
-pub record IsApplicable (lines : List Line) (longest : ℕ) (rules : List Rule) (o : Replacement) : Type 0 where
+pub record IsApplicable (lines : List Line) (base longest : ℕ) (rules : List Rule) (o : Replacement) : Type 0 where
   pub window : List Instr
   pub is_window : IsWindow lines o.place window
-  pub long : left_length rules o.entry ≡ length window
+  pub long : left_length (setting base (alone rules)) o ≡ length window
   pub some : 1 ≤ length window
   pub few : length window ≤ longest
 
-pub applicable : (base longest : ℕ) (rules : List Rule) (lines : List Line) (o : Replacement) → AreFit longest rules → FitsIn (setting base rules) o lines → IsApplicable lines longest rules o
+pub applicable : (base longest : ℕ) (rules : List Rule) (lines : List Line) (o : Replacement) → AreFit longest rules → FitsIn (setting base (alone rules)) o lines → IsApplicable lines base longest rules o
 applicable base longest rules lines o fit a =
-    let f = fit o.entry a.rule a.is_rule in
+    let f = fit o.entry a.rule (rule_there base rules o a.rule a.is_rule) in
     let n : length a.applies.window ≡ length a.rule.left = window_length a.rule o.registers (code_of lines) o.place a.applies in
-    let shorter = a.applies.shorter in
+    let shorter = fits_shorter base rules o lines a in
     let short = f.short in
     record {
       window = a.applies.window;
       is_window = record {
         stands = ap (λ k. take k (drop o.place (places_of lines))) n ∙ a.applies.stands;
-        letters = straight_letters a.applies.window (applies_sound a.rule o.registers (code_of lines) o.place f.sound a.applies).left_straight;
+        letters = straight_letters a.applies.window (applies_sound a.rule o.registers (code_of lines) o.place f.sound (omega arith) a.applies).left_straight;
         unlabelled = subst (λ k. (j : ℕ) (l : Label) → slice_get (labels_from 0 lines) j ≡ Some l → (l.place ≤ o.place) ⊎ (o.place + k ≤ l.place)) (sym n) a.applies.unlabelled;
         joined = subst (λ k. are_joined_from o.place k lines ≡ true) (sym n) a.joined;
       };
-      long = length_at rules o.entry a.rule a.is_rule ∙ sym n;
+      long = ap left_length_of a.is_rule ∙ sym n;
       some = omega arith;
       few = omega arith;
     }
@@ -343,7 +349,7 @@ window_end lines place window some w =
     let rest = length_drop place (places_of lines) in
     omega arith
 
-pub place_within : (base longest : ℕ) (rules : List Rule) (lines : List Line) (o : Replacement) → AreFit longest rules → FitsIn (setting base rules) o lines → o.place < length (places_of lines)
+pub place_within : (base longest : ℕ) (rules : List Rule) (lines : List Line) (o : Replacement) → AreFit longest rules → FitsIn (setting base (alone rules)) o lines → o.place < length (places_of lines)
 place_within base longest rules lines o fit a =
     let w = applicable base longest rules lines o fit a in
     let some = w.some in
@@ -367,11 +373,11 @@ front_stands lines rows sets place most (suc n) items is slice of e f some few l
 
 -- no choice at the place has a left side of more than so many instructions
 abbrev pub NoneLonger : Bool → Setting → List Line → ℕ → ℕ → Type 0
-NoneLonger asked s lines place count = (o : Replacement) → Meets asked s o lines → o.place ≡ place → count < left_length s.table o.entry → ⊥
+NoneLonger asked s lines place count = (o : Replacement) → Meets asked s o lines → o.place ≡ place → count < left_length s o → ⊥
 
 -- none has one that is longer than the run from there
 pub none_beyond : (asked : Bool) (base longest : ℕ) (rules : List Rule) (lines : List Line) (rows : List Row) (sets : LiveSets) (place : ℕ) (is : List Instr) → AreFit longest rules → AreOf lines rows sets → is ≡ run true longest (drop place rows)
-    → NoneLonger asked (setting base rules) lines place (length is)
+    → NoneLonger asked (setting base (alone rules)) lines place (length is)
 none_beyond asked base longest rules lines rows sets place is fit of e o a at h =
     let w = applicable base longest rules lines o fit a.0 in
     let long = w.long in
@@ -381,9 +387,9 @@ none_beyond asked base longest rules lines rows sets place is fit of e o a at h 
     omega (arith, within, long, h, ap (λ (l : List Instr). length l) same)
 
 pub none_longer : (asked : Bool) (s : Setting) (lines : List Line) (place count : ℕ) → NoneLonger asked s lines place (suc count) → NoneOf asked s lines place (suc count) → NoneLonger asked s lines place count
-none_longer asked s lines place count n none o a at h = elim (cases_lt (suc count) (left_length s.table o.entry)) [
+none_longer asked s lines place count n none o a at h = elim (cases_lt (suc count) (left_length s o)) [
   | inl l ↦ n o a at l
-  | inr l ↦ none o a at (let e : left_length s.table o.entry ≡ suc count = omega arith in e)
+  | inr l ↦ none o a at (let e : left_length s o ≡ suc count = omega arith in e)
 ]
 
 pub longer_cost : (rules : List Rule) (count start before after : ℕ) → before ≤ start + longer (suc count) rules → after ≤ before + of_length (suc count) rules → after ≤ start + longer count rules
@@ -411,14 +417,14 @@ is_best asked s lines place count c none l =
     record {
       is = l.is;
       at = l.at;
-      longest = λ o a e. elim (cases_lt count (left_length s.table o.entry)) [
+      longest = λ o a e. elim (cases_lt count (left_length s o)) [
         | inl h ↦ absurd (none o (meets asked s o lines a) e h)
         | inr h ↦ omega arith
       ];
       lowest = λ o a e h. l.lowest o a e (h ∙ long);
     }
 
-pub none_at : (asked : Bool) (base longest : ℕ) (rules : List Rule) (lines : List Line) (place : ℕ) → AreFit longest rules → NoneLonger asked (setting base rules) lines place 0 → NoneAt asked (setting base rules) lines place
+pub none_at : (asked : Bool) (base longest : ℕ) (rules : List Rule) (lines : List Line) (place : ℕ) → AreFit longest rules → NoneLonger asked (setting base (alone rules)) lines place 0 → NoneAt asked (setting base (alone rules)) lines place
 none_at asked base longest rules lines place fit none o a at =
     let w = applicable base longest rules lines o fit a.0 in
     let some = w.some in
@@ -427,7 +433,7 @@ none_at asked base longest rules lines place fit none o a at =
 
 -- where no left side of more than so many instructions stands first in the run from a place, none that applies there is longer
 pub none_reached : (asked : Bool) (base longest : ℕ) (rules : List Rule) (lines : List Line) (rows : List Row) (sets : LiveSets) (place count : ℕ) (is : List Instr) → AreFit longest rules → AreOf lines rows sets → is ≡ run true longest (drop place rows)
-    → ((n k : ℕ) (rule : Rule) (registers : List Low) → count < length rule.left → slice_get rules k ≡ Some rule → Shortens rule registers (take n is) → ⊥) → NoneLonger asked (setting base rules) lines place count
+    → ((n k : ℕ) (rule : Rule) (registers : List Low) → count < length rule.left → slice_get rules k ≡ Some rule → Shortens rule registers (take n is) → ⊥) → NoneLonger asked (setting base (alone rules)) lines place count
 none_reached asked base longest rules lines rows sets place count is fit of e none o a at longer_left =
     let w = applicable base longest rules lines o fit a.0 in
     let some = w.some in
@@ -441,8 +447,9 @@ none_reached asked base longest rules lines rows sets place count is fit of e no
     let inside : place + (n - 1) < length (places_of lines) = window_end lines place w.window some (subst (λ p. IsWindow lines p w.window) at w.is_window) in
     let there = front_stands lines rows sets place longest n items is is of e refl (omega arith) few (λ x. of.live.after (place + (n - 1)) x inside) in
     let all : length (take n is) ≡ n = take_all n is few in
-    let s = stands_in base rules lines place (take n is) items o there a.0 at (long ∙ sym all) in
+    let s = stands_in base longest rules lines place (take n is) items o fit there a.0 at (long ∙ sym all) in
     let left = length_at rules o.entry s.rule s.at in
+    let same = fit_length base rules o lines a.0 in
     none n o.entry s.rule o.registers (omega arith) s.at s.shortens
 
 -- ---- the least place ----
@@ -459,13 +466,14 @@ is_first asked s lines place c none b =
         ];
         longest = λ o a e. b.longest o a (e ∙ here);
         lowest = λ o a e l. b.lowest o a (e ∙ here) l;
+        lowest_instance = λ o a e l f. omega arith;
       };
       is = b.is;
     }
 
 -- where no entry meets this before lines, nor at an instruction that they are, none does before what follows them
 none_past : (asked : Bool) (base longest : ℕ) (rules : List Rule) (xs here ys : List Line) (place next : ℕ) → AreFit longest rules → place ≡ length (places_of xs) → next ≡ place + length (places_of here) → length here ≤ 1
-    → NoneBefore asked (setting base rules) (xs ++ (here ++ ys)) place → (begins_op here ≡ true → NoneAt asked (setting base rules) (xs ++ (here ++ ys)) place) → NoneBefore asked (setting base rules) (xs ++ (here ++ ys)) next
+    → NoneBefore asked (setting base (alone rules)) (xs ++ (here ++ ys)) place → (begins_op here ≡ true → NoneAt asked (setting base (alone rules)) (xs ++ (here ++ ys)) place) → NoneBefore asked (setting base (alone rules)) (xs ++ (here ++ ys)) next
 none_past asked base longest rules xs here ys place next fit e f short none at o a l = elim (cases_lt o.place place) [
   | inl k ↦ none o a k
   | inr k ↦ elim (cases_Bool (begins_op here)) [
@@ -489,20 +497,20 @@ clear_on false s lines place clear before none = before
 
 -- the same where a cursor moves on by a piece
 pub none_on : (asked : Bool) (base longest : ℕ) (rules : List Rule) (behind ahead : List Lines) (p : IsAhead ahead) (place next : ℕ) → AreFit longest rules → place ≡ length (places_of (lines_of behind)) → next ≡ place + length (places_of (lines_in p.piece))
-    → NoneBefore asked (setting base rules) (lines_of behind ++ lines_of (reverse ahead)) place
-    → ((rest : List Lines) (x : Lines) → ahead ≡ rest ++ x ∷ [] → begins_op (lines_in x) ≡ true → NoneAt asked (setting base rules) (lines_of behind ++ lines_of (reverse ahead)) place)
-    → NoneBefore asked (setting base rules) (lines_of behind ++ lines_of (reverse ahead)) next
+    → NoneBefore asked (setting base (alone rules)) (lines_of behind ++ lines_of (reverse ahead)) place
+    → ((rest : List Lines) (x : Lines) → ahead ≡ rest ++ x ∷ [] → begins_op (lines_in x) ≡ true → NoneAt asked (setting base (alone rules)) (lines_of behind ++ lines_of (reverse ahead)) place)
+    → NoneBefore asked (setting base (alone rules)) (lines_of behind ++ lines_of (reverse ahead)) next
 none_on asked base longest rules behind ahead p place next fit e f none at =
     let here : List Line = lines_in p.piece in
     let ys : List Line = lines_of (reverse p.rest) in
     let same : lines_of (reverse ahead) ≡ here ++ ys = ap (λ (ps : List Lines). lines_of (reverse ps)) p.is ∙ lines_back p.rest p.piece in
-    subst (λ (ls : List Line). NoneBefore asked (setting base rules) (lines_of behind ++ ls) next) (sym same)
+    subst (λ (ls : List Line). NoneBefore asked (setting base (alone rules)) (lines_of behind ++ ls) next) (sym same)
     (none_past asked base longest rules (lines_of behind) here ys place next fit e f (piece_short p.piece)
-    (subst (λ (ls : List Line). NoneBefore asked (setting base rules) (lines_of behind ++ ls) place) same none)
-    (λ t. subst (λ (ls : List Line). NoneAt asked (setting base rules) (lines_of behind ++ ls) place) same (at p.rest p.piece p.is t)))
+    (subst (λ (ls : List Line). NoneBefore asked (setting base (alone rules)) (lines_of behind ++ ls) place) same none)
+    (λ t. subst (λ (ls : List Line). NoneAt asked (setting base (alone rules)) (lines_of behind ++ ls) place) same (at p.rest p.piece p.is t)))
 
-pub none_applies : (asked : Bool) (base longest : ℕ) (rules : List Rule) (lines : List Line) (place : ℕ) → AreFit longest rules → length (places_of lines) ≤ place → NoneBefore asked (setting base rules) lines place → NoneApplies (setting base rules) lines
-none_applies asked base longest rules lines place fit h none o a = let m = meets asked (setting base rules) o lines a in let w = place_within base longest rules lines o fit m.0 in none o m (omega arith)
+pub none_applies : (asked : Bool) (base longest : ℕ) (rules : List Rule) (lines : List Line) (place : ℕ) → AreFit longest rules → length (places_of lines) ≤ place → NoneBefore asked (setting base (alone rules)) lines place → NoneApplies (setting base (alone rules)) lines
+none_applies asked base longest rules lines place fit h none o a = let m = meets asked (setting base (alone rules)) o lines a in let w = place_within base longest rules lines o fit m.0 in none o m (omega arith)
 
 -- ---- what it costs ----
 

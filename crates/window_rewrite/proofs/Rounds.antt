@@ -4,6 +4,7 @@ use Rattle.std.specs.Int.{from_bool}
 use Rattle.std.proofs.lemmas.List.{map-append}
 use Rattle.thumb_model.specs.Listing.{Line, places_of}
 use Rattle.rule_model.specs.Rewriting.{Setting, Replacement, IsFirst, NoneApplies, AreRewritten, lines_after}
+use Rattle.rule_model.specs.Laws.{CostsOne}
 use Rattle.rule_model.proofs.LinesKept.{fewer_after}
 use Rattle.window_rewrite.specs.declared.choice.Replacement.{Replacement as Made}
 use Rattle.window_rewrite.specs.Rewriting.{replacement_of, round_cost, visits}
@@ -61,10 +62,10 @@ turn_cost entries now found after to here goes_on e a b =
 -- with one replacement more
 pub comes_on : (s : Setting) (entries : ℕ) (from to here next : List Line) (old new more : List Made) (start now after : ℕ) (m : Made)
     → HasCome s entries from to old new start now → here ≡ to → IsFirst s (replacement_of m) here → next ≡ lines_after s (replacement_of m) here → more ≡ new ++ m ∷ [] → after ≤ now + round_cost (length (places_of to)) entries
-    → HasCome s entries from next old more start after
-comes_on s entries from to here next old new more start now after m h same first e f a =
+    → CostsOne s → HasCome s entries from next old more start after
+comes_on s entries from to here next old new more start now after m h same first e f a one_each =
     let there : length (places_of here) ≡ length (places_of to) = ap (λ (l : List Line). length (places_of l)) same in
-    let less = fewer_after s (replacement_of m) here first.applies in
+    let less = fewer_after s (replacement_of m) here one_each first.applies in
     let then : length (places_of next) ≡ length (places_of (lines_after s (replacement_of m) here)) = ap (λ (l : List Line). length (places_of l)) e in
     let one : length more ≡ length new + 1 = longer_by_one new more m f in
     let places = h.fewer in

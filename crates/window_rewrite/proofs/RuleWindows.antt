@@ -1,5 +1,5 @@
 -- What stands where a rule applies: instructions that give way in the kept sets, a gap of the cursor, a steady listing that stays so.
-use Rattle.std.proofs.Common.{◌≡◌, ℕ, zero, suc, ◌+◌, ◌-◌, ◌<◌, ◌≤◌, ◌&&◌, Bool, true, List, [], ◌∷◌, length, take, drop, map, Some, refl, sym, ap, ◌∙◌, subst, ◌⊎◌, inl, inr, arith}
+use Rattle.std.proofs.Common.{◌≡◌, ℕ, suc, ◌+◌, ◌-◌, ◌<◌, ◌≤◌, ◌&&◌, Bool, true, List, [], ◌∷◌, length, take, drop, map, Some, refl, sym, ap, ◌∙◌, subst, ◌⊎◌, inl, inr, arith}
 use Rattle.std.specs.Prelude.{slice_get}
 use Rattle.std.specs.List.{list_all}
 use Rattle.std.proofs.lemmas.Bool.{cases_lt}
@@ -32,12 +32,11 @@ letters_of (i ∷ is) h = both (is_in_window i) _ h.0 (letters_of is h.1)
     both : (a b : Bool) → a ≡ true → b ≡ true → (a && b) ≡ true
     both a b e f = ap (λ c. c && b) e ∙ f
 
-pub applies_keeps : (rule : Rule) (registers : List Low) (code : Code) (p : ℕ) → IsSoundRule rule → (a : Applies rule registers code p) → KeepsAt code p a.window (map (renamed registers) rule.right)
-applies_keeps rule registers code p sound a =
+pub applies_keeps : (rule : Rule) (registers : List Low) (code : Code) (p : ℕ) → IsSoundRule rule → length rule.right < length rule.left → (a : Applies rule registers code p) → KeepsAt code p a.window (map (renamed registers) rule.right)
+applies_keeps rule registers code p sound shorter a =
     let n : length a.window ≡ length rule.left = window_length rule registers code p a in
-    let s = applies_sound rule registers code p sound a in
+    let s = applies_sound rule registers code p sound (omega arith) a in
     let m = length_map (renamed registers) rule.right in
-    let shorter = a.shorter in
     record {
       stands = ap (λ k. take k (drop p code.places)) n ∙ a.stands;
       letters = letters_of a.window s.left_straight;
@@ -52,11 +51,10 @@ applies_keeps rule registers code p sound a =
 -- ---- the cursor ----
 
 -- the gap of a rule that applies
-pub applied_gap : (rule : Rule) (registers : List Low) (code : Code) (p : ℕ) → Applies rule registers code p → IsGap code.places code.labels p (length rule.left) (map (renamed registers) rule.right)
-applied_gap rule registers code p a =
+pub applied_gap : (rule : Rule) (registers : List Low) (code : Code) (p : ℕ) → length rule.right < length rule.left → Applies rule registers code p → IsGap code.places code.labels p (length rule.left) (map (renamed registers) rule.right)
+applied_gap rule registers code p shorter a =
     let n = window_length rule registers code p a in
     let m = length_map (renamed registers) rule.right in
-    let shorter = a.shorter in
     record {
       within = window_within a.window (length rule.left) code.places p n (omega arith) a.stands;
       shorter = omega arith;
@@ -73,14 +71,13 @@ applied_stay rule registers code p a k l e h =
 -- an entry that applies from q on, before a gap at p, in what is left there, applied there before
 pub applied_before : (rule : Rule) (registers : List Low) (code : Code) (p count : ℕ) (is : List Instr) (q : ℕ) → IsGap code.places code.labels p count is → q + length rule.left ≤ p
     → ((x : ℕ) → LiveAfter code (q + length rule.left - 1) x → LiveAfter (replaced code p count is) (q + length rule.left - 1) x)
-    → Applies rule registers (replaced code p count is) q → Applies rule registers code q
-applied_before rule registers code p count is q g far live a =
+    → length rule.right < length rule.left → Applies rule registers (replaced code p count is) q → Applies rule registers code q
+applied_before rule registers code p count is q g far live shorter a =
     let new : Code = replaced code p count is in
     let right : List Instr = map (renamed registers) rule.right in
     let m = length_map (renamed registers) rule.right in
     let within = g.within in
-    let shorter = a.shorter in
-    let gap = applied_gap rule registers new q a in
+    let gap = applied_gap rule registers new q shorter a in
     let settled = stay_settled new.places new.labels q (length rule.left) right gap (applied_stay rule registers new q a) in
     let stands : take (length rule.left) (drop q code.places) ≡ map plain a.window = sym (window_stays p count is code.places q (length rule.left) (omega arith) far) ∙ a.stands in
     let unlabelled : (k : ℕ) (l : Label) → slice_get code.labels k ≡ Some l → (l.place ≤ q) ⊎ (q + length rule.left ≤ l.place) =
@@ -100,7 +97,6 @@ applied_before rule registers code p count is q g far live a =
       stands = stands;
       matches = a.matches;
       unlabelled = unlabelled;
-      shorter = a.shorter;
       live = λ x h. a.live x (live x h);
       labels_stay = λ k l e h. subst (λ n. is_op_place (slice_get (left_places q (length rule.left) right code.places) (moved q (length rule.left - n) l.place)) ≡ true) m (stay k l e h);
     }
@@ -124,12 +120,11 @@ applied_before rule registers code p count is q g far live a =
 
 -- ---- steady listings ----
 
-pub steady_stays : (base : ℕ) (write : Instr → List ℕ) (rule : Rule) (registers : List Low) (place : ℕ) (ls : List Line) → IsSoundRule rule → Applies rule registers (code_of ls) place → IsSteady base ls
+pub steady_stays : (base : ℕ) (write : Instr → List ℕ) (rule : Rule) (registers : List Low) (place : ℕ) (ls : List Line) → IsSoundRule rule → length rule.right < length rule.left → Applies rule registers (code_of ls) place → IsSteady base ls
     → IsSteady base (replaced_lines write place (length rule.left) (map (renamed registers) rule.right) ls)
-steady_stays base write rule registers place ls sound a h =
+steady_stays base write rule registers place ls sound shorter a h =
     let is : List Instr = map (renamed registers) rule.right in
     let m = length_map (renamed registers) rule.right in
-    let shorter = a.shorter in
     let b = before (length rule.left) (omega arith) in
     let n : ℕ = b.0 in
     let e : length rule.left ≡ suc n = b.1 in

@@ -9,12 +9,15 @@ use Rattle.thumb_instr.specs.Renaming.{renamed}
 use Rattle.thumb_model.specs.Listing.{Statement, Nothing, Runs, Words, Aligns, Sets, Line, Code, places_in, places_of, labels_from, code_of}
 use Rattle.thumb_model.specs.Flow.{LiveAfter}
 use Rattle.thumb_model.specs.Layout.{Layable}
-use Rattle.rule_model.specs.Rules.{Rule, Applies}
+use Rattle.rule_model.specs.Rules.{Rule, rule_registers, alone, Applies}
+use Rattle.thumb_model.specs.Sides.{register_count}
 use Rattle.thumb_model.specs.Replaced.{replaced}
 use Rattle.rule_model.specs.Rewriting.{Setting, Replacement, AppliesIn, lines_after_rule, lines_after, left_length, left_length_of}
 use Rattle.thumb_model.specs.ReplacedLines.{is_op, replaced_lines}
 use Rattle.thumb_model.specs.Cuts.{AreOps}
-use Rattle.rule_model.proofs.LinesKept.{fewer_after, code_of_after}
+use Rattle.rule_model.specs.Laws.{CostsOne}
+use Rattle.rule_model.proofs.Alone.{no_scratch}
+use Rattle.rule_model.proofs.LinesKept.{fewer_after, shorter_right, code_of_after_by}
 use Rattle.rule_model.proofs.Table.{window_length}
 use Rattle.listing_parser.specs.Parsing.{own_line}
 use Rattle.listing_parser.specs.Targets.{DefineOnce}
@@ -30,18 +33,19 @@ use Rattle.line_cursor.specs.declared.cursor.Spot.{Spot}
 use Rattle.line_cursor.specs.Cursors.{lines_behind, lines_ahead, lines_at, place_at, spots_at, sets_of, flows_of, IsCursor}
 use Rattle.line_cursor.proofs.Settled.{IsGap}
 use Rattle.line_cursor.proofs.Nearer.{places_append, joined_stays}
-use Rattle.window_rewrite.specs.Rules.{AreFit}
+use Rattle.window_rewrite.specs.Rewriting.{setting}
+use Rattle.window_rewrite.specs.Rules.{rules_in, AreFit}
 use Rattle.window_rewrite.specs.declared.choice.Choice.{Choice}
 use Rattle.window_rewrite.specs.declared.finding.Rules.{Rules}
 use Rattle.window_rewrite.specs.declared.ground.Ground.{Ground}
 use Rattle.window_rewrite.specs.Choices.{setting_of, choice_of, AreReady, FitsIn, IsChoice, NoneBefore, NoneEnding}
 use Rattle.window_rewrite.specs.Sweeps.{IsKept, IsOver, IsSteadyIf, LosesNone, MayBeListed, Moves, Allows, AreOver, HasLayout, is_steady}
-use Rattle.window_rewrite.proofs.Applied.{ops_of}
+use Rattle.window_rewrite.proofs.Applied.{ops_of, rule_there, fits_shorter}
 
 -- a replacement leaves lines that may be a listing's, where the lines before it may
-pub may_be_listed : (lines : List Line) (s : Setting) (o : Replacement) → AppliesIn s o lines → MayBeListed lines → MayBeListed (lines_after s o lines)
-may_be_listed lines s o a h =
-    let fewer = fewer_after s o lines a in
+pub may_be_listed : (lines : List Line) (s : Setting) (o : Replacement) → CostsOne s → AppliesIn s o lines → MayBeListed lines → MayBeListed (lines_after s o lines)
+may_be_listed lines s o one a h =
+    let fewer = fewer_after s o lines one a in
     let few = h.few in
     record {
       few = omega arith;
@@ -50,10 +54,12 @@ may_be_listed lines s o a h =
     }
 
 -- steady lines stay steady
-pub still_steady : (s : Setting) (longest : ℕ) (o : Replacement) (lines : List Line) → AreFit longest s.table → AppliesIn s o lines → IsSteady s.base lines → IsSteady s.base (lines_after s o lines)
-still_steady s longest o lines fit a h =
-    let f = fit o.entry a.rule a.is_rule in
-    subst (λ (r : Option Rule). IsSteady s.base (lines_after_rule s r o lines)) (sym a.is_rule) (steady_stays s.base s.write a.rule o.registers o.place lines f.sound a.applies h)
+pub still_steady : (base longest : ℕ) (rules : List Rule) (o : Replacement) (lines : List Line) → AreFit longest rules → AppliesIn (setting base (alone rules)) o lines → IsSteady base lines → IsSteady base (lines_after (setting base (alone rules)) o lines)
+still_steady base longest rules o lines fit a h =
+    let s : Setting = setting base (alone rules) in
+    let f = fit o.entry a.rule (rule_there base rules o a.rule a.is_rule) in
+    let shorter = shorter_right s o lines (λ i. refl) a in
+    subst (λ (r : Option Rule). IsSteady s.base (lines_after_rule s r o lines)) (sym a.is_rule) (steady_stays s.base s.write a.rule o.registers o.place lines f.sound shorter a.applies h)
 
 -- ---- lines before the place of a replacement ----
 
@@ -107,46 +113,50 @@ still_live old new was now q x a b h k e l = (b.after q x k).0 (e ((a.after q x 
 
 -- an entry that fits in the new lines before the gap fitted there in the old ones
 fits_before : (s : Setting) (xs ys zs : List Line) (count : ℕ) (is : List Instr) (o : Replacement) → code_of (xs ++ zs) ≡ replaced (code_of (xs ++ ys)) (length (places_of xs)) count is
-    → IsGap (places_of (xs ++ ys)) (labels_from 0 (xs ++ ys)) (length (places_of xs)) count is → (a : FitsIn s o (xs ++ zs)) → o.place + length a.rule.left ≤ length (places_of xs)
+    → IsGap (places_of (xs ++ ys)) (labels_from 0 (xs ++ ys)) (length (places_of xs)) count is → (a : FitsIn s o (xs ++ zs)) → length a.rule.right < length a.rule.left → rule_registers a.rule ≡ register_count a.rule.left → o.place + length a.rule.left ≤ length (places_of xs)
     → ((x : ℕ) → LiveAfter (code_of (xs ++ ys)) (o.place + length a.rule.left - 1) x → LiveAfter (code_of (xs ++ zs)) (o.place + length a.rule.left - 1) x) → FitsIn s o (xs ++ ys)
-fits_before s xs ys zs count is o e g a far live =
-    let shorter = a.applies.shorter in
+fits_before s xs ys zs count is o e g a shorter own far live =
     let n = window_length a.rule o.registers (code_of (xs ++ zs)) o.place a.applies in
     let there : Applies a.rule o.registers (replaced (code_of (xs ++ ys)) (length (places_of xs)) count is) o.place = subst (λ (c : Code). Applies a.rule o.registers c o.place) e a.applies in
     let ops : AreOps (length a.rule.left) (drop o.place (places_of (xs ++ zs))) = ops_of a.applies.window (length a.rule.left) (drop o.place (places_of (xs ++ zs))) (sym n) a.applies.stands in
     record {
       rule = a.rule;
       is_rule = a.is_rule;
+      lowers = a.lowers;
+      least = no_scratch a.rule o.registers (code_of (xs ++ ys)) o.place own a.applies.as_many;
       applies = applied_before a.rule o.registers (code_of (xs ++ ys)) (length (places_of xs)) count is o.place g far
-          (λ x h. subst (λ (c : Code). LiveAfter c (o.place + length a.rule.left - 1) x) e (live x h)) there;
+          (λ x h. subst (λ (c : Code). LiveAfter c (o.place + length a.rule.left - 1) x) e (live x h)) shorter there;
       joined = sym (joined_stays o.place (length a.rule.left) xs zs ys (omega arith) far ops) ∙ a.joined;
     }
 
 -- where none fitted before a place in the old lines, none fits in the new ones in a window that ends there, and before where sets changed
-none_ending : (s : Setting) (back clear edge : ℕ) (xs ys new : List Line) (was now : List Spot) (r : Replacement) → AppliesIn s r (xs ++ ys) → r.place ≡ length (places_of xs)
-    → new ≡ lines_after s r (xs ++ ys) → IsLive (code_of (xs ++ ys)) (sets_of was) → IsLive (code_of new) (sets_of now) → ((q : ℕ) → q + back < r.place → (x : ℕ) → has (set_at (sets_of was).after q) x ≡ true → has (set_at (sets_of now).after q) x ≡ true)
-    → NoneBefore false s (xs ++ ys) clear → edge ≤ r.place - back → edge ≤ clear → NoneEnding s new edge
-none_ending s back clear edge xs ys new was now r applied at is_new old_live new_live same none changed cleared = λ o a ends.
+none_ending : (base longest : ℕ) (rules : List Rule) (back clear edge : ℕ) (xs ys new : List Line) (was now : List Spot) (r : Replacement) → AreFit longest rules → AppliesIn (setting base (alone rules)) r (xs ++ ys) → r.place ≡ length (places_of xs)
+    → new ≡ lines_after (setting base (alone rules)) r (xs ++ ys) → IsLive (code_of (xs ++ ys)) (sets_of was) → IsLive (code_of new) (sets_of now) → ((q : ℕ) → q + back < r.place → (x : ℕ) → has (set_at (sets_of was).after q) x ≡ true → has (set_at (sets_of now).after q) x ≡ true)
+    → NoneBefore false (setting base (alone rules)) (xs ++ ys) clear → edge ≤ r.place - back → edge ≤ clear → NoneEnding (setting base (alone rules)) new edge
+none_ending base longest rules back clear edge xs ys new was now r fit applied at is_new old_live new_live same none changed cleared = λ o a ends.
+    let s : Setting = setting base (alone rules) in
     let rule : Rule = applied.rule in
+    let fewer = shorter_right s r (xs ++ ys) (λ i. refl) applied in
     let is : List Instr = map (renamed r.registers) rule.right in
     let n : ℕ = length rule.left in
     let left = left_behind s r xs ys applied (omega arith) in
     let zs : List Line = left.0 in
     let is_now : new ≡ xs ++ zs = is_new ∙ left.1 in
     let there : FitsIn s o (xs ++ zs) = subst (λ (ls : List Line). FitsIn s o ls) is_now a in
-    let long : left_length s.table o.entry ≡ length there.rule.left = ap left_length_of there.is_rule in
-    let shorter = there.applies.shorter in
+    let long : left_length s o ≡ length there.rule.left = ap left_length_of there.is_rule in
+    let shorter = fits_shorter base rules o (xs ++ zs) there in
+    let own = (fit o.entry there.rule (rule_there base rules o there.rule there.is_rule)).own in
     let far : o.place + length there.rule.left ≤ length (places_of xs) = omega arith in
     let q : ℕ = o.place + length there.rule.left - 1 in
     let old_places = ap (λ ps. length ps) (places_append xs ys) ∙ length-append (places_of xs) (places_of ys) in
     let new_places = ap (λ (ls : List Line). length (places_of ls)) is_now ∙ ap (λ ps. length ps) (places_append xs zs) ∙ length-append (places_of xs) (places_of zs) in
     let code : code_of (xs ++ zs) ≡ replaced (code_of (xs ++ ys)) (length (places_of xs)) n is =
-    ap code_of (sym left.1) ∙ code_of_after s r (xs ++ ys) applied ∙ ap (λ p. replaced (code_of (xs ++ ys)) p n is) at in
+    ap code_of (sym left.1) ∙ code_of_after_by s r (xs ++ ys) applied (omega arith) ∙ ap (λ p. replaced (code_of (xs ++ ys)) p n is) at in
     let gap : IsGap (places_of (xs ++ ys)) (labels_from 0 (xs ++ ys)) (length (places_of xs)) n is =
-    subst (λ p. IsGap (places_of (xs ++ ys)) (labels_from 0 (xs ++ ys)) p n is) at (applied_gap rule r.registers (code_of (xs ++ ys)) r.place applied.applies) in
+    subst (λ p. IsGap (places_of (xs ++ ys)) (labels_from 0 (xs ++ ys)) p n is) at (applied_gap rule r.registers (code_of (xs ++ ys)) r.place fewer applied.applies) in
     let live : (x : ℕ) → LiveAfter (code_of (xs ++ ys)) q x → LiveAfter (code_of (xs ++ zs)) q x =
     λ x h. subst (λ (ls : List Line). LiveAfter (code_of ls) q x) is_now (still_live (code_of (xs ++ ys)) (code_of new) was now q x old_live new_live (omega arith) (omega arith) (same q (omega arith) x) h) in
-    none o (fits_before s xs ys zs n is o code gap there far live, λ e. absurd (true≢false (sym e))) (omega arith)
+    none o (fits_before s xs ys zs n is o code gap there shorter own far live, λ e. absurd (true≢false (sym e))) (omega arith)
 
 -- ---- a turn ----
 
@@ -196,10 +206,10 @@ pub still_over : (r : Rules) (g h : Ground) (lines now : List Line) (o : Replace
 still_over r g h lines now o ready a e same layout over =
     let s : Setting = setting_of r in
     record {
-      listed = subst MayBeListed (sym e) (may_be_listed lines s o a over.listed);
+      listed = subst MayBeListed (sym e) (may_be_listed lines s o (λ i. refl) a over.listed);
       layable = still_layable s o lines now a e;
       aligned = λ q. over.aligned (sym same ∙ q);
-      steady = λ q. subst (IsSteady r.base) (sym e) (still_steady s r.longest o lines ready.fit a (over.steady (sym same ∙ q)));
+      steady = λ q. subst (IsSteady r.base) (sym e) (still_steady r.base r.longest (rules_in r.entries.now) o lines ready.fit a (over.steady (sym same ∙ q)));
       layout = layout;
     }
 
@@ -222,11 +232,11 @@ allowed_here r g at c window new over is here moves e f =
     }
 
 -- a replacement was made at a cursor: no entry fits in a window that ends before what changed and before where some may have fitted
-pub turned_ending : (s : Setting) (old at : Cursor) (o : Replacement) (count clear edge : ℕ) → IsKept old → AppliesIn s o (lines_at old) → o.place ≡ place_at old
-    → IsKept at → lines_at at ≡ lines_after s o (lines_at old) → ((q : ℕ) → q + count < place_at old → LosesNone old at q) → NoneBefore false s (lines_at old) clear → edge ≤ o.place - count → edge ≤ clear
-    → NoneEnding s (lines_at at) edge
-turned_ending s old at o count clear edge was applied here kept e same none changed cleared =
-    none_ending s count clear edge (lines_behind old) (lines_ahead old) (lines_at at) (spots_at old) (spots_at at) o applied (here ∙ was.is.passed) e was.live kept.live (λ q h. same q (omega arith)) none changed cleared
+pub turned_ending : (r : Rules) (old at : Cursor) (o : Replacement) (count clear edge : ℕ) → AreReady r → IsKept old → AppliesIn (setting_of r) o (lines_at old) → o.place ≡ place_at old
+    → IsKept at → lines_at at ≡ lines_after (setting_of r) o (lines_at old) → ((q : ℕ) → q + count < place_at old → LosesNone old at q) → NoneBefore false (setting_of r) (lines_at old) clear → edge ≤ o.place - count → edge ≤ clear
+    → NoneEnding (setting_of r) (lines_at at) edge
+turned_ending r old at o count clear edge ready was applied here kept e same none changed cleared =
+    none_ending r.base r.longest (rules_in r.entries.now) count clear edge (lines_behind old) (lines_ahead old) (lines_at at) (spots_at old) (spots_at at) o ready.fit applied (here ∙ was.is.passed) e was.live kept.live (λ q h. same q (omega arith)) none changed cleared
 
 -- ---- where a sweep begins ----
 

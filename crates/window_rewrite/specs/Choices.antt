@@ -6,8 +6,8 @@ use Rattle.thumb_instr.specs.Renaming.{Low}
 use Rattle.thumb_model.specs.Listing.{Line, code_of}
 use Rattle.liveness.specs.Kept.{KeepsAt}
 use Rattle.thumb_model.specs.Layout.{Layable}
-use Rattle.rule_model.specs.Rules.{Rule, Applies}
-use Rattle.rule_model.specs.Rewriting.{Setting, Replacement, AppliesIn, IsFirst, lines_after, left_length}
+use Rattle.rule_model.specs.Rules.{Rule, weight, alone, Applies}
+use Rattle.rule_model.specs.Rewriting.{Setting, Replacement, used_rule, IsLeastScratch, AppliesIn, IsFirst, lines_after, left_length}
 use Rattle.thumb_model.specs.ReplacedLines.{are_joined_from, replaced_lines}
 use Rattle.window_runs.specs.Windows.{IsWindow}
 use Rattle.window_rewrite.specs.declared.choice.Choice.{Choice}
@@ -19,7 +19,7 @@ use Rattle.window_rewrite.specs.Fitting.{Shortens}
 
 -- the table of a finder, whose index is that of its entries
 abbrev pub setting_of : Rules → Setting
-setting_of r = setting r.base (rules_in r.entries.now)
+setting_of r = setting r.base (alone (rules_in r.entries.now))
 
 pub record AreReady (r : Rules) : Type 0 where
   pub few : r.longest ≤ 5
@@ -38,11 +38,13 @@ pub record Awaits (rules : List Rule) (kept : List Bool) (window : List Instr) (
 
 -- ---- with and without the layout ----
 
--- this entry of the table fits there, under this map: it applies, whatever the layout says
+-- this entry of the table fits there, under this map: it applies, whatever the lines come to that it leaves
 pub record FitsIn (s : Setting) (o : Replacement) (lines : List Line) : Type 0 where
   pub rule : Rule
-  pub is_rule : slice_get s.table o.entry ≡ Some rule
+  pub is_rule : used_rule s o ≡ Some rule
+  pub lowers : weight s.cost rule.right < weight s.cost rule.left
   pub applies : Applies rule o.registers (code_of lines) o.place
+  pub least : IsLeastScratch rule o.registers (code_of lines) o.place
   pub joined : are_joined_from o.place (length rule.left) lines ≡ true
 
 -- it fits, and where the layout is asked too, the lines that it leaves can be laid out
@@ -66,19 +68,19 @@ pub record IsChoice (s : Setting) (lines : List Line) (c : Choice) : Type 0 wher
 pub record IsLowest (s : Setting) (lines : List Line) (place count : ℕ) (c : Choice) : Type 0 where
   pub is : IsChoice s lines c
   pub at : (choice_of c).place ≡ place
-  pub long : left_length s.table (choice_of c).entry ≡ count
-  pub lowest : (o : Replacement) → AppliesIn s o lines → o.place ≡ place → left_length s.table o.entry ≡ count → (choice_of c).entry ≤ o.entry
+  pub long : left_length s (choice_of c) ≡ count
+  pub lowest : (o : Replacement) → AppliesIn s o lines → o.place ≡ place → left_length s o ≡ count → (choice_of c).entry ≤ o.entry
 
 -- no entry meets this at a place by a left side of so many instructions
 abbrev pub NoneOf : Bool → Setting → List Line → ℕ → ℕ → Type 0
-NoneOf asked s lines place count = (o : Replacement) → Meets asked s o lines → o.place ≡ place → left_length s.table o.entry ≡ count → ⊥
+NoneOf asked s lines place count = (o : Replacement) → Meets asked s o lines → o.place ≡ place → left_length s o ≡ count → ⊥
 
 -- of the choices at a place it is the best
 pub record IsBest (s : Setting) (lines : List Line) (place : ℕ) (c : Choice) : Type 0 where
   pub is : IsChoice s lines c
   pub at : (choice_of c).place ≡ place
-  pub longest : (o : Replacement) → AppliesIn s o lines → o.place ≡ place → left_length s.table o.entry ≤ left_length s.table (choice_of c).entry
-  pub lowest : (o : Replacement) → AppliesIn s o lines → o.place ≡ place → left_length s.table o.entry ≡ left_length s.table (choice_of c).entry → (choice_of c).entry ≤ o.entry
+  pub longest : (o : Replacement) → AppliesIn s o lines → o.place ≡ place → left_length s o ≤ left_length s (choice_of c)
+  pub lowest : (o : Replacement) → AppliesIn s o lines → o.place ≡ place → left_length s o ≡ left_length s (choice_of c) → (choice_of c).entry ≤ o.entry
 
 -- none does at a place
 abbrev pub NoneAt : Bool → Setting → List Line → ℕ → Type 0
@@ -95,11 +97,11 @@ NoneBefore asked s lines place = (o : Replacement) → Meets asked s o lines →
 
 -- no entry fits a window that ends at the place or before it
 abbrev pub NoneEnding : Setting → List Line → ℕ → Type 0
-NoneEnding s lines place = (o : Replacement) → FitsIn s o lines → o.place + left_length s.table o.entry ≤ place → ⊥
+NoneEnding s lines place = (o : Replacement) → FitsIn s o lines → o.place + left_length s o ≤ place → ⊥
 
 -- none fits a window that begins before the place and goes on there
 abbrev pub NoneAcross : Setting → List Line → ℕ → Type 0
-NoneAcross s lines place = (o : Replacement) → FitsIn s o lines → o.place < place → place < o.place + left_length s.table o.entry → ⊥
+NoneAcross s lines place = (o : Replacement) → FitsIn s o lines → o.place < place → place < o.place + left_length s o → ⊥
 
 -- ---- how many rules there are ----
 

@@ -1,4 +1,5 @@
 pub mod Rewriting
+pub mod Errors
 pub mod Shapes
 pub mod Forms
 pub mod Rules

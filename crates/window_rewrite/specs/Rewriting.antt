@@ -4,8 +4,6 @@ use Rattle.thumb_instr.specs.Renaming.{Low}
 use Rattle.thumb_model.specs.Listing.{Line, places_of}
 use Rattle.rule_model.specs.Rules.{Rule}
 use Rattle.rule_model.specs.Rewriting.{Setting, Replacement}
-use Rattle.label_layout.specs.declared.errors.LayoutError.{LayoutError}
-use Rattle.label_layout.specs.declared.errors.LayoutError.TheVariants as layout
 use Rattle.label_layout.specs.Refusals.{fault_of}
 use Rattle.label_layout.specs.Faults.{first_fault}
 use Rattle.listing_parser.specs.Parsing.{own_line}
@@ -13,9 +11,9 @@ use Rattle.window_rewrite.specs.declared.choice.Replacement.{Replacement as Made
 use Rattle.window_rewrite.specs.declared.errors.RewriteError.{RewriteError}
 use Rattle.window_rewrite.specs.declared.errors.RewriteError.TheVariants as error
 
--- rewriting by these rules, for an image that begins at the base; a new instruction has a line of its own: a tab, its canonical text and a newline
-abbrev pub setting : ℕ → List Rule → Setting
-setting base rules = record { table = rules; base = base; write = own_line }
+-- rewriting by a table, for an image that begins at the base: each instruction costs 1, a listing has 65536 lines at most, and a new instruction has a line of its own: a tab, its canonical text and a newline
+abbrev pub setting : ℕ → List (List Rule) → Setting
+setting base table = record { table = table; cost = λ i. 1; base = base; most_lines = 65536; write = own_line }
 
 -- the registers that a map has, in order
 abbrev pub registers_of : List (Option Low) → List Low
@@ -23,9 +21,9 @@ registers_of [] = []
 registers_of (None ∷ os) = registers_of os
 registers_of (Some r ∷ os) = r ∷ registers_of os
 
--- a replacement that was made: its entry is counted from 0
+-- a replacement that was made: its entry is counted from 0, and has one instance
 abbrev pub replacement_of : Made → Replacement
-replacement_of m = record { place = m.place; entry = m.entry - 1; registers = registers_of m.map }
+replacement_of m = record { place = m.place; entry = m.entry - 1; instance = 0; registers = registers_of m.map }
 
 -- the map of so many registers that gives these in place of r0, r1, .. , and none in place of those behind
 abbrev pub map_of : ℕ → List Low → List (Option Low)
@@ -42,11 +40,6 @@ pub record IsWhole (m : Made) : Type 0 where
 abbrev pub IsRefusal : ℕ → List Line → RewriteError → Type 0
 IsRefusal base lines (error.Line number k) = first_fault base lines ≡ Some (number, fault_of k)
 IsRefusal base lines error.Memory = Unit {0}
-
--- a layout's error as one of rewriting
-abbrev pub of_layout : LayoutError → RewriteError
-of_layout (layout.Line number k) = error.Line number k
-of_layout layout.Memory = error.Memory
 
 -- how many places are visited at most for the live items of so many places
 abbrev pub visits : ℕ → ℕ

@@ -1,7 +1,9 @@
 -- The rules of a table, and how they are found by their left sides.
 use Rattle.std.specs.Prelude.{◌≡◌, ℕ, suc, ◌+◌, ◌==◌, ◌<◌, ◌≤◌, ◌&&◌, Bool, true, false, List, [], ◌∷◌, length, map, take, drop, nat_lt, Option, Some, None, slice_get, if◌then◌else◌}
 use Rattle.thumb_instr.specs.declared.instr.Instr.{Instr}
-use Rattle.rule_model.specs.Rules.{Rule, IsSoundRule}
+use Rattle.rule_model.specs.Rules.{Rule, rule_registers, IsSoundRule}
+use Rattle.rule_model.specs.Rewriting.{left_length_of}
+use Rattle.thumb_model.specs.Sides.{register_count}
 use Rattle.rule_table.specs.declared.table.Entry.{Entry}
 use Rattle.rule_table.specs.Views.{rule_of}
 use Rattle.table_audit.specs.Soundness.{rewriting_rule}
@@ -19,14 +21,19 @@ entry_rule e = rewriting_rule (rule_of e)
 abbrev pub rules_in : List Entry → List Rule
 rules_in entries = map rewriting_rule (map rule_of entries)
 
--- a rule of an accepted table: sound, and its left side is its own canonical form and not too long
+-- a rule of an accepted table: sound, without a scratch register, and its left side is its own canonical form and not too long
 pub record IsFit (longest : ℕ) (rule : Rule) : Type 0 where
   pub sound : IsSoundRule rule
+  pub own : rule_registers rule ≡ register_count rule.left
   pub canonical : IsCanonicalSide rule.left
   pub short : length rule.left ≤ longest
 
 abbrev pub AreFit : ℕ → List Rule → Type 0
 AreFit longest rules = (k : ℕ) (rule : Rule) → slice_get rules k ≡ Some rule → IsFit longest rule
+
+-- how long the left side of the rule of a number is
+abbrev pub side_length : List Rule → ℕ → ℕ
+side_length rules k = left_length_of (slice_get rules k)
 
 -- it leaves fewer instructions
 abbrev pub is_shorter : Rule → Bool

@@ -39,7 +39,7 @@ impl<T: Drop> From<AllocFailed<T>> for RewriteError {
 
 impl From<LayoutError> for RewriteError {
     ghost use Rattle.std.specs.Prelude.{◌≡◌};
-    ghost use Rattle.window_rewrite.specs.Rewriting.{of_layout};
+    ghost use Rattle.window_rewrite.specs.Errors.{of_layout};
 
     ghost from_gives = { λ e f. f ≡ of_layout e };
 

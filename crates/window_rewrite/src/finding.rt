@@ -5,7 +5,7 @@ ghost use Rattle.thumb_instr.specs.Renaming.{Low};
 ghost use Rattle.thumb_model.specs.Layout.{Layable};
 ghost use Rattle.thumb_model.specs.Listing.{places_of};
 ghost use Rattle.rule_model.specs.Rules.{Rule};
-ghost use Rattle.rule_model.specs.Rewriting.{NoneApplies, left_length};
+ghost use Rattle.rule_model.specs.Rewriting.{NoneApplies};
 ghost use Rattle.thumb_model.specs.ReplacedLines.{replaced_lines};
 ghost use Rattle.listing_parser.specs.Parsing.{own_line};
 ghost use Rattle.listing_parser.specs.declared.line.Line.{Line as Lines};
@@ -15,8 +15,9 @@ ghost use Rattle.std.specs.List.{list_all};
 ghost use Rattle.thumb_instr.specs.Window.{is_in_window};
 ghost use Rattle.window_runs.specs.Windows.{IsWindow};
 ghost use Rattle.window_harvest.specs.Harvest.{spot_of, StandsThere};
+ghost use Rattle.step_ledger.specs.Counts.{RisesByAtLeast};
 ghost use Rattle.window_rewrite.specs.Fitting.{IsForm, Shortens};
-ghost use Rattle.window_rewrite.specs.Rules.{rules_in};
+ghost use Rattle.window_rewrite.specs.Rules.{rules_in, side_length};
 ghost use Rattle.window_rewrite.specs.Choices.{setting_of, choice_of, of_length, AreReady, Awaits, IsBest, IsChoice, IsFirstChoice, IsLowest, Meets, NoneAt, NoneBefore, NoneOf};
 ghost use Rattle.window_rewrite.specs.Sweeps.{is_steady, IsOver, Moves, StandsAtOp};
 
@@ -104,12 +105,13 @@ fn try_entry<L: Ledger>(
     requires stands { StandsThere (lines_at cursor.now) (spot_of (place_at cursor.now) (length window.now)) window.now form.now.live.bits }
     requires form { IsForm window.now form.now }
     requires number { number < length rules.now.entries.now }
-    ensures long { IfOk result (λ o. OnSome o (left_length (rules_in rules.now.entries.now) number ≡ length window.now)) }
+    ensures long { IfOk result (λ o. OnSome o (side_length (rules_in rules.now.entries.now) number ≡ length window.now)) }
     ensures some { IfOk result (λ o. IfSome o (λ c. IsChoice (setting_of rules.now) (lines_at cursor.now) c × ((choice_of c).place ≡ place_at cursor.now) × ((choice_of c).entry ≡ number))) }
     ensures moved { IfOk result (λ o. IfSome o (λ c. Moves ground.now c.window c.new c.moved)) }
-    ensures none { IfOk result (λ o. IfNone o (left_length (rules_in rules.now.entries.now) number ≡ length window.now → (registers : List Low) → Meets refused.new (setting_of rules.now) (record { place = place_at cursor.now; entry = number; registers = registers }) (lines_at cursor.now) → ⊥)) }
+    ensures none { IfOk result (λ o. IfNone o (side_length (rules_in rules.now.entries.now) number ≡ length window.now → (registers : List Low) → Meets refused.new (setting_of rules.now) (record { place = place_at cursor.now; entry = number; instance = 0; registers = registers }) (lines_at cursor.now) → ⊥)) }
     ensures stays { OnOk result (refused.old ≡ true → refused.new ≡ true) }
-    ensures cost { steps.new ≤ steps.old + from_bool (left_length (rules_in rules.now.entries.now) number == length window.now) }
+    ensures cost { steps.new ≤ steps.old + from_bool (side_length (rules_in rules.now.entries.now) number == length window.now) }
+    ensures rises { IfOk result (λ o. RisesByAtLeast steps.old steps.new (from_bool (is_some o))) }
 {
     let entry = &rules.entries[number];
     if entry.left.len() != window.len() {
@@ -193,6 +195,7 @@ fn lowest_by<L: Ledger>(
     ensures none { IfOk result (λ o. IfNone o (NoneOf refused.new (setting_of rules.now) (lines_at cursor.now) (place_at cursor.now) (length window.now))) }
     ensures stays { OnOk result (refused.old ≡ true → refused.new ≡ true) }
     ensures cost { steps.new ≤ steps.old + of_length (length window.now) (rules_in rules.now.entries.now) }
+    ensures rises { IfOk result (λ o. RisesByAtLeast steps.old steps.new (from_bool (is_some o))) }
 {
     let mut at = first_number(rules, window, form);
     while let Some(number) = at {
@@ -226,6 +229,7 @@ fn lowest<L: Ledger>(
     ensures none { IfOk result (λ o. IfNone o (NoneOf refused.new (setting_of rules.now) (lines_at cursor.now) (place_at cursor.now) (length window.now))) }
     ensures stays { OnOk result (refused.old ≡ true → refused.new ≡ true) }
     ensures cost { steps.new ≤ steps.old + of_length (length window.now) (rules_in rules.now.entries.now) }
+    ensures rises { IfOk result (λ o. RisesByAtLeast steps.old steps.new (from_bool (is_some o))) }
 {
     if !rules.index.marks.has_whole(shape_of(window)) {
         return Ok(None);
@@ -253,6 +257,7 @@ fn best_here<L: Ledger>(
     ensures none { IfOk result (λ o. IfNone o (NoneAt refused.new (setting_of rules.now) (lines_at cursor.now) (place_at cursor.now))) }
     ensures stays { OnOk result (refused.old ≡ true → refused.new ≡ true) }
     ensures cost { steps.new ≤ steps.old + length (rules_in rules.now.entries.now) }
+    ensures rises { IfOk result (λ o. RisesByAtLeast steps.old steps.new (from_bool (is_some o))) }
 {
     let run = cursor.run(usize::from(rules.longest));
     let mut count = reach(rules, run.as_slice());
@@ -292,6 +297,7 @@ fn best<L: Ledger>(
     ensures none { IfOk result (λ o. IfNone o ((rest : List Lines) (x : Lines) → cursor.now.lines.ahead ≡ rest ++ x ∷ [] → begins_op (lines_in x) ≡ true → NoneAt refused.new (setting_of rules.now) (lines_at cursor.now) (place_at cursor.now))) }
     ensures stays { OnOk result (refused.old ≡ true → refused.new ≡ true) }
     ensures cost { steps.new ≤ steps.old + length (rules_in rules.now.entries.now) }
+    ensures rises { IfOk result (λ o. RisesByAtLeast steps.old steps.new (from_bool (is_some o))) }
     ensures idle { (rest : List Lines) (x : Lines) → cursor.now.lines.ahead ≡ rest ++ x ∷ [] → begins_op (lines_in x) ≡ false → steps.new ≤ steps.old }
 {
     if cursor.is_at_op() {
@@ -329,6 +335,7 @@ pub(crate) fn next<L: Ledger>(
     ensures clear { IfOk result (λ o. IfSome o (λ f. NoneBefore false (setting_of rules.now) (lines_at cursor.new) f.clear)) }
     ensures none { IfOk result (λ o. IfNone o (NoneApplies (setting_of rules.now) (lines_at cursor.new))) }
     ensures cost { steps.new ≤ steps.old + length (places_of (lines_at cursor.old)) * length (rules_in rules.now.entries.now) }
+    ensures rises { IfOk result (λ o. RisesByAtLeast steps.old steps.new (from_bool (is_some o))) }
 {
     let mut refused = false;
     let mut clear = cursor.place();

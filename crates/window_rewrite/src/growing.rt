@@ -8,6 +8,7 @@ ghost use Rattle.liveness.specs.Kept.{AreFlows};
 ghost use Rattle.liveness.specs.Growing.{AreSources, IsGrowing};
 ghost use Rattle.liveness.specs.Passes.{total};
 ghost use Rattle.line_cursor.specs.Cursors.{flows_of, lines_at, sets_of, spots_at, IsCursor};
+ghost use Rattle.step_ledger.specs.Counts.{RisesByAtLeast};
 ghost use Rattle.window_rewrite.specs.Sweeps.{growing_cost, IsGrown};
 
 use line_cursor::Cursor;
@@ -31,6 +32,7 @@ fn carry_all<L: Ledger>(
     ensures grown { OnOk result (IsGrown cursor.old cursor.new) }
     ensures more { OnOk result (total (sets_of (spots_at cursor.old)).before + length pending.new.items ≤ total (sets_of (spots_at cursor.new)).before + length pending.old.items) }
     ensures cost { steps.new ≤ steps.old + length sources.now }
+    ensures rises { OnOk result (RisesByAtLeast steps.old steps.new 0) }
 {
     for source in sources {
         steps.tick();
@@ -56,6 +58,7 @@ pub(crate) fn grow<L: Ledger>(
     ensures grown { OnOk result (IsGrown cursor.old cursor.new) }
     ensures live { OnOk result (IsLive (code_of (lines_at cursor.old)) (sets_of (spots_at cursor.new))) }
     ensures cost { OnOk result (steps.new ≤ steps.old + growing_cost (length (places_of (lines_at cursor.old)))) }
+    ensures rises { OnOk result (RisesByAtLeast steps.old steps.new 0) }
 {
     let mut pending = Vec::new(alloc);
     pending.push(place)?;

@@ -12,6 +12,7 @@ ghost use Rattle.liveness.specs.Kept.{FlowOf, KeepsAt, LeadsUp};
 ghost use Rattle.thumb_instr.specs.declared.instr.Instr.{Instr};
 ghost use Rattle.liveness.specs.declared.flowing.Flow.{Flow};
 ghost use Rattle.line_cursor.specs.Cursors.{flows_of, lines_at, place_at, spots_at, IsCursor};
+ghost use Rattle.step_ledger.specs.Counts.{RisesByAtLeast};
 ghost use Rattle.window_rewrite.specs.Rewriting.{visits};
 ghost use Rattle.window_rewrite.specs.Sweeps.{AreGrowing, AreKept, IsKept, LosesNone, StandsAtOp};
 
@@ -165,6 +166,7 @@ fn put_growing<L: Ledger>(
     ensures kept { OnOk result (IsKept cursor.new) }
     ensures after { OnOk result ((q : ℕ) → q < place_at cursor.old → LosesNone cursor.old cursor.new q) }
     ensures cost { OnOk result (steps.new ≤ steps.old + visits (length (places_of (lines_at cursor.old)))) }
+    ensures rises { OnOk result (RisesByAtLeast steps.old steps.new 0) }
 {
     let place = cursor.place();
     let spots = spots_of(sets, new);
@@ -220,6 +222,7 @@ pub(crate) fn make<L: Ledger>(
     ensures kept { IfOk result (λ o. OnSome o (IsKept cursor.new)) }
     ensures after { IfOk result (λ o. IfSome o (λ n. (q : ℕ) → q + n < place_at cursor.old → LosesNone cursor.old cursor.new q)) }
     ensures cost { IfOk result (λ o. steps.new ≤ steps.old + from_bool (is_some o) * visits (length (places_of (lines_at cursor.old)))) }
+    ensures rises { OnOk result (RisesByAtLeast steps.old steps.new 0) }
 {
     if let Some(sets) = kept(cursor, window, new) {
         let lead = put(alloc, cursor, window, new, sets.as_slice())?;

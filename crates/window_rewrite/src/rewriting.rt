@@ -1,8 +1,12 @@
 //! Replacing until no entry applies.
 ghost use Rattle.std.specs.Prelude.{◌+◌, ◌≤◌, All, length, map, IfOk, MatchResult};
+ghost use Rattle.step_ledger.specs.Counts.{RisesByAtLeast};
 ghost use Rattle.rule_table.specs.Views.{table_of};
-ghost use Rattle.table_audit.specs.Soundness.{rules_of};
+ghost use Rattle.table_audit.specs.Soundness.{numbers_of, rules_of};
 ghost use Rattle.thumb_model.specs.Layout.{Layable};
+ghost use Rattle.thumb_model.specs.Listing.{code_of, places_of};
+ghost use Rattle.thumb_model.specs.Literals.{HasLiterals};
+ghost use Rattle.thumb_model.specs.Same.{Same};
 ghost use Rattle.rule_model.specs.Rewriting.{AreRewritten};
 ghost use Rattle.window_rewrite.specs.Rewriting.{setting, replacement_of, rewriting_cost, IsRefusal, IsWhole};
 ghost use Rattle.window_rewrite.specs.Rules.{rules_in};
@@ -33,9 +37,10 @@ fn judge(alloc: Global, listing: &Listing, base: u32) -> Result<bool, RewriteErr
 }
 
 /// Rewrites a listing by an accepted table, for an image that begins at the base: at the least place where some entry applies, the one with the longest
-/// left side, then the lowest, until none applies. A listing that cannot be laid out from the base is refused at its first such line.
+/// left side, then the lowest, until none applies. What is left runs as the given listing does. One that cannot be laid out from the base is refused at its first
+/// such line.
 ///
-/// A step is a match tried, or a visit of a place for its live items.
+/// A step is a match tried, or a visit of a place for its live items: at least one for each replacement, and one for each place.
 pub fn rewrite<L: Ledger>(
     alloc: Global,
     table: &Audited,
@@ -43,10 +48,12 @@ pub fn rewrite<L: Ledger>(
     base: u32,
     steps: &mut Steps<L>,
 ) -> Result<Rewritten, RewriteError>
-    ensures rewritten { IfOk result (λ new. AreRewritten (setting base (rules_of (table_of table.now))) listing (map replacement_of new.replacements.items) new.listing) }
+    ensures rewritten { IfOk result (λ new. AreRewritten (setting base (numbers_of (table_of table.now))) listing (map replacement_of new.replacements.items) new.listing) }
+    ensures same { IfOk result (λ new. HasLiterals (code_of listing) → Same (code_of listing) (code_of new.listing)) }
     ensures whole { IfOk result (λ new. All IsWhole new.replacements.items) }
     ensures verdict { MatchResult result (λ _. Layable base listing) (IsRefusal base listing) }
     ensures cost { IfOk result (λ new. steps.new ≤ steps.old + rewriting_cost listing (rules_of (table_of table.now)) (length new.replacements.items)) }
+    ensures rises { IfOk result (λ new. RisesByAtLeast steps.old steps.new (length (places_of listing) + length new.replacements.items)) }
 {
     let steady = judge(alloc, &listing, base)?;
     let accepted = table.table();
@@ -76,6 +83,7 @@ fn rewritten<L: Ledger>(
     ensures rewritten { IfOk result (λ new. AreRewritten (setting_of rules.now) listing (map replacement_of new.replacements.items) new.listing) }
     ensures whole { IfOk result (λ new. All IsWhole new.replacements.items) }
     ensures cost { IfOk result (λ new. steps.new ≤ steps.old + rewriting_cost listing (rules_in rules.now.entries.now) (length new.replacements.items)) }
+    ensures rises { IfOk result (λ new. RisesByAtLeast steps.old steps.new (length (places_of listing) + length new.replacements.items)) }
 {
     let mut current = listing;
     let mut replacements = Vec::new(alloc);

@@ -1,5 +1,5 @@
 //! Sweeps over a listing.
-ghost use Rattle.std.specs.Prelude.{◌≡◌, ◌+◌, ◌*◌, ◌%◌, ◌<◌, ◌≤◌, List, All, length, map, not, true, false, IfOk, OnOk};
+ghost use Rattle.std.specs.Prelude.{◌≡◌, ◌+◌, ◌-◌, ◌*◌, ◌%◌, ◌<◌, ◌≤◌, List, All, length, map, not, true, false, IfOk, OnOk};
 ghost use Rattle.std.specs.Int.{from_bool};
 ghost use Rattle.thumb_model.specs.Layout.{Layable};
 ghost use Rattle.thumb_model.specs.Listing.{Line as Listed, code_of, places_of};
@@ -9,6 +9,7 @@ ghost use Rattle.listing_parser.specs.Views.{line_view};
 ghost use Rattle.liveness.specs.Kept.{AreFlows};
 ghost use Rattle.liveness.specs.Live.{IsLive};
 ghost use Rattle.steady_layout.specs.Steady.{IsSteady};
+ghost use Rattle.step_ledger.specs.Counts.{RisesByAtLeast};
 ghost use Rattle.window_rewrite.specs.Rewriting.{round_cost, visits, IsWhole};
 ghost use Rattle.window_rewrite.specs.Rules.{rules_in};
 ghost use Rattle.window_rewrite.specs.Choices.{setting_of, choice_of, AreReady, IsFirstChoice, NoneAcross, NoneBefore, NoneEnding};
@@ -94,6 +95,7 @@ fn turn<L: Ledger>(
     ensures over { IfOk result (λ b. b ≡ true → IsOver rules.now ground.new cursor.new) }
     ensures before { IfOk result (λ b. b ≡ true → NoneBefore false (setting_of rules.now) (lines_at cursor.new) (place_at cursor.new)) }
     ensures cost { IfOk result (λ b. steps.new ≤ steps.old + from_bool b * visits (length (places_of (lines_at cursor.old)))) }
+    ensures rises { OnOk result (RisesByAtLeast steps.old steps.new 0) }
 {
     let choice = &found.choice;
     let window = choice.window.as_slice();
@@ -132,6 +134,7 @@ fn go_through<L: Ledger>(
     ensures fewer { IfOk result (λ b. length (places_of (lines_at cursor.new)) + from_bool (not b) ≤ length (places_of (lines_at cursor.old))) }
     ensures more { IfOk result (λ b. length replacements.old.items + from_bool (not b) ≤ length replacements.new.items) }
     ensures cost { IfOk result (λ b. steps.new + visits (length (places_of (lines_at cursor.old))) + length replacements.old.items * round_cost (length (places_of (lines_at cursor.old))) (length (rules_in rules.now.entries.now)) ≤ steps.old + (length replacements.new.items + from_bool b) * round_cost (length (places_of (lines_at cursor.old))) (length (rules_in rules.now.entries.now))) }
+    ensures rises { OnOk result (RisesByAtLeast steps.old steps.new (length replacements.new.items - length replacements.old.items)) }
 {
     while let Some(found) = next(alloc, rules, ground, cursor, steps)? {
         let goes_on = turn(alloc, rules, ground, cursor, &found, steps)?;
@@ -197,6 +200,7 @@ fn sweep_lines<L: Ledger>(
     ensures fewer { IfOk result (λ s. length (places_of s.listing) + from_bool (not s.is_done) ≤ length (places_of (map line_view lines.items))) }
     ensures more { IfOk result (λ s. length replacements.old.items + from_bool (not s.is_done) ≤ length replacements.new.items) }
     ensures cost { IfOk result (λ s. steps.new + visits (length (places_of (map line_view lines.items))) + length replacements.old.items * round_cost (length (places_of (map line_view lines.items))) (length (rules_in rules.now.entries.now)) ≤ steps.old + (length replacements.new.items + from_bool s.is_done) * round_cost (length (places_of (map line_view lines.items))) (length (rules_in rules.now.entries.now))) }
+    ensures rises { OnOk result (RisesByAtLeast steps.old steps.new (length replacements.new.items - length replacements.old.items)) }
 {
     let mut cursor = Cursor::start(alloc, lines, spots)?;
     let is_done = go_through(alloc, rules, &mut ground, &mut cursor, replacements, steps)?;
@@ -226,6 +230,7 @@ pub(crate) fn sweep<L: Ledger>(
     ensures fewer { IfOk result (λ s. length (places_of s.listing) + from_bool (not s.is_done) ≤ length (places_of listing)) }
     ensures more { IfOk result (λ s. length replacements.old.items ≤ length replacements.new.items) }
     ensures cost { IfOk result (λ s. steps.new + length replacements.old.items * round_cost (length (places_of listing)) (length (rules_in rules.now.entries.now)) ≤ steps.old + (length replacements.new.items + from_bool s.is_done) * round_cost (length (places_of listing)) (length (rules_in rules.now.entries.now))) }
+    ensures rises { OnOk result (RisesByAtLeast steps.old steps.new (length (places_of listing) + (length replacements.new.items - length replacements.old.items))) }
 {
     let ground = Ground::of(alloc, &listing, rules.base, steady)?;
     let (live, flows) = live_and_flows(alloc, &listing, steps)?;

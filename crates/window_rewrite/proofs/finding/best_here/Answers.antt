@@ -3,6 +3,7 @@ use Rattle.thumb_instr.specs.declared.instr.Instr.{Instr}
 use Rattle.window_runs.specs.Rows.{rows_from}
 use Rattle.window_runs.specs.Runs.{run}
 use Rattle.line_cursor.specs.Cursors.{lines_at, place_at, sets_of, spots_at}
+use Rattle.step_ledger.proofs.Rises.{at_least-stays, at_least-fewer, at_least-goes_on}
 use Rattle.window_rewrite.specs.Rules.{rules_in}
 use Rattle.window_rewrite.specs.Choices.{setting_of}
 use Rattle.window_rewrite.proofs.Applied.{meets_less}
@@ -21,6 +22,7 @@ loop-count-init g c =
           none_reached _ c.args.rules.now.base c.args.rules.now.longest (rules_in c.args.rules.now.entries.now) (lines_at c.args.cursor.now) (rows_from false (lines_at c.args.cursor.now)) (sets_of (spots_at c.args.cursor.now)) (place_at c.args.cursor.now)
           c.reach-count.result c.as_slice.result.now c.requires.ready.fit (of_kept c.args.cursor.now kept) (c.as_slice.ensures.value ∙ e) c.reach-count.ensures.none;
       stays = λ e. e;
+      rises = at_least-stays c.args.steps.now;
       cost = omega arith;
     }
 
@@ -58,8 +60,12 @@ loop-count-preserved g c =
       none = none_shorter _ (setting_of c.args.rules.now) (lines_at c.args.cursor.now) (place_at c.args.cursor.now) c.loop-count.count c.as_slice-in-loop-count.result.now c.loop-count-test.true few
           (λ o m. c.loop-count.invariant.none o (meets_less _ _ (setting_of c.args.rules.now) o (lines_at c.args.cursor.now) c.in_ok-choice.ensures.stays m)) none;
       stays = λ e. c.in_ok-choice.ensures.stays (c.loop-count.invariant.stays e);
+      rises = at_least-goes_on _ _ _ 0 0 c.loop-count.invariant.rises (at_least-fewer _ _ _ 0 (omega arith) c.in_ok-choice.ensures.rises);
       cost = count_cost (rules_in c.args.rules.now.entries.now) c.loop-count.count c.as_slice-in-loop-count.result.now c.args.steps.now _ _ c.loop-count-test.true few c.loop-count.invariant.cost c.lowest.ensures.cost;
     }
 
 pub returns-clause-cost : goal.returns-clause-cost
 returns-clause-cost g c = all_cost (rules_in c.args.rules.now.entries.now) c.loop-count.count c.args.steps.now _ c.loop-count.invariant.cost
+
+pub returns-in-Some-clause-rises : goal.returns-in-Some-clause-rises
+returns-in-Some-clause-rises g c = at_least-goes_on _ _ _ 0 1 c.loop-count.invariant.rises (rw c.in-Some.is at c.in_ok-choice.ensures.rises)

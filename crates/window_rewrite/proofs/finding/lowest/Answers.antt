@@ -8,7 +8,7 @@ use Rattle.window_rewrite.proofs.finding.lowest.Goals as goal
 
 pub returns-then-not-has_whole-clause-none : goal.returns-then-not-has_whole-clause-none
 returns-then-not-has_whole-clause-none g c =
-    none_whole _ c.args.rules.now.base (rules_in c.args.rules.now.entries.now) c.args.rules.now.index.now.marks (lines_at c.args.cursor.now) (place_at c.args.cursor.now) c.shape_of.result c.args.window.now c.args.live.bits c.requires.ready.index.marks c.requires.stands c.shape_of.ensures.value
+    none_whole _ c.args.rules.now.base c.args.rules.now.longest (rules_in c.args.rules.now.entries.now) c.args.rules.now.index.now.marks (lines_at c.args.cursor.now) (place_at c.args.cursor.now) c.shape_of.result c.args.window.now c.args.live.bits c.requires.ready.fit c.requires.ready.index.marks c.requires.stands c.shape_of.ensures.value
     (sym c.has_whole.ensures ∙ c.if-not-has_whole.true)
 
 pub of-requires : goal.of-requires

@@ -1,5 +1,6 @@
 use Rattle.std.proofs.Common.{◌+◌, arith}
 use Rattle.line_cursor.specs.Cursors.{lines_at, place_at}
+use Rattle.step_ledger.proofs.Rises.{at_least-stays, at_least-fewer, at_least-goes_on}
 use Rattle.window_rewrite.specs.Rules.{rules_in}
 use Rattle.window_rewrite.proofs.Keys.{awaited}
 use Rattle.window_rewrite.proofs.Chosen.{search_begins, search_next, search_smaller, search_found, search_cost, search_none, none_cost, next_within}
@@ -9,6 +10,7 @@ pub loop-at-init : goal.loop-at-init
 loop-at-init g c = record {
   search = search_begins _ c.args.rules.now.base c.args.rules.now.longest (rules_in c.args.rules.now.entries.now) c.args.rules.now.index.now.chains.kept.items (lines_at c.args.cursor.now) (place_at c.args.cursor.now) c.args.window.now c.first_number-at.result _ c.requires.ready.fit c.requires.ready.index.chains.led c.first_number-at.ensures;
   stays = λ e. e;
+  rises = at_least-stays c.args.steps.now;
 }
 
 pub try_entry-requires-clause-number : goal.try_entry-requires-clause-number
@@ -40,6 +42,7 @@ loop-at-preserved g c =
     record {
       search = search_next _ _ c.args.rules.now.base (rules_in c.args.rules.now.entries.now) c.args.rules.now.index.now.chains.kept.items (lines_at c.args.cursor.now) (place_at c.args.cursor.now) c.args.window.now c.args.form.now.live.bits c.in-Some.number c.loop-at.at c.next-at.result _ _ _ c.requires.stands c.loop-at.invariant.search c.in-Some.is c.in_ok-choice.ensures.stays none c.next-at.ensures c.in_ok-choice.ensures.cost;
       stays = λ e. c.in_ok-choice.ensures.stays (c.loop-at.invariant.stays e);
+      rises = at_least-goes_on _ _ _ 0 0 c.loop-at.invariant.rises (at_least-fewer _ _ _ 0 (omega arith) c.in_ok-choice.ensures.rises);
     }
 
 pub returns-clause-none : goal.returns-clause-none
@@ -47,3 +50,6 @@ returns-clause-none g c = search_none _ c.args.rules.now.base (rules_in c.args.r
 
 pub returns-clause-cost : goal.returns-clause-cost
 returns-clause-cost g c = none_cost _ c.args.rules.now.base (rules_in c.args.rules.now.entries.now) c.args.rules.now.index.now.chains.kept.items (lines_at c.args.cursor.now) (place_at c.args.cursor.now) c.args.window.now c.loop-at.at _ _ c.loop-at.invariant.search
+
+pub returns-in-Some-2-clause-rises : goal.returns-in-Some-2-clause-rises
+returns-in-Some-2-clause-rises g c = at_least-goes_on _ _ _ 0 1 c.loop-at.invariant.rises (rw c.in-Some-2.is at c.in_ok-choice.ensures.rises)

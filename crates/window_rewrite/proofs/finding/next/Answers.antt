@@ -1,8 +1,9 @@
-use Rattle.std.proofs.Common.{◌≡◌, ◌∙◌, ◌<◌, List, true, false, length, ap, sym, subst, if◌then◌else◌}
+use Rattle.std.proofs.Common.{◌≡◌, ◌∙◌, ◌<◌, List, true, false, arith, length, ap, sym, subst, if◌then◌else◌}
 use Rattle.thumb_model.specs.Listing.{Line}
 use Rattle.listing_parser.specs.declared.line.Line.{Line as Lines}
 use Rattle.line_cursor.specs.Cursors.{lines_at, place_at}
 use Rattle.line_cursor.proofs.Edits.{one_fewer}
+use Rattle.step_ledger.proofs.Rises.{at_least-fewer, at_least-goes_on}
 use Rattle.window_rewrite.specs.Rules.{rules_in}
 use Rattle.window_rewrite.specs.Choices.{setting_of, NoneBefore}
 use Rattle.window_rewrite.specs.Sweeps.{StandsNear}
@@ -62,9 +63,13 @@ loop-alloc-preserved g c =
       cost =
           piece_cost (length (rules_in c.args.rules.now.entries.now)) (place_at c.loop-alloc.cursor) (place_at c.forward.new.self) c.args.steps.now c.loop-alloc.steps c.best.new.steps c.loop-alloc.cursor.lines.ahead p step.0 c.loop-alloc.invariant.cost
           c.best.ensures.cost c.best.ensures.idle;
+      rises = at_least-goes_on _ _ _ 0 0 c.loop-alloc.invariant.rises (at_least-fewer _ _ _ 0 (omega arith) c.in_ok-choice.ensures.rises);
     }
 
 pub returns-clause-none : goal.returns-clause-none
 returns-clause-none g c =
     let end = at_end c.loop-alloc.cursor c.loop-alloc.invariant.over.kept (c.is_at_end.ensures.0 c.loop-alloc-test.false) in
     none_applies c.loop-alloc.refused c.args.rules.now.base c.args.rules.now.longest (rules_in c.args.rules.now.entries.now) (lines_at c.loop-alloc.cursor) (place_at c.loop-alloc.cursor) c.requires.ready.fit end c.loop-alloc.invariant.none
+
+pub returns-in-Some-clause-rises : goal.returns-in-Some-clause-rises
+returns-in-Some-clause-rises g c = at_least-goes_on _ _ _ 0 1 c.loop-alloc.invariant.rises (rw c.in-Some.is at c.in_ok-choice.ensures.rises)

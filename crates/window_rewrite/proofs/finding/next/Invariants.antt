@@ -1,5 +1,6 @@
 use Rattle.std.proofs.Common.{◌≡◌, ◌+◌, ◌*◌, ◌≤◌, false, length}
 use Rattle.line_cursor.specs.Cursors.{lines_at, place_at}
+use Rattle.step_ledger.specs.Counts.{RisesByAtLeast}
 use Rattle.window_rewrite.specs.Rules.{rules_in}
 use Rattle.window_rewrite.specs.Choices.{setting_of, NoneBefore}
 use Rattle.window_rewrite.specs.Sweeps.{is_steady, IsOver}
@@ -12,6 +13,7 @@ invariant-loop-alloc g l = record {
   lines : lines_at l.cursor ≡ lines_at l.initial.cursor;
   none : NoneBefore l.refused (setting_of l.rules) (lines_at l.cursor) (place_at l.cursor);
   clear : NoneBefore false (setting_of l.rules) (lines_at l.cursor) l.clear;
+  rises : RisesByAtLeast l.initial.steps l.steps 0;
   cost : l.steps ≤ l.initial.steps + place_at l.cursor * length (rules_in l.rules.entries.now);
 }
 

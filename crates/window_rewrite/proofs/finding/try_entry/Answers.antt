@@ -10,9 +10,7 @@ use Rattle.thumb_instr.specs.Window.{is_in_window}
 use Rattle.thumb_instr.specs.Items.{has}
 use Rattle.thumb_model.specs.Layout.{Layable}
 use Rattle.thumb_model.specs.Listing.{Line, labels_from, places_of}
-use Rattle.rule_model.specs.Rules.{Rule}
-use Rattle.thumb_model.specs.Sides.{register_count}
-use Rattle.rule_model.specs.Rewriting.{left_length}
+use Rattle.rule_model.specs.Rules.{Rule, rule_registers}
 use Rattle.thumb_model.specs.ReplacedLines.{replaced_lines}
 use Rattle.rule_table.specs.declared.table.Entry.{Entry}
 use Rattle.listing_parser.specs.Parsing.{own_line}
@@ -20,7 +18,7 @@ use Rattle.line_cursor.specs.Cursors.{lines_at, place_at, IsSettled}
 use Rattle.table_audit.proofs.Names.{has_one}
 use Rattle.window_rewrite.specs.declared.finding.Rules.{Rules}
 use Rattle.window_rewrite.specs.Rewriting.{registers_of}
-use Rattle.window_rewrite.specs.Rules.{entry_rule, rules_in, IsFit}
+use Rattle.window_rewrite.specs.Rules.{entry_rule, rules_in, side_length, IsFit}
 use Rattle.window_rewrite.specs.Choices.{setting_of, AreReady}
 use Rattle.window_rewrite.proofs.Sides.{stands_once}
 use Rattle.window_rewrite.proofs.Applied.{applied, back, back_laid, laid, letters_all, IsMade}
@@ -44,7 +42,7 @@ entry r number count window read ready within is e f =
     record { at = at; fit = ready.fit number (entry_rule one) at; long = sym e ∙ f }
 
 -- how long the left side of an entry that was read is
-long : (entries : List Entry) (number : ℕ) (read : Entry) → number < length entries → read ≡ slice_index_or entries number read → left_length (rules_in entries) number ≡ length (slice_index_or entries number read).left
+long : (entries : List Entry) (number : ℕ) (read : Entry) → number < length entries → read ≡ slice_index_or entries number read → side_length (rules_in entries) number ≡ length (slice_index_or entries number read).left
 long entries number read within is =
     let e : Entry = slice_index_or entries number read in
     let there : slice_get entries number ≡ Some e = slice_get_read entries _ _ read refl within is ∙ ap Some is in
@@ -52,7 +50,7 @@ long entries number read within is =
 
 -- the left side is as long as the window
 as_long : (entries : List Entry) (number count : ℕ) (window : List Instr) (read : Entry) → number < length entries → read ≡ slice_index_or entries number read → count ≡ length (slice_index_or entries number read).left → count ≡ length window
-    → left_length (rules_in entries) number ≡ length window
+    → side_length (rules_in entries) number ≡ length window
 as_long entries number count window read within is e f = long entries number read within is ∙ (sym e ∙ f)
 
 -- a match is counted where the left side is as long
@@ -69,7 +67,7 @@ returns-then-not-may_fit-clause-none g c = λ _ registers a.
     let e = entry c.args.rules.now c.args.number c.len.result c.args.window.now c.index-rules-number.result c.requires.ready c.requires.number c.index-rules-number.is c.len.ensures.value c.if-len-window.false in
     let read : Entry = slice_index_or c.args.rules.now.entries.now c.args.number c.index-rules-number.result in
     let rule : Rule = entry_rule read in
-    let b = back c.args.rules.now.base (rules_in c.args.rules.now.entries.now) (lines_at c.args.cursor.now) (place_at c.args.cursor.now) c.args.number rule registers c.args.window.now c.args.form.now.live.bits e.at e.long c.requires.stands a.0 in
+    let b = back c.args.rules.now.base (rules_in c.args.rules.now.entries.now) (lines_at c.args.cursor.now) (place_at c.args.cursor.now) c.args.number rule registers c.args.window.now c.args.form.now.live.bits e.at e.fit.own e.long c.requires.stands a.0 in
     let has_all : (x : ℕ) → has c.args.form.now.mask.items.bits x ≡ true → has read.mask.items.bits x ≡ true = λ x h. (has_one read.mask.items.bits x (c.requires.form.mask rule registers e.fit.sound e.fit.canonical b.fits x h)).0 in
     absurd (true≢false (sym (c.may_fit.ensures has_all) ∙ c.if-not-may_fit.true))
 
@@ -87,7 +85,7 @@ pub returns-in-None-clause-none : goal.returns-in-None-clause-none
 returns-in-None-clause-none g c = λ _ registers a.
     let e = entry c.args.rules.now c.args.number c.len.result c.args.window.now c.index-rules-number.result c.requires.ready c.requires.number c.index-rules-number.is c.len.ensures.value c.if-len-window.false in
     let rule : Rule = entry_rule (slice_index_or c.args.rules.now.entries.now c.args.number c.index-rules-number.result) in
-    let b = back c.args.rules.now.base (rules_in c.args.rules.now.entries.now) (lines_at c.args.cursor.now) (place_at c.args.cursor.now) c.args.number rule registers c.args.window.now c.args.form.now.live.bits e.at e.long c.requires.stands a.0 in
+    let b = back c.args.rules.now.base (rules_in c.args.rules.now.entries.now) (lines_at c.args.cursor.now) (place_at c.args.cursor.now) c.args.number rule registers c.args.window.now c.args.form.now.live.bits e.at e.fit.own e.long c.requires.stands a.0 in
     c.in-None.ensures registers b.fits
 
 pub returns-then-not-is_settled-clause-none : goal.returns-then-not-is_settled-clause-none
@@ -97,7 +95,7 @@ returns-then-not-is_settled-clause-none g c = λ _ given a.
     let registers : List Low = registers_of c.in-Some.map in
     let new : c.renamed_all-new.result ≡ map (renamed registers) rule.right =
     c.renamed_all-new.ensures ∙ ap (λ (rs : List Low). map (renamed rs) c.as_slice.result.now) (c.deref.ensures.0 ∙ c.registers_of.ensures) ∙ ap (map (renamed registers)) c.as_slice.ensures.value in
-    let b = back c.args.rules.now.base (rules_in c.args.rules.now.entries.now) (lines_at c.args.cursor.now) (place_at c.args.cursor.now) c.args.number rule given c.args.window.now c.args.form.now.live.bits e.at e.long c.requires.stands a.0 in
+    let b = back c.args.rules.now.base (rules_in c.args.rules.now.entries.now) (lines_at c.args.cursor.now) (place_at c.args.cursor.now) c.args.number rule given c.args.window.now c.args.form.now.live.bits e.at e.fit.own e.long c.requires.stands a.0 in
     let same : given ≡ registers = stands_once rule given registers c.args.window.now e.fit.sound e.fit.canonical b.fits.stands c.in-Some.ensures.0.stands in
     let is : map (renamed given) rule.right ≡ c.as_slice-2.result.now = ap (λ (rs : List Low). map (renamed rs) rule.right) same ∙ sym (c.as_slice-2.ensures.value ∙ new) in
     let settled = c.is_settled.ensures.1 (subst (λ (js : List Instr). IsSettled (places_of (lines_at c.args.cursor.now)) (labels_from 0 (lines_at c.args.cursor.now)) (place_at c.args.cursor.now) (length c.args.window.now) js) is b.settled) in
@@ -111,7 +109,7 @@ moved_layout-requires-clause-letters g c =
     let registers : List Low = registers_of c.in-Some.map in
     let new : c.renamed_all-new.result ≡ map (renamed registers) rule.right =
     c.renamed_all-new.ensures ∙ ap (λ (rs : List Low). map (renamed rs) c.as_slice.result.now) (c.deref.ensures.0 ∙ c.registers_of.ensures) ∙ ap (map (renamed registers)) c.as_slice.ensures.value in
-    subst (λ (is : List Instr). list_all is_in_window is ≡ true) (sym (c.as_slice-3.ensures.value ∙ new)) (letters_all (register_count rule.left) registers rule.right e.fit.sound.right)
+    subst (λ (is : List Instr). list_all is_in_window is ≡ true) (sym (c.as_slice-3.ensures.value ∙ new)) (letters_all (rule_registers rule) registers rule.right e.fit.sound.right)
 
 pub moved_layout-requires-clause-fewer : goal.moved_layout-requires-clause-fewer
 moved_layout-requires-clause-fewer g c =
@@ -133,7 +131,7 @@ returns-in-None-2-clause-none g c = λ _ given a.
     let registers : List Low = registers_of c.in-Some.map in
     let new : c.renamed_all-new.result ≡ map (renamed registers) rule.right =
     c.renamed_all-new.ensures ∙ ap (λ (rs : List Low). map (renamed rs) c.as_slice.result.now) (c.deref.ensures.0 ∙ c.registers_of.ensures) ∙ ap (map (renamed registers)) c.as_slice.ensures.value in
-    let b = back c.args.rules.now.base (rules_in c.args.rules.now.entries.now) (lines_at c.args.cursor.now) (place_at c.args.cursor.now) c.args.number rule given c.args.window.now c.args.form.now.live.bits e.at e.long c.requires.stands a.0 in
+    let b = back c.args.rules.now.base (rules_in c.args.rules.now.entries.now) (lines_at c.args.cursor.now) (place_at c.args.cursor.now) c.args.number rule given c.args.window.now c.args.form.now.live.bits e.at e.fit.own e.long c.requires.stands a.0 in
     let laid = back_laid c.args.rules.now.base (rules_in c.args.rules.now.entries.now) (lines_at c.args.cursor.now) (place_at c.args.cursor.now) c.args.number rule given c.args.window.now e.at e.long a in
     let same : given ≡ registers = stands_once rule given registers c.args.window.now e.fit.sound e.fit.canonical b.fits.stands c.in-Some.ensures.0.stands in
     let is : map (renamed given) rule.right ≡ c.as_slice-3.result.now = ap (λ (rs : List Low). map (renamed rs) rule.right) same ∙ sym (c.as_slice-3.ensures.value ∙ new) in
@@ -165,8 +163,8 @@ returns-clause-some g c =
     let asked : is_steady c.args.ground.now ≡ false → Layable c.args.rules.now.base (replaced_lines own_line place (length c.args.window.now) (map (renamed registers) rule.right) lines) =
     λ f. subst (λ (js : List Instr). Layable c.args.rules.now.base (replaced_lines own_line place (length c.args.window.now) js lines)) (c.as_slice-3.ensures.value ∙ new) (c.in_ok-moved_layout.ensures.layable.0 (ap is_some c.in-Some-2.is) f) in
     let m =
-    applied c.args.rules.now.base (rules_in c.args.rules.now.entries.now) lines place c.args.number rule registers c.args.window.now c.args.form.now.live.bits c.renamed_all-new.result e.at e.fit.sound c.requires.stands c.in-Some.ensures.0 new settled
-    (laid c.args.rules.now c.args.ground.now lines place rule registers c.args.window.now c.requires.over.over e.fit.sound count asked) in
+    applied c.args.rules.now.base (rules_in c.args.rules.now.entries.now) lines place c.args.number rule registers c.args.window.now c.args.form.now.live.bits c.renamed_all-new.result e.at e.fit.sound e.fit.own c.requires.stands c.in-Some.ensures.0 new settled
+    (laid c.args.rules.now c.args.ground.now lines place rule registers c.args.window.now c.requires.over.over e.fit.sound c.in-Some.ensures.0.shorter count asked) in
     let number : c.args.number ≡ c.args.number + 1 - 1 = omega arith in
     let made_at : IsMade (setting_of c.args.rules.now) lines c.place.result (c.args.number + 1 - 1) registers c.copied.result c.renamed_all-new.result =
     subst (λ p. IsMade (setting_of c.args.rules.now) lines p (c.args.number + 1 - 1) registers c.copied.result c.renamed_all-new.result) (sym c.place.ensures)

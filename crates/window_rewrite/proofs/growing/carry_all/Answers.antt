@@ -7,6 +7,7 @@ use Rattle.liveness.specs.Live.{Sets}
 use Rattle.liveness.specs.Growing.{IsCarried, IsCarrying, LeadsFrom}
 use Rattle.liveness.proofs.Carried.{none_carried, source_pushed, source_idle, sources_done}
 use Rattle.line_cursor.specs.Cursors.{lines_at, spots_at, sets_of}
+use Rattle.step_ledger.proofs.Rises.{at_least-fewer, at_least-goes_on, at_least-ticks}
 use Rattle.window_rewrite.proofs.Grown.{as_it_was, grown_on, carried_grown, grown_spots}
 use Rattle.window_rewrite.proofs.growing.carry_all.Goals.{then-carry+in_ok-push, else-carry}
 use Rattle.window_rewrite.proofs.growing.carry_all.Goals as goal
@@ -17,6 +18,7 @@ loop-source-init g c = record {
   carrying = none_carried (code_of (lines_at c.args.cursor.now)) c.args.place c.args.sources.now c.args.pending.now.items (sets_of (spots_at c.args.cursor.now)) c.requires.growing;
   more = omega arith;
   cost = omega arith;
+  rises = omega arith;
 }
 
 pub carry-requires : goal.carry-requires
@@ -51,6 +53,7 @@ loop-source-preserved g c =
     let tick = c.tick.ensures in
     let more = c.loop-source.invariant.more in
     let so = c.loop-source.invariant.carrying in
+    let rises = at_least-goes_on _ _ _ 0 0 c.loop-source.invariant.rises (at_least-fewer _ _ 1 0 (omega arith) (at_least-ticks _ _ tick)) in
     elim c.if-carry.branch [
       | then-carry+in_ok-push w ↦ (
           let m : IsCarried was s source now true = subst (IsCarried was s source now) w.if-carry.true carried.carried in
@@ -63,6 +66,7 @@ loop-source-preserved g c =
             carrying = subst (λ (l : List ℕ). IsCarrying code s sources (k + 1) l now) (sym pushed) (source_pushed code s sources k source c.loop-source.pending.items was now so leads at m);
             more = omega arith;
             cost = omega arith;
+            rises = rises;
           }
           )
       | else-carry w ↦ (
@@ -75,6 +79,7 @@ loop-source-preserved g c =
             carrying = subst (λ (l : List ℕ). IsCarrying code s sources (k + 1) l now) (sym items) (source_idle code s sources k source c.loop-source.pending.items was now so leads at m);
             more = omega arith;
             cost = omega arith;
+            rises = rises;
           }
           )
     ]

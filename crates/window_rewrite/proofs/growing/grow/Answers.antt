@@ -7,6 +7,7 @@ use Rattle.liveness.specs.Growing.{IsGrowing}
 use Rattle.liveness.specs.Passes.{total}
 use Rattle.liveness.proofs.Carried.{all_is_live, few_items, pending_last}
 use Rattle.line_cursor.specs.Cursors.{lines_at, spots_at, sets_of}
+use Rattle.step_ledger.proofs.Rises.{at_least-goes_on}
 use Rattle.window_rewrite.specs.Sweeps.{growing_cost}
 use Rattle.window_rewrite.proofs.Grown.{as_it_was, grown_on, grown_lines, grown_is, grown_flows, looked, nothing_left}
 use Rattle.window_rewrite.proofs.growing.grow.Goals as goal
@@ -21,6 +22,7 @@ loop-place-init g c =
       grown = as_it_was c.args.cursor.now;
       growing = subst (λ (l : List ℕ). IsGrowing (code_of (lines_at c.args.cursor.now)) l (sets_of (spots_at c.args.cursor.now))) (sym one) c.requires.growing;
       cost = omega arith;
+      rises = omega arith;
     }
 
 pub sources-requires-clause-is : goal.sources-requires-clause-is
@@ -68,6 +70,7 @@ loop-place-preserved g c =
       grown = grown_on c.args.cursor.now c.loop-place.cursor c.carry_all.new.cursor c.loop-place.invariant.grown c.in_ok-carry_all.ensures.grown;
       growing = subst (λ (l : List Line). IsGrowing (code_of l) c.carry_all.new.pending.items (sets_of (spots_at c.carry_all.new.cursor))) lines c.in_ok-carry_all.ensures.growing;
       cost = looked c.args.steps.now (growing_cost q) c.loop-place.steps c.carry_all.new.steps (19 * q + length c.loop-place.pending.items - was) (19 * q + length c.carry_all.new.pending.items - now) (q + 1) c.loop-place.invariant.cost (omega arith) left;
+      rises = at_least-goes_on _ _ _ 0 0 c.loop-place.invariant.rises c.in_ok-carry_all.ensures.rises;
     }
 
 pub returns-clause-grown : goal.returns-clause-grown

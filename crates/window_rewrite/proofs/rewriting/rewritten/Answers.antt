@@ -1,5 +1,6 @@
 use Rattle.std.proofs.Common.{length, arith}
 use Rattle.thumb_model.specs.Listing.{places_of}
+use Rattle.step_ledger.proofs.Rises.{at_least-fewer, at_least-goes_on}
 use Rattle.window_rewrite.specs.Rules.{rules_in}
 use Rattle.window_rewrite.specs.Choices.{setting_of}
 use Rattle.window_rewrite.proofs.Ways.{last_sweep, next_sweep}
@@ -31,4 +32,15 @@ loop-replacements-preserved g c =
       fewer = let places = swept.fewer in let given = here.fewer in omega arith;
       cost = next_sweep (length (rules_in c.args.rules.now.entries.now)) (length (places_of c.loop-replacements.current)) (length (places_of c.args.listing)) c.args.steps.now c.loop-replacements.steps c.sweep.new.steps
           (length c.loop-replacements.replacements.items) (length c.sweep.new.replacements.items) c.in_ok-listing.field-0.is_done c.if-is_done.false here.fewer here.cost swept.cost swept.more;
+      rises =
+          let more = swept.more in
+          at_least-fewer _ _ _ _ (omega arith) (at_least-goes_on _ _ _ _ _ here.rises swept.rises);
     }
+
+pub returns-then-is_done-clause-rises : goal.returns-then-is_done-clause-rises
+returns-then-is_done-clause-rises g c =
+    let swept = c.in_ok-listing.ensures in
+    let here = c.loop-replacements.invariant in
+    let fewer = here.fewer in
+    let more = swept.more in
+    at_least-fewer _ _ _ _ (omega arith) (at_least-goes_on _ _ _ _ _ here.rises swept.rises)

@@ -1,6 +1,7 @@
 use Rattle.std.proofs.Common.{ℕ, ◌+◌, ◌*◌, ◌≤◌, List, not, length, sym, subst, arith}
 use Rattle.std.specs.Int.{from_bool}
 use Rattle.thumb_model.specs.Listing.{Line, places_of}
+use Rattle.step_ledger.proofs.Rises.{at_least-goes_on}
 use Rattle.window_rewrite.specs.Rewriting.{round_cost, visits}
 use Rattle.window_rewrite.specs.Rules.{rules_in}
 use Rattle.window_rewrite.specs.Choices.{setting_of}
@@ -34,3 +35,6 @@ returns-clause-cost g c =
     let through = subst (λ (l : List Line). c.sweep_lines.new.steps + visits (length (places_of l)) + old * round_cost (length (places_of l)) entries ≤ c.live_and_flows.new.steps + n * round_cost (length (places_of l)) entries) c.into_lines-lines.ensures.lines c.in_ok-swept.ensures.cost in
     let found = c.in_ok-live.ensures.cost in
     omega arith
+
+pub returns-clause-rises : goal.returns-clause-rises
+returns-clause-rises g c = at_least-goes_on _ _ _ _ _ c.in_ok-live.ensures.visited c.in_ok-swept.ensures.rises

@@ -26,7 +26,7 @@ go_back-requires-clause-ending g c =
     let lines : lines_at c.make.new.cursor ≡ lines_after (setting_of c.args.rules.now) o (lines_at c.args.cursor.now) =
     leaves_here (setting_of c.args.rules.now) (lines_at c.args.cursor.now) (lines_at c.make.new.cursor) choice (place_at c.args.cursor.now) c.as_slice-window.result.now c.as_slice-new.result.now
     c.requires.choice.is c.requires.here c.as_slice-window.ensures.value c.as_slice-new.ensures.value c.in_ok-make.ensures.lines in
-    turned_ending (setting_of c.args.rules.now) c.args.cursor.now c.make.new.cursor o c.in-Some.lead c.args.found.now.clear _ c.requires.over.kept c.requires.choice.is.applies c.requires.here kept lines same c.requires.clear
+    turned_ending c.args.rules.now c.args.cursor.now c.make.new.cursor o c.in-Some.lead c.args.found.now.clear _ c.requires.ready c.requires.over.kept c.requires.choice.is.applies c.requires.here kept lines same c.requires.clear
     (omega (arith, c.saturating_sub-changed.ensures, c.min.ensures)) (omega (arith, c.min.ensures))
 
 pub give_way-requires : goal.give_way-requires
