@@ -40,7 +40,7 @@ mapped f [] k y e = absurd (cc)
 mapped f (x ∷ xs) zero y e = record { from = x; at = refl; is = same_Some (f x) y e }
 mapped f (x ∷ xs) (suc k) y e = let m = mapped f xs k y e in record { from = m.from; at = m.at; is = m.is }
 
-pub are_fit : (t : Table) → IsAccepted t → IsSound t → AreFit t.left (rules_of t)
+pub are_fit : (t : Table) → IsAccepted t → IsSound t → AreFit t.header.left (rules_of t)
 are_fit t p s k rule at =
     let m = mapped rewriting_rule t.rules k rule at in
     let sides = sides_at t k m.from p m.at in
@@ -49,7 +49,7 @@ are_fit t p s k rule at =
       sound = s.sound k 0 rule (alone_at (rules_of t) k rule at);
       own = subst (λ (r : model.Rule). model.rule_registers r ≡ register_count r.left) m.is (own_registers (rewriting_rule m.from) right);
       canonical = subst (λ (r : model.Rule). IsCanonicalSide r.left) m.is sides.canonical;
-      short = subst (λ (r : model.Rule). length r.left ≤ t.left) m.is sides.short;
+      short = subst (λ (r : model.Rule). length r.left ≤ t.header.left) m.is sides.short;
     }
 
 pub rules_length : (entries : List Entry) → length (rules_in entries) ≡ length entries

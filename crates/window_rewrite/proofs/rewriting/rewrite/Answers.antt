@@ -2,6 +2,7 @@ use Rattle.std.proofs.Common.{◌≡◌, ◌∙◌, ◌≤◌, ◌+◌, List, le
 use Rattle.rule_model.specs.Rules.{Rule, alone}
 use Rattle.rule_model.specs.Rewriting.{AreRewritten}
 use Rattle.rule_model.proofs.LinesKept.{lines_same}
+use Rattle.rule_table.specs.declared.header.Field.TheVariants.{Left}
 use Rattle.rule_table.specs.declared.table.Entry.{Entry}
 use Rattle.rule_table.specs.declared.table.Table.{Table}
 use Rattle.rule_table.specs.Views.{table_of}
@@ -18,7 +19,7 @@ rewritten-requires-clause-ready g c =
     let fit : AreFit c.args.table.now.left (rules_of (table_of c.args.table.now)) = are_fit (table_of c.args.table.now) table.accepted table.sound in
     let there : AreFit c.table-accepted.result.now.left (rules_in c.table-accepted.result.now.entries.items) = subst (λ (t : Table). AreFit t.left (rules_in t.entries.items)) (sym same) fit in
     record {
-      few = subst (λ (t : Table). t.left ≤ 5) (sym same) table.valid.few_left;
+      few = subst (λ (t : Table). t.left ≤ 5) (sym same) (table.valid.header.numbers Left).1;
       fit = subst (λ (es : List Entry). AreFit c.table-accepted.result.now.left (rules_in es)) (sym c.as_slice-entries.ensures.value) there;
       index = c.in_ok-index.ensures;
     }
