@@ -4,6 +4,7 @@ use Rattle.std.specs.List.{flat_map, list_all, list_any, slice_split}
 use Rattle.std.specs.Str.{bytes_eq, IsUtf8}
 use Rattle.ascii_scan.specs.Numeral.{numeral, decimal}
 use Rattle.seq_enum.specs.Pools.{is_pool}
+use Rattle.rule_table.specs.Header.{Header}
 
 abbrev pub Text : Type 0
 Text = List ℕ
@@ -114,23 +115,13 @@ abbrev pub pool_of : Option Text → Option (List ℕ)
 pool_of None = Some (0 ∷ 1 ∷ 2 ∷ 4 ∷ 8 ∷ 16 ∷ 24 ∷ 31 ∷ 255 ∷ [])
 pool_of (Some v) = option_and_then (λ ns. if is_pool ns then Some ns else None) (all_given (map decimal (between_commas v)))
 
--- the settings of a learner
-pub record Settings : Type 0 where
-  -- the most registers and the most instructions of a left side
-  pub regs : ℕ
-  pub left : ℕ
-  -- the clauses of a query
-  pub budget : ℕ
-  pub seed : ℕ
-  pub pool : List ℕ
-
--- settings of these parts, or none where one of them is none
-abbrev pub settings_by : (regs left budget seed : Option ℕ) → Option (List ℕ) → Option Settings
+-- a learner's settings of these parts, which are the header of its table, or none where one of them is none
+abbrev pub settings_by : (regs left budget seed : Option ℕ) → Option (List ℕ) → Option Header
 settings_by regs left budget seed pool = option_and_then (λ r. option_and_then (λ l. option_and_then (λ b. option_and_then (λ s.
-    option_map (λ p. record { regs = r; left = l; budget = b; seed = s; pool = p }) pool) seed) budget) left) regs
+    option_map (λ p. record { version = 1; regs = r; left = l; budget = b; seed = s; pool = p }) pool) seed) budget) left) regs
 
 -- the settings by the values of the options
-abbrev pub settings_of : (Text → Option Text) → Option Settings
+abbrev pub settings_of : (Text → Option Text) → Option Header
 settings_of value = settings_by
     (number_from 1 4 3 (value (codes "regs")))
     (number_from 1 5 3 (value (codes "left")))
@@ -142,7 +133,7 @@ settings_of value = settings_by
 pub data Request : Type 0 where
   rewrite : (table listing out image : Text) → ℕ → Request
   audit : (table : Text) → Request
-  learn : (listing out : Text) → Settings → Request
+  learn : (listing out : Text) → Header → Request
   export : (table : Text) (entry : ℕ) (cnf lrat : Text) → Request
   trace : (listing label : Text) → ℕ → Request
   demo : (windows : ℕ) → Request

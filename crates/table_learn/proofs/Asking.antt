@@ -25,6 +25,7 @@ use Rattle.lrat_check.specs.Text.{IsLine}
 use Rattle.cdcl_core.specs.declared.solving.Verdict.TheVariants.{Unsat, Spent}
 use Rattle.cdcl_core.specs.Solved.{AreBelow, VerdictOf}
 use Rattle.cdcl_core.proofs.Statements.{code_below}
+use Rattle.table_learn.specs.Settings.{Settings}
 use Rattle.table_learn.specs.Learnt.{IsRefutation, IsSpentSearch}
 use Rattle.table_learn.specs.Tellings.{told, tells_apart}
 use Rattle.std.proofs.Common.{Result, Ok, Err}
@@ -85,9 +86,9 @@ pub first_part : (states listed : List WState) → listed ≡ take 8 states → 
 first_part states listed e = sym (ap (λ (ss : List WState). map seen ss ++ map seen (drop 8 states)) e ∙ sym (map-append seen (take 8 states) (drop 8 states)) ∙ ap (map seen) (take-append-drop 8 states))
 
 -- the solver is asked where no listed state tells
-pub answered : (r : Result Finding AllocError) (budget : ℕ) (states : List Seen) (w : code.Window) (seq : List Instr) → w.k ≡ named_count w.left → told states w.left seq w.mask.items.bits ≡ false → IfOk r (IsAnswer budget w seq) → IfOk r (IsFinding budget states (window_in w) seq)
-answered (Ok Told) budget states w seq n u a = absurd a
-answered (Ok (State s)) budget states w seq n u a = (u, a.0, a.1)
-answered (Ok (Proof log)) budget states w seq n u a = (subst (λ k. IsRefutation budget (sides_formula w.left seq w.mask.items.bits k) (map content_of log.items)) n a.0, a.1)
-answered (Ok (Log log)) budget states w seq n u a = (u, subst (λ k. IsSpentSearch budget (sides_formula w.left seq w.mask.items.bits k) (map content_of log.items)) n a.0, a.1)
-answered (Err e) budget states w seq n u a = tt
+pub answered : (r : Result Finding AllocError) (s : Settings) (states : List Seen) (w : code.Window) (seq : List Instr) → w.k ≡ named_count w.left → told states w.left seq w.mask.items.bits ≡ false → IfOk r (IsAnswer s.budget w seq) → IfOk r (IsFinding s states (window_in w) seq)
+answered (Ok Told) s states w seq n u a = absurd a
+answered (Ok (State x)) s states w seq n u a = (u, a.0, a.1)
+answered (Ok (Proof log)) s states w seq n u a = (subst (λ k. IsRefutation s.budget (sides_formula w.left seq w.mask.items.bits k) (map content_of log.items)) n a.0, a.1)
+answered (Ok (Log log)) s states w seq n u a = (u, subst (λ k. IsSpentSearch s.budget (sides_formula w.left seq w.mask.items.bits k) (map content_of log.items)) n a.0, a.1)
+answered (Err e) s states w seq n u a = tt

@@ -26,7 +26,7 @@ use Rattle.rule_table.specs.Valid.{IsState}
 use Rattle.table_audit.specs.Sides.{named_count}
 use Rattle.table_audit.specs.Shorter.{IsTold}
 use Rattle.table_audit.proofs.Numbering.{below_in}
-use Rattle.table_learn.specs.Settings.{Window}
+use Rattle.table_learn.specs.Settings.{Settings, Window}
 use Rattle.table_learn.specs.Tellings.{told}
 use Rattle.table_learn.specs.Searching.{shorter_than, AreCandidates}
 use Rattle.table_learn.proofs.Telling.{told_more, untold}
@@ -85,28 +85,28 @@ with_words states all k d low =
     let v : IsState (seen (get_or states k d)) = subst IsState there (all k (seen d) within) in
     (v.four, v.words)
 
-pub candidates_are : (pool : List ℕ) (listed : List WState) (later states : List Seen) (w : Window) (k mask longest print count : ℕ) (pairs : List (ℕ × ℕ)) (found numbers : List ℕ) → k ≡ named_count w.seq → mask ≡ w.mask → length w.seq ≤ longest + 1 → longest ≤ 5 → length w.seq ≤ 5 → IsMask w.mask
-    → states ≡ map seen listed ++ later → All IsState states → IsIndexOf (prints_within mask (map values_of listed) (alphabet k pool) longest) pairs → print ≡ print_after mask (map values_of listed) w.seq
-    → found ≡ kept_at pairs print → count ≡ length (shorter_than pool w) → numbers ≡ filter (λ n. nat_lt n count) found → AreCandidates pool states w numbers
-candidates_are pool listed later states w k mask longest print count pairs found numbers named same long few short m first valid index p f c n =
+pub candidates_are : (s : Settings) (listed : List WState) (later states : List Seen) (w : Window) (k mask longest print count : ℕ) (pairs : List (ℕ × ℕ)) (found numbers : List ℕ) → k ≡ named_count w.seq → mask ≡ w.mask → length w.seq ≤ longest + 1 → longest ≤ 5 → length w.seq ≤ 5 → IsMask w.mask
+    → states ≡ map seen listed ++ later → All IsState states → IsIndexOf (prints_within mask (map values_of listed) (alphabet k s.pool) longest) pairs → print ≡ print_after mask (map values_of listed) w.seq
+    → found ≡ kept_at pairs print → count ≡ length (shorter_than s w) → numbers ≡ filter (λ n. nat_lt n count) found → AreCandidates s states w numbers
+candidates_are s listed later states w k mask longest print count pairs found numbers named same long few short m first valid index p f c n =
     let vs : List Values = map values_of listed in
-    let letters : List Instr = alphabet k pool in
+    let letters : List Instr = alphabet k s.pool in
     let scan : found ≡ scanned print 0 (prints_within mask vs letters longest) = f ∙ index.numbers print in
     let words : All HasWords listed = with_words listed (All-left IsState (map seen listed) later (subst (All IsState) first valid)) in
     record {
       ascending = subst (λ ns. ascends_from 0 ns ≡ true) (sym n) (filter_ascends (λ j. nat_lt j count) 0 found (subst (λ ns. ascends_from 0 ns ≡ true) (sym scan) (scan_ascends print 0 (prints_within mask vs letters longest))));
-      within = subst (All (λ q. q < length (shorter_than pool w))) (sym n)
-          (All-weaker (λ q. nat_lt q count ≡ true) (λ q. q < length (shorter_than pool w)) (λ q t. let l = ltb-true q count t in omega (arith, l, c)) (filter (λ j. nat_lt j count) found) (filter_passes (λ j. nat_lt j count) found));
+      within = subst (All (λ q. q < length (shorter_than s w))) (sym n)
+          (All-weaker (λ q. nat_lt q count ≡ true) (λ q. q < length (shorter_than s w)) (λ q t. let l = ltb-true q count t in omega (arith, l, c)) (filter (λ j. nat_lt j count) found) (filter_passes (λ j. nat_lt j count) found));
       others = λ q seq at. elim (cases_Bool (told (map seen listed) w.seq seq w.mask)) [
         | inl does ↦ inr (subst (λ ys. told ys w.seq seq w.mask ≡ true) (sym first) (told_more (map seen listed) later w.seq seq w.mask does))
         | inr never ↦ (
             let quiet = no_teller listed w.seq seq w.mask m never in
             let alike : print_after w.mask vs w.seq ≡ print_after w.mask vs seq = untold_alike listed w.seq seq w.mask words quiet in
-            let place = below_in (named_count w.seq) pool (length w.seq) q seq (omega (arith, short)) at in
-            let there : slice_get (sequences k pool) q ≡ Some seq = subst (λ j. slice_get (sequences j pool) q ≡ Some seq) (sym named) place.0 in
+            let place = below_in (named_count w.seq) s.pool (length w.seq) q seq (omega (arith, short)) at in
+            let there : slice_get (sequences k s.pool) q ≡ Some seq = subst (λ j. slice_get (sequences j s.pool) q ≡ Some seq) (sym named) place.0 in
             let has : print_after mask vs seq ≡ print = ap (λ j. print_after j vs seq) same ∙ sym alike ∙ ap (λ j. print_after j vs w.seq) (sym same) ∙ sym p in
             let one : Contains (scanned print 0 (prints_within mask vs letters longest)) q = sequence_is_candidate mask longest print q vs letters few (seq, there, omega (arith, place.1, long), has) in
-            let low : q < count = (let l = slice_get_within (shorter_than pool w) q seq at in omega (arith, l, c)) in
+            let low : q < count = (let l = slice_get_within (shorter_than s w) q seq at in omega (arith, l, c)) in
             inl (subst (λ ns. Contains ns q) (sym n) (filter_has (λ j. nat_lt j count) found q (lt-ltb q count low) (subst (λ ns. Contains ns q) (sym scan) one)))
             )
       ];

@@ -11,6 +11,7 @@ use Rattle.rule_table.specs.Table.{Opened, Rule}
 use Rattle.rule_table.specs.Views.{opened_of, rule_of}
 use Rattle.rule_table.specs.Text.{open_items, rule_items}
 use Rattle.table_learn.specs.Lengths.{lines_length, opens_length, rules_length}
+use Rattle.table_learn.specs.Settings.{Settings}
 use Rattle.table_learn.specs.Fitness.{without_told}
 use Rattle.table_learn.specs.Dropping.{Dropped, runs_on}
 use Rattle.table_learn.proofs.TextLengths.{opens_push, rules_push, entry_lines}
@@ -35,33 +36,33 @@ new_longer kept new x n = ap (λ (os : List code.Open). opens_length (map opened
 
 -- ---- entries ----
 
-pub entry_kept : (pool : List ℕ) (found : List Seen) (xs kept new : List Entry) (x y : Entry) (freed : ℕ) → Dropped pool found (rule_of x) (rule_of y) freed → map rule_of kept ≡ map (without_told pool found) (map rule_of xs) → new ≡ kept ++ y ∷ [] → map rule_of new ≡ map (without_told pool found) (map rule_of (xs ++ x ∷ []))
-entry_kept pool found xs kept new x y freed d k n =
+pub entry_kept : (s : Settings) (found : List Seen) (xs kept new : List Entry) (x y : Entry) (freed : ℕ) → Dropped s found (rule_of x) (rule_of y) freed → map rule_of kept ≡ map (without_told s found) (map rule_of xs) → new ≡ kept ++ y ∷ [] → map rule_of new ≡ map (without_told s found) (map rule_of (xs ++ x ∷ []))
+entry_kept s found xs kept new x y freed d k n =
     let a : map rule_of new ≡ map rule_of kept ++ rule_of y ∷ [] = ap (map rule_of) n ∙ map_push rule_of kept y in
-    let b : map (without_told pool found) (map rule_of (xs ++ x ∷ [])) ≡ map (without_told pool found) (map rule_of xs) ++ without_told pool found (rule_of x) ∷ [] =
-    ap (map (without_told pool found)) (map_push rule_of xs x) ∙ map_push (without_told pool found) (map rule_of xs) (rule_of x) in
-    a ∙ ap (λ ys. ys ++ rule_of y ∷ []) k ∙ ap (λ (r : Rule). map (without_told pool found) (map rule_of xs) ++ r ∷ []) d.rest ∙ sym b
+    let b : map (without_told s found) (map rule_of (xs ++ x ∷ [])) ≡ map (without_told s found) (map rule_of xs) ++ without_told s found (rule_of x) ∷ [] =
+    ap (map (without_told s found)) (map_push rule_of xs x) ∙ map_push (without_told s found) (map rule_of xs) (rule_of x) in
+    a ∙ ap (λ ys. ys ++ rule_of y ∷ []) k ∙ ap (λ (r : Rule). map (without_told s found) (map rule_of xs) ++ r ∷ []) d.rest ∙ sym b
 
 pub entries_longer : (xs : List Entry) (x : Entry) → rules_length (map rule_of (xs ++ x ∷ [])) ≡ rules_length (map rule_of xs) + lines_length (rule_items (rule_of x))
 entries_longer xs x = ap (λ (rs : List Rule). rules_length rs) (map_push rule_of xs x) ∙ rules_push (map rule_of xs) (rule_of x)
 
-pub entry_shorter : (pool : List ℕ) (found : List Seen) (x y : Rule) (freed : ℕ) → Dropped pool found x y freed → lines_length (rule_items y) + freed ≡ lines_length (rule_items x)
-entry_shorter pool found x y freed d =
-    let w : Rule = without_told pool found x in
+pub entry_shorter : (s : Settings) (found : List Seen) (x y : Rule) (freed : ℕ) → Dropped s found x y freed → lines_length (rule_items y) + freed ≡ lines_length (rule_items x)
+entry_shorter s found x y freed d =
+    let w : Rule = without_told s found x in
     let a = entry_lines x in
-    let b = entry_lines (without_told pool found x) in
-    let c : lines_length (rule_items y) ≡ lines_length (rule_items (without_told pool found x)) = ap (λ (r : Rule). lines_length (rule_items r)) d.rest in
-    let e : opens_length y.opens ≡ opens_length (without_told pool found x).opens = ap (λ (r : Rule). opens_length r.opens) d.rest in
+    let b = entry_lines (without_told s found x) in
+    let c : lines_length (rule_items y) ≡ lines_length (rule_items (without_told s found x)) = ap (λ (r : Rule). lines_length (rule_items r)) d.rest in
+    let e : opens_length y.opens ≡ opens_length (without_told s found x).opens = ap (λ (r : Rule). opens_length r.opens) d.rest in
     let f = d.less in
     omega (arith, a, b, c, e, f)
 
-pub freed_more : (pool : List ℕ) (found : List Seen) (xs kept new : List Entry) (x y : Entry) (before less freed : ℕ) → Dropped pool found (rule_of x) (rule_of y) less → rules_length (map rule_of kept) + before ≡ rules_length (map rule_of xs) → new ≡ kept ++ y ∷ [] → freed ≡ before + less
+pub freed_more : (s : Settings) (found : List Seen) (xs kept new : List Entry) (x y : Entry) (before less freed : ℕ) → Dropped s found (rule_of x) (rule_of y) less → rules_length (map rule_of kept) + before ≡ rules_length (map rule_of xs) → new ≡ kept ++ y ∷ [] → freed ≡ before + less
     → rules_length (map rule_of new) + freed ≡ rules_length (map rule_of (xs ++ x ∷ []))
-freed_more pool found xs kept new x y before less freed d h n f =
+freed_more s found xs kept new x y before less freed d h n f =
     let a : rules_length (map rule_of new) ≡ rules_length (map rule_of (kept ++ y ∷ [])) = ap (λ (es : List Entry). rules_length (map rule_of es)) n in
     let b = entries_longer kept y in
     let c = entries_longer xs x in
-    let e = entry_shorter pool found (rule_of x) (rule_of y) less d in
+    let e = entry_shorter s found (rule_of x) (rule_of y) less d in
     omega (arith, a, b, c, e, h, f)
 
 pub runs_more : (n : ℕ) (xs : List Entry) (x : Entry) → runs_on n (map rule_of (xs ++ x ∷ [])) ≡ runs_on n (map rule_of xs) + length x.opens.items * (n * (length x.left + length x.left))

@@ -6,6 +6,7 @@ use Rattle.thumb_instr.specs.declared.instr.Instr.{Instr}
 use Rattle.thumb_instr.specs.declared.items.Mask.{Mask}
 use Rattle.seq_enum.specs.Pools.{is_pool}
 use Rattle.window_exec.specs.State.{seen}
+use Rattle.rule_table.specs.Header.{IsHeader}
 use Rattle.rule_table.specs.Table.{Table}
 use Rattle.rule_table.specs.Valid.{IsTable}
 use Rattle.rule_table.specs.Views.{rule_of}
@@ -75,17 +76,17 @@ pub learnt_all : (s t : Settings) (ws : Pairs) (n : ℕ) (l : Learner) (table : 
 learnt_all s t ws n l table same narrow h e =
     subst (Learnt s (map window_of (take n ws))) (sym (e ∙ ap (λ u. table_with u (states_in l) (rules_in l)) same)) (learnt s (map window_of (take n ws)) (states_in l) (rules_in l) h.progress narrow)
 
-pub valid_all : (s t : Settings) (ws : Pairs) (n : ℕ) (l : Learner) (table : Table) → t ≡ s → AreInLimits s → s.seed < 2 ^ 32 → is_pool s.pool ≡ true → width_of s ≤ 5000000 → HasLearnt s (map window_of (take n ws)) l → table ≡ table_with t (states_in l) (rules_in l) → IsTable table
-valid_all s t ws n l table same limits seed pool narrow h e =
-    subst IsTable (sym (e ∙ ap (λ u. table_with u (states_in l) (rules_in l)) same)) (valid s (map window_of (take n ws)) (states_in l) (rules_in l) limits seed pool narrow h.progress)
+pub valid_all : (s t : Settings) (ws : Pairs) (n : ℕ) (l : Learner) (table : Table) → t ≡ s → AreInLimits s → IsHeader s → width_of s ≤ 5000000 → HasLearnt s (map window_of (take n ws)) l → table ≡ table_with t (states_in l) (rules_in l) → IsTable table
+valid_all s t ws n l table same limits is narrow h e =
+    subst IsTable (sym (e ∙ ap (λ u. table_with u (states_in l) (rules_in l)) same)) (valid s (map window_of (take n ws)) (states_in l) (rules_in l) limits is narrow h.progress)
 
-pub is_full : (s t : Settings) (ws : Pairs) (n : ℕ) (l : Learner) (table : Table) → t ≡ s → AreInLimits s → s.seed < 2 ^ 32 → is_pool s.pool ≡ true → width_of s ≤ 5000000 → 1 ≤ n → n ≤ length ws → HasLearnt s (map window_of (take n ws)) l → table ≡ table_with t (states_in l) (rules_in l) → text_limit < l.bytes → IsFull s (map window_of ws) table l.bytes
-is_full s t ws n l table same limits seed pool narrow some low h e long = record {
+pub is_full : (s t : Settings) (ws : Pairs) (n : ℕ) (l : Learner) (table : Table) → t ≡ s → AreInLimits s → IsHeader s → width_of s ≤ 5000000 → 1 ≤ n → n ≤ length ws → HasLearnt s (map window_of (take n ws)) l → table ≡ table_with t (states_in l) (rules_in l) → text_limit < l.bytes → IsFull s (map window_of ws) table l.bytes
+is_full s t ws n l table same limits is narrow some low h e long = record {
   count = n;
   some = some;
   within = (let a = length-map ws window_of in omega (arith, a, low));
   learnt = subst (λ vs. Learnt s vs table) (take-map n ws) (learnt_all s t ws n l table same narrow h e);
-  valid = valid_all s t ws n l table same limits seed pool narrow h e;
+  valid = valid_all s t ws n l table same limits is narrow h e;
   is_length = h.bytes ∙ ap (λ (u : Table). text_length u) (sym (e ∙ ap (λ u. table_with u (states_in l) (rules_in l)) same));
   long = long;
 }

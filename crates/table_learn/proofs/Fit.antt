@@ -10,9 +10,10 @@ use Rattle.rule_table.specs.Valid.{numbers_of}
 use Rattle.proof_logs.specs.Verdicts.{InTurn}
 use Rattle.table_audit.specs.declared.errors.EntryFault.TheVariants.{Proof, Unfinished}
 use Rattle.table_audit.specs.declared.errors.AuditError.TheVariants.{Entry}
-use Rattle.table_audit.specs.Sides.{named_count, formula_of, formula_against}
+use Rattle.table_audit.specs.Sides.{named_count, alphabet_registers, formula_of, formula_against}
 use Rattle.table_audit.specs.Shorter.{shorter, is_named}
 use Rattle.table_audit.specs.Acceptance.{EntryVerdict, ToldTest, OpenTest}
+use Rattle.table_audit.proofs.Numbering.{below_in}
 use Rattle.table_learn.specs.Settings.{Settings}
 use Rattle.table_learn.specs.Learnt.{KeepsOrShortens}
 use Rattle.table_learn.specs.Tellings.{told}
@@ -49,7 +50,7 @@ fit_passes s states rules n e f =
         mask = f.window.mask;
       },
       (
-        refutation_passes (λ line. Entry n (Proof line)) (Entry n Unfinished) s.budget (formula_of e) e.proof f.proved,
+        refutation_passes (λ line. Entry n (Proof line)) (Entry n Unfinished) s.budget (formula_of s e) e.proof f.proved,
         (
           turn_all (ToldTest t n e) 0 (shorter t e) (λ i seq at. subst (λ j. ToldTest t n e j seq None) (sym (zero-add i)) (elim (f.settles i seq at) [
             | inl named ↦ inl named
@@ -57,9 +58,10 @@ fit_passes s states rules n e f =
           ])),
           turn_all (OpenTest t n e) 0 e.opens (λ i o at. let name = f.names i o at in record {
             seq = name.seq;
-            is_shorter = name.is_shorter;
+            below = (let whole = below_in (alphabet_registers s e.left) s.pool (length e.right) o.number name.seq (omega (arith, no_longer e f.keeps, f.window.canonical.renamable.few)) name.is_shorter in
+                record { at = whole.0; no_longer = omega (arith, whole.1, no_longer e f.keeps); lighter = whole.1 });
             untold = untold states e.left name.seq e.mask f.mask name.untold;
-            spent = search_spends s.budget (formula_against e name.seq) o.log name.log;
+            spent = search_spends s.budget (formula_against s e name.seq) o.log name.log;
           }),
         ),
       ),
@@ -140,7 +142,7 @@ not_flip : (b : Bool) → not b ≡ true → b ≡ false
 not_flip true h = sym h
 not_flip false h = refl
 
-pub fit_without : (s : Settings) (silent found : List Seen) (e : Rule) → IsFit s (silent ++ found) silent e → IsFit s (silent ++ found) (silent ++ found) (without_told s.pool found e)
+pub fit_without : (s : Settings) (silent found : List Seen) (e : Rule) → IsFit s (silent ++ found) silent e → IsFit s (silent ++ found) (silent ++ found) (without_told s found e)
 fit_without s silent found e f = record {
   window = record { canonical = f.window.canonical; short = f.window.short; few = f.window.few; over = f.window.over; mask = f.window.mask };
   mask = f.mask;
@@ -149,19 +151,19 @@ fit_without s silent found e f = record {
   proved = record { log = f.proved.log; refutes = f.proved.refutes; says = f.proved.says };
   lines = f.lines;
   settles = λ q seq at.
-      elim (told found e.left seq e.mask) as (λ b. told found e.left seq e.mask ≡ b → (is_named (without_told s.pool found e).opens q ≡ true) ⊎ (told (silent ++ found) e.left seq e.mask ≡ true)) [
+      elim (told found e.left seq e.mask) as (λ b. told found e.left seq e.mask ≡ b → (is_named (without_told s found e).opens q ≡ true) ⊎ (told (silent ++ found) e.left seq e.mask ≡ true)) [
         | true ↦ λ k. inr (told-append silent found e.left seq e.mask ∙ or_right (told silent e.left seq e.mask) _ k)
         | false ↦ λ k. elim (f.settles q seq at) [
-          | inl r ↦ inl (named-filter (stays_open s.pool found e) e.opens q
-              (λ o same. let here : slice_get (shorter_of s.pool e) o.number ≡ Some seq = subst (λ j. slice_get (shorter_of s.pool e) j ≡ Some seq) (sym same) at in
+          | inl r ↦ inl (named-filter (stays_open s found e) e.opens q
+              (λ o same. let here : slice_get (shorter_of s e) o.number ≡ Some seq = subst (λ j. slice_get (shorter_of s e) j ≡ Some seq) (sym same) at in
               ap not (ap (tells_number found e) here ∙ k)) r)
           | inr r ↦ inr r
         ]
       ] refl;
   names = λ i o at.
-      let kept = filter_at (stays_open s.pool found e) e.opens i o at in
+      let kept = filter_at (stays_open s found e) e.opens i o at in
       let name = f.names kept.1.0 o kept.1.1 in
-      let quiet : told found e.left name.seq e.mask ≡ false = sym (ap (tells_number found e) name.is_shorter) ∙ not_flip (tells_number found e (slice_get (shorter_of s.pool e) o.number)) kept.0 in
+      let quiet : told found e.left name.seq e.mask ≡ false = sym (ap (tells_number found e) name.is_shorter) ∙ not_flip (tells_number found e (slice_get (shorter_of s e) o.number)) kept.0 in
       record {
         seq = name.seq;
         is_shorter = name.is_shorter;
@@ -169,5 +171,5 @@ fit_without s silent found e f = record {
         log = name.log;
         lines = name.lines;
       };
-  ascending = ascends-filter (stays_open s.pool found e) 0 e.opens f.ascending;
+  ascending = ascends-filter (stays_open s found e) 0 e.opens f.ascending;
 }

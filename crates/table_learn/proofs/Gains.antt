@@ -24,6 +24,9 @@ use Rattle.table_audit.specs.Acceptance.{StateTest, EntryVerdict, IsAccepted}
 use Rattle.table_audit.proofs.Appearing.{names_register}
 use Rattle.table_audit.proofs.Fitting.{are_over, ordered_of}
 use Rattle.table_audit.proofs.Walking.{over_more}
+use Rattle.rule_table.specs.declared.header.Field.{Field}
+use Rattle.rule_table.specs.declared.header.Field.TheVariants as field
+use Rattle.rule_table.specs.Header.{number_in, IsWithin, IsHeader}
 use Rattle.table_learn.specs.Settings.{Settings, Window}
 use Rattle.table_learn.specs.Given.{AreInLimits}
 use Rattle.table_learn.specs.Learnt.{Learnt, TellsFirst, IsEarned, AreEarned, learnt_from, width_of, KeepsOrShortens, IsProvedBySolver, IsOpenBySolver, IsSpentSearch}
@@ -60,11 +63,11 @@ all_of P xs h k d low = h k (get_or xs k d) (slice_get-get_or xs k d low)
 
 -- ---- one more window ----
 
-kept_windows : (pool : List ℕ) (found : List Seen) (rules : List Rule) → map learnt_from (map (without_told pool found) rules) ≡ map learnt_from rules
-kept_windows pool found [] = refl
-kept_windows pool found (e ∷ es) = ap (λ ws. learnt_from e ∷ ws) (kept_windows pool found es)
+kept_windows : (s : Settings) (found : List Seen) (rules : List Rule) → map learnt_from (map (without_told s found) rules) ≡ map learnt_from rules
+kept_windows s found [] = refl
+kept_windows s found (e ∷ es) = ap (λ ws. learnt_from e ∷ ws) (kept_windows s found es)
 
-earned_later : (s : Settings) (windows : List Window) (w : Window) (states more : List Seen) → AreEarned s.pool windows states → EarnedFrom s.pool (length states) (states ++ more) w → AreEarned s.pool (windows ++ w ∷ []) (states ++ more)
+earned_later : (s : Settings) (windows : List Window) (w : Window) (states more : List Seen) → AreEarned s windows states → EarnedFrom s (length states) (states ++ more) w → AreEarned s (windows ++ w ∷ []) (states ++ more)
 earned_later s windows w states more old new i x from at =
     elim (cases_lt i (length states)) [
       | inl k ↦
@@ -75,7 +78,7 @@ earned_later s windows w states more old new i x from at =
             place = g.place;
             window = g.window;
             is_window = get_front windows (w ∷ []) g.place within ∙ g.is_window;
-            found = subst (λ before. TellsFirst s.pool before x g.window) (sym (take-append-le i states more (omega (arith, k)))) g.found;
+            found = subst (λ before. TellsFirst s before x g.window) (sym (take-append-le i states more (omega (arith, k)))) g.found;
           }
       | inr k ↦ record { place = length windows; window = w; is_window = push_at windows w; found = new i x k at }
     ]
@@ -98,19 +101,19 @@ gain_quiet s windows w states rules e g same fit = record {
 }
 
 -- states were found: what they tell is dropped
-pub gain : (s : Settings) (windows : List Window) (w : Window) (states more : List Seen) (rules : List Rule) (e : Rule) → Progress s windows states rules → All IsState more → EarnedFrom s.pool (length states) (states ++ more) w → learnt_from e ≡ w → IsFit s (states ++ more) states e
-    → Progress s (windows ++ w ∷ []) (states ++ more) (map (without_told s.pool more) (rules ++ e ∷ []))
+pub gain : (s : Settings) (windows : List Window) (w : Window) (states more : List Seen) (rules : List Rule) (e : Rule) → Progress s windows states rules → All IsState more → EarnedFrom s (length states) (states ++ more) w → learnt_from e ≡ w → IsFit s (states ++ more) states e
+    → Progress s (windows ++ w ∷ []) (states ++ more) (map (without_told s more) (rules ++ e ∷ []))
 gain s windows w states more rules e g valid earned same fit = record {
   long = let l : length (states ++ more) ≡ length states + length more = length-append states more in omega (arith, l, g.long);
   begins = take-append-le 64 states more g.long ∙ g.begins;
   valid = All-append IsState states more g.valid valid;
-  matched = kept_windows s.pool more (rules ++ e ∷ []) ∙ map-push learnt_from rules e ∙ ap (λ ws. ws ++ learnt_from e ∷ []) g.matched ∙ ap (λ (v : Window). windows ++ v ∷ []) same;
+  matched = kept_windows s more (rules ++ e ∷ []) ∙ map-push learnt_from rules e ∙ ap (λ ws. ws ++ learnt_from e ∷ []) g.matched ∙ ap (λ (v : Window). windows ++ v ∷ []) same;
   fits = λ n z at.
-      let from = map_at (without_told s.pool more) (rules ++ e ∷ []) n z at in
+      let from = map_at (without_told s more) (rules ++ e ∷ []) n z at in
       subst (λ y. IsFit s (states ++ more) (states ++ more) y) from.2
       (elim (push_cases rules e n from.0 from.1) [
         | inl k ↦ fit_without s states more from.0 (fit_more s states more states from.0 (g.fits n from.0 k))
-        | inr k ↦ subst (λ y. IsFit s (states ++ more) (states ++ more) (without_told s.pool more y)) k.1 (fit_without s states more e fit)
+        | inr k ↦ subst (λ y. IsFit s (states ++ more) (states ++ more) (without_told s more y)) k.1 (fit_without s states more e fit)
       ]);
   earned = earned_later s windows w states more g.earned earned;
 }
@@ -176,21 +179,17 @@ accepted s windows states rules g narrow = (
 
 pub learnt : (s : Settings) (windows : List Window) (states : List Seen) (rules : List Rule) → Progress s windows states rules → width_of s ≤ 5000000 → Learnt s windows (table_with s states rules)
 learnt s windows states rules g narrow = record {
-  regs = refl;
-  left = refl;
-  seed = refl;
-  budget = refl;
-  pool = refl;
+  header = refl;
   entries = g.matched;
   rights = all_of KeepsOrShortens rules (λ i e at. (g.fits i e at).keeps);
   states = g.earned;
   accepted = accepted s windows states rules g narrow;
-  proofs = all_of (IsProvedBySolver s.budget) rules (λ i e at. (g.fits i e at).proved);
+  proofs = all_of (IsProvedBySolver s) rules (λ i e at. (g.fits i e at).proved);
   logs = all_of (λ e. All (IsOpenBySolver (table_with s states rules) e) e.opens) rules (λ i e at.
       all_of (IsOpenBySolver (table_with s states rules) e) e.opens (λ j o here seq there.
       let name = (g.fits i e at).names j o here in
       let same : name.seq ≡ seq = same_Some name.seq seq (sym name.is_shorter ∙ there) in
-      subst (λ z. IsSpentSearch s.budget (formula_against e z) o.log) same name.log));
+      subst (λ z. IsSpentSearch s.budget (formula_against s e z) o.log) same name.log));
 }
 
 -- ---- it has a text ----
@@ -202,7 +201,7 @@ over_instrs (i ∷ is) over = All-cons IsInstr i is (record { window = over.0; l
 side_instrs : (pool : List ℕ) (k : ℕ) (is : List Instr) → k ≤ 4 → IsOver k pool is → All IsInstr is
 side_instrs pool k is few over = over_instrs is (over_more k 4 is few (are_over k pool is (omega (arith, few)) over))
 
-pub few_shorter : (s : Settings) (silent tellers : List Seen) (e : Rule) → AreInLimits s → IsFit s tellers silent e → length (shorter_of s.pool e) ≤ width_of s
+pub few_shorter : (s : Settings) (silent tellers : List Seen) (e : Rule) → AreInLimits s → IsFit s tellers silent e → length (shorter_of s e) ≤ width_of s
 few_shorter s silent tellers e l f =
     let k : ℕ = named_count e.left in
     let some : 0 < k = names_register e.left f.window.canonical.renamable.some f.window.canonical.renamable.windows in
@@ -225,22 +224,25 @@ valid_rule s states e l narrow f =
       proof = f.lines;
       opens = all_of IsOpened e.opens (λ i z at.
           let name = f.names i z at in
-          let low : z.number < length (shorter_of s.pool e) = slice_get_within (shorter_of s.pool e) z.number name.seq name.is_shorter in
+          let low : z.number < length (shorter_of s e) = slice_get_within (shorter_of s e) z.number name.seq name.is_shorter in
           let few = few_shorter s states states e l f in
           record { small = omega (arith, low, few, narrow); log = name.lines });
       ascending = f.ascending;
     }
 
-pub valid : (s : Settings) (windows : List Window) (states : List Seen) (rules : List Rule) → AreInLimits s → s.seed < 2 ^ 32 → is_pool s.pool ≡ true → width_of s ≤ 5000000 → Progress s windows states rules → IsTable (table_with s states rules)
-valid s windows states rules l seed pool narrow g = record {
-  some_regs = l.some_regs;
-  few_regs = l.few_regs;
-  some_left = l.some_left;
-  few_left = l.few_left;
-  seed = seed;
-  some_budget = l.some_budget;
-  few_budget = l.few_budget;
-  pool = pool;
+pub in_limits : (s : Settings) → s.version ≡ 1 → AreInLimits s → s.seed < 2 ^ 32 → is_pool s.pool ≡ true → IsHeader s
+in_limits s version l seed pool = record { numbers = each; pool = pool }
+  where
+    each : (f : Field) → IsWithin f (number_in s f)
+    each field.Version = (omega (arith, version), omega (arith, version))
+    each field.Regs = (l.some_regs, l.few_regs)
+    each field.Left = (l.some_left, l.few_left)
+    each field.Seed = (omega arith, omega (arith, seed))
+    each field.Budget = (l.some_budget, l.few_budget)
+
+pub valid : (s : Settings) (windows : List Window) (states : List Seen) (rules : List Rule) → AreInLimits s → IsHeader s → width_of s ≤ 5000000 → Progress s windows states rules → IsTable (table_with s states rules)
+valid s windows states rules l is narrow g = record {
+  header = is;
   states = g.valid;
   rules = all_of IsRule rules (λ i e at. valid_rule s states e l narrow (g.fits i e at));
 }

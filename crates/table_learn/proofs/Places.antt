@@ -13,6 +13,7 @@ use Rattle.table_audit.specs.Shorter.{sequences_below}
 use Rattle.table_audit.proofs.Numbering.{below_in, below_from, below_long, below_none}
 use Rattle.table_audit.proofs.Walking.{present_at, numbered_over}
 use Rattle.table_learn.specs.Tellings.{told, tells_apart}
+use Rattle.table_learn.specs.Settings.{Settings}
 use Rattle.table_learn.specs.Fitness.{shorter_of, tells_number}
 use Rattle.table_learn.proofs.Asking.{told_seen}
 
@@ -39,18 +40,18 @@ none_missing k pool count number o short low e f =
 
 -- ---- open numbers ----
 
-tells_there : (pool : List ℕ) (found : List WState) (e : Rule) (number : ℕ) (there : Option (List Instr)) (r : Bool) → there ≡ slice_get (shorter_of pool e) number → r ≡ tells_number (map seen found) e there → r ≡ tells_number (map seen found) e (slice_get (shorter_of pool e) number)
-tells_there pool found e number there r h t = t ∙ ap (tells_number (map seen found) e) h
+tells_there : (s : Settings) (found : List WState) (e : Rule) (number : ℕ) (there : Option (List Instr)) (r : Bool) → there ≡ slice_get (shorter_of s e) number → r ≡ tells_number (map seen found) e there → r ≡ tells_number (map seen found) e (slice_get (shorter_of s e) number)
+tells_there s found e number there r h t = t ∙ ap (tells_number (map seen found) e) h
 
-list_of : (k count : ℕ) (pool : List ℕ) (left : List Instr) (e : Rule) → k ≡ named_count left → e.left ≡ left → length e.right ≡ count → sequences_below k pool count ≡ shorter_of pool e
-list_of k count pool left e n l r = ap (λ j. sequences_below j pool count) (n ∙ ap (λ (is : List Instr). named_count is) (sym l)) ∙ ap (λ j. sequences_below (named_count e.left) pool j) (sym r)
+list_of : (k count : ℕ) (s : Settings) (left : List Instr) (e : Rule) → k ≡ named_count left → e.left ≡ left → length e.right ≡ count → sequences_below k s.pool count ≡ shorter_of s e
+list_of k count s left e n l r = ap (λ j. sequences_below j s.pool count) (n ∙ ap (λ (is : List Instr). named_count is) (sym l)) ∙ ap (λ j. sequences_below (named_count e.left) s.pool j) (sym r)
 
-pub open_told : (pool : List ℕ) (found : List WState) (left : List Instr) (mask k count number : ℕ) (o : Option (List Instr)) (seq : List Instr) (r : Bool) (e : Rule) → k ≡ named_count left → count ≤ 5 → o ≡ slice_get (sequences k pool) number → o ≡ Some seq → length seq < count
-    → r ≡ list_any (λ s. tells_apart left seq mask (seen s)) found → e.left ≡ left → e.mask ≡ mask → length e.right ≡ count → r ≡ tells_number (map seen found) e (slice_get (shorter_of pool e) number)
-open_told pool found left mask k count number o seq r e n five a b short t l m len =
-    let there : slice_get (sequences_below k pool count) number ≡ Some seq = below_from k pool count number seq (omega (arith, five)) (sym a ∙ b) short in
-    let here : Some seq ≡ slice_get (shorter_of pool e) number = sym there ∙ ap (λ xs. slice_get xs number) (list_of k count pool left e n l len) in
-    tells_there pool found e number (Some seq) r here (t ∙ sym (told_seen found left seq mask) ∙ ap (λ j. told (map seen found) left seq j) (sym m) ∙ ap (λ (is : List Instr). told (map seen found) is seq e.mask) (sym l))
+pub open_told : (s : Settings) (found : List WState) (left : List Instr) (mask k count number : ℕ) (o : Option (List Instr)) (seq : List Instr) (r : Bool) (e : Rule) → k ≡ named_count left → count ≤ 5 → o ≡ slice_get (sequences k s.pool) number → o ≡ Some seq → length seq < count
+    → r ≡ list_any (λ s. tells_apart left seq mask (seen s)) found → e.left ≡ left → e.mask ≡ mask → length e.right ≡ count → r ≡ tells_number (map seen found) e (slice_get (shorter_of s e) number)
+open_told s found left mask k count number o seq r e n five a b short t l m len =
+    let there : slice_get (sequences_below k s.pool count) number ≡ Some seq = below_from k s.pool count number seq (omega (arith, five)) (sym a ∙ b) short in
+    let here : Some seq ≡ slice_get (shorter_of s e) number = sym there ∙ ap (λ xs. slice_get xs number) (list_of k count s left e n l len) in
+    tells_there s found e number (Some seq) r here (t ∙ sym (told_seen found left seq mask) ∙ ap (λ j. told (map seen found) left seq j) (sym m) ∙ ap (λ (is : List Instr). told (map seen found) is seq e.mask) (sym l))
 
-pub open_missing : (pool : List ℕ) (found : List WState) (left : List Instr) (k count number : ℕ) (e : Rule) → k ≡ named_count left → None ≡ slice_get (sequences_below k pool count) number → e.left ≡ left → length e.right ≡ count → false ≡ tells_number (map seen found) e (slice_get (shorter_of pool e) number)
-open_missing pool found left k count number e n none l len = tells_there pool found e number None false (none ∙ ap (λ xs. slice_get xs number) (list_of k count pool left e n l len)) refl
+pub open_missing : (s : Settings) (found : List WState) (left : List Instr) (k count number : ℕ) (e : Rule) → k ≡ named_count left → None ≡ slice_get (sequences_below k s.pool count) number → e.left ≡ left → length e.right ≡ count → false ≡ tells_number (map seen found) e (slice_get (shorter_of s e) number)
+open_missing s found left k count number e n none l len = tells_there s found e number None false (none ∙ ap (λ xs. slice_get xs number) (list_of k count s left e n l len)) refl

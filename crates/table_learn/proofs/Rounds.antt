@@ -38,32 +38,32 @@ use Rattle.table_learn.proofs.Steps.{push_cases}
 
 -- ---- nothing found drops nothing ----
 
-all_stay : (pool : List ℕ) (e : Rule) (opens : List Opened) → filter (stays_open pool [] e) opens ≡ opens
-all_stay pool e [] = refl
-all_stay pool e (o ∷ opens) = rw (stays (slice_get (shorter_of pool e) o.number)) (ap (λ (os : List Opened). o ∷ os) (all_stay pool e opens))
+all_stay : (s : Settings) (e : Rule) (opens : List Opened) → filter (stays_open s [] e) opens ≡ opens
+all_stay s e [] = refl
+all_stay s e (o ∷ opens) = rw (stays (slice_get (shorter_of s e) o.number)) (ap (λ (os : List Opened). o ∷ os) (all_stay s e opens))
   where
     stays : (seq : Option (List Instr)) → not (tells_number [] e seq) ≡ true
     stays None = refl
     stays (Some seq) = refl
 
-pub nothing_drops : (pool : List ℕ) (rules : List Rule) → map (without_told pool []) rules ≡ rules
-nothing_drops pool [] = refl
-nothing_drops pool (e ∷ rules) =
-    let one : without_told pool [] e ≡ e = ap (λ (os : List Opened). record { left = e.left; right = e.right; mask = e.mask; proof = e.proof; opens = os }) (all_stay pool e e.opens) in
-    let rest = nothing_drops pool rules in
+pub nothing_drops : (s : Settings) (rules : List Rule) → map (without_told s []) rules ≡ rules
+nothing_drops s [] = refl
+nothing_drops s (e ∷ rules) =
+    let one : without_told s [] e ≡ e = ap (λ (os : List Opened). record { left = e.left; right = e.right; mask = e.mask; proof = e.proof; opens = os }) (all_stay s e e.opens) in
+    let rest = nothing_drops s rules in
     cc
 
 -- ---- one more window ----
 
-pub window_learnt : (s : Settings) (windows : List Window) (w : Window) (old new found : List Seen) (rules later : List Rule) (e : Rule) (bytes lines whole freed : ℕ) → Progress s windows old rules → bytes ≡ text_length (table_with s old rules) → IsGrown old new → EarnedFrom s.pool (length old) new w
-    → learnt_from e ≡ w → IsFit s new old e → found ≡ drop (length old) new → later ≡ map (without_told s.pool found) (rules ++ e ∷ []) → rules_length later + freed ≡ rules_length (rules ++ e ∷ []) → lines ≡ lines_length (rule_items e) + (length new - length old) * 44 → whole ≡ bytes + lines
+pub window_learnt : (s : Settings) (windows : List Window) (w : Window) (old new found : List Seen) (rules later : List Rule) (e : Rule) (bytes lines whole freed : ℕ) → Progress s windows old rules → bytes ≡ text_length (table_with s old rules) → IsGrown old new → EarnedFrom s (length old) new w
+    → learnt_from e ≡ w → IsFit s new old e → found ≡ drop (length old) new → later ≡ map (without_told s found) (rules ++ e ∷ []) → rules_length later + freed ≡ rules_length (rules ++ e ∷ []) → lines ≡ lines_length (rule_items e) + (length new - length old) * 44 → whole ≡ bytes + lines
     → Progress s (windows ++ w ∷ []) new later × (whole ≡ text_length (table_with s new later) + freed)
 window_learnt s windows w old new found rules later e bytes lines whole freed g b grown earned same fit f l less n h =
     let more : List Seen = grown.more in
     let is_more : found ≡ more = f ∙ ap (λ ys. drop (length old) ys) grown.grown ∙ drop-append_seam old more in
-    let one : Progress s (windows ++ w ∷ []) (old ++ more) (map (without_told s.pool more) (rules ++ e ∷ [])) =
-    gain s windows w old more rules e g grown.valid (subst (λ ys. EarnedFrom s.pool (length old) ys w) grown.grown earned) same (subst (λ ys. IsFit s ys old e) grown.grown fit) in
-    let kept : later ≡ map (without_told s.pool more) (rules ++ e ∷ []) = l ∙ ap (λ ys. map (without_told s.pool ys) (rules ++ e ∷ [])) is_more in
+    let one : Progress s (windows ++ w ∷ []) (old ++ more) (map (without_told s more) (rules ++ e ∷ [])) =
+    gain s windows w old more rules e g grown.valid (subst (λ ys. EarnedFrom s (length old) ys w) grown.grown earned) same (subst (λ ys. IsFit s ys old e) grown.grown fit) in
+    let kept : later ≡ map (without_told s more) (rules ++ e ∷ []) = l ∙ ap (λ ys. map (without_told s ys) (rules ++ e ∷ [])) is_more in
     let progress : Progress s (windows ++ w ∷ []) new later = subst (λ ys. Progress s (windows ++ w ∷ []) ys later) (sym grown.grown) (subst (λ rs. Progress s (windows ++ w ∷ []) (old ++ more) rs) (sym kept) one) in
     let text : text_length (table_with s (old ++ more) later) + freed ≡ text_length (table_with s old rules) + (lines_length (rule_items e) + 44 * length more) = text_more s old more rules later e freed g.valid (All-append IsState old more g.valid grown.valid) less in
     let count : length new ≡ length old + length more = ap length grown.grown ∙ length-append old more in
@@ -91,7 +91,7 @@ all_sided s windows old new rules e g fit = All-append IsSided rules (e ∷ []) 
 pub few_each : (s : Settings) (tellers silent : List Seen) (e : Rule) → AreInLimits s → IsFit s tellers silent e → (length e.opens ≤ width_of s) × (length e.left ≤ s.left)
 few_each s tellers silent e l f =
     let few = few_shorter s silent tellers e l f in
-    let opens : 0 + length e.opens ≤ length (shorter_of s.pool e) = few_opens 0 (length (shorter_of s.pool e)) e.opens (omega arith) f.ascending (λ i o at. let name = f.names i o at in slice_get_within (shorter_of s.pool e) o.number name.seq name.is_shorter) in
+    let opens : 0 + length e.opens ≤ length (shorter_of s e) = few_opens 0 (length (shorter_of s e)) e.opens (omega arith) f.ascending (λ i o at. let name = f.names i o at in slice_get_within (shorter_of s e) o.number name.seq name.is_shorter) in
     (omega (arith, few, opens), f.window.short)
 
 map-drop : {X Y : Type 0} (f : X → Y) (n : ℕ) (xs : List X) → map f (drop n xs) ≡ drop n (map f xs)
@@ -100,8 +100,8 @@ map-drop f (suc n) [] = refl
 map-drop f (suc n) (x ∷ xs) = map-drop f n xs
 
 -- the same of what the code has
-pub after_window : (s : Settings) (windows : List Window) (w : Window) (l : Learner) (states found : List WState) (entries later : List Entry) (entry : Entry) (lines whole freed : ℕ) → HasLearnt s windows l → IsGrown (states_in l) (map seen states) → EarnedFrom s.pool (length l.states.items) (map seen states) w
-    → learnt_from (rule_of entry) ≡ w → IsFit s (map seen states) (states_in l) (rule_of entry) → found ≡ drop (length l.states.items) states → entries ≡ l.entries.items ++ entry ∷ [] → map rule_of later ≡ map (without_told s.pool (map seen found)) (map rule_of entries)
+pub after_window : (s : Settings) (windows : List Window) (w : Window) (l : Learner) (states found : List WState) (entries later : List Entry) (entry : Entry) (lines whole freed : ℕ) → HasLearnt s windows l → IsGrown (states_in l) (map seen states) → EarnedFrom s (length l.states.items) (map seen states) w
+    → learnt_from (rule_of entry) ≡ w → IsFit s (map seen states) (states_in l) (rule_of entry) → found ≡ drop (length l.states.items) states → entries ≡ l.entries.items ++ entry ∷ [] → map rule_of later ≡ map (without_told s (map seen found)) (map rule_of entries)
     → rules_length (map rule_of later) + freed ≡ rules_length (map rule_of entries) → lines ≡ lines_length (rule_items (rule_of entry)) + length found * 44 → whole ≡ l.bytes + lines
     → Progress s (windows ++ w ∷ []) (map seen states) (map rule_of later) × (whole ≡ text_length (table_with s (map seen states) (map rule_of later)) + freed)
 after_window s windows w l states found entries later entry lines whole freed h grown earned same fit f e k less n total =
@@ -112,8 +112,8 @@ after_window s windows w l states found entries later entry lines whole freed h 
     let size : length found ≡ length (map seen states) - length (states_in l) = ap length f ∙ length-drop (length l.states.items) states ∙ (let z : length states - length l.states.items ≡ length (map seen states) - length (states_in l) = omega (arith, count, many) in z) in
     let sum : lines ≡ lines_length (rule_items (rule_of entry)) + (length (map seen states) - length (states_in l)) * 44 = n ∙ ap (λ j. lines_length (rule_items (rule_of entry)) + j * 44) size in
     window_learnt s windows w (states_in l) (map seen states) (map seen found) (rules_in l) (map rule_of later) (rule_of entry) l.bytes lines whole freed h.progress h.bytes grown
-    (subst (λ j. EarnedFrom s.pool j (map seen states) w) (sym count) earned) same fit seen_found
-    (k ∙ ap (map (without_told s.pool (map seen found))) rules)
+    (subst (λ j. EarnedFrom s j (map seen states) w) (sym count) earned) same fit seen_found
+    (k ∙ ap (map (without_told s (map seen found))) rules)
     (less ∙ ap (λ (rs : List Rule). rules_length rs) rules) sum total
 
 pub grown_length : (xs ys : List WState) → IsGrown (map seen xs) (map seen ys) → length xs ≤ length ys
@@ -133,22 +133,22 @@ kept_later pool old new k g i = record {
 }
 
 -- the steps of one more window
-pub window_cost : (s : Settings) (windows : List Window) (w : Window) (l : Learner) (states found : List WState) (entries later : List Entry) (entry : Entry) (candidates : List ℕ) (before middle after : ℕ) → AreInLimits s → HasLearnt s windows l → IsWindow s w → AreCandidates s.pool (states_in l) w candidates → IsFit s (map seen states) (states_in l) (rule_of entry)
-    → entries ≡ l.entries.items ++ entry ∷ [] → map rule_of later ≡ map (without_told s.pool (map seen found)) (map rule_of entries) → length found ≡ length states - length l.states.items
+pub window_cost : (s : Settings) (windows : List Window) (w : Window) (l : Learner) (states found : List WState) (entries later : List Entry) (entry : Entry) (candidates : List ℕ) (before middle after : ℕ) → AreInLimits s → HasLearnt s windows l → IsWindow s w → AreCandidates s (states_in l) w candidates → IsFit s (map seen states) (states_in l) (rule_of entry)
+    → entries ≡ l.entries.items ++ entry ∷ [] → map rule_of later ≡ map (without_told s (map seen found)) (map rule_of entries) → length found ≡ length states - length l.states.items
     → middle ≤ before + length candidates * query_cost s.budget (length states) (length w.seq) → after ≤ middle + runs_on (length found) (map rule_of entries)
     → after ≤ before + search_cost s (length states) + drop_cost s (length later) (length states - length l.states.items)
 window_cost s windows w l states found entries later entry candidates before middle after limits h window are fit e k size m n =
     let rules : map rule_of entries ≡ rules_in l ++ rule_of entry ∷ [] = ap (map rule_of) e ∙ map_push rule_of l.entries.items entry in
     let some : 0 < named_count w.seq = names_register w.seq window.canonical.renamable.some window.canonical.renamable.windows in
-    let few : 0 + length candidates ≤ length (shorter_than s.pool w) = few_numbers 0 (length (shorter_than s.pool w)) candidates (omega arith) are.ascending are.within in
-    let wide : length (shorter_than s.pool w) ≤ width_of s = shorter_more (named_count w.seq) s.regs s.pool (length w.seq) s.left some window.few limits.few_regs window.short in
+    let few : 0 + length candidates ≤ length (shorter_than s w) = few_numbers 0 (length (shorter_than s w)) candidates (omega arith) are.ascending are.within in
+    let wide : length (shorter_than s w) ≤ width_of s = shorter_more (named_count w.seq) s.regs s.pool (length w.seq) s.left some window.few limits.few_regs window.short in
     let searched : length candidates * query_cost s.budget (length states) (length w.seq) ≤ search_cost s (length states) = search_within s (length candidates) (length states) (length w.seq) (omega (arith, few, wide)) window.short in
     let dropped : runs_on (length found) (rules_in l ++ rule_of entry ∷ []) ≤ drop_cost s (length (rules_in l ++ rule_of entry ∷ [])) (length found) = drop_within s (length found) (rules_in l ++ rule_of entry ∷ []) (λ i z at. elim (push_cases (rules_in l) (rule_of entry) i z at) [
       | inl q ↦ few_each s (states_in l) (states_in l) z limits (h.progress.fits i z q)
       | inr q ↦ subst (λ y. (length y.opens ≤ width_of s) × (length y.left ≤ s.left)) q.1 (few_each s (map seen states) (states_in l) (rule_of entry) limits fit)
     ]) in
     let runs : runs_on (length found) (map rule_of entries) ≡ runs_on (length found) (rules_in l ++ rule_of entry ∷ []) = ap (λ (rs : List Rule). runs_on (length found) rs) rules in
-    let many : length (map rule_of later) ≡ length (rules_in l ++ rule_of entry ∷ []) = ap (λ (rs : List Rule). length rs) k ∙ length-map (map rule_of entries) (without_told s.pool (map seen found)) ∙ ap (λ (rs : List Rule). length rs) rules in
+    let many : length (map rule_of later) ≡ length (rules_in l ++ rule_of entry ∷ []) = ap (λ (rs : List Rule). length rs) k ∙ length-map (map rule_of entries) (without_told s (map seen found)) ∙ ap (λ (rs : List Rule). length rs) rules in
     let mine : length (map rule_of later) ≡ length later = length-map later rule_of in
     let cost : drop_cost s (length (rules_in l ++ rule_of entry ∷ [])) (length found) ≡ drop_cost s (length later) (length states - length l.states.items) = ap (λ j. drop_cost s j (length found)) (sym many ∙ mine) ∙ ap (λ j. drop_cost s (length later) j) size in
     omega (arith, m, n, searched, dropped, runs, cost)

@@ -39,24 +39,24 @@ search_next s w old states later opens more candidates i d low tried g =
 
 -- the candidate at a place is the right side
 pub right_found : (s : Settings) (w : Window) (e : Rule) (old states later : List Seen) (opens more kept : List Opened) (candidates : List ℕ) (i d limit : ℕ) (right : List Instr × Vec Line Global) → learnt_from e ≡ w → IsWindow s w → IsMask w.mask → i < length candidates
-    → IsSearching s w old states opens (take i candidates) (drop i candidates) → AreCandidates s.pool old w candidates → (later ≡ states) × (more ≡ opens) × IsRightSide s w (get_or candidates i d) right → e.right ≡ right.0 → e.proof ≡ map content_of right.1.items
-    → e.opens ≡ filter (is_below limit) more → limit ≡ length (shorter_of s.pool e) → IsFit s later old e
+    → IsSearching s w old states opens (take i candidates) (drop i candidates) → AreCandidates s old w candidates → (later ≡ states) × (more ≡ opens) × IsRightSide s w (get_or candidates i d) right → e.right ≡ right.0 → e.proof ≡ map content_of right.1.items
+    → e.opens ≡ filter (is_below limit) more → limit ≡ length (shorter_of s e) → IsFit s later old e
 right_found s w e old states later opens more kept candidates i d limit right same window mask low g are tried r p o l =
     subst (λ ss. IsFit s ss old e) (sym tried.0)
     (search_proves s e old states opens (take i candidates) (drop (i + 1) candidates) candidates (get_or candidates i d)
     (subst (IsWindow s) (sym same) window)
     (subst (λ (v : Window). IsMask v.mask) (sym same) mask)
     (subst (λ (v : Window). IsSearching s v old states opens (take i candidates) (get_or candidates i d ∷ drop (i + 1) candidates)) (sym same) (subst (λ rs. IsSearching s w old states opens (take i candidates) rs) (split_at candidates i d low) g))
-    (subst (λ (v : Window). AreCandidates s.pool old v candidates) (sym same) are)
+    (subst (λ (v : Window). AreCandidates s old v candidates) (sym same) are)
     (sym (take-append-drop i candidates) ∙ ap (λ rs. take i candidates ++ rs) (split_at candidates i d low))
-    (subst (λ (v : Window). slice_get (shorter_than s.pool v) (get_or candidates i d) ≡ Some e.right) (sym same) (tried.2.at ∙ ap (λ z. Some z) (sym r)))
-    (o ∙ ap (λ n. filter (is_below n) more) l ∙ ap (λ os. filter (is_below (length (shorter_of s.pool e))) os) tried.1)
+    (subst (λ (v : Window). slice_get (shorter_than s v) (get_or candidates i d) ≡ Some e.right) (sym same) (tried.2.at ∙ ap (λ z. Some z) (sym r)))
+    (o ∙ ap (λ n. filter (is_below n) more) l ∙ ap (λ os. filter (is_below (length (shorter_of s e))) os) tried.1)
     (subst (λ (v : Window). IsRefutation s.budget (sides_formula v.seq e.right v.mask (named_count v.seq)) e.proof) (sym same) (subst (λ z. IsRefutation s.budget (sides_formula w.seq z w.mask (named_count w.seq)) e.proof) (sym r) (subst (λ ls. IsRefutation s.budget (sides_formula w.seq right.0 w.mask (named_count w.seq)) ls) (sym p) tried.2.proof)))
     (subst (All IsLine) (sym p) tried.2.lines))
 
 -- no candidate is left
 pub none_found : (s : Settings) (w : Window) (e : Rule) (old states : List Seen) (opens : List Opened) (candidates : List ℕ) (i : ℕ) (log : Vec Line Global) → learnt_from e ≡ w → IsWindow s w → IsMask w.mask → length candidates ≤ i
-    → IsSearching s w old states opens (take i candidates) (drop i candidates) → AreCandidates s.pool old w candidates → e.right ≡ w.seq → e.opens ≡ opens → log.items ≡ [] → e.proof ≡ map content_of log.items → IsFit s states old e
+    → IsSearching s w old states opens (take i candidates) (drop i candidates) → AreCandidates s old w candidates → e.right ≡ w.seq → e.opens ≡ opens → log.items ≡ [] → e.proof ≡ map content_of log.items → IsFit s states old e
 none_found s w e old states opens candidates i log same window mask past g are r o n p =
     let mine : IsWindow s (learnt_from e) = subst (IsWindow s) (sym same) window in
     let over : AreOver (named_count e.left) e.left = (side_over s (learnt_from e) mine).1 in
@@ -66,7 +66,7 @@ none_found s w e old states opens candidates i log same window mask past g are r
     (subst (λ (v : Window). IsMask v.mask) (sym same) mask)
     (subst (λ (v : Window). IsSearching s v old states opens candidates []) (sym same)
     (subst (λ rs. IsSearching s w old states opens candidates rs) (drop_all i candidates past) (subst (λ ps. IsSearching s w old states opens ps (drop i candidates)) (take_all i candidates past) g)))
-    (subst (λ (v : Window). AreCandidates s.pool old v candidates) (sym same) are)
+    (subst (λ (v : Window). AreCandidates s old v candidates) (sym same) are)
     (sym (append-nil candidates)) right o
     (subst (λ ls. IsRefutation s.budget (sides_formula e.left e.right e.mask (named_count e.left)) ls) (sym empty) (subst (λ z. IsRefutation s.budget (sides_formula e.left z e.mask (named_count e.left)) []) (sym right) (nothing_refutes e.left e.mask (named_count e.left) s.budget log over n)))
     (subst (All IsLine) (sym empty) (All-nil IsLine))

@@ -128,14 +128,14 @@ module _ (s : Settings) (w : Window) (old : List Seen) where
   }
 
   -- its sequence is told already
-  pub search_passes : (states : List Seen) (opens : List Opened) (passed rest : List ℕ) (n : ℕ) (seq : List Instr) → IsSearching s w old states opens passed (n ∷ rest) → slice_get (shorter_than s.pool w) n ≡ Some seq → told states w.seq seq w.mask ≡ true
+  pub search_passes : (states : List Seen) (opens : List Opened) (passed rest : List ℕ) (n : ℕ) (seq : List Instr) → IsSearching s w old states opens passed (n ∷ rest) → slice_get (shorter_than s w) n ≡ Some seq → told states w.seq seq w.mask ≡ true
       → IsSearching s w old states opens (passed ++ n ∷ []) rest
   search_passes states opens passed rest n seq g at t = record {
     growth = g.growth;
     settles = λ q r c here. elim (Contains-push_cases passed n q c) [
       | inl k ↦ g.settles q r k here
       | inr same ↦ (
-          let e : seq ≡ r = same_Some seq r (sym at ∙ subst (λ j. slice_get (shorter_than s.pool w) j ≡ Some r) (sym same) here) in
+          let e : seq ≡ r = same_Some seq r (sym at ∙ subst (λ j. slice_get (shorter_than s w) j ≡ Some r) (sym same) here) in
           inr (subst (λ z. told states w.seq z w.mask ≡ true) e t)
           )
     ];
@@ -144,14 +144,14 @@ module _ (s : Settings) (w : Window) (old : List Seen) where
     earned = g.earned;
   }
 
-  first_more : (states : List Seen) (x : Seen) (i : ℕ) (y : Seen) → slice_get states i ≡ Some y → TellsFirst s.pool (take i states) y w → TellsFirst s.pool (take i (states ++ x ∷ [])) y w
+  first_more : (states : List Seen) (x : Seen) (i : ℕ) (y : Seen) → slice_get states i ≡ Some y → TellsFirst s (take i states) y w → TellsFirst s (take i (states ++ x ∷ [])) y w
   first_more states x i y at g =
       let within : i < length states = slice_get_within states i y at in
-      subst (λ before. TellsFirst s.pool before y w) (sym (take-append-le i states (x ∷ []) (omega (arith, within)))) g
+      subst (λ before. TellsFirst s before y w) (sym (take-append-le i states (x ∷ []) (omega (arith, within)))) g
 
   -- a state was found that tells it
   pub search_finds : (states : List Seen) (opens : List Opened) (passed rest : List ℕ) (n : ℕ) (seq : List Instr) (x : Seen) → length w.seq ≤ 5 → IsMask w.mask → IsState x → IsSearching s w old states opens passed (n ∷ rest)
-      → slice_get (shorter_than s.pool w) n ≡ Some seq → told states w.seq seq w.mask ≡ false → tells_apart w.seq seq w.mask x ≡ true → IsSearching s w old (states ++ x ∷ []) opens (passed ++ n ∷ []) rest
+      → slice_get (shorter_than s w) n ≡ Some seq → told states w.seq seq w.mask ≡ false → tells_apart w.seq seq w.mask x ≡ true → IsSearching s w old (states ++ x ∷ []) opens (passed ++ n ∷ []) rest
   search_finds states opens passed rest n seq x short m v g at t f =
       let place = below_in (named_count w.seq) s.pool (length w.seq) n seq (omega (arith, short)) at in
       record {
@@ -166,7 +166,7 @@ module _ (s : Settings) (w : Window) (old : List Seen) where
             | inr does ↦ inr (told_more states (x ∷ []) w.seq r w.mask does)
           ]
           | inr same ↦ (
-              let e : seq ≡ r = same_Some seq r (sym at ∙ subst (λ j. slice_get (shorter_than s.pool w) j ≡ Some r) (sym same) here) in
+              let e : seq ≡ r = same_Some seq r (sym at ∙ subst (λ j. slice_get (shorter_than s w) j ≡ Some r) (sym same) here) in
               inr (told_last states x w.seq r w.mask (subst (λ z. tells_apart w.seq z w.mask x ≡ true) e f))
               )
         ];
@@ -175,9 +175,9 @@ module _ (s : Settings) (w : Window) (old : List Seen) where
         earned = λ i z from here. elim (push_cases states x i z here) [
           | inl k ↦ first_more states x i z k (g.earned i z from k)
           | inr k ↦ record {
+            number = n;
             other = seq;
-            over = over_sequences (named_count w.seq) s.pool n seq place.0;
-            is_shorter = place.1;
+            below = record { at = place.0; no_longer = omega (arith, place.1); lighter = place.1 };
             tells = subst (λ y. Tells (values_in y) w.seq seq w.mask) k.1 (apart_tells w.seq seq w.mask x f);
             first = untold (take i (states ++ x ∷ [])) w.seq seq w.mask m (subst (λ before. told before w.seq seq w.mask ≡ false) (sym (ap (λ j. take j (states ++ x ∷ [])) k.0 ∙ take-append_seam states (x ∷ []))) t);
           }
@@ -185,8 +185,8 @@ module _ (s : Settings) (w : Window) (old : List Seen) where
       }
 
   -- it stays open
-  pub search_spends : (states : List Seen) (opens : List Opened) (passed rest : List ℕ) (n : ℕ) (seq : List Instr) (o : Opened) → IsSearching s w old states opens passed (n ∷ rest) → slice_get (shorter_than s.pool w) n ≡ Some seq
-      → told states w.seq seq w.mask ≡ false → o.number ≡ n → IsSpentSearch s.budget (formula_for w seq) o.log → All IsLine o.log → IsSearching s w old states (opens ++ o ∷ []) (passed ++ n ∷ []) rest
+  pub search_spends : (states : List Seen) (opens : List Opened) (passed rest : List ℕ) (n : ℕ) (seq : List Instr) (o : Opened) → IsSearching s w old states opens passed (n ∷ rest) → slice_get (shorter_than s w) n ≡ Some seq
+      → told states w.seq seq w.mask ≡ false → o.number ≡ n → IsSpentSearch s.budget (formula_for s w seq) o.log → All IsLine o.log → IsSearching s w old states (opens ++ o ∷ []) (passed ++ n ∷ []) rest
   search_spends states opens passed rest n seq o g at t e log lines = record {
     growth = g.growth;
     settles = λ q r c here. elim (Contains-push_cases passed n q c) [
@@ -200,7 +200,7 @@ module _ (s : Settings) (w : Window) (old : List Seen) where
       | inl k ↦ g.names i z k
       | inr k ↦ subst (λ y. IsOpenNumber s w old y) k.1 (record {
         seq = seq;
-        at = subst (λ j. slice_get (shorter_than s.pool w) j ≡ Some seq) (sym e) at;
+        at = subst (λ j. slice_get (shorter_than s w) j ≡ Some seq) (sym e) at;
         untold = untold_before old g.growth.more w.seq seq w.mask (subst (λ ys. told ys w.seq seq w.mask ≡ false) g.growth.grown t);
         log = log;
         lines = lines;
@@ -211,8 +211,8 @@ module _ (s : Settings) (w : Window) (old : List Seen) where
   }
 
   -- what is settled so far, also among the numbers that are no candidates
-  settled : (states : List Seen) (opens : List Opened) (passed rest candidates : List ℕ) → IsSearching s w old states opens passed rest → AreCandidates s.pool old w candidates → candidates ≡ passed ++ rest
-      → (q : ℕ) (r : List Instr) → (Contains rest q → ⊥) → slice_get (shorter_than s.pool w) q ≡ Some r → (is_named opens q ≡ true) ⊎ (told states w.seq r w.mask ≡ true)
+  settled : (states : List Seen) (opens : List Opened) (passed rest candidates : List ℕ) → IsSearching s w old states opens passed rest → AreCandidates s old w candidates → candidates ≡ passed ++ rest
+      → (q : ℕ) (r : List Instr) → (Contains rest q → ⊥) → slice_get (shorter_than s w) q ≡ Some r → (is_named opens q ≡ true) ⊎ (told states w.seq r w.mask ≡ true)
   settled states opens passed rest candidates g are e q r never here = elim (are.others q r here) [
     | inl c ↦ elim (Contains-append_cases passed rest q (subst (λ ns. Contains ns q) e c)) [
       | inl k ↦ g.settles q r k here
@@ -232,14 +232,14 @@ module _ (s : Settings) (w : Window) (old : List Seen) where
 
 -- it is the right side
 pub search_proves : (s : Settings) (e : Rule) (old states : List Seen) (opens : List Opened) (passed rest candidates : List ℕ) (n : ℕ) → IsWindow s (learnt_from e) → IsMask e.mask → IsSearching s (learnt_from e) old states opens passed (n ∷ rest)
-    → AreCandidates s.pool old (learnt_from e) candidates → candidates ≡ passed ++ n ∷ rest → slice_get (shorter_than s.pool (learnt_from e)) n ≡ Some e.right → e.opens ≡ filter (is_below (length (shorter_of s.pool e))) opens
-    → IsProvedBySolver s.budget e → All IsLine e.proof → IsFit s states old e
+    → AreCandidates s old (learnt_from e) candidates → candidates ≡ passed ++ n ∷ rest → slice_get (shorter_than s (learnt_from e)) n ≡ Some e.right → e.opens ≡ filter (is_below (length (shorter_of s e))) opens
+    → IsProvedBySolver s e → All IsLine e.proof → IsFit s states old e
 search_proves s e old states opens passed rest candidates n window mask g are split at o proved lines =
     let k : ℕ = named_count e.left in
     let few : length e.left ≤ 5 = window.canonical.renamable.few in
     let place = below_in k s.pool (length e.left) n e.right (omega (arith, few)) at in
     let short : length e.right < length e.left = place.1 in
-    let after : length (shorter_of s.pool e) ≤ n = number_after k s.pool (length e.left) n e.right (omega (arith, few)) at in
+    let after : length (shorter_of s e) ≤ n = number_after k s.pool (length e.left) n e.right (omega (arith, few)) at in
     record {
       window = window;
       mask = mask;
@@ -248,26 +248,26 @@ search_proves s e old states opens passed rest candidates n window mask g are sp
       proved = proved;
       lines = lines;
       settles = λ q r here.
-          let within : q < length (shorter_of s.pool e) = slice_get_within (shorter_of s.pool e) q r here in
-          let there : slice_get (shorter_than s.pool (learnt_from e)) q ≡ Some r = below_le k s.pool (length e.right) (length e.left) q r (omega (arith, short)) (omega (arith, few)) here in
+          let within : q < length (shorter_of s e) = slice_get_within (shorter_of s e) q r here in
+          let there : slice_get (shorter_than s (learnt_from e)) q ≡ Some r = below_le k s.pool (length e.right) (length e.left) q r (omega (arith, short)) (omega (arith, few)) here in
           elim (settled s (learnt_from e) old states opens passed (n ∷ rest) candidates g are split q r (rest_above s (learnt_from e) old passed rest candidates n q are.ascending split (omega (arith, within, after))) there) [
-            | inl named ↦ inl (subst (λ z. is_named z q ≡ true) (sym o) (named-filter (is_below (length (shorter_of s.pool e))) opens q (λ z same. lt-ltb z.number (length (shorter_of s.pool e)) (omega (arith, same, within))) named))
+            | inl named ↦ inl (subst (λ z. is_named z q ≡ true) (sym o) (named-filter (is_below (length (shorter_of s e))) opens q (λ z same. lt-ltb z.number (length (shorter_of s e)) (omega (arith, same, within))) named))
             | inr does ↦ inr does
           ];
       names = λ i z here.
-          let kept = filter_at (is_below (length (shorter_of s.pool e))) opens i z (subst (λ zs. slice_get zs i ≡ Some z) o here) in
+          let kept = filter_at (is_below (length (shorter_of s e))) opens i z (subst (λ zs. slice_get zs i ≡ Some z) o here) in
           let name = g.names kept.1.0 z kept.1.1 in
-          let found = present_at (shorter_of s.pool e) z.number (ltb-true z.number (length (shorter_of s.pool e)) kept.0) in
+          let found = present_at (shorter_of s e) z.number (ltb-true z.number (length (shorter_of s e)) kept.0) in
           let same : found.0 ≡ name.seq = same_Some found.0 name.seq (sym (below_le k s.pool (length e.right) (length e.left) z.number found.0 (omega (arith, short)) (omega (arith, few)) found.1) ∙ name.at) in
           record { seq = name.seq; is_shorter = found.1 ∙ ap (λ y. Some y) same; untold = name.untold; log = name.log; lines = name.lines };
-      ascending = subst (λ zs. ascends_from 0 (numbers_of zs) ≡ true) (sym o) (ascends-filter (is_below (length (shorter_of s.pool e))) 0 opens (ascends_front 0 (numbers_of opens) (n ∷ rest) g.ascending));
+      ascending = subst (λ zs. ascends_from 0 (numbers_of zs) ≡ true) (sym o) (ascends-filter (is_below (length (shorter_of s e))) 0 opens (ascends_front 0 (numbers_of opens) (n ∷ rest) g.ascending));
     }
 
 -- none is left
 pub search_ends : (s : Settings) (e : Rule) (old states : List Seen) (opens : List Opened) (passed candidates : List ℕ) → IsWindow s (learnt_from e) → IsMask e.mask → IsSearching s (learnt_from e) old states opens passed []
-    → AreCandidates s.pool old (learnt_from e) candidates → candidates ≡ passed ++ [] → e.right ≡ e.left → e.opens ≡ opens → IsProvedBySolver s.budget e → All IsLine e.proof → IsFit s states old e
+    → AreCandidates s old (learnt_from e) candidates → candidates ≡ passed ++ [] → e.right ≡ e.left → e.opens ≡ opens → IsProvedBySolver s e → All IsLine e.proof → IsFit s states old e
 search_ends s e old states opens passed candidates window mask g are split r o proved lines =
-    let to_left : shorter_of s.pool e ≡ shorter_than s.pool (learnt_from e) = ap (λ (z : List Instr). sequences_below (named_count e.left) s.pool (length z)) r in
+    let to_left : shorter_of s e ≡ shorter_than s (learnt_from e) = ap (λ (z : List Instr). sequences_below (named_count e.left) s.pool (length z)) r in
     record {
       window = window;
       mask = mask;
@@ -276,7 +276,7 @@ search_ends s e old states opens passed candidates window mask g are split r o p
       proved = proved;
       lines = lines;
       settles = λ q seq here.
-          let there : slice_get (shorter_than s.pool (learnt_from e)) q ≡ Some seq = subst (λ z. slice_get z q ≡ Some seq) to_left here in
+          let there : slice_get (shorter_than s (learnt_from e)) q ≡ Some seq = subst (λ z. slice_get z q ≡ Some seq) to_left here in
           elim (settled s (learnt_from e) old states opens passed [] candidates g are split q seq (λ c. omega (arith, c.1)) there) [
             | inl named ↦ inl (subst (λ z. is_named z q ≡ true) (sym o) named)
             | inr does ↦ inr does

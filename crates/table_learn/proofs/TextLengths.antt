@@ -18,11 +18,16 @@ use Rattle.rule_table.specs.Views.{opened_of}
 use Rattle.seq_enum.specs.Pools.{inside, is_pool}
 use Rattle.seq_enum.proofs.Bounds.{bounds}
 use Rattle.window_exec.specs.Seen.{Seen}
+use Rattle.rule_table.specs.declared.header.Field.{Field}
+use Rattle.rule_table.specs.declared.header.Field.TheVariants as field
+use Rattle.rule_table.specs.declared.header.Head.{Head}
+use Rattle.rule_table.specs.declared.header.Head.TheVariants as head
+use Rattle.rule_table.specs.Header.{Header, heads, number_in, row, IsWithin, IsHeader}
 use Rattle.rule_table.specs.Table.{Opened, Rule, Table}
 use Rattle.rule_table.specs.Valid.{IsState}
-use Rattle.rule_table.specs.Text.{Item, Version, Regs, Longest, Seed, Budget, Pool, State, Entry, Left, Right, Mask, Proof, Logged, Open, End, hex_of, instr_text, named, mask_text, after_blanks, line_of, text_of_items, open_items, rule_items, header_items, items_of, text_of}
+use Rattle.rule_table.proofs.LinesTell.{within_small}
+use Rattle.rule_table.specs.Text.{Item, Number, Pool, State, Entry, Left, Right, Mask, Proof, Logged, Open, End, hex_of, instr_text, named, mask_text, after_blanks, line_of, text_of_items, open_items, rule_items, said, header_items, items_of, text_of}
 use Rattle.table_learn.specs.Settings.{Settings}
-use Rattle.table_learn.specs.Given.{AreInLimits}
 use Rattle.table_learn.specs.Learnt.{text_length}
 use Rattle.table_learn.specs.Lengths.{lines_length, log_length, opens_length, rules_length, instr_length, item_length}
 use Rattle.table_learn.specs.Progress.{table_with}
@@ -178,10 +183,10 @@ text_is : (t : Table) → text_length t ≡ lines_length (items_of t)
 unfolding lines_length
 text_is t = refl
 
-pub whole_lines : (s : Settings) (states : List Seen) (rules : List Rule) → All IsState states → text_length (table_with s states rules) ≡ lines_length (header_items (table_with s [] [])) + 44 * length states + rules_length rules + 4
+pub whole_lines : (s : Settings) (states : List Seen) (rules : List Rule) → All IsState states → text_length (table_with s states rules) ≡ lines_length (header_items s) + 44 * length states + rules_length rules + 4
 whole_lines s states rules valid =
     let t : Table = table_with s states rules in
-    let a = lines-append (header_items t) (map State states ++ (flat_map rule_items rules ++ End ∷ [])) in
+    let a = lines-append (header_items t.header) (map State states ++ (flat_map rule_items rules ++ End ∷ [])) in
     let b = lines-append (map State states) (flat_map rule_items rules ++ End ∷ []) in
     let c = lines-append (flat_map rule_items rules) (End ∷ []) in
     let d = state_lines states valid in
@@ -223,34 +228,39 @@ numbered_line x word n is small =
     let d = few_digits n small in
     omega (arith, a, l, b, d)
 
-version_line : lines_length (Version ∷ []) ≡ 7
-unfolding lines_length
-version_line = refl
+short_word : (f : Field) → length (row f).word ≤ 7
+short_word field.Version = omega arith
+short_word field.Regs = omega arith
+short_word field.Left = omega arith
+short_word field.Seed = omega arith
+short_word field.Budget = omega arith
 
-pub short_header : (s : Settings) → AreInLimits s → s.seed < 2 ^ 32 → is_pool s.pool ≡ true → lines_length (header_items (table_with s [] [])) ≤ 1000
-short_header s l seed pool =
-    let t : Table = table_with s [] [] in
-    let p = bounds s.pool pool in
-    let a = lines-cons Version (Regs s.regs ∷ Longest s.left ∷ Seed s.seed ∷ Budget s.budget ∷ Pool s.pool ∷ []) in
-    let b = lines-cons (Regs s.regs) (Longest s.left ∷ Seed s.seed ∷ Budget s.budget ∷ Pool s.pool ∷ []) in
-    let c = lines-cons (Longest s.left) (Seed s.seed ∷ Budget s.budget ∷ Pool s.pool ∷ []) in
-    let d = lines-cons (Seed s.seed) (Budget s.budget ∷ Pool s.pool ∷ []) in
-    let e = lines-cons (Budget s.budget) (Pool s.pool ∷ []) in
-    let v = version_line in
-    let r = numbered_line (Regs s.regs) (codes "regs ") s.regs refl (let k = l.few_regs in omega (arith, k)) in
-    let o = numbered_line (Longest s.left) (codes "left ") s.left refl (let k = l.few_left in omega (arith, k)) in
-    let w = numbered_line (Seed s.seed) (codes "seed ") s.seed refl (omega (arith, seed)) in
-    let x = numbered_line (Budget s.budget) (codes "budget ") s.budget refl (let k = l.few_budget in omega (arith, k)) in
-    let y = one_line (Pool s.pool) in
-    let z = length-append (codes "pool") (after_blanks (map decimal s.pool)) in
-    let q = pool_length s.pool p.bytes in
+row_line : (f : Field) (n : ℕ) → IsWithin f n → lines_length (Number f n ∷ []) ≤ length (row f).word + 21
+row_line f n is = numbered_line (Number f n) (row f).word n refl (within_small f n is)
+
+-- the numbers' lines and the pool's
+heads_short : (h : Header) → IsHeader h → (lines : List Head) → lines_length (map (said h) lines) ≤ 400 * length lines
+heads_short h is [] = (let none = no_line in omega (arith, none))
+heads_short h is (head.Number f ∷ lines) =
+    let first = lines-cons (Number f (number_in h f)) (map (said h) lines) in
+    let one = row_line f (number_in h f) (is.numbers f) in
+    omega (arith, first, one, short_word f, heads_short h is lines)
+heads_short h is (head.Pool ∷ lines) =
+    let p = bounds h.pool is.pool in
+    let first = lines-cons (Pool h.pool) (map (said h) lines) in
+    let one = one_line (Pool h.pool) in
+    let z = length-append (codes "pool") (after_blanks (map decimal h.pool)) in
+    let q = pool_length h.pool p.bytes in
     let few = p.few in
-    omega (arith, a, b, c, d, e, v, r, o, w, x, y, z, q, few)
+    omega (arith, first, one, z, q, few, heads_short h is lines)
+
+pub short_header : (s : Settings) → IsHeader s → lines_length (header_items s) ≤ 2400
+short_header s is = heads_short s is heads
 
 -- before the first window
-pub text_begins : (s : Settings) (states : List Seen) → AreInLimits s → s.seed < 2 ^ 32 → is_pool s.pool ≡ true → All IsState states → length states ≡ 64 → text_length (table_with s states []) ≤ 67108864
-text_begins s states l seed pool valid many =
+pub text_begins : (s : Settings) (states : List Seen) → IsHeader s → All IsState states → length states ≡ 64 → text_length (table_with s states []) ≤ 67108864
+text_begins s states is valid many =
     let a = whole_lines s states [] valid in
-    let b = short_header s l seed pool in
+    let b = short_header s is in
     let c = no_line in
     omega (arith, a, b, c, many)

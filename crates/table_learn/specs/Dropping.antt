@@ -4,6 +4,7 @@ use Rattle.window_exec.specs.Seen.{Seen}
 use Rattle.thumb_model.specs.Sides.{AreOver}
 use Rattle.rule_table.specs.Table.{Rule}
 use Rattle.table_audit.specs.Sides.{IsCanonicalSide}
+use Rattle.table_learn.specs.Settings.{Settings}
 use Rattle.table_learn.specs.Fitness.{without_told}
 use Rattle.table_learn.specs.Lengths.{opens_length}
 
@@ -14,8 +15,8 @@ pub record IsSided (e : Rule) : Type 0 where
   pub no_longer : length e.right ≤ length e.left
 
 -- without what the found states tell, an entry's open numbers have so many bytes fewer
-pub record Dropped (pool : List ℕ) (found : List Seen) (before after : Rule) (freed : ℕ) : Type 0 where
-  pub rest : after ≡ without_told pool found before
+pub record Dropped (s : Settings) (found : List Seen) (before after : Rule) (freed : ℕ) : Type 0 where
+  pub rest : after ≡ without_told s found before
   pub less : opens_length after.opens + freed ≡ opens_length before.opens
 
 -- the runs of both sides of open numbers on so many states

@@ -8,7 +8,7 @@ use Rattle.lrat_check.specs.Text.{IsLine}
 use Rattle.bit_blast.specs.Exactness.{IsMask}
 use Rattle.rule_table.specs.Table.{Opened, Rule}
 use Rattle.rule_table.specs.Valid.{numbers_of}
-use Rattle.table_audit.specs.Sides.{named_count, formula_against}
+use Rattle.table_audit.specs.Sides.{alphabet_registers, formula_against}
 use Rattle.table_audit.specs.Shorter.{sequences_below, is_named}
 use Rattle.table_learn.specs.Settings.{Settings, Window}
 use Rattle.table_learn.specs.Given.{IsWindow}
@@ -16,26 +16,26 @@ use Rattle.table_learn.specs.Learnt.{learnt_from, KeepsOrShortens, IsProvedBySol
 use Rattle.table_learn.specs.Tellings.{told}
 
 -- the sequences that are shorter than a right side
-abbrev pub shorter_of : List ℕ → Rule → List (List Instr)
-shorter_of pool e = sequences_below (named_count e.left) pool (length e.right)
+abbrev pub shorter_of : Settings → Rule → List (List Instr)
+shorter_of s e = sequences_below (alphabet_registers s e.left) s.pool (length e.right)
 
 -- a number is that of a shorter sequence, none of these states tells it, and its log is the solver's
 pub record IsFitName (s : Settings) (silent : List Seen) (e : Rule) (o : Opened) : Type 0 where
   pub seq : List Instr
-  pub is_shorter : slice_get (shorter_of s.pool e) o.number ≡ Some seq
+  pub is_shorter : slice_get (shorter_of s e) o.number ≡ Some seq
   pub untold : told silent e.left seq e.mask ≡ false
-  pub log : IsSpentSearch s.budget (formula_against e seq) o.log
+  pub log : IsSpentSearch s.budget (formula_against s e seq) o.log
   pub lines : All IsLine o.log
 
 -- an entry that passes the audit, where the tellers tell what it doesn't name open, and the silent states nothing that it names open
 pub record IsFit (s : Settings) (tellers silent : List Seen) (e : Rule) : Type 0 where
   pub window : IsWindow s (learnt_from e)
   pub mask : IsMask e.mask
-  pub right : IsOver (named_count e.left) s.pool e.right
+  pub right : IsOver (alphabet_registers s e.left) s.pool e.right
   pub keeps : KeepsOrShortens e
-  pub proved : IsProvedBySolver s.budget e
+  pub proved : IsProvedBySolver s e
   pub lines : All IsLine e.proof
-  pub settles : (q : ℕ) (seq : List Instr) → slice_get (shorter_of s.pool e) q ≡ Some seq → (is_named e.opens q ≡ true) ⊎ (told tellers e.left seq e.mask ≡ true)
+  pub settles : (q : ℕ) (seq : List Instr) → slice_get (shorter_of s e) q ≡ Some seq → (is_named e.opens q ≡ true) ⊎ (told tellers e.left seq e.mask ≡ true)
   pub names : (i : ℕ) (o : Opened) → slice_get e.opens i ≡ Some o → IsFitName s silent e o
   pub ascending : ascends_from 0 (numbers_of e.opens) ≡ true
 
@@ -46,9 +46,9 @@ abbrev pub tells_number : List Seen → Rule → Option (List Instr) → Bool
 tells_number found e None = false
 tells_number found e (Some seq) = told found e.left seq e.mask
 
-abbrev pub stays_open : List ℕ → List Seen → Rule → Opened → Bool
-stays_open pool found e o = not (tells_number found e (slice_get (shorter_of pool e) o.number))
+abbrev pub stays_open : Settings → List Seen → Rule → Opened → Bool
+stays_open s found e o = not (tells_number found e (slice_get (shorter_of s e) o.number))
 
 -- the entry without the open numbers that a found state tells
-abbrev pub without_told : List ℕ → List Seen → Rule → Rule
-without_told pool found e = record { left = e.left; right = e.right; mask = e.mask; proof = e.proof; opens = filter (stays_open pool found e) e.opens }
+abbrev pub without_told : Settings → List Seen → Rule → Rule
+without_told s found e = record { left = e.left; right = e.right; mask = e.mask; proof = e.proof; opens = filter (stays_open s found e) e.opens }

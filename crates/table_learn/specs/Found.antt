@@ -10,7 +10,7 @@ use Rattle.rule_table.specs.Valid.{IsState}
 use Rattle.table_learn.specs.declared.window.Window as code
 use Rattle.table_learn.specs.declared.trying.Finding.{Finding}
 use Rattle.table_learn.specs.declared.trying.Finding.TheVariants.{Told, State, Proof, Log}
-use Rattle.table_learn.specs.Settings.{Window}
+use Rattle.table_learn.specs.Settings.{Settings, Window}
 use Rattle.table_learn.specs.Learnt.{IsRefutation, IsSpentSearch}
 use Rattle.table_learn.specs.Tellings.{told, tells_apart}
 use Rattle.table_learn.specs.Searching.{formula_for}
@@ -26,8 +26,8 @@ IsAnswer budget w seq (Proof log) = IsRefutation budget (sides_formula w.left se
 IsAnswer budget w seq (Log log) = IsSpentSearch budget (sides_formula w.left seq w.mask.items.bits w.k) (map content_of log.items) × All IsLine (map content_of log.items)
 
 -- a listed state tells it, or none does and the solver answers so
-abbrev pub IsFinding : ℕ → List Seen → Window → List Instr → Finding → Type 0
-IsFinding budget states w seq Told = told states w.seq seq w.mask ≡ true
-IsFinding budget states w seq (State s) = (told states w.seq seq w.mask ≡ false) × (tells_apart w.seq seq w.mask (seen s) ≡ true) × IsState (seen s)
-IsFinding budget states w seq (Proof log) = IsRefutation budget (formula_for w seq) (map content_of log.items) × All IsLine (map content_of log.items)
-IsFinding budget states w seq (Log log) = (told states w.seq seq w.mask ≡ false) × IsSpentSearch budget (formula_for w seq) (map content_of log.items) × All IsLine (map content_of log.items)
+abbrev pub IsFinding : Settings → List Seen → Window → List Instr → Finding → Type 0
+IsFinding s states w seq Told = told states w.seq seq w.mask ≡ true
+IsFinding s states w seq (State x) = (told states w.seq seq w.mask ≡ false) × (tells_apart w.seq seq w.mask (seen x) ≡ true) × IsState (seen x)
+IsFinding s states w seq (Proof log) = IsRefutation s.budget (formula_for s w seq) (map content_of log.items) × All IsLine (map content_of log.items)
+IsFinding s states w seq (Log log) = (told states w.seq seq w.mask ≡ false) × IsSpentSearch s.budget (formula_for s w seq) (map content_of log.items) × All IsLine (map content_of log.items)

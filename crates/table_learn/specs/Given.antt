@@ -5,11 +5,12 @@ use Rattle.thumb_instr.specs.declared.items.Mask.{Mask}
 use Rattle.seq_enum.specs.Alphabet.{IsOver}
 use Rattle.bit_blast.specs.Exactness.{IsMaskOver}
 use Rattle.table_audit.specs.Sides.{named_count, IsCanonicalSide}
-use Rattle.table_learn.specs.declared.settings.Settings as code
+use Rattle.rule_table.specs.declared.header.Header as code
+use Rattle.rule_table.specs.Views.{header_of}
 use Rattle.table_learn.specs.Settings.{Settings, Window}
 
-abbrev pub settings_of : code.Settings → Settings
-settings_of s = record { regs = s.regs; left = s.left; budget = s.budget; seed = s.seed; pool = s.pool }
+abbrev pub settings_of : code.Header → Settings
+settings_of s = header_of s
 
 -- each lies in its limits; the seed and the pool do so by their types
 pub record AreInLimits (s : Settings) : Type 0 where

@@ -3,7 +3,6 @@ use Rattle.std.specs.Global.{Global}
 use Rattle.std.specs.Prelude.{ℕ, ◌≡◌, ◌<◌, ◌≤◌, ◌⊎◌, List, Some, All, Vec, length, map, slice_get, take}
 use Rattle.thumb_instr.specs.declared.instr.Instr.{Instr}
 use Rattle.window_exec.specs.Telling.{Tells}
-use Rattle.seq_enum.specs.Alphabet.{IsOver}
 use Rattle.window_exec.specs.Seen.{Seen}
 use Rattle.cnf_gates.specs.Cnf.{Cnf}
 use Rattle.lrat_check.specs.declared.line.Line.{Line}
@@ -13,8 +12,8 @@ use Rattle.cdcl_core.specs.Solved.{VerdictOf}
 use Rattle.rule_table.specs.Table.{Opened, Rule, Table}
 use Rattle.rule_table.specs.Text.{text_of}
 use Rattle.rule_table.specs.Valid.{IsTable}
-use Rattle.table_audit.specs.Sides.{named_count, formula_of, formula_against}
-use Rattle.table_audit.specs.Shorter.{IsTold, sequences_below, shorter, values_in}
+use Rattle.table_audit.specs.Sides.{formula_of, formula_against}
+use Rattle.table_audit.specs.Shorter.{IsBelow, IsTold, sequences_below, shorter, values_in}
 use Rattle.table_audit.specs.Acceptance.{IsAccepted}
 use Rattle.table_learn.specs.Settings.{Settings, Window}
 
@@ -40,49 +39,45 @@ pub record IsSpentSearch (budget : ℕ) (formula : Cnf) (lines : List Content) :
   pub says : map content_of log.items ≡ lines
 
 -- the proof is the solver's, of the formula of the two sides
-abbrev pub IsProvedBySolver : ℕ → Rule → Type 0
-IsProvedBySolver budget e = IsRefutation budget (formula_of e) e.proof
+abbrev pub IsProvedBySolver : Settings → Rule → Type 0
+IsProvedBySolver s e = IsRefutation s.budget (formula_of s e) e.proof
 
 -- a number's log is the solver's, of the formula of the left side and the number's sequence
 abbrev pub IsOpenBySolver : Table → Rule → Opened → Type 0
-IsOpenBySolver t e o = (seq : List Instr) → slice_get (shorter t e) o.number ≡ Some seq → IsSpentSearch t.budget (formula_against e seq) o.log
+IsOpenBySolver t e o = (seq : List Instr) → slice_get (shorter t e) o.number ≡ Some seq → IsSpentSearch t.header.budget (formula_against t.header e seq) o.log
 
 -- ---- states ----
 
--- a state tells a window from a sequence of its alphabet that is shorter and that no state before tells from it
-pub record TellsFirst (pool : List ℕ) (before : List Seen) (s : Seen) (w : Window) : Type 0 where
+-- a state tells a window from a sequence below it that no state before tells from it
+pub record TellsFirst (s : Settings) (before : List Seen) (x : Seen) (w : Window) : Type 0 where
+  pub number : ℕ
   pub other : List Instr
-  pub over : IsOver (named_count w.seq) pool other
-  pub is_shorter : length other < length w.seq
-  pub tells : Tells (values_in s) w.seq other w.mask
+  pub below : IsBelow s w.seq w.seq number other
+  pub tells : Tells (values_in x) w.seq other w.mask
   pub first : IsTold before w.seq other w.mask → ⊥
 
 -- it does so for some window of the list
-pub record IsEarned (pool : List ℕ) (windows : List Window) (before : List Seen) (s : Seen) : Type 0 where
+pub record IsEarned (s : Settings) (windows : List Window) (before : List Seen) (x : Seen) : Type 0 where
   pub place : ℕ
   pub window : Window
   pub is_window : slice_get windows place ≡ Some window
-  pub found : TellsFirst pool before s window
+  pub found : TellsFirst s before x window
 
 -- each state past the seed's 64
-abbrev pub AreEarned : List ℕ → List Window → List Seen → Type 0
-AreEarned pool windows states = (i : ℕ) (s : Seen) → 64 ≤ i → slice_get states i ≡ Some s → IsEarned pool windows (take i states) s
+abbrev pub AreEarned : Settings → List Window → List Seen → Type 0
+AreEarned s windows states = (i : ℕ) (x : Seen) → 64 ≤ i → slice_get states i ≡ Some x → IsEarned s windows (take i states) x
 
 -- ---- tables ----
 
--- the table's header is the settings', it has an entry for each window in order, whose right side is the left side or shorter, no state past the
+-- the table's header is the settings, it has an entry for each window in order, whose right side is the left side or shorter, no state past the
 -- seed's that isn't needed, and the audit accepts it; proofs and logs are the solver's
 pub record Learnt (s : Settings) (windows : List Window) (t : Table) : Type 0 where
-  pub regs : t.regs ≡ s.regs
-  pub left : t.left ≡ s.left
-  pub seed : t.seed ≡ s.seed
-  pub budget : t.budget ≡ s.budget
-  pub pool : t.pool ≡ s.pool
+  pub header : t.header ≡ s
   pub entries : map learnt_from t.rules ≡ windows
   pub rights : All KeepsOrShortens t.rules
-  pub states : AreEarned t.pool windows t.states
+  pub states : AreEarned t.header windows t.states
   pub accepted : IsAccepted t
-  pub proofs : All (IsProvedBySolver t.budget) t.rules
+  pub proofs : All (IsProvedBySolver t.header) t.rules
   pub logs : All (λ e. All (IsOpenBySolver t e) e.opens) t.rules
 
 -- ---- refusals ----

@@ -14,7 +14,7 @@ use Rattle.table_learn.specs.Keeping.{IsKept}
 
 -- a table with these settings
 abbrev pub table_with : Settings → List Seen → List Rule → Table
-table_with s states rules = record { regs = s.regs; left = s.left; seed = s.seed; budget = s.budget; pool = s.pool; states = states; rules = rules }
+table_with s states rules = record { header = s; states = states; rules = rules }
 
 -- the states and entries that some windows gave
 pub record Progress (s : Settings) (windows : List Window) (states : List Seen) (rules : List Rule) : Type 0 where
@@ -23,7 +23,7 @@ pub record Progress (s : Settings) (windows : List Window) (states : List Seen) 
   pub valid : All IsState states
   pub matched : map learnt_from rules ≡ windows
   pub fits : (n : ℕ) (e : Rule) → slice_get rules n ≡ Some e → IsFit s states states e
-  pub earned : AreEarned s.pool windows states
+  pub earned : AreEarned s windows states
 
 abbrev pub states_in : Learner → List Seen
 states_in l = map seen l.states.items

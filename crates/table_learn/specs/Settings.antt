@@ -1,14 +1,11 @@
 -- What is learnt from, and with which limits.
 use Rattle.std.specs.Prelude.{ℕ, List}
 use Rattle.thumb_instr.specs.declared.instr.Instr.{Instr}
+use Rattle.rule_table.specs.Header.{Header}
 
--- how many registers and instructions a window has at most, how many clauses a query may learn, the seed of the first states, and the numbers of the alphabet
-pub record Settings : Type 0 where
-  pub regs : ℕ
-  pub left : ℕ
-  pub budget : ℕ
-  pub seed : ℕ
-  pub pool : List ℕ
+-- the settings are the header that the table gets
+abbrev pub Settings : Type 0
+Settings = Header
 
 -- a window, and the items that may be live after it, as the bits of their numbers
 pub record Window : Type 0 where

@@ -13,8 +13,8 @@ use Rattle.table_learn.specs.Searching.{shorter_than, formula_for, IsSearching}
 
 -- the sequence of a number, with the solver's proof that no state tells it from the window
 pub record IsRightSide (s : Settings) (w : Window) (number : ℕ) (right : List Instr × Vec Line Global) : Type 0 where
-  pub at : slice_get (shorter_than s.pool w) number ≡ Some right.0
-  pub proof : IsRefutation s.budget (formula_for w right.0) (map content_of right.1.items)
+  pub at : slice_get (shorter_than s w) number ≡ Some right.0
+  pub proof : IsRefutation s.budget (formula_for s w right.0) (map content_of right.1.items)
   pub lines : All IsLine (map content_of right.1.items)
 
 -- the candidate is the right side, and nothing changed, or the search goes on behind it

@@ -5,16 +5,18 @@ ghost use Rattle.thumb_model.specs.Sides.{AreOver};
 ghost use Rattle.rule_table.specs.Table.{Rule};
 ghost use Rattle.rule_table.specs.Views.{opened_of, rule_of};
 ghost use Rattle.table_audit.specs.Sides.{named_count, IsCanonicalSide};
+ghost use Rattle.table_learn.specs.Given.{settings_of};
 ghost use Rattle.table_learn.specs.Fitness.{shorter_of, tells_number, stays_open, without_told};
 ghost use Rattle.table_learn.specs.Lengths.{opens_length, rules_length};
 ghost use Rattle.table_learn.specs.Searching.{is_below};
 ghost use Rattle.table_learn.specs.Dropping.{IsSided, Dropped, runs_on};
 
 use crate::lengths::{open_length, plus};
+use crate::settings::Settings;
 use crate::trying::is_told;
 use crate::window::Window;
 use rule_table::{Entry, Open};
-use seq_enum::{Pool, seq_at};
+use seq_enum::seq_at;
 use std::alloc::{AllocError, Global};
 use step_ledger::{Ledger, Steps};
 use window_exec::WState;
@@ -38,7 +40,7 @@ pub(crate) fn keep_below(
 
 /// Whether one of the states tells the window from the sequence of a number, where that has fewer than `count` instructions.
 fn tells_open<L: Ledger>(
-    pool: &Pool,
+    settings: &Settings,
     found: &[WState],
     window: &Window,
     count: usize,
@@ -51,10 +53,10 @@ fn tells_open<L: Ledger>(
     requires left { AreOver 4 window.now.left }
     requires short { count ≤ length window.now.left }
     requires five { count ≤ 5 }
-    ensures told { (e : Rule) → e.left ≡ window.now.left → e.mask ≡ window.now.mask.items.bits → length e.right ≡ count → result ≡ tells_number (map seen found.now) e (slice_get (shorter_of pool.now e) number) }
+    ensures told { (e : Rule) → e.left ≡ window.now.left → e.mask ≡ window.now.mask.items.bits → length e.right ≡ count → result ≡ tells_number (map seen found.now) e (slice_get (shorter_of (settings_of settings.now) e) number) }
     ensures cost { steps.new ≤ steps.old + length found.now * (length window.now.left + length window.now.left) }
 {
-    match seq_at(window.k, pool, number) {
+    match seq_at(window.k, &settings.pool, number) {
         Some(seq) if seq.len() < count => { is_told(found, &window.left, &seq, window.mask, steps) }
         _ => false,
     }
@@ -63,13 +65,13 @@ fn tells_open<L: Ledger>(
 /// The entry without the open numbers that one of the states tells, and how many bytes shorter its text is.
 fn drop_told<L: Ledger>(
     alloc: Global,
-    pool: &Pool,
+    settings: &Settings,
     entry: Entry,
     found: &[WState],
     steps: &mut Steps<L>,
 ) -> Result<(Entry, u64), AllocError>
     requires { IsSided (rule_of entry) }
-    ensures dropped { IfOk result (λ r. Dropped pool.now (map seen found.now) (rule_of entry) (rule_of r.0) r.1) }
+    ensures dropped { IfOk result (λ r. Dropped (settings_of settings.now) (map seen found.now) (rule_of entry) (rule_of r.0) r.1) }
     ensures cost { OnOk result (steps.new ≤ steps.old + length entry.opens.items * (length found.now * (length entry.left + length entry.left))) }
 {
     let Entry {
@@ -84,7 +86,7 @@ fn drop_told<L: Ledger>(
     let mut kept = Vec::new(alloc);
     let mut freed = 0;
     for name in opens {
-        if tells_open(pool, found, &window, count, name.number, steps) {
+        if tells_open(settings, found, &window, count, name.number, steps) {
             freed = plus(freed, open_length(alloc, &name)?)?;
         } else {
             kept.push(name)?;
@@ -103,20 +105,20 @@ fn drop_told<L: Ledger>(
 /// The entries without the open numbers that one of the states tells, and how many bytes shorter their text is.
 fn drop_each<L: Ledger>(
     alloc: Global,
-    pool: &Pool,
+    settings: &Settings,
     entries: Vec<Entry>,
     found: &[WState],
     steps: &mut Steps<L>,
 ) -> Result<(Vec<Entry>, u64), AllocError>
     requires { All IsSided (map rule_of entries.items) }
-    ensures kept { IfOk result (λ r. map rule_of r.0.items ≡ map (without_told pool.now (map seen found.now)) (map rule_of entries.items)) }
+    ensures kept { IfOk result (λ r. map rule_of r.0.items ≡ map (without_told (settings_of settings.now) (map seen found.now)) (map rule_of entries.items)) }
     ensures freed { IfOk result (λ r. rules_length (map rule_of r.0.items) + r.1 ≡ rules_length (map rule_of entries.items)) }
     ensures cost { OnOk result (steps.new ≤ steps.old + runs_on (length found.now) (map rule_of entries.items)) }
 {
     let mut kept = Vec::with_capacity(alloc, entries.len())?;
     let mut freed = 0;
     for entry in entries {
-        let (entry, less) = drop_told(alloc, pool, entry, found, steps)?;
+        let (entry, less) = drop_told(alloc, settings, entry, found, steps)?;
         freed = plus(freed, less)?;
         kept.push(entry)?;
     }
@@ -126,18 +128,18 @@ fn drop_each<L: Ledger>(
 /// The entries without the open numbers that one of the found states tells, and how many bytes shorter their text is.
 pub(crate) fn drop_all_told<L: Ledger>(
     alloc: Global,
-    pool: &Pool,
+    settings: &Settings,
     entries: Vec<Entry>,
     found: &[WState],
     steps: &mut Steps<L>,
 ) -> Result<(Vec<Entry>, u64), AllocError>
     requires { All IsSided (map rule_of entries.items) }
-    ensures kept { IfOk result (λ r. map rule_of r.0.items ≡ map (without_told pool.now (map seen found.now)) (map rule_of entries.items)) }
+    ensures kept { IfOk result (λ r. map rule_of r.0.items ≡ map (without_told (settings_of settings.now) (map seen found.now)) (map rule_of entries.items)) }
     ensures freed { IfOk result (λ r. rules_length (map rule_of r.0.items) + r.1 ≡ rules_length (map rule_of entries.items)) }
     ensures cost { OnOk result (steps.new ≤ steps.old + runs_on (length found.now) (map rule_of entries.items)) }
 {
     if found.is_empty() {
         return Ok((entries, 0));
     }
-    drop_each(alloc, pool, entries, found, steps)
+    drop_each(alloc, settings, entries, found, steps)
 }

@@ -7,10 +7,12 @@ ghost use Rattle.thumb_model.specs.Sides.{AreOver};
 ghost use Rattle.window_exec.specs.State.{seen};
 ghost use Rattle.rule_table.specs.Valid.{IsState};
 ghost use Rattle.table_audit.specs.Sides.{named_count};
+ghost use Rattle.table_learn.specs.Given.{settings_of};
 ghost use Rattle.table_learn.specs.Found.{window_in};
 ghost use Rattle.table_learn.specs.Searching.{AreCandidates};
 ghost use Rattle.table_learn.specs.Keeping.{IsKept, Serves};
 
+use crate::settings::Settings;
 use crate::widths::count_shorter;
 use crate::window::Window;
 use fingerprints::{Index, print_of};
@@ -110,20 +112,20 @@ pub(crate) fn candidates(
     alloc: Global,
     kept: &Kept,
     window: &Window,
-    pool: &Pool,
+    settings: &Settings,
     states: &[WState],
 ) -> Result<Vec<u64>, AllocError>
     requires some { 0 < window.now.k }
     requires few { window.now.k ≤ 4 }
     requires named { window.now.k ≡ named_count window.now.left }
     requires left { AreOver 4 window.now.left }
-    requires kept { IsKept pool.now (map seen states.now) kept.now }
+    requires kept { IsKept settings.now.pool (map seen states.now) kept.now }
     requires serves { Serves kept.now window.now }
     requires valid { All IsState (map seen states.now) }
-    ensures { IfOk result (λ numbers. AreCandidates pool.now (map seen states.now) (window_in window.now) numbers.items) }
+    ensures { IfOk result (λ numbers. AreCandidates (settings_of settings.now) (map seen states.now) (window_in window.now) numbers.items) }
 {
     let print = print_of(&window.left, &kept.listed, window.mask);
     let numbers = kept.index.candidates(alloc, print)?;
-    let count = count_shorter(window.k, pool, window.len());
+    let count = count_shorter(window.k, &settings.pool, window.len());
     Ok(below(alloc, numbers, count)?)
 }

@@ -2,7 +2,7 @@
 ghost use Rattle.std.specs.Prelude.{◌≡◌, ◌<◌, ◌≤◌, ◌+◌, ◌-◌, ◌^◌, ◌∷◌, ◌++◌, [], ℕ, List, true, IfErr, IfOk, drop, length, map};
 ghost use Rattle.rule_table.specs.Valid.{IsTable};
 ghost use Rattle.window_exec.specs.State.{seen};
-ghost use Rattle.seq_enum.specs.Pools.{is_pool};
+ghost use Rattle.rule_table.specs.Header.{IsHeader};
 ghost use Rattle.rule_table.specs.Views.{rule_of, table_of};
 ghost use Rattle.table_audit.specs.Sides.{named_count};
 ghost use Rattle.table_learn.specs.Settings.{Window as Model};
@@ -17,7 +17,7 @@ use crate::errors::LearnError;
 use crate::keeping::{Kept, candidates, index_for};
 use crate::lengths::{entry_length, plus, times};
 use crate::searching::search;
-use crate::settings::Settings;
+use crate::settings::{Settings, hold};
 use crate::widths::count_shorter;
 use crate::window::Window;
 use fingerprints::seeded;
@@ -49,46 +49,22 @@ pub(crate) struct Learner {
 fn table_of(settings: Settings, states: Vec<WState>, entries: Vec<Entry>) -> Table
     ensures { table_of result ≡ table_with (settings_of settings) (map seen states.items) (map rule_of entries.items) }
 {
-    Table {
-        regs: settings.regs,
-        left: settings.left,
-        seed: settings.seed,
-        budget: settings.budget,
-        pool: settings.pool,
-        states: States::new(states),
-        entries,
-    }
+    Table::new(settings, States::new(states), entries)
 }
 
 /// Before the first window there are the states of the seed alone.
 fn begin(alloc: Global, settings: Settings) -> Result<(Settings, Learner), AllocError>
     requires limits { AreInLimits (settings_of settings) }
-    ensures seed { IfOk result (λ _. settings.seed < 2 ^ 32) }
-    ensures pool { IfOk result (λ _. is_pool settings.pool ≡ true) }
+    ensures header { IfOk result (λ _. IsHeader (settings_of settings)) }
     ensures same { IfOk result (λ r. settings_of r.0 ≡ settings_of settings) }
     ensures begun { IfOk result (λ r. HasLearnt (settings_of settings) [] r.1) }
     ensures short { IfOk result (λ r. r.1.bytes ≤ text_limit) }
 {
-    settings.hold();
+    hold(&settings);
     let states = seeded(alloc, settings.seed)?.into_vec();
     let table = table_of(settings, states, Vec::new(alloc));
     let bytes = write_table(alloc, &table)?.len() as u64;
-    let Table {
-        regs,
-        left,
-        seed,
-        budget,
-        pool,
-        states,
-        entries,
-    } = table;
-    let settings = Settings {
-        regs,
-        left,
-        budget,
-        seed,
-        pool,
-    };
+    let (settings, states, entries) = table.into_parts();
     let learner = Learner {
         states: states.into_vec(),
         entries,
@@ -134,7 +110,7 @@ fn learn_window<L: Ledger>(
     } = learner;
     let before = states.len();
     let kept = index_for(alloc, kept, &window, &settings.pool, &states)?;
-    let numbers = candidates(alloc, &kept, &window, &settings.pool, &states)?;
+    let numbers = candidates(alloc, &kept, &window, settings, &states)?;
     let entry = search(alloc, settings, window, &numbers, &mut states, steps)?;
     let found = behind(&states, before);
     let lines = plus(
@@ -143,7 +119,7 @@ fn learn_window<L: Ledger>(
     )?;
     let whole = plus(bytes, lines)?;
     entries.push(entry)?;
-    let (entries, freed) = drop_all_told(alloc, &settings.pool, entries, found, steps)?;
+    let (entries, freed) = drop_all_told(alloc, settings, entries, found, steps)?;
     Ok(Learner {
         states,
         entries,

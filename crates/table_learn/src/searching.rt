@@ -38,13 +38,13 @@ fn try_number<L: Ledger>(
     requires few { window.now.k ≤ 4 }
     requires named { window.now.k ≡ named_count window.now.left }
     requires window { IsWindow (settings_of settings.now) (window_in window.now) }
-    requires number { number < length (shorter_than settings.now.pool (window_in window.now)) }
+    requires number { number < length (shorter_than (settings_of settings.now) (window_in window.now)) }
     ensures tried { IfOk result (Tried (settings_of settings.now) (window_in window.now) (map seen states.old.items) (map opened_of opens.old.items) (map seen states.new.items) (map opened_of opens.new.items) number) }
     ensures more { OnOk result (length states.old.items ≤ length states.new.items) }
     ensures cost { OnOk result (steps.new ≤ steps.old + query_cost settings.now.budget (length states.new.items) (length window.now.left)) }
 {
     let seq = shorter_at(window.k, &settings.pool, window.len(), number);
-    match try_sequence(alloc, states, window, &seq, settings.budget, steps)? {
+    match try_sequence(alloc, states, window, &seq, settings, steps)? {
         Finding::Told => {}
         Finding::State(state) => states.push(state)?,
         Finding::Log(log) => opens.push(Open { number, log })?,
@@ -67,9 +67,9 @@ pub(crate) fn search<L: Ledger>(
     requires few { window.k ≤ 4 }
     requires named { window.k ≡ named_count window.left }
     requires window { IsWindow (settings_of settings.now) (window_in window) }
-    requires candidates { AreCandidates settings.now.pool (map seen states.old.items) (window_in window) candidates.now }
+    requires candidates { AreCandidates (settings_of settings.now) (map seen states.old.items) (window_in window) candidates.now }
     ensures grown { OnOk result (IsGrown (map seen states.old.items) (map seen states.new.items)) }
-    ensures earned { OnOk result (EarnedFrom settings.now.pool (length states.old.items) (map seen states.new.items) (window_in window)) }
+    ensures earned { OnOk result (EarnedFrom (settings_of settings.now) (length states.old.items) (map seen states.new.items) (window_in window)) }
     ensures window { IfOk result (λ e. learnt_from (rule_of e) ≡ window_in window) }
     ensures fits { IfOk result (λ e. IsFit (settings_of settings.now) (map seen states.new.items) (map seen states.old.items) (rule_of e)) }
     ensures cost { OnOk result (steps.new ≤ steps.old + length candidates.now * query_cost settings.now.budget (length states.new.items) (length window.left)) }

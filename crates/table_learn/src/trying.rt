@@ -7,8 +7,10 @@ ghost use Rattle.window_exec.specs.State.{seen};
 ghost use Rattle.table_audit.specs.Sides.{named_count};
 ghost use Rattle.table_learn.specs.Tellings.{tells_apart};
 ghost use Rattle.table_learn.specs.Searching.{query_cost};
+ghost use Rattle.table_learn.specs.Given.{settings_of};
 ghost use Rattle.table_learn.specs.Found.{IsAnswer, IsFinding, window_in};
 
+use crate::settings::Settings;
 use crate::window::Window;
 use bit_blast::{formula, state_of};
 use cdcl_core::{Verdict, solve};
@@ -94,7 +96,7 @@ pub(crate) fn try_sequence<L: Ledger>(
     states: &[WState],
     window: &Window,
     seq: &Seq,
-    budget: u32,
+    settings: &Settings,
     steps: &mut Steps<L>,
 ) -> Result<Finding, AllocError>
     requires few { window.now.k ≤ 4 }
@@ -103,11 +105,11 @@ pub(crate) fn try_sequence<L: Ledger>(
     requires right { AreOver window.now.k seq.now }
     requires shorter { length seq.now < length window.now.left }
     requires mask { IsMaskOver window.now.k window.now.mask.items.bits }
-    ensures found { IfOk result (IsFinding budget (map seen states.now) (window_in window.now) seq.now) }
-    ensures cost { OnOk result (steps.new ≤ steps.old + query_cost budget (length states.now) (length window.now.left)) }
+    ensures found { IfOk result (IsFinding (settings_of settings.now) (map seen states.now) (window_in window.now) seq.now) }
+    ensures cost { OnOk result (steps.new ≤ steps.old + query_cost settings.now.budget (length states.now) (length window.now.left)) }
 {
     if is_told(states, &window.left, seq, window.mask, steps) {
         return Ok(Finding::Told);
     }
-    ask(alloc, window, seq, budget, steps)
+    ask(alloc, window, seq, settings.budget, steps)
 }

@@ -6,23 +6,28 @@ use Rattle.fingerprints.specs.Seeded.{seeded_states}
 use Rattle.rule_table.specs.declared.table.Entry.{Entry}
 use Rattle.rule_table.specs.Table.{Rule, Table}
 use Rattle.rule_table.specs.Text.{text_of}
-use Rattle.rule_table.specs.Views.{rule_of, table_of}
+use Rattle.rule_table.specs.Views.{header_of, rule_of, table_of}
+use Rattle.rule_table.specs.Header.{IsHeader}
 use Rattle.table_learn.specs.Given.{settings_of}
 use Rattle.table_learn.specs.Learnt.{text_length}
 use Rattle.table_learn.specs.Progress.{Progress, table_with}
-use Rattle.table_learn.proofs.Gains.{start, length-states_from}
+use Rattle.table_learn.proofs.Gains.{start, in_limits, length-states_from}
 use Rattle.table_learn.proofs.TextLengths.{text_begins}
 use Rattle.table_learn.proofs.learning.begin.Goals as goal
 
 module _ (c : goal.After-into_vec) where
+  taken_apart : record { header = header_of c.into_parts-settings.result.0; states = map seen c.into_parts-settings.result.1; rules = map rule_of c.into_parts-settings.result.2.items } ≡
+      table_with (settings_of c.args.settings) (map seen c.into_vec-states.result.items) (map rule_of c.new.result.items)
+  taken_apart = sym c.into_parts-settings.ensures ∙ c.table_of-table.ensures
+
   states : map seen c.into_vec.result.items ≡ map seen c.into_vec-states.result.items
-  states = ap (λ (ss : List WState). map seen ss) c.into_vec.ensures ∙ ap (λ (t : Table). t.states) c.table_of-table.ensures
+  states = ap (λ (ss : List WState). map seen ss) c.into_vec.ensures ∙ ap (λ (t : Table). t.states) taken_apart
 
   seeds : map seen c.into_vec.result.items ≡ seeded_states c.args.settings.seed
   seeds = states ∙ ap (λ (ss : List WState). map seen ss) c.into_vec-states.ensures ∙ c.in_ok-seeded.ensures
 
-  none : map rule_of c.table_of-table.result.entries.items ≡ []
-  none = ap (λ (t : Table). t.rules) c.table_of-table.ensures ∙ ap (λ (es : List Entry). map rule_of es) c.new.ensures.items
+  none : map rule_of c.into_parts-settings.result.2.items ≡ []
+  none = ap (λ (t : Table). t.rules) taken_apart ∙ ap (λ (es : List Entry). map rule_of es) c.new.ensures.items
 
   progress : Progress (settings_of c.args.settings) [] (map seen c.into_vec.result.items) []
   progress = start (settings_of c.args.settings) (map seen c.into_vec.result.items) seeds
@@ -35,6 +40,15 @@ module _ (c : goal.After-into_vec) where
       ∙ ap (λ (ss : List Seen). text_length (table_with (settings_of c.args.settings) ss (map rule_of c.new.result.items))) (sym states)
       ∙ ap (λ (rs : List Rule). text_length (table_with (settings_of c.args.settings) (map seen c.into_vec.result.items) rs)) (ap (λ (es : List Entry). map rule_of es) c.new.ensures.items)
 
+  is_header : IsHeader (settings_of c.args.settings)
+  is_header = in_limits (settings_of c.args.settings) refl c.requires.limits c.hold.ensures.seed c.hold.ensures.pool
+
+pub returns-clause-header : goal.returns-clause-header
+returns-clause-header c = is_header c
+
+pub returns-clause-same : goal.returns-clause-same
+returns-clause-same c = ap (λ (t : Table). t.header) (taken_apart c)
+
 pub returns-clause-begun : goal.returns-clause-begun
 returns-clause-begun c = record {
   progress = subst (λ (rs : List Rule). Progress (settings_of c.args.settings) [] (map seen c.into_vec.result.items) rs) (sym (none c)) (progress c);
@@ -45,5 +59,5 @@ returns-clause-begun c = record {
 pub returns-clause-short : goal.returns-clause-short
 returns-clause-short c =
     let many : length (map seen c.into_vec.result.items) ≡ 64 = ap (λ (ss : List Seen). length ss) (seeds c) ∙ length-states_from 64 _ in
-    let short = text_begins (settings_of c.args.settings) (map seen c.into_vec.result.items) c.requires.limits c.hold.ensures.seed c.hold.ensures.pool (progress c).valid many in
+    let short = text_begins (settings_of c.args.settings) (map seen c.into_vec.result.items) (is_header c) (progress c).valid many in
     omega (arith, bytes c, short)

@@ -40,7 +40,7 @@ returns-then-learner-gt-TEXT_LIMIT-clause-fails g c =
     learnt_next (settings_of c.args.settings) (settings_of c.in_ok-settings.settings) ws c.loop-left.left-index c.loop-left-item.result c.new-window.result c.loop-left.learner c.in_ok-learner.learner c.in_ok-settings.ensures.same low item
     (same_window c.new-window.result c.loop-left-item.result c.new-window.ensures.left c.new-window.ensures.mask) c.loop-left.invariant.learnt c.in_ok-learner.ensures.learnt in
     let narrow : width_of (settings_of c.args.settings) ≤ 5000000 = omega (arith, c.count_shorter-width.ensures, c.if-width-gt-WIDEST.false) in
-    is_full (settings_of c.args.settings) (settings_of c.in_ok-settings.settings) ws (c.loop-left.left-index + 1) c.in_ok-learner.learner _ c.in_ok-settings.ensures.same c.requires.settings c.in_ok-settings.ensures.seed c.in_ok-settings.ensures.pool narrow (omega arith) (omega (arith, low)) next c.table_of-table.ensures c.if-learner-gt-TEXT_LIMIT.true
+    is_full (settings_of c.args.settings) (settings_of c.in_ok-settings.settings) ws (c.loop-left.left-index + 1) c.in_ok-learner.learner _ c.in_ok-settings.ensures.same c.requires.settings c.in_ok-settings.ensures.header narrow (omega arith) (omega (arith, low)) next c.table_of-table.ensures c.if-learner-gt-TEXT_LIMIT.true
 
 pub returns-then-learner-gt-TEXT_LIMIT-clause-spends : goal.returns-then-learner-gt-TEXT_LIMIT-clause-spends
 returns-then-learner-gt-TEXT_LIMIT-clause-spends g c =
@@ -62,7 +62,7 @@ returns-clause-learnt g c =
 pub returns-clause-valid : goal.returns-clause-valid
 returns-clause-valid g c =
     let narrow : width_of (settings_of c.args.settings) ≤ 5000000 = omega (arith, c.count_shorter-width.ensures, c.if-width-gt-WIDEST.false) in
-    valid_all (settings_of c.args.settings) (settings_of c.in_ok-settings.settings) c.args.windows.items c.loop-left.left-index c.loop-left.learner _ c.in_ok-settings.ensures.same c.requires.settings c.in_ok-settings.ensures.seed c.in_ok-settings.ensures.pool narrow c.loop-left.invariant.learnt c.table_of.ensures
+    valid_all (settings_of c.args.settings) (settings_of c.in_ok-settings.settings) c.args.windows.items c.loop-left.left-index c.loop-left.learner _ c.in_ok-settings.ensures.same c.requires.settings c.in_ok-settings.ensures.header narrow c.loop-left.invariant.learnt c.table_of.ensures
 
 pub returns-clause-fits : goal.returns-clause-fits
 returns-clause-fits g c = fits_all (settings_of c.args.settings) (settings_of c.in_ok-settings.settings) c.args.windows.items c.loop-left.left-index c.loop-left.learner _ c.in_ok-settings.ensures.same c.loop-left.invariant.learnt c.table_of.ensures c.loop-left.invariant.short

@@ -75,7 +75,7 @@ returns-clause-cost g c =
     let before : c.len-before.result ≡ length c.args.learner.states.items = search rules in
     let found : c.behind-found.result.now ≡ drop (length c.args.learner.states.items) c.search.new.states.items =
     c.behind-found.ensures ∙ ap (λ (j : ℕ). drop j c.deref-4.result.now) before ∙ ap (λ (ss : List WState). drop (length c.args.learner.states.items) ss) c.deref-4.ensures.value in
-    let are : AreCandidates c.args.settings.now.pool (map seen c.args.learner.states.items) (window_in c.args.window) c.in_ok-numbers.numbers.items = subst (λ (ss : List WState). AreCandidates c.args.settings.now.pool (map seen ss) (window_in c.args.window) c.in_ok-numbers.numbers.items) c.deref-2.ensures.value c.in_ok-numbers.ensures in
+    let are : AreCandidates (settings_of c.args.settings.now) (map seen c.args.learner.states.items) (window_in c.args.window) c.in_ok-numbers.numbers.items = subst (λ (ss : List WState). AreCandidates (settings_of c.args.settings.now) (map seen ss) (window_in c.args.window) c.in_ok-numbers.numbers.items) c.deref-2.ensures.value c.in_ok-numbers.ensures in
     let size : length c.behind-found.result.now ≡ length c.search.new.states.items - length c.args.learner.states.items = ap (λ (ss : List WState). length ss) found ∙ length-drop (length c.args.learner.states.items) c.search.new.states.items in
     let count : length c.deref-3.result.now ≡ length c.in_ok-numbers.numbers.items = ap (λ (ns : List ℕ). length ns) c.deref-3.ensures.value in
     let searched : c.search.new.steps ≤ c.args.steps.now + length c.in_ok-numbers.numbers.items * query_cost c.args.settings.now.budget (length c.search.new.states.items) (length c.args.window.left) =

@@ -24,7 +24,7 @@ pub returns-in-Some-clause-earned : goal.returns-in-Some-clause-earned
 returns-in-Some-clause-earned g c =
     let tried = subst (Tried (settings_of c.args.settings.now) (window_in c.args.window) (map seen c.loop-number.states.items) (map opened_of c.loop-number.opens.items) (map seen c.try_number.new.states.items) (map opened_of c.try_number.new.opens.items) _) c.in-Some.is c.in_ok-right.ensures.tried in
     let l = length-map c.args.states.now.items seen in
-    subst (λ (ss : List Seen). EarnedFrom c.args.settings.now.pool (length c.args.states.now.items) ss (window_in c.args.window)) (sym tried.0)
+    subst (λ (ss : List Seen). EarnedFrom (settings_of c.args.settings.now) (length c.args.states.now.items) ss (window_in c.args.window)) (sym tried.0)
     (λ i x from at. c.loop-number.invariant.search.earned i x (omega (arith, from, l)) at)
 
 pub returns-in-Some-clause-fits : goal.returns-in-Some-clause-fits

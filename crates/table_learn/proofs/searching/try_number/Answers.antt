@@ -24,11 +24,11 @@ returns-clause-tried g c = λ old passed rest is.
     let s = settings_of c.args.settings.now in
     let w = window_in c.args.window.now in
     let seq = c.shorter_at-seq.result in
-    let at : slice_get (shorter_than c.args.settings.now.pool (window_in c.args.window.now)) c.args.number ≡ Some c.shorter_at-seq.result =
+    let at : slice_get (shorter_than (settings_of c.args.settings.now) (window_in c.args.window.now)) c.args.number ≡ Some c.shorter_at-seq.result =
     ap (λ (j : ℕ). slice_get (sequences_below j c.args.settings.now.pool (length c.args.window.now.left)) c.args.number) (sym c.requires.named)
     ∙ ap (λ (j : ℕ). slice_get (sequences_below c.args.window.now.k c.args.settings.now.pool j) c.args.number) (sym c.len.ensures.value) ∙ c.shorter_at-seq.ensures.value in
-    let found : IsFinding c.args.settings.now.budget (map seen c.args.states.now.items) (window_in c.args.window.now) c.shorter_at-seq.result c.in_ok-try_sequence.field-0 =
-    subst (λ ss. IsFinding c.args.settings.now.budget (map seen ss) (window_in c.args.window.now) c.shorter_at-seq.result c.in_ok-try_sequence.field-0) c.deref.ensures.value c.in_ok-try_sequence.ensures.found in
+    let found : IsFinding (settings_of c.args.settings.now) (map seen c.args.states.now.items) (window_in c.args.window.now) c.shorter_at-seq.result c.in_ok-try_sequence.field-0 =
+    subst (λ ss. IsFinding (settings_of c.args.settings.now) (map seen ss) (window_in c.args.window.now) c.shorter_at-seq.result c.in_ok-try_sequence.field-0) c.deref.ensures.value c.in_ok-try_sequence.ensures.found in
     elim c.match-branch-2.branch [
       | in-Told x ↦
           let f = rw x.in-Told.is at found in
