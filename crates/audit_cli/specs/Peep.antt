@@ -16,13 +16,7 @@ use Rattle.audit_cli.specs.Demo.{DemoComesTo}
 abbrev pub plan_of : Request → Plan
 plan_of (rewrite table listing out image base) = record { names = table ∷ listing ∷ []; comes = RewriteComesTo (record { out = out; image = image; base = base }) }
 plan_of (audit table) = record { names = table ∷ []; comes = AuditComesTo }
-plan_of (learn listing out s) = record {
-  names = listing ∷ [];
-  comes = LearnComesTo (record {
-    out = out;
-    settings = record { regs = s.regs; left = s.left; budget = s.budget; seed = s.seed; pool = s.pool };
-  });
-}
+plan_of (learn listing out settings) = record { names = listing ∷ []; comes = LearnComesTo (record { out = out; settings = settings }) }
 plan_of (export table entry cnf lrat) = record { names = table ∷ []; comes = ExportComesTo (record { entry = entry; cnf = cnf; lrat = lrat }) }
 plan_of (trace listing label steps) = record { names = listing ∷ []; comes = TraceComesTo (record { label = label; most = steps }) }
 plan_of (demo windows) = record { names = []; comes = λ texts. DemoComesTo windows }

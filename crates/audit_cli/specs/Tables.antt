@@ -58,7 +58,7 @@ pub data Exports (to : Extract) (text : List ℕ) : Outcome → Type 0 where
   refused : (r : Refusal) → IsUnlisted text r → Exports to text (Refuses (refusal_line r))
   absent : (t : Table) → IsText text t → entry_at t.rules to.entry ≡ None → Exports to text (Refuses (refusal_line refusal.Number))
   unfit : (t : Table) → IsText text t → (e : Rule) → entry_at t.rules to.entry ≡ Some e → (SidesFit t e → ⊥) → Exports to text (Refuses (refusal_line (refusal.Entry to.entry fault.Sides)))
-  found : (t : Table) → IsText text t → (e : Rule) → entry_at t.rules to.entry ≡ Some e → SidesFit t e → Exports to text (extracted to e (formula_of e))
+  found : (t : Table) → IsText text t → (e : Rule) → entry_at t.rules to.entry ≡ Some e → SidesFit t e → Exports to text (extracted to e (formula_of t.header e))
 
 -- `export` goes by one text
 abbrev pub ExportComesTo : Extract → List (List ℕ) → Outcome → Type 0

@@ -2,7 +2,7 @@
 ghost use Rattle.std.specs.Prelude.{◌≡◌, ℕ, List, IfOk, map, option_map};
 ghost use Rattle.lrat_check.specs.Content.{content_of};
 ghost use Rattle.rule_table.specs.Refused.{IsText};
-ghost use Rattle.rule_table.specs.Views.{rule_of, table_of};
+ghost use Rattle.rule_table.specs.Views.{header_in, rule_of, table_of};
 ghost use Rattle.table_audit.specs.Sides.{formula_of};
 ghost use Rattle.table_audit.specs.Canonical.{HasFormula};
 ghost use Rattle.command_runs.specs.Outcomes.{outcome_view};
@@ -51,11 +51,16 @@ fn proof_text(alloc: Global, lines: &[Line]) -> Result<Vec<u8>, Memory>
 }
 
 /// What is kept and printed of an entry.
-fn entry_outcome(alloc: Global, to: &Export<'_>, entry: &Entry) -> Result<Outcome, Memory>
-    requires { HasFormula (rule_of entry.now) }
-    ensures { IfOk result (λ o. outcome_view o ≡ extracted (extract_of to.now) (rule_of entry.now) (formula_of (rule_of entry.now))) }
+fn entry_outcome(
+    alloc: Global,
+    to: &Export<'_>,
+    table: &Table,
+    entry: &Entry,
+) -> Result<Outcome, Memory>
+    requires { HasFormula (header_in table.now) (rule_of entry.now) }
+    ensures { IfOk result (λ o. outcome_view o ≡ extracted (extract_of to.now) (rule_of entry.now) (formula_of (header_in table.now) (rule_of entry.now))) }
 {
-    let formula = entry_formula(alloc, entry)?;
+    let formula = entry_formula(alloc, table, entry)?;
     let cnf = write_dimacs(alloc, &formula)?;
     let lrat = proof_text(alloc, &entry.proof)?;
     let lines = formula_report(
@@ -79,7 +84,7 @@ fn table_outcome(alloc: Global, to: &Export<'_>, table: &Table) -> Result<Outcom
         }
         Some(entry) => {
             if sides_fit(table, entry) {
-                return match entry_outcome(alloc, to, entry) {
+                return match entry_outcome(alloc, to, table, entry) {
                     Err(_) => Err(AllocError),
                     Ok(outcome) => Ok(outcome),
                 };

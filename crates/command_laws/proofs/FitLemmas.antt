@@ -161,7 +161,7 @@ tells_full (audit table) texts o fit h = none_so o (fit_unrefused (audit table) 
 tells_full (export table entry cnf lrat) texts o fit h = none_so o (fit_unrefused (export table entry cnf lrat) texts o (λ x. x) fit h)
 tells_full (trace listing label steps) texts o fit h = none_so o (fit_unrefused (trace listing label steps) texts o (λ x. x) fit h)
 tells_full (learn listing out s) texts o fit h =
-    let to : Lesson = record { out = out; settings = record { regs = s.regs; left = s.left; budget = s.budget; seed = s.seed; pool = s.pool } } in
+    let to : Lesson = record { out = out; settings = s } in
     learns_fit to texts fit o (by_text (learning.Learns to) texts fit.text o fit.is_text h)
 tells_full (demo windows) texts o fit h = shows_full windows o h
 

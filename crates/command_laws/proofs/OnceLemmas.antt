@@ -223,7 +223,9 @@ exports_once to text _ _ (tables.unfit t is e h v) (tables.unfit u are f k w) = 
 exports_once to text _ _ (tables.unfit t is e h v) (tables.found u are f k w) = absurd (v (fit_same to text u t f e are is k h w))
 exports_once to text _ _ (tables.found t is e h v) (tables.unfit u are f k w) = absurd (w (fit_same to text t u e f is are h k v))
 exports_once to text _ _ (tables.found t is e h v) (tables.found u are f k w) =
-    ap (λ (x : Rule). extracted to x (formula_of x)) (some_same e f (entries_same to text t u (Some e) (Some f) is are h k))
+    let tables : t ≡ u = one_table text u t are is in
+    let entries : e ≡ f = some_same e f (entries_same to text t u (Some e) (Some f) is are h k) in
+    ap (λ (x : Table × Rule). extracted to x.1 (formula_of x.0.header x.1)) (λ i. (tables i, entries i))
 
 pub export_once : (to : Extract) → IsOne (tables.ExportComesTo to)
 export_once to = one_text (tables.Exports to) (exports_once to)
@@ -233,8 +235,8 @@ export_once to = one_text (tables.Exports to) (exports_once to)
 -- the audit accepts no table with more sequences
 narrow_learnt : (s : Settings) (windows : List Window) (t : Table) → Learnt s windows t → width_of s ≤ 5000000
 narrow_learnt s windows t h =
-    let width : length (sequences_below t.regs t.pool t.left) ≤ 5000000 = h.accepted.1.0 in
-    subst (λ (n : ℕ). n ≤ 5000000) (λ i. length (sequences_below (h.regs i) (h.pool i) (h.left i))) width
+    let width : width_of t.header ≤ 5000000 = h.accepted.1.0 in
+    subst (λ (x : Settings). width_of x ≤ 5000000) h.header width
 
 -- with many sequences lines are refused for that
 wide_causes : (s : Settings) (lines : List Line) (r q : Cause) → 5000000 < width_of s → IsUnlearnt s lines r → IsUnlearnt s lines q → r ≡ q

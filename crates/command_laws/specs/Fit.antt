@@ -75,7 +75,7 @@ pub record FitLearning (s : Settings) (texts : List (List ℕ)) : Type 0 where
 abbrev pub AreFit : Request → List (List ℕ) → Type 0
 AreFit (rewrite table listing out image base) texts = FitRewriting image base texts
 AreFit (audit table) texts = FitAudit texts
-AreFit (learn listing out s) texts = FitLearning (record { regs = s.regs; left = s.left; budget = s.budget; seed = s.seed; pool = s.pool }) texts
+AreFit (learn listing out s) texts = FitLearning s texts
 AreFit (export table entry cnf lrat) texts = FitExport entry texts
 AreFit (trace listing label steps) texts = FitTrace label texts
 AreFit (demo windows) texts = Unit {0}

@@ -45,7 +45,7 @@ returns-in-Learn-clause-runs g c =
       names = listing i ∷ [];
       comes = LearnComesTo (record {
         out = out i;
-        settings = record { regs = c.in-Learn.regs.number; left = c.in-Learn.left.number; budget = c.in-Learn.budget.number; seed = c.in-Learn.seed; pool = c.in-Learn.pool };
+        settings = record { version = 1; regs = c.in-Learn.regs.number; left = c.in-Learn.left.number; budget = c.in-Learn.budget.number; seed = c.in-Learn.seed; pool = c.in-Learn.pool };
       });
     }) c.in-Learn.is c.run-in-Learn.ensures.runs
 
