@@ -53,7 +53,7 @@ pub(crate) fn entry(given: &mut Given, rest: &str, out: &mut String) -> Option<(
         return None;
     }
     let number = number_of(table.regs, &table.pool, &entry.left)?;
-    given.formula = entry_formula(given.alloc, entry).ok()?;
+    given.formula = entry_formula(given.alloc, &table, entry).ok()?;
     let digest = digest(&write_dimacs(given.alloc, &given.formula).ok()?);
     let (variables, clauses) = (given.formula.variables(), given.formula.clauses());
     writeln!(out, "{number} {variables} {clauses} {digest:08x}").ok()

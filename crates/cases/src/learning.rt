@@ -9,7 +9,7 @@ use rule_table::{Table, write_table};
 use std::str;
 use step_ledger::{Counted, Steps};
 use table_audit::sides_fit;
-use table_learn::{LearnError, Settings, learn};
+use table_learn::{LearnError, learn};
 
 /// What is learnt from the left side and the mask of a table's last entry, with the settings of its header.
 fn lesson(given: &Given, mut table: Table) -> Option<Result<Table, LearnError>>
@@ -19,13 +19,7 @@ fn lesson(given: &Given, mut table: Table) -> Option<Result<Table, LearnError>>
     if !sides_fit(&table, &entry) {
         return None;
     }
-    let settings = Settings {
-        regs: table.regs,
-        left: table.left,
-        budget: table.budget,
-        seed: table.seed,
-        pool: table.pool,
-    };
+    let (settings, _, _) = table.into_parts();
     let windows = vec![in given.alloc; (entry.left, entry.mask)].ok()?;
     Some(learn(
         given.alloc,
