@@ -1,4 +1,5 @@
 pub mod Accepted
+pub mod Accepting
 pub mod Deletions
 pub mod Distinct
 pub mod Faulty
@@ -10,3 +11,12 @@ pub mod Reading
 pub mod Starts
 pub mod Texts
 pub mod Views
+pub mod Members
+pub mod Sufficing
+pub mod Placed
+pub mod Shortened
+pub mod Parts
+pub mod Cutting
+pub mod Agreeing
+pub mod Marking
+pub mod Turns

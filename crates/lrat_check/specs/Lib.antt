@@ -7,3 +7,6 @@ pub mod Checking
 pub mod Faults
 pub mod Live
 pub mod Deleting
+pub mod Runs
+pub mod Trimmed
+pub mod Shown

@@ -1,6 +1,6 @@
 //! The checker itself. It keeps each live clause under its id and believes no line: a line is added only where its hints make its clause follow.
 ghost use Rattle.std.specs.Prelude.{◌≡◌, ℕ, ◌+◌, ◌≤◌, ◌⊎◌, map, unsigned_abs, OnOk, OnErr, IfErr, IfOk, Bool, true, false, [], All, Any};
-ghost use Rattle.clause_model.specs.Literals.{code_of, codes_of};
+ghost use Rattle.clause_model.specs.Literals.{code_of, codes_of, negated};
 ghost use Rattle.lrat_check.specs.Live.{clause_at, listed, Adds};
 ghost use Rattle.lrat_check.specs.Checking.{State, live_at, Starts, AddsClause, DeletesClauses, Accepts, HoldsAt};
 ghost use Rattle.lrat_check.specs.Faults.{IsFaultOf};
@@ -8,6 +8,7 @@ ghost use Rattle.lrat_check.specs.Content.{content_of, addition, deletion};
 ghost use Rattle.lrat_check.specs.Costs.{cost_of, Counts};
 ghost use Rattle.cnf_gates.specs.Meaning.{all_true};
 ghost use Rattle.lrat_check.specs.Numbers.{is_negative};
+ghost use Rattle.lrat_check.specs.Trimmed.{Suffice};
 ghost use Rattle.clause_model.specs.Propagation.{hint_lengths};
 
 use crate::deletion::{delete, find_dead};
@@ -99,19 +100,24 @@ impl Checker {
         ensures fault_count { IfErr result (λ e. (e ≡ LineFault.Memory) ⊎ Counts self.old (content_of line.now) steps.old steps.new) }
     {
         match line {
-            Line::Addition(addition) => self.add_clause(addition, steps),
+            Line::Addition(addition) => {
+                self.add_clause(addition, steps)?;
+                Ok(())
+            }
             Line::Deletion(deletion) => self.delete_clauses(deletion),
         }
     }
 }
 
 impl Checker {
-    fn add_clause<L: Ledger>(
+    /// Adds a clause, and tells how many hints show it.
+    pub(crate) fn add_clause<L: Ledger>(
         &mut self,
         line: &Addition,
         steps: &mut Steps<L>,
-    ) -> Result<(), LineFault>
+    ) -> Result<usize, LineFault>
         ensures ok { OnOk result (AddsClause self.old line.now.id line.now.literals.items line.now.hints.items self.new) }
+        ensures used { IfOk result (Suffice (live_at self.old) (map negated line.now.literals.items) (map unsigned_abs line.now.hints.items)) }
         ensures err { IfErr result (λ e. (e ≡ LineFault.Memory) ⊎ IsFaultOf self.old (addition line.now.id line.now.literals.items line.now.hints.items) e) }
         ensures unchanged { OnErr result (self.new ≡ self.old) }
         ensures cost { steps.new ≤ steps.old + hint_lengths (live_at self.old) (map unsigned_abs line.now.hints.items) }
@@ -133,15 +139,16 @@ impl Checker {
             steps,
         );
         self.assignment.truncate(0);
-        outcome?;
+        let used = outcome?;
         let literals = Vec::from_slice(self.alloc, &line.literals)?;
         insert(&mut self.live, id, literals)?;
         self.last = id;
         self.refuted = self.refuted || line.literals.is_empty();
-        Ok(())
+        Ok(used)
     }
 
-    fn delete_clauses(&mut self, line: &Deletion) -> Result<(), LineFault>
+    /// Deletes clauses, where each is live.
+    pub(crate) fn delete_clauses(&mut self, line: &Deletion) -> Result<(), LineFault>
         ensures ok { OnOk result (DeletesClauses self.old line.now.ids.items self.new) }
         ensures err { IfErr result (λ e. (e ≡ LineFault.Memory) ⊎ IsFaultOf self.old (deletion line.now.id line.now.ids.items) e) }
         ensures unchanged { OnErr result (self.new ≡ self.old) }

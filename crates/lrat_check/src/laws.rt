@@ -7,6 +7,8 @@ ghost use Rattle.lrat_check.specs.Content.{Content};
 ghost use Rattle.lrat_check.specs.Text.{text_of, HasGoodParts, IsLine};
 ghost use Rattle.lrat_check.specs.Checking.{State, Accepts, Reached};
 ghost use Rattle.lrat_check.specs.Faults.{IsFaultOf};
+ghost use Rattle.lrat_check.specs.Runs.{IsRefutation};
+ghost use Rattle.lrat_check.specs.Trimmed.{IsTrimmed, EachIsNamed};
 ghost use Rattle.lrat_check.specs.declared.fault.LineFault.{LineFault};
 
 /// A formula from whose clauses a checker comes to be refuted has no model.
@@ -23,4 +25,16 @@ pub fn lines_have_one_outcome()
 /// Lines that say different things have different texts: what was written is read back.
 pub fn texts_tell_lines_apart()
     ensures { (a b : Content) → IsLine a → IsLine b → text_of a ≡ text_of b → a ≡ b }
+{}
+
+/// Lines are trimmed in one way.
+pub fn lines_have_one_trimming()
+    ensures { (clauses : List (List ℕ)) (lines a b : List Content) → IsTrimmed clauses lines a → IsTrimmed clauses lines b → a ≡ b }
+{}
+
+/// Of lines that refute, the trimmed ones refute too, a hint of a later one names each but the last, and trimmed again they stay as they are.
+pub fn trimmed_lines_are_needed()
+    ensures refute { (clauses : List (List ℕ)) (lines trimmed : List Content) → IsRefutation clauses lines → IsTrimmed clauses lines trimmed → IsRefutation clauses trimmed }
+    ensures named { (clauses : List (List ℕ)) (lines trimmed : List Content) → IsRefutation clauses lines → IsTrimmed clauses lines trimmed → EachIsNamed trimmed }
+    ensures stay { (clauses : List (List ℕ)) (lines trimmed : List Content) → IsRefutation clauses lines → IsTrimmed clauses lines trimmed → IsTrimmed clauses trimmed trimmed }
 {}

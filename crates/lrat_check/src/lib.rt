@@ -8,10 +8,13 @@ mod fault;
 pub mod laws;
 mod line;
 mod propagation;
+mod shown;
 mod text;
+mod trimming;
 mod words;
 
 pub use checker::Checker;
 pub use fault::LineFault;
 pub use line::{Addition, Deletion, Hint, Id, Line, VARIABLES};
 pub use text::{read_line, write_line};
+pub use trimming::trim;

@@ -1,5 +1,5 @@
 //! The one rule of proof, reverse unit propagation by hints: no search, so a line takes as long as the clauses that it names.
-ghost use Rattle.std.specs.Prelude.{◌≡◌, ℕ, ◌+◌, ◌≤◌, ◌⊎◌, map, unsigned_abs, OnOk, IfErr, [], length};
+ghost use Rattle.std.specs.Prelude.{◌≡◌, ℕ, ◌+◌, ◌≤◌, ◌⊎◌, map, unsigned_abs, OnOk, IfErr, IfOk, [], length};
 ghost use Rattle.clause_model.specs.Literals.{negated, HasDistinctVariables};
 ghost use Rattle.clause_model.specs.Propagation.{Refutes, ReverseUnitPropagation, Stop, StopsAs, hint_lengths};
 ghost use Rattle.clause_model.specs.Standings.{StandsAs};
@@ -7,6 +7,7 @@ ghost use Rattle.step_ledger.specs.Counts.{RisesBy};
 ghost use Rattle.lrat_check.specs.Live.{clause_at};
 ghost use Rattle.lrat_check.specs.Costs.{LooksAt};
 ghost use Rattle.lrat_check.specs.Faults.{fault_of};
+ghost use Rattle.lrat_check.specs.Trimmed.{Suffice};
 
 use crate::fault::LineFault;
 use crate::line::Hint;
@@ -32,14 +33,15 @@ fn counted_standing_of<L: Ledger>(
     standing
 }
 
-/// Goes by the hints in order until a clause is false.
+/// Goes by the hints in order until a clause is false, and tells how many it went by.
 fn refute<L: Ledger>(
     live: &HashMap<u64, Vec<Literal>>,
     hints: &[Hint],
     assignment: &mut Assignment,
     steps: &mut Steps<L>,
-) -> Result<(), LineFault>
+) -> Result<usize, LineFault>
     ensures ok { OnOk result (Refutes (clause_at live.now) assignment.old (map unsigned_abs hints.now)) }
+    ensures used { IfOk result (Suffice (clause_at live.now) assignment.old (map unsigned_abs hints.now)) }
     ensures err { IfErr result (λ e. (e ≡ LineFault.Memory) ⊎ ((stop : Stop) × StopsAs (clause_at live.now) assignment.old (map unsigned_abs hints.now) 1 stop × (e ≡ fault_of stop))) }
     ensures cost { steps.new ≤ steps.old + hint_lengths (clause_at live.now) (map unsigned_abs hints.now) }
     ensures count { OnOk result ((n : ℕ) × LooksAt (clause_at live.now) assignment.old (map unsigned_abs hints.now) n × RisesBy steps.old steps.new n) }
@@ -51,7 +53,7 @@ fn refute<L: Ledger>(
         match live.get(&hint.id()) {
             None => return Err(LineFault::Dead(place)),
             Some(clause) => match counted_standing_of(clause, assignment, steps) {
-                Standing::Conflict => return Ok(()),
+                Standing::Conflict => return Ok(place),
                 Standing::Unit(literal) => assignment.set(literal)?,
                 Standing::Open => return Err(LineFault::Hint(place)),
             },
@@ -72,17 +74,18 @@ fn assume_false(literals: &[Literal], assignment: &mut Assignment) -> Result<(),
     Ok(())
 }
 
-/// Whether the clause follows by its hints, begun with no literal true.
+/// Whether the clause follows by its hints, begun with no literal true, and by how many of them.
 pub fn check<L: Ledger>(
     live: &HashMap<u64, Vec<Literal>>,
     literals: &[Literal],
     hints: &[Hint],
     assignment: &mut Assignment,
     steps: &mut Steps<L>,
-) -> Result<(), LineFault>
+) -> Result<usize, LineFault>
     requires empty { assignment.old ≡ [] }
     requires distinct { HasDistinctVariables literals.now }
     ensures ok { OnOk result (ReverseUnitPropagation (clause_at live.now) literals.now (map unsigned_abs hints.now)) }
+    ensures used { IfOk result (Suffice (clause_at live.now) (map negated literals.now) (map unsigned_abs hints.now)) }
     ensures err { IfErr result (λ e. (e ≡ LineFault.Memory) ⊎ ((stop : Stop) × StopsAs (clause_at live.now) (map negated literals.now) (map unsigned_abs hints.now) 1 stop × (e ≡ fault_of stop))) }
     ensures cost { steps.new ≤ steps.old + hint_lengths (clause_at live.now) (map unsigned_abs hints.now) }
     ensures count { OnOk result ((n : ℕ) × LooksAt (clause_at live.now) (map negated literals.now) (map unsigned_abs hints.now) n × RisesBy steps.old steps.new n) }

@@ -1,4 +1,4 @@
-use Rattle.std.proofs.Common.{◌+◌, take}
+use Rattle.std.proofs.Common.{take}
 use Rattle.std.proofs.lemmas.List.{take_more}
 use Rattle.step_ledger.proofs.Rises.{goes_on, ticks}
 use Rattle.lrat_check.proofs.propagation.counted_standing_of.Goals as goal

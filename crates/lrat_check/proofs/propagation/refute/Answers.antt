@@ -4,6 +4,7 @@ use Rattle.std.proofs.lemmas.List.{length-map}
 use Rattle.clause_model.proofs.Runs.{Continues-dead, Continues-open, Continues-conflict, Continues-unit, hint_lengths-step}
 use Rattle.lrat_check.proofs.Views.{hint_within, hint_some, hint_none}
 use Rattle.lrat_check.proofs.Looked.{Looked-all, Looked-dead, Looked-ends, Looked-unit}
+use Rattle.lrat_check.proofs.Sufficing.{GoesOn-conflict, GoesOn-unit}
 use Rattle.clause_model.specs.Propagation.{dead, unfit}
 use Rattle.lrat_check.specs.Live.{clause_at}
 use Rattle.lrat_check.proofs.propagation.refute.Goals as goal
@@ -29,6 +30,13 @@ returns-in-Open-clause-err g c =
     let e = c.id.ensures in
     inr (unfit (c.loop-hint.place + 1), rw c.loop-hint.invariant.0 (Continues-open _ _ _ _ _ (hint_within _ _ _ _ b is e) c.loop-hint.invariant.1 _ (hint_some _ _ _ _ b is e c.args.live.now c.in-Some.clause.now c.deref.result.now c.in-Some.ensures.value c.deref.ensures.value) c.in-Open.ensures.standing), refl)
 
+pub returns-in-Conflict-clause-used : goal.returns-in-Conflict-clause-used
+returns-in-Conflict-clause-used g c =
+    let b = c.loop-hint-test.true in
+    let is = c.hint-item.is in
+    let e = c.id.ensures in
+    rw c.loop-hint.invariant.0 (GoesOn-conflict _ _ _ _ _ (hint_within _ _ _ _ b is e) c.loop-hint.invariant.4 _ (hint_some _ _ _ _ b is e c.args.live.now c.in-Some.clause.now c.deref.result.now c.in-Some.ensures.value c.deref.ensures.value) c.in-Conflict.ensures.standing)
+
 pub loop-hint-preserved : goal.loop-hint-preserved
 loop-hint-preserved g c =
     let b = c.loop-hint-test.true in
@@ -40,6 +48,7 @@ loop-hint-preserved g c =
       rw c.in_ok-set-in-Unit.ensures.ok (Continues-unit _ _ _ _ _ (hint_within _ _ _ _ b is e) c.loop-hint.invariant.1 _ _ some c.in-Unit.ensures.standing),
       omega (arith, c.counted_standing_of.ensures.cost.1, c.loop-hint.invariant.2, step),
       rw c.in_ok-set-in-Unit.ensures.ok (Looked-unit _ _ _ _ _ _ _ (hint_within _ _ _ _ b is e) c.loop-hint.invariant.3 _ some _ c.counted_standing_of.ensures.cost _ c.in-Unit.ensures.standing),
+      rw c.in_ok-set-in-Unit.ensures.ok (GoesOn-unit _ _ _ _ _ (hint_within _ _ _ _ b is e) c.loop-hint.invariant.4 _ some _ c.in-Unit.ensures.standing),
     )
 
 pub returns-in-Conflict-clause-cost : goal.returns-in-Conflict-clause-cost

@@ -4,6 +4,7 @@ use Rattle.lrat_check.specs.Live.{clause_at}
 use Rattle.clause_model.specs.Propagation.{hint_lengths}
 use Rattle.clause_model.proofs.Runs.{Continues}
 use Rattle.lrat_check.proofs.Looked.{Looked}
+use Rattle.lrat_check.proofs.Sufficing.{GoesOn}
 use Rattle.lrat_check.proofs.propagation.refute.Given as goal
 
 abbrev pub invariant-loop-hint : goal.invariant-loop-hint
@@ -12,3 +13,4 @@ invariant-loop-hint g l =
     × Continues (clause_at l.live) l.initial.assignment (map unsigned_abs l.hints) l.assignment (drop l.hint-index (map unsigned_abs l.hints)) l.hint-index
     × (l.steps + hint_lengths (clause_at l.live) (drop l.hint-index (map unsigned_abs l.hints)) ≤ l.initial.steps + hint_lengths (clause_at l.live) (map unsigned_abs l.hints))
     × Looked (clause_at l.live) l.initial.assignment (map unsigned_abs l.hints) l.assignment (drop l.hint-index (map unsigned_abs l.hints)) l.initial.steps l.steps
+    × GoesOn (clause_at l.live) l.initial.assignment (map unsigned_abs l.hints) l.assignment l.hint-index

@@ -1,0 +1,11 @@
+ghost use Rattle.std.specs.Prelude.{◌≤◌, length};
+
+use crate::line::Addition;
+
+/// An addition, and how many of its hints show it.
+#[derive(Drop)]
+pub(crate) struct Shown<'a> {
+    pub(crate) addition: &'a Addition,
+    pub(crate) hints: usize,
+    ghost within: { hints ≤ length addition.now.hints.items },
+}
