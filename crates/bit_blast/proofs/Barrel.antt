@@ -17,6 +17,7 @@ use Rattle.cnf_gates.proofs.Giving.{or_gives, ite_gives, later, all_later}
 use Rattle.bit_blast.specs.Words.{bit_of, filled, fill, moved, moved_out}
 use Rattle.bit_blast.specs.Circuits.{choose_each, any_of, Shifted, stage_of, stages_from, shift_by, rotations_from, rotate_by}
 use Rattle.bit_blast.specs.Values.{number_of}
+use Rattle.bit_blast.proofs.Extends.{or_extends, ite_extends}
 use Rattle.bit_blast.proofs.Steps.{Goes, Goes-none, Goes-gives, Goes-map, Goes-then, WordGives}
 use Rattle.bit_blast.proofs.Numbers.{number_lt, number_at, number_of-take, AllBelow-take, bit_below}
 use Rattle.bit_blast.proofs.Each.{choose_each_gives, any_gives}
@@ -52,7 +53,7 @@ stage_gives low b a bits out s wb ws k pa pb po ps pc =
     let cg = ite_gives low r.0 a out s.carry (g.ready low k) (later (length s.value) b r.0 a g pa) (later (length s.value) b r.0 out g po) (later (length s.value) b r.0 s.carry g pc) in
     record {
       goes = Goes-then 33 (length s.value) 1 b (λ d. choose_each d a bits s.value) (behind_choice a out s.carry) (omega arith) rg.goes
-          (Goes-map 1 r.0 (shifted_to r.1) (λ d. ite_of d a out s.carry) (Goes-gives 1 r.0 (λ d. ite_of d a out s.carry) _ cg));
+          (Goes-map 1 r.0 (shifted_to r.1) (λ d. ite_of d a out s.carry) (Goes-gives 1 r.0 (λ d. ite_of d a out s.carry) _ cg (ite_extends r.0 a out s.carry)));
       below = all_later 1 r.0 c.0 r.1 cg.grows rg.below;
       carry = cg.below;
       wide = rg.length_is ∙ ws;
@@ -182,7 +183,7 @@ shift_by_gives low b kind amount s straight wa ws k pa ps pc =
     let lg = stage_gives low far.0 far.1 (filled rest) rest near.1 (length-filled rest) ng.wide kf fg.below (AllBelow-filled far.0.variables rest pr) pr nb (later 1 near.0 far.0 near.1.carry fg.grows ng.carry) in
     record {
       goes = Goes-then 232 (33 * length six) 34 b (λ d. stages_from kind d 0 six s) (behind_stages kind amount) (omega arith) ng.goes
-          (Goes-then 34 1 33 near.0 (λ d. or_of d a6 a7) (last_stage kind near.1) (omega arith) (Goes-gives 1 near.0 (λ d. or_of d a6 a7) _ fg) lg.goes);
+          (Goes-then 34 1 33 near.0 (λ d. or_of d a6 a7) (last_stage kind near.1) (omega arith) (Goes-gives 1 near.0 (λ d. or_of d a6 a7) _ fg (or_extends near.0 a6 a7)) lg.goes);
       below = lg.below;
       carry = lg.carry;
       wide = lg.wide;
@@ -304,19 +305,19 @@ rotate_by_gives low b amount s wa ws k pa ps pc =
     let some = any_of r.0 eight (Constant false) in
     let sg = any_gives low r.0 eight (Constant false) kr (AllBelow-take r.0.variables 8 amount (all_later (32 * length five) b r.0 amount g pa)) tt in
     let top = bit_of r.1 31 in
-    let nb = all_later (length eight) r.0 some.0 r.1 sg.grows rg.below in
+    let nb = all_later (length eight) r.0 some.0 r.1 sg.goes.grows rg.below in
     let c = ite_of some.0 some.1 top s.carry in
-    let cg = ite_gives low some.0 some.1 top s.carry (sg.grows.ready low kr) sg.below (bit_below some.0.variables r.1 31 nb) (later (length eight) r.0 some.0 s.carry sg.grows (later (32 * length five) b r.0 s.carry g pc)) in
+    let cg = ite_gives low some.0 some.1 top s.carry (sg.goes.grows.ready low kr) sg.below (bit_below some.0.variables r.1 31 nb) (later (length eight) r.0 some.0 s.carry sg.goes.grows (later (32 * length five) b r.0 s.carry g pc)) in
     record {
       goes = Goes-then 232 (32 * length five) 9 b (λ d. rotations_from d 0 five s.value) (behind_rotations amount s.carry) (omega arith) rg.goes
-          (Goes-then 9 (length eight) 1 r.0 (λ d. any_of d eight (Constant false)) (behind_any r.1 s.carry) (omega arith) (Goes-gives (length eight) r.0 (λ d. any_of d eight (Constant false)) _ sg)
-          (Goes-map 1 some.0 (shifted_to r.1) (λ d. ite_of d some.1 top s.carry) (Goes-gives 1 some.0 (λ d. ite_of d some.1 top s.carry) _ cg)));
+          (Goes-then 9 (length eight) 1 r.0 (λ d. any_of d eight (Constant false)) (behind_any r.1 s.carry) (omega arith) sg.goes
+          (Goes-map 1 some.0 (shifted_to r.1) (λ d. ite_of d some.1 top s.carry) (Goes-gives 1 some.0 (λ d. ite_of d some.1 top s.carry) _ cg (ite_extends some.0 some.1 top s.carry))));
       below = all_later 1 some.0 c.0 r.1 cg.grows nb;
       carry = cg.below;
       wide = rg.length_is;
       value = λ m holds.
           let in_s = cg.grows.kept m holds in
-          let in_r = sg.grows.kept m in_s in
+          let in_r = sg.goes.grows.kept m in_s in
           rotation_whole (number_of m s.value) (number_of m amount) (number_of m r.1) (bit_value m s.carry) (bit_value m some.1) (bit_value m top) (bit_value m c.1) (number_lt m s.value ws)
           (rg.value m in_r ∙ ap (λ v. shifted Ror (number_of m s.value) (2 ^ 0 * v)) (number_of-take m amount 5))
           (sg.value m in_s ∙ ap (λ v. not (eqb v 0)) (number_of-take m amount 8))

@@ -15,7 +15,8 @@ use Rattle.bit_blast.specs.declared.circuits.Connective.{Connective}
 use Rattle.bit_blast.specs.declared.circuits.Connective.TheVariants.{And, Or, Xor}
 use Rattle.bit_blast.specs.Circuits.{connected, each_of, choose_each, none_of, any_of}
 use Rattle.bit_blast.specs.Values.{number_of}
-use Rattle.bit_blast.proofs.Steps.{Goes-none, Goes-gives, Goes-map, Goes-then, WordGives}
+use Rattle.bit_blast.proofs.Extends.{Extends, and_extends, or_extends, xor_extends, ite_extends}
+use Rattle.bit_blast.proofs.Steps.{Goes-none, Goes-gives, Goes-map, Goes-then, BitGives, WordGives}
 use Rattle.bit_blast.proofs.Numbers.{from_bool-lt}
 
 -- ---- a gate of each two bits
@@ -36,6 +37,11 @@ pub connected_gives : (low : ℕ) (b : Built) (gate : Connective) (x y : Bit) �
 connected_gives low b And x y k px py = and_gives low b x y k px py
 connected_gives low b Or x y k px py = or_gives low b x y k px py
 connected_gives low b Xor x y k px py = xor_gives low b x y k px py
+
+connected_extends : (b : Built) (gate : Connective) (x y : Bit) → Extends b (connected gate b x y).0
+connected_extends b And x y = and_extends b x y
+connected_extends b Or x y = or_extends b x y
+connected_extends b Xor x y = xor_extends b x y
 
 of_one_bit : (gate : Connective) (x y : Bool) → of_numbers gate (from_bool x) (from_bool y) ≡ from_bool (of_bits gate x y)
 of_one_bit And true true = refl
@@ -83,7 +89,7 @@ each_gives low b gate (x ∷ xs) (y ∷ ys) same k px py =
     let rg = each_gives low here.0 gate xs ys tail (hg.grows.ready low k) (all_later 1 b here.0 xs hg.grows px.1) (all_later 1 b here.0 ys hg.grows py.1) in
     record {
       goes = Goes-then (suc (length xs)) 1 (length xs) b (λ c. connected gate c x y) (λ r c. ((each_of gate c xs ys).0, r ∷ (each_of gate c xs ys).1)) (omega arith)
-          (Goes-gives 1 b (λ c. connected gate c x y) _ hg) (Goes-map (length xs) here.0 (λ s. here.1 ∷ s) (λ c. each_of gate c xs ys) rg.goes);
+          (Goes-gives 1 b (λ c. connected gate c x y) _ hg (connected_extends b gate x y)) (Goes-map (length xs) here.0 (λ s. here.1 ∷ s) (λ c. each_of gate c xs ys) rg.goes);
       below = (later (length xs) here.0 rest.0 here.1 rg.goes.grows hg.below, rg.below);
       length_is = ap suc rg.length_is;
       value = λ m holds.
@@ -115,7 +121,7 @@ choose_each_gives low b a (y ∷ ys) (x ∷ xs) same k pa py px =
     let rg = choose_each_gives low here.0 a ys xs tail (hg.grows.ready low k) (later 1 b here.0 a hg.grows pa) (all_later 1 b here.0 ys hg.grows py.1) (all_later 1 b here.0 xs hg.grows px.1) in
     record {
       goes = Goes-then (suc (length xs)) 1 (length xs) b (λ c. ite_of c a y x) (λ r c. ((choose_each c a ys xs).0, r ∷ (choose_each c a ys xs).1)) (omega arith)
-          (Goes-gives 1 b (λ c. ite_of c a y x) _ hg) (Goes-map (length xs) here.0 (λ s. here.1 ∷ s) (λ c. choose_each c a ys xs) rg.goes);
+          (Goes-gives 1 b (λ c. ite_of c a y x) _ hg (ite_extends b a y x)) (Goes-map (length xs) here.0 (λ s. here.1 ∷ s) (λ c. choose_each c a ys xs) rg.goes);
       below = (later (length xs) here.0 rest.0 here.1 rg.goes.grows hg.below, rg.below);
       length_is = ap suc rg.length_is;
       value = λ m holds.
@@ -132,22 +138,19 @@ none_value true true n = sym (ne_eqb (1 + 2 * n) 0 (λ h. omega arith))
 none_value true false n = grind (arith, eqb_tells)
 
 pub none_gives : (low : ℕ) (b : Built) (xs : List Bit) (z : Bit) → Ready low b → AllBelow b.variables xs → BitBelow b.variables z
-    → Gives (length xs) b (λ c. none_of c xs z) (λ m. bit_value m z && eqb (number_of m xs) 0)
-none_gives low b [] z k px pz = let g = Goes-none 0 b z in record { grows = g.grows; below = pz; value = λ m _. and_true (bit_value m z); again = g.again }
+    → BitGives (length xs) b (λ c. none_of c xs z) (λ m. bit_value m z && eqb (number_of m xs) 0)
+none_gives low b [] z k px pz = record { goes = Goes-none 0 b z; below = pz; value = λ m _. and_true (bit_value m z) }
 none_gives low b (x ∷ xs) z k px pz =
     let here = and_of b z (not_of x) in
     let hg = and_gives low b z (not_of x) k pz (BitBelow-not_of b.variables x px.0) in
     let rg = none_gives low here.0 xs here.1 (hg.grows.ready low k) (all_later 1 b here.0 xs hg.grows px.1) hg.below in
-    let goes = Goes-then (suc (length xs)) 1 (length xs) b (λ c. and_of c z (not_of x)) (λ r c. none_of c xs r) (omega arith)
-    (Goes-gives 1 b (λ c. and_of c z (not_of x)) _ hg) (Goes-gives (length xs) here.0 (λ c. none_of c xs here.1) _ rg) in
     record {
-      grows = goes.grows;
+      goes = Goes-then (suc (length xs)) 1 (length xs) b (λ c. and_of c z (not_of x)) (λ r c. none_of c xs r) (omega arith) (Goes-gives 1 b (λ c. and_of c z (not_of x)) _ hg (and_extends b z (not_of x))) rg.goes;
       below = rg.below;
       value = λ m holds.
           rg.value m holds
-          ∙ ap (λ v. v && eqb (number_of m xs) 0) (hg.value m (rg.grows.kept m holds) ∙ ap (λ v. bit_value m z && v) (bit_value-not_of m x))
+          ∙ ap (λ v. v && eqb (number_of m xs) 0) (hg.value m (rg.goes.grows.kept m holds) ∙ ap (λ v. bit_value m z && v) (bit_value-not_of m x))
           ∙ none_value (bit_value m z) (bit_value m x) (number_of m xs);
-      again = goes.again;
     }
 
 any_value_place : (z x : Bool) (n : ℕ) → ((z || x) || not (eqb n 0)) ≡ (z || not (eqb (from_bool x + 2 * n) 0))
@@ -156,20 +159,17 @@ any_value_place false true n = ap not (sym (ne_eqb (1 + 2 * n) 0 (λ h. omega ar
 any_value_place false false n = grind (arith, eqb_tells)
 
 pub any_gives : (low : ℕ) (b : Built) (xs : List Bit) (z : Bit) → Ready low b → AllBelow b.variables xs → BitBelow b.variables z
-    → Gives (length xs) b (λ c. any_of c xs z) (λ m. bit_value m z || not (eqb (number_of m xs) 0))
-any_gives low b [] z k px pz = let g = Goes-none 0 b z in record { grows = g.grows; below = pz; value = λ m _. sym (or_false (bit_value m z)); again = g.again }
+    → BitGives (length xs) b (λ c. any_of c xs z) (λ m. bit_value m z || not (eqb (number_of m xs) 0))
+any_gives low b [] z k px pz = record { goes = Goes-none 0 b z; below = pz; value = λ m _. sym (or_false (bit_value m z)) }
 any_gives low b (x ∷ xs) z k px pz =
     let here = or_of b z x in
     let hg = or_gives low b z x k pz px.0 in
     let rg = any_gives low here.0 xs here.1 (hg.grows.ready low k) (all_later 1 b here.0 xs hg.grows px.1) hg.below in
-    let goes = Goes-then (suc (length xs)) 1 (length xs) b (λ c. or_of c z x) (λ r c. any_of c xs r) (omega arith)
-    (Goes-gives 1 b (λ c. or_of c z x) _ hg) (Goes-gives (length xs) here.0 (λ c. any_of c xs here.1) _ rg) in
     record {
-      grows = goes.grows;
+      goes = Goes-then (suc (length xs)) 1 (length xs) b (λ c. or_of c z x) (λ r c. any_of c xs r) (omega arith) (Goes-gives 1 b (λ c. or_of c z x) _ hg (or_extends b z x)) rg.goes;
       below = rg.below;
       value = λ m holds.
           rg.value m holds
-          ∙ ap (λ v. v || not (eqb (number_of m xs) 0)) (hg.value m (rg.grows.kept m holds))
+          ∙ ap (λ v. v || not (eqb (number_of m xs) 0)) (hg.value m (rg.goes.grows.kept m holds))
           ∙ any_value_place (bit_value m z) (bit_value m x) (number_of m xs);
-      again = goes.again;
     }

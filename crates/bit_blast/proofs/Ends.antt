@@ -119,6 +119,10 @@ stages_step kind b c j amount s t a r h wide e f g =
 
 -- ---- inputs
 
+pub length-variables_from : (v n : ℕ) → length (variables_from v n) ≡ n
+length-variables_from v zero = refl
+length-variables_from v (suc n) = ap suc (length-variables_from (suc v) n)
+
 pub variables_from-more : (v n : ℕ) → variables_from v n ++ Signed (2 * (v + n)) ∷ [] ≡ variables_from v (n + 1)
 variables_from-more v zero = ap (λ w. Signed (2 * w) ∷ []) (let e : v + 0 ≡ v = omega arith in e)
 variables_from-more v (suc n) =

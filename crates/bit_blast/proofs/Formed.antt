@@ -1,5 +1,5 @@
--- An instruction's circuit gives what the instruction does.
-use Rattle.std.proofs.Common.{◌≡◌, ℕ, zero, suc, ◌+◌, ◌-◌, ◌*◌, ◌^◌, ◌%◌, ◌<◌, ◌≤◌, List, [], ◌∷◌, Bool, true, false, cond, eqb, ltb, length, refl, sym, ap, ◌∙◌, arith, set, bit_and, subst, ⊎_elim}
+-- A slot's circuit gives what its instruction does.
+use Rattle.std.proofs.Common.{◌≡◌, ℕ, zero, suc, ◌+◌, ◌-◌, ◌*◌, ◌^◌, ◌%◌, ◌<◌, ◌≤◌, List, [], ◌∷◌, Bool, true, false, cond, eqb, ltb, length, refl, sym, ap, ◌∙◌, arith, set, bit_and, subst, ⊎_elim, map}
 use Rattle.std.proofs.lemmas.List.{length-set, get_or-set_same, get_or-set_other}
 use Rattle.std.proofs.lemmas.Bool.{cond-true, cond-false, ne_eqb, eq-eqb, eqb-true, cases_Bool, and_parts, ltb-true, lt-ltb}
 use Rattle.std.specs.Int.{from_bool, bit_at}
@@ -21,9 +21,8 @@ use Rattle.thumb_instr.specs.declared.operation.ByteOperation.TheVariants as byt
 use Rattle.thumb_instr.proofs.RenamingLemmas.{named_low}
 use Rattle.thumb_instr.specs.Window.{is_in_window}
 use Rattle.thumb_model.specs.Items.{Values, assigned, n_flag, z_flag, c_flag, v_flag}
-use Rattle.thumb_model.specs.Effect.{complement, three_sum, product, right_shift, extension_of, reversal_of, after, after_all}
+use Rattle.thumb_model.specs.Effect.{complement, three_sum, product, right_shift, extension_of, reversal_of, outputs, after, after_all}
 use Rattle.thumb_instr.specs.Renaming.{named, AreBelow}
-use Rattle.thumb_model.specs.Sides.{AreOver}
 use Rattle.cnf_gates.specs.declared.bit.Bit.{Bit}
 use Rattle.cnf_gates.specs.declared.bit.Bit.TheVariants.{Constant}
 use Rattle.cnf_gates.specs.Gates.{Built}
@@ -32,11 +31,14 @@ use Rattle.cnf_gates.specs.Growth.{BitBelow, AllBelow, Ready}
 use Rattle.cnf_gates.proofs.Giving.{later, all_later, BitBelow-more, AllBelow-more}
 use Rattle.bit_blast.specs.declared.circuits.Connective.{Connective}
 use Rattle.bit_blast.specs.declared.circuits.Connective.TheVariants.{And, Or, Xor}
+use Rattle.bit_blast.specs.declared.slots.Slot.{Slot}
+use Rattle.bit_blast.specs.declared.slots.Slot.TheVariants.{Plain, Hole}
+use Rattle.bit_blast.specs.Slots.{Byte, filled as filled_slot, target_of, slot_target, IsSlotOver, AreSlotsOver}
 use Rattle.bit_blast.specs.Words.{bit_of, filled, constant, inverted, moved, moved_out, extended, turned}
 use Rattle.bit_blast.specs.Circuits.{each_of, none_of, add_of, product_from, Shifted, shift_by, rotate_by}
-use Rattle.bit_blast.specs.Forming.{Bits, Outcome, word, result_of, summed, joined_of, shifted_of, rotated_of, multiplied_of, unflagged, flags_alone, three_of, two_of, byte_of, number_shift, target_of, outcome_of, written, formed, formed_all}
+use Rattle.bit_blast.specs.Forming.{Bits, Outcome, word, result_of, summed, joined_of, shifted_of, rotated_of, multiplied_of, unflagged, flags_alone, three_of, two_of, byte_of, number_shift, outcome_of, slot_outcome, written, formed, formed_all}
 use Rattle.bit_blast.specs.Values.{number_of, values_at}
-use Rattle.bit_blast.proofs.Steps.{Goes, Goes-none, Goes-gives, Goes-map, Goes-then, Goes-within, WordGives}
+use Rattle.bit_blast.proofs.Steps.{Goes, Goes-none, Goes-map, Goes-then, Goes-within, WordGives}
 use Rattle.bit_blast.proofs.Numbers.{number_at, complement_is, length-inverted, AllBelow-inverted, bit_below}
 use Rattle.bit_blast.proofs.Each.{of_numbers, each_gives, none_gives}
 use Rattle.bit_blast.proofs.Sums.{add_gives}
@@ -85,14 +87,14 @@ result_gives low b xs c v wide k px pc pv =
     let zg = none_gives low b xs (Constant true) k px tt in
     let top = bit_of xs 31 in
     record {
-      goes = Goes-within (length xs) 32 b (λ d. result_of d xs c v) (omega arith) (Goes-map (length xs) b (λ q. outcome xs top q c v) (λ d. none_of d xs (Constant true)) (Goes-gives (length xs) b (λ d. none_of d xs (Constant true)) _ zg));
+      goes = Goes-within (length xs) 32 b (λ d. result_of d xs c v) (omega arith) (Goes-map (length xs) b (λ q. outcome xs top q c v) (λ d. none_of d xs (Constant true)) zg.goes);
       is = record {
-        value = all_later (length xs) b z.0 xs zg.grows px;
+        value = all_later (length xs) b z.0 xs zg.goes.grows px;
         wide = wide;
-        n_of = bit_below z.0.variables xs 31 (all_later (length xs) b z.0 xs zg.grows px);
+        n_of = bit_below z.0.variables xs 31 (all_later (length xs) b z.0 xs zg.goes.grows px);
         z_of = zg.below;
-        c_of = later (length xs) b z.0 c zg.grows pc;
-        v_of = later (length xs) b z.0 v zg.grows pv;
+        c_of = later (length xs) b z.0 c zg.goes.grows pc;
+        v_of = later (length xs) b z.0 v zg.goes.grows pv;
       };
       value = λ m holds.
           from_numbers (number_of m xs) (from_bool (bit_value m top)) (from_bool (bit_value m z.1)) (bit_at (number_of m xs) 31) (from_bool (eqb (number_of m xs) 0)) (from_bool (bit_value m c)) (from_bool (bit_value m v))
@@ -317,27 +319,13 @@ two_gives low b operation.Bic xs ys s wx wy k px py are =
     (joined_gives low b And xs (inverted ys) s wx (inverted_wide ys wy) k px (AllBelow-inverted b.variables ys py) are))
 two_gives low b operation.Mvn xs ys s wx wy k px py are = within 32 6208 b _ _ (omega arith) (inverted_gives low b ys s wy k py are)
 
--- a sum with a number
-number_sum_gives : (low : ℕ) (b : Built) (o : Sum) (xs : List Bit) (i : ℕ) → i < 2 ^ 32 → length xs ≡ 32 → Ready low b → AllBelow b.variables xs
-    → OutcomeGives 193 b (λ d. three_of o d xs (constant i)) (λ m. sum_numbers (three_sum o (number_of m xs) i))
-number_sum_gives low b o xs i small wx k px =
-    at_numbers 193 b (λ d. three_of o d xs (constant i)) (λ m. sum_numbers (three_sum o (number_of m xs) (number_of m (constant i)))) (λ m. sum_numbers (three_sum o (number_of m xs) i))
-    (λ m. ap (λ n. sum_numbers (three_sum o (number_of m xs) n)) (number_of-constant m i small))
-    (three_gives low b o xs (constant i) wx (length-constant i) k px (AllBelow-constant b.variables i))
-
-byte_gives : (low : ℕ) (b : Built) (o : ByteOperation) (xs : List Bit) (i : ℕ) (s : Bits) → i < 256 → length xs ≡ 32 → Ready low b → AllBelow b.variables xs → AreOf b.variables s
-    → OutcomeGives 193 b (λ d. byte_of o d xs (constant i) s) (λ m. byte_left o (number_of m xs) i (values_at m s))
-byte_gives low b byte.Mov xs i s small wx k px are =
-    within 32 193 b (λ d. byte_of byte.Mov d xs (constant i) s) _ (omega arith)
-    (at_numbers 32 b (λ d. byte_of byte.Mov d xs (constant i) s) (λ m. result_numbers (number_of m (constant i)) (from_bool (bit_value m s.c)) (from_bool (bit_value m s.v))) (λ m. byte_left byte.Mov (number_of m xs) i (values_at m s))
-    (λ m. ap (λ n. result_numbers n (from_bool (bit_value m s.c)) (from_bool (bit_value m s.v))) (number_of-constant m i (omega arith)))
-    (result_gives low b (constant i) s.c s.v (length-constant i) k (AllBelow-constant b.variables i) are.c_of are.v_of))
-byte_gives low b byte.Cmp xs i s small wx k px are =
-    at_numbers 193 b (λ d. byte_of byte.Cmp d xs (constant i) s) (λ m. kept_numbers (number_of m xs) (sum_numbers (three_sum sum.Sub (number_of m xs) (number_of m (constant i))))) (λ m. byte_left byte.Cmp (number_of m xs) i (values_at m s))
-    (λ m. ap (λ n. kept_numbers (number_of m xs) (sum_numbers (three_sum sum.Sub (number_of m xs) n))) (number_of-constant m i (omega arith)))
-    (alone_gives 193 b xs (λ d. three_of sum.Sub d xs (constant i)) _ wx px (three_gives low b sum.Sub xs (constant i) wx (length-constant i) k px (AllBelow-constant b.variables i)))
-byte_gives low b byte.Add xs i s small wx k px are = number_sum_gives low b sum.Add xs i (omega arith) wx k px
-byte_gives low b byte.Sub xs i s small wx k px are = number_sum_gives low b sum.Sub xs i (omega arith) wx k px
+-- an operation on a number's bits
+byte_gives : (low : ℕ) (b : Built) (o : ByteOperation) (xs ys : List Bit) (s : Bits) → length xs ≡ 32 → length ys ≡ 32 → Ready low b → AllBelow b.variables xs → AllBelow b.variables ys → AreOf b.variables s
+    → OutcomeGives 193 b (λ d. byte_of o d xs ys s) (λ m. byte_left o (number_of m xs) (number_of m ys) (values_at m s))
+byte_gives low b byte.Mov xs ys s wx wy k px py are = within 32 193 b (λ d. byte_of byte.Mov d xs ys s) _ (omega arith) (result_gives low b ys s.c s.v wy k py are.c_of are.v_of)
+byte_gives low b byte.Cmp xs ys s wx wy k px py are = alone_gives 193 b xs (λ d. three_of sum.Sub d xs ys) _ wx px (three_gives low b sum.Sub xs ys wx wy k px py)
+byte_gives low b byte.Add xs ys s wx wy k px py are = three_gives low b sum.Add xs ys wx wy k px py
+byte_gives low b byte.Sub xs ys s wx wy k px py are = three_gives low b sum.Sub xs ys wx wy k px py
 
 -- a shift by a number, which isn't 0
 number_shift_gives : (low : ℕ) (b : Built) (kind : Shift) (xs : List Bit) (n : ℕ) (s : Bits) → IsStraight kind → 0 < n → n ≤ 32 → length xs ≡ 32 → Ready low b → AllBelow b.variables xs → AreOf b.variables s
@@ -377,11 +365,12 @@ module _ (low : ℕ) (b : Built) (s : Bits) (k : Ready low b) (are : AreOf b.var
       (λ m. ap (λ v. two_left o v (number_of m (word s.r y)) (values_at m s)) (register_value m s x (omega arith)) ∙ ap (λ v. two_left o (values_at m s x) v (values_at m s)) (register_value m s y (omega arith)))
       (two_gives low b o (word s.r x) (word s.r y) s (wide_at x h) (wide_at y g) k (below_at x) (below_at y) are)
 
-  byte_at : (o : ByteOperation) (x i : ℕ) → x < length s.r → x < 8 → i < 256 → OutcomeGives 193 b (λ d. byte_of o d (word s.r x) (constant i) s) (λ m. byte_left o (values_at m s x) i (values_at m s))
-  byte_at o x i h small few =
-      at_numbers 193 b (λ d. byte_of o d (word s.r x) (constant i) s) (λ m. byte_left o (number_of m (word s.r x)) i (values_at m s)) (λ m. byte_left o (values_at m s x) i (values_at m s))
-      (λ m. ap (λ v. byte_left o v i (values_at m s)) (register_value m s x (omega arith)))
-      (byte_gives low b o (word s.r x) i s few (wide_at x h) k (below_at x) are)
+  byte_at : (o : ByteOperation) (x : ℕ) (ys : List Bit) (y : (ℕ → Bool) → ℕ) → x < length s.r → x < 8 → length ys ≡ 32 → AllBelow b.variables ys → ((m : ℕ → Bool) → number_of m ys ≡ y m)
+      → OutcomeGives 193 b (λ d. byte_of o d (word s.r x) ys s) (λ m. byte_left o (values_at m s x) (y m) (values_at m s))
+  byte_at o x ys y h small wy py e =
+      at_numbers 193 b (λ d. byte_of o d (word s.r x) ys s) (λ m. byte_left o (number_of m (word s.r x)) (number_of m ys) (values_at m s)) (λ m. byte_left o (values_at m s x) (y m) (values_at m s))
+      (λ m. ap (λ v. byte_left o v (number_of m ys) (values_at m s)) (register_value m s x (omega arith)) ∙ ap (λ n. byte_left o (values_at m s x) n (values_at m s)) (e m))
+      (byte_gives low b o (word s.r x) ys s (wide_at x h) wy k (below_at x) py are)
 
   result_at : (x : ℕ) → x < length s.r → x < 8 → OutcomeGives 32 b (λ d. result_of d (word s.r x) s.c s.v) (λ m. result_numbers (values_at m s x) (values_at m s c_flag) (values_at m s v_flag))
   result_at x h small =
@@ -432,7 +421,9 @@ module _ (low : ℕ) (b : Built) (s : Bits) (k : Ready low b) (are : AreOf b.var
   outcome_gives (instr.ThreeNumber o d n i) w h =
       let few : i.number < 8 = i.below in
       within 193 6208 b _ _ (omega arith) (three_at o n.number (constant i.number) (λ m. i.number) h.1.0 n.below (length-constant i.number) (AllBelow-constant b.variables i.number) (λ m. number_of-constant m i.number (omega arith)))
-  outcome_gives (instr.TwoNumber o d i) w h = within 193 6208 b _ _ (omega arith) (byte_at o d.number i.number h.0 d.below i.below)
+  outcome_gives (instr.TwoNumber o d i) w h =
+      let few : i.number < 256 = i.below in
+      within 193 6208 b _ _ (omega arith) (byte_at o d.number (constant i.number) (λ m. i.number) h.0 d.below (length-constant i.number) (AllBelow-constant b.variables i.number) (λ m. number_of-constant m i.number (omega arith)))
   outcome_gives (instr.Add r) w h =
       let both : (ltb r.target.number 8 ≡ true) × (ltb r.source.number 8 ≡ true) = and_parts (ltb r.target.number 8) (ltb r.source.number 8) w in
       within 161 6208 b _ _ (omega arith) (sum_at r.target.number r.source.number h.0 h.1.0 (ltb-true r.target.number 8 both.0) (ltb-true r.source.number 8 both.1))
@@ -448,6 +439,12 @@ module _ (low : ℕ) (b : Built) (s : Bits) (k : Ready low b) (are : AreOf b.var
       (λ m. turned_is m r (word s.r t.number) wt ∙ ap (reversal_of r) (register_value m s t.number (omega arith))))
   outcome_gives i w h = absurd cc
 
+  -- a slot, where w are the bits of the symbol's value
+  pub slot_outcome_gives : (w : List Bit) (at : (ℕ → Bool) → Byte) → length w ≡ 32 → AllBelow b.variables w → ((m : ℕ → Bool) → number_of m w ≡ (at m).number) → (x : Slot) → IsSlotOver (length s.r) x
+      → OutcomeGives 6208 b (λ d. slot_outcome w d x s) (λ m. left_by (filled_slot (at m) x) (values_at m s))
+  slot_outcome_gives w at wide below is (Plain i) h = outcome_gives i h.0 h.1
+  slot_outcome_gives w at wide below is (Hole o d) h = within 193 6208 b _ _ (omega arith) (byte_at o d.number w (λ m. (at m).number) h d.below wide below is)
+
 -- the target is one of the registers that there are, and a low one
 target_there : (i : Instr) (k : ℕ) → is_in_window i ≡ true → AreBelow k (named i) → target_of i < k
 target_there (instr.Mov d t) k w h = h.0
@@ -455,6 +452,19 @@ target_there i k w h = grind arith
 
 target_low : (i : Instr) → is_in_window i ≡ true → target_of i < 8
 target_low i w = target_there i 8 w (named_low i w)
+
+pub slot_there : (x : Slot) (k : ℕ) → IsSlotOver k x → slot_target x < k
+slot_there (Plain i) k h = target_there i k h.0 h.1
+slot_there (Hole o d) k h = h
+
+slot_low : (x : Slot) (k : ℕ) → IsSlotOver k x → slot_target x < 8
+slot_low (Plain i) k h = target_low i h.0
+slot_low (Hole o d) k h = d.below
+
+slot_outputs_are : (x : Slot) (k : ℕ) (y : Byte) (v : Values) (i : ℕ) → IsSlotOver k x
+    → assigned (outputs (filled_slot y x) v) v i ≡ assigned (all_outputs (slot_target x) (left_by (filled_slot y x) v)) v i
+slot_outputs_are (Plain p) k y v i h = outputs_are p v i h.0 (target_low p h.0)
+slot_outputs_are (Hole o d) k y v i h = outputs_are (instr.TwoNumber o d y) v i refl d.below
 
 -- ---- what is written
 
@@ -493,54 +503,54 @@ written_values m s o d x small h =
     ∙ tests_turn (eqb x d) (eqb x n_flag) (eqb x z_flag) (eqb x c_flag) (eqb x v_flag) _ _ _ _ (from_bool (bit_value m s.n)) (from_bool (bit_value m s.z)) (from_bool (bit_value m s.c)) (from_bool (bit_value m s.v)) (number_of m o.value) (cond (ltb x 15) (number_of m (word s.r x)) 0)
     (λ t. (no_flag x d 15 (omega arith) (omega arith) t, no_flag x d 16 (omega arith) (omega arith) t, no_flag x d 17 (omega arith) (omega arith) t, no_flag x d 18 (omega arith) (omega arith) t))
 
--- what an instruction's circuit gives
-pub record FormedGives (n : ℕ) (b : Built) (s : Bits) (step : Built → Built × Bits) (f : Values → Values) : Type 0 where
+-- what a slot's circuit gives
+pub record FormedGives (n : ℕ) (b : Built) (s : Bits) (step : Built → Built × Bits) (f : (ℕ → Bool) → Values → Values) : Type 0 where
   pub goes : Goes n b step
   pub are : AreOf (step b).0.variables (step b).1
   pub count : length (step b).1.r ≡ length s.r
-  pub value : (m : ℕ → Bool) → GatesHold m (step b).0.gates → (x : ℕ) → values_at m (step b).1 x ≡ f (values_at m s) x
+  pub value : (m : ℕ → Bool) → GatesHold m (step b).0.gates → (x : ℕ) → values_at m (step b).1 x ≡ f m (values_at m s) x
 
-pub formed_gives : (low : ℕ) (b : Built) (s : Bits) (i : Instr) → Ready low b → AreOf b.variables s → is_in_window i ≡ true → AreBelow (length s.r) (named i) → FormedGives 6208 b s (λ d. formed d i s) (after i)
-formed_gives low b s i k are w h =
-    let o = outcome_of b i s in
-    let og = outcome_gives low b s k are i w h in
-    let d : ℕ = target_of i in
-    let small = target_low i w in
-    let there = target_there i (length s.r) w h in
-    let g = og.goes.grows in
-    record {
-      goes = Goes-map 6208 b (λ q. written d q s) (λ c. outcome_of c i s) og.goes;
-      are = record {
-        words = AllWords-set o.0.variables s.r d o.1.value (AllWords-more b.variables o.0.variables s.r g.more are.words) og.is.wide og.is.value;
-        n_of = og.is.n_of;
-        z_of = og.is.z_of;
-        c_of = og.is.c_of;
-        v_of = og.is.v_of;
-      };
-      count = length-set s.r d o.1.value;
-      value = λ m holds x.
-          written_values m s o.1 d x small there ∙ ap (λ q. assigned (all_outputs d q) (values_at m s) x) (og.value m holds) ∙ sym (outputs_are i (values_at m s) x w small);
-    }
-
--- ---- sequences
-
-abbrev pub bound_of : List Instr → ℕ
-bound_of is = 6208 * length is
+abbrev pub bound_of : List Slot → ℕ
+bound_of xs = 6208 * length xs
 
 same_values : (f g : Values) → ((x : ℕ) → f x ≡ g x) → f ≡ g
 same_values f g h = λ i x. h x i
 
-pub run_gives : (low : ℕ) (b : Built) (s : Bits) (is : List Instr) → Ready low b → AreOf b.variables s → AreOver (length s.r) is → FormedGives (bound_of is) b s (λ d. formed_all d is s) (after_all is)
-run_gives low b s [] k are over = record { goes = Goes-none 0 b s; are = are; count = refl; value = λ m _ x. refl }
-run_gives low b s (i ∷ is) k are over =
-    let here = formed b i s in
-    let hg = formed_gives low b s i k are over.0 over.1 in
-    let g = hg.goes.grows in
-    let rg = run_gives low here.0 here.1 is (g.ready low k) hg.are (subst (λ n. AreOver n is) (sym hg.count) over.2) in
-    record {
-      goes = Goes-then (bound_of (i ∷ is)) 6208 (bound_of is) b (λ d. formed d i s) (λ t d. formed_all d is t) (omega arith) hg.goes rg.goes;
-      are = rg.are;
-      count = rg.count ∙ hg.count;
-      value = λ m holds x.
-          rg.value m holds x ∙ ap (λ v. after_all is v x) (same_values (values_at m here.1) (after i (values_at m s)) (hg.value m (rg.goes.grows.kept m holds)));
-    }
+module _ (low : ℕ) (w : List Bit) (at : (ℕ → Bool) → Byte) (wide : length w ≡ 32) (is : (m : ℕ → Bool) → number_of m w ≡ (at m).number) where
+  formed_gives : (b : Built) (s : Bits) (x : Slot) → Ready low b → AreOf b.variables s → AllBelow b.variables w → IsSlotOver (length s.r) x → FormedGives 6208 b s (λ d. formed w d x s) (λ m. after (filled_slot (at m) x))
+  formed_gives b s x k are below h =
+      let o = slot_outcome w b x s in
+      let og = slot_outcome_gives low b s k are w at wide below is x h in
+      let d : ℕ = slot_target x in
+      let g = og.goes.grows in
+      record {
+        goes = Goes-map 6208 b (λ q. written d q s) (λ c. slot_outcome w c x s) og.goes;
+        are = record {
+          words = AllWords-set o.0.variables s.r d o.1.value (AllWords-more b.variables o.0.variables s.r g.more are.words) og.is.wide og.is.value;
+          n_of = og.is.n_of;
+          z_of = og.is.z_of;
+          c_of = og.is.c_of;
+          v_of = og.is.v_of;
+        };
+        count = length-set s.r d o.1.value;
+        value = λ m holds y.
+            written_values m s o.1 d y (slot_low x (length s.r) h) (slot_there x (length s.r) h) ∙ ap (λ q. assigned (all_outputs d q) (values_at m s) y) (og.value m holds)
+            ∙ sym (slot_outputs_are x (length s.r) (at m) (values_at m s) y h);
+      }
+
+  pub run_gives : (b : Built) (s : Bits) (xs : List Slot) → Ready low b → AreOf b.variables s → AllBelow b.variables w → AreSlotsOver (length s.r) xs
+      → FormedGives (bound_of xs) b s (λ d. formed_all w d xs s) (λ m. after_all (map (filled_slot (at m)) xs))
+  run_gives b s [] k are below over = record { goes = Goes-none 0 b s; are = are; count = refl; value = λ m _ x. refl }
+  run_gives b s (x ∷ xs) k are below over =
+      let here = formed w b x s in
+      let hg = formed_gives b s x k are below over.0 in
+      let g = hg.goes.grows in
+      let rg = run_gives here.0 here.1 xs (g.ready low k) hg.are (all_later 6208 b here.0 w g below) (subst (λ n. AreSlotsOver n xs) (sym hg.count) over.1) in
+      record {
+        goes = Goes-then (bound_of (x ∷ xs)) 6208 (bound_of xs) b (λ d. formed w d x s) (λ t d. formed_all w d xs t) (omega arith) hg.goes rg.goes;
+        are = rg.are;
+        count = rg.count ∙ hg.count;
+        value = λ m holds y.
+            rg.value m holds y
+            ∙ ap (λ v. after_all (map (filled_slot (at m)) xs) v y) (same_values (values_at m here.1) (after (filled_slot (at m) x) (values_at m s)) (hg.value m (rg.goes.grows.kept m holds)));
+      }

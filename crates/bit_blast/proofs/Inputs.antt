@@ -1,16 +1,18 @@
 -- Steps and ends of the loops that make inputs and gather differences.
-use Rattle.std.proofs.Common.{◌≡◌, ℕ, suc, ◌+◌, ◌*◌, ◌<◌, min, Bool, true, false, cond, List, [], ◌∷◌, ◌++◌, length, take, drop, get_or, set, refl, sym, ap, ◌∙◌, arith, append_assoc}
-use Rattle.std.proofs.lemmas.List.{take_all, take_more_set, drop_more, get_or-take, length-take}
+use Rattle.std.proofs.Common.{◌≡◌, ℕ, suc, ◌+◌, ◌-◌, ◌*◌, ◌<◌, min, Bool, true, false, cond, List, [], ◌∷◌, ◌++◌, length, take, drop, get_or, set, refl, sym, ap, ◌∙◌, arith, append_assoc, append-nil}
+use Rattle.std.proofs.lemmas.List.{drop_more, get_or-take, length-take}
 use Rattle.cnf_gates.specs.declared.bit.Bit.{Bit}
-use Rattle.cnf_gates.specs.declared.bit.Bit.TheVariants.{Signed}
+use Rattle.cnf_gates.specs.declared.bit.Bit.TheVariants.{Constant, Signed}
 use Rattle.cnf_gates.specs.Gates.{Built, input_of}
 use Rattle.thumb_instr.specs.Items.{has, n_flag, z_flag, c_flag, v_flag}
 use Rattle.bit_blast.specs.declared.circuits.Connective.TheVariants.{Xor}
 use Rattle.bit_blast.specs.Circuits.{each_of, before_word}
-use Rattle.thumb_instr.specs.declared.instr.Instr.{Instr}
+use Rattle.bit_blast.specs.declared.slots.Slot.{Slot}
 use Rattle.bit_blast.specs.Forming.{Bits, formed_all}
-use Rattle.bit_blast.specs.Differences.{variables_from, words_from, input_word, register_differences, flag_difference, differences, start_bits, start_built, both_sides}
-use Rattle.bit_blast.proofs.Ends.{variables_from-more, words_from-more}
+use Rattle.bit_blast.specs.Differences.{variables_from, words_from, input_word, low_inputs, register_differences, flag_difference, differences, sides_from}
+use Rattle.bit_blast.specs.Words.{copies}
+use Rattle.bit_blast.proofs.Ends.{variables_from-more, words_from-more, length-variables_from}
+use Rattle.std.proofs.Math.Seq.{set-append_seam}
 
 -- ---- inputs
 
@@ -21,15 +23,21 @@ pub input_built : (a b c : Built) (i : ℕ) (x : Bit) → b ≡ record a { varia
 input_built a b c i x e f =
     ap (λ p. p.0) f ∙ ap (λ d. (input_of d).0) e ∙ ap (with_variables a) (let g : suc (a.variables + i) ≡ a.variables + (i + 1) = omega arith in g)
 
-pub input_bits_step : (a b c : Built) (i : ℕ) (word : List Bit) (x : Bit) → i < 32 → length word ≡ 32 → b ≡ record a { variables = a.variables + i } → take i word ≡ variables_from a.variables i → (c, x) ≡ input_of b
-    → take (i + 1) (set word i x) ≡ variables_from a.variables (i + 1)
-input_bits_step a b c i word x h wide e same f =
-    let bit : x ≡ Signed (2 * (a.variables + i)) = ap (λ p. p.1) f ∙ ap (λ d. (input_of d).1) e in
-    take_more_set word i x (omega arith) ∙ ap (λ t. t ++ x ∷ []) same ∙ ap (λ y. variables_from a.variables i ++ y ∷ []) bit ∙ variables_from-more a.variables i
+-- one input more in front of what is False
+pub low_inputs_step : (a b c : Built) (i : ℕ) (word : List Bit) (x : Bit) → i < 32 → b ≡ record a { variables = a.variables + i } → word ≡ low_inputs a.variables i → (c, x) ≡ input_of b → set word i x ≡ low_inputs a.variables (i + 1)
+unfolding low_inputs
+low_inputs_step a b c i word x h e same f =
+    let v : ℕ = a.variables in
+    let bit : x ≡ Signed (2 * (v + i)) = ap (λ p. p.1) f ∙ ap (λ d. (input_of d).1) e in
+    let none = copies (32 - (i + 1)) (Constant false) in
+    let one : low_inputs v i ≡ variables_from v i ++ Constant false ∷ none = ap (λ n. variables_from v i ++ copies n (Constant false)) (let g : 32 - i ≡ suc (32 - (i + 1)) = omega arith in g) in
+    ap (λ l. set l i x) (same ∙ one) ∙ ap (λ j. set (variables_from v i ++ Constant false ∷ none) j x) (sym (length-variables_from v i)) ∙ set-append_seam (variables_from v i) (Constant false) none x
+    ∙ ap (λ y. variables_from v i ++ y ∷ none) bit ∙ sym (append_assoc (variables_from v i) (Signed (2 * (v + i)) ∷ []) none) ∙ ap (λ l. l ++ none) (variables_from-more v i)
 
-pub input_bits_done : (v i : ℕ) (word : List Bit) → i ≡ 32 → length word ≡ 32 → take i word ≡ variables_from v i → word ≡ input_word v
-unfolding input_word
-input_bits_done v i word e wide same = sym (take_all i word (omega arith)) ∙ same ∙ ap (variables_from v) e
+-- a whole word of inputs
+pub whole_word : (v : ℕ) → low_inputs v 32 ≡ input_word v
+unfolding input_word low_inputs
+whole_word v = append-nil (variables_from v 32)
 
 pub inputs_built : (b c : Built) (i : ℕ) → b ≡ record { variables = 32 * i; clauses = []; gates = [] } → c ≡ record b { variables = b.variables + 32 } → c ≡ record { variables = 32 * (i + 1); clauses = []; gates = [] }
 inputs_built b c i e f =
@@ -92,9 +100,8 @@ all_gathered mask x y b b0 b1 b2 b3 b4 f0 f1 f2 f3 f4 e0 e1 e2 e3 e4 =
     e4 ∙ ap (λ p. before_word p.1 (flag_difference p.0 (has mask v_flag) x.v y.v)) g3
 
 -- both sides formed, one after the other
-pub both_done : (left right : List Instr) (mask k : ℕ) (b0 b1 b2 : Built) (s0 s1 l r : Bits) → b0 ≡ start_built k → s0 ≡ start_bits k → s1 ≡ s0 → (b1, l) ≡ formed_all b0 left s1 → (b2, r) ≡ formed_all b1 right s0
-    → differences b2 mask l r ≡ both_sides left right mask k
-both_done left right mask k b0 b1 b2 s0 s1 l r eb es et el er =
-    let p : (b1, l) ≡ formed_all (start_built k) left (start_bits k) = el ∙ ap (λ b. formed_all b left s1) eb ∙ ap (formed_all (start_built k) left) (et ∙ es) in
-    let q : (b2, r) ≡ formed_all b1 right (start_bits k) = er ∙ ap (formed_all b1 right) es in
-    ap (λ t. differences t.0 mask l t.1) q ∙ ap (λ t. let u = formed_all t.0 right (start_bits k) in differences u.0 mask t.1 u.1) p
+pub both_done : (w : List Bit) (left right : List Slot) (mask : ℕ) (b0 b1 b2 : Built) (s0 s1 l r : Bits) → s1 ≡ s0 → (b1, l) ≡ formed_all w b0 left s1 → (b2, r) ≡ formed_all w b1 right s0
+    → differences b2 mask l r ≡ sides_from b0 s0 w left right mask
+both_done w left right mask b0 b1 b2 s0 s1 l r et el er =
+    let p : (b1, l) ≡ formed_all w b0 left s0 = el ∙ ap (formed_all w b0 left) et in
+    ap (λ t. differences t.0 mask l t.1) er ∙ ap (λ t. let u = formed_all w t.0 right s0 in differences u.0 mask t.1 u.1) p

@@ -1,4 +1,6 @@
+pub mod Extends
 pub mod Steps
+pub mod Holes
 pub mod Numbers
 pub mod Each
 pub mod Sums
@@ -12,5 +14,8 @@ pub mod Formed
 pub mod Telling
 pub mod Frame
 pub mod Start
+pub mod Ranges
+pub mod TwoSides
 pub mod Exact
+pub mod Families
 pub mod Read

@@ -12,8 +12,8 @@ use Rattle.bit_blast.specs.Forming.{word}
 use Rattle.bit_blast.specs.Differences.{variables_from, words_from, input_word, start_bits}
 use Rattle.bit_blast.specs.Values.{number_of, start_values}
 use Rattle.bit_blast.proofs.Numbers.{number_of-append, number_of-lt, from_bool-lt}
-use Rattle.bit_blast.proofs.Ends.{variables_from-more, length-words_from}
-use Rattle.bit_blast.proofs.Start.{length-variables_from, word-words_from, variable_value}
+use Rattle.bit_blast.proofs.Ends.{variables_from-more, length-words_from, length-variables_from}
+use Rattle.bit_blast.proofs.Start.{word-words_from, variable_value}
 use Rattle.bit_blast.proofs.Formed.{register_value}
 
 -- one bit more
@@ -41,11 +41,8 @@ number_fits m first i h =
     let p : 2 ^ i ≤ 2 ^ 32 = pow_le i 32 h in
     omega arith
 
-pub whole_word : (m : ℕ → Bool) (first i n : ℕ) → i ≡ 32 → n ≡ number_of m (variables_from first i) → n ≡ number_of m (input_word first)
+pub register_given : (m : ℕ → Bool) (k r n : ℕ) → r ≤ 3 → r < k → n ≡ number_of m (variables_from (32 * r) 32) → n ≡ start_values m k r
 unfolding input_word
-whole_word m first i n e h = h ∙ ap (λ k. number_of m (variables_from first k)) e
-
-pub register_given : (m : ℕ → Bool) (k r n : ℕ) → r ≤ 3 → r < k → n ≡ number_of m (input_word (32 * r)) → n ≡ start_values m k r
 register_given m k r n h there e =
     e ∙ ap (λ v. number_of m (input_word v)) (let g : 32 * r ≡ 0 + 32 * r = omega arith in g) ∙ ap (number_of m) (sym (word-words_from 0 k r there)) ∙ register_value m (start_bits k) r (omega arith)
 

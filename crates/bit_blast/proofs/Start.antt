@@ -10,21 +10,18 @@ use Rattle.clause_model.proofs.LiteralLaws.{literal_value-positive}
 use Rattle.cnf_gates.specs.declared.bit.Bit.{Bit}
 use Rattle.cnf_gates.specs.declared.bit.Bit.TheVariants.{Constant, Signed}
 use Rattle.cnf_gates.specs.Meaning.{bit_value}
-use Rattle.cnf_gates.specs.Growth.{BitBelow, AllBelow, Ready, IsExact}
-use Rattle.cnf_gates.proofs.Giving.{Ready-inputs, IsExact-inputs}
+use Rattle.cnf_gates.specs.Growth.{BitBelow, AllBelow, Ready}
+use Rattle.cnf_gates.proofs.Giving.{Ready-inputs}
 use Rattle.thumb_model.specs.Items.{Values, AreWords, n_flag, z_flag, c_flag, v_flag}
 use Rattle.bit_blast.specs.Forming.{Bits, word}
 use Rattle.bit_blast.specs.Differences.{variables_from, words_from, input_word, start_bits, start_built}
 use Rattle.bit_blast.specs.Values.{number_of, values_at, start_values}
 use Rattle.bit_blast.specs.Exactness.{SameOver}
+use Rattle.bit_blast.proofs.Ends.{length-variables_from}
 use Rattle.bit_blast.proofs.Numbers.{low_places, number_lt, from_bool-lt}
 use Rattle.bit_blast.proofs.Formed.{AllWords, AreOf, register_value}
 
-pub length-variables_from : (v n : ℕ) → length (variables_from v n) ≡ n
-length-variables_from v zero = refl
-length-variables_from v (suc n) = ap suc (length-variables_from (suc v) n)
-
-below-variables_from : (v n w : ℕ) → v + n ≤ w → AllBelow w (variables_from v n)
+pub below-variables_from : (v n w : ℕ) → v + n ≤ w → AllBelow w (variables_from v n)
 below-variables_from v zero w h = tt
 below-variables_from v (suc n) w h = (omega arith, below-variables_from (suc v) n w (omega arith))
 
@@ -46,16 +43,13 @@ start_are k = record { words = words-start 0 k (32 * k + 4) (omega arith); n_of 
 pub start_ready : (k : ℕ) → Ready (32 * k + 4) (start_built k)
 start_ready k = Ready-inputs (32 * k + 4)
 
-pub start_exact : (k : ℕ) → IsExact (start_built k)
-start_exact k = IsExact-inputs (32 * k + 4)
-
 -- ---- truth values that agree below a limit
 
 bit_same : (m n : ℕ → Bool) (low : ℕ) (x : Bit) → ((v : ℕ) → v < low → m v ≡ n v) → BitBelow low x → bit_value m x ≡ bit_value n x
 bit_same m n low (Constant c) h k = refl
 bit_same m n low (Signed l) h k = rw (h (variable_of l) k)
 
-number_same : (m n : ℕ → Bool) (low : ℕ) (xs : List Bit) → ((v : ℕ) → v < low → m v ≡ n v) → AllBelow low xs → number_of m xs ≡ number_of n xs
+pub number_same : (m n : ℕ → Bool) (low : ℕ) (xs : List Bit) → ((v : ℕ) → v < low → m v ≡ n v) → AllBelow low xs → number_of m xs ≡ number_of n xs
 number_same m n low [] h k = refl
 number_same m n low (x ∷ xs) h k = rw (bit_same m n low x h k.0, number_same m n low xs h k.1)
 
@@ -84,7 +78,7 @@ bit_test b x h e =
 pub variable_value : (m : ℕ → Bool) (v : ℕ) → from_bool (bit_value m (Signed (2 * v))) ≡ from_bool (m v)
 variable_value m v = ap from_bool (literal_value-positive m v)
 
-number_of-bits : (m : ℕ → Bool) (v n x j : ℕ) → ((i : ℕ) → i < n → m (v + i) ≡ eqb (bit_at x (j + i)) 1) → number_of m (variables_from v n) ≡ x / 2 ^ j % 2 ^ n
+pub number_of-bits : (m : ℕ → Bool) (v n x j : ℕ) → ((i : ℕ) → i < n → m (v + i) ≡ eqb (bit_at x (j + i)) 1) → number_of m (variables_from v n) ≡ x / 2 ^ j % 2 ^ n
 number_of-bits m v zero x j h = omega arith
 number_of-bits m v (suc n) x j h =
     let a : ℕ = x / 2 ^ j in

@@ -13,6 +13,7 @@ use Rattle.cnf_gates.specs.Growth.{BitBelow, AllBelow, Ready}
 use Rattle.cnf_gates.proofs.Giving.{and_gives, or_gives, xor_gives, later, all_later}
 use Rattle.bit_blast.specs.Circuits.{Places, Total, place_of, places_of, add_of}
 use Rattle.bit_blast.specs.Values.{number_of}
+use Rattle.bit_blast.proofs.Extends.{and_extends, or_extends, xor_extends}
 use Rattle.bit_blast.proofs.Steps.{Goes, Goes-none, Goes-gives, Goes-map, Goes-then}
 use Rattle.bit_blast.proofs.Numbers.{from_bool-lt, number_lt, low_places}
 
@@ -67,12 +68,12 @@ place_gives low b x y c k px py pc =
     let hg = and_gives low g.0 p.1 c kg (later 1 s.0 g.0 p.1 gg.grows s_p) (later 1 s.0 g.0 c gg.grows s_c) in
     let kh = hg.grows.ready low kg in
     let ng = or_gives low h.0 g.1 h.1 kh (later 1 g.0 h.0 g.1 hg.grows gg.below) hg.below in
-    let goes_n : Goes {A = Bit × Bit} 1 h.0 (behind_h s.1 g.1 h.1) = Goes-map 1 h.0 (λ (q : Bit). (s.1, q)) (λ d. or_of d g.1 h.1) (Goes-gives 1 h.0 (λ d. or_of d g.1 h.1) _ ng) in
-    let goes_h : Goes {A = Bit × Bit} 2 g.0 (behind_g p.1 c s.1 g.1) = Goes-then 2 1 1 g.0 (λ d. and_of d p.1 c) (behind_h s.1 g.1) (omega arith) (Goes-gives 1 g.0 (λ d. and_of d p.1 c) _ hg) goes_n in
-    let goes_g : Goes {A = Bit × Bit} 3 s.0 (behind_s x y p.1 c s.1) = Goes-then 3 1 2 s.0 (λ d. and_of d x y) (behind_g p.1 c s.1) (omega arith) (Goes-gives 1 s.0 (λ d. and_of d x y) _ gg) goes_h in
-    let goes_s : Goes {A = Bit × Bit} 4 p.0 (behind_p x y c p.1) = Goes-then 4 1 3 p.0 (λ d. xor_of d p.1 c) (behind_s x y p.1 c) (omega arith) (Goes-gives 1 p.0 (λ d. xor_of d p.1 c) _ sg) goes_g in
+    let goes_n : Goes {A = Bit × Bit} 1 h.0 (behind_h s.1 g.1 h.1) = Goes-map 1 h.0 (λ (q : Bit). (s.1, q)) (λ d. or_of d g.1 h.1) (Goes-gives 1 h.0 (λ d. or_of d g.1 h.1) _ ng (or_extends h.0 g.1 h.1)) in
+    let goes_h : Goes {A = Bit × Bit} 2 g.0 (behind_g p.1 c s.1 g.1) = Goes-then 2 1 1 g.0 (λ d. and_of d p.1 c) (behind_h s.1 g.1) (omega arith) (Goes-gives 1 g.0 (λ d. and_of d p.1 c) _ hg (and_extends g.0 p.1 c)) goes_n in
+    let goes_g : Goes {A = Bit × Bit} 3 s.0 (behind_s x y p.1 c s.1) = Goes-then 3 1 2 s.0 (λ d. and_of d x y) (behind_g p.1 c s.1) (omega arith) (Goes-gives 1 s.0 (λ d. and_of d x y) _ gg (and_extends s.0 x y)) goes_h in
+    let goes_s : Goes {A = Bit × Bit} 4 p.0 (behind_p x y c p.1) = Goes-then 4 1 3 p.0 (λ d. xor_of d p.1 c) (behind_s x y p.1 c) (omega arith) (Goes-gives 1 p.0 (λ d. xor_of d p.1 c) _ sg (xor_extends p.0 p.1 c)) goes_g in
     record {
-      goes = Goes-then 5 1 4 b (λ d. xor_of d x y) (behind_p x y c) (omega arith) (Goes-gives 1 b (λ d. xor_of d x y) _ pg) goes_s;
+      goes = Goes-then 5 1 4 b (λ d. xor_of d x y) (behind_p x y c) (omega arith) (Goes-gives 1 b (λ d. xor_of d x y) _ pg (xor_extends b x y)) goes_s;
       sum = later 1 h.0 n.0 s.1 ng.grows (later 1 g.0 h.0 s.1 hg.grows (later 1 s.0 g.0 s.1 gg.grows sg.below));
       carry = ng.below;
       adds = λ m holds.
@@ -224,7 +225,7 @@ add_gives low b xs ys c wx wy k px py pc =
     (before_32 low b xs ys c c wx wy k px py pc pc m holds) in
     record {
       goes = Goes-then 161 (5 * length xs) 1 b (λ d. places_of d xs ys c c) behind_places (omega arith) pg.goes
-          (Goes-map 1 p.0 (total_of p.1) (λ d. xor_of d p.1.before p.1.carry) (Goes-gives 1 p.0 (λ d. xor_of d p.1.before p.1.carry) _ vg));
+          (Goes-map 1 p.0 (total_of p.1) (λ d. xor_of d p.1.before p.1.carry) (Goes-gives 1 p.0 (λ d. xor_of d p.1.before p.1.carry) _ vg (xor_extends p.0 p.1.before p.1.carry)));
       below = all_later 1 p.0 v.0 p.1.value vg.grows pg.value;
       carry = later 1 p.0 v.0 p.1.carry vg.grows pg.carry;
       overflow = vg.below;

@@ -18,13 +18,14 @@ use Rattle.bit_blast.specs.Circuits.{each_of, before_word}
 use Rattle.bit_blast.specs.Forming.{Bits, word}
 use Rattle.bit_blast.specs.Differences.{register_differences, flag_difference, differences}
 use Rattle.bit_blast.specs.Values.{number_of, values_at}
+use Rattle.bit_blast.proofs.Extends.{xor_extends}
 use Rattle.bit_blast.proofs.Steps.{Goes, Goes-none, Goes-gives, Goes-map, Goes-then, Goes-within}
 use Rattle.bit_blast.proofs.Numbers.{AllBelow-append}
 use Rattle.bit_blast.proofs.Formed.{AllWords, AllWords-more, AreOf, AreOf-more, register_value}
 
 -- ---- bits of which some is true
 
-any-append : (m : ℕ → Bool) (xs ys : List Bit) → any_value m (xs ++ ys) ≡ (any_value m xs || any_value m ys)
+pub any-append : (m : ℕ → Bool) (xs ys : List Bit) → any_value m (xs ++ ys) ≡ (any_value m xs || any_value m ys)
 any-append m [] ys = refl
 any-append m (x ∷ xs) ys = ap (λ v. bit_value m x || v) (any-append m xs ys) ∙ or_assoc (bit_value m x) (any_value m xs) (any_value m ys)
 
@@ -75,7 +76,7 @@ word_tells low b (x ∷ xs) (y ∷ ys) same k px py =
     let rg = word_tells low here.0 xs ys tail (hg.grows.ready low k) (all_later 1 b here.0 xs hg.grows px.1) (all_later 1 b here.0 ys hg.grows py.1) in
     record {
       goes = Goes-then (suc (length xs)) 1 (length xs) b (λ d. xor_of d x y) (λ r d. ((each_of Xor d xs ys).0, r ∷ (each_of Xor d xs ys).1)) (omega arith)
-          (Goes-gives 1 b (λ d. xor_of d x y) _ hg) (Goes-map (length xs) here.0 (λ l. here.1 ∷ l) (λ d. each_of Xor d xs ys) rg.goes);
+          (Goes-gives 1 b (λ d. xor_of d x y) _ hg (xor_extends b x y)) (Goes-map (length xs) here.0 (λ l. here.1 ∷ l) (λ d. each_of Xor d xs ys) rg.goes);
       below = (later (length xs) here.0 rest.0 here.1 rg.goes.grows hg.below, rg.below);
       value = λ m holds.
           ap (λ v. v || any_value m rest.1) (hg.value m (rg.goes.grows.kept m holds)) ∙ ap (λ v. differ (bit_value m x) (bit_value m y) || v) (rg.value m holds)
@@ -137,7 +138,7 @@ flag_tells low b found true x y k pf px py =
     let r = xor_of b x y in
     let g = xor_gives low b x y k px py in
     record {
-      goes = Goes-map 1 b (λ z. found ++ z ∷ []) (λ d. xor_of d x y) (Goes-gives 1 b (λ d. xor_of d x y) _ g);
+      goes = Goes-map 1 b (λ z. found ++ z ∷ []) (λ d. xor_of d x y) (Goes-gives 1 b (λ d. xor_of d x y) _ g (xor_extends b x y));
       below = AllBelow-append r.0.variables found (r.1 ∷ []) (all_later 1 b r.0 found g.grows pf) (g.below, tt);
       value = λ m holds. any-append m found (r.1 ∷ []) ∙ ap (λ v. any_value m found || v) (or_false (bit_value m r.1) ∙ g.value m holds);
     }

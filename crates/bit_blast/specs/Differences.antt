@@ -1,12 +1,17 @@
--- The formula of two sequences under a mask.
-use Rattle.std.specs.Prelude.{ℕ, zero, suc, ◌+◌, ◌*◌, Bool, true, false, List, [], ◌∷◌, ◌++◌, take, if◌then◌else◌}
+-- The formula of two sequences under a mask, and of two whose holes take a symbol's value.
+use Rattle.std.specs.Prelude.{ℕ, zero, suc, ◌+◌, ◌-◌, ◌*◌, Bool, true, false, List, [], ◌∷◌, ◌++◌, map, take, if◌then◌else◌}
 use Rattle.cnf_gates.specs.declared.bit.Bit.{Bit}
-use Rattle.cnf_gates.specs.declared.bit.Bit.TheVariants.{Signed}
+use Rattle.cnf_gates.specs.declared.bit.Bit.TheVariants.{Constant, Signed}
 use Rattle.cnf_gates.specs.Cnf.{Cnf}
 use Rattle.cnf_gates.specs.Gates.{Built, xor_of, or_clause_of, formula_of}
 use Rattle.thumb_instr.specs.declared.instr.Instr.{Instr}
 use Rattle.thumb_instr.specs.Items.{has, n_flag, z_flag, c_flag, v_flag}
 use Rattle.bit_blast.specs.declared.circuits.Connective.TheVariants.{Xor}
+use Rattle.bit_blast.specs.declared.slots.Slot.{Slot}
+use Rattle.bit_blast.specs.declared.slots.Slot.TheVariants.{Plain}
+use Rattle.bit_blast.specs.declared.slots.Symbol.{Symbol}
+use Rattle.bit_blast.specs.Slots.{slots}
+use Rattle.bit_blast.specs.Words.{bit_of, copies, filled, inverted}
 use Rattle.bit_blast.specs.Circuits.{each_of}
 use Rattle.bit_blast.specs.Forming.{Bits, formed_all}
 
@@ -67,16 +72,50 @@ differences b mask x y =
     let v = flag_difference c.0 (has mask v_flag) x.v y.v in
     (v.0, (((r.1 ++ n.1) ++ z.1) ++ c.1) ++ v.1)
 
--- both sides start from the same bits: the left one is formed first, then the right one, then what differs
-abbrev pub both_sides : List Instr → List Instr → ℕ → ℕ → Built × List Bit
-both_sides left right mask k =
-    let l = formed_all (start_built k) left (start_bits k) in
-    let r = formed_all l.0 right (start_bits k) in
+-- ---- the formula of two sides of slots
+
+-- both sides start from the same bits s, and w are those of the symbol's value: the left one is formed first, then the right one, then what differs
+abbrev pub sides_from : Built → Bits → List Bit → List Slot → List Slot → ℕ → Built × List Bit
+sides_from b s w left right mask =
+    let l = formed_all w b left s in
+    let r = formed_all w l.0 right s in
     differences r.0 mask l.1 r.1
 
 -- the clause that something differs comes last
-abbrev pub formula_built : List Instr → List Instr → ℕ → ℕ → Built
-formula_built left right mask k = let d = both_sides left right mask k in or_clause_of d.0 d.1
+abbrev pub formula_from : Built → Bits → List Bit → List Slot → List Slot → ℕ → Cnf
+formula_from b s w left right mask = let d = sides_from b s w left right mask in formula_of (or_clause_of d.0 d.1)
 
+-- of sides without holes
 abbrev pub sides_formula : List Instr → List Instr → ℕ → ℕ → Cnf
-sides_formula left right mask k = formula_of (formula_built left right mask k)
+sides_formula left right mask k = formula_from (start_built k) (start_bits k) (filled (Constant false)) (map Plain left) (map Plain right) mask
+
+-- ---- the formula of two sides with holes
+
+-- a word of n variables from v on, and False above them
+unfoldable pub low_inputs : ℕ → ℕ → List Bit
+low_inputs v n = variables_from v n ++ copies (32 - n) (Constant false)
+
+-- bits 0 to 7 of the symbol's value are the eight variables behind those of the start
+abbrev pub symbol_bits : ℕ → List Bit
+symbol_bits k = variables_from (32 * k + 4) 8
+
+abbrev pub symbol_built : ℕ → Built
+symbol_built k = record { variables = 32 * k + 12; clauses = []; gates = [] }
+
+-- the clauses that eight bits hold a number of `least` or more, from bit j - 1 down: where `least` has the bit, it is set, or one of the higher
+-- ones that `least` hasn't
+abbrev pub at_least_from : List Bit → ℕ → ℕ → List Bit → Built → Built
+at_least_from xs least zero higher b = b
+at_least_from xs least (suc j) higher b =
+    if has least j then at_least_from xs least j higher (or_clause_of b (bit_of xs j ∷ higher))
+    else at_least_from xs least j (higher ++ bit_of xs j ∷ []) b
+
+unfoldable pub at_least : List Bit → ℕ → Built → Built
+at_least xs least b = at_least_from xs least 8 [] b
+
+-- the value is the least one at least; and at most the greatest: the contrary bits hold at least what is left to 255
+abbrev pub range_built : ℕ → Symbol → Built
+range_built k s = at_least (inverted (symbol_bits k)) (255 - s.high) (at_least (symbol_bits k) s.low (symbol_built k))
+
+abbrev pub family_formula : List Instr → List Instr → Symbol → ℕ → ℕ → Cnf
+family_formula left right s mask k = formula_from (range_built k s) (start_bits k) (low_inputs (32 * k + 4) 8) (slots s.number left) (slots s.number right) mask

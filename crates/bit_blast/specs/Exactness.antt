@@ -7,7 +7,10 @@ use Rattle.thumb_model.specs.Effect.{after_all}
 use Rattle.window_exec.specs.Telling.{Tells}
 use Rattle.cnf_gates.specs.Cnf.{Cnf}
 use Rattle.cnf_gates.specs.Meaning.{all_true}
-use Rattle.bit_blast.specs.Values.{start_values}
+use Rattle.bit_blast.specs.declared.slots.Symbol.{Symbol}
+use Rattle.bit_blast.specs.Slots.{Byte, IsValue, instance}
+use Rattle.bit_blast.specs.Differences.{symbol_bits}
+use Rattle.bit_blast.specs.Values.{number_of, start_values}
 
 -- a mask's items are r0 to r3 and the flags
 abbrev pub IsMask : ℕ → Type 0
@@ -41,3 +44,25 @@ HasNoModel f = (m : ℕ → Bool) → all_true m f.clauses ≡ true → ⊥
 -- the last clause is empty
 abbrev pub EndsInEmpty : Cnf → Type 0
 EndsInEmpty f = (cs : List (List ℤ)) × (f.clauses ≡ cs ++ [] ∷ [])
+
+-- ---- of sides with holes
+
+-- the symbol's value
+abbrev pub value_at : (ℕ → Bool) → ℕ → ℕ
+value_at m k = number_of m (symbol_bits k)
+
+-- each model of a family's formula gives a value of the symbol and a state that tells the sides with that value apart
+abbrev pub FamilyModelsTell : Cnf → List Instr → List Instr → Symbol → ℕ → ℕ → Type 0
+FamilyModelsTell f left right s mask k =
+    (m : ℕ → Bool) → all_true m f.clauses ≡ true
+    → (x : Byte) × (x.number ≡ value_at m k) × IsValue s x × AreWords (start_values m k) × Tells (start_values m k) (instance s.number left x) (instance s.number right x) mask
+
+-- each value of the symbol and each state that tells the sides with that value apart are given by a model of the formula
+abbrev pub FamilyTellersAreModels : Cnf → List Instr → List Instr → Symbol → ℕ → ℕ → Type 0
+FamilyTellersAreModels f left right s mask k =
+    (x : Byte) → IsValue s x → (v : Values) → AreWords v → Tells v (instance s.number left x) (instance s.number right x) mask
+    → (m : ℕ → Bool) × (all_true m f.clauses ≡ true) × (x.number ≡ value_at m k) × SameOver k (start_values m k) v
+
+-- the sides are equal for each value of the symbol
+abbrev pub AreEqualForAll : List Instr → List Instr → Symbol → ℕ → Type 0
+AreEqualForAll left right s mask = (x : Byte) → IsValue s x → AreEqual (instance s.number left x) (instance s.number right x) mask

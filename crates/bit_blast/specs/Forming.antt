@@ -4,7 +4,6 @@ use Rattle.word_bits.specs.declared.Shift.{Shift}
 use Rattle.word_bits.specs.declared.Shift.TheVariants as shift
 use Rattle.thumb_instr.specs.declared.instr.Instr.{Instr}
 use Rattle.thumb_instr.specs.declared.instr.Instr.TheVariants as instr
-use Rattle.thumb_instr.specs.Parts.{parts_of}
 use Rattle.thumb_instr.specs.declared.operation.Sum.{Sum}
 use Rattle.thumb_instr.specs.declared.operation.Sum.TheVariants as sum
 use Rattle.thumb_instr.specs.declared.operation.Operation.{Operation}
@@ -17,6 +16,9 @@ use Rattle.cnf_gates.specs.declared.bit.Bit.TheVariants.{Constant}
 use Rattle.cnf_gates.specs.Gates.{Built}
 use Rattle.bit_blast.specs.declared.circuits.Connective.{Connective}
 use Rattle.bit_blast.specs.declared.circuits.Connective.TheVariants.{And, Or, Xor}
+use Rattle.bit_blast.specs.declared.slots.Slot.{Slot}
+use Rattle.bit_blast.specs.declared.slots.Slot.TheVariants.{Plain, Hole}
+use Rattle.bit_blast.specs.Slots.{slot_target}
 use Rattle.bit_blast.specs.Words.{bit_of, filled, constant, inverted, moved, moved_out, extended, turned}
 use Rattle.bit_blast.specs.Circuits.{each_of, none_of, add_of, product_from, shift_by, rotate_by}
 
@@ -113,10 +115,6 @@ number_shift kind b x n s = result_of b (moved kind n x) (moved_out kind n x) s.
 
 -- ---- by instruction
 
--- the register that an instruction of windows writes, or keeps: the first that its text names
-abbrev pub target_of : Instr → ℕ
-target_of i = (parts_of i).first
-
 abbrev pub outcome_of : Built → Instr → Bits → Built × Outcome
 outcome_of b (instr.Mov d m) s = (b, unflagged (word s.r m.number) s)
 outcome_of b (instr.Three o d n m) s = three_of o b (word s.r n.number) (word s.r m.number)
@@ -135,10 +133,16 @@ outcome_of b i s = (b, unflagged (word s.r 0) s)
 abbrev pub written : ℕ → Outcome → Bits → Bits
 written d o s = record { r = slice_set s.r d o.value; n = o.n; z = o.z; c = o.c; v = o.v }
 
--- the bits after an instruction, and after several
-abbrev pub formed : Built → Instr → Bits → Built × Bits
-formed b i s = let o = outcome_of b i s in (o.0, written (target_of i) o.1 s)
+-- ---- by slot, where w are the bits of the symbol's value
 
-abbrev pub formed_all : Built → List Instr → Bits → Built × Bits
-formed_all b [] s = (b, s)
-formed_all b (i ∷ is) s = let r = formed b i s in formed_all r.0 is r.1
+abbrev pub slot_outcome : List Bit → Built → Slot → Bits → Built × Outcome
+slot_outcome w b (Plain i) s = outcome_of b i s
+slot_outcome w b (Hole o d) s = byte_of o b (word s.r d.number) w s
+
+-- the bits after a slot, and after several
+abbrev pub formed : List Bit → Built → Slot → Bits → Built × Bits
+formed w b x s = let o = slot_outcome w b x s in (o.0, written (slot_target x) o.1 s)
+
+abbrev pub formed_all : List Bit → Built → List Slot → Bits → Built × Bits
+formed_all w b [] s = (b, s)
+formed_all w b (x ∷ xs) s = let r = formed w b x s in formed_all w r.0 xs r.1

@@ -1,4 +1,5 @@
 pub mod Words
+pub mod Slots
 pub mod Circuits
 pub mod Forming
 pub mod Differences

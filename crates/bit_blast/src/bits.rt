@@ -1,19 +1,20 @@
 //! The state of a window as gates see it: what an instruction is formed from, and what a whole sequence leaves.
-ghost use Rattle.std.specs.Prelude.{◌≡◌, ◌<◌, ◌+◌, IfOk, length, true};
+ghost use Rattle.std.specs.Prelude.{◌≡◌, ◌<◌, ◌≤◌, ◌+◌, IfOk, length, true};
 ghost use Rattle.thumb_instr.specs.Window.{is_in_window};
 ghost use Rattle.thumb_instr.specs.Renaming.{named, AreBelow};
-ghost use Rattle.thumb_model.specs.Sides.{AreOver};
-ghost use Rattle.bit_blast.specs.Forming.{Bits, word, outcome_of, written, formed, formed_all};
-ghost use Rattle.bit_blast.specs.Differences.{input_word, start_bits, start_built};
+ghost use Rattle.bit_blast.specs.Slots.{IsSlotOver, AreSlotsOver};
+ghost use Rattle.bit_blast.specs.Forming.{Bits, word, outcome_of, slot_outcome, written, formed, formed_all};
+ghost use Rattle.bit_blast.specs.Differences.{input_word, low_inputs, start_bits, start_built};
 ghost use Rattle.cnf_gates.specs.Gates.{nothing_built};
 
 use crate::circuits::{Total, add};
 use crate::forming::{Outcome, byte, number_shift, result, right, three, two, unflagged};
+use crate::slots::Slot;
 use crate::words::{Word, constant, copied, extended, turned};
 use cnf_gates::{Bit, Builder, GateError};
 use std::alloc::Global;
 use std::marker::Model;
-use thumb_instr::{Instr, Seq, parts};
+use thumb_instr::Instr;
 use word_bits::Shift;
 
 /// The registers and flags as bits.
@@ -34,15 +35,23 @@ impl Model for Bits {
     ghost view = { λ s. record { r = s.registers.items; n = s.n; z = s.z; c = s.c; v = s.v } };
 }
 
+/// A word of `n` inputs, and False above them.
+pub fn low_inputs(builder: &mut Builder, n: usize) -> Result<Word, GateError>
+    requires { n ≤ 32 }
+    ensures { IfOk result (λ w. (builder.new ≡ record builder.old { variables = builder.old.variables + n }) × (w ≡ low_inputs builder.old.variables n)) }
+{
+    let mut word = [Bit::Constant(false); 32];
+    for i in 0..n {
+        word[i] = builder.input()?;
+    }
+    Ok(word)
+}
+
 /// A word of inputs.
 fn input_bits(builder: &mut Builder) -> Result<Word, GateError>
     ensures { IfOk result (λ w. (builder.new ≡ record builder.old { variables = builder.old.variables + 32 }) × (w ≡ input_word builder.old.variables)) }
 {
-    let mut word = [Bit::Constant(false); 32];
-    for i in 0..32 {
-        word[i] = builder.input()?;
-    }
-    Ok(word)
+    low_inputs(builder, 32)
 }
 
 impl Bits {
@@ -201,26 +210,52 @@ impl Bits {
         self.v = v;
     }
 
-    /// The registers and flags after an instruction.
-    fn form(&mut self, builder: &mut Builder, instr: &Instr) -> Result<(), GateError>
-        requires window { is_in_window instr.now ≡ true }
-        requires registers { AreBelow (length self.old.r) (named instr.now) }
-        ensures count { IfOk result (λ _. length self.new.r ≡ length self.old.r) }
-        ensures exact { IfOk result (λ _. (builder.new, self.new) ≡ formed builder.old instr.now self.old) }
+    /// What a slot leaves, where the symbol's value has these bits.
+    fn slot_outcome(
+        &self,
+        builder: &mut Builder,
+        slot: &Slot,
+        symbol: &Word,
+    ) -> Result<Outcome, GateError>
+        requires { IsSlotOver (length self.now.r) slot.now }
+        ensures { IfOk result (λ o. (builder.new, o) ≡ slot_outcome symbol.now builder.old slot.now self.now) }
     {
-        let outcome = self.outcome(builder, instr)?;
-        self.write(parts(instr).first, outcome);
+        match slot {
+            Slot::Plain(instr) => self.outcome(builder, instr),
+            Slot::Hole { operation, target } => byte(
+                builder,
+                *operation,
+                self.word(target.number),
+                symbol,
+                self,
+            ),
+        }
+    }
+
+    /// The registers and flags after a slot.
+    fn form(&mut self, builder: &mut Builder, slot: &Slot, symbol: &Word) -> Result<(), GateError>
+        requires { IsSlotOver (length self.old.r) slot.now }
+        ensures count { IfOk result (λ _. length self.new.r ≡ length self.old.r) }
+        ensures exact { IfOk result (λ _. (builder.new, self.new) ≡ formed symbol.now builder.old slot.now self.old) }
+    {
+        let outcome = self.slot_outcome(builder, slot, symbol)?;
+        self.write(slot.target(), outcome);
         Ok(())
     }
 
-    /// The registers and flags after a sequence.
-    pub fn form_all(&mut self, builder: &mut Builder, seq: &Seq) -> Result<(), GateError>
-        requires { AreOver (length self.old.r) seq.now }
+    /// The registers and flags after a side.
+    pub fn form_all(
+        &mut self,
+        builder: &mut Builder,
+        side: &[Slot],
+        symbol: &Word,
+    ) -> Result<(), GateError>
+        requires { AreSlotsOver (length self.old.r) side.now }
         ensures count { IfOk result (λ _. length self.new.r ≡ length self.old.r) }
-        ensures exact { IfOk result (λ _. (builder.new, self.new) ≡ formed_all builder.old seq.now self.old) }
+        ensures exact { IfOk result (λ _. (builder.new, self.new) ≡ formed_all symbol.now builder.old side.now self.old) }
     {
-        for instr in seq.as_slice() {
-            self.form(builder, instr)?;
+        for slot in side {
+            self.form(builder, slot, symbol)?;
         }
         Ok(())
     }

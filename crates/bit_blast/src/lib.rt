@@ -8,8 +8,10 @@ mod forming;
 pub mod laws;
 mod shifts;
 mod sides;
+mod slots;
 mod state;
 mod words;
 
-pub use sides::formula;
-pub use state::state_of;
+pub use sides::{family_formula, formula};
+pub use slots::Symbol;
+pub use state::{state_of, value_of};

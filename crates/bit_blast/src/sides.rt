@@ -1,15 +1,17 @@
-//! The formula of a pair of sides: both formed from the same inputs, and one clause that some item of the mask differs.
-ghost use Rattle.std.specs.Prelude.{◌≡◌, ◌↔◌, IfOk, length, take};
-ghost use Rattle.cnf_gates.specs.Gates.{nothing_built};
+//! The formula of a pair of sides: both formed from the same inputs, and one clause that some item of the mask differs. Sides with holes have the bits of
+//! a symbol's value among the inputs, and clauses that it lies in its range.
+ghost use Rattle.std.specs.Prelude.{◌≡◌, ◌↔◌, ◌+◌, ◌*◌, IfOk, OnOk, length, take};
 ghost use Rattle.thumb_model.specs.Sides.{AreOver};
 ghost use Rattle.bit_blast.specs.declared.circuits.Connective.TheVariants.{Xor};
 ghost use Rattle.bit_blast.specs.Circuits.{each_of, before_word};
-ghost use Rattle.bit_blast.specs.Differences.{flag_difference, register_differences, differences, both_sides, sides_formula};
-ghost use Rattle.bit_blast.specs.Exactness.{IsMaskOver, ModelsTell, TellersAreModels, HasNoModel, AreEqual};
+ghost use Rattle.bit_blast.specs.Slots.{AreSlotsOver};
+ghost use Rattle.bit_blast.specs.Differences.{start_built, flag_difference, register_differences, differences, sides_from, formula_from, sides_formula, low_inputs, at_least, range_built, family_formula};
+ghost use Rattle.bit_blast.specs.Exactness.{IsMaskOver, ModelsTell, TellersAreModels, HasNoModel, AreEqual, FamilyModelsTell, FamilyTellersAreModels, AreEqualForAll};
 
-use crate::bits::Bits;
+use crate::bits::{Bits, low_inputs};
 use crate::circuits::{Connective, each};
-use crate::words::Word;
+use crate::slots::{Slot, Symbol, plain, slots};
+use crate::words::{Word, filled, inverted};
 use cnf_gates::{Bit, Builder, Formula, GateError, Memory};
 use std::alloc::Global;
 use thumb_instr::items::{C, N, V, Z};
@@ -90,24 +92,81 @@ fn differences(
 }
 
 /// Both sides formed from the same bits, and what tells them.
-fn both_sides(
+fn sides_from(
     alloc: Global,
     builder: &mut Builder,
-    left: &Seq,
-    right: &Seq,
+    start: Bits,
+    symbol: &Word,
+    left: &[Slot],
+    right: &[Slot],
     mask: Mask,
-    k: u8,
 ) -> Result<Vec<Bit>, GateError>
-    requires start { builder.old ≡ nothing_built }
-    requires left { AreOver k left.now }
-    requires right { AreOver k right.now }
-    ensures { IfOk result (λ f. (builder.new, f.items) ≡ both_sides left.now right.now mask.items.bits k) }
+    requires left { AreSlotsOver (length start.r) left.now }
+    requires right { AreSlotsOver (length start.r) right.now }
+    ensures { IfOk result (λ f. (builder.new, f.items) ≡ sides_from builder.old start symbol.now left.now right.now mask.items.bits) }
 {
-    let mut r = Bits::inputs(alloc, builder, k)?;
+    let mut r = start;
     let mut l = r.copied(alloc)?;
-    l.form_all(builder, left)?;
-    r.form_all(builder, right)?;
+    l.form_all(builder, left, symbol)?;
+    r.form_all(builder, right, symbol)?;
     differences(alloc, builder, mask, &l, &r)
+}
+
+/// The formula of two sides of slots, from what was built on.
+fn formula_from(
+    alloc: Global,
+    builder: Builder,
+    start: Bits,
+    symbol: &Word,
+    left: &[Slot],
+    right: &[Slot],
+    mask: Mask,
+) -> Result<Formula, Memory>
+    requires left { AreSlotsOver (length start.r) left.now }
+    requires right { AreSlotsOver (length start.r) right.now }
+    ensures { IfOk result (λ f. f ≡ formula_from builder start symbol.now left.now right.now mask.items.bits) }
+{
+    let mut builder = builder;
+    let found = sides_from(alloc, &mut builder, start, symbol, left, right, mask).map_err(
+        |_| Memory,
+    )?;
+    builder.or_clause(&found)?;
+    Ok(builder.finish())
+}
+
+/// The clauses that eight bits hold a number of `least` or more.
+fn at_least(alloc: Global, builder: &mut Builder, bits: &[Bit], least: u8) -> Result<(), Memory>
+    requires { length bits.now ≡ 8 }
+    ensures { OnOk result (builder.new ≡ at_least bits.now least builder.old) }
+{
+    let mut higher = Vec::new(alloc);
+    for i in 0..8 {
+        let j = 7 - i;
+        if least >> j & 1 == 1 {
+            let mut clause = Vec::from_slice(alloc, &[bits[j]])?;
+            clause.extend_from_slice(&higher)?;
+            builder.or_clause(&clause)?;
+        } else {
+            higher.push(bits[j])?;
+        }
+    }
+    Ok(())
+}
+
+/// The symbol's bits, and the clauses that its value lies in the range.
+fn symbol_inputs(
+    alloc: Global,
+    builder: &mut Builder,
+    symbol: Symbol,
+    k: u8,
+) -> Result<Word, Memory>
+    requires { builder.old ≡ start_built k }
+    ensures { IfOk result (λ w. (builder.new ≡ range_built k symbol) × (w ≡ low_inputs (32 * k + 4) 8)) }
+{
+    let word = low_inputs(builder, 8).map_err(|_| Memory)?;
+    at_least(alloc, builder, &word[..8], symbol.low)?;
+    at_least(alloc, builder, &inverted(&word)[..8], 255 - symbol.high)?;
+    Ok(word)
 }
 
 /// The formula that two sequences differ in some item of the mask: both are of instructions that may stand in a window and name r0 to
@@ -127,7 +186,40 @@ pub fn formula(alloc: Global, left: &Seq, right: &Seq, mask: Mask, k: u8) -> Res
     ensures none_where_equal { IfOk result (λ f. HasNoModel f ↔ AreEqual left.now right.now mask.items.bits) }
 {
     let mut builder = Builder::new(alloc);
-    let found = both_sides(alloc, &mut builder, left, right, mask, k).map_err(|_| Memory)?;
-    builder.or_clause(&found)?;
-    Ok(builder.finish())
+    let start = Bits::inputs(alloc, &mut builder, k).map_err(|_| Memory)?;
+    let left = plain(alloc, left)?;
+    let right = plain(alloc, right)?;
+    let symbol = filled(&Bit::Constant(false));
+    formula_from(alloc, builder, start, &symbol, &left, &right, mask)
+}
+
+/// The formula that two sequences differ in some item of the mask for some value of a symbol, under the conditions of `formula`: in the
+/// sequences each 8-bit number of `movs`, `cmp`, `adds` and `subs` that is the symbol's number is a hole, which takes the symbol's value.
+///
+/// Variables 32 k + 5 to 32 k + 12 are the bits of the value, bit 0 first, behind those that `formula` has for the state. The first clauses say
+/// that the value lies in the symbol's range, and all else is as in `formula`. The models are exactly the pairs of a value (`value_of`) and a
+/// state (`state_of`) that tells the two sequences with that value apart, so there is none exactly where the two are equal under the mask for
+/// each value. The one error is want of memory.
+pub fn family_formula(
+    alloc: Global,
+    left: &Seq,
+    right: &Seq,
+    symbol: Symbol,
+    mask: Mask,
+    k: u8,
+) -> Result<Formula, Memory>
+    requires left { AreOver k left.now }
+    requires right { AreOver k right.now }
+    requires mask { IsMaskOver k mask.items.bits }
+    ensures stated { IfOk result (λ f. f ≡ family_formula left.now right.now symbol mask.items.bits k) }
+    ensures models_tell { IfOk result (λ f. FamilyModelsTell f left.now right.now symbol mask.items.bits k) }
+    ensures tellers_are_models { IfOk result (λ f. FamilyTellersAreModels f left.now right.now symbol mask.items.bits k) }
+    ensures none_where_equal { IfOk result (λ f. HasNoModel f ↔ AreEqualForAll left.now right.now symbol mask.items.bits) }
+{
+    let mut builder = Builder::new(alloc);
+    let start = Bits::inputs(alloc, &mut builder, k).map_err(|_| Memory)?;
+    let word = symbol_inputs(alloc, &mut builder, symbol, k)?;
+    let left = slots(alloc, left, symbol.number)?;
+    let right = slots(alloc, right, symbol.number)?;
+    formula_from(alloc, builder, start, &word, &left, &right, mask)
 }

@@ -1,22 +1,24 @@
-//! Back from a model of the formula to the state that it stands for, so that the learner can list the state that told two sequences apart.
+//! Back from a model of the formula to the state that it stands for, so that the learner can list the state that told two sequences apart, and to the value
+//! of a symbol.
 ghost use Rattle.std.specs.Prelude.{◌≡◌, ◌<◌, ◌≤◌, ◌+◌};
 ghost use Rattle.std.specs.Int.{bit_at, from_bool};
 ghost use Rattle.cnf_gates.specs.Meaning.{assigned};
 ghost use Rattle.window_exec.specs.State.{values_of};
-ghost use Rattle.bit_blast.specs.Differences.{input_word};
+ghost use Rattle.bit_blast.specs.Differences.{variables_from};
 ghost use Rattle.bit_blast.specs.Values.{number_of, start_values};
-ghost use Rattle.bit_blast.specs.Exactness.{SameOver};
+ghost use Rattle.bit_blast.specs.Exactness.{SameOver, value_at};
 
 use cnf_gates::Model;
 use window_exec::WState;
 
-/// The number of the 32 variables from a place on, the lowest bit first.
-fn number(model: &Model, first: u32) -> u32
-    requires { first ≤ 10000 }
-    ensures { result ≡ number_of (assigned model.now) (input_word first) }
+/// The number of the `n` variables from a place on, the lowest bit first.
+fn number(model: &Model, first: u32, n: u32) -> u32
+    requires first { first ≤ 10000 }
+    requires n { n ≤ 32 }
+    ensures { result ≡ number_of (assigned model.now) (variables_from first n) }
 {
     let mut number = 0;
-    for i in 0..32 {
+    for i in 0..n {
         number += u32::from(model.value(first + i)) << i;
     }
     number
@@ -44,7 +46,7 @@ fn register(model: &Model, k: u8, register: u8) -> u32
     ensures { result ≡ start_values (assigned model.now) k register }
 {
     if register < k {
-        number(model, 32 * u32::from(register))
+        number(model, 32 * u32::from(register), 32)
     } else {
         0
     }
@@ -64,4 +66,11 @@ pub fn state_of(model: &Model, k: u8) -> WState
         ],
         nzcv: flags(model, 32 * u32::from(k)),
     }
+}
+
+/// The value that a model of a family's formula over `k` registers gives the symbol.
+pub fn value_of(model: &Model, k: u8) -> u8
+    ensures { result ≡ value_at (assigned model.now) k }
+{
+    number(model, 32 * u32::from(k) + 4, 8) as u8
 }

@@ -3,7 +3,7 @@ use Rattle.std.specs.Int.{from_bool}
 use Rattle.cnf_gates.specs.Meaning.{assigned}
 use Rattle.bit_blast.specs.Differences.{variables_from}
 use Rattle.bit_blast.specs.Values.{number_of}
-use Rattle.bit_blast.proofs.Read.{one_bit, number_fits, whole_word}
+use Rattle.bit_blast.proofs.Read.{one_bit, number_fits}
 use Rattle.bit_blast.proofs.state.number.Goals as goal
 
 pub overflow_add-number : goal.overflow_add-number
@@ -24,4 +24,4 @@ loop-i-preserved c =
     ap (λ x. c.loop-i.number + x * 2 ^ i % 2 ^ 32) bit ∙ one_bit m c.args.first i c.loop-i.number (omega arith) c.loop-i.invariant
 
 pub returns : goal.returns
-returns c = whole_word (assigned c.args.model.now) c.args.first c.loop-i.i c.loop-i.number (omega arith) c.loop-i.invariant
+returns c = c.loop-i.invariant ∙ ap (λ (i : ℕ). number_of (assigned c.args.model.now) (variables_from c.args.first i)) (let e : c.loop-i.i ≡ c.args.n = omega arith in e)
