@@ -15,12 +15,12 @@ use Rattle.padded_code.proofs.Padded.{code_alike, label_in}
 
 -- ---- one element of a list ----
 
-get_set : {A : Type 0} (xs : List A) (p : ℕ) (y : A) → p < length xs → slice_get (set xs p y) p ≡ Some y
+pub get_set : {A : Type 0} (xs : List A) (p : ℕ) (y : A) → p < length xs → slice_get (set xs p y) p ≡ Some y
 get_set [] p y h = absurd (omega arith)
 get_set (x ∷ xs) zero y h = refl
 get_set (x ∷ xs) (suc p) y h = get_set xs p y (omega arith)
 
-get_other : {A : Type 0} (xs : List A) (p q : ℕ) (y : A) → q ≢ p → slice_get (set xs p y) q ≡ slice_get xs q
+pub get_other : {A : Type 0} (xs : List A) (p q : ℕ) (y : A) → q ≢ p → slice_get (set xs p y) q ≡ slice_get xs q
 get_other [] p q y h = refl
 get_other (x ∷ xs) zero zero y h = absurd (h refl)
 get_other (x ∷ xs) zero (suc q) y h = refl

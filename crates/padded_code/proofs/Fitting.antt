@@ -7,8 +7,9 @@ use Rattle.thumb_model.specs.Listing.{Place, Label, Code}
 use Rattle.thumb_model.specs.Flow.{Reads, LiveAfter}
 use Rattle.rule_model.specs.Rules.{Rule, Applies}
 use Rattle.kept_places.specs.Marks.{rank}
+use Rattle.rule_model.specs.Rewriting.{IsLeastScratch}
 use Rattle.padded_code.specs.Padding.{ranked, IsPadded}
-use Rattle.padded_code.specs.Fitting.{FitsAt, IsWindow}
+use Rattle.padded_code.specs.Fitting.{FitsAt, IsWindow, IsLeastScratchAt}
 use Rattle.padded_code.proofs.Padded.{label_in}
 use Rattle.kept_places.proofs.Ranks.{outside_by_rank}
 use Rattle.padded_code.proofs.Windows.{windows_stand, live_behind}
@@ -73,4 +74,10 @@ module _ (gone : List Bool) (padded code : Code) (s : IsPadded gone padded code)
       live = λ x h. f.live x ((alive x).0 h);
       labels_stay = f.labels_stay;
     },
+  )
+
+  pub least_by_places : IsLeastScratch rule registers code r ↔ IsLeastScratchAt rule registers padded q
+  least_by_places = (
+    λ l scratch e x h. elim (l scratch e x h) [ inl a ↦ inl a | inr a ↦ inr ((alive x).0 a) ],
+    λ l scratch e x h. elim (l scratch e x h) [ inl a ↦ inl a | inr a ↦ inr ((alive x).1 a) ],
   )

@@ -4,3 +4,4 @@ pub mod Exchanged
 pub mod Windows
 pub mod Fitting
 pub mod Lines
+pub mod Spread

@@ -1,5 +1,5 @@
 -- Where a rule applies, by places that stay.
-use Rattle.std.specs.Prelude.{◌≡◌, ◌↔◌, ℕ, suc, ◌+◌, ◌-◌, ◌<◌, ◌≤◌, Bool, true, false, List, length, map, Some, slice_get, ◌⊎◌}
+use Rattle.std.specs.Prelude.{◌≡◌, ◌↔◌, ℕ, suc, ◌+◌, ◌-◌, ◌<◌, ◌≤◌, Bool, true, false, List, length, map, take, Some, slice_get, ◌⊎◌}
 use Rattle.kept_places.specs.Marks.{is_gone, rank}
 use Rattle.thumb_instr.specs.declared.instr.Instr.{Instr}
 use Rattle.thumb_instr.specs.Renaming.{Low, renamed, item_under}
@@ -7,9 +7,10 @@ use Rattle.thumb_instr.specs.Window.{is_in_window}
 use Rattle.thumb_model.specs.Items.{one_of}
 use Rattle.thumb_model.specs.Listing.{plain, Label, Code, is_code}
 use Rattle.thumb_model.specs.Flow.{Reads}
-use Rattle.thumb_model.specs.Sides.{IsOneToOne, normalised}
+use Rattle.thumb_model.specs.Sides.{IsOneToOne, register_count, normalised}
 use Rattle.thumb_model.specs.Replaced.{move_label, replaced}
 use Rattle.rule_model.specs.Rules.{Rule, rule_registers, Applies}
+use Rattle.rule_model.specs.Rewriting.{IsLeastScratch}
 use Rattle.padded_code.specs.Padding.{IsPadded}
 use Rattle.padded_code.specs.Windows.{AreRanked}
 
@@ -41,3 +42,14 @@ abbrev pub AppliesByPlaces : Type 0
 AppliesByPlaces =
     (gone : List Bool) (padded code : Code) → IsPadded gone padded code → length gone ≡ length padded.places → (rule : Rule) (registers : List Low) (r p q : ℕ) (ps : List ℕ) →
     IsWindow gone padded r (length rule.left) p q ps → Applies rule registers code r ↔ FitsAt rule registers padded code r p q ps
+
+-- the scratch register of a rule that fits at places the last of which is q, where the map has one, is the least that is free
+abbrev pub IsLeastScratchAt : Rule → List Low → Code → ℕ → Type 0
+IsLeastScratchAt rule registers padded q = (scratch : Low) → slice_get registers (register_count rule.left) ≡ Some scratch → (x : ℕ) → x < scratch.number →
+    (one_of x (map (λ r. r.number) (take (register_count rule.left) registers)) ≡ true) ⊎ Reads padded x (suc q)
+
+-- it is the least in the code where it is in the padded one
+abbrev pub LeastByPlaces : Type 0
+LeastByPlaces =
+    (gone : List Bool) (padded code : Code) → IsPadded gone padded code → length gone ≡ length padded.places → (rule : Rule) (registers : List Low) (r p q : ℕ) (ps : List ℕ) →
+    IsWindow gone padded r (length rule.left) p q ps → IsLeastScratch rule registers code r ↔ IsLeastScratchAt rule registers padded q

@@ -3,3 +3,4 @@ pub mod Exchange
 pub mod Windows
 pub mod Fitting
 pub mod Lines
+pub mod Spread

@@ -1,9 +1,10 @@
 //! The laws of padded codes. Each is the contract of a function that does nothing.
 
 ghost use Rattle.padded_code.specs.Exchange.{ExchangeStaysPadded, PutStaysPadded, WholeIsPadded};
-ghost use Rattle.padded_code.specs.Fitting.{AppliesByPlaces};
+ghost use Rattle.padded_code.specs.Fitting.{AppliesByPlaces, LeastByPlaces};
 ghost use Rattle.padded_code.specs.Lines.{LinesStayPadded};
 ghost use Rattle.padded_code.specs.Padding.{PaddingKeepsLive, PaddingKeepsNames, PaddingKeepsPoints, PaddingKeepsReads};
+ghost use Rattle.padded_code.specs.Spread.{ExchangeIsStraight, SpreadsEnd, SpreadsReadAlike};
 ghost use Rattle.padded_code.specs.Windows.{LiveIsReadBehind, NodesReadAlike, NopsReadOn, RanksAreTaken, WindowsAreKept, WindowsStandAlike};
 
 /// What is read from a place of a padded code is what is read from its rank in the code that is left.
@@ -76,7 +77,27 @@ pub fn applies_by_places()
     ensures { AppliesByPlaces }
 {}
 
+/// A scratch register is the least that is free in the code where it is in the padded one.
+pub fn least_by_places()
+    ensures { LeastByPlaces }
+{}
+
 /// Lines in which a rule's window gives way are padded by the code in which its kept places do.
 pub fn lines_stay_padded()
     ensures { LinesStayPadded }
+{}
+
+/// A window of kept places that gives way is an exchange of straight code, with the nops between them.
+pub fn exchange_is_straight()
+    ensures { ExchangeIsStraight }
+{}
+
+/// A window of kept places, as straight code, ends behind its last place.
+pub fn spreads_end()
+    ensures { SpreadsEnd }
+{}
+
+/// A window of kept places, as straight code, reads and writes what its instructions do.
+pub fn spreads_read_alike()
+    ensures { SpreadsReadAlike }
 {}
