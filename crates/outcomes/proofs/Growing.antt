@@ -1,5 +1,5 @@
 -- Tables of outcomes that grow, and what agrees in them.
-use Rattle.std.proofs.Common.{◌≡◌, ℕ, zero, suc, ◌+◌, ◌-◌, ◌*◌, ◌<◌, ◌≤◌, inl, inr, Bool, true, false, List, [], ◌∷◌, ◌++◌, Some, cond, length, min, slice_get, refl, sym, ◌∙◌, ap, subst, arith, add-one, append-nil, length-append, nat_lt}
+use Rattle.std.proofs.Common.{◌≡◌, ℕ, zero, suc, ◌+◌, ◌-◌, ◌*◌, ◌^◌, ◌<◌, ◌≤◌, inl, inr, Bool, true, false, List, [], ◌∷◌, ◌++◌, Some, None, Option, IsSome, IfSome, ◌↔◌, cond, length, min, slice_get, refl, sym, ◌∙◌, ap, subst, arith, add-one, append-nil, length-append, nat_lt}
 use Rattle.std.specs.List.{flat_map}
 use Rattle.std.proofs.lemmas.List.Concat.{flat_map-append}
 use Rattle.std.proofs.lemmas.List.{length-map}
@@ -10,6 +10,9 @@ use Rattle.window_exec.specs.declared.state.WState.{WState}
 use Rattle.window_exec.specs.State.{values_of}
 use Rattle.window_exec.specs.Telling.{Differ}
 use Rattle.seq_enum.specs.Lists.{numbers_from}
+use Rattle.seq_enum.specs.Places.{sum_below}
+use Rattle.seq_enum.proofs.Numbered.{get_front}
+use Rattle.seq_enum.proofs.Words.{length-words}
 use Rattle.seq_enum.specs.Alphabet.{alphabet, words}
 use Rattle.fingerprints.proofs.Letters.{letter}
 use Rattle.fingerprints.proofs.Candidates.{numbers_split}
@@ -41,6 +44,23 @@ words_none letters = refl
 
 below_one : (letters : List Instr) → sequences_below letters 1 ≡ [] ∷ []
 below_one letters = below_more letters 0 ∙ ap (λ ws. ws ++ words letters 0) (below_none letters) ∙ words_none letters
+
+-- the shorter ones come first
+below_front : (letters : List Instr) (m d q : ℕ) (seq : List Instr) → slice_get (sequences_below letters m) q ≡ Some seq → slice_get (sequences_below letters (m + d)) q ≡ Some seq
+below_front letters m zero q seq at = let e : m + 0 ≡ m = omega arith in rw e at
+below_front letters m (suc d) q seq at =
+    let e : m + suc d ≡ m + d + 1 = omega arith in
+    let before = below_front letters m d q seq at in
+    let low = slice_get_within (sequences_below letters (m + d)) q seq before in
+    rw e (ap (λ ws. slice_get ws q) (below_more letters (m + d)) ∙ get_front (sequences_below letters (m + d)) (words letters (m + d)) q low ∙ before)
+
+pub below_longest : (letters : List Instr) (m n q : ℕ) (seq : List Instr) → m ≤ n → slice_get (sequences_below letters m) q ≡ Some seq → slice_get (sequences_below letters n) q ≡ Some seq
+below_longest letters m n q seq h at = let e : m + (n - m) ≡ n = omega arith in subst (λ j. slice_get (sequences_below letters j) q ≡ Some seq) e (below_front letters m (n - m) q seq at)
+
+-- a sequence as a value of its own
+pub some_short : (o : Option (List Instr)) (xs : List Instr) → IsSome o ↔ (length xs ≤ 5) → IfSome o (λ s. s ≡ xs) → length xs ≤ 5 → o ≡ Some xs
+some_short None xs valid value short = absurd (let h = valid.1 short in cc)
+some_short (Some s) xs valid value short = ap (λ z. Some z) value
 
 -- ---- the letters ----
 
@@ -128,6 +148,16 @@ below_grows letters m (suc d) =
 
 pub below_longer : (letters : List Instr) (m n : ℕ) → m ≤ n → length (sequences_below letters m) ≤ length (sequences_below letters n)
 below_longer letters m n h = let e : m + (n - m) ≡ n = omega arith in subst (λ j. length (sequences_below letters m) ≤ length (sequences_below letters j)) e (below_grows letters m (n - m))
+
+length-below : (letters : List Instr) (n : ℕ) → length (sequences_below letters n) ≡ sum_below (λ m. length letters ^ m) n
+unfolding sum_below
+length-below letters zero = ap length (below_none letters)
+length-below letters (suc n) =
+    let one = ap length (below_more letters n) ∙ length-append (sequences_below letters n) (words letters n) in
+    ap (λ m. length (sequences_below letters m)) (sym (add-one n)) ∙ one ∙ omega (arith, length-below letters n, length-words letters n)
+
+pub count_is : (letters : List Instr) (n m size count : ℕ) → size ≡ length letters → m ≡ n → count ≡ sum_below (λ i. size ^ i) m → count ≡ length (sequences_below letters n)
+count_is letters n m size count e f h = h ∙ ap (λ s. sum_below (λ i. s ^ i) m) e ∙ ap (λ j. sum_below (λ i. length letters ^ i) j) f ∙ sym (length-below letters n)
 
 -- ---- what agrees ----
 

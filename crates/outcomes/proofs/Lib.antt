@@ -3,3 +3,4 @@ pub mod Kept
 pub mod Holding
 pub mod Looking
 pub mod Growing
+pub mod Choosing

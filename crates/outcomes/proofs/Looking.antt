@@ -21,6 +21,10 @@ pub numbers_none : numbers_from 0 0 ≡ []
 unfolding numbers_from
 numbers_none = refl
 
+pub numbers_push : (n : ℕ) → numbers_from 0 (n + 1) ≡ numbers_from 0 n ++ n ∷ []
+unfolding numbers_from
+numbers_push n = let none : 0 + n ≡ n = omega arith in numbers_split 0 n 1 ∙ ap (λ m. numbers_from 0 n ++ m ∷ []) none
+
 -- one number more
 pub numbers_more : (p : ℕ → Bool) (n : ℕ) → filter p (numbers_from 0 (n + 1)) ≡ filter p (numbers_from 0 n) ++ cond (p n) (n ∷ []) []
 unfolding numbers_from
@@ -95,12 +99,12 @@ filter_does p xs q c = subst (λ x. p x ≡ true) c.2 (filter_passes p xs c.0 q 
 
 -- ---- numbers below a limit ----
 
-numbers_ascend : (n count : ℕ) → ascends_from n (numbers_from n count) ≡ true
+pub numbers_ascend : (n count : ℕ) → ascends_from n (numbers_from n count) ≡ true
 unfolding ascends_from numbers_from
 numbers_ascend n zero = refl
 numbers_ascend n (suc count) = rw (le-leb n n (omega arith)) (numbers_ascend (suc n) count)
 
-number_here : (limit k q : ℕ) → k < limit → get_or (numbers_from 0 limit) k q ≡ k
+pub number_here : (limit k q : ℕ) → k < limit → get_or (numbers_from 0 limit) k q ≡ k
 number_here limit k q low = let none : 0 + k ≡ k = omega arith in get_or_from_slice_get (numbers_from 0 limit) k k q (numbers_at 0 limit k low ∙ ap (λ z. Some z) none)
 
 pub filtered_among : (P : ℕ → Type 0) (p : ℕ → Bool) (limit : ℕ) → ((q : ℕ) → q < limit → P q → p q ≡ true) → AreAmong P limit (filter p (numbers_from 0 limit))

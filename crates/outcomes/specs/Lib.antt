@@ -3,3 +3,4 @@ pub mod Looks
 pub mod Outcomes
 pub mod Tables
 pub mod Trials
+pub mod Candidates

@@ -5,11 +5,14 @@
 mod columns;
 mod looks;
 mod outcomes;
+mod sequences;
+mod short_list;
 mod tables;
 mod trials;
 mod widths;
 
 pub use outcomes::Outcomes;
+pub use short_list::candidates;
 pub use tables::Tables;
 pub use trials::{Trial, differ, is_told, run, trials_of};
 pub use widths::count_below;

@@ -1,19 +1,20 @@
 //! The outcomes of all sequences of an alphabet from one state, by number. The sequences of one letter more are, for each of the longest
 //! ones in order, each letter behind it, so that a table grows by one step a sequence.
-ghost use Rattle.std.specs.Prelude.{◌≡◌, ◌<◌, ◌≤◌, ◌+◌, IfOk, IfErr, OnOk};
+ghost use Rattle.std.specs.Prelude.{◌≡◌, ◌<◌, ◌≤◌, ◌+◌, IfOk, IfErr, OnOk, length, slice_get};
 ghost use Rattle.window_exec.specs.State.{values_of};
-ghost use Rattle.seq_enum.specs.Alphabet.{alphabet};
+ghost use Rattle.seq_enum.specs.Alphabet.{alphabet, sequences_of};
 ghost use Rattle.step_ledger.specs.Counts.{RisesBy};
-ghost use Rattle.outcomes.specs.Outcomes.{Extent, AreAgreeing, added, grown_to};
+ghost use Rattle.outcomes.specs.Outcomes.{AreAgreeing, added, grown_to, sequences_below};
 
 use crate::columns::Columns;
 use crate::looks::alike;
+use crate::sequences::sequence_of;
 use crate::widths::count_below;
 use seq_enum::{Pool, letters};
 use std::alloc::{AllocError, Global};
 use std::marker::Model;
 use step_ledger::{Ledger, Steps};
-use thumb_instr::{Instr, Mask};
+use thumb_instr::{Instr, Mask, Seq};
 use window_exec::WState;
 
 /// What each sequence of at most so many instructions, over the first registers and a pool, leaves of one state: a column of words for each of
@@ -96,6 +97,21 @@ impl Outcomes {
         self.columns = columns;
         self.longest = longest;
         Ok(())
+    }
+
+    /// How many sequences have at most so many instructions.
+    pub fn count(&self, longest: u8) -> u64
+        requires { longest ≤ 4 }
+        ensures { result ≡ length (sequences_below self.now.letters (longest + 1)) }
+    {
+        count_below(self.letters.len() as u64, u32::from(longest) + 1)
+    }
+
+    /// The sequence of a number: None exactly where the number is of a sequence longer than five instructions. A table needs no outcome of it.
+    pub fn sequence_at(&self, number: u64) -> Option<Seq>
+        ensures { result ≡ slice_get (sequences_of self.now.letters) number }
+    {
+        sequence_of(&self.letters, number)
     }
 
     /// The numbers below a limit, ascending, of the sequences after which each item of a mask is as in a state.

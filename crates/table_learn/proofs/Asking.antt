@@ -1,19 +1,19 @@
 -- What the solver's verdict says of a sequence.
 use Rattle.std.specs.Global.{Global}
-use Rattle.std.proofs.Common.{◌≡◌, ℕ, ◌+◌, ◌*◌, ◌<◌, ◌≤◌, ◌^◌, ◌||◌, Bool, true, false, List, [], ◌∷◌, ◌++◌, All, length, map, get_or, take, drop, refl, sym, ◌∙◌, ap, subst, arith, inl}
+use Rattle.std.proofs.Common.{◌≡◌, ℕ, ◌+◌, ◌<◌, ◌≤◌, ◌^◌, ◌||◌, Bool, true, false, List, [], ◌∷◌, All, length, map, get_or, refl, sym, ap, subst, arith, inl}
 use Rattle.std.specs.Prelude.{ℤ, Vec}
 use Rattle.std.specs.List.{list_any}
-use Rattle.std.proofs.lemmas.List.Elements.{All-nil, All-cons, All-map}
+use Rattle.std.proofs.lemmas.List.Elements.{All-nil, All-cons}
 use Rattle.thumb_instr.specs.declared.instr.Instr.{Instr}
 use Rattle.thumb_model.specs.Sides.{AreOver}
-use Rattle.std.proofs.lemmas.List.{get_or_default, map-append, take-append-drop}
+use Rattle.std.proofs.lemmas.List.{get_or_default}
 use Rattle.thumb_model.specs.Items.{Values, AreWords}
 use Rattle.table_audit.proofs.Names.{of_four}
 use Rattle.window_exec.specs.declared.state.WState.{WState}
 use Rattle.window_exec.specs.State.{values_of, seen}
 use Rattle.window_exec.specs.Seen.{Seen}
 use Rattle.clause_model.specs.Literals.{code_of, codes_of}
-use Rattle.cnf_gates.specs.Cnf.{Cnf, IsLiteral, IsLiteralOf, AreLiteralsOf, AreClausesOf, AreClauses}
+use Rattle.cnf_gates.specs.Cnf.{Cnf, AreLiteralsOf, AreClausesOf}
 use Rattle.cnf_gates.specs.Meaning.{IsModel, assigned}
 use Rattle.bit_blast.specs.Differences.{sides_formula}
 use Rattle.bit_blast.specs.Values.{start_values}
@@ -81,9 +81,6 @@ clauses_below (c ∷ cs) a = All-cons (λ clause. All (λ l. l < 400000) clause)
 pub told_seen : (states : List WState) (left right : List Instr) (mask : ℕ) → told (map seen states) left right mask ≡ list_any (λ s. tells_apart left right mask (seen s)) states
 told_seen [] left right mask = refl
 told_seen (s ∷ states) left right mask = ap (λ b. tells_apart left right mask (seen s) || b) (told_seen states left right mask)
-
-pub first_part : (states listed : List WState) → listed ≡ take 8 states → map seen states ≡ map seen listed ++ map seen (drop 8 states)
-first_part states listed e = sym (ap (λ (ss : List WState). map seen ss ++ map seen (drop 8 states)) e ∙ sym (map-append seen (take 8 states) (drop 8 states)) ∙ ap (map seen) (take-append-drop 8 states))
 
 -- the solver is asked where no listed state tells
 pub answered : (r : Result Finding AllocError) (s : Settings) (states : List Seen) (w : code.Window) (seq : List Instr) → w.k ≡ named_count w.left → told states w.left seq w.mask.items.bits ≡ false → IfOk r (IsAnswer s.budget w seq) → IfOk r (IsFinding s states (window_in w) seq)

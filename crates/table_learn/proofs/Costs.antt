@@ -1,5 +1,5 @@
 -- How many steps learning takes.
-use Rattle.std.proofs.Common.{◌≡◌, ℕ, zero, suc, ◌+◌, ◌-◌, ◌*◌, ◌<◌, ◌≤◌, List, [], ◌∷◌, All, length, map, slice_get, Some, refl, sym, ◌∙◌, ap, subst, arith, true, nat_le}
+use Rattle.std.proofs.Common.{◌≡◌, ℕ, suc, ◌+◌, ◌-◌, ◌*◌, ◌<◌, ◌≤◌, List, [], ◌∷◌, All, length, slice_get, Some, refl, sym, ◌∙◌, ap, subst, arith, true, nat_le}
 use Rattle.std.specs.Prelude.{sum_by}
 use Rattle.std.proofs.Math.Nat.{mul-le-mul_left, mul-le-mul_right}
 use Rattle.std.proofs.lemmas.Bool.{and_parts, leb-true}
@@ -59,23 +59,27 @@ next_share n unit = grind arith
 -- one more candidate's runs and query
 pub query_more : (before after start n u v b l : ℕ) → before ≤ start + n * query_cost b u l → after ≤ before + query_cost b v l → u ≤ v → after ≤ start + (n + 1) * query_cost b v l
 query_more before after start n u v b l h k more =
-    let wide : u * (l + l) ≤ v * (l + l) = mul-le-mul_right (l + l) more in
+    let wide : u * (l + (l - 1)) ≤ v * (l + (l - 1)) = mul-le-mul_right (l + (l - 1)) more in
     let each : query_cost b u l ≤ query_cost b v l = omega (arith, wide) in
     let all : n * query_cost b u l ≤ n * query_cost b v l = mul-le-mul_left n each in
-    let next : (n + 1) * query_cost b v l ≡ n * query_cost b v l + query_cost b v l = grind arith in
+    let next : (n + 1) * query_cost b v l ≡ n * query_cost b v l + query_cost b v l = next_share n (query_cost b v l) in
     omega (arith, h, k, all, next)
 
 pub query_within : (after start n count unit : ℕ) → after ≤ start + n * unit → n ≤ count → after ≤ start + count * unit
 query_within after start n count unit h k = let e : n * unit ≤ count * unit = mul-le-mul_right unit k in omega (arith, h, e)
 
--- a window's queries
-pub search_within : (s : Settings) (n u l : ℕ) → n ≤ width_of s → l ≤ s.left → n * query_cost s.budget u l ≤ search_cost s u
-search_within s n u l few short =
+-- a window's outcomes, as many as there are shorter sequences, and its queries
+pub search_within : (s : Settings) (n m u l : ℕ) → n ≤ m → m ≤ width_of s → l ≤ s.left → 0 < l → 0 < u → m + n * query_cost s.budget u l ≤ search_cost s u
+search_within s n m u l fewer few short long some =
+    let q : ℕ = (s.budget + 1) * 200001 in
+    let a : ℕ = u * (l + (l - 1)) in
     let wide : u * (l + l) ≤ u * (s.left + s.left) = mul-le-mul_left u (omega (arith, short)) in
-    let each : query_cost s.budget u l ≤ query_cost s.budget u s.left = omega (arith, wide) in
-    let a : n * query_cost s.budget u l ≤ n * query_cost s.budget u s.left = mul-le-mul_left n each in
-    let b : n * query_cost s.budget u s.left ≤ width_of s * query_cost s.budget u s.left = mul-le-mul_right (query_cost s.budget u s.left) few in
-    omega (arith, a, b)
+    let split : u * (l + l) ≡ a + u = (let e : l + l ≡ l + (l - 1) + 1 = omega arith in ap (λ n. u * n) e ∙ both (l + (l - 1)) 1 u ∙ (let one : u * (l + (l - 1)) + u * 1 ≡ a + u = omega arith in one)) in
+    let each : a + q + 1 ≤ u * (s.left + s.left) + q = omega (arith, wide, split, some) in
+    let all : width_of s * (a + q + 1) ≤ width_of s * (u * (s.left + s.left) + q) = mul-le-mul_left (width_of s) each in
+    let sum : width_of s * (a + q + 1) ≡ width_of s * (a + q) + width_of s * 1 = both (a + q) 1 (width_of s) in
+    let mine : n * (a + q) ≤ width_of s * (a + q) = mul-le-mul_right (a + q) (omega (arith, fewer, few)) in
+    omega (arith, all, sum, mine, few)
 
 -- the runs on open numbers
 pub drop_within : (s : Settings) (f : ℕ) (rules : List Rule) → ((i : ℕ) (e : Rule) → slice_get rules i ≡ Some e → (length e.opens ≤ width_of s) × (length e.left ≤ s.left))

@@ -1,7 +1,7 @@
 -- A window more, with the length of the text.
-use Rattle.std.proofs.Common.{◌≡◌, ℕ, zero, suc, ◌+◌, ◌-◌, ◌*◌, ◌<◌, ◌≤◌, ◌||◌, Bool, true, false, not, List, [], ◌∷◌, ◌++◌, Option, Some, None, All, filter, length, map, slice_get, drop, take, refl, sym, ◌∙◌, ap, subst, arith, length-append, length-drop, append_assoc, inl, inr}
+use Rattle.std.proofs.Common.{◌≡◌, ℕ, zero, suc, ◌+◌, ◌-◌, ◌*◌, ◌<◌, ◌≤◌, true, not, List, [], ◌∷◌, ◌++◌, Option, Some, None, All, filter, length, map, slice_get, drop, refl, sym, ◌∙◌, ap, subst, arith, length-append, length-drop, inl, inr}
 use Rattle.std.proofs.Math.Seq.{drop-append_seam}
-use Rattle.std.proofs.lemmas.List.{take_all, length-map, map_push}
+use Rattle.std.proofs.lemmas.List.{length-map, map_push}
 use Rattle.std.proofs.lemmas.List.Elements.{All-nil, All-cons, All-append}
 use Rattle.std.proofs.lemmas.Option.{slice_get_within}
 use Rattle.thumb_instr.specs.declared.instr.Instr.{Instr}
@@ -12,10 +12,10 @@ use Rattle.window_exec.specs.Seen.{Seen}
 use Rattle.rule_table.specs.declared.table.Entry.{Entry}
 use Rattle.rule_table.specs.Views.{rule_of}
 use Rattle.table_audit.proofs.Appearing.{names_register}
-use Rattle.rule_table.specs.Table.{Opened, Rule, Table}
+use Rattle.rule_table.specs.Table.{Opened, Rule}
 use Rattle.rule_table.specs.Valid.{IsState}
 use Rattle.rule_table.specs.Text.{rule_items}
-use Rattle.table_audit.specs.Sides.{named_count, IsCanonicalSide}
+use Rattle.table_audit.specs.Sides.{named_count}
 use Rattle.table_audit.proofs.Fitting.{are_over, ordered_of}
 use Rattle.table_audit.proofs.Walking.{over_more}
 use Rattle.table_learn.specs.Settings.{Settings, Window}
@@ -26,8 +26,9 @@ use Rattle.table_learn.specs.Searching.{shorter_than, AreCandidates, IsGrown, Ea
 use Rattle.table_learn.specs.Lengths.{lines_length, rules_length}
 use Rattle.table_learn.specs.Progress.{Progress, HasLearnt, table_with, states_in, rules_in, search_cost, drop_cost}
 use Rattle.table_learn.specs.Dropping.{IsSided, runs_on}
-use Rattle.table_learn.specs.Keeping.{IsKept}
-use Rattle.table_learn.specs.declared.keeping.Kept.{Kept}
+use Rattle.outcomes.specs.declared.tables.Tables.{Tables}
+use Rattle.seq_enum.proofs.Numbered.{get_front}
+use Rattle.table_learn.specs.Keeping.{AreKept}
 use Rattle.table_learn.specs.declared.learning.Learner.{Learner}
 use Rattle.table_learn.proofs.Fit.{no_longer}
 use Rattle.table_learn.proofs.Gains.{all_of, gain, few_shorter}
@@ -123,26 +124,23 @@ grown_length xs ys g =
     let c : length (map seen ys) ≡ length (map seen xs) + length g.more = ap length g.grown ∙ length-append (map seen xs) g.more in
     omega (arith, a, b, c)
 
--- the index serves later states too
-pub kept_later : (pool : List ℕ) (old new : List Seen) (k : Kept) → IsGrown old new → IsKept pool old k → IsKept pool new k
-kept_later pool old new k g i = record {
-  later = i.later ++ g.more;
-  first = g.grown ∙ ap (λ ys. ys ++ g.more) i.first ∙ append_assoc (map seen k.listed) i.later g.more;
-  short = i.short;
-  index = i.index;
-}
+-- the tables serve later states too
+pub kept_later : (pool : List ℕ) (old new : List Seen) (t : Tables) → IsGrown old new → 0 < length old → AreKept pool old t → AreKept pool new t
+kept_later pool old new t g some kept start at = kept start (sym (get_front old g.more 0 some) ∙ ap (λ ss. slice_get ss 0) (sym g.grown) ∙ at)
 
 -- the steps of one more window
-pub window_cost : (s : Settings) (windows : List Window) (w : Window) (l : Learner) (states found : List WState) (entries later : List Entry) (entry : Entry) (candidates : List ℕ) (before middle after : ℕ) → AreInLimits s → HasLearnt s windows l → IsWindow s w → AreCandidates s (states_in l) w candidates → IsFit s (map seen states) (states_in l) (rule_of entry)
+pub window_cost : (s : Settings) (windows : List Window) (w : Window) (l : Learner) (states found : List WState) (entries later : List Entry) (entry : Entry) (candidates : List ℕ) (before first middle after : ℕ) → AreInLimits s → HasLearnt s windows l → IsWindow s w → AreCandidates s (states_in l) w candidates → IsFit s (map seen states) (states_in l) (rule_of entry)
     → entries ≡ l.entries.items ++ entry ∷ [] → map rule_of later ≡ map (without_told s (map seen found)) (map rule_of entries) → length found ≡ length states - length l.states.items
-    → middle ≤ before + length candidates * query_cost s.budget (length states) (length w.seq) → after ≤ middle + runs_on (length found) (map rule_of entries)
+    → first ≤ before + length (shorter_than s w) → middle ≤ first + length candidates * query_cost s.budget (length states) (length w.seq) → length l.states.items ≤ length states → after ≤ middle + runs_on (length found) (map rule_of entries)
     → after ≤ before + search_cost s (length states) + drop_cost s (length later) (length states - length l.states.items)
-window_cost s windows w l states found entries later entry candidates before middle after limits h window are fit e k size m n =
+window_cost s windows w l states found entries later entry candidates before first middle after limits h window are fit e k size table m more n =
     let rules : map rule_of entries ≡ rules_in l ++ rule_of entry ∷ [] = ap (map rule_of) e ∙ map_push rule_of l.entries.items entry in
     let some : 0 < named_count w.seq = names_register w.seq window.canonical.renamable.some window.canonical.renamable.windows in
     let few : 0 + length candidates ≤ length (shorter_than s w) = few_numbers 0 (length (shorter_than s w)) candidates (omega arith) are.ascending are.within in
     let wide : length (shorter_than s w) ≤ width_of s = shorter_more (named_count w.seq) s.regs s.pool (length w.seq) s.left some window.few limits.few_regs window.short in
-    let searched : length candidates * query_cost s.budget (length states) (length w.seq) ≤ search_cost s (length states) = search_within s (length candidates) (length states) (length w.seq) (omega (arith, few, wide)) window.short in
+    let known = h.progress.long in
+    let listed : length (states_in l) ≡ length l.states.items = length-map l.states.items seen in
+    let searched : length (shorter_than s w) + length candidates * query_cost s.budget (length states) (length w.seq) ≤ search_cost s (length states) = search_within s (length candidates) (length (shorter_than s w)) (length states) (length w.seq) (omega (arith, few)) wide window.short window.canonical.renamable.some (omega (arith, known, listed, more)) in
     let dropped : runs_on (length found) (rules_in l ++ rule_of entry ∷ []) ≤ drop_cost s (length (rules_in l ++ rule_of entry ∷ [])) (length found) = drop_within s (length found) (rules_in l ++ rule_of entry ∷ []) (λ i z at. elim (push_cases (rules_in l) (rule_of entry) i z at) [
       | inl q ↦ few_each s (states_in l) (states_in l) z limits (h.progress.fits i z q)
       | inr q ↦ subst (λ y. (length y.opens ≤ width_of s) × (length y.left ≤ s.left)) q.1 (few_each s (map seen states) (states_in l) (rule_of entry) limits fit)
@@ -151,4 +149,4 @@ window_cost s windows w l states found entries later entry candidates before mid
     let many : length (map rule_of later) ≡ length (rules_in l ++ rule_of entry ∷ []) = ap (λ (rs : List Rule). length rs) k ∙ length-map (map rule_of entries) (without_told s (map seen found)) ∙ ap (λ (rs : List Rule). length rs) rules in
     let mine : length (map rule_of later) ≡ length later = length-map later rule_of in
     let cost : drop_cost s (length (rules_in l ++ rule_of entry ∷ [])) (length found) ≡ drop_cost s (length later) (length states - length l.states.items) = ap (λ j. drop_cost s j (length found)) (sym many ∙ mine) ∙ ap (λ j. drop_cost s (length later) j) size in
-    omega (arith, m, n, searched, dropped, runs, cost)
+    omega (arith, table, m, n, searched, dropped, runs, cost)

@@ -1,22 +1,11 @@
--- The index of prints that is kept from window to window.
-use Rattle.std.specs.Prelude.{ℕ, ◌≡◌, ◌<◌, ◌≤◌, ◌+◌, ◌++◌, List, length, map}
-use Rattle.window_exec.specs.State.{values_of, seen}
+-- The tables of outcomes that are kept from window to window.
+use Rattle.std.specs.Prelude.{ℕ, ◌≡◌, List, Some, slice_get}
+use Rattle.window_exec.specs.declared.state.WState.{WState}
+use Rattle.window_exec.specs.State.{seen}
 use Rattle.window_exec.specs.Seen.{Seen}
-use Rattle.fingerprints.specs.Sequences.{prints_within}
-use Rattle.fingerprints.specs.Index.{IsIndexOf}
-use Rattle.seq_enum.specs.Alphabet.{alphabet}
-use Rattle.table_learn.specs.declared.keeping.Kept.{Kept}
-use Rattle.table_learn.specs.declared.window.Window.{Window}
+use Rattle.outcomes.specs.declared.tables.Tables.{Tables}
+use Rattle.outcomes.specs.Tables.{AreTables}
 
--- it has the prints of its sequences in states that come first among these
-pub record IsKept (pool : List ℕ) (states : List Seen) (kept : Kept) : Type 0 where
-  pub later : List Seen
-  pub first : states ≡ map seen kept.listed ++ later
-  pub short : kept.longest ≤ 5
-  pub index : IsIndexOf (prints_within kept.mask.items.bits (map values_of kept.listed) (alphabet kept.k pool) kept.longest) kept.index
-
--- its sequences are those of the window's registers, and it has each that is shorter than the window
-pub record Serves (kept : Kept) (window : Window) : Type 0 where
-  pub registers : kept.k ≡ window.k
-  pub mask : kept.mask.items.bits ≡ window.mask.items.bits
-  pub long : length window.left ≤ kept.longest + 1
+-- they are of the pool's numbers and the first of the states
+abbrev pub AreKept : List ℕ → List Seen → Tables → Type 0
+AreKept pool states tables = (start : WState) → slice_get states 0 ≡ Some (seen start) → AreTables pool start tables

@@ -1,5 +1,5 @@
 -- What holds after some windows.
-use Rattle.std.specs.Prelude.{ℕ, ◌≡◌, ◌≤◌, ◌+◌, ◌*◌, ◌-◌, List, Some, All, IfSome, length, map, slice_get, take}
+use Rattle.std.specs.Prelude.{ℕ, ◌≡◌, ◌≤◌, ◌+◌, ◌*◌, List, Some, All, length, map, slice_get, take}
 use Rattle.window_exec.specs.State.{seen}
 use Rattle.window_exec.specs.Seen.{Seen}
 use Rattle.fingerprints.specs.Seeded.{seeded_states}
@@ -10,7 +10,7 @@ use Rattle.table_learn.specs.declared.learning.Learner.{Learner}
 use Rattle.table_learn.specs.Settings.{Settings, Window}
 use Rattle.table_learn.specs.Learnt.{learnt_from, AreEarned, width_of, text_length}
 use Rattle.table_learn.specs.Fitness.{IsFit}
-use Rattle.table_learn.specs.Keeping.{IsKept}
+use Rattle.table_learn.specs.Keeping.{AreKept}
 
 -- a table with these settings
 abbrev pub table_with : Settings → List Seen → List Rule → Table
@@ -31,11 +31,11 @@ states_in l = map seen l.states.items
 abbrev pub rules_in : Learner → List Rule
 rules_in l = map rule_of l.entries.items
 
--- the learner has those, the length of their text, and an index that serves them
+-- the learner has those, the length of their text, and tables of outcomes of the first state
 pub record HasLearnt (s : Settings) (windows : List Window) (l : Learner) : Type 0 where
   pub progress : Progress s windows (states_in l) (rules_in l)
   pub bytes : l.bytes ≡ text_length (table_with s (states_in l) (rules_in l))
-  pub kept : IfSome l.kept (IsKept s.pool (states_in l))
+  pub kept : AreKept s.pool (states_in l) l.tables
 
 -- the steps of a window's search and of the dropping behind it, where so many states are listed in the end and so many entries are there
 abbrev pub search_cost : Settings → ℕ → ℕ

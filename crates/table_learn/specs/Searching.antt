@@ -1,5 +1,5 @@
 -- How far the search for a window's right side has come.
-use Rattle.std.specs.Prelude.{ℕ, ◌≡◌, ◌<◌, ◌≤◌, ◌⊎◌, ◌+◌, ◌*◌, ◌++◌, Bool, true, false, nat_lt, List, All, Contains, Some, length, map, slice_get, take}
+use Rattle.std.specs.Prelude.{ℕ, ◌≡◌, ◌<◌, ◌≤◌, ◌⊎◌, ◌+◌, ◌-◌, ◌*◌, ◌++◌, Bool, true, false, nat_lt, List, All, Contains, Some, length, slice_get, take}
 use Rattle.thumb_instr.specs.declared.instr.Instr.{Instr}
 use Rattle.seq_enum.specs.Lists.{ascends_from}
 use Rattle.window_exec.specs.Seen.{Seen}
@@ -58,6 +58,6 @@ pub record IsSearching (s : Settings) (w : Window) (old states : List Seen) (ope
 abbrev pub is_below : ℕ → Opened → Bool
 is_below limit o = nat_lt o.number limit
 
--- one sequence's runs on the states, and its query
+-- the runs of a window and of a shorter sequence on the states, and the query
 abbrev pub query_cost : ℕ → ℕ → ℕ → ℕ
-query_cost budget states left = states * (left + left) + (budget + 1) * 200001
+query_cost budget states left = states * (left + (left - 1)) + (budget + 1) * 200001

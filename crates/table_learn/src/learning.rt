@@ -14,13 +14,14 @@ ghost use Rattle.table_learn.specs.Progress.{HasLearnt, table_with, states_in, r
 
 use crate::dropping::drop_all_told;
 use crate::errors::LearnError;
-use crate::keeping::{Kept, candidates, index_for};
+use crate::keeping::candidates;
 use crate::lengths::{entry_length, plus, times};
 use crate::searching::search;
 use crate::settings::{Settings, hold};
 use crate::widths::count_shorter;
 use crate::window::Window;
 use fingerprints::seeded;
+use outcomes::Tables;
 use rule_table::{Entry, Table, write_table};
 use std::alloc::{AllocError, Global};
 use step_ledger::{Ledger, Steps};
@@ -36,13 +37,14 @@ const TEXT_LIMIT: u64 = 67_108_864;
 /// How many bytes the line of a state has.
 const STATE_LINE: u64 = 44;
 
-/// What the windows so far gave: the listed states, the entries, how many bytes their table's text has, and the last index.
+/// What the windows so far gave: the listed states, the entries, how many bytes their table's text has, and the tables of
+/// outcomes.
 #[derive(Drop)]
 pub(crate) struct Learner {
     pub states: Vec<WState>,
     pub entries: Vec<Entry>,
     pub bytes: u64,
-    pub kept: Option<Kept>,
+    pub tables: Tables,
 }
 
 /// The table of states and entries.
@@ -69,7 +71,7 @@ fn begin(alloc: Global, settings: Settings) -> Result<(Settings, Learner), Alloc
         states: states.into_vec(),
         entries,
         bytes,
-        kept: None,
+        tables: Tables::new(),
     };
     Ok((settings, learner))
 }
@@ -106,11 +108,10 @@ fn learn_window<L: Ledger>(
         mut states,
         mut entries,
         bytes,
-        kept,
+        mut tables,
     } = learner;
     let before = states.len();
-    let kept = index_for(alloc, kept, &window, &settings.pool, &states)?;
-    let numbers = candidates(alloc, &kept, &window, settings, &states)?;
+    let numbers = candidates(alloc, &mut tables, &window, settings, &states, steps)?;
     let entry = search(alloc, settings, window, &numbers, &mut states, steps)?;
     let found = behind(&states, before);
     let lines = plus(
@@ -124,7 +125,7 @@ fn learn_window<L: Ledger>(
         states,
         entries,
         bytes: whole - freed,
-        kept: Some(kept),
+        tables,
     })
 }
 
@@ -137,7 +138,8 @@ fn learn_window<L: Ledger>(
 /// right side, or that a state listed later tells, are dropped.
 ///
 /// `Wide` comes where more than 5,000,000 sequences are shorter than the longest windows, `Full` at the first window after which the table's text
-/// has more than 67,108,864 bytes. A step is an instruction that is run on a listed state, or a decision or a conflict of the solver.
+/// has more than 67,108,864 bytes. A step is an instruction that is run on a listed state, a sequence whose outcome is worked out, or a
+/// decision or a conflict of the solver.
 pub fn learn<L: Ledger>(
     alloc: Global,
     windows: Vec<(Seq, Mask)>,

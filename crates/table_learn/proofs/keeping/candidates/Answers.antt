@@ -1,21 +1,60 @@
-use Rattle.std.proofs.Common.{ℕ, ◌≡◌, ◌≤◌, ◌∙◌, sym, ap, arith, map, length}
-use Rattle.window_exec.specs.State.{values_of, seen}
-use Rattle.fingerprints.specs.Print.{print_after}
-use Rattle.table_audit.specs.Sides.{named_count}
-use Rattle.table_audit.specs.Shorter.{sequences_below}
+use Rattle.std.proofs.Common.{List, ◌≡◌, ◌+◌, ◌-◌, ◌<◌, ◌∙◌, [], ◌∷◌, ap, sym, refl, subst, arith, length, map, get_or, slice_get, Some}
+use Rattle.std.proofs.lemmas.Option.{slice_get-get_or, slice_get-map, same_Some}
+use Rattle.std.specs.Option.{option_map}
+use Rattle.window_exec.specs.declared.state.WState.{WState}
+use Rattle.window_exec.specs.State.{seen}
+use Rattle.window_exec.specs.Seen.{Seen}
+use Rattle.outcomes.specs.declared.trials.Trial.{Trial}
+use Rattle.outcomes.specs.Outcomes as table
+use Rattle.outcomes.specs.Tables.{AreTables}
+use Rattle.outcomes.proofs.Choosing.{few_added, grown_for_same}
 use Rattle.table_learn.specs.Given.{settings_of}
 use Rattle.table_learn.specs.Found.{window_in}
 use Rattle.table_learn.specs.Searching.{shorter_than}
-use Rattle.table_learn.proofs.Candidates.{candidates_are}
+use Rattle.table_learn.proofs.Candidates.{shorter_in, candidates_are}
 use Rattle.table_learn.proofs.keeping.candidates.Goals as goal
 
-pub returns : goal.returns
-returns c =
+first_seen : (states : List WState) (d : WState) → 0 < length states → slice_get (map seen states) 0 ≡ Some (seen (get_or states 0 d))
+first_seen states d some = slice_get-map seen states 0 ∙ ap (option_map seen) (slice_get-get_or states 0 d some)
+
+-- states of which the same is seen are the same
+same_state : (a b : WState) → seen a ≡ seen b → a ≡ b
+same_state a b e = ap (λ (s : Seen). let t : WState = record { r = s.r; nzcv = s.nzcv } in t) e
+
+pub returns-in_err-numbers-clause-cost : goal.returns-in_err-numbers-clause-cost
+returns-in_err-numbers-clause-cost g c =
     let w = c.args.window.now in
-    let kept = c.args.kept.now in
-    let short : length w.left ≤ 5 = omega (arith, c.len.ensures.value, c.len.ensures.few) in
-    let print : c.print_of-print.result ≡ print_after kept.mask.items.bits (map values_of kept.listed) w.left = c.print_of-print.ensures ∙ ap (λ (j : ℕ). print_after j (map values_of kept.listed) w.left) (sym c.requires.serves.mask) in
-    let count : c.count_shorter-count.result ≡ length (shorter_than (settings_of c.args.settings.now) (window_in w)) =
-    c.count_shorter-count.ensures ∙ ap (λ (j : ℕ). length (sequences_below w.k c.args.settings.now.pool j)) c.len.ensures.value ∙ ap (λ (j : ℕ). length (sequences_below j c.args.settings.now.pool (length w.left))) c.requires.named in
-    candidates_are (settings_of c.args.settings.now) kept.listed c.requires.kept.later (map seen c.args.states.now) (window_in w) kept.k kept.mask.items.bits kept.longest c.print_of-print.result c.count_shorter-count.result kept.index c.in_ok-numbers.numbers.items c.in_ok-below.field-0.items
-    (c.requires.serves.registers ∙ c.requires.named) c.requires.serves.mask c.requires.serves.long c.requires.kept.short short w.mask.in_masks c.requires.kept.first c.requires.valid c.requires.kept.index print c.in_ok-numbers.ensures count c.in_ok-below.ensures
+    let e = c.in_ok-outcomes.outcomes in
+    let taken = c.in_ok-outcomes.ensures.taken in
+    let long : c.len-longest.result - 1 + 1 ≡ length w.left = omega (arith, c.len-longest.ensures.value, c.requires.long) in
+    let seqs : table.sequences_below e.letters (c.len-longest.result - 1 + 1) ≡ shorter_than (settings_of c.args.settings.now) (window_in w) = shorter_in (settings_of c.args.settings.now) (window_in w) w.k (c.len-longest.result - 1) e.letters c.requires.named taken.letters long in
+    omega (arith, c.candidates.ensures.most, few_added e (c.len-longest.result - 1), ap length seqs)
+
+pub returns-clause-kept : goal.returns-clause-kept
+returns-clause-kept g c = λ start at.
+    let zero : WState = record { r = []; nzcv = 0 } in
+    let here : WState = get_or c.args.states.now 0 zero in
+    let same : here ≡ start = same_state here start (same_Some (seen here) (seen start) (sym (first_seen c.args.states.now zero c.requires.states) ∙ at)) in
+    subst (λ (s : WState). AreTables c.args.settings.now.pool s c.put.new.self) same
+    (c.put.ensures c.args.settings.now.pool here c.take.ensures.kept (grown_for_same c.args.window.now.k c.args.settings.now.pool here (record { start = here; end = c.run_seq.result } ∷ []) (c.len-longest.result - 1) c.in_ok-outcomes.outcomes c.candidates.new.outcomes c.in_ok-outcomes.ensures.taken c.in_ok-numbers.ensures.grown))
+
+pub returns-clause-candidates : goal.returns-clause-candidates
+returns-clause-candidates g c =
+    let w = c.args.window.now in
+    let zero : WState = record { r = []; nzcv = 0 } in
+    let here : WState = get_or c.args.states.now 0 zero in
+    let e = c.in_ok-outcomes.outcomes in
+    let taken = c.in_ok-outcomes.ensures.taken in
+    let long : c.len-longest.result - 1 + 1 ≡ length w.left = omega (arith, c.len-longest.ensures.value, c.requires.long) in
+    let seqs : table.sequences_below e.letters (c.len-longest.result - 1 + 1) ≡ shorter_than (settings_of c.args.settings.now) (window_in w) = shorter_in (settings_of c.args.settings.now) (window_in w) w.k (c.len-longest.result - 1) e.letters c.requires.named taken.letters long in
+    let trial : Trial = record { start = here; end = c.run_seq.result } in
+    candidates_are (settings_of c.args.settings.now) c.args.states.now (window_in w) _ here trial c.in_ok-numbers.numbers.items w.mask.in_masks seqs (first_seen c.args.states.now zero c.requires.states) refl c.run_seq.ensures.values c.in_ok-numbers.ensures.candidates
+
+pub returns-clause-cost : goal.returns-clause-cost
+returns-clause-cost g c =
+    let w = c.args.window.now in
+    let e = c.in_ok-outcomes.outcomes in
+    let taken = c.in_ok-outcomes.ensures.taken in
+    let long : c.len-longest.result - 1 + 1 ≡ length w.left = omega (arith, c.len-longest.ensures.value, c.requires.long) in
+    let seqs : table.sequences_below e.letters (c.len-longest.result - 1 + 1) ≡ shorter_than (settings_of c.args.settings.now) (window_in w) = shorter_in (settings_of c.args.settings.now) (window_in w) w.k (c.len-longest.result - 1) e.letters c.requires.named taken.letters long in
+    omega (arith, c.candidates.ensures.most, few_added e (c.len-longest.result - 1), ap length seqs)

@@ -1,4 +1,4 @@
-use Rattle.std.proofs.Common.{ℕ, ◌≡◌, ◌≤◌, ◌∙◌, [], rules, refl, sym, ap, subst, arith, map, length, List}
+use Rattle.std.proofs.Common.{ℕ, ◌≡◌, ◌∙◌, [], rules, sym, ap, subst, arith, map, length, List}
 use Rattle.window_exec.specs.declared.state.WState.{WState}
 use Rattle.window_exec.specs.State.{seen}
 use Rattle.window_exec.specs.Seen.{Seen}
@@ -15,7 +15,7 @@ use Rattle.table_learn.proofs.Gains.{start, in_limits, length-states_from}
 use Rattle.table_learn.proofs.TextLengths.{text_begins}
 use Rattle.table_learn.proofs.learning.begin.Goals as goal
 
-module _ (c : goal.After-into_vec) where
+module _ (c : goal.After-new-2) where
   taken_apart : record { header = header_of c.into_parts-settings.result.0; states = map seen c.into_parts-settings.result.1; rules = map rule_of c.into_parts-settings.result.2.items } ≡
       table_with (settings_of c.args.settings) (map seen c.into_vec-states.result.items) (map rule_of c.new.result.items)
   taken_apart = sym c.into_parts-settings.ensures ∙ c.table_of-table.ensures
@@ -53,7 +53,7 @@ pub returns-clause-begun : goal.returns-clause-begun
 returns-clause-begun c = record {
   progress = subst (λ (rs : List Rule). Progress (settings_of c.args.settings) [] (map seen c.into_vec.result.items) rs) (sym (none c)) (progress c);
   bytes = bytes c ∙ ap (λ (rs : List Rule). text_length (table_with (settings_of c.args.settings) (map seen c.into_vec.result.items) rs)) (sym (none c));
-  kept = tt;
+  kept = λ start at. c.new-2.ensures c.args.settings.pool start;
 }
 
 pub returns-clause-short : goal.returns-clause-short
