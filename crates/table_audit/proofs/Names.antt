@@ -1,7 +1,7 @@
 -- How many registers a canonical side names, said in two ways, and the items of a mask as a list.
-use Rattle.std.proofs.Common.{◌≡◌, ℕ, zero, suc, ◌+◌, ◌-◌, ◌<◌, ◌≤◌, ◌⊎◌, ◌==◌, ◌||◌, ◌&&◌, inl, inr, Bool, true, false, List, [], ◌∷◌, ◌++◌, max, map, filter, cond, refl, sym, ◌∙◌, ap, subst, arith, nat_lt, nat_le}
+use Rattle.std.proofs.Common.{◌≡◌, ℕ, zero, suc, ◌+◌, ◌-◌, ◌<◌, ◌≤◌, ◌⊎◌, ◌==◌, ◌||◌, ◌&&◌, inl, inr, Bool, true, false, List, [], ◌∷◌, ◌++◌, max, filter, cond, refl, sym, ◌∙◌, ap, subst, arith, nat_lt, nat_le}
 use Rattle.std.specs.List.{flat_map}
-use Rattle.std.proofs.lemmas.Bool.{cases_Bool, eqb-true, eq-eqb, or_cases, or_left, or_right, ltb-true, leb-true, and_parts}
+use Rattle.std.proofs.lemmas.Bool.{cases_Bool, eqb-true, or_cases, or_left, or_right, ltb-true, leb-true, and_parts}
 use Rattle.std.proofs.lemmas.List.Folds.{list_any-append}
 use Rattle.thumb_instr.specs.declared.instr.Instr.{Instr}
 use Rattle.thumb_instr.specs.Items.{has as has_item, is_in_masks}
@@ -10,10 +10,8 @@ use Rattle.thumb_model.specs.Items.{one_of}
 use Rattle.thumb_model.specs.Sides.{is_named, above, register_count}
 use Rattle.seq_enum.specs.Lists.{numbers_from}
 use Rattle.rule_table.specs.Canonical.{has, with_first, firsts, appearing}
-use Rattle.rule_table.specs.Table.{Opened}
 use Rattle.table_audit.specs.Sides.{named_count, IsCanonicalSide}
-use Rattle.table_audit.specs.Shorter.{is_named as is_named_open}
-use Rattle.table_audit.specs.Soundness.{items_in, number_of}
+use Rattle.table_audit.specs.Soundness.{items_in}
 use Rattle.table_audit.proofs.Appearing.{has_low}
 
 -- ---- membership, said in two ways ----
@@ -24,11 +22,6 @@ eqb_turned a b = grind arith
 one_of_has : (x : ℕ) (xs : List ℕ) → one_of x xs ≡ has xs x
 one_of_has x [] = refl
 one_of_has x (y ∷ ys) = rw (eqb_turned x y, one_of_has x ys) refl
-
--- a number that is named open is one of the numbers
-pub open_is : (opens : List Opened) (n : ℕ) → is_named_open opens n ≡ one_of n (map number_of opens)
-open_is [] n = refl
-open_is (o ∷ opens) n = rw (eqb_turned n o.number, open_is opens n) refl
 
 -- a register is named where it is one of the names
 named_is : (x : ℕ) (is : List Instr) → is_named x is ≡ has (flat_map named is) x

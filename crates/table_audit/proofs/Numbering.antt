@@ -11,8 +11,8 @@ use Rattle.thumb_instr.specs.declared.instr.Instr.{Instr}
 use Rattle.seq_enum.specs.Lists.{numbers_from}
 use Rattle.seq_enum.specs.Places.{sum_below}
 use Rattle.seq_enum.specs.Alphabet.{alphabet, words, sequences, sequences_of, IsOver}
-use Rattle.seq_enum.proofs.Numbered.{get_front, get_back, numbers_at, length-numbers, flat_map_at, flat_map_from, get-flat_map}
-use Rattle.seq_enum.proofs.Words.{length-words, word_length, words_parts}
+use Rattle.seq_enum.proofs.Numbered.{get_front, get_back, flat_map_from, get-flat_map}
+use Rattle.seq_enum.proofs.Words.{length-words, words_parts}
 use Rattle.fingerprints.proofs.Candidates.{numbers_split, length_within}
 use Rattle.table_audit.specs.Shorter.{sequences_below}
 

@@ -1,14 +1,14 @@
 -- An accepted table's rules are sound and shortest, and what they name open is rightly so.
-use Rattle.std.proofs.Common.{◌≡◌, ℕ, zero, suc, ◌+◌, ◌-◌, ◌^◌, ◌<◌, ◌≤◌, ◌⊎◌, ◌==◌, ◌&&◌, inl, inr, true, false, List, [], ◌∷◌, Option, Some, None, slice_get, get_or, length, refl, sym, ◌∙◌, ap, subst, arith, All, nat_lt, nat_le, zero-add}
+use Rattle.std.proofs.Common.{◌≡◌, ℕ, ◌+◌, ◌-◌, ◌^◌, ◌<◌, ◌≤◌, ◌⊎◌, ◌==◌, ◌&&◌, inl, inr, true, false, List, Option, Some, None, slice_get, get_or, length, refl, sym, ◌∙◌, subst, arith, All, nat_lt, nat_le, zero-add}
 use Rattle.std.specs.Option.{option_map}
 use Rattle.std.proofs.lemmas.Nat.Bits.{bit_at-lt}
 use Rattle.std.proofs.lemmas.List.{get_or_past}
 use Rattle.std.proofs.lemmas.Option.{slice_get-map, slice_get_within, get_or_from_slice_get, same_Some}
 use Rattle.std.proofs.lemmas.Bool.Decides.{leb_tells}
-use Rattle.std.proofs.lemmas.Bool.{false≢true, or_cases, and_parts, ltb-true, cases_Bool, eqb-true, ne_eqb}
+use Rattle.std.proofs.lemmas.Bool.{false≢true, or_cases, and_parts, ltb-true, ne_eqb}
 use Rattle.thumb_instr.specs.declared.instr.Instr.{Instr}
 use Rattle.thumb_model.specs.Items.{AreWords, one_of}
-use Rattle.thumb_model.specs.Sides.{Equal, AreOver, is_named, register_count}
+use Rattle.thumb_model.specs.Sides.{Equal, AreOver, register_count}
 use Rattle.rule_model.specs.Rules.{IsSoundRule}
 use Rattle.rule_model.specs.Rules as model
 use Rattle.rule_model.proofs.Alone.{alone_sound, own_registers}
@@ -17,7 +17,6 @@ use Rattle.bit_blast.specs.Exactness.{IsMask, HasNoModel, AreEqual}
 use Rattle.bit_blast.proofs.Exact.{no_model_is_equal}
 use Rattle.rule_table.specs.Table.{Rule, Table}
 use Rattle.rule_table.specs.Valid.{IsState, IsRule, IsTable}
-use Rattle.proof_logs.specs.Verdicts.{InTurn}
 use Rattle.proof_logs.proofs.Turns.{turn_each}
 use Rattle.proof_logs.proofs.Sound.{proved_unsatisfied}
 use Rattle.table_audit.specs.declared.errors.EntryFault.TheVariants.{Proof, Unfinished}

@@ -2,9 +2,8 @@
 use Rattle.std.proofs.Common.{◌≡◌, ℕ, ◌+◌, ◌^◌, ◌<◌, ◌≤◌, Bool, true, false, inl, inr, List, [], ◌∷◌, Some, None, slice_get, length, sym, ◌∙◌, ap, arith}
 use Rattle.std.specs.Bool.{OnTrue, OnFalse}
 use Rattle.std.proofs.lemmas.Option.{slice_get_cases}
-use Rattle.std.proofs.Math.Nat.{lt_of_lt_of_le}
 use Rattle.thumb_instr.specs.declared.instr.Instr.{Instr}
-use Rattle.thumb_instr.specs.Renaming.{named, AreBelow}
+use Rattle.thumb_instr.specs.Renaming.{named}
 use Rattle.thumb_model.specs.Sides.{AreOver}
 use Rattle.thumb_model.proofs.Small.{below_more}
 use Rattle.seq_enum.specs.Places.{sum_below}

@@ -15,5 +15,6 @@ mod widths;
 
 pub use audited::Audited;
 pub use errors::{AuditError, EntryFault};
-pub use sides::{entry_formula, sides_fit};
+pub use sides::{entry_formula, named_count, sides_fit};
 pub use verdict::audit;
+pub use widths::{count_shorter, shorter_at};

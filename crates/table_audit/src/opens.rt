@@ -1,14 +1,13 @@
 //! The numbers that an entry names open.
 ghost use Rattle.std.specs.Prelude.{◌≡◌, ◌<◌, ◌≤◌, ◌+◌, ◌*◌, ◌↔◌, true, IfOk, IfSome, IsTrue, length, map, slice_get, sum_by};
 ghost use Rattle.window_exec.specs.State.{seen};
-ghost use Rattle.thumb_model.specs.Sides.{AreOver};
 ghost use Rattle.seq_enum.specs.Lists.{ascends_from};
 ghost use Rattle.rule_table.specs.Valid.{numbers_of};
 ghost use Rattle.rule_table.specs.Views.{header_in, opened_of, rule_of, table_of};
 ghost use Rattle.proof_logs.specs.Verdicts.{Answers};
 ghost use Rattle.table_audit.specs.Sides.{alphabet_registers};
 ghost use Rattle.table_audit.specs.Canonical.{HasFormula};
-ghost use Rattle.table_audit.specs.Shorter.{sequences_below, shorter};
+ghost use Rattle.table_audit.specs.Shorter.{shorter};
 ghost use Rattle.table_audit.specs.Trials.{AreTrials};
 ghost use Rattle.table_audit.specs.Acceptance.{IsRightlyOpen, OpensVerdict};
 ghost use Rattle.table_audit.specs.Costs.{open_cost};
@@ -17,28 +16,12 @@ ghost use Rattle.table_audit.specs.Naming.{told_cost};
 use crate::errors::{AuditError, EntryFault};
 use crate::sides::formula_against;
 use crate::trials::{Trial, is_told};
+use crate::widths::shorter_at;
 use cnf_gates::Memory;
 use proof_logs::is_spent;
 use rule_table::{Entry, Open, Table};
-use seq_enum::{Pool, seq_at};
 use std::alloc::Global;
 use step_ledger::{Ledger, Steps};
-use thumb_instr::Seq;
-
-/// The sequence of a number, of the first `k` registers and a pool, where it has fewer than `count` instructions.
-fn shorter_at(k: u8, pool: &Pool, count: usize, number: u64) -> Option<Seq>
-    requires some { 0 < k }
-    requires few { k ≤ 4 }
-    requires short { count ≤ 5 }
-    ensures value { result ≡ slice_get (sequences_below k pool.now count) number }
-    ensures over { IfSome result (λ seq. AreOver k seq) }
-    ensures shorter { IfSome result (λ seq. length seq < count) }
-{
-    match seq_at(k, pool, number) {
-        Some(seq) if seq.len() < count => Some(seq),
-        _ => None,
-    }
-}
 
 /// Whether a number that an entry names open is that of a shorter sequence, which no state tells from the left side, and its log spends the
 /// budget on the formula of the two.

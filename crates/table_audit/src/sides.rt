@@ -128,8 +128,8 @@ pub fn sides_fit(table: &Table, entry: &Entry) -> bool
     }
 }
 
-/// How many registers a side names, where they are in order.
-fn named_count(side: &Seq) -> u8
+/// How many registers a side names, where they are r0, r1 and so on by first appearance.
+pub fn named_count(side: &Seq) -> u8
     requires { IsInOrder side.now }
     ensures value { result ≡ named_count side.now }
     ensures some { 0 < result }

@@ -1,7 +1,7 @@
 -- The solver's logs are proofs, and logs that spend a budget.
 use Rattle.std.specs.Global.{Global}
-use Rattle.std.proofs.Common.{◌≡◌, ℕ, zero, suc, ◌+◌, ◌-◌, ◌<◌, ◌≤◌, ◌^◌, ◌∷◌, ◌++◌, ◌⊎◌, inl, inr, List, [], Option, Some, None, All, Contains, length, take, get_or, map, slice_get, nat_eq, refl, sym, ◌∙◌, ap, subst, arith, append_assoc, append-nil, length-append, true, false}
-use Rattle.std.specs.Prelude.{◌≢◌, ℤ, pos, negsuc, Any, unsigned_abs, cond, Vec}
+use Rattle.std.proofs.Common.{◌≡◌, ℕ, zero, suc, ◌+◌, ◌-◌, ◌<◌, ◌≤◌, ◌^◌, ◌∷◌, ◌++◌, inl, inr, List, [], Option, Some, None, All, length, take, get_or, map, slice_get, nat_eq, refl, sym, ◌∙◌, ap, subst, arith, append_assoc, append-nil, length-append, true, false}
+use Rattle.std.specs.Prelude.{◌≢◌, ℤ, pos, Any, unsigned_abs, cond, Vec}
 use Rattle.std.proofs.Math.Seq.{take-append_seam}
 use Rattle.std.proofs.lemmas.Bool.{cases_eq, cases_lt}
 use Rattle.std.proofs.lemmas.Bool.Decides.{nat_tests}
@@ -17,19 +17,18 @@ use Rattle.bit_blast.specs.Differences.{sides_formula}
 use Rattle.bit_blast.proofs.Exact.{itself_ends_in_empty}
 use Rattle.clause_model.specs.Literals.{code_of, codes_of, negated}
 use Rattle.clause_model.specs.Propagation.{ReverseUnitPropagation, Refutes as Propagates, numbered}
-use Rattle.clause_model.specs.Asserting.{IsNew, IsAsserting}
 use Rattle.clause_model.proofs.Asserted.{asserting_new}
 use Rattle.lrat_check.specs.declared.line.Line.{Line}
 use Rattle.lrat_check.specs.declared.line.Line.TheVariants.{Addition as Adding, Deletion as Deleting}
 use Rattle.lrat_check.specs.declared.line.Addition.{Addition}
-use Rattle.lrat_check.specs.Numbers.{is_negative, IsId, IsHint, AllWithin}
-use Rattle.lrat_check.specs.Content.{Content, addition, deletion, content_of}
+use Rattle.lrat_check.specs.Numbers.{is_negative, IsHint}
+use Rattle.lrat_check.specs.Content.{Content, content_of}
 use Rattle.lrat_check.specs.Text.{IsLine}
-use Rattle.proof_logs.specs.Lines.{Known, started, with_clause, after_line, Accepts, AllAccepted, added, additions}
+use Rattle.proof_logs.specs.Lines.{Known, started, with_clause, after_line, Accepts, AllAccepted, additions}
 use Rattle.proof_logs.specs.Logs.{IsSpentLog, EachIsNew}
-use Rattle.proof_logs.specs.Proofs.{LinesVerdict, HasEmpty, ProofVerdict}
+use Rattle.proof_logs.specs.Proofs.{LinesVerdict, ProofVerdict}
 use Rattle.proof_logs.proofs.Checks.{same_known}
-use Rattle.cdcl_core.specs.Solved.{RefutesTidily, TidyPropagation, Adds, literals_in, with_log, Teaches, Refutes, IsLog}
+use Rattle.cdcl_core.specs.Solved.{RefutesTidily, Adds, literals_in, with_log, Teaches, Refutes, IsLog}
 use Rattle.cdcl_core.proofs.Logs.{asserting_some}
 use Rattle.table_learn.specs.Learnt.{IsRefutation as IsRefutationOf, IsSpentSearch}
 

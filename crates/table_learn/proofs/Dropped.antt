@@ -1,5 +1,5 @@
 -- Names and entries that are gone through by value.
-use Rattle.std.proofs.Common.{◌≡◌, ℕ, ◌+◌, ◌≤◌, Bool, true, false, List, [], ◌∷◌, ◌++◌, cond, filter, length, map, refl, sym, ◌∙◌, ap, arith, append-nil, length-append, suc, ◌==◌, ◌*◌, eqb-true, zero-add}
+use Rattle.std.proofs.Common.{◌≡◌, ℕ, ◌+◌, Bool, true, false, List, [], ◌∷◌, ◌++◌, cond, filter, length, map, refl, sym, ◌∙◌, ap, arith, append-nil, suc, ◌==◌, ◌*◌, eqb-true, zero-add}
 use Rattle.std.proofs.lemmas.List.{map_push, length-map}
 use Rattle.std.proofs.lemmas.List.Elements.{filter-append}
 use Rattle.std.specs.Prelude.{sum_by}

@@ -1,10 +1,9 @@
 -- Learning as its loop sees it.
-use Rattle.std.proofs.Common.{◌≡◌, ℕ, zero, suc, ◌+◌, ◌-◌, ◌*◌, ◌<◌, ◌≤◌, ◌^◌, List, [], ◌∷◌, ◌++◌, All, length, map, get_or, take, refl, sym, ◌∙◌, ap, subst, arith, true}
+use Rattle.std.proofs.Common.{◌≡◌, ℕ, zero, suc, ◌+◌, ◌-◌, ◌*◌, ◌<◌, ◌≤◌, List, [], ◌∷◌, ◌++◌, length, map, get_or, take, refl, sym, ◌∙◌, ap, subst, arith}
 use Rattle.std.proofs.Math.Nat.{mul-le-mul_right}
 use Rattle.std.proofs.lemmas.List.{length-map, map_push, take_more, take_all, get_or-map, length-take}
 use Rattle.thumb_instr.specs.declared.instr.Instr.{Instr}
 use Rattle.thumb_instr.specs.declared.items.Mask.{Mask}
-use Rattle.seq_enum.specs.Pools.{is_pool}
 use Rattle.window_exec.specs.State.{seen}
 use Rattle.rule_table.specs.Header.{IsHeader}
 use Rattle.rule_table.specs.Table.{Table}
@@ -17,7 +16,7 @@ use Rattle.table_learn.specs.Given.{window_of, IsWindow, AreInLimits, AreWindows
 use Rattle.table_learn.specs.Found.{window_in}
 use Rattle.table_learn.specs.Learnt.{Learnt, IsFull, learnt_from, width_of, text_length, text_limit}
 use Rattle.table_learn.specs.Failing.{learn_cost}
-use Rattle.table_learn.specs.Progress.{Progress, HasLearnt, table_with, states_in, rules_in, search_cost, drop_cost}
+use Rattle.table_learn.specs.Progress.{HasLearnt, table_with, states_in, rules_in, search_cost, drop_cost}
 use Rattle.table_learn.proofs.Gains.{learnt, valid}
 use Rattle.table_learn.proofs.Costs.{learn_more, learn_all}
 

@@ -1,23 +1,21 @@
 -- Entries fit as more states are found, and pass the audit.
-use Rattle.std.proofs.Common.{◌≡◌, ℕ, zero, suc, ◌+◌, ◌<◌, ◌≤◌, ◌⊎◌, ◌==◌, ◌||◌, inl, inr, Bool, true, false, not, List, [], ◌∷◌, ◌++◌, Option, Some, None, All, cond, filter, length, map, slice_get, refl, sym, ◌∙◌, ap, subst, arith, eqb-true, zero-add, nat_le}
-use Rattle.std.proofs.lemmas.Bool.{cases_Bool, or_cases, or_left, or_right, false≢true, and_parts, leb-true, le-leb}
-use Rattle.thumb_instr.specs.declared.instr.Instr.{Instr}
+use Rattle.std.proofs.Common.{◌≡◌, ℕ, zero, suc, ◌+◌, ◌≤◌, ◌⊎◌, ◌==◌, inl, inr, Bool, true, false, not, List, [], ◌∷◌, ◌++◌, Option, Some, None, cond, filter, length, slice_get, refl, sym, ◌∙◌, ap, subst, arith, eqb-true, zero-add, nat_le}
+use Rattle.std.proofs.lemmas.Bool.{or_cases, or_left, or_right, false≢true, and_parts, leb-true, le-leb}
 use Rattle.seq_enum.specs.Lists.{ascends_from}
 use Rattle.window_exec.specs.Seen.{Seen}
-use Rattle.clause_model.specs.Literals.{codes_of}
 use Rattle.rule_table.specs.Table.{Opened, Rule, Table}
 use Rattle.rule_table.specs.Valid.{numbers_of}
 use Rattle.proof_logs.specs.Verdicts.{InTurn}
 use Rattle.table_audit.specs.declared.errors.EntryFault.TheVariants.{Proof, Unfinished}
 use Rattle.table_audit.specs.declared.errors.AuditError.TheVariants.{Entry}
-use Rattle.table_audit.specs.Sides.{named_count, alphabet_registers, formula_of, formula_against}
+use Rattle.table_audit.specs.Sides.{alphabet_registers, formula_of, formula_against}
 use Rattle.table_audit.specs.Shorter.{shorter, is_named}
 use Rattle.table_audit.specs.Acceptance.{EntryVerdict, ToldTest, OpenTest}
 use Rattle.table_audit.proofs.Numbering.{below_in}
 use Rattle.table_learn.specs.Settings.{Settings}
 use Rattle.table_learn.specs.Learnt.{KeepsOrShortens}
 use Rattle.table_learn.specs.Tellings.{told}
-use Rattle.table_learn.specs.Fitness.{IsFit, IsFitName, shorter_of, tells_number, stays_open, without_told}
+use Rattle.table_learn.specs.Fitness.{IsFit, shorter_of, tells_number, stays_open, without_told}
 use Rattle.table_learn.specs.Progress.{table_with}
 use Rattle.table_learn.proofs.Certificates.{refutation_passes, search_spends}
 use Rattle.table_learn.proofs.Telling.{told_is, untold, told_more, told-append, untold_both}

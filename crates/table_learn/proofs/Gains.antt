@@ -1,11 +1,10 @@
 -- One more window, and the table in the end.
-use Rattle.std.proofs.Common.{◌≡◌, ℕ, zero, suc, ◌+◌, ◌-◌, ◌<◌, ◌≤◌, ◌⊎◌, ◌^◌, ◌%◌, ◌/◌, ◌*◌, inl, inr, List, [], ◌∷◌, ◌++◌, Option, Some, None, All, length, map, slice_get, take, drop, get_or, filter, refl, sym, ◌∙◌, ap, subst, arith, zero-add, append-nil, length-append, true}
-use Rattle.std.proofs.lemmas.List.{take-append-le, take_all, length-map}
-use Rattle.std.proofs.lemmas.List.Elements.{All-nil, All-cons, All-append, All-from_get_or}
+use Rattle.std.proofs.Common.{◌≡◌, ℕ, zero, suc, ◌+◌, ◌-◌, ◌<◌, ◌≤◌, ◌^◌, ◌%◌, ◌/◌, ◌*◌, inl, inr, List, [], ◌∷◌, ◌++◌, Some, All, length, map, slice_get, take, get_or, refl, sym, ◌∙◌, ap, subst, arith, zero-add, length-append, true}
+use Rattle.std.proofs.lemmas.List.{take-append-le, take_all}
+use Rattle.std.proofs.lemmas.List.Elements.{All-nil, All-cons, All-append}
 use Rattle.std.proofs.lemmas.Bool.{cases_lt}
-use Rattle.std.proofs.lemmas.Option.{slice_get_within, slice_get-get_or, slice_get-map, same_Some}
+use Rattle.std.proofs.lemmas.Option.{slice_get_within, slice_get-get_or, same_Some}
 use Rattle.thumb_instr.specs.declared.instr.Instr.{Instr}
-use Rattle.thumb_instr.specs.Window.{is_in_window}
 use Rattle.thumb_model.specs.Sides.{AreOver}
 use Rattle.seq_enum.specs.Pools.{is_pool}
 use Rattle.seq_enum.specs.Alphabet.{IsOver}
@@ -17,7 +16,7 @@ use Rattle.rand_pcg.specs.Lcg.{Lcg}
 use Rattle.rand_pcg.specs.Pcg.{pcg32}
 use Rattle.window_exec.specs.Seen.{Seen}
 use Rattle.fingerprints.specs.Seeded.{next_state, seeded_states, states_from}
-use Rattle.rule_table.specs.Table.{Opened, Rule, Table}
+use Rattle.rule_table.specs.Table.{Rule}
 use Rattle.rule_table.specs.Valid.{IsState, IsInstr, IsOpened, IsRule, IsTable}
 use Rattle.table_audit.specs.Sides.{named_count, formula_against}
 use Rattle.table_audit.specs.Acceptance.{StateTest, EntryVerdict, IsAccepted}
@@ -29,7 +28,7 @@ use Rattle.rule_table.specs.declared.header.Field.TheVariants as field
 use Rattle.rule_table.specs.Header.{number_in, IsWithin, IsHeader}
 use Rattle.table_learn.specs.Settings.{Settings, Window}
 use Rattle.table_learn.specs.Given.{AreInLimits}
-use Rattle.table_learn.specs.Learnt.{Learnt, TellsFirst, IsEarned, AreEarned, learnt_from, width_of, KeepsOrShortens, IsProvedBySolver, IsOpenBySolver, IsSpentSearch}
+use Rattle.table_learn.specs.Learnt.{Learnt, TellsFirst, AreEarned, learnt_from, width_of, KeepsOrShortens, IsProvedBySolver, IsOpenBySolver, IsSpentSearch}
 use Rattle.table_learn.specs.Fitness.{IsFit, shorter_of, without_told}
 use Rattle.table_learn.specs.Searching.{EarnedFrom}
 use Rattle.table_learn.specs.Progress.{Progress, table_with}

@@ -1,5 +1,5 @@
 -- How many shorter sequences there are, at more registers and more instructions.
-use Rattle.std.proofs.Common.{◌≡◌, ℕ, zero, suc, ◌+◌, ◌-◌, ◌*◌, ◌^◌, ◌<◌, ◌≤◌, List, length, refl, sym, ◌∙◌, ap, subst, arith}
+use Rattle.std.proofs.Common.{◌≡◌, ℕ, zero, suc, ◌+◌, ◌-◌, ◌*◌, ◌^◌, ◌<◌, ◌≤◌, List, length, sym, subst, arith}
 use Rattle.std.proofs.Math.Nat.{le_refl, le_trans, pow-le-pow_left}
 use Rattle.seq_enum.specs.Lists.{held_in}
 use Rattle.seq_enum.specs.Places.{sum_below}

@@ -3,7 +3,6 @@ use Rattle.std.proofs.Common.{◌≡◌, sym, subst, Ok}
 use Rattle.rule_table.specs.Table.{Table}
 use Rattle.rule_table.specs.Views.{table_of}
 use Rattle.rule_table.proofs.Progress.{written_reads_back}
-use Rattle.proof_logs.specs.Verdicts.{Answers}
 use Rattle.table_audit.specs.Acceptance.{IsAccepted}
 use Rattle.table_audit.proofs.Determined.{accepted_answers}
 use Rattle.table_learn.specs.Passing.{LearntPass}

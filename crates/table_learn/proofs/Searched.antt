@@ -1,6 +1,6 @@
 -- A search as its loop sees it.
 use Rattle.std.specs.Global.{Global}
-use Rattle.std.proofs.Common.{◌≡◌, ℕ, ◌+◌, ◌<◌, ◌≤◌, List, [], ◌∷◌, ◌++◌, All, Some, filter, length, map, slice_get, get_or, take, drop, refl, sym, ◌∙◌, ap, subst, arith, append-nil}
+use Rattle.std.proofs.Common.{◌≡◌, ℕ, ◌+◌, ◌<◌, ◌≤◌, List, [], ◌∷◌, ◌++◌, All, Some, filter, length, map, slice_get, get_or, take, drop, sym, ◌∙◌, ap, subst, append-nil}
 use Rattle.std.specs.Prelude.{Vec}
 use Rattle.std.proofs.lemmas.List.{take_more, take_all, drop_all, take-append-drop}
 use Rattle.std.proofs.lemmas.List.Elements.{All-nil}
@@ -9,7 +9,7 @@ use Rattle.thumb_instr.specs.declared.instr.Instr.{Instr}
 use Rattle.thumb_model.specs.Sides.{AreOver}
 use Rattle.window_exec.specs.Seen.{Seen}
 use Rattle.lrat_check.specs.declared.line.Line.{Line}
-use Rattle.lrat_check.specs.Content.{Content, content_of}
+use Rattle.lrat_check.specs.Content.{content_of}
 use Rattle.lrat_check.specs.Text.{IsLine}
 use Rattle.proof_logs.proofs.Turns.{drop_got}
 use Rattle.bit_blast.specs.Differences.{sides_formula}
@@ -18,7 +18,7 @@ use Rattle.rule_table.specs.Table.{Opened, Rule}
 use Rattle.table_audit.specs.Sides.{named_count}
 use Rattle.table_learn.specs.Settings.{Settings, Window}
 use Rattle.table_learn.specs.Given.{IsWindow}
-use Rattle.table_learn.specs.Learnt.{IsProvedBySolver, IsRefutation, learnt_from}
+use Rattle.table_learn.specs.Learnt.{IsRefutation, learnt_from}
 use Rattle.table_learn.specs.Fitness.{IsFit, shorter_of}
 use Rattle.table_learn.specs.Searching.{shorter_than, AreCandidates, IsSearching, is_below}
 use Rattle.table_learn.specs.Tried.{IsRightSide}

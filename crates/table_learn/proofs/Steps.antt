@@ -1,7 +1,7 @@
 -- A search for the right side of a window, candidate by candidate.
-use Rattle.std.proofs.Common.{◌≡◌, ℕ, zero, suc, ◌+◌, ◌<◌, ◌≤◌, ◌⊎◌, ◌==◌, ◌||◌, ◌&&◌, inl, inr, Bool, true, false, List, [], ◌∷◌, ◌++◌, Option, Some, None, All, Contains, filter, length, map, slice_get, get_or, take, refl, sym, ◌∙◌, ap, subst, arith, eq-eqb, append_assoc, append-nil, nat_le, nat_lt, length-append}
+use Rattle.std.proofs.Common.{◌≡◌, ℕ, zero, suc, ◌<◌, ◌≤◌, ◌⊎◌, ◌==◌, ◌||◌, inl, inr, Bool, true, false, List, [], ◌∷◌, ◌++◌, Some, All, Contains, filter, length, slice_get, get_or, take, refl, sym, ◌∙◌, ap, subst, arith, eq-eqb, append_assoc, append-nil, nat_le}
 use Rattle.std.proofs.Math.Seq.{take-append_seam}
-use Rattle.std.proofs.lemmas.Bool.{cases_lt, or_cases, or_left, or_right, and_parts, leb-true, le-leb, ltb-true, lt-ltb}
+use Rattle.std.proofs.lemmas.Bool.{cases_lt, or_left, or_right, and_parts, leb-true, le-leb, ltb-true, lt-ltb}
 use Rattle.std.proofs.lemmas.List.{take-append-le}
 use Rattle.std.proofs.lemmas.List.Elements.{All-nil, All-push, Contains-push_cases, Contains-append_cases}
 use Rattle.std.proofs.lemmas.List.Folds.{list_any-append}
@@ -23,7 +23,7 @@ use Rattle.table_learn.specs.Given.{IsWindow}
 use Rattle.table_learn.specs.Learnt.{TellsFirst, IsSpentSearch, IsProvedBySolver, learnt_from}
 use Rattle.table_learn.specs.Tellings.{told, tells_apart}
 use Rattle.table_learn.specs.Fitness.{IsFit, shorter_of}
-use Rattle.table_learn.specs.Searching.{shorter_than, formula_for, AreCandidates, IsOpenNumber, EarnedFrom, IsSearching, is_below}
+use Rattle.table_learn.specs.Searching.{shorter_than, formula_for, AreCandidates, IsOpenNumber, IsSearching, is_below}
 use Rattle.table_learn.proofs.Telling.{told_more, told_last, untold, untold_before, apart_tells}
 use Rattle.table_learn.proofs.Fit.{ascends_lower, ascends-filter, filter_at, named-filter}
 

@@ -1,11 +1,9 @@
 -- The tests of telling, and what they test.
-use Rattle.std.proofs.Common.{◌≡◌, ℕ, zero, suc, ◌+◌, ◌<◌, ◌≤◌, ◌⊎◌, ◌↔◌, ◌==◌, ◌||◌, inl, inr, Bool, true, false, not, IsTrue, List, [], ◌∷◌, ◌++◌, All, length, map, slice_get, Some, refl, sym, ◌∙◌, ap, subst, arith, eq-eqb, eqb-true}
-use Rattle.std.specs.Prelude.{Any}
+use Rattle.std.proofs.Common.{◌≡◌, ℕ, ◌↔◌, ◌==◌, ◌||◌, inl, inr, Bool, true, false, not, IsTrue, List, [], ◌∷◌, ◌++◌, refl, sym, ◌∙◌, ap, subst, eq-eqb, eqb-true}
 use Rattle.std.specs.List.{list_any}
-use Rattle.std.proofs.lemmas.Bool.{cases_Bool, or_cases, or_left, or_right, true≢false, false≢true}
+use Rattle.std.proofs.lemmas.Bool.{cases_Bool, or_cases, or_left, or_right, true≢false}
 use Rattle.std.proofs.lemmas.List.Folds.{Any-from_list_any, list_any-from_Any, list_any-append}
 use Rattle.thumb_instr.specs.declared.instr.Instr.{Instr}
-use Rattle.thumb_instr.specs.Items.{has, is_in_masks}
 use Rattle.thumb_model.specs.Items.{Values, one_of}
 use Rattle.thumb_model.specs.Effect.{after_all}
 use Rattle.window_exec.specs.Telling.{Differ, Tells}

@@ -1,5 +1,5 @@
 -- The length of a table's text, part by part.
-use Rattle.std.proofs.Common.{◌≡◌, ℕ, zero, suc, ◌+◌, ◌*◌, ◌<◌, ◌≤◌, ◌^◌, ◌%◌, ◌/◌, ◌&&◌, List, [], ◌∷◌, ◌++◌, All, map, length, take, get_or, refl, sym, ◌∙◌, ap, subst, arith, length-append, append-nil, true, false, cond, nat_le, nat_lt}
+use Rattle.std.proofs.Common.{◌≡◌, ℕ, zero, suc, ◌+◌, ◌*◌, ◌<◌, ◌≤◌, ◌^◌, ◌/◌, List, [], ◌∷◌, ◌++◌, All, map, length, take, get_or, refl, sym, ◌∙◌, ap, arith, length-append, append-nil, true, false, cond, nat_le, nat_lt}
 use Rattle.std.specs.Prelude.{decimal, sum_by, codes}
 use Rattle.std.specs.List.{flat_map, list_all}
 use Rattle.std.proofs.lemmas.Bool.{and_parts, ltb-true}
@@ -15,7 +15,7 @@ use Rattle.lrat_check.specs.Text.{text_of as text_of_line}
 use Rattle.lrat_check.specs.declared.line.Line.{Line}
 use Rattle.rule_table.specs.declared.table.Open as code
 use Rattle.rule_table.specs.Views.{opened_of}
-use Rattle.seq_enum.specs.Pools.{inside, is_pool}
+use Rattle.seq_enum.specs.Pools.{inside}
 use Rattle.seq_enum.proofs.Bounds.{bounds}
 use Rattle.window_exec.specs.Seen.{Seen}
 use Rattle.rule_table.specs.declared.header.Field.{Field}
@@ -26,7 +26,7 @@ use Rattle.rule_table.specs.Header.{Header, heads, number_in, row, IsWithin, IsH
 use Rattle.rule_table.specs.Table.{Opened, Rule, Table}
 use Rattle.rule_table.specs.Valid.{IsState}
 use Rattle.rule_table.proofs.LinesTell.{within_small}
-use Rattle.rule_table.specs.Text.{Item, Number, Pool, State, Entry, Left, Right, Mask, Proof, Logged, Open, End, hex_of, instr_text, named, mask_text, after_blanks, line_of, text_of_items, open_items, rule_items, said, header_items, items_of, text_of}
+use Rattle.rule_table.specs.Text.{Item, Number, Pool, State, Entry, Left, Right, Mask, Proof, Logged, Open, End, hex_of, instr_text, named, after_blanks, line_of, text_of_items, open_items, rule_items, said, header_items, items_of}
 use Rattle.table_learn.specs.Settings.{Settings}
 use Rattle.table_learn.specs.Learnt.{text_length}
 use Rattle.table_learn.specs.Lengths.{lines_length, log_length, opens_length, rules_length, instr_length, item_length}

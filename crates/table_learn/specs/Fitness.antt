@@ -1,5 +1,5 @@
 -- Entries as they are while more states are found.
-use Rattle.std.specs.Prelude.{ℕ, ◌≡◌, ◌<◌, ◌⊎◌, ◌^◌, Bool, true, false, not, List, All, Option, Some, None, filter, length, slice_get}
+use Rattle.std.specs.Prelude.{ℕ, ◌≡◌, ◌⊎◌, Bool, true, false, not, List, All, Option, Some, None, filter, length, slice_get}
 use Rattle.thumb_instr.specs.declared.instr.Instr.{Instr}
 use Rattle.seq_enum.specs.Lists.{ascends_from}
 use Rattle.seq_enum.specs.Alphabet.{IsOver}
@@ -10,7 +10,7 @@ use Rattle.rule_table.specs.Table.{Opened, Rule}
 use Rattle.rule_table.specs.Valid.{numbers_of}
 use Rattle.table_audit.specs.Sides.{alphabet_registers, formula_against}
 use Rattle.table_audit.specs.Shorter.{sequences_below, is_named}
-use Rattle.table_learn.specs.Settings.{Settings, Window}
+use Rattle.table_learn.specs.Settings.{Settings}
 use Rattle.table_learn.specs.Given.{IsWindow}
 use Rattle.table_learn.specs.Learnt.{learnt_from, KeepsOrShortens, IsProvedBySolver, IsSpentSearch}
 use Rattle.table_learn.specs.Tellings.{told}

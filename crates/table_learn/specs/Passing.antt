@@ -1,7 +1,6 @@
 -- Learnt tables pass the audit.
 use Rattle.std.specs.Prelude.{◌≡◌, List, Result, Ok, IfErr}
 use Rattle.rule_table.specs.declared.table.Table as code
-use Rattle.rule_table.specs.declared.errors.TableError.{TableError}
 use Rattle.rule_table.specs.Table.{Table}
 use Rattle.rule_table.specs.Text.{text_of}
 use Rattle.rule_table.specs.Valid.{IsTable}

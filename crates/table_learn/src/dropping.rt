@@ -16,9 +16,9 @@ use crate::settings::Settings;
 use crate::trying::is_told;
 use crate::window::Window;
 use rule_table::{Entry, Open};
-use seq_enum::seq_at;
 use std::alloc::{AllocError, Global};
 use step_ledger::{Ledger, Steps};
+use table_audit::shorter_at;
 use window_exec::WState;
 
 /// The open numbers that are below a limit.
@@ -56,9 +56,9 @@ fn tells_open<L: Ledger>(
     ensures told { (e : Rule) → e.left ≡ window.now.left → e.mask ≡ window.now.mask.items.bits → length e.right ≡ count → result ≡ tells_number (map seen found.now) e (slice_get (shorter_of (settings_of settings.now) e) number) }
     ensures cost { steps.new ≤ steps.old + length found.now * (length window.now.left + length window.now.left) }
 {
-    match seq_at(window.k, &settings.pool, number) {
-        Some(seq) if seq.len() < count => { is_told(found, &window.left, &seq, window.mask, steps) }
-        _ => false,
+    match shorter_at(window.k, &settings.pool, count, number) {
+        Some(seq) => is_told(found, &window.left, &seq, window.mask, steps),
+        None => false,
     }
 }
 

@@ -18,13 +18,13 @@ use crate::keeping::candidates;
 use crate::lengths::{entry_length, plus, times};
 use crate::searching::search;
 use crate::settings::{Settings, hold};
-use crate::widths::count_shorter;
 use crate::window::Window;
 use fingerprints::seeded;
 use outcomes::Tables;
 use rule_table::{Entry, Table, write_table};
 use std::alloc::{AllocError, Global};
 use step_ledger::{Ledger, Steps};
+use table_audit::count_shorter;
 use thumb_instr::{Mask, Seq};
 use window_exec::{States, WState};
 

@@ -10,7 +10,6 @@ mod lengths;
 mod searching;
 mod settings;
 mod trying;
-mod widths;
 mod window;
 
 pub use errors::LearnError;

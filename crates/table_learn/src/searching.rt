@@ -14,12 +14,12 @@ ghost use Rattle.table_learn.specs.Tried.{Tried};
 use crate::dropping::keep_below;
 use crate::settings::Settings;
 use crate::trying::{Finding, try_sequence};
-use crate::widths::{count_shorter, shorter_at};
 use crate::window::{Window, copied};
 use lrat_check::Line;
 use rule_table::{Entry, Open};
 use std::alloc::{AllocError, Global};
 use step_ledger::{Ledger, Steps};
+use table_audit::{count_shorter, shorter_at};
 use thumb_instr::Seq;
 use window_exec::WState;
 
@@ -43,7 +43,9 @@ fn try_number<L: Ledger>(
     ensures more { OnOk result (length states.old.items ≤ length states.new.items) }
     ensures cost { OnOk result (steps.new ≤ steps.old + query_cost settings.now.budget (length states.new.items) (length window.now.left)) }
 {
-    let seq = shorter_at(window.k, &settings.pool, window.len(), number);
+    let Some(seq) = shorter_at(window.k, &settings.pool, window.left.len(), number) else {
+        unreachable!();
+    };
     match try_sequence(alloc, states, window, &seq, settings, steps)? {
         Finding::Told => {}
         Finding::State(state) => states.push(state)?,

@@ -1,11 +1,9 @@
 //! A window that is learnt.
-ghost use Rattle.std.specs.Prelude.{◌≡◌, ◌<◌, ◌≤◌, ◌+◌, true, length, map, max};
-ghost use Rattle.std.specs.List.{list_all};
-ghost use Rattle.thumb_instr.specs.Window.{is_in_window};
-ghost use Rattle.thumb_model.specs.Sides.{above, register_count};
+ghost use Rattle.std.specs.Prelude.{◌≡◌, ◌<◌, ◌≤◌, length};
 ghost use Rattle.table_audit.specs.Sides.{named_count, IsCanonicalSide};
 
-use thumb_instr::{Instr, Low, Mask, Seq, registers_of};
+use table_audit::named_count;
+use thumb_instr::{Mask, Seq};
 
 /// A window, the items that may be live after it, and how many registers it names.
 #[derive(Drop)]
@@ -17,6 +15,7 @@ pub(crate) struct Window {
 
 impl Window {
     /// A copy of a window that is its own canonical form, with its mask.
+    #[tactic(auto, using(table_audit::proofs::Fitting::ordered_of))]
     pub fn new(left: &Seq, mask: Mask) -> Window
         requires { IsCanonicalSide left.now }
         ensures left { result.left ≡ left.now }
@@ -28,7 +27,7 @@ impl Window {
         Window {
             left: copied(left),
             mask,
-            k: register_count(left.as_slice()) as u8,
+            k: named_count(left),
         }
     }
 
@@ -49,29 +48,4 @@ pub(crate) fn copied(seq: &Seq) -> Seq
         None => unreachable!(),
         Some(seq) => seq,
     }
-}
-
-/// The least number above all that the registers have.
-fn above(registers: &[Low]) -> u32
-    ensures value { result ≡ above (map (λ r. r.number) registers.now) }
-    ensures small { result ≤ 8 }
-{
-    let mut least = 0;
-    for register in registers {
-        least = least.max(register.number + 1);
-    }
-    least
-}
-
-/// How many registers instructions name, where they name each one below the greatest.
-fn register_count(instrs: &[Instr]) -> u32
-    requires { list_all is_in_window instrs.now ≡ true }
-    ensures value { result ≡ register_count instrs.now }
-    ensures small { result ≤ 8 }
-{
-    let mut count = 0;
-    for instr in instrs {
-        count = count.max(above(&registers_of(instr)));
-    }
-    count
 }

@@ -2,10 +2,11 @@ use Rattle.std.proofs.Common.{◌≡◌, [], ◌∷◌, List, ap, subst, map, re
 use Rattle.std.proofs.lemmas.List.Elements.{All-cons, All-nil}
 use Rattle.thumb_instr.specs.declared.instr.Instr.{Instr}
 use Rattle.thumb_instr.specs.declared.items.Mask.{Mask}
+use Rattle.rule_table.specs.declared.header.Field.TheVariants.{Regs, Left, Budget}
 use Rattle.rule_table.specs.Table.{Table}
 use Rattle.rule_table.specs.Views.{header_in}
 use Rattle.table_learn.specs.Settings.{Settings}
-use Rattle.table_learn.specs.Given.{settings_of, window_of, AreWindows, IsWindow}
+use Rattle.table_learn.specs.Given.{settings_of, window_of, AreInLimits, AreWindows, IsWindow}
 use Rattle.cases.proofs.learning.lesson.Goals as goal
 
 only_window : (s : Settings) (w : List Instr × Mask) → IsWindow s (window_of w) → AreWindows s (map window_of (w ∷ []))
@@ -24,4 +25,16 @@ learn-requires-clause-windows c =
     (subst (λ s. IsWindow s (window_of (c.in_ok-entry.entry.left, c.in_ok-entry.entry.mask))) same w))
 
 pub learn-requires-clause-settings : goal.learn-requires-clause-settings
-learn-requires-clause-settings c = ?
+learn-requires-clause-settings c =
+    let held = header_in c.args.table in
+    let same : held ≡ settings_of c.into_parts-settings.result.0 = ap (λ (t : Table). t.header) c.into_parts-settings.ensures in
+    let in_limits : AreInLimits held =
+    record {
+      some_regs = (c.requires.header.numbers Regs).0;
+      few_regs = (c.requires.header.numbers Regs).1;
+      some_left = (c.requires.header.numbers Left).0;
+      few_left = (c.requires.header.numbers Left).1;
+      some_budget = (c.requires.header.numbers Budget).0;
+      few_budget = (c.requires.header.numbers Budget).1;
+    } in
+    subst AreInLimits same in_limits

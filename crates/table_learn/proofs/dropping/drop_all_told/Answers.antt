@@ -1,4 +1,4 @@
-use Rattle.std.proofs.Common.{◌≡◌, ◌∙◌, [], sym, ap, map, rules, List}
+use Rattle.std.proofs.Common.{◌≡◌, ◌∙◌, [], sym, ap, map, List}
 use Rattle.window_exec.specs.declared.state.WState.{WState}
 use Rattle.window_exec.specs.State.{seen}
 use Rattle.rule_table.specs.Views.{rule_of}

@@ -1,11 +1,11 @@
-use Rattle.std.proofs.Common.{ℕ, ◌≡◌, ◌≤◌, ◌+◌, ◌*◌, ◌∷◌, ◌++◌, [], ◌∙◌, ap, sym, arith, not, map, length, List, true, false, length-append, slice_get}
+use Rattle.std.proofs.Common.{ℕ, ◌≡◌, ◌+◌, ◌*◌, ◌∷◌, ◌++◌, [], ◌∙◌, ap, sym, arith, not, map, length, true, false, length-append, slice_get}
 use Rattle.thumb_instr.specs.declared.items.Mask.{Mask}
 use Rattle.window_exec.specs.State.{seen}
 use Rattle.rule_table.specs.Views.{opened_of, rule_of}
 use Rattle.rule_table.specs.Text.{open_items}
 use Rattle.table_learn.specs.Given.{settings_of}
 use Rattle.table_learn.specs.Fitness.{stays_open, tells_number, shorter_of}
-use Rattle.table_learn.specs.Lengths.{lines_length, opens_length}
+use Rattle.table_learn.specs.Lengths.{lines_length}
 use Rattle.table_learn.proofs.Costs.{next_share}
 use Rattle.table_learn.proofs.Dropped.{name_dropped, name_kept, names_longer, new_longer}
 use Rattle.table_learn.proofs.dropping.drop_told.Goals as goal

@@ -1,4 +1,4 @@
-use Rattle.std.proofs.Common.{ℕ, ◌≡◌, ◌<◌, ◌≤◌, ◌+◌, ◌∙◌, sym, ap, subst, arith, map, length, take, get_or, List}
+use Rattle.std.proofs.Common.{◌≡◌, ◌<◌, ◌≤◌, ◌+◌, sym, subst, arith, map, length, take, get_or}
 use Rattle.table_learn.specs.Given.{settings_of, window_of, AreWindows, IsWindow}
 use Rattle.table_learn.specs.Found.{window_in}
 use Rattle.table_learn.specs.Learnt.{width_of}

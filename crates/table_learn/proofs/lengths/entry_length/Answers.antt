@@ -1,4 +1,4 @@
-use Rattle.std.proofs.Common.{ℕ, ◌≡◌, ◌+◌, ◌∙◌, ap, List, subst, arith, map}
+use Rattle.std.proofs.Common.{◌≡◌, ◌+◌, ◌∙◌, ap, List, subst, arith, map}
 use Rattle.std.specs.Prelude.{IfOk, sum_by}
 use Rattle.thumb_instr.specs.declared.instr.Instr.{Instr}
 use Rattle.lrat_check.specs.declared.line.Line.{Line}

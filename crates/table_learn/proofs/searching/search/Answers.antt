@@ -1,13 +1,13 @@
-use Rattle.std.proofs.Common.{ℕ, ◌≡◌, ◌≤◌, ◌+◌, ◌*◌, ◌∙◌, sym, ap, subst, arith, refl, map, length, List}
+use Rattle.std.proofs.Common.{ℕ, ◌≡◌, ◌+◌, ◌∙◌, sym, ap, subst, arith, refl, map, length, List}
 use Rattle.std.proofs.lemmas.List.{length-map}
 use Rattle.window_exec.specs.State.{seen}
 use Rattle.window_exec.specs.Seen.{Seen}
-use Rattle.rule_table.specs.Views.{opened_of, rule_of}
+use Rattle.rule_table.specs.Views.{opened_of}
 use Rattle.table_audit.specs.Sides.{named_count}
 use Rattle.table_audit.specs.Shorter.{sequences_below}
 use Rattle.table_learn.specs.Given.{settings_of}
 use Rattle.table_learn.specs.Found.{window_in}
-use Rattle.table_learn.specs.Searching.{EarnedFrom, query_cost}
+use Rattle.table_learn.specs.Searching.{EarnedFrom}
 use Rattle.table_learn.specs.Tried.{Tried}
 use Rattle.table_learn.proofs.Costs.{query_more, query_within}
 use Rattle.table_learn.proofs.Searched.{search_next, right_found, none_found}

@@ -1,10 +1,8 @@
-use Rattle.std.proofs.Common.{ℕ, ◌≡◌, ◌≤◌, ◌+◌, ◌<◌, ◌^◌, rules, arith, subst, length, map, List, All}
-use Rattle.std.specs.Prelude.{ℤ}
+use Rattle.std.proofs.Common.{◌≡◌, ◌≤◌, ◌+◌, rules, arith, subst, length}
 use Rattle.cnf_gates.specs.Cnf.{Cnf, AreClausesOf}
 use Rattle.cnf_gates.specs.Meaning.{assigned}
 use Rattle.clause_model.specs.Literals.{codes_of}
 use Rattle.cdcl_core.specs.Solved.{AreBelow, VerdictOf}
-use Rattle.bit_blast.specs.Differences.{sides_formula}
 use Rattle.table_learn.proofs.Asking.{model_tells, state_words, refutes, spends, clauses_below}
 use Rattle.table_learn.proofs.trying.ask.Goals as goal
 

@@ -1,4 +1,4 @@
-use Rattle.std.proofs.Common.{◌≡◌, ◌∙◌, sym, map, true, false}
+use Rattle.std.proofs.Common.{◌≡◌, ◌∙◌, sym, map, false}
 use Rattle.window_exec.specs.State.{seen}
 use Rattle.table_audit.proofs.Walking.{over_more}
 use Rattle.table_learn.specs.Given.{settings_of}

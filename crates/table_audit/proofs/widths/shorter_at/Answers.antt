@@ -1,8 +1,8 @@
 use Rattle.std.proofs.Common.{arith, ◌<◌, ◌≤◌, ◌∙◌, sym, length}
 use Rattle.table_audit.proofs.Numbering.{below_short, below_long, below_none}
 use Rattle.table_audit.proofs.Walking.{numbered_over}
-use Rattle.table_audit.proofs.opens.shorter_at.Goals as goal
-use Rattle.table_audit.proofs.opens.shorter_at.Goals.{in_default-via-in-Some+else-len-count, in_default-via-in_default}
+use Rattle.table_audit.proofs.widths.shorter_at.Goals as goal
+use Rattle.table_audit.proofs.widths.shorter_at.Goals.{in_default-via-in-Some+else-len-count, in_default-via-in_default}
 
 pub returns-in-Some-clause-value : goal.returns-in-Some-clause-value
 returns-in-Some-clause-value c =
