@@ -13,3 +13,4 @@ pub mod Sound
 pub mod Determined
 pub mod OneToOne
 pub mod CanonicalForms
+pub mod Settling

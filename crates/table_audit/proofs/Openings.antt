@@ -16,8 +16,8 @@ use Rattle.proof_logs.specs.Logs.{IsSpentLog}
 use Rattle.proof_logs.specs.Costs.{spent_cost}
 use Rattle.table_audit.specs.Sides.{named_count, alphabet_registers, formula_against}
 use Rattle.table_audit.specs.Shorter.{sequences_below, shorter, IsBelow, IsTold}
-use Rattle.table_audit.specs.Trials.{start_of, AreTrials}
-use Rattle.table_audit.specs.declared.trials.Trial.{Trial}
+use Rattle.outcomes.specs.Trials.{start_of, AreTrials}
+use Rattle.outcomes.specs.declared.trials.Trial.{Trial}
 use Rattle.table_audit.specs.Naming.{run_share, told_cost}
 use Rattle.table_audit.specs.Acceptance.{IsRightlyOpen}
 use Rattle.table_audit.specs.Costs.{log_cost, open_cost}

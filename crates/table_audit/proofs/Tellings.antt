@@ -13,32 +13,15 @@ use Rattle.window_exec.specs.State.{values_of, seen}
 use Rattle.window_exec.specs.Seen.{Seen}
 use Rattle.window_exec.specs.Telling.{Differ, Tells}
 use Rattle.proof_logs.proofs.Turns.{got}
-use Rattle.table_audit.specs.declared.trials.Trial.{Trial}
+use Rattle.outcomes.specs.declared.trials.Trial.{Trial}
 use Rattle.table_audit.specs.Shorter.{values_in, IsTold}
-use Rattle.table_audit.specs.Trials.{start_of, AreTrials}
-
--- ---- none of a list so far, or one of it ----
-
-pub none_more : {X : Type 0} (P : X → Type 0) (xs : List X) (i : ℕ) (d : X) → i < length xs → All (λ x. P x → ⊥) (take i xs) → (P (get_or xs i d) → ⊥) → All (λ x. P x → ⊥) (take (i + 1) xs)
-none_more P xs i d low none here = subst (All (λ x. P x → ⊥)) (sym (take_more xs i d low)) (All-push (λ x. P x → ⊥) (take i xs) (get_or xs i d) none here)
-
-pub none_any : {X : Type 0} (P : X → Type 0) (xs : List X) (i : ℕ) → length xs ≤ i → All (λ x. P x → ⊥) (take i xs) → Any P xs → ⊥
-none_any P xs i past none found =
-    let all : All (λ x. P x → ⊥) xs = subst (All (λ x. P x → ⊥)) (take_all i xs past) none in
-    all found.0 found.1 found.2 (subst P (sym found.3) found.4)
-
-pub any_at : {X : Type 0} (P : X → Type 0) (xs : List X) (i : ℕ) (d : X) → i < length xs → P (get_or xs i d) → Any P xs
-any_at P xs i d low here = (i, get_or xs i d, low, get_or_default xs i (get_or xs i d) d low, here)
+use Rattle.outcomes.specs.Trials.{start_of, AreTrials}
 
 -- what a list's element becomes stands at its place
 pub listed : {X Y : Type 0} (f : X → Y) (xs : List X) (i : ℕ) (x : X) → i < length xs → x ≡ get_or xs i x → slice_get (map f xs) i ≡ Some (f x)
 listed f xs i x low is = slice_get-map f xs i ∙ ap (option_map f) (got xs i x low is)
 
 -- ---- trials ----
-
--- a test beside a state is one beside what it holds
-pub beside : (a b v : Values) (mask : ℕ) (r : Bool) → b ≡ v → IsTrue r ↔ Differ a b mask → IsTrue r ↔ Differ a v mask
-beside a b v mask r e h = subst (λ w. IsTrue r ↔ Differ a w mask) e h
 
 present : {X : Type 0} (xs : List X) (i : ℕ) → i < length xs → (x : X) × (get_or xs i x ≡ x)
 present xs i low = elim (slice_get_cases xs i).1 [

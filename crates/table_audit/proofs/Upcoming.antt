@@ -1,17 +1,19 @@
--- Numbers named open, one after the other.
-use Rattle.std.proofs.Common.{◌≡◌, ℕ, suc, ◌+◌, ◌<◌, ◌≤◌, ◌==◌, true, false, inl, inr, List, [], ◌∷◌, Some, None, drop, refl, sym, ◌∙◌, ap, subst, arith, nat_le}
-use Rattle.std.proofs.lemmas.List.{drop_all}
-use Rattle.std.proofs.lemmas.Option.{slice_get_cases}
-use Rattle.std.proofs.lemmas.Bool.{eqb-true, eq-eqb, and_parts, leb-true, le-leb, ne_eqb}
+-- Whether a number is among those named open, which ascend.
+use Rattle.std.proofs.Common.{◌≡◌, ℕ, zero, suc, Bool, ◌||◌, length, get_or, slice_get, map, ◌<◌, ◌≤◌, ◌==◌, true, false, List, [], ◌∷◌, Some, None, refl, sym, ◌∙◌, ap, subst, arith, nat_le, nat_lt}
+use Rattle.std.specs.List.{AllWithin}
+use Rattle.std.specs.List.Sorted.{IsNonDecreasingBy}
+use Rattle.std.proofs.lemmas.Bool.{and_parts, leb-true, ltb-true, ltb-false, ne_eqb}
+use Rattle.std.proofs.lemmas.Option.{same_Some}
 use Rattle.seq_enum.specs.Lists.{ascends_from}
+use Rattle.rule_table.specs.declared.table.Open as code
+use Rattle.rule_table.specs.Views.{opened_of}
 use Rattle.rule_table.specs.Table.{Opened}
 use Rattle.rule_table.specs.Valid.{numbers_of}
-use Rattle.proof_logs.proofs.Turns.{drop_got}
 use Rattle.table_audit.specs.Shorter.{is_named}
-use Rattle.table_audit.specs.Naming.{is_number, is_number_at, IsUpcoming}
+use Rattle.table_audit.specs.Naming.{is_number}
 
 -- the numbers from one on that ascend hold it only in front
-named_high : (opens : List Opened) (low n : ℕ) → n < low → ascends_from low (numbers_of opens) ≡ true → is_named opens n ≡ false
+pub named_high : (opens : List Opened) (low n : ℕ) → n < low → ascends_from low (numbers_of opens) ≡ true → is_named opens n ≡ false
 unfolding ascends_from
 named_high [] low n h a = refl
 named_high (o ∷ opens) low n h a =
@@ -20,84 +22,90 @@ named_high (o ∷ opens) low n h a =
     let other : (o.number == n) ≡ false = ne_eqb o.number n (λ e. omega (arith, e, least, h)) in
     rw other (named_high opens (suc o.number) n (omega arith) parts.1)
 
-ascends_more : (low more : ℕ) (o : ℕ) (os : List ℕ) → more ≤ o → ascends_from low (o ∷ os) ≡ true → ascends_from more (o ∷ os) ≡ true
+or_none : (b : Bool) → (b || false) ≡ b
+or_none true = refl
+or_none false = refl
+
+-- a number is named open where the first that isn't below it is it
+pub named_at : (opens : List Opened) (low p n : ℕ) → ascends_from low (numbers_of opens) ≡ true
+    → ((k : ℕ) (o : Opened) → k < p → slice_get opens k ≡ Some o → o.number < n) → ((k : ℕ) (o : Opened) → p ≤ k → slice_get opens k ≡ Some o → n ≤ o.number)
+    → is_named opens n ≡ is_number (slice_get opens p) n
 unfolding ascends_from
-ascends_more low more o os h a =
-    let parts = and_parts (nat_le low o) (ascends_from (suc o) os) a in
-    rw (le-leb more o h) parts.1
+named_at [] low p n a before after = refl
+named_at (o ∷ opens) low zero n a before after =
+    let parts = and_parts (nat_le low o.number) (ascends_from (suc o.number) (numbers_of opens)) a in
+    let past : n ≤ o.number = after 0 o (omega arith) refl in
+    ap (λ b. (o.number == n) || b) (named_high opens (suc o.number) n (omega (arith, past)) parts.1) ∙ or_none (o.number == n)
+named_at (o ∷ opens) low (suc p) n a before after =
+    let parts = and_parts (nat_le low o.number) (ascends_from (suc o.number) (numbers_of opens)) a in
+    let less : o.number < n = before 0 o (omega arith) refl in
+    ap (λ b. b || is_named opens n) (ne_eqb o.number n (λ e. omega (arith, e, less)))
+    ∙ named_at opens (suc o.number) p n parts.1 (λ k z h at. before (suc k) z (omega (arith, h)) at) (λ k z h at. after (suc k) z (omega (arith, h)) at)
 
-ascends_rest : (low o : ℕ) (os : List ℕ) → ascends_from low (o ∷ os) ≡ true → (low ≤ o) × (ascends_from (suc o) os ≡ true)
+-- the numbers rise
+pub ascends_get : (low : ℕ) (xs : List ℕ) → ascends_from low xs ≡ true → (j : ℕ) → j < length xs → low ≤ get_or xs j 0
 unfolding ascends_from
-ascends_rest low o os a =
-    let parts = and_parts (nat_le low o) (ascends_from (suc o) os) a in
-    (leb-true low o parts.0, parts.1)
+ascends_get low [] a j h = absurd (omega (arith, h))
+ascends_get low (x ∷ xs) a zero h = let parts = and_parts (nat_le low x) (ascends_from (suc x) xs) a in leb-true low x parts.0
+ascends_get low (x ∷ xs) a (suc j) h =
+    let parts = and_parts (nat_le low x) (ascends_from (suc x) xs) a in
+    let l : low ≤ x = leb-true low x parts.0 in
+    let r : suc x ≤ get_or xs j 0 = ascends_get (suc x) xs parts.1 j (omega (arith, h)) in
+    omega (arith, l, r)
 
-ascends_none : (low : ℕ) → ascends_from low [] ≡ true
+pub ascends_rise : (low : ℕ) (xs : List ℕ) → ascends_from low xs ≡ true → (i j : ℕ) → i ≤ j → j < length xs → get_or xs i 0 ≤ get_or xs j 0
 unfolding ascends_from
-ascends_none low = refl
+ascends_rise low [] a i j h l = absurd (omega (arith, l))
+ascends_rise low (x ∷ xs) a zero zero h l = omega arith
+ascends_rise low (x ∷ xs) a zero (suc j) h l =
+    let parts = and_parts (nat_le low x) (ascends_from (suc x) xs) a in
+    let r : suc x ≤ get_or xs j 0 = ascends_get (suc x) xs parts.1 j (omega (arith, l)) in
+    omega (arith, r)
+ascends_rise low (x ∷ xs) a (suc i) zero h l = absurd (omega (arith, h))
+ascends_rise low (x ∷ xs) a (suc i) (suc j) h l =
+    let parts = and_parts (nat_le low x) (ascends_from (suc x) xs) a in
+    ascends_rise (suc x) xs parts.1 i j (omega (arith, h)) (omega (arith, l))
 
--- at the start all are to come
-pub upcoming_all : (opens : List Opened) → ascends_from 0 (numbers_of opens) ≡ true → IsUpcoming opens 0 0
-upcoming_all opens a = record { ascends = a; passed = λ n h. refl }
+-- ---- the numbers as the code has them ----
 
--- what is known where the number at the place is this one
-record Here (opens : List Opened) (next number : ℕ) : Type 0 where
-  first : Opened
-  is : first.number ≡ number
-  parts : drop next opens ≡ first ∷ drop (next + 1) opens
+number_at : (es : List code.Open) (i : ℕ) (d : code.Open) → i < length es → get_or (numbers_of (map opened_of es)) i 0 ≡ (get_or es i d).number
+number_at [] i d h = absurd (omega (arith, h))
+number_at (e ∷ es) zero d h = refl
+number_at (e ∷ es) (suc i) d h = number_at es i d (omega (arith, h))
 
-here : (opens : List Opened) (next number : ℕ) → is_number_at opens next number ≡ true → Here opens next number
-here opens next number h = elim (slice_get_cases opens next).1 [
-  | inl p ↦ (
-      let test : is_number (Some p.0) number ≡ true = sym (ap (λ o. is_number o number) p.2) ∙ h in
-      record { first = p.0; is = eqb-true p.0.number number test; parts = drop_got opens next p.0 p.2 }
-      )
-  | inr p ↦ (let test : is_number None number ≡ true = sym (ap (λ o. is_number o number) p.1) ∙ h in absurd (cc))
-]
+length_numbers : (es : List code.Open) → length (numbers_of (map opened_of es)) ≡ length es
+length_numbers [] = refl
+length_numbers (e ∷ es) = ap suc (length_numbers es)
 
-pub named_now : (opens : List Opened) (next number : ℕ) → IsUpcoming opens next number → is_number_at opens next number ≡ true → is_named opens number ≡ true
-named_now opens next number u h =
-    let o = here opens next number h in
-    let same : (o.first.number == number) ≡ true = eq-eqb o.first.number number o.is in
-    u.passed number (omega arith) ∙ ap (λ os. is_named os number) o.parts ∙ rw same refl
+pub rising : (es : List code.Open) → ascends_from 0 (numbers_of (map opened_of es)) ≡ true → IsNonDecreasingBy (λ e. e.number) es
+rising es a i j d h l =
+    let size = length_numbers es in
+    let r = ascends_rise 0 (numbers_of (map opened_of es)) a i j h (omega (arith, l, size)) in
+    omega (arith, r, number_at es i d (omega (arith, h, l)), number_at es j d l)
 
-pub upcoming_named : (opens : List Opened) (next number : ℕ) → IsUpcoming opens next number → is_number_at opens next number ≡ true → IsUpcoming opens (next + 1) (number + 1)
-upcoming_named opens next number u h =
-    let o = here opens next number h in
-    let a : ascends_from number (o.first.number ∷ numbers_of (drop (next + 1) opens)) ≡ true = subst (λ os. ascends_from number (numbers_of os) ≡ true) o.parts u.ascends in
-    let later : suc o.first.number ≡ number + 1 = omega (arith, o.is) in
-    record {
-      ascends = subst (λ low. ascends_from low (numbers_of (drop (next + 1) opens)) ≡ true) later (ascends_rest number o.first.number (numbers_of (drop (next + 1) opens)) a).1;
-      passed = λ n past.
-          let other : (o.first.number == n) ≡ false = ne_eqb o.first.number n (λ e. omega (arith, e, o.is, past)) in
-          u.passed n (omega arith) ∙ ap (λ os. is_named os n) o.parts ∙ rw other refl;
-    }
+code_at : (es : List code.Open) (k : ℕ) (o : Opened) → slice_get (map opened_of es) k ≡ Some o → (e : code.Open) × (k < length es) × (get_or es k e ≡ e) × (opened_of e ≡ o)
+code_at [] k o at = absurd (cc)
+code_at (e ∷ es) zero o at = (e, omega arith, refl, same_Some (opened_of e) o at)
+code_at (e ∷ es) (suc k) o at = let r = code_at es k o at in (r.0, (let l = r.1 in omega (arith, l)), r.2, r.3)
 
--- where it isn't, no number named open is
-pub unnamed_now : (opens : List Opened) (next number : ℕ) → IsUpcoming opens next number → is_number_at opens next number ≡ false → is_named opens number ≡ false
-unnamed_now opens next number u h = elim (slice_get_cases opens next).1 [
-  | inl p ↦ (
-      let parts : drop next opens ≡ p.0 ∷ drop (next + 1) opens = drop_got opens next p.0 p.2 in
-      let test : (p.0.number == number) ≡ false = sym (ap (λ o. is_number o number) p.2) ∙ h in
-      let a : ascends_from number (p.0.number ∷ numbers_of (drop (next + 1) opens)) ≡ true = subst (λ os. ascends_from number (numbers_of os) ≡ true) parts u.ascends in
-      let rest = ascends_rest number p.0.number (numbers_of (drop (next + 1) opens)) a in
-      u.passed number (omega arith) ∙ ap (λ os. is_named os number) parts ∙ rw test (named_high (drop (next + 1) opens) (suc p.0.number) number (omega (arith, rest.0)) rest.1)
-      )
-  | inr p ↦ u.passed number (omega arith) ∙ ap (λ os. is_named os number) (drop_all next opens p.0)
-]
+pub named_in_code : (es : List code.Open) (i n : ℕ) → ascends_from 0 (numbers_of (map opened_of es)) ≡ true → AllWithin (λ e. nat_lt e.number n ≡ true) es 0 i → AllWithin (λ e. nat_lt e.number n ≡ false) es i (length es) → is_named (map opened_of es) n ≡ is_number (slice_get (map opened_of es) i) n
+named_in_code es i n a before after =
+    named_at (map opened_of es) 0 i n a
+    (λ k o h at.
+    let c = code_at es k o at in
+    let less : c.0.number < n = ltb-true c.0.number n (subst (λ (e : code.Open). nat_lt e.number n ≡ true) c.2 (before k c.0 (omega arith) h)) in
+    subst (λ (z : Opened). z.number < n) c.3 less)
+    (λ k o h at.
+    let c = code_at es k o at in
+    let past : n ≤ c.0.number = ltb-false c.0.number n (subst (λ (e : code.Open). nat_lt e.number n ≡ false) c.2 (after k c.0 h c.1)) in
+    subst (λ (z : Opened). n ≤ z.number) c.3 past)
 
-pub upcoming_passed : (opens : List Opened) (next number : ℕ) → IsUpcoming opens next number → is_number_at opens next number ≡ false → IsUpcoming opens next (number + 1)
-upcoming_passed opens next number u h = record {
-  ascends = elim (slice_get_cases opens next).1 [
-    | inl p ↦ (
-        let parts : drop next opens ≡ p.0 ∷ drop (next + 1) opens = drop_got opens next p.0 p.2 in
-        let test : (p.0.number == number) ≡ false = sym (ap (λ o. is_number o number) p.2) ∙ h in
-        let a : ascends_from number (p.0.number ∷ numbers_of (drop (next + 1) opens)) ≡ true = subst (λ os. ascends_from number (numbers_of os) ≡ true) parts u.ascends in
-        let rest = ascends_rest number p.0.number (numbers_of (drop (next + 1) opens)) a in
-        let other : p.0.number ≡ number → ⊥ = λ e. (let same : (p.0.number == number) ≡ true = eq-eqb p.0.number number e in absurd (cc)) in
-        subst (λ os. ascends_from (number + 1) (numbers_of os) ≡ true) (sym parts) (ascends_more number (number + 1) p.0.number (numbers_of (drop (next + 1) opens)) (omega (arith, rest.0, other)) a)
-        )
-    | inr p ↦ subst (λ os. ascends_from (number + 1) (numbers_of os) ≡ true) (sym (drop_all next opens p.0)) (ascends_none (number + 1))
-  ];
-  passed = λ n past. u.passed n (omega arith);
-}
+pub number_here : (es : List code.Open) (i n : ℕ) (d e : code.Open) → i < length es → e ≡ get_or es i d → is_number (slice_get (map opened_of es) i) n ≡ (e.number == n)
+number_here [] i n d e h is = absurd (omega (arith, h))
+number_here (x ∷ es) zero n d e h is = ap (λ (z : code.Open). z.number == n) (sym is)
+number_here (x ∷ es) (suc i) n d e h is = number_here es i n d e (omega (arith, h)) is
+
+pub number_past : (es : List code.Open) (i n : ℕ) → length es ≤ i → is_number (slice_get (map opened_of es) i) n ≡ false
+number_past [] i n h = refl
+number_past (x ∷ es) zero n h = absurd (omega (arith, h))
+number_past (x ∷ es) (suc i) n h = number_past es i n (omega (arith, h))

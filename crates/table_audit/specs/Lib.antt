@@ -3,7 +3,6 @@ pub mod Canonical
 pub mod Orders
 pub mod Shorter
 pub mod Naming
-pub mod Trials
 pub mod Acceptance
 pub mod Faults
 pub mod Costs

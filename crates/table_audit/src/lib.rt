@@ -9,7 +9,6 @@ mod refutation;
 mod sides;
 mod states;
 mod told;
-mod trials;
 mod verdict;
 mod widths;
 

@@ -8,16 +8,16 @@ ghost use Rattle.proof_logs.specs.Verdicts.{Answers};
 ghost use Rattle.table_audit.specs.Sides.{alphabet_registers};
 ghost use Rattle.table_audit.specs.Canonical.{HasFormula};
 ghost use Rattle.table_audit.specs.Shorter.{shorter};
-ghost use Rattle.table_audit.specs.Trials.{AreTrials};
+ghost use Rattle.outcomes.specs.Trials.{AreTrials};
 ghost use Rattle.table_audit.specs.Acceptance.{IsRightlyOpen, OpensVerdict};
 ghost use Rattle.table_audit.specs.Costs.{open_cost};
 ghost use Rattle.table_audit.specs.Naming.{told_cost};
 
 use crate::errors::{AuditError, EntryFault};
 use crate::sides::formula_against;
-use crate::trials::{Trial, is_told};
 use crate::widths::shorter_at;
 use cnf_gates::Memory;
+use outcomes::{Trial, is_told};
 use proof_logs::is_spent;
 use rule_table::{Entry, Open, Table};
 use std::alloc::Global;

@@ -4,6 +4,8 @@ ghost use Rattle.seq_enum.specs.Lists.{ascends_from};
 ghost use Rattle.rule_table.specs.Valid.{IsTable, numbers_of};
 ghost use Rattle.rule_table.specs.Views.{header_in, opened_of, rule_of, table_of};
 ghost use Rattle.proof_logs.specs.Verdicts.{Answers, Then};
+ghost use Rattle.outcomes.specs.Tables.{AreTables};
+ghost use Rattle.table_audit.specs.Naming.{first_of};
 ghost use Rattle.table_audit.specs.Canonical.{HasFormula};
 ghost use Rattle.table_audit.specs.Acceptance.{ToldVerdict, OpensVerdict, EntryVerdict, EntriesVerdict, TableVerdict};
 ghost use Rattle.table_audit.specs.Costs.{runs_cost, open_cost, entry_cost, table_cost};
@@ -15,8 +17,8 @@ use crate::refutation::check_proof;
 use crate::sides::{alphabet_registers, sides_fit};
 use crate::states::check_states;
 use crate::told::check_told;
-use crate::trials::trials_of;
 use crate::widths::check_width;
+use outcomes::{Tables, trials_of};
 use rule_table::{Entry, Table};
 use std::alloc::Global;
 use step_ledger::{Ledger, Steps};
@@ -28,17 +30,20 @@ fn check_shorter<L: Ledger>(
     table: &Table,
     number: u64,
     entry: &Entry,
+    tables: &mut Tables,
     steps: &mut Steps<L>,
 ) -> Result<(), AuditError>
     requires formula { HasFormula (header_in table.now) (rule_of entry.now) }
     requires no_longer { length entry.now.right ≤ length entry.now.left }
     requires ascending { ascends_from 0 (numbers_of (map opened_of entry.now.opens.items)) ≡ true }
+    requires kept { AreTables table.now.pool (first_of table.now.states) tables.old }
+    ensures kept { AreTables table.now.pool (first_of table.now.states) tables.new }
     ensures answers { Answers AuditError.Memory result (Then (ToldVerdict (table_of table.now) number (rule_of entry.now)) (OpensVerdict (table_of table.now) number (rule_of entry.now))) }
     ensures cost { steps.new ≤ steps.old + (runs_cost (table_of table.now) (rule_of entry.now) + sum_by (open_cost (table_of table.now) (rule_of entry.now)) (map opened_of entry.now.opens.items)) }
 {
     let k = alphabet_registers(table, entry);
     let trials = trials_of(alloc, entry.left.as_slice(), table.states.as_slice(), steps)?;
-    check_told(alloc, table, number, entry, k, &trials, steps)?;
+    check_told(alloc, table, number, entry, &trials, tables, steps)?;
     check_opens(alloc, table, number, entry, k, &trials, steps)
 }
 
@@ -49,9 +54,12 @@ fn check_entry<L: Ledger>(
     table: &Table,
     number: u64,
     entry: &Entry,
+    tables: &mut Tables,
     steps: &mut Steps<L>,
 ) -> Result<(), AuditError>
-    requires { ascends_from 0 (numbers_of (map opened_of entry.now.opens.items)) ≡ true }
+    requires ascending { ascends_from 0 (numbers_of (map opened_of entry.now.opens.items)) ≡ true }
+    requires kept { AreTables table.now.pool (first_of table.now.states) tables.old }
+    ensures kept { AreTables table.now.pool (first_of table.now.states) tables.new }
     ensures answers { Answers AuditError.Memory result (EntryVerdict (table_of table.now) number (rule_of entry.now)) }
     ensures cost { steps.new ≤ steps.old + entry_cost (table_of table.now) (rule_of entry.now) }
 {
@@ -62,7 +70,7 @@ fn check_entry<L: Ledger>(
         });
     }
     check_proof(alloc, table, number, entry, steps)?;
-    check_shorter(alloc, table, number, entry, steps)
+    check_shorter(alloc, table, number, entry, tables, steps)
 }
 
 /// Tells the first entry that is refused, and why.
@@ -75,8 +83,9 @@ fn check_entries<L: Ledger>(
     ensures answers { Answers AuditError.Memory result (EntriesVerdict (table_of table.now)) }
     ensures cost { steps.new ≤ steps.old + table_cost (table_of table.now) }
 {
+    let mut tables = Tables::new();
     for (place, entry) in table.entries.iter().enumerate() {
-        check_entry(alloc, table, place as u64 + 1, entry, steps)?;
+        check_entry(alloc, table, place as u64 + 1, entry, &mut tables, steps)?;
     }
     Ok(())
 }
@@ -101,7 +110,7 @@ fn check_table<L: Ledger>(
 /// accepted, that the proof comes to no empty clause, the lowest shorter sequence that is neither named open nor told by a state, and the
 /// first number that isn't rightly named open.
 ///
-/// A step is an instruction that is run, or a look at a literal of a clause.
+/// A step is an instruction that is run, a sequence whose outcome is worked out, or a look at a literal of a clause.
 pub fn audit<L: Ledger>(
     alloc: Global,
     table: Table,

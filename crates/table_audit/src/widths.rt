@@ -1,7 +1,6 @@
 //! How many shorter sequences there are, and which they are.
-ghost use Rattle.std.specs.Prelude.{◌≡◌, ◌<◌, ◌≤◌, ◌*◌, ◌^◌, IfSome, length, slice_get};
+ghost use Rattle.std.specs.Prelude.{◌≡◌, ◌<◌, ◌≤◌, IfSome, length, slice_get};
 ghost use Rattle.thumb_model.specs.Sides.{AreOver};
-ghost use Rattle.seq_enum.specs.Places.{sum_below};
 ghost use Rattle.rule_table.specs.Valid.{IsTable};
 ghost use Rattle.rule_table.specs.Views.{table_of};
 ghost use Rattle.proof_logs.specs.Verdicts.{Answers};
@@ -10,27 +9,13 @@ ghost use Rattle.table_audit.specs.Shorter.{sequences_below};
 ghost use Rattle.table_audit.specs.Acceptance.{WideVerdict};
 
 use crate::errors::AuditError;
+use outcomes::count_below;
 use rule_table::Table;
 use seq_enum::{Pool, seq_at, size};
 use thumb_instr::Seq;
 
 /// The greatest number of shorter sequences that a table may have.
 const WIDEST: u64 = 5_000_000;
-
-/// How many sequences have fewer than `count` instructions, where there are so many instructions.
-#[tactic(auto, using(seq_enum::proofs::Words::sums))]
-pub(crate) fn count_below(size: u64, count: u32) -> u64
-    requires few { size ≤ 1952 }
-    requires short { count ≤ 5 }
-    ensures value { result ≡ sum_below (λ n. size ^ n) count }
-    ensures small { result ≤ count * 1952 ^ 4 }
-{
-    let mut total = 0;
-    for n in 0..count {
-        total += size.pow(n);
-    }
-    total
-}
 
 /// How many sequences of the first `k` registers and a pool have fewer than `count` instructions.
 pub fn count_shorter(k: u8, pool: &Pool, count: u8) -> u64

@@ -1,109 +1,122 @@
-use Rattle.std.proofs.Common.{inl, inr, refl, sym, arith, ap, ◌∙◌, ◌≡◌, ◌+◌, ◌<◌, ◌≤◌, true, false, length, map}
+use Rattle.std.proofs.Common.{◌≡◌, ◌<◌, ◌≤◌, ◌+◌, ◌-◌, ◌*◌, ◌∙◌, sym, ap, subst, arith, length, refl}
 use Rattle.std.proofs.lemmas.Bool.{false≢true}
-use Rattle.window_exec.specs.State.{seen}
-use Rattle.rule_table.specs.Views.{opened_of, rule_of, table_of}
-use Rattle.proof_logs.proofs.Turns.{turn_step, turn_fault, turn_end}
+use Rattle.window_exec.specs.declared.state.WState.{WState}
+use Rattle.seq_enum.specs.Alphabet.{alphabet}
+use Rattle.outcomes.specs.Outcomes as table
+use Rattle.outcomes.specs.Outcomes.{Extent}
+use Rattle.outcomes.specs.Tables.{AreTables}
+use Rattle.outcomes.specs.Candidates.{AreCandidates}
+use Rattle.outcomes.proofs.Choosing.{grown_for_same}
+use Rattle.rule_table.specs.Views.{rule_of, table_of}
 use Rattle.table_audit.specs.Sides.{named_count}
-use Rattle.table_audit.specs.Shorter.{shorter, IsTold}
-use Rattle.table_audit.specs.Naming.{is_number_at}
-use Rattle.table_audit.specs.Acceptance.{ToldTest}
-use Rattle.table_audit.proofs.Counting.{run_cost, no_cost, within_cost, end_cost}
-use Rattle.table_audit.proofs.Tellings.{told_is}
-use Rattle.table_audit.proofs.Upcoming.{named_now, unnamed_now, upcoming_named, upcoming_passed}
-use Rattle.table_audit.proofs.Walking.{count_here, placed, next_number, present_at}
+use Rattle.table_audit.specs.Shorter.{shorter}
+use Rattle.table_audit.specs.Naming.{first_of}
+use Rattle.table_audit.proofs.Settling.{nothing_shorter, some_there, grown_letters, begins_at, below_same, few_grown, few_numbers, shares}
 use Rattle.table_audit.proofs.told.check_told.Goals as goal
-use Rattle.table_audit.proofs.told.check_told.Goals.{then-is_number_at, else-is_number_at+else-not-is_told}
 
-pub is_told-requires : goal.is_told-requires
-is_told-requires g c =
-    let size : c.len.result ≡ length c.in_ok-letters.letters.items = omega (arith, c.len.ensures) in
-    let count = count_here c.args.k (named_count c.args.entry.now.left) c.args.table.now.pool _ _ _ _ _ c.requires.count c.in_ok-letters.ensures.value size c.len-2.ensures.value c.count_below-count.ensures.value in
-    let short : length c.args.entry.now.right ≤ 5 = omega (arith, c.len-2.ensures.value, c.len-2.ensures.few) in
-    let number = c.loop-place.invariant.number c.loop-place-test.true in
-    let here = placed c.args.k (named_count c.args.entry.now.left) c.args.table.now.pool (length c.args.entry.now.right) _ c.loop-place.place _ _ _ c.requires.count c.requires.few short count c.loop-place-test.true c.loop-place.invariant.letters number c.instrs.ensures in
-    here.over
+pub returns-then-is_empty-clause-answers : goal.returns-then-is_empty-clause-answers
+returns-then-is_empty-clause-answers g c = nothing_shorter (table_of c.args.table.now) (rule_of c.args.entry.now) c.args.number (ap (λ is. length is) (c.is_empty.ensures.0 c.if-is_empty.true))
 
-pub returns-then-not-is_told-clause-answers : goal.returns-then-not-is_told-clause-answers
-returns-then-not-is_told-clause-answers g c =
-    let size : c.len.result ≡ length c.in_ok-letters.letters.items = omega (arith, c.len.ensures) in
-    let count = count_here c.args.k (named_count c.args.entry.now.left) c.args.table.now.pool _ _ _ _ _ c.requires.count c.in_ok-letters.ensures.value size c.len-2.ensures.value c.count_below-count.ensures.value in
-    let short : length c.args.entry.now.right ≤ 5 = omega (arith, c.len-2.ensures.value, c.len-2.ensures.few) in
-    let number = c.loop-place.invariant.number c.loop-place-test.true in
-    let here = placed c.args.k (named_count c.args.entry.now.left) c.args.table.now.pool (length c.args.entry.now.right) _ c.loop-place.place _ _ _ c.requires.count c.requires.few short count c.loop-place-test.true c.loop-place.invariant.letters number c.instrs.ensures in
-    let states = told_is c.args.entry.now.left (map seen c.args.table.now.states) c.args.trials.now c.instrs.result.now c.args.entry.now.mask.items.bits c.requires.trials in
-    let other : is_number_at (map opened_of c.args.entry.now.opens.items) c.loop-place.next c.loop-place.place ≡ false =
-    sym (c.is_number_at.ensures ∙ ap (λ os. is_number_at (map opened_of os) c.loop-place.next c.loop-place.place) c.deref-in-loop-place.ensures.value) ∙ c.if-is_number_at.false in
-    let unnamed = unnamed_now (map opened_of c.args.entry.now.opens.items) c.loop-place.next c.loop-place.place c.loop-place.invariant.upcoming other in
-    let untold : IsTold (map seen c.args.table.now.states) c.args.entry.now.left c.instrs.result.now c.args.entry.now.mask.items.bits → ⊥ = λ h. false≢true (sym c.if-not-is_told.true ∙ c.is_told.ensures.told.1 (states.1 h)) in
-    inr (turn_fault (ToldTest (table_of c.args.table.now) c.args.number (rule_of c.args.entry.now)) _ _ c.loop-place.place _ _ _ here.at c.loop-place.invariant.rest (
-      refl,
-      λ h. elim h [
-        | inl named ↦ false≢true (sym unnamed ∙ named)
-        | inr told ↦ untold told
-      ],
-    ))
+pub candidates-requires-clause-start : goal.candidates-requires-clause-start
+candidates-requires-clause-start g c =
+    let start : c.first_of-start.result ≡ first_of c.args.table.now.states = c.first_of-start.ensures ∙ ap (λ ss. first_of ss) c.as_slice.ensures in
+    begins_at c.args.entry.now.left c.args.table.now.states c.args.trials.now c.in_ok-outcomes.outcomes.start c.requires.trials (c.in_ok-outcomes.ensures.taken.state ∙ start)
 
-pub returns-then-not-is_told-clause-cost : goal.returns-then-not-is_told-clause-cost
-returns-then-not-is_told-clause-cost g c =
-    let size : c.len.result ≡ length c.in_ok-letters.letters.items = omega (arith, c.len.ensures) in
-    let count = count_here c.args.k (named_count c.args.entry.now.left) c.args.table.now.pool _ _ _ _ _ c.requires.count c.in_ok-letters.ensures.value size c.len-2.ensures.value c.count_below-count.ensures.value in
-    let short : length c.args.entry.now.right ≤ 5 = omega (arith, c.len-2.ensures.value, c.len-2.ensures.few) in
-    let number = c.loop-place.invariant.number c.loop-place-test.true in
-    let here = placed c.args.k (named_count c.args.entry.now.left) c.args.table.now.pool (length c.args.entry.now.right) _ c.loop-place.place _ _ _ c.requires.count c.requires.few short count c.loop-place-test.true c.loop-place.invariant.letters number c.instrs.ensures in
-    within_cost _ _ c.loop-place.place _ _ (run_cost c.loop-place.steps _ _ c.loop-place.place _ _ _ c.loop-place.invariant.cost c.is_told.ensures.cost here.short) here.low
-
-pub loop-place-preserved : goal.loop-place-preserved
-loop-place-preserved g c =
+pub returns-in_err-numbers-clause-cost : goal.returns-in_err-numbers-clause-cost
+returns-in_err-numbers-clause-cost g c =
+    let w = rule_of c.args.entry.now in
     let t = table_of c.args.table.now in
-    let e = rule_of c.args.entry.now in
-    let size : c.len.result ≡ length c.in_ok-letters.letters.items = omega (arith, c.len.ensures) in
-    let count = count_here c.args.k (named_count c.args.entry.now.left) c.args.table.now.pool _ _ _ _ _ c.requires.count c.in_ok-letters.ensures.value size c.len-2.ensures.value c.count_below-count.ensures.value in
-    let short : length c.args.entry.now.right ≤ 5 = omega (arith, c.len-2.ensures.value, c.len-2.ensures.few) in
-    let number = c.loop-place.invariant.number c.loop-place-test.true in
-    let test : c.is_number_at.result ≡ is_number_at (map opened_of c.args.entry.now.opens.items) c.loop-place.next c.loop-place.place =
-    c.is_number_at.ensures ∙ ap (λ os. is_number_at (map opened_of os) c.loop-place.next c.loop-place.place) c.deref-in-loop-place.ensures.value in
-    let more : c.loop-place.place + 1 < c.count_below-count.result → c.next.new.self.number ≡ c.loop-place.place + 1 = λ low.
-    next_number c.next.result c.args.k (named_count c.args.entry.now.left) c.args.table.now.pool _ (length c.args.entry.now.right) _ _ c.loop-place.place c.next.ensures.more c.next.ensures.end
-    c.requires.count c.loop-place.invariant.letters (omega (arith, short)) number (omega (arith, count, low)) in
-    elim c.if-is_number_at.branch [
-      | then-is_number_at w ↦ (
-          let low : c.loop-place.place < length (shorter t e) = omega (arith, count, c.loop-place-test.true) in
-          let one = present_at (shorter t e) c.loop-place.place low in
-          let yes : is_number_at (map opened_of c.args.entry.now.opens.items) c.loop-place.next c.loop-place.place ≡ true = sym test ∙ w.if-is_number_at.true in
-          let named = named_now (map opened_of c.args.entry.now.opens.items) c.loop-place.next c.loop-place.place c.loop-place.invariant.upcoming yes in
-          record {
-            rest = turn_step (ToldTest t c.args.number e) _ _ c.loop-place.place one.0 _ one.1 c.loop-place.invariant.rest (inl named);
-            walk = c.next.ensures.stands;
-            letters = c.next.ensures.letters ∙ c.loop-place.invariant.letters;
-            number = more;
-            upcoming = rw w.next-is (upcoming_named (map opened_of c.args.entry.now.opens.items) c.loop-place.next c.loop-place.place c.loop-place.invariant.upcoming yes);
-            cost = rw w.steps-is (no_cost c.loop-place.steps _ c.loop-place.place _ c.loop-place.invariant.cost);
-          }
-          )
-      | else-is_number_at+else-not-is_told w ↦ (
-          let here = placed c.args.k (named_count c.args.entry.now.left) c.args.table.now.pool (length c.args.entry.now.right) _ c.loop-place.place _ _ _ c.requires.count c.requires.few short count c.loop-place-test.true c.loop-place.invariant.letters number w.instrs.ensures in
-          let states = told_is c.args.entry.now.left (map seen c.args.table.now.states) c.args.trials.now w.instrs.result.now c.args.entry.now.mask.items.bits c.requires.trials in
-          let no : is_number_at (map opened_of c.args.entry.now.opens.items) c.loop-place.next c.loop-place.place ≡ false = sym test ∙ w.if-is_number_at.false in
-          let told = states.0 (w.is_told.ensures.told.0 w.if-not-is_told.false) in
-          record {
-            rest = turn_step (ToldTest t c.args.number e) _ _ c.loop-place.place _ _ here.at c.loop-place.invariant.rest (inr told);
-            walk = c.next.ensures.stands;
-            letters = c.next.ensures.letters ∙ c.loop-place.invariant.letters;
-            number = more;
-            upcoming = rw w.next-is (upcoming_passed (map opened_of c.args.entry.now.opens.items) c.loop-place.next c.loop-place.place c.loop-place.invariant.upcoming no);
-            cost = rw w.steps-is (run_cost c.loop-place.steps _ _ c.loop-place.place _ _ _ c.loop-place.invariant.cost w.is_told.ensures.cost here.short);
-          }
-          )
-    ]
+    let e = c.in_ok-outcomes.outcomes in
+    let taken = c.in_ok-outcomes.ensures.taken in
+    let some : 0 < length c.args.entry.now.right = some_there c.args.entry.now.right (λ none. false≢true (sym c.if-is_empty.false ∙ c.is_empty.ensures.1 none)) in
+    let long : c.len.result - 1 + 1 ≡ length c.args.entry.now.right = omega (arith, c.len.ensures.value, some) in
+    let letters : e.letters ≡ alphabet (named_count c.args.entry.now.left) c.args.table.now.pool = taken.letters ∙ ap (λ j. alphabet j c.args.table.now.pool) c.named_count-k.ensures.value in
+    let seqs : table.sequences_below e.letters (c.len.result - 1 + 1) ≡ shorter t w = below_same (named_count c.args.entry.now.left) (length c.args.entry.now.right) c.args.table.now.pool e.letters (c.len.result - 1 + 1) letters long in
+    let grown = few_grown c.args.trials.now (c.len.result - 1) e (length (shorter t w)) (ap (λ ss. length ss) seqs) in
+    shares c.args.steps.now c.candidates.new.steps c.candidates.new.steps _ 0 (length (shorter t w)) (length c.args.trials.now) (length c.args.entry.now.right) c.candidates.ensures.most grown (omega arith) (omega arith) some
 
-pub returns-clause-answers : goal.returns-clause-answers
-returns-clause-answers g c =
-    let size : c.len.result ≡ length c.in_ok-letters.letters.items = omega (arith, c.len.ensures) in
-    let count = count_here c.args.k (named_count c.args.entry.now.left) c.args.table.now.pool _ _ _ _ _ c.requires.count c.in_ok-letters.ensures.value size c.len-2.ensures.value c.count_below-count.ensures.value in
-    turn_end (ToldTest (table_of c.args.table.now) c.args.number (rule_of c.args.entry.now)) _ (shorter (table_of c.args.table.now) (rule_of c.args.entry.now)) c.loop-place.place _ (omega (arith, count, c.loop-place-test.false)) c.loop-place.invariant.rest
+pub first_untold-untold-requires-clause-letters : goal.first_untold-untold-requires-clause-letters
+first_untold-untold-requires-clause-letters g c =
+    let w = rule_of c.args.entry.now in
+    let t = table_of c.args.table.now in
+    let e = c.in_ok-outcomes.outcomes in
+    let taken = c.in_ok-outcomes.ensures.taken in
+    let some : 0 < length c.args.entry.now.right = some_there c.args.entry.now.right (λ none. false≢true (sym c.if-is_empty.false ∙ c.is_empty.ensures.1 none)) in
+    let long : c.len.result - 1 + 1 ≡ length c.args.entry.now.right = omega (arith, c.len.ensures.value, some) in
+    let letters : e.letters ≡ alphabet (named_count c.args.entry.now.left) c.args.table.now.pool = taken.letters ∙ ap (λ j. alphabet j c.args.table.now.pool) c.named_count-k.ensures.value in
+    let seqs : table.sequences_below e.letters (c.len.result - 1 + 1) ≡ shorter t w = below_same (named_count c.args.entry.now.left) (length c.args.entry.now.right) c.args.table.now.pool e.letters (c.len.result - 1 + 1) letters long in
+    grown_letters c.args.trials.now (c.len.result - 1) e c.candidates.new.outcomes c.in_ok-numbers.ensures.grown ∙ letters
+
+pub first_untold-untold-requires-clause-candidates : goal.first_untold-untold-requires-clause-candidates
+first_untold-untold-requires-clause-candidates g c =
+    let w = rule_of c.args.entry.now in
+    let t = table_of c.args.table.now in
+    let e = c.in_ok-outcomes.outcomes in
+    let taken = c.in_ok-outcomes.ensures.taken in
+    let some : 0 < length c.args.entry.now.right = some_there c.args.entry.now.right (λ none. false≢true (sym c.if-is_empty.false ∙ c.is_empty.ensures.1 none)) in
+    let long : c.len.result - 1 + 1 ≡ length c.args.entry.now.right = omega (arith, c.len.ensures.value, some) in
+    let letters : e.letters ≡ alphabet (named_count c.args.entry.now.left) c.args.table.now.pool = taken.letters ∙ ap (λ j. alphabet j c.args.table.now.pool) c.named_count-k.ensures.value in
+    let seqs : table.sequences_below e.letters (c.len.result - 1 + 1) ≡ shorter t w = below_same (named_count c.args.entry.now.left) (length c.args.entry.now.right) c.args.table.now.pool e.letters (c.len.result - 1 + 1) letters long in
+    let are : AreCandidates (shorter t w) c.args.trials.now c.args.entry.now.mask.items.bits c.in_ok-numbers.numbers.items = subst (λ ss. AreCandidates ss c.args.trials.now c.args.entry.now.mask.items.bits c.in_ok-numbers.numbers.items) seqs c.in_ok-numbers.ensures.candidates in
+    let mine : AreCandidates (shorter t w) c.args.trials.now c.args.entry.now.mask.items.bits c.deref.result.now = subst (λ ns. AreCandidates (shorter t w) c.args.trials.now c.args.entry.now.mask.items.bits ns) (sym c.deref.ensures.value) are in
+    mine
+
+pub returns-in-None-clause-kept : goal.returns-in-None-clause-kept
+returns-in-None-clause-kept g c =
+    let w = rule_of c.args.entry.now in
+    let t = table_of c.args.table.now in
+    let e = c.in_ok-outcomes.outcomes in
+    let taken = c.in_ok-outcomes.ensures.taken in
+    let some : 0 < length c.args.entry.now.right = some_there c.args.entry.now.right (λ none. false≢true (sym c.if-is_empty.false ∙ c.is_empty.ensures.1 none)) in
+    let long : c.len.result - 1 + 1 ≡ length c.args.entry.now.right = omega (arith, c.len.ensures.value, some) in
+    let letters : e.letters ≡ alphabet (named_count c.args.entry.now.left) c.args.table.now.pool = taken.letters ∙ ap (λ j. alphabet j c.args.table.now.pool) c.named_count-k.ensures.value in
+    let seqs : table.sequences_below e.letters (c.len.result - 1 + 1) ≡ shorter t w = below_same (named_count c.args.entry.now.left) (length c.args.entry.now.right) c.args.table.now.pool e.letters (c.len.result - 1 + 1) letters long in
+    let start : c.first_of-start.result ≡ first_of c.args.table.now.states = c.first_of-start.ensures ∙ ap (λ ss. first_of ss) c.as_slice.ensures in
+    subst (λ (s : WState). AreTables c.args.table.now.pool s c.put.new.self) start
+    (c.put.ensures c.args.table.now.pool c.first_of-start.result c.take.ensures.kept (grown_for_same c.named_count-k.result c.args.table.now.pool c.first_of-start.result c.args.trials.now (c.len.result - 1) e c.candidates.new.outcomes taken c.in_ok-numbers.ensures.grown))
+
+pub returns-in-None-clause-cost : goal.returns-in-None-clause-cost
+returns-in-None-clause-cost g c =
+    let w = rule_of c.args.entry.now in
+    let t = table_of c.args.table.now in
+    let e = c.in_ok-outcomes.outcomes in
+    let taken = c.in_ok-outcomes.ensures.taken in
+    let some : 0 < length c.args.entry.now.right = some_there c.args.entry.now.right (λ none. false≢true (sym c.if-is_empty.false ∙ c.is_empty.ensures.1 none)) in
+    let long : c.len.result - 1 + 1 ≡ length c.args.entry.now.right = omega (arith, c.len.ensures.value, some) in
+    let letters : e.letters ≡ alphabet (named_count c.args.entry.now.left) c.args.table.now.pool = taken.letters ∙ ap (λ j. alphabet j c.args.table.now.pool) c.named_count-k.ensures.value in
+    let seqs : table.sequences_below e.letters (c.len.result - 1 + 1) ≡ shorter t w = below_same (named_count c.args.entry.now.left) (length c.args.entry.now.right) c.args.table.now.pool e.letters (c.len.result - 1 + 1) letters long in
+    let grown = few_grown c.args.trials.now (c.len.result - 1) e (length (shorter t w)) (ap (λ ss. length ss) seqs) in
+    let are : AreCandidates (shorter t w) c.args.trials.now c.args.entry.now.mask.items.bits c.in_ok-numbers.numbers.items = subst (λ ss. AreCandidates ss c.args.trials.now c.args.entry.now.mask.items.bits c.in_ok-numbers.numbers.items) seqs c.in_ok-numbers.ensures.candidates in
+    let mine : AreCandidates (shorter t w) c.args.trials.now c.args.entry.now.mask.items.bits c.deref.result.now = subst (λ ns. AreCandidates (shorter t w) c.args.trials.now c.args.entry.now.mask.items.bits ns) (sym c.deref.ensures.value) are in
+    let few : 0 + length c.deref.result.now ≤ length (shorter t w) = few_numbers 0 (length (shorter t w)) c.deref.result.now (omega arith) mine.ascending mine.within in
+    shares c.args.steps.now c.candidates.new.steps c.first_untold-untold.new.steps _ (length c.deref.result.now) (length (shorter t w)) (length c.args.trials.now) (length c.args.entry.now.right) c.candidates.ensures.most grown c.first_untold-untold.ensures.cost (omega (arith, few)) some
+
+pub returns-clause-kept : goal.returns-clause-kept
+returns-clause-kept g c =
+    let w = rule_of c.args.entry.now in
+    let t = table_of c.args.table.now in
+    let e = c.in_ok-outcomes.outcomes in
+    let taken = c.in_ok-outcomes.ensures.taken in
+    let some : 0 < length c.args.entry.now.right = some_there c.args.entry.now.right (λ none. false≢true (sym c.if-is_empty.false ∙ c.is_empty.ensures.1 none)) in
+    let long : c.len.result - 1 + 1 ≡ length c.args.entry.now.right = omega (arith, c.len.ensures.value, some) in
+    let letters : e.letters ≡ alphabet (named_count c.args.entry.now.left) c.args.table.now.pool = taken.letters ∙ ap (λ j. alphabet j c.args.table.now.pool) c.named_count-k.ensures.value in
+    let seqs : table.sequences_below e.letters (c.len.result - 1 + 1) ≡ shorter t w = below_same (named_count c.args.entry.now.left) (length c.args.entry.now.right) c.args.table.now.pool e.letters (c.len.result - 1 + 1) letters long in
+    let start : c.first_of-start.result ≡ first_of c.args.table.now.states = c.first_of-start.ensures ∙ ap (λ ss. first_of ss) c.as_slice.ensures in
+    subst (λ (s : WState). AreTables c.args.table.now.pool s c.put.new.self) start
+    (c.put.ensures c.args.table.now.pool c.first_of-start.result c.take.ensures.kept (grown_for_same c.named_count-k.result c.args.table.now.pool c.first_of-start.result c.args.trials.now (c.len.result - 1) e c.candidates.new.outcomes taken c.in_ok-numbers.ensures.grown))
 
 pub returns-clause-cost : goal.returns-clause-cost
 returns-clause-cost g c =
-    let size : c.len.result ≡ length c.in_ok-letters.letters.items = omega (arith, c.len.ensures) in
-    let count = count_here c.args.k (named_count c.args.entry.now.left) c.args.table.now.pool _ _ _ _ _ c.requires.count c.in_ok-letters.ensures.value size c.len-2.ensures.value c.count_below-count.ensures.value in
-    end_cost _ _ c.loop-place.place _ _ c.loop-place.invariant.cost (omega (arith, count, c.loop-place.auto.place-end))
+    let w = rule_of c.args.entry.now in
+    let t = table_of c.args.table.now in
+    let e = c.in_ok-outcomes.outcomes in
+    let taken = c.in_ok-outcomes.ensures.taken in
+    let some : 0 < length c.args.entry.now.right = some_there c.args.entry.now.right (λ none. false≢true (sym c.if-is_empty.false ∙ c.is_empty.ensures.1 none)) in
+    let long : c.len.result - 1 + 1 ≡ length c.args.entry.now.right = omega (arith, c.len.ensures.value, some) in
+    let letters : e.letters ≡ alphabet (named_count c.args.entry.now.left) c.args.table.now.pool = taken.letters ∙ ap (λ j. alphabet j c.args.table.now.pool) c.named_count-k.ensures.value in
+    let seqs : table.sequences_below e.letters (c.len.result - 1 + 1) ≡ shorter t w = below_same (named_count c.args.entry.now.left) (length c.args.entry.now.right) c.args.table.now.pool e.letters (c.len.result - 1 + 1) letters long in
+    let grown = few_grown c.args.trials.now (c.len.result - 1) e (length (shorter t w)) (ap (λ ss. length ss) seqs) in
+    let are : AreCandidates (shorter t w) c.args.trials.now c.args.entry.now.mask.items.bits c.in_ok-numbers.numbers.items = subst (λ ss. AreCandidates ss c.args.trials.now c.args.entry.now.mask.items.bits c.in_ok-numbers.numbers.items) seqs c.in_ok-numbers.ensures.candidates in
+    let mine : AreCandidates (shorter t w) c.args.trials.now c.args.entry.now.mask.items.bits c.deref.result.now = subst (λ ns. AreCandidates (shorter t w) c.args.trials.now c.args.entry.now.mask.items.bits ns) (sym c.deref.ensures.value) are in
+    let few : 0 + length c.deref.result.now ≤ length (shorter t w) = few_numbers 0 (length (shorter t w)) c.deref.result.now (omega arith) mine.ascending mine.within in
+    shares c.args.steps.now c.candidates.new.steps c.first_untold-untold.new.steps _ (length c.deref.result.now) (length (shorter t w)) (length c.args.trials.now) (length c.args.entry.now.right) c.candidates.ensures.most grown c.first_untold-untold.ensures.cost (omega (arith, few)) some

@@ -11,8 +11,8 @@ use Rattle.table_audit.proofs.Counting.{entries_next, entries_stop}
 use Rattle.table_audit.proofs.Tellings.{listed}
 use Rattle.table_audit.proofs.verdict.check_entries.Goals as goal
 
-pub check_entry-requires : goal.check_entry-requires
-check_entry-requires g c =
+pub check_entry-requires-clause-ascending : goal.check_entry-requires-clause-ascending
+check_entry-requires-clause-ascending g c =
     let at : slice_get (map rule_of c.args.table.now.entries.items) c.loop-place.place ≡ Some (rule_of c.entry-item.result) =
     subst (λ es. slice_get (map rule_of es) c.loop-place.place ≡ Some (rule_of c.entry-item.result)) c.deref-entry-items.ensures.value (listed rule_of _ c.loop-place.place c.entry-item.result c.loop-place-test.true c.entry-item.is) in
     let low = slice_get_within (map rule_of c.args.table.now.entries.items) c.loop-place.place (rule_of c.entry-item.result) at in
@@ -38,6 +38,7 @@ loop-place-preserved g c =
     let at : slice_get (map rule_of c.args.table.now.entries.items) c.loop-place.place ≡ Some (rule_of c.entry-item.result) =
     subst (λ es. slice_get (map rule_of es) c.loop-place.place ≡ Some (rule_of c.entry-item.result)) c.deref-entry-items.ensures.value (listed rule_of _ c.loop-place.place c.entry-item.result c.loop-place-test.true c.entry-item.is) in
     record {
+      kept = c.check_entry.ensures.kept;
       rest = turn_step (EntryVerdict (table_of c.args.table.now)) _ _ c.loop-place.place _ _ at c.loop-place.invariant.rest c.in_ok-check_entry.ensures.answers;
       cost = entries_next (entry_cost (table_of c.args.table.now)) _ c.loop-place.place _ _ _ _ at c.loop-place.invariant.cost c.check_entry.ensures.cost;
     }
