@@ -153,7 +153,7 @@ told_verdict t e number numbers i past but =
 pub nothing_shorter : (t : Table) (e : Rule) (number : ℕ) → length e.right ≡ 0 → ToldVerdict t number e None
 nothing_shorter t e number none =
     turn_all (ToldTest t number e) 0 (shorter t e) (λ j y there.
-    let l = (below_in (named_count e.left) t.pool (length e.right) j y (omega (arith, none)) there).1 in
+    let l = (below_in (named_count e.left) t.header.pool (length e.right) j y (omega (arith, none)) there).1 in
     absurd (omega (arith, l, none)))
 
 pub some_there : {X : Type 0} (xs : List X) → (xs ≡ [] → ⊥) → 0 < length xs
