@@ -11,6 +11,7 @@ use Rattle.command_laws.specs.Images.{KeptImagesFollow}
 pub kept_images_follow : KeptImagesFollow
 kept_images_follow to t given o h bytes assembled set outside =
     let runs = h.runs bytes assembled in
-    let fits : Fits (laid to.base set h.lines) (code_of h.lines) = assembled_listings_fit to.base set h.lines bytes assembled outside in
-    (runs.as_left set outside.set_by fits,
-    λ apart. runs.as_given set outside.set_by fits (left_namings_fit (setting to.base (numbers_of t)) given h.replacements h.lines h.sound.sound h.rewritten (laid to.base set h.lines) fits apart))
+    let fits : Fits (laid to.base set h.lines) (code_of h.lines) = assembled_listings_fit to.base set h.lines bytes assembled outside in (
+      runs.as_left set outside.set_by fits,
+      λ apart. runs.as_given set outside.set_by fits (left_namings_fit (setting to.base (numbers_of t)) given h.replacements h.lines h.sound.sound h.rewritten (laid to.base set h.lines) fits apart),
+    )

@@ -1,4 +1,4 @@
-use Rattle.std.proofs.Common.{ℕ, ◌≡◌, ◌∙◌, [], rules, sym, ap, subst, arith, map, length, List}
+use Rattle.std.proofs.Common.{ℕ, ◌≡◌, ◌∙◌, [], rules, refl, sym, ap, subst, arith, map, length, List}
 use Rattle.window_exec.specs.declared.state.WState.{WState}
 use Rattle.window_exec.specs.State.{seen}
 use Rattle.window_exec.specs.Seen.{Seen}
