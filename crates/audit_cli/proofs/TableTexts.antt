@@ -54,7 +54,7 @@ pub opens_within : (text : List ℕ) (t : Table) → IsText text t → opens_of 
 opens_within text t is =
     let all = items_within text t is in
     let some = rules_short t.rules in
-    let a : length (items_of t) ≡ length (header_items t) + length (map State t.states ++ (flat_map rule_items t.rules ++ End ∷ [])) = length-append (header_items t) (map State t.states ++ (flat_map rule_items t.rules ++ End ∷ [])) in
+    let a : length (items_of t) ≡ length (header_items t.header) + length (map State t.states ++ (flat_map rule_items t.rules ++ End ∷ [])) = length-append (header_items t.header) (map State t.states ++ (flat_map rule_items t.rules ++ End ∷ [])) in
     let b : length (map State t.states ++ (flat_map rule_items t.rules ++ End ∷ [])) ≡ length (map State t.states) + length (flat_map rule_items t.rules ++ End ∷ []) = length-append (map State t.states) (flat_map rule_items t.rules ++ End ∷ []) in
     let c : length (flat_map rule_items t.rules ++ End ∷ []) ≡ length (flat_map rule_items t.rules) + 1 = length-append (flat_map rule_items t.rules) (End ∷ []) in
     omega arith
