@@ -21,7 +21,7 @@ use Rattle.thumb_model.specs.Cuts.{AreOps}
 use Rattle.thumb_model.proofs.Lists.{length_map, drop_back}
 use Rattle.rule_model.proofs.Table.{window_length}
 use Rattle.thumb_model.proofs.LinesReplaced.{ops_of, before}
-use Rattle.rule_model.proofs.LinesKept.{some_left, code_of_after}
+use Rattle.rule_model.proofs.LinesKept.{some_left as some_instruction, code_of_after}
 use Rattle.listing_parser.proofs.LabelLemmas.{label_among}
 use Rattle.thumb_assembler.specs.Refusals.{lies_nowhere, may_leave, branch_lost, value_lost, values_lost, lies_inside, flaw_of, or_first, flaws_from, first_flaw}
 
@@ -237,7 +237,7 @@ end_after s r ls sound a =
     let m = length_map (renamed r.registers) rule.right in
     let good = sound r.entry r.instance rule a.is_rule in
     let no_longer = good.no_longer in
-    let n = before (length rule.left) (some_left s r ls a) in
+    let n = before (length rule.left) (some_instruction s r ls a) in
     let e : length rule.left ≡ suc n.0 = n.1 in
     let k : length a.applies.window ≡ length rule.left = window_length rule r.registers (code_of ls) r.place a.applies in
     let ops : AreOps (suc n.0) (drop r.place (places_of ls)) = ops_of a.applies.window (suc n.0) _ (omega arith) (ap (λ c. take c (drop r.place (places_of ls))) (sym e) ∙ a.applies.stands) in

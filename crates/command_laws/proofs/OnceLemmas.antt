@@ -223,7 +223,7 @@ exports_once to text _ _ (tables.unfit t is e h v) (tables.unfit u are f k w) = 
 exports_once to text _ _ (tables.unfit t is e h v) (tables.found u are f k w) = absurd (v (fit_same to text u t f e are is k h w))
 exports_once to text _ _ (tables.found t is e h v) (tables.unfit u are f k w) = absurd (w (fit_same to text t u e f is are h k v))
 exports_once to text _ _ (tables.found t is e h v) (tables.found u are f k w) =
-    let tables : t ≡ u = one_table text u t are is in
+    let tables : t ≡ u = one_table text t u is are in
     let entries : e ≡ f = some_same e f (entries_same to text t u (Some e) (Some f) is are h k) in
     ap (λ (x : Table × Rule). extracted to x.1 (formula_of x.0.header x.1)) (λ i. (tables i, entries i))
 
