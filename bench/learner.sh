@@ -54,7 +54,7 @@ done
 windows=$(awk '{ sum += $2 } END { print sum }' "$work/shares")
 print_times "learning $windows windows of ${#listings[@]} listings" ms "$proved_sum" "$plain_sum"
 print_times "\`peep learn\` of them" ms "$peep_sum" "$plain_sum" "the plain learner's learning"
-awk '{ all += $1; i += $3; s += $4; f += $5; o += $6 } END { printf "plain Rust: index %.0f %%, states %.0f %%, formulas %.0f %%, solver %.0f %%\n", 100 * i / all, 100 * s / all, 100 * f / all, 100 * o / all }' "$work/shares"
+awk '{ all += $1; i += $3; s += $4; f += $5; o += $6 } END { printf "plain Rust: outcomes %.0f %%, states %.0f %%, formulas %.0f %%, solver %.0f %%\n", 100 * i / all, 100 * s / all, 100 * f / all, 100 * o / all }' "$work/shares"
 
 # share NAMES: which part of the time that perf saw was spent in functions of these crates.
 share() { awk -v names="$1" '$0 ~ names { sum += $1 } END { printf "%.0f %%", sum }' "$work/seen"; }
@@ -65,5 +65,5 @@ if command -v perf > /dev/null; then
     for listing in "${listings[@]}"; do perf record -q -e cpu-clock -o "$work/perf.$((number += 1))" "$proved" < "$listing" > "$work/proved.table" 2> "$work/told" || true; done
     for n in $(seq "$number"); do perf report -i "$work/perf.$n" --no-children --stdio -n 2> "$work/told"; done | grep -v '^#' | awk 'NF > 3 { $1 = $2; print }' > "$work/counts"
     awk 'NR == FNR { all += $1; next } { $1 = 100 * $1 / all; print }' "$work/counts" "$work/counts" > "$work/seen"
-    echo "proved: index $(share 'fingerprints|word_lanes|sort'), states $(share 'window_exec|word_bits'), formulas $(share 'bit_blast|cnf_gates'), solver $(share 'cdcl_core|unit_propagation|clause_arena|clause_model')"
+    echo "proved: outcomes $(share 'outcomes'), states $(share 'window_exec|word_bits'), formulas $(share 'bit_blast|cnf_gates'), solver $(share 'cdcl_core|unit_propagation|clause_arena|clause_model')"
 fi

@@ -1,6 +1,6 @@
 //! Learns a table anew in plain Rust, by the same rules: reads a table's text from standard input, takes its header and the left sides and masks of its
 //! entries for windows, and writes the table that is learnt from them. Tells on standard error the milliseconds of learning, the windows, and the
-//! milliseconds of indexes, of running states, of formulas and of the solver. With the name of a folder, each formula that the solver is asked is written
+//! milliseconds of outcomes, of running states, of formulas and of the solver. With the name of a folder, each formula that the solver is asked is written
 //! there in DIMACS, under a name that begins with the conflicts that it took.
 
 #[path = "../plain_formulas.rs"]
