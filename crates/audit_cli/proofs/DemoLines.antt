@@ -23,7 +23,7 @@ use Rattle.thumb_syntax.specs.Spelling.{text_of}
 use Rattle.seq_enum.specs.Alphabet.{wide}
 use Rattle.thumb_model.specs.Listing.{Name, Nothing, Line}
 use Rattle.thumb_model.specs.ReplacedLines.{new_line}
-use Rattle.listing_parser.specs.Grammar.{Read, read_lines, shown_of}
+use Rattle.listing_parser.specs.Grammar.{Read, read_lines, shown_of, most_lines}
 use Rattle.listing_parser.proofs.FirstTwice.{first_twice}
 use Rattle.listing_parser.proofs.TwiceLemmas.{none_once}
 use Rattle.listing_parser.specs.Targets.{functions}
@@ -300,7 +300,7 @@ listed is free few =
     let are = own_are is free in
     let read : AreRead lines reads = (record { same = refl; reads = label_read }, are.0) in
     let ended : AreEnded (map text lines) = (inl label_ends, are.1) in
-    let size : 1 + length lines ≤ 65537 = let k = length-map is (new_line own_line) in omega arith in
+    let size : 1 + length lines ≤ most_lines + 1 = let k = length-map is (new_line own_line) in omega arith in
     record {
       reads = reads;
       are = record { read = ap (λ (ts : List (List ℕ)). read_lines (placed_from 1 0 ts)) (joined_split lines ended) ∙ all_read lines reads 1 0 read size; same = all_same lines reads read };

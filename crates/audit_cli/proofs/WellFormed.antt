@@ -15,7 +15,7 @@ use Rattle.rule_model.specs.Rewriting.{Replacement, AppliesIn, AreRewritten, lin
 use Rattle.thumb_model.proofs.Lists.{get_drop, get_take}
 use Rattle.rule_model.proofs.LinesKept.{fewer_lines, one_line_keeps, some_left}
 use Rattle.rule_model.proofs.Table.{window_length}
-use Rattle.listing_parser.specs.Grammar.{Bare, Read, bare}
+use Rattle.listing_parser.specs.Grammar.{Bare, Read, bare, most_lines}
 use Rattle.listing_parser.specs.Parsing.{IsListing, text_of_lines}
 use Rattle.listing_parser.specs.Replacing.{names_no_label}
 use Rattle.listing_parser.proofs.FewLemmas.{all_few}
@@ -23,8 +23,8 @@ use Rattle.listing_parser.proofs.PrintLemmas.{prints_back}
 use Rattle.listing_parser.proofs.ReplacedLines.{replaced_reads_again}
 use Rattle.window_rewrite.specs.Rewriting.{setting}
 
--- a listing has at most 65,536 lines
-few_lines : (bytes : List ℕ) (lines : List Line) → IsListing bytes lines → length lines ≤ 65536
+-- a listing has at most as many lines as it may have
+few_lines : (bytes : List ℕ) (lines : List Line) → IsListing bytes lines → length lines ≤ most_lines
 few_lines bytes lines is =
     let few = (all_few 1 0 (lines_of bytes) is.reads is.are.read (omega arith)).0 in
     let same : length is.reads ≡ length lines = sym (length-map is.reads (λ (r : Read). r.line)) ∙ ap (λ (bs : List Bare). length bs) is.are.same ∙ length-map lines bare in

@@ -3,11 +3,14 @@ use Rattle.std.proofs.Common.{◌≡◌, inl, inr, ℕ, zero, suc, ◌+◌, ◌-
 use Rattle.std.specs.Prelude.{nat_lt, nat_le, if◌then◌else◌, codes, option_and_then}
 use Rattle.std.specs.Str.{bytes_eq}
 use Rattle.std.proofs.lemmas.Bool.{cases_Bool, leb-true}
+use Rattle.std.specs.List.{concat}
+use Rattle.std.proofs.lemmas.List.{length-append}
 use Rattle.std.proofs.lemmas.Nat.{mod_below}
 use Rattle.std.proofs.Math.Pow.{pow_mono}
 use Rattle.ascii_scan.specs.Lines.{Placed, placed, placed_from, lines_of}
 use Rattle.ascii_scan.specs.Names.{is_name_byte}
 use Rattle.ascii_scan.specs.Numeral.{numeral}
+use Rattle.ascii_scan.proofs.LineLemmas.{lines_join, content_short}
 use Rattle.ascii_scan.specs.Tokens.{Token, word, mark, front, rest, is_blank, tokens}
 use Rattle.thumb_instr.specs.declared.instr.Instr.{Instr}
 use Rattle.thumb_instr.specs.declared.instr.Instr.TheVariants as instr
@@ -19,7 +22,7 @@ use Rattle.listing_parser.specs.declared.directive.Directive.{Directive}
 use Rattle.listing_parser.specs.declared.directive.Directive.TheVariants as directive
 use Rattle.listing_parser.specs.Values.{value, values, onto_values, alone, gapped, pair}
 use Rattle.listing_parser.specs.Directives.{Unmarked, NextMarked, NameMarked, Said, Plain, Instruction, Told, says, says_if, marks, size_of, aligns_at_most, whole_size, aligned, sets, sets_by, typed_by, directed, directed_by, directive_named, is_word_byte, is_bare, is_alone, is_code_section, instruction, said, statement}
-use Rattle.listing_parser.specs.Grammar.{Bare, Read, labels_at_front, body, code, read_lines, said_of, bare}
+use Rattle.listing_parser.specs.Grammar.{Bare, Read, labels_at_front, body, code, read_lines, said_of, bare, most_lines}
 use Rattle.listing_parser.proofs.ReadingLemmas.{rest_short}
 use Rattle.listing_parser.proofs.PrintLemmas.{OfLine, of_checked, cut, none_read}
 use Rattle.listing_parser.proofs.FewLemmas.{or_false, tokens_short, labels_short, code_short, body_short, all_few}
@@ -215,14 +218,14 @@ line_room l r o =
 
 -- ---- all lines ----
 
-all_room : (n start : ℕ) (ts : List (List ℕ)) (rs : List Read) → read_lines (placed_from n start ts) ≡ Ok rs → rooms rs ≤ 2303 * length rs
+all_room : (n start : ℕ) (ts : List (List ℕ)) (rs : List Read) → read_lines (placed_from n start ts) ≡ Ok rs → rooms rs ≤ 2 * length (concat ts) + 255 * length rs
 all_room n start [] rs e = let none = none_read rs e in omega (arith, ap rooms none)
 all_room n start (t ∷ ts) rs e =
     let c = cut (placed n start t) (placed_from (n + 1) (start + length t) ts) rs e in
     let o = of_checked (placed n start t) c.first c.checked in
-    let bounds = or_false (nat_lt 65536 n) _ o.within in
-    let short = ltb-false 1024 _ bounds.1 in
     let here = line_room (placed n start t) c.first o.line in
+    let short = content_short t in
+    let joined = length-append t (concat ts) in
     let next = all_room (n + 1) (start + length t) ts c.others c.read in
     let size = ap (λ (xs : List Read). length xs) c.is in
     let sum = ap rooms c.is in
@@ -241,8 +244,9 @@ end_room at (r ∷ rs) (l ∷ ls) e =
     omega arith
 
 pub texts_end : TextsEndInCode
-texts_end base bytes lines h low =
+texts_end base bytes lines h short low =
     let taken = all_room 1 0 (lines_of bytes) h.reads h.are.read in
+    let all = ap (λ (bs : List ℕ). length bs) (lines_join bytes) in
     let few = all_few 1 0 (lines_of bytes) h.reads h.are.read (omega arith) in
     let ends = end_room base h.reads lines h.are.same in
-    omega (arith, few.0)
+    omega (arith, few.0, taken, all, ends)

@@ -28,7 +28,7 @@ use Rattle.thumb_syntax.proofs.WrittenRows.{fields, row_at}
 use Rattle.thumb_syntax.proofs.Written.{written}
 use Rattle.thumb_syntax.proofs.RoundTrip.{writing_reads_back}
 use Rattle.thumb_model.specs.Listing.{Name, Nothing}
-use Rattle.listing_parser.specs.Grammar.{front_of, Read, is_no_colon, is_no_at, begins_hash, is_some_byte, without_first, front_name, from_colon, begins_label, labels_at_front, without_return, body, code, with_labels, read_line, checked_line, shown_of}
+use Rattle.listing_parser.specs.Grammar.{front_of, Read, is_no_colon, is_no_at, begins_hash, is_some_byte, without_first, front_name, from_colon, begins_label, labels_at_front, without_return, body, code, with_labels, read_line, checked_line, shown_of, most_lines}
 use Rattle.listing_parser.specs.Directives.{Unmarked, Plain, Instruction, Told, says, instruction, said, statement}
 use Rattle.listing_parser.specs.Replacing.{names_no_label}
 use Rattle.listing_parser.proofs.ReadingLemmas.{last_other, labels_more, labels_none}
@@ -297,9 +297,9 @@ pub read_clear : (l : Placed) (t : Told) → list_all is_clear l.text ≡ true �
 read_clear l t all h e =
     read_by l l.text t (ap code (body_is l (no_return l.text all)) ∙ code_is l.text h (no_at l.text all)) (labels_none l.text (no_label l.text all)) e
 
-pub read_checked : (l : Placed) (r : Read) → l.number ≤ 65536 → length l.text ≤ 1024 → read_line l ≡ Some r → checked_line l ≡ Ok r
+pub read_checked : (l : Placed) (r : Read) → l.number ≤ most_lines → length l.text ≤ 1024 → read_line l ≡ Some r → checked_line l ≡ Ok r
 unfolding checked_line
-read_checked l r few short e = rw (le-ltb 65536 l.number few, le-ltb 1024 (length l.text) short, e) refl
+read_checked l r few short e = rw (le-ltb most_lines l.number few, le-ltb 1024 (length l.text) short, e) refl
 
 -- ---- a canonical text, alone or behind a tab ----
 
@@ -358,7 +358,7 @@ canonical_line i l e is =
     read_clear l (told_of i) clear.all (no_hash t l.text c clear.begins)
     (statement_is l.text t (Some (told_of i)) clear.begins (text_says t (shown_of i None) c (writing_reads_back i None (names_none i e))))
 
-pub canonical_line_checked : (i : Instr) (l : Placed) → names_no_label i ≡ true → IsLineOf (text_of (shown_of i None)) l.text → l.number ≤ 65536 → checked_line l ≡ Ok (unnamed (told_of i) (whole l))
+pub canonical_line_checked : (i : Instr) (l : Placed) → names_no_label i ≡ true → IsLineOf (text_of (shown_of i None)) l.text → l.number ≤ most_lines → checked_line l ≡ Ok (unnamed (told_of i) (whole l))
 canonical_line_checked i l e is few =
     let clear = clear_line (text_of (shown_of i None)) l.text (canonical_text i e) is in
     read_checked l (unnamed (told_of i) (whole l)) few clear.short (canonical_line i l e is)
@@ -372,7 +372,7 @@ nothing_said = refl
 pub empty_line : (l : Placed) → l.text ≡ [] → read_line l ≡ Some (unnamed (says Nothing) (whole l))
 empty_line l e = read_clear l (says Nothing) (ap (list_all is_clear) e) (ap (λ (w : List ℕ). begins_hash (rest is_blank w)) e) (ap statement e ∙ nothing_said)
 
-pub empty_line_checked : (l : Placed) → l.text ≡ [] → l.number ≤ 65536 → checked_line l ≡ Ok (unnamed (says Nothing) (whole l))
+pub empty_line_checked : (l : Placed) → l.text ≡ [] → l.number ≤ most_lines → checked_line l ≡ Ok (unnamed (says Nothing) (whole l))
 empty_line_checked l e few = read_checked l (unnamed (says Nothing) (whole l)) few (omega (arith, ap (λ (w : List ℕ). length w) e)) (empty_line l e)
 
 -- ---- a label alone ----
@@ -493,6 +493,6 @@ label_line w l e is =
     labels_read (w ∷ []) (w ++ 58 ∷ []) l (λ h. absurd (cc)) is (last_other w 58 (λ h. absurd (omega arith))) (label_code w e) (label_labels w e)
     ∙ ap (λ (y : List ℕ). Some (labels_only (w ∷ []) (whole l) y)) (append_assoc w (58 ∷ []) (10 ∷ []))
 
-pub label_line_checked : (w : List ℕ) (l : Placed) → is_name w ≡ true → l.text ≡ w ++ 58 ∷ [] → length w ≤ 1023 → l.number ≤ 65536 → checked_line l ≡ Ok (labels_only (w ∷ []) (whole l) (w ++ 58 ∷ 10 ∷ []))
+pub label_line_checked : (w : List ℕ) (l : Placed) → is_name w ≡ true → l.text ≡ w ++ 58 ∷ [] → length w ≤ 1023 → l.number ≤ most_lines → checked_line l ≡ Ok (labels_only (w ∷ []) (whole l) (w ++ 58 ∷ 10 ∷ []))
 label_line_checked w l e is short few =
     read_checked l (labels_only (w ∷ []) (whole l) (w ++ 58 ∷ 10 ∷ [])) few (omega (arith, short, length-append w (58 ∷ []), ap (λ (y : List ℕ). length y) is)) (label_line w l e is)

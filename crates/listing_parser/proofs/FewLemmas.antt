@@ -13,7 +13,7 @@ use Rattle.thumb_model.proofs.Lists.{length_map}
 use Rattle.thumb_model.specs.Listing.{Name, Value, Statement, Nothing, Runs, Words, Aligns, Sets, Line, Word, places_in, places_of}
 use Rattle.listing_parser.specs.declared.directive.Directive.{Directive}
 use Rattle.listing_parser.specs.declared.directive.Directive.TheVariants as directive
-use Rattle.listing_parser.specs.Grammar.{Bare, Read, begins_label, from_colon, without_first, without_return, labels_within, labels_at_front, is_no_at, begins_hash, body, code, read_lines, said_of, bare}
+use Rattle.listing_parser.specs.Grammar.{Bare, Read, begins_label, from_colon, without_first, without_return, labels_within, labels_at_front, is_no_at, begins_hash, body, code, read_lines, said_of, bare, most_lines}
 use Rattle.listing_parser.specs.Directives.{Unmarked, NextMarked, NameMarked, Said, Plain, Instruction, Told, says, says_if, marks, aligns_at_most, aligned, sets, sets_by, typed_by, directed, directed_by, directive_named, is_word_byte, is_bare, is_alone, is_code_section, instruction, said, statement}
 use Rattle.listing_parser.specs.Values.{value, values, onto_values, alone, gapped, pair}
 use Rattle.listing_parser.proofs.ReadingLemmas.{rest_short, after_shorter}
@@ -228,7 +228,7 @@ pub or_false : (a b : Bool) → (a || b) ≡ false → (a ≡ false) × (b ≡ f
 or_false true b e = absurd (true≢false e)
 or_false false b e = (refl, e)
 
-pub all_few : (n start : ℕ) (ts : List (List ℕ)) (rs : List Read) → read_lines (placed_from n start ts) ≡ Ok rs → n ≤ 65537 → (length rs + n ≤ 65537) × (counts rs ≤ 1025 * length rs)
+pub all_few : (n start : ℕ) (ts : List (List ℕ)) (rs : List Read) → read_lines (placed_from n start ts) ≡ Ok rs → n ≤ most_lines + 1 → (length rs + n ≤ most_lines + 1) × (counts rs ≤ 1025 * length rs)
 unfolding counts
 all_few n start [] rs e h =
     let none = none_read rs e in
@@ -237,8 +237,8 @@ all_few n start (t ∷ ts) rs e h =
     let l = placed n start t in
     let c = cut (placed n start t) (placed_from (n + 1) (start + length t) ts) rs e in
     let o = of_checked (placed n start t) c.first c.checked in
-    let bounds = or_false (nat_lt 65536 n) _ o.within in
-    let number = ltb-false 65536 n bounds.0 in
+    let bounds = or_false (nat_lt most_lines n) _ o.within in
+    let number = ltb-false most_lines n bounds.0 in
     let short = ltb-false 1024 _ bounds.1 in
     let few = line_few (placed n start t) c.first o.line in
     let next = all_few (n + 1) (start + length t) ts c.others c.read (omega arith) in

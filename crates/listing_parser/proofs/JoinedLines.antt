@@ -9,7 +9,7 @@ use Rattle.ascii_scan.proofs.LineLemmas.{lines_nil, lines_newline, lines_other}
 use Rattle.thumb_model.specs.Listing.{Line}
 use Rattle.listing_parser.specs.declared.errors.Kind.{Kind}
 use Rattle.listing_parser.specs.declared.errors.Kind.TheVariants as kind
-use Rattle.listing_parser.specs.Grammar.{Bare, Read, read_line, checked_line, with_first, read_lines, bare}
+use Rattle.listing_parser.specs.Grammar.{Bare, Read, read_line, checked_line, with_first, read_lines, bare, most_lines}
 use Rattle.listing_parser.specs.Parsing.{text_of_lines}
 use Rattle.listing_parser.proofs.LabelLemmas.{or_false}
 use Rattle.listing_parser.proofs.PrintLemmas.{shaped_ok}
@@ -71,9 +71,9 @@ joined_split (l ∷ m ∷ ls) (inr o, more) = absurd (let bad : map text (m ∷ 
 
 pub checked_parts : (l : Placed) (r : Read) → checked_line l ≡ Ok r → (length l.text ≤ 1024) × (read_line l ≡ Some r)
 unfolding checked_line
-checked_parts l r e = elim (cases_Bool (nat_lt 65536 l.number || nat_lt 1024 (length l.text))) [
+checked_parts l r e = elim (cases_Bool (nat_lt most_lines l.number || nat_lt 1024 (length l.text))) [
   | inl h ↦ absurd (let bad : Err (l.number, kind.Limit) ≡ Ok r = rw h at e in cc)
-  | inr h ↦ (ltb-false 1024 (length l.text) (or_false (nat_lt 65536 l.number) (nat_lt 1024 (length l.text)) h).1, shaped_ok l.number (read_line l) r (rw h at e))
+  | inr h ↦ (ltb-false 1024 (length l.text) (or_false (nat_lt most_lines l.number) (nat_lt 1024 (length l.text)) h).1, shaped_ok l.number (read_line l) r (rw h at e))
 ]
 
 -- where a line stands doesn't matter
@@ -83,7 +83,7 @@ anywhere t n start m begin = refl
 
 -- the text is read as this at each place, with few enough lines before it
 unfoldable pub ReadsAs : List ℕ → Read → Type 0
-ReadsAs t r = (n start : ℕ) → n ≤ 65536 → checked_line (placed n start t) ≡ Ok r
+ReadsAs t r = (n start : ℕ) → n ≤ most_lines → checked_line (placed n start t) ≡ Ok r
 
 pub reads_anywhere : (t : List ℕ) (r : Read) (n start : ℕ) → checked_line (placed n start t) ≡ Ok r → ReadsAs t r
 unfolding ReadsAs
@@ -121,7 +121,7 @@ read_nothing : read_lines [] ≡ Ok []
 unfolding read_lines
 read_nothing = refl
 
-pub all_read : (ls : List Line) (rs : List Read) (n start : ℕ) → AreRead ls rs → n + length ls ≤ 65537 → read_lines (placed_from n start (map text ls)) ≡ Ok rs
+pub all_read : (ls : List Line) (rs : List Read) (n start : ℕ) → AreRead ls rs → n + length ls ≤ most_lines + 1 → read_lines (placed_from n start (map text ls)) ≡ Ok rs
 unfolding AreRead ReadsAs
 all_read [] [] n start h few = read_nothing
 all_read [] (r ∷ rs) n start h few = absurd h

@@ -8,7 +8,7 @@ use Rattle.ascii_scan.proofs.LineLemmas.{lines_join_whole}
 use Rattle.thumb_model.specs.Listing.{Name, Line}
 use Rattle.listing_parser.specs.declared.errors.Kind.{Kind}
 use Rattle.listing_parser.specs.declared.errors.Kind.TheVariants as kind
-use Rattle.listing_parser.specs.Grammar.{front_of, Bare, Read, body, code, labels_at_front, read_line, shaped, checked_line, with_first, read_lines, bare}
+use Rattle.listing_parser.specs.Grammar.{front_of, Bare, Read, body, code, labels_at_front, read_line, shaped, checked_line, with_first, read_lines, bare, most_lines}
 use Rattle.listing_parser.specs.Directives.{Told, statement}
 use Rattle.listing_parser.specs.Parsing.{text_of_lines}
 use Rattle.listing_parser.specs.Verdicts.{PrintsBack}
@@ -46,12 +46,12 @@ shaped_ok n None r e = absurd (let bad : Err (n, kind.Shape) ≡ Ok r = e in cc)
 shaped_ok n (Some x) r e = let same : Ok x ≡ Ok r = e in let is : x ≡ r = cc in ap (λ y. Some y) is
 
 pub record OfChecked (l : Placed) (r : Read) : Type 0 where
-  pub within : (nat_lt 65536 l.number || nat_lt 1024 (length l.text)) ≡ false
+  pub within : (nat_lt most_lines l.number || nat_lt 1024 (length l.text)) ≡ false
   pub line : OfLine l r
 
 pub of_checked : (l : Placed) (r : Read) → checked_line l ≡ Ok r → OfChecked l r
 unfolding checked_line
-of_checked l r e = elim (cases_Bool (nat_lt 65536 l.number || nat_lt 1024 (length l.text))) [
+of_checked l r e = elim (cases_Bool (nat_lt most_lines l.number || nat_lt 1024 (length l.text))) [
   | inl h ↦ absurd (let bad : Err (l.number, kind.Limit) ≡ Ok r = rw h at e in cc)
   | inr h ↦ record { within = h; line = of_read l r (shaped_ok l.number (read_line l) r (rw h at e)) }
 ]

@@ -17,7 +17,7 @@ use Rattle.thumb_model.proofs.Lists.{get_drop}
 use Rattle.listing_parser.specs.Targets.{defined_in, set_names, DefineOnce, marked_by_name, is_next, marked_first, still_waits, functions, first_target}
 use Rattle.listing_parser.proofs.TwiceLemmas.{once_none}
 use Rattle.listing_parser.proofs.FirstTwice.{first_twice}
-use Rattle.listing_parser.specs.Grammar.{Bare, Read, read_lines, shown_of}
+use Rattle.listing_parser.specs.Grammar.{Bare, Read, read_lines, shown_of, most_lines}
 use Rattle.listing_parser.specs.Directives.{Mark, Unmarked}
 use Rattle.listing_parser.specs.Parsing.{IsListing, text_of_lines, own_line}
 use Rattle.listing_parser.specs.Replacing.{names_no_label}
@@ -275,7 +275,7 @@ new_lines n p is (l ∷ ls) (r ∷ rs) plain old none ended = elim (cases_Bool (
 -- ---- all ----
 
 listed_again : (bytes : List ℕ) (lines : List Line) (place n : ℕ) (is : List Instr) (new : List Line) → IsListing bytes lines → new ≡ replaced_lines own_line place (suc n) is lines
-    → ((k : ℕ) → k < suc n → is_op_place (slice_get (places_of lines) (place + k)) ≡ true) → list_all names_no_label is ≡ true → KeepsCode lines new → length new ≤ 65536 → IsListing (text_of_lines new) new
+    → ((k : ℕ) → k < suc n → is_op_place (slice_get (places_of lines) (place + k)) ≡ true) → list_all names_no_label is ≡ true → KeepsCode lines new → length new ≤ most_lines → IsListing (text_of_lines new) new
 listed_again bytes lines place n is new h e ops plain kept few =
     let window : IsWindow place n (places_of lines) = are_ops (suc n) (drop place (places_of lines)) (λ k less. ap is_op_place (get_drop place (places_of lines) k (place + k) refl) ∙ ops k less) in
     let replaced : List Line = replaced_lines own_line place (suc n) is lines in
@@ -287,7 +287,7 @@ listed_again bytes lines place n is new h e ops plain kept few =
     let gone = gone_from own_line n place is 1 [] lines once window (λ name o. sym (code_opens name replaced again) ∙ kept' name (code_opens name lines once ∙ o)) in
     let read = new_lines n place is lines h.reads plain old.old gone (subst AreEnded (sym old.texts) (text_ended bytes)) in
     let split = joined_split replaced read.ended in
-    let size : 1 + length replaced ≤ 65537 = let k = ap (λ (ls : List Line). length ls) e in omega arith in
+    let size : 1 + length replaced ≤ most_lines + 1 = let k = ap (λ (ls : List Line). length ls) e in omega arith in
     let is_listing : IsListing (text_of_lines replaced) replaced =
     record {
       reads = read.reads;

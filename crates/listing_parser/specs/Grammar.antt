@@ -99,9 +99,13 @@ abbrev pub shaped : ℕ → Option Read → Result Read (ℕ × Kind)
 shaped n None = Err (n, kind.Shape)
 shaped n (Some r) = Ok r
 
+-- the most lines of a listing
+abbrev pub most_lines : ℕ
+most_lines = 262144
+
 -- line n is one too many or too long, or it is no line, or it is read
 unfoldable pub checked_line : Placed → Result Read (ℕ × Kind)
-checked_line l = if nat_lt 65536 l.number || nat_lt 1024 (length l.text) then Err (l.number, kind.Limit) else shaped l.number (read_line l)
+checked_line l = if nat_lt most_lines l.number || nat_lt 1024 (length l.text) then Err (l.number, kind.Limit) else shaped l.number (read_line l)
 
 abbrev pub with_front : List Read → Result (List Read) (ℕ × Kind) → Result (List Read) (ℕ × Kind)
 with_front front (Ok rs) = Ok (front ++ rs)

@@ -7,6 +7,7 @@ use Rattle.thumb_model.specs.ReplacedLines.{replaced_lines}
 use Rattle.listing_parser.specs.Targets.{is_code_label}
 use Rattle.listing_parser.specs.Replacing.{names_no_label}
 use Rattle.listing_parser.specs.Parsing.{own_line, IsListing, text_of_lines}
+use Rattle.listing_parser.specs.Grammar.{most_lines}
 
 -- each code label of the old lines is one of the new
 abbrev pub KeepsCode : List Line → List Line → Type 0
@@ -19,7 +20,7 @@ pub record AreReplaced (lines : List Line) (place count : ℕ) (instrs : List In
   pub window : (k : ℕ) → k < count → is_op_place (slice_get (places_of lines) (place + k)) ≡ true
   pub plain : list_all names_no_label instrs ≡ true
   pub kept : KeepsCode lines new
-  pub few : length new ≤ 65536
+  pub few : length new ≤ most_lines
 
 -- the lines after a replacement, joined, are the listing of these lines
 abbrev pub ReplacedReadsAgain : Type 0

@@ -19,7 +19,7 @@ pub fn a_text_has_one_verdict()
 {}
 
 /// The text of a listing after a replacement is read again as the lines that the replacement left: see `Listing::replaced`. No code label may be lost
-/// by it, as one that stood before an instruction that is gone, and there may be at most 65,536 lines.
+/// by it, as one that stood before an instruction that is gone, and there may be at most 262,144 lines.
 pub fn replaced_listings_read_again()
     ensures { ReplacedReadsAgain }
 {}

@@ -15,7 +15,7 @@ use std::alloc::{AllocError, Global};
 use thumb_syntax::is_name;
 
 /// The most lines of a listing.
-const MOST_LINES: usize = 65536;
+const MOST_LINES: usize = 262_144;
 
 /// The most bytes of a line, without its newline.
 const LONGEST_LINE: usize = 1024;

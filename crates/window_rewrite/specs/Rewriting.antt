@@ -6,14 +6,15 @@ use Rattle.rule_model.specs.Rules.{Rule}
 use Rattle.rule_model.specs.Rewriting.{Setting, Replacement}
 use Rattle.label_layout.specs.Refusals.{fault_of}
 use Rattle.label_layout.specs.Faults.{first_fault}
+use Rattle.listing_parser.specs.Grammar.{most_lines}
 use Rattle.listing_parser.specs.Parsing.{own_line}
 use Rattle.window_rewrite.specs.declared.choice.Replacement.{Replacement as Made}
 use Rattle.window_rewrite.specs.declared.errors.RewriteError.{RewriteError}
 use Rattle.window_rewrite.specs.declared.errors.RewriteError.TheVariants as error
 
--- rewriting by a table, for an image that begins at the base: each instruction costs 1, a listing has 65536 lines at most, and a new instruction has a line of its own: a tab, its canonical text and a newline
+-- rewriting by a table, for an image that begins at the base: each instruction costs 1, a listing has as many lines as it may have at most, and a new instruction has a line of its own: a tab, its canonical text and a newline
 abbrev pub setting : ℕ → List (List Rule) → Setting
-setting base table = record { table = table; cost = λ i. 1; base = base; most_lines = 65536; write = own_line }
+setting base table = record { table = table; cost = λ i. 1; base = base; most_lines = most_lines; write = own_line }
 
 -- the registers that a map has, in order
 abbrev pub registers_of : List (Option Low) → List Low
