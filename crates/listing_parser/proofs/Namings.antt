@@ -20,6 +20,7 @@ use Rattle.listing_parser.proofs.TwiceLemmas.{once_none}
 use Rattle.listing_parser.proofs.FewLemmas.{all_few, counts_bare}
 use Rattle.listing_parser.proofs.LabelLemmas.{again_front, among_append, code_place, label_at, not_again, one_label, or_false}
 use Rattle.listing_parser.proofs.Literals.{first_label, later_label}
+use Rattle.listing_parser.specs.Grammar.{most_lines}
 
 -- ---- no name is defined twice, so each label is its name's ----
 
@@ -189,7 +190,7 @@ no_label name (l ∷ ls) e = let h = or_false (bytes_eq name l.name) _ e in rw h
 
 -- ---- all together ----
 
-few_of : (bytes : List ℕ) (lines : List Line) → IsListing bytes lines → length (places_of lines) ≤ 67174400
+few_of : (bytes : List ℕ) (lines : List Line) → IsListing bytes lines → length (places_of lines) ≤ 1025 * most_lines
 few_of bytes lines is =
     let few = all_few 1 0 (lines_of bytes) is.reads is.are.read (omega arith) in
     let sum = counts_bare is.reads lines is.are.same in
