@@ -1,13 +1,13 @@
 -- Lines that can be read so far begin a table, and only those do.
-use Rattle.std.proofs.Common.{◌≡◌, ℕ, suc, ◌-◌, ◌<◌, ◌≤◌, ◌^◌, ◌&&◌, inl, inr, take, drop, Bool, true, false, List, [], ◌∷◌, ◌++◌, length, map, nat_le, nat_lt, refl, sym, ◌∙◌, ap, arith, Some, append_assoc, append-nil, length-append, lt-ltb, le-leb, ltb-true, subst}
+use Rattle.std.proofs.Common.{◌≡◌, ℕ, suc, ◌+◌, ◌-◌, ◌<◌, ◌≤◌, ◌^◌, ◌&&◌, inl, inr, take, drop, Bool, true, false, List, [], ◌∷◌, ◌++◌, length, map, nat_le, nat_lt, refl, sym, ◌∙◌, ap, arith, Some, append_assoc, append-nil, length-append, lt-ltb, le-leb, ltb-true, subst, true≢false}
 use Rattle.std.specs.List.{flat_map, All}
 use Rattle.std.specs.Option.{option_map}
 use Rattle.std.proofs.Math.Seq.{take-append_seam}
 use Rattle.std.proofs.lemmas.Bool.{and_parts, cases_Bool}
 use Rattle.std.proofs.lemmas.Nat.Bits.{bit_at-zero}
-use Rattle.std.specs.Prelude.{◌==◌}
+use Rattle.std.specs.Prelude.{◌==◌, if◌then◌else◌}
 use Rattle.std.proofs.lemmas.Option.{cond_some, same_Some, option_and_then_some}
-use Rattle.std.proofs.lemmas.List.{map-append, length-map, take-append-drop}
+use Rattle.std.proofs.lemmas.List.{map-append, take-append-drop}
 use Rattle.thumb_syntax.proofs.Steps.{map_some}
 use Rattle.std.proofs.lemmas.List.Concat.{flat_map-append}
 use Rattle.std.proofs.lemmas.List.Elements.{All-nil, All-cons, All-head, All-tail, All-push}
@@ -22,12 +22,12 @@ use Rattle.rule_table.specs.declared.header.Field.{Field}
 use Rattle.rule_table.specs.declared.header.Field.TheVariants as field
 use Rattle.rule_table.specs.declared.header.Head.{Head}
 use Rattle.rule_table.specs.declared.header.Head.TheVariants as head
-use Rattle.rule_table.specs.Header.{Header, heads, number_in, with_number, is_same, blank, IsWithin, IsHeader}
+use Rattle.rule_table.specs.Header.{Header, heads, has_line, number_in, with_number, is_same, blank, IsWithin, IsHeader}
 use Rattle.rule_table.specs.Table.{Opened, Rule, Table}
-use Rattle.rule_table.specs.Text.{Item, Number, Pool, State, Entry, Left, Right, Mask, Proof, Logged, Open, End, rule_items, said, header_items, items_of}
+use Rattle.rule_table.specs.Text.{Item, Number, Pool, State, Entry, Left, Right, Mask, Proof, Logged, Open, End, rule_items, line_items, header_items, items_of}
 use Rattle.rule_table.specs.Valid.{IsState, IsInstr, IsMask, IsOpened, IsRule, IsTable, numbers_of}
 use Rattle.rule_table.specs.Items.{IsItem}
-use Rattle.rule_table.specs.Grammar.{Stage, Start, Heading, Stated, Sided, Masked, Proved, Opening, Done, with_state, with_rule, with_opened, is_empty, heard, go_on, step, run}
+use Rattle.rule_table.specs.Grammar.{Stage, Start, Heading, Stated, Sided, Masked, Proved, Opening, Done, with_state, with_rule, with_opened, is_empty, heard, later, step, run}
 
 -- a header, states and finished rules
 abbrev pub front_items : Table → List Item
@@ -35,7 +35,7 @@ front_items t = header_items t.header ++ (map State t.states ++ flat_map rule_it
 
 -- the lines that were read to come to a stage; of a header those before the lines that are due
 unfoldable pub written : Stage → List Item
-written (Heading h due) = take (length heads - length due) (header_items h)
+written (Heading h due) = flat_map (line_items h) (take (length heads - length due) heads)
 written (Stated t) = front_items t
 written (Sided t ls rs) = front_items t ++ (Entry ∷ (map Left ls ++ map Right rs))
 written (Masked t ls rs m) = front_items t ++ (Entry ∷ (map Left ls ++ (map Right rs ++ Mask m ∷ [])))
@@ -51,9 +51,34 @@ pub record AreSides (ls rs : List Instr) : Type 0 where
   pub right : All IsInstr rs
   pub after_left : is_empty rs ≡ false → 0 < length ls
 
+-- where a line stands
+abbrev pub place : Head → ℕ
+place (head.Number field.Version) = 0
+place (head.Number field.Regs) = 1
+place (head.Number field.Left) = 2
+place (head.Number field.Seed) = 3
+place (head.Number field.Budget) = 4
+place head.Pool = 5
+place (head.Number field.Scratch) = 6
+
+-- the numbers whose lines stand from a place on are the least header's
+abbrev pub IsBlankFrom : ℕ → Header → Type 0
+IsBlankFrom from h = (x : Field) → from ≤ place (head.Number x) → number_in h x ≡ number_in blank x
+
+abbrev pub HasFirst : Header → List Head → Type 0
+HasFirst h [] = Unit {0}
+HasFirst h (line ∷ due) = has_line h.version line ≡ true
+
+-- some lines of a header are read, these are left, and the first of these is due
+pub record HasRead (h : Header) (due : List Head) : Type 0 where
+  pub read : List Head
+  pub split : read ++ due ≡ heads
+  pub none : IsBlankFrom (length read) h
+  pub first : HasFirst h due
+
 -- what holds at a stage
 unfoldable pub Fine : Stage → Type 0
-Fine (Heading h due) = IsHeader h × ((read : List Head) × (read ++ due ≡ heads))
+Fine (Heading h due) = IsHeader h × HasRead h due
 Fine (Stated t) = IsTable t × (t.rules ≡ [])
 Fine (Sided t ls rs) = IsTable t × AreSides ls rs
 Fine (Masked t ls rs m) = IsTable t × AreSides ls rs × (0 < length ls) × IsMask m
@@ -194,7 +219,8 @@ table_more : (t : Table) → items_of t ≡ front_items t ++ End ∷ []
 table_more t = simp append_assoc refl
 
 state_more : (t : Table) (s : _) → t.rules ≡ [] → front_items (with_state t s) ≡ front_items t ++ State s ∷ []
-state_more t s none = rw none (ap (λ us. header_items t.header ++ us) (last_more State t.states s))
+state_more t s none =
+    rw none (ap (λ us. header_items t.header ++ us) (last_more State t.states s) ∙ sym (append_assoc (header_items t.header) (map State t.states ++ []) (State s ∷ [])))
 
 empty : (xs : List Instr) → is_empty xs ≡ true → xs ≡ []
 empty [] e = refl
@@ -211,6 +237,7 @@ same_field field.Regs field.Regs e = refl
 same_field field.Left field.Left e = refl
 same_field field.Seed field.Seed e = refl
 same_field field.Budget field.Budget e = refl
+same_field field.Scratch field.Scratch e = refl
 same_field f x e = absurd cc
 
 number_set : (h : Header) (f : Field) (n : ℕ) → number_in (with_number h f n) f ≡ n
@@ -219,6 +246,7 @@ number_set h field.Regs n = refl
 number_set h field.Left n = refl
 number_set h field.Seed n = refl
 number_set h field.Budget n = refl
+number_set h field.Scratch n = refl
 
 -- what else the header says stays
 number_kept : (h : Header) (f x : Field) (n : ℕ) → is_same f x ≡ false → number_in (with_number h f n) x ≡ number_in h x
@@ -227,6 +255,7 @@ number_kept h field.Regs field.Regs n e = absurd cc
 number_kept h field.Left field.Left n e = absurd cc
 number_kept h field.Seed field.Seed n e = absurd cc
 number_kept h field.Budget field.Budget n e = absurd cc
+number_kept h field.Scratch field.Scratch n e = absurd cc
 number_kept h f x n e = refl
 
 pool_kept : (h : Header) (f : Field) (n : ℕ) → (with_number h f n).pool ≡ h.pool
@@ -235,111 +264,191 @@ pool_kept h field.Regs n = refl
 pool_kept h field.Left n = refl
 pool_kept h field.Seed n = refl
 pool_kept h field.Budget n = refl
+pool_kept h field.Scratch n = refl
 
-number_fine : (h : Header) (f : Field) (n : ℕ) → IsHeader h → IsWithin f n → IsHeader (with_number h f n)
-number_fine h f n is within = record { numbers = each; pool = ap is_pool (pool_kept h f n) ∙ is.pool }
-  where
-    each : (x : Field) → IsWithin x (number_in (with_number h f n) x)
-    each x = elim (cases_Bool (is_same f x)) [
-      | inl e ↦ subst (λ y. IsWithin y (number_in (with_number h f n) y)) (same_field f x e) (subst (IsWithin f) (sym (number_set h f n)) within)
-      | inr e ↦ subst (IsWithin x) (sym (number_kept h f x n e)) (is.numbers x)
-    ]
-
--- where a line stands
-abbrev place : Head → ℕ
-place (head.Number field.Version) = 0
-place (head.Number field.Regs) = 1
-place (head.Number field.Left) = 2
-place (head.Number field.Seed) = 3
-place (head.Number field.Budget) = 4
-place head.Pool = 5
+numbers_kept : (h : Header) (ns : List ℕ) (x : Field) → number_in (record h { pool = ns }) x ≡ number_in h x
+numbers_kept h ns field.Version = refl
+numbers_kept h ns field.Regs = refl
+numbers_kept h ns field.Left = refl
+numbers_kept h ns field.Seed = refl
+numbers_kept h ns field.Budget = refl
+numbers_kept h ns field.Scratch = refl
 
 abbrev StandFrom : ℕ → List Head → Type 0
 StandFrom from [] = Unit {0}
 StandFrom from (line ∷ lines) = (place line ≡ from) × StandFrom (suc from) lines
 
 heads_stand : StandFrom 0 heads
-heads_stand = (refl, (refl, (refl, (refl, (refl, (refl, tt))))))
+heads_stand = (refl, (refl, (refl, (refl, (refl, (refl, (refl, tt)))))))
 
 stands_later : (from : ℕ) (read : List Head) (line : Head) (due : List Head) → StandFrom from (read ++ line ∷ due) → from ≤ place line
 stands_later from [] line due o = omega (arith, o.0)
 stands_later from (l ∷ read) line due o = omega (arith, stands_later (suc from) read line due o.1)
 
--- one more line: what it says is held, and what was read before stays
+stands_at : (from : ℕ) (read : List Head) (line : Head) (due : List Head) → StandFrom from (read ++ line ∷ due) → place line ≡ from + length read
+stands_at from [] line due o = omega (arith, o.0)
+stands_at from (l ∷ read) line due o = omega (arith, stands_at (suc from) read line due o.1)
+
+-- one more line: what it says is held, what was read before stays, and what comes later is still the least header's
 record Hears (h g : Header) (line : Head) (i : Item) : Type 0 where
   fine : IsHeader g
-  says : said g line ≡ i
-  kept : (l : Head) → place l < place line → said g l ≡ said h l
+  says : line_items g line ≡ i ∷ []
+  kept : (l : Head) → place l < place line → line_items g l ≡ line_items h l
+  blank_behind : IsBlankFrom (suc (place line)) g
 
-number_heard : (h : Header) (f : Field) (n : ℕ) → IsHeader h → IsWithin f n → Hears h (with_number h f n) (head.Number f) (Number f n)
-number_heard h f n is within = record { fine = number_fine h f n is within; says = ap (Number f) (number_set h f n); kept = kept }
-  where
-    kept : (l : Head) → place l < place (head.Number f) → said (with_number h f n) l ≡ said h l
-    kept (head.Number x) less = elim (cases_Bool (is_same f x)) [
-      | inl e ↦ absurd (omega (arith, ap (λ y. place (head.Number y)) (same_field f x e), less))
-      | inr e ↦ ap (Number x) (number_kept h f x n e)
+module _ (h : Header) (f : Field) (n : ℕ) (is : IsHeader h) (none : IsBlankFrom (place (head.Number f)) h) (due : has_line h.version (head.Number f) ≡ true) (within : IsWithin f n) where
+  heard_number : Header
+  heard_number = with_number h f n
+
+  -- what isn't the version leaves it
+  lines_kept : is_same f field.Version ≡ false → (l : Head) → has_line heard_number.version l ≡ has_line h.version l
+  unfolding heard_number
+  lines_kept e l = ap (λ v. has_line v l) (number_kept h f field.Version n e)
+
+  own_line : has_line heard_number.version (head.Number f) ≡ true
+  unfolding heard_number
+  own_line = elim (cases_Bool (is_same f field.Version)) [
+    | inl e ↦ (let same = same_field f field.Version e in
+        let some : 1 ≤ n = (subst (λ y. IsWithin y n) same within).0 in
+        subst (λ y. has_line (with_number h y n).version (head.Number y) ≡ true) (sym same) (le-leb 1 n some))
+    | inr e ↦ lines_kept e (head.Number f) ∙ due
+  ]
+
+  numbers_fine : (x : Field) → IsWithin x (number_in heard_number x)
+  unfolding heard_number
+  numbers_fine x = elim (cases_Bool (is_same f x)) [
+    | inl e ↦ subst (λ y. IsWithin y (number_in (with_number h f n) y)) (same_field f x e) (subst (IsWithin f) (sym (number_set h f n)) within)
+    | inr e ↦ subst (IsWithin x) (sym (number_kept h f x n e)) (is.numbers x)
+  ]
+
+  -- before the version all else is the least header's
+  still_blank : (x : Field) → has_line heard_number.version (head.Number x) ≡ false → number_in h x ≡ number_in blank x
+  still_blank x unsaid = elim (cases_Bool (is_same f field.Version)) [
+    | inl e ↦ none x (omega (arith, ap (λ y. place (head.Number y)) (same_field f field.Version e)))
+    | inr e ↦ is.unsaid x (sym (lines_kept e (head.Number x)) ∙ unsaid)
+  ]
+
+  unsaid_fine : (x : Field) → has_line heard_number.version (head.Number x) ≡ false → number_in heard_number x ≡ number_in blank x
+  unfolding heard_number
+  unsaid_fine x unsaid = elim (cases_Bool (is_same f x)) [
+    | inl e ↦ absurd (true≢false (sym own_line ∙ ap (λ y. has_line (with_number h f n).version (head.Number y)) (same_field f x e) ∙ unsaid))
+    | inr e ↦ number_kept h f x n e ∙ still_blank x unsaid
+  ]
+
+  number_line_kept : (x : Field) → place (head.Number x) < place (head.Number f) → line_items heard_number (head.Number x) ≡ line_items h (head.Number x)
+  unfolding heard_number
+  number_line_kept x less = elim (cases_Bool (is_same f x)) [
+    | inl e ↦ absurd (omega (arith, ap (λ y. place (head.Number y)) (same_field f x e), less))
+    | inr e ↦ elim (cases_Bool (is_same f field.Version)) [
+      | inl v ↦ absurd (omega (arith, ap (λ y. place (head.Number y)) (same_field f field.Version v), less))
+      | inr v ↦ ap (λ b. if b then Number x (number_in (with_number h f n) x) ∷ [] else []) (lines_kept v (head.Number x))
+          ∙ ap (λ m. if has_line h.version (head.Number x) then Number x m ∷ [] else []) (number_kept h f x n e)
     ]
-    kept head.Pool less = ap Pool (pool_kept h f n)
+  ]
 
-hears : (h g : Header) (line : Head) (i : Item) → IsHeader h → IsItem i → heard h line i ≡ Some g → Hears h g line i
-hears h g (head.Number due) (Number f n) is within e =
-    let parts = cond_some (is_same due f) (with_number h f n) g e in
-    let at : Hears h g (head.Number f) (Number f n) = subst (λ k. Hears h k (head.Number f) (Number f n)) parts.1 (number_heard h f n is within) in
-    subst (λ d. Hears h g (head.Number d) (Number f n)) (sym (same_field due f parts.0)) at
-hears h g head.Pool (Pool ns) is pool e =
-    subst (λ k. Hears h k head.Pool (Pool ns)) (same_Some _ _ e) (record { fine = record { numbers = λ x. numbers x; pool = pool }; says = refl; kept = λ l less. kept l less })
+  pool_line_kept : place head.Pool < place (head.Number f) → line_items heard_number head.Pool ≡ line_items h head.Pool
+  unfolding heard_number
+  pool_line_kept less = elim (cases_Bool (is_same f field.Version)) [
+    | inl v ↦ absurd (omega (arith, ap (λ y. place (head.Number y)) (same_field f field.Version v), less))
+    | inr v ↦ ap (λ b. if b then Pool (with_number h f n).pool ∷ [] else []) (lines_kept v head.Pool)
+        ∙ ap (λ ns. if has_line h.version head.Pool then Pool ns ∷ [] else []) (pool_kept h f n)
+  ]
+
+  number_heard : Hears h (with_number h f n) (head.Number f) (Number f n)
+  unfolding heard_number
+  number_heard = record {
+    fine = record { numbers = numbers_fine; pool = ap is_pool (pool_kept h f n) ∙ is.pool; unsaid = unsaid_fine };
+    says = rw own_line (ap (λ m. Number f m ∷ []) (number_set h f n));
+    kept = kept;
+    blank_behind = λ x later. elim (cases_Bool (is_same f x)) [
+      | inl e ↦ absurd (omega (arith, ap (λ y. place (head.Number y)) (same_field f x e), later))
+      | inr e ↦ number_kept h f x n e ∙ none x (omega (arith, later))
+    ];
+  }
+    where
+      kept : (l : Head) → place l < place (head.Number f) → line_items (with_number h f n) l ≡ line_items h l
+      kept (head.Number x) less = number_line_kept x less
+      kept head.Pool less = pool_line_kept less
+
+pool_heard : (h : Header) (ns : List ℕ) → IsHeader h → IsBlankFrom 5 h → has_line h.version head.Pool ≡ true → is_pool ns ≡ true → Hears h (record h { pool = ns }) head.Pool (Pool ns)
+pool_heard h ns is none due pool = record {
+  fine = record {
+    numbers = λ x. subst (IsWithin x) (sym (numbers_kept h ns x)) (is.numbers x);
+    pool = pool;
+    unsaid = λ x unsaid. numbers_kept h ns x ∙ is.unsaid x unsaid;
+  };
+  says = rw due refl;
+  kept = kept;
+  blank_behind = λ x later. numbers_kept h ns x ∙ none x (omega (arith, later));
+}
   where
-    numbers : (x : Field) → IsWithin x (number_in (record h { pool = ns }) x)
-    numbers field.Version = is.numbers field.Version
-    numbers field.Regs = is.numbers field.Regs
-    numbers field.Left = is.numbers field.Left
-    numbers field.Seed = is.numbers field.Seed
-    numbers field.Budget = is.numbers field.Budget
-
-    kept : (l : Head) → place l < 5 → said (record h { pool = ns }) l ≡ said h l
-    kept (head.Number field.Version) less = refl
-    kept (head.Number field.Regs) less = refl
-    kept (head.Number field.Left) less = refl
-    kept (head.Number field.Seed) less = refl
-    kept (head.Number field.Budget) less = refl
+    kept : (l : Head) → place l < 5 → line_items (record h { pool = ns }) l ≡ line_items h l
+    kept (head.Number x) less = ap (λ m. if has_line h.version (head.Number x) then Number x m ∷ [] else []) (numbers_kept h ns x)
     kept head.Pool less = absurd (omega (arith, less))
-hears h g line i is item e = absurd cc
 
-read_kept : (h g : Header) (line : Head) (from : ℕ) (read due : List Head) → ((l : Head) → place l < place line → said g l ≡ said h l) → StandFrom from (read ++ line ∷ due)
-    → map (said g) read ≡ map (said h) read
+hears : (h g : Header) (line : Head) (i : Item) → IsHeader h → IsBlankFrom (place line) h → has_line h.version line ≡ true → IsItem i → heard h line i ≡ Some g → Hears h g line i
+hears h g (head.Number due) (Number f n) is none has within e =
+    let parts = cond_some (is_same due f) (with_number h f n) g e in
+    let same = same_field due f parts.0 in
+    let blank : IsBlankFrom (place (head.Number f)) h = subst (λ d. IsBlankFrom (place (head.Number d)) h) same none in
+    let own : has_line h.version (head.Number f) ≡ true = subst (λ d. has_line h.version (head.Number d) ≡ true) same has in
+    let at : Hears h g (head.Number f) (Number f n) = subst (λ k. Hears h k (head.Number f) (Number f n)) parts.1 (number_heard h f n is blank own within) in
+    subst (λ d. Hears h g (head.Number d) (Number f n)) (sym same) at
+hears h g head.Pool (Pool ns) is none has pool e = subst (λ k. Hears h k head.Pool (Pool ns)) (same_Some _ _ e) (pool_heard h ns is none has pool)
+hears h g line i is none has item e = absurd cc
+
+read_kept : (h g : Header) (line : Head) (from : ℕ) (read due : List Head) → ((l : Head) → place l < place line → line_items g l ≡ line_items h l) → StandFrom from (read ++ line ∷ due)
+    → flat_map (line_items g) read ≡ flat_map (line_items h) read
 read_kept h g line from [] due kept o = refl
 read_kept h g line from (l ∷ read) due kept o =
     let less : place l < place line = omega (arith, o.0, stands_later (suc from) read line due o.1) in
-    ap (λ j. j ∷ map (said g) read) (kept l less) ∙ ap (λ js. said h l ∷ js) (read_kept h g line (suc from) read due kept o.1)
+    ap (λ js. js ++ flat_map (line_items g) read) (kept l less) ∙ ap (λ js. line_items h l ++ js) (read_kept h g line (suc from) read due kept o.1)
 
 -- what was written of a header are the lines that are read
-before : (h : Header) (read due : List Head) → read ++ due ≡ heads → take (length heads - length due) (header_items h) ≡ map (said h) read
-before h read due e = subst (λ ls. take (length ls - length due) (map (said h) ls) ≡ map (said h) read) e
-    (ap (λ k. take k (map (said h) (read ++ due))) size ∙ ap (take (length (map (said h) read))) (map-append (said h) read due) ∙ take-append_seam (map (said h) read) (map (said h) due))
+before : (h : Header) (read due : List Head) → read ++ due ≡ heads → flat_map (line_items h) (take (length heads - length due) heads) ≡ flat_map (line_items h) read
+before h read due e = subst (λ ls. flat_map (line_items h) (take (length ls - length due) ls) ≡ flat_map (line_items h) read) e
+    (ap (flat_map (line_items h)) (ap (λ k. take k (read ++ due)) size ∙ take-append_seam read due))
   where
-    size : length (read ++ due) - length due ≡ length (map (said h) read)
-    size = omega (arith, length-append read due, length-map read (said h))
+    size : length (read ++ due) - length due ≡ length read
+    size = omega (arith, length-append read due)
 
-goes_on : (g : Header) (read due : List Head) → IsHeader g → read ++ due ≡ heads → (written (go_on due g) ≡ map (said g) read) × Fine (go_on due g)
+-- a line that the version doesn't have is passed over
+goes_on : (g : Header) (read due : List Head) → IsHeader g → IsBlankFrom (length read) g → read ++ due ≡ heads → (written (later due g) ≡ flat_map (line_items g) read) × Fine (later due g)
 unfolding written Fine
-goes_on g read [] is e = (
-  append-nil (header_items g) ∙ ap (map (said g)) (sym e ∙ append-nil read),
+goes_on g read [] is none e = (
+  append-nil (header_items g) ∙ ap (flat_map (line_items g)) (sym e ∙ append-nil read),
   (record { header = is; states = All-nil IsState; rules = All-nil IsRule }, refl),
 )
-goes_on g read (line ∷ due) is e = (before g read (line ∷ due) e, (is, (read, e)))
+goes_on g read (line ∷ due) is none e = by (has_line g.version line) refl (goes_on g (read ++ line ∷ []) due is less (append_assoc read (line ∷ []) due ∙ e))
+  where
+    less : IsBlankFrom (length (read ++ line ∷ [])) g
+    less x far = none x (omega (arith, far, length-append read (line ∷ [])))
 
-heading_step : (h : Header) (line : Head) (due : List Head) (i : Item) (t : Stage) → IsHeader h → (read : List Head) → read ++ line ∷ due ≡ heads → IsItem i
-    → option_map (go_on due) (heard h line i) ≡ Some t → Steps (Heading h (line ∷ due)) t i
+    by : (b : Bool) → has_line g.version line ≡ b → (written (later due g) ≡ flat_map (line_items g) (read ++ line ∷ [])) × Fine (later due g)
+        → (written (later (line ∷ due) g) ≡ flat_map (line_items g) read) × Fine (later (line ∷ due) g)
+    by true has rest = rw has (before g read (line ∷ due) e, (is, record { read = read; split = e; none = none; first = has }))
+    by false hasnt rest =
+        let dropped : flat_map (line_items g) (read ++ line ∷ []) ≡ flat_map (line_items g) read =
+        flat_map-append (line_items g) read (line ∷ []) ∙ rw hasnt (append-nil (flat_map (line_items g) read)) in
+        rw hasnt (rest.0 ∙ dropped, rest.1)
+
+heading_step : (h : Header) (line : Head) (due : List Head) (i : Item) (t : Stage) → IsHeader h → HasRead h (line ∷ due) → IsItem i → option_map (later due) (heard h line i) ≡ Some t
+    → Steps (Heading h (line ∷ due)) t i
 unfolding written
-heading_step h line due i t is read split item e =
-    let found = map_some (heard h line i) (go_on due) t e in
-    let new = hears h found.0 line i is item found.1 in
-    let all : (read ++ line ∷ []) ++ due ≡ heads = append_assoc read (line ∷ []) due ∙ split in
-    let next = goes_on found.0 (read ++ line ∷ []) due new.fine all in
-    let old : map (said found.0) read ≡ map (said h) read = read_kept h found.0 line 0 read due new.kept (subst (StandFrom 0) (sym split) heads_stand) in
+heading_step h line due i t is r item e =
+    let found = map_some (heard h line i) (later due) t e in
+    let stand : StandFrom 0 (r.read ++ line ∷ due) = subst (StandFrom 0) (sym r.split) heads_stand in
+    let at : place line ≡ length r.read = omega (arith, stands_at 0 r.read line due stand) in
+    let none : IsBlankFrom (place line) h = subst (λ n. IsBlankFrom n h) (sym at) r.none in
+    let new = hears h found.0 line i is none r.first item found.1 in
+    let all : (r.read ++ line ∷ []) ++ due ≡ heads = append_assoc r.read (line ∷ []) due ∙ r.split in
+    let size : suc (place line) ≡ length (r.read ++ line ∷ []) = omega (arith, at, length-append r.read (line ∷ [])) in
+    let next = goes_on found.0 (r.read ++ line ∷ []) due new.fine (subst (λ n. IsBlankFrom n found.0) size new.blank_behind) all in
+    let old : flat_map (line_items found.0) r.read ≡ flat_map (line_items h) r.read = read_kept h found.0 line 0 r.read due new.kept stand in
+    let own : flat_map (line_items found.0) (line ∷ []) ≡ i ∷ [] = append-nil (line_items found.0 line) ∙ new.says in
     subst (λ u. Steps (Heading h (line ∷ due)) u i) found.2 (record {
-      more = next.0 ∙ map-append (said found.0) read (line ∷ []) ∙ ap (λ us. us ++ said found.0 line ∷ []) (old ∙ sym (before h read (line ∷ due) split))
-          ∙ ap (λ j. take (length heads - length (line ∷ due)) (header_items h) ++ j ∷ []) new.says;
+      more = next.0 ∙ flat_map-append (line_items found.0) r.read (line ∷ []) ∙ ap (λ us. us ++ flat_map (line_items found.0) (line ∷ [])) (old ∙ sym (before h r.read (line ∷ due) r.split))
+          ∙ ap (λ us. flat_map (line_items h) (take (length heads - length (line ∷ due)) heads) ++ us) own;
       fine = next.1;
     })
 
@@ -347,7 +456,7 @@ heading_step h line due i t is read split item e =
 
 step_written : (s : Stage) (i : Item) (t : Stage) → Fine s → IsItem i → step s i ≡ Some t → Steps s t i
 unfolding step written Fine ascends_from
-step_written (Heading h (line ∷ due)) i t f is e = heading_step h line due i t f.0 f.1.0 f.1.1 is e
+step_written (Heading h (line ∷ due)) i t f is e = heading_step h line due i t f.0 f.1 is e
 step_written (Stated b) (State s) t f is e = rw (← same_Some _ _ e) (record { more = state_more b s f.1; fine = (table_state b s f.0 is, f.1) })
 step_written (Stated b) Entry t f is e = rw (← same_Some _ _ e) (record { more = refl; fine = (f.0, no_sides) })
 step_written (Stated b) End t f is e = rw (← same_Some _ _ e) (record { more = table_more b; fine = f.0 })
@@ -519,10 +628,14 @@ unfolding written Fine
 from_heading h due f = record {
   table = record { header = h; states = []; rules = [] };
   valid = record { header = f.0; states = All-nil IsState; rules = All-nil IsRule };
-  rest = drop (length heads - length due) (header_items h) ++ End ∷ [];
-  whole = ap (λ us. us ++ End ∷ []) (sym (take-append-drop (length heads - length due) (header_items h)))
-      ∙ append_assoc (take (length heads - length due) (header_items h)) (drop (length heads - length due) (header_items h)) (End ∷ []);
+  rest = flat_map (line_items h) (drop read heads) ++ End ∷ [];
+  whole = ap (λ ls. flat_map (line_items h) ls ++ End ∷ []) (sym (take-append-drop read heads))
+      ∙ ap (λ us. us ++ End ∷ []) (flat_map-append (line_items h) (take read heads) (drop read heads))
+      ∙ append_assoc (flat_map (line_items h) (take read heads)) (flat_map (line_items h) (drop read heads)) (End ∷ []);
 }
+  where
+    read : ℕ
+    read = length heads - length due
 
 pub completes : (s : Stage) → Fine s → Opens (written s)
 completes (Heading h due) f = from_heading h due f
@@ -535,7 +648,7 @@ completes (Done t) f = done t f
 
 blank_fine : IsHeader blank
 unfolding is_pool ascends_from
-blank_fine = record { numbers = least; pool = refl }
+blank_fine = record { numbers = least; pool = refl; unsaid = λ x unsaid. refl }
   where
     least : (x : Field) → IsWithin x (number_in blank x)
     least field.Version = (omega arith, omega arith)
@@ -543,14 +656,19 @@ blank_fine = record { numbers = least; pool = refl }
     least field.Left = (omega arith, omega arith)
     least field.Seed = (omega arith, omega arith)
     least field.Budget = (omega arith, omega arith)
+    least field.Scratch = (omega arith, omega arith)
+
+-- nothing is read
+nothing_read : HasRead blank heads
+nothing_read = record { read = []; split = refl; none = λ x far. refl; first = refl }
 
 -- what is read from the start begins a table, and what a whole table's lines are read as is that table
 pub read_opens : (p : List Item) (s : Stage) → All IsItem p → run Start p ≡ Some s → Opens p
 unfolding written Fine
 read_opens p s all e =
-    let reached = run_written p Start s (blank_fine, ([], refl)) all e in
+    let reached = run_written p Start s (blank_fine, nothing_read) all e in
     subst Opens reached.0 (completes s reached.1)
 
 pub read_whole : (p : List Item) (t : Table) → All IsItem p → run Start p ≡ Some (Done t) → IsTable t × (items_of t ≡ p)
 unfolding written Fine
-read_whole p t all e = let reached = run_written p Start (Done t) (blank_fine, ([], refl)) all e in (reached.1, reached.0)
+read_whole p t all e = let reached = run_written p Start (Done t) (blank_fine, nothing_read) all e in (reached.1, reached.0)

@@ -37,6 +37,7 @@ front_line (Number field.Regs n) is = refl
 front_line (Number field.Left n) is = refl
 front_line (Number field.Seed n) is = refl
 front_line (Number field.Budget n) is = refl
+front_line (Number field.Scratch n) is = refl
 front_line (Pool ns) is = refl
 front_line (State s) is = refl
 front_line Entry is = refl
@@ -68,6 +69,7 @@ word_inside field.Regs = refl
 word_inside field.Left = refl
 word_inside field.Seed = refl
 word_inside field.Budget = refl
+word_inside field.Scratch = refl
 
 pub within_small : (f : Field) (n : ℕ) → IsWithin f n → n < 2 ^ 64
 within_small field.Version n is = omega (arith, is.1)
@@ -75,6 +77,7 @@ within_small field.Regs n is = omega (arith, is.1)
 within_small field.Left n is = omega (arith, is.1)
 within_small field.Seed n is = omega (arith, is.1)
 within_small field.Budget n is = omega (arith, is.1)
+within_small field.Scratch n is = omega (arith, is.1)
 
 pub line_inside : (i : Item) → IsItem i → IsInside (line_of i)
 line_inside (Number field n) is = number_inside (row field).word n (word_inside field) (within_small field n is)

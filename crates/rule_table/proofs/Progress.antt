@@ -1,5 +1,6 @@
 -- What has been read of a text, and what comes of it.
 use Rattle.std.proofs.Common.{◌≡◌, ◌∙◌, ℕ, ◌+◌, ◌≤◌, ◌==◌, true, false, List, [], ◌∷◌, ◌++◌, length, map, refl, sym, ap, subst, arith, Option, Some, None, append_assoc, append-nil, length-append, inl, inr, true≢false, Ok, Err}
+use Rattle.std.specs.Prelude.{if◌then◌else◌}
 use Rattle.std.specs.Option.{option_and_then}
 use Rattle.std.specs.List.{flat_map, All, concat}
 use Rattle.std.proofs.lemmas.Bool.{cases_Bool}
@@ -10,9 +11,9 @@ use Rattle.ascii_scan.specs.Lines.{lines_of, onto_first, content_of, is_ended, P
 use Rattle.ascii_scan.proofs.LineLemmas.{lines_nil, lines_newline, lines_other, lines_join, map-whole, length-lines_in}
 use Rattle.rule_table.specs.declared.header.Head.{Head}
 use Rattle.rule_table.specs.declared.header.Head.TheVariants as head
-use Rattle.rule_table.specs.Header.{Header, heads, number_in, IsHeader}
+use Rattle.rule_table.specs.Header.{Header, heads, has_line, IsHeader}
 use Rattle.rule_table.specs.Table.{Opened, Rule, Table}
-use Rattle.rule_table.specs.Text.{Item, Number, Pool, State, Entry, Left, Right, Mask, Proof, Logged, Open, End, line_of, text_of_items, text_of, open_items, rule_items, said, header_items, items_of}
+use Rattle.rule_table.specs.Text.{Item, State, Entry, Left, Right, Mask, Proof, Logged, Open, End, line_of, text_of_items, text_of, open_items, rule_items, line_items, said, header_items, items_of}
 use Rattle.rule_table.specs.Valid.{IsOpened, IsRule, IsTable}
 use Rattle.rule_table.specs.Items.{IsItem}
 use Rattle.rule_table.specs.Grammar.{Stage, Start, Done, step, run}
@@ -91,10 +92,19 @@ rule_all r is =
     (All-append IsItem (map Logged r.proof) opens (All-map IsItem Logged r.proof is.proof)
     (many_items IsOpened open_items opened_items r.opens is.opens))))))
 
-heads_all : (h : Header) → IsHeader h → (lines : List Head) → All IsItem (map (said h) lines)
+said_item : (h : Header) → IsHeader h → (line : Head) → IsItem (said h line)
+said_item h is (head.Number field) = is.numbers field
+said_item h is head.Pool = is.pool
+
+head_all : (h : Header) → IsHeader h → (line : Head) → All IsItem (line_items h line)
+head_all h is line = elim (has_line h.version line) as (λ b. All IsItem (if b then said h line ∷ [] else [])) [
+  | true ↦ All-cons IsItem (said h line) [] (said_item h is line) (All-nil IsItem)
+  | false ↦ All-nil IsItem
+]
+
+heads_all : (h : Header) → IsHeader h → (lines : List Head) → All IsItem (flat_map (line_items h) lines)
 heads_all h is [] = All-nil IsItem
-heads_all h is (head.Number field ∷ lines) = All-cons IsItem (Number field (number_in h field)) (map (said h) lines) (is.numbers field) (heads_all h is lines)
-heads_all h is (head.Pool ∷ lines) = All-cons IsItem (Pool h.pool) (map (said h) lines) is.pool (heads_all h is lines)
+heads_all h is (line ∷ lines) = All-append IsItem (line_items h line) (flat_map (line_items h) lines) (head_all h is line) (heads_all h is lines)
 
 pub table_all : (t : Table) → IsTable t → All IsItem (items_of t)
 table_all t is =

@@ -1,5 +1,5 @@
 -- A table's lines are read as the table.
-use Rattle.std.proofs.Common.{◌≡◌, suc, ◌+◌, ◌<◌, ◌≤◌, true, List, [], ◌∷◌, ◌++◌, length, map, nat_le, nat_lt, refl, sym, ◌∙◌, ap, arith, Option, Some, None, append_assoc, append-nil, length-append, lt-ltb, leb-true}
+use Rattle.std.proofs.Common.{◌≡◌, ℕ, ◌⊎◌, inl, inr, zero, suc, subst, ◌+◌, ◌<◌, ◌≤◌, true, List, [], ◌∷◌, ◌++◌, length, map, nat_le, nat_lt, refl, sym, ◌∙◌, ap, arith, Option, Some, None, append_assoc, append-nil, length-append, lt-ltb, leb-true}
 use Rattle.std.specs.Option.{option_and_then}
 use Rattle.std.specs.List.{flat_map, All}
 use Rattle.std.proofs.lemmas.Bool.{and_parts}
@@ -8,8 +8,11 @@ use Rattle.seq_enum.specs.Lists.{ascends_from}
 use Rattle.lrat_check.specs.Content.{Content}
 use Rattle.window_exec.specs.Seen.{Seen}
 use Rattle.thumb_instr.specs.declared.instr.Instr.{Instr}
+use Rattle.rule_table.specs.declared.header.Field.TheVariants as field
+use Rattle.rule_table.specs.declared.header.Head.TheVariants as head
+use Rattle.rule_table.specs.Header.{Header, has_line, IsWithin, IsHeader}
 use Rattle.rule_table.specs.Table.{Opened, Rule, Table}
-use Rattle.rule_table.specs.Text.{Item, State, Entry, Left, Right, Mask, Proof, Logged, End, open_items, rule_items, items_of}
+use Rattle.rule_table.specs.Text.{Item, State, Entry, Left, Right, Mask, Proof, Logged, End, open_items, rule_items, header_items, items_of}
 use Rattle.rule_table.specs.Valid.{IsRule, IsTable, numbers_of}
 use Rattle.rule_table.specs.Grammar.{Stage, Start, Stated, Sided, Proved, Opening, Done, with_state, with_rule, with_opened, step, run}
 
@@ -148,9 +151,35 @@ reads_all t (r ∷ rs) none all =
     ∙ reads_rules t r rs (All-tail IsRule r rs all)
     ∙ ap (λ us. Some (Done (record { header = t.header; states = t.states; rules = us ++ r ∷ rs }))) none
 
+-- a header of each version by what it says
+of_first : (h : Header) → IsHeader h → h.version ≡ 1 → h ≡ record { version = 1; regs = h.regs; left = h.left; seed = h.seed; budget = h.budget; pool = h.pool; scratch = 0 }
+of_first h is e =
+    let none : h.scratch ≡ 0 = is.unsaid field.Scratch (ap (λ v. has_line v (head.Number field.Scratch)) e) in
+    λ i. record { version = e i; regs = h.regs; left = h.left; seed = h.seed; budget = h.budget; pool = h.pool; scratch = none i }
+
+of_second : (h : Header) → h.version ≡ 2 → h ≡ record { version = 2; regs = h.regs; left = h.left; seed = h.seed; budget = h.budget; pool = h.pool; scratch = h.scratch }
+of_second h e = λ i. record { version = e i; regs = h.regs; left = h.left; seed = h.seed; budget = h.budget; pool = h.pool; scratch = h.scratch }
+
+versions : (v : ℕ) → IsWithin field.Version v → (v ≡ 1) ⊎ (v ≡ 2)
+versions zero w = absurd (omega (arith, w.0))
+versions (suc zero) w = inl refl
+versions (suc (suc zero)) w = inr refl
+versions (suc (suc (suc v))) w = absurd (omega (arith, w.1))
+
+abbrev ReadsHeader : List Item → Header → Type 0
+ReadsHeader rest h = run Start (header_items h ++ rest) ≡ run (Stated (record { header = h; states = []; rules = [] })) rest
+
+reads_header : (h : Header) (rest : List Item) → IsHeader h → ReadsHeader rest h
+unfolding run step
+reads_header h rest is = elim (versions h.version (is.numbers field.Version)) [
+  | inl e ↦ subst (ReadsHeader rest) (sym (of_first h is e)) refl
+  | inr e ↦ subst (ReadsHeader rest) (sym (of_second h e)) refl
+]
+
 pub reads : (t : Table) → IsTable t → run Start (items_of t) ≡ Some (Done t)
-unfolding run step more_states
+unfolding more_states
 reads t is =
     let begun : Table = record { header = t.header; states = []; rules = [] } in
-    reads_states begun t.states (flat_map rule_items t.rules ++ End ∷ [])
+    reads_header t.header (map State t.states ++ (flat_map rule_items t.rules ++ End ∷ [])) is.header
+    ∙ reads_states begun t.states (flat_map rule_items t.rules ++ End ∷ [])
     ∙ reads_all (record { header = t.header; states = t.states; rules = [] }) t.rules refl is.rules

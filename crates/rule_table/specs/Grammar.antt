@@ -5,7 +5,7 @@ use Rattle.thumb_instr.specs.declared.instr.Instr.{Instr}
 use Rattle.window_exec.specs.Seen.{Seen}
 use Rattle.rule_table.specs.declared.header.Head.{Head}
 use Rattle.rule_table.specs.declared.header.Head.TheVariants as head
-use Rattle.rule_table.specs.Header.{Header, heads, with_number, is_same, blank}
+use Rattle.rule_table.specs.Header.{Header, heads, due_in, with_number, is_same, blank}
 use Rattle.rule_table.specs.Table.{Opened, Rule, Table}
 use Rattle.rule_table.specs.Text.{Item, Number, Pool, State, Entry, Left, Right, Mask, Proof, Logged, Open, End}
 
@@ -48,8 +48,12 @@ abbrev pub go_on : List Head → Header → Stage
 go_on [] h = Stated (record { header = h; states = []; rules = [] })
 go_on (line ∷ due) h = Heading h (line ∷ due)
 
+-- of the lines that are left those that the header's version has are due
+abbrev pub later : List Head → Header → Stage
+later lines h = go_on (due_in h.version lines) h
+
 unfoldable pub step : Stage → Item → Option Stage
-step (Heading h (line ∷ due)) i = option_map (go_on due) (heard h line i)
+step (Heading h (line ∷ due)) i = option_map (later due) (heard h line i)
 step (Stated t) (State s) = Some (Stated (with_state t s))
 step (Stated t) Entry = Some (Sided t [] [])
 step (Stated t) End = Some (Done t)

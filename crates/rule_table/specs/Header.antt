@@ -1,9 +1,9 @@
--- The header of a table, which its first lines say: the record, and the lines in order, each with its word and its limits. A further line is a field
--- of the record and a row of each list here.
-use Rattle.std.specs.Prelude.{◌≡◌, ◌≤◌, ℕ, Bool, true, false, List, [], ◌∷◌, codes}
+-- The header of a table, which its first lines say: the record, and the lines in order, each with its word, its limits and the first version that has
+-- it. A further line is a field of the record and a row of each list here.
+use Rattle.std.specs.Prelude.{◌≡◌, ◌≤◌, ℕ, Bool, true, false, List, [], ◌∷◌, codes, nat_le, if◌then◌else◌}
 use Rattle.seq_enum.specs.Pools.{is_pool}
 use Rattle.rule_table.specs.declared.header.Field.{Field}
-use Rattle.rule_table.specs.declared.header.Field.TheVariants.{Version, Regs, Left, Seed, Budget}
+use Rattle.rule_table.specs.declared.header.Field.TheVariants.{Version, Regs, Left, Seed, Budget, Scratch}
 use Rattle.rule_table.specs.declared.header.Head.{Head}
 use Rattle.rule_table.specs.declared.header.Head.TheVariants.{Number, Pool}
 
@@ -18,10 +18,25 @@ pub record Header : Type 0 where
   pub budget : ℕ
   -- the numbers of the alphabet
   pub pool : List ℕ
+  -- how many registers a right side may name that its left side doesn't
+  pub scratch : ℕ
 
--- the lines in order: five numbers and the pool
+-- the lines of the last version in order
 abbrev pub heads : List Head
-heads = Number Version ∷ Number Regs ∷ Number Left ∷ Number Seed ∷ Number Budget ∷ Pool ∷ []
+heads = Number Version ∷ Number Regs ∷ Number Left ∷ Number Seed ∷ Number Budget ∷ Pool ∷ Number Scratch ∷ []
+
+-- the first version that has a line, and whether a version has it
+abbrev pub since : Head → ℕ
+since (Number Scratch) = 2
+since line = 1
+
+abbrev pub has_line : ℕ → Head → Bool
+has_line version line = nat_le (since line) version
+
+-- the lines from the first that a version has
+abbrev pub due_in : ℕ → List Head → List Head
+due_in version [] = []
+due_in version (line ∷ lines) = if has_line version line then line ∷ lines else due_in version lines
 
 abbrev pub number_in : Header → Field → ℕ
 number_in h Version = h.version
@@ -29,6 +44,7 @@ number_in h Regs = h.regs
 number_in h Left = h.left
 number_in h Seed = h.seed
 number_in h Budget = h.budget
+number_in h Scratch = h.scratch
 
 abbrev pub with_number : Header → Field → ℕ → Header
 with_number h Version n = record h { version = n }
@@ -36,6 +52,7 @@ with_number h Regs n = record h { regs = n }
 with_number h Left n = record h { left = n }
 with_number h Seed n = record h { seed = n }
 with_number h Budget n = record h { budget = n }
+with_number h Scratch n = record h { scratch = n }
 
 abbrev pub is_same : Field → Field → Bool
 is_same Version Version = true
@@ -43,6 +60,7 @@ is_same Regs Regs = true
 is_same Left Left = true
 is_same Seed Seed = true
 is_same Budget Budget = true
+is_same Scratch Scratch = true
 is_same a b = false
 
 -- what the line of a number begins with, and the least and the greatest number that it may have
@@ -52,20 +70,22 @@ pub record Row : Type 0 where
   pub greatest : ℕ
 
 abbrev pub row : Field → Row
-row Version = record { word = codes "peep "; least = 1; greatest = 1 }
+row Version = record { word = codes "peep "; least = 1; greatest = 2 }
 row Regs = record { word = codes "regs "; least = 1; greatest = 4 }
 row Left = record { word = codes "left "; least = 1; greatest = 5 }
 row Seed = record { word = codes "seed "; least = 0; greatest = 4294967295 }
 row Budget = record { word = codes "budget "; least = 1; greatest = 1000000 }
+row Scratch = record { word = codes "scratch "; least = 0; greatest = 1 }
 
 abbrev pub IsWithin : Field → ℕ → Type 0
 IsWithin field n = ((row field).least ≤ n) × (n ≤ (row field).greatest)
 
--- each number lies in its limits, and the pool is one
+-- the least header: what is held of one before its lines are read
+abbrev pub blank : Header
+blank = record { version = 1; regs = 1; left = 1; seed = 0; budget = 1; pool = 0 ∷ []; scratch = 0 }
+
+-- each number lies in its limits, the pool is one, and a number that the version has no line for is the least header's
 pub record IsHeader (h : Header) : Type 0 where
   pub numbers : (field : Field) → IsWithin field (number_in h field)
   pub pool : is_pool h.pool ≡ true
-
--- the least header: what is held of one before its lines are read
-abbrev pub blank : Header
-blank = record { version = 1; regs = 1; left = 1; seed = 0; budget = 1; pool = 0 ∷ [] }
+  pub unsaid : (field : Field) → has_line h.version (Number field) ≡ false → number_in h field ≡ number_in blank field

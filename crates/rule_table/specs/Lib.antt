@@ -17,3 +17,4 @@ pub mod Told
 pub mod StageView
 pub mod Matching
 pub mod Binding
+pub mod Scratch

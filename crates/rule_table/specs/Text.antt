@@ -11,7 +11,7 @@ use Rattle.window_exec.specs.Seen.{Seen}
 use Rattle.rule_table.specs.declared.header.Field.{Field}
 use Rattle.rule_table.specs.declared.header.Head.{Head}
 use Rattle.rule_table.specs.declared.header.Head.TheVariants as head
-use Rattle.rule_table.specs.Header.{Header, heads, number_in, row}
+use Rattle.rule_table.specs.Header.{Header, heads, has_line, number_in, row}
 use Rattle.rule_table.specs.Table.{Opened, Rule, Table}
 
 -- a digit of a hexadecimal number, in lower case, and the last n digits of a number
@@ -87,8 +87,12 @@ abbrev pub said : Header → Head → Item
 said h (head.Number field) = Number field (number_in h field)
 said h head.Pool = Pool h.pool
 
+-- the line, where the header's version has it
+abbrev pub line_items : Header → Head → List Item
+line_items h line = if has_line h.version line then said h line ∷ [] else []
+
 abbrev pub header_items : Header → List Item
-header_items h = map (said h) heads
+header_items h = flat_map (line_items h) heads
 
 -- the lines of a table
 abbrev pub items_of : Table → List Item

@@ -13,12 +13,11 @@ use Rattle.rule_table.specs.Table.{Opened, Rule, Table}
 abbrev pub row_of : line.Row → Row
 row_of r = record { word = r.word.now; least = r.least; greatest = r.greatest }
 
--- the version is 1
 abbrev pub header_of : heading.Header → Header
-header_of h = record { version = 1; regs = h.regs; left = h.left; seed = h.seed; budget = h.budget; pool = h.pool }
+header_of h = record { version = h.version; regs = h.regs; left = h.left; seed = h.seed; budget = h.budget; pool = h.pool; scratch = h.scratch }
 
 abbrev pub header_in : code.Table → Header
-header_in t = record { version = 1; regs = t.regs; left = t.left; seed = t.seed; budget = t.budget; pool = t.pool }
+header_in t = record { version = t.version; regs = t.regs; left = t.left; seed = t.seed; budget = t.budget; pool = t.pool; scratch = t.scratch }
 
 abbrev pub opened_of : opening.Open → Opened
 opened_of o = record { number = o.number; log = map content_of o.log.items }

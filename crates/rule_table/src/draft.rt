@@ -11,7 +11,7 @@ ghost use Rattle.rule_table.specs.StageView.{stage_of, goes};
 ghost use Rattle.rule_table.specs.Grammar.{step, heard, is_empty, with_state, with_rule, with_opened, Start, Heading as heading, Stated as stated, Sided as sided, Masked as masked, Proved as proved, Opening as opening, Done as done};
 ghost use Rattle.rule_table.specs.declared.draft.Part.TheVariants as part;
 
-use crate::header::{Field, Head, heads, is_same};
+use crate::header::{Field, Head, due_in, heads, is_same};
 use crate::item::Item;
 use crate::table::{Entry, Open, Table};
 use seq_enum::Pool;
@@ -54,11 +54,13 @@ fn blank(alloc: Global) -> Table
         unreachable!();
     };
     Table {
+        version: 1,
         regs: 1,
         left: 1,
         seed: 0,
         budget: 1,
         pool,
+        scratch: 0,
         states: States::new(Vec::new(alloc)),
         entries: Vec::new(alloc),
     }
@@ -70,11 +72,12 @@ fn set_number(table: &mut Table, field: Field, number: u32)
     ensures { header_in table.new ≡ with_number (header_in table.old) field number }
 {
     match field {
-        Field::Version => {}
+        Field::Version => table.version = number as u8,
         Field::Regs => table.regs = number as u8,
         Field::Left => table.left = number as u8,
         Field::Seed => table.seed = number,
         Field::Budget => table.budget = number,
+        Field::Scratch => table.scratch = number as u8,
     }
 }
 
@@ -204,7 +207,7 @@ impl Draft {
         }
     }
 
-    /// The states begin behind the last line of the header.
+    /// The lines that the version doesn't have are passed over, and the states begin behind the last that it has.
     #[tactic(auto, unfolding(crate::specs::Grammar::step))]
     fn take_heading(&mut self, alloc: Global, due: &'static [Head], item: Item) -> bool
         requires { IsItem (item_of item) }
@@ -216,12 +219,13 @@ impl Draft {
         if !hear(&mut self.table, *line, item) {
             return false;
         }
-        if rest.is_empty() {
+        let due = due_in(self.table.version, rest);
+        if due.is_empty() {
             self.table.states = States::new(Vec::new(alloc));
             self.table.entries = Vec::new(alloc);
             self.part = Part::Stated;
         } else {
-            self.part = Part::Heading(rest);
+            self.part = Part::Heading(due);
         }
         true
     }

@@ -1,20 +1,23 @@
 //! The header of a table, and its lines. What they begin with and which numbers they may have stands in rows, by which they are read and
-//! written: a further line is a row more.
+//! written: a further line is a row more, with the first version that has it.
 ghost use Rattle.std.specs.Prelude.{◌≡◌};
-ghost use Rattle.rule_table.specs.Header.{heads, is_same, row};
+ghost use Rattle.rule_table.specs.Header.{due_in, has_line, heads, is_same, row, since};
 ghost use Rattle.rule_table.specs.Views.{row_of};
 
 use seq_enum::Pool;
 
-/// What the first lines of a table say: how many registers (1 to 4) and instructions (1 to 5) left sides have at most, the seed of the first
-/// states, how many clauses a query may learn (1 to 1,000,000), and the pool of the alphabet's numbers.
+/// What the first lines of a table say: its version (1 or 2), how many registers (1 to 4) and instructions (1 to 5) left sides have at most,
+/// the seed of the first states, how many clauses a query may learn (1 to 1,000,000), the pool of the alphabet's numbers, and how many
+/// registers a right side may name that its left side doesn't (0 or 1; 0 in version 1).
 #[derive(Drop)]
 pub struct Header {
+    pub version: u8,
     pub regs: u8,
     pub left: u8,
     pub seed: u32,
     pub budget: u32,
     pub pool: Pool,
+    pub scratch: u8,
 }
 
 /// A number of the header.
@@ -25,6 +28,7 @@ pub enum Field {
     Left,
     Seed,
     Budget,
+    Scratch,
 }
 
 /// Whether two are one.
@@ -42,19 +46,53 @@ pub enum Head {
 }
 
 /// The lines of the header, in order.
-static HEADS: [Head; 6] = [
+static HEADS: [Head; 7] = [
     Head::Number(Field::Version),
     Head::Number(Field::Regs),
     Head::Number(Field::Left),
     Head::Number(Field::Seed),
     Head::Number(Field::Budget),
     Head::Pool,
+    Head::Number(Field::Scratch),
 ];
 
 pub(crate) fn heads() -> &'static [Head]
     ensures { result.now ≡ heads }
 {
     &HEADS
+}
+
+/// The first version that has a line.
+fn since(line: Head) -> u8
+    ensures { result ≡ since line }
+{
+    match line {
+        Head::Number(Field::Scratch) => 2,
+        _ => 1,
+    }
+}
+
+/// Whether a version has a line.
+pub(crate) fn has_line(version: u8, line: Head) -> bool
+    ensures { result ≡ has_line version line }
+{
+    since(line) <= version
+}
+
+/// The lines from the first that a version has.
+pub(crate) fn due_in(version: u8, lines: &'static [Head]) -> &'static [Head]
+    ensures { result.now ≡ due_in version lines.entry.now }
+{
+    match lines.split_first() {
+        None => lines,
+        Some((line, rest)) => {
+            if has_line(version, *line) {
+                lines
+            } else {
+                due_in(version, rest)
+            }
+        }
+    }
 }
 
 /// What the line of a number begins with, and the least and the greatest number that it may have.
@@ -83,11 +121,12 @@ impl Row {
         ensures { row_of result ≡ row field }
     {
         match field {
-            Field::Version => Row::new(b"peep ", 1, 1),
+            Field::Version => Row::new(b"peep ", 1, 2),
             Field::Regs => Row::new(b"regs ", 1, 4),
             Field::Left => Row::new(b"left ", 1, 5),
             Field::Seed => Row::new(b"seed ", 0, u32::MAX),
             Field::Budget => Row::new(b"budget ", 1, 1_000_000),
+            Field::Scratch => Row::new(b"scratch ", 0, 1),
         }
     }
 }

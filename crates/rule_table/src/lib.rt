@@ -2,12 +2,13 @@
 //! zeros, instructions in canonical text over r0 to r3.
 //!
 //! ```text
-//! peep 1
+//! peep N                   the version, 1 or 2
 //! regs N                   1 to 4
 //! left N                   1 to 5
 //! seed N                   below 2^32
 //! budget N                 1 to 1,000,000
 //! pool N ..                1 to 16 numbers from 0 to 255, ascending
+//! scratch N                0 or 1; from version 2 on
 //! state R0 R1 R2 R3 F      any number of them: eight hexadecimal digits each and one for the flags, in lower case
 //! entry                    any number of entries, each these lines:
 //! left INSTRUCTION         1 to 5
@@ -30,6 +31,7 @@ mod map;
 mod matching;
 mod numbers;
 mod reading;
+mod scratch;
 mod table;
 mod tails;
 mod telling;
@@ -42,6 +44,7 @@ pub use header::{Field, Head, Header};
 pub use map::Map;
 pub use matching::matches;
 pub use reading::read_table;
+pub use scratch::free_scratch;
 pub use table::{Entry, Open, Table};
 pub use windows::canonical;
 pub use writing::write_table;

@@ -1,10 +1,21 @@
 //! A map names registers in the order in which a window meets them: canonical register i stands for its i-th.
-ghost use Rattle.std.specs.Prelude.{◌≡◌, ◌≤◌, length, map, slice_get, Some};
+ghost use Rattle.std.specs.Prelude.{◌≡◌, ◌<◌, ◌≤◌, length, map, slice_get, slice_set, Some};
 ghost use Rattle.std.specs.Option.{option_and_then};
+ghost use Rattle.rule_table.specs.Scratch.{has_register, is_register};
 
 use arrayvec::ArrayVec;
 use std::marker::Model;
 use thumb_instr::Low;
+
+/// Whether what is given in place of a register is this one.
+fn is_register(register: Low, given: Option<Low>) -> bool
+    ensures { result ≡ is_register register.number given }
+{
+    match given {
+        None => false,
+        Some(own) => register.number == own.number,
+    }
+}
 
 /// The registers that stand in place of r0, r1 and so on, where there are some.
 #[derive(Drop)]
@@ -61,5 +72,24 @@ impl Map {
             None => None,
             Some(given) => *given,
         }
+    }
+
+    /// Whether it has a register in place of some.
+    pub(crate) fn has(&self, register: Low) -> bool
+        ensures { result ≡ has_register self.now register.number }
+    {
+        self.registers
+            .iter()
+            .any(|given| is_register(register, *given))
+    }
+
+    /// The map that has this register in place of a canonical one, and all others as this has them.
+    pub fn with(self, canonical: u8, register: Low) -> Map
+        requires { canonical < length self }
+        ensures { result ≡ slice_set self canonical (Some register) }
+    {
+        let mut registers = self.registers;
+        registers[usize::from(canonical)] = Some(register);
+        Map { registers }
     }
 }

@@ -30,11 +30,13 @@ pub struct Entry {
 /// A table: what its header says, states and entries.
 #[derive(Drop)]
 pub struct Table {
+    pub version: u8,
     pub regs: u8,
     pub left: u8,
     pub seed: u32,
     pub budget: u32,
     pub pool: Pool,
+    pub scratch: u8,
     pub states: States,
     pub entries: Vec<Entry>,
 }
@@ -45,11 +47,13 @@ impl Table {
         ensures { table_of result ≡ record { header = header_of header; states = map seen states; rules = map rule_of entries.items } }
     {
         Table {
+            version: header.version,
             regs: header.regs,
             left: header.left,
             seed: header.seed,
             budget: header.budget,
             pool: header.pool,
+            scratch: header.scratch,
             states,
             entries,
         }
@@ -60,11 +64,13 @@ impl Table {
         ensures { table_of self ≡ record { header = header_of result.0; states = map seen result.1; rules = map rule_of result.2.items } }
     {
         let header = Header {
+            version: self.version,
             regs: self.regs,
             left: self.left,
             seed: self.seed,
             budget: self.budget,
             pool: self.pool,
+            scratch: self.scratch,
         };
         (header, self.states, self.entries)
     }

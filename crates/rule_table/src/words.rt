@@ -19,13 +19,14 @@ pub(crate) enum Word {
 }
 
 /// All words but the digits.
-static WORDS: [Word; 13] = [
+static WORDS: [Word; 14] = [
     Word::Head(Head::Number(Field::Version)),
     Word::Head(Head::Number(Field::Regs)),
     Word::Head(Head::Number(Field::Left)),
     Word::Head(Head::Number(Field::Seed)),
     Word::Head(Head::Number(Field::Budget)),
     Word::Head(Head::Pool),
+    Word::Head(Head::Number(Field::Scratch)),
     Word::State,
     Word::Entry,
     Word::Right,

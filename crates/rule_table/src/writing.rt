@@ -3,12 +3,12 @@ ghost use Rattle.std.specs.Prelude.{◌≡◌, ◌++◌, ◌∷◌, [], codes, O
 ghost use Rattle.std.specs.List.{flat_map};
 ghost use Rattle.lrat_check.specs.Content.{content_of};
 ghost use Rattle.window_exec.specs.State.{seen};
-ghost use Rattle.rule_table.specs.Text.{text_of_items, text_of, said, header_items, rule_items, open_items};
+ghost use Rattle.rule_table.specs.Text.{text_of_items, text_of, line_items, header_items, rule_items, open_items};
 ghost use Rattle.rule_table.specs.Text as item;
 ghost use Rattle.rule_table.specs.Views.{header_in, table_of, rule_of, opened_of};
 ghost use Rattle.rule_table.specs.Header.{number_in};
 
-use crate::header::{Field, Head, Row, heads};
+use crate::header::{Field, Head, Row, has_line, heads};
 use crate::lines::{
     write_instruction, write_logged, write_mask, write_number, write_pool, write_state,
 };
@@ -35,18 +35,22 @@ fn number_in(table: &Table, field: Field) -> u32
     ensures { result ≡ number_in (header_in table.now) field }
 {
     match field {
-        Field::Version => 1,
+        Field::Version => u32::from(table.version),
         Field::Regs => u32::from(table.regs),
         Field::Left => u32::from(table.left),
         Field::Seed => table.seed,
         Field::Budget => table.budget,
+        Field::Scratch => u32::from(table.scratch),
     }
 }
 
-/// A line of a table's header.
+/// A line of a table's header, where the table's version has it.
 fn write_head(out: &mut Vec<u8>, table: &Table, line: Head) -> Result<(), AllocError>
-    ensures { OnOk result (out.new.items ≡ out.old.items ++ text_of_items (said (header_in table.now) line ∷ [])) }
+    ensures { OnOk result (out.new.items ≡ out.old.items ++ text_of_items (line_items (header_in table.now) line)) }
 {
+    if !has_line(table.version, line) {
+        return Ok(());
+    }
     match line {
         Head::Number(field) => write_number(
             out,
