@@ -65,7 +65,7 @@ formula_fits t e f =
     record {
       canonical = f.canonical;
       left = are_over k t.header.pool e.left few f.left;
-      right = are_over k t.header.pool e.right few f.right;
+      right = are_over (alphabet_registers t.header e.left) t.header.pool e.right (omega arith) f.right;
       mask = f.mask;
     }
 

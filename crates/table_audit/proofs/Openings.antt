@@ -14,7 +14,7 @@ use Rattle.rule_table.specs.Table.{Opened, Rule, Table}
 use Rattle.rule_table.specs.Valid.{numbers_of}
 use Rattle.proof_logs.specs.Logs.{IsSpentLog}
 use Rattle.proof_logs.specs.Costs.{spent_cost}
-use Rattle.table_audit.specs.Sides.{named_count, alphabet_registers, formula_against}
+use Rattle.table_audit.specs.Sides.{alphabet_registers, formula_against}
 use Rattle.table_audit.specs.Shorter.{sequences_below, shorter, IsBelow, IsTold}
 use Rattle.outcomes.specs.Trials.{start_of, AreTrials}
 use Rattle.outcomes.specs.declared.trials.Trial.{Trial}
@@ -34,9 +34,9 @@ shorter_below t e number seq few no_longer at =
     record { at = whole.0; no_longer = omega (arith, whole.1, no_longer); lighter = whole.1 }
 
 -- the sequence of a number, as the test finds it
-pub found : (t : Table) (e : Rule) (number k count : ℕ) (o : Option (List Instr)) → k ≡ named_count e.left → count ≡ length e.right → o ≡ slice_get (sequences_below k t.header.pool count) number
+pub found : (t : Table) (e : Rule) (number k count : ℕ) (o : Option (List Instr)) → k ≡ alphabet_registers t.header e.left → count ≡ length e.right → o ≡ slice_get (sequences_below k t.header.pool count) number
     → slice_get (shorter t e) number ≡ o
-found t e number k count o f g is = sym (is ∙ ap (λ j. slice_get (sequences_below j t.header.pool count) number) f ∙ ap (λ n. slice_get (sequences_below (named_count e.left) t.header.pool n) number) g)
+found t e number k count o f g is = sym (is ∙ ap (λ j. slice_get (sequences_below j t.header.pool count) number) f ∙ ap (λ n. slice_get (sequences_below (alphabet_registers t.header e.left) t.header.pool n) number) g)
 
 pub none_open : (t : Table) (e : Rule) (o : Opened) → length e.right ≤ 5 → slice_get (shorter t e) o.number ≡ None → IsRightlyOpen t e o → ⊥
 none_open t e o few at r = let no : None ≡ Some r.seq = sym at ∙ below_shorter t e o.number r.seq few r.below in absurd (cc)

@@ -1,12 +1,11 @@
 -- Candidates, one after the other, until one isn't settled.
-use Rattle.std.proofs.Common.{◌≡◌, ℕ, zero, suc, ◌+◌, ◌-◌, ◌*◌, ◌<◌, ◌≤◌, ◌⊎◌, inl, inr, true, List, [], ◌∷◌, Option, Some, None, Contains, drop, length, map, get_or, slice_get, refl, sym, ◌∙◌, ap, subst, arith, add-one, nat_le}
-use Rattle.std.specs.List.{Any}
+use Rattle.std.proofs.Common.{◌≡◌, ℕ, zero, suc, ◌+◌, ◌-◌, ◌*◌, ◌<◌, ◌≤◌, ◌⊎◌, inl, inr, true, List, [], ◌∷◌, Option, Some, None, Contains, drop, length, map, get_or, slice_get, refl, sym, ◌∙◌, ap, subst, arith, nat_le}
 use Rattle.std.proofs.Math.Seq.{drop-cons}
-use Rattle.std.proofs.Math.Nat.{mul-le-mul_left, mul-le-mul_right}
-use Rattle.std.proofs.lemmas.Bool.{and_parts, leb-true, cases_lt}
+use Rattle.std.proofs.Math.Nat.{mul-le-mul_right}
+use Rattle.std.proofs.lemmas.Bool.{and_parts, leb-true}
 use Rattle.std.proofs.lemmas.List.{drop_all}
 use Rattle.std.proofs.lemmas.List.Elements.{Contains-get_or}
-use Rattle.std.proofs.lemmas.Option.{same_Some, slice_get_within, get_or_from_slice_get}
+use Rattle.std.proofs.lemmas.Option.{same_Some}
 use Rattle.thumb_instr.specs.declared.instr.Instr.{Instr}
 use Rattle.thumb_instr.specs.Items.{has, is_in_masks}
 use Rattle.window_exec.specs.declared.state.WState.{WState}
@@ -20,11 +19,11 @@ use Rattle.outcomes.specs.Outcomes as table
 use Rattle.outcomes.specs.Outcomes.{Extent, added}
 use Rattle.outcomes.specs.Candidates.{AreCandidates, BeginsAt, grown_for, added_for}
 use Rattle.outcomes.proofs.Choosing.{told_or_candidate, few_added}
-use Rattle.proof_logs.specs.Verdicts.{Then, InTurn}
+use Rattle.proof_logs.specs.Verdicts.{InTurn}
 use Rattle.rule_table.specs.Table.{Rule, Table}
 use Rattle.table_audit.specs.declared.errors.EntryFault.TheVariants.{Untold}
 use Rattle.table_audit.specs.declared.errors.AuditError.TheVariants.{Entry}
-use Rattle.table_audit.specs.Sides.{named_count}
+use Rattle.table_audit.specs.Sides.{alphabet_registers}
 use Rattle.table_audit.specs.Shorter.{sequences_below, shorter, IsTold, is_named}
 use Rattle.table_audit.specs.Naming.{first_of}
 use Rattle.table_audit.specs.Acceptance.{ToldTest, ToldVerdict}
@@ -153,7 +152,7 @@ told_verdict t e number numbers i past but =
 pub nothing_shorter : (t : Table) (e : Rule) (number : ℕ) → length e.right ≡ 0 → ToldVerdict t number e None
 nothing_shorter t e number none =
     turn_all (ToldTest t number e) 0 (shorter t e) (λ j y there.
-    let l = (below_in (named_count e.left) t.header.pool (length e.right) j y (omega (arith, none)) there).1 in
+    let l = (below_in (alphabet_registers t.header e.left) t.header.pool (length e.right) j y (omega (arith, none)) there).1 in
     absurd (omega (arith, l, none)))
 
 pub some_there : {X : Type 0} (xs : List X) → (xs ≡ [] → ⊥) → 0 < length xs

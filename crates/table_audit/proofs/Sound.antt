@@ -9,12 +9,13 @@ use Rattle.std.proofs.lemmas.Bool.{false≢true, or_cases, and_parts, ltb-true, 
 use Rattle.thumb_instr.specs.declared.instr.Instr.{Instr}
 use Rattle.thumb_model.specs.Items.{AreWords, one_of}
 use Rattle.thumb_model.specs.Sides.{Equal, AreOver, register_count}
-use Rattle.rule_model.specs.Rules.{IsSoundRule}
+use Rattle.rule_model.specs.Rules.{IsSoundRule, rule_registers}
 use Rattle.rule_model.specs.Rules as model
-use Rattle.rule_model.proofs.Alone.{alone_sound, own_registers}
+use Rattle.rule_model.proofs.Alone.{alone_sound, count_over}
 use Rattle.window_exec.specs.Seen.{Seen}
 use Rattle.bit_blast.specs.Exactness.{IsMask, HasNoModel, AreEqual}
 use Rattle.bit_blast.proofs.Exact.{no_model_is_equal}
+use Rattle.rule_table.specs.declared.header.Field.TheVariants.{Scratch}
 use Rattle.rule_table.specs.Table.{Rule, Table}
 use Rattle.rule_table.specs.Valid.{IsState, IsRule, IsTable}
 use Rattle.proof_logs.proofs.Turns.{turn_each}
@@ -29,6 +30,7 @@ use Rattle.table_audit.specs.Acceptance.{EntryVerdict, EntryProofVerdict, ToldTe
 use Rattle.table_audit.specs.Soundness.{items_in, rewriting_rule, rules_of, IsShortest, IsSound}
 use Rattle.table_audit.proofs.Numbering.{below_from}
 use Rattle.table_audit.proofs.Fitting.{formula_fits, ordered_of}
+use Rattle.table_audit.proofs.Walking.{over_more, mask_more, own_within, counted_over}
 use Rattle.table_audit.proofs.Names.{count_same, all_named, has_one, one_has, of_four}
 
 -- ---- the words of listed states ----
@@ -71,7 +73,11 @@ are_words s valid = record {
 equal_sides : (t : Table) (n : ℕ) (e : Rule) → HasFormula t.header e → IsMask e.mask → EntryProofVerdict t n e None → Equal e.left e.right (items_in e.mask)
 equal_sides t n e f masks p v words x h =
     let none : HasNoModel (formula_of t.header e) = proved_unsatisfied (λ line. Entry n (Proof line)) (Entry n Unfinished) (formula_of t.header e).clauses e.proof p in
-    let same : AreEqual e.left e.right e.mask = (no_model_is_equal e.left e.right e.mask (named_count e.left) f.left f.right masks f.mask).0 none in
+    let own = named_count e.left in
+    let registers = alphabet_registers t.header e.left in
+    let within : own ≤ registers = own_within t.header e.left f.canonical in
+    let same : AreEqual e.left e.right e.mask =
+    (no_model_is_equal e.left e.right e.mask registers (over_more own registers e.left within f.left) f.right masks (mask_more own registers e.mask within f.mask)).0 none in
     same v words x (has_one e.mask x h).0
 
 -- a state that tells a sequence shows that it leaves another value
@@ -96,18 +102,19 @@ mask_over t k e is f x h =
       )
     ]
 
-sound_rule : (t : Table) (n : ℕ) (e : Rule) → SidesFit t e → IsMask e.mask → EntryProofVerdict t n e None → IsSoundRule (rewriting_rule e)
-sound_rule t n e sides masks p =
+sound_rule : (t : Table) (n : ℕ) (e : Rule) → IsTable t → SidesFit t e → IsMask e.mask → EntryProofVerdict t n e None → IsSoundRule (rewriting_rule e)
+sound_rule t n e valid sides masks p =
     let f = formula_fits t e sides in
     let is : register_count e.left ≡ named_count e.left = count_same e.left sides.canonical in
-    let right : AreOver (register_count e.left) e.right = subst (λ k. AreOver k e.right) (sym is) f.right in
-    let own = own_registers (rewriting_rule e) right in
+    let most : register_count e.right ≤ alphabet_registers t.header e.left = count_over (alphabet_registers t.header e.left) e.right f.right in
+    let own : named_count e.left ≤ 4 = (ordered_of e.left sides.canonical).few in
+    let scratch : t.header.scratch ≤ 1 = (valid.header.numbers Scratch).1 in
     record {
-      few = omega (arith, own, is, (ordered_of e.left sides.canonical).few);
-      near = omega (arith, own);
+      few = omega (arith, most, is, own);
+      near = omega (arith, most, is, scratch);
       no_longer = sides.no_longer;
       left = subst (λ k. AreOver k e.left) (sym is) f.left;
-      right = subst (λ k. AreOver k e.right) (sym own) right;
+      right = over_more (register_count e.right) (rule_registers (rewriting_rule e)) e.right (omega arith) (counted_over (alphabet_registers t.header e.left) e.right f.right);
       mask = mask_over t (register_count e.left) e is f;
       all_named = λ x low. all_named e.left sides.canonical x (omega (arith, low, is));
       equal = equal_sides t n e f masks p;
@@ -156,7 +163,7 @@ pub accepted_sound : (t : Table) → IsTable t → IsAccepted t → IsSound t
 accepted_sound t valid p = record {
   sound = alone_sound (rules_of t) (λ k rule at. rule_at t k rule at (λ e there is.
       let q = passed t k e valid p there in
-      subst IsSoundRule is (sound_rule t (1 + k) e q.sides q.rule.mask q.proof)));
+      subst IsSoundRule is (sound_rule t (1 + k) e valid q.sides q.rule.mask q.proof)));
   shortest = λ k e there. (let q = passed t k e valid p there in shortest_rule t (1 + k) e valid q.rule q.sides q.told);
   opens = λ k e there i o at.
       let q = passed t k e valid p there in

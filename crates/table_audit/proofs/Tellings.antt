@@ -1,13 +1,11 @@
 -- Trials, and the listed states that they begin at.
-use Rattle.std.proofs.Common.{◌≡◌, ℕ, ◌+◌, ◌<◌, ◌≤◌, ◌↔◌, List, Some, length, get_or, slice_get, map, take, sym, ◌∙◌, ap, subst, inl, inr, arith, Bool, IsTrue}
-use Rattle.std.specs.List.{All, Any}
+use Rattle.std.proofs.Common.{◌≡◌, ℕ, ◌<◌, ◌↔◌, List, Some, length, get_or, slice_get, map, sym, ◌∙◌, ap, subst, inl, inr, arith}
+use Rattle.std.specs.List.{Any}
 use Rattle.std.specs.Option.{option_map}
-use Rattle.std.proofs.lemmas.List.{take_more, take_all, get_or_default, length-map}
-use Rattle.std.proofs.lemmas.List.Elements.{All-push}
+use Rattle.std.proofs.lemmas.List.{get_or_default, length-map}
 use Rattle.std.proofs.Math.ListN.{get_or-map}
 use Rattle.std.proofs.lemmas.Option.{slice_get_cases, slice_get-map}
 use Rattle.thumb_instr.specs.declared.instr.Instr.{Instr}
-use Rattle.thumb_model.specs.Items.{Values}
 use Rattle.thumb_model.specs.Effect.{after_all}
 use Rattle.window_exec.specs.State.{values_of, seen}
 use Rattle.window_exec.specs.Seen.{Seen}

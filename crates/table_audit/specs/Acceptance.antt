@@ -11,7 +11,7 @@ use Rattle.proof_logs.specs.Logs.{IsSpentLog}
 use Rattle.table_audit.specs.declared.errors.EntryFault.TheVariants.{Sides, Proof, Unfinished, Untold, Open}
 use Rattle.table_audit.specs.declared.errors.AuditError.{AuditError}
 use Rattle.table_audit.specs.declared.errors.AuditError.TheVariants.{States, Wide, Entry}
-use Rattle.table_audit.specs.Sides.{SidesFit, formula_against, formula_of}
+use Rattle.table_audit.specs.Sides.{SidesFit, with_scratch, formula_against, formula_of}
 use Rattle.table_audit.specs.Shorter.{sequences_below, shorter, IsBelow, IsTold, is_named}
 
 -- ---- the table ----
@@ -25,7 +25,7 @@ StatesVerdict t = InTurn (StateTest t) 0 (seeded_states t.header.seed)
 
 -- how many sequences an entry of a table may have to be told from, at most
 abbrev pub width : Table → ℕ
-width t = length (sequences_below t.header.regs t.header.pool t.header.left)
+width t = length (sequences_below (with_scratch t.header t.header.regs) t.header.pool t.header.left)
 
 abbrev pub WideVerdict : Table → Option AuditError → Type 0
 WideVerdict t = Tests (width t ≤ 5000000) (Wide (width t))

@@ -1,5 +1,5 @@
 -- The sides that an entry of a table may have.
-use Rattle.std.specs.Prelude.{◌≡◌, ◌≤◌, ℕ, List, length, map}
+use Rattle.std.specs.Prelude.{◌≡◌, ◌≤◌, ◌+◌, ℕ, List, length, map, min}
 use Rattle.thumb_instr.specs.declared.instr.Instr.{Instr}
 use Rattle.thumb_instr.specs.Window.{normal_of}
 use Rattle.seq_enum.specs.Lists.{numbers_from}
@@ -15,9 +15,13 @@ use Rattle.rule_table.specs.Table.{Rule, Table}
 abbrev pub named_count : List Instr → ℕ
 named_count instrs = length (appearing instrs)
 
--- how many registers the sequences of an entry have that stand against a left side, its right side too: those that the left side names
+-- so many registers and, where the header allows one and r0 to r3 have one left, a scratch register
+abbrev pub with_scratch : Header → ℕ → ℕ
+with_scratch h registers = min (registers + h.scratch) 4
+
+-- how many registers the sequences of an entry have that stand against a left side, its right side too: those that the left side names, and the scratch register
 abbrev pub alphabet_registers : Header → List Instr → ℕ
-alphabet_registers h left = named_count left
+alphabet_registers h left = with_scratch h (named_count left)
 
 -- a sequence is its own canonical form: it has one, each instruction is normal, and its registers are r0, r1 and so on by first appearance
 pub record IsCanonicalSide (side : List Instr) : Type 0 where
@@ -34,7 +38,7 @@ pub record SidesFit (t : Table) (e : Rule) : Type 0 where
   pub left : IsOver (named_count e.left) t.header.pool e.left
   pub right : IsOver (alphabet_registers t.header e.left) t.header.pool e.right
   pub no_longer : length e.right ≤ length e.left
-  -- the mask has no register that the left side doesn't name
+  -- the mask has no register that the left side doesn't name, so not the scratch register
   pub mask : IsMaskOver (named_count e.left) e.mask
 
 -- the formula that an entry's left side and a sequence differ in some item of its mask

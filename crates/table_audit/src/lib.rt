@@ -14,6 +14,6 @@ mod widths;
 
 pub use audited::Audited;
 pub use errors::{AuditError, EntryFault};
-pub use sides::{entry_formula, named_count, sides_fit};
+pub use sides::{entry_formula, named_count, sides_fit, with_scratch};
 pub use verdict::audit;
 pub use widths::{count_shorter, shorter_at};

@@ -1,5 +1,5 @@
 //! The sides that an entry may have, and the formula that they differ.
-ghost use Rattle.std.specs.Prelude.{◌≡◌, ◌+◌, ◌<◌, ◌≤◌, ◌↔◌, true, IfOk, IfSome, IsTrue, MatchOption, length, map};
+ghost use Rattle.std.specs.Prelude.{◌≡◌, ◌+◌, ◌<◌, ◌≤◌, ◌↔◌, true, IfOk, IfSome, IsTrue, MatchOption, length, map, min};
 ghost use Rattle.std.specs.List.{list_all};
 ghost use Rattle.thumb_instr.specs.Window.{is_in_window};
 ghost use Rattle.thumb_instr.specs.Renaming.{named};
@@ -141,14 +141,22 @@ pub fn named_count(side: &Seq) -> u8
     }
 }
 
-/// How many registers the alphabet of an entry has: those that its left side names, whatever the header.
-pub(crate) fn alphabet_registers(_table: &Table, entry: &Entry) -> u8
+/// So many registers and, where a header allows one and r0 to r3 have one left, a scratch register.
+pub fn with_scratch(registers: u8, scratch: u8) -> u8
+    ensures { result ≡ min (registers + scratch) 4 }
+{
+    let registers = u16::from(registers) + u16::from(scratch);
+    registers.min(4) as u8
+}
+
+/// How many registers the alphabet of an entry has: those that its left side names, and the scratch register.
+pub(crate) fn alphabet_registers(table: &Table, entry: &Entry) -> u8
     requires { IsInOrder entry.now.left }
-    ensures value { result ≡ alphabet_registers (header_in _table.now) entry.now.left }
+    ensures value { result ≡ alphabet_registers (header_in table.now) entry.now.left }
     ensures some { 0 < result }
     ensures few { result ≤ 4 }
 {
-    named_count(&entry.left)
+    with_scratch(named_count(&entry.left), table.scratch)
 }
 
 /// The formula that the left side of an entry and a sequence differ in some item of the mask, over the registers of the entry's alphabet.

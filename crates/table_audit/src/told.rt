@@ -15,7 +15,7 @@ ghost use Rattle.table_audit.specs.declared.errors.EntryFault.TheVariants.{Untol
 ghost use Rattle.table_audit.specs.Canonical.{HasFormula};
 ghost use Rattle.table_audit.specs.Shorter.{shorter, is_named};
 ghost use Rattle.table_audit.specs.Naming.{first_of};
-ghost use Rattle.table_audit.specs.Sides.{alphabet_registers, named_count};
+ghost use Rattle.table_audit.specs.Sides.{alphabet_registers};
 ghost use Rattle.table_audit.specs.Acceptance.{ToldVerdict};
 
 use crate::errors::{AuditError, EntryFault};
@@ -57,10 +57,9 @@ fn first_untold<L: Ledger>(
     trials: &[Trial],
     steps: &mut Steps<L>,
 ) -> Option<u64>
-    requires few { named_count entry.now.left ≤ 4 }
     requires some { 0 < length entry.now.right }
     requires short { length entry.now.right ≤ 5 }
-    requires letters { outcomes.now.letters ≡ alphabet (named_count entry.now.left) table.now.pool }
+    requires letters { outcomes.now.letters ≡ alphabet (alphabet_registers (header_in table.now) entry.now.left) table.now.pool }
     requires ascending { ascends_from 0 (numbers_of (map opened_of entry.now.opens.items)) ≡ true }
     requires trials { AreTrials entry.now.left (map seen table.now.states) trials.now }
     requires candidates { AreCandidates (shorter (table_of table.now) (rule_of entry.now)) trials.now entry.now.mask.items.bits numbers.now }

@@ -9,6 +9,7 @@ ghost use Rattle.table_audit.specs.Shorter.{sequences_below};
 ghost use Rattle.table_audit.specs.Acceptance.{WideVerdict};
 
 use crate::errors::AuditError;
+use crate::sides::with_scratch;
 use outcomes::count_below;
 use rule_table::Table;
 use seq_enum::{Pool, seq_at, size};
@@ -47,7 +48,8 @@ pub(crate) fn check_width(table: &Table) -> Result<(), AuditError>
     requires { IsTable (table_of table.now) }
     ensures { Answers Memory result (WideVerdict (table_of table.now)) }
 {
-    let width = count_shorter(table.regs, &table.pool, table.left);
+    let registers = with_scratch(table.regs, table.scratch);
+    let width = count_shorter(registers, &table.pool, table.left);
     if width > WIDEST {
         return Err(AuditError::Wide(width));
     }

@@ -1,14 +1,14 @@
-use Rattle.std.proofs.Common.{◌≡◌, ◌<◌, ◌≤◌, ◌+◌, ◌-◌, ◌*◌, ◌∙◌, inl, inr, true, false, sym, ap, subst, arith, length, map, get_or, slice_get, Some}
+use Rattle.std.proofs.Common.{◌≡◌, ◌≤◌, ◌-◌, ◌∙◌, inl, inr, false, sym, ap, subst, arith, length, map, get_or}
 use Rattle.std.proofs.lemmas.Bool.{false≢true}
 use Rattle.window_exec.specs.State.{seen}
 use Rattle.thumb_model.specs.Sides.{AreOver}
-use Rattle.rule_table.specs.Views.{opened_of, rule_of, table_of}
-use Rattle.table_audit.specs.Sides.{named_count}
+use Rattle.rule_table.specs.Views.{header_in, opened_of, rule_of, table_of}
+use Rattle.table_audit.specs.Sides.{alphabet_registers}
 use Rattle.table_audit.specs.Shorter.{shorter, IsTold, is_named}
 use Rattle.table_audit.proofs.Counting.{run_cost, no_cost, within_cost, end_cost}
 use Rattle.table_audit.proofs.Tellings.{told_is}
 use Rattle.table_audit.proofs.Walking.{over_more, numbered_over}
-use Rattle.table_audit.proofs.Settling.{Settled, IsHere, here, not_here, settled_first, settled_next, untold_verdict, told_verdict, candidate_low}
+use Rattle.table_audit.proofs.Settling.{here, not_here, settled_first, settled_next, untold_verdict, told_verdict, candidate_low}
 use Rattle.table_audit.proofs.told.first_untold.Goals as goal
 use Rattle.table_audit.proofs.told.first_untold.Goals.{else-not-is_named-via-then-not-is_named+else-not-is_told, else-not-is_named-via-else-not-is_named}
 
@@ -21,20 +21,20 @@ loop-number-init g c = record {
 pub unreachable-requires : goal.unreachable-requires
 unreachable-requires g c =
     let low = candidate_low (shorter (table_of c.args.table.now) (rule_of c.args.entry.now)) c.args.trials.now c.args.entry.now.mask.items.bits c.args.numbers.now c.loop-number.number-index c.loop-number-test.true c.requires.candidates in
-    not_here (named_count c.args.entry.now.left) c.args.table.now.pool (length c.args.entry.now.right) _ c.args.outcomes.now.letters c.sequence_at.result (omega (arith, c.requires.short)) c.requires.letters low c.sequence_at.ensures c.in-None.is
+    not_here (alphabet_registers (header_in c.args.table.now) c.args.entry.now.left) c.args.table.now.pool (length c.args.entry.now.right) _ c.args.outcomes.now.letters c.sequence_at.result (omega (arith, c.requires.short)) c.requires.letters low c.sequence_at.ensures c.in-None.is
 
 pub is_told-requires : goal.is_told-requires
 is_told-requires g c =
     let low = candidate_low (shorter (table_of c.args.table.now) (rule_of c.args.entry.now)) c.args.trials.now c.args.entry.now.mask.items.bits c.args.numbers.now c.loop-number.number-index c.loop-number-test.true c.requires.candidates in
-    let h = here (named_count c.args.entry.now.left) c.args.table.now.pool (length c.args.entry.now.right) _ c.args.outcomes.now.letters c.sequence_at.result c.in-Some.seq (omega (arith, c.requires.short)) c.requires.letters low c.sequence_at.ensures c.in-Some.is in
-    subst (AreOver 4) (sym c.as_slice.ensures.value) (over_more (named_count c.args.entry.now.left) 4 c.in-Some.seq c.requires.few (numbered_over (named_count c.args.entry.now.left) c.args.table.now.pool _ c.in-Some.seq c.requires.few h.all))
+    let h = here (alphabet_registers (header_in c.args.table.now) c.args.entry.now.left) c.args.table.now.pool (length c.args.entry.now.right) _ c.args.outcomes.now.letters c.sequence_at.result c.in-Some.seq (omega (arith, c.requires.short)) c.requires.letters low c.sequence_at.ensures c.in-Some.is in
+    subst (AreOver 4) (sym c.as_slice.ensures.value) (over_more (alphabet_registers (header_in c.args.table.now) c.args.entry.now.left) 4 c.in-Some.seq (omega arith) (numbered_over (alphabet_registers (header_in c.args.table.now) c.args.entry.now.left) c.args.table.now.pool _ c.in-Some.seq (omega arith) h.all))
 
 pub returns-then-not-is_told-clause-verdict : goal.returns-then-not-is_told-clause-verdict
 returns-then-not-is_told-clause-verdict g c = λ number.
     let t = table_of c.args.table.now in
     let e = rule_of c.args.entry.now in
     let low = candidate_low (shorter t e) c.args.trials.now c.args.entry.now.mask.items.bits c.args.numbers.now c.loop-number.number-index c.loop-number-test.true c.requires.candidates in
-    let h = here (named_count c.args.entry.now.left) c.args.table.now.pool (length c.args.entry.now.right) _ c.args.outcomes.now.letters c.sequence_at.result c.in-Some.seq (omega (arith, c.requires.short)) c.requires.letters low c.sequence_at.ensures c.in-Some.is in
+    let h = here (alphabet_registers (header_in c.args.table.now) c.args.entry.now.left) c.args.table.now.pool (length c.args.entry.now.right) _ c.args.outcomes.now.letters c.sequence_at.result c.in-Some.seq (omega (arith, c.requires.short)) c.requires.letters low c.sequence_at.ensures c.in-Some.is in
     let states = told_is c.args.entry.now.left (map seen c.args.table.now.states) c.args.trials.now c.as_slice.result.now c.args.entry.now.mask.items.bits c.requires.trials in
     let unnamed : is_named (map opened_of c.args.entry.now.opens.items) (get_or c.args.numbers.now c.loop-number.number-index 0) ≡ false =
     sym (c.is_named.ensures ∙ ap (λ os. is_named (map opened_of os) (get_or c.args.numbers.now c.loop-number.number-index 0)) c.deref.ensures.value) ∙ c.if-not-is_named.true in
@@ -49,7 +49,7 @@ returns-then-not-is_told-clause-verdict g c = λ number.
 pub returns-then-not-is_told-clause-cost : goal.returns-then-not-is_told-clause-cost
 returns-then-not-is_told-clause-cost g c =
     let low = candidate_low (shorter (table_of c.args.table.now) (rule_of c.args.entry.now)) c.args.trials.now c.args.entry.now.mask.items.bits c.args.numbers.now c.loop-number.number-index c.loop-number-test.true c.requires.candidates in
-    let h = here (named_count c.args.entry.now.left) c.args.table.now.pool (length c.args.entry.now.right) _ c.args.outcomes.now.letters c.sequence_at.result c.in-Some.seq (omega (arith, c.requires.short)) c.requires.letters low c.sequence_at.ensures c.in-Some.is in
+    let h = here (alphabet_registers (header_in c.args.table.now) c.args.entry.now.left) c.args.table.now.pool (length c.args.entry.now.right) _ c.args.outcomes.now.letters c.sequence_at.result c.in-Some.seq (omega (arith, c.requires.short)) c.requires.letters low c.sequence_at.ensures c.in-Some.is in
     let short : length c.as_slice.result.now ≤ length c.args.entry.now.right - 1 = omega (arith, ap length c.as_slice.ensures.value, h.short) in
     within_cost _ _ c.loop-number.number-index _ _ (run_cost c.loop-number.steps _ _ c.loop-number.number-index _ _ _ c.loop-number.invariant.cost c.is_told.ensures.cost short) c.loop-number-test.true
 
@@ -59,7 +59,7 @@ loop-number-preserved g c =
     let e = rule_of c.args.entry.now in
     let i = c.loop-number.number-index in
     let low = candidate_low (shorter t e) c.args.trials.now c.args.entry.now.mask.items.bits c.args.numbers.now i c.loop-number-test.true c.requires.candidates in
-    let h = here (named_count c.args.entry.now.left) c.args.table.now.pool (length c.args.entry.now.right) _ c.args.outcomes.now.letters c.sequence_at.result c.in-Some.seq (omega (arith, c.requires.short)) c.requires.letters low c.sequence_at.ensures c.in-Some.is in
+    let h = here (alphabet_registers (header_in c.args.table.now) c.args.entry.now.left) c.args.table.now.pool (length c.args.entry.now.right) _ c.args.outcomes.now.letters c.sequence_at.result c.in-Some.seq (omega (arith, c.requires.short)) c.requires.letters low c.sequence_at.ensures c.in-Some.is in
     let test : c.is_named.result ≡ is_named (map opened_of c.args.entry.now.opens.items) (get_or c.args.numbers.now i 0) =
     c.is_named.ensures ∙ ap (λ os. is_named (map opened_of os) (get_or c.args.numbers.now i 0)) c.deref.ensures.value in
     elim c.else-not-is_named.branch [
