@@ -30,7 +30,7 @@ use Rattle.table_learn.specs.Learnt.{IsRefutation, IsSpentSearch}
 use Rattle.table_learn.specs.Tellings.{told, tells_apart}
 use Rattle.std.proofs.Common.{Result, Ok, Err}
 use Rattle.std.specs.Prelude.{IfOk}
-use Rattle.table_audit.specs.Sides.{named_count}
+use Rattle.table_audit.specs.Sides.{alphabet_registers}
 use Rattle.std.specs.declared.alloc.AllocError.{AllocError}
 use Rattle.table_learn.specs.declared.window.Window as code
 use Rattle.table_learn.specs.declared.trying.Finding.{Finding}
@@ -83,7 +83,7 @@ told_seen [] left right mask = refl
 told_seen (s ∷ states) left right mask = ap (λ b. tells_apart left right mask (seen s) || b) (told_seen states left right mask)
 
 -- the solver is asked where no listed state tells
-pub answered : (r : Result Finding AllocError) (s : Settings) (states : List Seen) (w : code.Window) (seq : List Instr) → w.k ≡ named_count w.left → told states w.left seq w.mask.items.bits ≡ false → IfOk r (IsAnswer s.budget w seq) → IfOk r (IsFinding s states (window_in w) seq)
+pub answered : (r : Result Finding AllocError) (s : Settings) (states : List Seen) (w : code.Window) (seq : List Instr) → w.k ≡ alphabet_registers s w.left → told states w.left seq w.mask.items.bits ≡ false → IfOk r (IsAnswer s.budget w seq) → IfOk r (IsFinding s states (window_in w) seq)
 answered (Ok Told) s states w seq n u a = absurd a
 answered (Ok (State x)) s states w seq n u a = (u, a.0, a.1)
 answered (Ok (Proof log)) s states w seq n u a = (subst (λ k. IsRefutation s.budget (sides_formula w.left seq w.mask.items.bits k) (map content_of log.items)) n a.0, a.1)

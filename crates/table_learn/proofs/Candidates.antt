@@ -16,7 +16,7 @@ use Rattle.outcomes.specs.Outcomes.{Extent, added}
 use Rattle.outcomes.specs.Candidates.{TellsFrom}
 use Rattle.outcomes.specs.Candidates as found
 use Rattle.outcomes.proofs.Choosing.{told_or_candidate}
-use Rattle.table_audit.specs.Sides.{named_count}
+use Rattle.table_audit.specs.Sides.{alphabet_registers}
 use Rattle.table_audit.specs.Shorter.{sequences_below}
 use Rattle.table_learn.specs.Settings.{Settings, Window}
 use Rattle.table_learn.specs.Tellings.{told}
@@ -24,7 +24,7 @@ use Rattle.table_learn.specs.Searching.{shorter_than, AreCandidates}
 use Rattle.table_learn.proofs.Telling.{is_told}
 
 -- the sequences of a table that are shorter than a window
-pub shorter_in : (s : Settings) (w : Window) (k n : ℕ) (letters : List Instr) → k ≡ named_count w.seq → letters ≡ alphabet k s.pool → n + 1 ≡ length w.seq → table.sequences_below letters (n + 1) ≡ shorter_than s w
+pub shorter_in : (s : Settings) (w : Window) (k n : ℕ) (letters : List Instr) → k ≡ alphabet_registers s w.seq → letters ≡ alphabet k s.pool → n + 1 ≡ length w.seq → table.sequences_below letters (n + 1) ≡ shorter_than s w
 unfolding table.sequences_below sequences_below
 shorter_in s w k n letters named is long =
     ap (λ m. table.sequences_below letters m) long ∙ ap (λ ls. table.sequences_below ls (length w.seq)) is ∙ ap (λ j. table.sequences_below (alphabet j s.pool) (length w.seq)) named

@@ -1,5 +1,5 @@
 -- One more window, and the table in the end.
-use Rattle.std.proofs.Common.{◌≡◌, ℕ, zero, suc, ◌+◌, ◌-◌, ◌<◌, ◌≤◌, ◌^◌, ◌%◌, ◌/◌, ◌*◌, inl, inr, List, [], ◌∷◌, ◌++◌, Some, All, length, map, slice_get, take, get_or, refl, sym, ◌∙◌, ap, subst, arith, zero-add, length-append, true}
+use Rattle.std.proofs.Common.{◌≡◌, ℕ, zero, suc, ◌+◌, ◌-◌, ◌<◌, ◌≤◌, ◌^◌, ◌%◌, ◌/◌, ◌*◌, inl, inr, List, [], ◌∷◌, ◌++◌, Some, All, length, map, slice_get, take, get_or, refl, sym, ◌∙◌, ap, subst, arith, zero-add, length-append, true, false, nat_le, leb-false}
 use Rattle.std.proofs.lemmas.List.{take-append-le, take_all}
 use Rattle.std.proofs.lemmas.List.Elements.{All-nil, All-cons, All-append}
 use Rattle.std.proofs.lemmas.Bool.{cases_lt}
@@ -18,14 +18,14 @@ use Rattle.window_exec.specs.Seen.{Seen}
 use Rattle.fingerprints.specs.Seeded.{next_state, seeded_states, states_from}
 use Rattle.rule_table.specs.Table.{Rule}
 use Rattle.rule_table.specs.Valid.{IsState, IsInstr, IsOpened, IsRule, IsTable}
-use Rattle.table_audit.specs.Sides.{named_count, formula_against}
+use Rattle.table_audit.specs.Sides.{named_count, alphabet_registers, with_scratch, formula_against}
 use Rattle.table_audit.specs.Acceptance.{StateTest, EntryVerdict, IsAccepted}
-use Rattle.table_audit.proofs.Appearing.{names_register}
 use Rattle.table_audit.proofs.Fitting.{are_over, ordered_of}
 use Rattle.table_audit.proofs.Walking.{over_more}
 use Rattle.rule_table.specs.declared.header.Field.{Field}
 use Rattle.rule_table.specs.declared.header.Field.TheVariants as field
-use Rattle.rule_table.specs.Header.{number_in, IsWithin, IsHeader}
+use Rattle.rule_table.specs.declared.header.Head.TheVariants.{Number}
+use Rattle.rule_table.specs.Header.{number_in, has_line, blank, IsWithin, IsHeader}
 use Rattle.table_learn.specs.Settings.{Settings, Window}
 use Rattle.table_learn.specs.Given.{AreInLimits}
 use Rattle.table_learn.specs.Learnt.{Learnt, TellsFirst, AreEarned, learnt_from, width_of, KeepsOrShortens, IsProvedBySolver, IsOpenBySolver, IsSpentSearch}
@@ -35,6 +35,8 @@ use Rattle.table_learn.specs.Progress.{Progress, table_with}
 use Rattle.table_learn.proofs.Fit.{turn_all, fit_passes, fit_more, fit_without, no_longer}
 use Rattle.table_learn.proofs.Steps.{push_cases}
 use Rattle.table_learn.proofs.Monotone.{shorter_more}
+use Rattle.table_learn.proofs.Registers.{more_registers, few_registers, some_registers, narrow_registers}
+use Rattle.table_learn.proofs.Wider.{over_wider}
 
 -- ---- lists ----
 
@@ -202,23 +204,22 @@ side_instrs pool k is few over = over_instrs is (over_more k 4 is few (are_over 
 
 pub few_shorter : (s : Settings) (silent tellers : List Seen) (e : Rule) → AreInLimits s → IsFit s tellers silent e → length (shorter_of s e) ≤ width_of s
 few_shorter s silent tellers e l f =
-    let k : ℕ = named_count e.left in
-    let some : 0 < k = names_register e.left f.window.canonical.renamable.some f.window.canonical.renamable.windows in
+    let w = learnt_from e in
     let n = no_longer e f.keeps in
-    shorter_more k s.regs s.pool (length e.right) s.left some f.window.few l.few_regs (omega (arith, n, f.window.short))
+    shorter_more (alphabet_registers s e.left) (with_scratch s s.regs) s.pool (length e.right) s.left (some_registers s w f.window) (narrow_registers s w f.window) (omega arith) (omega (arith, n, f.window.short))
 
 valid_rule : (s : Settings) (states : List Seen) (e : Rule) → AreInLimits s → width_of s ≤ 5000000 → IsFit s states states e → IsRule e
 valid_rule s states e l narrow f =
-    let k : ℕ = named_count e.left in
-    let o = ordered_of e.left f.window.canonical in
+    let k : ℕ = alphabet_registers s e.left in
+    let few_named = (ordered_of e.left f.window.canonical).few in
     let n = no_longer e f.keeps in
     let five : length e.left ≤ 5 = f.window.canonical.renamable.few in
     record {
       some = f.window.canonical.renamable.some;
       few_left = five;
       few_right = omega (arith, n, five);
-      left = side_instrs s.pool k e.left o.few f.window.over;
-      right = side_instrs s.pool k e.right o.few f.right;
+      left = side_instrs s.pool k e.left (few_registers s e.left) (over_wider (named_count e.left) k s.pool e.left (more_registers s e.left few_named) f.window.over);
+      right = side_instrs s.pool k e.right (few_registers s e.left) f.right;
       mask = f.mask;
       proof = f.lines;
       opens = all_of IsOpened e.opens (λ i z at.
@@ -229,15 +230,28 @@ valid_rule s states e l narrow f =
       ascending = f.ascending;
     }
 
-pub in_limits : (s : Settings) → s.version ≡ 1 → AreInLimits s → s.seed < 2 ^ 32 → is_pool s.pool ≡ true → IsHeader s
-in_limits s version l seed pool = record { numbers = each; pool = pool }
+pub in_limits : (s : Settings) → AreInLimits s → s.seed < 2 ^ 32 → is_pool s.pool ≡ true → IsHeader s
+in_limits s l seed pool = record { numbers = each; pool = pool; unsaid = said }
   where
     each : (f : Field) → IsWithin f (number_in s f)
-    each field.Version = (omega (arith, version), omega (arith, version))
+    each field.Version = (l.some_version, l.few_version)
     each field.Regs = (l.some_regs, l.few_regs)
     each field.Left = (l.some_left, l.few_left)
     each field.Seed = (omega arith, omega (arith, seed))
     each field.Budget = (l.some_budget, l.few_budget)
+    each field.Scratch = (omega arith, l.few_scratch)
+
+    -- each version has a line for each number but that of scratch registers
+    has : nat_le 1 s.version ≡ false → ⊥
+    has none = let late = leb-false 1 s.version none in let some = l.some_version in omega (arith, late, some)
+
+    said : (f : Field) → has_line s.version (Number f) ≡ false → number_in s f ≡ number_in blank f
+    said field.Version none = absurd (has none)
+    said field.Regs none = absurd (has none)
+    said field.Left none = absurd (has none)
+    said field.Seed none = absurd (has none)
+    said field.Budget none = absurd (has none)
+    said field.Scratch none = let late = leb-false 2 s.version none in let some = l.some_version in l.first_version (omega (arith, late, some))
 
 pub valid : (s : Settings) (windows : List Window) (states : List Seen) (rules : List Rule) → AreInLimits s → IsHeader s → width_of s ≤ 5000000 → Progress s windows states rules → IsTable (table_with s states rules)
 valid s windows states rules l is narrow g = record {

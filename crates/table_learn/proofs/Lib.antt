@@ -1,4 +1,6 @@
 pub mod Telling
+mod Wider
+pub mod Registers
 pub mod Certificates
 pub mod Fit
 pub mod Steps

@@ -11,11 +11,10 @@ use Rattle.window_exec.specs.State.{seen}
 use Rattle.window_exec.specs.Seen.{Seen}
 use Rattle.rule_table.specs.declared.table.Entry.{Entry}
 use Rattle.rule_table.specs.Views.{rule_of}
-use Rattle.table_audit.proofs.Appearing.{names_register}
 use Rattle.rule_table.specs.Table.{Opened, Rule}
 use Rattle.rule_table.specs.Valid.{IsState}
 use Rattle.rule_table.specs.Text.{rule_items}
-use Rattle.table_audit.specs.Sides.{named_count}
+use Rattle.table_audit.specs.Sides.{named_count, alphabet_registers, with_scratch}
 use Rattle.table_audit.proofs.Fitting.{are_over, ordered_of}
 use Rattle.table_audit.proofs.Walking.{over_more}
 use Rattle.table_learn.specs.Settings.{Settings, Window}
@@ -35,6 +34,7 @@ use Rattle.table_learn.proofs.Gains.{all_of, gain, few_shorter}
 use Rattle.table_learn.proofs.TextLengths.{text_more}
 use Rattle.table_learn.proofs.Costs.{few_opens, few_numbers, search_within, drop_within}
 use Rattle.table_learn.proofs.Monotone.{shorter_more}
+use Rattle.table_learn.proofs.Registers.{more_registers, few_registers, some_registers, narrow_registers}
 use Rattle.table_learn.proofs.Steps.{push_cases}
 
 -- ---- nothing found drops nothing ----
@@ -75,12 +75,13 @@ window_learnt s windows w old new found rules later e bytes lines whole freed g 
 
 -- ---- what the entries are ----
 
-pub side_over : (s : Settings) (w : Window) → IsWindow s w → (named_count w.seq ≤ 4) × AreOver (named_count w.seq) w.seq × AreOver 4 w.seq
+pub side_over : (s : Settings) (w : Window) → IsWindow s w → (alphabet_registers s w.seq ≤ 4) × AreOver (alphabet_registers s w.seq) w.seq × AreOver 4 w.seq
 side_over s w i =
     let o = ordered_of w.seq i.canonical in
     let few : named_count w.seq ≤ 4 = o.few in
     let over : AreOver (named_count w.seq) w.seq = are_over (named_count w.seq) s.pool w.seq (omega (arith, few)) i.over in
-    (few, over, over_more (named_count w.seq) 4 w.seq few over)
+    let more = more_registers s w.seq few in
+    (few_registers s w.seq, over_more (named_count w.seq) (alphabet_registers s w.seq) w.seq more over, over_more (named_count w.seq) 4 w.seq few over)
 
 sided : (s : Settings) (tellers silent : List Seen) (e : Rule) → IsFit s tellers silent e → IsSided e
 sided s tellers silent e f = record { canonical = f.window.canonical; over = (side_over s (learnt_from e) f.window).2; no_longer = no_longer e f.keeps }
@@ -135,9 +136,8 @@ pub window_cost : (s : Settings) (windows : List Window) (w : Window) (l : Learn
     → after ≤ before + search_cost s (length states) + drop_cost s (length later) (length states - length l.states.items)
 window_cost s windows w l states found entries later entry candidates before first middle after limits h window are fit e k size table m more n =
     let rules : map rule_of entries ≡ rules_in l ++ rule_of entry ∷ [] = ap (map rule_of) e ∙ map_push rule_of l.entries.items entry in
-    let some : 0 < named_count w.seq = names_register w.seq window.canonical.renamable.some window.canonical.renamable.windows in
     let few : 0 + length candidates ≤ length (shorter_than s w) = few_numbers 0 (length (shorter_than s w)) candidates (omega arith) are.ascending are.within in
-    let wide : length (shorter_than s w) ≤ width_of s = shorter_more (named_count w.seq) s.regs s.pool (length w.seq) s.left some window.few limits.few_regs window.short in
+    let wide : length (shorter_than s w) ≤ width_of s = shorter_more (alphabet_registers s w.seq) (with_scratch s s.regs) s.pool (length w.seq) s.left (some_registers s w window) (narrow_registers s w window) (omega arith) window.short in
     let known = h.progress.long in
     let listed : length (states_in l) ≡ length l.states.items = length-map l.states.items seen in
     let searched : length (shorter_than s w) + length candidates * query_cost s.budget (length states) (length w.seq) ≤ search_cost s (length states) = search_within s (length candidates) (length (shorter_than s w)) (length states) (length w.seq) (omega (arith, few)) wide window.short window.canonical.renamable.some (omega (arith, known, listed, more)) in

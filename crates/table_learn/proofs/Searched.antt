@@ -15,7 +15,7 @@ use Rattle.proof_logs.proofs.Turns.{drop_got}
 use Rattle.bit_blast.specs.Differences.{sides_formula}
 use Rattle.bit_blast.specs.Exactness.{IsMask}
 use Rattle.rule_table.specs.Table.{Opened, Rule}
-use Rattle.table_audit.specs.Sides.{named_count}
+use Rattle.table_audit.specs.Sides.{alphabet_registers}
 use Rattle.table_learn.specs.Settings.{Settings, Window}
 use Rattle.table_learn.specs.Given.{IsWindow}
 use Rattle.table_learn.specs.Learnt.{IsRefutation, learnt_from}
@@ -51,7 +51,7 @@ right_found s w e old states later opens more kept candidates i d limit right sa
     (sym (take-append-drop i candidates) ∙ ap (λ rs. take i candidates ++ rs) (split_at candidates i d low))
     (subst (λ (v : Window). slice_get (shorter_than s v) (get_or candidates i d) ≡ Some e.right) (sym same) (tried.2.at ∙ ap (λ z. Some z) (sym r)))
     (o ∙ ap (λ n. filter (is_below n) more) l ∙ ap (λ os. filter (is_below (length (shorter_of s e))) os) tried.1)
-    (subst (λ (v : Window). IsRefutation s.budget (sides_formula v.seq e.right v.mask (named_count v.seq)) e.proof) (sym same) (subst (λ z. IsRefutation s.budget (sides_formula w.seq z w.mask (named_count w.seq)) e.proof) (sym r) (subst (λ ls. IsRefutation s.budget (sides_formula w.seq right.0 w.mask (named_count w.seq)) ls) (sym p) tried.2.proof)))
+    (subst (λ (v : Window). IsRefutation s.budget (sides_formula v.seq e.right v.mask (alphabet_registers s v.seq)) e.proof) (sym same) (subst (λ z. IsRefutation s.budget (sides_formula w.seq z w.mask (alphabet_registers s w.seq)) e.proof) (sym r) (subst (λ ls. IsRefutation s.budget (sides_formula w.seq right.0 w.mask (alphabet_registers s w.seq)) ls) (sym p) tried.2.proof)))
     (subst (All IsLine) (sym p) tried.2.lines))
 
 -- no candidate is left
@@ -59,7 +59,7 @@ pub none_found : (s : Settings) (w : Window) (e : Rule) (old states : List Seen)
     → IsSearching s w old states opens (take i candidates) (drop i candidates) → AreCandidates s old w candidates → e.right ≡ w.seq → e.opens ≡ opens → log.items ≡ [] → e.proof ≡ map content_of log.items → IsFit s states old e
 none_found s w e old states opens candidates i log same window mask past g are r o n p =
     let mine : IsWindow s (learnt_from e) = subst (IsWindow s) (sym same) window in
-    let over : AreOver (named_count e.left) e.left = (side_over s (learnt_from e) mine).1 in
+    let over : AreOver (alphabet_registers s e.left) e.left = (side_over s (learnt_from e) mine).1 in
     let right : e.right ≡ e.left = r ∙ ap (λ (v : Window). v.seq) (sym same) in
     let empty : e.proof ≡ [] = p ∙ ap (map content_of) n in
     search_ends s e old states opens candidates candidates mine
@@ -68,5 +68,5 @@ none_found s w e old states opens candidates i log same window mask past g are r
     (subst (λ rs. IsSearching s w old states opens candidates rs) (drop_all i candidates past) (subst (λ ps. IsSearching s w old states opens ps (drop i candidates)) (take_all i candidates past) g)))
     (subst (λ (v : Window). AreCandidates s old v candidates) (sym same) are)
     (sym (append-nil candidates)) right o
-    (subst (λ ls. IsRefutation s.budget (sides_formula e.left e.right e.mask (named_count e.left)) ls) (sym empty) (subst (λ z. IsRefutation s.budget (sides_formula e.left z e.mask (named_count e.left)) []) (sym right) (nothing_refutes e.left e.mask (named_count e.left) s.budget log over n)))
+    (subst (λ ls. IsRefutation s.budget (sides_formula e.left e.right e.mask (alphabet_registers s e.left)) ls) (sym empty) (subst (λ z. IsRefutation s.budget (sides_formula e.left z e.mask (alphabet_registers s e.left)) []) (sym right) (nothing_refutes e.left e.mask (alphabet_registers s e.left) s.budget log over n)))
     (subst (All IsLine) (sym empty) (All-nil IsLine))

@@ -14,7 +14,7 @@ use Rattle.bit_blast.specs.Exactness.{IsMask}
 use Rattle.window_exec.specs.Telling.{Tells}
 use Rattle.rule_table.specs.Table.{Opened, Rule}
 use Rattle.rule_table.specs.Valid.{numbers_of, IsState}
-use Rattle.table_audit.specs.Sides.{named_count}
+use Rattle.table_audit.specs.Sides.{named_count, alphabet_registers}
 use Rattle.table_audit.specs.Shorter.{sequences_below, is_named, values_in}
 use Rattle.table_audit.proofs.Numbering.{below_in, below_from, over_sequences}
 use Rattle.table_audit.proofs.Walking.{present_at}
@@ -24,6 +24,9 @@ use Rattle.table_learn.specs.Learnt.{TellsFirst, IsSpentSearch, IsProvedBySolver
 use Rattle.table_learn.specs.Tellings.{told, tells_apart}
 use Rattle.table_learn.specs.Fitness.{IsFit, shorter_of}
 use Rattle.table_learn.specs.Searching.{shorter_than, formula_for, AreCandidates, IsOpenNumber, IsSearching, is_below}
+use Rattle.table_audit.proofs.Fitting.{ordered_of}
+use Rattle.table_learn.proofs.Registers.{more_registers}
+use Rattle.table_learn.proofs.Wider.{over_wider}
 use Rattle.table_learn.proofs.Telling.{told_more, told_last, untold, untold_before, apart_tells}
 use Rattle.table_learn.proofs.Fit.{ascends_lower, ascends-filter, filter_at, named-filter}
 
@@ -153,7 +156,7 @@ module _ (s : Settings) (w : Window) (old : List Seen) where
   pub search_finds : (states : List Seen) (opens : List Opened) (passed rest : List ℕ) (n : ℕ) (seq : List Instr) (x : Seen) → length w.seq ≤ 5 → IsMask w.mask → IsState x → IsSearching s w old states opens passed (n ∷ rest)
       → slice_get (shorter_than s w) n ≡ Some seq → told states w.seq seq w.mask ≡ false → tells_apart w.seq seq w.mask x ≡ true → IsSearching s w old (states ++ x ∷ []) opens (passed ++ n ∷ []) rest
   search_finds states opens passed rest n seq x short m v g at t f =
-      let place = below_in (named_count w.seq) s.pool (length w.seq) n seq (omega (arith, short)) at in
+      let place = below_in (alphabet_registers s w.seq) s.pool (length w.seq) n seq (omega (arith, short)) at in
       record {
         growth = record {
           more = g.growth.more ++ x ∷ [];
@@ -235,7 +238,7 @@ pub search_proves : (s : Settings) (e : Rule) (old states : List Seen) (opens : 
     → AreCandidates s old (learnt_from e) candidates → candidates ≡ passed ++ n ∷ rest → slice_get (shorter_than s (learnt_from e)) n ≡ Some e.right → e.opens ≡ filter (is_below (length (shorter_of s e))) opens
     → IsProvedBySolver s e → All IsLine e.proof → IsFit s states old e
 search_proves s e old states opens passed rest candidates n window mask g are split at o proved lines =
-    let k : ℕ = named_count e.left in
+    let k : ℕ = alphabet_registers s e.left in
     let few : length e.left ≤ 5 = window.canonical.renamable.few in
     let place = below_in k s.pool (length e.left) n e.right (omega (arith, few)) at in
     let short : length e.right < length e.left = place.1 in
@@ -267,11 +270,11 @@ search_proves s e old states opens passed rest candidates n window mask g are sp
 pub search_ends : (s : Settings) (e : Rule) (old states : List Seen) (opens : List Opened) (passed candidates : List ℕ) → IsWindow s (learnt_from e) → IsMask e.mask → IsSearching s (learnt_from e) old states opens passed []
     → AreCandidates s old (learnt_from e) candidates → candidates ≡ passed ++ [] → e.right ≡ e.left → e.opens ≡ opens → IsProvedBySolver s e → All IsLine e.proof → IsFit s states old e
 search_ends s e old states opens passed candidates window mask g are split r o proved lines =
-    let to_left : shorter_of s e ≡ shorter_than s (learnt_from e) = ap (λ (z : List Instr). sequences_below (named_count e.left) s.pool (length z)) r in
+    let to_left : shorter_of s e ≡ shorter_than s (learnt_from e) = ap (λ (z : List Instr). sequences_below (alphabet_registers s e.left) s.pool (length z)) r in
     record {
       window = window;
       mask = mask;
-      right = rw r window.over;
+      right = rw r (over_wider (named_count e.left) (alphabet_registers s e.left) s.pool e.left (more_registers s e.left (ordered_of e.left window.canonical).few) window.over);
       keeps = inl r;
       proved = proved;
       lines = lines;

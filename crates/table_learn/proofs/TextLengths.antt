@@ -1,8 +1,8 @@
 -- The length of a table's text, part by part.
-use Rattle.std.proofs.Common.{◌≡◌, ℕ, zero, suc, ◌+◌, ◌*◌, ◌<◌, ◌≤◌, ◌^◌, ◌/◌, List, [], ◌∷◌, ◌++◌, All, map, length, take, get_or, refl, sym, ◌∙◌, ap, arith, length-append, append-nil, true, false, cond, nat_le, nat_lt}
+use Rattle.std.proofs.Common.{◌≡◌, ℕ, zero, suc, ◌+◌, ◌*◌, ◌<◌, ◌≤◌, ◌^◌, ◌/◌, inl, inr, List, [], ◌∷◌, ◌++◌, All, map, length, take, get_or, refl, sym, ◌∙◌, ap, arith, length-append, append-nil, true, false, cond, nat_le, nat_lt}
 use Rattle.std.specs.Prelude.{decimal, sum_by, codes}
 use Rattle.std.specs.List.{flat_map, list_all}
-use Rattle.std.proofs.lemmas.Bool.{and_parts, ltb-true}
+use Rattle.std.proofs.lemmas.Bool.{and_parts, cases_Bool, ltb-true}
 use Rattle.std.proofs.lemmas.Fmt.{length-decimal-le}
 use Rattle.std.proofs.lemmas.List.Concat.{flat_map-append}
 use Rattle.std.proofs.lemmas.List.Elements.{All-head, All-tail}
@@ -22,11 +22,11 @@ use Rattle.rule_table.specs.declared.header.Field.{Field}
 use Rattle.rule_table.specs.declared.header.Field.TheVariants as field
 use Rattle.rule_table.specs.declared.header.Head.{Head}
 use Rattle.rule_table.specs.declared.header.Head.TheVariants as head
-use Rattle.rule_table.specs.Header.{Header, heads, number_in, row, IsWithin, IsHeader}
+use Rattle.rule_table.specs.Header.{Header, heads, has_line, number_in, row, IsWithin, IsHeader}
 use Rattle.rule_table.specs.Table.{Opened, Rule, Table}
 use Rattle.rule_table.specs.Valid.{IsState}
 use Rattle.rule_table.proofs.LinesTell.{within_small}
-use Rattle.rule_table.specs.Text.{Item, Number, Pool, State, Entry, Left, Right, Mask, Proof, Logged, Open, End, hex_of, instr_text, named, after_blanks, line_of, text_of_items, open_items, rule_items, said, header_items, items_of}
+use Rattle.rule_table.specs.Text.{Item, Number, Pool, State, Entry, Left, Right, Mask, Proof, Logged, Open, End, hex_of, instr_text, named, after_blanks, line_of, text_of_items, open_items, rule_items, said, line_items, header_items, items_of}
 use Rattle.table_learn.specs.Settings.{Settings}
 use Rattle.table_learn.specs.Learnt.{text_length}
 use Rattle.table_learn.specs.Lengths.{lines_length, log_length, opens_length, rules_length, instr_length, item_length}
@@ -228,33 +228,41 @@ numbered_line x word n is small =
     let d = few_digits n small in
     omega (arith, a, l, b, d)
 
-short_word : (f : Field) → length (row f).word ≤ 7
+short_word : (f : Field) → length (row f).word ≤ 8
 short_word field.Version = omega arith
 short_word field.Regs = omega arith
 short_word field.Left = omega arith
 short_word field.Seed = omega arith
 short_word field.Budget = omega arith
+short_word field.Scratch = omega arith
 
 row_line : (f : Field) (n : ℕ) → IsWithin f n → lines_length (Number f n ∷ []) ≤ length (row f).word + 21
 row_line f n is = numbered_line (Number f n) (row f).word n refl (within_small f n is)
 
 -- the numbers' lines and the pool's
-heads_short : (h : Header) → IsHeader h → (lines : List Head) → lines_length (map (said h) lines) ≤ 400 * length lines
-heads_short h is [] = (let none = no_line in omega (arith, none))
-heads_short h is (head.Number f ∷ lines) =
-    let first = lines-cons (Number f (number_in h f)) (map (said h) lines) in
-    let one = row_line f (number_in h f) (is.numbers f) in
-    omega (arith, first, one, short_word f, heads_short h is lines)
-heads_short h is (head.Pool ∷ lines) =
+head_short : (h : Header) → IsHeader h → (line : Head) → lines_length (said h line ∷ []) ≤ 400
+head_short h is (head.Number f) = omega (arith, row_line f (number_in h f) (is.numbers f), short_word f)
+head_short h is head.Pool =
     let p = bounds h.pool is.pool in
-    let first = lines-cons (Pool h.pool) (map (said h) lines) in
     let one = one_line (Pool h.pool) in
     let z = length-append (codes "pool") (after_blanks (map decimal h.pool)) in
     let q = pool_length h.pool p.bytes in
     let few = p.few in
-    omega (arith, first, one, z, q, few, heads_short h is lines)
+    omega (arith, one, z, q, few)
 
-pub short_header : (s : Settings) → IsHeader s → lines_length (header_items s) ≤ 2400
+line_short : (h : Header) → IsHeader h → (line : Head) → lines_length (line_items h line) ≤ 400
+line_short h is line = elim (cases_Bool (has_line h.version line)) [
+  | inl e ↦ rw e (head_short h is line)
+  | inr e ↦ rw e (let none = no_line in omega (arith, none))
+]
+
+heads_short : (h : Header) → IsHeader h → (lines : List Head) → lines_length (flat_map (line_items h) lines) ≤ 400 * length lines
+heads_short h is [] = (let none = no_line in omega (arith, none))
+heads_short h is (line ∷ lines) =
+    let both = lines-append (line_items h line) (flat_map (line_items h) lines) in
+    omega (arith, both, line_short h is line, heads_short h is lines)
+
+pub short_header : (s : Settings) → IsHeader s → lines_length (header_items s) ≤ 2800
 short_header s is = heads_short s is heads
 
 -- before the first window

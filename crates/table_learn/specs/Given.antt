@@ -1,5 +1,5 @@
 -- What is asked of the settings and the windows that are given.
-use Rattle.std.specs.Prelude.{◌≤◌, List, All, length}
+use Rattle.std.specs.Prelude.{◌≡◌, ◌≤◌, List, All, length}
 use Rattle.thumb_instr.specs.declared.instr.Instr.{Instr}
 use Rattle.thumb_instr.specs.declared.items.Mask.{Mask}
 use Rattle.seq_enum.specs.Alphabet.{IsOver}
@@ -20,6 +20,11 @@ pub record AreInLimits (s : Settings) : Type 0 where
   pub few_left : s.left ≤ 5
   pub some_budget : 1 ≤ s.budget
   pub few_budget : s.budget ≤ 1000000
+  pub some_version : 1 ≤ s.version
+  pub few_version : s.version ≤ 2
+  pub few_scratch : s.scratch ≤ 1
+  -- version 1 has no scratch register
+  pub first_version : s.version ≡ 1 → s.scratch ≡ 0
 
 abbrev pub window_of : List Instr × Mask → Window
 window_of p = record { seq = p.0; mask = p.1.items.bits }

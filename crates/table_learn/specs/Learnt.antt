@@ -12,7 +12,7 @@ use Rattle.cdcl_core.specs.Solved.{VerdictOf}
 use Rattle.rule_table.specs.Table.{Opened, Rule, Table}
 use Rattle.rule_table.specs.Text.{text_of}
 use Rattle.rule_table.specs.Valid.{IsTable}
-use Rattle.table_audit.specs.Sides.{formula_of, formula_against}
+use Rattle.table_audit.specs.Sides.{with_scratch, formula_of, formula_against}
 use Rattle.table_audit.specs.Shorter.{IsBelow, IsTold, sequences_below, shorter, values_in}
 use Rattle.table_audit.specs.Acceptance.{IsAccepted}
 use Rattle.table_learn.specs.Settings.{Settings, Window}
@@ -89,9 +89,9 @@ text_limit = 67108864
 abbrev pub text_length : Table → ℕ
 text_length t = length (text_of t)
 
--- how many sequences are shorter than the longest windows
+-- how many sequences are shorter than the longest windows, over the most registers that may stand against one
 abbrev pub width_of : Settings → ℕ
-width_of s = length (sequences_below s.regs s.pool s.left)
+width_of s = length (sequences_below (with_scratch s s.regs) s.pool s.left)
 
 -- the first windows, at least one, give a table of which a text could be read, but for its length
 pub record IsFull (s : Settings) (windows : List Window) (t : Table) (bytes : ℕ) : Type 0 where

@@ -4,7 +4,7 @@ ghost use Rattle.window_exec.specs.State.{seen};
 ghost use Rattle.thumb_model.specs.Sides.{AreOver};
 ghost use Rattle.rule_table.specs.Table.{Rule};
 ghost use Rattle.rule_table.specs.Views.{opened_of, rule_of};
-ghost use Rattle.table_audit.specs.Sides.{named_count, IsCanonicalSide};
+ghost use Rattle.table_audit.specs.Sides.{alphabet_registers, IsCanonicalSide};
 ghost use Rattle.table_learn.specs.Given.{settings_of};
 ghost use Rattle.table_learn.specs.Fitness.{shorter_of, tells_number, stays_open, without_told};
 ghost use Rattle.table_learn.specs.Lengths.{opens_length, rules_length};
@@ -49,7 +49,7 @@ fn tells_open<L: Ledger>(
 ) -> bool
     requires some { 0 < window.now.k }
     requires few { window.now.k ≤ 4 }
-    requires named { window.now.k ≡ named_count window.now.left }
+    requires counted { window.now.k ≡ alphabet_registers (settings_of settings.now) window.now.left }
     requires left { AreOver 4 window.now.left }
     requires short { count ≤ length window.now.left }
     requires five { count ≤ 5 }
@@ -81,7 +81,7 @@ fn drop_told<L: Ledger>(
         opens,
         proof,
     } = entry;
-    let window = Window::new(&left, mask);
+    let window = Window::new(&left, mask, settings);
     let count = right.len();
     let mut kept = Vec::new(alloc);
     let mut freed = 0;

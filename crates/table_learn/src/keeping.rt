@@ -6,7 +6,7 @@
 ghost use Rattle.std.specs.Prelude.{◌≡◌, ◌<◌, ◌≤◌, ◌+◌, IfOk, length, map};
 ghost use Rattle.thumb_model.specs.Sides.{AreOver};
 ghost use Rattle.window_exec.specs.State.{seen};
-ghost use Rattle.table_audit.specs.Sides.{named_count};
+ghost use Rattle.table_audit.specs.Sides.{alphabet_registers};
 ghost use Rattle.table_learn.specs.Given.{settings_of};
 ghost use Rattle.table_learn.specs.Found.{window_in};
 ghost use Rattle.table_learn.specs.Searching.{shorter_than, AreCandidates};
@@ -32,7 +32,7 @@ pub(crate) fn candidates<L: Ledger>(
 ) -> Result<Vec<u64>, AllocError>
     requires some { 0 < window.now.k }
     requires few { window.now.k ≤ 4 }
-    requires named { window.now.k ≡ named_count window.now.left }
+    requires counted { window.now.k ≡ alphabet_registers (settings_of settings.now) window.now.left }
     requires left { AreOver 4 window.now.left }
     requires long { 0 < length window.now.left }
     requires states { 0 < length states.now }

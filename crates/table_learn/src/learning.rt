@@ -4,7 +4,7 @@ ghost use Rattle.rule_table.specs.Valid.{IsTable};
 ghost use Rattle.window_exec.specs.State.{seen};
 ghost use Rattle.rule_table.specs.Header.{IsHeader};
 ghost use Rattle.rule_table.specs.Views.{rule_of, table_of};
-ghost use Rattle.table_audit.specs.Sides.{named_count};
+ghost use Rattle.table_audit.specs.Sides.{alphabet_registers};
 ghost use Rattle.table_learn.specs.Settings.{Window as Model};
 ghost use Rattle.table_learn.specs.Given.{settings_of, window_of, AreInLimits, AreWindows, IsWindow};
 ghost use Rattle.table_learn.specs.Found.{window_in};
@@ -24,7 +24,7 @@ use outcomes::Tables;
 use rule_table::{Entry, Table, write_table};
 use std::alloc::{AllocError, Global};
 use step_ledger::{Ledger, Steps};
-use table_audit::count_shorter;
+use table_audit::{count_shorter, with_scratch};
 use thumb_instr::{Mask, Seq};
 use window_exec::{States, WState};
 
@@ -95,7 +95,7 @@ fn learn_window<L: Ledger>(
 ) -> Result<Learner, AllocError>
     requires some { 0 < window.k }
     requires few { window.k ≤ 4 }
-    requires named { window.k ≡ named_count window.left }
+    requires counted { window.k ≡ alphabet_registers (settings_of settings.now) window.left }
     requires limits { AreInLimits (settings_of settings.now) }
     requires window { IsWindow (settings_of settings.now) (window_in window) }
     requires before { (windows : List Model) × HasLearnt (settings_of settings.now) windows learner }
@@ -155,13 +155,14 @@ pub fn learn<L: Ledger>(
     ensures cost { IfOk result (λ t. steps.new ≤ steps.old + learn_cost (settings_of settings) (length windows.items) (length (table_of t).states)) }
     ensures spends { IfErr result (SpendsAs (settings_of settings) (length windows.items) steps.old steps.new) }
 {
-    let width = count_shorter(settings.regs, &settings.pool, settings.left);
+    let registers = with_scratch(settings.regs, settings.scratch);
+    let width = count_shorter(registers, &settings.pool, settings.left);
     if width > WIDEST {
         return Err(LearnError::Wide(width));
     }
     let (settings, mut learner) = begin(alloc, settings)?;
     for (left, mask) in &windows {
-        let window = Window::new(left, *mask);
+        let window = Window::new(left, *mask, &settings);
         learner = learn_window(alloc, &settings, learner, window, steps)?;
         if learner.bytes > TEXT_LIMIT {
             let bytes = learner.bytes;

@@ -3,7 +3,7 @@ ghost use Rattle.std.specs.Prelude.{◌≡◌, ◌<◌, ◌≤◌, ◌+◌, ◌*
 ghost use Rattle.window_exec.specs.State.{seen};
 ghost use Rattle.window_exec.specs.Seen.{Seen};
 ghost use Rattle.rule_table.specs.Views.{opened_of, rule_of};
-ghost use Rattle.table_audit.specs.Sides.{named_count};
+ghost use Rattle.table_audit.specs.Sides.{alphabet_registers};
 ghost use Rattle.table_learn.specs.Given.{settings_of, IsWindow};
 ghost use Rattle.table_learn.specs.Learnt.{learnt_from};
 ghost use Rattle.table_learn.specs.Fitness.{IsFit};
@@ -36,7 +36,7 @@ fn try_number<L: Ledger>(
 ) -> Result<Option<(Seq, Vec<Line>)>, AllocError>
     requires some { 0 < window.now.k }
     requires few { window.now.k ≤ 4 }
-    requires named { window.now.k ≡ named_count window.now.left }
+    requires counted { window.now.k ≡ alphabet_registers (settings_of settings.now) window.now.left }
     requires window { IsWindow (settings_of settings.now) (window_in window.now) }
     requires number { number < length (shorter_than (settings_of settings.now) (window_in window.now)) }
     ensures tried { IfOk result (Tried (settings_of settings.now) (window_in window.now) (map seen states.old.items) (map opened_of opens.old.items) (map seen states.new.items) (map opened_of opens.new.items) number) }
@@ -67,7 +67,7 @@ pub(crate) fn search<L: Ledger>(
 ) -> Result<Entry, AllocError>
     requires some { 0 < window.k }
     requires few { window.k ≤ 4 }
-    requires named { window.k ≡ named_count window.left }
+    requires counted { window.k ≡ alphabet_registers (settings_of settings.now) window.left }
     requires window { IsWindow (settings_of settings.now) (window_in window) }
     requires candidates { AreCandidates (settings_of settings.now) (map seen states.old.items) (window_in window) candidates.now }
     ensures grown { OnOk result (IsGrown (map seen states.old.items) (map seen states.new.items)) }

@@ -4,7 +4,7 @@ ghost use Rattle.std.specs.List.{list_any};
 ghost use Rattle.thumb_model.specs.Sides.{AreOver};
 ghost use Rattle.bit_blast.specs.Exactness.{IsMaskOver};
 ghost use Rattle.window_exec.specs.State.{seen};
-ghost use Rattle.table_audit.specs.Sides.{named_count};
+ghost use Rattle.table_audit.specs.Sides.{alphabet_registers};
 ghost use Rattle.table_learn.specs.Tellings.{tells_apart};
 ghost use Rattle.table_learn.specs.Searching.{query_cost};
 ghost use Rattle.table_learn.specs.Given.{settings_of};
@@ -100,7 +100,7 @@ pub(crate) fn try_sequence<L: Ledger>(
     steps: &mut Steps<L>,
 ) -> Result<Finding, AllocError>
     requires few { window.now.k ≤ 4 }
-    requires named { window.now.k ≡ named_count window.now.left }
+    requires counted { window.now.k ≡ alphabet_registers (settings_of settings.now) window.now.left }
     requires left { AreOver window.now.k window.now.left }
     requires right { AreOver window.now.k seq.now }
     requires shorter { length seq.now < length window.now.left }

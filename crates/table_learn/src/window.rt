@@ -1,11 +1,13 @@
 //! A window that is learnt.
 ghost use Rattle.std.specs.Prelude.{◌≡◌, ◌<◌, ◌≤◌, length};
-ghost use Rattle.table_audit.specs.Sides.{named_count, IsCanonicalSide};
+ghost use Rattle.table_audit.specs.Sides.{alphabet_registers, IsCanonicalSide};
+ghost use Rattle.table_learn.specs.Given.{settings_of};
 
-use table_audit::named_count;
+use crate::settings::Settings;
+use table_audit::{named_count, with_scratch};
 use thumb_instr::{Mask, Seq};
 
-/// A window, the items that may be live after it, and how many registers it names.
+/// A window, the items that may be live after it, and how many registers the sequences have that stand against it.
 #[derive(Drop)]
 pub(crate) struct Window {
     pub left: Seq,
@@ -14,20 +16,20 @@ pub(crate) struct Window {
 }
 
 impl Window {
-    /// A copy of a window that is its own canonical form, with its mask.
+    /// A copy of a window that is its own canonical form, with its mask, as it is learnt with the settings.
     #[tactic(auto, using(table_audit::proofs::Fitting::ordered_of))]
-    pub fn new(left: &Seq, mask: Mask) -> Window
+    pub fn new(left: &Seq, mask: Mask, settings: &Settings) -> Window
         requires { IsCanonicalSide left.now }
         ensures left { result.left ≡ left.now }
         ensures mask { result.mask ≡ mask }
-        ensures count { result.k ≡ named_count left.now }
+        ensures count { result.k ≡ alphabet_registers (settings_of settings.now) left.now }
         ensures some { 0 < result.k }
         ensures few { result.k ≤ 4 }
     {
         Window {
             left: copied(left),
             mask,
-            k: named_count(left),
+            k: with_scratch(named_count(left), settings.scratch),
         }
     }
 

@@ -9,9 +9,9 @@ is_told-requires-clause-right g c = over_more c.args.window.now.k 4 c.in-Some.se
 
 pub returns-in-Some-clause-told : goal.returns-in-Some-clause-told
 returns-in-Some-clause-told g c = λ e l m n.
-    open_told (settings_of c.args.settings.now) c.args.found.now c.args.window.now.left c.args.window.now.mask.items.bits c.args.window.now.k c.args.count c.args.number c.in-Some.seq c.is_told.result e c.requires.named
+    open_told (settings_of c.args.settings.now) c.args.found.now c.args.window.now.left c.args.window.now.mask.items.bits c.args.window.now.k c.args.count c.args.number c.in-Some.seq c.is_told.result e c.requires.counted
     (sym c.in-Some.is ∙ c.shorter_at.ensures.value) c.is_told.ensures.told l m n
 
 pub returns-in-None-clause-told : goal.returns-in-None-clause-told
 returns-in-None-clause-told g c = λ e l m n.
-    open_missing (settings_of c.args.settings.now) c.args.found.now c.args.window.now.left c.args.window.now.k c.args.count c.args.number e c.requires.named (sym c.in-None.is ∙ c.shorter_at.ensures.value) l n
+    open_missing (settings_of c.args.settings.now) c.args.found.now c.args.window.now.left c.args.window.now.k c.args.count c.args.number e c.requires.counted (sym c.in-None.is ∙ c.shorter_at.ensures.value) l n

@@ -27,7 +27,7 @@ returns-in_err-numbers-clause-cost g c =
     let e = c.in_ok-outcomes.outcomes in
     let taken = c.in_ok-outcomes.ensures.taken in
     let long : c.len-longest.result - 1 + 1 ≡ length w.left = omega (arith, c.len-longest.ensures.value, c.requires.long) in
-    let seqs : table.sequences_below e.letters (c.len-longest.result - 1 + 1) ≡ shorter_than (settings_of c.args.settings.now) (window_in w) = shorter_in (settings_of c.args.settings.now) (window_in w) w.k (c.len-longest.result - 1) e.letters c.requires.named taken.letters long in
+    let seqs : table.sequences_below e.letters (c.len-longest.result - 1 + 1) ≡ shorter_than (settings_of c.args.settings.now) (window_in w) = shorter_in (settings_of c.args.settings.now) (window_in w) w.k (c.len-longest.result - 1) e.letters c.requires.counted taken.letters long in
     omega (arith, c.candidates.ensures.most, few_added e (c.len-longest.result - 1), ap length seqs)
 
 pub returns-clause-kept : goal.returns-clause-kept
@@ -46,7 +46,7 @@ returns-clause-candidates g c =
     let e = c.in_ok-outcomes.outcomes in
     let taken = c.in_ok-outcomes.ensures.taken in
     let long : c.len-longest.result - 1 + 1 ≡ length w.left = omega (arith, c.len-longest.ensures.value, c.requires.long) in
-    let seqs : table.sequences_below e.letters (c.len-longest.result - 1 + 1) ≡ shorter_than (settings_of c.args.settings.now) (window_in w) = shorter_in (settings_of c.args.settings.now) (window_in w) w.k (c.len-longest.result - 1) e.letters c.requires.named taken.letters long in
+    let seqs : table.sequences_below e.letters (c.len-longest.result - 1 + 1) ≡ shorter_than (settings_of c.args.settings.now) (window_in w) = shorter_in (settings_of c.args.settings.now) (window_in w) w.k (c.len-longest.result - 1) e.letters c.requires.counted taken.letters long in
     let trial : Trial = record { start = here; end = c.run_seq.result } in
     candidates_are (settings_of c.args.settings.now) c.args.states.now (window_in w) _ here trial c.in_ok-numbers.numbers.items w.mask.in_masks seqs (first_seen c.args.states.now zero c.requires.states) refl c.run_seq.ensures.values c.in_ok-numbers.ensures.candidates
 
@@ -56,5 +56,5 @@ returns-clause-cost g c =
     let e = c.in_ok-outcomes.outcomes in
     let taken = c.in_ok-outcomes.ensures.taken in
     let long : c.len-longest.result - 1 + 1 ≡ length w.left = omega (arith, c.len-longest.ensures.value, c.requires.long) in
-    let seqs : table.sequences_below e.letters (c.len-longest.result - 1 + 1) ≡ shorter_than (settings_of c.args.settings.now) (window_in w) = shorter_in (settings_of c.args.settings.now) (window_in w) w.k (c.len-longest.result - 1) e.letters c.requires.named taken.letters long in
+    let seqs : table.sequences_below e.letters (c.len-longest.result - 1 + 1) ≡ shorter_than (settings_of c.args.settings.now) (window_in w) = shorter_in (settings_of c.args.settings.now) (window_in w) w.k (c.len-longest.result - 1) e.letters c.requires.counted taken.letters long in
     omega (arith, c.candidates.ensures.most, few_added e (c.len-longest.result - 1), ap length seqs)

@@ -1,4 +1,4 @@
-use Rattle.std.proofs.Common.{ℕ, ◌≡◌, ◌∙◌, [], rules, refl, sym, ap, subst, arith, map, length, List}
+use Rattle.std.proofs.Common.{ℕ, ◌≡◌, ◌∙◌, [], rules, sym, ap, subst, arith, map, length, List}
 use Rattle.window_exec.specs.declared.state.WState.{WState}
 use Rattle.window_exec.specs.State.{seen}
 use Rattle.window_exec.specs.Seen.{Seen}
@@ -41,7 +41,7 @@ module _ (c : goal.After-new-2) where
       ∙ ap (λ (rs : List Rule). text_length (table_with (settings_of c.args.settings) (map seen c.into_vec.result.items) rs)) (ap (λ (es : List Entry). map rule_of es) c.new.ensures.items)
 
   is_header : IsHeader (settings_of c.args.settings)
-  is_header = in_limits (settings_of c.args.settings) refl c.requires.limits c.hold.ensures.seed c.hold.ensures.pool
+  is_header = in_limits (settings_of c.args.settings) c.requires.limits c.hold.ensures.seed c.hold.ensures.pool
 
 pub returns-clause-header : goal.returns-clause-header
 returns-clause-header c = is_header c

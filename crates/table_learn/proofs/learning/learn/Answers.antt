@@ -1,4 +1,5 @@
-use Rattle.std.proofs.Common.{◌≡◌, ◌<◌, ◌≤◌, ◌+◌, sym, subst, arith, map, length, take, get_or}
+use Rattle.std.proofs.Common.{ℕ, ◌≡◌, ◌∙◌, ◌<◌, ◌≤◌, ◌+◌, sym, ap, subst, arith, map, length, take, get_or}
+use Rattle.table_audit.specs.Shorter.{sequences_below}
 use Rattle.table_learn.specs.Given.{settings_of, window_of, AreWindows, IsWindow}
 use Rattle.table_learn.specs.Found.{window_in}
 use Rattle.table_learn.specs.Learnt.{width_of}
@@ -39,7 +40,9 @@ returns-then-learner-gt-TEXT_LIMIT-clause-fails g c =
     let next : HasLearnt (settings_of c.args.settings) (map window_of (take (c.loop-left.left-index + 1) c.args.windows.items)) c.in_ok-learner.learner =
     learnt_next (settings_of c.args.settings) (settings_of c.in_ok-settings.settings) ws c.loop-left.left-index c.loop-left-item.result c.new-window.result c.loop-left.learner c.in_ok-learner.learner c.in_ok-settings.ensures.same low item
     (same_window c.new-window.result c.loop-left-item.result c.new-window.ensures.left c.new-window.ensures.mask) c.loop-left.invariant.learnt c.in_ok-learner.ensures.learnt in
-    let narrow : width_of (settings_of c.args.settings) ≤ 5000000 = omega (arith, c.count_shorter-width.ensures, c.if-width-gt-WIDEST.false) in
+    let width : c.count_shorter-width.result ≡ width_of (settings_of c.args.settings) =
+    c.count_shorter-width.ensures ∙ ap (λ (k : ℕ). length (sequences_below k c.args.settings.pool c.args.settings.left)) c.with_scratch-registers.ensures in
+    let narrow : width_of (settings_of c.args.settings) ≤ 5000000 = omega (arith, width, c.if-width-gt-WIDEST.false) in
     is_full (settings_of c.args.settings) (settings_of c.in_ok-settings.settings) ws (c.loop-left.left-index + 1) c.in_ok-learner.learner _ c.in_ok-settings.ensures.same c.requires.settings c.in_ok-settings.ensures.header narrow (omega arith) (omega (arith, low)) next c.table_of-table.ensures c.if-learner-gt-TEXT_LIMIT.true
 
 pub returns-then-learner-gt-TEXT_LIMIT-clause-spends : goal.returns-then-learner-gt-TEXT_LIMIT-clause-spends
@@ -55,13 +58,17 @@ returns-then-learner-gt-TEXT_LIMIT-clause-spends g c =
 
 pub returns-clause-learnt : goal.returns-clause-learnt
 returns-clause-learnt g c =
-    let narrow : width_of (settings_of c.args.settings) ≤ 5000000 = omega (arith, c.count_shorter-width.ensures, c.if-width-gt-WIDEST.false) in
+    let width : c.count_shorter-width.result ≡ width_of (settings_of c.args.settings) =
+    c.count_shorter-width.ensures ∙ ap (λ (k : ℕ). length (sequences_below k c.args.settings.pool c.args.settings.left)) c.with_scratch-registers.ensures in
+    let narrow : width_of (settings_of c.args.settings) ≤ 5000000 = omega (arith, width, c.if-width-gt-WIDEST.false) in
     let past : length c.args.windows.items ≤ c.loop-left.left-index = subst (λ (vs : Pairs). length vs ≤ c.loop-left.left-index) c.deref-left-items.ensures.value c.loop-left-test.false in
     learnt_whole (settings_of c.args.settings) (settings_of c.in_ok-settings.settings) c.args.windows.items c.loop-left.left-index c.loop-left.learner _ c.in_ok-settings.ensures.same narrow past c.loop-left.invariant.learnt c.table_of.ensures
 
 pub returns-clause-valid : goal.returns-clause-valid
 returns-clause-valid g c =
-    let narrow : width_of (settings_of c.args.settings) ≤ 5000000 = omega (arith, c.count_shorter-width.ensures, c.if-width-gt-WIDEST.false) in
+    let width : c.count_shorter-width.result ≡ width_of (settings_of c.args.settings) =
+    c.count_shorter-width.ensures ∙ ap (λ (k : ℕ). length (sequences_below k c.args.settings.pool c.args.settings.left)) c.with_scratch-registers.ensures in
+    let narrow : width_of (settings_of c.args.settings) ≤ 5000000 = omega (arith, width, c.if-width-gt-WIDEST.false) in
     valid_all (settings_of c.args.settings) (settings_of c.in_ok-settings.settings) c.args.windows.items c.loop-left.left-index c.loop-left.learner _ c.in_ok-settings.ensures.same c.requires.settings c.in_ok-settings.ensures.header narrow c.loop-left.invariant.learnt c.table_of.ensures
 
 pub returns-clause-fits : goal.returns-clause-fits

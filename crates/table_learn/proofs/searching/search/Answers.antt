@@ -3,7 +3,7 @@ use Rattle.std.proofs.lemmas.List.{length-map}
 use Rattle.window_exec.specs.State.{seen}
 use Rattle.window_exec.specs.Seen.{Seen}
 use Rattle.rule_table.specs.Views.{opened_of}
-use Rattle.table_audit.specs.Sides.{named_count}
+use Rattle.table_audit.specs.Sides.{alphabet_registers}
 use Rattle.table_audit.specs.Shorter.{sequences_below}
 use Rattle.table_learn.specs.Given.{settings_of}
 use Rattle.table_learn.specs.Found.{window_in}
@@ -30,8 +30,8 @@ returns-in-Some-clause-earned g c =
 pub returns-in-Some-clause-fits : goal.returns-in-Some-clause-fits
 returns-in-Some-clause-fits g c =
     let tried = subst (Tried (settings_of c.args.settings.now) (window_in c.args.window) (map seen c.loop-number.states.items) (map opened_of c.loop-number.opens.items) (map seen c.try_number.new.states.items) (map opened_of c.try_number.new.opens.items) _) c.in-Some.is c.in_ok-right.ensures.tried in
-    let limit : c.count_shorter-limit.result ≡ length (sequences_below (named_count c.args.window.left) c.args.settings.now.pool (length c.in-Some.right)) =
-    c.count_shorter-limit.ensures ∙ ap (λ (j : ℕ). length (sequences_below j c.args.settings.now.pool c.len.result)) c.requires.named ∙ ap (λ (j : ℕ). length (sequences_below (named_count c.args.window.left) c.args.settings.now.pool j)) c.len.ensures.value in
+    let limit : c.count_shorter-limit.result ≡ length (sequences_below (alphabet_registers (settings_of c.args.settings.now) c.args.window.left) c.args.settings.now.pool (length c.in-Some.right)) =
+    c.count_shorter-limit.ensures ∙ ap (λ (j : ℕ). length (sequences_below j c.args.settings.now.pool c.len.result)) c.requires.counted ∙ ap (λ (j : ℕ). length (sequences_below (alphabet_registers (settings_of c.args.settings.now) c.args.window.left) c.args.settings.now.pool j)) c.len.ensures.value in
     right_found (settings_of c.args.settings.now) (window_in c.args.window) _ (map seen c.args.states.now.items) (map seen c.loop-number.states.items) (map seen c.try_number.new.states.items) (map opened_of c.loop-number.opens.items) (map opened_of c.try_number.new.opens.items) (map opened_of c.in_ok-keep_below.field-0.items) c.args.candidates.now c.loop-number.number-index _ c.count_shorter-limit.result (c.in-Some.right, c.in-Some.proof)
     refl c.requires.window c.args.window.mask.in_masks c.loop-number-test.true c.loop-number.invariant.search c.requires.candidates tried refl refl c.in_ok-keep_below.ensures limit
 

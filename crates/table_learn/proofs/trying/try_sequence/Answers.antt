@@ -18,4 +18,4 @@ returns-then-is_told-clause-found g c = told_seen c.args.states.now c.args.windo
 pub returns-clause-found : goal.returns-clause-found
 returns-clause-found g c =
     let untold : told (map seen c.args.states.now) c.args.window.now.left c.args.seq.now c.args.window.now.mask.items.bits ≡ false = told_seen c.args.states.now c.args.window.now.left c.args.seq.now c.args.window.now.mask.items.bits ∙ sym c.is_told.ensures.told ∙ c.if-is_told.false in
-    answered c.ask.result (settings_of c.args.settings.now) (map seen c.args.states.now) c.args.window.now c.args.seq.now c.requires.named untold c.ask.ensures.answer
+    answered c.ask.result (settings_of c.args.settings.now) (map seen c.args.states.now) c.args.window.now c.args.seq.now c.requires.counted untold c.ask.ensures.answer

@@ -1,0 +1,32 @@
+-- How many registers the sequences have that stand against a window: those that it names, and the scratch register where there is one, and four at most.
+use Rattle.std.proofs.Common.{ℕ, ◌<◌, ◌≤◌, inl, inr, List, arith}
+use Rattle.thumb_instr.specs.declared.instr.Instr.{Instr}
+use Rattle.bit_blast.specs.Exactness.{IsMaskOver}
+use Rattle.table_audit.specs.Sides.{named_count, alphabet_registers, with_scratch}
+use Rattle.table_audit.proofs.Appearing.{names_register}
+use Rattle.table_audit.proofs.Fitting.{ordered_of}
+use Rattle.table_learn.specs.Settings.{Settings, Window}
+use Rattle.table_learn.specs.Given.{IsWindow}
+
+-- no fewer than it names
+pub more_registers : (s : Settings) (left : List Instr) → named_count left ≤ 4 → named_count left ≤ alphabet_registers s left
+more_registers s left few = omega (arith, few)
+
+pub few_registers : (s : Settings) (left : List Instr) → alphabet_registers s left ≤ 4
+few_registers s left = omega arith
+
+-- of a window, some, and no more than of the widest
+pub some_registers : (s : Settings) (w : Window) → IsWindow s w → 0 < alphabet_registers s w.seq
+some_registers s w i =
+    let some : 0 < named_count w.seq = names_register w.seq i.canonical.renamable.some i.canonical.renamable.windows in
+    omega (arith, some)
+
+pub narrow_registers : (s : Settings) (w : Window) → IsWindow s w → alphabet_registers s w.seq ≤ with_scratch s s.regs
+narrow_registers s w i = let few = i.few in omega (arith, few)
+
+pub mask_wider : (k m mask : ℕ) → k ≤ m → IsMaskOver k mask → IsMaskOver m mask
+mask_wider k m mask h over x is = elim (over x is) [ inl low ↦ inl (omega (arith, low, h)) | inr flag ↦ inr flag ]
+
+-- the mask has no register but theirs
+pub mask_registers : (s : Settings) (w : Window) → IsWindow s w → IsMaskOver (alphabet_registers s w.seq) w.mask
+mask_registers s w i = mask_wider (named_count w.seq) (alphabet_registers s w.seq) w.mask (more_registers s w.seq (ordered_of w.seq i.canonical).few) i.mask
