@@ -1,18 +1,15 @@
 -- The rules of an accepted table fit.
-use Rattle.std.proofs.Common.{◌≡◌, ℕ, zero, suc, ◌+◌, ◌≤◌, List, [], ◌∷◌, length, map, Option, Some, None, refl, sym, ap, ◌∙◌, subst, arith, slice_get}
+use Rattle.std.proofs.Common.{◌≡◌, ℕ, zero, suc, ◌+◌, ◌≤◌, List, [], ◌∷◌, length, map, Option, Some, None, refl, ap, ◌∙◌, subst, arith, slice_get}
 use Rattle.std.specs.Option.{option_map}
 use Rattle.std.proofs.lemmas.List.{length-map}
 use Rattle.std.proofs.lemmas.Option.{slice_get-map, same_Some}
-use Rattle.thumb_model.specs.Sides.{AreOver, register_count}
 use Rattle.rule_model.specs.Rules as model
-use Rattle.rule_model.proofs.Alone.{alone_at, own_registers}
+use Rattle.rule_model.proofs.Alone.{alone_at}
 use Rattle.rule_table.specs.Table.{Rule, Table}
 use Rattle.proof_logs.specs.Verdicts.{InTurn}
 use Rattle.table_audit.specs.Sides.{SidesFit, IsCanonicalSide}
 use Rattle.table_audit.specs.Acceptance.{EntryVerdict, IsAccepted}
 use Rattle.table_audit.specs.Soundness.{rewriting_rule, rules_of, IsSound}
-use Rattle.table_audit.proofs.Fitting.{formula_fits}
-use Rattle.table_audit.proofs.Names.{count_same}
 use Rattle.rule_table.specs.declared.table.Entry.{Entry}
 use Rattle.rule_table.specs.Views.{rule_of}
 use Rattle.window_rewrite.specs.Rules.{entry_rule, rules_in, AreFit}
@@ -44,10 +41,8 @@ pub are_fit : (t : Table) → IsAccepted t → IsSound t → AreFit t.header.lef
 are_fit t p s k rule at =
     let m = mapped rewriting_rule t.rules k rule at in
     let sides = sides_at t k m.from p m.at in
-    let right : AreOver (register_count m.from.left) m.from.right = subst (λ n. AreOver n m.from.right) (sym (count_same m.from.left sides.canonical)) (formula_fits t m.from sides).right in
     record {
       sound = s.sound k 0 rule (alone_at (rules_of t) k rule at);
-      own = subst (λ (r : model.Rule). model.rule_registers r ≡ register_count r.left) m.is (own_registers (rewriting_rule m.from) right);
       canonical = subst (λ (r : model.Rule). IsCanonicalSide r.left) m.is sides.canonical;
       short = subst (λ (r : model.Rule). length r.left ≤ t.header.left) m.is sides.short;
     }

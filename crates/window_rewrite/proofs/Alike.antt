@@ -1,4 +1,4 @@
--- Where a rule fits, so does one that is alike: the layout sees only how many instructions come.
+-- Where a rule fits, so does one that is alike, and it does so with any scratch register: the layout sees only how many instructions come.
 use Rattle.std.proofs.Common.{◌≡◌, ℕ, ◌+◌, ◌-◌, ◌<◌, ◌≤◌, ◌&&◌, ◌==◌, Bool, true, false, List, [], ◌∷◌, ◌++◌, length, take, drop, map, Option, Some, None, refl, sym, ap, ◌∙◌, subst, ◌⊎◌, inl, inr, arith}
 use Rattle.std.specs.Prelude.{slice_get, if◌then◌else◌}
 use Rattle.std.specs.List.{list_all}
@@ -7,16 +7,16 @@ use Rattle.std.proofs.lemmas.List.{length-map}
 use Rattle.std.proofs.lemmas.Option.{slice_get_within}
 use Rattle.thumb_instr.specs.declared.instr.Instr.{Instr}
 use Rattle.thumb_instr.specs.Window.{is_in_window}
-use Rattle.thumb_instr.specs.Renaming.{Low, renamed, item_under}
-use Rattle.thumb_model.specs.Items.{one_of}
+use Rattle.thumb_instr.specs.Renaming.{Low, renamed}
 use Rattle.thumb_model.specs.Listing.{Name, Statement, Nothing, Runs, Words, Aligns, Sets, Line, Label, Code, code_of, plain, is_op_place, places_in}
 use Rattle.thumb_model.specs.Flow.{LiveAfter}
 use Rattle.thumb_model.specs.Layout.{size_at, is_among, label_address, set_in, set_address, cleared, or_else, or_first, lies_in, aim_fault, fault_at, faults_from, Layable}
-use Rattle.rule_model.specs.Rules.{Rule, rule_registers, Applies, alone}
+use Rattle.rule_model.specs.Rules.{Rule, rule_registers, Applies, IsSoundRule, alone}
 use Rattle.thumb_model.specs.Replaced.{moved}
-use Rattle.thumb_model.specs.Sides.{register_count}
+use Rattle.thumb_model.specs.Sides.{AreOver, register_count}
+use Rattle.thumb_model.proofs.Lists.{take_all}
 use Rattle.rule_model.specs.Rewriting.{Setting, Replacement, used_rule, lines_after_rule, left_length, left_length_of}
-use Rattle.rule_model.proofs.Alone.{alone_at, no_scratch}
+use Rattle.rule_model.proofs.Alone.{alone_at}
 use Rattle.rule_model.proofs.Costs.{shorter_lowers}
 use Rattle.thumb_model.specs.ReplacedLines.{is_op, without, labels_kept, new_line, replaced_lines, are_joined_from}
 use Rattle.listing_parser.specs.Parsing.{own_line}
@@ -28,6 +28,8 @@ use Rattle.window_rewrite.specs.Rewriting.{setting}
 use Rattle.window_rewrite.specs.Rules.{is_marked, AreAlike, AreFit, AreLed}
 use Rattle.window_rewrite.specs.Choices.{Meets}
 use Rattle.window_rewrite.proofs.Applied.{made, rule_there, fits_shorter, letters_all}
+use Rattle.window_rewrite.proofs.Live.{Allowed}
+use Rattle.window_rewrite.proofs.Whole.{alike_registers, front_allowed, front_apart, front_matches}
 
 -- ---- the layout ----
 
@@ -122,33 +124,47 @@ settled_as : (code : Code) (p count : ℕ) (is js : List Instr) → length is �
 settled_as code p count is js e (inl n) = inl (omega (arith, e, n))
 settled_as code p count is js e (inr h) = inr h
 
--- a rule applies where one does that is alike
-applies_as : (a b : Rule) (registers : List Low) (code : Code) (p : ℕ) → AreAlike a b → rule_registers a ≡ register_count a.left → rule_registers b ≡ register_count b.left → length b.right < length b.left
-    → Applies b registers code p → Applies a registers code p
-applies_as a b registers code p s own other_own shorter h =
+-- a rule applies where one does that is alike and has as many registers or more, with the first of them
+applies_as : (a b : Rule) (registers : List Low) (code : Code) (p : ℕ) → IsSoundRule a → IsSoundRule b → AreAlike a b → length b.right < length b.left → Applies b registers code p → Applies a (take (rule_registers a) registers) code p
+applies_as a b registers code p sound also s shorter h =
+    let first : List Low = take (rule_registers a) registers in
     let is : List Instr = map (renamed registers) b.right in
-    let js : List Instr = map (renamed registers) a.right in
+    let js : List Instr = map (renamed first) a.right in
     let count : length a.left ≡ length b.left = ap (λ (l : List Instr). length l) s.left in
+    let own : register_count a.left ≡ register_count b.left = ap register_count s.left in
+    let as_many = h.as_many in
+    let no_more = alike_registers a b sound also s in
+    let few = also.few in
     let m = length-map b.right (renamed registers) in
-    let n = length-map a.right (renamed registers) in
+    let n = length-map a.right (renamed first) in
     let long = s.as_long in
     let gap = applied_gap b registers code p shorter h in
     let settled = stay_settled code.places code.labels p (length b.left) is gap (applied_stay b registers code p h) in
     let other : IsGap code.places code.labels p (length b.left) js = record { within = gap.within; shorter = omega arith; first = gap.first; unlabelled = gap.unlabelled } in
     let stay = settled_stay code.places code.labels p (length b.left) js other (settled_as code p (length b.left) is js (omega arith) settled) in
     record {
-      as_many = h.as_many ∙ other_own ∙ ap register_count (sym s.left) ∙ sym own;
-      one_to_one = h.one_to_one;
+      as_many = take_all (rule_registers a) registers (omega arith);
+      one_to_one = front_apart (rule_registers a) registers h.one_to_one;
       window = h.window;
       stands = subst (λ (l : List Instr). take (length l) (drop p code.places) ≡ map plain h.window) (sym s.left) h.stands;
-      matches = h.matches ∙ ap (map (renamed registers)) (sym s.left);
+      matches = h.matches ∙ front_matches b (rule_registers a) registers also (omega arith) ∙ ap (map (renamed first)) (sym s.left);
       unlabelled = subst (λ (l : List Instr). (k : ℕ) (x : Label) → slice_get code.labels k ≡ Some x → (x.place ≤ p) ⊎ (p + length l ≤ x.place)) (sym s.left) h.unlabelled;
-      live = λ x r. subst (λ (mask : List ℕ). (one_of x (map (item_under registers) mask) ≡ true) ⊎ ((x < 15) × (one_of x (map (λ r. r.number) registers) ≡ false))) (sym s.mask)
-          (h.live x (subst (λ c. LiveAfter code (p + c - 1) x) count r));
+      live = λ x r. subst (λ (mask : List ℕ). Allowed mask first x) (sym s.mask)
+          (front_allowed b (rule_registers a) registers x also (omega arith) (omega arith) (h.live x (subst (λ c. LiveAfter code (p + c - 1) x) count r)));
       labels_stay = λ k l e c.
           subst (λ q. is_op_place (slice_get (left_places p q js code.places) (moved p (q - length a.right) l.place)) ≡ true) (sym count)
           (subst (λ q. is_op_place (slice_get (left_places p (length b.left) js code.places) (moved p (length b.left - q) l.place)) ≡ true) n (stay k l e c));
     }
+
+-- under another map a rule's right side leaves lines that can be laid out alike
+pub laid_under : (base place count k : ℕ) (f g : List Low) (right : List Instr) (lines : List Line) → AreOver k right → Layable base (replaced_lines own_line place count (map (renamed f) right) lines) → Layable base (replaced_lines own_line place count (map (renamed g) right) lines)
+laid_under base place count k f g right lines over laid =
+    layable_as base (replaced_lines own_line place count (map (renamed f) right) lines) (replaced_lines own_line place count (map (renamed g) right) lines)
+    (replaced_as own_line place count (map (renamed f) right) (map (renamed g) right) lines (length-map right (renamed f) ∙ sym (length-map right (renamed g))) (letters_all k f right over) (letters_all k g right over)) laid
+
+-- and a place that is settled
+pub settled_under : (code : Code) (p count : ℕ) (f g : List Low) (right : List Instr) → IsSettled code.places code.labels p count (map (renamed f) right) → IsSettled code.places code.labels p count (map (renamed g) right)
+settled_under code p count f g right s = settled_as code p count (map (renamed f) right) (map (renamed g) right) (length-map right (renamed f) ∙ sym (length-map right (renamed g))) s
 
 -- ---- the choice ----
 
@@ -157,8 +173,9 @@ pub record IsLedTo (asked : Bool) (s : Setting) (kept : List Bool) (o : Replacem
   pub leader : ℕ
   pub no_later : leader ≤ o.entry
   pub is_kept : is_marked kept leader ≡ true
-  pub meets : Meets asked s (made o.place leader o.registers) lines
-  pub as_long : left_length s (made o.place leader o.registers) ≡ left_length s o
+  pub registers : List Low
+  pub meets : Meets asked s (made o.place leader registers) lines
+  pub as_long : left_length s (made o.place leader registers) ≡ left_length s o
 
 pub led_to : (asked : Bool) (base longest : ℕ) (rules : List Rule) (kept : List Bool) (lines : List Line) (o : Replacement) → AreFit longest rules → AreLed rules kept (length rules) → Meets asked (setting base (alone rules)) o lines
     → IsLedTo asked (setting base (alone rules)) kept o lines
@@ -172,30 +189,31 @@ led_to asked base longest rules kept lines o fit led m =
     let as_long = l.alike.as_long in
     let rule_fit = fit o.entry rule there in
     let other_fit = fit l.leader other l.at in
-    let used : used_rule s (made o.place l.leader o.registers) ≡ Some other = alone_at rules l.leader other l.at in
+    let first : List Low = take (rule_registers other) o.registers in
+    let used : used_rule s (made o.place l.leader first) ≡ Some other = alone_at rules l.leader other l.at in
     let count : length other.left ≡ length rule.left = ap (λ (is : List Instr). length is) l.alike.left in
     let is : List Instr = map (renamed o.registers) rule.right in
-    let js : List Instr = map (renamed o.registers) other.right in
-    let as_many : length is ≡ length js = length-map rule.right (renamed o.registers) ∙ sym l.alike.as_long ∙ sym (length-map other.right (renamed o.registers)) in
+    let js : List Instr = map (renamed first) other.right in
+    let as_many : length is ≡ length js = length-map rule.right (renamed o.registers) ∙ sym l.alike.as_long ∙ sym (length-map other.right (renamed first)) in
     record {
       leader = l.leader;
       no_later = l.no_later;
       is_kept = l.is_kept;
+      registers = first;
       meets = (
         record {
           rule = other;
           is_rule = used;
           lowers = shorter_lowers (λ i. 1) (λ i. refl) other.left other.right (omega arith);
-          applies = applies_as other rule o.registers (code_of lines) o.place l.alike other_fit.own rule_fit.own shorter m.0.applies;
-          least = no_scratch other o.registers (code_of lines) o.place other_fit.own (m.0.applies.as_many ∙ rule_fit.own ∙ ap register_count (sym l.alike.left) ∙ sym other_fit.own);
+          applies = applies_as other rule o.registers (code_of lines) o.place other_fit.sound rule_fit.sound l.alike shorter m.0.applies;
           joined = subst (λ k. are_joined_from o.place k lines ≡ true) (sym count) m.0.joined;
         },
         λ e.
             let laid : Layable base (replaced_lines own_line o.place (length rule.left) is lines) = subst (λ (r : Option Rule). Layable base (lines_after_rule s r o lines)) m.0.is_rule (m.1 e) in
             let same : Layable base (replaced_lines own_line o.place (length rule.left) js lines) =
             layable_as base (replaced_lines own_line o.place (length rule.left) is lines) (replaced_lines own_line o.place (length rule.left) js lines)
-            (replaced_as own_line o.place (length rule.left) is js lines as_many (letters_all (rule_registers rule) o.registers rule.right rule_fit.sound.right) (letters_all (rule_registers other) o.registers other.right other_fit.sound.right)) laid in
-            subst (λ (r : Option Rule). Layable base (lines_after_rule s r (made o.place l.leader o.registers) lines)) (sym used)
+            (replaced_as own_line o.place (length rule.left) is js lines as_many (letters_all (rule_registers rule) o.registers rule.right rule_fit.sound.right) (letters_all (rule_registers other) first other.right other_fit.sound.right)) laid in
+            subst (λ (r : Option Rule). Layable base (lines_after_rule s r (made o.place l.leader first) lines)) (sym used)
             (subst (λ k. Layable base (replaced_lines own_line o.place k js lines)) (sym count) same),
       );
       as_long = ap left_length_of used ∙ count ∙ ap left_length_of (sym m.0.is_rule);

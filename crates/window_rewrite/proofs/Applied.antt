@@ -1,23 +1,23 @@
 -- A rule applies in lines where it fits a window, labels stay code and what it leaves can be laid out.
-use Rattle.std.proofs.Common.{◌≡◌, ℕ, zero, suc, ◌+◌, ◌-◌, ◌<◌, ◌≤◌, ◌||◌, ◌&&◌, not, Bool, true, false, List, [], ◌∷◌, length, take, drop, map, Option, Some, refl, sym, ap, ◌∙◌, subst, ◌⊎◌, inl, inr, arith, ltb-true, lt-ltb}
-use Rattle.std.specs.Prelude.{slice_get, nat_lt}
+use Rattle.std.proofs.Common.{◌≡◌, ℕ, zero, suc, ◌+◌, ◌-◌, ◌<◌, ◌≤◌, Bool, true, false, List, [], ◌∷◌, length, take, drop, map, Option, Some, refl, sym, ap, ◌∙◌, subst, ◌⊎◌, inl, inr, arith}
+use Rattle.std.specs.Prelude.{slice_get}
 use Rattle.std.specs.List.{list_all}
-use Rattle.std.proofs.lemmas.Bool.{and_parts, and_from, or_cases, cases_Bool}
+use Rattle.std.proofs.lemmas.Bool.{and_from, cases_Bool}
 use Rattle.std.proofs.lemmas.List.{length-map}
 use Rattle.thumb_instr.specs.declared.instr.Instr.{Instr}
 use Rattle.thumb_instr.specs.declared.instr.Instr.TheVariants as instr
+use Rattle.thumb_instr.specs.Items.{has}
 use Rattle.thumb_instr.specs.Window.{is_in_window}
-use Rattle.thumb_instr.specs.Renaming.{Low, renamed, item_under}
+use Rattle.thumb_instr.specs.Renaming.{Low, renamed}
 use Rattle.thumb_instr.proofs.RenamingLemmas.{window_renamed}
-use Rattle.thumb_model.specs.Items.{one_of}
 use Rattle.thumb_model.specs.Listing.{Place, Op, Word, plain, Label, Line, places_of, labels_from, code_of, is_op_place}
 use Rattle.thumb_model.specs.Flow.{LiveAfter}
 use Rattle.thumb_model.specs.Layout.{Layable}
-use Rattle.rule_model.specs.Rules.{Rule, rule_registers, Applies, IsSoundRule, alone}
+use Rattle.rule_model.specs.Rules.{Rule, Applies, IsSoundRule, alone}
 use Rattle.thumb_model.specs.Sides.{AreOver, register_count, normalised}
 use Rattle.thumb_model.specs.Replaced.{moved}
-use Rattle.rule_model.specs.Rewriting.{Setting, Replacement, used_rule, lines_after_rule, lines_after, AppliesIn}
-use Rattle.rule_model.proofs.Alone.{alone_at, alone_is, no_scratch}
+use Rattle.rule_model.specs.Rewriting.{Setting, Replacement, used_rule, lines_after_rule, lines_after, IsLeastScratch, AppliesIn}
+use Rattle.rule_model.proofs.Alone.{alone_at, alone_is}
 use Rattle.rule_model.proofs.Costs.{weight_is_length, shorter_lowers}
 use Rattle.rule_model.proofs.LinesKept.{fewer_lines_by}
 use Rattle.thumb_model.specs.ReplacedLines.{replaced_lines, are_joined_from}
@@ -37,32 +37,11 @@ use Rattle.window_rewrite.specs.declared.finding.Rules.{Rules}
 use Rattle.window_rewrite.specs.declared.ground.Ground.{Ground}
 use Rattle.window_rewrite.specs.Rewriting.{setting}
 use Rattle.window_rewrite.specs.Choices.{FitsIn, Meets}
-use Rattle.window_rewrite.specs.Fitting.{Fits, is_allowed}
+use Rattle.window_rewrite.specs.Fitting.{left_registers, FitsWhole, IsScratchLeast}
 use Rattle.window_rewrite.specs.Sweeps.{is_steady, AreOver as AreLaid}
+use Rattle.window_rewrite.proofs.Live.{Allowed, allowed_true, true_allowed}
 use Rattle.window_rewrite.proofs.Sides.{window_count}
-
--- ---- items ----
-
-abbrev pub Allowed : List ℕ → List Low → ℕ → Type 0
-Allowed mask registers x = (one_of x (map (item_under registers) mask) ≡ true) ⊎ ((x < 15) × (one_of x (map (λ r. r.number) registers) ≡ false))
-
-not_true : (a : Bool) → not a ≡ true → a ≡ false
-not_true true e = absurd (cc)
-not_true false e = refl
-
-pub allowed_true : (mask : List ℕ) (registers : List Low) (x : ℕ) → is_allowed mask registers x ≡ true → Allowed mask registers x
-allowed_true mask registers x h = elim (or_cases (one_of x (map (item_under registers) mask)) (nat_lt x 15 && not (one_of x (map (λ r. r.number) registers))) h) [
-  | inl m ↦ inl m
-  | inr o ↦ (let b = and_parts (nat_lt x 15) (not (one_of x (map (λ r. r.number) registers))) o in inr (ltb-true x 15 b.0, not_true _ b.1))
-]
-
-true_allowed : (mask : List ℕ) (registers : List Low) (x : ℕ) → Allowed mask registers x → is_allowed mask registers x ≡ true
-true_allowed mask registers x (inl m) = ap (λ t. t || (nat_lt x 15 && not (one_of x (map (λ r. r.number) registers)))) m
-true_allowed mask registers x (inr o) = behind (one_of x (map (item_under registers) mask)) (nat_lt x 15 && not (one_of x (map (λ r. r.number) registers))) (and_from (nat_lt x 15) (not (one_of x (map (λ r. r.number) registers))) (lt-ltb x 15 o.0) (ap not o.1))
-  where
-    behind : (a b : Bool) → b ≡ true → (a || b) ≡ true
-    behind true b e = refl
-    behind false b e = e
+use Rattle.window_rewrite.proofs.Whole.{front_allowed, front_apart, front_matches, left_few, whole_allowed, whole_apart, whole_free}
 
 -- ---- the window ----
 
@@ -159,27 +138,38 @@ fits_shorter base rules o lines a =
 -- ---- forth ----
 
 -- a rule that fits a window applies there, where labels stay code
-pub fitted : (lines : List Line) (place : ℕ) (rule : Rule) (registers : List Low) (window : List Instr) (live : ℕ) → rule_registers rule ≡ register_count rule.left → StandsThere lines (spot_of place (length window)) window live → Fits rule registers window live
+pub fitted : (lines : List Line) (place : ℕ) (rule : Rule) (registers : List Low) (window : List Instr) (live : ℕ) → IsSoundRule rule → StandsThere lines (spot_of place (length window)) window live → FitsWhole rule registers window live
     → IsSettled (places_of lines) (labels_from 0 lines) place (length window) (map (renamed registers) rule.right) → Applies rule registers (code_of lines) place
-fitted lines place rule registers window live own there fits settled =
+fitted lines place rule registers window live sound there fits settled =
     let is : List Instr = map (renamed registers) rule.right in
+    let own : List Low = left_registers rule registers in
     let w = there.is_window in
-    let n : length window ≡ length rule.left = window_count rule registers window fits.stands in
+    let n : length window ≡ length rule.left = window_count rule own window fits.fits.stands in
     let m : length is ≡ length rule.right = length-map rule.right (renamed registers) in
-    let shorter = fits.shorter in
+    let shorter = fits.fits.shorter in
     let stay = settled_stay (places_of lines) (labels_from 0 lines) place (length window) is (window_gap lines place window is w (omega arith)) settled in
     record {
-      as_many = fits.stands.as_many ∙ sym own;
-      one_to_one = fits.stands.one_to_one;
+      as_many = fits.whole.as_many;
+      one_to_one = whole_apart rule registers live sound fits.whole fits.fits.stands.one_to_one;
       window = window;
       stands = ap (λ k. take k (drop place (places_of lines))) (sym n) ∙ w.stands;
-      matches = fits.stands.matches;
+      matches = fits.fits.stands.matches ∙ sym (front_matches rule (register_count rule.left) registers sound (omega arith));
       unlabelled = subst (λ k. (j : ℕ) (l : Label) → slice_get (labels_from 0 lines) j ≡ Some l → (l.place ≤ place) ⊎ (place + k ≤ l.place)) n w.unlabelled;
-      live = λ x h. allowed_true rule.mask registers x (fits.allowed x ((there.live x).1 (subst (λ k. LiveAfter (code_of lines) (place + k - 1) x) (sym n) h)));
+      live = λ x h.
+          let known : has live x ≡ true = (there.live x).1 (subst (λ k. LiveAfter (code_of lines) (place + k - 1) x) (sym n) h) in
+          whole_allowed rule registers live x sound fits.whole known (allowed_true rule.mask own x (fits.fits.allowed x known));
       labels_stay = λ k l e h.
           subst (λ c. is_op_place (slice_get (left_places place c is (places_of lines)) (moved place (c - length rule.right) l.place)) ≡ true) n
           (subst (λ c. is_op_place (slice_get (left_places place (length window) is (places_of lines)) (moved place (length window - c) l.place)) ≡ true) m (stay k l e h));
     }
+
+-- what is least by the items that are live is so by the ways
+least_there : (lines : List Line) (place : ℕ) (rule : Rule) (registers : List Low) (window : List Instr) (live : ℕ) → length window ≡ length rule.left → StandsThere lines (spot_of place (length window)) window live → IsScratchLeast rule registers live
+    → IsLeastScratch rule registers (code_of lines) place
+least_there lines place rule registers window live n there least scratch at x l = elim (least scratch at x l) [
+  | inl t ↦ inl t
+  | inr t ↦ inr (subst (λ k. LiveAfter (code_of lines) (place + k - 1) x) n ((there.live x).0 t))
+]
 
 -- in the lines of a sweep, what a rule leaves can be laid out: where its ground isn't steady, that is asked for
 pub laid : (r : Rules) (g : Ground) (lines : List Line) (place : ℕ) (rule : Rule) (registers : List Low) (window : List Instr) → AreLaid r g lines → IsSoundRule rule → length rule.right < length rule.left → length window ≡ length rule.left
@@ -200,40 +190,40 @@ pub record IsMade (s : Setting) (lines : List Line) (place number : ℕ) (regist
   pub leaves : replaced_lines s.write place (length window) new lines ≡ lines_after s (made place number registers) lines
 
 pub applied : (base : ℕ) (rules : List Rule) (lines : List Line) (place number : ℕ) (rule : Rule) (registers : List Low) (window : List Instr) (live : ℕ) (new : List Instr)
-    → slice_get rules number ≡ Some rule → IsSoundRule rule → rule_registers rule ≡ register_count rule.left → StandsThere lines (spot_of place (length window)) window live → Fits rule registers window live → new ≡ map (renamed registers) rule.right
+    → slice_get rules number ≡ Some rule → IsSoundRule rule → StandsThere lines (spot_of place (length window)) window live → FitsWhole rule registers window live → IsScratchLeast rule registers live → new ≡ map (renamed registers) rule.right
     → IsSettled (places_of lines) (labels_from 0 lines) place (length window) new
     → (Applies rule registers (code_of lines) place → Layable base (replaced_lines own_line place (length rule.left) (map (renamed registers) rule.right) lines))
     → IsMade (setting base (alone rules)) lines place number registers window new
-applied base rules lines place number rule registers window live new at sound own there fits same settled layable =
+applied base rules lines place number rule registers window live new at sound there fits least same settled layable =
     let s : Setting = setting base (alone rules) in
     let r : Replacement = made place number registers in
     let used : used_rule s r ≡ Some rule = alone_at rules number rule at in
     let is : List Instr = map (renamed registers) rule.right in
-    let n : length window ≡ length rule.left = window_count rule registers window fits.stands in
-    let a = fitted lines place rule registers window live own there fits (subst (λ (js : List Instr). IsSettled (places_of lines) (labels_from 0 lines) place (length window) js) same settled) in
+    let n : length window ≡ length rule.left = window_count rule (left_registers rule registers) window fits.fits.stands in
+    let a = fitted lines place rule registers window live sound there fits (subst (λ (js : List Instr). IsSettled (places_of lines) (labels_from 0 lines) place (length window) js) same settled) in
     let after : lines_after s r lines ≡ replaced_lines own_line place (length rule.left) is lines = ap (λ o. lines_after_rule s o r lines) used in
     record {
       applies = record {
         rule = rule;
         is_rule = used;
-        lowers = shorter_lowers (λ i. 1) (λ i. refl) rule.left rule.right fits.shorter;
+        lowers = shorter_lowers (λ i. 1) (λ i. refl) rule.left rule.right fits.fits.shorter;
         applies = a;
-        least = no_scratch rule registers (code_of lines) place own a.as_many;
+        least = least_there lines place rule registers window live n there least;
         joined = subst (λ k. are_joined_from place k lines ≡ true) n there.is_window.joined;
-        few = (let fewer = fewer_lines_by s rule r lines fits.shorter a in omega arith);
+        few = (let fewer = fewer_lines_by s rule r lines fits.fits.shorter a in omega arith);
         layable = layable a;
       };
       is_window = there.is_window;
       keeps =
           subst (λ (js : List Instr). KeepsAt (code_of lines) place window js) (sym same)
-          (subst (λ (js : List Instr). KeepsAt (code_of lines) place js is) (same_window rule registers lines place window (sym n) there.is_window a) (applies_keeps rule registers (code_of lines) place sound fits.shorter a));
+          (subst (λ (js : List Instr). KeepsAt (code_of lines) place js is) (same_window rule registers lines place window (sym n) there.is_window a) (applies_keeps rule registers (code_of lines) place sound fits.fits.shorter a));
       leaves = ap (λ (js : List Instr). replaced_lines own_line place (length window) js lines) same ∙ ap (λ k. replaced_lines own_line place k is lines) n ∙ sym after;
     }
 
 -- what applies meets this, whether the layout is asked or not
 pub meets : (asked : Bool) (s : Setting) (o : Replacement) (lines : List Line) → AppliesIn s o lines → Meets asked s o lines
 meets asked s o lines a = (
-  record { rule = a.rule; is_rule = a.is_rule; lowers = a.lowers; applies = a.applies; least = a.least; joined = a.joined },
+  record { rule = a.rule; is_rule = a.is_rule; lowers = a.lowers; applies = a.applies; joined = a.joined },
   λ _. subst (λ (r : Option Rule). Layable s.base (lines_after_rule s r o lines)) (sym a.is_rule) a.layable,
 )
 
@@ -248,27 +238,31 @@ same_rule a b o e f = let g : (let x : Option Rule = Some a in x) ≡ Some b = s
 
 -- what a rule's fitting says of the window that stands there
 pub record IsFitted (lines : List Line) (place : ℕ) (rule : Rule) (registers : List Low) (window : List Instr) (live : ℕ) : Type 0 where
-  pub fits : Fits rule registers window live
+  pub fits : FitsWhole rule registers window live
   pub settled : IsSettled (places_of lines) (labels_from 0 lines) place (length window) (map (renamed registers) rule.right)
 
 pub back : (base : ℕ) (rules : List Rule) (lines : List Line) (place number : ℕ) (rule : Rule) (registers : List Low) (window : List Instr) (live : ℕ)
-    → slice_get rules number ≡ Some rule → rule_registers rule ≡ register_count rule.left → length rule.left ≡ length window → StandsThere lines (spot_of place (length window)) window live → FitsIn (setting base (alone rules)) (made place number registers) lines
+    → slice_get rules number ≡ Some rule → IsSoundRule rule → length rule.left ≡ length window → StandsThere lines (spot_of place (length window)) window live → FitsIn (setting base (alone rules)) (made place number registers) lines
     → IsFitted lines place rule registers window live
-back base rules lines place number rule registers window live at own n there a =
+back base rules lines place number rule registers window live at sound n there a =
     let is : List Instr = map (renamed registers) rule.right in
     let same : a.rule ≡ rule = same_rule a.rule rule (slice_get rules number) (rule_there base rules (made place number registers) a.rule a.is_rule) at in
     let shorter : length rule.right < length rule.left = subst (λ (k : Rule). length k.right < length k.left) same (fits_shorter base rules (made place number registers) lines a) in
     let applies : Applies rule registers (code_of lines) place = subst (λ (k : Rule). Applies k registers (code_of lines) place) same a.applies in
     let w : applies.window ≡ window = same_window rule registers lines place window n there.is_window applies in
+    let known : (x : ℕ) → has live x ≡ true → Allowed rule.mask registers x = λ x h. applies.live x (subst (λ k. LiveAfter (code_of lines) (place + k - 1) x) (sym n) ((there.live x).0 h)) in
     record {
       fits = record {
-        stands = record {
-          as_many = applies.as_many ∙ own;
-          one_to_one = applies.one_to_one;
-          matches = ap (map normalised) (sym w) ∙ applies.matches;
+        fits = record {
+          stands = record {
+            as_many = left_few rule registers applies.as_many;
+            one_to_one = front_apart (register_count rule.left) registers applies.one_to_one;
+            matches = ap (map normalised) (sym w) ∙ applies.matches ∙ front_matches rule (register_count rule.left) registers sound (omega arith);
+          };
+          shorter = shorter;
+          allowed = λ x h. true_allowed rule.mask (left_registers rule registers) x (front_allowed rule (register_count rule.left) registers x sound (omega arith) (omega (arith, applies.as_many, sound.few)) (known x h));
         };
-        shorter = shorter;
-        allowed = λ x h. true_allowed rule.mask registers x (applies.live x (subst (λ k. LiveAfter (code_of lines) (place + k - 1) x) (sym n) ((there.live x).0 h)));
+        whole = whole_free rule registers live sound applies.as_many applies.one_to_one known;
       };
       settled =
           subst (λ k. IsSettled (places_of lines) (labels_from 0 lines) place k is) n

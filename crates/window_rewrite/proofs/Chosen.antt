@@ -45,7 +45,7 @@ use Rattle.window_rewrite.specs.declared.marks.Marks.{Marks}
 use Rattle.window_rewrite.specs.Rules.{rules_in, side_length, is_marked, AreFit, AreLed, HaveMarks, first_with}
 use Rattle.window_rewrite.specs.Shapes.{shape_of}
 use Rattle.window_rewrite.specs.Forms.{form_of}
-use Rattle.window_rewrite.specs.Fitting.{Shortens, Stands}
+use Rattle.window_rewrite.specs.Fitting.{left_registers, Shortens, Stands}
 use Rattle.window_rewrite.specs.Choices.{Awaits, choice_of, FitsIn, IsChoice, IsLowest, Meets, NoneOf, IsBest, NoneAt, NoneBefore, IsFirstChoice, of_length, longer}
 use Rattle.window_rewrite.specs.Sweeps.{IsKept}
 use Rattle.window_rewrite.proofs.Applied.{made, is_made, rule_there, fits_shorter, back, meets, meets_less}
@@ -150,7 +150,8 @@ fit_length base rules o lines a = ap left_length_of (rule_there base rules o a.r
 pub record StandsIn (rules : List Rule) (window : List Instr) (o : Replacement) : Type 0 where
   pub rule : Rule
   pub at : slice_get rules o.entry ≡ Some rule
-  pub shortens : Shortens rule o.registers window
+  pub registers : List Low
+  pub shortens : Shortens rule registers window
 
 stands_in : (base longest : ℕ) (rules : List Rule) (lines : List Line) (place : ℕ) (window : List Instr) (live : ℕ) (o : Replacement) → AreFit longest rules → StandsThere lines (spot_of place (length window)) window live
     → FitsIn (setting base (alone rules)) o lines → o.place ≡ place → left_length (setting base (alone rules)) o ≡ length window → StandsIn rules window o
@@ -162,7 +163,8 @@ stands_in base longest rules lines place window live o fit there a at long =
     record {
       rule = a.rule;
       at = there_at;
-      shortens = let f = (back base rules lines place o.entry a.rule o.registers window live there_at (fit o.entry a.rule there_at).own n there moved).fits in record { stands = f.stands; shorter = f.shorter };
+      registers = left_registers a.rule o.registers;
+      shortens = let f = (back base rules lines place o.entry a.rule o.registers window live there_at (fit o.entry a.rule there_at).sound n there moved).fits.fits in record { stands = f.stands; shorter = f.shorter };
     }
 
 -- the search through the rules that may stand in a window: those below k don't meet this
@@ -187,11 +189,11 @@ none_before asked base rules kept lines place window live n at start steps there
     let d = led_to asked base s.longest rules kept lines o s.fit s.led a in
     let no_later = d.no_later in
     elim (cases_lt d.leader s.k) [
-      | inl b ↦ s.none (made o.place d.leader o.registers) d.meets e (d.as_long ∙ l) b
+      | inl b ↦ s.none (made o.place d.leader d.registers) d.meets e (d.as_long ∙ l) b
       | inr b ↦ (
           let next = awaited rules kept window s.k n at s.awaits is in
-          let i = stands_in base s.longest rules lines place window live (made o.place d.leader o.registers) s.fit there d.meets.0 e (d.as_long ∙ l) in
-          next.none d.leader i.rule o.registers b (omega arith) i.at d.is_kept i.shortens
+          let i = stands_in base s.longest rules lines place window live (made o.place d.leader d.registers) s.fit there d.meets.0 e (d.as_long ∙ l) in
+          next.none d.leader i.rule i.registers b (omega arith) i.at d.is_kept i.shortens
           )
     ]
 
@@ -216,10 +218,10 @@ search_next was asked base rules kept lines place window live n at next start st
           let d = led_to asked base s.longest rules kept lines o s.fit s.led a in
           let no_later = d.no_later in
           elim (cases_lt d.leader n) [
-            | inl b ↦ none_before was base rules kept lines place window live n at start steps there s is (made o.place d.leader o.registers) (meets_less was asked (setting base (alone rules)) (made o.place d.leader o.registers) lines stays d.meets) e (d.as_long ∙ l) b
+            | inl b ↦ none_before was base rules kept lines place window live n at start steps there s is (made o.place d.leader d.registers) (meets_less was asked (setting base (alone rules)) (made o.place d.leader d.registers) lines stays d.meets) e (d.as_long ∙ l) b
             | inr b ↦ (
                 let same : d.leader ≡ n = omega arith in
-                none (ap (side_length rules) (sym same) ∙ (fit_length base rules (made o.place d.leader o.registers) lines d.meets.0 ∙ (d.as_long ∙ l))) o.registers (subst (λ m. Meets asked (setting base (alone rules)) (made place m o.registers) lines) same (subst (λ p. Meets asked (setting base (alone rules)) (made p d.leader o.registers) lines) e d.meets))
+                none (ap (side_length rules) (sym same) ∙ (fit_length base rules (made o.place d.leader d.registers) lines d.meets.0 ∙ (d.as_long ∙ l))) d.registers (subst (λ m. Meets asked (setting base (alone rules)) (made place m d.registers) lines) same (subst (λ p. Meets asked (setting base (alone rules)) (made p d.leader d.registers) lines) e d.meets))
                 )
           ];
       cost = subst (λ m. after ≤ start + of_length (length window) (take m rules)) (let e : suc n ≡ n + 1 = omega arith in e) (omega (arith, one, before, tried, here, cost));
@@ -275,10 +277,10 @@ pub search_none : (asked : Bool) (base : ℕ) (rules : List Rule) (kept : List B
 search_none asked base rules kept lines place window live at start steps there s is o a e l =
     let d = led_to asked base s.longest rules kept lines o s.fit s.led a in
     elim (cases_lt d.leader s.k) [
-      | inl b ↦ s.none (made o.place d.leader o.registers) d.meets e (d.as_long ∙ l) b
+      | inl b ↦ s.none (made o.place d.leader d.registers) d.meets e (d.as_long ∙ l) b
       | inr b ↦ (
-          let i = stands_in base s.longest rules lines place window live (made o.place d.leader o.registers) s.fit there d.meets.0 e (d.as_long ∙ l) in
-          none_awaited rules kept window s.k at s.awaits is d.leader i.rule o.registers b i.at d.is_kept i.shortens
+          let i = stands_in base s.longest rules lines place window live (made o.place d.leader d.registers) s.fit there d.meets.0 e (d.as_long ∙ l) in
+          none_awaited rules kept window s.k at s.awaits is d.leader i.rule i.registers b i.at d.is_kept i.shortens
           )
     ]
 
@@ -296,7 +298,7 @@ pub none_whole : (asked : Bool) (base longest : ℕ) (rules : List Rule) (marks 
 none_whole asked base longest rules marks lines place shape window live fit have there is missing o a e l =
     let i = stands_in base longest rules lines place window live o fit there a.0 e l in
     let noted = have.noted o.entry i.rule (slice_get_within rules o.entry i.rule i.at) i.at (lt-ltb (length i.rule.right) (length i.rule.left) i.shortens.shorter) in
-    let bad : true ≡ false = sym noted.whole ∙ ap (is_marked marks.wholes.items) (stands_shape i.rule o.registers window i.shortens ∙ sym is) ∙ missing in
+    let bad : true ≡ false = sym noted.whole ∙ ap (is_marked marks.wholes.items) (stands_shape i.rule i.registers window i.shortens ∙ sym is) ∙ missing in
     absurd (cc)
 
 -- nor in one that no left side has the form of
@@ -305,7 +307,7 @@ pub none_formed : (asked : Bool) (base longest : ℕ) (rules : List Rule) (lines
 none_formed asked base longest rules lines place window live fit there none o a e l =
     let i = stands_in base longest rules lines place window live o fit there a.0 e l in
     let f = fit o.entry i.rule i.at in
-    none i.rule o.registers f.sound f.canonical i.shortens.stands
+    none i.rule i.registers f.sound f.canonical i.shortens.stands
 
 -- ---- the best entry of a place ----
 
@@ -450,7 +452,7 @@ none_reached asked base longest rules lines rows sets place count is fit of e no
     let s = stands_in base longest rules lines place (take n is) items o fit there a.0 at (long ∙ sym all) in
     let left = length_at rules o.entry s.rule s.at in
     let same = fit_length base rules o lines a.0 in
-    none n o.entry s.rule o.registers (omega arith) s.at s.shortens
+    none n o.entry s.rule s.registers (omega arith) s.at s.shortens
 
 -- ---- the least place ----
 

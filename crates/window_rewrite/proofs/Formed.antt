@@ -1,5 +1,5 @@
 -- The canonical form of a window is each left side that stands in it, and where one fits, its mask has what is live.
-use Rattle.std.proofs.Common.{◌≡◌, ℕ, zero, suc, ◌<◌, ◌≤◌, ◌==◌, ◌&&◌, ◌||◌, Bool, true, false, List, [], ◌∷◌, ◌++◌, length, map, min, Option, Some, None, refl, sym, ap, ◌∙◌, subst, ◌⊎◌, inl, inr, arith, eqb-true, eq-eqb}
+use Rattle.std.proofs.Common.{◌≡◌, ℕ, zero, suc, ◌<◌, ◌≤◌, ◌==◌, ◌&&◌, ◌||◌, Bool, true, false, List, [], ◌∷◌, ◌++◌, length, map, min, Option, Some, None, refl, sym, ap, ◌∙◌, subst, ◌⊎◌, inl, inr, arith, eqb-true}
 use Rattle.std.specs.Prelude.{slice_get, bit_and}
 use Rattle.std.specs.Int.{bit_at}
 use Rattle.std.specs.List.{flat_map, list_all}
@@ -7,7 +7,7 @@ use Rattle.std.specs.Option.{option_map}
 use Rattle.std.proofs.lemmas.Bool.{and_parts, or_cases}
 use Rattle.std.proofs.lemmas.List.{length-map}
 use Rattle.std.proofs.lemmas.Nat.Bits.{bit_at_and, bit_at-lt, same_from_bits}
-use Rattle.std.proofs.lemmas.Option.{slice_get-map, slice_get_within, same_Some}
+use Rattle.std.proofs.lemmas.Option.{slice_get-map, slice_get_within}
 use Rattle.thumb_instr.specs.declared.instr.Instr.{Instr}
 use Rattle.thumb_instr.specs.declared.kind.Parts.{Parts}
 use Rattle.thumb_instr.specs.declared.role.Role.{Role}
@@ -31,7 +31,8 @@ use Rattle.window_rewrite.specs.declared.forms.Form.{Form}
 use Rattle.window_rewrite.specs.Fitting.{Stands, Fits, IsForm}
 use Rattle.window_rewrite.specs.Forms.{form_of}
 use Rattle.window_rewrite.proofs.Sides.{AreApart, apart, names_below, windows_over, order, register_at, same_numbers, window_count}
-use Rattle.window_rewrite.proofs.Applied.{allowed_true}
+use Rattle.window_rewrite.proofs.Live.{allowed_true}
+use Rattle.window_rewrite.proofs.Whole.{ComesOf, comes_of, past_none, register_one}
 
 -- ---- a window in which a left side stands has a canonical form ----
 
@@ -112,10 +113,6 @@ form_is_left rule registers window live side given mask s c h w f =
 either : {D : Type 0} (a b : Bool) → (a ≡ true → D) → (b ≡ true → D) → (a || b) ≡ true → D
 either a b f g h = elim (or_cases a b h) [ inl l ↦ f l | inr r ↦ g r ]
 
-or_right : (a b : Bool) → b ≡ true → (a || b) ≡ true
-or_right true b e = refl
-or_right false b e = e
-
 abbrev IsOne : ℕ → List ℕ → ℕ → Type 0
 IsOne items order x = (register_has items (slice_get order x) ≡ true) ⊎ ((has items x ≡ true) × (15 ≤ x))
 
@@ -137,32 +134,6 @@ masked_is_one items order x h =
         let both = and_parts (has items n) (x == n) k in
         let same : x ≡ n = eqb-true x n both.1 in
         inr (ap (has items) same ∙ both.0, omega arith)
-
--- an item of a mask that becomes another
-record ComesOf (f : ℕ → ℕ) (xs : List ℕ) (y : ℕ) : Type 0 where
-  from : ℕ
-  among : one_of from xs ≡ true
-  is : f from ≡ y
-
-comes_of : (f : ℕ → ℕ) (xs : List ℕ) (y : ℕ) → one_of y (map f xs) ≡ true → ComesOf f xs y
-comes_of f [] y h = absurd (cc)
-comes_of f (x ∷ xs) y h = elim (or_cases (y == f x) (one_of y (map f xs)) h) [
-  | inl e ↦ record { from = x; among = ap (λ b. b || one_of x xs) (eq-eqb x x refl); is = sym (eqb-true y (f x) e) }
-  | inr r ↦ (let c = comes_of f xs y r in record { from = c.from; among = or_right (c.from == x) (one_of c.from xs) c.among; is = c.is })
-]
-
--- a register of a map is among them
-register_one : (registers : List Low) (x : ℕ) (r : Low) → slice_get registers x ≡ Some r → one_of r.number (map (λ r. r.number) registers) ≡ true
-register_one [] x r e = absurd (cc)
-register_one (s ∷ ss) zero r e = let same : s ≡ r = same_Some s r e in ap (λ (q : Low). (r.number == q.number) || one_of r.number (map (λ r. r.number) ss)) same ∙ ap (λ b. b || one_of r.number (map (λ r. r.number) ss)) (eq-eqb r.number r.number refl)
-register_one (s ∷ ss) (suc x) r e = or_right (r.number == s.number) (one_of r.number (map (λ r. r.number) ss)) (register_one ss x r e)
-
-past_none : (registers : List Low) (x : ℕ) → length registers ≤ x → item_under registers x ≡ x
-past_none registers x h = by (slice_get registers x) refl
-  where
-    by : (o : Option Low) → slice_get registers x ≡ o → number_or o x ≡ x
-    by None e = refl
-    by (Some r) e = absurd (let w = slice_get_within registers x r e in omega arith)
 
 -- what an item of the mask becomes under the map tells which it is
 own_item : (rule : Rule) (registers : List Low) (x y : ℕ) → IsSoundRule rule → AreApart (register_count rule.left) (item_under registers) → length registers ≡ register_count rule.left

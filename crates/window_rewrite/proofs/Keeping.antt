@@ -76,7 +76,7 @@ more_kept rules n shared rule old new o at within small x was kept lasts earlier
     | inl m ↦ (let d = x.led i own m there s in record { leader = d.leader; no_later = d.no_later; is_kept = still d.leader d.is_kept; other = d.other; at = d.at; alike = d.alike })
     | inr m ↦ (
         let same : i ≡ n = omega arith in
-        record { leader = i; no_later = omega arith; is_kept = ap (is_marked new.kept.items) same ∙ here; other = own; at = there; alike = record { left = refl; mask = refl; as_long = refl } }
+        record { leader = i; no_later = omega arith; is_kept = ap (is_marked new.kept.items) same ∙ here; other = own; at = there; alike = record { left = refl; mask = refl; as_long = refl; no_more = λ h. h } }
         )
   ];
 }

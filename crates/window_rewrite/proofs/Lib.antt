@@ -1,6 +1,7 @@
 pub mod Sides
 pub mod Maps
 pub mod Live
+pub mod Whole
 pub mod RuleWindows
 pub mod Applied
 pub mod Keys

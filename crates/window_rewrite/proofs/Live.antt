@@ -1,8 +1,8 @@
 -- Which items may be live.
-use Rattle.std.proofs.Common.{◌≡◌, ℕ, ◌+◌, ◌<◌, ◌==◌, ◌&&◌, ◌||◌, Bool, true, false, List, [], ◌∷◌, map, filter, cond, refl, sym, ap, ◌∙◌, subst, arith, inl, inr}
+use Rattle.std.proofs.Common.{◌≡◌, ℕ, ◌+◌, ◌<◌, ◌==◌, ◌&&◌, ◌||◌, Bool, true, false, List, [], ◌∷◌, map, filter, cond, refl, sym, ap, ◌∙◌, subst, ◌⊎◌, arith, inl, inr, ltb-true, lt-ltb}
 use Rattle.std.specs.Prelude.{not, nat_lt}
 use Rattle.std.specs.List.{list_any}
-use Rattle.std.proofs.lemmas.Bool.{cases_lt}
+use Rattle.std.proofs.lemmas.Bool.{and_parts, and_from, cases_lt, or_cases}
 use Rattle.thumb_instr.specs.Items.{has}
 use Rattle.thumb_instr.specs.Renaming.{Low, item_under}
 use Rattle.thumb_instr.proofs.Bits.{has_none}
@@ -74,3 +74,26 @@ may_be_live b false allowed e f g = absurd (cc)
 pub may_not_be : (b live allowed : Bool) → b ≡ (not live || allowed) → b ≡ false → (live ≡ true) × (allowed ≡ false)
 may_not_be b true allowed e f = (refl, sym e ∙ f)
 may_not_be b false allowed e f = absurd (cc)
+
+-- ---- where it may ----
+
+abbrev pub Allowed : List ℕ → List Low → ℕ → Type 0
+Allowed mask registers x = (one_of x (map (item_under registers) mask) ≡ true) ⊎ ((x < 15) × (one_of x (map (λ r. r.number) registers) ≡ false))
+
+not_true : (a : Bool) → not a ≡ true → a ≡ false
+not_true true e = absurd (cc)
+not_true false e = refl
+
+pub allowed_true : (mask : List ℕ) (registers : List Low) (x : ℕ) → is_allowed mask registers x ≡ true → Allowed mask registers x
+allowed_true mask registers x h = elim (or_cases (one_of x (map (item_under registers) mask)) (nat_lt x 15 && not (one_of x (map (λ r. r.number) registers))) h) [
+  | inl m ↦ inl m
+  | inr o ↦ (let b = and_parts (nat_lt x 15) (not (one_of x (map (λ r. r.number) registers))) o in inr (ltb-true x 15 b.0, not_true _ b.1))
+]
+
+pub true_allowed : (mask : List ℕ) (registers : List Low) (x : ℕ) → Allowed mask registers x → is_allowed mask registers x ≡ true
+true_allowed mask registers x (inl m) = ap (λ t. t || (nat_lt x 15 && not (one_of x (map (λ r. r.number) registers)))) m
+true_allowed mask registers x (inr o) = behind (one_of x (map (item_under registers) mask)) (nat_lt x 15 && not (one_of x (map (λ r. r.number) registers))) (and_from (nat_lt x 15) (not (one_of x (map (λ r. r.number) registers))) (lt-ltb x 15 o.0) (ap not o.1))
+  where
+    behind : (a b : Bool) → b ≡ true → (a || b) ≡ true
+    behind true b e = refl
+    behind false b e = e

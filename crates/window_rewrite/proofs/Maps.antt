@@ -24,14 +24,14 @@ use Rattle.window_rewrite.proofs.Sides.{names_below, windows_over, apart}
 -- ---- maps that begin alike ----
 
 -- the same stands in both for registers below k
-abbrev AreAlike : ℕ → List Low → List Low → Type 0
+abbrev pub AreAlike : ℕ → List Low → List Low → Type 0
 AreAlike k r s = (x : ℕ) → x < k → slice_get r x ≡ slice_get s x
 
 same_items : (k : ℕ) (r s : List Low) (xs : List ℕ) → AreAlike k r s → AreBelow k xs → AllNamed (IsSameUnder r s) xs
 same_items k r s [] h b = tt
 same_items k r s (x ∷ xs) h b = (ap (λ o. number_or o x) (h x b.0), same_items k r s xs h b.1)
 
-all_alike : (k : ℕ) (r s : List Low) (is : List Instr) → AreAlike k r s → list_all is_in_window is ≡ true → AreBelow k (flat_map named is) → map (renamed r) is ≡ map (renamed s) is
+pub all_alike : (k : ℕ) (r s : List Low) (is : List Instr) → AreAlike k r s → list_all is_in_window is ≡ true → AreBelow k (flat_map named is) → map (renamed r) is ≡ map (renamed s) is
 all_alike k r s [] h w b = refl
 all_alike k r s (i ∷ is) h w b =
     let v = and_parts (is_in_window i) (list_all is_in_window is) w in

@@ -9,14 +9,12 @@ use Rattle.thumb_instr.specs.Renaming.{renamed}
 use Rattle.thumb_model.specs.Listing.{Statement, Nothing, Runs, Words, Aligns, Sets, Line, Code, places_in, places_of, labels_from, code_of}
 use Rattle.thumb_model.specs.Flow.{LiveAfter}
 use Rattle.thumb_model.specs.Layout.{Layable}
-use Rattle.rule_model.specs.Rules.{Rule, rule_registers, alone, Applies}
-use Rattle.thumb_model.specs.Sides.{register_count}
+use Rattle.rule_model.specs.Rules.{Rule, alone, Applies}
 use Rattle.thumb_model.specs.Replaced.{replaced}
 use Rattle.rule_model.specs.Rewriting.{Setting, Replacement, AppliesIn, lines_after_rule, lines_after, left_length, left_length_of}
 use Rattle.thumb_model.specs.ReplacedLines.{is_op, replaced_lines}
 use Rattle.thumb_model.specs.Cuts.{AreOps}
 use Rattle.rule_model.specs.Laws.{CostsOne}
-use Rattle.rule_model.proofs.Alone.{no_scratch}
 use Rattle.rule_model.proofs.LinesKept.{fewer_after, shorter_right, code_of_after_by}
 use Rattle.rule_model.proofs.Table.{window_length}
 use Rattle.listing_parser.specs.Parsing.{own_line}
@@ -113,9 +111,9 @@ still_live old new was now q x a b h k e l = (b.after q x k).0 (e ((a.after q x 
 
 -- an entry that fits in the new lines before the gap fitted there in the old ones
 fits_before : (s : Setting) (xs ys zs : List Line) (count : ℕ) (is : List Instr) (o : Replacement) → code_of (xs ++ zs) ≡ replaced (code_of (xs ++ ys)) (length (places_of xs)) count is
-    → IsGap (places_of (xs ++ ys)) (labels_from 0 (xs ++ ys)) (length (places_of xs)) count is → (a : FitsIn s o (xs ++ zs)) → length a.rule.right < length a.rule.left → rule_registers a.rule ≡ register_count a.rule.left → o.place + length a.rule.left ≤ length (places_of xs)
+    → IsGap (places_of (xs ++ ys)) (labels_from 0 (xs ++ ys)) (length (places_of xs)) count is → (a : FitsIn s o (xs ++ zs)) → length a.rule.right < length a.rule.left → o.place + length a.rule.left ≤ length (places_of xs)
     → ((x : ℕ) → LiveAfter (code_of (xs ++ ys)) (o.place + length a.rule.left - 1) x → LiveAfter (code_of (xs ++ zs)) (o.place + length a.rule.left - 1) x) → FitsIn s o (xs ++ ys)
-fits_before s xs ys zs count is o e g a shorter own far live =
+fits_before s xs ys zs count is o e g a shorter far live =
     let n = window_length a.rule o.registers (code_of (xs ++ zs)) o.place a.applies in
     let there : Applies a.rule o.registers (replaced (code_of (xs ++ ys)) (length (places_of xs)) count is) o.place = subst (λ (c : Code). Applies a.rule o.registers c o.place) e a.applies in
     let ops : AreOps (length a.rule.left) (drop o.place (places_of (xs ++ zs))) = ops_of a.applies.window (length a.rule.left) (drop o.place (places_of (xs ++ zs))) (sym n) a.applies.stands in
@@ -123,7 +121,6 @@ fits_before s xs ys zs count is o e g a shorter own far live =
       rule = a.rule;
       is_rule = a.is_rule;
       lowers = a.lowers;
-      least = no_scratch a.rule o.registers (code_of (xs ++ ys)) o.place own a.applies.as_many;
       applies = applied_before a.rule o.registers (code_of (xs ++ ys)) (length (places_of xs)) count is o.place g far
           (λ x h. subst (λ (c : Code). LiveAfter c (o.place + length a.rule.left - 1) x) e (live x h)) shorter there;
       joined = sym (joined_stays o.place (length a.rule.left) xs zs ys (omega arith) far ops) ∙ a.joined;
@@ -145,7 +142,6 @@ none_ending base longest rules back clear edge xs ys new was now r fit applied a
     let there : FitsIn s o (xs ++ zs) = subst (λ (ls : List Line). FitsIn s o ls) is_now a in
     let long : left_length s o ≡ length there.rule.left = ap left_length_of there.is_rule in
     let shorter = fits_shorter base rules o (xs ++ zs) there in
-    let own = (fit o.entry there.rule (rule_there base rules o there.rule there.is_rule)).own in
     let far : o.place + length there.rule.left ≤ length (places_of xs) = omega arith in
     let q : ℕ = o.place + length there.rule.left - 1 in
     let old_places = ap (λ ps. length ps) (places_append xs ys) ∙ length-append (places_of xs) (places_of ys) in
@@ -156,7 +152,7 @@ none_ending base longest rules back clear edge xs ys new was now r fit applied a
     subst (λ p. IsGap (places_of (xs ++ ys)) (labels_from 0 (xs ++ ys)) p n is) at (applied_gap rule r.registers (code_of (xs ++ ys)) r.place fewer applied.applies) in
     let live : (x : ℕ) → LiveAfter (code_of (xs ++ ys)) q x → LiveAfter (code_of (xs ++ zs)) q x =
     λ x h. subst (λ (ls : List Line). LiveAfter (code_of ls) q x) is_now (still_live (code_of (xs ++ ys)) (code_of new) was now q x old_live new_live (omega arith) (omega arith) (same q (omega arith) x) h) in
-    none o (fits_before s xs ys zs n is o code gap there shorter own far live, λ e. absurd (true≢false (sym e))) (omega arith)
+    none o (fits_before s xs ys zs n is o code gap there shorter far live, λ e. absurd (true≢false (sym e))) (omega arith)
 
 -- ---- a turn ----
 

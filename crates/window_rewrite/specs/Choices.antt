@@ -7,7 +7,7 @@ use Rattle.thumb_model.specs.Listing.{Line, code_of}
 use Rattle.liveness.specs.Kept.{KeepsAt}
 use Rattle.thumb_model.specs.Layout.{Layable}
 use Rattle.rule_model.specs.Rules.{Rule, weight, alone, Applies}
-use Rattle.rule_model.specs.Rewriting.{Setting, Replacement, used_rule, IsLeastScratch, AppliesIn, IsFirst, lines_after, left_length}
+use Rattle.rule_model.specs.Rewriting.{Setting, Replacement, used_rule, AppliesIn, IsFirst, lines_after, left_length}
 use Rattle.thumb_model.specs.ReplacedLines.{are_joined_from, replaced_lines}
 use Rattle.window_runs.specs.Windows.{IsWindow}
 use Rattle.window_rewrite.specs.declared.choice.Choice.{Choice}
@@ -38,13 +38,12 @@ pub record Awaits (rules : List Rule) (kept : List Bool) (window : List Instr) (
 
 -- ---- with and without the layout ----
 
--- this entry of the table fits there, under this map: it applies, whatever the lines come to that it leaves
+-- this entry of the table fits there, under this map: it applies with some free scratch register, if it needs one, and whatever the lines come to that it leaves
 pub record FitsIn (s : Setting) (o : Replacement) (lines : List Line) : Type 0 where
   pub rule : Rule
   pub is_rule : used_rule s o ≡ Some rule
   pub lowers : weight s.cost rule.right < weight s.cost rule.left
   pub applies : Applies rule o.registers (code_of lines) o.place
-  pub least : IsLeastScratch rule o.registers (code_of lines) o.place
   pub joined : are_joined_from o.place (length rule.left) lines ≡ true
 
 -- it fits, and where the layout is asked too, the lines that it leaves can be laid out

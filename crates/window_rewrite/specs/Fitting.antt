@@ -1,10 +1,10 @@
 -- Whether a rule may be used on a window.
-use Rattle.std.specs.Prelude.{◌≡◌, ℕ, ◌<◌, ◌||◌, ◌&&◌, not, nat_lt, Bool, true, List, length, map}
+use Rattle.std.specs.Prelude.{◌≡◌, ℕ, ◌<◌, ◌||◌, ◌&&◌, not, nat_lt, Bool, true, false, List, length, map, take, Some, slice_get, ◌⊎◌}
 use Rattle.thumb_instr.specs.declared.instr.Instr.{Instr}
 use Rattle.thumb_instr.specs.Items.{has}
 use Rattle.thumb_instr.specs.Renaming.{Low, renamed, item_under}
 use Rattle.thumb_model.specs.Items.{one_of}
-use Rattle.rule_model.specs.Rules.{Rule, IsSoundRule}
+use Rattle.rule_model.specs.Rules.{Rule, rule_registers, IsSoundRule}
 use Rattle.thumb_model.specs.Sides.{IsOneToOne, register_count, normalised}
 use Rattle.table_audit.specs.Sides.{IsCanonicalSide}
 use Rattle.window_rewrite.specs.declared.forms.Form.{Form}
@@ -25,11 +25,33 @@ pub record Shortens (rule : Rule) (registers : List Low) (window : List Instr) :
 abbrev pub is_allowed : List ℕ → List Low → ℕ → Bool
 is_allowed mask registers x = one_of x (map (item_under registers) mask) || (nat_lt x 15 && not (one_of x (map (λ r. r.number) registers)))
 
--- as far as the window and the items that are live after it tell, the rule may be used
+-- as far as the window and the items that are live after it tell, the rule may be used, but for a scratch register
 pub record Fits (rule : Rule) (registers : List Low) (window : List Instr) (live : ℕ) : Type 0 where
   pub stands : Stands rule registers window
   pub shorter : length rule.right < length rule.left
   pub allowed : (x : ℕ) → has live x ≡ true → is_allowed rule.mask registers x ≡ true
+
+-- ---- the scratch register ----
+
+-- of the registers of a rule those that its left side names
+abbrev pub left_registers : Rule → List Low → List Low
+left_registers rule registers = take (register_count rule.left) registers
+
+-- one for each register of a rule; a scratch register is none of the left side's, and not live
+pub record AreWhole (rule : Rule) (registers : List Low) (live : ℕ) : Type 0 where
+  pub as_many : length registers ≡ rule_registers rule
+  pub free : (scratch : Low) → slice_get registers (register_count rule.left) ≡ Some scratch → (one_of scratch.number (map (λ r. r.number) (left_registers rule registers)) ≡ false) × (has live scratch.number ≡ false)
+
+-- each register below the scratch register is one of the left side's or live
+abbrev pub IsScratchLeast : Rule → List Low → ℕ → Type 0
+IsScratchLeast rule registers live = (scratch : Low) → slice_get registers (register_count rule.left) ≡ Some scratch → (x : ℕ) → x < scratch.number → (one_of x (map (λ r. r.number) (left_registers rule registers)) ≡ true) ⊎ (has live x ≡ true)
+
+-- with all its registers the rule may be used
+pub record FitsWhole (rule : Rule) (registers : List Low) (window : List Instr) (live : ℕ) : Type 0 where
+  pub fits : Fits rule (left_registers rule registers) window live
+  pub whole : AreWhole rule registers live
+
+-- ---- the form of a window ----
 
 -- what is told of a window is true of each rule that may stand in it
 pub record IsForm (window : List Instr) (f : Form) : Type 0 where

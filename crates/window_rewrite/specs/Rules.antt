@@ -1,7 +1,7 @@
 -- The rules of a table, and how they are found by their left sides.
 use Rattle.std.specs.Prelude.{◌≡◌, ℕ, suc, ◌+◌, ◌==◌, ◌<◌, ◌≤◌, ◌&&◌, Bool, true, false, List, [], ◌∷◌, length, map, take, drop, nat_lt, Option, Some, None, slice_get, if◌then◌else◌}
 use Rattle.thumb_instr.specs.declared.instr.Instr.{Instr}
-use Rattle.rule_model.specs.Rules.{Rule, rule_registers, IsSoundRule}
+use Rattle.rule_model.specs.Rules.{Rule, IsSoundRule}
 use Rattle.rule_model.specs.Rewriting.{left_length_of}
 use Rattle.thumb_model.specs.Sides.{register_count}
 use Rattle.rule_table.specs.declared.table.Entry.{Entry}
@@ -21,10 +21,9 @@ entry_rule e = rewriting_rule (rule_of e)
 abbrev pub rules_in : List Entry → List Rule
 rules_in entries = map rewriting_rule (map rule_of entries)
 
--- a rule of an accepted table: sound, without a scratch register, and its left side is its own canonical form and not too long
+-- a rule of an accepted table: sound, and its left side is its own canonical form and not too long
 pub record IsFit (longest : ℕ) (rule : Rule) : Type 0 where
   pub sound : IsSoundRule rule
-  pub own : rule_registers rule ≡ register_count rule.left
   pub canonical : IsCanonicalSide rule.left
   pub short : length rule.left ≤ longest
 
@@ -38,6 +37,10 @@ side_length rules k = left_length_of (slice_get rules k)
 -- it leaves fewer instructions
 abbrev pub is_shorter : Rule → Bool
 is_shorter r = nat_lt (length r.right) (length r.left)
+
+-- its right side names a register that its left side doesn't
+abbrev pub needs_scratch : Rule → Bool
+needs_scratch r = nat_lt (register_count r.left) (register_count r.right)
 
 -- ---- marks ----
 
@@ -71,11 +74,12 @@ pub record HaveMarks (rules : List Rule) (n : ℕ) (marks : Marks) : Type 0 wher
 
 -- ---- shadows ----
 
--- they have one left side and one mask, and right sides of one length
+-- they have one left side and one mask, and right sides of one length, and the first needs a scratch register only where the other does
 pub record AreAlike (a b : Rule) : Type 0 where
   pub left : a.left ≡ b.left
   pub mask : a.mask ≡ b.mask
   pub as_long : length a.right ≡ length b.right
+  pub no_more : needs_scratch a ≡ true → needs_scratch b ≡ true
 
 -- a rule that is kept is alike and comes no later
 pub record IsLed (rules : List Rule) (kept : List Bool) (k : ℕ) (rule : Rule) : Type 0 where

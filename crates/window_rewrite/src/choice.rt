@@ -11,7 +11,7 @@ pub struct Replacement {
     pub place: u32,
     /// The entry of the table, counted from 1.
     pub entry: u64,
-    /// The registers that stood in place of the entry's own.
+    /// The registers that stood in place of the entry's own, and of a scratch register where its right side names one.
     pub map: Map,
 }
 

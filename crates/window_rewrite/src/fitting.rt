@@ -7,18 +7,20 @@ ghost use Rattle.rule_model.specs.Rules.{IsSoundRule};
 ghost use Rattle.table_audit.specs.Sides.{IsCanonicalSide};
 ghost use Rattle.window_rewrite.specs.Rewriting.{map_of, registers_of};
 ghost use Rattle.window_rewrite.specs.Rules.{entry_rule};
-ghost use Rattle.window_rewrite.specs.Fitting.{Fits};
+ghost use Rattle.window_rewrite.specs.Fitting.{FitsWhole, IsScratchLeast};
 
 use crate::items::{are_allowed, registers_of};
+use crate::scratch::with_scratch;
 use rule_table::{Entry, Map, canonical, matches};
 use thumb_instr::{Instr, Items, Seq};
 
-/// The map under which an entry that leaves fewer instructions matches a window after which these items are live and may be.
+/// The map under which an entry that leaves fewer instructions matches a window after which these items are live and may be: with the least scratch register that
+/// is free, if the entry needs one. None where it matches with none.
 pub(crate) fn fitting(entry: &Entry, window: &[Instr], live: Items) -> Option<Map>
     requires sound { IsSoundRule (entry_rule entry.now) }
     requires canonical { IsCanonicalSide (entry_rule entry.now).left }
     requires windows { list_all is_in_window window.now ≡ true }
-    ensures { MatchOption result ((registers : List Low) → Fits (entry_rule entry.now) registers window.now live.bits → ⊥) (λ map. Fits (entry_rule entry.now) (registers_of map) window.now live.bits × (length map ≡ 8) × (map ≡ map_of 8 (registers_of map))) }
+    ensures { MatchOption result ((registers : List Low) → FitsWhole (entry_rule entry.now) registers window.now live.bits → ⊥) (λ map. FitsWhole (entry_rule entry.now) (registers_of map) window.now live.bits × IsScratchLeast (entry_rule entry.now) (registers_of map) live.bits × (length map ≡ 8) × (map ≡ map_of 8 (registers_of map))) }
 {
     if entry.left.len() <= entry.right.len() {
         return None;
@@ -27,7 +29,7 @@ pub(crate) fn fitting(entry: &Entry, window: &[Instr], live: Items) -> Option<Ma
         None => None,
         Some(map) => {
             if are_allowed(entry.mask, &registers_of(&map), live) {
-                Some(map)
+                with_scratch(entry, map, live)
             } else {
                 None
             }

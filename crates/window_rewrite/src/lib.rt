@@ -4,7 +4,7 @@
 //! side, and of these the lowest. What may be replaced is decided by the items that are live, by the labels and by the layout that would come of it. Marks of
 //! numbers that all windows share which differ in registers alone reject most windows. Others are put in canonical form, and meet the entries whose left side
 //! that is, but for chance, and of these only such as have the items in their mask that are live. An entry is left out where an earlier one has its left side, its
-//! mask and a right side as long.
+//! mask and a right side as long, and needs a scratch register only if it does. A scratch register is looked for last, by what is live after the window.
 //!
 //! A sweep goes over the listing by a cursor that keeps the live items of all places. Where items are live no more in straight code before a replacement, it
 //! puts in the new sets; where more come to be live, it carries them back along all ways. It goes back to the first place whose sets changed, and further only
@@ -26,6 +26,7 @@ mod making;
 mod marks;
 mod replacing;
 mod rewriting;
+mod scratch;
 mod shadows;
 mod shapes;
 mod sweeping;

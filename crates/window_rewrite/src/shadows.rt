@@ -1,5 +1,5 @@
-//! Which entries of a table are looked for. One that has the left side and the mask of an earlier one and a right side as long is never the first that applies:
-//! where it fits, so does the earlier one, and the layout sees only how many instructions go. It is shadowed.
+//! Which entries of a table are looked for. One that has the left side and the mask of an earlier one and a right side as long is never the first that applies,
+//! unless the earlier one alone needs a scratch register: where it fits, so does the earlier one, and the layout sees only how many instructions go. It is shadowed.
 ghost use Rattle.std.specs.Prelude.{◌≡◌, ◌↔◌, ◌+◌, ◌*◌, ◌/◌, ◌%◌, ◌<◌, length, slice_get, Some, true, IfOk, IsTrue};
 ghost use Rattle.seq_enum.specs.Places.{rank};
 ghost use Rattle.rule_model.specs.Rules.{Rule};
@@ -7,6 +7,7 @@ ghost use Rattle.window_rewrite.specs.Forms.{form_of};
 ghost use Rattle.window_rewrite.specs.Rules.{entry_rule, is_marked, is_shorter, rules_in, AreAlike, AreKept, AreLed, IsLed};
 
 use crate::forms::form_of;
+use crate::scratch::needs_scratch;
 use listing_parser::Memory;
 use rule_table::Entry;
 use seq_enum::rank;
@@ -58,7 +59,7 @@ fn are_same(side: &[Instr], other: &[Instr]) -> bool
     }
 }
 
-/// Whether two entries have one left side and one mask, and right sides of one length.
+/// Whether two entries have one left side and one mask, and right sides of one length, and the first needs a scratch register only where the other does.
 fn are_alike(entry: &Entry, other: &Entry) -> bool
     ensures { result ≡ true → AreAlike (entry_rule entry.now) (entry_rule other.now) }
 {
@@ -68,10 +69,16 @@ fn are_alike(entry: &Entry, other: &Entry) -> bool
     if entry.right.len() != other.right.len() {
         return false;
     }
-    are_same(entry.left.as_slice(), other.left.as_slice())
+    if !are_same(entry.left.as_slice(), other.left.as_slice()) {
+        return false;
+    }
+    if !needs_scratch(entry) {
+        return true;
+    }
+    needs_scratch(other)
 }
 
-/// Whether an entry is alike to another, by their numbers.
+/// Whether an entry is alike to a later one, by their numbers.
 fn leads(entries: &[Entry], earlier: usize, number: usize) -> bool
     requires earlier { earlier < length entries.now }
     requires within { number < length entries.now }

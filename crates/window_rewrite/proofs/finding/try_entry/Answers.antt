@@ -9,7 +9,7 @@ use Rattle.thumb_instr.specs.Renaming.{Low, renamed}
 use Rattle.thumb_instr.specs.Window.{is_in_window}
 use Rattle.thumb_instr.specs.Items.{has}
 use Rattle.thumb_model.specs.Layout.{Layable}
-use Rattle.thumb_model.specs.Listing.{Line, labels_from, places_of}
+use Rattle.thumb_model.specs.Listing.{Line, code_of, labels_from, places_of}
 use Rattle.rule_model.specs.Rules.{Rule, rule_registers}
 use Rattle.thumb_model.specs.ReplacedLines.{replaced_lines}
 use Rattle.rule_table.specs.declared.table.Entry.{Entry}
@@ -20,9 +20,10 @@ use Rattle.window_rewrite.specs.declared.finding.Rules.{Rules}
 use Rattle.window_rewrite.specs.Rewriting.{registers_of}
 use Rattle.window_rewrite.specs.Rules.{entry_rule, rules_in, side_length, IsFit}
 use Rattle.window_rewrite.specs.Choices.{setting_of, AreReady}
-use Rattle.window_rewrite.proofs.Sides.{stands_once}
+use Rattle.window_rewrite.specs.Fitting.{left_registers}
 use Rattle.window_rewrite.proofs.Applied.{applied, back, back_laid, laid, letters_all, IsMade}
 use Rattle.window_rewrite.proofs.Accepted.{entry_at}
+use Rattle.window_rewrite.proofs.Alike.{laid_under, settled_under}
 use Rattle.window_rewrite.proofs.Chosen.{length_at}
 use Rattle.window_rewrite.specs.Sweeps.{is_steady}
 use Rattle.window_rewrite.proofs.finding.try_entry.Goals as goal
@@ -67,8 +68,8 @@ returns-then-not-may_fit-clause-none g c = λ _ registers a.
     let e = entry c.args.rules.now c.args.number c.len.result c.args.window.now c.index-rules-number.result c.requires.ready c.requires.number c.index-rules-number.is c.len.ensures.value c.if-len-window.false in
     let read : Entry = slice_index_or c.args.rules.now.entries.now c.args.number c.index-rules-number.result in
     let rule : Rule = entry_rule read in
-    let b = back c.args.rules.now.base (rules_in c.args.rules.now.entries.now) (lines_at c.args.cursor.now) (place_at c.args.cursor.now) c.args.number rule registers c.args.window.now c.args.form.now.live.bits e.at e.fit.own e.long c.requires.stands a.0 in
-    let has_all : (x : ℕ) → has c.args.form.now.mask.items.bits x ≡ true → has read.mask.items.bits x ≡ true = λ x h. (has_one read.mask.items.bits x (c.requires.form.mask rule registers e.fit.sound e.fit.canonical b.fits x h)).0 in
+    let b = back c.args.rules.now.base (rules_in c.args.rules.now.entries.now) (lines_at c.args.cursor.now) (place_at c.args.cursor.now) c.args.number rule registers c.args.window.now c.args.form.now.live.bits e.at e.fit.sound e.long c.requires.stands a.0 in
+    let has_all : (x : ℕ) → has c.args.form.now.mask.items.bits x ≡ true → has read.mask.items.bits x ≡ true = λ x h. (has_one read.mask.items.bits x (c.requires.form.mask rule (left_registers rule registers) e.fit.sound e.fit.canonical b.fits.fits x h)).0 in
     absurd (true≢false (sym (c.may_fit.ensures has_all) ∙ c.if-not-may_fit.true))
 
 pub fitting-requires-clause-sound : goal.fitting-requires-clause-sound
@@ -85,7 +86,7 @@ pub returns-in-None-clause-none : goal.returns-in-None-clause-none
 returns-in-None-clause-none g c = λ _ registers a.
     let e = entry c.args.rules.now c.args.number c.len.result c.args.window.now c.index-rules-number.result c.requires.ready c.requires.number c.index-rules-number.is c.len.ensures.value c.if-len-window.false in
     let rule : Rule = entry_rule (slice_index_or c.args.rules.now.entries.now c.args.number c.index-rules-number.result) in
-    let b = back c.args.rules.now.base (rules_in c.args.rules.now.entries.now) (lines_at c.args.cursor.now) (place_at c.args.cursor.now) c.args.number rule registers c.args.window.now c.args.form.now.live.bits e.at e.fit.own e.long c.requires.stands a.0 in
+    let b = back c.args.rules.now.base (rules_in c.args.rules.now.entries.now) (lines_at c.args.cursor.now) (place_at c.args.cursor.now) c.args.number rule registers c.args.window.now c.args.form.now.live.bits e.at e.fit.sound e.long c.requires.stands a.0 in
     c.in-None.ensures registers b.fits
 
 pub returns-then-not-is_settled-clause-none : goal.returns-then-not-is_settled-clause-none
@@ -95,10 +96,9 @@ returns-then-not-is_settled-clause-none g c = λ _ given a.
     let registers : List Low = registers_of c.in-Some.map in
     let new : c.renamed_all-new.result ≡ map (renamed registers) rule.right =
     c.renamed_all-new.ensures ∙ ap (λ (rs : List Low). map (renamed rs) c.as_slice.result.now) (c.deref.ensures.0 ∙ c.registers_of.ensures) ∙ ap (map (renamed registers)) c.as_slice.ensures.value in
-    let b = back c.args.rules.now.base (rules_in c.args.rules.now.entries.now) (lines_at c.args.cursor.now) (place_at c.args.cursor.now) c.args.number rule given c.args.window.now c.args.form.now.live.bits e.at e.fit.own e.long c.requires.stands a.0 in
-    let same : given ≡ registers = stands_once rule given registers c.args.window.now e.fit.sound e.fit.canonical b.fits.stands c.in-Some.ensures.0.stands in
-    let is : map (renamed given) rule.right ≡ c.as_slice-2.result.now = ap (λ (rs : List Low). map (renamed rs) rule.right) same ∙ sym (c.as_slice-2.ensures.value ∙ new) in
-    let settled = c.is_settled.ensures.1 (subst (λ (js : List Instr). IsSettled (places_of (lines_at c.args.cursor.now)) (labels_from 0 (lines_at c.args.cursor.now)) (place_at c.args.cursor.now) (length c.args.window.now) js) is b.settled) in
+    let b = back c.args.rules.now.base (rules_in c.args.rules.now.entries.now) (lines_at c.args.cursor.now) (place_at c.args.cursor.now) c.args.number rule given c.args.window.now c.args.form.now.live.bits e.at e.fit.sound e.long c.requires.stands a.0 in
+    let also = settled_under (code_of (lines_at c.args.cursor.now)) (place_at c.args.cursor.now) (length c.args.window.now) given registers rule.right b.settled in
+    let settled = c.is_settled.ensures.1 (subst (λ (js : List Instr). IsSettled (places_of (lines_at c.args.cursor.now)) (labels_from 0 (lines_at c.args.cursor.now)) (place_at c.args.cursor.now) (length c.args.window.now) js) (sym (c.as_slice-2.ensures.value ∙ new)) also) in
     let never : true ≡ false = sym settled ∙ c.if-not-is_settled.true in
     absurd (true≢false never)
 
@@ -113,7 +113,7 @@ moved_layout-requires-clause-letters g c =
 
 pub moved_layout-requires-clause-fewer : goal.moved_layout-requires-clause-fewer
 moved_layout-requires-clause-fewer g c =
-    let shorter = c.in-Some.ensures.0.shorter in
+    let shorter = c.in-Some.ensures.0.fits.shorter in
     let e = entry c.args.rules.now c.args.number c.len.result c.args.window.now c.index-rules-number.result c.requires.ready c.requires.number c.index-rules-number.is c.len.ensures.value c.if-len-window.false in
     let rule : Rule = entry_rule (slice_index_or c.args.rules.now.entries.now c.args.number c.index-rules-number.result) in
     let registers : List Low = registers_of c.in-Some.map in
@@ -131,11 +131,9 @@ returns-in-None-2-clause-none g c = λ _ given a.
     let registers : List Low = registers_of c.in-Some.map in
     let new : c.renamed_all-new.result ≡ map (renamed registers) rule.right =
     c.renamed_all-new.ensures ∙ ap (λ (rs : List Low). map (renamed rs) c.as_slice.result.now) (c.deref.ensures.0 ∙ c.registers_of.ensures) ∙ ap (map (renamed registers)) c.as_slice.ensures.value in
-    let b = back c.args.rules.now.base (rules_in c.args.rules.now.entries.now) (lines_at c.args.cursor.now) (place_at c.args.cursor.now) c.args.number rule given c.args.window.now c.args.form.now.live.bits e.at e.fit.own e.long c.requires.stands a.0 in
     let laid = back_laid c.args.rules.now.base (rules_in c.args.rules.now.entries.now) (lines_at c.args.cursor.now) (place_at c.args.cursor.now) c.args.number rule given c.args.window.now e.at e.long a in
-    let same : given ≡ registers = stands_once rule given registers c.args.window.now e.fit.sound e.fit.canonical b.fits.stands c.in-Some.ensures.0.stands in
-    let is : map (renamed given) rule.right ≡ c.as_slice-3.result.now = ap (λ (rs : List Low). map (renamed rs) rule.right) same ∙ sym (c.as_slice-3.ensures.value ∙ new) in
-    let may = c.in_ok-moved_layout.ensures.layable.1 (λ _. subst (λ (js : List Instr). Layable c.args.rules.now.base (replaced_lines own_line (place_at c.args.cursor.now) (length c.args.window.now) js (lines_at c.args.cursor.now))) is laid) in
+    let also = laid_under c.args.rules.now.base (place_at c.args.cursor.now) (length c.args.window.now) (rule_registers rule) given registers rule.right (lines_at c.args.cursor.now) e.fit.sound.right laid in
+    let may = c.in_ok-moved_layout.ensures.layable.1 (λ _. subst (λ (js : List Instr). Layable c.args.rules.now.base (replaced_lines own_line (place_at c.args.cursor.now) (length c.args.window.now) js (lines_at c.args.cursor.now))) (sym (c.as_slice-3.ensures.value ∙ new)) also) in
     let never : true ≡ false = sym may ∙ ap is_some c.in-None-2.is in
     absurd (true≢false never)
 
@@ -163,14 +161,14 @@ returns-clause-some g c =
     let asked : is_steady c.args.ground.now ≡ false → Layable c.args.rules.now.base (replaced_lines own_line place (length c.args.window.now) (map (renamed registers) rule.right) lines) =
     λ f. subst (λ (js : List Instr). Layable c.args.rules.now.base (replaced_lines own_line place (length c.args.window.now) js lines)) (c.as_slice-3.ensures.value ∙ new) (c.in_ok-moved_layout.ensures.layable.0 (ap is_some c.in-Some-2.is) f) in
     let m =
-    applied c.args.rules.now.base (rules_in c.args.rules.now.entries.now) lines place c.args.number rule registers c.args.window.now c.args.form.now.live.bits c.renamed_all-new.result e.at e.fit.sound e.fit.own c.requires.stands c.in-Some.ensures.0 new settled
-    (laid c.args.rules.now c.args.ground.now lines place rule registers c.args.window.now c.requires.over.over e.fit.sound c.in-Some.ensures.0.shorter count asked) in
+    applied c.args.rules.now.base (rules_in c.args.rules.now.entries.now) lines place c.args.number rule registers c.args.window.now c.args.form.now.live.bits c.renamed_all-new.result e.at e.fit.sound c.requires.stands c.in-Some.ensures.0 c.in-Some.ensures.1 new settled
+    (laid c.args.rules.now c.args.ground.now lines place rule registers c.args.window.now c.requires.over.over e.fit.sound c.in-Some.ensures.0.fits.shorter count asked) in
     let number : c.args.number ≡ c.args.number + 1 - 1 = omega arith in
     let made_at : IsMade (setting_of c.args.rules.now) lines c.place.result (c.args.number + 1 - 1) registers c.copied.result c.renamed_all-new.result =
     subst (λ p. IsMade (setting_of c.args.rules.now) lines p (c.args.number + 1 - 1) registers c.copied.result c.renamed_all-new.result) (sym c.place.ensures)
     (subst (λ k. IsMade (setting_of c.args.rules.now) lines place k registers c.copied.result c.renamed_all-new.result) number
     (subst (λ (js : List Instr). IsMade (setting_of c.args.rules.now) lines place c.args.number registers js c.renamed_all-new.result) (sym c.copied.ensures) m)) in (
-      record { whole = record { counted = omega arith; in_place = c.in-Some.ensures.2 }; applies = made_at.applies; is_window = made_at.is_window; keeps = made_at.keeps; leaves = made_at.leaves },
+      record { whole = record { counted = omega arith; in_place = c.in-Some.ensures.3 }; applies = made_at.applies; is_window = made_at.is_window; keeps = made_at.keeps; leaves = made_at.leaves },
       c.place.ensures,
       sym number,
     )
