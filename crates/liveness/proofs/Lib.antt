@@ -8,9 +8,9 @@ mod KeptSets
 mod Replaced
 mod Through
 pub mod Weights
-mod Paths
-mod Visits
-mod Waits
-mod Jumps
-mod Settles
+pub mod Paths
+pub mod Visits
+pub mod Waits
+pub mod Jumps
+pub mod Settles
 pub mod Marks

@@ -21,15 +21,15 @@ pub or_cases : (a b : Bool) → (a || b) ≡ true → (a ≡ true) ⊎ (b ≡ tr
 or_cases true b e = inl refl
 or_cases false b e = inr e
 
-and_left : (a b : Bool) → (a && b) ≡ true → a ≡ true
+pub and_left : (a b : Bool) → (a && b) ≡ true → a ≡ true
 and_left true b e = refl
 and_left false b e = absurd (cc)
 
-and_right : (a b : Bool) → (a && b) ≡ true → b ≡ true
+pub and_right : (a b : Bool) → (a && b) ≡ true → b ≡ true
 and_right true b e = e
 and_right false b e = absurd (cc)
 
-not_false : (a : Bool) → not a ≡ true → a ≡ false
+pub not_false : (a : Bool) → not a ≡ true → a ≡ false
 not_false true e = absurd (cc)
 not_false false e = refl
 
@@ -55,7 +55,7 @@ helps p b w x v e i h =
       | inr u ↦ inr (sym (i.writes x) ∙ not_false _ (and_right _ _ u), subst (λ (n : Next). has (there n b w) x ≡ true) i.leads (and_left _ _ u))
     ]
 
-some_way : (p : ℕ) (b : List Items) (w x : ℕ) (vs : List ModelWay) (es : List Way) → AreWays p vs es → gained es b w x ≡ true → (k : ℕ) × (v : ModelWay) × (slice_get vs k ≡ Some v) × Helps p b w x v
+pub some_way : (p : ℕ) (b : List Items) (w x : ℕ) (vs : List ModelWay) (es : List Way) → AreWays p vs es → gained es b w x ≡ true → (k : ℕ) × (v : ModelWay) × (slice_get vs k ≡ Some v) × Helps p b w x v
 some_way p b w x [] [] a h = absurd (cc)
 some_way p b w x [] (e ∷ es) a h = absurd a
 some_way p b w x (v ∷ vs) [] a h = absurd a
@@ -75,10 +75,10 @@ led_way p b w x (v ∷ vs) (e ∷ es) a h =
       | inr u ↦ let r = led_way p b w x vs es a.1 u in (suc r.0, r.1, r.2, r.3)
     ]
 
-same_way : (v u : ModelWay) → (let o : Option ModelWay = Some v in o) ≡ Some u → v ≡ u
+pub same_way : (v u : ModelWay) → (let o : Option ModelWay = Some v in o) ≡ Some u → v ≡ u
 same_way v u e = cc
 
-way_gains : (p : ℕ) (b : List Items) (w x : ℕ) (vs : List ModelWay) (es : List Way) → AreWays p vs es → (k : ℕ) (v : ModelWay) → slice_get vs k ≡ Some v → Helps p b w x v → gained es b w x ≡ true
+pub way_gains : (p : ℕ) (b : List Items) (w x : ℕ) (vs : List ModelWay) (es : List Way) → AreWays p vs es → (k : ℕ) (v : ModelWay) → slice_get vs k ≡ Some v → Helps p b w x v → gained es b w x ≡ true
 way_gains p b w x [] es a k v g h = absurd (cc)
 way_gains p b w x (u ∷ vs) [] a k v g h = absurd a
 way_gains p b w x (u ∷ vs) (e ∷ es) a (suc k) v g h = or_right (has e.uses.bits x || (has (there e.next b w) x && not (has e.writes.bits x))) _ (way_gains p b w x vs es a.1 k v g h)
@@ -138,7 +138,7 @@ pub record AreFinished (code : Code) (all : List (Option Ways)) (b a : List Item
   pub sound : AreSound code b w
   pub closed : AreClosed all b a w
 
-found : {A : Type 0} (xs : List A) (p : ℕ) → p < length xs → (e : A) × (slice_get xs p ≡ Some e)
+pub found : {A : Type 0} (xs : List A) (p : ℕ) → p < length xs → (e : A) × (slice_get xs p ≡ Some e)
 found [] p h = absurd (omega arith)
 found (x ∷ xs) zero h = (x, refl)
 found (x ∷ xs) (suc p) h = found xs p (omega arith)

@@ -78,7 +78,7 @@ fn live_by<L: Ledger>(
 }
 
 /// The ways of each place.
-fn all_ways(alloc: Global, listing: &Listing) -> Result<Vec<Option<Ways>>, AllocError>
+pub fn all_ways(alloc: Global, listing: &Listing) -> Result<Vec<Option<Ways>>, AllocError>
     ensures len { IfOk result (λ all. length all.items ≡ length (places_of listing.now)) }
     ensures ways { IfOk result (λ all. AreAllWays (code_of listing.now) all.items) }
 {

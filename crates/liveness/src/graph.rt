@@ -13,24 +13,24 @@ use std::alloc::{AllocError, Global};
 /// A place from which a branch or call leads to another that it names. `earlier` is the number of the jump before it that leads there too, counted from 1,
 /// or 0 where it is the first.
 #[derive(Clone, Copy, Debug, PartialEq, Eq)]
-pub(crate) struct Jump {
-    pub(crate) place: u32,
-    pub(crate) earlier: u32,
+pub struct Jump {
+    pub place: u32,
+    pub earlier: u32,
 }
 
 /// All jumps, and for each place the number of the last one that leads there, counted from 1, or 0 where none does.
 #[derive(Drop)]
-pub(crate) struct Callers {
-    pub(crate) last: Vec<u32>,
-    pub(crate) jumps: Vec<Jump>,
+pub struct Callers {
+    pub last: Vec<u32>,
+    pub jumps: Vec<Jump>,
 }
 
 /// What the ways of a listing lead to: its code points, the jumps to each place, and the places from which a way leads to any code point.
 #[derive(Drop)]
-pub(crate) struct Graph {
-    pub(crate) is_point: Vec<bool>,
-    pub(crate) callers: Callers,
-    pub(crate) returns: Vec<u32>,
+pub struct Graph {
+    pub is_point: Vec<bool>,
+    pub callers: Callers,
+    pub returns: Vec<u32>,
 }
 
 /// The place that a place's first way leads to, where that isn't the next one. A second way leads to no other.
@@ -105,7 +105,7 @@ fn note_return(
 }
 
 /// What the ways of a listing lead to, each place looked at once.
-pub(crate) fn graph_of(
+pub fn graph_of(
     alloc: Global,
     listing: &Listing,
     ways: &[Option<Ways>],

@@ -9,7 +9,7 @@
 mod changing;
 mod finding;
 mod flowing;
-mod graph;
+pub mod graph;
 mod growing;
 mod kept;
 mod leaving;
@@ -19,9 +19,11 @@ mod settling;
 mod visiting;
 mod waiting;
 
-pub use finding::{live, live_and_flows};
+pub use finding::{all_ways, live, live_and_flows};
 pub use flowing::{Flow, flow_of};
 pub use growing::{Source, grown};
 pub use kept::{LEAD, NewSets, is_straight, keep};
 pub use leaving::ways;
 pub use sets::Live;
+pub use settling::{settle, some_leads};
+pub use visiting::{Found, Seen, look};

@@ -29,7 +29,7 @@ fn leads_to(place: usize, way: Way) -> bool
 }
 
 /// Whether one of the ways leads to a place.
-fn some_leads(place: usize, ways: Option<Ways>) -> bool
+pub fn some_leads(place: usize, ways: Option<Ways>) -> bool
     ensures { result ≡ some_leads place (way_list ways) }
 {
     match ways {
@@ -148,7 +148,7 @@ fn advance<L: Ledger>(
 
 /// Visits all places, and each again where what its ways lead to has grown, from sets that have only what is read. There are never more places that wait
 /// than places, and each set grows 19 times at most.
-pub(crate) fn settle<L: Ledger>(
+pub fn settle<L: Ledger>(
     alloc: Global,
     listing: &Listing,
     ways: &[Option<Ways>],

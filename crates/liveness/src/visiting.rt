@@ -10,17 +10,17 @@ use thumb_instr::Items;
 
 /// The sets so far: those before and after each place, and one for all code points.
 #[derive(Drop)]
-pub(crate) struct Found {
-    pub(crate) before: Vec<Items>,
-    pub(crate) after: Vec<Items>,
-    pub(crate) points: Items,
+pub struct Found {
+    pub before: Vec<Items>,
+    pub after: Vec<Items>,
+    pub points: Items,
 }
 
 /// What is read from a place on, and what is read after it.
 #[derive(Clone, Copy)]
-struct Seen {
-    before: Items,
-    after: Items,
+pub struct Seen {
+    pub before: Items,
+    pub after: Items,
 }
 
 /// The set where a way leads.
@@ -50,7 +50,7 @@ fn look_along(way: Way, before: &[Items], points: Items) -> Seen
 }
 
 /// What the ways of a place find.
-fn look(ways: Option<Ways>, before: &[Items], points: Items) -> Seen
+pub fn look(ways: Option<Ways>, before: &[Items], points: Items) -> Seen
     ensures before { (x : ℕ) → has result.before.bits x ≡ gained (way_list ways) before.now points.bits x }
     ensures after { (x : ℕ) → has result.after.bits x ≡ led (way_list ways) before.now points.bits x }
 {

@@ -1,0 +1,17 @@
+mod Stacks
+mod Recounts
+mod Counts
+mod Passings
+mod Aheads
+mod Walks
+mod Callers
+mod Clearings
+mod Stepping
+mod Windows
+mod Growings
+mod Exchanges
+mod Graphs
+mod Shrinkings
+mod Startings
+mod Losts
+mod Replacings

@@ -1,0 +1,12 @@
+pub mod Stack
+pub mod Stacked
+pub mod Counted
+pub mod Passing
+pub mod Ahead
+pub mod Within
+pub mod Walk
+pub mod Window
+pub mod Clears
+pub mod Grows
+pub mod Parts
+pub mod KeptLive
