@@ -1,0 +1,25 @@
+-- What stands at a place of the padded code.
+use Rattle.std.proofs.Common.{◌≡◌, ℕ, zero, suc, List, [], ◌∷◌, length, Some, refl, sym, ap, ◌∙◌, arith}
+use Rattle.std.specs.Prelude.{slice_get, None}
+use Rattle.std.proofs.lemmas.Option.{same_Some}
+use Rattle.thumb_instr.specs.declared.instr.Instr.{Instr}
+use Rattle.thumb_model.specs.Listing.{Place}
+use Rattle.window_runs.specs.Rows.{letter_of}
+use Rattle.edited_listing.specs.declared.standing.Standing.{Standing}
+use Rattle.edited_listing.specs.declared.standing.Standing.TheVariants as standing
+use Rattle.edited_listing.specs.Edited.{letter_in, standing_place, standing_places}
+
+padded_at : (ss : List Standing) (xs : List Place) (p : ℕ) (s : Standing) → length ss ≡ length xs → slice_get ss p ≡ Some s → (x : Place) × (slice_get xs p ≡ Some x) × (slice_get (standing_places ss xs) p ≡ Some (standing_place s x))
+padded_at [] xs p s n e = absurd (cc)
+padded_at (t ∷ ss) [] p s n e = absurd (omega arith)
+padded_at (t ∷ ss) (x ∷ xs) zero s n e = (x, refl, ap (λ u. Some (standing_place u x)) (same_Some t s e))
+padded_at (t ∷ ss) (x ∷ xs) (suc p) s n e = padded_at ss xs p s (omega arith) e
+
+pub letter_given : (ss : List Standing) (xs : List Place) (p : ℕ) → length ss ≡ length xs → slice_get ss p ≡ Some standing.Given → letter_in (slice_get xs p) ≡ letter_in (slice_get (standing_places ss xs) p)
+letter_given ss xs p n e = let at = padded_at ss xs p standing.Given n e in ap letter_in (at.1 ∙ sym at.2)
+
+pub letter_gone : (ss : List Standing) (xs : List Place) (p : ℕ) → length ss ≡ length xs → slice_get ss p ≡ Some standing.Gone → None ≡ letter_in (slice_get (standing_places ss xs) p)
+letter_gone ss xs p n e = let at = padded_at ss xs p standing.Gone n e in ap letter_in (sym at.2)
+
+pub letter_new : (ss : List Standing) (xs : List Place) (p : ℕ) (i : Instr) (home : ℕ) → length ss ≡ length xs → slice_get ss p ≡ Some (standing.New i home) → letter_of i None ≡ letter_in (slice_get (standing_places ss xs) p)
+letter_new ss xs p i home n e = let at = padded_at ss xs p (standing.New i home) n e in ap letter_in (sym at.2)

@@ -1,0 +1,17 @@
+pub mod Sorted
+pub mod Printed
+pub mod Changes
+pub mod Places
+pub mod Free
+pub mod Kept
+pub mod Steps
+pub mod Padded
+pub mod Counted
+pub mod Rest
+pub mod Unchanged
+pub mod Edits
+pub mod Held
+pub mod Letters
+pub mod Prints
+pub mod Counts
+pub mod Ops

@@ -1,0 +1,195 @@
+-- The lines of a changed listing as a loop prints them.
+use Rattle.std.proofs.Common.{◌≡◌, ℕ, suc, ◌+◌, ◌-◌, ◌<◌, ◌≤◌, ◌^◌, ◌==◌, ◌&&◌, Bool, true, false, List, [], ◌∷◌, ◌++◌, length, length-append, map, drop, reverse, refl, sym, ap, ◌∙◌, inl, inr, arith, append_assoc}
+use Rattle.std.proofs.lemmas.List.{append-nil, reverse-append}
+use Rattle.std.specs.Prelude.{slice_get, Some, None}
+use Rattle.std.proofs.lemmas.Bool.{cases_Bool, eq-eqb, ne_eqb}
+use Rattle.std.proofs.lemmas.Option.{same_Some}
+use Rattle.thumb_instr.specs.declared.instr.Instr.{Instr}
+use Rattle.thumb_model.specs.Listing.{Line, places_in, places_of}
+use Rattle.thumb_model.proofs.Lists.{length_drop}
+use Rattle.thumb_model.specs.ReplacedLines.{is_op, labels_kept, new_line}
+use Rattle.listing_parser.specs.Parsing.{own_line}
+use Rattle.kept_places.specs.Marks.{IsNode}
+use Rattle.edited_listing.specs.declared.standing.Standing.{Standing}
+use Rattle.edited_listing.specs.declared.standing.Standing.TheVariants as standing
+use Rattle.edited_listing.specs.Items.{Item, AsGiven, New, items_from}
+use Rattle.edited_listing.specs.Printing.{is_given_at, new_at, print_at, line_at, lines_from}
+use Rattle.edited_listing.specs.Places.{item_of}
+use Rattle.edited_listing.specs.Changes.{is_none, marks_of, is_as_given, new_with_home, rest_items}
+use Rattle.edited_listing.proofs.Printed.{op_takes}
+use Rattle.edited_listing.proofs.Rest.{rest_node, rest_kept, rest_end, kept_none}
+
+-- ---- the next item ----
+
+new_item : (home q : ℕ) (s : Standing) (xs : List Item) → is_none s ≡ false → new_with_home home s ≡ new_at home (item_of q s ∷ xs)
+new_item home q standing.Given xs k = refl
+new_item home q standing.Gone xs k = refl
+new_item home q (standing.New i h) xs k = refl
+
+pub new_found : (home p q : ℕ) (ss : List Standing) (s : Standing) → IsNode (marks_of ss) p q → slice_get ss q ≡ Some s → new_with_home home s ≡ new_at home (rest_items p ss)
+new_found home p q ss s n e =
+    let k = kept_none ss q s e n.kept in new_item home q s (rest_items (suc q) ss) k ∙ ap (new_at home) (sym (rest_node p q ss n ∙ rest_kept q ss s e k))
+
+pub new_none : (home p q : ℕ) (ss : List Standing) → IsNode (marks_of ss) p q → length ss ≤ q → None ≡ new_at home (rest_items p ss)
+new_none home p q ss n e = ap (new_at home) (sym (rest_node p q ss n ∙ rest_end q ss e))
+
+pub and_true : (b : Bool) → (b && true) ≡ b
+and_true true = refl
+and_true false = refl
+
+pub and_false : (b : Bool) → (b && false) ≡ false
+and_false true = refl
+and_false false = refl
+
+given_item : (place q : ℕ) (s : Standing) (xs : List Item) → is_none s ≡ false → ((q == place) && is_as_given s) ≡ is_given_at place (item_of q s ∷ xs)
+given_item place q standing.Given xs k = and_true (q == place)
+given_item place q standing.Gone xs k = absurd (cc)
+given_item place q (standing.New i h) xs k = and_false (q == place)
+
+pub given_found : (place p q : ℕ) (ss : List Standing) (s : Standing) → IsNode (marks_of ss) p q → slice_get ss q ≡ Some s → ((q == place) && is_as_given s) ≡ is_given_at place (rest_items p ss)
+given_found place p q ss s n e =
+    let k = kept_none ss q s e n.kept in given_item place q s (rest_items (suc q) ss) k ∙ ap (is_given_at place) (sym (rest_node p q ss n ∙ rest_kept q ss s e k))
+
+pub given_none : (place p q : ℕ) (ss : List Standing) → IsNode (marks_of ss) p q → length ss ≤ q → false ≡ is_given_at place (rest_items p ss)
+given_none place p q ss n e = ap (is_given_at place) (sym (rest_node p q ss n ∙ rest_end q ss e))
+
+pub given_same : (place p q : ℕ) (ss : List Standing) (s : Standing) → IsNode (marks_of ss) p q → slice_get ss q ≡ Some s → q ≡ place → is_as_given s ≡ is_given_at place (rest_items p ss)
+given_same place p q ss s n e h = ap (λ b. b && is_as_given s) (sym (eq-eqb q place h)) ∙ given_found place p q ss s n e
+
+pub given_other : (place p q : ℕ) (ss : List Standing) (s : Standing) → IsNode (marks_of ss) p q → slice_get ss q ≡ Some s → (q ≡ place → ⊥) → (q == place) ≡ is_given_at place (rest_items p ss)
+given_other place p q ss s n e h = ne_eqb q place h ∙ ap (λ b. b && is_as_given s) (sym (ne_eqb q place h)) ∙ given_found place p q ss s n e
+
+-- ---- new instructions ----
+
+module _ (write : Instr → List ℕ) where
+  print_more : (home : ℕ) (xs : List Item) (i : Instr) (behind : List Item → List Line) → new_at home xs ≡ Some i → print_at write home xs behind ≡ new_line write i ∷ print_at write home (drop 1 xs) behind
+  print_more home [] i behind e = absurd (cc)
+  print_more home (AsGiven q ∷ xs) i behind e = absurd (cc)
+  print_more home (New j q ∷ xs) i behind e = elim (cases_Bool (q == home)) [
+    | inl h ↦ rw h (ap (λ k. new_line write k ∷ print_at write home xs behind) (same_Some j i (rw h at e)))
+    | inr h ↦ absurd (let bad : None ≡ Some i = rw h at e in cc)
+  ]
+
+  print_ends : (home : ℕ) (xs : List Item) (behind : List Item → List Line) → new_at home xs ≡ None → print_at write home xs behind ≡ behind xs
+  print_ends home [] behind e = refl
+  print_ends home (AsGiven q ∷ xs) behind e = refl
+  print_ends home (New j q ∷ xs) behind e = elim (cases_Bool (q == home)) [
+    | inl h ↦ absurd (let bad : Some j ≡ None = rw h at e in cc)
+    | inr h ↦ rw h refl
+  ]
+
+-- what holds while new instructions are printed
+pub record ArePrinted (write : Instr → List ℕ) (home from : ℕ) (stands : List Standing) (start : List Line) (marks : List Bool) (at : ℕ) (out : List Line) (now : List Bool) : Type 0 where
+  pub lines : (behind : List Item → List Line) → out ++ print_at write home (rest_items at stands) behind ≡ start ++ print_at write home (rest_items from stands) behind
+  pub within : at ≤ length stands
+  pub same : now ≡ marks
+
+pub printed_first : (write : Instr → List ℕ) (home from : ℕ) (stands : List Standing) (start : List Line) (marks : List Bool) → from ≤ length stands → ArePrinted write home from stands start marks from start marks
+printed_first write home from stands start marks h = record { lines = λ behind. refl; within = h; same = refl }
+
+pub printed_more : (write : Instr → List ℕ) (home from : ℕ) (stands : List Standing) (start : List Line) (marks : List Bool) (at : ℕ) (out : List Line) (now : List Bool) (i : Instr) (q : ℕ) (out' : List Line) (now' : List Bool) →
+    ArePrinted write home from stands start marks at out now → Some i ≡ new_at home (rest_items at stands) → out' ≡ out ++ map (new_line write) (i ∷ []) → rest_items q stands ≡ drop 1 (rest_items at stands) → q ≤ length stands → now' ≡ now →
+    ArePrinted write home from stands start marks q out' now'
+printed_more write home from stands start marks at out now i q out' now' p e o r w m = record {
+  lines = λ behind.
+      ap (λ xs. out' ++ print_at write home xs behind) r
+      ∙ ap (λ ls. ls ++ print_at write home (drop 1 (rest_items at stands)) behind) o
+      ∙ append_assoc out (new_line write i ∷ []) (print_at write home (drop 1 (rest_items at stands)) behind)
+      ∙ ap (λ ls. out ++ ls) (sym (print_more write home (rest_items at stands) i behind (sym e)))
+      ∙ p.lines behind;
+  within = w;
+  same = m ∙ p.same;
+}
+
+pub printed_last : (write : Instr → List ℕ) (home from : ℕ) (stands : List Standing) (start : List Line) (marks : List Bool) (at : ℕ) (out : List Line) (now : List Bool) → ArePrinted write home from stands start marks at out now → None ≡ new_at home (rest_items at stands) →
+    (behind : List Item → List Line) → out ++ behind (rest_items at stands) ≡ start ++ print_at write home (rest_items from stands) behind
+printed_last write home from stands start marks at out now p e behind = ap (λ ls. out ++ ls) (sym (print_ends write home (rest_items at stands) behind (sym e))) ∙ p.lines behind
+
+some_items : (home : ℕ) (xs : List Item) (i : Instr) → Some i ≡ new_at home xs → 0 < length xs
+some_items home [] i e = absurd (cc)
+some_items home (x ∷ xs) i e = omega arith
+
+pub fewer_items : (home at q : ℕ) (stands : List Standing) (i : Instr) → Some i ≡ new_at home (rest_items at stands) → rest_items q stands ≡ drop 1 (rest_items at stands) → length (rest_items q stands) < length (rest_items at stands)
+fewer_items home at q stands i e r =
+    let some = some_items home (rest_items at stands) i e in
+    let less : length (rest_items q stands) ≡ length (rest_items at stands) - 1 = ap (λ xs. length xs) r ∙ length_drop 1 (rest_items at stands) in
+    omega arith
+
+-- ---- a line ----
+
+-- the line of an instruction that is as it was given
+pub line_given : (place : ℕ) (l : Line) (xs ys : List Item) (out out' : List Line) → is_given_at place xs ≡ true → ys ≡ drop 1 xs → out' ≡ out ++ l ∷ [] →
+    (behind : List Item → List Line) → out' ++ behind ys ≡ out ++ line_at own_line place l xs behind
+line_given place l xs ys out out' g y o behind =
+    ap (λ ls. ls ++ behind ys) o ∙ append_assoc out (l ∷ []) (behind ys) ∙ ap (λ zs. out ++ l ∷ behind zs) y ∙ ap (λ ls. out ++ ls) (let z : l ∷ behind (drop 1 xs) ≡ line_at own_line place l xs behind = rw g refl in z)
+
+-- and that of one that gave way
+pub line_changed : (place : ℕ) (l : Line) (xs ys : List Item) (out mid out' : List Line) → is_given_at place xs ≡ false → mid ≡ out ++ labels_kept l l.names →
+    ((behind : List Item → List Line) → out' ++ behind ys ≡ mid ++ print_at own_line place xs behind) → (behind : List Item → List Line) → out' ++ behind ys ≡ out ++ line_at own_line place l xs behind
+line_changed place l xs ys out mid out' g m h behind =
+    h behind ∙ ap (λ ls. ls ++ print_at own_line place xs behind) m ∙ append_assoc out (labels_kept l l.names) (print_at own_line place xs behind)
+    ∙ ap (λ ls. out ++ ls) (let z : labels_kept l l.names ++ print_at own_line place xs behind ≡ line_at own_line place l xs behind = rw g refl in z)
+
+pub op_printed : (place : ℕ) (l : Line) (xs ys : List Item) (out out' : List Line) → is_op l.statement ≡ true → ((behind : List Item → List Line) → out' ++ behind ys ≡ out ++ line_at own_line place l xs behind) →
+    (rest : List Line) → out' ++ lines_from own_line (place + length (places_in l.statement)) ys rest ≡ out ++ lines_from own_line place xs (l ∷ rest)
+op_printed place l xs ys out out' op h rest =
+    let one = op_takes l.statement op in
+    ap (λ k. out' ++ lines_from own_line k ys rest) (let z : place + length (places_in l.statement) ≡ suc place = omega arith in z)
+    ∙ h (λ zs. lines_from own_line (suc place) zs rest)
+    ∙ ap (λ ls. out ++ ls) (let z : line_at own_line place l xs (λ zs. lines_from own_line (suc place) zs rest) ≡ lines_from own_line place xs (l ∷ rest) = rw op refl in z)
+
+pub other_printed : (place : ℕ) (l : Line) (xs ys : List Item) (out out' : List Line) → is_op l.statement ≡ false → ys ≡ drop (length (places_in l.statement)) xs → out' ≡ out ++ l ∷ [] →
+    (rest : List Line) → out' ++ lines_from own_line (place + length (places_in l.statement)) ys rest ≡ out ++ lines_from own_line place xs (l ∷ rest)
+other_printed place l xs ys out out' op y o rest =
+    let next : List Line = lines_from own_line (place + length (places_in l.statement)) ys rest in
+    ap (λ ls. ls ++ next) o ∙ append_assoc out (l ∷ []) next
+    ∙ ap (λ zs. out ++ l ∷ lines_from own_line (place + length (places_in l.statement)) zs rest) y
+    ∙ ap (λ ls. out ++ ls) (let z : l ∷ lines_from own_line (place + length (places_in l.statement)) (drop (length (places_in l.statement)) xs) rest ≡ lines_from own_line place xs (l ∷ rest) = rw op refl in z)
+
+-- ---- all lines ----
+
+-- what holds while lines are printed
+pub record AreAdded (given : List Line) (stands : List Standing) (out left : List Line) (place from : ℕ) (marks : List Bool) : Type 0 where
+  pub lines : out ++ lines_from own_line place (rest_items from stands) left ≡ lines_from own_line 0 (items_from 0 stands) given
+  pub within : from ≤ length stands
+  pub many : place + length (places_of left) ≡ length (places_of given)
+  pub same : marks ≡ marks_of stands
+
+pub added_first : (given : List Line) (stands : List Standing) (out left : List Line) (marks : List Bool) → out ≡ [] → left ≡ given → marks ≡ marks_of stands → AreAdded given stands out left 0 0 marks
+added_first given stands out left marks o l m = record {
+  lines = ap (λ ls. ls ++ lines_from own_line 0 (items_from 0 stands) left) o ∙ ap (λ ls. lines_from own_line 0 (items_from 0 stands) ls) l;
+  within = omega arith;
+  many = (let many = ap (λ ls. length (places_of ls)) l in omega arith);
+  same = m;
+}
+
+line_many : (l : Line) (rest : List Line) → length (places_of (l ∷ rest)) ≡ length (places_in l.statement) + length (places_of rest)
+line_many l rest = length-append (places_in l.statement) (places_of rest)
+
+pub added_within : (given : List Line) (stands : List Standing) (out left : List Line) (place from : ℕ) (marks : List Bool) (l : Line) (rest : List Line) → AreAdded given stands out left place from marks → left ≡ l ∷ rest →
+    length (places_of given) < 2 ^ 32 → place + length (places_in l.statement) < 2 ^ 32
+added_within given stands out left place from marks l rest a e few =
+    let many = a.many in
+    let here = ap (λ ls. length (places_of ls)) e ∙ line_many l rest in
+    omega arith
+
+pub added_more : (given : List Line) (stands : List Standing) (out left : List Line) (place from : ℕ) (marks : List Bool) (l : Line) (rest out' : List Line) (place' from' : ℕ) (marks' : List Bool) → AreAdded given stands out left place from marks → left ≡ l ∷ rest →
+    ((ls : List Line) → out' ++ lines_from own_line (place + length (places_in l.statement)) (rest_items from' stands) ls ≡ out ++ lines_from own_line place (rest_items from stands) (l ∷ ls)) →
+    place' ≡ place + length (places_in l.statement) → from' ≤ length stands → marks' ≡ marks → AreAdded given stands out' rest place' from' marks'
+added_more given stands out left place from marks l rest out' place' from' marks' a e h p w m = record {
+  lines = ap (λ k. out' ++ lines_from own_line k (rest_items from' stands) rest) p ∙ h rest ∙ ap (λ ls. out ++ lines_from own_line place (rest_items from stands) ls) (sym e) ∙ a.lines;
+  within = w;
+  many = (let many = a.many in let here = ap (λ ls. length (places_of ls)) e ∙ line_many l rest in omega arith);
+  same = m ∙ a.same;
+}
+
+pub added_last : (given : List Line) (stands : List Standing) (out left : List Line) (place from : ℕ) (marks : List Bool) → AreAdded given stands out left place from marks → left ≡ [] → out ≡ lines_from own_line 0 (items_from 0 stands) given
+added_last given stands out left place from marks a e = sym (append-nil out) ∙ ap (λ ls. out ++ lines_from own_line place (rest_items from stands) ls) (sym e) ∙ a.lines
+
+-- the last of the lines that are left, turned round
+pub left_lines : {A B : Type 0} (view : A → B) (xs ys : List A) (x : A) → xs ≡ ys ++ x ∷ [] → map view (reverse xs) ≡ view x ∷ map view (reverse ys)
+left_lines view xs ys x e = ap (λ zs. map view (reverse zs)) e ∙ ap (λ zs. map view zs) (reverse-append ys (x ∷ []))
+
+pub no_left : {A B : Type 0} (view : A → B) (xs : List A) → length xs ≡ 0 → map view (reverse xs) ≡ []
+no_left view [] h = refl
+no_left view (x ∷ xs) h = absurd (omega arith)

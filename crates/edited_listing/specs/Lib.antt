@@ -1,0 +1,9 @@
+pub mod Items
+pub mod Printing
+pub mod Giving
+pub mod Changes
+pub mod Edited
+pub mod Places
+pub mod Counting
+pub mod Laws
+pub mod Held
