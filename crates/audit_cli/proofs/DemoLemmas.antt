@@ -113,4 +113,4 @@ is_shown n told o h is = subst (DemoComesTo n) (sym is) (shown told h)
 -- ---- settings ----
 
 pub demo_limits : AreInLimits demo_settings
-demo_limits = record { some_regs = omega arith; few_regs = omega arith; some_left = omega arith; few_left = omega arith; some_budget = omega arith; few_budget = omega arith }
+demo_limits = record { some_regs = omega arith; few_regs = omega arith; some_left = omega arith; few_left = omega arith; some_budget = omega arith; few_budget = omega arith; some_version = omega arith; few_version = omega arith; few_scratch = omega arith; first_version = λ e. refl }

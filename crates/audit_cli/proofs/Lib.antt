@@ -17,3 +17,5 @@ pub mod DemoLines
 pub mod DemoLemmas
 pub mod HeadlineLemmas
 pub mod CompleteLemmas
+pub mod Refutations
+pub mod TrimLemmas

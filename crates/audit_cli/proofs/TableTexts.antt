@@ -2,11 +2,13 @@
 use Rattle.std.proofs.Common.{◌≡◌, ◌∙◌, ℕ, ◌+◌, ◌≤◌, List, [], ◌∷◌, ◌++◌, length, map, subst, arith, length-append}
 use Rattle.std.specs.List.{flat_map}
 use Rattle.std.specs.Prelude.{sum_by}
+use Rattle.std.proofs.lemmas.List.{length-map}
 use Rattle.std.proofs.lemmas.List.Sums.{sum_by-cons}
 use Rattle.rule_table.specs.Table.{Opened, Rule, Table}
-use Rattle.rule_table.specs.Text.{Item, State, Left, Right, Mask, Proof, Logged, End, header_items, items_of, line_of, open_items, rule_items, text_of_items}
+use Rattle.rule_table.specs.Text.{Item, State, Left, Right, Mask, Proof, Logged, End, header_items, items_of, line_of, open_items, rule_items, text_of, text_of_items}
 use Rattle.rule_table.specs.Refused.{IsText}
 use Rattle.audit_cli.specs.Tables.{open_count, opens_of}
+use Rattle.audit_cli.specs.Trim.{lines_in}
 
 items_short : (items : List Item) → length items ≤ length (text_of_items items)
 items_short [] = omega arith
@@ -58,3 +60,36 @@ opens_within text t is =
     let b : length (map State t.states ++ (flat_map rule_items t.rules ++ End ∷ [])) ≡ length (map State t.states) + length (flat_map rule_items t.rules ++ End ∷ []) = length-append (map State t.states) (flat_map rule_items t.rules ++ End ∷ []) in
     let c : length (flat_map rule_items t.rules ++ End ∷ []) ≡ length (flat_map rule_items t.rules) + 1 = length-append (flat_map rule_items t.rules) (End ∷ []) in
     omega arith
+
+-- ---- lines of proofs ----
+
+proof_short : (e : Rule) → length e.proof ≤ length (rule_items e)
+proof_short e =
+    let numbers : List Item = flat_map open_items e.opens in
+    let logs : List Item = map Logged e.proof in
+    let rights : List Item = map Right e.right in
+    let a : length logs ≡ length e.proof = length-map e.proof Logged in
+    let b : length (logs ++ numbers) ≡ length logs + length numbers = length-append logs numbers in
+    let c : length (rights ++ Mask e.mask ∷ Proof ∷ (logs ++ numbers)) ≡ length rights + (length (logs ++ numbers) + 2) = length-append rights (Mask e.mask ∷ Proof ∷ (logs ++ numbers)) ∙ omega arith in
+    let d : length (map Left e.left ++ (rights ++ Mask e.mask ∷ Proof ∷ (logs ++ numbers))) ≡ length (map Left e.left) + length (rights ++ Mask e.mask ∷ Proof ∷ (logs ++ numbers)) =
+    length-append (map Left e.left) (rights ++ Mask e.mask ∷ Proof ∷ (logs ++ numbers)) in
+    omega arith
+
+proofs_short : (rules : List Rule) → sum_by (λ (e : Rule). length e.proof) rules ≤ length (flat_map rule_items rules)
+proofs_short [] = omega arith
+proofs_short (e ∷ es) =
+    let both : length (flat_map rule_items (e ∷ es)) ≡ length (rule_items e) + length (flat_map rule_items es) = length-append (rule_items e) (flat_map rule_items es) in
+    let sum = sum_by-cons (λ (e : Rule). length e.proof) e es in
+    let here = proof_short e in
+    let rest = proofs_short es in
+    omega (arith, both, sum, here, rest)
+
+-- each line of a proof has a byte of the table's text
+pub proofs_within : (t : Table) → lines_in t ≤ length (text_of t)
+proofs_within t =
+    let all = items_short (items_of t) in
+    let some = proofs_short t.rules in
+    let a : length (items_of t) ≡ length (header_items t.header) + length (map State t.states ++ (flat_map rule_items t.rules ++ End ∷ [])) = length-append (header_items t.header) (map State t.states ++ (flat_map rule_items t.rules ++ End ∷ [])) in
+    let b : length (map State t.states ++ (flat_map rule_items t.rules ++ End ∷ [])) ≡ length (map State t.states) + length (flat_map rule_items t.rules ++ End ∷ []) = length-append (map State t.states) (flat_map rule_items t.rules ++ End ∷ []) in
+    let c : length (flat_map rule_items t.rules ++ End ∷ []) ≡ length (flat_map rule_items t.rules) + 1 = length-append (flat_map rule_items t.rules) (End ∷ []) in
+    omega (arith, all, some, a, b, c)

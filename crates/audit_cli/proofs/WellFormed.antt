@@ -22,13 +22,7 @@ use Rattle.listing_parser.proofs.FewLemmas.{all_few}
 use Rattle.listing_parser.proofs.PrintLemmas.{prints_back}
 use Rattle.listing_parser.proofs.ReplacedLines.{replaced_reads_again}
 use Rattle.window_rewrite.specs.Rewriting.{setting}
-
--- a listing has at most as many lines as it may have
-few_lines : (bytes : List ℕ) (lines : List Line) → IsListing bytes lines → length lines ≤ most_lines
-few_lines bytes lines is =
-    let few = (all_few 1 0 (lines_of bytes) is.reads is.are.read (omega arith)).0 in
-    let same : length is.reads ≡ length lines = sym (length-map is.reads (λ (r : Read). r.line)) ∙ ap (λ (bs : List Bare). length bs) is.are.same ∙ length-map lines bare in
-    omega arith
+use Rattle.thumb_assembler.proofs.Fairness.{few_lines}
 
 -- ---- one replacement ----
 

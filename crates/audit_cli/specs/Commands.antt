@@ -20,7 +20,7 @@ abbrev pub extract_of : Export → Extract
 extract_of e = record { entry = e.entry; cnf = e.cnf.now; lrat = e.lrat.now }
 
 abbrev pub settings_for : Learn → Settings
-settings_for l = record { version = 1; regs = l.regs.number; left = l.left.number; budget = l.budget.number; seed = l.seed; pool = l.pool.now }
+settings_for l = record { version = 2; regs = l.regs.number; left = l.left.number; budget = l.budget.number; seed = l.seed; pool = l.pool.now; scratch = l.scratch.number }
 
 abbrev pub lesson_of : Learn → Lesson
 lesson_of l = record { out = l.out.now; settings = settings_for l }

@@ -50,7 +50,7 @@ demo_text n = codes "demo:" ++ 10 ∷ (windows_text n ++ own (codes "bx lr"))
 
 -- one register, two instructions, 20,000 clauses, the seed 42, and the numbers 1 and 24
 abbrev pub demo_settings : Settings
-demo_settings = record { version = 1; regs = 1; left = 2; budget = 20000; seed = 42; pool = 1 ∷ 24 ∷ [] }
+demo_settings = record { version = 2; regs = 1; left = 2; budget = 20000; seed = 42; pool = 1 ∷ 24 ∷ []; scratch = 0 }
 
 -- lines are rewritten by a table, laid out from address 0 on, and made an image; what is told of that
 pub record IsRewritingTold (t : Table) (given : List Line) (told : List ℕ) : Type 0 where

@@ -41,6 +41,10 @@ demo_line windows = printed (codes "demo" ++ and_number windows)
 abbrev pub formula_line : ℕ → ℕ → ℕ → List ℕ
 formula_line variables clauses lines = printed (codes "variables" ++ and_number variables ++ codes " clauses" ++ and_number clauses ++ codes " lines" ++ and_number lines)
 
+-- `lines BEFORE AFTER`
+abbrev pub trimmed_line : ℕ → ℕ → List ℕ
+trimmed_line before after = printed (codes "lines" ++ and_number before ++ and_number after)
+
 -- ---- refusals ----
 
 abbrev pub kind_number : Kind → ℕ

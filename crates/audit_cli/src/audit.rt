@@ -2,7 +2,8 @@
 ghost use Rattle.std.specs.Prelude.{◌≡◌, ◌<◌, ◌^◌, [], IfOk, length, map, sum_by};
 ghost use Rattle.command_runs.specs.Outcomes.{outcome_view};
 ghost use Rattle.rule_table.specs.Views.{rule_of, table_of};
-ghost use Rattle.audit_cli.specs.Tables.{Audits, open_count};
+ghost use Rattle.audit_cli.specs.Printed.{entries_line};
+ghost use Rattle.audit_cli.specs.Tables.{Audits, open_count, opens_of};
 
 use crate::printing::{entries_report, prints};
 use crate::refusal::refused;
@@ -11,6 +12,7 @@ use command_runs::Outcome;
 use rule_table::Entry;
 use std::alloc::{AllocError, Global};
 use step_ledger::{Ledger, Steps};
+use table_audit::Audited;
 
 /// The command `audit`.
 #[derive(Drop)]
@@ -28,6 +30,15 @@ pub(crate) fn open_count(entries: &[Entry]) -> u64
     count
 }
 
+/// What is printed of an accepted table: how many entries it has, and how many numbers these name open.
+pub(crate) fn audited_report(alloc: Global, audited: &Audited) -> Result<Vec<u8>, AllocError>
+    requires { opens_of (table_of audited.now) < 2 ^ 63 }
+    ensures { IfOk result (λ v. v.items ≡ entries_line (length (table_of audited.now).rules) (opens_of (table_of audited.now))) }
+{
+    let entries = &audited.table().entries;
+    entries_report(alloc, entries.len() as u64, open_count(entries))
+}
+
 /// What a text comes to.
 fn outcome<L: Ledger>(
     alloc: Global,
@@ -42,8 +53,7 @@ fn outcome<L: Ledger>(
             Ok(outcome)
         }
         Ok(audited) => {
-            let entries = &audited.table().entries;
-            let lines = entries_report(alloc, entries.len() as u64, open_count(entries))?;
+            let lines = audited_report(alloc, &audited)?;
             let outcome = prints(alloc, lines);
             Ok(outcome)
         }

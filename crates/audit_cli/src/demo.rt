@@ -94,11 +94,13 @@ fn settings() -> Settings
         unreachable!();
     };
     Settings {
+        version: 2,
         regs: 1,
         left: 2,
         budget: 20_000,
         seed: 42,
         pool,
+        scratch: 0,
     }
 }
 

@@ -28,6 +28,7 @@ pub(crate) struct Learn<'a> {
     pub(crate) left: Within<1, 6>,
     pub(crate) budget: Within<1, 1_000_001>,
     pub(crate) seed: u32,
+    pub(crate) scratch: Within<0, 2>,
     pub(crate) pool: &'a Pool,
 }
 
@@ -40,11 +41,13 @@ fn settings(learn: &Learn<'_>) -> Settings
         unreachable!();
     };
     Settings {
+        version: 2,
         regs: learn.regs.number as u8,
         left: learn.left.number as u8,
         budget: learn.budget.number,
         seed: learn.seed,
         pool,
+        scratch: learn.scratch.number as u8,
     }
 }
 

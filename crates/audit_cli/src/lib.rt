@@ -15,6 +15,8 @@ mod steps;
 mod top;
 mod trace;
 mod trace_lines;
+mod trim;
+mod upgrade;
 
 pub use command_line::{Command, usage_of};
 pub use command_runs::Status;

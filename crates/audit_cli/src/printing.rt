@@ -1,6 +1,6 @@
 //! What is kept and printed, as bytes.
 ghost use Rattle.std.specs.Prelude.{◌≡◌, ◌∷◌, [], IfOk};
-ghost use Rattle.audit_cli.specs.Printed.{report_of, image_line, entries_line, learnt_line, demo_line, formula_line};
+ghost use Rattle.audit_cli.specs.Printed.{report_of, image_line, entries_line, learnt_line, demo_line, formula_line, trimmed_line};
 ghost use Rattle.command_runs.specs.Outcomes.{deed_view, outcome_view};
 ghost use Rattle.command_runs.specs.Plans.{Does};
 
@@ -62,6 +62,14 @@ pub fn formula_report(
     ensures { IfOk result (λ v. v.items ≡ formula_line variables clauses lines) }
 {
     let text = format!(in alloc; "variables {variables} clauses {clauses} lines {lines}\n")?;
+    Ok(text.into_bytes())
+}
+
+/// What is printed of trimmed proofs: how many lines they had, and how many they have.
+pub fn trimmed_report(alloc: Global, before: u64, after: u64) -> Result<Vec<u8>, AllocError>
+    ensures { IfOk result (λ v. v.items ≡ trimmed_line before after) }
+{
+    let text = format!(in alloc; "lines {before} {after}\n")?;
     Ok(text.into_bytes())
 }
 

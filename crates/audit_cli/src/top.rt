@@ -11,6 +11,8 @@ use crate::export::Export;
 use crate::learn::Learn;
 use crate::rewrite::Rewrite;
 use crate::trace::Trace;
+use crate::trim::Trim;
+use crate::upgrade::Upgrade;
 use command_line::{Command, usage_of};
 use command_runs::{Status, run};
 use outer_store::{Sink, Store};
@@ -56,6 +58,7 @@ fn run_command<S: Store, O: Sink, L: Ledger>(
             left,
             budget,
             seed,
+            scratch,
             pool,
         } => {
             let learn = Learn {
@@ -64,6 +67,7 @@ fn run_command<S: Store, O: Sink, L: Ledger>(
                 left: *left,
                 budget: *budget,
                 seed: *seed,
+                scratch: *scratch,
                 pool,
             };
             let names = [listing.as_str()];
@@ -99,6 +103,16 @@ fn run_command<S: Store, O: Sink, L: Ledger>(
             let demo = Demo { windows: *windows };
             let names: [&str; 0] = [];
             return run(alloc, &demo, &names, store, sink, steps);
+        }
+        Command::Upgrade { table, out } => {
+            let upgrade = Upgrade { out: out.as_str() };
+            let names = [table.as_str()];
+            return run(alloc, &upgrade, &names, store, sink, steps);
+        }
+        Command::Trim { table, out } => {
+            let trim = Trim { out: out.as_str() };
+            let names = [table.as_str()];
+            return run(alloc, &trim, &names, store, sink, steps);
         }
     }
 }

@@ -1,5 +1,5 @@
 -- Fit texts come to no refusal, but that a learnt table's text is too long.
-use Rattle.std.proofs.Common.{◌≡◌, ◌∙◌, ◌≤◌, ℕ, List, [], ◌∷◌, true≢false, refl, sym, subst, arith, Option, Some, None}
+use Rattle.std.proofs.Common.{◌≡◌, ◌∙◌, ◌≤◌, ℕ, List, [], ◌∷◌, true≢false, refl, sym, subst, arith, Option, Some, None, length}
 use Rattle.std.specs.Prelude.{IsSome}
 use Rattle.thumb_model.specs.Listing.{Line, code_of, place_of}
 use Rattle.thumb_model.specs.Layout.{Layable}
@@ -12,9 +12,9 @@ use Rattle.table_learn.specs.Settings.{Settings}
 use Rattle.table_learn.specs.Learnt.{width_of}
 use Rattle.window_rewrite.specs.Rewriting.{setting}
 use Rattle.thumb_assembler.specs.Refusals.{first_flaw}
-use Rattle.command_line.specs.CommandLine.{Request, rewrite, audit, learn, export, trace, demo}
+use Rattle.command_line.specs.CommandLine.{Request, rewrite, audit, learn, export, trace, demo, upgrade, trim}
 use Rattle.command_runs.specs.Plans.{Outcome, Refuses, Does}
-use Rattle.audit_cli.specs.Printed.{refusal_line}
+use Rattle.audit_cli.specs.Printed.{refusal_line, entries_line}
 use Rattle.audit_cli.specs.Rewrite.{Destination, Counts, Leaves, alone, pair, no_image, WantsNone, LinesRewrite, Rewrites, Comes}
 use Rattle.audit_cli.specs.Rewrite as rewriting
 use Rattle.audit_cli.specs.Steps.{IsAudited}
@@ -25,10 +25,12 @@ use Rattle.audit_cli.specs.Learn as learning
 use Rattle.audit_cli.specs.Trace.{Journey}
 use Rattle.audit_cli.specs.Trace as tracing
 use Rattle.audit_cli.specs.Demo as showing
+use Rattle.audit_cli.specs.Upgrade as upgrading
+use Rattle.audit_cli.specs.Trim as trimming
 use Rattle.audit_cli.specs.Peep.{plan_of}
 use Rattle.command_laws.specs.Once.{IsLearning}
 use Rattle.audit_cli.specs.Complete.{TellsFull}
-use Rattle.command_laws.specs.Fit.{FitRewriting, FitExport, FitTrace, FitLearning, AreFit}
+use Rattle.command_laws.specs.Fit.{FitRewriting, FitExport, FitTrace, FitLearning, FitUpgrade, AreFit}
 use Rattle.command_laws.proofs.AddressLemmas.{still_flawless}
 use Rattle.audit_cli.proofs.DemoLemmas.{never_unaudited, none_some, never_without_image}
 use Rattle.command_laws.proofs.OnceLemmas.{Cause, never_unlisted, some_same, first_same, second_same, never_unread_listing, never_unlaid}
@@ -78,6 +80,23 @@ unfolding IsRefusing
 audits_fit text t _ is (tables.unaudited cause h) r = never_unaudited text t cause is.is is.accepted h
 audits_fit text t _ is (tables.accepted u are) r = r
 
+trims_fit : (out text : List ℕ) (t : Table) (o : Outcome) → IsAudited text t → trimming.Trims out text o → IsRefusing o → ⊥
+unfolding IsRefusing
+trims_fit out text t _ is (trimming.unaudited cause h) r = never_unaudited text t cause is.is is.accepted h
+trims_fit out text t o is (trimming.accepted u are _ h) r = subst IsRefusing h.is r
+
+module _ (out : List ℕ) (texts : List (List ℕ)) (fit : FitUpgrade texts) where
+  kept_fit : (line : List ℕ) (o : Outcome) → upgrading.IsKept out (upgrading.upgraded fit.rules) line o → IsRefusing o → ⊥
+  unfolding IsRefusing
+  kept_fit line _ (upgrading.kept fits) r = r
+  kept_fit line _ (upgrading.full long) r = omega (arith, fit.short, long)
+
+  upgrades_fit : (o : Outcome) → upgrading.Upgrades out fit.text o → IsRefusing o → ⊥
+  upgrades_fit _ (upgrading.unaudited cause h) r = never_unaudited fit.text fit.rules cause fit.is_table fit.accepted h
+  upgrades_fit _ (upgrading.accepted t is o h) r =
+      let same : t ≡ fit.rules = one_table fit.text t fit.rules is.is fit.is_table in
+      kept_fit (entries_line (length t.rules) (tables.opens_of t)) o (subst (λ (u : Table). upgrading.IsKept out (upgrading.upgraded u) (entries_line (length t.rules) (tables.opens_of t)) o) same h) r
+
 module _ (to : Extract) (texts : List (List ℕ)) (fit : FitExport to.entry texts) where
   exports_fit : (o : Outcome) → tables.Exports to fit.text o → IsRefusing o → ⊥
   unfolding IsRefusing
@@ -119,6 +138,8 @@ fit_unrefused (trace listing label steps) texts o plain fit h =
     let journey : Journey = record { label = label; most = steps } in
     traces_fit journey texts fit o (by_text (tracing.Traces journey) texts fit.text o fit.is_text h)
 fit_unrefused (demo windows) texts o plain fit h = absurd (plain tt)
+fit_unrefused (trim table out) texts o plain fit h = trims_fit out fit.text fit.rules o (record { is = fit.is_table; accepted = fit.accepted }) (by_text (trimming.Trims out) texts fit.text o fit.is_text h)
+fit_unrefused (upgrade table out) texts o plain fit h = upgrades_fit out texts fit o (by_text (upgrading.Upgrades out) texts fit.text o fit.is_text h)
 
 pub never_refuses : (r : Request) (texts : List (List ℕ)) (line : List ℕ) → (IsLearning r → ⊥) → AreFit r texts → (plan_of r).comes texts (Refuses line) → ⊥
 unfolding IsRefusing
@@ -164,6 +185,8 @@ tells_full (learn listing out s) texts o fit h =
     let to : Lesson = record { out = out; settings = s } in
     learns_fit to texts fit o (by_text (learning.Learns to) texts fit.text o fit.is_text h)
 tells_full (demo windows) texts o fit h = shows_full windows o h
+tells_full (trim table out) texts o fit h = none_so o (fit_unrefused (trim table out) texts o (λ x. x) fit h)
+tells_full (upgrade table out) texts o fit h = none_so o (fit_unrefused (upgrade table out) texts o (λ x. x) fit h)
 
 pub fit_full : (r : Request) (texts : List (List ℕ)) (line : List ℕ) → AreFit r texts → (plan_of r).comes texts (Refuses line) → TellsFull line
 unfolding TellsFullIf

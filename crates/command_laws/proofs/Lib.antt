@@ -7,3 +7,6 @@ pub mod FitLemmas
 pub mod CarriedLemmas
 mod DemoOnceLemmas
 mod ImageRuns
+mod UpgradeLemmas
+mod ShorterTexts
+pub mod TrimLemmas

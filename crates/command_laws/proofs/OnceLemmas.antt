@@ -31,6 +31,9 @@ use Rattle.audit_cli.specs.Rewrite.{Destination, Counts, Leaves, alone, pair, no
 use Rattle.audit_cli.specs.Rewrite as rewriting
 use Rattle.audit_cli.specs.Tables.{Extract, entry_at, extracted}
 use Rattle.audit_cli.specs.Tables as tables
+use Rattle.audit_cli.specs.Upgrade as upgrading
+use Rattle.audit_cli.specs.Trim as trimming
+use Rattle.command_laws.proofs.TrimLemmas.{trimming_once}
 use Rattle.audit_cli.specs.Learn.{Lesson, IsUnlearnt, LinesLearn, Learns, LearnComesTo}
 use Rattle.audit_cli.specs.Learn as learning
 use Rattle.command_laws.specs.Once.{IsOne, AreOfOneListing, LearningIsOneButForTables}
@@ -229,6 +232,40 @@ exports_once to text _ _ (tables.found t is e h v) (tables.found u are f k w) =
 
 pub export_once : (to : Extract) → IsOne (tables.ExportComesTo to)
 export_once to = one_text (tables.Exports to) (exports_once to)
+
+-- ---- `upgrade` ----
+
+kept_once : (out : List ℕ) (t : Table) (line : List ℕ) (o p : Outcome) → upgrading.IsKept out t line o → upgrading.IsKept out t line p → o ≡ p
+kept_once out t line _ _ (upgrading.kept fits) (upgrading.kept short) = refl
+kept_once out t line _ _ (upgrading.kept fits) (upgrading.full long) = absurd (omega (arith, fits, long))
+kept_once out t line _ _ (upgrading.full long) (upgrading.kept fits) = absurd (omega (arith, fits, long))
+kept_once out t line _ _ (upgrading.full long) (upgrading.full longer) = refl
+
+upgrades_once : (out text : List ℕ) (o p : Outcome) → upgrading.Upgrades out text o → upgrading.Upgrades out text p → o ≡ p
+upgrades_once out text _ _ (upgrading.unaudited r h) (upgrading.unaudited s k) = refuses_same r s (unaudited_once text r s h k)
+upgrades_once out text _ _ (upgrading.unaudited r h) (upgrading.accepted t is p k) = absurd (never_unaudited text t r is.is is.accepted h)
+upgrades_once out text _ _ (upgrading.accepted t is o h) (upgrading.unaudited s k) = absurd (never_unaudited text t s is.is is.accepted k)
+upgrades_once out text _ _ (upgrading.accepted t is o h) (upgrading.accepted u are p k) =
+    kept_once out (upgrading.upgraded t) (entries_line (length t.rules) (tables.opens_of t)) o p h
+    (subst (λ (x : Table). upgrading.IsKept out (upgrading.upgraded x) (entries_line (length x.rules) (tables.opens_of x)) p) (one_audited text t u is are) k)
+
+pub upgrade_once : (out : List ℕ) → IsOne (upgrading.UpgradeComesTo out)
+upgrade_once out = one_text (upgrading.Upgrades out) (upgrades_once out)
+
+-- ---- `trim` ----
+
+trim_of_once : (out : List ℕ) (t : Table) (o p : Outcome) → trimming.IsTrimOf out t o → trimming.IsTrimOf out t p → o ≡ p
+trim_of_once out t o p h k = h.is ∙ (ap (λ (u : Table). trimming.trimmed_outcome out u (trimming.lines_in t)) (trimming_once t h.trimmed k.trimmed h.are k.are) ∙ sym k.is)
+
+trims_once : (out text : List ℕ) (o p : Outcome) → trimming.Trims out text o → trimming.Trims out text p → o ≡ p
+trims_once out text _ _ (trimming.unaudited r h) (trimming.unaudited s k) = refuses_same r s (unaudited_once text r s h k)
+trims_once out text _ _ (trimming.unaudited r h) (trimming.accepted t is p k) = absurd (never_unaudited text t r is.is is.accepted h)
+trims_once out text _ _ (trimming.accepted t is o h) (trimming.unaudited s k) = absurd (never_unaudited text t s is.is is.accepted k)
+trims_once out text _ _ (trimming.accepted t is o h) (trimming.accepted u are p k) =
+    trim_of_once out t o p h (subst (λ (x : Table). trimming.IsTrimOf out x p) (one_audited text t u is are) k)
+
+pub trim_once : (out : List ℕ) → IsOne (trimming.TrimComesTo out)
+trim_once out = one_text (trimming.Trims out) (trims_once out)
 
 -- ---- `learn` ----
 

@@ -1,7 +1,7 @@
 -- Of each request by which no table is learnt, texts come to one outcome.
-use Rattle.command_line.specs.CommandLine.{rewrite, audit, learn, export, trace, demo}
+use Rattle.command_line.specs.CommandLine.{rewrite, audit, learn, export, trace, demo, upgrade, trim}
 use Rattle.command_laws.specs.Once.{TextsComeToOne}
-use Rattle.command_laws.proofs.OnceLemmas.{rewrite_once, audit_once, export_once}
+use Rattle.command_laws.proofs.OnceLemmas.{rewrite_once, audit_once, export_once, upgrade_once, trim_once}
 use Rattle.command_laws.proofs.TraceOnceLemmas.{trace_once}
 
 pub come_to_one : TextsComeToOne
@@ -11,3 +11,5 @@ come_to_one (learn listing out settings) plain = absurd (plain tt)
 come_to_one (export table entry cnf lrat) plain = export_once (record { entry = entry; cnf = cnf; lrat = lrat })
 come_to_one (trace listing label steps) plain = trace_once (record { label = label; most = steps })
 come_to_one (demo windows) plain = absurd (plain tt)
+come_to_one (upgrade table out) plain = upgrade_once out
+come_to_one (trim table out) plain = trim_once out

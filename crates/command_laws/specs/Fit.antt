@@ -9,13 +9,14 @@ use Rattle.rule_table.specs.Refused.{IsText as IsTableText}
 use Rattle.table_audit.specs.Acceptance.{IsAccepted}
 use Rattle.table_audit.specs.Sides.{SidesFit}
 use Rattle.table_learn.specs.Settings.{Settings}
-use Rattle.table_learn.specs.Learnt.{width_of}
+use Rattle.table_learn.specs.Learnt.{text_length, text_limit, width_of}
 use Rattle.thumb_assembler.specs.Refusals.{first_flaw}
-use Rattle.command_line.specs.CommandLine.{Request, rewrite, audit, learn, export, trace, demo, AskFor}
+use Rattle.command_line.specs.CommandLine.{Request, rewrite, audit, learn, export, trace, demo, upgrade, trim, AskFor}
 use Rattle.outer_store.specs.Outside.{Event, Seen, Sunk}
 use Rattle.command_runs.specs.declared.status.Status.{Status}
 use Rattle.command_runs.specs.Plans.{AreTexts, fetchings}
 use Rattle.audit_cli.specs.Tables.{entry_at}
+use Rattle.audit_cli.specs.Upgrade.{upgraded}
 use Rattle.audit_cli.specs.Peep.{plan_of, Peeps}
 use Rattle.audit_cli.specs.Complete.{IsUnhindered, IsCarriedOut, IsCarriedOutOrFull}
 use Rattle.command_laws.specs.Once.{IsLearning}
@@ -43,6 +44,15 @@ pub record FitAudit (texts : List (List ℕ)) : Type 0 where
   pub rules : Table
   pub is_table : IsTableText text rules
   pub accepted : IsAccepted rules
+
+-- an accepted table whose text in the version that is kept is not too long
+pub record FitUpgrade (texts : List (List ℕ)) : Type 0 where
+  pub text : List ℕ
+  pub is_text : texts ≡ text ∷ []
+  pub rules : Table
+  pub is_table : IsTableText text rules
+  pub accepted : IsAccepted rules
+  pub short : text_length (upgraded rules) ≤ text_limit
 
 -- a table with an entry of this number, whose sides are what its header allows
 pub record FitExport (number : ℕ) (texts : List (List ℕ)) : Type 0 where
@@ -79,6 +89,8 @@ AreFit (learn listing out s) texts = FitLearning s texts
 AreFit (export table entry cnf lrat) texts = FitExport entry texts
 AreFit (trace listing label steps) texts = FitTrace label texts
 AreFit (demo windows) texts = Unit {0}
+AreFit (upgrade table out) texts = FitUpgrade texts
+AreFit (trim table out) texts = FitAudit texts
 
 -- ---- the laws ----
 

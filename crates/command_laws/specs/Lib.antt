@@ -1,3 +1,5 @@
 pub mod Once
 pub mod Fit
 pub mod Images
+pub mod Upgrading
+pub mod Trimming

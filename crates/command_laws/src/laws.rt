@@ -3,6 +3,8 @@
 ghost use Rattle.command_laws.specs.Fit.{FitTextsAreCarriedOut, FitTextsAreLearntFrom};
 ghost use Rattle.command_laws.specs.Images.{KeptImagesFollow};
 ghost use Rattle.command_laws.specs.Once.{DemosOfOneTableAreOne, LearningIsOneButForTables, TextsComeToOne};
+ghost use Rattle.command_laws.specs.Trimming.{TrimmedTablesAreAccepted, TrimmedTablesRewriteAlike, TrimmedTablesStay, TrimmedTextsAreNoLonger, TrimmingIsOne};
+ghost use Rattle.command_laws.specs.Upgrading.{LaterTablesAreKept, UpgradesAreAuditedAlike, UpgradesAreTables, UpgradesRewriteAlike};
 
 /// The texts that `rewrite`, `audit`, `export` or `trace` reads come to one outcome: whether they are refused, by which line, and what is kept and printed are
 /// fixed. So it is with `learn`, but where a table is learnt from one listing's lines: it may be another, and its text may be too long. What `demo` tells is fixed by
@@ -25,4 +27,22 @@ pub fn fit_texts_are_carried_out()
 /// address: nothing else is asked of a naming, but that no name is set within two bytes behind a call at the end.
 pub fn kept_images_follow()
     ensures { KeptImagesFollow }
+{}
+
+/// What `upgrade` keeps is a table: the audit accepts it exactly where it accepts the given one, and else refuses both for one cause. Rewriting by it is rewriting by the given
+/// one. A table of version 2 or a later one is kept byte for byte.
+pub fn upgrades_say_the_same()
+    ensures tables { UpgradesAreTables }
+    ensures audited { UpgradesAreAuditedAlike }
+    ensures rewriting { UpgradesRewriteAlike }
+    ensures later { LaterTablesAreKept }
+{}
+
+/// What `trim` keeps is one table, which the audit accepts and by which rewriting is the same. Its text is no longer, and trimmed again it stays as it is.
+pub fn trimmed_tables_say_the_same()
+    ensures accepted { TrimmedTablesAreAccepted }
+    ensures rewriting { TrimmedTablesRewriteAlike }
+    ensures no_longer { TrimmedTextsAreNoLonger }
+    ensures one { TrimmingIsOne }
+    ensures stay { TrimmedTablesStay }
 {}

@@ -4,7 +4,7 @@ use Rattle.std.specs.Prelude.{option_and_then}
 use Rattle.std.specs.List.{list_all}
 use Rattle.clap.specs.Words.{Row, fault_of, first_of, subcommand_of}
 use Rattle.command_line.specs.App.{asked, asked_by, form_of, peep_app, words_for}
-use Rattle.command_line.specs.CommandLine.{AskFor, Form, rewrites, audits, learns, exports, traces, demos, Given, IsCommand, Request, rewrite, learn, Text, all_given, base_of, settings_of, settings_by, number_from, pool_of, is_one_of, name_of, options_of, request_by, value_of}
+use Rattle.command_line.specs.CommandLine.{AskFor, Form, rewrites, audits, learns, exports, traces, demos, upgrades, trims, Given, IsCommand, Request, rewrite, learn, Text, all_given, base_of, settings_of, settings_by, number_from, pool_of, is_one_of, name_of, options_of, request_by, value_of}
 use Rattle.command_line.proofs.Items.{is_name}
 use Rattle.command_line.proofs.Law.{rows}
 use Rattle.command_line.proofs.Views.{AreTexts}
@@ -36,6 +36,8 @@ is_form learns = record { few = omega arith; names = refl; apart = refl; named =
 is_form exports = record { few = omega arith; names = refl; apart = refl; named = refl }
 is_form traces = record { few = omega arith; names = refl; apart = refl; named = refl }
 is_form demos = record { few = omega arith; names = refl; apart = refl; named = refl }
+is_form upgrades = record { few = omega arith; names = refl; apart = refl; named = refl }
+is_form trims = record { few = omega arith; names = refl; apart = refl; named = refl }
 
 -- the settings are told by the values of their options
 same_settings : (f g : Text → Option Text) → ((n : Text) → is_one_of (options_of learns) n ≡ true → f n ≡ g n) → settings_of f ≡ settings_of g
@@ -45,7 +47,8 @@ same_settings f g e =
     let budget : f (codes "budget") ≡ g (codes "budget") = e (codes "budget") refl in
     let seed : f (codes "seed") ≡ g (codes "seed") = e (codes "seed") refl in
     let pool : f (codes "pool") ≡ g (codes "pool") = e (codes "pool") refl in
-    λ i. settings_by (number_from 1 4 3 (regs i)) (number_from 1 5 3 (left i)) (number_from 1 1000000 20000 (budget i)) (number_from 0 4294967295 42 (seed i)) (pool_of (pool i))
+    let scratch : f (codes "scratch") ≡ g (codes "scratch") = e (codes "scratch") refl in
+    λ i. settings_by (number_from 1 4 3 (regs i)) (number_from 1 5 3 (left i)) (number_from 1 1000000 20000 (budget i)) (number_from 0 4294967295 42 (seed i)) (number_from 0 1 0 (scratch i)) (pool_of (pool i))
 
 -- only the values of the options are looked at
 pub same_options : (form : Form) (ps : List Text) (f g : Text → Option Text) → ((n : Text) → is_one_of (options_of form) n ≡ true → f n ≡ g n)
@@ -62,6 +65,10 @@ same_options traces (l ∷ n ∷ s ∷ []) f g e = refl
 same_options traces ps f g e = refl
 same_options demos (n ∷ []) f g e = refl
 same_options demos ps f g e = refl
+same_options upgrades (t ∷ o ∷ []) f g e = refl
+same_options upgrades ps f g e = refl
+same_options trims (t ∷ o ∷ []) f g e = refl
+same_options trims ps f g e = refl
 
 -- a request has a word for each name
 counted : (form : Form) (ps : List Text) (value : Text → Option Text) (r : Request) → request_by form ps value ≡ Some r → length ps ≡ length (words_for form)
@@ -77,6 +84,10 @@ counted traces (l ∷ n ∷ s ∷ []) value r e = refl
 counted traces ps value r e = absurd (let bad : None ≡ Some r = e in cc)
 counted demos (n ∷ []) value r e = refl
 counted demos ps value r e = absurd (let bad : None ≡ Some r = e in cc)
+counted upgrades (t ∷ o ∷ []) value r e = refl
+counted upgrades ps value r e = absurd (let bad : None ≡ Some r = e in cc)
+counted trims (t ∷ o ∷ []) value r e = refl
+counted trims ps value r e = absurd (let bad : None ≡ Some r = e in cc)
 
 -- ---- of all ----
 

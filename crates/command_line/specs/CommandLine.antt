@@ -115,10 +115,10 @@ abbrev pub pool_of : Option Text → Option (List ℕ)
 pool_of None = Some (0 ∷ 1 ∷ 2 ∷ 4 ∷ 8 ∷ 16 ∷ 24 ∷ 31 ∷ 255 ∷ [])
 pool_of (Some v) = option_and_then (λ ns. if is_pool ns then Some ns else None) (all_given (map decimal (between_commas v)))
 
--- a learner's settings of these parts, which are the header of its table, or none where one of them is none
-abbrev pub settings_by : (regs left budget seed : Option ℕ) → Option (List ℕ) → Option Header
-settings_by regs left budget seed pool = option_and_then (λ r. option_and_then (λ l. option_and_then (λ b. option_and_then (λ s.
-    option_map (λ p. record { version = 1; regs = r; left = l; budget = b; seed = s; pool = p }) pool) seed) budget) left) regs
+-- a learner's settings of these parts, which are the header of its table, of version 2, or none where one of them is none
+abbrev pub settings_by : (regs left budget seed scratch : Option ℕ) → Option (List ℕ) → Option Header
+settings_by regs left budget seed scratch pool = option_and_then (λ r. option_and_then (λ l. option_and_then (λ b. option_and_then (λ s. option_and_then (λ c.
+    option_map (λ p. record { version = 2; regs = r; left = l; budget = b; seed = s; pool = p; scratch = c }) pool) scratch) seed) budget) left) regs
 
 -- the settings by the values of the options
 abbrev pub settings_of : (Text → Option Text) → Option Header
@@ -127,6 +127,7 @@ settings_of value = settings_by
     (number_from 1 5 3 (value (codes "left")))
     (number_from 1 1000000 20000 (value (codes "budget")))
     (number_from 0 4294967295 42 (value (codes "seed")))
+    (number_from 0 1 0 (value (codes "scratch")))
     (pool_of (value (codes "pool")))
 
 -- what a command line asks for
@@ -137,6 +138,8 @@ pub data Request : Type 0 where
   export : (table : Text) (entry : ℕ) (cnf lrat : Text) → Request
   trace : (listing label : Text) → ℕ → Request
   demo : (windows : ℕ) → Request
+  upgrade : (table out : Text) → Request
+  trim : (table out : Text) → Request
 
 -- ---- the commands ----
 
@@ -147,6 +150,8 @@ pub data Form : Type 0 where
   exports : Form
   traces : Form
   demos : Form
+  upgrades : Form
+  trims : Form
 
 abbrev pub name_of : Form → Text
 name_of rewrites = codes "rewrite"
@@ -155,10 +160,12 @@ name_of learns = codes "learn"
 name_of exports = codes "export"
 name_of traces = codes "trace"
 name_of demos = codes "demo"
+name_of upgrades = codes "upgrade"
+name_of trims = codes "trim"
 
 abbrev pub options_of : Form → List Text
 options_of rewrites = codes "base" ∷ []
-options_of learns = codes "regs" ∷ codes "left" ∷ codes "budget" ∷ codes "seed" ∷ codes "pool" ∷ []
+options_of learns = codes "regs" ∷ codes "left" ∷ codes "budget" ∷ codes "seed" ∷ codes "pool" ∷ codes "scratch" ∷ []
 options_of form = []
 
 -- what a command asks for, by its positional words and the values of its options
@@ -169,6 +176,8 @@ request_by learns (listing ∷ out ∷ []) value = option_map (λ settings. lear
 request_by exports (table ∷ entry ∷ cnf ∷ lrat ∷ []) value = option_map (λ number. export table number cnf lrat) (numeral entry)
 request_by traces (listing ∷ label ∷ count ∷ []) value = option_map (λ steps. trace listing label steps) (steps_of count)
 request_by demos (count ∷ []) value = option_map (λ windows. demo windows) (windows_of count)
+request_by upgrades (table ∷ out ∷ []) value = Some (upgrade table out)
+request_by trims (table ∷ out ∷ []) value = Some (trim table out)
 request_by form words value = None
 
 -- the words are a command that asks for this

@@ -4,7 +4,7 @@ ghost use Rattle.std.specs.Prelude.{◌≡◌, IfOk, false};
 ghost use Rattle.clap.specs.Words.{app_of, with_rule};
 ghost use Rattle.clap.specs.declared.builder.Command.TheViews.{out-Command as fields_of};
 ghost use Rattle.command_line.specs.App.{positional, option, app_for, bare_app, peep_app};
-ghost use Rattle.command_line.specs.CommandLine.{rewrites, audits, learns, exports, traces, demos};
+ghost use Rattle.command_line.specs.CommandLine.{rewrites, audits, learns, exports, traces, demos, upgrades, trims};
 
 use clap::{Arg, Command};
 use std::alloc::{AllocError, Global};
@@ -57,7 +57,7 @@ fn audit<'a>(alloc: Global) -> Result<Command<'a>, AllocError>
     with_word(alloc, command, "table")
 }
 
-/// `learn LISTING OUT [--regs N] [--left N] [--budget N] [--seed N] [--pool LIST]`
+/// `learn LISTING OUT [--regs N] [--left N] [--budget N] [--seed N] [--pool LIST] [--scratch N]`
 fn learn<'a>(alloc: Global) -> Result<Command<'a>, AllocError>
     ensures app { IfOk result (λ c. app_of c ≡ app_for learns) }
     ensures own { IfOk result (λ c. (fields_of c).has_globals ≡ false) }
@@ -69,7 +69,8 @@ fn learn<'a>(alloc: Global) -> Result<Command<'a>, AllocError>
     let command = with_option(alloc, command, "left")?;
     let command = with_option(alloc, command, "budget")?;
     let command = with_option(alloc, command, "seed")?;
-    with_option(alloc, command, "pool")
+    let command = with_option(alloc, command, "pool")?;
+    with_option(alloc, command, "scratch")
 }
 
 /// `export TABLE ENTRY CNF LRAT`
@@ -104,6 +105,26 @@ fn demo<'a>(alloc: Global) -> Result<Command<'a>, AllocError>
     with_word(alloc, command, "windows")
 }
 
+/// `upgrade TABLE OUT`
+fn upgrade<'a>(alloc: Global) -> Result<Command<'a>, AllocError>
+    ensures app { IfOk result (λ c. app_of c ≡ app_for upgrades) }
+    ensures own { IfOk result (λ c. (fields_of c).has_globals ≡ false) }
+{
+    let command = Command::new(alloc, "upgrade");
+    let command = with_word(alloc, command, "table")?;
+    with_word(alloc, command, "out")
+}
+
+/// `trim TABLE OUT`
+fn trim<'a>(alloc: Global) -> Result<Command<'a>, AllocError>
+    ensures app { IfOk result (λ c. app_of c ≡ app_for trims) }
+    ensures own { IfOk result (λ c. (fields_of c).has_globals ≡ false) }
+{
+    let command = Command::new(alloc, "trim");
+    let command = with_word(alloc, command, "table")?;
+    with_word(alloc, command, "out")
+}
+
 /// The program without its commands: one is required, and there is no help.
 fn bare<'a>(alloc: Global) -> Command<'a>
     ensures { app_of result ≡ bare_app }
@@ -126,5 +147,7 @@ pub fn peep<'a>(alloc: Global) -> Result<Command<'a>, AllocError>
     let command = command.subcommand(export(alloc)?)?;
     let command = command.subcommand(trace(alloc)?)?;
     let command = command.subcommand(demo(alloc)?)?;
+    let command = command.subcommand(upgrade(alloc)?)?;
+    let command = command.subcommand(trim(alloc)?)?;
     Ok(command)
 }

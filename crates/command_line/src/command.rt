@@ -56,6 +56,8 @@ pub enum Command {
         budget: Within<1, 1_000_001>,
         /// What the first states are made of.
         seed: u32,
+        /// How many registers a right side may name that its left side doesn't.
+        scratch: Within<0, 2>,
         /// The numbers of the alphabet.
         pool: Pool,
     },
@@ -76,5 +78,15 @@ pub enum Command {
     /// Learn from a listing of so many windows, made for it, rewrite that listing by what was learnt, and print what came of it.
     Demo {
         windows: Within<1, 20_001>,
+    },
+    /// Audit the table, and keep it as `out` in version 2, or as it is where its version is a later one.
+    Upgrade {
+        table: String,
+        out: String,
+    },
+    /// Audit the table, and keep it as `out` with proofs that have no line and no hint that they don't need.
+    Trim {
+        table: String,
+        out: String,
     },
 }

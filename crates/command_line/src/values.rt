@@ -3,7 +3,7 @@
 ghost use Rattle.std.specs.Prelude.{◌≡◌, ◌-◌, ◌≤◌, ℕ, List, All, IfOk, MatchOption, Some, true, length, map, option_map, option_and_then, string_bytes};
 ghost use Rattle.clap.specs.Words.{first_of, first_value, found_of, rows_of, subcommand_rows_of};
 ghost use Rattle.command_line.specs.App.{asked_by, asked};
-ghost use Rattle.command_line.specs.CommandLine.{rewrites, audits, learns, exports, traces, demos, base_of, between_commas, is_base, number_from, pool_of, steps_of, windows_of};
+ghost use Rattle.command_line.specs.CommandLine.{rewrites, audits, learns, exports, traces, demos, upgrades, trims, base_of, between_commas, is_base, number_from, pool_of, steps_of, windows_of};
 ghost use Rattle.command_line.specs.Request.{request_of};
 ghost use Rattle.ascii_scan.specs.Numeral.{decimal};
 ghost use Rattle.seq_enum.specs.Pools.{is_pool};
@@ -174,13 +174,22 @@ fn audit(alloc: Global, given: &ArgMatches<'_>) -> Result<Option<Command>, Alloc
 fn learn(alloc: Global, given: &ArgMatches<'_>) -> Result<Option<Command>, AllocError>
     ensures { IfOk result (λ o. option_map request_of o ≡ asked_by learns (first_value (found_of given.now))) }
 {
-    let (Some(listing), Some(out), Some(regs), Some(left), Some(budget), Some(seed)) = (
+    let (
+        Some(listing),
+        Some(out),
+        Some(regs),
+        Some(left),
+        Some(budget),
+        Some(seed),
+        Some(scratch),
+    ) = (
         given.get_str("listing"),
         given.get_str("out"),
         number_from(given.get_str("regs"), Within::<1, 5>::of(3)),
         number_from(given.get_str("left"), Within::<1, 6>::of(3)),
         number_from(given.get_str("budget"), Within::<1, 1_000_001>::of(20_000)),
         seed(given.get_str("seed")),
+        number_from(given.get_str("scratch"), Within::<0, 2>::of(0)),
     ) else {
         return Ok(None);
     };
@@ -194,6 +203,7 @@ fn learn(alloc: Global, given: &ArgMatches<'_>) -> Result<Option<Command>, Alloc
         left,
         budget,
         seed,
+        scratch,
         pool,
     }))
 }
@@ -255,6 +265,32 @@ fn demo(given: &ArgMatches<'_>) -> Option<Command>
     Some(Command::Demo { windows })
 }
 
+/// The values of `upgrade`.
+fn upgrade(alloc: Global, given: &ArgMatches<'_>) -> Result<Option<Command>, AllocError>
+    ensures { IfOk result (λ o. option_map request_of o ≡ asked_by upgrades (first_value (found_of given.now))) }
+{
+    let (Some(table), Some(out)) = (given.get_str("table"), given.get_str("out")) else {
+        return Ok(None);
+    };
+    Ok(Some(Command::Upgrade {
+        table: String::from_str(alloc, table)?,
+        out: String::from_str(alloc, out)?,
+    }))
+}
+
+/// The values of `trim`.
+fn trim(alloc: Global, given: &ArgMatches<'_>) -> Result<Option<Command>, AllocError>
+    ensures { IfOk result (λ o. option_map request_of o ≡ asked_by trims (first_value (found_of given.now))) }
+{
+    let (Some(table), Some(out)) = (given.get_str("table"), given.get_str("out")) else {
+        return Ok(None);
+    };
+    Ok(Some(Command::Trim {
+        table: String::from_str(alloc, table)?,
+        out: String::from_str(alloc, out)?,
+    }))
+}
+
 /// The command that clap found, with its values.
 pub fn command_of(alloc: Global, matches: &ArgMatches<'_>) -> Result<Option<Command>, AllocError>
     ensures { IfOk result (λ o. option_map request_of o ≡ option_and_then asked (subcommand_rows_of matches.now)) }
@@ -266,6 +302,8 @@ pub fn command_of(alloc: Global, matches: &ArgMatches<'_>) -> Result<Option<Comm
         Some(("export", given)) => export(alloc, given),
         Some(("trace", given)) => trace(alloc, given),
         Some(("demo", given)) => Ok(demo(given)),
+        Some(("upgrade", given)) => upgrade(alloc, given),
+        Some(("trim", given)) => trim(alloc, given),
         _ => Ok(None),
     }
 }

@@ -16,7 +16,7 @@ use Rattle.thumb_syntax.proofs.ReadWhole.{reading_is_whole}
 use Rattle.thumb_model.specs.Listing.{Name, Value, Statement, Nothing, Runs, Words, Aligns, Sets, Line}
 use Rattle.listing_parser.specs.declared.directive.Directive.{Directive}
 use Rattle.listing_parser.specs.declared.directive.Directive.TheVariants as directive
-use Rattle.listing_parser.specs.Grammar.{Bare, Read, labels_at_front, body, code, read_lines, said_of, bare}
+use Rattle.listing_parser.specs.Grammar.{Bare, Read, labels_at_front, body, code, read_lines, said_of, bare, most_lines}
 use Rattle.listing_parser.specs.Directives.{Said, Plain, Instruction, Told, Unmarked, NextMarked, NameMarked, says, says_if, marks, size_of, aligns_at_most, aligned, sets, sets_by, typed_by, directed, directed_by, directive_named, is_word_byte, is_bare, is_alone, is_code_section, instruction, said, statement}
 use Rattle.listing_parser.specs.Values.{values, alone, gapped, pair}
 use Rattle.listing_parser.specs.Parsing.{IsListing, text_of_lines}
@@ -196,7 +196,7 @@ length_lines [] (l ∷ ls) e = absurd (let bad : [] ≡ bare l ∷ map bare ls =
 length_lines (r ∷ rs) [] e = absurd (let bad : r.line ∷ map (λ (r : Read). r.line) rs ≡ [] = e in cc)
 length_lines (r ∷ rs) (l ∷ ls) e = ap suc (length_lines rs ls (let both : r.line ∷ map (λ (r : Read). r.line) rs ≡ bare l ∷ map bare ls = e in cc))
 
-pub few_lines : (bytes : List ℕ) (lines : List Line) → IsListing bytes lines → length lines ≤ 65536
+pub few_lines : (bytes : List ℕ) (lines : List Line) → IsListing bytes lines → length lines ≤ most_lines
 few_lines bytes lines h =
     let few = all_few 1 0 (lines_of bytes) h.reads h.are.read (omega arith) in
     let same = length_lines h.reads lines h.are.same in

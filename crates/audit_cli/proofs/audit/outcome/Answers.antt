@@ -1,11 +1,8 @@
-use Rattle.std.proofs.Common.{◌≡◌, ◌∙◌, ◌<◌, ◌^◌, rules, arith, sym, subst, ap, ap₂, length, map, List, [], ℕ}
-use Rattle.std.specs.Prelude.{sum_by}
-use Rattle.std.proofs.lemmas.List.{length-map}
-use Rattle.rule_table.specs.Views.{rule_of, table_of}
+use Rattle.std.proofs.Common.{◌≡◌, ◌∙◌, ◌<◌, ◌^◌, rules, arith, sym, subst, ap, length, List, [], ℕ}
+use Rattle.rule_table.specs.Views.{table_of}
 use Rattle.command_runs.specs.Plans.{Does}
 use Rattle.command_runs.specs.Outcomes.{outcome_view}
-use Rattle.audit_cli.specs.Tables.{Audits, unaudited, accepted, open_count, opens_of}
-use Rattle.audit_cli.specs.Printed.{entries_line}
+use Rattle.audit_cli.specs.Tables.{Audits, unaudited, accepted, opens_of}
 use Rattle.audit_cli.proofs.StepLemmas.{is_audited, not_audited, refused_so}
 use Rattle.audit_cli.proofs.TableTexts.{opens_within}
 use Rattle.audit_cli.proofs.audit.outcome.Goals as goal
@@ -19,18 +16,12 @@ pub returns-in_ok-lines-in-Ok : goal.returns-in_ok-lines-in-Ok
 returns-in_ok-lines-in-Ok g c =
     let t = table_of c.in-Ok.audited in
     let is = is_audited table_of c.args.text.now c.in_ok-refusal.field-0 c.in-Ok.audited c.in_ok-refusal.ensures c.in-Ok.is in
-    let each : length t.rules ≡ length c.in-Ok.audited.entries.items = length-map c.in-Ok.audited.entries.items rule_of in
-    let taken = c.len.ensures in
-    let entries : c.len.result ≡ length t.rules = search rules in
-    let opens : c.open_count.result ≡ opens_of t = search rules in
-    let lines : c.in_ok-lines-in-Ok.lines.items ≡ entries_line (length t.rules) (opens_of t) = c.in_ok-lines-in-Ok.ensures ∙ ap₂ entries_line entries opens in
-    subst (Audits c.args.text.now) (sym (c.prints-outcome.ensures ∙ ap (λ (printed : List ℕ). Does [] printed) lines)) (accepted t is)
+    subst (Audits c.args.text.now) (sym (c.prints-outcome.ensures ∙ ap (λ (printed : List ℕ). Does [] printed) c.in_ok-lines-in-Ok.ensures)) (accepted t is)
 
-pub open_count-requires : goal.open_count-requires
-open_count-requires g c =
+pub audited_report-requires : goal.audited_report-requires
+audited_report-requires g c =
     let t = table_of c.in-Ok.audited in
     let is = is_audited table_of c.args.text.now c.in_ok-refusal.field-0 c.in-Ok.audited c.in_ok-refusal.ensures c.in-Ok.is in
     let few = opens_within c.args.text.now t is.is in
     let short : length c.args.text.now < 2 ^ 63 = search rules in
-    let same : sum_by open_count (map rule_of c.deref.result.now) ≡ opens_of t = search rules in
     omega arith

@@ -1,6 +1,6 @@
 use Rattle.std.proofs.Common.{◌≡◌, ◌∙◌, [], ◌∷◌, ap, string_bytes, subst, sym}
 use Rattle.command_line.specs.declared.command.Command.{Command}
-use Rattle.command_line.specs.declared.command.Command.TheVariants.{Rewrite, Audit, Learn, Export, Trace, Demo}
+use Rattle.command_line.specs.declared.command.Command.TheVariants.{Rewrite, Audit, Learn, Export, Trace, Demo, Upgrade, Trim}
 use Rattle.command_line.specs.Request.{request_of}
 use Rattle.outer_store.specs.Outside.{Seen, Sunk}
 use Rattle.command_runs.specs.declared.status.Status.{Status}
@@ -11,6 +11,8 @@ use Rattle.audit_cli.specs.Tables.{AuditComesTo, ExportComesTo}
 use Rattle.audit_cli.specs.Learn.{LearnComesTo}
 use Rattle.audit_cli.specs.Trace.{TraceComesTo}
 use Rattle.audit_cli.specs.Demo.{DemoComesTo}
+use Rattle.audit_cli.specs.Upgrade.{UpgradeComesTo}
+use Rattle.audit_cli.specs.Trim.{TrimComesTo}
 use Rattle.audit_cli.specs.Peep.{plan_of}
 use Rattle.audit_cli.proofs.top.run_command.Goals as goal
 
@@ -39,13 +41,13 @@ pub returns-in-Learn-clause-runs : goal.returns-in-Learn-clause-runs
 returns-in-Learn-clause-runs g c =
     let out : c.as_str-in-Learn.result.now ≡ string_bytes c.in-Learn.out = c.as_str-in-Learn.ensures.value in
     let listing : c.as_str-in-Learn-2.result.now ≡ string_bytes c.in-Learn.listing = c.as_str-in-Learn-2.ensures.value in
-    asked _ (Learn c.in-Learn.listing c.in-Learn.out c.in-Learn.regs c.in-Learn.left c.in-Learn.budget c.in-Learn.seed c.in-Learn.pool) c.args.command.now
+    asked _ (Learn c.in-Learn.listing c.in-Learn.out c.in-Learn.regs c.in-Learn.left c.in-Learn.budget c.in-Learn.seed c.in-Learn.scratch c.in-Learn.pool) c.args.command.now
     (g.S.Store.seen c.args.store.now) (g.S.Store.seen c.run-in-Learn.new.store) (g.O.Sink.sunk c.args.sink.now) (g.O.Sink.sunk c.run-in-Learn.new.sink) c.run-in-Learn.result
     (λ i. record {
       names = listing i ∷ [];
       comes = LearnComesTo (record {
         out = out i;
-        settings = record { version = 1; regs = c.in-Learn.regs.number; left = c.in-Learn.left.number; budget = c.in-Learn.budget.number; seed = c.in-Learn.seed; pool = c.in-Learn.pool };
+        settings = record { version = 2; regs = c.in-Learn.regs.number; left = c.in-Learn.left.number; budget = c.in-Learn.budget.number; seed = c.in-Learn.seed; pool = c.in-Learn.pool; scratch = c.in-Learn.scratch.number };
       });
     }) c.in-Learn.is c.run-in-Learn.ensures.runs
 
@@ -71,3 +73,19 @@ returns-in-Demo-clause-runs g c =
     asked _ (Demo c.in-Demo.windows) c.args.command.now
     (g.S.Store.seen c.args.store.now) (g.S.Store.seen c.run-in-Demo.new.store) (g.O.Sink.sunk c.args.sink.now) (g.O.Sink.sunk c.run-in-Demo.new.sink) c.run-in-Demo.result
     (λ i. record { names = []; comes = λ texts. DemoComesTo c.in-Demo.windows.number }) c.in-Demo.is c.run-in-Demo.ensures.runs
+
+pub returns-in-Upgrade-clause-runs : goal.returns-in-Upgrade-clause-runs
+returns-in-Upgrade-clause-runs g c =
+    let out : c.as_str-in-Upgrade.result.now ≡ string_bytes c.in-Upgrade.out = c.as_str-in-Upgrade.ensures.value in
+    let table : c.as_str-in-Upgrade-2.result.now ≡ string_bytes c.in-Upgrade.table = c.as_str-in-Upgrade-2.ensures.value in
+    asked _ (Upgrade c.in-Upgrade.table c.in-Upgrade.out) c.args.command.now
+    (g.S.Store.seen c.args.store.now) (g.S.Store.seen c.run-in-Upgrade.new.store) (g.O.Sink.sunk c.args.sink.now) (g.O.Sink.sunk c.run-in-Upgrade.new.sink) c.run-in-Upgrade.result
+    (λ i. record { names = table i ∷ []; comes = UpgradeComesTo (out i) }) c.in-Upgrade.is c.run-in-Upgrade.ensures.runs
+
+pub returns-in-Trim-clause-runs : goal.returns-in-Trim-clause-runs
+returns-in-Trim-clause-runs g c =
+    let out : c.as_str-in-Trim.result.now ≡ string_bytes c.in-Trim.out = c.as_str-in-Trim.ensures.value in
+    let table : c.as_str-in-Trim-2.result.now ≡ string_bytes c.in-Trim.table = c.as_str-in-Trim-2.ensures.value in
+    asked _ (Trim c.in-Trim.table c.in-Trim.out) c.args.command.now
+    (g.S.Store.seen c.args.store.now) (g.S.Store.seen c.run-in-Trim.new.store) (g.O.Sink.sunk c.args.sink.now) (g.O.Sink.sunk c.run-in-Trim.new.sink) c.run-in-Trim.result
+    (λ i. record { names = table i ∷ []; comes = TrimComesTo (out i) }) c.in-Trim.is c.run-in-Trim.ensures.runs

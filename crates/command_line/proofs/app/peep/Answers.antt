@@ -1,4 +1,4 @@
-use Rattle.command_line.specs.CommandLine.{rewrites, audits, learns, exports, traces, demos}
+use Rattle.command_line.specs.CommandLine.{rewrites, audits, learns, exports, traces, demos, upgrades, trims}
 use Rattle.command_line.proofs.Added.{all_added, form_added}
 use Rattle.command_line.proofs.app.peep.Goals as goal
 
@@ -10,4 +10,6 @@ returns c =
     let fourth = form_added _ _ _ _ exports c.in_ok-command-4.ensures c.in_ok-export.ensures.own c.in_ok-export.ensures.app third in
     let fifth = form_added _ _ _ _ traces c.in_ok-command-5.ensures c.in_ok-trace.ensures.own c.in_ok-trace.ensures.app fourth in
     let sixth = form_added _ _ _ _ demos c.in_ok-command-6.ensures c.in_ok-demo.ensures.own c.in_ok-demo.ensures.app fifth in
-    all_added _ sixth
+    let seventh = form_added _ _ _ _ upgrades c.in_ok-command-7.ensures c.in_ok-upgrade.ensures.own c.in_ok-upgrade.ensures.app sixth in
+    let eighth = form_added _ _ _ _ trims c.in_ok-command-8.ensures c.in_ok-trim.ensures.own c.in_ok-trim.ensures.app seventh in
+    all_added _ eighth

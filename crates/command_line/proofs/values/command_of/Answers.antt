@@ -1,7 +1,7 @@
 use Rattle.std.proofs.Common.{◌≡◌, ◌∙◌, rules, subst, sym, Option}
 use Rattle.std.specs.Prelude.{IfOk, option_map}
 use Rattle.clap.specs.Words.{found_of}
-use Rattle.command_line.specs.CommandLine.{Request, rewrites, audits, learns, exports, traces, demos, name_of}
+use Rattle.command_line.specs.CommandLine.{Request, rewrites, audits, learns, exports, traces, demos, upgrades, trims, name_of}
 use Rattle.command_line.specs.Request.{request_of}
 use Rattle.command_line.proofs.Usage.{asked_met}
 use Rattle.command_line.proofs.values.command_of.Goals as goal
@@ -41,3 +41,15 @@ returns-in-Some-demo-default c =
     let name : c.in-Some-demo-default.field-0-0.now ≡ name_of demos = search rules in
     let asks = asked_met demos c.args.matches.now (found_of c.in-Some-demo-default.given.now) c.in-Some-demo-default.field-0-0.now c.in-Some-demo-default.ensures.name c.in-Some-demo-default.ensures.rows name in
     c.demo.ensures ∙ sym asks
+
+pub returns-in-Some-upgrade-default : goal.returns-in-Some-upgrade-default
+returns-in-Some-upgrade-default c =
+    let name : c.in-Some-upgrade-default.field-0-0.now ≡ name_of upgrades = search rules in
+    let asks = asked_met upgrades c.args.matches.now (found_of c.in-Some-upgrade-default.given.now) c.in-Some-upgrade-default.field-0-0.now c.in-Some-upgrade-default.ensures.name c.in-Some-upgrade-default.ensures.rows name in
+    subst (λ (v : Option Request). IfOk c.upgrade.result (λ o. option_map request_of o ≡ v)) (sym asks) c.upgrade.ensures
+
+pub returns-in-Some-trim-default : goal.returns-in-Some-trim-default
+returns-in-Some-trim-default c =
+    let name : c.in-Some-trim-default.field-0-0.now ≡ name_of trims = search rules in
+    let asks = asked_met trims c.args.matches.now (found_of c.in-Some-trim-default.given.now) c.in-Some-trim-default.field-0-0.now c.in-Some-trim-default.ensures.name c.in-Some-trim-default.ensures.rows name in
+    subst (λ (v : Option Request). IfOk c.trim.result (λ o. option_map request_of o ≡ v)) (sym asks) c.trim.ensures

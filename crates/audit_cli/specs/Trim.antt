@@ -1,0 +1,47 @@
+-- What `trim` comes to.
+use Rattle.std.specs.Prelude.{◌≡◌, ℕ, List, [], ◌∷◌, length, sum_by}
+use Rattle.std.specs.List.{AllZip}
+use Rattle.clause_model.specs.Literals.{codes_of}
+use Rattle.lrat_check.specs.Trimmed.{IsTrimmed}
+use Rattle.rule_table.specs.Header.{Header}
+use Rattle.rule_table.specs.Table.{Rule, Table}
+use Rattle.rule_table.specs.Text.{text_of}
+use Rattle.table_audit.specs.Sides.{formula_of}
+use Rattle.command_runs.specs.Plans.{Outcome, Refuses, Does}
+use Rattle.audit_cli.specs.declared.refusal.Refusal.{Refusal}
+use Rattle.audit_cli.specs.Printed.{refusal_line, trimmed_line}
+use Rattle.audit_cli.specs.Steps.{IsUnaudited, IsAudited}
+
+-- the entry has a proof without what it doesn't need, and is else the same
+pub record IsTrimmedRule (h : Header) (e trimmed : Rule) : Type 0 where
+  pub same : trimmed ≡ record e { proof = trimmed.proof }
+  pub proof : IsTrimmed (codes_of (formula_of h e).clauses) e.proof trimmed.proof
+
+-- a table whose entries are those of another, each with such a proof
+pub record IsTrimmedTable (t trimmed : Table) : Type 0 where
+  pub header : trimmed.header ≡ t.header
+  pub states : trimmed.states ≡ t.states
+  pub rules : AllZip (IsTrimmedRule t.header) t.rules trimmed.rules
+
+-- how many lines the proofs of entries have
+abbrev pub lines_in : Table → ℕ
+lines_in t = sum_by (λ (e : Rule). length e.proof) t.rules
+
+-- the table's text is kept, and the lines of its proofs are counted behind those that there were before
+abbrev pub trimmed_outcome : List ℕ → Table → ℕ → Outcome
+trimmed_outcome out trimmed before = Does ((out, text_of trimmed) ∷ []) (trimmed_line before (lines_in trimmed))
+
+-- what an accepted table comes to
+pub record IsTrimOf (out : List ℕ) (t : Table) (o : Outcome) : Type 0 where
+  pub trimmed : Table
+  pub are : IsTrimmedTable t trimmed
+  pub is : o ≡ trimmed_outcome out trimmed (lines_in t)
+
+-- what a text comes to: it is no table, or one that the audit refuses, or the table with trimmed proofs is kept
+pub data Trims (out text : List ℕ) : Outcome → Type 0 where
+  unaudited : (r : Refusal) → IsUnaudited text r → Trims out text (Refuses (refusal_line r))
+  accepted : (t : Table) → IsAudited text t → (o : Outcome) → IsTrimOf out t o → Trims out text o
+
+-- `trim` goes by one text
+abbrev pub TrimComesTo : List ℕ → List (List ℕ) → Outcome → Type 0
+TrimComesTo out texts o = (text : List ℕ) × (texts ≡ text ∷ []) × Trims out text o

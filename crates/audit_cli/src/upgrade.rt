@@ -1,0 +1,96 @@
+//! The command `upgrade`: an accepted table is kept in version 2, whose rules may use a scratch register, with the same entries.
+ghost use Rattle.std.specs.Prelude.{◌≡◌, ◌<◌, ◌^◌, IfOk};
+ghost use Rattle.command_runs.specs.Outcomes.{outcome_view};
+ghost use Rattle.rule_table.specs.Views.{table_of};
+ghost use Rattle.audit_cli.specs.Upgrade.{IsKept, Upgrades, upgraded};
+
+use crate::audit::audited_report;
+use crate::printing::keeps_text;
+use crate::refusal::{Refusal, refused};
+use crate::steps::read_audited;
+use command_runs::Outcome;
+use rule_table::{Table, write_table};
+use std::alloc::{AllocError, Global};
+use step_ledger::{Ledger, Steps};
+
+/// The most bytes of a text that is read.
+const TEXT_LIMIT: u64 = 67_108_864;
+
+/// The command `upgrade`, with the name that the table is kept under.
+#[derive(Drop)]
+pub(crate) struct Upgrade<'a> {
+    pub(crate) out: &'a str,
+}
+
+/// The table in version 2, or as it is where its version is a later one.
+fn upgraded(mut table: Table) -> Table
+    ensures { table_of result ≡ upgraded (table_of table) }
+{
+    table.version = table.version.max(2);
+    table
+}
+
+/// What is kept and printed of a table: its text and lines, unless the text has more bytes than one that is read may have.
+pub(crate) fn kept(
+    alloc: Global,
+    out: &str,
+    table: &Table,
+    lines: Vec<u8>,
+) -> Result<Outcome, AllocError>
+    ensures { IfOk result (λ o. IsKept out.now (table_of table.now) lines.items (outcome_view o)) }
+{
+    let text = write_table(alloc, table)?;
+    let bytes = text.len() as u64;
+    if bytes > TEXT_LIMIT {
+        let outcome = refused(alloc, Refusal::Full { bytes })?;
+        return Ok(outcome);
+    }
+    let outcome = keeps_text(alloc, out, text, lines)?;
+    Ok(outcome)
+}
+
+/// What a text comes to.
+fn outcome<L: Ledger>(
+    alloc: Global,
+    out: &str,
+    text: &[u8],
+    steps: &mut Steps<L>,
+) -> Result<Outcome, AllocError>
+    ensures { IfOk result (λ o. Upgrades out.now text.now (outcome_view o)) }
+{
+    match read_audited(alloc, text, steps)? {
+        Err(refusal) => {
+            let outcome = refused(alloc, refusal)?;
+            Ok(outcome)
+        }
+        Ok(audited) => {
+            let lines = audited_report(alloc, &audited)?;
+            let table = upgraded(audited.into_table());
+            let outcome = kept(alloc, out, &table, lines)?;
+            Ok(outcome)
+        }
+    }
+}
+
+impl command_runs::Command for Upgrade<'_> {
+    ghost use Rattle.audit_cli.specs.Upgrade.{UpgradeComesTo};
+
+    ghost takes = { 1 };
+
+    ghost comes = { λ u texts o. UpgradeComesTo u.out.now texts o };
+
+    fn compute<L: Ledger>(
+        &self,
+        alloc: Global,
+        texts: &[Vec<u8>],
+        steps: &mut Steps<L>,
+    ) -> Result<Outcome, AllocError> {
+        match texts {
+            [text] => {
+                let outcome = outcome(alloc, self.out, text, steps)?;
+                Ok(outcome)
+            }
+            _ => unreachable!(),
+        }
+    }
+}

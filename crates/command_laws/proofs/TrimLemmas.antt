@@ -1,0 +1,243 @@
+-- What is left of an accepted table when its proofs are trimmed.
+use Rattle.std.proofs.Common.{◌≡◌, ◌∙◌, ◌⊎◌, inl, inr, ℕ, ℤ, ◌+◌, ◌≤◌, ◌<◌, List, [], ◌∷◌, ◌++◌, Option, Some, None, length, map, refl, sym, ap, ap₂, subst, take, arith, length-append}
+use Rattle.std.specs.Prelude.{All, Contains}
+use Rattle.std.specs.List.{AllZip, flat_map}
+use Rattle.std.proofs.lemmas.List.Concat.{flat_map-append}
+use Rattle.std.proofs.lemmas.List.Elements.{All-nil, All-cons, All-head, All-tail, All-take, All-contains}
+use Rattle.clause_model.specs.Literals.{codes_of}
+use Rattle.lrat_check.specs.Content.{Content, addition, deletion}
+use Rattle.lrat_check.specs.Numbers.{IsHint}
+use Rattle.lrat_check.specs.Text.{text_of as text_of_line, id_of, IsLine}
+use Rattle.lrat_check.specs.Trimmed.{IsTrimmed, IsShortened, IsUsed}
+use Rattle.lrat_check.proofs.Parts.{trimmed_once, trimmed_refutes, trimmed_again}
+use Rattle.rule_table.specs.Header.{Header}
+use Rattle.rule_table.specs.Table.{Opened, Rule, Table}
+use Rattle.rule_table.specs.Text.{Item, State, Entry, Left, Right, Mask, Proof, Logged, Open, End, line_of, text_of_items, open_items, rule_items, header_items, items_of}
+use Rattle.rule_table.specs.Valid.{IsRule, IsTable}
+use Rattle.proof_logs.specs.Verdicts.{Then, InTurn}
+use Rattle.table_audit.specs.declared.errors.EntryFault.TheVariants as fault
+use Rattle.table_audit.specs.declared.errors.AuditError.{AuditError}
+use Rattle.table_audit.specs.declared.errors.AuditError.TheVariants as audit
+use Rattle.table_audit.specs.Sides.{SidesFit, formula_of}
+use Rattle.table_audit.specs.Acceptance.{IsRightlyOpen, OpenTest, OpensVerdict, EntryVerdict, EntriesVerdict, IsAccepted}
+use Rattle.table_audit.specs.Soundness.{rewriting_rule, numbers_of}
+use Rattle.table_learn.specs.Learnt.{text_length}
+use Rattle.rule_model.specs.Rules as model
+use Rattle.window_rewrite.specs.Rewriting.{setting}
+use Rattle.audit_cli.specs.Trim.{IsTrimmedRule, IsTrimmedTable}
+use Rattle.audit_cli.proofs.Refutations.{refutes_passed}
+use Rattle.audit_cli.proofs.TrimLemmas.{IsReady, entry_ready, all_ready}
+use Rattle.command_laws.specs.Trimming.{TrimmedTablesAreAccepted, TrimmedTablesRewriteAlike, TrimmedTextsAreNoLonger, TrimmingIsOne, TrimmedTablesStay}
+use Rattle.command_laws.proofs.ShorterTexts.{bytes_of, trimmed_bytes}
+
+-- the entry with another proof, and the table with other entries
+abbrev proving : Rule → List Content → Rule
+proving e proof = record e { proof = proof }
+
+abbrev holding : Table → List Rule → Table
+holding t rules = record t { rules = rules }
+
+-- the table is the given one with its own entries
+its_own : (t u : Table) → IsTrimmedTable t u → u ≡ holding t u.rules
+its_own t u h = λ i. record { header = h.header i; states = h.states i; rules = u.rules }
+
+-- ---- the audit ----
+
+module _ (t : Table) (rules : List Rule) (e : Rule) (proof : List Content) where
+  fits : SidesFit t e → SidesFit (holding t rules) (proving e proof)
+  fits h = record { canonical = h.canonical; short = h.short; few = h.few; left = h.left; right = h.right; no_longer = h.no_longer; mask = h.mask }
+
+  stays_open : (o : Opened) → IsRightlyOpen t e o → IsRightlyOpen (holding t rules) (proving e proof) o
+  stays_open o h = record { seq = h.seq; below = record { at = h.below.at; no_longer = h.below.no_longer; lighter = h.below.lighter }; untold = h.untold; spent = h.spent }
+
+  opens : (n i : ℕ) (os : List Opened) → InTurn (OpenTest t n e) i os None → InTurn (OpenTest (holding t rules) n (proving e proof)) i os None
+  opens n i [] h = h
+  opens n i (o ∷ os) h = (stays_open o h.0, opens n (i + 1) os h.1)
+
+  still_accepted : (n : ℕ) → IsTrimmed (codes_of (formula_of t.header e).clauses) e.proof proof → EntryVerdict t n e None → EntryVerdict (holding t rules) n (proving e proof) None
+  unfolding EntryVerdict
+  still_accepted n trimmed v =
+      let clauses = codes_of (formula_of t.header e).clauses in
+      let refutes = trimmed_refutes clauses e.proof proof (entry_ready t n e v).refutes trimmed in
+      (fits v.0, (refutes_passed (λ line. audit.Entry n (fault.Proof line)) (audit.Entry n fault.Unfinished) clauses proof refutes, (v.1.1.0, opens n 0 e.opens v.1.1.1)))
+
+entries_accepted : (t : Table) (rules : List Rule) (n : ℕ) (es fs : List Rule) → AllZip (IsTrimmedRule t.header) es fs → InTurn (EntryVerdict t) n es None → InTurn (EntryVerdict (holding t rules)) n fs None
+entries_accepted t rules n [] [] z h = h
+entries_accepted t rules n [] (f ∷ fs) z h = absurd z
+entries_accepted t rules n (e ∷ es) [] z h = absurd z
+entries_accepted t rules n (e ∷ es) (f ∷ fs) z h = (
+  subst (λ (g : Rule). EntryVerdict (holding t rules) n g None) (sym z.0.same) (still_accepted t rules e f.proof n z.0.proof h.0),
+  entries_accepted t rules (n + 1) es fs z.1 h.1,
+)
+
+accepted : (t u : Table) → IsAccepted t → IsTrimmedTable t u → IsAccepted u
+accepted t u a h = subst IsAccepted (sym (its_own t u h)) (a.0, (a.1.0, entries_accepted t u.rules 1 t.rules u.rules h.rules a.1.1))
+
+-- ---- texts ----
+
+first_hints : (n : ℕ) (hints : List ℤ) → All IsHint hints → All IsHint (take n hints)
+first_hints n hints h = All-take IsHint n hints h
+
+line_shortened : (clauses : List (List ℕ)) (lines : List Content) (line : Content) → All IsLine lines → IsShortened clauses lines line → IsLine line
+line_shortened clauses lines (addition id literals hints) all (given, n, is, enough, cut) =
+    let good = All-contains IsLine lines (addition id literals given) all is in
+    (good.0, (good.1.0, good.1.1, subst (λ (hs : List ℤ). All IsHint hs) (sym cut) (first_hints n given good.1.2)))
+line_shortened clauses lines (deletion id ids) all none = absurd none
+
+lines_shortened : (clauses : List (List ℕ)) (lines trimmed : List Content) → All IsLine lines → All (λ line. IsShortened clauses lines line × IsUsed clauses lines (id_of line)) trimmed → All IsLine trimmed
+lines_shortened clauses lines [] all h = All-nil IsLine
+lines_shortened clauses lines (x ∷ xs) all h =
+    All-cons IsLine x xs (line_shortened clauses lines x all (All-head (λ line. IsShortened clauses lines line × IsUsed clauses lines (id_of line)) x xs h).0)
+    (lines_shortened clauses lines xs all (All-tail (λ line. IsShortened clauses lines line × IsUsed clauses lines (id_of line)) x xs h))
+
+lines_trimmed : (clauses : List (List ℕ)) (lines trimmed : List Content) → All IsLine lines → IsTrimmed clauses lines trimmed → All IsLine trimmed
+lines_trimmed clauses lines trimmed all (inl none) = subst (λ (xs : List Content). All IsLine xs) (sym none.1) (All-nil IsLine)
+lines_trimmed clauses lines trimmed all (inr (some, used)) = lines_shortened clauses lines trimmed all used.only
+
+rule_valid : (h : Header) (e f : Rule) → IsRule e → IsTrimmedRule h e f → IsRule f
+rule_valid h e f is z =
+    let proof = lines_trimmed (codes_of (formula_of h e).clauses) e.proof f.proof is.proof z.proof in
+    subst IsRule (sym z.same) (record { some = is.some; few_left = is.few_left; few_right = is.few_right; left = is.left; right = is.right; mask = is.mask; proof = proof; opens = is.opens; ascending = is.ascending })
+
+rules_valid : (h : Header) (es fs : List Rule) → All IsRule es → AllZip (IsTrimmedRule h) es fs → All IsRule fs
+rules_valid h [] [] is z = is
+rules_valid h [] (f ∷ fs) is z = absurd z
+rules_valid h (e ∷ es) [] is z = absurd z
+rules_valid h (e ∷ es) (f ∷ fs) is z = All-cons IsRule f fs (rule_valid h e f (All-head IsRule e es is) z.0) (rules_valid h es fs (All-tail IsRule e es is) z.1)
+
+pub trimmed_accepted : TrimmedTablesAreAccepted
+trimmed_accepted t u valid a h = (
+  subst IsTable (sym (its_own t u h)) (record { header = valid.header; states = valid.states; rules = rules_valid t.header t.rules u.rules valid.rules h.rules }),
+  accepted t u a h,
+)
+
+room : List Item → ℕ
+room items = length (text_of_items items)
+
+room-append : (a b : List Item) → room (a ++ b) ≡ room a + room b
+unfolding room
+room-append a b = ap (λ (xs : List ℕ). length xs) (flat_map-append (λ (i : Item). line_of i ++ 10 ∷ []) a b) ∙ length-append (text_of_items a) (text_of_items b)
+
+room-cons : (i : Item) (is : List Item) → room (i ∷ is) ≡ length (line_of i ++ 10 ∷ []) + room is
+unfolding room
+room-cons i is = length-append (line_of i ++ 10 ∷ []) (text_of_items is)
+
+room_logged : (lines : List Content) → room (map Logged lines) ≡ bytes_of lines
+unfolding room
+room_logged [] = refl
+room_logged (line ∷ lines) =
+    let a = room-cons (Logged line) (map Logged lines) in
+    let b = length-append (text_of_line line) (10 ∷ []) in
+    let c = room_logged lines in
+    omega arith
+
+-- what the lines of an entry take but those of its proof
+apart : Rule → ℕ
+apart e = room (Entry ∷ map Left e.left) + (room (map Right e.right) + (room (Mask e.mask ∷ Proof ∷ []) + room (flat_map open_items e.opens)))
+
+rule_bytes : (e : Rule) → room (rule_items e) ≡ apart e + bytes_of e.proof
+unfolding apart
+rule_bytes e =
+    let numbers : List Item = flat_map open_items e.opens in
+    let logs : List Item = map Logged e.proof in
+    let rights : List Item = map Right e.right in
+    let a = room-append (Entry ∷ map Left e.left) (rights ++ Mask e.mask ∷ Proof ∷ (logs ++ numbers)) in
+    let b = room-append rights (Mask e.mask ∷ Proof ∷ (logs ++ numbers)) in
+    let c = room-append (Mask e.mask ∷ Proof ∷ []) (logs ++ numbers) in
+    let d = room-append logs numbers in
+    let f = room_logged e.proof in
+    omega arith
+
+same_apart : (h : Header) (e f : Rule) → IsTrimmedRule h e f → apart f ≡ apart e
+unfolding apart
+same_apart h e f z = subst (λ (g : Rule). apart g ≡ apart e) (sym z.same) refl
+
+rule_room : (h : Header) (e f : Rule) → IsReady h e → IsTrimmedRule h e f → room (rule_items f) ≤ room (rule_items e)
+rule_room h e f ready z =
+    let less = trimmed_bytes (codes_of (formula_of h e).clauses) e.proof f.proof ready.refutes z.proof in
+    let a = rule_bytes e in
+    let b = rule_bytes f in
+    let c = same_apart h e f z in
+    omega arith
+
+rules_room : (h : Header) (es fs : List Rule) → All (IsReady h) es → AllZip (IsTrimmedRule h) es fs → room (flat_map rule_items fs) ≤ room (flat_map rule_items es)
+rules_room h [] [] ready z = omega arith
+rules_room h [] (f ∷ fs) ready z = absurd z
+rules_room h (e ∷ es) [] ready z = absurd z
+rules_room h (e ∷ es) (f ∷ fs) ready z =
+    let here = rule_room h e f (All-head (IsReady h) e es ready) z.0 in
+    let rest = rules_room h es fs (All-tail (IsReady h) e es ready) z.1 in
+    let a = room-append (rule_items e) (flat_map rule_items es) in
+    let b = room-append (rule_items f) (flat_map rule_items fs) in
+    omega arith
+
+whole_room : (t : Table) → text_length t ≡ room (items_of t)
+unfolding room
+whole_room t = refl
+
+-- what all lines of a table take
+table_room : (t : Table) → text_length t ≡ room (header_items t.header) + (room (map State t.states) + (room (flat_map rule_items t.rules) + room (End ∷ [])))
+table_room t =
+    let a = room-append (header_items t.header) (map State t.states ++ (flat_map rule_items t.rules ++ End ∷ [])) in
+    let b = room-append (map State t.states) (flat_map rule_items t.rules ++ End ∷ []) in
+    let c = room-append (flat_map rule_items t.rules) (End ∷ []) in
+    let d = whole_room t in
+    omega (arith, a, b, c, d)
+
+pub trimmed_no_longer : TrimmedTextsAreNoLonger
+trimmed_no_longer t u a h =
+    let less = rules_room t.header t.rules u.rules (all_ready t a) h.rules in
+    let b = table_room t in
+    let c = table_room u in
+    let d = ap (λ (x : Header). room (header_items x)) h.header in
+    let e = ap (λ (ss : _). room (map State ss)) h.states in
+    omega arith
+
+-- ---- one table is left ----
+
+rule_once : (h : Header) (e f g : Rule) → IsTrimmedRule h e f → IsTrimmedRule h e g → f ≡ g
+rule_once h e f g y z =
+    let same = trimmed_once (codes_of (formula_of h e).clauses) e.proof f.proof g.proof y.proof z.proof in
+    y.same ∙ (ap (λ (p : List Content). proving e p) same ∙ sym z.same)
+
+rules_once : (h : Header) (es fs gs : List Rule) → AllZip (IsTrimmedRule h) es fs → AllZip (IsTrimmedRule h) es gs → fs ≡ gs
+rules_once h [] [] [] y z = refl
+rules_once h [] [] (g ∷ gs) y z = absurd z
+rules_once h [] (f ∷ fs) gs y z = absurd y
+rules_once h (e ∷ es) [] gs y z = absurd y
+rules_once h (e ∷ es) (f ∷ fs) [] y z = absurd z
+rules_once h (e ∷ es) (f ∷ fs) (g ∷ gs) y z = ap₂ (λ (r : Rule) (rs : List Rule). r ∷ rs) (rule_once h e f g y.0 z.0) (rules_once h es fs gs y.1 z.1)
+
+pub trimming_once : TrimmingIsOne
+trimming_once t a b y z = its_own t a y ∙ (ap (holding t) (rules_once t.header t.rules a.rules b.rules y.rules z.rules) ∙ sym (its_own t b z))
+
+-- trimmed again it stays as it is
+rule_again : (h : Header) (e f : Rule) → IsReady h e → IsTrimmedRule h e f → IsTrimmedRule h f f
+rule_again h e f ready z =
+    let again = trimmed_again (codes_of (formula_of h e).clauses) e.proof f.proof ready.refutes z.proof in
+    let same : formula_of h f ≡ formula_of h e = ap (formula_of h) z.same in
+    record { same = refl; proof = subst (λ clauses. IsTrimmed clauses f.proof f.proof) (ap (λ c. codes_of c.clauses) (sym same)) again }
+
+rules_again : (h : Header) (es fs : List Rule) → All (IsReady h) es → AllZip (IsTrimmedRule h) es fs → AllZip (IsTrimmedRule h) fs fs
+rules_again h [] [] ready z = tt
+rules_again h [] (f ∷ fs) ready z = absurd z
+rules_again h (e ∷ es) [] ready z = absurd z
+rules_again h (e ∷ es) (f ∷ fs) ready z = (rule_again h e f (All-head (IsReady h) e es ready) z.0, rules_again h es fs (All-tail (IsReady h) e es ready) z.1)
+
+pub trimmed_stay : TrimmedTablesStay
+trimmed_stay t u a h = record {
+  header = refl;
+  states = refl;
+  rules = subst (λ (x : Header). AllZip (IsTrimmedRule x) u.rules u.rules) (sym h.header) (rules_again t.header t.rules u.rules (all_ready t a) h.rules);
+}
+
+-- ---- rewriting ----
+
+rewriting_alike : (h : Header) (es fs : List Rule) → AllZip (IsTrimmedRule h) es fs → map rewriting_rule fs ≡ map rewriting_rule es
+rewriting_alike h [] [] z = refl
+rewriting_alike h [] (f ∷ fs) z = absurd z
+rewriting_alike h (e ∷ es) [] z = absurd z
+rewriting_alike h (e ∷ es) (f ∷ fs) z = ap₂ (λ (r : model.Rule) (rs : List model.Rule). r ∷ rs) (ap rewriting_rule z.0.same) (rewriting_alike h es fs z.1)
+
+pub trimmed_rewrite_alike : TrimmedTablesRewriteAlike
+trimmed_rewrite_alike t u base h = ap (λ (rs : List model.Rule). setting base (model.alone rs)) (rewriting_alike t.header t.rules u.rules h.rules)
