@@ -1,8 +1,10 @@
-use Rattle.std.proofs.Common.{◌≡◌, [], ◌∷◌, List, ap, subst, map, refl, rules}
+use Rattle.std.proofs.Common.{◌≡◌, [], ◌∷◌, ℕ, List, ap, subst, map, refl, rules}
 use Rattle.std.proofs.lemmas.List.Elements.{All-cons, All-nil}
 use Rattle.thumb_instr.specs.declared.instr.Instr.{Instr}
 use Rattle.thumb_instr.specs.declared.items.Mask.{Mask}
-use Rattle.rule_table.specs.declared.header.Field.TheVariants.{Regs, Left, Budget}
+use Rattle.rule_table.specs.declared.header.Field.TheVariants.{Version, Regs, Left, Budget, Scratch}
+use Rattle.rule_table.specs.declared.header.Head.TheVariants.{Number}
+use Rattle.rule_table.specs.Header.{has_line}
 use Rattle.rule_table.specs.Table.{Table}
 use Rattle.rule_table.specs.Views.{header_in}
 use Rattle.table_learn.specs.Settings.{Settings}
@@ -36,5 +38,9 @@ learn-requires-clause-settings c =
       few_left = (c.requires.header.numbers Left).1;
       some_budget = (c.requires.header.numbers Budget).0;
       few_budget = (c.requires.header.numbers Budget).1;
+      some_version = (c.requires.header.numbers Version).0;
+      few_version = (c.requires.header.numbers Version).1;
+      few_scratch = (c.requires.header.numbers Scratch).1;
+      first_version = λ e. c.requires.header.unsaid Scratch (ap (λ (v : ℕ). has_line v (Number Scratch)) e);
     } in
     subst AreInLimits same in_limits
