@@ -2,8 +2,6 @@
 #![tactic(auto)]
 
 #[cfg(test)]
-mod arenas;
-#[cfg(test)]
 mod layouts;
 #[cfg(test)]
 mod live_items;
