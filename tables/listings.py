@@ -77,11 +77,13 @@ def main() -> int:
     parser.add_argument("sources", type=Path)
     parser.add_argument("out", type=Path)
     given, words = parser.parse_known_args()
+    # the compiler runs in the package's folder
+    sources = given.sources.resolve()
     for package in packages(given.use):
         (given.out / package.name).mkdir(parents=True, exist_ok=True)
-        files = package.files(given.sources, given.most)
+        files = package.files(sources, given.most)
         with ThreadPoolExecutor(given.jobs) as pool:
-            went = list(pool.map(lambda path: compile_one(package, given.sources, path, given.out.resolve(), words), files))
+            went = list(pool.map(lambda path: compile_one(package, sources, path, given.out.resolve(), words), files))
         print(f"{package.name} {package.version}: {sum(went)} of {len(files)} files", flush=True)
     return 0
 

@@ -1,22 +1,24 @@
 #!/usr/bin/env bash
-# Makes size.peep again from source packages: fetches them by Debian's ordinary client, compiles them to listings, takes the windows of the functions that lie in
-# the profile, learns rules for them and for their left sides under other masks, and keeps those that take an instruction away. Use: tables/make.sh FOLDER, which
-# holds the packages and all that is made, and from which a second run goes on.
+# Makes the tables of this folder again from source packages: fetches them by Debian's ordinary client, compiles them to listings at -Os and -O2, takes the windows
+# of the functions that lie in the profile, learns rules for them and for their left sides under other masks, keeps those that take an instruction away, and of these
+# those that the windows of enough files have. Use: tables/make.sh FOLDER, which holds the packages and all that is made, and from which a second run goes on.
 #
-# The windows of all files are learnt at once, those of the same registers and mask side by side, by the plain learner of `bench/`, which writes the table that
-# `peep learn` writes of them, and needs one index for each mask instead of one for each window. Whoever learnt a table, `peep audit` judges it by its text.
+# Windows are learnt many at a time by the plain learner of `bench/`, which writes the table that `peep learn` writes of them. Whoever learnt a table, `peep audit`
+# judges it by its text.
 set -eu
 here=$(cd "$(dirname "$0")" && pwd)
 top=$(dirname "$here")
 folder=${1:-}
 [ -n "$folder" ] || { sed -n '2,4s/^# //p' "$0" >&2; exit 2; }
-pool=0,1,2,3,4,5,6,7,8,15,16,24,31,127,128,255
-settings=(4 3 1000 "$pool")
 core=(-mcpu=cortex-m0 -mthumb)
-most=${MOST:-45}
+most=${MOST:-10000}
 jobs=${JOBS:-2}
-mkdir -p "$folder/sources" "$folder/windows"
+mkdir -p "$folder/sources" "$folder/cut"
 folder=$(cd "$folder" && pwd)
+# the numbers that code has most often, and those that it has next, beside the first ones
+usual=0,1,2,3,4,5,6,7,8,15,16,24,31,127,128,255
+second=0,1,2,9,10,12,13,14,17,20,23,28,32,48,64,255
+third=0,1,2,11,18,19,21,22,25,26,30,40,56,63,104,255
 
 # built NAME SOURCE: a plain program of bench/.
 built() { [ -x "$folder/$1" ] || rustc -O --edition 2021 "$top/bench/$2" -o "$folder/$1" 2> "$folder/$1.log"; }
@@ -31,28 +33,90 @@ fetch() {
     "$here/prepare.sh" "$folder/sources"
 }
 
-# windows_of FOLDER: the windows of what the driver would hand over of the listings of a folder.
-windows_of() {
-    local name listing
-    name=$(echo "${1#"$folder/"}" | tr / _)
-    mkdir -p "$folder/cut/$name"
-    [ -e "$folder/cut/$name/done" ] || { nice -n 10 "$top/driver/peep-table" cut "$folder/cut/$name" "$1"/*.s && touch "$folder/cut/$name/done"; }
-    for listing in "$folder/cut/$name"/*.s; do
-        nice -n 10 "$folder/harvest" windows "${settings[@]}" < "$listing" > "$folder/windows/$name-$(basename "$listing")" 2> "$folder/harvest.log"
+# cut_all: what the driver would hand over of each listing.
+cut_all() {
+    local package name
+    for package in "$folder"/O[s2]/*; do
+        name=$(basename "$(dirname "$package")")_$(basename "$package")
+        mkdir -p "$folder/cut/$name"
+        if [ ! -e "$folder/cut/$name/done" ]; then
+            nice -n 10 "$top/driver/peep-table" cut "$folder/cut/$name" "$package"/*.s
+            touch "$folder/cut/$name/done"
+        fi
     done
 }
 
-# learnt NAME: a table of some windows.
-learnt() { [ -s "$folder/$1.peep" ] || { nice -n 10 "$folder/learner" < "$folder/$1.windows" > "$folder/$1.new" 2> "$folder/$1.log" && mv "$folder/$1.new" "$folder/$1.peep"; }; }
+# learnt NAME: the table NAME.peep of the windows NAME.windows.
+learnt() { nice -n 10 "$folder/learner" < "$1.windows" > "$1.new" 2> "$1.log" && mv "$1.new" "$1.peep"; }
+
+# learnt_in_parts NAME: the files NAME/*.peep of the windows NAME.windows, several at a time.
+learnt_in_parts() {
+    rm -rf "$1"
+    mkdir "$1"
+    "$top/driver/peep-table" parts "$1.windows" "$1" $((1 + $(grep -c '^entry' "$1.windows") / 2500 + jobs))
+    # shellcheck disable=SC2016 # the inner shell expands
+    find "$1" -name '*.windows' | sed 's/\.windows$//' | xargs -P "$jobs" -I{} bash -c 'nice -n 10 "$0" < "$1.windows" > "$1.peep" 2> "$1.log"' "$folder/learner" {}
+}
+
+# rules NAME REGS LEFT BUDGET POOL [KNOWN]: the rules that take an instruction away from a window, as $folder/NAME/seen.peep; with KNOWN only those of windows
+# with a number that this pool lacks.
+rules() {
+    local room=$folder/$1 listing now
+    mkdir -p "$room/windows"
+    for listing in "$folder"/cut/*/*.s; do
+        now=$room/windows/$(basename "$(dirname "$listing")")-$(basename "$listing")
+        [ -s "$now" ] || nice -n 10 "$folder/harvest" windows "${@:2:4}" < "$listing" > "$now" 2> "$folder/harvest.log"
+    done
+    now=$room/seen.peep
+    if [ ! -s "$now" ]; then
+        "$top/driver/peep-table" windows "$room/seen.windows" "$room"/windows/*.s
+        [ -z "${6:-}" ] || "$top/driver/peep-table" others "$room/seen.windows" "$6" "$room/seen.windows"
+        learnt_in_parts "$room/seen"
+        "$top/driver/peep-table" merge "$now" "$room"/seen/*.peep
+    fi
+}
+
+# widened NAME: these and those of the same left sides under other masks, as $folder/NAME/wide.peep. From the widest masks down, since one that is covered isn't tried.
+widened() {
+    local room=$folder/$1 now=$folder/$1/seen.peep items
+    [ ! -s "$room/wide.peep" ] || return 0
+    for items in 7 6 5 4 3 2 1; do
+        "$top/driver/peep-table" widen "$now" "$room/wide$items.windows" "$items"
+        grep -q '^entry' "$room/wide$items.windows" || continue
+        learnt_in_parts "$room/wide$items"
+        "$top/driver/peep-table" merge "$room/now$items.peep" "$now" "$room/wide$items"/*.peep
+        now=$room/now$items.peep
+    done
+    cp "$now" "$room/wide.peep"
+}
+
+# shipped TABLE WINDOWS BYTES: learns some windows anew, by the few states that they need, and ships the entries that aren't longer, audited and with trimmed proofs.
+shipped() {
+    learnt "$2"
+    "$top/driver/peep-table" filter "$2.peep" "$2.kept.peep" "$3"
+    "$top/driver/peep-table" merge "$here/$1.peep" "$2.kept.peep"
+    "$top/peep" trim "$here/$1.peep" "$here/$1.peep"
+}
+
+# used NAME RULES LEAST: the left sides and masks of rules that windows of at least so many files have.
+used() { "$top/driver/peep-table" used "$folder/$1/used$3.windows" "$3" "$folder/$1/$2.peep" "$folder/$1"/windows/*.s; }
 
 built harvest live_items/plain.rs
 built learner learner/plain.rs
 fetch
 "$here/listings.py" --most "$most" --jobs "$jobs" learn "$folder/sources" "$folder/Os" "${core[@]}" -Os -ffunction-sections -fdata-sections
 "$here/listings.py" --most "$most" --jobs "$jobs" learn "$folder/sources" "$folder/O2" "${core[@]}" -O2
-for package in "$folder"/O[s2]/*; do windows_of "$package"; done
-"$top/driver/peep-table" windows "$folder/seen.windows" "$folder"/windows/*.s
-learnt seen
-"$top/driver/peep-table" widen "$folder/seen.peep" "$folder/wide.windows"
-learnt wide
-"$top/driver/peep-table" merge "$here/size.peep" "$folder/seen.peep" "$folder/wide.peep"
+cut_all
+rules size 4 3 1000 "$usual"
+widened size
+used size wide 2
+shipped size "$folder/size/used2" 5000
+used size wide 1
+"$top/driver/peep-table" without "$folder/size/rest.windows" "$folder/size/used1.windows" "$here/size.peep"
+shipped size-rare "$folder/size/rest" 20000
+rules numbers 4 3 1000 "$second" "$usual"
+used numbers seen 1
+shipped size-numbers "$folder/numbers/used1" 5000
+rules others 4 3 1000 "$third" "$usual"
+used others seen 1
+shipped size-others "$folder/others/used1" 5000

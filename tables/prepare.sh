@@ -17,3 +17,13 @@ if cd lwip-*/ 2> /dev/null; then
     printf '%s\n' '#include <stdio.h>' '#include <stdlib.h>' '#define LWIP_PLATFORM_DIAG(x)' '#define LWIP_PLATFORM_ASSERT(x) abort()' '#define LWIP_RAND() ((unsigned)rand())' > made/arch/cc.h
     cd ..
 fi
+if cd expat-*/ 2> /dev/null; then
+    mkdir -p made
+    : > made/expat_config.h
+    cd ..
+fi
+if cd speex-*/ 2> /dev/null; then
+    mkdir -p made
+    printf '%s\n' 'typedef short spx_int16_t;' 'typedef unsigned short spx_uint16_t;' 'typedef int spx_int32_t;' 'typedef unsigned int spx_uint32_t;' > made/speex_config_types.h
+    cd ..
+fi

@@ -4,7 +4,6 @@ from __future__ import annotations
 
 import os
 import sys
-from pathlib import Path
 
 from .settings import Settings, settings_for
 from .unit import make, plain
@@ -29,7 +28,7 @@ Settings come from the environment, then from the file peep-cc.toml in this fold
     PEEP_CC       compiler   the compiler, with words of its own if need be (arm-none-eabi-gcc)
     PEEP          program    the program peep (the one that ./peep built, or peep in the path)
     PEEP_TABLES   tables     the tables, joined by colons, or a list in the file (those of the folder tables/)
-    PEEP_LEARN    learn      1 or true: tables are learnt from each file, too, which takes seconds to minutes
+    PEEP_LEARN    learn      1 or true: tables are learnt from each file, too, which takes a second or more
     PEEP_LOG      log        the log (peep-cc.log beside peep-cc.toml, or where the compiler runs); empty: none
     PEEP_KEEP     keep       1 or true: the shorter listing is kept beside the object, as OBJECT.peep.s
     PEEP_SECONDS  seconds    how long one run of peep may take (300)
@@ -68,7 +67,7 @@ def own_command(words: list[str], settings: Settings) -> int:
 
 def main(called: str, words: list[str]) -> int:
     """Runs a command line, called by some name."""
-    settings = settings_for(os.path.basename(called), Path.cwd())
+    settings = settings_for(os.path.basename(called), os.getcwd())
     if words and words[0].startswith("--peep-"):
         return own_command(words, settings)
     asked = compilation(words)

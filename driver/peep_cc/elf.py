@@ -2,15 +2,16 @@
 
 from __future__ import annotations
 
+import os
 import struct
-from pathlib import Path
 
 ALLOCATED, EXECUTABLE = 2, 4
 
 
-def text_size(path: Path | str) -> int:
+def text_size(path: str | os.PathLike[str]) -> int:
     """The bytes of all sections of an object that are loaded and run. What is no ELF file of 32 bits, lowest byte first, has none."""
-    data = Path(path).read_bytes()
+    with open(path, "rb") as file:
+        data = file.read()
     if data[:6] != b"\x7fELF\x01\x01" or len(data) < 52:
         return 0
     start, size, count = struct.unpack_from("<I", data, 32)[0], *struct.unpack_from("<HH", data, 46)

@@ -7,9 +7,10 @@ that something outside reaches), or where `peep` would refuse a line anyway.
 from __future__ import annotations
 
 import re
-from collections import Counter
+from collections import Counter, namedtuple
 from collections.abc import Iterator
-from dataclasses import dataclass, field
+
+from .files import lines_of
 
 LONGEST_LINE = 1024
 
@@ -18,11 +19,14 @@ LABEL = re.compile(rf"\s*({NAME}):\s*(?:@.*)?$")
 TYPE = re.compile(rf"\s*\.type\s+({NAME})\s*,\s*[%#@]function\b")
 SIZE = re.compile(rf"\s*\.size\s+({NAME})\s*,")
 SECTION = re.compile(r"\s*\.(?:(text|data|bss)\b|(?:section|pushsection)\s+([^\s,]+)\s*(?:,\s*\"([^\"]*)\")?|(popsection|previous|subsection)\b)")
+SECTION_WORDS = (".text", ".data", ".bss", ".section", ".pushsection", ".popsection", ".previous", ".subsection")
 MENTION = re.compile(r"\.L[\w.$]+")
+BRANCH = re.compile(r"\s+b\w*\s+(\.L[\w.$]+)\s*(?:@.*)?$")
 PLACE = re.compile(r"\s*\.loc\s+(\d+)\s+(\d+)")
 FILE = re.compile(r'\s*\.file\s+(\d+)\s+(?:"([^"]*)"\s+)?"([^"]*)"')
 SOURCE_LINE = re.compile(r"@ (\S.*):(\d+): ")
 CORE = re.compile(r"\s*\.(?:cpu\s+cortex-m(?:0|0plus|1)(?:\.small-multiply)?|arch\s+armv6s?-m)\s*(?:@.*)?$")
+IP = re.compile(r"\b(?:ip|r12)\b")
 OTHER_CORE = re.compile(r"\s*\.(?:cpu|arch)\s")
 # tells the unwinder of C++ what a prologue did, and nothing of what runs
 UNWINDING = re.compile(r"\s*\.(fnstart|fnend|cantunwind|save|pad|setfp|movsp|personality\w*|handlerdata)\b")
@@ -32,22 +36,24 @@ REGISTERS = {*(f"r{number}" for number in range(13)), "sp", "lr", "pc", "ip", "f
 
 # lines by which a function is left out, each with what is said of it
 LEFT_OUT = [
-    (re.compile(r"__gnu_thumb1_case_|__ARM_common_switch|__switch\d+\b"), "a jump table"),
-    (re.compile(r"\sblx?\s+_?_call_via_"), "a call with a convention of its own"),
-    (re.compile(r"\s*\.syntax\s+divided\b"), "inline assembly in the old syntax"),
-    (re.compile(r"\s*\.(arm|code\s+32)\b"), "Arm code"),
-    (re.compile(r"\s*\.(byte|2byte|short|hword|half|8byte|quad|ascii|asciz|string|space|skip|zero|fill|float|double|single|inst|incbin|ltorg|pool|org)\b"), "data in code"),
-    (re.compile(r"\s*\.(thumb_set|set|equ|equiv|macro|endm|rept|endr|irp|if|else|endif|include|altmacro)\b"), "a directive in code"),
-    (re.compile(r"\s(?:add|mov|ldr|adds|sub|cmp|bx|blx)\b[^@]*[\s,\[]pc\b"), "pc as an operand"),
-    (re.compile(r"\s(mrs|msr)\s+(?![^@]*\b(?:primask|ipsr)\b)", re.IGNORECASE), "a special register"),
+    (r"__gnu_thumb1_case_|__ARM_common_switch|__switch\d+\b", "a jump table"),
+    (r"\sblx?\s+_?_call_via_", "a call with a convention of its own"),
+    (r"\s*\.syntax\s+divided\b", "inline assembly in the old syntax"),
+    (r"\s*\.(arm|code\s+32)\b", "Arm code"),
+    (r"\s*\.(byte|2byte|short|hword|half|8byte|quad|ascii|asciz|string|space|skip|zero|fill|float|double|single|inst|incbin|ltorg|pool|org)\b", "data in code"),
+    (r"\s*\.(thumb_set|set|equ|equiv|macro|endm|rept|endr|irp|if|else|endif|include|altmacro)\b", "a directive in code"),
+    (r"\s(?:add|mov|ldr|adds|sub|cmp|bx|blx)\b[^@]*[\s,\[]pc\b", "pc as an operand"),
+    (r"\s(mrs|msr)\s+(?![^@]*\b(?:primask|ipsr)\b)", "a special register"),
 ]
+
+LEAVES = re.compile("|".join(pattern for pattern, _ in LEFT_OUT), re.IGNORECASE)
 
 
 def cut(text: str) -> tuple[list[str], list[str], Counter[str]]:
     """The lines of code (those of the sections .text and .text.NAME, and those before any section), the other lines, and how many of these each section has."""
     code, rest, counts = [], [], Counter()
     section = ".text"
-    for line in text.splitlines(keepends=True):
+    for line in lines_of(text):
         found = SECTION.match(line)
         if found and not found[4]:
             section = f".{found[1]}" if found[1] else found[2]
@@ -59,20 +65,20 @@ def cut(text: str) -> tuple[list[str], list[str], Counter[str]]:
     return code, rest, counts
 
 
-@dataclass
 class Function:
     """A function of a listing: its lines are those from its label to its `.size`."""
 
-    name: str
-    first: int
-    """The number of its first line in the listing, from 0."""
-    lines: list[str]
-    why: str | None = None
-    """Why it is left as it is."""
-    at: int | None = None
-    """The line of its own, from 0, by which it is left as it is."""
-    new: list[str] | None = field(default=None, repr=False)
-    """Its lines as `peep` leaves them."""
+    def __init__(self, name: str, first: int, lines: list[str]) -> None:
+        """Its first line has this number in the listing, from 0."""
+        self.name = name
+        self.first = first
+        self.lines = lines
+        self.why: str | None = None
+        """Why it is left as it is."""
+        self.at: int | None = None
+        """The line of its own, from 0, by which it is left as it is."""
+        self.new: list[str] | None = None
+        """Its lines as `peep` leaves them."""
 
     def leave(self, why: str, at: int | None = None) -> None:
         """Leaves it as it is, for the first reason that is found."""
@@ -90,7 +96,12 @@ class Function:
 
 def is_instruction(line: str) -> bool:
     """Whether a line is an instruction with no label before it."""
-    return re.match(r"\s+[A-Za-z]", line) is not None
+    return line[:1].isspace() and line.lstrip()[:1].isalpha()
+
+
+def is_comment(line: str) -> bool:
+    """Whether a line is a comment alone: what the compiler tells of the source."""
+    return line.lstrip().startswith("@")
 
 
 def statement(line: str) -> str:
@@ -98,10 +109,7 @@ def statement(line: str) -> str:
     return " ".join(line.split("@")[0].split())
 
 
-@dataclass
-class _Section:
-    name: str = ".text"
-    is_code: bool = True
+_Section = namedtuple("_Section", "name is_code", defaults=(".text", True))
 
 
 def _section_of(found: re.Match[str], before: _Section, saved: list[_Section], line: str) -> _Section:
@@ -123,21 +131,22 @@ def functions_of(lines: list[str]) -> tuple[list[Function], Counter[str]]:
     is_unified = False
     start: tuple[str, int] | None = None
     for number, line in enumerate(lines):
+        text = line.lstrip()
         if start is None:
             if found := TYPE.match(line):
                 marked.add(found[1])
             if (found := LABEL.match(line)) and found[1] in marked and section.is_code and is_unified:
                 start = (found[1], number)
-        elif (found := SIZE.match(line)) and found[1] == start[0]:
+        elif text.startswith(".size") and (found := SIZE.match(line)) and found[1] == start[0]:
             functions.append(Function(start[0], start[1], lines[start[1] : number + 1]))
             start = None
             continue
-        if re.match(r"\s*\.syntax\s", line):
+        if text.startswith(".syntax"):
             is_unified = "unified" in line
-        if found := SECTION.match(line):
+        elif text.startswith(SECTION_WORDS) and (found := SECTION.match(line)):
             section = _section_of(found, section, saved, line)
-        if start is None and not section.name.startswith(".debug"):
-            outside.update([] if LABEL.match(line) else MENTION.findall(line.split("@")[0]))
+        if start is None and ".L" in text and not section.name.startswith(".debug") and not LABEL.match(line):
+            outside.update(MENTION.findall(line.split("@")[0]))
     return functions, outside
 
 
@@ -151,7 +160,9 @@ def judge(functions: list[Function], outside: Counter[str]) -> None:
     """Leaves out the functions that are known beforehand to be none for `peep`."""
     local = {function.name for function in functions}
     mentions = [_mentions(function) for function in functions]
-    everywhere = sum(mentions, Counter(outside))
+    everywhere = Counter(outside)
+    for own in mentions:
+        everywhere.update(own)
     for function, own in zip(functions, mentions):
         _judge_labels(function, everywhere, own)
         for number, line in enumerate(function.lines):
@@ -162,7 +173,7 @@ def judge(functions: list[Function], outside: Counter[str]) -> None:
 
 def _mentions(function: Function) -> Counter[str]:
     """How often a function's lines mention each local label, those that define it not counted."""
-    return Counter(label for line in function.lines if not LABEL.match(line) for label in MENTION.findall(line.split("@")[0]))
+    return Counter(label for line in function.lines if ".L" in line and not LABEL.match(line) for label in MENTION.findall(line.split("@")[0]))
 
 
 def _judge_labels(function: Function, everywhere: Counter[str], mentions: Counter[str]) -> None:
@@ -170,21 +181,22 @@ def _judge_labels(function: Function, everywhere: Counter[str], mentions: Counte
     if function.name.lower() in REGISTERS:
         function.leave("a name that is a register's", 0)
     for number, line in enumerate(function.lines):
-        if (found := LABEL.match(line)) and everywhere[found[1]] > mentions[found[1]]:
+        if ":" in line and (found := LABEL.match(line)) and everywhere[found[1]] > mentions[found[1]]:
             function.leave("a label that something outside mentions", number)
-        elif (found := re.match(rf"\s+b\w*\s+(\.L[\w.$]+)\s*(?:@.*)?$", line)) and found[1] not in own:
+        elif ".L" in line and (found := BRANCH.match(line)) and found[1] not in own:
             function.leave("a branch to a label outside", number)
 
 
 def _judge_line(function: Function, number: int, line: str) -> None:
-    if len(line.rstrip("\n").encode()) > LONGEST_LINE:
+    if is_comment(line):
+        return
+    if len(line) > LONGEST_LINE // 4 and len(line.rstrip("\n").encode(errors="surrogateescape")) > LONGEST_LINE:
         function.leave("a line of more than 1,024 bytes", number)
     if SECTION.match(line):
         function.leave("a change of section", number)
-    if not TRAP.match(line) and not line.lstrip().startswith("@"):
-        for pattern, why in LEFT_OUT:
-            if pattern.search(line.split("@")[0].rstrip("\n") + "\n"):
-                function.leave(why, number)
+    text = line.split("@")[0].rstrip("\n") + "\n"
+    if LEAVES.search(text) and not TRAP.match(line):
+        function.leave(next(why for pattern, why in LEFT_OUT if re.search(pattern, text, re.IGNORECASE)), number)
 
 
 def _ways_of_ip(code: str, after: bool, at: dict[str, bool], local: set[str]) -> tuple[bool, bool]:
@@ -203,9 +215,9 @@ def _ways_of_ip(code: str, after: bool, at: dict[str, bool], local: set[str]) ->
 def keeps_ip(lines: list[str], local: set[str]) -> bool:
     """Whether a call of a function of the same file may leave ip in which something is kept: gcc knows what such a function writes (-fipa-ra), while for `peep`
     a call of a name that isn't shown to it changes ip."""
-    code = [statement(line) for line in lines]
-    if not any(re.search(r"\b(ip|r12)\b", text) for text in code):
+    if not any(IP.search(line) for line in lines if "ip" in line or "r12" in line):
         return False
+    code = [statement(line) for line in lines]
     labels = {index: found[1] for index, line in enumerate(lines) if (found := LABEL.match(line))}
     at: dict[str, bool] = {}
     while True:
@@ -222,12 +234,8 @@ def keeps_ip(lines: list[str], local: set[str]) -> bool:
             return False
 
 
-@dataclass(frozen=True)
-class Origin:
+class Origin(namedtuple("Origin", "file line")):
     """A file of the source and a line of it."""
-
-    file: str
-    line: int
 
     def __str__(self) -> str:
         return f"{self.file}:{self.line}"

@@ -2,9 +2,9 @@
 
 from __future__ import annotations
 
+import os
 import re
 import subprocess
-from pathlib import Path
 
 WORDS = {2: "usage", 3: "store", 4: "sink", 5: "memory", 6: "big", 7: "missing"}
 
@@ -44,7 +44,7 @@ class Program:
         self.path = path
         self.seconds = seconds
 
-    def run(self, *words: str | Path) -> str:
+    def run(self, *words: str | os.PathLike[str]) -> str:
         """Runs a command, and returns what it prints."""
         try:
             ran = subprocess.run([self.path, *map(str, words)], capture_output=True, text=True, errors="replace", timeout=self.seconds, stdin=subprocess.DEVNULL)
@@ -63,7 +63,7 @@ class Program:
             raise RefusedLine(f"peep {words[0]}: {said}", int(found[1]), int(found[2]))
         raise Refused(f"peep {words[0]}: {said}")
 
-    def rewrite(self, table: Path | str, listing: Path, out: Path) -> int:
+    def rewrite(self, table: str, listing: str, out: str) -> int:
         """Rewrites a listing by a table, and returns how many windows were replaced."""
         said = self.run("rewrite", table, listing, out, "-")
         found = re.match(r"replaced (\d+)\n", said)
@@ -71,6 +71,6 @@ class Program:
             raise ProgramError(f"peep rewrite: printed {said!r}")
         return int(found[1])
 
-    def learn(self, listing: Path, out: Path, options: list[str]) -> None:
+    def learn(self, listing: str, out: str, options: list[str]) -> None:
         """Learns a table from a listing."""
         self.run("learn", listing, out, *options)

@@ -2,12 +2,13 @@
 
 from __future__ import annotations
 
+import os
 import re
 from collections import Counter
 from collections.abc import Callable, Iterable
-from dataclasses import dataclass, field
-from pathlib import Path
 
+from .choice import LONGEST, Shelf, keys_in
+from .files import lines_of, read_text, write_text
 from .listing import LABEL, Function, statement
 from .program import KINDS, Program, ProgramError, Refused, RefusedLine
 from .splice import Shown, parts, shown, take_back
@@ -23,28 +24,28 @@ LEARNING = [
 POOL_SIZE = 16
 DERIVED = 6
 USUAL = [255, 16, 24, 31, 2, 4, 8, 3]
-IN_WINDOWS = re.compile(
+IN_WINDOWS = (
     r"(adds|subs|movs|cmp|lsls|lsrs|asrs|ands|eors|adcs|sbcs|rors|tst|rsbs|negs|cmn|orrs|muls|bics|mvns|mov|add|[su]xt[bh]|rev|rev16|revsh) ((?:r[0-7](?:, )?)+)(?:#(\w+))?$"
 )
 
 
-@dataclass
 class Told:
     """What came of rewriting the functions of a unit."""
 
-    replaced: int = 0
-    runs: int = 0
-    notes: list[str] = field(default_factory=list)
+    def __init__(self) -> None:
+        self.replaced = 0
+        self.notes: list[str] = []
 
 
 def runs_of_numbers(lines: Iterable[str]) -> list[list[int | None]]:
     """The numbers of the instructions that stand side by side in windows, nothing where one has none."""
     runs: list[list[int | None]] = [[]]
+    in_windows = re.compile(IN_WINDOWS)
     for line in lines:
         text = statement(line)
-        if LABEL.match(line) or (text and not text.startswith(".") and not IN_WINDOWS.match(text)):
+        if LABEL.match(line) or (text and not text.startswith(".") and not in_windows.match(text)):
             runs.append([])
-        elif found := IN_WINDOWS.match(text):
+        elif found := in_windows.match(text):
             runs[-1].append(int(found[3], 0) if found[3] and re.fullmatch(r"\d+|0x[0-9a-f]+", found[3]) else None)
     return [run for run in runs if len(run) > 1]
 
@@ -71,11 +72,16 @@ def pool(lines: Iterable[str], derived: bool) -> str:
 class Rewriter:
     """Rewrites functions in a folder for its files, by a program, tables, and options of `learn`."""
 
-    def __init__(self, program: Program, tables: list[str], learning: list[str], work: Path):
+    def __init__(self, program: Program, tables: list[str], learning: list[str], work: str | os.PathLike[str]) -> None:
         self.program = program
         self.tables = tables
         self.learning = learning
         self.work = work
+        self.shelves: dict[str, Shelf] = {}
+        self.keys: set[str] | None = None
+        """The keys of the listing as it stands, once they are wanted."""
+        self.is_read = False
+        """Whether `peep` has accepted the lines of the listing."""
         self.told = Told()
 
     def rewrite(self, functions: list[Function]) -> Told:
@@ -84,30 +90,36 @@ class Rewriter:
             self._rewrite_part(part)
         return self.told
 
+    def _file(self, name: str) -> str:
+        return os.path.join(self.work, name)
+
     def _rewrite_part(self, functions: list[Function]) -> None:
-        listing = self.work / "shown.s"
+        listing = self._file("shown.s")
+        given = self._write(functions, listing)
+        self.is_read = False
         try:
-            given = self._write(functions, listing)
             replaced = self._steps(listing)
         except RefusedLine as refused:
             given = self._without_refused(functions, given, refused, listing)
+            self.is_read = True
             replaced = self._steps(listing) if given.functions else 0
         if replaced:
-            take_back(given, listing.read_text())
+            take_back(given, read_text(listing))
         else:
             for function in given.functions:
                 function.new = function.lines
         self.told.replaced += replaced
 
-    def _write(self, functions: list[Function], listing: Path) -> Shown:
+    def _write(self, functions: list[Function], listing: str) -> Shown:
         given = shown([function for function in functions if function.why is None])
-        listing.write_text(given.text())
+        write_text(listing, given.text())
+        self.keys = None
         return given
 
-    def _without_refused(self, functions: list[Function], given: Shown, refused: RefusedLine | None, listing: Path) -> Shown:
+    def _without_refused(self, functions: list[Function], given: Shown, refused: RefusedLine | None, listing: str) -> Shown:
         """Leaves out each function that has a refused line, tried by a table without entries, which takes no audit."""
-        bare = self.work / "bare.peep"
-        bare.write_text(bare_text(Path(self.tables[0])))
+        bare = self._file("bare.peep")
+        write_text(bare, self._shelf(self.tables[0]).text([]))
         while refused is not None:
             owner = given.owner(refused.line)
             if owner is None:
@@ -119,17 +131,16 @@ class Rewriter:
             refused = self._refused(bare, listing)
         return given
 
-    def _refused(self, table: Path, listing: Path) -> RefusedLine | None:
-        self.told.runs += 1
+    def _refused(self, table: str, listing: str) -> RefusedLine | None:
         try:
-            self.program.rewrite(table, listing, self.work / "tried.s")
+            self.program.rewrite(table, listing, self._file("tried.s"))
         except RefusedLine as refused:
             return refused
         return None
 
-    def _steps(self, listing: Path) -> int:
+    def _steps(self, listing: str) -> int:
         """Takes the tables in turn until as many steps as there are have replaced nothing."""
-        steps: list[Callable[[Path], int]] = [self._by_table(table) for table in self.tables]
+        steps: list[Callable[[str], int]] = [self._by_shipped(table) for table in self.tables]
         steps += [self._by_learning(options) for options in self.learning]
         replaced, quiet, turn = 0, 0, 0
         while steps and quiet < len(steps):
@@ -140,19 +151,50 @@ class Rewriter:
             replaced += now
         return replaced
 
-    def _by_table(self, table: str | Path) -> Callable[[Path], int]:
-        def step(listing: Path) -> int:
-            self.told.runs += 1
-            return self.program.rewrite(table, listing, listing)
+    def _shelf(self, table: str) -> Shelf:
+        if table not in self.shelves:
+            self.shelves[table] = Shelf(read_text(table))
+        return self.shelves[table]
+
+    def _by_shipped(self, table: str) -> Callable[[str], int]:
+        """By the entries of a table whose left sides may stand in the listing, again where what was replaced brings others. `peep` is asked once though there are
+        none, since it tells which lines it refuses."""
+
+        def step(listing: str) -> int:
+            shelf, chosen = self._shelf(table), self._file("chosen.peep")
+            if not shelf.is_table:
+                return self._rewritten(table, listing)
+            tried: set[int] = set()
+            replaced = 0
+            while True:
+                places = shelf.fitting(self._keys(listing))
+                if self.is_read and tried.issuperset(places):
+                    return replaced
+                tried.update(places)
+                write_text(chosen, shelf.text(places))
+                replaced += self._rewritten(chosen, listing)
+                self.is_read = True
 
         return step
 
-    def _by_learning(self, options: str) -> Callable[[Path], int]:
-        def step(listing: Path) -> int:
-            lines = listing.read_text().splitlines()
+    def _rewritten(self, table: str, listing: str) -> int:
+        """Rewrites a listing, and returns how many windows were replaced."""
+        replaced = self.program.rewrite(table, listing, listing)
+        if replaced:
+            self.keys = None
+        return replaced
+
+    def _keys(self, listing: str) -> set[str]:
+        """The keys of a listing's windows."""
+        if self.keys is None:
+            self.keys = keys_in(lines_of(read_text(listing)), LONGEST)
+        return self.keys
+
+    def _by_learning(self, options: str) -> Callable[[str], int]:
+        def step(listing: str) -> int:
+            lines = lines_of(read_text(listing))
             words = [pool(lines, word == "derived") if word in ("own", "derived") else word for word in options.split()]
-            learnt = self.work / "learnt.peep"
-            self.told.runs += 1
+            learnt = self._file("learnt.peep")
             try:
                 self.program.learn(listing, learnt, words)
             except RefusedLine:
@@ -160,21 +202,10 @@ class Rewriter:
             except (Refused, ProgramError) as error:
                 self.told.notes.append(str(error))
                 return 0
-            table = filtered(read_table(learnt.read_text()))
+            table = filtered(read_table(read_text(learnt)))
             if not table.entries:
                 return 0
             write_table(learnt, table)
-            return self._by_table(learnt)(listing)
+            return self._rewritten(learnt, listing)
 
         return step
-
-
-def bare_text(table: Path) -> str:
-    """A table's header and states, with no entry."""
-    lines = []
-    with table.open() as text:
-        for line in text:
-            if line.startswith(("entry", "end")):
-                break
-            lines.append(line)
-    return "".join(lines) + "end\n"

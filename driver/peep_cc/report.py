@@ -5,53 +5,43 @@ from __future__ import annotations
 import json
 import os
 import sys
-from collections import Counter
+from collections import Counter, namedtuple
 from collections.abc import Iterable
-from dataclasses import asdict, dataclass, field
-from pathlib import Path
 
 from .elf import text_size
+from .files import lines_of, read_text
 from .settings import LOG_NAME
 
 
-@dataclass
-class Left:
-    """A function that was left as it was: where, what stood there, and why."""
-
-    function: str
-    where: str
-    line: str
-    why: str
+# a function that was left as it was: where, what stood there, and why
+Left = namedtuple("Left", "function where line why")
+# instructions that gave way to fewer, or to others on the way there
+Replacement = namedtuple("Replacement", "function where old new")
 
 
-@dataclass
-class Replacement:
-    """Instructions that gave way to fewer, or to others on the way there."""
-
-    function: str
-    where: str
-    old: list[str]
-    new: list[str]
-
-
-@dataclass
 class Facts:
     """What came of one object."""
 
-    object: str
-    source: str
-    functions: int = 0
-    handed: int = 0
-    instructions: int = 0
-    handed_instructions: int = 0
-    replaced: int = 0
-    before: int = 0
-    after: int = 0
-    seconds: float = 0.0
-    error: str | None = None
-    left: list[Left] = field(default_factory=list)
-    replacements: list[Replacement] = field(default_factory=list)
-    notes: list[str] = field(default_factory=list)
+    def __init__(self, target: str, source: str) -> None:
+        self.object = target
+        self.source = source
+        self.functions = 0
+        self.handed = 0
+        self.instructions = 0
+        self.handed_instructions = 0
+        self.replaced = 0
+        self.before = 0
+        self.after = 0
+        self.seconds = 0.0
+        self.error: str | None = None
+        self.left: list[Left] = []
+        self.replacements: list[Replacement] = []
+        self.notes: list[str] = []
+
+    def line(self) -> str:
+        """Its line of a log."""
+        told = {**vars(self), "left": [left._asdict() for left in self.left], "replacements": [replacement._asdict() for replacement in self.replacements]}
+        return json.dumps(told) + "\n"
 
     def saved(self) -> int:
         """The bytes of code that are saved."""
@@ -65,7 +55,7 @@ def write_facts(log: str | None, facts: Facts) -> None:
     try:
         at = os.open(log, os.O_WRONLY | os.O_APPEND | os.O_CREAT, 0o666)
         try:
-            os.write(at, (json.dumps(asdict(facts)) + "\n").encode())
+            os.write(at, facts.line().encode())
         finally:
             os.close(at)
     except OSError as error:
@@ -76,23 +66,27 @@ def facts_of(line: str) -> Facts | None:
     """The facts of a line of a log, if it is whole."""
     try:
         said = json.loads(line)
+        facts = Facts(said["object"], said["source"])
         said["left"] = [Left(**left) for left in said["left"]]
         said["replacements"] = [Replacement(**replacement) for replacement in said["replacements"]]
-        return Facts(**said)
+        if said.keys() != vars(facts).keys():
+            return None
+        vars(facts).update(said)
+        return facts
     except (ValueError, TypeError, KeyError):
         return None
 
 
-def logs_below(folder: Path) -> list[Path]:
+def logs_below(place: str | os.PathLike[str]) -> list[str]:
     """The logs in a folder and those below it."""
-    return sorted(folder.rglob(LOG_NAME))
+    return sorted(os.path.join(folder, LOG_NAME) for folder, _, names in os.walk(place) if LOG_NAME in names)
 
 
-def read_logs(logs: Iterable[Path]) -> list[Facts]:
+def read_logs(logs: Iterable[str | os.PathLike[str]]) -> list[Facts]:
     """The last facts of each object that is there."""
     last: dict[str, Facts] = {}
     for log in logs:
-        for line in log.read_text(errors="replace").splitlines():
+        for line in lines_of(read_text(log)):
             facts = facts_of(line)
             if facts is not None:
                 last[facts.object] = facts
@@ -141,8 +135,8 @@ def totals(all_facts: list[Facts]) -> list[str]:
 
 def report(places: list[str], log: str | None) -> int:
     """Prints the report of logs, or of those below folders; by default of the log of the settings, or else those below this folder."""
-    paths = [Path(place) for place in places] or ([Path(log)] if log and os.path.isfile(log) else [Path(".")])
-    logs = [log for path in paths for log in (logs_below(path) if path.is_dir() else [path])]
+    paths = places or ([log] if log and os.path.isfile(log) else ["."])
+    logs = [found for path in paths for found in (logs_below(path) if os.path.isdir(path) else [path])]
     try:
         facts = read_logs(logs)
     except OSError as error:

@@ -3,15 +3,11 @@
 from __future__ import annotations
 
 import os
-import shlex
-import shutil
 import sys
-from dataclasses import dataclass, field
-from pathlib import Path
 
 FILE_NAME = "peep-cc.toml"
 LOG_NAME = "peep-cc.log"
-TOP = Path(__file__).resolve().parents[2]
+TOP = os.path.dirname(os.path.dirname(os.path.dirname(os.path.realpath(__file__))))
 OWN_NAME = "peep-cc"
 COMPILER = "arm-none-eabi-gcc"
 
@@ -31,33 +27,41 @@ class SettingsError(Exception):
     """A setting that can't be read: the build goes on without `peep`."""
 
 
-@dataclass
 class Settings:
     """Where the programs and tables are, and what is to be done."""
 
-    compiler: list[str]
-    program: str | None
-    tables: list[str]
-    learns: bool = False
-    log: str | None = None
-    keeps_listings: bool = False
-    seconds: float = 300.0
-    wrong: str | None = field(default=None)
+    def __init__(self, compiler: list[str], program: str | None, tables: list[str]) -> None:
+        self.compiler = compiler
+        self.program = program
+        self.tables = tables
+        self.learns = False
+        self.log: str | None = None
+        self.keeps_listings = False
+        self.seconds = 300.0
+        self.wrong: str | None = None
+        """What can't be read."""
 
 
-def folder_of_settings(start: Path) -> Path | None:
+def folder_of_settings(start: str) -> str | None:
     """The nearest folder, from `start` upwards, that has a file of settings."""
-    return next((folder for folder in (start, *start.parents) if (folder / FILE_NAME).is_file()), None)
+    folder = os.path.abspath(start)
+    while not os.path.isfile(os.path.join(folder, FILE_NAME)):
+        above = os.path.dirname(folder)
+        if above == folder:
+            return None
+        folder = above
+    return folder
 
 
-def read_file(path: Path) -> dict[str, object]:
+def read_file(path: str) -> dict[str, object]:
     """What a file of settings says."""
     try:
         import tomllib
     except ImportError as error:
         raise SettingsError(f"{path}: Python {sys.version_info[0]}.{sys.version_info[1]} reads no TOML, 3.11 does") from error
     try:
-        said = tomllib.loads(path.read_text())
+        with open(path, "rb") as file:
+            said = tomllib.load(file)
     except (OSError, ValueError) as error:
         raise SettingsError(f"{path}: {error}") from error
     unknown = sorted(set(said) - set(VARIABLES))
@@ -73,11 +77,11 @@ def is_yes(value: object) -> bool:
 
 def next_compiler(name: str) -> str:
     """The program of that name that the path has behind every link to ourselves."""
-    own = (TOP / "driver" / OWN_NAME).resolve()
+    own = os.path.join(TOP, "driver", OWN_NAME)
     for folder in os.environ.get("PATH", os.defpath).split(os.pathsep):
-        found = Path(folder or ".") / name
-        if found.is_file() and os.access(found, os.X_OK) and found.resolve() != own:
-            return str(found)
+        found = os.path.join(folder or ".", name)
+        if os.path.isfile(found) and os.access(found, os.X_OK) and os.path.realpath(found) != own:
+            return found
     return name
 
 
@@ -92,34 +96,46 @@ def compiler_called(name: str) -> str:
 
 def built_program() -> str | None:
     """The proved program, where it is built, or the one that the path has."""
-    built = TOP / "crates" / "peep" / "out" / "peep"
-    return str(built) if os.access(built, os.X_OK) else shutil.which("peep")
+    built = os.path.join(TOP, "crates", "peep", "out", "peep")
+    if os.access(built, os.X_OK):
+        return built
+    import shutil
+
+    return shutil.which("peep")
 
 
 def shipped_tables() -> list[str]:
     """The tables that come with the program."""
-    return [str(path) for path in sorted((TOP / "tables").glob("*.peep"))]
+    folder = os.path.join(TOP, "tables")
+    return [os.path.join(folder, name) for name in sorted(os.listdir(folder)) if name.endswith(".peep")] if os.path.isdir(folder) else []
 
 
 def words_of(value: object) -> list[str]:
     """A setting that is a list, or words in one text."""
-    return [str(word) for word in value] if isinstance(value, list) else shlex.split(str(value))
+    if isinstance(value, list):
+        return [str(word) for word in value]
+    words = str(value)
+    if not set(words) & set("'\"\\#"):
+        return words.split()
+    import shlex
+
+    return shlex.split(words)
 
 
-def paths_of(value: object, folder: Path) -> list[str]:
+def paths_of(value: object, folder: str) -> list[str]:
     """A setting that is a list of paths, or paths joined by colons; those of the file are found from its folder."""
     parts = [str(path) for path in value] if isinstance(value, list) else str(value).split(os.pathsep)
-    return [str(folder / part) for part in parts if part]
+    return [os.path.join(folder, part) for part in parts if part]
 
 
-def settings_for(name: str, start: Path) -> Settings:
+def settings_for(name: str, start: str) -> Settings:
     """The settings for a run under a name in a folder. What can't be read is told in `wrong`."""
     wrong = None
     folder = folder_of_settings(start)
     said: dict[str, object] = {}
     if folder:
         try:
-            said = read_file(folder / FILE_NAME)
+            said = read_file(os.path.join(folder, FILE_NAME))
         except SettingsError as error:
             wrong = str(error)
     home = folder or start
@@ -129,18 +145,18 @@ def settings_for(name: str, start: Path) -> Settings:
     values = {key: value for key, (value, _) in origins.items()}
     compiler = words_of(values.get("compiler") or compiler_called(name))
     compiler[:1] = [next_compiler(compiler[0])] if "/" not in compiler[0] else compiler[:1]
-    log = values.get("log", str(home / LOG_NAME))
-    try:
-        seconds = float(str(values.get("seconds", 300)))
-    except ValueError:
-        seconds, wrong = 300.0, f"seconds: {values['seconds']} is no number"
-    return Settings(
-        compiler=compiler,
-        program=str(values["program"]) if values.get("program") else built_program(),
-        tables=paths_of(*origins["tables"]) if "tables" in origins else shipped_tables(),
-        learns=is_yes(values.get("learn")),
-        log=str(home / str(log)) if log else None,
-        keeps_listings=is_yes(values.get("keep")),
-        seconds=seconds,
-        wrong=wrong,
+    settings = Settings(
+        compiler,
+        str(values["program"]) if values.get("program") else built_program(),
+        paths_of(*origins["tables"]) if "tables" in origins else shipped_tables(),
     )
+    log = values.get("log", LOG_NAME)
+    try:
+        settings.seconds = float(str(values.get("seconds", 300)))
+    except ValueError:
+        wrong = f"seconds: {values['seconds']} is no number"
+    settings.learns = is_yes(values.get("learn"))
+    settings.log = os.path.join(home, str(log)) if log else None
+    settings.keeps_listings = is_yes(values.get("keep"))
+    settings.wrong = wrong
+    return settings

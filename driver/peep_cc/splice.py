@@ -8,9 +8,9 @@ runs on into the next one, which needn't be its neighbour in the file.
 from __future__ import annotations
 
 import re
-from dataclasses import dataclass
 
-from .listing import LABEL, LONG, MENTION, PLACE, TRAP, UNWINDING, Function
+from .files import lines_of
+from .listing import LABEL, LONG, MENTION, PLACE, TRAP, UNWINDING, Function, is_comment
 
 HEAD = ["\t.syntax unified\n", "\t.code 16\n", "\t.text\n"]
 MARK = "@peep-cc "
@@ -23,13 +23,13 @@ class SpliceError(Exception):
     """What came back isn't the listing that was shown."""
 
 
-@dataclass
 class Shown:
     """A listing that is shown to `peep`, and which function and line of it each of its lines stands for."""
 
-    functions: list[Function]
-    lines: list[str]
-    owners: list[tuple[Function, int] | None]
+    def __init__(self, functions: list[Function], lines: list[str], owners: list[tuple[Function, int] | None]) -> None:
+        self.functions = functions
+        self.lines = lines
+        self.owners = owners
 
     def text(self) -> str:
         """The listing's text."""
@@ -41,13 +41,19 @@ class Shown:
 
 
 def _is_hidden(line: str, mentioned: set[str]) -> bool:
-    """Whether `peep` needn't know a line: what unwinding and debug information alone want."""
-    found = LABEL.match(line)
-    return bool(UNWINDING.match(line)) or bool(found and found[1].startswith(".L") and found[1] not in mentioned)
+    """Whether `peep` needn't know a line with a dot: what unwinding and debug information alone want."""
+    if line.lstrip().startswith(".L"):
+        found = LABEL.match(line)
+        return bool(found and found[1] not in mentioned)
+    return UNWINDING.match(line) is not None
 
 
 def _for_peep(line: str, mentioned: set[str]) -> str | None:
     """The line as `peep` is to read it, or nothing where it reads it as it is."""
+    if is_comment(line):
+        return ""
+    if "." not in line:
+        return None
     if _is_hidden(line, mentioned):
         return ""
     if TRAP.match(line):
@@ -61,7 +67,7 @@ def _for_peep(line: str, mentioned: set[str]) -> str | None:
 
 def _shown(function: Function, number: int) -> list[tuple[str, int]]:
     """A function's lines for `peep`, each with the number of the line that it stands for."""
-    mentioned = {label for line in function.lines if not (LABEL.match(line) or PLACE.match(line) or ".size" in line) for label in MENTION.findall(line.split("@")[0])}
+    mentioned = {label for line in function.lines if ".L" in line and not (LABEL.match(line) or PLACE.match(line) or ".size" in line) for label in MENTION.findall(line.split("@")[0])}
     lines = [("\t.thumb_func " + MARK + f"{number} begin\n", 0), (f"\t.type {function.name}, %function {MARK}{number} own\n", 0)]
     for at, line in enumerate(function.lines):
         other = _for_peep(line, mentioned)
@@ -100,12 +106,12 @@ def parts(functions: list[Function]) -> list[list[Function]]:
 
 def take_back(listing: Shown, text: str) -> None:
     """Gives each function of a listing that was shown the lines that came back for it."""
-    lines = text.splitlines(keepends=True)
+    lines = lines_of(text)
     if lines[: len(HEAD)] != HEAD:
         raise SpliceError("the head of the listing didn't come back")
     news: list[list[str]] = []
     for line in lines[len(HEAD) :]:
-        found = MARKED.match(line.rstrip("\n"))
+        found = MARKED.match(line.rstrip("\n")) if MARK in line else None
         if found is None:
             if not news:
                 raise SpliceError("a line stands before the first function")

@@ -5,25 +5,33 @@ Any table is audited from its text before it is used, so nothing here has to be 
 
 from __future__ import annotations
 
+import os
 import re
 from collections.abc import Iterable
-from dataclasses import dataclass, field
-from pathlib import Path
+
+from .files import write_text
 
 
 class TableError(Exception):
     """Tables that don't go together."""
 
 
-@dataclass
 class Entry:
     """A left and a right side, the items that both leave the same, and the proofs, as lines of text."""
 
-    left: list[str] = field(default_factory=list)
-    right: list[str] = field(default_factory=list)
-    mask: frozenset[str] = frozenset()
-    proof: list[str] = field(default_factory=list)
-    opens: list[tuple[int, list[str]]] = field(default_factory=list)
+    def __init__(
+        self,
+        left: list[str] | None = None,
+        right: list[str] | None = None,
+        mask: frozenset[str] = frozenset(),
+        proof: list[str] | None = None,
+        opens: list[tuple[int, list[str]]] | None = None,
+    ) -> None:
+        self.left = left or []
+        self.right = right or []
+        self.mask = mask
+        self.proof = proof or []
+        self.opens = opens or []
 
     def is_shorter(self) -> bool:
         """Whether it takes an instruction away."""
@@ -42,13 +50,13 @@ class Entry:
         return "".join(line + "\n" for line in lines)
 
 
-@dataclass
 class Table:
     """A table's header, its listed states and its entries."""
 
-    head: list[str] = field(default_factory=list)
-    states: list[str] = field(default_factory=list)
-    entries: list[Entry] = field(default_factory=list)
+    def __init__(self, head: list[str] | None = None, states: list[str] | None = None, entries: list[Entry] | None = None) -> None:
+        self.head = head or []
+        self.states = states or []
+        self.entries = entries or []
 
     def text(self) -> str:
         """The table's text."""
@@ -107,7 +115,8 @@ def merged(tables: Iterable[Table]) -> Table:
         if out.head and out.head != table.head:
             raise TableError("tables of different options: " + "; ".join(sorted(set(table.head) ^ set(out.head))))
         out.head = table.head
-        out.states += [state for state in table.states if state not in set(out.states)]
+        known = set(out.states)
+        out.states += [state for state in table.states if state not in known]
         for entry in table.entries:
             key = (tuple(entry.left), entry.mask)
             if key not in best or len(entry.right) < len(best[key].right):
@@ -126,6 +135,6 @@ def drop_told(table: Table, refusal: str) -> bool:
     return True
 
 
-def write_table(path: Path, table: Table) -> None:
+def write_table(path: str | os.PathLike[str], table: Table) -> None:
     """Writes a table's text."""
-    path.write_text(table.text())
+    write_text(path, table.text())

@@ -2,16 +2,13 @@
 
 from __future__ import annotations
 
-import difflib
 import os
-import shutil
 import subprocess
 import sys
-import tempfile
 import time
-from pathlib import Path
 
 from .elf import text_size
+from .files import Folder, lines_of, read_text, write_text
 from .listing import Function, Origin, files_of, functions_of, is_for_core, is_instruction, judge, origins, statement
 from .program import Program, ProgramError
 from .recipe import LEARNING, Rewriter
@@ -34,7 +31,7 @@ def why_plain(settings: Settings) -> str | None:
         return settings.wrong
     if not settings.program:
         return "no program peep: PEEP names it, or ./peep builds it"
-    if not os.access(settings.program, os.X_OK) and shutil.which(settings.program) is None:
+    if not is_program(settings.program):
         return f"no program {settings.program}"
     if not settings.tables:
         return "no table"
@@ -42,13 +39,22 @@ def why_plain(settings: Settings) -> str | None:
     return f"no table {missing[0]}" if missing else None
 
 
+def is_program(name: str) -> bool:
+    """Whether a program of this name can be run."""
+    if os.access(name, os.X_OK):
+        return True
+    import shutil
+
+    return shutil.which(name) is not None
+
+
 class Unit:
     """One object that is being made in a folder for its files."""
 
-    def __init__(self, compilation: Compilation, settings: Settings, work: Path):
+    def __init__(self, compilation: Compilation, settings: Settings, work: str) -> None:
         self.compilation = compilation
         self.settings = settings
-        self.listing = work / (os.path.splitext(os.path.basename(compilation.target))[0] + ".s")
+        self.listing = os.path.join(work, os.path.splitext(os.path.basename(compilation.target))[0] + ".s")
         self.work = work
         self.facts = Facts(os.path.abspath(compilation.target), compilation.source)
 
@@ -61,9 +67,11 @@ class Unit:
         said = self._compiler(words)
         said += self._compiler(self.compilation.assembler_words(self.listing, self.compilation.target))
         folder = os.path.dirname(self.compilation.target)
-        for path in self.work.iterdir():
-            if path.name.endswith(SIDE_FILES):
-                shutil.move(str(path), os.path.join(folder, path.name))
+        for name in os.listdir(self.work):
+            if name.endswith(SIDE_FILES):
+                import shutil
+
+                shutil.move(os.path.join(self.work, name), os.path.join(folder, name))
         return said
 
     def _compiler(self, words: list[str]) -> str:
@@ -76,7 +84,7 @@ class Unit:
         """Rewrites the listing, and keeps the object that comes of it where it is smaller."""
         facts = self.facts
         facts.before = facts.after = text_size(self.compilation.target)
-        lines = self.listing.read_text(encoding="utf-8", errors="surrogateescape").splitlines(keepends=True)
+        lines = lines_of(read_text(self.listing))
         if not is_for_core(lines):
             facts.error = "not for Armv6-M"
             return
@@ -94,10 +102,11 @@ class Unit:
             facts.notes += told.notes if told else []
 
     def _assemble(self, lines: list[str], functions: list[Function]) -> None:
-        short, made = self.work / "short" / self.listing.name, self.work / "short.o"
-        short.parent.mkdir()
+        folder, made = os.path.join(self.work, "short"), os.path.join(self.work, "short.o")
+        short = os.path.join(folder, os.path.basename(self.listing))
+        os.mkdir(folder)
         text = "".join(spliced(lines, functions))
-        short.write_text(text, encoding="utf-8", errors="surrogateescape")
+        write_text(short, text)
         try:
             self._compiler(self.compilation.assembler_words(short, made, tells=False))
         except PlainError as error:
@@ -111,7 +120,7 @@ class Unit:
         put_in_place(made, self.compilation.target)
         self.facts.after = size
         if self.settings.keeps_listings:
-            Path(self.compilation.target + ".peep.s").write_text(text, encoding="utf-8", errors="surrogateescape")
+            write_text(self.compilation.target + ".peep.s", text)
 
     def _tell(self, lines: list[str], functions: list[Function], replaced: int) -> None:
         facts, files = self.facts, files_of(lines)
@@ -134,17 +143,34 @@ class Unit:
 
     def _replacements(self, function: Function, froms: list[Origin | None]) -> list[Replacement]:
         assert function.new is not None
+        places = [place for place, line in enumerate(function.lines) if is_instruction(line)]
+        old = [statement(function.lines[place]) for place in places]
+        new = [statement(line) for line in function.new if is_instruction(line)]
         found = []
-        for kind, first, end, new_first, new_end in difflib.SequenceMatcher(None, function.lines, function.new, autojunk=False).get_opcodes():
-            old = [statement(line) for line in function.lines[first:end] if is_instruction(line)]
-            new = [statement(line) for line in function.new[new_first:new_end] if is_instruction(line)]
-            if kind != "equal" and (old or new):
-                found.append(Replacement(function.name, self._where(froms[min(first, len(froms) - 1)], function, first), old, new))
+        for first, end, new_first, new_end in changes(old, new):
+            at = places[min(first, len(places) - 1)]
+            found.append(Replacement(function.name, self._where(froms[at], function, at), old[first:end], new[new_first:new_end]))
         return found
 
 
-def put_in_place(made: Path, target: str) -> None:
+def changes(old: list[str], new: list[str]) -> list[tuple[int, int, int, int]]:
+    """Where instructions differ: from where to where in the old ones, and in the new ones. Two such places with a single instruction between are one."""
+    import difflib
+
+    found: list[tuple[int, int, int, int]] = []
+    for kind, first, end, new_first, new_end in difflib.SequenceMatcher(None, old, new, autojunk=False).get_opcodes():
+        if kind == "equal":
+            continue
+        if found and first - found[-1][1] <= 1:
+            first, _, new_first, _ = found.pop()
+        found.append((first, end, new_first, new_end))
+    return found
+
+
+def put_in_place(made: str | os.PathLike[str], target: str) -> None:
     """Puts a file in the place of another, at once, so that the other stands where the disk is full."""
+    import shutil
+
     place = os.path.realpath(target)
     beside = f"{place}.peep-{os.getpid()}"
     try:
@@ -175,8 +201,8 @@ def make(compilation: Compilation, settings: Settings, words: list[str]) -> int:
         write_facts(settings.log, facts)
         return plain(settings, words)
     try:
-        with tempfile.TemporaryDirectory(prefix="peep-cc-", ignore_cleanup_errors=True) as name:
-            unit = Unit(compilation, settings, Path(name))
+        with Folder() as name:
+            unit = Unit(compilation, settings, name)
             facts = unit.facts
             said = unit.compile()
             sys.stderr.write(said)

@@ -3,9 +3,7 @@
 from __future__ import annotations
 
 import os
-import shlex
-from dataclasses import dataclass
-from pathlib import Path
+from collections import namedtuple
 
 # words of gcc and clang whose argument is the next word
 TAKES_NEXT = {
@@ -21,16 +19,14 @@ STAYS_PLAIN_FROM = ("-flto", "-save-temps", "--save-temps", "-fdump", "-fprofile
 TO_ASSEMBLER = ("-m", "-Wa,", "-B", "--sysroot", "-specs", "--specs", "--target", "-target", "-fintegrated-as", "-fno-integrated-as", "-integrated-as", "-no-integrated-as", "-gz", "-I", "-Xassembler", "-nostdinc")
 
 
-@dataclass(frozen=True)
-class Compilation:
-    """One object made of one source."""
+class Compilation(namedtuple("Compilation", "source target words")):
+    """One object made of one source, by words without `-c` and without the object."""
 
     source: str
     target: str
     words: tuple[str, ...]
-    """The words without `-c` and without the object."""
 
-    def listing_words(self, listing: Path) -> list[str]:
+    def listing_words(self, listing: str | os.PathLike[str]) -> list[str]:
         """The words that write a listing, with the dependencies of the object where these are asked for."""
         words = [*self.words, "-S", "-o", str(listing)]
         if "-MD" in self.words or "-MMD" in self.words:
@@ -40,7 +36,7 @@ class Compilation:
                 words += ["-MQ", self.target]
         return words
 
-    def assembler_words(self, listing: Path, target: Path | str, tells: bool = True) -> list[str]:
+    def assembler_words(self, listing: str | os.PathLike[str], target: str, tells: bool = True) -> list[str]:
         """The words that assemble a listing. Where it isn't to tell of it, those that ask for the assembler's own listing are left out."""
         kept = [word for group in grouped(self.words) if group[0].startswith(TO_ASSEMBLER) and (tells or not group[0].startswith("-Wa,-a")) for word in group]
         # clang tells of words that it has no use for here
@@ -65,8 +61,11 @@ def spelled_out(words: list[str]) -> list[str]:
     out = []
     for word in words:
         if word.startswith("@") and os.path.isfile(word[1:]):
+            import shlex
+
             try:
-                out += spelled_out(shlex.split(Path(word[1:]).read_text()))
+                with open(word[1:]) as file:
+                    out += spelled_out(shlex.split(file.read()))
                 continue
             except (OSError, ValueError):
                 pass

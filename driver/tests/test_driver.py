@@ -27,6 +27,8 @@ int never(int x)
     return 0;
 }
 """
+# its left side stands in `twice`, so that the program is asked
+TABLE = "peep 1\nentry\nleft lsls r0, r0, #1\nmask r0\nproof\nend\n"
 # takes away each `nop`, and refuses `wfi`, and a table that is empty
 STANDS_IN = """\
 #!/bin/sh
@@ -48,7 +50,7 @@ class Driver(unittest.TestCase):
         self.addCleanup(made.cleanup)
         self.folder = Path(made.name)
         (self.folder / "a.c").write_text(SOURCE)
-        (self.folder / "table.peep").write_text("peep 1\nend\n")
+        (self.folder / "table.peep").write_text(TABLE)
         self.peep = self.script(STANDS_IN)
         self.words = [*CORE, "-Os", "-ffunction-sections", "-masm-syntax-unified", "-c", "a.c"]
         self.plain = self.compiled(COMPILER, "plain.o").read_bytes()
@@ -96,6 +98,12 @@ class Driver(unittest.TestCase):
         self.assertIn("  a.c:3: twice: nop -> nothing\n", ran.stdout)
         self.assertIn("bytes saved (", ran.stdout)
         self.assertEqual(run(DRIVER / "peep-cc", "--peep-report", "nowhere", folder=self.folder).returncode, 1)
+
+    def test_instructions_that_changed(self) -> None:
+        old = ["subs r1, r1, #1", "lsrs r2, r2, #2", "cmp r1, #0", "bne .L3", "movs r0, r1", "ands r0, r2", "tst r1, r2", "beq .L4"]
+        new = ["lsrs r2, r2, #2", "subs r1, #1", "bne .L3", "movs r0, r1", "ands r0, r2", "beq .L4"]
+        self.assertEqual(unit.changes(old, new), [(0, 3, 0, 2), (6, 7, 5, 5)])
+        self.assertEqual(unit.changes(old, old), [])
 
     def test_missing_program(self) -> None:
         self.assertIn("no program", self.stays_plain(PEEP=str(self.folder / "nowhere")))
@@ -145,7 +153,7 @@ class Driver(unittest.TestCase):
     def test_full_disk_for_the_object(self) -> None:
         made, target = self.folder / "plain.o", self.folder / "target.o"
         target.write_bytes(b"as it was")
-        with mock.patch.object(unit.shutil, "copyfile", side_effect=OSError(errno.ENOSPC, "No space left on device")), self.assertRaises(OSError):
+        with mock.patch("shutil.copyfile", side_effect=OSError(errno.ENOSPC, "No space left on device")), self.assertRaises(OSError):
             unit.put_in_place(made, str(target))
         self.assertEqual(target.read_bytes(), b"as it was")
         self.assertEqual([path.name for path in self.folder.iterdir() if ".peep-" in path.name], [])
@@ -203,6 +211,23 @@ class Driver(unittest.TestCase):
         for more in (["-g"], ["-g3", "-O2"], ["-ggdb", "-gdwarf-4"], ["-ffunction-sections", "-fdata-sections"]):
             plain = self.compiled(COMPILER, "a.o", *more).read_bytes()
             self.assertEqual(self.compiled(DRIVER / "peep-cc", "a.o", *more).read_bytes(), plain, more)
+
+    def test_comments_of_any_bytes_and_length(self) -> None:
+        # gcc tells each line of the source beside its instructions
+        lines = SOURCE.encode().splitlines(keepends=True)
+        for comment in (b"/* \xe9 */", "/* \u00e9\u2028\x0c */".encode(), b"/* " + 1200 * b"x" + b" */", b"/* @peep-cc 0 own */"):
+            (self.folder / "a.c").write_bytes(b"".join([*lines[:2], lines[2].rstrip() + comment + b"\r\n", lines[3].rstrip() + comment + b"\n", *lines[4:]]))
+            plain = text_size(self.compiled(COMPILER, "plain.o"))
+            self.assertEqual(text_size(self.compiled(DRIVER / "peep-cc", "a.o")), plain - 2, comment[:20])
+            self.assertIsNone(self.told().error)
+
+    def test_folder_is_gone_behind_each_object(self) -> None:
+        place = self.folder / "place"
+        place.mkdir()
+        for peep in (STANDS_IN, "#!/bin/sh\nkill -9 $$\n"):
+            self.peep = self.script(peep)
+            self.compiled(DRIVER / "peep-cc", "a.o", TMPDIR=str(place))
+            self.assertEqual(list(place.iterdir()), [])
 
     def test_another_core_is_left_alone(self) -> None:
         self.words[0] = "-mcpu=cortex-m4"

@@ -5,39 +5,47 @@ import unittest
 from pathlib import Path
 
 from . import TOP
+from peep_cc.choice import Shelf, keys_in
 from peep_cc.listing import Function
 from peep_cc.program import ProgramError, Refused, RefusedLine
-from peep_cc.recipe import Rewriter, bare_text, pool
+from peep_cc.recipe import Rewriter, pool
 from peep_cc.tables import read_table
 
 MOVES = TOP / "examples" / "moves.peep"
 RULES = TOP / "examples" / "rules.peep"
 
+NAMES = {"mov r0, r0": "one", "mov r1, r1": "two"}
+
 
 class Stand:
-    """Stands for the program: by each table it replaces so many windows, each time the next number; and it refuses lines with a word."""
+    """Stands for the program: by each table it replaces so many windows, each time the next number, and a line by another; and it refuses lines with a word."""
 
-    def __init__(self, counts: dict[str, list[int]], learnt: str = "", refused: str = "") -> None:
-        self.counts, self.learnt, self.refused = counts, learnt, refused
+    def __init__(self, counts: dict[str, list[int]], learnt: str = "", refused: str = "", changes: dict[str, str] | None = None) -> None:
+        self.counts, self.learnt, self.refused, self.changes = counts, learnt, refused, changes or {}
         self.calls: list[str] = []
         self.tables: list[str] = []
 
-    def rewrite(self, table: Path | str, listing: Path, out: Path) -> int:
-        name = Path(table).stem
-        self.calls.append(name)
+    def rewrite(self, table: str, listing: str, out: str) -> int:
+        text = Path(listing).read_text()
         self.tables.append(Path(table).read_text())
-        for number, line in enumerate(listing.read_text().splitlines(), 1):
+        # of what was chosen the entries tell from which table it is
+        sides = [" ".join(entry.left) for entry in read_table(self.tables[-1]).entries]
+        name = NAMES.get(sides[0], "some") if sides and Path(table).stem == "chosen" else Path(table).stem
+        self.calls.append(name)
+        for number, line in enumerate(text.splitlines(), 1):
             if self.refused and self.refused in line:
                 raise RefusedLine("peep rewrite: refused", number, 1)
-        out.write_text(listing.read_text())
         counts = self.counts.get(name, [])
+        for old, new in self.changes.items():
+            text = text.replace(old, new)
+        Path(out).write_text(text)
         return counts.pop(0) if counts else 0
 
-    def learn(self, listing: Path, out: Path, options: list[str]) -> None:
+    def learn(self, listing: str, out: str, options: list[str]) -> None:
         self.calls.append(" ".join(options))
         if not self.learnt:
             raise Refused("peep learn: refused full 70000000")
-        out.write_text(self.learnt)
+        Path(out).write_text(self.learnt)
 
 
 def function(name: str, *body: str) -> Function:
@@ -49,36 +57,36 @@ class Recipe(unittest.TestCase):
         made = tempfile.TemporaryDirectory()
         self.addCleanup(made.cleanup)
         self.work = Path(made.name)
-        for name in ("one", "two"):
-            (self.work / f"{name}.peep").write_text(MOVES.read_text())
+        for side, name in NAMES.items():
+            (self.work / f"{name}.peep").write_text(MOVES.read_text().replace("mov r0, r0", side))
 
     def rewriter(self, stand: Stand, learning: list[str], *tables: str) -> Rewriter:
         return Rewriter(stand, [str(self.work / f"{name}.peep") for name in tables], learning, self.work)  # type: ignore[arg-type]
 
     def test_one_table_is_taken_once(self) -> None:
         stand = Stand({"one": [3]})
-        told = self.rewriter(stand, [], "one").rewrite([function("f", "nop")])
+        told = self.rewriter(stand, [], "one").rewrite([function("f", "mov r7, r7")])
         self.assertEqual((told.replaced, stand.calls), (3, ["one"]))
 
     def test_tables_are_taken_until_none_replaces(self) -> None:
         stand = Stand({"one": [3, 1, 0], "two": [2, 0]})
-        told = self.rewriter(stand, [], "one", "two").rewrite([function("f", "nop")])
+        told = self.rewriter(stand, [], "one", "two").rewrite([function("f", "mov r7, r7")])
         self.assertEqual((told.replaced, stand.calls), (6, ["one", "two", "one", "two"]))
 
     def test_learnt_table_is_cut_to_what_it_does(self) -> None:
         stand = Stand({}, RULES.read_text())
-        self.rewriter(stand, ["--regs 1 --left 4"], "one").rewrite([function("f", "nop")])
+        self.rewriter(stand, ["--regs 1 --left 4"], "one").rewrite([function("f", "mov r7, r7")])
         self.assertEqual(stand.calls, ["one", "--regs 1 --left 4", "learnt"])
         entries = read_table(stand.tables[-1]).entries
         self.assertTrue(entries)
         self.assertTrue(all(entry.is_shorter() for entry in entries))
 
     def test_what_learning_refuses_is_told(self) -> None:
-        told = self.rewriter(Stand({}), ["--regs 1"], "one").rewrite([function("f", "nop")])
+        told = self.rewriter(Stand({}), ["--regs 1"], "one").rewrite([function("f", "mov r7, r7")])
         self.assertEqual(told.notes, ["peep learn: refused full 70000000"])
 
     def test_functions_with_refused_lines_are_left_out(self) -> None:
-        functions = [function("f", "nop"), function("g", "nop", "wfx"), function("h", "nop"), function("i", "wfx")]
+        functions = [function("f", "mov r7, r7"), function("g", "nop", "wfx"), function("h", "nop"), function("i", "wfx")]
         stand = Stand({}, refused="wfx")
         self.rewriter(stand, [], "one").rewrite(functions)
         self.assertEqual([found.why for found in functions], [None, "peep: no line of the listing's grammar", None, "peep: no line of the listing's grammar"])
@@ -90,21 +98,49 @@ class Recipe(unittest.TestCase):
 
     def test_nothing_that_can_be_shown(self) -> None:
         self.rewriter(stand := Stand({}, refused="wfx"), [], "one").rewrite([function("f", "wfx")])
-        self.assertEqual(stand.calls, ["one"])
+        self.assertEqual(stand.calls, ["chosen"])
+
+    def test_only_entries_whose_left_sides_may_stand_there_are_taken(self) -> None:
+        stand = Stand({})
+        self.rewriter(stand, [], "one", "two").rewrite([function("f", "lsls r3, r4, #24", "lsrs r3, r3, #24", "nop")])
+        # the first run is there to tell which lines are refused
+        self.assertEqual(stand.calls, ["chosen"])
+        self.assertEqual((read_table(stand.tables[0]).entries, read_table(stand.tables[0]).states), ([], read_table(MOVES.read_text()).states))
+
+    def test_entries_are_chosen_again_behind_a_replacement(self) -> None:
+        entry = "entry\nleft {}\nmask r0\nproof\n"
+        (self.work / "one.peep").write_text("peep 1\n" + entry.format("mvns r0, r1\nleft adds r0, #1") + entry.format("rev r0, r0") + "end\n")
+        stand = Stand({"some": [1]}, changes={"\tmvns r3, r4\n\tadds r3, #1\n": "\trev r3, r3\n"})
+        self.rewriter(stand, [], "one").rewrite([function("f", "mvns r3, r4", "adds r3, #1")])
+        self.assertEqual([[entry.left for entry in read_table(table).entries] for table in stand.tables], [[["mvns r0, r1", "adds r0, #1"]], [["rev r0, r0"]]])
+
+    def test_keys_of_windows(self) -> None:
+        lines = ["f:\n", "\tsubs\tr1, r1, #0x10\t@ tmp, x\n", "\t.loc 1 2 3\n", "@ a.c:3: y\n", "\tcmp\tr2, r1\n", ".L1:\n", "\tnegs\tr0, r1\n", "\tldr\tr0, [r1]\n", "\tmov\tr0, r9\n"]
+        self.assertEqual(keys_in(lines, 3), {"subs#16.0", "cmp.0.1", "subs#16.0 cmp.1.0", "rsbs#0.0.1", "mov.0.1"})
+        self.assertEqual(keys_in(lines, 1), {"subs#16.0", "cmp.0.1", "rsbs#0.0.1", "mov.0.1"})
+
+    def test_left_sides_are_found_by_other_names_of_their_registers(self) -> None:
+        entry = "entry\nleft subs r0, #1\nleft adds r1, r0, r1\nmask r0\nproof\n"
+        shelf = Shelf("peep 1\n" + entry + "end\n")
+        for code, places in (("subs r5, r5, #1\n\tadds r3, r5, r3", [0]), ("subs r5, #1\n\tadds r5, r3, r5", []), ("subs r5, #2\n\tadds r3, r5, r3", [])):
+            self.assertEqual(shelf.fitting(keys_in([f"\t{line}\n" for line in code.split("\n\t")], 5)), places, code)
+
+    def test_a_table_comes_back_from_its_entries(self) -> None:
+        shelf = Shelf(RULES.read_text())
+        self.assertTrue(shelf.is_table)
+        self.assertEqual(shelf.text(range(len(shelf.entries))), RULES.read_text())
+        self.assertFalse(Shelf("").is_table)
 
     def test_refused_table(self) -> None:
         class Refuses(Stand):
-            def rewrite(self, table: Path | str, listing: Path, out: Path) -> int:
+            def rewrite(self, table: str, listing: str, out: str) -> int:
                 raise ProgramError("peep rewrite: refused table 1")
 
         with self.assertRaises(ProgramError):
-            self.rewriter(Refuses({}), [], "one").rewrite([function("f", "nop")])
+            self.rewriter(Refuses({}), [], "one").rewrite([function("f", "mov r7, r7")])
 
     def test_pool(self) -> None:
         lines = ["f:", "\tmovs\tr0, #200", "\tadds\tr0, r0, #7\t@ tmp", "\tbl\tg", "\tlsls\tr0, r0, #24", "\tlsrs\tr0, r0, #24", "\tmovs r1, #99", "\tpush {r4}", "\tmovs r2, #77"]
         self.assertEqual(pool(lines, derived=False), "0,1,2,3,4,7,8,16,24,31,99,200,255")
         self.assertEqual(pool(lines, derived=True), "0,1,2,7,8,16,24,25,31,48,75,99,123,193,200,255")
 
-    def test_bare_table(self) -> None:
-        self.assertEqual(read_table(bare_text(RULES)).states, read_table(RULES.read_text()).states)
-        self.assertEqual(bare_text(RULES).splitlines()[-1], "end")
