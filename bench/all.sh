@@ -28,6 +28,7 @@ measure "" bash formulas.sh
 measure "" bash sequences.sh
 measure "" bash prints.sh
 measure python3 bash audit.sh
+measure "" bash trim.sh
 measure "" bash machine_steps.sh
 measure python3 bash listing_lines.sh --all "$listings"
 measure python3 bash rewriting.sh "$listings"

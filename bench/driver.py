@@ -1,10 +1,10 @@
 #!/usr/bin/env python3
 """Measures the driver on the source packages of `tables/packages.txt` that no table was learnt from: compiles each file by the compiler and by the driver, and
-tells by package what was handed over and saved, and the time of both. Audits the shipped tables first.
+tells by package what was handed over and saved, and the time of both, the processor's and the clock's. Audits the shipped tables first.
 
-Use: bench/driver.py SOURCES [--jobs N] [--most N] [--use measure|learn] WORD.., as bench/driver.py ~/sources --jobs 4 -Os -ffunction-sections
+Use: bench/driver.py SOURCES [--jobs N] [--most N] [--use measure|learn] [--alone] WORD.., as bench/driver.py ~/sources --jobs 4 -Os -ffunction-sections
 
-SOURCES is the folder where the packages lie unpacked (`tables/make.sh` fetches them). The settings of the driver hold, PEEP_LEARN=1 among them. An object that is
+SOURCES is the folder where the packages lie unpacked (`tables/make.sh` fetches them). Of each package at most N files are taken, evenly. With --alone the compiler alone isn't run, and no time is compared. The settings of the driver hold, PEEP_LEARN=1 among them. An object that is
 larger than the compiler's, or a file that compiles without the driver only, is told, and ends the script with status 1."""
 
 from __future__ import annotations
@@ -15,18 +15,22 @@ import resource
 import subprocess
 import sys
 import tempfile
+import threading
 import time
 from concurrent.futures import ThreadPoolExecutor
+from dataclasses import dataclass
 from pathlib import Path
 
 TOP = Path(__file__).resolve().parents[1]
 sys.path[:0] = [str(TOP / "driver"), str(TOP / "tables")]
 
 from listings import Package, packages  # noqa: E402
+from peep_cc.elf import text_size  # noqa: E402
 from peep_cc.program import Program, ProgramError  # noqa: E402
 from peep_cc.report import Facts, read_logs, share  # noqa: E402
 from peep_cc.settings import settings_for  # noqa: E402
 
+ONE_AT_A_TIME = threading.Lock()
 CORE = ["-mcpu=cortex-m0", "-mthumb"]
 
 
@@ -38,7 +42,7 @@ def spent() -> float:
 
 def audit_tables() -> None:
     """Audits the tables of the settings."""
-    settings = settings_for("peep-cc", Path.cwd())
+    settings = settings_for("peep-cc", str(Path.cwd()))
     if not settings.program:
         sys.exit("no program peep: PEEP names it, or ./peep builds it")
     for table in settings.tables:
@@ -50,44 +54,84 @@ def audit_tables() -> None:
         print(f"{Path(table).name}: {said}, {os.path.getsize(table)} bytes, {spent() - start:.3f} s of the processor")
 
 
-def compiled(compiler: list[str], package: Package, folder: Path, path: Path, out: Path, words: list[str], log: Path) -> bool:
-    """Compiles a file to an object, and says whether that went well."""
-    target = out / (str(path.relative_to(folder)).replace("/", "_") + ".o")
-    variables = {**os.environ, "PEEP_LOG": str(log), "PEEP_CC": os.environ.get("PEEP_CC", "arm-none-eabi-gcc")}
-    ran = subprocess.run([*compiler, *package.words, "-w", *CORE, *words, "-c", str(path), "-o", str(target)], cwd=folder, capture_output=True, env=variables)
+@dataclass
+class Times:
+    """The seconds that something took: the processor's, user's and system's together, and the clock's."""
+
+    processor: float = 0.0
+    clock: float = 0.0
+
+    def add(self, other: Times) -> None:
+        """Adds others to them, those of several threads too."""
+        with ONE_AT_A_TIME:
+            self.processor += other.processor
+            self.clock += other.clock
+
+
+@dataclass
+class Outcome:
+    """What came of a package."""
+
+    facts: list[Facts]
+    without: Times
+    with_driver: Times
+    is_well: bool
+
+    def times(self) -> str:
+        """Two cells of a table."""
+        return " | ".join(f"{one:.1f}, {other:.1f}" for one, other in ((self.without.processor, self.with_driver.processor), (self.without.clock, self.with_driver.clock)))
+
+
+def compiled(compiler: list[str], words: list[str], folder: Path, variables: dict[str, str], times: Times) -> bool:
+    """Runs a compiler, adds the time that it took, and says whether that went well."""
+    start = time.monotonic()
+    with subprocess.Popen([*compiler, *words], cwd=folder, env=variables, stdout=subprocess.DEVNULL, stderr=subprocess.DEVNULL) as ran:
+        _, status, used = os.wait4(ran.pid, 0)
+        ran.returncode = os.waitstatus_to_exitcode(status)
+    times.add(Times(used.ru_utime + used.ru_stime, time.monotonic() - start))
     return ran.returncode == 0
 
 
-def measured(package: Package, given: argparse.Namespace, words: list[str], work: Path) -> tuple[list[Facts], str, bool]:
-    """What came of a package, a line on the time that it took, and whether no file went wrong."""
+def measured(package: Package, given: argparse.Namespace, words: list[str], work: Path) -> Outcome:
+    """Compiles a package's files, each without the driver and with it, one behind the other, so that what else the machine does weighs on both alike."""
     folder = package.folder(given.sources.resolve())
-    files = package.files(given.sources.resolve(), given.most)
-    plain_compiler = os.environ.get("PEEP_CC", "arm-none-eabi-gcc").split()
-    seconds, went = [], []
-    for name, compiler in (("plain", plain_compiler), ("short", [str(TOP / "driver" / "peep-cc")])):
-        out = work / name / package.name
-        out.mkdir(parents=True)
-        start = time.monotonic()
-        with ThreadPoolExecutor(given.jobs) as pool:
-            went.append(list(pool.map(lambda path: compiled(compiler, package, folder, path, out, words, work / f"{package.name}.log"), files)))
-        seconds.append(time.monotonic() - start)
     log = work / f"{package.name}.log"
-    facts = read_logs([log]) if log.exists() else []
-    larger = [one for one in facts if one.after > one.before]
-    for one in larger:
-        print(f"larger: {one.object}")
-    is_well = went[0] == went[1] and not larger
-    if went[0] != went[1]:
-        print(f"{package.name}: {sum(went[0])} files compile without the driver, {sum(went[1])} with it")
-    return facts, f"{seconds[0]:.1f} s without, {seconds[1]:.1f} s with the driver", is_well
+    plain_compiler = os.environ.get("PEEP_CC", "arm-none-eabi-gcc")
+    variables = {**os.environ, "PEEP_LOG": str(log), "PEEP_CC": plain_compiler}
+    ways = {"plain": plain_compiler.split(), "short": [str(TOP / "driver" / "peep-cc")]}
+    if given.alone:
+        del ways["plain"]
+    times = {"plain": Times(), "short": Times()}
+    for way in ways:
+        (work / way / package.name).mkdir(parents=True)
+
+    def both(path: Path) -> bool:
+        name = str(path.relative_to(folder)).replace("/", "_") + ".o"
+        targets = {way: work / way / package.name / name for way in ways}
+        went = {
+            way: compiled(compiler, [*package.words, "-w", *CORE, *words, "-c", str(path), "-o", str(targets[way])], folder, variables, times[way])
+            for way, compiler in ways.items()
+        }
+        if len(set(went.values())) > 1:
+            print(f"{package.name}: {name}: the compiler's status isn't the driver's")
+            return False
+        if not given.alone and all(went.values()) and text_size(targets["short"]) > text_size(targets["plain"]):
+            print(f"{package.name}: {name}: larger")
+            return False
+        return True
+
+    with ThreadPoolExecutor(given.jobs) as pool:
+        is_well = all(list(pool.map(both, package.files(given.sources.resolve(), given.most))))
+    return Outcome(read_logs([log]) if log.exists() else [], times["plain"], times["short"], is_well)
 
 
-def row(name: str, facts: list[Facts]) -> str:
+def row(name: str, outcome: Outcome) -> str:
     """A row of a table."""
+    facts = outcome.facts
     before, saved = sum(one.before for one in facts), sum(one.saved() for one in facts)
     every, handed, replaced = (sum(getattr(one, key) for one in facts) for key in ("instructions", "handed_instructions", "replaced"))
     gone = sum(len(replacement.old) - len(replacement.new) for one in facts for replacement in one.replacements)
-    return f"| {name} | {len(facts)} | {before:,} | {saved:,} | {share(saved, before)} | {every:,} | {share(handed, every)} | {replaced} | {gone} | {share(gone, handed)} |"
+    return f"| {name} | {len(facts)} | {before:,} | {saved:,} | {share(saved, before)} | {every:,} | {share(handed, every)} | {replaced} | {gone} | {share(gone, handed)} | {outcome.times()} |"
 
 
 def main() -> int:
@@ -96,23 +140,26 @@ def main() -> int:
     parser.add_argument("--jobs", type=int, default=4)
     parser.add_argument("--most", type=int, default=10_000)
     parser.add_argument("--use", default="measure")
+    parser.add_argument("--alone", action="store_true")
     parser.add_argument("sources", type=Path)
     given, words = parser.parse_known_args()
     audit_tables()
-    everything: list[Facts] = []
-    status, told = 0, []
-    print("| package | objects | code | bytes saved | | instructions | handed over | windows replaced | instructions saved | of those handed over |\n|---|---|---|---|---|---|---|---|---|---|")
+    everything = Outcome([], Times(), Times(), True)
+    told: list[str] = []
+    print("| package | objects | code | bytes saved | | instructions | handed over | windows replaced | instructions saved | of those handed over "
+          "| seconds of the processor, without and with the driver | by the clock, one object beside another |\n" + 12 * "|---" + "|")
     with tempfile.TemporaryDirectory() as name:
         for package in packages(given.use):
-            facts, line, is_well = measured(package, given, words, Path(name))
-            everything += facts
-            status |= not is_well
-            told.append(f"{package.name} {package.version}: {line}")
-            told += sorted({f"{package.name}: {one.error}" for one in facts if one.error})
-            print(row(package.name, facts), flush=True)
+            outcome = measured(package, given, words, Path(name))
+            everything.facts += outcome.facts
+            everything.without.add(outcome.without)
+            everything.with_driver.add(outcome.with_driver)
+            everything.is_well &= outcome.is_well
+            told += sorted({f"{package.name}: {one.error}" for one in outcome.facts if one.error})
+            print(row(f"{package.name} {package.version}", outcome), flush=True)
     print(row("all", everything))
     print("\n".join(told))
-    return status
+    return 0 if everything.is_well else 1
 
 
 if __name__ == "__main__":

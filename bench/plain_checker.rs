@@ -23,6 +23,8 @@ pub struct Checker {
     live: HashMap<u64, Vec<u32>>,
     last: u64,
     pub refuted: bool,
+    /// How many hints the last addition needed.
+    pub used: usize,
     marks: Vec<bool>,
     trail: Vec<u32>,
 }
@@ -31,7 +33,7 @@ impl Checker {
     /// A checker whose live clauses are those given, numbered from 1.
     pub fn new(clauses: Vec<Vec<u32>>) -> Checker {
         let (last, refuted) = (clauses.len() as u64, clauses.iter().any(Vec::is_empty));
-        Checker { live: (1..).zip(clauses).collect(), last, refuted, marks: Vec::new(), trail: Vec::new() }
+        Checker { live: (1..).zip(clauses).collect(), last, refuted, used: 0, marks: Vec::new(), trail: Vec::new() }
     }
 
     fn is_true(&self, literal: u32) -> bool {
@@ -66,7 +68,10 @@ impl Checker {
                 }
             }
             match unset {
-                None => return Ok(()),
+                None => {
+                    self.used = i + 1;
+                    return Ok(());
+                }
                 Some(literal) => self.set(literal),
             }
         }

@@ -22,7 +22,7 @@ pub struct Open { pub number: u64, pub log: Vec<Line> }
 
 pub struct Entry { pub left: Vec<Instr>, pub right: Vec<Instr>, pub mask: u8, pub proof: Vec<Line>, pub opens: Vec<Open> }
 
-pub struct Table { pub regs: u8, pub left: u8, pub seed: u32, pub budget: u32, pub pool: Vec<u8>, pub states: Vec<([u32; 4], u8)>, pub entries: Vec<Entry> }
+pub struct Table { pub version: u8, pub scratch: u8, pub regs: u8, pub left: u8, pub seed: u32, pub budget: u32, pub pool: Vec<u8>, pub states: Vec<([u32; 4], u8)>, pub entries: Vec<Entry> }
 
 /// What follows a mnemonic: registers as `r`, the same register as the first as `=`, and numbers by their ranges.
 enum Shape { Registers(usize), Product, Negation, RegistersAndNumber(usize, u16, u16) }
@@ -156,16 +156,17 @@ fn mask(tail: &str) -> Option<u8> {
 }
 
 /// What may come next.
-enum Place { Start, Regs, Left, Seed, Budget, Pool, States, Sides, Proof, Log, OpenLog, End }
+enum Place { Start, Regs, Left, Seed, Budget, Pool, Scratch, States, Sides, Proof, Log, OpenLog, End }
 
 fn step(table: &mut Table, place: Place, line: &str) -> Option<Place> {
     match place {
-        Place::Start => (line == "peep 1").then_some(Place::Regs),
+        Place::Start => { table.version = number_within(line.strip_prefix("peep ")?, 1, 2)? as u8; Some(Place::Regs) }
         Place::Regs => { table.regs = number_within(line.strip_prefix("regs ")?, 1, 4)? as u8; Some(Place::Left) }
         Place::Left => { table.left = number_within(line.strip_prefix("left ")?, 1, 5)? as u8; Some(Place::Seed) }
         Place::Seed => { table.seed = number_within(line.strip_prefix("seed ")?, 0, u64::from(u32::MAX))? as u32; Some(Place::Budget) }
         Place::Budget => { table.budget = number_within(line.strip_prefix("budget ")?, 1, 1_000_000)? as u32; Some(Place::Pool) }
-        Place::Pool => { table.pool = pool(line.strip_prefix("pool")?)?; Some(Place::States) }
+        Place::Pool => { table.pool = pool(line.strip_prefix("pool")?)?; Some(if table.version == 1 { Place::States } else { Place::Scratch }) }
+        Place::Scratch => { table.scratch = number_within(line.strip_prefix("scratch ")?, 0, 1)? as u8; Some(Place::States) }
         Place::States => {
             if let Some(tail) = line.strip_prefix("state") {
                 table.states.push(state(tail)?);
@@ -225,7 +226,7 @@ fn entry_or_end(table: &mut Table, line: &str) -> Option<Place> {
 }
 
 pub fn read_table(text: &[u8]) -> Result<Table, u64> {
-    let mut table = Table { regs: 0, left: 0, seed: 0, budget: 0, pool: Vec::new(), states: Vec::new(), entries: Vec::new() };
+    let mut table = Table { version: 1, scratch: 0, regs: 0, left: 0, seed: 0, budget: 0, pool: Vec::new(), states: Vec::new(), entries: Vec::new() };
     let mut place = Place::Start;
     let mut line_number = 1;
     let mut rest = text;
@@ -273,9 +274,10 @@ fn write_log(out: &mut Vec<u8>, log: &[Line]) {
 
 pub fn write_table(table: &Table) -> Vec<u8> {
     let mut out = Vec::new();
-    write!(out, "peep 1\nregs {}\nleft {}\nseed {}\nbudget {}\npool", table.regs, table.left, table.seed, table.budget).unwrap();
+    write!(out, "peep {}\nregs {}\nleft {}\nseed {}\nbudget {}\npool", table.version, table.regs, table.left, table.seed, table.budget).unwrap();
     for number in &table.pool { write!(out, " {number}").unwrap(); }
     out.push(b'\n');
+    if table.version > 1 { writeln!(out, "scratch {}", table.scratch).unwrap(); }
     for (r, flags) in &table.states {
         writeln!(out, "state {:08x} {:08x} {:08x} {:08x} {flags:x}", r[0], r[1], r[2], r[3]).unwrap();
     }

@@ -289,8 +289,7 @@ def read_entry(lines):
 
 def read(text):
     lines = Lines(text)
-    lines.take("peep 1")
-    table = {}
+    table = {"version": int(lines.take("peep ([12])")[1]), "scratch": 0}
     for word, least, most in (("regs", 1, 4), ("left", 1, 5), ("seed", 0, WORD), ("budget", 1, 1000000)):
         table[word] = int(lines.take(f"{word} ({NUMBER})")[1])
         if not least <= table[word] <= most:
@@ -298,6 +297,8 @@ def read(text):
     table["pool"] = [int(word) for word in lines.take(f"pool(( ({NUMBER}))+)")[1].split()]
     if table["pool"] != sorted(set(table["pool"])) or table["pool"][-1] > 255 or len(table["pool"]) > 16:
         raise Bad("pool")
+    if table["version"] > 1:
+        table["scratch"] = int(lines.take("scratch ([01])")[1])
     table["states"] = [([int(word, 16) for word in found[0].split()[1:5]], int(found[0].split()[5], 16)) for found in lines.all("state( [0-9a-f]{8}){4} [0-9a-f]")]
     table["entries"] = []
     while lines.match("entry"):
@@ -429,10 +430,12 @@ class Audit:
         k = len(named)
         if named != list(range(k)) or not 1 <= k <= table["regs"] or not 1 <= len(left) <= table["left"] or len(right) > len(left):
             raise Bad("sides")
-        over = sequences(k, tuple(table["pool"]), table["left"], table["seed"])
-        if not all(text in over.numbers for text in left + right) or any(f"r{place}" in entry["mask"] for place in range(k, 4)):
+        most = min(k + table["scratch"], 4)
+        over = sequences(most, tuple(table["pool"]), table["left"], table["seed"])
+        own = sequences(k, tuple(table["pool"]), table["left"], table["seed"])
+        if not all(text in own.numbers for text in left) or not all(text in over.numbers for text in right) or any(f"r{place}" in entry["mask"] for place in range(k, 4)):
             raise Bad("sides over another alphabet")
-        return k, over
+        return most, over
 
     def told_at(self, left, seq, bits, states):
         """The first of the states that tells."""

@@ -2,7 +2,7 @@
 """Takes each listing of a folder through `peep`: learns its table, audits it, rewrites the listing, rewrites what came of it, has GNU as read both, and traces both
 from each label.
 
-Usage: python3 bench/real_runs.py FOLDER [STEPS]
+Usage: python3 bench/real_runs.py FOLDER [STEPS [OPTIONS of learn..]]
 
 A run of the rewritten listing has to tell the events of the given one. They may differ in words that are addresses of code, which lies elsewhere now, and in how
 far STEPS (10,000) steps go. Tells what was counted, and ends with status 1 where something else differs. PEEP names another program than ./peep.
@@ -73,9 +73,9 @@ def trace_both(given, rewritten, steps):
             WRONG.append(f"{given.name} from {label}: {kind}")
 
 
-def take(given, work, steps):
+def take(given, work, steps, options):
     table, new, again = (work / name for name in ("table", "new.s", "again.s"))
-    entries = told(peep("learn", given, table))
+    entries = told(peep("learn", given, table, *options))
     FACTS["entries"] += entries["entries"]
     FACTS["open"] += entries["open"]
     if told(peep("audit", table)) != {key: entries[key] for key in ("entries", "open")}:
@@ -92,10 +92,10 @@ def take(given, work, steps):
 
 
 def main():
-    folder, steps = pathlib.Path(sys.argv[1]), int((sys.argv[2:] or [10_000])[0])
+    folder, steps, options = pathlib.Path(sys.argv[1]), int((sys.argv[2:] or [10_000])[0]), sys.argv[3:]
     with tempfile.TemporaryDirectory() as work:
         for given in sorted(folder.glob("*.s")):
-            take(given, pathlib.Path(work), steps)
+            take(given, pathlib.Path(work), steps, options)
     print(", ".join(f"{count:,} {what}" for what, count in FACTS.items()))
     print("\n".join(WRONG))
     sys.exit(bool(WRONG))

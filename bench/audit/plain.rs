@@ -1,5 +1,6 @@
 //! Audits the table whose text stands on standard input in plain Rust: each entry's proof is checked over the formula of its sides; the shorter sequences that
 //! the first state doesn't tell are looked up, and run on the other states until one tells them. Tells on standard error the microseconds of the audit and those of reading.
+//! With the word `trim` it writes the table with trimmed proofs, and tells the microseconds of trimming and writing too.
 
 #[path = "../plain_checker.rs"]
 mod plain_checker;
@@ -19,24 +20,47 @@ use plain_formulas::formula;
 use plain_letters::{alphabet, text_of};
 use plain_outcomes::Outcomes;
 use plain_steps::{Instr, Mask, WState, differ, run};
-use plain_tables::{Entry, Line, read_table, write_instr};
+use plain_tables::{Entry, Line, read_table, write_instr, write_table};
 use std::collections::HashMap;
-use std::io::{self, Read};
+use std::io::{self, Read, Write};
 use std::time::Instant;
 
-/// Whether the proof refutes the formula that the sides differ.
-fn is_refuted(left: &[Instr], right: &[Instr], mask: Mask, k: usize, proof: &[Line]) -> bool {
+/// How many hints each line needs, those of deletions being 0, where the proof refutes the formula that the sides differ.
+fn refutation(left: &[Instr], right: &[Instr], mask: Mask, k: usize, proof: &[Line]) -> Option<Vec<usize>> {
     let mut checker = Checker::new(formula(left, right, mask, k).clauses);
+    let mut used = Vec::with_capacity(proof.len());
     for line in proof {
+        checker.used = 0;
         let answer = match line {
             Line::Addition { id, literals, hints } => checker.add(*id, literals.iter().map(|l| code(i64::from(*l))).collect(), hints),
             Line::Deletion { ids, .. } => checker.delete(ids),
         };
-        if answer.is_err() {
-            return false;
+        answer.ok()?;
+        used.push(checker.used);
+    }
+    checker.refuted.then_some(used)
+}
+
+/// The lines that the first empty clause stands on, each with the hints that it needs.
+fn trimmed(proof: &[Line], used: &[usize]) -> Vec<Line> {
+    let is_empty = |line: &Line| matches!(line, Line::Addition { literals, .. } if literals.is_empty());
+    let Some(end) = proof.iter().position(is_empty) else {
+        return Vec::new();
+    };
+    let most = proof.iter().map(|line| match line { Line::Addition { id, .. } | Line::Deletion { id, .. } => *id }).max().unwrap_or(0);
+    let mut is_named = vec![false; most as usize + 1];
+    let mut kept = Vec::new();
+    for (place, (line, used)) in proof.iter().zip(used).enumerate().take(end + 1).rev() {
+        if let Line::Addition { id, literals, hints } = line {
+            if place == end || is_named[*id as usize] {
+                let hints = hints[..*used].to_vec();
+                hints.iter().for_each(|hint| is_named[*hint as usize] = true);
+                kept.push(Line::Addition { id: *id, literals: literals.clone(), hints });
+            }
         }
     }
-    checker.refuted
+    kept.reverse();
+    kept
 }
 
 /// Whether some sequence of fewer instructions is told by no state.
@@ -68,7 +92,7 @@ fn main() -> io::Result<()> {
     let mut text = Vec::new();
     io::stdin().read_to_end(&mut text)?;
     let start = Instant::now();
-    let Ok(table) = read_table(&text) else {
+    let Ok(mut table) = read_table(&text) else {
         println!("unread");
         return Ok(());
     };
@@ -84,13 +108,28 @@ fn main() -> io::Result<()> {
     };
     let states: Vec<WState> = table.states.iter().map(|(r, nzcv)| WState { r: *r, nzcv: *nzcv }).collect();
     let mut outcomes: Vec<Outcomes> = letters.iter().enumerate().map(|(k, letters)| Outcomes::new(k, letters.clone(), &states[0])).collect();
+    let scratch = u32::from(table.scratch);
+    let mut used = Vec::new();
     let mut is_refused = |entry: &Entry| {
         let (left, right, mask) = (side(&entry.left), side(&entry.right), mask_of(entry.mask));
-        let k = register_count(&left);
-        !is_refuted(&left, &right, mask, k as usize, &entry.proof) || has_untold(&mut outcomes[k as usize], &states, &left, right.len(), mask)
+        let k = (register_count(&left) + scratch).min(4);
+        let Some(hints) = refutation(&left, &right, mask, k as usize, &entry.proof) else {
+            return true;
+        };
+        used.push(hints);
+        has_untold(&mut outcomes[k as usize], &states, &left, right.len(), mask)
     };
     let bad = table.entries.iter().position(|entry| is_refused(entry));
     let auditing = start.elapsed().as_micros();
+    let start = Instant::now();
+    if std::env::args().nth(1).as_deref() == Some("trim") && bad.is_none() {
+        for (entry, used) in table.entries.iter_mut().zip(&used) {
+            entry.proof = trimmed(&entry.proof, used);
+        }
+        io::stdout().write_all(&write_table(&table))?;
+        eprintln!("{auditing} {reading} {}", start.elapsed().as_micros());
+        return Ok(());
+    }
     match bad {
         Some(place) => println!("entry {} is refused", place + 1),
         None => println!("entries {}", table.entries.len()),

@@ -33,6 +33,7 @@ struct Settings {
     seed: u64,
     budget: usize,
     pool: Vec<u32>,
+    scratch: u32,
 }
 
 struct Window {
@@ -101,8 +102,8 @@ fn entry_text(entry: &Entry) -> String {
 
 fn header_text(settings: &Settings) -> String {
     let pool: String = settings.pool.iter().map(|n| format!(" {n}")).collect();
-    let Settings { regs, left, seed, budget, .. } = settings;
-    format!("peep 1\nregs {regs}\nleft {left}\nseed {seed}\nbudget {budget}\npool{pool}\n")
+    let Settings { regs, left, seed, budget, scratch, .. } = settings;
+    format!("peep 2\nregs {regs}\nleft {left}\nseed {seed}\nbudget {budget}\npool{pool}\nscratch {scratch}\n")
 }
 
 fn state_text(state: &WState) -> String {
@@ -238,7 +239,7 @@ impl Learner {
     }
 }
 
-/// How many registers a window names: they are named from r0 on.
+/// How many registers a window names, which are those from r0 on.
 fn register_count(texts: &[&str]) -> u32 {
     let mut count = 0;
     for text in texts {
@@ -267,7 +268,7 @@ fn mask_of(tail: &str) -> Mask {
 
 /// The settings and the windows of a table's text.
 fn read(text: &str) -> (Settings, Vec<Window>) {
-    let mut settings = Settings { regs: 0, left: 0, seed: 0, budget: 0, pool: Vec::new() };
+    let mut settings = Settings { regs: 0, left: 0, seed: 0, budget: 0, pool: Vec::new(), scratch: 0 };
     let mut letters = HashMap::new();
     let mut windows = Vec::new();
     let mut left: Vec<&str> = Vec::new();
@@ -287,8 +288,12 @@ fn read(text: &str) -> (Settings, Vec<Window>) {
                 settings.pool = tail.split(' ').map(|n| n.parse().unwrap()).collect();
                 letters = alphabet(settings.regs, &settings.pool).into_iter().map(|instr| (text_of(&instr), instr)).collect();
             }
+            "scratch" => settings.scratch = tail.parse().unwrap(),
             "left" => left.push(tail),
-            "mask" => windows.push(Window { left: left.iter().map(|text| letters[*text]).collect(), mask: mask_of(tail), k: register_count(&left) }),
+            "mask" => {
+                let k = (register_count(&left) + settings.scratch).min(4);
+                windows.push(Window { left: left.iter().map(|text| letters[*text]).collect(), mask: mask_of(tail), k });
+            }
             _ => {}
         }
     }
