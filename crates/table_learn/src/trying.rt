@@ -42,7 +42,8 @@ pub(crate) fn count_steps<L: Ledger>(count: usize, steps: &mut Steps<L>)
     }
 }
 
-/// Whether some of the states tells two sequences apart under a mask.
+/// Whether some of the states tells two sequences apart under a mask. They are tried from the last to the first: those that were found for a sequence alike tell
+/// most often.
 pub(crate) fn is_told<L: Ledger>(
     states: &[WState],
     left: &Seq,
@@ -55,7 +56,8 @@ pub(crate) fn is_told<L: Ledger>(
     ensures told { result ≡ list_any (λ s. tells_apart left.now right.now mask.items.bits (seen s)) states.now }
     ensures cost { steps.new ≤ steps.old + length states.now * (length left.now + length right.now) }
 {
-    for state in states {
+    for passed in 0..states.len() {
+        let state = &states[states.len() - 1 - passed];
         count_steps(left.len() + right.len(), steps);
         if tells(state, left, right, mask) {
             return true;

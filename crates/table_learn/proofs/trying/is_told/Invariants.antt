@@ -1,12 +1,12 @@
-use Rattle.std.proofs.Common.{◌≡◌, ◌≤◌, ◌+◌, ◌*◌, false, take, length}
-use Rattle.std.specs.List.{list_any}
+use Rattle.std.proofs.Common.{ℕ, true, ◌≡◌, ◌<◌, ◌≤◌, ◌+◌, ◌*◌, length, get_or}
+use Rattle.window_exec.specs.declared.state.WState.{WState}
 use Rattle.window_exec.specs.State.{seen}
 use Rattle.table_learn.specs.Tellings.{tells_apart}
 use Rattle.table_learn.proofs.trying.is_told.Given as goal
 
--- none so far tells
-abbrev pub invariant-loop-state : goal.invariant-loop-state
-invariant-loop-state g l = record {
-  none : list_any (λ s. tells_apart l.left l.right l.mask.items.bits (seen s)) (take l.state-index l.states) ≡ false;
-  cost : l.steps ≤ l.initial.steps + l.state-index * (length l.left + length l.right);
+-- none that was passed tells
+abbrev pub invariant-loop-passed : goal.invariant-loop-passed
+invariant-loop-passed g l = record {
+  none : (k : ℕ) (s : WState) → length l.states ≤ k + l.passed → k < length l.states → get_or l.states k s ≡ s → tells_apart l.left l.right l.mask.items.bits (seen s) ≡ true → ⊥;
+  cost : l.steps ≤ l.initial.steps + l.passed * (length l.left + length l.right);
 }
