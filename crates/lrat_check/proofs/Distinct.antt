@@ -1,6 +1,6 @@
 -- Literals of distinct variables, one more at a time.
 use Rattle.std.proofs.Common.{◌≡◌, ◌≢◌, ℕ, ◌+◌, ◌<◌, List, length, get_or, take, map, sym, ◌∙◌, ap, arith}
-use Rattle.std.specs.Prelude.{Contains}
+use Rattle.std.specs.Prelude.{All, Contains}
 use Rattle.std.proofs.lemmas.List.{take_more, length-take, length-map, get_or-map, get_or-take}
 use Rattle.std.proofs.lemmas.List.Quantifiers.{all_pairs_push}
 use Rattle.clause_model.specs.Literals.{variable_of, HasDistinctVariables}
@@ -11,6 +11,9 @@ module _ (literals : List ℕ) (i l : ℕ) (b : i < length literals) (is : l ≡
 
   pub variable_within : i < length (map variable_of literals)
   variable_within = rw length-map b
+
+  pub distinct_pairs : All (λ m. variable_of m ≢ variable_of l) (take i literals) → HasDistinctVariables (take i literals) → HasDistinctVariables (take (i + 1) literals)
+  distinct_pairs n h = rw (take_more literals i l b, ← is) (all_pairs_push (λ l m. variable_of l ≢ variable_of m) (take i literals) l h n)
 
   pub distinct_next : (Contains (take i (map variable_of literals)) (variable_of l) → ⊥) → HasDistinctVariables (take i literals) → HasDistinctVariables (take (i + 1) literals)
   distinct_next n h = rw (take_more literals i l b, ← is) (all_pairs_push (λ l m. variable_of l ≢ variable_of m) (take i literals) l h (λ k d kb e.

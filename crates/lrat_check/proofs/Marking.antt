@@ -237,20 +237,21 @@ up_or_same ids p i j a b = elim (cases_order i j) [
   | inr (inr l) ↦ absurd (omega arith)
 ]
 
--- what the search for an id leads to
-module _ (ids names : List ℕ) (q : ℕ) (r : Result ℕ ℕ) (old now : List Bool) (h : MarksNamed ids names old now) (p : AllPairs (λ id later. id < later) ids) (s : IsBinarySearchResult (λ y. nat_cmp y q) ids r) where
-  pub search_found : (i : ℕ) → r ≡ Ok i → length now ≡ length ids → MarksNamed ids (names ++ q ∷ []) old (set now i true)
-  search_found i e l =
-      let m = subst (λ (r : Result ℕ ℕ). MatchResult r (λ i. (i < length ids) × (get_or ids i 0 ≡ q)) (λ i. (i ≤ length ids) × ((k : ℕ) → k < i → get_or ids k 0 < q) × ((k : ℕ) → i ≤ k → k < length ids → q < get_or ids k 0))) e (searched ids q r s (up_or_same ids p)) in
-      MarksNamed-found ids names q old now h i p m.0 (let b = m.0 in omega arith) m.1
+-- what the search for an id tells
+module _ (ids : List ℕ) (q : ℕ) (r : Result ℕ ℕ) (p : AllPairs (λ id later. id < later) ids) (s : IsBinarySearchResult (λ y. nat_cmp y q) ids r) where
+  told : MatchResult r (λ i. (i < length ids) × (get_or ids i 0 ≡ q)) (λ i. (i ≤ length ids) × ((k : ℕ) → k < i → get_or ids k 0 < q) × ((k : ℕ) → i ≤ k → k < length ids → q < get_or ids k 0))
+  told = searched ids q r s (up_or_same ids p)
 
-  pub search_missed : (i : ℕ) → r ≡ Err i → MarksNamed ids (names ++ q ∷ []) old now
-  search_missed i e =
-      let m = subst (λ (r : Result ℕ ℕ). MatchResult r (λ i. (i < length ids) × (get_or ids i 0 ≡ q)) (λ i. (i ≤ length ids) × ((k : ℕ) → k < i → get_or ids k 0 < q) × ((k : ℕ) → i ≤ k → k < length ids → q < get_or ids k 0))) e (searched ids q r s (up_or_same ids p)) in
-      MarksNamed-missed ids names q old now h (λ k b f. elim (cases_lt k i) [
+  pub search_found : (i : ℕ) → r ≡ Ok i → (i < length ids) × (get_or ids i 0 ≡ q)
+  search_found i e = subst (λ (r : Result ℕ ℕ). MatchResult r (λ i. (i < length ids) × (get_or ids i 0 ≡ q)) (λ i. (i ≤ length ids) × ((k : ℕ) → k < i → get_or ids k 0 < q) × ((k : ℕ) → i ≤ k → k < length ids → q < get_or ids k 0))) e told
+
+  pub search_missed : (i : ℕ) → r ≡ Err i → (k : ℕ) → k < length ids → get_or ids k 0 ≡ q → ⊥
+  search_missed i e k b f =
+      let m = subst (λ (r : Result ℕ ℕ). MatchResult r (λ i. (i < length ids) × (get_or ids i 0 ≡ q)) (λ i. (i ≤ length ids) × ((k : ℕ) → k < i → get_or ids k 0 < q) × ((k : ℕ) → i ≤ k → k < length ids → q < get_or ids k 0))) e told in
+      elim (cases_lt k i) [
         | inl l ↦ let x : get_or ids k 0 < q = m.1 k l in omega arith
         | inr l ↦ let x : q < get_or ids k 0 = m.2 k l b in omega arith
-      ])
+      ]
 
 -- the marks at the begin
 pub last_marked : (n k : ℕ) → 0 < n → k < n → (get_or (set (replicate n false) (n - 1) true) k false ≡ true → k + 1 ≡ n) × (k + 1 ≡ n → get_or (set (replicate n false) (n - 1) true) k false ≡ true)

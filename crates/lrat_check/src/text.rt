@@ -1,8 +1,8 @@
 //! Lines as the common text form has them, read word by word where they lie, so that a long line needs no list of its words.
-ghost use Rattle.std.specs.Prelude.{◌≡◌, ℕ, ℤ, List, [], ◌∷◌, ◌++◌, ◌==◌, map, decimal, All, MatchOption, OnOk, IfOk, IsTrue, ◌↔◌, false};
+ghost use Rattle.std.specs.Prelude.{◌≡◌, ◌≢◌, ℕ, ℤ, List, [], ◌∷◌, ◌++◌, ◌==◌, map, decimal, All, Any, MatchOption, OnOk, IfOk, IsTrue, ◌↔◌, true, false};
 ghost use Rattle.std.specs.Fmt.{signed_decimal};
 ghost use Rattle.std.specs.List.{slice_split};
-ghost use Rattle.clause_model.specs.Literals.{HasDistinctVariables};
+ghost use Rattle.clause_model.specs.Literals.{HasDistinctVariables, variable_of};
 ghost use Rattle.lrat_check.specs.Numbers.{IsId, IsHint, AllWithin};
 ghost use Rattle.lrat_check.specs.Content.{Content, content_of, addition, deletion};
 ghost use Rattle.lrat_check.specs.Text.{text_of, words_of, middle_of, id_of, spaced, literal_text, end_word, deletion_word, HasGoodParts, IsLine};
@@ -28,10 +28,19 @@ pub fn read_line(alloc: Global, bytes: &[u8]) -> Result<Option<Line>, Memory>
 pub fn write_line(alloc: Global, line: &Line) -> Result<Vec<u8>, Memory>
     ensures { IfOk result (λ text. text.items ≡ text_of (content_of line.now) ++ 10 ∷ []) }
 {
-    let mut out = Vec::new(alloc);
+    let mut out = Vec::with_capacity(alloc, expected_bytes(line))?;
     write_front(line, &mut out)?;
     out.extend_from_slice(b"0\n")?;
     Ok(out)
+}
+
+/// About how many bytes the text of a line has, so that it seldom has to grow while it is written.
+fn expected_bytes(line: &Line) -> usize {
+    let numbers = match line {
+        Line::Addition(addition) => addition.literals.len().saturating_add(addition.hints.len()),
+        Line::Deletion(deletion) => deletion.ids.len(),
+    };
+    numbers.saturating_mul(6).saturating_add(16)
 }
 
 /// Writes all words but the last, and a blank after each.
@@ -141,8 +150,44 @@ fn addition_of(
     }
 }
 
+/// How many literals are compared with one another sooner than kept in a set.
+const FEW: usize = 16;
+
 /// Whether no variable stands twice in it.
 fn has_distinct_variables(alloc: Global, literals: &[Literal]) -> Result<bool, AllocError>
+    ensures { IfOk result (λ r. IsTrue r ↔ HasDistinctVariables literals.now) }
+{
+    if literals.len() <= FEW {
+        Ok(differ_in_pairs(literals))
+    } else {
+        differ_in_set(alloc, literals)
+    }
+}
+
+/// Whether no variable stands twice, by comparing each with those before it.
+fn differ_in_pairs(literals: &[Literal]) -> bool
+    ensures { IsTrue result ↔ HasDistinctVariables literals.now }
+{
+    for (place, literal) in literals.iter().enumerate() {
+        if has_variable(&literals[..place], literal.variable()) {
+            return false;
+        }
+    }
+    true
+}
+
+/// Whether a literal is by the variable.
+fn has_variable(literals: &[Literal], variable: u32) -> bool
+    ensures none { result ≡ false → All (λ l. variable_of l ≢ variable) literals.now }
+    ensures some { result ≡ true → Any (λ l. variable_of l ≡ variable) literals.now }
+{
+    literals
+        .iter()
+        .any(|literal| literal.variable() == variable)
+}
+
+/// Whether no variable stands twice, by a set of those before.
+fn differ_in_set(alloc: Global, literals: &[Literal]) -> Result<bool, AllocError>
     ensures { IfOk result (λ r. IsTrue r ↔ HasDistinctVariables literals.now) }
 {
     let mut seen = HashSet::new(alloc);

@@ -1,6 +1,6 @@
 //! A proof without the lines and hints that it doesn't need: a pass forward counts the hints that show each addition, a pass backward
 //! marks what the empty clause stands on.
-ghost use Rattle.std.specs.Prelude.{◌≡◌, ℕ, ◌+◌, ◌<◌, ◌≤◌, List, AllPairs, IfOk, length, map, take, unsigned_abs};
+ghost use Rattle.std.specs.Prelude.{◌≡◌, ℕ, ◌+◌, ◌<◌, ◌≤◌, List, AllPairs, IfOk, IfSome, MatchOption, length, map, slice_index_or, take, unsigned_abs};
 ghost use Rattle.clause_model.specs.Literals.{codes_of};
 ghost use Rattle.step_ledger.specs.Counts.{RisesByAtLeast, RisesBy};
 ghost use Rattle.lrat_check.specs.Content.{Content, content_of};
@@ -102,6 +102,24 @@ fn mark_used(alloc: Global, shown: &[Shown]) -> Result<Vec<bool>, AllocError>
     Ok(marks)
 }
 
+/// The place of an id among those that go up. Ids that follow one another without a gap need no search, nor does one below all.
+fn place_of(ids: &[u64], id: u64) -> Option<usize>
+    ensures within { IfSome result (λ place. place < length ids.now) }
+    ensures place { AllPairs (λ id later. id < later) ids.now → MatchOption result ((k : ℕ) → k < length ids.now → slice_index_or ids.now k 0 ≡ id → ⊥) (λ place. (place < length ids.now) × (slice_index_or ids.now place 0 ≡ id)) }
+{
+    if ids.is_empty() || id < ids[0] {
+        return None;
+    }
+    let guess = (id - ids[0]) as usize;
+    if guess < ids.len() && ids[guess] == id {
+        return Some(guess);
+    }
+    match ids.binary_search(&id) {
+        Ok(place) => Some(place),
+        Err(_) => None,
+    }
+}
+
 /// Marks the additions that the hints of one name.
 fn mark_named(shown: &Shown, ids: &[u64], marks: &mut [bool])
     requires { length marks.old ≡ length ids.now }
@@ -109,7 +127,7 @@ fn mark_named(shown: &Shown, ids: &[u64], marks: &mut [bool])
 {
     let hints = &shown.addition.hints[..shown.hints];
     for hint in hints {
-        if let Ok(place) = ids.binary_search(&hint.id()) {
+        if let Some(place) = place_of(ids, hint.id()) {
             marks[place] = true;
         }
     }

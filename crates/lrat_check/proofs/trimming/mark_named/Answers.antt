@@ -1,10 +1,10 @@
-use Rattle.std.proofs.Common.{◌≡◌, ℕ, ℤ, ◌+◌, List, [], ◌∷◌, ◌++◌, map, take, sym, ◌∙◌, ap, subst}
-use Rattle.std.specs.Prelude.{unsigned_abs}
+use Rattle.std.proofs.Common.{◌≡◌, ℕ, ℤ, ◌+◌, ◌<◌, List, [], ◌∷◌, ◌++◌, length, get_or, map, take, sym, ◌∙◌, ap, arith, subst, Option}
+use Rattle.std.specs.Prelude.{MatchOption, unsigned_abs}
 use Rattle.std.proofs.lemmas.List.{map_more}
 use Rattle.lrat_check.specs.Shown.{MarksNamed}
-use Rattle.lrat_check.proofs.Marking.{search_found, search_missed}
+use Rattle.lrat_check.proofs.Marking.{MarksNamed-found, MarksNamed-missed}
 use Rattle.lrat_check.proofs.trimming.mark_named.Goals as goal
-use Rattle.lrat_check.proofs.trimming.mark_named.Goals.{in-Ok, in_default}
+use Rattle.lrat_check.proofs.trimming.mark_named.Goals.{in-Some, in_default}
 
 pub loop-hint-preserved : goal.loop-hint-preserved
 loop-hint-preserved c = λ p.
@@ -15,7 +15,11 @@ loop-hint-preserved c = λ p.
     map_more unsigned_abs hints i c.hint-item.result c.loop-hint-test.true
     ∙ ap (λ (z : ℤ). names ++ unsigned_abs z ∷ []) (sym c.hint-item.is)
     ∙ ap (λ (q : ℕ). names ++ q ∷ []) (sym c.id.ensures) in
-    subst (λ (names : List ℕ). MarksNamed c.args.ids.now names c.args.marks.now c.match-binary_search.marks) (sym e) (elim c.match-binary_search.branch [
-      | in-Ok w ↦ rw w.marks-is (search_found c.args.ids.now names c.id.result c.binary_search.result c.args.marks.now c.loop-hint.marks (c.loop-hint.invariant p) p c.binary_search.ensures.position w.in-Ok.place w.in-Ok.is (c.loop-hint.auto.marks ∙ c.requires))
-      | in_default w ↦ rw w.marks-is (search_missed c.args.ids.now names c.id.result c.binary_search.result c.args.marks.now c.loop-hint.marks (c.loop-hint.invariant p) p c.binary_search.ensures.position w.in_default.field-0 w.in_default.is)
+    subst (λ (names : List ℕ). MarksNamed c.args.ids.now names c.args.marks.now c.match-place_of.marks) (sym e) (elim c.match-place_of.branch [
+      | in-Some w ↦
+          let at = subst (λ (r : Option ℕ). MatchOption r ((k : ℕ) → k < length c.args.ids.now → get_or c.args.ids.now k 0 ≡ c.id.result → ⊥) (λ place. (place < length c.args.ids.now) × (get_or c.args.ids.now place 0 ≡ c.id.result))) w.in-Some.is (c.place_of.ensures.place p) in
+          rw w.marks-is (MarksNamed-found c.args.ids.now names c.id.result c.args.marks.now c.loop-hint.marks (c.loop-hint.invariant p) w.in-Some.place p at.0 (let same = c.loop-hint.auto.marks ∙ c.requires in let b = at.0 in omega arith) at.1)
+      | in_default w ↦
+          let none = subst (λ (r : Option ℕ). MatchOption r ((k : ℕ) → k < length c.args.ids.now → get_or c.args.ids.now k 0 ≡ c.id.result → ⊥) (λ place. (place < length c.args.ids.now) × (get_or c.args.ids.now place 0 ≡ c.id.result))) w.in_default.is (c.place_of.ensures.place p) in
+          rw w.marks-is (MarksNamed-missed c.args.ids.now names c.id.result c.args.marks.now c.loop-hint.marks (c.loop-hint.invariant p) none)
     ])

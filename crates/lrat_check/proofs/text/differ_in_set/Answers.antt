@@ -4,7 +4,7 @@ use Rattle.std.proofs.lemmas.List.{take_all}
 use Rattle.clause_model.specs.Literals.{HasDistinctVariables, variable_of}
 use Rattle.lrat_check.proofs.Deletions.{HasSeen-begun, HasSeen-next, not_true, not_false}
 use Rattle.lrat_check.proofs.Distinct.{variable_at, variable_within, distinct_next, not_distinct}
-use Rattle.lrat_check.proofs.text.has_distinct_variables.Goals as goal
+use Rattle.lrat_check.proofs.text.differ_in_set.Goals as goal
 
 pub loop-literal-init : goal.loop-literal-init
 loop-literal-init c = (HasSeen-begun c.new-seen.result c.new-seen.ensures.empty, λ i j d ij jl e. omega arith)
