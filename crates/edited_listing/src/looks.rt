@@ -91,7 +91,7 @@ fn next_letter(
 }
 
 /// The instructions that stand one behind the other from a kept place on and may stand in a window, with no label and no alignment line between them.
-pub(crate) fn run(
+pub(crate) fn run_from(
     given: &GivenListing,
     stands: &[Standing],
     kept: &mut KeptPlaces,
@@ -114,7 +114,8 @@ pub(crate) fn run(
     let mut before = place;
     let mut at = place;
     while letters.len() < most {
-        match next_letter(given, stands, letters.is_empty(), before, at) {
+        let count = letters.len();
+        match next_letter(given, stands, count == 0, before, at) {
             None => return Run { letters, places },
             Some(instr) => {
                 letters.push(instr);
