@@ -33,7 +33,7 @@ and_none false b c e = refl
 
 -- ---- rows of lines ----
 
-word_row : Value → Row
+abbrev word_row : Value → Row
 word_row v = record { letter = None; is_joined = false }
 
 -- a row's letter is that of its place
@@ -202,7 +202,7 @@ module _ (write : Instr → List ℕ) (at : ℕ → Bool) where
   step_first (Aligns size most) p before y xs ls behind o s v rec b now e a h = past_first p before y xs ls behind s v rec false false (and_off before) a h
   step_first (Sets name address) p before y xs ls behind o s v rec b now e a h = past_first p before y xs ls behind s v rec b now e a h
 
-  pub first_now : (ls : List Line) (p : ℕ) → First p ls (λ ys. lines_from write p ys ls)
+  first_now : (ls : List Line) (p : ℕ) → First p ls (λ ys. lines_from write p ys ls)
   unfolding First AgreesAt
   first_now [] p b carried before y xs e a s v h = absurd (let near = home_least p y xs s in omega arith)
     where
@@ -233,28 +233,34 @@ module _ (write : Instr → List ℕ) (at : ℕ → Bool) where
   unfolding Next
   print_next p b k x y [] ls behind rec first a s v e f o h = absurd (cc)
   print_next p b k x y (AsGiven q ∷ xs) ls behind rec first a s v e f o h = rec b true k x y (AsGiven q ∷ xs) a s v e f o h
-  print_next p b k x y (New i q ∷ xs) ls behind rec first a s v e f o h = elim (cases_Bool (q == p)) [
+  print_next p b zero x y (New i q ∷ []) ls behind rec first a s v e f o h = absurd (cc)
+  print_next p b zero x y (New i q ∷ z ∷ zs) ls behind rec first a s v e f o h = elim (cases_Bool (q == p)) [
     | inl g ↦
         let here = eqb-true q p g in
-        let t : AreSorted p (suc p) xs = sorted_less q (suc q) p (suc p) xs (omega arith) (omega arith) s.1 in
-        let o' : is_op_place (slice_get (places_of (new_line write i ∷ print_at write p xs behind)) k) ≡ true = rw g at o in
-        rw g (on k xs here t v e f o')
+        let at_p : p ≡ home_of x = sym here ∙ ap home_of (same_Some (New i q) x e) in
+        let t : AreSorted p (suc p) (z ∷ zs) = sorted_less q (suc q) p (suc p) (z ∷ zs) (omega arith) (omega arith) s.1 in
+        let h' : home_of z < suc p + length (places_of ls) = subst (λ w. home_of w < suc p + length (places_of ls)) (sym (same_Some z y f)) h in
+        rw g (print_first p true z zs ls behind first a t v h' ∙ ap (λ w. all_from at (suc p) (home_of w - p)) (same_Some z y f) ∙ ap (λ n. all_from at (suc n) (home_of y - n)) at_p)
     | inr g ↦
         let near = s.0 in
         let other : q ≢ p = eqb-false q p g in
         let far : suc p ≤ q = omega arith in
-        let o' : is_op_place (slice_get (places_of (behind (New i q ∷ xs))) k) ≡ true = rw g at o in
-        rw g (rec b true k x y (New i q ∷ xs) a (far, s.1) v e f o' h)
+        let o' : is_op_place (slice_get (places_of (behind (New i q ∷ z ∷ zs))) 0) ≡ true = rw g at o in
+        rw g (rec b true 0 x y (New i q ∷ z ∷ zs) a (far, s.1) v e f o' h)
   ]
-    where
-      on : (k : ℕ) (xs : List Item) → q ≡ p → AreSorted p (suc p) xs → WordsStand (suc p) xs ls → slice_get (New i q ∷ xs) k ≡ Some x → slice_get xs k ≡ Some y → is_op_place (slice_get (places_of (new_line write i ∷ print_at write p xs behind)) k) ≡ true →
-          joined_at (rows_from true (print_at write p xs behind)) k ≡ all_from at (suc (home_of x)) (home_of y - home_of x)
-      on zero [] here t v e f o = absurd (cc)
-      on zero (z ∷ zs) here t v e f o =
-          let at_p : p ≡ home_of x = sym here ∙ ap home_of (same_Some (New i q) x e) in
-          subst (λ w. home_of w < suc p + length (places_of ls) → joined_at (rows_from true (print_at write p (z ∷ zs) behind)) 0 ≡ all_from at (suc (home_of x)) (home_of w - home_of x)) (same_Some z y f)
-          (λ l. print_first p true z zs ls behind first a t v l ∙ ap (λ n. all_from at (suc n) (home_of z - n)) at_p) h
-      on (suc k) xs here t v e f o = print_next p true k x y xs ls behind rec first a t v e f o h
+  print_next p b (suc k) x y (New i q ∷ xs) ls behind rec first a s v e f o h = elim (cases_Bool (q == p)) [
+    | inl g ↦
+        let here = eqb-true q p g in
+        let t : AreSorted p (suc p) xs = sorted_less q (suc q) p (suc p) xs (omega arith) (omega arith) s.1 in
+        let o' : is_op_place (slice_get (places_of (print_at write p xs behind)) k) ≡ true = rw g at o in
+        rw g (print_next p true k x y xs ls behind rec first a t v e f o' h)
+    | inr g ↦
+        let near = s.0 in
+        let other : q ≢ p = eqb-false q p g in
+        let far : suc p ≤ q = omega arith in
+        let o' : is_op_place (slice_get (places_of (behind (New i q ∷ xs))) (suc k)) ≡ true = rw g at o in
+        rw g (rec b true (suc k) x y (New i q ∷ xs) a (far, s.1) v e f o' h)
+  ]
 
   other_next : (p : ℕ) (b carried : Bool) (k : ℕ) (l : Line) (x y : Item) (xs : List Item) (ls : List Line) (behind : List Item → List Line) → Next (suc p) ls behind → First (suc p) ls behind → Agrees (suc p) true ls →
       AreSorted p (suc p) xs → WordsStand (suc p) xs ls → slice_get xs k ≡ Some x → slice_get xs (suc k) ≡ Some y → is_op_place (slice_get (places_of (line_at write p l xs behind)) k) ≡ true → home_of y < suc p + length (places_of ls) → is_given_at p xs ≡ false →
@@ -325,7 +331,7 @@ module _ (write : Instr → List ℕ) (at : ℕ → Bool) where
   step_next (Aligns size most) p k x y xs ls behind o s v rec b now a e f g h = past_next p k x y xs ls behind s v rec false false a e f g h
   step_next (Sets name address) p k x y xs ls behind o s v rec b now a e f g h = past_next p k x y xs ls behind s v rec b now a e f g h
 
-  pub next_now : (ls : List Line) (p : ℕ) → Next p ls (λ ys. lines_from write p ys ls)
+  next_now : (ls : List Line) (p : ℕ) → Next p ls (λ ys. lines_from write p ys ls)
   unfolding Next AgreesAt
   next_now [] p b carried k x y xs a s v e f o h = absurd (true≢false (sym o))
   next_now (l ∷ ls) p b carried k x y xs a s v e f o h = elim (cases_Bool (is_op l.statement)) [
@@ -339,3 +345,9 @@ module _ (write : Instr → List ℕ) (at : ℕ → Bool) where
         let o' : is_op_place (slice_get (places_in l.statement ++ places_of (lines_from write (p + n) (drop n xs) ls)) k) ≡ true = rw op at o in
         rw op (step_next l.statement p k x y xs ls (λ ys. lines_from write (p + n) ys ls) op words.0 words.1 (next_now ls (p + n)) (b && is_unlabelled l.names) (carried && is_unlabelled l.names) a e f o' h)
   ]
+
+  -- the row of an item is joined to that of the instruction before where all places from the one's home to the other's are
+  pub joined_now : (ls : List Line) (k : ℕ) (x y : Item) (xs : List Item) → ((j : ℕ) → joined_at (rows_from false ls) j ≡ at j) → AreSorted 0 0 xs → WordsStand 0 xs ls → slice_get xs k ≡ Some x → slice_get xs (suc k) ≡ Some y →
+      is_op_place (slice_get (places_of (lines_from write 0 xs ls)) k) ≡ true → home_of y < length (places_of ls) → joined_at (rows_from false (lines_from write 0 xs ls)) (suc k) ≡ all_from at (suc (home_of x)) (home_of y - home_of x)
+  unfolding Next
+  joined_now ls k x y xs a s v e f o h = next_now ls 0 false false k x y xs (λ j. a j ∙ ap at (let z : j ≡ 0 + j = omega arith in z)) s v e f o (omega arith)

@@ -22,7 +22,7 @@ use Rattle.edited_listing.specs.Places.{has_home, item_of}
 use Rattle.edited_listing.specs.Edited.{Edited, IsEdited, letter_in, lines_now, marks, padded, standing_places}
 use Rattle.edited_listing.specs.Known.{row_joined, joined_at, all_from, HasLabelAt, HasLabelIn}
 use Rattle.edited_listing.specs.Looks.{home_in, home_of_place, Follows}
-use Rattle.edited_listing.proofs.Joins.{row_letter, next_now}
+use Rattle.edited_listing.proofs.Joins.{row_letter, joined_now}
 use Rattle.edited_listing.proofs.Moved.{labels_between}
 use Rattle.edited_listing.proofs.Kept.{home_get, item_at, words_stand}
 use Rattle.edited_listing.proofs.Padded.{places_kept}
@@ -94,7 +94,7 @@ joined_follows e p q is h =
     let at : ℕ → Bool = joined_at (rows_from false e.given) in
     ap (λ n. all_from at (suc n) (home_of_place e.stands q - n)) (sym x.2)
     ∙ ap (λ n. all_from at (suc (home_of x.0)) (n - home_of x.0)) (sym y.2)
-    ∙ sym (next_now own_line at e.given 0 false false (rank (marks e) p) x.0 y.0 (items_from 0 e.stands) (λ j. ap at (let z : j ≡ 0 + j = omega arith in z)) is.sorted (words_stand e is) x.1
+    ∙ sym (joined_now own_line at e.given (rank (marks e) p) x.0 y.0 (items_from 0 e.stands) (λ j. refl) is.sorted (words_stand e is) x.1
     (ap (slice_get (items_from 0 e.stands)) (sym h.next) ∙ y.1) h.op (omega (arith, within, y.2)))
     ∙ ap (joined_at (rows_from false (lines_now e))) (sym h.next)
 
@@ -161,24 +161,19 @@ past_none (x ∷ xs) (suc k) e = let h = past_none xs k e in omega arith
 place_now : (e : Edited) (p : ℕ) → IsEdited e → is_gone (marks e) p ≡ false → slice_get (places_of (lines_now e)) (rank (marks e) p) ≡ slice_get (padded e).places p
 place_now e p is k = ap (λ ps. slice_get ps (rank (marks e) p)) (places_kept own_line e is) ∙ kept_at (marks e) (standing_places e.stands (places_of e.given)) p k
 
-standing_short : (ss : List Standing) (xs : List Place) → length (standing_places ss xs) ≤ length ss
-standing_short [] xs = omega arith
-standing_short (s ∷ ss) [] = omega arith
-standing_short (s ∷ ss) (x ∷ xs) = let h = standing_short ss xs in omega arith
+standing_many : (ss : List Standing) (xs : List Place) → length ss ≡ length xs → length (standing_places ss xs) ≡ length ss
+standing_many [] xs h = sym h
+standing_many (s ∷ ss) [] h = absurd (omega arith)
+standing_many (s ∷ ss) (x ∷ xs) h = ap suc (standing_many ss xs (omega arith))
 
 pub letter_end : (e : Edited) (begins : Bool) (p : ℕ) → IsEdited e → length e.stands ≤ p → is_gone (marks e) p ≡ false → None ≡ letter_at begins (drop (rank (marks e) p) (rows_from false (lines_now e)))
 letter_end e begins p is h k =
     let rows : List Row = rows_from false (lines_now e) in
-    let short = standing_short e.stands (places_of e.given) in
+    let short = standing_many e.stands (places_of e.given) is.as_many in
     let none : slice_get (places_of (lines_now e)) (rank (marks e) p) ≡ None = place_now e p is k ∙ none_past (standing_places e.stands (places_of e.given)) p (omega arith) in
     let past = past_none (places_of (lines_now e)) (rank (marks e) p) none in
     let many = rows_length false (lines_now e) in
     ap (letter_row begins) (sym (none_past rows (rank (marks e) p) (omega arith))) ∙ sym (letter_drop begins rows (rank (marks e) p))
-
-standing_many : (ss : List Standing) (xs : List Place) → length ss ≡ length xs → length (standing_places ss xs) ≡ length ss
-standing_many [] xs h = refl
-standing_many (s ∷ ss) [] h = absurd (omega arith)
-standing_many (s ∷ ss) (x ∷ xs) h = ap suc (standing_many ss xs (omega arith))
 
 -- the row of a kept place
 row_here : (e : Edited) (p : ℕ) → IsEdited e → p < length e.stands → is_gone (marks e) p ≡ false → (r : Row) × (slice_get (rows_from false (lines_now e)) (rank (marks e) p) ≡ Some r) × (r.letter ≡ letter_in (slice_get (padded e).places p))

@@ -172,6 +172,10 @@ module _ (write : Instr → List ℕ) (f : ℕ → ℕ) where
         ∙ sym (map-append (at f) (labels_at p l.names) (labels_from (p + k) ls)))
   ]
 
+labels_stand : (write : Instr → List ℕ) (ls : List Line) (xs : List Item) → AreSorted 0 0 xs → WordsStand 0 xs ls → labels_from 0 (lines_from write 0 xs ls) ≡ map (at (λ m. before m xs)) (labels_from 0 ls)
+unfolding Stands
+labels_stand write ls xs s v = stands_now write (λ m. before m xs) ls 0 0 xs s v (λ m h. let z : before m xs ≡ 0 + before m xs = omega arith in z)
+
 -- ---- the labels right before an item ----
 
 -- the place behind the item before the item of a number, or the first place
@@ -215,7 +219,7 @@ pub labels_between : (write : Instr → List ℕ) (ls : List Line) (xs : List It
 labels_between write ls xs r from y s v e i = (forth, back)
   where
     now : labels_from 0 (lines_from write 0 xs ls) ≡ map (at (λ m. before m xs)) (labels_from 0 ls)
-    now = stands_now write (λ m. before m xs) ls 0 0 xs s v (λ m h. let z : before m xs ≡ 0 + before m xs = omega arith in z)
+    now = labels_stand write ls xs s v
 
     forth : HasLabelIn (labels_from 0 ls) from (home_of y) → HasLabelAt (labels_from 0 (lines_from write 0 xs ls)) r
     forth h = record {
