@@ -267,7 +267,7 @@ module _ (write : Instr → List ℕ) (at : ℕ → Bool) where
       joined_at (rows_from b (line_at write p l xs behind)) (suc k) ≡ all_from at (suc (home_of x)) (home_of y - home_of x)
   other_next p b carried k l x y xs ls behind rec first a s v e f o h g =
       let o' : is_op_place (slice_get (places_of (print_at write p xs behind)) k) ≡ true =
-          ap (λ ps. is_op_place (slice_get ps k)) (sym (labels_places l l.names (print_at write p xs behind))) ∙ ap (λ zs. is_op_place (slice_get (places_of zs) k)) (sym (other_line write p l xs behind g)) ∙ o in
+      ap (λ ps. is_op_place (slice_get ps k)) (sym (labels_places l l.names (print_at write p xs behind))) ∙ ap (λ zs. is_op_place (slice_get (places_of zs) k)) (sym (other_line write p l xs behind g)) ∙ o in
       ap (λ zs. joined_at (rows_from b zs) (suc k)) (other_line write p l xs behind g)
       ∙ ap (λ rs. joined_at rs (suc k)) (labels_rows l l.names b (print_at write p xs behind))
       ∙ print_next p (b && is_unlabelled l.names) k x y xs ls behind rec first a s v e f o' h

@@ -1,7 +1,6 @@
 -- What is seen of kept places.
 use Rattle.std.proofs.Common.{◌≡◌, ◌↔◌, ℕ, zero, suc, ◌+◌, ◌-◌, ◌<◌, ◌≤◌, ◌||◌, ◌⊎◌, Bool, true, false, List, [], ◌∷◌, length, drop, Option, Some, None, refl, sym, ap, ◌∙◌, subst, inl, inr, arith, true≢false, if◌then◌else◌}
 use Rattle.std.specs.Prelude.{slice_get, is_some}
-
 use Rattle.std.proofs.lemmas.Option.{same_Some}
 use Rattle.thumb_instr.specs.declared.instr.Instr.{Instr}
 use Rattle.kept_places.specs.Marks.{is_gone, rank, IsStart}
@@ -232,3 +231,26 @@ letter_found begins ls k i e = by (slice_get (rows_from false ls) k) refl (sym (
     by : (o : Option Row) → slice_get (rows_from false ls) k ≡ o → letter_row begins o ≡ Some i → is_op_place (slice_get (places_of ls) k) ≡ true
     by None f g = absurd (cc)
     by (Some r) f g = letter_op (slice_get (places_of ls) k) i (sym (row_letter ls r false k f) ∙ if_some (begins || r.is_joined) r.letter g)
+
+-- what a call is told of the kept place before, and what it tells
+pub behind_none : (e now : Edited) (q from : ℕ) → e ≡ now → from ≡ 0 → rank (marks now) q ≡ 0 → IsBehind e from q
+behind_none e now q from v f r = inl (f, ap (λ (x : Edited). rank (marks x) q) v ∙ r)
+
+pub behind_some : (e now : Edited) (q from p home : ℕ) → e ≡ now → q < length e.stands → from ≡ home + 1 → home ≡ home_of_place e.stands p → (p < q) × (is_gone (marks now) p ≡ false) × (suc (rank (marks now) p) ≡ rank (marks now) q) → IsBehind e from q
+behind_some e now q from p home v l f h s = inr (
+  p,
+  omega (arith, s.0),
+  ap (λ (x : Edited). is_gone (marks x) p) v ∙ s.1,
+  ap (λ (x : Edited). rank (marks x) q) v ∙ sym s.2 ∙ ap (λ (x : Edited). suc (rank (marks x) p)) (sym v),
+  omega (arith, h),
+)
+
+pub labelled_now : (e now : Edited) (q from home : ℕ) (found : Bool) → e ≡ now → IsEdited e → q < length e.stands → is_gone (marks now) q ≡ false → IsBehind e from q → home ≡ home_of_place e.stands q →
+    (found ≡ true) ↔ HasLabelIn (labels_from 0 e.given) from home → (found ≡ true) ↔ HasLabelAt (labels_from 0 (lines_now now)) (rank (marks now) q)
+labelled_now e now q from home found v is l k b h f =
+    let here = labelled_here e q from is l (ap (λ (x : Edited). is_gone (marks x) q) v ∙ k) b in
+    let there = subst (λ (x : Edited). HasLabelIn (labels_from 0 e.given) from (home_of_place e.stands q) ↔ HasLabelAt (labels_from 0 (lines_now x)) (rank (marks x) q)) v here in
+    let told = subst (λ n. (found ≡ true) ↔ HasLabelIn (labels_from 0 e.given) from n) h f in (
+      λ t. there.0 (told.0 t),
+      λ t. told.1 (there.1 t),
+    )

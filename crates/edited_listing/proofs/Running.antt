@@ -74,10 +74,10 @@ run_on e r most start now now' letters letters' places places' before at next i 
     let beyond = node.from in
     let end = node.within in
     let next_rank : rank (marks e) next ≡ suc (rank (marks e) at) =
-        ap (rank (marks e)) (let z : next ≡ at + 1 + (next - (at + 1)) = omega arith in z)
-        ∙ rank_between (marks e) (next - (at + 1)) (at + 1) (λ k a b. node.between k a (omega arith))
-        ∙ ap (rank (marks e)) (let z : at + 1 ≡ suc at = omega arith in z)
-        ∙ rank_kept (marks e) at h.kept in
+    ap (rank (marks e)) (let z : next ≡ at + 1 + (next - (at + 1)) = omega arith in z)
+    ∙ rank_between (marks e) (next - (at + 1)) (at + 1) (λ k a b. node.between k a (omega arith))
+    ∙ ap (rank (marks e)) (let z : at + 1 ≡ suc at = omega arith in z)
+    ∙ rank_kept (marks e) at h.kept in
     record {
       few = omega arith;
       as_many = omega arith;

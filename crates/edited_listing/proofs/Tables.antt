@@ -157,7 +157,7 @@ labels_upto (l ∷ ls) j p last b from h e =
     let behind : List Label = labels_from (p + k) ls in
     let here : nat_lt from now ≡ (nat_lt from last || some_in (labels_at p l.names) from (p + j)) = last_here l.names p last from h ∙ ap (λ u. nat_lt from last || u) (sym (some_here p l.names from (p + j) (omega arith))) in
     let all : (nat_lt from now || some_in behind from (p + j)) ≡ (nat_lt from last || some_in (labels_at p l.names ++ behind) from (p + j)) =
-        ap (λ u. u || some_in behind from (p + j)) here ∙ or_three (nat_lt from last) (some_in (labels_at p l.names) from (p + j)) (some_in behind from (p + j)) ∙ ap (λ u. nat_lt from last || u) (sym (some_append (labels_at p l.names) behind from (p + j))) in
+    ap (λ u. u || some_in behind from (p + j)) here ∙ or_three (nat_lt from last) (some_in (labels_at p l.names) from (p + j)) (some_in behind from (p + j)) ∙ ap (λ u. nat_lt from last || u) (sym (some_append (labels_at p l.names) behind from (p + j))) in
     elim (cases_lt j k) [
       | inl g ↦
           let same : now ≡ b = replicate_get k j now b g (sym (get_front (replicate k now) (last_labels (p + k) now ls) j (omega arith)) ∙ e) in

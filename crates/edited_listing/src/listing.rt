@@ -182,11 +182,7 @@ impl EditedListing {
         ensures none { IfNone result (rank (marks self.now) place ≡ 0) }
     {
         let start = self.kept.start(place);
-        if start == 0 {
-            None
-        } else {
-            Some(start - 1)
-        }
+        if start == 0 { None } else { Some(start - 1) }
     }
 
     /// Whether some label stands right before a kept place now.

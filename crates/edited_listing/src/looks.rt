@@ -27,11 +27,7 @@ pub struct Run {
 fn new_letter(instr: Instr) -> Option<Instr>
     ensures { result ≡ letter_of instr None }
 {
-    if in_window(&instr) {
-        Some(instr)
-    } else {
-        None
-    }
+    if in_window(&instr) { Some(instr) } else { None }
 }
 
 /// The instruction at a place, where it may stand in a window.

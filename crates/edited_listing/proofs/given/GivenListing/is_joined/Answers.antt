@@ -15,7 +15,7 @@ index-requires c =
 pub returns : goal.returns
 returns c =
     let within : c.args.to < length c.self.inside.breaks.items =
-        omega (arith, c.requires.within, ap (λ (ls : List Line). length (places_of ls)) c.self.view_is, rows_length false c.self.inside.listing, breaks_many (rows_from false c.self.inside.listing) 0 0, ap (λ (bs : List ℕ). length bs) c.self.invariant.breaks) in
+    omega (arith, c.requires.within, ap (λ (ls : List Line). length (places_of ls)) c.self.view_is, rows_length false c.self.inside.listing, breaks_many (rows_from false c.self.inside.listing) 0 0, ap (λ (bs : List ℕ). length bs) c.self.invariant.breaks) in
     let at = slice_get_read c.self.inside.breaks.items (length c.self.inside.breaks.items) c.args.to c.index.result.now refl within c.index.ensures in
     joined_between (rows_from false c.self.inside.listing) c.args.from c.args.to c.index.result.now c.requires.order (ap (λ (bs : List ℕ). slice_get bs c.args.to) (sym c.self.invariant.breaks) ∙ at)
     ∙ ap (λ (ls : List Line). all_from (joined_at (rows_from false ls)) (suc c.args.from) (c.args.to - c.args.from)) c.self.view_is

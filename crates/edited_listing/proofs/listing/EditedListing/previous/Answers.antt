@@ -1,4 +1,4 @@
-use Rattle.std.proofs.Common.{◌≡◌, ◌+◌, ◌-◌, ◌∙◌, ◌×◌, ◌<◌, List, Bool, suc, false, ap, arith, subst, sym}
+use Rattle.std.proofs.Common.{◌≡◌, ◌+◌, ◌-◌, ◌∙◌, ◌<◌, List, Bool, suc, false, ap, arith, subst, sym}
 use Rattle.kept_places.specs.Marks.{is_gone, rank, IsStart}
 use Rattle.edited_listing.specs.Edited.{marks}
 use Rattle.edited_listing.proofs.Looking.{first_kept, kept_before}
