@@ -1,11 +1,11 @@
 -- Which rows of the lines now are joined to the one before.
-use Rattle.std.proofs.Common.{◌≡◌, ◌≢◌, ℕ, zero, suc, ◌+◌, ◌-◌, ◌<◌, ◌≤◌, ◌==◌, ◌&&◌, Bool, true, false, List, [], ◌∷◌, ◌++◌, length, length-append, map, drop, Option, Some, None, refl, sym, ap, ◌∙◌, subst, inl, inr, arith, true≢false}
+use Rattle.std.proofs.Common.{◌≡◌, ◌≢◌, ℕ, zero, suc, ◌+◌, ◌-◌, ◌<◌, ◌≤◌, ◌==◌, ◌&&◌, Bool, true, false, List, [], ◌∷◌, ◌++◌, length, length-append, map, drop, Some, None, refl, sym, ap, ◌∙◌, subst, inl, inr, arith, true≢false}
 use Rattle.std.specs.Prelude.{slice_get}
 use Rattle.std.proofs.lemmas.Bool.{cases_Bool, eqb-true, eqb-false}
 use Rattle.std.proofs.lemmas.Option.{same_Some}
 use Rattle.thumb_instr.specs.declared.instr.Instr.{Instr}
 use Rattle.thumb_model.specs.Listing.{Name, Value, Statement, Nothing, Runs, Words, Aligns, Sets, Line, Word, Place, places_in, places_of, is_op_place}
-use Rattle.thumb_model.specs.ReplacedLines.{is_op, labels_kept, new_line}
+use Rattle.thumb_model.specs.ReplacedLines.{is_op, labels_kept}
 use Rattle.thumb_model.proofs.Lists.{get_back, get_drop, length_map}
 use Rattle.window_runs.specs.declared.rows.Row.{Row}
 use Rattle.window_runs.specs.Rows.{is_unlabelled, letter_of, rows_of, stays_joined, rows_from}

@@ -16,7 +16,7 @@ use Rattle.padded_code.proofs.Kept.{kept_at}
 use Rattle.edited_listing.specs.declared.standing.Standing.{Standing}
 use Rattle.edited_listing.specs.declared.standing.Standing.TheVariants as standing
 use Rattle.edited_listing.specs.Items.{Item, AsGiven, New, home_of, items_from, AreSorted}
-use Rattle.edited_listing.specs.Changes.{home_at, marks_of}
+use Rattle.edited_listing.specs.Changes.{home_at}
 use Rattle.edited_listing.specs.Places.{has_home, item_of}
 use Rattle.edited_listing.specs.Edited.{Edited, IsEdited, letter_in, lines_now, marks, padded, standing_places}
 use Rattle.edited_listing.specs.Known.{row_joined, joined_at, all_from, HasLabelAt, HasLabelIn}

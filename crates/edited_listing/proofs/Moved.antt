@@ -1,12 +1,12 @@
 -- Where the labels of the given lines stand in the lines now.
-use Rattle.std.proofs.Common.{◌≡◌, ◌≢◌, ◌↔◌, ℕ, zero, suc, ◌+◌, ◌-◌, ◌<◌, ◌≤◌, ◌==◌, Bool, true, false, List, [], ◌∷◌, ◌++◌, length, map, drop, Some, refl, sym, ap, ◌∙◌, subst, inl, inr, arith, true≢false, if◌then◌else◌}
+use Rattle.std.proofs.Common.{◌≡◌, ◌≢◌, ◌↔◌, ℕ, zero, suc, ◌+◌, ◌<◌, ◌≤◌, ◌==◌, true, false, List, [], ◌∷◌, ◌++◌, length, map, drop, Some, refl, sym, ap, ◌∙◌, subst, inl, inr, arith, true≢false, if◌then◌else◌}
 use Rattle.std.specs.Prelude.{◌⊎◌, slice_get, nat_lt}
 use Rattle.std.proofs.lemmas.Bool.{cases_Bool, cases_lt, eqb-true, eqb-false, lt-ltb, le-ltb}
 use Rattle.std.proofs.lemmas.List.{map-append}
 use Rattle.std.proofs.lemmas.Option.{same_Some}
 use Rattle.thumb_instr.specs.declared.instr.Instr.{Instr}
 use Rattle.thumb_model.specs.Listing.{Name, Line, Label, places_in, labels_at, labels_from}
-use Rattle.thumb_model.specs.ReplacedLines.{is_op, labels_kept, new_line}
+use Rattle.thumb_model.specs.ReplacedLines.{is_op, labels_kept}
 use Rattle.edited_listing.specs.Items.{Item, AsGiven, New, home_of, has_given, AreSorted}
 use Rattle.edited_listing.specs.Printing.{is_given_at, print_at, line_at, lines_from}
 use Rattle.edited_listing.specs.Giving.{WordsStand}

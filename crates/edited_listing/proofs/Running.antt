@@ -10,8 +10,8 @@ use Rattle.window_runs.specs.Rows.{rows_from}
 use Rattle.window_runs.specs.Runs.{letter_at, run}
 use Rattle.window_runs.proofs.Joined.{run_ends, run_more}
 use Rattle.padded_code.specs.Windows.{AreRanked}
-use Rattle.edited_listing.specs.Changes.{is_none, marks_of}
-use Rattle.edited_listing.specs.Edited.{Edited, IsEdited, lines_now, marks}
+use Rattle.edited_listing.specs.Changes.{is_none}
+use Rattle.edited_listing.specs.Edited.{Edited, lines_now, marks}
 use Rattle.edited_listing.specs.Looks.{Follows}
 use Rattle.edited_listing.proofs.Looking.{letter_found, rank_between}
 

@@ -1,14 +1,14 @@
 -- What the tables of the places that were given tell.
-use Rattle.std.proofs.Common.{◌≡◌, ◌↔◌, ℕ, zero, suc, ◌+◌, ◌-◌, ◌<◌, ◌≤◌, ◌&&◌, ◌||◌, Bool, true, false, List, [], ◌∷◌, ◌++◌, length, length-append, map, replicate, Some, refl, sym, ap, ◌∙◌, inl, inr, arith, true≢false, if◌then◌else◌}
+use Rattle.std.proofs.Common.{◌≡◌, ◌↔◌, ℕ, zero, suc, ◌+◌, ◌-◌, ◌<◌, ◌≤◌, ◌&&◌, ◌||◌, Bool, true, false, List, [], ◌∷◌, ◌++◌, length, length-append, replicate, Some, refl, sym, ap, ◌∙◌, inl, inr, arith, true≢false, if◌then◌else◌}
 use Rattle.std.specs.Prelude.{slice_get, nat_le, nat_lt}
-use Rattle.std.proofs.lemmas.Bool.{cases_Bool, cases_lt, lt-ltb, le-ltb, le-leb, lt-leb, leb-true, ltb-true}
+use Rattle.std.proofs.lemmas.Bool.{cases_lt, lt-ltb, le-ltb, le-leb, lt-leb, leb-true}
 use Rattle.std.proofs.lemmas.Option.{same_Some}
 use Rattle.std.proofs.lemmas.List.{length-replicate}
-use Rattle.thumb_model.specs.Listing.{Name, Statement, Line, Label, places_in, places_of, labels_at, labels_from}
+use Rattle.thumb_model.specs.Listing.{Name, Line, Label, places_in, places_of, labels_at, labels_from}
 use Rattle.thumb_model.proofs.Lists.{get_back, get_front}
 use Rattle.window_runs.specs.declared.rows.Row.{Row}
 use Rattle.edited_listing.specs.Counting.{some_name}
-use Rattle.edited_listing.specs.Known.{row_joined, joined_at, all_from, HasLabelIn, last_breaks, last_labels}
+use Rattle.edited_listing.specs.Known.{joined_at, all_from, HasLabelIn, last_breaks, last_labels}
 
 -- ---- breaks ----
 

@@ -5,7 +5,7 @@ ghost use Rattle.thumb_model.specs.Listing.{places_of};
 ghost use Rattle.window_runs.specs.Rows.{letter_of, rows_from};
 ghost use Rattle.window_runs.specs.Runs.{letter_at, run};
 ghost use Rattle.padded_code.specs.Windows.{AreRanked};
-ghost use Rattle.edited_listing.specs.Changes.{home_at, marks_of};
+ghost use Rattle.edited_listing.specs.Changes.{marks_of};
 ghost use Rattle.edited_listing.specs.Edited.{letter_in, lines_now, padded, IsEdited};
 ghost use Rattle.edited_listing.specs.Known.{joined_at};
 ghost use Rattle.edited_listing.specs.Looks.{home_of_place, Follows};

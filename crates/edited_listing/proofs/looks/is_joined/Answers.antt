@@ -1,5 +1,4 @@
-use Rattle.std.proofs.Common.{◌≡◌, ◌∙◌, ◌≤◌, ◌<◌, ◌-◌, ap, arith, false, length, suc}
-use Rattle.thumb_model.specs.Listing.{places_of}
+use Rattle.std.proofs.Common.{◌∙◌, ◌-◌, ap, arith, false, suc}
 use Rattle.window_runs.specs.Rows.{rows_from}
 use Rattle.edited_listing.specs.Edited.{Edited}
 use Rattle.edited_listing.specs.Known.{all_from, joined_at}

@@ -1,4 +1,4 @@
-use Rattle.std.proofs.Common.{◌≡◌, ◌∙◌, ◌+◌, ◌<◌, List, Bool, None, Some, drop, false, length, ap, arith, subst, sym}
+use Rattle.std.proofs.Common.{◌∙◌, ◌+◌, ◌<◌, List, Bool, None, Some, drop, false, length, ap, arith, subst, sym}
 use Rattle.std.specs.Prelude.{nat_eq}
 use Rattle.kept_places.specs.Marks.{rank, IsNode}
 use Rattle.window_runs.specs.Rows.{rows_from}

@@ -1,6 +1,5 @@
-use Rattle.std.proofs.Common.{◌≡◌, ◌+◌, ◌<◌, ◌∙◌, ◌^◌, List, false, ap, arith, length}
+use Rattle.std.proofs.Common.{◌<◌, ◌∙◌, List, ap, arith, length}
 use Rattle.kept_places.specs.Marks.{is_gone}
-use Rattle.thumb_model.specs.Listing.{places_of}
 use Rattle.edited_listing.specs.declared.standing.Standing.{Standing}
 use Rattle.edited_listing.specs.Edited.{Edited, marks}
 use Rattle.edited_listing.specs.Looks.{home_of_place}

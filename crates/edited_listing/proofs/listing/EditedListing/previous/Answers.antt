@@ -1,5 +1,5 @@
-use Rattle.std.proofs.Common.{◌≡◌, ◌+◌, ◌-◌, ◌∙◌, ◌<◌, List, Bool, suc, false, ap, arith, subst, sym}
-use Rattle.kept_places.specs.Marks.{is_gone, rank, IsStart}
+use Rattle.std.proofs.Common.{◌-◌, ◌∙◌, List, Bool, ap, arith, subst}
+use Rattle.kept_places.specs.Marks.{IsStart}
 use Rattle.edited_listing.specs.Edited.{marks}
 use Rattle.edited_listing.proofs.Looking.{first_kept, kept_before}
 use Rattle.edited_listing.proofs.listing.EditedListing.previous.Goals as goal
