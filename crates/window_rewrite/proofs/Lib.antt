@@ -18,3 +18,5 @@ pub mod KeptSpots
 pub mod Grown
 pub mod Ways
 pub mod Turning
+pub mod ScenesWindows
+pub mod Scenes
