@@ -16,9 +16,9 @@ use Rattle.thumb_model.proofs.Window.{AreStraight}
 use Rattle.rule_model.specs.Rules.{Rule, IsSoundRule, Applies}
 use Rattle.rule_model.proofs.Table.{window_length, applies_sound}
 use Rattle.liveness.specs.Kept.{KeepsAt}
-use Rattle.line_cursor.specs.Cursors.{IsSettled}
-use Rattle.line_cursor.proofs.Settled.{left_places, before_window, AreCodeStill, IsGap, settled_stay, stay_settled}
-use Rattle.line_cursor.proofs.Nearer.{window_stays, first_op, window_within, moved_label}
+use Rattle.window_rewrite.specs.Settled.{IsSettled}
+use Rattle.window_rewrite.proofs.Settled.{left_places, before_window, AreCodeStill, IsGap, settled_stay, stay_settled}
+use Rattle.window_rewrite.proofs.WindowPlaces.{window_stays, first_op, window_within, moved_label}
 use Rattle.steady_layout.specs.Steady.{IsSteady}
 use Rattle.steady_layout.proofs.Cuts.{cut}
 use Rattle.steady_layout.proofs.Laws.{twos_of, renamed_in, window_in, plain_of, cut_stays}
