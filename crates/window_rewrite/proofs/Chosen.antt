@@ -40,11 +40,6 @@ use Rattle.window_rewrite.proofs.Alike.{led_to}
 
 -- ---- counts of rules ----
 
-none_taken : (c : ℕ) (rules : List Rule) → of_length c (take 0 rules) ≡ 0
-unfolding of_length
-none_taken c [] = refl
-none_taken c (r ∷ rs) = refl
-
 taken_more : (c : ℕ) (rules : List Rule) (k n : ℕ) → k ≤ n → of_length c (take k rules) ≤ of_length c (take n rules)
 unfolding of_length
 taken_more c [] zero zero h = omega arith
