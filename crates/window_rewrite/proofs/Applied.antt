@@ -1,5 +1,5 @@
 -- A rule applies in lines where it fits a window, labels stay code and what it leaves can be laid out.
-use Rattle.std.proofs.Common.{◌≡◌, ℕ, zero, suc, ◌+◌, ◌-◌, ◌<◌, ◌≤◌, Bool, true, false, List, [], ◌∷◌, length, take, drop, map, Option, Some, refl, sym, ap, ◌∙◌, subst, ◌⊎◌, inl, inr, arith}
+use Rattle.std.proofs.Common.{◌≡◌, ℕ, ◌+◌, ◌-◌, ◌<◌, ◌≤◌, Bool, true, false, List, [], ◌∷◌, length, take, drop, map, Option, Some, refl, sym, ap, ◌∙◌, subst, ◌⊎◌, inl, inr, arith}
 use Rattle.std.specs.Prelude.{slice_get}
 use Rattle.std.specs.List.{list_all}
 use Rattle.std.proofs.lemmas.Bool.{and_from, cases_Bool}
@@ -10,7 +10,7 @@ use Rattle.thumb_instr.specs.Items.{has}
 use Rattle.thumb_instr.specs.Window.{is_in_window}
 use Rattle.thumb_instr.specs.Renaming.{Low, renamed}
 use Rattle.thumb_instr.proofs.RenamingLemmas.{window_renamed}
-use Rattle.thumb_model.specs.Listing.{Place, Op, Word, plain, Label, Line, places_of, labels_from, code_of, is_op_place}
+use Rattle.thumb_model.specs.Listing.{plain, Label, Line, places_of, labels_from, code_of, is_op_place}
 use Rattle.thumb_model.specs.Flow.{LiveAfter}
 use Rattle.thumb_model.specs.Layout.{Layable}
 use Rattle.rule_model.specs.Rules.{Rule, Applies, IsSoundRule, alone}
@@ -21,8 +21,6 @@ use Rattle.rule_model.proofs.Alone.{alone_at, alone_is}
 use Rattle.rule_model.proofs.Costs.{weight_is_length, shorter_lowers}
 use Rattle.rule_model.proofs.LinesKept.{fewer_lines_by}
 use Rattle.thumb_model.specs.ReplacedLines.{replaced_lines, are_joined_from}
-use Rattle.thumb_model.specs.Cuts.{AreOps}
-use Rattle.thumb_model.proofs.Lists.{get_drop, length_drop}
 use Rattle.listing_parser.specs.Replacing.{names_no_label}
 use Rattle.listing_parser.specs.Parsing.{own_line}
 use Rattle.liveness.specs.Kept.{KeepsAt}
@@ -44,35 +42,7 @@ use Rattle.window_rewrite.proofs.Whole.{front_allowed, front_apart, front_matche
 
 -- ---- the window ----
 
--- a window's places are instructions
-pub ops_of : (is : List Instr) (n : ℕ) (ps : List Place) → n ≡ length is → take n ps ≡ map plain is → AreOps n ps
-ops_of [] zero ps e h = tt
-ops_of (i ∷ is) zero ps e h = absurd (omega arith)
-ops_of [] (suc n) ps e h = absurd (omega arith)
-ops_of (i ∷ is) (suc n) [] e h = absurd (cc)
-ops_of (i ∷ is) (suc n) (Op j mention ∷ ps) e h = ops_of is n ps (omega arith) (cc)
-ops_of (i ∷ is) (suc n) (Word w ∷ ps) e h = absurd (cc)
-
--- instructions among places, by their numbers
-pub ops_at : (n p : ℕ) (ps : List Place) → AreOps n (drop p ps) → (k : ℕ) → k < n → is_op_place (slice_get ps (p + k)) ≡ true
-ops_at n p ps a k h = ap is_op_place (sym (get_drop p ps k (p + k) refl)) ∙ among n (drop p ps) a k h
-  where
-    among : (n : ℕ) (ps : List Place) → AreOps n ps → (k : ℕ) → k < n → is_op_place (slice_get ps k) ≡ true
-    among zero ps a k h = absurd (omega arith)
-    among (suc n) [] a k h = absurd a
-    among (suc n) (Word w ∷ ps) a k h = absurd a
-    among (suc n) (Op i m ∷ ps) a zero h = refl
-    among (suc n) (Op i m ∷ ps) a (suc k) h = among n ps a k (omega arith)
-
-pub ops_within : (n p : ℕ) (ps : List Place) → 0 < n → AreOps n (drop p ps) → p + n ≤ length ps
-ops_within n p ps some a = let m = many n (drop p ps) a in let d = length_drop p ps in omega arith
-  where
-    many : (n : ℕ) (ps : List Place) → AreOps n ps → n ≤ length ps
-    many zero ps a = omega arith
-    many (suc n) [] a = absurd a
-    many (suc n) (Word w ∷ ps) a = absurd a
-    many (suc n) (Op i m ∷ ps) a = let r = many n ps a in omega arith
-
+-- where a window stands it may give way
 window_gap : (lines : List Line) (place : ℕ) (window is : List Instr) → IsWindow lines place window → length is < length window → IsGap (places_of lines) (labels_from 0 lines) place (length window) is
 window_gap lines place window is w shorter = record {
   within = window_within window (length window) (places_of lines) place refl (omega arith) w.stands;

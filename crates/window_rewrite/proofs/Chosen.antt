@@ -32,18 +32,13 @@ use Rattle.window_rewrite.specs.Rules.{rules_in, side_length, is_marked, AreFit,
 use Rattle.window_rewrite.specs.Shapes.{shape_of}
 use Rattle.window_rewrite.specs.Forms.{form_of}
 use Rattle.window_rewrite.specs.Fitting.{left_registers, Shortens, Stands, StandsThere}
-use Rattle.window_rewrite.specs.Choices.{Awaits, choice_of, FitsIn, IsChoice, IsLowest, Meets, NoneOf, IsBest, NoneAt, NoneBefore, IsFirstChoice, of_length, longer}
+use Rattle.window_rewrite.specs.Choices.{Awaits, choice_of, FitsIn, IsChoice, IsLowest, Meets, NoneOf, IsBest, NoneBefore, IsFirstChoice, of_length, longer}
 use Rattle.window_rewrite.proofs.Applied.{made, is_made, rule_there, fits_shorter, back_shortens, meets, meets_less}
 use Rattle.window_rewrite.proofs.Keys.{awaited, none_awaited}
 use Rattle.window_rewrite.proofs.Heads.{stands_shape}
 use Rattle.window_rewrite.proofs.Alike.{led_to}
 
 -- ---- counts of rules ----
-
-none_taken : (c : ℕ) (rules : List Rule) → of_length c (take 0 rules) ≡ 0
-unfolding of_length
-none_taken c [] = refl
-none_taken c (r ∷ rs) = refl
 
 taken_more : (c : ℕ) (rules : List Rule) (k n : ℕ) → k ≤ n → of_length c (take k rules) ≤ of_length c (take n rules)
 unfolding of_length
@@ -394,26 +389,6 @@ none_shorter asked s lines place zero slice some few n h = absurd (omega arith)
 none_shorter asked s lines place (suc m) slice some few n h =
     let all : length (take (suc m) slice) ≡ suc m = take_all (suc m) slice few in
     subst (λ k. NoneLonger asked s lines place k) (let e : m ≡ suc m - 1 = omega arith in e) (none_longer asked s lines place m n (subst (λ k. NoneOf asked s lines place k) all h))
-
-pub is_best : (asked : Bool) (s : Setting) (lines : List Line) (place count : ℕ) (c : Choice) → NoneLonger asked s lines place count → IsLowest s lines place count c → IsBest s lines place c
-is_best asked s lines place count c none l =
-    let long = l.long in
-    record {
-      is = l.is;
-      at = l.at;
-      longest = λ o a e. elim (cases_lt count (left_length s o)) [
-        | inl h ↦ absurd (none o (meets asked s o lines a) e h)
-        | inr h ↦ omega arith
-      ];
-      lowest = λ o a e h. l.lowest o a e (h ∙ long);
-    }
-
-pub none_at : (asked : Bool) (base longest : ℕ) (rules : List Rule) (lines : List Line) (place : ℕ) → AreFit longest rules → NoneLonger asked (setting base (alone rules)) lines place 0 → NoneAt asked (setting base (alone rules)) lines place
-none_at asked base longest rules lines place fit none o a at =
-    let w = applicable base longest rules lines o fit a.0 in
-    let some = w.some in
-    let long = w.long in
-    none o a at (omega arith)
 
 -- where no left side of more than so many instructions stands first in the run from a place, none that applies there is longer
 pub none_reached : (asked : Bool) (base longest : ℕ) (rules : List Rule) (lines : List Line) (place count : ℕ) (is slice : List Instr) → AreFit longest rules → is ≡ run true longest (drop place (rows_from false lines)) → slice ≡ is

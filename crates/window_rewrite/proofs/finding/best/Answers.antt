@@ -1,4 +1,4 @@
-use Rattle.std.proofs.Common.{◌≡◌, ◌-◌, ◌≤◌, List, length, ap, arith}
+use Rattle.std.proofs.Common.{◌-◌, ◌≤◌, List, length, ap, arith}
 use Rattle.thumb_instr.specs.declared.instr.Instr.{Instr}
 use Rattle.step_ledger.proofs.Rises.{at_least-stays, at_least-fewer, at_least-goes_on}
 use Rattle.window_rewrite.specs.Rules.{rules_in}

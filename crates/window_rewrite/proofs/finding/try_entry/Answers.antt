@@ -61,13 +61,13 @@ counted n count before after e h = let one : from_bool (n == count) ≡ 1 = ap f
 
 pub returns-then-len-window-clause-none : goal.returns-then-len-window-clause-none
 returns-then-len-window-clause-none g c = λ is registers a.
-    let was = long c.args.look.now.rules.now.entries.now c.args.number c.index-rules-number.result c.requires.number c.index-rules-number.is in
+    let was = long c.args.look.now.rules.now.entries.now c.args.number c.index-look-number.result c.requires.number c.index-look-number.is in
     absurd (c.if-len-window.true (c.len.ensures.value ∙ sym was ∙ is))
 
 pub returns-then-not-may_fit-clause-none : goal.returns-then-not-may_fit-clause-none
 returns-then-not-may_fit-clause-none g c = λ _ registers a.
-    let e = entry c.args.look.now.rules.now c.args.number c.len.result c.args.window.now c.index-rules-number.result c.requires.look.ready c.requires.number c.index-rules-number.is c.len.ensures.value c.if-len-window.false in
-    let read : Entry = slice_index_or c.args.look.now.rules.now.entries.now c.args.number c.index-rules-number.result in
+    let e = entry c.args.look.now.rules.now c.args.number c.len.result c.args.window.now c.index-look-number.result c.requires.look.ready c.requires.number c.index-look-number.is c.len.ensures.value c.if-len-window.false in
+    let read : Entry = slice_index_or c.args.look.now.rules.now.entries.now c.args.number c.index-look-number.result in
     let rule : Rule = entry_rule read in
     let b = back c.args.look.now.rules.now.base (rules_in c.args.look.now.rules.now.entries.now) (lines_seen c.args.look.now) (number_seen c.args.look.now) c.args.number rule registers c.args.window.now c.args.form.now.live.bits e.at e.fit.sound e.long c.requires.stands a.0 in
     let has_all : (x : ℕ) → has c.args.form.now.mask.items.bits x ≡ true → has read.mask.items.bits x ≡ true = λ x h. (has_one read.mask.items.bits x (c.requires.form.mask rule (left_registers rule registers) e.fit.sound e.fit.canonical b.fits.fits x h)).0 in
@@ -75,25 +75,25 @@ returns-then-not-may_fit-clause-none g c = λ _ registers a.
 
 pub fitting-requires-clause-sound : goal.fitting-requires-clause-sound
 fitting-requires-clause-sound g c =
-    let e = entry c.args.look.now.rules.now c.args.number c.len.result c.args.window.now c.index-rules-number.result c.requires.look.ready c.requires.number c.index-rules-number.is c.len.ensures.value c.if-len-window.false in
+    let e = entry c.args.look.now.rules.now c.args.number c.len.result c.args.window.now c.index-look-number.result c.requires.look.ready c.requires.number c.index-look-number.is c.len.ensures.value c.if-len-window.false in
     e.fit.sound
 
 pub fitting-requires-clause-canonical : goal.fitting-requires-clause-canonical
 fitting-requires-clause-canonical g c =
-    let e = entry c.args.look.now.rules.now c.args.number c.len.result c.args.window.now c.index-rules-number.result c.requires.look.ready c.requires.number c.index-rules-number.is c.len.ensures.value c.if-len-window.false in
+    let e = entry c.args.look.now.rules.now c.args.number c.len.result c.args.window.now c.index-look-number.result c.requires.look.ready c.requires.number c.index-look-number.is c.len.ensures.value c.if-len-window.false in
     e.fit.canonical
 
 pub returns-in-None-clause-none : goal.returns-in-None-clause-none
 returns-in-None-clause-none g c = λ _ registers a.
-    let e = entry c.args.look.now.rules.now c.args.number c.len.result c.args.window.now c.index-rules-number.result c.requires.look.ready c.requires.number c.index-rules-number.is c.len.ensures.value c.if-len-window.false in
-    let rule : Rule = entry_rule (slice_index_or c.args.look.now.rules.now.entries.now c.args.number c.index-rules-number.result) in
+    let e = entry c.args.look.now.rules.now c.args.number c.len.result c.args.window.now c.index-look-number.result c.requires.look.ready c.requires.number c.index-look-number.is c.len.ensures.value c.if-len-window.false in
+    let rule : Rule = entry_rule (slice_index_or c.args.look.now.rules.now.entries.now c.args.number c.index-look-number.result) in
     let b = back c.args.look.now.rules.now.base (rules_in c.args.look.now.rules.now.entries.now) (lines_seen c.args.look.now) (number_seen c.args.look.now) c.args.number rule registers c.args.window.now c.args.form.now.live.bits e.at e.fit.sound e.long c.requires.stands a.0 in
     c.in-None.ensures registers b.fits
 
 pub returns-then-not-is_settled-clause-none : goal.returns-then-not-is_settled-clause-none
 returns-then-not-is_settled-clause-none g c = λ _ given a.
-    let e = entry c.args.look.now.rules.now c.args.number c.len.result c.args.window.now c.index-rules-number.result c.requires.look.ready c.requires.number c.index-rules-number.is c.len.ensures.value c.if-len-window.false in
-    let rule : Rule = entry_rule (slice_index_or c.args.look.now.rules.now.entries.now c.args.number c.index-rules-number.result) in
+    let e = entry c.args.look.now.rules.now c.args.number c.len.result c.args.window.now c.index-look-number.result c.requires.look.ready c.requires.number c.index-look-number.is c.len.ensures.value c.if-len-window.false in
+    let rule : Rule = entry_rule (slice_index_or c.args.look.now.rules.now.entries.now c.args.number c.index-look-number.result) in
     let registers : List Low = registers_of c.in-Some.map in
     let new : c.renamed_all-new.result ≡ map (renamed registers) rule.right =
     c.renamed_all-new.ensures ∙ ap (λ (rs : List Low). map (renamed rs) c.as_slice.result.now) (c.deref.ensures.0 ∙ c.registers_of.ensures) ∙ ap (map (renamed registers)) c.as_slice.ensures.value in
@@ -105,8 +105,8 @@ returns-then-not-is_settled-clause-none g c = λ _ given a.
 
 pub moved_layout-requires-clause-letters : goal.moved_layout-requires-clause-letters
 moved_layout-requires-clause-letters g c =
-    let e = entry c.args.look.now.rules.now c.args.number c.len.result c.args.window.now c.index-rules-number.result c.requires.look.ready c.requires.number c.index-rules-number.is c.len.ensures.value c.if-len-window.false in
-    let rule : Rule = entry_rule (slice_index_or c.args.look.now.rules.now.entries.now c.args.number c.index-rules-number.result) in
+    let e = entry c.args.look.now.rules.now c.args.number c.len.result c.args.window.now c.index-look-number.result c.requires.look.ready c.requires.number c.index-look-number.is c.len.ensures.value c.if-len-window.false in
+    let rule : Rule = entry_rule (slice_index_or c.args.look.now.rules.now.entries.now c.args.number c.index-look-number.result) in
     let registers : List Low = registers_of c.in-Some.map in
     let new : c.renamed_all-new.result ≡ map (renamed registers) rule.right =
     c.renamed_all-new.ensures ∙ ap (λ (rs : List Low). map (renamed rs) c.as_slice.result.now) (c.deref.ensures.0 ∙ c.registers_of.ensures) ∙ ap (map (renamed registers)) c.as_slice.ensures.value in
@@ -115,8 +115,8 @@ moved_layout-requires-clause-letters g c =
 pub moved_layout-requires-clause-fewer : goal.moved_layout-requires-clause-fewer
 moved_layout-requires-clause-fewer g c =
     let shorter = c.in-Some.ensures.0.fits.shorter in
-    let e = entry c.args.look.now.rules.now c.args.number c.len.result c.args.window.now c.index-rules-number.result c.requires.look.ready c.requires.number c.index-rules-number.is c.len.ensures.value c.if-len-window.false in
-    let rule : Rule = entry_rule (slice_index_or c.args.look.now.rules.now.entries.now c.args.number c.index-rules-number.result) in
+    let e = entry c.args.look.now.rules.now c.args.number c.len.result c.args.window.now c.index-look-number.result c.requires.look.ready c.requires.number c.index-look-number.is c.len.ensures.value c.if-len-window.false in
+    let rule : Rule = entry_rule (slice_index_or c.args.look.now.rules.now.entries.now c.args.number c.index-look-number.result) in
     let registers : List Low = registers_of c.in-Some.map in
     let new : c.renamed_all-new.result ≡ map (renamed registers) rule.right =
     c.renamed_all-new.ensures ∙ ap (λ (rs : List Low). map (renamed rs) c.as_slice.result.now) (c.deref.ensures.0 ∙ c.registers_of.ensures) ∙ ap (map (renamed registers)) c.as_slice.ensures.value in
@@ -127,8 +127,8 @@ moved_layout-requires-clause-fewer g c =
 
 pub returns-in-None-2-clause-none : goal.returns-in-None-2-clause-none
 returns-in-None-2-clause-none g c = λ _ given a.
-    let e = entry c.args.look.now.rules.now c.args.number c.len.result c.args.window.now c.index-rules-number.result c.requires.look.ready c.requires.number c.index-rules-number.is c.len.ensures.value c.if-len-window.false in
-    let rule : Rule = entry_rule (slice_index_or c.args.look.now.rules.now.entries.now c.args.number c.index-rules-number.result) in
+    let e = entry c.args.look.now.rules.now c.args.number c.len.result c.args.window.now c.index-look-number.result c.requires.look.ready c.requires.number c.index-look-number.is c.len.ensures.value c.if-len-window.false in
+    let rule : Rule = entry_rule (slice_index_or c.args.look.now.rules.now.entries.now c.args.number c.index-look-number.result) in
     let registers : List Low = registers_of c.in-Some.map in
     let new : c.renamed_all-new.result ≡ map (renamed registers) rule.right =
     c.renamed_all-new.ensures ∙ ap (λ (rs : List Low). map (renamed rs) c.as_slice.result.now) (c.deref.ensures.0 ∙ c.registers_of.ensures) ∙ ap (map (renamed registers)) c.as_slice.ensures.value in
@@ -140,8 +140,8 @@ returns-in-None-2-clause-none g c = λ _ given a.
 
 pub copied-requires : goal.copied-requires
 copied-requires g c =
-    let e = entry c.args.look.now.rules.now c.args.number c.len.result c.args.window.now c.index-rules-number.result c.requires.look.ready c.requires.number c.index-rules-number.is c.len.ensures.value c.if-len-window.false in
-    let rule : Rule = entry_rule (slice_index_or c.args.look.now.rules.now.entries.now c.args.number c.index-rules-number.result) in
+    let e = entry c.args.look.now.rules.now c.args.number c.len.result c.args.window.now c.index-look-number.result c.requires.look.ready c.requires.number c.index-look-number.is c.len.ensures.value c.if-len-window.false in
+    let rule : Rule = entry_rule (slice_index_or c.args.look.now.rules.now.entries.now c.args.number c.index-look-number.result) in
     let short = e.fit.short in
     let long = e.long in
     let few = c.requires.look.ready.few in
@@ -151,8 +151,8 @@ pub returns-clause-some : goal.returns-clause-some
 returns-clause-some g c =
     let lines : List Line = lines_seen c.args.look.now in
     let place : ℕ = number_seen c.args.look.now in
-    let e = entry c.args.look.now.rules.now c.args.number c.len.result c.args.window.now c.index-rules-number.result c.requires.look.ready c.requires.number c.index-rules-number.is c.len.ensures.value c.if-len-window.false in
-    let rule : Rule = entry_rule (slice_index_or c.args.look.now.rules.now.entries.now c.args.number c.index-rules-number.result) in
+    let e = entry c.args.look.now.rules.now c.args.number c.len.result c.args.window.now c.index-look-number.result c.requires.look.ready c.requires.number c.index-look-number.is c.len.ensures.value c.if-len-window.false in
+    let rule : Rule = entry_rule (slice_index_or c.args.look.now.rules.now.entries.now c.args.number c.index-look-number.result) in
     let registers : List Low = registers_of c.in-Some.map in
     let new : c.renamed_all-new.result ≡ map (renamed registers) rule.right =
     c.renamed_all-new.ensures ∙ ap (λ (rs : List Low). map (renamed rs) c.as_slice.result.now) (c.deref.ensures.0 ∙ c.registers_of.ensures) ∙ ap (map (renamed registers)) c.as_slice.ensures.value in
@@ -174,19 +174,19 @@ returns-clause-some g c =
     )
 
 pub returns-in-None-clause-cost : goal.returns-in-None-clause-cost
-returns-in-None-clause-cost g c = counted _ _ c.args.steps.now c.tick.new.self (as_long c.args.look.now.rules.now.entries.now c.args.number c.len.result c.args.window.now c.index-rules-number.result c.requires.number c.index-rules-number.is c.len.ensures.value c.if-len-window.false) (omega (arith, c.tick.ensures))
+returns-in-None-clause-cost g c = counted _ _ c.args.steps.now c.tick.new.self (as_long c.args.look.now.rules.now.entries.now c.args.number c.len.result c.args.window.now c.index-look-number.result c.requires.number c.index-look-number.is c.len.ensures.value c.if-len-window.false) (omega (arith, c.tick.ensures))
 
 pub returns-then-not-is_settled-clause-cost : goal.returns-then-not-is_settled-clause-cost
-returns-then-not-is_settled-clause-cost g c = counted _ _ c.args.steps.now c.tick.new.self (as_long c.args.look.now.rules.now.entries.now c.args.number c.len.result c.args.window.now c.index-rules-number.result c.requires.number c.index-rules-number.is c.len.ensures.value c.if-len-window.false) (omega (arith, c.tick.ensures))
+returns-then-not-is_settled-clause-cost g c = counted _ _ c.args.steps.now c.tick.new.self (as_long c.args.look.now.rules.now.entries.now c.args.number c.len.result c.args.window.now c.index-look-number.result c.requires.number c.index-look-number.is c.len.ensures.value c.if-len-window.false) (omega (arith, c.tick.ensures))
 
 pub returns-in_err-moved_layout-clause-cost : goal.returns-in_err-moved_layout-clause-cost
-returns-in_err-moved_layout-clause-cost g c = counted _ _ c.args.steps.now c.tick.new.self (as_long c.args.look.now.rules.now.entries.now c.args.number c.len.result c.args.window.now c.index-rules-number.result c.requires.number c.index-rules-number.is c.len.ensures.value c.if-len-window.false) (omega (arith, c.tick.ensures))
+returns-in_err-moved_layout-clause-cost g c = counted _ _ c.args.steps.now c.tick.new.self (as_long c.args.look.now.rules.now.entries.now c.args.number c.len.result c.args.window.now c.index-look-number.result c.requires.number c.index-look-number.is c.len.ensures.value c.if-len-window.false) (omega (arith, c.tick.ensures))
 
 pub returns-in-None-2-clause-cost : goal.returns-in-None-2-clause-cost
-returns-in-None-2-clause-cost g c = counted _ _ c.args.steps.now c.tick.new.self (as_long c.args.look.now.rules.now.entries.now c.args.number c.len.result c.args.window.now c.index-rules-number.result c.requires.number c.index-rules-number.is c.len.ensures.value c.if-len-window.false) (omega (arith, c.tick.ensures))
+returns-in-None-2-clause-cost g c = counted _ _ c.args.steps.now c.tick.new.self (as_long c.args.look.now.rules.now.entries.now c.args.number c.len.result c.args.window.now c.index-look-number.result c.requires.number c.index-look-number.is c.len.ensures.value c.if-len-window.false) (omega (arith, c.tick.ensures))
 
 pub returns-clause-cost : goal.returns-clause-cost
-returns-clause-cost g c = counted _ _ c.args.steps.now c.tick.new.self (as_long c.args.look.now.rules.now.entries.now c.args.number c.len.result c.args.window.now c.index-rules-number.result c.requires.number c.index-rules-number.is c.len.ensures.value c.if-len-window.false) (omega (arith, c.tick.ensures))
+returns-clause-cost g c = counted _ _ c.args.steps.now c.tick.new.self (as_long c.args.look.now.rules.now.entries.now c.args.number c.len.result c.args.window.now c.index-look-number.result c.requires.number c.index-look-number.is c.len.ensures.value c.if-len-window.false) (omega (arith, c.tick.ensures))
 
 pub returns-clause-long : goal.returns-clause-long
-returns-clause-long g c = (as_long c.args.look.now.rules.now.entries.now c.args.number c.len.result c.args.window.now c.index-rules-number.result c.requires.number c.index-rules-number.is c.len.ensures.value c.if-len-window.false)
+returns-clause-long g c = (as_long c.args.look.now.rules.now.entries.now c.args.number c.len.result c.args.window.now c.index-look-number.result c.requires.number c.index-look-number.is c.len.ensures.value c.if-len-window.false)
