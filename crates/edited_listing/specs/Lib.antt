@@ -6,4 +6,6 @@ pub mod Edited
 pub mod Places
 pub mod Counting
 pub mod Laws
+pub mod Known
+pub mod Looks
 pub mod Held

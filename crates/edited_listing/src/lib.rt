@@ -1,13 +1,16 @@
 //! A listing whose instructions give way to others while the numbers of its places stay.
 #![tactic(auto)]
 
+mod given;
 mod giving;
 mod labels;
 pub mod laws;
 mod listing;
+mod looks;
 mod passing;
 mod printing;
 mod standing;
 
 pub use listing::EditedListing;
+pub use looks::Run;
 pub use standing::Standing;

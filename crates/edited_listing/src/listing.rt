@@ -9,8 +9,10 @@ ghost use Rattle.edited_listing.specs.Edited.{letter_in};
 ghost use Rattle.edited_listing.specs.declared.standing.Standing.{Standing as Standings};
 ghost use Rattle.edited_listing.specs.declared.standing.Standing.TheVariants as standing;
 
+use crate::given::GivenListing;
 use crate::giving::give_way;
 use crate::labels::op_labels;
+use crate::looks::{Run, home, run};
 use crate::passing::is_op_behind;
 use crate::printing::print;
 use crate::standing::Standing;
@@ -27,7 +29,7 @@ use thumb_instr::{Instr, in_window};
 /// there are now.
 #[derive(Drop)]
 pub struct EditedListing {
-    listing: Listing,
+    listing: GivenListing,
     stands: Vec<Standing>,
     kept: KeptPlaces,
     is_changed: bool,
@@ -102,7 +104,7 @@ fn label_lines(labelled: &[bool], stands: &[Standing], place: u32) -> usize
 }
 
 impl EditedListing {
-    ghost use Rattle.std.specs.Prelude.{◌≡◌, ◌+◌, ◌<◌, ◌≤◌, ◌⊎◌, ℕ, List, true, false, length, slice_get, IfOk, Some};
+    ghost use Rattle.std.specs.Prelude.{◌≡◌, ◌+◌, ◌<◌, ◌≤◌, ◌↔◌, ◌⊎◌, ℕ, suc, List, true, false, drop, length, slice_get, IfNone, IfOk, IfSome, Some};
     ghost use Rattle.kept_places.specs.Marks.{is_gone, rank};
     ghost use Rattle.thumb_model.specs.Listing.{Label, code_of, is_op_place, labels_from, places_of};
     ghost use Rattle.thumb_model.specs.ReplacedLines.{replaced_lines};
@@ -110,8 +112,11 @@ impl EditedListing {
     ghost use Rattle.padded_code.specs.Exchange.{exchanged, marks_after};
     ghost use Rattle.padded_code.specs.Padding.{kept};
     ghost use Rattle.padded_code.specs.Windows.{AreRanked};
+    ghost use Rattle.window_runs.specs.Rows.{rows_from};
+    ghost use Rattle.window_runs.specs.Runs.{run};
     ghost use Rattle.edited_listing.specs.Changes.{marks_of};
     ghost use Rattle.edited_listing.specs.Edited.{letter_in, lines_now, marks, padded, unchanged};
+    ghost use Rattle.edited_listing.specs.Known.{HasLabelAt};
 
     /// A listing of which nothing is changed.
     pub fn new(alloc: Global, listing: Listing) -> Result<Self, AllocError>
@@ -123,6 +128,7 @@ impl EditedListing {
         let kept = KeptPlaces::new(alloc, count)?;
         let labelled = op_labels(alloc, listing.lines())?;
         let line_count = count_lines(&listing);
+        let listing = GivenListing::new(alloc, listing)?;
         Ok(EditedListing {
             listing,
             stands,
@@ -139,10 +145,75 @@ impl EditedListing {
         ensures { result ≡ letter_in (slice_get (padded self.now).places place) }
     {
         match self.stands[place as usize] {
-            Standing::Given => letter_in(self.listing.place(place)),
+            Standing::Given => letter_in(self.listing.listing().place(place)),
             Standing::Gone => None,
             Standing::New { instr, home: _ } => letter(&instr, None),
         }
+    }
+
+    /// How many places there are, with those that are gone.
+    pub fn place_count(&self) -> u32
+        ensures { result ≡ length self.now.stands }
+    {
+        self.stands.len() as u32
+    }
+
+    /// Whether a place is gone.
+    pub fn is_gone(&self, place: u32) -> bool
+        requires { place < length self.now.stands }
+        ensures { result ≡ is_gone (marks self.now) place }
+    {
+        self.kept.is_gone(place)
+    }
+
+    /// How many places are kept before one: its number now.
+    pub fn number(&self, place: u32) -> u32
+        requires { place ≤ length self.now.stands }
+        ensures { result ≡ rank (marks self.now) place }
+    {
+        self.kept.number(place)
+    }
+
+    /// The kept place right before a kept one or the end, if there is one.
+    pub fn previous(&self, place: u32) -> Option<u32>
+        requires within { place ≤ length self.now.stands }
+        requires kept { is_gone (marks self.now) place ≡ false }
+        ensures some { IfSome result (λ q. (q < place) × (is_gone (marks self.now) q ≡ false) × (suc (rank (marks self.now) q) ≡ rank (marks self.now) place)) }
+        ensures none { IfNone result (rank (marks self.now) place ≡ 0) }
+    {
+        let start = self.kept.start(place);
+        if start == 0 {
+            None
+        } else {
+            Some(start - 1)
+        }
+    }
+
+    /// Whether some label stands right before a kept place now.
+    pub fn is_labelled(&self, place: u32) -> bool
+        requires within { place < length self.now.stands }
+        requires kept { is_gone (marks self.now) place ≡ false }
+        ensures { (result ≡ true) ↔ HasLabelAt (labels_from 0 (lines_now self.now)) (rank (marks self.now) place) }
+    {
+        let from = match self.previous(place) {
+            None => 0,
+            Some(before) => home(&self.stands, before) + 1,
+        };
+        self.listing.has_label(from, home(&self.stands, place))
+    }
+
+    /// The instructions that stand one behind the other from a kept place on and may stand in a window, with no label and no alignment line between them:
+    /// as many as there are, and at most so many; and their places.
+    pub fn run(&mut self, place: u32, most: usize) -> Run
+        requires within { place < length self.old.stands }
+        requires kept { is_gone (marks self.old) place ≡ false }
+        requires most { most ≤ 5 }
+        ensures letters { result.letters ≡ run true most (drop (rank (marks self.old) place) (rows_from false (lines_now self.old))) }
+        ensures places { AreRanked (marks self.old) (rank (marks self.old) place) result.places.items }
+        ensures as_many { length result.places.items ≡ length result.letters }
+        ensures same { self.new ≡ self.old }
+    {
+        run(&self.listing, &self.stands, &mut self.kept, place, most)
     }
 
     /// How many lines there are now.
@@ -173,7 +244,7 @@ impl EditedListing {
         ensures same { self.new ≡ self.old }
     {
         is_op_behind(
-            &self.listing,
+            self.listing.listing(),
             &self.stands,
             &mut self.kept,
             place,
@@ -213,6 +284,7 @@ impl EditedListing {
             labelled: _,
             line_count: _,
         } = self;
+        let listing = listing.into_listing();
         if !is_changed {
             return Ok(listing);
         }

@@ -1,0 +1,139 @@
+//! A listing as it was given, with what is known of each of its places, so that no line is looked at again.
+ghost use Rattle.std.specs.Prelude.{◌≡◌, false, map, IfOk};
+ghost use Rattle.listing_parser.specs.Views.{line_view};
+ghost use Rattle.window_runs.specs.Rows.{rows_from};
+ghost use Rattle.edited_listing.specs.Known.{last_breaks, last_labels};
+
+use listing_parser::{Line, Listing};
+use std::alloc::{AllocError, Global};
+use std::marker::Model;
+use thumb_instr::Instr;
+use window_runs::rows::{Row, rows};
+
+/// A listing as it was given. Contracts see its lines.
+///
+/// `rows` has its places as windows see them. `breaks` tells of each place one more than the last place up to it that isn't joined to the place before,
+/// `labels` one more than the place of the last label up to it; 0 is none.
+#[derive(Drop)]
+pub(crate) struct GivenListing {
+    listing: Listing,
+    rows: Vec<Row>,
+    breaks: Vec<usize>,
+    labels: Vec<usize>,
+}
+
+impl Model for GivenListing {
+    ghost use Rattle.std.specs.Prelude.{List};
+    ghost use Rattle.thumb_model.specs.Listing.{Line};
+
+    ghost Value = { List Line };
+
+    ghost use Rattle.edited_listing.specs.Known.{IsKnown};
+
+    ghost view = { λ s. s.listing };
+
+    ghost invariant = { IsKnown };
+}
+
+/// Of each place of rows, one more than the last place up to it that isn't joined to the place before; 0 where there is none.
+fn last_breaks(alloc: Global, rows: &[Row]) -> Result<Vec<usize>, AllocError>
+    ensures { IfOk result (λ breaks. breaks.items ≡ last_breaks 0 0 rows.now) }
+{
+    let mut breaks = Vec::with_capacity(alloc, rows.len())?;
+    let mut last = 0;
+    for row in rows {
+        if !row.is_joined {
+            last = breaks.len() + 1;
+        }
+        breaks.push(last)?;
+    }
+    Ok(breaks)
+}
+
+/// Adds a number so many times.
+fn add_times(numbers: &mut Vec<usize>, number: usize, times: usize) -> Result<(), AllocError>
+    ghost use Rattle.std.specs.Prelude.{◌++◌, replicate, OnOk};
+    ensures { OnOk result (numbers.new.items ≡ numbers.old.items ++ replicate times number) }
+{
+    for _ in 0..times {
+        numbers.push(number)?;
+    }
+    Ok(())
+}
+
+/// Of each place of lines, one more than the place of the last label up to it; 0 where there is none.
+fn last_labels(alloc: Global, lines: &[Line]) -> Result<Vec<usize>, AllocError>
+    ensures { IfOk result (λ labels. labels.items ≡ last_labels 0 0 (map line_view lines.now)) }
+{
+    let mut labels = Vec::new(alloc);
+    let mut last = 0;
+    for line in lines {
+        if !line.names.is_empty() {
+            last = labels.len() + 1;
+        }
+        add_times(&mut labels, last, line.statement.places())?;
+    }
+    Ok(labels)
+}
+
+impl GivenListing {
+    ghost use Rattle.std.specs.Prelude.{◌≡◌, ◌-◌, ◌<◌, ◌≤◌, ◌↔◌, suc, true, false, length, slice_get, IfOk};
+    ghost use Rattle.thumb_model.specs.Listing.{labels_from, places_of};
+    ghost use Rattle.window_runs.specs.Rows.{rows_from};
+    ghost use Rattle.edited_listing.specs.Edited.{letter_in};
+    ghost use Rattle.edited_listing.specs.Known.{all_from, joined_at, HasLabelIn};
+
+    /// What is known of a listing.
+    pub(crate) fn new(alloc: Global, listing: Listing) -> Result<Self, AllocError>
+        ensures { IfOk result (λ g. g ≡ listing) }
+    {
+        let rows = rows(alloc, listing.lines())?;
+        let breaks = last_breaks(alloc, &rows)?;
+        let labels = last_labels(alloc, listing.lines())?;
+        Ok(GivenListing {
+            listing,
+            rows,
+            breaks,
+            labels,
+        })
+    }
+
+    /// The listing.
+    pub(crate) fn listing(&self) -> &Listing
+        ensures { result.now ≡ self.now }
+    {
+        &self.listing
+    }
+
+    /// The listing alone.
+    pub(crate) fn into_listing(self) -> Listing
+        ensures { result ≡ self }
+    {
+        self.listing
+    }
+
+    /// The instruction at a place, where it may stand in a window.
+    pub(crate) fn letter(&self, place: u32) -> Option<Instr>
+        requires { place < length (places_of self.now) }
+        ensures { result ≡ letter_in (slice_get (places_of self.now) place) }
+    {
+        self.rows[place as usize].letter
+    }
+
+    /// Whether neither a label nor an alignment line stands between two places.
+    pub(crate) fn is_joined(&self, from: u32, to: u32) -> bool
+        requires order { from ≤ to }
+        requires within { to < length (places_of self.now) }
+        ensures { result ≡ all_from (joined_at (rows_from false self.now)) (suc from) (to - from) }
+    {
+        self.breaks[to as usize] <= from as usize + 1
+    }
+
+    /// Whether a label stands at one of the places from one to another.
+    pub(crate) fn has_label(&self, from: u32, to: u32) -> bool
+        requires { to < length (places_of self.now) }
+        ensures { (result ≡ true) ↔ HasLabelIn (labels_from 0 self.now) from to }
+    {
+        self.labels[to as usize] > from as usize
+    }
+}

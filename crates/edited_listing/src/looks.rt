@@ -1,0 +1,128 @@
+//! The runs of instructions from a kept place on.
+ghost use Rattle.std.specs.Prelude.{◌≡◌, ◌<◌, ◌≤◌, ◌^◌, true, false, drop, length, slice_get, IfSome, None};
+ghost use Rattle.kept_places.specs.Marks.{is_gone, rank};
+ghost use Rattle.thumb_model.specs.Listing.{places_of};
+ghost use Rattle.window_runs.specs.Rows.{letter_of, rows_from};
+ghost use Rattle.window_runs.specs.Runs.{letter_at, run};
+ghost use Rattle.padded_code.specs.Windows.{AreRanked};
+ghost use Rattle.edited_listing.specs.Changes.{home_at, marks_of};
+ghost use Rattle.edited_listing.specs.Edited.{letter_in, lines_now, padded, IsEdited};
+ghost use Rattle.edited_listing.specs.Known.{joined_at};
+ghost use Rattle.edited_listing.specs.Looks.{home_of_place, Follows};
+
+use crate::given::GivenListing;
+use crate::standing::Standing;
+use arrayvec::ArrayVec;
+use kept_places::KeptPlaces;
+use thumb_instr::{Instr, Seq, in_window};
+
+/// Instructions that may stand in a window, one behind the other with no label and no alignment line between them, and their places.
+#[derive(Drop)]
+pub struct Run {
+    pub letters: Seq,
+    pub places: ArrayVec<u32, 5>,
+}
+
+/// A new instruction, where it may stand in a window.
+fn new_letter(instr: Instr) -> Option<Instr>
+    ensures { result ≡ letter_of instr None }
+{
+    if in_window(&instr) {
+        Some(instr)
+    } else {
+        None
+    }
+}
+
+/// The instruction at a place, where it may stand in a window.
+fn letter(given: &GivenListing, stands: &[Standing], place: u32) -> Option<Instr>
+    requires places { length stands.now ≡ length (places_of given.now) }
+    requires within { place < length stands.now }
+    ensures { result ≡ letter_in (slice_get (padded (record { given = given.now; stands = stands.now })).places place) }
+{
+    match stands[place as usize] {
+        Standing::Given => given.letter(place),
+        Standing::Gone => None,
+        Standing::New { instr, home: _ } => new_letter(instr),
+    }
+}
+
+/// The place at whose line is printed what stands at a place.
+pub(crate) fn home(stands: &[Standing], place: u32) -> u32
+    requires { place < length stands.now }
+    ensures { result ≡ home_of_place stands.now place }
+{
+    stands[place as usize].home(place)
+}
+
+/// Whether neither a label nor an alignment line stands between an instruction and the kept place behind it.
+fn is_joined(given: &GivenListing, stands: &[Standing], before: u32, place: u32) -> bool
+    requires edited { IsEdited (record { given = given.now; stands = stands.now }) }
+    requires follows { Follows (record { given = given.now; stands = stands.now }) before place }
+    ensures { result ≡ joined_at (rows_from false (lines_now (record { given = given.now; stands = stands.now }))) (rank (marks_of stands.now) place) }
+{
+    let from = home(stands, before);
+    let to = home(stands, place);
+    given.is_joined(from, to)
+}
+
+/// The instruction of a place that a run goes on with behind another place, or begins with.
+fn next_letter(
+    given: &GivenListing,
+    stands: &[Standing],
+    begins: bool,
+    before: u32,
+    place: u32,
+) -> Option<Instr>
+    requires edited { IsEdited (record { given = given.now; stands = stands.now }) }
+    requires kept { is_gone (marks_of stands.now) place ≡ false }
+    requires follows { begins ≡ false → place < length stands.now → Follows (record { given = given.now; stands = stands.now }) before place }
+    ensures letter { result ≡ letter_at begins (drop (rank (marks_of stands.now) place) (rows_from false (lines_now (record { given = given.now; stands = stands.now })))) }
+    ensures within { IfSome result (λ i. place < length stands.now) }
+{
+    if place as usize >= stands.len() {
+        return None;
+    }
+    if begins || is_joined(given, stands, before, place) {
+        letter(given, stands, place)
+    } else {
+        None
+    }
+}
+
+/// The instructions that stand one behind the other from a kept place on and may stand in a window, with no label and no alignment line between them.
+pub(crate) fn run(
+    given: &GivenListing,
+    stands: &[Standing],
+    kept: &mut KeptPlaces,
+    place: u32,
+    most: usize,
+) -> Run
+    requires edited { IsEdited (record { given = given.now; stands = stands.now }) }
+    requires marks { kept.old ≡ marks_of stands.now }
+    requires few { length stands.now < 2 ^ 32 }
+    requires within { place < length stands.now }
+    requires kept { is_gone (marks_of stands.now) place ≡ false }
+    requires most { most ≤ 5 }
+    ensures letters { result.letters ≡ run true most (drop (rank (marks_of stands.now) place) (rows_from false (lines_now (record { given = given.now; stands = stands.now })))) }
+    ensures places { AreRanked (marks_of stands.now) (rank (marks_of stands.now) place) result.places.items }
+    ensures as_many { length result.places.items ≡ length result.letters }
+    ensures same { kept.new ≡ kept.old }
+{
+    let mut letters = Seq::new();
+    let mut places = ArrayVec::new();
+    let mut before = place;
+    let mut at = place;
+    while letters.len() < most {
+        match next_letter(given, stands, letters.is_empty(), before, at) {
+            None => return Run { letters, places },
+            Some(instr) => {
+                letters.push(instr);
+                places.push(at);
+            }
+        }
+        before = at;
+        at = kept.node(at + 1);
+    }
+    Run { letters, places }
+}
