@@ -15,7 +15,7 @@ use Rattle.window_runs.proofs.Lengths.{rows_length}
 use Rattle.kept_layout.specs.declared.kept.KeptLayout.{KeptLayout}
 use Rattle.kept_layout.specs.declared.stretch.Target.{Target}
 use Rattle.kept_layout.specs.Stretches.{behind, end_from, lessen, shape_of, shapes_of, total_places, AllReach, Shape}
-use Rattle.kept_layout.specs.Kept.{joined, AreCut, AreShapesOf, IsLaid, IsNear, Lays}
+use Rattle.kept_layout.specs.Kept.{joined, AreCut, AreShapesOf, IsLaid, IsNear, Lays, StandsAt}
 use Rattle.kept_layout.proofs.Cutting.{fits_end, window_gives_way, window_within, BeginsIn}
 use Rattle.kept_layout.proofs.Reaching.{cut_reaches, reaches_cut}
 
@@ -49,6 +49,10 @@ pub record GivesWay (k : KeptLayout) (lines : List Line) (place : ℕ) (window n
 
 pub gives : {k : KeptLayout} {lines : List Line} {place : ℕ} {window new : List Instr} → Lays k lines → IsNear k place → IsWindow lines place window → 0 < length window → length new ≤ length window → list_all is_in_window new ≡ true → GivesWay k lines place window new
 gives lays near is_window some fewer letters = record { lays = lays; near = near; is_window = is_window; some = some; fewer = fewer; letters = letters }
+
+-- so it is with the lines and the place of which that is known
+pub gives_way : {k : KeptLayout} {window new : List Instr} (at : StandsAt k window) → 0 < length window → length new ≤ length window → list_all is_in_window new ≡ true → GivesWay k at.lines at.place window new
+gives_way at some fewer letters = gives at.lays at.near at.is_window some fewer letters
 
 -- it begins in the stretch at which the layout stands
 begins_here : (k : KeptLayout) (lines : List Line) (place : ℕ) (window new : List Instr) (s : Shape) → slice_get (shapes_of k.stretches.items) k.here ≡ Some s → GivesWay k lines place window new → BeginsIn lines (shapes_of k.stretches.items) k.here k.first place s window

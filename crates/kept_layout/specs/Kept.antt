@@ -1,8 +1,12 @@
 -- A layout that is kept for lines.
 use Rattle.std.specs.Prelude.{◌≡◌, ℕ, ◌+◌, ◌*◌, ◌<◌, ◌≤◌, ◌^◌, ◌||◌, Bool, not, true, false, List, [], ◌∷◌, ◌++◌, length, drop, take, Option, Some, None, slice_get, Contains, if◌then◌else◌}
+use Rattle.thumb_instr.specs.declared.instr.Instr.{Instr}
 use Rattle.thumb_model.specs.Listing.{Name, Statement, Nothing, Runs, Words, Aligns, Sets, Line, places_of}
-use Rattle.thumb_model.specs.Layout.{cleared, instr_size, is_among, set_address}
+use Rattle.thumb_model.specs.Layout.{cleared, instr_size, is_among, set_address, Layable}
+use Rattle.thumb_model.specs.ReplacedLines.{replaced_lines}
+use Rattle.listing_parser.specs.Parsing.{own_line}
 use Rattle.window_runs.specs.Rows.{is_unlabelled}
+use Rattle.window_runs.specs.Windows.{IsWindow}
 use Rattle.kept_layout.specs.declared.grains.Loose.TheVariants as sort
 use Rattle.kept_layout.specs.declared.kept.KeptLayout.{KeptLayout}
 use Rattle.kept_layout.specs.declared.stretch.Aim.{Aim}
@@ -149,3 +153,18 @@ pub record Lays (k : KeptLayout) (lines : List Line) : Type 0 where
 pub record IsNear (k : KeptLayout) (place : ℕ) : Type 0 where
   pub from : k.first ≤ place
   pub until : place < total_places (shapes_of k.stretches.items) → (s : Shape) → slice_get (shapes_of k.stretches.items) k.here ≡ Some s → place < k.first + s.places
+
+-- ---- windows that give way ----
+
+-- it is the layout of some lines and stands at a place of theirs, where the window begins
+pub record StandsAt (k : KeptLayout) (window : List Instr) : Type 0 where
+  pub lines : List Line
+  pub place : ℕ
+  pub lays : Lays k lines
+  pub near : IsNear k place
+  pub is_window : IsWindow lines place window
+
+-- and these lines can be laid out once the window has given way to the instructions
+pub record LeavesLayable (k : KeptLayout) (window new : List Instr) : Type 0 where
+  pub stands : StandsAt k window
+  pub layable : Layable k.base (replaced_lines own_line stands.place (length window) new stands.lines)

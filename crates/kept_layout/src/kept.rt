@@ -5,7 +5,6 @@ use crate::building::{lay, note_callers};
 use crate::grains::{Loose, find_loose, note_grains};
 use crate::shrinking::Move;
 use crate::stretch::Stretch;
-use line_cursor::Cursor;
 use listing_parser::{Listing, Memory};
 use std::alloc::Global;
 use thumb_instr::Instr;
@@ -41,15 +40,15 @@ fn bytes_gone(window: &[Instr], new: &[Instr]) -> u32
 }
 
 impl KeptLayout {
-    ghost use Rattle.std.specs.Prelude.{◌≡◌, ◌<◌, ◌≤◌, ◌↔◌, true, is_some, length, IfOk, IfSome, OnOk};
+    ghost use Rattle.std.specs.Prelude.{◌≡◌, ◌<◌, ◌≤◌, ◌↔◌, true, ℕ, List, is_some, length, IfOk, IfSome, OnOk};
     ghost use Rattle.std.specs.List.{list_all};
     ghost use Rattle.thumb_instr.specs.Window.{is_in_window};
     ghost use Rattle.thumb_model.specs.Layout.{Layable};
+    ghost use Rattle.thumb_model.specs.Listing.{Line};
     ghost use Rattle.thumb_model.specs.ReplacedLines.{replaced_lines};
     ghost use Rattle.listing_parser.specs.Parsing.{own_line};
-    ghost use Rattle.line_cursor.specs.Cursors.{lines_at, place_at};
     ghost use Rattle.window_runs.specs.Windows.{IsWindow};
-    ghost use Rattle.kept_layout.specs.Kept.{Lays, IsNear};
+    ghost use Rattle.kept_layout.specs.Kept.{Lays, IsNear, LeavesLayable, StandsAt};
     ghost use Rattle.kept_layout.specs.Moves.{IsMoved};
 
     /// The layout of a listing that can be laid out from the base. It stands at the first place.
@@ -80,46 +79,32 @@ impl KeptLayout {
         Ok(kept)
     }
 
-    /// How stretches move where a window right behind a cursor gives way to fewer instructions: none where the lines can't be laid out then. It stands at the window's
-    /// place; the cursor tells the contract which lines these are.
+    /// How stretches move where a window, which begins where the layout stands, gives way to fewer instructions: none where the lines can't be laid out then.
     pub fn may_give_way(
         &self,
         alloc: Global,
-        cursor: &Cursor,
         window: &[Instr],
         new: &[Instr],
     ) -> Result<Option<Move>, Memory>
-        requires lays { Lays self.now (lines_at cursor.now) }
-        requires near { IsNear self.now (place_at cursor.now) }
-        requires window { IsWindow (lines_at cursor.now) (place_at cursor.now) window.now }
+        requires stands { StandsAt self.now window.now }
         requires some { 0 < length window.now }
         requires fewer { length new.now ≤ length window.now }
         requires letters { list_all is_in_window new.now ≡ true }
-        ensures layable { IfOk result (λ o. (is_some o ≡ true) ↔ Layable self.now.base (replaced_lines own_line (place_at cursor.now) (length window.now) new.now (lines_at cursor.now))) }
+        ensures layable { IfOk result (λ o. (lines : List Line) (place : ℕ) → Lays self.now lines → IsNear self.now place → IsWindow lines place window.now → (is_some o ≡ true) ↔ Layable self.now.base (replaced_lines own_line place (length window.now) new.now lines)) }
         ensures moved { IfOk result (λ o. IfSome o (λ m. IsMoved self.now (2 * (length window.now - length new.now)) m.at.items m.by)) }
     {
         let bytes = bytes_gone(window, new);
         self.move_within_reach(alloc, bytes)
     }
 
-    /// Lets a window right behind a cursor give way to fewer instructions, by which stretches move so, and which leaves lines that can be laid out. It stands at the
-    /// window's place; the cursor tells the contract which lines these are.
-    pub fn give_way(
-        &mut self,
-        cursor: &Cursor,
-        window: &[Instr],
-        new: &[Instr],
-        moved: &Move,
-    ) -> Result<(), Memory>
-        requires lays { Lays self.old (lines_at cursor.now) }
-        requires near { IsNear self.old (place_at cursor.now) }
-        requires window { IsWindow (lines_at cursor.now) (place_at cursor.now) window.now }
+    /// Lets a window, which begins where the layout stands, give way to fewer instructions, by which stretches move so, and which leaves lines that can be laid out.
+    pub fn give_way(&mut self, window: &[Instr], new: &[Instr], moved: &Move) -> Result<(), Memory>
+        requires leaves { LeavesLayable self.old window.now new.now }
         requires some { 0 < length window.now }
         requires fewer { length new.now ≤ length window.now }
         requires letters { list_all is_in_window new.now ≡ true }
-        requires layable { Layable self.old.base (replaced_lines own_line (place_at cursor.now) (length window.now) new.now (lines_at cursor.now)) }
         requires moved { IsMoved self.old (2 * (length window.now - length new.now)) moved.now.at.items moved.now.by }
-        ensures lays { OnOk result (Lays self.new (replaced_lines own_line (place_at cursor.now) (length window.now) new.now (lines_at cursor.now))) }
+        ensures lays { OnOk result ((lines : List Line) (place : ℕ) → Lays self.old lines → IsNear self.old place → IsWindow lines place window.now → Lays self.new (replaced_lines own_line place (length window.now) new.now lines)) }
         ensures base { OnOk result (self.new.base ≡ self.old.base) }
     {
         let bytes = bytes_gone(window, new);

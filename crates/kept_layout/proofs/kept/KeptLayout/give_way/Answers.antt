@@ -6,30 +6,30 @@ use Rattle.listing_parser.specs.Parsing.{own_line}
 use Rattle.kept_layout.specs.declared.kept.KeptLayout.{KeptLayout}
 use Rattle.kept_layout.specs.Stretches.{lessen, shapes_of, AllReach}
 use Rattle.kept_layout.specs.Kept.{AreCut, IsLaid, Lays}
-use Rattle.kept_layout.proofs.Giving.{bytes_few, bytes_within, cut_after, gives, places_within, reach_after, GivesWay}
+use Rattle.kept_layout.proofs.Giving.{bytes_few, bytes_within, cut_after, gives, gives_way, places_within, reach_after, GivesWay}
 use Rattle.kept_layout.proofs.kept.KeptLayout.give_way.Goals as goal
 
 pub bytes_gone-bytes-requires-clause-few : goal.bytes_gone-bytes-requires-clause-few
 bytes_gone-bytes-requires-clause-few c =
     let r = c.requires in
-    bytes_few _ _ _ _ _ (gives r.lays r.near r.window r.some r.fewer r.letters)
+    bytes_few _ _ _ _ _ (gives_way r.leaves.stands r.some r.fewer r.letters)
 
 pub shrink-requires-clause-few : goal.shrink-requires-clause-few
 shrink-requires-clause-few c = λ s e.
     let r = c.requires in
-    subst (λ n. n ≤ s.bytes) (sym c.bytes_gone-bytes.ensures) (bytes_within _ _ _ _ _ s e (gives r.lays r.near r.window r.some r.fewer r.letters))
+    subst (λ n. n ≤ s.bytes) (sym c.bytes_gone-bytes.ensures) (bytes_within _ _ _ _ _ s e (gives_way r.leaves.stands r.some r.fewer r.letters))
 
 pub shrink-requires-clause-some : goal.shrink-requires-clause-some
 shrink-requires-clause-some c = λ s e.
     let r = c.requires in
-    places_within _ _ _ _ _ s e (gives r.lays r.near r.window r.some r.fewer r.letters)
+    places_within _ _ _ _ _ s e (gives_way r.leaves.stands r.some r.fewer r.letters)
 
 pub shrink-requires-clause-reach : goal.shrink-requires-clause-reach
 shrink-requires-clause-reach c =
     let r = c.requires in
     let k = c.args.self.now in
     subst (λ n. AllReach k.base (lessen k.here n (length c.args.window.now - length c.args.new.now) (shapes_of k.stretches.items))) (sym c.bytes_gone-bytes.ensures)
-    (reach_after own_line k _ _ c.args.window.now c.args.new.now (gives r.lays r.near r.window r.some r.fewer r.letters) r.layable)
+    (reach_after own_line k _ _ c.args.window.now c.args.new.now (gives_way r.leaves.stands r.some r.fewer r.letters) r.leaves.layable)
 
 -- the layout of the lines, once the stretch has shrunk
 lays_after : (old new : KeptLayout) (lines : List Line) (place : ℕ) (window is : List Instr) (bytes : ℕ) → GivesWay old lines place window is → bytes ≡ 2 * (length window - length is) → IsLaid new
@@ -46,4 +46,6 @@ both (Err e) f p q = tt
 pub returns-clause-lays : goal.returns-clause-lays
 returns-clause-lays c =
     let r = c.requires in
-    both c.shrink.result (lays_after c.args.self.now c.shrink.new.self _ _ c.args.window.now c.args.new.now c.bytes_gone-bytes.result (gives r.lays r.near r.window r.some r.fewer r.letters) c.bytes_gone-bytes.ensures) c.shrink.ensures.laid c.shrink.ensures.shapes
+    both c.shrink.result (λ laid shapes. λ lines place lays near is_window.
+    lays_after c.args.self.now c.shrink.new.self lines place c.args.window.now c.args.new.now c.bytes_gone-bytes.result (gives lays near is_window r.some r.fewer r.letters) c.bytes_gone-bytes.ensures laid shapes)
+    c.shrink.ensures.laid c.shrink.ensures.shapes

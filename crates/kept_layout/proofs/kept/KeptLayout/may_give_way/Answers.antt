@@ -8,19 +8,19 @@ use Rattle.thumb_model.specs.ReplacedLines.{replaced_lines}
 use Rattle.listing_parser.specs.Parsing.{own_line}
 use Rattle.kept_layout.specs.declared.kept.KeptLayout.{KeptLayout}
 use Rattle.kept_layout.specs.Stretches.{lessen, shapes_of, AllReach}
-use Rattle.kept_layout.proofs.Giving.{bytes_few, bytes_within, gives, layable_after, reach_after, GivesWay}
+use Rattle.kept_layout.proofs.Giving.{bytes_few, bytes_within, gives, gives_way, layable_after, reach_after, GivesWay}
 use Rattle.kept_layout.proofs.ShrinkingWide.{cut_wide}
 use Rattle.kept_layout.proofs.kept.KeptLayout.may_give_way.Goals as goal
 
 pub bytes_gone-bytes-requires-clause-few : goal.bytes_gone-bytes-requires-clause-few
 bytes_gone-bytes-requires-clause-few c =
     let r = c.requires in
-    bytes_few _ _ _ _ _ (gives r.lays r.near r.window r.some r.fewer r.letters)
+    bytes_few _ _ _ _ _ (gives_way r.stands r.some r.fewer r.letters)
 
 pub move_within_reach-requires-clause-few : goal.move_within_reach-requires-clause-few
 move_within_reach-requires-clause-few c = λ s e.
     let r = c.requires in
-    subst (λ n. n ≤ s.bytes) (sym c.bytes_gone-bytes.ensures) (bytes_within _ _ _ _ _ s e (gives r.lays r.near r.window r.some r.fewer r.letters))
+    subst (λ n. n ≤ s.bytes) (sym c.bytes_gone-bytes.ensures) (bytes_within _ _ _ _ _ s e (gives_way r.stands r.some r.fewer r.letters))
 
 -- what is told of a stretch that shrinks, told of the lines
 told : (k : KeptLayout) (lines : List Line) (place : ℕ) (window new : List Instr) (bytes : ℕ) (b : Bool) → GivesWay k lines place window new → bytes ≡ 2 * (length window - length new)
@@ -34,7 +34,9 @@ told k lines place window new bytes b g e h =
 pub returns-clause-layable : goal.returns-clause-layable
 returns-clause-layable c =
     let r = c.requires in
-    IfOk-weaker _ _ _ (λ o h. told c.args.self.now _ _ c.args.window.now c.args.new.now c.bytes_gone-bytes.result (is_some o) (gives r.lays r.near r.window r.some r.fewer r.letters) c.bytes_gone-bytes.ensures h) c.move_within_reach.ensures.reach
+    IfOk-weaker _ _ _ (λ o h. λ lines place lays near is_window.
+    told c.args.self.now lines place c.args.window.now c.args.new.now c.bytes_gone-bytes.result (is_some o) (gives lays near is_window r.some r.fewer r.letters) c.bytes_gone-bytes.ensures h)
+    c.move_within_reach.ensures.reach
 
 pub move_within_reach-requires-clause-wide : goal.move_within_reach-requires-clause-wide
-move_within_reach-requires-clause-wide c = cut_wide _ _ c.requires.lays.cut
+move_within_reach-requires-clause-wide c = cut_wide _ _ c.requires.stands.lays.cut
