@@ -18,3 +18,10 @@ pub mod KeptSpots
 pub mod Grown
 pub mod Ways
 pub mod Turning
+pub mod DueLines
+pub mod DuePlaces
+pub mod DueWindows
+pub mod DueFits
+pub mod DueMarks
+pub mod DueNone
+pub mod DueScenes

@@ -22,7 +22,7 @@ lines_of s = lines_now s.listing
 
 -- what is kept of its places is true of the lines now
 pub record IsKept (s : Scene) : Type 0 where
-  pub padded : IsPadded (marks s.listing) (padded s.listing) (code_of (lines_of s))
+  pub is_padded : IsPadded (marks s.listing) (padded s.listing) (code_of (lines_of s))
   pub as_many : length (marks s.listing) ≡ length (padded s.listing).places
   pub live : IsKeptLive (padded s.listing) s.live
 
