@@ -77,7 +77,7 @@ place_of_item at xs ls r x e f = sym (flat_some (places_of ls) r) ∙ ap (λ ps.
 
 -- ---- a window gives way ----
 
-home_get : (at : ℕ → Option Place) (xs : List Item) (r : ℕ) (x : Item) → slice_get xs r ≡ Some x → AreHome at xs → has_home at x ≡ true
+pub home_get : (at : ℕ → Option Place) (xs : List Item) (r : ℕ) (x : Item) → slice_get xs r ≡ Some x → AreHome at xs → has_home at x ≡ true
 home_get at [] r x e h = absurd (cc)
 home_get at (y ∷ xs) zero x e h = ap (has_home at) (sym (same_Some y x e)) ∙ h.0
 home_get at (y ∷ xs) (suc r) x e h = home_get at xs r x e h.1

@@ -1,5 +1,5 @@
 -- What stands at a place of the padded code.
-use Rattle.std.proofs.Common.{◌≡◌, ℕ, zero, suc, List, [], ◌∷◌, length, Some, refl, sym, ap, ◌∙◌, arith}
+use Rattle.std.proofs.Common.{◌≡◌, ◌<◌, ℕ, zero, suc, get_or, List, [], ◌∷◌, length, Some, refl, sym, ap, ◌∙◌, arith}
 use Rattle.std.specs.Prelude.{slice_get, None}
 use Rattle.std.proofs.lemmas.Option.{same_Some}
 use Rattle.thumb_instr.specs.declared.instr.Instr.{Instr}
@@ -23,3 +23,9 @@ letter_gone ss xs p n e = let at = padded_at ss xs p standing.Gone n e in ap let
 
 pub letter_new : (ss : List Standing) (xs : List Place) (p : ℕ) (i : Instr) (home : ℕ) → length ss ≡ length xs → slice_get ss p ≡ Some (standing.New i home) → letter_of i None ≡ letter_in (slice_get (standing_places ss xs) p)
 letter_new ss xs p i home n e = let at = padded_at ss xs p (standing.New i home) n e in ap letter_in (sym at.2)
+
+-- what is read of a slice
+pub read_get : {A : Type 0} (xs : List A) (p : ℕ) (d x : A) → p < length xs → get_or xs p d ≡ x → slice_get xs p ≡ Some x
+read_get [] p d x h e = absurd (omega arith)
+read_get (y ∷ xs) zero d x h e = ap (λ z. Some z) e
+read_get (y ∷ xs) (suc p) d x h e = read_get xs p d x (omega arith) e

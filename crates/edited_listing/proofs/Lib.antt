@@ -15,3 +15,8 @@ pub mod Letters
 pub mod Prints
 pub mod Counts
 pub mod Ops
+pub mod Joins
+pub mod Moved
+pub mod Tables
+pub mod Looking
+pub mod Running

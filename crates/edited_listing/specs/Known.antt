@@ -27,12 +27,12 @@ pub record HasLabelAt (labels : List Label) (place : ℕ) : Type 0 where
   pub at : label.place ≡ place
 
 -- some label stands right before one of the places from one to another
-pub record HasLabelIn (labels : List Label) (from to : ℕ) : Type 0 where
+pub record HasLabelIn (labels : List Label) (low high : ℕ) : Type 0 where
   pub number : ℕ
   pub label : Label
   pub is : slice_get labels number ≡ Some label
-  pub from : from ≤ label.place
-  pub to : label.place ≤ to
+  pub from : low ≤ label.place
+  pub to : label.place ≤ high
 
 -- of the rows from place p on, one more than the last place up to each that isn't joined to the place before
 abbrev pub last_breaks : ℕ → ℕ → List Row → List ℕ

@@ -1,7 +1,6 @@
 //! A listing as it was given, with what is known of each of its places, so that no line is looked at again.
-ghost use Rattle.std.specs.Prelude.{◌≡◌, false, map, IfOk};
+ghost use Rattle.std.specs.Prelude.{◌≡◌, ◌++◌, map, replicate, IfOk, OnOk};
 ghost use Rattle.listing_parser.specs.Views.{line_view};
-ghost use Rattle.window_runs.specs.Rows.{rows_from};
 ghost use Rattle.edited_listing.specs.Known.{last_breaks, last_labels};
 
 use listing_parser::{Line, Listing};
@@ -52,10 +51,9 @@ fn last_breaks(alloc: Global, rows: &[Row]) -> Result<Vec<usize>, AllocError>
 
 /// Adds a number so many times.
 fn add_times(numbers: &mut Vec<usize>, number: usize, times: usize) -> Result<(), AllocError>
-    ghost use Rattle.std.specs.Prelude.{◌++◌, replicate, OnOk};
     ensures { OnOk result (numbers.new.items ≡ numbers.old.items ++ replicate times number) }
 {
-    for _ in 0..times {
+    for _time in 0..times {
         numbers.push(number)?;
     }
     Ok(())

@@ -12,7 +12,7 @@ ghost use Rattle.edited_listing.specs.declared.standing.Standing.TheVariants as 
 use crate::given::GivenListing;
 use crate::giving::give_way;
 use crate::labels::op_labels;
-use crate::looks::{Run, home, run};
+use crate::looks::{Run, home, run_from};
 use crate::passing::is_op_behind;
 use crate::printing::print;
 use crate::standing::Standing;
@@ -182,11 +182,7 @@ impl EditedListing {
         ensures none { IfNone result (rank (marks self.now) place ≡ 0) }
     {
         let start = self.kept.start(place);
-        if start == 0 {
-            None
-        } else {
-            Some(start - 1)
-        }
+        if start == 0 { None } else { Some(start - 1) }
     }
 
     /// Whether some label stands right before a kept place now.
@@ -213,7 +209,7 @@ impl EditedListing {
         ensures as_many { length result.places.items ≡ length result.letters }
         ensures same { self.new ≡ self.old }
     {
-        run(&self.listing, &self.stands, &mut self.kept, place, most)
+        run_from(&self.listing, &self.stands, &mut self.kept, place, most)
     }
 
     /// How many lines there are now.

@@ -5,7 +5,7 @@ ghost use Rattle.thumb_model.specs.Listing.{places_of};
 ghost use Rattle.window_runs.specs.Rows.{letter_of, rows_from};
 ghost use Rattle.window_runs.specs.Runs.{letter_at, run};
 ghost use Rattle.padded_code.specs.Windows.{AreRanked};
-ghost use Rattle.edited_listing.specs.Changes.{home_at, marks_of};
+ghost use Rattle.edited_listing.specs.Changes.{marks_of};
 ghost use Rattle.edited_listing.specs.Edited.{letter_in, lines_now, padded, IsEdited};
 ghost use Rattle.edited_listing.specs.Known.{joined_at};
 ghost use Rattle.edited_listing.specs.Looks.{home_of_place, Follows};
@@ -27,11 +27,7 @@ pub struct Run {
 fn new_letter(instr: Instr) -> Option<Instr>
     ensures { result ≡ letter_of instr None }
 {
-    if in_window(&instr) {
-        Some(instr)
-    } else {
-        None
-    }
+    if in_window(&instr) { Some(instr) } else { None }
 }
 
 /// The instruction at a place, where it may stand in a window.
@@ -91,7 +87,7 @@ fn next_letter(
 }
 
 /// The instructions that stand one behind the other from a kept place on and may stand in a window, with no label and no alignment line between them.
-pub(crate) fn run(
+pub(crate) fn run_from(
     given: &GivenListing,
     stands: &[Standing],
     kept: &mut KeptPlaces,
@@ -114,7 +110,8 @@ pub(crate) fn run(
     let mut before = place;
     let mut at = place;
     while letters.len() < most {
-        match next_letter(given, stands, letters.is_empty(), before, at) {
+        let count = letters.len();
+        match next_letter(given, stands, count == 0, before, at) {
             None => return Run { letters, places },
             Some(instr) => {
                 letters.push(instr);

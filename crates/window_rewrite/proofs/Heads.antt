@@ -48,10 +48,6 @@ front_front (suc m) zero is h = absurd (omega arith)
 front_front (suc m) (suc n) [] h = refl
 front_front (suc m) (suc n) (i ∷ is) h = ap (λ js. i ∷ js) (front_front m n is (omega arith))
 
-front_all : (is : List Instr) → take (length is) is ≡ is
-front_all [] = refl
-front_all (i ∷ is) = ap (λ js. i ∷ js) (front_all is)
-
 -- the number of a front with one instruction more
 front_next : (shape at : ℕ) (is : List Instr) (i : Instr) → slice_get is at ≡ Some i → shape_from shape (take (suc at) is) ≡ next_shape (shape_from shape (take at is)) i
 front_next shape at [] i e = absurd (cc)
@@ -60,9 +56,6 @@ front_next shape (suc at) (x ∷ xs) i e = front_next (next_shape shape x) at xs
 
 pub front_more : (shape at : ℕ) (is : List Instr) (i : Instr) → slice_get is at ≡ Some i → shape ≡ shape_of (take at is) → next_shape shape i ≡ shape_of (take (at + 1) is)
 front_more shape at is i e s = ap (λ n. next_shape n i) s ∙ sym (front_next 0 at is i e) ∙ ap (λ n. shape_of (take n is)) (let one : suc at ≡ at + 1 = omega arith in one)
-
-pub front_whole : (shape at : ℕ) (is : List Instr) → at ≡ length is → shape ≡ shape_of (take at is) → shape ≡ shape_of is
-front_whole shape at is e s = s ∙ ap (λ n. shape_of (take n is)) e ∙ ap shape_of (front_all is)
 
 pub shorter_is : (rule : Rule) (registers : List Low) (window : List Instr) → Shortens rule registers window → is_shorter rule ≡ true
 shorter_is rule registers window s = lt-ltb (length rule.right) (length rule.left) s.shorter

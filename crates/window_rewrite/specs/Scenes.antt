@@ -7,7 +7,7 @@ use Rattle.padded_code.specs.Windows.{AreRanked}
 use Rattle.window_runs.specs.Rows.{rows_from}
 use Rattle.window_runs.specs.Runs.{run}
 use Rattle.edited_listing.specs.Edited.{lines_now, marks, padded}
-use Rattle.edited_listing.specs.Labels.{HasLabelAt}
+use Rattle.edited_listing.specs.Known.{HasLabelAt}
 use Rattle.kept_live.specs.KeptLive.{IsKeptLive}
 use Rattle.window_rewrite.specs.declared.finding.Rules.{Rules}
 use Rattle.window_rewrite.specs.declared.finding.Look.{Look}

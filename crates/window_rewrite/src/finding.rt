@@ -9,9 +9,8 @@ ghost use Rattle.thumb_model.specs.ReplacedLines.{replaced_lines};
 ghost use Rattle.rule_model.specs.Rules.{Rule};
 ghost use Rattle.listing_parser.specs.Parsing.{own_line};
 ghost use Rattle.window_runs.specs.Windows.{IsWindow};
-ghost use Rattle.window_harvest.specs.Harvest.{spot_of, StandsThere};
 ghost use Rattle.step_ledger.specs.Counts.{RisesByAtLeast};
-ghost use Rattle.window_rewrite.specs.Fitting.{IsForm, Shortens};
+ghost use Rattle.window_rewrite.specs.Fitting.{IsForm, Shortens, StandsThere};
 ghost use Rattle.window_rewrite.specs.Rules.{rules_in, side_length};
 ghost use Rattle.window_rewrite.specs.Choices.{setting_of, choice_of, of_length, AreReady, Awaits, IsBest, IsChoice, IsLowest, Meets, NoneAt, NoneOf};
 ghost use Rattle.window_rewrite.specs.Scenes.{lines_seen, number_seen, IsLook};
@@ -99,7 +98,7 @@ fn try_entry<L: Ledger>(
     steps: &mut Steps<L>,
 ) -> Result<Option<Choice>, Memory>
     requires look { IsLook look.now }
-    requires stands { StandsThere (lines_seen look.now) (spot_of (number_seen look.now) (length window.now)) window.now form.now.live.bits }
+    requires stands { StandsThere (lines_seen look.now) (number_seen look.now) window.now form.now.live.bits }
     requires within { length window.now ≤ length look.now.site.now.run.letters }
     requires form { IsForm window.now form.now }
     requires number { number < length look.now.rules.now.entries.now }
@@ -124,7 +123,10 @@ fn try_entry<L: Ledger>(
         Some(map) => map,
     };
     let new = renamed_all(entry.right.as_slice(), &registers_of(&map));
-    if !look.scene.is_settled(look.rules, look.site, window.len(), new.as_slice()) {
+    if !look
+        .scene
+        .is_settled(look.rules, look.site, window.len(), new.as_slice())
+    {
         return Ok(None);
     }
     let moved = match moved_layout(alloc, look, window, new.as_slice())? {
@@ -182,7 +184,7 @@ fn lowest_by<L: Ledger>(
     steps: &mut Steps<L>,
 ) -> Result<Option<Choice>, Memory>
     requires look { IsLook look.now }
-    requires stands { StandsThere (lines_seen look.now) (spot_of (number_seen look.now) (length window.now)) window.now form.now.live.bits }
+    requires stands { StandsThere (lines_seen look.now) (number_seen look.now) window.now form.now.live.bits }
     requires within { length window.now ≤ length look.now.site.now.run.letters }
     requires form { IsForm window.now form.now }
     ensures some { IfOk result (λ o. IfSome o (IsLowest (setting_of look.now.rules.now) (lines_seen look.now) (number_seen look.now) (length window.now))) }
@@ -194,9 +196,7 @@ fn lowest_by<L: Ledger>(
 {
     let mut at = first_number(look.rules, window, form);
     while let Some(number) = at {
-        if let Some(choice) = try_entry(
-            alloc, look, window, form, number, refused, steps,
-        )? {
+        if let Some(choice) = try_entry(alloc, look, window, form, number, refused, steps)? {
             return Ok(Some(choice));
         }
         at = look.rules.index.chains.next(number, look.rules.entries);
@@ -214,7 +214,7 @@ fn lowest<L: Ledger>(
     steps: &mut Steps<L>,
 ) -> Result<Option<Choice>, Memory>
     requires look { IsLook look.now }
-    requires stands { StandsThere (lines_seen look.now) (spot_of (number_seen look.now) (length window.now)) window.now live.bits }
+    requires stands { StandsThere (lines_seen look.now) (number_seen look.now) window.now live.bits }
     requires within { length window.now ≤ length look.now.site.now.run.letters }
     ensures some { IfOk result (λ o. IfSome o (IsLowest (setting_of look.now.rules.now) (lines_seen look.now) (number_seen look.now) (length window.now))) }
     ensures moved { IfOk result (λ o. IfSome o (λ c. Moves look.now.scene.now.ground c.window c.new c.moved)) }

@@ -1,12 +1,15 @@
-use Rattle.std.proofs.Common.{◌≡◌, ◌∙◌, ◌-◌, ◌*◌, ◌≤◌, ℕ, List, length, Result, Ok, Err, OnOk, ap, subst, sym}
+use Rattle.std.proofs.Common.{◌≡◌, ◌∙◌, ◌-◌, ◌*◌, ◌<◌, ◌≤◌, ℕ, true, List, length, Result, Ok, Err, OnOk, ap, subst, sym}
+use Rattle.std.specs.List.{list_all}
 use Rattle.thumb_instr.specs.declared.instr.Instr.{Instr}
+use Rattle.thumb_instr.specs.Window.{is_in_window}
 use Rattle.thumb_model.specs.Listing.{Line}
 use Rattle.thumb_model.specs.ReplacedLines.{replaced_lines}
 use Rattle.listing_parser.specs.Parsing.{own_line}
+use Rattle.window_runs.specs.Windows.{IsWindow}
 use Rattle.kept_layout.specs.declared.kept.KeptLayout.{KeptLayout}
 use Rattle.kept_layout.specs.Stretches.{lessen, shapes_of, AllReach}
-use Rattle.kept_layout.specs.Kept.{AreCut, IsLaid, Lays}
-use Rattle.kept_layout.proofs.Giving.{bytes_few, bytes_within, cut_after, gives, gives_way, places_within, reach_after, GivesWay}
+use Rattle.kept_layout.specs.Kept.{AreCut, IsLaid, IsNear, Lays}
+use Rattle.kept_layout.proofs.Giving.{bytes_few, bytes_within, cut_after, gives, gives_way, places_within, reach_after}
 use Rattle.kept_layout.proofs.kept.KeptLayout.give_way.Goals as goal
 
 pub bytes_gone-bytes-requires-clause-few : goal.bytes_gone-bytes-requires-clause-few
@@ -32,11 +35,13 @@ shrink-requires-clause-reach c =
     (reach_after own_line k _ _ c.args.window.now c.args.new.now (gives_way r.leaves.stands r.some r.fewer r.letters) r.leaves.layable)
 
 -- the layout of the lines, once the stretch has shrunk
-lays_after : (old new : KeptLayout) (lines : List Line) (place : ℕ) (window is : List Instr) (bytes : ℕ) → GivesWay old lines place window is → bytes ≡ 2 * (length window - length is) → IsLaid new
-    → shapes_of new.stretches.items ≡ lessen old.here bytes (length window - length is) (shapes_of old.stretches.items) → Lays new (replaced_lines own_line place (length window) is lines)
-lays_after old new lines place window is bytes g e laid shapes = record {
+lays_after : (old new : KeptLayout) (window is : List Instr) (bytes : ℕ) → 0 < length window → length is ≤ length window → list_all is_in_window is ≡ true → bytes ≡ 2 * (length window - length is) → IsLaid new
+    → shapes_of new.stretches.items ≡ lessen old.here bytes (length window - length is) (shapes_of old.stretches.items)
+    → (lines : List Line) (place : ℕ) → Lays old lines → IsNear old place → IsWindow lines place window → Lays new (replaced_lines own_line place (length window) is lines)
+lays_after old new window is bytes some fewer letters e laid shapes lines place lays near is_window = record {
   laid = laid;
-  cut = subst (AreCut (replaced_lines own_line place (length window) is lines)) (sym (shapes ∙ ap (λ n. lessen old.here n (length window - length is) (shapes_of old.stretches.items)) e)) (cut_after own_line old lines place window is g);
+  cut = subst (AreCut (replaced_lines own_line place (length window) is lines)) (sym (shapes ∙ ap (λ n. lessen old.here n (length window - length is) (shapes_of old.stretches.items)) e))
+      (cut_after own_line old lines place window is (gives lays near is_window some fewer letters));
 }
 
 both : {T E P Q R : Type 0} (r : Result T E) → (P → Q → R) → OnOk r P → OnOk r Q → OnOk r R
@@ -46,6 +51,4 @@ both (Err e) f p q = tt
 pub returns-clause-lays : goal.returns-clause-lays
 returns-clause-lays c =
     let r = c.requires in
-    both c.shrink.result (λ laid shapes. λ lines place lays near is_window.
-    lays_after c.args.self.now c.shrink.new.self lines place c.args.window.now c.args.new.now c.bytes_gone-bytes.result (gives lays near is_window r.some r.fewer r.letters) c.bytes_gone-bytes.ensures laid shapes)
-    c.shrink.ensures.laid c.shrink.ensures.shapes
+    both c.shrink.result (lays_after c.args.self.now c.shrink.new.self c.args.window.now c.args.new.now c.bytes_gone-bytes.result r.some r.fewer r.letters c.bytes_gone-bytes.ensures) c.shrink.ensures.laid c.shrink.ensures.shapes

@@ -1,13 +1,17 @@
-use Rattle.std.proofs.Common.{◌≡◌, ◌-◌, ◌*◌, ◌≤◌, ◌↔◌, Bool, true, ℕ, List, length, subst, sym}
+use Rattle.std.proofs.Common.{◌≡◌, ◌-◌, ◌*◌, ◌<◌, ◌≤◌, ◌↔◌, Bool, true, ℕ, List, length, subst, sym}
 use Rattle.std.specs.Prelude.{is_some}
+use Rattle.std.specs.List.{list_all}
 use Rattle.std.proofs.lemmas.Result.{IfOk-weaker}
 use Rattle.thumb_instr.specs.declared.instr.Instr.{Instr}
+use Rattle.thumb_instr.specs.Window.{is_in_window}
 use Rattle.thumb_model.specs.Layout.{Layable}
 use Rattle.thumb_model.specs.Listing.{Line}
 use Rattle.thumb_model.specs.ReplacedLines.{replaced_lines}
 use Rattle.listing_parser.specs.Parsing.{own_line}
+use Rattle.window_runs.specs.Windows.{IsWindow}
 use Rattle.kept_layout.specs.declared.kept.KeptLayout.{KeptLayout}
 use Rattle.kept_layout.specs.Stretches.{lessen, shapes_of, AllReach}
+use Rattle.kept_layout.specs.Kept.{IsNear, Lays}
 use Rattle.kept_layout.proofs.Giving.{bytes_few, bytes_within, gives, gives_way, layable_after, reach_after, GivesWay}
 use Rattle.kept_layout.proofs.ShrinkingWide.{cut_wide}
 use Rattle.kept_layout.proofs.kept.KeptLayout.may_give_way.Goals as goal
@@ -22,7 +26,7 @@ move_within_reach-requires-clause-few c = λ s e.
     let r = c.requires in
     subst (λ n. n ≤ s.bytes) (sym c.bytes_gone-bytes.ensures) (bytes_within _ _ _ _ _ s e (gives_way r.stands r.some r.fewer r.letters))
 
--- what is told of a stretch that shrinks, told of the lines
+-- what is told of a stretch that shrinks, told of lines
 told : (k : KeptLayout) (lines : List Line) (place : ℕ) (window new : List Instr) (bytes : ℕ) (b : Bool) → GivesWay k lines place window new → bytes ≡ 2 * (length window - length new)
     → ((gone : ℕ) → (b ≡ true) ↔ AllReach k.base (lessen k.here bytes gone (shapes_of k.stretches.items))) → (b ≡ true) ↔ Layable k.base (replaced_lines own_line place (length window) new lines)
 told k lines place window new bytes b g e h =
@@ -31,12 +35,16 @@ told k lines place window new bytes b g e h =
       λ l. (h gone).1 (subst (λ n. AllReach k.base (lessen k.here n gone (shapes_of k.stretches.items))) (sym e) (reach_after own_line k lines place window new g l)),
     )
 
+-- and so of all lines of which this is the layout
+told_all : (k : KeptLayout) (window new : List Instr) (bytes : ℕ) (b : Bool) → 0 < length window → length new ≤ length window → list_all is_in_window new ≡ true → bytes ≡ 2 * (length window - length new)
+    → ((gone : ℕ) → (b ≡ true) ↔ AllReach k.base (lessen k.here bytes gone (shapes_of k.stretches.items)))
+    → (lines : List Line) (place : ℕ) → Lays k lines → IsNear k place → IsWindow lines place window → (b ≡ true) ↔ Layable k.base (replaced_lines own_line place (length window) new lines)
+told_all k window new bytes b some fewer letters e h lines place lays near is_window = told k lines place window new bytes b (gives lays near is_window some fewer letters) e h
+
 pub returns-clause-layable : goal.returns-clause-layable
 returns-clause-layable c =
     let r = c.requires in
-    IfOk-weaker _ _ _ (λ o h. λ lines place lays near is_window.
-    told c.args.self.now lines place c.args.window.now c.args.new.now c.bytes_gone-bytes.result (is_some o) (gives lays near is_window r.some r.fewer r.letters) c.bytes_gone-bytes.ensures h)
-    c.move_within_reach.ensures.reach
+    IfOk-weaker _ _ _ (λ o h. told_all c.args.self.now c.args.window.now c.args.new.now c.bytes_gone-bytes.result (is_some o) r.some r.fewer r.letters c.bytes_gone-bytes.ensures h) c.move_within_reach.ensures.reach
 
 pub move_within_reach-requires-clause-wide : goal.move_within_reach-requires-clause-wide
 move_within_reach-requires-clause-wide c = cut_wide _ _ c.requires.stands.lays.cut

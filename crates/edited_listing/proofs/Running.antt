@@ -1,0 +1,100 @@
+-- A run that is read place by place.
+use Rattle.std.proofs.Common.{◌≡◌, ℕ, suc, ◌+◌, ◌-◌, ◌<◌, ◌≤◌, Bool, true, false, List, [], ◌∷◌, ◌++◌, length, length-append, drop, None, Some, refl, sym, ap, ◌∙◌, subst, append-nil, arith, true≢false}
+use Rattle.std.specs.Prelude.{Option, nat_eq, slice_get}
+use Rattle.thumb_instr.specs.declared.instr.Instr.{Instr}
+use Rattle.kept_places.specs.Marks.{is_gone, rank, IsNode}
+use Rattle.kept_places.proofs.Ranks.{rank_kept}
+use Rattle.thumb_model.specs.Listing.{is_op_place, places_of}
+use Rattle.thumb_model.proofs.Lists.{length_map}
+use Rattle.window_runs.specs.Rows.{rows_from}
+use Rattle.window_runs.specs.Runs.{letter_at, run}
+use Rattle.window_runs.proofs.Joined.{run_ends, run_more}
+use Rattle.padded_code.specs.Windows.{AreRanked}
+use Rattle.edited_listing.specs.Changes.{is_none}
+use Rattle.edited_listing.specs.Edited.{Edited, lines_now, marks}
+use Rattle.edited_listing.specs.Looks.{Follows}
+use Rattle.edited_listing.proofs.Looking.{letter_found, rank_between}
+
+-- the letters and places so far, the place of the last of them and the one behind it
+pub record IsRun (e : Edited) (r most : ℕ) (start now : List Bool) (letters : List Instr) (places : List ℕ) (before at : ℕ) : Type 0 where
+  pub few : length letters ≤ most
+  pub as_many : length places ≡ length letters
+  pub same : now ≡ start
+  pub within : at ≤ length e.stands
+  pub kept : is_gone (marks e) at ≡ false
+  pub ranked_at : rank (marks e) at ≡ r + length letters
+  pub follows : nat_eq (length letters) 0 ≡ false → at < length e.stands → Follows e before at
+  pub ranked : AreRanked (marks e) r places
+  pub run : letters ++ run (nat_eq (length letters) 0) (most - length letters) (drop (r + length letters) (rows_from false (lines_now e))) ≡ run true most (drop r (rows_from false (lines_now e)))
+
+pub run_begins : (e : Edited) (p most : ℕ) (start : List Bool) (letters : List Instr) (places : List ℕ) → letters ≡ [] → places ≡ [] → p < length e.stands → is_gone (marks e) p ≡ false → IsRun e (rank (marks e) p) most start start letters places p p
+run_begins e p most start letters places l q h k =
+    let none : length letters ≡ 0 = ap (λ (is : List Instr). length is) l in
+    record {
+      few = omega arith;
+      as_many = ap (λ (ps : List ℕ). length ps) q ∙ sym none;
+      same = refl;
+      within = omega arith;
+      kept = k;
+      ranked_at = omega arith;
+      follows = λ b g. absurd (let yes : nat_eq (length letters) 0 ≡ true = ap (λ n. nat_eq n 0) none in let no : true ≡ false = sym yes ∙ b in true≢false no);
+      ranked = subst (AreRanked (marks e) (rank (marks e) p)) (sym q) tt;
+      run = ap (λ (is : List Instr). is ++ run (nat_eq (length is) 0) (most - length is) (drop (rank (marks e) p + length is) (rows_from false (lines_now e)))) l
+          ∙ ap (λ n. run true n (drop (rank (marks e) p + 0) (rows_from false (lines_now e)))) (let z : most - 0 ≡ most = omega arith in z)
+          ∙ ap (λ n. run true most (drop n (rows_from false (lines_now e)))) (let z : rank (marks e) p + 0 ≡ rank (marks e) p = omega arith in z);
+    }
+
+-- the next letter by its number
+pub next_is : (e : Edited) (r most : ℕ) (start now : List Bool) (letters : List Instr) (places : List ℕ) (before at : ℕ) (found : Option Instr) → IsRun e r most start now letters places before at →
+    found ≡ letter_at (nat_eq (length letters) 0) (drop (rank (marks e) at) (rows_from false (lines_now e))) → letter_at (nat_eq (length letters) 0) (drop (r + length letters) (rows_from false (lines_now e))) ≡ found
+next_is e r most start now letters places before at found h f = ap (λ n. letter_at (nat_eq (length letters) 0) (drop n (rows_from false (lines_now e)))) (sym h.ranked_at) ∙ sym f
+
+pub run_ended : (e : Edited) (r most : ℕ) (start now : List Bool) (letters : List Instr) (places : List ℕ) (before at : ℕ) → IsRun e r most start now letters places before at →
+    letter_at (nat_eq (length letters) 0) (drop (r + length letters) (rows_from false (lines_now e))) ≡ None → letters ≡ run true most (drop r (rows_from false (lines_now e)))
+run_ended e r most start now letters places before at h f =
+    run_ends letters (nat_eq (length letters) 0) (most - length letters) (drop (r + length letters) (rows_from false (lines_now e))) (run true most (drop r (rows_from false (lines_now e)))) f h.run
+
+pub run_full : (e : Edited) (r most : ℕ) (start now : List Bool) (letters : List Instr) (places : List ℕ) (before at : ℕ) → IsRun e r most start now letters places before at → most ≤ length letters → letters ≡ run true most (drop r (rows_from false (lines_now e)))
+run_full e r most start now letters places before at h f =
+    let rows = drop (r + length letters) (rows_from false (lines_now e)) in
+    sym (append-nil letters) ∙ ap (λ n. letters ++ run (nat_eq (length letters) 0) n rows) (let few = h.few in let z : 0 ≡ most - length letters = omega arith in z) ∙ h.run
+
+ranked_more : (gone : List Bool) (r : ℕ) (ps : List ℕ) (p : ℕ) → AreRanked gone r ps → p < length gone → is_gone gone p ≡ false → rank gone p ≡ r + length ps → AreRanked gone r (ps ++ p ∷ [])
+ranked_more gone r [] p a h k e = (h, k, omega arith, tt)
+ranked_more gone r (q ∷ ps) p a h k e = (a.0, a.1, a.2, ranked_more gone (suc r) ps p a.3 h k (omega arith))
+
+pub run_on : (e : Edited) (r most : ℕ) (start now now' : List Bool) (letters letters' : List Instr) (places places' : List ℕ) (before at next : ℕ) (i : Instr) → IsRun e r most start now letters places before at → length letters < most → at < length e.stands →
+    letter_at (nat_eq (length letters) 0) (drop (r + length letters) (rows_from false (lines_now e))) ≡ Some i → letters' ≡ letters ++ i ∷ [] → places' ≡ places ++ at ∷ [] → IsNode (marks e) (at + 1) next → now' ≡ now → IsRun e r most start now' letters' places' at next
+run_on e r most start now now' letters letters' places places' before at next i h few inside f l q node same =
+    let more : length letters' ≡ length letters + 1 = ap (λ (is : List Instr). length is) l ∙ length-append letters (i ∷ []) in
+    let longer : length places' ≡ length places + 1 = ap (λ (ps : List ℕ). length ps) q ∙ length-append places (at ∷ []) in
+    let as_many = h.as_many in
+    let here = h.ranked_at in
+    let marks_many : length (marks e) ≡ length e.stands = length_map is_none e.stands in
+    let beyond = node.from in
+    let end = node.within in
+    let next_rank : rank (marks e) next ≡ suc (rank (marks e) at) =
+    ap (rank (marks e)) (let z : next ≡ at + 1 + (next - (at + 1)) = omega arith in z)
+    ∙ rank_between (marks e) (next - (at + 1)) (at + 1) (λ k a b. node.between k a (omega arith))
+    ∙ ap (rank (marks e)) (let z : at + 1 ≡ suc at = omega arith in z)
+    ∙ rank_kept (marks e) at h.kept in
+    record {
+      few = omega arith;
+      as_many = omega arith;
+      same = same ∙ h.same;
+      within = omega arith;
+      kept = node.kept;
+      ranked_at = omega arith;
+      follows = λ b g. record {
+        p_within = inside;
+        p_kept = h.kept;
+        q_within = g;
+        q_kept = node.kept;
+        next = next_rank;
+        op = ap (λ n. is_op_place (slice_get (places_of (lines_now e)) n)) here ∙ letter_found (nat_eq (length letters) 0) (lines_now e) (r + length letters) i f;
+      };
+      ranked = subst (AreRanked (marks e) r) (sym q) (ranked_more (marks e) r places at h.ranked (omega arith) h.kept (omega arith));
+      run = ap (λ (is : List Instr). is ++ run (nat_eq (length is) 0) (most - length is) (drop (r + length is) (rows_from false (lines_now e)))) l
+          ∙ run_more letters most r (rows_from false (lines_now e)) i few f
+          ∙ h.run;
+    }
