@@ -21,3 +21,5 @@ pub mod DueFits
 pub mod DueMarks
 pub mod DueNone
 pub mod DueScenes
+pub mod ScenesWindows
+pub mod Scenes

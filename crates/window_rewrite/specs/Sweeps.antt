@@ -1,13 +1,12 @@
 -- What is known of the lines while they are rewritten, and of their layouts.
-use Rattle.std.specs.Prelude.{◌≡◌, ℕ, ◌-◌, ◌*◌, ◌%◌, ◌^◌, ◌<◌, Bool, not, is_some, true, IfSome, List, length}
+use Rattle.std.specs.Prelude.{◌≡◌, ℕ, ◌-◌, ◌*◌, ◌%◌, ◌<◌, Bool, not, is_some, true, IfSome, List, length}
 use Rattle.std.specs.List.{list_all}
 use Rattle.thumb_instr.specs.declared.instr.Instr.{Instr}
 use Rattle.thumb_instr.specs.Window.{is_in_window}
-use Rattle.thumb_model.specs.Listing.{Line, places_of}
+use Rattle.thumb_model.specs.Listing.{Line}
 use Rattle.thumb_model.specs.Layout.{Layable}
 use Rattle.thumb_model.specs.ReplacedLines.{replaced_lines}
 use Rattle.listing_parser.specs.Parsing.{own_line}
-use Rattle.listing_parser.specs.Targets.{DefineOnce}
 use Rattle.steady_layout.specs.Steady.{IsSteady}
 use Rattle.window_runs.specs.Windows.{IsWindow}
 use Rattle.kept_layout.specs.Kept.{Lays, IsNear}
@@ -43,14 +42,8 @@ pub record Allows (g : Ground) (window new : List Instr) (m : Move) : Type 0 whe
   pub letters : list_all is_in_window new ≡ true
   pub fewer : length new < length window
 
--- lines that may be a listing's
-pub record MayBeListed (lines : List Line) : Type 0 where
-  pub few : length (places_of lines) < 2 ^ 32
-  pub once : DefineOnce lines
-
 -- the lines can be laid out, and are steady, if the ground is; otherwise it has their layout
 pub record AreOver (r : Rules) (g : Ground) (lines : List Line) : Type 0 where
-  pub listed : MayBeListed lines
   pub layable : Layable r.base lines
   pub aligned : is_steady g ≡ true → r.base % 4 ≡ 0
   pub steady : is_steady g ≡ true → IsSteady r.base lines

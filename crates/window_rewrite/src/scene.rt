@@ -116,9 +116,10 @@ impl Scene {
         requires few { count ≤ length site.now.run.letters }
         ensures { (x : ℕ) → (has result.bits x ≡ true) ↔ LiveAfter (code_of (lines_of self.now)) (site.now.number + (count - 1)) x }
     {
-        let behind = site.run.places[count - 1] + 1;
-        if behind < self.listing.place_count() {
-            self.live.before(behind)
+        let end = self.listing.place_count();
+        let last = site.run.places[count - 1];
+        if last + 1 < end {
+            self.live.before(last + 1)
         } else {
             Items::none()
         }
