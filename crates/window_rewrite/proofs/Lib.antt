@@ -14,5 +14,12 @@ pub mod Formed
 pub mod Chosen
 pub mod Accepted
 pub mod Rounds
+pub mod DueLines
+pub mod DuePlaces
+pub mod DueWindows
+pub mod DueFits
+pub mod DueMarks
+pub mod DueNone
+pub mod DueScenes
 pub mod ScenesWindows
 pub mod Scenes

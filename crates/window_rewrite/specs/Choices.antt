@@ -62,6 +62,7 @@ pub record IsChoice (s : Setting) (lines : List Line) (c : Choice) : Type 0 wher
   pub is_window : IsWindow lines (choice_of c).place c.window
   pub keeps : KeepsAt (code_of lines) (choice_of c).place c.window c.new
   pub leaves : replaced_lines s.write (choice_of c).place (length c.window) c.new lines ≡ lines_after s (choice_of c) lines
+  pub long : length c.window ≡ left_length s (choice_of c)
 
 -- of the choices at a place by left sides of so many instructions it has the lowest entry
 pub record IsLowest (s : Setting) (lines : List Line) (place count : ℕ) (c : Choice) : Type 0 where

@@ -1,16 +1,17 @@
 //! The places of a listing at which an entry may apply: those that are due are looked at, the least first, until none is.
-ghost use Rattle.std.specs.Prelude.{◌≡◌, ◌+◌, ◌*◌, ◌<◌, ◌≤◌, ℕ, List, All, length, map, IfOk, OnOk};
+ghost use Rattle.std.specs.Prelude.{◌≡◌, ◌+◌, ◌*◌, ◌<◌, ◌≤◌, ℕ, suc, true, false, All, length, map, replicate, slice_get, is_some, IfOk, OnOk, IfSome, IfNone};
+ghost use Rattle.std.specs.Int.{from_bool};
 ghost use Rattle.kept_places.specs.Marks.{is_gone, marked};
-ghost use Rattle.thumb_model.specs.Layout.{Layable};
-ghost use Rattle.thumb_model.specs.Listing.{Line as Listed, places_of};
-ghost use Rattle.rule_model.specs.Rewriting.{AreRewritten, NoneApplies};
+ghost use Rattle.thumb_model.specs.Listing.{places_of};
+ghost use Rattle.rule_model.specs.Rewriting.{lines_after, AreRewritten, IsFirst};
 ghost use Rattle.edited_listing.specs.Edited.{marks};
 ghost use Rattle.step_ledger.specs.Counts.{RisesByAtLeast};
-ghost use Rattle.window_rewrite.specs.Choices.{setting_of, AreReady};
-ghost use Rattle.window_rewrite.specs.Due.{AreTried, Completes};
-ghost use Rattle.window_rewrite.specs.Rewriting.{IsWhole};
+ghost use Rattle.window_rewrite.specs.Choices.{choice_of, setting_of, AreReady, IsChoice};
+ghost use Rattle.window_rewrite.specs.Due.{AreTried, AreTriedBut, Reaches, StayMarked};
+ghost use Rattle.window_rewrite.specs.Rewriting.{replacement_of, IsWhole};
 ghost use Rattle.window_rewrite.specs.Rules.{rules_in};
-ghost use Rattle.window_rewrite.specs.Scenes.{lines_of, IsOver};
+ghost use Rattle.window_rewrite.specs.Scenes.{lines_of, IsNear, IsOver, IsSite};
+ghost use Rattle.window_rewrite.specs.Sweeps.{Moves};
 
 use crate::choice::{Choice, Replacement};
 use crate::finding::{Look, Rules, best};
@@ -33,7 +34,11 @@ pub(crate) struct Due {
 
 impl Due {
     /// All of so many places.
-    pub(crate) fn all(alloc: Global, count: u32) -> Result<Due, Memory> {
+    pub(crate) fn all(alloc: Global, count: u32) -> Result<Due, Memory>
+        ensures due { IfOk result (λ d. d.due ≡ replicate count true) }
+        ensures refused { IfOk result (λ d. d.refused ≡ replicate count false) }
+        ensures lost { IfOk result (λ d. d.lost ≡ replicate count false) }
+    {
         Ok(Due {
             due: PlaceSet::full(alloc, count)?,
             refused: PlaceSet::new(alloc, count)?,
@@ -41,11 +46,32 @@ impl Due {
         })
     }
 
+    /// Lets places be due.
+    fn add(&mut self, places: &[u32])
+        requires within { (k p : ℕ) → slice_get places.now k ≡ Some p → p < length self.old.due }
+        ensures due { StayMarked self.old.due self.new.due }
+        ensures these { (k p : ℕ) → slice_get places.now k ≡ Some p → marked self.new.due p ≡ true }
+        ensures refused { self.new.refused ≡ self.old.refused }
+        ensures lost { self.new.lost ≡ self.old.lost }
+    {
+        for place in places {
+            self.due.insert(*place);
+        }
+    }
+
     /// Lets a kept place be due, and the kept ones before it whose windows of at most so many instructions reach it.
-    fn add_up_to(&mut self, scene: &Scene, place: u32, longest: u8) {
+    fn add_up_to(&mut self, scene: &Scene, place: u32, longest: u8)
+        requires within { place < length scene.now.listing.stands }
+        requires kept { is_gone (marks scene.now.listing) place ≡ false }
+        requires many { length self.old.due ≡ length scene.now.listing.stands }
+        ensures due { StayMarked self.old.due self.new.due }
+        ensures reached { (p : ℕ) → Reaches (marks scene.now.listing) longest p place → marked self.new.due p ≡ true }
+        ensures refused { self.new.refused ≡ self.old.refused }
+        ensures lost { self.new.lost ≡ self.old.lost }
+    {
         let mut at = place;
         self.due.insert(at);
-        for _ in 1..longest {
+        for _passed in 1..longest {
             match scene.listing.previous(at) {
                 None => return,
                 Some(before) => {
@@ -57,7 +83,15 @@ impl Due {
     }
 
     /// Lets the places be due whose windows end right before one that lost an item.
-    fn add_lost(&mut self, scene: &Scene, longest: u8) {
+    fn add_lost(&mut self, scene: &Scene, longest: u8)
+        requires many { length self.old.due ≡ length scene.now.listing.stands }
+        requires lost_many { length self.old.lost ≡ length scene.now.listing.stands }
+        ensures due { StayMarked self.old.due self.new.due }
+        ensures reached { (p q : ℕ) → marked self.old.lost (suc q) ≡ true → is_gone (marks scene.now.listing) q ≡ false → Reaches (marks scene.now.listing) longest p q → marked self.new.due p ≡ true }
+        ensures refused { self.new.refused ≡ self.old.refused }
+        ensures lost_many { length self.new.lost ≡ length self.old.lost }
+        ensures none_lost { (p : ℕ) → marked self.new.lost p ≡ false }
+    {
         while let Some(place) = self.lost.take_least() {
             if place > 0 && !scene.listing.is_gone(place - 1) {
                 self.add_up_to(scene, place - 1, longest);
@@ -66,7 +100,14 @@ impl Due {
     }
 
     /// Lets the places be due at which the layout refused what fits.
-    fn add_refused(&mut self) {
+    fn add_refused(&mut self)
+        requires many { length self.old.refused ≡ length self.old.due }
+        ensures due { StayMarked self.old.due self.new.due }
+        ensures reached { (p : ℕ) → marked self.old.refused p ≡ true → marked self.new.due p ≡ true }
+        ensures refused_many { length self.new.refused ≡ length self.old.refused }
+        ensures none_refused { (p : ℕ) → marked self.new.refused p ≡ false }
+        ensures lost { self.new.lost ≡ self.old.lost }
+    {
         while let Some(place) = self.refused.take_least() {
             self.due.insert(place);
         }
@@ -80,10 +121,21 @@ impl Due {
         scene: &mut Scene,
         site: &Site,
         choice: &Choice,
-    ) -> Result<(), Memory> {
-        for place in &site.run.places.as_slice()[..choice.window.len()] {
-            self.due.insert(*place);
-        }
+    ) -> Result<(), Memory>
+        requires ready { AreReady rules.now }
+        requires over { IsOver rules.now scene.old }
+        requires site { IsSite rules.now.longest scene.old site.now }
+        requires near { IsNear scene.old site.now }
+        requires is { IsChoice (setting_of rules.now) (lines_of scene.old) choice.now }
+        requires here { (choice_of choice.now).place ≡ site.now.number }
+        requires moved { Moves scene.old.ground choice.now.window choice.now.new choice.now.moved }
+        requires tried { AreTriedBut (setting_of rules.now) scene.old self.old site.now.place }
+        ensures over { OnOk result (IsOver rules.now scene.new) }
+        ensures lines { OnOk result (lines_of scene.new ≡ lines_after (setting_of rules.now) (choice_of choice.now) (lines_of scene.old)) }
+        ensures many { OnOk result (length scene.new.listing.stands ≡ length scene.old.listing.stands) }
+        ensures tried { OnOk result (AreTried (setting_of rules.now) scene.new self.new) }
+    {
+        self.add(&site.run.places.as_slice()[..choice.window.len()]);
         self.add_up_to(scene, site.place, rules.longest);
         scene.make(rules, site, choice, &mut self.lost)?;
         self.add_lost(scene, rules.longest);
@@ -91,7 +143,7 @@ impl Due {
         Ok(())
     }
 
-    /// Looks at a kept place, and makes the best replacement there, if there is one.
+    /// Looks at a kept place that was taken, before which none is due, and makes the best replacement there, if there is one.
     fn try_at<L: Ledger>(
         &mut self,
         alloc: Global,
@@ -99,12 +151,26 @@ impl Due {
         scene: &mut Scene,
         place: u32,
         steps: &mut Steps<L>,
-    ) -> Result<Option<Replacement>, Memory> {
+    ) -> Result<Option<Replacement>, Memory>
+        requires ready { AreReady rules.now }
+        requires over { IsOver rules.now scene.old }
+        requires within { place < length scene.old.listing.stands }
+        requires kept { is_gone (marks scene.old.listing) place ≡ false }
+        requires tried { AreTriedBut (setting_of rules.now) scene.old self.old place }
+        requires least { (q : ℕ) → q < place → marked self.old.due q ≡ false }
+        ensures over { OnOk result (IsOver rules.now scene.new) }
+        ensures many { OnOk result (length scene.new.listing.stands ≡ length scene.old.listing.stands) }
+        ensures tried { OnOk result (AreTried (setting_of rules.now) scene.new self.new) }
+        ensures none { IfOk result (λ o. IfNone o ((lines_of scene.new ≡ lines_of scene.old) × (self.new.due ≡ self.old.due))) }
+        ensures first { IfOk result (λ o. IfSome o (λ r. IsWhole r × IsFirst (setting_of rules.now) (replacement_of r) (lines_of scene.old) × (lines_of scene.new ≡ lines_after (setting_of rules.now) (replacement_of r) (lines_of scene.old)))) }
+        ensures cost { steps.new ≤ steps.old + length (rules_in rules.now.entries.now) }
+        ensures rises { IfOk result (λ o. RisesByAtLeast steps.old steps.new (from_bool (is_some o))) }
+    {
         let site = scene.site(rules, place);
         let mut is_refused = false;
         let look = Look {
-            rules,
-            scene,
+            rules: &*rules,
+            scene: &*scene,
             site: &site,
         };
         match best(alloc, &look, &mut is_refused, steps)? {

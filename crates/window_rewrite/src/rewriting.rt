@@ -14,15 +14,15 @@ ghost use Rattle.window_rewrite.specs.Choices.{setting_of, AreReady};
 ghost use Rattle.window_rewrite.specs.Sweeps.{IsSteadyIf};
 
 use crate::choice::Rewritten;
+use crate::due::go_through;
 use crate::errors::RewriteError;
 use crate::finding::Rules;
 use crate::index::Index;
-use crate::due::go_through;
 use crate::scene::Scene;
 use label_layout::layout;
-use steady_layout::is_steady;
 use listing_parser::{Listing, Memory};
 use std::alloc::Global;
+use steady_layout::is_steady;
 use step_ledger::{Ledger, Steps};
 use table_audit::Audited;
 
