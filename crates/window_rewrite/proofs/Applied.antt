@@ -16,7 +16,7 @@ use Rattle.thumb_model.specs.Layout.{Layable}
 use Rattle.rule_model.specs.Rules.{Rule, Applies, IsSoundRule, alone}
 use Rattle.thumb_model.specs.Sides.{AreOver, register_count, normalised}
 use Rattle.thumb_model.specs.Replaced.{moved}
-use Rattle.rule_model.specs.Rewriting.{Setting, Replacement, used_rule, lines_after_rule, lines_after, IsLeastScratch, AppliesIn}
+use Rattle.rule_model.specs.Rewriting.{Setting, Replacement, used_rule, lines_after_rule, lines_after, IsLeastScratch, AppliesIn, left_length, left_length_of}
 use Rattle.rule_model.proofs.Alone.{alone_at, alone_is}
 use Rattle.rule_model.proofs.Costs.{weight_is_length, shorter_lowers}
 use Rattle.rule_model.proofs.LinesKept.{fewer_lines_by}
@@ -157,6 +157,7 @@ pub record IsMade (s : Setting) (lines : List Line) (place number : ℕ) (regist
   pub is_window : IsWindow lines place window
   pub keeps : KeepsAt (code_of lines) place window new
   pub leaves : replaced_lines s.write place (length window) new lines ≡ lines_after s (made place number registers) lines
+  pub long : length window ≡ left_length s (made place number registers)
 
 pub applied : (base : ℕ) (rules : List Rule) (lines : List Line) (place number : ℕ) (rule : Rule) (registers : List Low) (window : List Instr) (live : ℕ) (new : List Instr)
     → slice_get rules number ≡ Some rule → IsSoundRule rule → StandsThere lines place window live → FitsWhole rule registers window live → IsScratchLeast rule registers live → new ≡ map (renamed registers) rule.right
@@ -187,6 +188,7 @@ applied base rules lines place number rule registers window live new at sound th
           subst (λ (js : List Instr). KeepsAt (code_of lines) place window js) (sym same)
           (subst (λ (js : List Instr). KeepsAt (code_of lines) place js is) (same_window rule registers lines place window (sym n) there.is_window a) (applies_keeps rule registers (code_of lines) place sound fits.fits.shorter a));
       leaves = ap (λ (js : List Instr). replaced_lines own_line place (length window) js lines) same ∙ ap (λ k. replaced_lines own_line place k is lines) n ∙ sym after;
+      long = n ∙ sym (ap left_length_of used);
     }
 
 -- what applies meets this, whether the layout is asked or not

@@ -168,7 +168,7 @@ returns-clause-some g c =
     let made_at : IsMade (setting_of c.args.look.now.rules.now) lines place (c.args.number + 1 - 1) registers c.copied.result c.renamed_all-new.result =
     subst (λ k. IsMade (setting_of c.args.look.now.rules.now) lines place k registers c.copied.result c.renamed_all-new.result) number
     (subst (λ (js : List Instr). IsMade (setting_of c.args.look.now.rules.now) lines place c.args.number registers js c.renamed_all-new.result) (sym c.copied.ensures) m) in (
-      record { whole = record { counted = omega arith; in_place = c.in-Some.ensures.3 }; applies = made_at.applies; is_window = made_at.is_window; keeps = made_at.keeps; leaves = made_at.leaves },
+      record { whole = record { counted = omega arith; in_place = c.in-Some.ensures.3 }; applies = made_at.applies; is_window = made_at.is_window; keeps = made_at.keeps; leaves = made_at.leaves; long = made_at.long },
       refl,
       sym number,
     )
