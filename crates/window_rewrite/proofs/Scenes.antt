@@ -99,17 +99,8 @@ first_over r g lines now b e layable same steady layout =
       layout = layout;
     })
 
--- what is known of lines doesn't depend on where the layout stands
-pub over_near : (r : Rules) (g h : Ground) (lines : List Line) → AreOver r g lines → is_steady h ≡ is_steady g → HasLayout r.base h lines → AreOver r h lines
-over_near r g h lines over same layout = record {
-  layable = over.layable;
-  aligned = λ q. over.aligned (sym same ∙ q);
-  steady = λ q. over.steady (sym same ∙ q);
-  layout = layout;
-}
-
 -- what is said of a layout stays so
-pub said_still : {X : Type 0} (o : Option X) (P Q : X → Type 0) → ((x : X) → P x → Q x) → IfSome o P → IfSome o Q
+said_still : {X : Type 0} (o : Option X) (P Q : X → Type 0) → ((x : X) → P x → Q x) → IfSome o P → IfSome o Q
 said_still None P Q f h = tt
 said_still (Some x) P Q f h = f x h
 
