@@ -1,10 +1,9 @@
 -- What is known of a listing that is rewritten: at first, at a site, and where a window gives way.
-use Rattle.std.proofs.Common.{◌≡◌, ◌↔◌, ℕ, zero, suc, ◌+◌, ◌-◌, ◌<◌, ◌≤◌, ◌&&◌, ◌||◌, not, Bool, true, false, List, [], ◌∷◌, length, take, drop, map, get_or, replicate, Option, Some, None, refl, sym, ap, ◌∙◌, subst, ◌⊎◌, inl, inr, arith, true≢false}
+use Rattle.std.proofs.Common.{◌≡◌, ◌↔◌, ℕ, zero, suc, ◌+◌, ◌-◌, ◌<◌, ◌≤◌, ◌||◌, not, Bool, true, false, List, [], ◌∷◌, length, take, drop, get_or, replicate, Option, Some, None, refl, sym, ap, ◌∙◌, subst, ◌⊎◌, inl, inr, arith, true≢false}
 use Rattle.std.specs.Prelude.{slice_get, IfSome}
 use Rattle.std.specs.Option.{option_map}
 use Rattle.std.specs.List.{list_all}
 use Rattle.std.proofs.lemmas.Bool.{and_parts}
-use Rattle.std.proofs.lemmas.List.{take_all}
 use Rattle.std.proofs.lemmas.Option.{slice_get-map, slice_get_past}
 use Rattle.thumb_instr.specs.declared.instr.Instr.{Instr}
 use Rattle.thumb_instr.specs.Items.{has}
@@ -23,7 +22,7 @@ use Rattle.liveness.specs.Kept.{KeepsAt}
 use Rattle.liveness.specs.Live.{word_of, set_at}
 use Rattle.liveness.proofs.Paths.{has_zero}
 use Rattle.steady_layout.specs.Steady.{IsSteady}
-use Rattle.steady_layout.proofs.Cuts.{cut}
+use Rattle.steady_layout.proofs.Cuts.{AreTwos, cut}
 use Rattle.steady_layout.proofs.Laws.{twos_of, plain_of, cut_stays}
 use Rattle.window_runs.specs.Windows.{IsWindow}
 use Rattle.window_runs.specs.Rows.{rows_from}
@@ -36,7 +35,6 @@ use Rattle.padded_code.specs.Windows.{AreRanked}
 use Rattle.padded_code.proofs.Padded.{place_kept}
 use Rattle.padded_code.proofs.Exchanged.{whole_padded}
 use Rattle.padded_code.proofs.Windows.{live_behind}
-use Rattle.edited_listing.specs.declared.standing.Standing.{Standing}
 use Rattle.edited_listing.specs.declared.standing.Standing.TheVariants as standing
 use Rattle.edited_listing.specs.Changes.{is_none, marks_of}
 use Rattle.edited_listing.specs.Edited.{Edited, lines_now, marks, padded, standing_places, unchanged}
@@ -49,9 +47,9 @@ use Rattle.window_rewrite.specs.declared.choice.Choice.{Choice}
 use Rattle.window_rewrite.specs.declared.finding.Rules.{Rules}
 use Rattle.window_rewrite.specs.declared.ground.Ground.{Ground}
 use Rattle.window_rewrite.specs.Choices.{setting_of, choice_of, IsChoice}
-use Rattle.window_rewrite.specs.Settled.{IsSettled, NoLabelAt}
+use Rattle.window_rewrite.specs.Settled.{IsSettled}
 use Rattle.window_rewrite.specs.Sweeps.{is_steady, Allows, AreOver, HasLayout, IsSteadyIf, Moves, StandsNear}
-use Rattle.window_rewrite.proofs.ScenesWindows.{gives_way, many_marks, many_places, ranked_at, still_padded}
+use Rattle.window_rewrite.proofs.ScenesWindows.{gives_way, many_marks, many_places, ranked_at, ranked_front, still_padded}
 
 -- ---- at first ----
 
@@ -170,6 +168,20 @@ none_read code k p x live h r =
     let past : set_at k.before p ≡ 0 = ap word_of (slice_get_past k.before p h) in
     true≢false (sym ((live.live p x).1 r) ∙ ap (λ bits. has bits x) past ∙ has_zero x)
 
+-- where its places are seen as a slice, the last of the first so many is one of the code's
+pub last_within : (gone : List Bool) (number count : ℕ) (items seen : List ℕ) → AreRanked gone number items → seen ≡ items → 0 < count → count ≤ length items → get_or seen (count - 1) 0 < length gone
+last_within gone number count items seen a e some few =
+    let same = ap (λ (ps : List ℕ). get_or ps (count - 1) 0) e in
+    let at = ranked_at gone number items a (count - 1) (omega arith) in
+    omega (arith, at.0)
+
+-- and what is live after its instruction is what is read behind it
+pub live_there : (e : Edited) (most number count : ℕ) (letters : List Instr) (items seen : List ℕ) → IsPadded (marks e) (padded e) (code_of (lines_now e)) → letters ≡ run true most (drop number (rows_from false (lines_now e)))
+    → AreRanked (marks e) number items → length items ≡ length letters → seen ≡ items → 0 < count → count ≤ length letters → (x : ℕ) → LiveAfter (code_of (lines_now e)) (number + (count - 1)) x ↔ Reads (padded e) x (get_or seen (count - 1) 0 + 1)
+live_there e most number count letters items seen s is a n same some few x =
+    let behind : suc (get_or items (count - 1) 0) ≡ get_or seen (count - 1) 0 + 1 = (let z = ap (λ (ps : List ℕ). get_or ps (count - 1) 0) same in omega arith) in
+    subst (λ p. LiveAfter (code_of (lines_now e)) (number + (count - 1)) x ↔ Reads (padded e) x p) behind (run_live e most number letters items s is a n (count - 1) (omega arith) x)
+
 -- ---- labels that stay code ----
 
 -- where an instruction of the run follows
@@ -207,12 +219,19 @@ leaves_here s lines now c place window new is at e f h =
     ∙ ap (λ (n : List Instr). replaced_lines s.write (choice_of c).place (length c.window) n lines) f
     ∙ is.leaves
 
-window_here : (s : Setting) (lines : List Line) (c : Choice) (place : ℕ) (window : List Instr) → IsChoice s lines c → (choice_of c).place ≡ place → window ≡ c.window → IsWindow lines place window
+pub window_here : (s : Setting) (lines : List Line) (c : Choice) (place : ℕ) (window : List Instr) → IsChoice s lines c → (choice_of c).place ≡ place → window ≡ c.window → IsWindow lines place window
 window_here s lines c place window is at e = subst (λ (w : List Instr). IsWindow lines place w) (sym e) (subst (λ p. IsWindow lines p c.window) at is.is_window)
 
 -- which can be laid out
 leaves_layable : (s : Setting) (o : Replacement) (lines now : List Line) → AppliesIn s o lines → now ≡ lines_after s o lines → Layable s.base now
 leaves_layable s o lines now a e = subst (Layable s.base) (sym e) (subst (λ (k : Option Rule). Layable s.base (lines_after_rule s k o lines)) (sym a.is_rule) a.layable)
+
+-- what may stand in a window has two bytes
+twos : (is : List Instr) → list_all is_in_window is ≡ true → AreTwos is
+twos [] h = tt
+twos (i ∷ is) h =
+    let p = and_parts (is_in_window i) (list_all is_in_window is) h in
+    ((twos_of (i ∷ []) (p.0, tt)).0, twos is p.1)
 
 -- steady lines stay steady where a window gives way to fewer instructions
 steady_left : (base : ℕ) (lines : List Line) (place : ℕ) (window new : List Instr) → IsWindow lines place window → list_all is_in_window new ≡ true → length new < length window → IsSteady base lines
@@ -221,18 +240,10 @@ steady_left base lines place window new w letters shorter h =
     let b = before (length window) (omega arith) in
     let n : ℕ = b.0 in
     let e : length window ≡ suc n = b.1 in
-    let ops = plain_of window (suc n) (drop place (places_of lines)) (sym e) (ap (λ c. take c (drop place (places_of lines))) (sym e) ∙ w.stands) (twos_of window (all_in window w.letters)) in
+    let ops = plain_of window (suc n) (drop place (places_of lines)) (sym e) (ap (λ c. take c (drop place (places_of lines))) (sym e) ∙ w.stands) (twos window w.letters) in
     let outside = outside_of place (suc n) (labels_from 0 lines) (subst (λ c. (k : ℕ) (l : Label) → slice_get (labels_from 0 lines) k ≡ Some l → (l.place ≤ place) ⊎ (place + c ≤ l.place)) e w.unlabelled) in
-    let c = cut own_line place n new (omega arith) (twos_of new (all_in new letters)) lines 0 place (omega arith) outside ops in
+    let c = cut own_line place n new (omega arith) (twos new letters) lines 0 place (omega arith) outside ops in
     subst (λ j. IsSteady base (replaced_lines own_line place j new lines)) (sym e) (cut_stays base lines (replaced_lines own_line place (suc n) new lines) c h)
-  where
-    abbrev AreIn : List Instr → Type 0
-    AreIn [] = Unit {0}
-    AreIn (i ∷ is) = (is_in_window i ≡ true) × AreIn is
-
-    all_in : (is : List Instr) → list_all is_in_window is ≡ true → AreIn is
-    all_in [] h = tt
-    all_in (i ∷ is) h = let p = and_parts (is_in_window i) (list_all is_in_window is) h in (p.0, all_in is p.1)
 
 -- the choice may be made on the ground
 pub allowed_here : (r : Rules) (g : Ground) (lines : List Line) (c : Choice) (place : ℕ) (window new : List Instr) → AreOver r g lines → StandsNear g place → IsChoice (setting_of r) lines c → (choice_of c).place ≡ place → Moves g c.window c.new c.moved
@@ -294,3 +305,26 @@ pub made_live : (was now : Edited) (place : ℕ) (ps : List ℕ) (window new : L
 made_live was now place ps window new k j m s many a n keeps kept live =
     subst (λ (c : Code). IsKeptLive c j) (sym m.padded_now)
     (kept (padded was) (exchanged ps new (padded was)) window (gives_way (marks was) (padded was) (code_of (lines_now was)) s many place ps window new a n keeps) live)
+
+-- the first places of a site, as a slice, are the kept ones of its ranks
+pub front_ranked : (gone : List Bool) (number : ℕ) (items seen : List ℕ) (count : ℕ) → AreRanked gone number items → seen ≡ items → AreRanked gone number (take count seen)
+front_ranked gone number items seen count a e = subst (λ (ps : List ℕ). AreRanked gone number (take count ps)) (sym e) (ranked_front gone number count items a)
+
+pub front_many : (items seen : List ℕ) (count : ℕ) → seen ≡ items → count ≤ length items → length (take count seen) ≡ count
+front_many items seen count e h = let same = ap (λ (ps : List ℕ). length ps) e in take_many count seen (omega arith)
+
+pub front_same : (items seen : List ℕ) (window given : List Instr) → seen ≡ items → window ≡ given → take (length window) seen ≡ take (length given) items
+front_same items seen window given e f = ap (λ (ps : List ℕ). take (length window) ps) e ∙ ap (λ (is : List Instr). take (length is) items) f
+
+-- what was made, by the place's number now
+pub made_by : (was now : Edited) (place number : ℕ) (ps : List ℕ) (window new : List Instr) → number ≡ rank (marks was) place → AreRanked (marks was) number ps → length ps ≡ length window
+    → ((qs : List ℕ) → length qs ≡ length window → AreRanked (marks was) (rank (marks was) place) qs → marks now ≡ marks_after qs new (marks was))
+    → ((qs : List ℕ) → length qs ≡ length window → AreRanked (marks was) (rank (marks was) place) qs → padded now ≡ exchanged qs new (padded was))
+    → lines_now now ≡ replaced_lines own_line (rank (marks was) place) (length window) new (lines_now was) → IsMade was now number ps window new
+made_by was now place number ps window new e a n gone places lines =
+    let there : AreRanked (marks was) (rank (marks was) place) ps = subst (λ r. AreRanked (marks was) r ps) e a in
+    record {
+      gone = gone ps n there;
+      padded_now = places ps n there;
+      lines = lines ∙ ap (λ r. replaced_lines own_line r (length window) new (lines_now was)) (sym e);
+    }

@@ -95,14 +95,6 @@ pub record IsFirstChoice (s : Setting) (lines : List Line) (c : Choice) : Type 0
 abbrev pub NoneBefore : Bool → Setting → List Line → ℕ → Type 0
 NoneBefore asked s lines place = (o : Replacement) → Meets asked s o lines → o.place < place → ⊥
 
--- no entry fits a window that ends at the place or before it
-abbrev pub NoneEnding : Setting → List Line → ℕ → Type 0
-NoneEnding s lines place = (o : Replacement) → FitsIn s o lines → o.place + left_length s o ≤ place → ⊥
-
--- none fits a window that begins before the place and goes on there
-abbrev pub NoneAcross : Setting → List Line → ℕ → Type 0
-NoneAcross s lines place = (o : Replacement) → FitsIn s o lines → o.place < place → place < o.place + left_length s o → ⊥
-
 -- ---- how many rules there are ----
 
 -- with left sides of n instructions, and with longer ones

@@ -1,5 +1,5 @@
 //! A listing that is rewritten: what stands at its places, what is live before them and how it is laid out.
-ghost use Rattle.std.specs.Prelude.{◌≡◌, ◌×◌, ◌⊎◌, ◌+◌, ◌-◌, ◌<◌, ◌≤◌, ◌↔◌, ℕ, true, false, length, take, IfOk, OnOk};
+ghost use Rattle.std.specs.Prelude.{◌≡◌, ◌⊎◌, ◌+◌, ◌-◌, ◌<◌, ◌≤◌, ◌↔◌, ℕ, true, false, length, take, IfOk, OnOk};
 ghost use Rattle.kept_places.specs.Marks.{is_gone, marked};
 ghost use Rattle.thumb_instr.specs.Items.{has};
 ghost use Rattle.thumb_model.specs.Flow.{LiveAfter};
@@ -126,19 +126,34 @@ impl Scene {
     }
 
     /// Whether each code label stays code where the first instructions of a site's run, so many of them, give way to others.
-    pub(crate) fn is_settled(&self, rules: &Rules<'_>, site: &Site, count: usize, new: &[Instr]) -> bool
+    pub(crate) fn is_settled(
+        &self,
+        rules: &Rules<'_>,
+        site: &Site,
+        count: usize,
+        new: &[Instr],
+    ) -> bool
         requires site { IsSite rules.now.longest self.now site.now }
         requires few { count ≤ length site.now.run.letters }
         ensures { (result ≡ true) ↔ IsSettled (places_of (lines_of self.now)) (labels_from 0 (lines_of self.now)) site.now.number count new.now }
     {
-        if !new.is_empty() || count < site.run.letters.len() {
+        if !new.is_empty() {
+            return true;
+        }
+        if count < site.run.letters.len() {
             return true;
         }
         site.is_op_behind || !site.is_labelled
     }
 
     /// Makes a replacement that was chosen at a site. `lost` gains the places before which an item was live that isn't any more.
-    pub(crate) fn make(&mut self, rules: &Rules<'_>, site: &Site, choice: &Choice, lost: &mut PlaceSet) -> Result<(), Memory>
+    pub(crate) fn make(
+        &mut self,
+        rules: &Rules<'_>,
+        site: &Site,
+        choice: &Choice,
+        lost: &mut PlaceSet,
+    ) -> Result<(), Memory>
         requires over { IsOver rules.now self.old }
         requires site { IsSite rules.now.longest self.old site.now }
         requires near { IsNear self.old site.now }
@@ -161,8 +176,9 @@ impl Scene {
         let window = choice.window.as_slice();
         let new = choice.new.as_slice();
         let count = window.len();
+        let places = &site.run.places.as_slice()[..count];
         self.ground.give_way(window, new, &choice.moved)?;
-        self.live.replace(&site.run.places.as_slice()[..count], new, lost);
+        self.live.replace(places, new, lost);
         self.listing.replace(site.place, count as u32, new);
         Ok(())
     }

@@ -3,7 +3,6 @@ use Rattle.thumb_model.specs.Layout.{Layable}
 use Rattle.thumb_model.specs.ReplacedLines.{replaced_lines}
 use Rattle.listing_parser.specs.Parsing.{own_line}
 use Rattle.kept_layout.specs.Kept.{Lays, IsNear}
-use Rattle.kept_layout.specs.Moves.{IsMoved}
 use Rattle.window_rewrite.proofs.ground.Ground.give_way.Goals as goal
 
 pub give_way-requires-clause-leaves : goal.give_way-requires-clause-leaves
@@ -16,8 +15,8 @@ give_way-requires-clause-leaves c =
       layable = both.1;
     }
 
-pub returns-in_ok-give_way-in-Some-clause-layout : goal.returns-in_ok-give_way-in-Some-clause-layout
-returns-in_ok-give_way-in-Some-clause-layout c = λ base lines place has near window.
+pub returns-in_ok-give_way-clause-layout : goal.returns-in_ok-give_way-clause-layout
+returns-in_ok-give_way-clause-layout c = λ base lines place has near window.
     let was : (c.in-Some.kept.base ≡ base) × Lays c.in-Some.kept lines = rw c.in-Some.is at has in
     let at : IsNear c.in-Some.kept place = rw c.in-Some.is at near in
     (c.in_ok-give_way.ensures.base ∙ was.0, c.in_ok-give_way.ensures.lays lines place was.1 at window)

@@ -1,4 +1,3 @@
-use Rattle.std.proofs.Common.{◌≡◌}
 use Rattle.window_rewrite.proofs.Scenes.{first_as_many, first_live, first_many, first_none_gone, first_over, first_padded}
 use Rattle.window_rewrite.proofs.scene.Scene.of.Goals as goal
 
@@ -8,7 +7,7 @@ returns-clause-over g c =
     let edited = c.in_ok-listing.ensures in
     record {
       kept = record {
-        padded = first_padded c.args.listing c.in_ok-listing.listing edited.is edited.lines;
+        is_padded = first_padded c.args.listing c.in_ok-listing.listing edited.is edited.lines;
         as_many = first_as_many c.args.listing c.in_ok-listing.listing edited.is;
         live = first_live c.args.listing c.in_ok-listing.listing c.in_ok-live.live edited.is c.in_ok-live.ensures.kept;
       };
