@@ -21,8 +21,8 @@ use Rattle.rule_model.proofs.Costs.{shorter_lowers}
 use Rattle.thumb_model.specs.ReplacedLines.{is_op, without, labels_kept, new_line, replaced_lines, are_joined_from}
 use Rattle.listing_parser.specs.Parsing.{own_line}
 use Rattle.kept_layout.proofs.Cutting.{two_bytes}
-use Rattle.line_cursor.specs.Cursors.{IsSettled}
-use Rattle.line_cursor.proofs.Settled.{left_places, IsGap, settled_stay, stay_settled}
+use Rattle.window_rewrite.specs.Settled.{IsSettled}
+use Rattle.window_rewrite.proofs.Settled.{left_places, IsGap, settled_stay, stay_settled}
 use Rattle.window_rewrite.proofs.RuleWindows.{applied_gap, applied_stay}
 use Rattle.window_rewrite.specs.Rewriting.{setting}
 use Rattle.window_rewrite.specs.Rules.{is_marked, AreAlike, AreFit, AreLed}

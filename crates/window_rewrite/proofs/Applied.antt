@@ -1,5 +1,5 @@
 -- A rule applies in lines where it fits a window, labels stay code and what it leaves can be laid out.
-use Rattle.std.proofs.Common.{◌≡◌, ℕ, zero, suc, ◌+◌, ◌-◌, ◌<◌, ◌≤◌, Bool, true, false, List, [], ◌∷◌, length, take, drop, map, Option, Some, refl, sym, ap, ◌∙◌, subst, ◌⊎◌, inl, inr, arith}
+use Rattle.std.proofs.Common.{◌≡◌, ℕ, ◌+◌, ◌-◌, ◌<◌, ◌≤◌, Bool, true, false, List, [], ◌∷◌, length, take, drop, map, Option, Some, refl, sym, ap, ◌∙◌, subst, ◌⊎◌, inl, inr, arith}
 use Rattle.std.specs.Prelude.{slice_get}
 use Rattle.std.specs.List.{list_all}
 use Rattle.std.proofs.lemmas.Bool.{and_from, cases_Bool}
@@ -10,34 +10,31 @@ use Rattle.thumb_instr.specs.Items.{has}
 use Rattle.thumb_instr.specs.Window.{is_in_window}
 use Rattle.thumb_instr.specs.Renaming.{Low, renamed}
 use Rattle.thumb_instr.proofs.RenamingLemmas.{window_renamed}
-use Rattle.thumb_model.specs.Listing.{Place, Op, Word, plain, Label, Line, places_of, labels_from, code_of, is_op_place}
+use Rattle.thumb_model.specs.Listing.{plain, Label, Line, places_of, labels_from, code_of, is_op_place}
 use Rattle.thumb_model.specs.Flow.{LiveAfter}
 use Rattle.thumb_model.specs.Layout.{Layable}
 use Rattle.rule_model.specs.Rules.{Rule, Applies, IsSoundRule, alone}
 use Rattle.thumb_model.specs.Sides.{AreOver, register_count, normalised}
 use Rattle.thumb_model.specs.Replaced.{moved}
-use Rattle.rule_model.specs.Rewriting.{Setting, Replacement, used_rule, lines_after_rule, lines_after, IsLeastScratch, AppliesIn}
+use Rattle.rule_model.specs.Rewriting.{Setting, Replacement, used_rule, lines_after_rule, lines_after, IsLeastScratch, AppliesIn, left_length, left_length_of}
 use Rattle.rule_model.proofs.Alone.{alone_at, alone_is}
 use Rattle.rule_model.proofs.Costs.{weight_is_length, shorter_lowers}
 use Rattle.rule_model.proofs.LinesKept.{fewer_lines_by}
 use Rattle.thumb_model.specs.ReplacedLines.{replaced_lines, are_joined_from}
-use Rattle.thumb_model.specs.Cuts.{AreOps}
-use Rattle.thumb_model.proofs.Lists.{get_drop, length_drop}
 use Rattle.listing_parser.specs.Replacing.{names_no_label}
 use Rattle.listing_parser.specs.Parsing.{own_line}
 use Rattle.liveness.specs.Kept.{KeepsAt}
 use Rattle.window_rewrite.proofs.RuleWindows.{applies_keeps, steady_stays, applied_gap, applied_stay}
 use Rattle.steady_layout.proofs.Laws.{steady_is_layable}
 use Rattle.window_runs.specs.Windows.{IsWindow}
-use Rattle.window_harvest.specs.Harvest.{spot_of, StandsThere}
-use Rattle.line_cursor.specs.Cursors.{IsSettled}
-use Rattle.line_cursor.proofs.Settled.{left_places, IsGap, settled_stay, stay_settled}
-use Rattle.line_cursor.proofs.Nearer.{first_op, window_within}
+use Rattle.window_rewrite.specs.Settled.{IsSettled}
+use Rattle.window_rewrite.proofs.Settled.{left_places, IsGap, settled_stay, stay_settled}
+use Rattle.window_rewrite.proofs.WindowPlaces.{first_op, window_within}
 use Rattle.window_rewrite.specs.declared.finding.Rules.{Rules}
 use Rattle.window_rewrite.specs.declared.ground.Ground.{Ground}
 use Rattle.window_rewrite.specs.Rewriting.{setting}
 use Rattle.window_rewrite.specs.Choices.{FitsIn, Meets}
-use Rattle.window_rewrite.specs.Fitting.{left_registers, FitsWhole, IsScratchLeast}
+use Rattle.window_rewrite.specs.Fitting.{left_registers, FitsWhole, IsScratchLeast, Shortens, StandsThere}
 use Rattle.window_rewrite.specs.Sweeps.{is_steady, AreOver as AreLaid}
 use Rattle.window_rewrite.proofs.Live.{Allowed, allowed_true, true_allowed}
 use Rattle.window_rewrite.proofs.Sides.{window_count}
@@ -45,35 +42,7 @@ use Rattle.window_rewrite.proofs.Whole.{front_allowed, front_apart, front_matche
 
 -- ---- the window ----
 
--- a window's places are instructions
-pub ops_of : (is : List Instr) (n : ℕ) (ps : List Place) → n ≡ length is → take n ps ≡ map plain is → AreOps n ps
-ops_of [] zero ps e h = tt
-ops_of (i ∷ is) zero ps e h = absurd (omega arith)
-ops_of [] (suc n) ps e h = absurd (omega arith)
-ops_of (i ∷ is) (suc n) [] e h = absurd (cc)
-ops_of (i ∷ is) (suc n) (Op j mention ∷ ps) e h = ops_of is n ps (omega arith) (cc)
-ops_of (i ∷ is) (suc n) (Word w ∷ ps) e h = absurd (cc)
-
--- instructions among places, by their numbers
-pub ops_at : (n p : ℕ) (ps : List Place) → AreOps n (drop p ps) → (k : ℕ) → k < n → is_op_place (slice_get ps (p + k)) ≡ true
-ops_at n p ps a k h = ap is_op_place (sym (get_drop p ps k (p + k) refl)) ∙ among n (drop p ps) a k h
-  where
-    among : (n : ℕ) (ps : List Place) → AreOps n ps → (k : ℕ) → k < n → is_op_place (slice_get ps k) ≡ true
-    among zero ps a k h = absurd (omega arith)
-    among (suc n) [] a k h = absurd a
-    among (suc n) (Word w ∷ ps) a k h = absurd a
-    among (suc n) (Op i m ∷ ps) a zero h = refl
-    among (suc n) (Op i m ∷ ps) a (suc k) h = among n ps a k (omega arith)
-
-pub ops_within : (n p : ℕ) (ps : List Place) → 0 < n → AreOps n (drop p ps) → p + n ≤ length ps
-ops_within n p ps some a = let m = many n (drop p ps) a in let d = length_drop p ps in omega arith
-  where
-    many : (n : ℕ) (ps : List Place) → AreOps n ps → n ≤ length ps
-    many zero ps a = omega arith
-    many (suc n) [] a = absurd a
-    many (suc n) (Word w ∷ ps) a = absurd a
-    many (suc n) (Op i m ∷ ps) a = let r = many n ps a in omega arith
-
+-- where a window stands it may give way
 window_gap : (lines : List Line) (place : ℕ) (window is : List Instr) → IsWindow lines place window → length is < length window → IsGap (places_of lines) (labels_from 0 lines) place (length window) is
 window_gap lines place window is w shorter = record {
   within = window_within window (length window) (places_of lines) place refl (omega arith) w.stands;
@@ -138,7 +107,7 @@ fits_shorter base rules o lines a =
 -- ---- forth ----
 
 -- a rule that fits a window applies there, where labels stay code
-pub fitted : (lines : List Line) (place : ℕ) (rule : Rule) (registers : List Low) (window : List Instr) (live : ℕ) → IsSoundRule rule → StandsThere lines (spot_of place (length window)) window live → FitsWhole rule registers window live
+pub fitted : (lines : List Line) (place : ℕ) (rule : Rule) (registers : List Low) (window : List Instr) (live : ℕ) → IsSoundRule rule → StandsThere lines place window live → FitsWhole rule registers window live
     → IsSettled (places_of lines) (labels_from 0 lines) place (length window) (map (renamed registers) rule.right) → Applies rule registers (code_of lines) place
 fitted lines place rule registers window live sound there fits settled =
     let is : List Instr = map (renamed registers) rule.right in
@@ -164,14 +133,14 @@ fitted lines place rule registers window live sound there fits settled =
     }
 
 -- what is least by the items that are live is so by the ways
-least_there : (lines : List Line) (place : ℕ) (rule : Rule) (registers : List Low) (window : List Instr) (live : ℕ) → length window ≡ length rule.left → StandsThere lines (spot_of place (length window)) window live → IsScratchLeast rule registers live
+least_there : (lines : List Line) (place : ℕ) (rule : Rule) (registers : List Low) (window : List Instr) (live : ℕ) → length window ≡ length rule.left → StandsThere lines place window live → IsScratchLeast rule registers live
     → IsLeastScratch rule registers (code_of lines) place
 least_there lines place rule registers window live n there least scratch at x l = elim (least scratch at x l) [
   | inl t ↦ inl t
   | inr t ↦ inr (subst (λ k. LiveAfter (code_of lines) (place + k - 1) x) n ((there.live x).0 t))
 ]
 
--- in the lines of a sweep, what a rule leaves can be laid out: where its ground isn't steady, that is asked for
+-- what a rule leaves can be laid out: where its ground isn't steady, that is asked for
 pub laid : (r : Rules) (g : Ground) (lines : List Line) (place : ℕ) (rule : Rule) (registers : List Low) (window : List Instr) → AreLaid r g lines → IsSoundRule rule → length rule.right < length rule.left → length window ≡ length rule.left
     → (is_steady g ≡ false → Layable r.base (replaced_lines own_line place (length window) (map (renamed registers) rule.right) lines)) → Applies rule registers (code_of lines) place
     → Layable r.base (replaced_lines own_line place (length rule.left) (map (renamed registers) rule.right) lines)
@@ -188,9 +157,10 @@ pub record IsMade (s : Setting) (lines : List Line) (place number : ℕ) (regist
   pub is_window : IsWindow lines place window
   pub keeps : KeepsAt (code_of lines) place window new
   pub leaves : replaced_lines s.write place (length window) new lines ≡ lines_after s (made place number registers) lines
+  pub long : length window ≡ left_length s (made place number registers)
 
 pub applied : (base : ℕ) (rules : List Rule) (lines : List Line) (place number : ℕ) (rule : Rule) (registers : List Low) (window : List Instr) (live : ℕ) (new : List Instr)
-    → slice_get rules number ≡ Some rule → IsSoundRule rule → StandsThere lines (spot_of place (length window)) window live → FitsWhole rule registers window live → IsScratchLeast rule registers live → new ≡ map (renamed registers) rule.right
+    → slice_get rules number ≡ Some rule → IsSoundRule rule → StandsThere lines place window live → FitsWhole rule registers window live → IsScratchLeast rule registers live → new ≡ map (renamed registers) rule.right
     → IsSettled (places_of lines) (labels_from 0 lines) place (length window) new
     → (Applies rule registers (code_of lines) place → Layable base (replaced_lines own_line place (length rule.left) (map (renamed registers) rule.right) lines))
     → IsMade (setting base (alone rules)) lines place number registers window new
@@ -218,6 +188,7 @@ applied base rules lines place number rule registers window live new at sound th
           subst (λ (js : List Instr). KeepsAt (code_of lines) place window js) (sym same)
           (subst (λ (js : List Instr). KeepsAt (code_of lines) place js is) (same_window rule registers lines place window (sym n) there.is_window a) (applies_keeps rule registers (code_of lines) place sound fits.fits.shorter a));
       leaves = ap (λ (js : List Instr). replaced_lines own_line place (length window) js lines) same ∙ ap (λ k. replaced_lines own_line place k is lines) n ∙ sym after;
+      long = n ∙ sym (ap left_length_of used);
     }
 
 -- what applies meets this, whether the layout is asked or not
@@ -241,24 +212,49 @@ pub record IsFitted (lines : List Line) (place : ℕ) (rule : Rule) (registers :
   pub fits : FitsWhole rule registers window live
   pub settled : IsSettled (places_of lines) (labels_from 0 lines) place (length window) (map (renamed registers) rule.right)
 
+-- the rule of a number applies there, and it leaves fewer instructions
+record IsUsed (rule : Rule) (registers : List Low) (lines : List Line) (place : ℕ) : Type 0 where
+  shorter : length rule.right < length rule.left
+  applies : Applies rule registers (code_of lines) place
+
+used_there : (base : ℕ) (rules : List Rule) (lines : List Line) (place number : ℕ) (rule : Rule) (registers : List Low) → slice_get rules number ≡ Some rule → FitsIn (setting base (alone rules)) (made place number registers) lines → IsUsed rule registers lines place
+used_there base rules lines place number rule registers at a =
+    let same : a.rule ≡ rule = same_rule a.rule rule (slice_get rules number) (rule_there base rules (made place number registers) a.rule a.is_rule) at in
+    record {
+      shorter = subst (λ (k : Rule). length k.right < length k.left) same (fits_shorter base rules (made place number registers) lines a);
+      applies = subst (λ (k : Rule). Applies k registers (code_of lines) place) same a.applies;
+    }
+
+-- the rule that fits stands in the window that stands there
+pub back_shortens : (base : ℕ) (rules : List Rule) (lines : List Line) (place number : ℕ) (rule : Rule) (registers : List Low) (window : List Instr)
+    → slice_get rules number ≡ Some rule → IsSoundRule rule → length rule.left ≡ length window → IsWindow lines place window → FitsIn (setting base (alone rules)) (made place number registers) lines
+    → Shortens rule (left_registers rule registers) window
+back_shortens base rules lines place number rule registers window at sound n there a =
+    let used = used_there base rules lines place number rule registers at a in
+    let w : used.applies.window ≡ window = same_window rule registers lines place window n there used.applies in
+    record {
+      stands = record {
+        as_many = left_few rule registers used.applies.as_many;
+        one_to_one = front_apart (register_count rule.left) registers used.applies.one_to_one;
+        matches = ap (map normalised) (sym w) ∙ used.applies.matches ∙ front_matches rule (register_count rule.left) registers sound (omega arith);
+      };
+      shorter = used.shorter;
+    }
+
 pub back : (base : ℕ) (rules : List Rule) (lines : List Line) (place number : ℕ) (rule : Rule) (registers : List Low) (window : List Instr) (live : ℕ)
-    → slice_get rules number ≡ Some rule → IsSoundRule rule → length rule.left ≡ length window → StandsThere lines (spot_of place (length window)) window live → FitsIn (setting base (alone rules)) (made place number registers) lines
+    → slice_get rules number ≡ Some rule → IsSoundRule rule → length rule.left ≡ length window → StandsThere lines place window live → FitsIn (setting base (alone rules)) (made place number registers) lines
     → IsFitted lines place rule registers window live
 back base rules lines place number rule registers window live at sound n there a =
     let is : List Instr = map (renamed registers) rule.right in
-    let same : a.rule ≡ rule = same_rule a.rule rule (slice_get rules number) (rule_there base rules (made place number registers) a.rule a.is_rule) at in
-    let shorter : length rule.right < length rule.left = subst (λ (k : Rule). length k.right < length k.left) same (fits_shorter base rules (made place number registers) lines a) in
-    let applies : Applies rule registers (code_of lines) place = subst (λ (k : Rule). Applies k registers (code_of lines) place) same a.applies in
-    let w : applies.window ≡ window = same_window rule registers lines place window n there.is_window applies in
+    let used = used_there base rules lines place number rule registers at a in
+    let shorter = used.shorter in
+    let applies = used.applies in
+    let shortens = back_shortens base rules lines place number rule registers window at sound n there.is_window a in
     let known : (x : ℕ) → has live x ≡ true → Allowed rule.mask registers x = λ x h. applies.live x (subst (λ k. LiveAfter (code_of lines) (place + k - 1) x) (sym n) ((there.live x).0 h)) in
     record {
       fits = record {
         fits = record {
-          stands = record {
-            as_many = left_few rule registers applies.as_many;
-            one_to_one = front_apart (register_count rule.left) registers applies.one_to_one;
-            matches = ap (map normalised) (sym w) ∙ applies.matches ∙ front_matches rule (register_count rule.left) registers sound (omega arith);
-          };
+          stands = shortens.stands;
           shorter = shorter;
           allowed = λ x h. true_allowed rule.mask (left_registers rule registers) x (front_allowed rule (register_count rule.left) registers x sound (omega arith) (omega (arith, applies.as_many, sound.few)) (known x h));
         };

@@ -1,43 +1,29 @@
 -- Which choice comes first: the lowest of a length, the longest of a place, and the least place.
-use Rattle.std.proofs.Common.{◌≡◌, ℕ, zero, suc, ◌+◌, ◌-◌, ◌*◌, ◌<◌, ◌≤◌, ◌==◌, Bool, true, false, List, [], ◌∷◌, length, take, drop, map, Option, Some, None, refl, sym, ap, ◌∙◌, subst, arith, ◌⊎◌, ◌↔◌, inl, inr, eq-eqb, mul-le-mul_right, ◌++◌, reverse, if◌then◌else◌}
+use Rattle.std.proofs.Common.{◌≡◌, ℕ, zero, suc, ◌+◌, ◌-◌, ◌<◌, ◌≤◌, ◌==◌, Bool, true, false, List, [], ◌∷◌, length, take, drop, map, Option, Some, None, refl, sym, ap, ◌∙◌, subst, arith, ◌⊎◌, ◌↔◌, inl, inr, eq-eqb}
 use Rattle.std.specs.Prelude.{slice_get, nat_lt}
 use Rattle.std.specs.Int.{from_bool}
 use Rattle.std.specs.List.{list_all}
-use Rattle.std.proofs.lemmas.Grind.{common_steps}
 use Rattle.std.proofs.lemmas.Option.{slice_get_within}
-use Rattle.std.proofs.lemmas.Bool.{cases_lt, cases_Bool, eqb-true, ltb-true, lt-ltb}
+use Rattle.std.proofs.lemmas.Bool.{cases_lt, eqb-true, ltb-true, lt-ltb}
 use Rattle.thumb_instr.specs.declared.instr.Instr.{Instr}
 use Rattle.thumb_instr.specs.Items.{has}
 use Rattle.thumb_instr.specs.Window.{is_in_window, normal_of}
 use Rattle.thumb_instr.specs.Renaming.{Low}
-use Rattle.thumb_model.specs.Listing.{plain, Place, Label, Line, places_of, labels_from, code_of, is_op_place}
+use Rattle.thumb_model.specs.Listing.{plain, Place, Label, Line, places_of, labels_from, code_of}
 use Rattle.rule_model.specs.Rules.{Rule, IsSoundRule, alone}
 use Rattle.rule_model.specs.Rewriting.{Setting, Replacement, NoneApplies, left_length, left_length_of}
 use Rattle.thumb_model.specs.ReplacedLines.{are_joined_from}
 use Rattle.thumb_model.specs.Flow.{LiveAfter}
-use Rattle.thumb_model.proofs.Lists.{get_back, length_map, take_all, take_short, length_drop}
+use Rattle.thumb_model.proofs.Lists.{length_map, take_all, take_short, length_drop}
 use Rattle.thumb_model.proofs.Window.{AreStraight}
 use Rattle.rule_model.proofs.Table.{window_length, applies_sound}
 use Rattle.window_runs.specs.Windows.{IsWindow}
-use Rattle.liveness.specs.Live.{Sets as LiveSets, set_at}
 use Rattle.rule_table.specs.declared.table.Entry.{Entry}
 use Rattle.rule_table.specs.Views.{rule_of}
 use Rattle.table_audit.specs.Soundness.{rewriting_rule}
-use Rattle.window_runs.specs.declared.rows.Row.{Row}
 use Rattle.window_runs.specs.Rows.{rows_from}
 use Rattle.window_runs.specs.Runs.{run}
-use Rattle.window_harvest.specs.LimitsOf.{AreOf}
-use Rattle.window_harvest.specs.Harvest.{spot_of, StandsThere}
-use Rattle.window_runs.proofs.Joined.{window_in_run}
-use Rattle.window_harvest.proofs.Places.{stands_there}
-use Rattle.listing_parser.specs.declared.line.Line.{Line as Lines}
-use Rattle.line_cursor.specs.declared.cursor.Cursor.{Cursor}
-use Rattle.line_cursor.specs.Lines.{begins_op, lines_in, lines_of}
-use Rattle.line_cursor.specs.Cursors.{lines_at, place_at}
-use Rattle.line_cursor.proofs.Looks.{piece_short}
-use Rattle.line_cursor.proofs.Edits.{lines_back, ahead_count}
-use Rattle.line_cursor.proofs.Labels.{op_within}
-use Rattle.line_cursor.proofs.Nearer.{first_op, places_append}
+use Rattle.window_runs.proofs.Joined.{run_window, window_in_run}
 use Rattle.window_rewrite.specs.declared.choice.Choice.{Choice}
 use Rattle.window_rewrite.specs.Rewriting.{setting}
 use Rattle.table_audit.specs.Sides.{IsCanonicalSide}
@@ -45,21 +31,14 @@ use Rattle.window_rewrite.specs.declared.marks.Marks.{Marks}
 use Rattle.window_rewrite.specs.Rules.{rules_in, side_length, is_marked, AreFit, AreLed, HaveMarks, first_with}
 use Rattle.window_rewrite.specs.Shapes.{shape_of}
 use Rattle.window_rewrite.specs.Forms.{form_of}
-use Rattle.window_rewrite.specs.Fitting.{left_registers, Shortens, Stands}
-use Rattle.window_rewrite.specs.Choices.{Awaits, choice_of, FitsIn, IsChoice, IsLowest, Meets, NoneOf, IsBest, NoneAt, NoneBefore, IsFirstChoice, of_length, longer}
-use Rattle.window_rewrite.specs.Sweeps.{IsKept}
-use Rattle.window_rewrite.proofs.Applied.{made, is_made, rule_there, fits_shorter, back, meets, meets_less}
+use Rattle.window_rewrite.specs.Fitting.{left_registers, Shortens, Stands, StandsThere}
+use Rattle.window_rewrite.specs.Choices.{Awaits, choice_of, FitsIn, IsChoice, IsLowest, Meets, NoneOf, IsBest, NoneBefore, IsFirstChoice, of_length, longer}
+use Rattle.window_rewrite.proofs.Applied.{made, is_made, rule_there, fits_shorter, back_shortens, meets, meets_less}
 use Rattle.window_rewrite.proofs.Keys.{awaited, none_awaited}
 use Rattle.window_rewrite.proofs.Heads.{stands_shape}
 use Rattle.window_rewrite.proofs.Alike.{led_to}
-use Rattle.window_rewrite.proofs.Behind.{IsAhead, op_place, places_there}
 
 -- ---- counts of rules ----
-
-none_taken : (c : ℕ) (rules : List Rule) → of_length c (take 0 rules) ≡ 0
-unfolding of_length
-none_taken c [] = refl
-none_taken c (r ∷ rs) = refl
 
 taken_more : (c : ℕ) (rules : List Rule) (k n : ℕ) → k ≤ n → of_length c (take k rules) ≤ of_length c (take n rules)
 unfolding of_length
@@ -153,9 +132,9 @@ pub record StandsIn (rules : List Rule) (window : List Instr) (o : Replacement) 
   pub registers : List Low
   pub shortens : Shortens rule registers window
 
-stands_in : (base longest : ℕ) (rules : List Rule) (lines : List Line) (place : ℕ) (window : List Instr) (live : ℕ) (o : Replacement) → AreFit longest rules → StandsThere lines (spot_of place (length window)) window live
+stands_in : (base longest : ℕ) (rules : List Rule) (lines : List Line) (place : ℕ) (window : List Instr) (o : Replacement) → AreFit longest rules → IsWindow lines place window
     → FitsIn (setting base (alone rules)) o lines → o.place ≡ place → left_length (setting base (alone rules)) o ≡ length window → StandsIn rules window o
-stands_in base longest rules lines place window live o fit there a at long =
+stands_in base longest rules lines place window o fit there a at long =
     let here : FitsIn (setting base (alone rules)) (made o.place o.entry o.registers) lines = subst (λ (r : Replacement). FitsIn (setting base (alone rules)) r lines) (is_made base rules o a.rule a.is_rule) a in
     let moved : FitsIn (setting base (alone rules)) (made place o.entry o.registers) lines = subst (λ p. FitsIn (setting base (alone rules)) (made p o.entry o.registers) lines) at here in
     let n : length a.rule.left ≡ length window = sym (ap left_length_of a.is_rule) ∙ long in
@@ -164,7 +143,7 @@ stands_in base longest rules lines place window live o fit there a at long =
       rule = a.rule;
       at = there_at;
       registers = left_registers a.rule o.registers;
-      shortens = let f = (back base rules lines place o.entry a.rule o.registers window live there_at (fit o.entry a.rule there_at).sound n there moved).fits.fits in record { stands = f.stands; shorter = f.shorter };
+      shortens = back_shortens base rules lines place o.entry a.rule o.registers window there_at (fit o.entry a.rule there_at).sound n there moved;
     }
 
 -- the search through the rules that may stand in a window: those below k don't meet this
@@ -182,27 +161,27 @@ pub search_begins : (asked : Bool) (base longest : ℕ) (rules : List Rule) (kep
 search_begins asked base longest rules kept lines place window at start fit led awaits = record { longest = longest; fit = fit; led = led; k = 0; awaits = awaits; none = λ o a e l h. absurd (omega arith); cost = omega arith }
 
 -- none meets it below the next rule: else one that is kept would
-none_before : (asked : Bool) (base : ℕ) (rules : List Rule) (kept : List Bool) (lines : List Line) (place : ℕ) (window : List Instr) (live n : ℕ) (at : Option ℕ) (start steps : ℕ) → StandsThere lines (spot_of place (length window)) window live
+none_before : (asked : Bool) (base : ℕ) (rules : List Rule) (kept : List Bool) (lines : List Line) (place : ℕ) (window : List Instr) (n : ℕ) (at : Option ℕ) (start steps : ℕ) → IsWindow lines place window
     → IsSearch asked base rules kept lines place window at start steps → at ≡ Some n
     → (o : Replacement) → Meets asked (setting base (alone rules)) o lines → o.place ≡ place → left_length (setting base (alone rules)) o ≡ length window → o.entry < n → ⊥
-none_before asked base rules kept lines place window live n at start steps there s is o a e l h =
+none_before asked base rules kept lines place window n at start steps there s is o a e l h =
     let d = led_to asked base s.longest rules kept lines o s.fit s.led a in
     let no_later = d.no_later in
     elim (cases_lt d.leader s.k) [
       | inl b ↦ s.none (made o.place d.leader d.registers) d.meets e (d.as_long ∙ l) b
       | inr b ↦ (
           let next = awaited rules kept window s.k n at s.awaits is in
-          let i = stands_in base s.longest rules lines place window live (made o.place d.leader d.registers) s.fit there d.meets.0 e (d.as_long ∙ l) in
+          let i = stands_in base s.longest rules lines place window (made o.place d.leader d.registers) s.fit there d.meets.0 e (d.as_long ∙ l) in
           next.none d.leader i.rule i.registers b (omega arith) i.at d.is_kept i.shortens
           )
     ]
 
-pub search_next : (was asked : Bool) (base : ℕ) (rules : List Rule) (kept : List Bool) (lines : List Line) (place : ℕ) (window : List Instr) (live n : ℕ) (at next : Option ℕ) (start steps after : ℕ) → StandsThere lines (spot_of place (length window)) window live
+pub search_next : (was asked : Bool) (base : ℕ) (rules : List Rule) (kept : List Bool) (lines : List Line) (place : ℕ) (window : List Instr) (n : ℕ) (at next : Option ℕ) (start steps after : ℕ) → IsWindow lines place window
     → IsSearch was base rules kept lines place window at start steps → at ≡ Some n → (was ≡ true → asked ≡ true)
     → (side_length rules n ≡ length window → (registers : List Low) → Meets asked (setting base (alone rules)) (made place n registers) lines → ⊥)
     → ((rule : Rule) → slice_get rules n ≡ Some rule → is_marked kept n ≡ true → next ≡ first_with kept (form_of rule.left) (n + 1) (drop (n + 1) rules)) → after ≤ steps + from_bool (side_length rules n == length window)
     → IsSearch asked base rules kept lines place window next start after
-search_next was asked base rules kept lines place window live n at next start steps after there s is stays none more cost =
+search_next was asked base rules kept lines place window n at next start steps after there s is stays none more cost =
     let i = awaited rules kept window s.k n at s.awaits is in
     let one : of_length (length window) (take n rules) + from_bool (length i.rule.left == length window) ≤ of_length (length window) (take (suc n) rules) = taken_one (length window) rules n i.rule i.at in
     let before : of_length (length window) (take s.k rules) ≤ of_length (length window) (take n rules) = taken_more (length window) rules s.k n i.from in
@@ -218,7 +197,7 @@ search_next was asked base rules kept lines place window live n at next start st
           let d = led_to asked base s.longest rules kept lines o s.fit s.led a in
           let no_later = d.no_later in
           elim (cases_lt d.leader n) [
-            | inl b ↦ none_before was base rules kept lines place window live n at start steps there s is (made o.place d.leader d.registers) (meets_less was asked (setting base (alone rules)) (made o.place d.leader d.registers) lines stays d.meets) e (d.as_long ∙ l) b
+            | inl b ↦ none_before was base rules kept lines place window n at start steps there s is (made o.place d.leader d.registers) (meets_less was asked (setting base (alone rules)) (made o.place d.leader d.registers) lines stays d.meets) e (d.as_long ∙ l) b
             | inr b ↦ (
                 let same : d.leader ≡ n = omega arith in
                 none (ap (side_length rules) (sym same) ∙ (fit_length base rules (made o.place d.leader d.registers) lines d.meets.0 ∙ (d.as_long ∙ l))) d.registers (subst (λ m. Meets asked (setting base (alone rules)) (made place m d.registers) lines) same (subst (λ p. Meets asked (setting base (alone rules)) (made p d.leader d.registers) lines) e d.meets))
@@ -247,16 +226,16 @@ search_smaller asked base rules kept lines place window n at next start steps s 
         let inside : m < length rules = slice_get_within rules m j.rule j.at in
         omega arith
 
-pub search_found : (asked : Bool) (base : ℕ) (rules : List Rule) (kept : List Bool) (lines : List Line) (place : ℕ) (window : List Instr) (live n : ℕ) (at : Option ℕ) (start steps : ℕ) (c : Choice) → StandsThere lines (spot_of place (length window)) window live
+pub search_found : (asked : Bool) (base : ℕ) (rules : List Rule) (kept : List Bool) (lines : List Line) (place : ℕ) (window : List Instr) (n : ℕ) (at : Option ℕ) (start steps : ℕ) (c : Choice) → IsWindow lines place window
     → IsSearch asked base rules kept lines place window at start steps → at ≡ Some n
     → side_length rules n ≡ length window → IsChoice (setting base (alone rules)) lines c → (choice_of c).place ≡ place → (choice_of c).entry ≡ n → IsLowest (setting base (alone rules)) lines place (length window) c
-search_found asked base rules kept lines place window live n at start steps c there s is long choice here entry =
+search_found asked base rules kept lines place window n at start steps c there s is long choice here entry =
     record {
       is = choice;
       at = here;
       long = sym (fit_length base rules (choice_of c) lines (meets asked (setting base (alone rules)) (choice_of c) lines choice.applies).0) ∙ ap (side_length rules) entry ∙ long;
       lowest = λ o a e l. elim (cases_lt o.entry n) [
-        | inl b ↦ absurd (none_before asked base rules kept lines place window live n at start steps there s is o (meets asked (setting base (alone rules)) o lines a) e l b)
+        | inl b ↦ absurd (none_before asked base rules kept lines place window n at start steps there s is o (meets asked (setting base (alone rules)) o lines a) e l b)
         | inr b ↦ omega arith
       ];
     }
@@ -272,14 +251,14 @@ search_cost asked base rules kept lines place window n at start steps after s is
     let here = s.cost in
     omega (arith, one, before, all, tried, here, cost)
 
-pub search_none : (asked : Bool) (base : ℕ) (rules : List Rule) (kept : List Bool) (lines : List Line) (place : ℕ) (window : List Instr) (live : ℕ) (at : Option ℕ) (start steps : ℕ) → StandsThere lines (spot_of place (length window)) window live
+pub search_none : (asked : Bool) (base : ℕ) (rules : List Rule) (kept : List Bool) (lines : List Line) (place : ℕ) (window : List Instr) (at : Option ℕ) (start steps : ℕ) → IsWindow lines place window
     → IsSearch asked base rules kept lines place window at start steps → at ≡ None → NoneOf asked (setting base (alone rules)) lines place (length window)
-search_none asked base rules kept lines place window live at start steps there s is o a e l =
+search_none asked base rules kept lines place window at start steps there s is o a e l =
     let d = led_to asked base s.longest rules kept lines o s.fit s.led a in
     elim (cases_lt d.leader s.k) [
       | inl b ↦ s.none (made o.place d.leader d.registers) d.meets e (d.as_long ∙ l) b
       | inr b ↦ (
-          let i = stands_in base s.longest rules lines place window live (made o.place d.leader d.registers) s.fit there d.meets.0 e (d.as_long ∙ l) in
+          let i = stands_in base s.longest rules lines place window (made o.place d.leader d.registers) s.fit there d.meets.0 e (d.as_long ∙ l) in
           none_awaited rules kept window s.k at s.awaits is d.leader i.rule i.registers b i.at d.is_kept i.shortens
           )
     ]
@@ -293,19 +272,19 @@ next_within entries kept window k n o a e =
     omega (arith, slice_get_within (rules_in entries) n i.rule i.at, length_map rewriting_rule (map rule_of entries), length_map rule_of entries)
 
 -- no left side stands in a window whose number isn't marked
-pub none_whole : (asked : Bool) (base longest : ℕ) (rules : List Rule) (marks : Marks) (lines : List Line) (place shape : ℕ) (window : List Instr) (live : ℕ) → AreFit longest rules → HaveMarks rules (length rules) marks → StandsThere lines (spot_of place (length window)) window live
+pub none_whole : (asked : Bool) (base longest : ℕ) (rules : List Rule) (marks : Marks) (lines : List Line) (place shape : ℕ) (window : List Instr) → AreFit longest rules → HaveMarks rules (length rules) marks → IsWindow lines place window
     → shape ≡ shape_of (map normal_of window) → is_marked marks.wholes.items shape ≡ false → NoneOf asked (setting base (alone rules)) lines place (length window)
-none_whole asked base longest rules marks lines place shape window live fit have there is missing o a e l =
-    let i = stands_in base longest rules lines place window live o fit there a.0 e l in
+none_whole asked base longest rules marks lines place shape window fit have there is missing o a e l =
+    let i = stands_in base longest rules lines place window o fit there a.0 e l in
     let noted = have.noted o.entry i.rule (slice_get_within rules o.entry i.rule i.at) i.at (lt-ltb (length i.rule.right) (length i.rule.left) i.shortens.shorter) in
     let bad : true ≡ false = sym noted.whole ∙ ap (is_marked marks.wholes.items) (stands_shape i.rule i.registers window i.shortens ∙ sym is) ∙ missing in
     absurd (cc)
 
 -- nor in one that no left side has the form of
-pub none_formed : (asked : Bool) (base longest : ℕ) (rules : List Rule) (lines : List Line) (place : ℕ) (window : List Instr) (live : ℕ) → AreFit longest rules → StandsThere lines (spot_of place (length window)) window live
+pub none_formed : (asked : Bool) (base longest : ℕ) (rules : List Rule) (lines : List Line) (place : ℕ) (window : List Instr) → AreFit longest rules → IsWindow lines place window
     → ((rule : Rule) (registers : List Low) → IsSoundRule rule → IsCanonicalSide rule.left → Stands rule registers window → ⊥) → NoneOf asked (setting base (alone rules)) lines place (length window)
-none_formed asked base longest rules lines place window live fit there none o a e l =
-    let i = stands_in base longest rules lines place window live o fit there a.0 e l in
+none_formed asked base longest rules lines place window fit there none o a e l =
+    let i = stands_in base longest rules lines place window o fit there a.0 e l in
     let f = fit o.entry i.rule i.at in
     none i.rule i.registers f.sound f.canonical i.shortens.stands
 
@@ -342,15 +321,7 @@ applicable base longest rules lines o fit a =
       few = omega arith;
     }
 
--- a window's places are the lines'
-window_end : (lines : List Line) (place : ℕ) (window : List Instr) → 1 ≤ length window → IsWindow lines place window → place + (length window - 1) < length (places_of lines)
-window_end lines place window some w =
-    let k = length_map plain window in
-    let e = ap (λ (ps : List Place). length ps) w.stands in
-    let short = take_short (length window) (drop place (places_of lines)) in
-    let rest = length_drop place (places_of lines) in
-    omega arith
-
+-- and it stands among the places
 pub place_within : (base longest : ℕ) (rules : List Rule) (lines : List Line) (o : Replacement) → AreFit longest rules → FitsIn (setting base (alone rules)) o lines → o.place < length (places_of lines)
 place_within base longest rules lines o fit a =
     let w = applicable base longest rules lines o fit a in
@@ -361,32 +332,38 @@ place_within base longest rules lines o fit a =
     let rest = length_drop o.place (places_of lines) in
     omega arith
 
--- the front of the run from a place stands there
-pub front_stands : (lines : List Line) (rows : List Row) (sets : LiveSets) (place most count items : ℕ) (is slice : List Instr) → AreOf lines rows sets → is ≡ run true most (drop place rows) → slice ≡ is → 0 < count → count ≤ length is
-    → ((x : ℕ) → (has items x ≡ true) ↔ LiveAfter (code_of lines) (place + (count - 1)) x) → StandsThere lines (spot_of place (length (take count slice))) (take count slice) items
-front_stands lines rows sets place most zero items is slice of e f some few live = absurd (omega arith)
-front_stands lines rows sets place most (suc n) items is slice of e f some few live =
-    let one : n + 1 ≡ suc n = omega arith in
-    let there : StandsThere lines (spot_of place (n + 1)) (take (n + 1) is) items =
-    stands_there lines rows sets place most n items is of e (omega arith) (λ x. subst (λ k. (has items x ≡ true) ↔ LiveAfter (code_of lines) (place + k) x) (let g : suc n - 1 ≡ n = omega arith in g) (live x)) in
-    let here : StandsThere lines (spot_of place (suc n)) (take (suc n) is) items = subst (λ k. StandsThere lines (spot_of place k) (take k is) items) one there in
-    let all : length (take (suc n) is) ≡ suc n = take_all (suc n) is few in
-    subst (λ (l : List Instr). StandsThere lines (spot_of place (length (take (suc n) l))) (take (suc n) l) items) (sym f) (subst (λ k. StandsThere lines (spot_of place k) (take (suc n) is) items) (sym all) here)
+-- the front of the run from a place is a window there
+front_window : (lines : List Line) (place most count : ℕ) (is : List Instr) → is ≡ run true most (drop place (rows_from false lines)) → 0 < count → count ≤ length is → IsWindow lines place (take count is)
+front_window lines place most count is e some few =
+    let all : length (take count is) ≡ count = take_all count is few in
+    let long : 1 ≤ length (take count (run true most (drop place (rows_from false lines)))) = omega (arith, all, ap (λ (l : List Instr). length (take count l)) e) in
+    subst (λ (l : List Instr). IsWindow lines place (take count l)) (sym e) (run_window lines place most count long)
+
+-- and stands there with what is live after it
+pub front_stands : (lines : List Line) (place most count items : ℕ) (is slice : List Instr) → is ≡ run true most (drop place (rows_from false lines)) → slice ≡ is → 0 < count → count ≤ length is
+    → ((x : ℕ) → (has items x ≡ true) ↔ LiveAfter (code_of lines) (place + (count - 1)) x) → StandsThere lines place (take count slice) items
+front_stands lines place most count items is slice e f some few live =
+    let long : length slice ≡ length is = ap (λ (l : List Instr). length l) f in
+    let all : length (take count slice) ≡ count = take_all count slice (omega arith) in
+    let end : place + (count - 1) ≡ place + length (take count slice) - 1 = omega arith in
+    record {
+      is_window = front_window lines place most count slice (f ∙ e) some (omega arith);
+      live = λ x. subst (λ p. (has items x ≡ true) ↔ LiveAfter (code_of lines) p x) end (live x);
+    }
 
 -- no choice at the place has a left side of more than so many instructions
 abbrev pub NoneLonger : Bool → Setting → List Line → ℕ → ℕ → Type 0
 NoneLonger asked s lines place count = (o : Replacement) → Meets asked s o lines → o.place ≡ place → count < left_length s o → ⊥
 
 -- none has one that is longer than the run from there
-pub none_beyond : (asked : Bool) (base longest : ℕ) (rules : List Rule) (lines : List Line) (rows : List Row) (sets : LiveSets) (place : ℕ) (is : List Instr) → AreFit longest rules → AreOf lines rows sets → is ≡ run true longest (drop place rows)
+none_beyond : (asked : Bool) (base longest : ℕ) (rules : List Rule) (lines : List Line) (place : ℕ) (is : List Instr) → AreFit longest rules → is ≡ run true longest (drop place (rows_from false lines))
     → NoneLonger asked (setting base (alone rules)) lines place (length is)
-none_beyond asked base longest rules lines rows sets place is fit of e o a at h =
+none_beyond asked base longest rules lines place is fit e o a at h =
     let w = applicable base longest rules lines o fit a.0 in
     let long = w.long in
     let there : IsWindow lines place w.window = subst (λ p. IsWindow lines p w.window) at w.is_window in
     let within : length w.window ≤ length (run true longest (drop place (rows_from false lines))) = window_in_run lines place longest w.window w.some w.few there in
-    let same : is ≡ run true longest (drop place (rows_from false lines)) = e ∙ ap (λ (rs : List Row). run true longest (drop place rs)) of.rows_are in
-    omega (arith, within, long, h, ap (λ (l : List Instr). length l) same)
+    omega (arith, within, long, h, ap (λ (l : List Instr). length l) e)
 
 pub none_longer : (asked : Bool) (s : Setting) (lines : List Line) (place count : ℕ) → NoneLonger asked s lines place (suc count) → NoneOf asked s lines place (suc count) → NoneLonger asked s lines place count
 none_longer asked s lines place count n none o a at h = elim (cases_lt (suc count) (left_length s o)) [
@@ -413,45 +390,24 @@ none_shorter asked s lines place (suc m) slice some few n h =
     let all : length (take (suc m) slice) ≡ suc m = take_all (suc m) slice few in
     subst (λ k. NoneLonger asked s lines place k) (let e : m ≡ suc m - 1 = omega arith in e) (none_longer asked s lines place m n (subst (λ k. NoneOf asked s lines place k) all h))
 
-pub is_best : (asked : Bool) (s : Setting) (lines : List Line) (place count : ℕ) (c : Choice) → NoneLonger asked s lines place count → IsLowest s lines place count c → IsBest s lines place c
-is_best asked s lines place count c none l =
-    let long = l.long in
-    record {
-      is = l.is;
-      at = l.at;
-      longest = λ o a e. elim (cases_lt count (left_length s o)) [
-        | inl h ↦ absurd (none o (meets asked s o lines a) e h)
-        | inr h ↦ omega arith
-      ];
-      lowest = λ o a e h. l.lowest o a e (h ∙ long);
-    }
-
-pub none_at : (asked : Bool) (base longest : ℕ) (rules : List Rule) (lines : List Line) (place : ℕ) → AreFit longest rules → NoneLonger asked (setting base (alone rules)) lines place 0 → NoneAt asked (setting base (alone rules)) lines place
-none_at asked base longest rules lines place fit none o a at =
-    let w = applicable base longest rules lines o fit a.0 in
-    let some = w.some in
-    let long = w.long in
-    none o a at (omega arith)
-
 -- where no left side of more than so many instructions stands first in the run from a place, none that applies there is longer
-pub none_reached : (asked : Bool) (base longest : ℕ) (rules : List Rule) (lines : List Line) (rows : List Row) (sets : LiveSets) (place count : ℕ) (is : List Instr) → AreFit longest rules → AreOf lines rows sets → is ≡ run true longest (drop place rows)
-    → ((n k : ℕ) (rule : Rule) (registers : List Low) → count < length rule.left → slice_get rules k ≡ Some rule → Shortens rule registers (take n is) → ⊥) → NoneLonger asked (setting base (alone rules)) lines place count
-none_reached asked base longest rules lines rows sets place count is fit of e none o a at longer_left =
+pub none_reached : (asked : Bool) (base longest : ℕ) (rules : List Rule) (lines : List Line) (place count : ℕ) (is slice : List Instr) → AreFit longest rules → is ≡ run true longest (drop place (rows_from false lines)) → slice ≡ is
+    → ((n k : ℕ) (rule : Rule) (registers : List Low) → count < length rule.left → slice_get rules k ≡ Some rule → Shortens rule registers (take n slice) → ⊥) → NoneLonger asked (setting base (alone rules)) lines place count
+none_reached asked base longest rules lines place count is slice fit e f none o a at longer_left =
     let w = applicable base longest rules lines o fit a.0 in
     let some = w.some in
     let long = w.long in
     let n : ℕ = length w.window in
-    let few : n ≤ length is = elim (cases_lt (length is) n) [
-      | inl h ↦ absurd (none_beyond asked base longest rules lines rows sets place is fit of e o a at (omega arith))
+    let same : slice ≡ run true longest (drop place (rows_from false lines)) = f ∙ e in
+    let few : n ≤ length slice = elim (cases_lt (length slice) n) [
+      | inl h ↦ absurd (none_beyond asked base longest rules lines place slice fit same o a at (omega arith))
       | inr h ↦ omega arith
     ] in
-    let items : ℕ = set_at sets.after (place + (n - 1)) in
-    let inside : place + (n - 1) < length (places_of lines) = window_end lines place w.window some (subst (λ p. IsWindow lines p w.window) at w.is_window) in
-    let there = front_stands lines rows sets place longest n items is is of e refl (omega arith) few (λ x. of.live.after (place + (n - 1)) x inside) in
-    let all : length (take n is) ≡ n = take_all n is few in
-    let s = stands_in base longest rules lines place (take n is) items o fit there a.0 at (long ∙ sym all) in
+    let there = front_window lines place longest n slice same (omega arith) few in
+    let all : length (take n slice) ≡ n = take_all n slice few in
+    let s = stands_in base longest rules lines place (take n slice) o fit there a.0 at (long ∙ sym all) in
     let left = length_at rules o.entry s.rule s.at in
-    let same = fit_length base rules o lines a.0 in
+    let same_long = fit_length base rules o lines a.0 in
     none n o.entry s.rule s.registers (omega arith) s.at s.shortens
 
 -- ---- the least place ----
@@ -473,70 +429,6 @@ is_first asked s lines place c none b =
       is = b.is;
     }
 
--- where no entry meets this before lines, nor at an instruction that they are, none does before what follows them
-none_past : (asked : Bool) (base longest : ℕ) (rules : List Rule) (xs here ys : List Line) (place next : ℕ) → AreFit longest rules → place ≡ length (places_of xs) → next ≡ place + length (places_of here) → length here ≤ 1
-    → NoneBefore asked (setting base (alone rules)) (xs ++ (here ++ ys)) place → (begins_op here ≡ true → NoneAt asked (setting base (alone rules)) (xs ++ (here ++ ys)) place) → NoneBefore asked (setting base (alone rules)) (xs ++ (here ++ ys)) next
-none_past asked base longest rules xs here ys place next fit e f short none at o a l = elim (cases_lt o.place place) [
-  | inl k ↦ none o a k
-  | inr k ↦ elim (cases_Bool (begins_op here)) [
-    | inl t ↦ (let one = op_place here short t in at t o a (let g : o.place ≡ place = omega arith in g))
-    | inr n ↦ absurd (
-        let lines : List Line = xs ++ (here ++ ys) in
-        let w = applicable base longest rules lines o fit a.0 in
-        let some = w.some in
-        let op : is_op_place (slice_get (places_of lines) o.place) ≡ true = first_op w.window (length w.window) (places_of lines) o.place refl (omega arith) w.is_window.stands in
-        let there : slice_get (places_of lines) o.place ≡ slice_get (places_of (here ++ ys)) (o.place - place) =
-        ap (λ (ps : List Place). slice_get ps o.place) (places_append xs (here ++ ys)) ∙ get_back (places_of xs) (places_of (here ++ ys)) (o.place - place) o.place (omega arith) in
-        let bad : true ≡ false = sym op ∙ ap is_op_place there ∙ op_within here ys (o.place - place) short (omega arith) ∙ n in
-        cc)
-  ]
-]
-
--- none fits up to a place where none was refused before it
-pub clear_on : (refused : Bool) (s : Setting) (lines : List Line) (place clear : ℕ) → NoneBefore refused s lines place → NoneBefore false s lines clear → NoneBefore false s lines (if refused then clear else place)
-clear_on true s lines place clear before none = none
-clear_on false s lines place clear before none = before
-
--- the same where a cursor moves on by a piece
-pub none_on : (asked : Bool) (base longest : ℕ) (rules : List Rule) (behind ahead : List Lines) (p : IsAhead ahead) (place next : ℕ) → AreFit longest rules → place ≡ length (places_of (lines_of behind)) → next ≡ place + length (places_of (lines_in p.piece))
-    → NoneBefore asked (setting base (alone rules)) (lines_of behind ++ lines_of (reverse ahead)) place
-    → ((rest : List Lines) (x : Lines) → ahead ≡ rest ++ x ∷ [] → begins_op (lines_in x) ≡ true → NoneAt asked (setting base (alone rules)) (lines_of behind ++ lines_of (reverse ahead)) place)
-    → NoneBefore asked (setting base (alone rules)) (lines_of behind ++ lines_of (reverse ahead)) next
-none_on asked base longest rules behind ahead p place next fit e f none at =
-    let here : List Line = lines_in p.piece in
-    let ys : List Line = lines_of (reverse p.rest) in
-    let same : lines_of (reverse ahead) ≡ here ++ ys = ap (λ (ps : List Lines). lines_of (reverse ps)) p.is ∙ lines_back p.rest p.piece in
-    subst (λ (ls : List Line). NoneBefore asked (setting base (alone rules)) (lines_of behind ++ ls) next) (sym same)
-    (none_past asked base longest rules (lines_of behind) here ys place next fit e f (piece_short p.piece)
-    (subst (λ (ls : List Line). NoneBefore asked (setting base (alone rules)) (lines_of behind ++ ls) place) same none)
-    (λ t. subst (λ (ls : List Line). NoneAt asked (setting base (alone rules)) (lines_of behind ++ ls) place) same (at p.rest p.piece p.is t)))
-
+-- where none meets it before the end, none applies
 pub none_applies : (asked : Bool) (base longest : ℕ) (rules : List Rule) (lines : List Line) (place : ℕ) → AreFit longest rules → length (places_of lines) ≤ place → NoneBefore asked (setting base (alone rules)) lines place → NoneApplies (setting base (alone rules)) lines
 none_applies asked base longest rules lines place fit h none o a = let m = meets asked (setting base (alone rules)) o lines a in let w = place_within base longest rules lines o fit m.0 in none o m (omega arith)
-
--- ---- what it costs ----
-
-place_cost : (entries place start before after : ℕ) → before ≤ start + place * entries → after ≤ before + entries → after ≤ start + (place + 1) * entries
-place_cost entries place start before after b a = grind (arith, common_steps)
-
-pub places_cost : (entries place count start after : ℕ) → after ≤ start + place * entries → place ≤ count → after ≤ start + count * entries
-places_cost entries place count start after a h = let m = mul-le-mul_right entries h in omega arith
-
--- a piece that isn't an instruction costs nothing
-pub piece_cost : (entries place next start before after : ℕ) (ahead : List Lines) (p : IsAhead ahead) → next ≡ place + length (places_of (lines_in p.piece)) → before ≤ start + place * entries → after ≤ before + entries
-    → ((rest : List Lines) (x : Lines) → ahead ≡ rest ++ x ∷ [] → begins_op (lines_in x) ≡ false → after ≤ before) → after ≤ start + next * entries
-piece_cost entries place next start before after ahead p e b a idle = elim (cases_Bool (begins_op (lines_in p.piece))) [
-  | inl t ↦ (
-      let one = op_place (lines_in p.piece) (piece_short p.piece) t in
-      places_cost entries (place + 1) next start after (place_cost entries place start before after b a) (omega arith)
-      )
-  | inr n ↦ (let i = idle p.rest p.piece p.is n in places_cost entries place next start after (omega arith) (omega arith))
-]
-
--- a look at what stands behind a cursor costs no more than the places up to there
-pub look_cost : (entries start before after : ℕ) (c : Cursor) (lines : List Line) (p : IsAhead c.lines.ahead) → IsKept c → lines_at c ≡ lines → before ≤ start + place_at c * entries → after ≤ before + entries
-    → ((rest : List Lines) (x : Lines) → c.lines.ahead ≡ rest ++ x ∷ [] → begins_op (lines_in x) ≡ false → after ≤ before) → after ≤ start + length (places_of lines) * entries
-look_cost entries start before after c lines p kept same b a idle =
-    let next : ℕ = place_at c + length (places_of (lines_in p.piece)) in
-    places_cost entries next (length (places_of lines)) start after (piece_cost entries (place_at c) next start before after c.lines.ahead p refl b a idle)
-    (omega (arith, places_there c kept, ahead_count c.lines.ahead p.rest p.piece p.is, kept.is.coming, ap (λ (ls : List Line). length (places_of ls)) same))

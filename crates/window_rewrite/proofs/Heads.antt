@@ -1,5 +1,5 @@
 -- What a left side shares with each window in which it stands.
-use Rattle.std.proofs.Common.{◌≡◌, ℕ, zero, suc, ◌+◌, ◌-◌, ◌*◌, ◌<◌, ◌≤◌, ◌%◌, Bool, true, false, List, [], ◌∷◌, length, take, map, Some, refl, sym, ap, ◌∙◌, subst, arith, inl, inr}
+use Rattle.std.proofs.Common.{◌≡◌, ℕ, zero, suc, ◌+◌, ◌*◌, ◌<◌, ◌≤◌, ◌%◌, Bool, true, false, List, [], ◌∷◌, length, take, map, Some, refl, sym, ap, ◌∙◌, subst, arith, inl, inr}
 use Rattle.std.specs.Prelude.{slice_get, slice_set}
 use Rattle.std.proofs.lemmas.Bool.{cases_lt, lt-ltb}
 use Rattle.std.proofs.lemmas.Option.{same_Some, slice_get_within}
@@ -10,7 +10,7 @@ use Rattle.thumb_instr.specs.Renaming.{Low, renamed}
 use Rattle.rule_model.specs.Rules.{Rule}
 use Rattle.thumb_model.specs.Sides.{normalised}
 use Rattle.thumb_model.proofs.Lists.{length_map}
-use Rattle.window_rewrite.specs.Rules.{is_marked, is_shorter, AreMarked, ArePaired, HaveMarks, IsNoted}
+use Rattle.window_rewrite.specs.Rules.{is_marked, is_shorter, AreMarked, HaveMarks, IsNoted}
 use Rattle.window_rewrite.specs.Shapes.{head_number, next_shape, shape_from, shape_of}
 use Rattle.window_rewrite.specs.declared.marks.Marks.{Marks}
 use Rattle.window_rewrite.specs.Fitting.{Shortens}
@@ -48,10 +48,6 @@ front_front (suc m) zero is h = absurd (omega arith)
 front_front (suc m) (suc n) [] h = refl
 front_front (suc m) (suc n) (i ∷ is) h = ap (λ js. i ∷ js) (front_front m n is (omega arith))
 
-front_all : (is : List Instr) → take (length is) is ≡ is
-front_all [] = refl
-front_all (i ∷ is) = ap (λ js. i ∷ js) (front_all is)
-
 -- the number of a front with one instruction more
 front_next : (shape at : ℕ) (is : List Instr) (i : Instr) → slice_get is at ≡ Some i → shape_from shape (take (suc at) is) ≡ next_shape (shape_from shape (take at is)) i
 front_next shape at [] i e = absurd (cc)
@@ -60,9 +56,6 @@ front_next shape (suc at) (x ∷ xs) i e = front_next (next_shape shape x) at xs
 
 pub front_more : (shape at : ℕ) (is : List Instr) (i : Instr) → slice_get is at ≡ Some i → shape ≡ shape_of (take at is) → next_shape shape i ≡ shape_of (take (at + 1) is)
 front_more shape at is i e s = ap (λ n. next_shape n i) s ∙ sym (front_next 0 at is i e) ∙ ap (λ n. shape_of (take n is)) (let one : suc at ≡ at + 1 = omega arith in one)
-
-pub front_whole : (shape at : ℕ) (is : List Instr) → at ≡ length is → shape ≡ shape_of (take at is) → shape ≡ shape_of is
-front_whole shape at is e s = s ∙ ap (λ n. shape_of (take n is)) e ∙ ap shape_of (front_all is)
 
 pub shorter_is : (rule : Rule) (registers : List Low) (window : List Instr) → Shortens rule registers window → is_shorter rule ≡ true
 shorter_is rule registers window s = lt-ltb (length rule.right) (length rule.left) s.shorter
@@ -91,27 +84,12 @@ mark_more old new side at shape kept here is a = λ b less. elim (cases_lt b at)
       )
 ]
 
--- with one instruction of a side more
-pub pair_more : (old new : List Bool) (side : List Instr) (at shape : ℕ) (i j : Instr) → ((q : ℕ) → is_marked old q ≡ true → is_marked new q ≡ true) → is_marked new shape ≡ true → 1 ≤ at → slice_get side (at - 1) ≡ Some i → slice_get side at ≡ Some j
-    → shape ≡ shape_of (i ∷ j ∷ []) → ArePaired old side at → ArePaired new side (at + 1)
-pair_more old new side at shape i j kept here some before behind is a = λ b x y less first second. elim (cases_lt (suc b) at) [
-  | inl l ↦ kept (shape_of (x ∷ y ∷ [])) (a b x y l first second)
-  | inr ge ↦ (
-      let last : b ≡ at - 1 = omega arith in
-      let next : suc b ≡ at = omega arith in
-      let one : x ≡ i = same_Some x i (sym first ∙ ap (slice_get side) last ∙ before) in
-      let other : y ≡ j = same_Some y j (sym second ∙ ap (slice_get side) next ∙ behind) in
-      ap (λ (z : Instr). is_marked new (shape_of (z ∷ y ∷ []))) one ∙ ap (λ (z : Instr). is_marked new (shape_of (i ∷ z ∷ []))) other ∙ ap (is_marked new) (sym is) ∙ here
-      )
-]
-
 -- what is marked stays so while marks come
 pub still_noted : (old new : Marks) (rule : Rule) → ((q : ℕ) → is_marked old.wholes.items q ≡ true → is_marked new.wholes.items q ≡ true) → ((q : ℕ) → is_marked old.fronts.items q ≡ true → is_marked new.fronts.items q ≡ true)
-    → ((q : ℕ) → is_marked old.pairs.items q ≡ true → is_marked new.pairs.items q ≡ true) → IsNoted old rule → IsNoted new rule
-still_noted old new rule wholes fronts pairs n = record {
+    → IsNoted old rule → IsNoted new rule
+still_noted old new rule wholes fronts n = record {
   whole = wholes (shape_of rule.left) n.whole;
   fronts = λ a w. fronts (shape_of (take (suc a) rule.left)) (n.fronts a w);
-  pairs = λ a i j w first second. pairs (shape_of (i ∷ j ∷ [])) (n.pairs a i j w first second);
 }
 
 -- where a front of a run isn't marked, no left side that stands first in the run is as long
@@ -139,15 +117,14 @@ pub stands_shape : (rule : Rule) (registers : List Low) (window : List Instr) �
 stands_shape rule registers window s = sym (shape_renamed registers 0 rule.left (map normal_of window) s.stands.matches)
 
 -- marks of no rules
-pub no_marks : (rules : List Rule) (marks : Marks) → length marks.wholes.items ≡ 65536 → length marks.fronts.items ≡ 65536 → length marks.pairs.items ≡ 65536 → HaveMarks rules 0 marks
-no_marks rules marks wholes fronts pairs = record { many_wholes = wholes; many_fronts = fronts; many_pairs = pairs; noted = λ k rule l at f. absurd (omega (arith, l)) }
+pub no_marks : (rules : List Rule) (marks : Marks) → length marks.wholes.items ≡ 65536 → length marks.fronts.items ≡ 65536 → HaveMarks rules 0 marks
+no_marks rules marks wholes fronts = record { many_wholes = wholes; many_fronts = fronts; noted = λ k rule l at f. absurd (omega (arith, l)) }
 
 -- one rule more that leaves as many
 pub same_marks : (rules : List Rule) (n : ℕ) (rule : Rule) (marks : Marks) → slice_get rules n ≡ Some rule → is_shorter rule ≡ false → HaveMarks rules n marks → HaveMarks rules (n + 1) marks
 same_marks rules n rule marks at f x = record {
   many_wholes = x.many_wholes;
   many_fronts = x.many_fronts;
-  many_pairs = x.many_pairs;
   noted = λ k own l here s. elim (cases_lt k n) [
     | inl m ↦ x.noted k own m here s
     | inr m ↦ absurd (
@@ -159,12 +136,11 @@ same_marks rules n rule marks at f x = record {
 }
 
 -- one that leaves fewer
-pub more_marks : (rules : List Rule) (n : ℕ) (rule : Rule) (old new : Marks) → slice_get rules n ≡ Some rule → HaveMarks rules n old → length new.wholes.items ≡ 65536 → length new.fronts.items ≡ 65536 → length new.pairs.items ≡ 65536
+pub more_marks : (rules : List Rule) (n : ℕ) (rule : Rule) (old new : Marks) → slice_get rules n ≡ Some rule → HaveMarks rules n old → length new.wholes.items ≡ 65536 → length new.fronts.items ≡ 65536
     → ((own : Rule) → IsNoted old own → IsNoted new own) → IsNoted new rule → HaveMarks rules (n + 1) new
-more_marks rules n rule old new at x wholes fronts pairs still here = record {
+more_marks rules n rule old new at x wholes fronts still here = record {
   many_wholes = wholes;
   many_fronts = fronts;
-  many_pairs = pairs;
   noted = λ k own l there s. elim (cases_lt k n) [
     | inl m ↦ still own (x.noted k own m there s)
     | inr m ↦ (

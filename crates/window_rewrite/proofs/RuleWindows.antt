@@ -1,13 +1,11 @@
--- What stands where a rule applies: instructions that give way in the kept sets, a gap of the cursor, a steady listing that stays so.
-use Rattle.std.proofs.Common.{◌≡◌, ℕ, suc, ◌+◌, ◌-◌, ◌<◌, ◌≤◌, ◌&&◌, Bool, true, List, [], ◌∷◌, length, take, drop, map, Some, refl, sym, ap, ◌∙◌, subst, ◌⊎◌, inl, inr, arith}
+-- What stands where a rule applies: instructions that give way in the kept sets, a gap in which labels stay code, a steady listing that stays so.
+use Rattle.std.proofs.Common.{◌≡◌, ℕ, suc, ◌+◌, ◌-◌, ◌<◌, ◌≤◌, ◌&&◌, Bool, true, List, [], ◌∷◌, length, take, drop, map, Some, refl, sym, ap, ◌∙◌, subst, ◌⊎◌, arith}
 use Rattle.std.specs.Prelude.{slice_get}
 use Rattle.std.specs.List.{list_all}
-use Rattle.std.proofs.lemmas.Bool.{cases_lt}
 use Rattle.thumb_instr.specs.declared.instr.Instr.{Instr}
 use Rattle.thumb_instr.specs.Renaming.{Low, renamed}
 use Rattle.thumb_instr.specs.Window.{is_in_window}
-use Rattle.thumb_model.specs.Listing.{plain, Label, Line, Code, code_of, places_of, labels_from, is_code, is_op_place}
-use Rattle.thumb_model.specs.Flow.{LiveAfter}
+use Rattle.thumb_model.specs.Listing.{Label, Line, Code, code_of, places_of, labels_from, is_code, is_op_place}
 use Rattle.thumb_model.specs.Replaced.{moved, move_label, replaced}
 use Rattle.thumb_model.specs.ReplacedLines.{replaced_lines}
 use Rattle.thumb_model.proofs.Lists.{length_map}
@@ -16,9 +14,8 @@ use Rattle.thumb_model.proofs.Window.{AreStraight}
 use Rattle.rule_model.specs.Rules.{Rule, IsSoundRule, Applies}
 use Rattle.rule_model.proofs.Table.{window_length, applies_sound}
 use Rattle.liveness.specs.Kept.{KeepsAt}
-use Rattle.line_cursor.specs.Cursors.{IsSettled}
-use Rattle.line_cursor.proofs.Settled.{left_places, before_window, AreCodeStill, IsGap, settled_stay, stay_settled}
-use Rattle.line_cursor.proofs.Nearer.{window_stays, first_op, window_within, moved_label}
+use Rattle.window_rewrite.proofs.Settled.{left_places, AreCodeStill, IsGap}
+use Rattle.window_rewrite.proofs.WindowPlaces.{first_op, window_within}
 use Rattle.steady_layout.specs.Steady.{IsSteady}
 use Rattle.steady_layout.proofs.Cuts.{cut}
 use Rattle.steady_layout.proofs.Laws.{twos_of, renamed_in, window_in, plain_of, cut_stays}
@@ -48,7 +45,7 @@ applies_keeps rule registers code p sound shorter a =
           (subst (λ c. is_code (replaced code p (length rule.left) (map (renamed registers) rule.right)).places (move_label p (length rule.left - c) l) ≡ true) (sym m) (a.labels_stay k l e t));
     }
 
--- ---- the cursor ----
+-- ---- the gap ----
 
 -- the gap of a rule that applies
 pub applied_gap : (rule : Rule) (registers : List Low) (code : Code) (p : ℕ) → length rule.right < length rule.left → Applies rule registers code p → IsGap code.places code.labels p (length rule.left) (map (renamed registers) rule.right)
@@ -67,56 +64,6 @@ pub applied_stay : (rule : Rule) (registers : List Low) (code : Code) (p : ℕ) 
 applied_stay rule registers code p a k l e h =
     let m = length_map (renamed registers) rule.right in
     subst (λ n. is_op_place (slice_get (left_places p (length rule.left) (map (renamed registers) rule.right) code.places) (moved p (length rule.left - n) l.place)) ≡ true) (sym m) (a.labels_stay k l e h)
-
--- an entry that applies from q on, before a gap at p, in what is left there, applied there before
-pub applied_before : (rule : Rule) (registers : List Low) (code : Code) (p count : ℕ) (is : List Instr) (q : ℕ) → IsGap code.places code.labels p count is → q + length rule.left ≤ p
-    → ((x : ℕ) → LiveAfter code (q + length rule.left - 1) x → LiveAfter (replaced code p count is) (q + length rule.left - 1) x)
-    → length rule.right < length rule.left → Applies rule registers (replaced code p count is) q → Applies rule registers code q
-applied_before rule registers code p count is q g far live shorter a =
-    let new : Code = replaced code p count is in
-    let right : List Instr = map (renamed registers) rule.right in
-    let m = length_map (renamed registers) rule.right in
-    let within = g.within in
-    let gap = applied_gap rule registers new q shorter a in
-    let settled = stay_settled new.places new.labels q (length rule.left) right gap (applied_stay rule registers new q a) in
-    let stands : take (length rule.left) (drop q code.places) ≡ map plain a.window = sym (window_stays p count is code.places q (length rule.left) (omega arith) far) ∙ a.stands in
-    let unlabelled : (k : ℕ) (l : Label) → slice_get code.labels k ≡ Some l → (l.place ≤ q) ⊎ (q + length rule.left ≤ l.place) =
-    λ k l e. clear (l.place) (a.unlabelled k (move_label p (count - length is) l) (moved_label p (count - length is) code.labels k l e)) in
-    let n = window_length rule registers new q a in
-    let old : IsGap code.places code.labels q (length rule.left) right = record {
-      within = omega arith;
-      shorter = gap.shorter;
-      first = first_op a.window (length rule.left) code.places q n (omega arith) stands;
-      unlabelled = unlabelled;
-    } in
-    let stay = settled_stay code.places code.labels q (length rule.left) right old (was_settled settled) in
-    record {
-      as_many = a.as_many;
-      one_to_one = a.one_to_one;
-      window = a.window;
-      stands = stands;
-      matches = a.matches;
-      unlabelled = unlabelled;
-      live = λ x h. a.live x (live x h);
-      labels_stay = λ k l e h. subst (λ n. is_op_place (slice_get (left_places q (length rule.left) right code.places) (moved q (length rule.left - n) l.place)) ≡ true) m (stay k l e h);
-    }
-  where
-    clear : (x : ℕ) → (moved p (count - length is) x ≤ q) ⊎ (q + length rule.left ≤ moved p (count - length is) x) → (x ≤ q) ⊎ (q + length rule.left ≤ x)
-    clear x h = elim (cases_lt p x) [
-      | inl b ↦ inr (omega arith)
-      | inr b ↦ (let same : moved p (count - length is) x ≡ x = omega arith in elim h [ inl c ↦ inl (omega arith) | inr c ↦ inr (omega arith) ])
-    ]
-
-    was_settled : IsSettled (replaced code p count is).places (replaced code p count is).labels q (length rule.left) (map (renamed registers) rule.right)
-        → IsSettled code.places code.labels q (length rule.left) (map (renamed registers) rule.right)
-    was_settled (inl s) = inl s
-    was_settled (inr (inl s)) = elim (cases_lt (q + length rule.left) p) [
-      | inl b ↦ (let w = g.within in inr (inl (sym (ap is_op_place (before_window p count is code.places (q + length rule.left) (omega arith) b)) ∙ s)))
-      | inr b ↦ (let same : q + length rule.left ≡ p = omega arith in inr (inl (ap (λ r. is_op_place (slice_get code.places r)) same ∙ g.first)))
-    ]
-    was_settled (inr (inr s)) = inr (inr (λ k l e here.
-        let same : moved p (count - length is) l.place ≡ q = omega arith in
-        s k (move_label p (count - length is) l) (moved_label p (count - length is) code.labels k l e) same))
 
 -- ---- steady listings ----
 

@@ -62,6 +62,7 @@ pub record IsChoice (s : Setting) (lines : List Line) (c : Choice) : Type 0 wher
   pub is_window : IsWindow lines (choice_of c).place c.window
   pub keeps : KeepsAt (code_of lines) (choice_of c).place c.window c.new
   pub leaves : replaced_lines s.write (choice_of c).place (length c.window) c.new lines ≡ lines_after s (choice_of c) lines
+  pub long : length c.window ≡ left_length s (choice_of c)
 
 -- of the choices at a place by left sides of so many instructions it has the lowest entry
 pub record IsLowest (s : Setting) (lines : List Line) (place count : ℕ) (c : Choice) : Type 0 where
@@ -93,14 +94,6 @@ pub record IsFirstChoice (s : Setting) (lines : List Line) (c : Choice) : Type 0
 -- none does before the place
 abbrev pub NoneBefore : Bool → Setting → List Line → ℕ → Type 0
 NoneBefore asked s lines place = (o : Replacement) → Meets asked s o lines → o.place < place → ⊥
-
--- no entry fits a window that ends at the place or before it
-abbrev pub NoneEnding : Setting → List Line → ℕ → Type 0
-NoneEnding s lines place = (o : Replacement) → FitsIn s o lines → o.place + left_length s o ≤ place → ⊥
-
--- none fits a window that begins before the place and goes on there
-abbrev pub NoneAcross : Setting → List Line → ℕ → Type 0
-NoneAcross s lines place = (o : Replacement) → FitsIn s o lines → o.place < place → place < o.place + left_length s o → ⊥
 
 -- ---- how many rules there are ----
 

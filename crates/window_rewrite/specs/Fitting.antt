@@ -1,14 +1,22 @@
 -- Whether a rule may be used on a window.
-use Rattle.std.specs.Prelude.{◌≡◌, ℕ, ◌<◌, ◌||◌, ◌&&◌, not, nat_lt, Bool, true, false, List, length, map, take, Some, slice_get, ◌⊎◌}
+use Rattle.std.specs.Prelude.{◌≡◌, ℕ, ◌+◌, ◌-◌, ◌<◌, ◌↔◌, ◌||◌, ◌&&◌, not, nat_lt, Bool, true, false, List, length, map, take, Some, slice_get, ◌⊎◌}
 use Rattle.thumb_instr.specs.declared.instr.Instr.{Instr}
 use Rattle.thumb_instr.specs.Items.{has}
 use Rattle.thumb_instr.specs.Renaming.{Low, renamed, item_under}
+use Rattle.thumb_model.specs.Flow.{LiveAfter}
 use Rattle.thumb_model.specs.Items.{one_of}
+use Rattle.thumb_model.specs.Listing.{Line, code_of}
 use Rattle.rule_model.specs.Rules.{Rule, rule_registers, IsSoundRule}
 use Rattle.thumb_model.specs.Sides.{IsOneToOne, register_count, normalised}
 use Rattle.table_audit.specs.Sides.{IsCanonicalSide}
+use Rattle.window_runs.specs.Windows.{IsWindow}
 use Rattle.window_rewrite.specs.declared.forms.Form.{Form}
 use Rattle.window_rewrite.specs.Forms.{form_of}
+
+-- the instructions are a window at the place, after which these items are live
+pub record StandsThere (lines : List Line) (place : ℕ) (window : List Instr) (items : ℕ) : Type 0 where
+  pub is_window : IsWindow lines place window
+  pub live : (x : ℕ) → (has items x ≡ true) ↔ LiveAfter (code_of lines) (place + length window - 1) x
 
 -- the window, normal, is the rule's left side under the map, which is one to one
 pub record Stands (rule : Rule) (registers : List Low) (window : List Instr) : Type 0 where

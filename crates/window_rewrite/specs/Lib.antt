@@ -6,3 +6,6 @@ pub mod Rules
 pub mod Fitting
 pub mod Choices
 pub mod Sweeps
+pub mod Scenes
+pub mod Settled
+pub mod Due

@@ -46,10 +46,10 @@ IsRefusal base lines error.Memory = Unit {0}
 abbrev pub visits : ℕ → ℕ
 visits places = (19 * places + 1) * places
 
--- how many matches are tried and places visited for one replacement, in a listing of so many places by a table of so many entries
+-- how many matches are tried for one replacement, in a listing of so many places by a table of so many entries
 abbrev pub round_cost : ℕ → ℕ → ℕ
-round_cost places entries = places * entries + visits places
+round_cost places entries = places * entries
 
--- the cost of some replacements, and of finding that there is no more
+-- the cost of some replacements, and of finding that there is no more: the matches, and the visits for the live items of the given lines
 abbrev pub rewriting_cost : List Line → List Rule → ℕ → ℕ
-rewriting_cost lines rules replacements = (replacements + 1) * round_cost (length (places_of lines)) (length rules)
+rewriting_cost lines rules replacements = (replacements + 1) * round_cost (length (places_of lines)) (length rules) + visits (length (places_of lines))

@@ -55,21 +55,15 @@ is_marked marks k = is_true (slice_get marks k)
 abbrev pub AreMarked : List Bool → List Instr → ℕ → Type 0
 AreMarked marks side count = (at : ℕ) → at < count → is_marked marks (shape_of (take (suc at) side)) ≡ true
 
--- the numbers of each two neighbours among so many instructions of a side are marked
-abbrev pub ArePaired : List Bool → List Instr → ℕ → Type 0
-ArePaired marks side count = (at : ℕ) (i j : Instr) → suc at < count → slice_get side at ≡ Some i → slice_get side (suc at) ≡ Some j → is_marked marks (shape_of (i ∷ j ∷ [])) ≡ true
-
 -- the left side of the rule is marked
 pub record IsNoted (marks : Marks) (rule : Rule) : Type 0 where
   pub whole : is_marked marks.wholes.items (shape_of rule.left) ≡ true
   pub fronts : AreMarked marks.fronts.items rule.left (length rule.left)
-  pub pairs : ArePaired marks.pairs.items rule.left (length rule.left)
 
 -- those of the first n rules are that leave fewer instructions
 pub record HaveMarks (rules : List Rule) (n : ℕ) (marks : Marks) : Type 0 where
   pub many_wholes : length marks.wholes.items ≡ 65536
   pub many_fronts : length marks.fronts.items ≡ 65536
-  pub many_pairs : length marks.pairs.items ≡ 65536
   pub noted : (k : ℕ) (rule : Rule) → k < n → slice_get rules k ≡ Some rule → is_shorter rule ≡ true → IsNoted marks rule
 
 -- ---- shadows ----

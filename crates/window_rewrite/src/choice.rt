@@ -35,28 +35,19 @@ pub(crate) struct Choice {
     pub(crate) moved: Move,
 }
 
-/// What a search found.
-#[derive(Drop)]
-pub(crate) struct Found {
-    pub(crate) choice: Choice,
-    /// No entry fits before this place, whatever the layout says.
-    pub(crate) clear: usize,
-}
-
-impl Found {
+impl Choice {
     ghost use Rattle.std.specs.Prelude.{◌≡◌};
 
-    /// The replacement that was found.
+    /// The replacement.
     pub(crate) fn into_replacement(self) -> Replacement
-        ensures { result ≡ self.choice.replacement }
+        ensures { result ≡ self.replacement }
     {
-        let Found { choice, clear: _ } = self;
         let Choice {
             replacement,
             window: _window,
             new: _new,
             moved: _moved,
-        } = choice;
+        } = self;
         replacement
     }
 }

@@ -1,7 +1,6 @@
 //! What a sweep knows of the layouts of its lines.
 
 use kept_layout::{KeptLayout, Move};
-use line_cursor::Cursor;
 use listing_parser::{Listing, Memory};
 use std::alloc::Global;
 use thumb_instr::Instr;
@@ -19,9 +18,9 @@ impl Ground {
     ghost use Rattle.thumb_model.specs.Listing.{Line as Listed};
     ghost use Rattle.thumb_model.specs.ReplacedLines.{replaced_lines};
     ghost use Rattle.listing_parser.specs.Parsing.{own_line};
-    ghost use Rattle.line_cursor.specs.Cursors.{lines_at, place_at};
     ghost use Rattle.kept_layout.specs.Kept.{IsLaid};
     ghost use Rattle.window_rewrite.specs.Sweeps.{is_steady, Allows, HasLayout, StandsNear};
+    ghost use Rattle.window_runs.specs.Windows.{IsWindow};
 
     /// The layout of a listing that can be laid out from the base, where that is not `steady`. It stands at the first place.
     pub(crate) fn of(
@@ -54,21 +53,19 @@ impl Ground {
         }
     }
 
-    /// Lets a window right behind a cursor give way to fewer instructions, by which the layout moves so, and which leaves lines that can be laid out. It stands at the
-    /// window's place.
+    /// Lets a window at which it stands give way to fewer instructions, by which the layout moves so, and which leaves lines that can be laid out.
     pub(crate) fn give_way(
         &mut self,
-        cursor: &Cursor,
         window: &[Instr],
         new: &[Instr],
         moved: &Move,
     ) -> Result<(), Memory>
-        requires { Allows self.old cursor.now window.now new.now moved.now }
+        requires { Allows self.old window.now new.now moved.now }
         ensures steady { OnOk result (is_steady self.new ≡ is_steady self.old) }
-        ensures layout { OnOk result ((base : ℕ) → HasLayout base self.old (lines_at cursor.now) → HasLayout base self.new (replaced_lines own_line (place_at cursor.now) (length window.now) new.now (lines_at cursor.now))) }
+        ensures layout { OnOk result ((base : ℕ) (lines : List Listed) (place : ℕ) → HasLayout base self.old lines → StandsNear self.old place → IsWindow lines place window.now → HasLayout base self.new (replaced_lines own_line place (length window.now) new.now lines)) }
     {
         if let Some(kept) = &mut self.kept {
-            kept.give_way(cursor, window, new, moved)?;
+            kept.give_way(window, new, moved)?;
         }
         Ok(())
     }

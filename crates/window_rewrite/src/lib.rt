@@ -6,30 +6,28 @@
 //! that is, but for chance, and of these only such as have the items in their mask that are live. An entry is left out where an earlier one has its left side, its
 //! mask and a right side as long, and needs a scratch register only if it does. A scratch register is looked for last, by what is live after the window.
 //!
-//! A sweep goes over the listing by a cursor that keeps the live items of all places. Where items are live no more in straight code before a replacement, it
-//! puts in the new sets; where more come to be live, it carries them back along all ways. It goes back to the first place whose sets changed, and further only
-//! where a left side may stand in a window that reaches across that place. Where the layout refused an entry that fits, it goes back at least to there. It ends
-//! where items may be live no more elsewhere; then another begins.
+//! The listing keeps the numbers of its places while windows give way, and with them what is live before each and, where that has to be asked, its layout. Places
+//! are looked at in ascending order while they are due: all of them at first, and after a replacement those whose windows reach into it, those whose windows end
+//! where items are live no more, and those at which the layout refused an entry that fits.
 #![tactic(auto)]
 
 mod chains;
 mod choice;
+mod due;
 mod errors;
 mod finding;
 mod fitting;
 mod forms;
 mod ground;
-mod growing;
 mod index;
 mod items;
-mod making;
 mod marks;
 mod replacing;
 mod rewriting;
+mod scene;
 mod scratch;
 mod shadows;
 mod shapes;
-mod sweeping;
 
 pub use choice::{Replacement, Rewritten};
 pub use errors::RewriteError;

@@ -1,11 +1,11 @@
 //! Marks of numbers that left sides share with all that differ from them in registers alone.
 ghost use Rattle.std.specs.Prelude.{◌≡◌, ◌+◌, ◌<◌, ℕ, length, slice_get, Some, true, IfOk};
 ghost use Rattle.rule_model.specs.Rules.{Rule};
-ghost use Rattle.window_rewrite.specs.Rules.{entry_rule, is_marked, is_shorter, rules_in, AreMarked, ArePaired, HaveMarks};
+ghost use Rattle.window_rewrite.specs.Rules.{entry_rule, is_marked, is_shorter, rules_in, AreMarked, HaveMarks};
 ghost use Rattle.window_rewrite.specs.Shapes.{shape_of};
 
 use crate::shadows::is_shorter;
-use crate::shapes::{SHAPES, next_shape, pair_shape};
+use crate::shapes::{SHAPES, next_shape};
 use listing_parser::Memory;
 use rule_table::Entry;
 use std::alloc::Global;
@@ -18,8 +18,6 @@ pub(crate) struct Marks {
     wholes: Vec<bool>,
     /// Whether one may begin with instructions that have it.
     fronts: Vec<bool>,
-    /// Whether two instructions that have it may stand in one, one behind the other.
-    pairs: Vec<bool>,
 }
 
 /// Marks a number.
@@ -50,18 +48,6 @@ pub(crate) fn mark_fronts(marks: &mut Vec<bool>, left: &[Instr]) -> usize
     shape
 }
 
-/// Marks the numbers of each two neighbours in a left side.
-pub(crate) fn mark_pairs(marks: &mut Vec<bool>, left: &[Instr])
-    requires { length marks.old.items ≡ 65536 }
-    ensures many { length marks.new.items ≡ 65536 }
-    ensures kept { (q : ℕ) → is_marked marks.old.items q ≡ true → is_marked marks.new.items q ≡ true }
-    ensures pairs { ArePaired marks.new.items left.now (length left.now) }
-{
-    for at in 1..left.len() {
-        mark(marks, pair_shape(&left[at - 1], &left[at]));
-    }
-}
-
 impl Marks {
     /// The marks of these entries.
     pub(crate) fn of(alloc: Global, entries: &[Entry]) -> Result<Marks, Memory>
@@ -70,7 +56,6 @@ impl Marks {
         let mut marks = Marks {
             wholes: vec![in alloc; false; SHAPES]?,
             fronts: vec![in alloc; false; SHAPES]?,
-            pairs: vec![in alloc; false; SHAPES]?,
         };
         for number in 0..entries.len() {
             marks.add(entries, number);
@@ -90,7 +75,6 @@ impl Marks {
         let left = entries[number].left.as_slice();
         let shape = mark_fronts(&mut self.fronts, left);
         mark(&mut self.wholes, shape);
-        mark_pairs(&mut self.pairs, left);
     }
 
     /// Whether some left side may have this number.
@@ -109,14 +93,5 @@ impl Marks {
         ensures { result ≡ is_marked self.now.fronts.items shape }
     {
         self.fronts[shape]
-    }
-
-    /// Whether two instructions of this number, one behind the other, may stand in some left side.
-    pub(crate) fn has_pair(&self, shape: usize) -> bool
-        requires many { length self.now.pairs.items ≡ 65536 }
-        requires small { shape < 65536 }
-        ensures { result ≡ is_marked self.now.pairs.items shape }
-    {
-        self.pairs[shape]
     }
 }

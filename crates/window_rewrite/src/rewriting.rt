@@ -14,15 +14,27 @@ ghost use Rattle.window_rewrite.specs.Choices.{setting_of, AreReady};
 ghost use Rattle.window_rewrite.specs.Sweeps.{IsSteadyIf};
 
 use crate::choice::Rewritten;
+use crate::due::go_through;
 use crate::errors::RewriteError;
 use crate::finding::Rules;
 use crate::index::Index;
-use crate::sweeping::{Swept, is_steady_from, sweep};
+use crate::scene::Scene;
 use label_layout::layout;
 use listing_parser::{Listing, Memory};
 use std::alloc::Global;
+use steady_layout::is_steady;
 use step_ledger::{Ledger, Steps};
 use table_audit::Audited;
+
+/// Whether each listing that comes of this one by replacements can surely be laid out from the base.
+fn is_steady_from(alloc: Global, listing: &Listing, base: u32) -> Result<bool, Memory>
+    ensures { IfOk result (IsSteadyIf base listing.now) }
+{
+    if base % 4 != 0 {
+        return Ok(false);
+    }
+    is_steady(alloc, listing, base)
+}
 
 /// Whether each listing that comes of this one by replacements can surely be laid out. A listing that cannot be laid out itself is refused.
 fn judge(alloc: Global, listing: &Listing, base: u32) -> Result<bool, RewriteError>
@@ -85,23 +97,11 @@ fn rewritten<L: Ledger>(
     ensures cost { IfOk result (λ new. steps.new ≤ steps.old + rewriting_cost listing (rules_in rules.now.entries.now) (length new.replacements.items)) }
     ensures rises { IfOk result (λ new. RisesByAtLeast steps.old steps.new (length (places_of listing) + length new.replacements.items)) }
 {
-    let mut current = listing;
-    let mut replacements = Vec::new(alloc);
-    loop {
-        let Swept { listing, is_done } = sweep(
-            alloc,
-            rules,
-            current,
-            steady,
-            &mut replacements,
-            steps,
-        )?;
-        if is_done {
-            return Ok(Rewritten {
-                listing,
-                replacements,
-            });
-        }
-        current = listing;
-    }
+    let mut scene = Scene::of(alloc, rules, listing, steady, steps)?;
+    let replacements = go_through(alloc, rules, &mut scene, steps)?;
+    let listing = scene.listing.into_listing(alloc)?;
+    Ok(Rewritten {
+        listing,
+        replacements,
+    })
 }

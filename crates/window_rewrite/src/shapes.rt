@@ -1,5 +1,5 @@
 //! Numbers that instructions share with all that differ from them in registers alone.
-ghost use Rattle.std.specs.Prelude.{◌≡◌, ◌<◌, ◌∷◌, [], map};
+ghost use Rattle.std.specs.Prelude.{◌≡◌, ◌<◌, map};
 ghost use Rattle.thumb_instr.specs.Window.{normal_of};
 ghost use Rattle.window_rewrite.specs.Shapes.{head_number, next_shape, number_in, shape_of};
 
@@ -38,14 +38,6 @@ pub(crate) fn next_shape(shape: usize, instr: &Instr) -> usize
     ensures small { result < 65536 }
 {
     (shape * 1283 + head_number(instr)) % SHAPES
-}
-
-/// The number of two instructions one behind the other.
-pub(crate) fn pair_shape(first: &Instr, second: &Instr) -> usize
-    ensures value { result ≡ shape_of (first.now ∷ second.now ∷ []) }
-    ensures small { result < 65536 }
-{
-    next_shape(next_shape(0, first), second)
 }
 
 /// The number of a window's instructions, each in its normal form.

@@ -1,16 +1,16 @@
 use Rattle.std.proofs.Common.{◌≡◌, true}
-use Rattle.line_cursor.specs.Cursors.{lines_at, place_at}
 use Rattle.step_ledger.specs.Counts.{RisesByAtLeast}
 use Rattle.window_rewrite.specs.Rules.{rules_in}
+use Rattle.window_rewrite.specs.Scenes.{lines_seen, number_seen}
 use Rattle.window_rewrite.proofs.Chosen.{IsSearch, left_of}
 use Rattle.window_rewrite.proofs.finding.lowest_by.Given as goal
 
 abbrev pub invariant-loop-at : goal.invariant-loop-at
 invariant-loop-at g l = record {
-  search : IsSearch l.refused l.rules.base (rules_in l.rules.entries.now) l.rules.index.now.chains.kept.items (lines_at l.cursor) (place_at l.cursor) l.window l.at l.initial.steps l.steps;
+  search : IsSearch l.refused l.look.rules.now.base (rules_in l.look.rules.now.entries.now) l.look.rules.now.index.now.chains.kept.items (lines_seen l.look) (number_seen l.look) l.window l.at l.initial.steps l.steps;
   stays : l.initial.refused ≡ true → l.refused ≡ true;
   rises : RisesByAtLeast l.initial.steps l.steps 0;
 }
 
 abbrev pub decreases-loop-at : goal.decreases-loop-at
-decreases-loop-at g l = left_of (rules_in l.rules.entries.now) l.at
+decreases-loop-at g l = left_of (rules_in l.look.rules.now.entries.now) l.at

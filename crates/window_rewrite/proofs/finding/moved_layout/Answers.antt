@@ -5,9 +5,10 @@ use Rattle.thumb_model.specs.Layout.{Layable}
 use Rattle.thumb_model.specs.Listing.{Line}
 use Rattle.thumb_model.specs.ReplacedLines.{replaced_lines}
 use Rattle.listing_parser.specs.Parsing.{own_line}
-use Rattle.line_cursor.specs.Cursors.{lines_at, place_at}
-use Rattle.kept_layout.specs.Kept.{Lays}
+use Rattle.window_runs.specs.Windows.{IsWindow}
+use Rattle.kept_layout.specs.Kept.{IsNear, Lays}
 use Rattle.kept_layout.specs.declared.shrinking.Move.{Move}
+use Rattle.window_rewrite.specs.Scenes.{lines_seen, number_seen}
 use Rattle.window_rewrite.specs.Sweeps.{is_steady}
 use Rattle.window_rewrite.proofs.finding.moved_layout.Goals as goal
 
@@ -18,14 +19,20 @@ returns-in-None-clause-layable c = (λ _ f. absurd (true≢false (sym (ap (λ o.
 told : (b steady : Bool) (base other : ℕ) (left : List Line) → steady ≡ false → base ≡ other → ((b ≡ true) ↔ Layable base left) → ((b ≡ true) ↔ (steady ≡ false → Layable other left))
 told b steady base other left f e h = (λ t _. subst (λ k. Layable k left) e (h.0 t), λ q. h.1 (subst (λ k. Layable k left) (sym e) (q f)))
 
-pub may_give_way-requires-clause-lays : goal.may_give_way-requires-clause-lays
-may_give_way-requires-clause-lays c = let h : (c.in-Some.kept.base ≡ c.args.rules.now.base) × Lays c.in-Some.kept (lines_at c.args.cursor.now) = rw c.in-Some.is at c.requires.over.over.layout in h.1
-
-pub may_give_way-requires-clause-near : goal.may_give_way-requires-clause-near
-may_give_way-requires-clause-near c = rw c.in-Some.is at c.requires.over.near
+pub may_give_way-requires-clause-stands : goal.may_give_way-requires-clause-stands
+may_give_way-requires-clause-stands c =
+    let laid : (c.in-Some.kept.base ≡ c.args.look.now.rules.now.base) × Lays c.in-Some.kept (lines_seen c.args.look.now) = rw c.in-Some.is at c.requires.look.over.over.layout in
+    let near : IsNear c.in-Some.kept (number_seen c.args.look.now) = rw c.in-Some.is at c.requires.look.near in
+    record { lines = lines_seen c.args.look.now; place = number_seen c.args.look.now; lays = laid.1; near = near; is_window = c.requires.window }
 
 pub returns-in-Some-clause-layable : goal.returns-in-Some-clause-layable
 returns-in-Some-clause-layable c =
-    let h : (c.in-Some.kept.base ≡ c.args.rules.now.base) × Lays c.in-Some.kept (lines_at c.args.cursor.now) = rw c.in-Some.is at c.requires.over.over.layout in
-    let left : List Line = replaced_lines own_line (place_at c.args.cursor.now) (length c.args.window.now) c.args.new.now (lines_at c.args.cursor.now) in
-    IfOk-weaker _ _ _ (λ (o : Option Move) (t : (is_some o ≡ true) ↔ Layable c.in-Some.kept.base left). told (is_some o) (is_steady c.args.ground.now) c.in-Some.kept.base c.args.rules.now.base left (ap (λ o. not (is_some o)) c.in-Some.is) h.0 t) c.may_give_way.ensures.layable
+    let lines : List Line = lines_seen c.args.look.now in
+    let place : ℕ = number_seen c.args.look.now in
+    let laid : (c.in-Some.kept.base ≡ c.args.look.now.rules.now.base) × Lays c.in-Some.kept lines = rw c.in-Some.is at c.requires.look.over.over.layout in
+    let near : IsNear c.in-Some.kept place = rw c.in-Some.is at c.requires.look.near in
+    let left : List Line = replaced_lines own_line place (length c.args.window.now) c.args.new.now lines in
+    IfOk-weaker _ _ _
+    (λ (o : Option Move) (t : (ls : List Line) (p : ℕ) → Lays c.in-Some.kept ls → IsNear c.in-Some.kept p → IsWindow ls p c.args.window.now → (is_some o ≡ true) ↔ Layable c.in-Some.kept.base (replaced_lines own_line p (length c.args.window.now) c.args.new.now ls)).
+    told (is_some o) (is_steady c.args.look.now.scene.now.ground) c.in-Some.kept.base c.args.look.now.rules.now.base left (ap (λ k. not (is_some k)) c.in-Some.is) laid.0 (t lines place laid.1 near c.requires.window))
+    c.may_give_way.ensures.layable

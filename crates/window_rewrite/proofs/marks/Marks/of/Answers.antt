@@ -5,8 +5,7 @@ use Rattle.window_rewrite.proofs.marks.Marks.of.Goals as goal
 
 pub loop-number-init : goal.loop-number-init
 loop-number-init c =
-    no_marks (rules_in c.args.entries.now) (record { wholes = c.in_ok-vec.field-0; fronts = c.in_ok-vec-2.field-0; pairs = c.in_ok-vec-3.field-0 }) (sym c.in_ok-vec.field-0.ok.0 ∙ c.in_ok-vec.ensures.len) (sym c.in_ok-vec-2.field-0.ok.0 ∙ c.in_ok-vec-2.ensures.len)
-    (sym c.in_ok-vec-3.field-0.ok.0 ∙ c.in_ok-vec-3.ensures.len)
+    no_marks (rules_in c.args.entries.now) (record { wholes = c.in_ok-vec.field-0; fronts = c.in_ok-vec-2.field-0 }) (sym c.in_ok-vec.field-0.ok.0 ∙ c.in_ok-vec.ensures.len) (sym c.in_ok-vec-2.field-0.ok.0 ∙ c.in_ok-vec-2.ensures.len)
 
 pub returns : goal.returns
 returns c =

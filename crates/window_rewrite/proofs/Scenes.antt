@@ -1,0 +1,321 @@
+-- What is known of a listing that is rewritten: at first, at a site, and where a window gives way.
+use Rattle.std.proofs.Common.{◌≡◌, ◌↔◌, ℕ, zero, suc, ◌+◌, ◌-◌, ◌<◌, ◌≤◌, ◌||◌, not, Bool, true, false, List, [], ◌∷◌, length, take, drop, get_or, replicate, Option, Some, None, refl, sym, ap, ◌∙◌, subst, ◌⊎◌, inl, inr, arith, true≢false}
+use Rattle.std.specs.Prelude.{slice_get, IfSome}
+use Rattle.std.specs.Option.{option_map}
+use Rattle.std.specs.List.{list_all}
+use Rattle.std.proofs.lemmas.Bool.{and_parts}
+use Rattle.std.proofs.lemmas.Option.{slice_get-map, slice_get_past}
+use Rattle.thumb_instr.specs.declared.instr.Instr.{Instr}
+use Rattle.thumb_instr.specs.Items.{has}
+use Rattle.thumb_instr.specs.Window.{is_in_window}
+use Rattle.thumb_model.specs.Listing.{Place, plain, Label, Line, Code, is_op_place, code_of, places_of, labels_from}
+use Rattle.thumb_model.specs.Flow.{Reads, LiveAfter}
+use Rattle.thumb_model.specs.Layout.{Layable}
+use Rattle.thumb_model.specs.ReplacedLines.{replaced_lines}
+use Rattle.thumb_model.proofs.Lists.{get_drop, get_take, length_map, present_at}
+use Rattle.thumb_model.proofs.Lists.{take_all as take_many}
+use Rattle.thumb_model.proofs.LinesReplaced.{before, outside_of}
+use Rattle.rule_model.specs.Rules.{Rule}
+use Rattle.rule_model.specs.Rewriting.{Setting, Replacement, AppliesIn, lines_after_rule, lines_after}
+use Rattle.listing_parser.specs.Parsing.{own_line}
+use Rattle.liveness.specs.Kept.{KeepsAt}
+use Rattle.liveness.specs.Live.{word_of, set_at}
+use Rattle.liveness.proofs.Paths.{has_zero}
+use Rattle.steady_layout.specs.Steady.{IsSteady}
+use Rattle.steady_layout.proofs.Cuts.{AreTwos, cut}
+use Rattle.steady_layout.proofs.Laws.{twos_of, plain_of, cut_stays}
+use Rattle.window_runs.specs.Windows.{IsWindow}
+use Rattle.window_runs.specs.Rows.{rows_from}
+use Rattle.window_runs.specs.Runs.{run}
+use Rattle.window_runs.proofs.Joined.{run_window}
+use Rattle.kept_places.specs.Marks.{is_gone, rank}
+use Rattle.padded_code.specs.Padding.{IsPadded}
+use Rattle.padded_code.specs.Exchange.{marks_after, exchanged}
+use Rattle.padded_code.specs.Windows.{AreRanked}
+use Rattle.padded_code.proofs.Padded.{place_kept}
+use Rattle.padded_code.proofs.Exchanged.{whole_padded}
+use Rattle.padded_code.proofs.Windows.{live_behind}
+use Rattle.edited_listing.specs.declared.standing.Standing.TheVariants as standing
+use Rattle.edited_listing.specs.Changes.{is_none, marks_of}
+use Rattle.edited_listing.specs.Edited.{Edited, lines_now, marks, padded, standing_places, unchanged}
+use Rattle.edited_listing.specs.Known.{HasLabelAt}
+use Rattle.kept_layout.specs.Kept.{Lays}
+use Rattle.kept_live.specs.Parts.{Parts}
+use Rattle.kept_live.specs.KeptLive.{IsKeptLive}
+use Rattle.kept_live.specs.Window.{GivesWay}
+use Rattle.window_rewrite.specs.declared.choice.Choice.{Choice}
+use Rattle.window_rewrite.specs.declared.finding.Rules.{Rules}
+use Rattle.window_rewrite.specs.declared.ground.Ground.{Ground}
+use Rattle.window_rewrite.specs.Choices.{setting_of, choice_of, IsChoice}
+use Rattle.window_rewrite.specs.Settled.{IsSettled}
+use Rattle.window_rewrite.specs.Sweeps.{is_steady, Allows, AreOver, HasLayout, IsSteadyIf, Moves, StandsNear}
+use Rattle.window_rewrite.proofs.ScenesWindows.{gives_way, many_marks, many_places, ranked_at, ranked_front, still_padded}
+
+-- ---- at first ----
+
+none_gone : (n p : ℕ) → is_gone (marks_of (replicate n standing.Given)) p ≡ false
+none_gone zero p = refl
+none_gone (suc n) zero = refl
+none_gone (suc n) (suc p) = none_gone n p
+
+as_given : (xs : List Place) → standing_places (replicate (length xs) standing.Given) xs ≡ xs
+as_given [] = refl
+as_given (x ∷ xs) = ap (λ ys. x ∷ ys) (as_given xs)
+
+many_given : (n : ℕ) → length (replicate n standing.Given) ≡ n
+many_given zero = refl
+many_given (suc n) = ap suc (many_given n)
+
+-- a listing of which nothing is changed has all its places
+pub first_many : (lines : List Line) (e : Edited) → e ≡ unchanged lines → length e.stands ≡ length (places_of lines)
+first_many lines e h = ap (λ (e : Edited). length e.stands) h ∙ many_given (length (places_of lines))
+
+-- none is gone
+pub first_none_gone : (lines : List Line) (e : Edited) → e ≡ unchanged lines → (p : ℕ) → is_gone (marks e) p ≡ false
+first_none_gone lines e h p = ap (λ (e : Edited). is_gone (marks e) p) h ∙ none_gone (length (places_of lines)) p
+
+-- and the code of all places is its code
+pub first_code : (lines : List Line) (e : Edited) → e ≡ unchanged lines → padded e ≡ code_of lines
+first_code lines e h = ap padded h ∙ ap (λ (ps : List Place). record { places = ps; labels = labels_from 0 lines }) (as_given (places_of lines))
+
+pub first_padded : (lines : List Line) (e : Edited) → e ≡ unchanged lines → lines_now e ≡ lines → IsPadded (marks e) (padded e) (code_of (lines_now e))
+first_padded lines e h same =
+    subst (λ (ls : List Line). IsPadded (marks e) (padded e) (code_of ls)) (sym same)
+    (subst (λ (c : Code). IsPadded (marks e) c (code_of lines)) (sym (first_code lines e h)) (whole_padded (marks e) (code_of lines) (first_none_gone lines e h)))
+
+pub first_as_many : (lines : List Line) (e : Edited) → e ≡ unchanged lines → length (marks e) ≡ length (padded e).places
+first_as_many lines e h = length_map is_none e.stands ∙ first_many lines e h ∙ sym (ap (λ (c : Code). length c.places) (first_code lines e h))
+
+pub first_live : (lines : List Line) (e : Edited) (k : Parts) → e ≡ unchanged lines → IsKeptLive (code_of lines) k → IsKeptLive (padded e) k
+first_live lines e k h live = subst (λ (c : Code). IsKeptLive c k) (sym (first_code lines e h)) live
+
+-- the layout, where it is kept, is that of the lines
+pub first_over : (r : Rules) (g : Ground) (lines now : List Line) (b : Bool) → now ≡ lines → Layable r.base lines → is_steady g ≡ b → IsSteadyIf r.base lines b → HasLayout r.base g lines → AreOver r g now
+first_over r g lines now b e layable same steady layout =
+    subst (λ (ls : List Line). AreOver r g ls) (sym e) (record {
+      layable = layable;
+      aligned = λ h. (steady (sym same ∙ h)).0;
+      steady = λ h. (steady (sym same ∙ h)).1;
+      layout = layout;
+    })
+
+-- what is said of a layout stays so
+said_still : {X : Type 0} (o : Option X) (P Q : X → Type 0) → ((x : X) → P x → Q x) → IfSome o P → IfSome o Q
+said_still None P Q f h = tt
+said_still (Some x) P Q f h = f x h
+
+-- ---- a run ----
+
+-- the first instructions of a run are a window
+pub run_front : (lines : List Line) (most number count : ℕ) (letters : List Instr) → letters ≡ run true most (drop number (rows_from false lines)) → 0 < count → count ≤ length letters → IsWindow lines number (take count letters)
+run_front lines most number count letters e some few =
+    let many : length (take count letters) ≡ count = take_many count letters few in
+    let all : length (take count (run true most (drop number (rows_from false lines)))) ≡ length (take count letters) = ap (λ (is : List Instr). length (take count is)) (sym e) in
+    subst (λ (is : List Instr). IsWindow lines number (take count is)) (sym e) (run_window lines number most count (omega arith))
+
+letter_at : (is : List Instr) (k : ℕ) (i : Instr) → list_all is_in_window is ≡ true → slice_get is k ≡ Some i → is_in_window i ≡ true
+letter_at [] k i h e = absurd (cc)
+letter_at (j ∷ is) zero i h e = let same : j ≡ i = cc in ap is_in_window (sym same) ∙ (and_parts (is_in_window j) (list_all is_in_window is) h).0
+letter_at (j ∷ is) (suc k) i h e = letter_at is k i (and_parts (is_in_window j) (list_all is_in_window is) h).1 e
+
+-- an instruction of a run stands at its place
+pub record StandsInRun (lines : List Line) (number k : ℕ) : Type 0 where
+  pub letter : Instr
+  pub stands : slice_get (places_of lines) (number + k) ≡ Some (plain letter)
+  pub is_letter : is_in_window letter ≡ true
+
+pub run_stands : (lines : List Line) (most number k : ℕ) (letters : List Instr) → letters ≡ run true most (drop number (rows_from false lines)) → k < length letters → StandsInRun lines number k
+run_stands lines most number k letters e h =
+    let w = run_front lines most number (suc k) letters e (omega arith) h in
+    let i = present_at letters k h in
+    let here : slice_get (take (suc k) letters) k ≡ Some i.0 = get_take (suc k) letters k (omega arith) ∙ i.1 in
+    let many : length (take (suc k) letters) ≡ suc k = take_many (suc k) letters h in
+    record {
+      letter = i.0;
+      stands =
+          sym (get_drop number (places_of lines) k (number + k) refl)
+          ∙ sym (get_take (suc k) (drop number (places_of lines)) k (omega arith))
+          ∙ ap (λ n. slice_get (take n (drop number (places_of lines))) k) (sym many)
+          ∙ ap (λ (ps : List Place). slice_get ps k) w.stands
+          ∙ slice_get-map plain (take (suc k) letters) k
+          ∙ ap (option_map plain) here;
+      is_letter = letter_at (take (suc k) letters) k i.0 w.letters here;
+    }
+
+-- what is live after it is what is read from the place behind it
+pub run_live : (e : Edited) (most number : ℕ) (letters : List Instr) (ps : List ℕ) → IsPadded (marks e) (padded e) (code_of (lines_now e)) → letters ≡ run true most (drop number (rows_from false (lines_now e)))
+    → AreRanked (marks e) number ps → length ps ≡ length letters → (k : ℕ) → k < length letters → (x : ℕ) → LiveAfter (code_of (lines_now e)) (number + k) x ↔ Reads (padded e) x (suc (get_or ps k 0))
+run_live e most number letters ps s is a n k h x =
+    let code : Code = code_of (lines_now e) in
+    let p : ℕ = get_or ps k 0 in
+    let at = ranked_at (marks e) number ps a k (omega arith) in
+    let there = run_stands (lines_now e) most number k letters is h in
+    let stands : slice_get (padded e).places p ≡ Some (plain there.letter) = sym (place_kept (marks e) (padded e) code s p at.1) ∙ ap (slice_get code.places) at.2 ∙ there.stands in
+    subst (λ q. LiveAfter code q x ↔ Reads (padded e) x (suc p)) at.2 (live_behind (marks e) (padded e) code s p there.letter at.1 stands there.is_letter x)
+
+-- behind the last place nothing is read
+pub none_read : (code : Code) (k : Parts) (p x : ℕ) → IsKeptLive code k → length k.before ≤ p → Reads code x p → ⊥
+none_read code k p x live h r =
+    let past : set_at k.before p ≡ 0 = ap word_of (slice_get_past k.before p h) in
+    true≢false (sym ((live.live p x).1 r) ∙ ap (λ bits. has bits x) past ∙ has_zero x)
+
+-- where its places are seen as a slice, the last of the first so many is one of the code's
+pub last_within : (gone : List Bool) (number count : ℕ) (items seen : List ℕ) → AreRanked gone number items → seen ≡ items → 0 < count → count ≤ length items → get_or seen (count - 1) 0 < length gone
+last_within gone number count items seen a e some few =
+    let same = ap (λ (ps : List ℕ). get_or ps (count - 1) 0) e in
+    let at = ranked_at gone number items a (count - 1) (omega arith) in
+    omega (arith, at.0)
+
+-- and what is live after its instruction is what is read behind it
+pub live_there : (e : Edited) (most number count : ℕ) (letters : List Instr) (items seen : List ℕ) → IsPadded (marks e) (padded e) (code_of (lines_now e)) → letters ≡ run true most (drop number (rows_from false (lines_now e)))
+    → AreRanked (marks e) number items → length items ≡ length letters → seen ≡ items → 0 < count → count ≤ length letters → (x : ℕ) → LiveAfter (code_of (lines_now e)) (number + (count - 1)) x ↔ Reads (padded e) x (get_or seen (count - 1) 0 + 1)
+live_there e most number count letters items seen s is a n same some few x =
+    let behind : suc (get_or items (count - 1) 0) ≡ get_or seen (count - 1) 0 + 1 = (let z = ap (λ (ps : List ℕ). get_or ps (count - 1) 0) same in omega arith) in
+    subst (λ p. LiveAfter (code_of (lines_now e)) (number + (count - 1)) x ↔ Reads (padded e) x p) behind (run_live e most number letters items s is a n (count - 1) (omega arith) x)
+
+-- ---- labels that stay code ----
+
+-- where an instruction of the run follows
+pub settled_before : (lines : List Line) (most number count : ℕ) (letters new : List Instr) → letters ≡ run true most (drop number (rows_from false lines)) → count < length letters → IsSettled (places_of lines) (labels_from 0 lines) number count new
+settled_before lines most number count letters new e h = let there = run_stands lines most number count letters e h in inr (inl (ap is_op_place there.stands))
+
+-- where none does and none comes
+pub settled_alone : (behind labelled : Bool) (places : List Place) (labels : List Label) (p count : ℕ) (new : List Instr) → behind ≡ is_op_place (slice_get places (p + count)) → (labelled ≡ true) ↔ HasLabelAt labels p → length new ≡ 0
+    → ((behind || not labelled) ≡ true) ↔ IsSettled places labels p count new
+settled_alone true labelled places labels p count new e h none = (λ _. inr (inl (sym e)), λ _. refl)
+settled_alone false false places labels p count new e h none = (λ _. inr (inr (λ k l is at. true≢false (sym (h.1 (record { number = k; label = l; is = is; at = at }))))), λ _. refl)
+settled_alone false true places labels p count new e h none = (λ t. absurd (true≢false (sym t)), λ s. absurd (never s))
+  where
+    never : IsSettled places labels p count new → ⊥
+    never (inl some) = omega arith
+    never (inr (inl op)) = true≢false (sym op ∙ sym e)
+    never (inr (inr no_label)) = let l = h.0 refl in no_label l.number l.label l.is l.at
+
+-- ---- a window that gives way ----
+
+-- a choice may be made at its place, with its window and its new instructions as slices
+pub keeps_here : (s : Setting) (lines : List Line) (c : Choice) (place : ℕ) (window new : List Instr) → IsChoice s lines c → (choice_of c).place ≡ place → window ≡ c.window → new ≡ c.new → KeepsAt (code_of lines) place window new
+keeps_here s lines c place window new is at e f =
+    let here : KeepsAt (code_of lines) place c.window c.new = subst (λ (p : ℕ). KeepsAt (code_of lines) p c.window c.new) at is.keeps in
+    let there : KeepsAt (code_of lines) place window c.new = subst (λ (w : List Instr). KeepsAt (code_of lines) place w c.new) (sym e) here in
+    subst (λ (n : List Instr). KeepsAt (code_of lines) place window n) (sym f) there
+
+-- and leaves the lines after it
+pub leaves_here : (s : Setting) (lines now : List Line) (c : Choice) (place : ℕ) (window new : List Instr) → IsChoice s lines c → (choice_of c).place ≡ place → window ≡ c.window → new ≡ c.new
+    → now ≡ replaced_lines s.write place (length window) new lines → now ≡ lines_after s (choice_of c) lines
+leaves_here s lines now c place window new is at e f h =
+    h
+    ∙ ap (λ p. replaced_lines s.write p (length window) new lines) (sym at)
+    ∙ ap (λ (w : List Instr). replaced_lines s.write (choice_of c).place (length w) new lines) e
+    ∙ ap (λ (n : List Instr). replaced_lines s.write (choice_of c).place (length c.window) n lines) f
+    ∙ is.leaves
+
+pub window_here : (s : Setting) (lines : List Line) (c : Choice) (place : ℕ) (window : List Instr) → IsChoice s lines c → (choice_of c).place ≡ place → window ≡ c.window → IsWindow lines place window
+window_here s lines c place window is at e = subst (λ (w : List Instr). IsWindow lines place w) (sym e) (subst (λ p. IsWindow lines p c.window) at is.is_window)
+
+-- which can be laid out
+leaves_layable : (s : Setting) (o : Replacement) (lines now : List Line) → AppliesIn s o lines → now ≡ lines_after s o lines → Layable s.base now
+leaves_layable s o lines now a e = subst (Layable s.base) (sym e) (subst (λ (k : Option Rule). Layable s.base (lines_after_rule s k o lines)) (sym a.is_rule) a.layable)
+
+-- what may stand in a window has two bytes
+twos : (is : List Instr) → list_all is_in_window is ≡ true → AreTwos is
+twos [] h = tt
+twos (i ∷ is) h =
+    let p = and_parts (is_in_window i) (list_all is_in_window is) h in
+    ((twos_of (i ∷ []) (p.0, tt)).0, twos is p.1)
+
+-- steady lines stay steady where a window gives way to fewer instructions
+steady_left : (base : ℕ) (lines : List Line) (place : ℕ) (window new : List Instr) → IsWindow lines place window → list_all is_in_window new ≡ true → length new < length window → IsSteady base lines
+    → IsSteady base (replaced_lines own_line place (length window) new lines)
+steady_left base lines place window new w letters shorter h =
+    let b = before (length window) (omega arith) in
+    let n : ℕ = b.0 in
+    let e : length window ≡ suc n = b.1 in
+    let ops = plain_of window (suc n) (drop place (places_of lines)) (sym e) (ap (λ c. take c (drop place (places_of lines))) (sym e) ∙ w.stands) (twos window w.letters) in
+    let outside = outside_of place (suc n) (labels_from 0 lines) (subst (λ c. (k : ℕ) (l : Label) → slice_get (labels_from 0 lines) k ≡ Some l → (l.place ≤ place) ⊎ (place + c ≤ l.place)) e w.unlabelled) in
+    let c = cut own_line place n new (omega arith) (twos new letters) lines 0 place (omega arith) outside ops in
+    subst (λ j. IsSteady base (replaced_lines own_line place j new lines)) (sym e) (cut_stays base lines (replaced_lines own_line place (suc n) new lines) c h)
+
+-- the choice may be made on the ground
+pub allowed_here : (r : Rules) (g : Ground) (lines : List Line) (c : Choice) (place : ℕ) (window new : List Instr) → AreOver r g lines → StandsNear g place → IsChoice (setting_of r) lines c → (choice_of c).place ≡ place → Moves g c.window c.new c.moved
+    → window ≡ c.window → new ≡ c.new → Allows g window new c.moved
+allowed_here r g lines c place window new over near is at moves e f =
+    let s : Setting = setting_of r in
+    let left : List Line = replaced_lines own_line place (length window) new lines in
+    let keeps = keeps_here s lines c place window new is at e f in
+    let layable : Layable r.base left = leaves_layable s (choice_of c) lines left is.applies (leaves_here s lines left c place window new is at e f refl) in
+    record {
+      lines = lines;
+      place = place;
+      lays = said_still g.kept (λ k. (k.base ≡ r.base) × Lays k lines) (λ k. Lays k lines × Layable k.base left) (λ k h. (h.1, subst (λ b. Layable b left) (sym h.0) layable)) over.layout;
+      moved = subst (λ (w : List Instr). Moves g w new c.moved) (sym e) (subst (λ (n : List Instr). Moves g c.window n c.moved) (sym f) moves);
+      near = near;
+      is_window = window_here s lines c place window is at e;
+      letters = keeps.new_letters;
+      fewer = keeps.shorter;
+    }
+
+-- and leaves lines of which as much is known, where the ground has their layout
+pub still_over : (r : Rules) (g h : Ground) (lines now : List Line) (c : Choice) (place : ℕ) (window new : List Instr) → IsChoice (setting_of r) lines c → (choice_of c).place ≡ place → window ≡ c.window → new ≡ c.new
+    → now ≡ replaced_lines own_line place (length window) new lines → is_steady h ≡ is_steady g → HasLayout r.base h (replaced_lines own_line place (length window) new lines) → AreOver r g lines → AreOver r h now
+still_over r g h lines now c place window new is at e f left same layout over =
+    let s : Setting = setting_of r in
+    let keeps = keeps_here s lines c place window new is at e f in
+    record {
+      layable = leaves_layable s (choice_of c) lines now is.applies (leaves_here s lines now c place window new is at e f left);
+      aligned = λ q. over.aligned (sym same ∙ q);
+      steady = λ q. subst (IsSteady r.base) (sym left) (steady_left r.base lines place window new (window_here s lines c place window is at e) keeps.new_letters keeps.shorter (over.steady (sym same ∙ q)));
+      layout = subst (HasLayout r.base h) (sym left) layout;
+    }
+
+-- what is kept of its places: places, marks and lines after a window gave way
+pub record IsMade (was now : Edited) (place : ℕ) (ps : List ℕ) (window new : List Instr) : Type 0 where
+  pub gone : marks now ≡ marks_after ps new (marks was)
+  pub padded_now : padded now ≡ exchanged ps new (padded was)
+  pub lines : lines_now now ≡ replaced_lines own_line place (length window) new (lines_now was)
+
+pub made_padded : (was now : Edited) (place : ℕ) (ps : List ℕ) (window new : List Instr) → IsMade was now place ps window new → IsPadded (marks was) (padded was) (code_of (lines_now was)) → length (marks was) ≡ length (padded was).places
+    → AreRanked (marks was) place ps → length ps ≡ length window → KeepsAt (code_of (lines_now was)) place window new → IsPadded (marks now) (padded now) (code_of (lines_now now))
+made_padded was now place ps window new m s many a n k =
+    let after = still_padded (marks was) (padded was) (lines_now was) s many place ps window new a n k in
+    let with_lines : IsPadded (marks_after ps new (marks was)) (exchanged ps new (padded was)) (code_of (lines_now now)) = subst (λ (ls : List Line). IsPadded (marks_after ps new (marks was)) (exchanged ps new (padded was)) (code_of ls)) (sym m.lines) after in
+    let with_code : IsPadded (marks_after ps new (marks was)) (padded now) (code_of (lines_now now)) = subst (λ (c : Code). IsPadded (marks_after ps new (marks was)) c (code_of (lines_now now))) (sym m.padded_now) with_lines in
+    subst (λ (g : List Bool). IsPadded g (padded now) (code_of (lines_now now))) (sym m.gone) with_code
+
+pub made_many : (was now : Edited) (place : ℕ) (ps : List ℕ) (window new : List Instr) → IsMade was now place ps window new → length (marks was) ≡ length (padded was).places → length (marks now) ≡ length (padded now).places
+made_many was now place ps window new m many =
+    ap (λ (g : List Bool). length g) m.gone ∙ many_marks ps new (marks was) ∙ many ∙ sym (many_places ps new (padded was).places) ∙ sym (ap (λ (c : Code). length c.places) m.padded_now)
+
+pub made_stands : (was now : Edited) (place : ℕ) (ps : List ℕ) (window new : List Instr) → IsMade was now place ps window new → length now.stands ≡ length was.stands
+made_stands was now place ps window new m =
+    sym (length_map is_none now.stands) ∙ ap (λ (g : List Bool). length g) m.gone ∙ many_marks ps new (marks was) ∙ length_map is_none was.stands
+
+pub made_live : (was now : Edited) (place : ℕ) (ps : List ℕ) (window new : List Instr) (k j : Parts) → IsMade was now place ps window new → IsPadded (marks was) (padded was) (code_of (lines_now was)) → length (marks was) ≡ length (padded was).places
+    → AreRanked (marks was) place ps → length ps ≡ length window → KeepsAt (code_of (lines_now was)) place window new
+    → ((code code' : Code) (window : List Instr) → GivesWay code code' ps window new → IsKeptLive code k → IsKeptLive code' j) → IsKeptLive (padded was) k → IsKeptLive (padded now) j
+made_live was now place ps window new k j m s many a n keeps kept live =
+    subst (λ (c : Code). IsKeptLive c j) (sym m.padded_now)
+    (kept (padded was) (exchanged ps new (padded was)) window (gives_way (marks was) (padded was) (code_of (lines_now was)) s many place ps window new a n keeps) live)
+
+-- the first places of a site, as a slice, are the kept ones of its ranks
+pub front_ranked : (gone : List Bool) (number : ℕ) (items seen : List ℕ) (count : ℕ) → AreRanked gone number items → seen ≡ items → AreRanked gone number (take count seen)
+front_ranked gone number items seen count a e = subst (λ (ps : List ℕ). AreRanked gone number (take count ps)) (sym e) (ranked_front gone number count items a)
+
+pub front_many : (items seen : List ℕ) (count : ℕ) → seen ≡ items → count ≤ length items → length (take count seen) ≡ count
+front_many items seen count e h = let same = ap (λ (ps : List ℕ). length ps) e in take_many count seen (omega arith)
+
+pub front_same : (items seen : List ℕ) (window given : List Instr) → seen ≡ items → window ≡ given → take (length window) seen ≡ take (length given) items
+front_same items seen window given e f = ap (λ (ps : List ℕ). take (length window) ps) e ∙ ap (λ (is : List Instr). take (length is) items) f
+
+-- what was made, by the place's number now
+pub made_by : (was now : Edited) (place number : ℕ) (ps : List ℕ) (window new : List Instr) → number ≡ rank (marks was) place → AreRanked (marks was) number ps → length ps ≡ length window
+    → ((qs : List ℕ) → length qs ≡ length window → AreRanked (marks was) (rank (marks was) place) qs → marks now ≡ marks_after qs new (marks was))
+    → ((qs : List ℕ) → length qs ≡ length window → AreRanked (marks was) (rank (marks was) place) qs → padded now ≡ exchanged qs new (padded was))
+    → lines_now now ≡ replaced_lines own_line (rank (marks was) place) (length window) new (lines_now was) → IsMade was now number ps window new
+made_by was now place number ps window new e a n gone places lines =
+    let there : AreRanked (marks was) (rank (marks was) place) ps = subst (λ r. AreRanked (marks was) r ps) e a in
+    record {
+      gone = gone ps n there;
+      padded_now = places ps n there;
+      lines = lines ∙ ap (λ r. replaced_lines own_line r (length window) new (lines_now was)) (sym e);
+    }

@@ -1,0 +1,62 @@
+-- A listing that is rewritten: what stands at its places, what is live before them and how it is laid out. Its places keep their numbers, and one that is left over is gone.
+use Rattle.std.specs.Prelude.{◌≡◌, ℕ, ◌+◌, ◌<◌, ◌↔◌, true, false, List, length, drop, slice_get}
+use Rattle.thumb_model.specs.Listing.{Line, code_of, is_op_place, labels_from, places_of}
+use Rattle.kept_places.specs.Marks.{is_gone, rank}
+use Rattle.padded_code.specs.Padding.{IsPadded}
+use Rattle.padded_code.specs.Windows.{AreRanked}
+use Rattle.window_runs.specs.Rows.{rows_from}
+use Rattle.window_runs.specs.Runs.{run}
+use Rattle.edited_listing.specs.Edited.{lines_now, marks, padded}
+use Rattle.edited_listing.specs.Known.{HasLabelAt}
+use Rattle.kept_live.specs.KeptLive.{IsKeptLive}
+use Rattle.window_rewrite.specs.declared.finding.Rules.{Rules}
+use Rattle.window_rewrite.specs.declared.finding.Look.{Look}
+use Rattle.window_rewrite.specs.Choices.{AreReady}
+use Rattle.window_rewrite.specs.declared.scene.Scene.{Scene}
+use Rattle.window_rewrite.specs.declared.scene.Site.{Site}
+use Rattle.window_rewrite.specs.Sweeps.{AreOver, StandsNear}
+
+-- the lines now
+abbrev pub lines_of : Scene → List Line
+lines_of s = lines_now s.listing
+
+-- what is kept of its places is true of the lines now
+pub record IsKept (s : Scene) : Type 0 where
+  pub is_padded : IsPadded (marks s.listing) (padded s.listing) (code_of (lines_of s))
+  pub as_many : length (marks s.listing) ≡ length (padded s.listing).places
+  pub live : IsKeptLive (padded s.listing) s.live
+
+-- and so is its layout, where one is kept
+pub record IsOver (r : Rules) (s : Scene) : Type 0 where
+  pub kept : IsKept s
+  pub over : AreOver r s.ground (lines_of s)
+
+-- a kept place of it, as a window begins there: the run of instructions that may stand in a window, with at most so many
+pub record IsSite (most : ℕ) (s : Scene) (t : Site) : Type 0 where
+  pub within : t.place < length s.listing.stands
+  pub kept : is_gone (marks s.listing) t.place ≡ false
+  pub number : t.number ≡ rank (marks s.listing) t.place
+  pub letters : t.run.letters ≡ run true most (drop t.number (rows_from false (lines_of s)))
+  pub places : AreRanked (marks s.listing) t.number t.run.places.items
+  pub as_many : length t.run.places.items ≡ length t.run.letters
+  pub behind : t.is_op_behind ≡ is_op_place (slice_get (places_of (lines_of s)) (t.number + length t.run.letters))
+  pub labelled : (t.is_labelled ≡ true) ↔ HasLabelAt (labels_from 0 (lines_of s)) t.number
+
+-- its layout, where one is kept, stands at the site
+abbrev pub IsNear : Scene → Site → Type 0
+IsNear s t = StandsNear s.ground t.number
+
+-- ---- a look at a site ----
+
+abbrev pub lines_seen : Look → List Line
+lines_seen l = lines_of l.scene.now
+
+abbrev pub number_seen : Look → ℕ
+number_seen l = l.site.now.number
+
+-- the table is ready, and the site is one of the scene
+pub record IsLook (l : Look) : Type 0 where
+  pub ready : AreReady l.rules.now
+  pub over : IsOver l.rules.now l.scene.now
+  pub site : IsSite l.rules.now.longest l.scene.now l.site.now
+  pub near : IsNear l.scene.now l.site.now

@@ -1,0 +1,185 @@
+//! A listing that is rewritten: what stands at its places, what is live before them and how it is laid out.
+ghost use Rattle.std.specs.Prelude.{◌≡◌, ◌⊎◌, ◌+◌, ◌-◌, ◌<◌, ◌≤◌, ◌↔◌, ℕ, true, false, length, take, IfOk, OnOk};
+ghost use Rattle.kept_places.specs.Marks.{is_gone, marked};
+ghost use Rattle.thumb_instr.specs.Items.{has};
+ghost use Rattle.thumb_model.specs.Flow.{LiveAfter};
+ghost use Rattle.thumb_model.specs.Layout.{Layable};
+ghost use Rattle.thumb_model.specs.Listing.{code_of, labels_from, places_of};
+ghost use Rattle.rule_model.specs.Rewriting.{lines_after};
+ghost use Rattle.liveness.specs.Live.{set_at};
+ghost use Rattle.padded_code.specs.Exchange.{exchanged, marks_after};
+ghost use Rattle.edited_listing.specs.Edited.{marks, padded};
+ghost use Rattle.kept_live.specs.KeptLive.{LosesAt};
+ghost use Rattle.step_ledger.specs.Counts.{RisesByAtLeast};
+ghost use Rattle.window_rewrite.specs.Choices.{choice_of, setting_of, IsChoice};
+ghost use Rattle.window_rewrite.specs.Rewriting.{visits};
+ghost use Rattle.window_rewrite.specs.Scenes.{lines_of, IsKept, IsNear, IsOver, IsSite};
+ghost use Rattle.window_rewrite.specs.Settled.{IsSettled};
+ghost use Rattle.window_rewrite.specs.Sweeps.{is_steady, IsSteadyIf, Moves};
+
+use crate::choice::Choice;
+use crate::finding::Rules;
+use crate::ground::Ground;
+use edited_listing::{EditedListing, Run};
+use kept_live::KeptLive;
+use kept_places::PlaceSet;
+use listing_parser::{Listing, Memory};
+use std::alloc::Global;
+use step_ledger::{Ledger, Steps};
+use thumb_instr::{Instr, Items};
+
+/// A listing that is rewritten. Its places keep their numbers; one that is left over is gone.
+#[derive(Drop)]
+pub(crate) struct Scene {
+    pub(crate) listing: EditedListing,
+    pub(crate) live: KeptLive,
+    /// Its layout, where that has to be asked.
+    pub(crate) ground: Ground,
+}
+
+/// A kept place, as a window begins there.
+#[derive(Drop)]
+pub(crate) struct Site {
+    /// Its number in the listing as it was given.
+    pub(crate) place: u32,
+    /// Its number now.
+    pub(crate) number: u32,
+    /// The instructions from there on that may stand in a window, and their places.
+    pub(crate) run: Run,
+    /// Whether an instruction stands behind these.
+    pub(crate) is_op_behind: bool,
+    /// Whether a label stands at the place.
+    pub(crate) is_labelled: bool,
+}
+
+impl Scene {
+    /// A listing of which nothing is changed, that can be laid out. `steady` is whether each listing that comes of it by replacements surely can.
+    pub(crate) fn of<L: Ledger>(
+        alloc: Global,
+        rules: &Rules<'_>,
+        listing: Listing,
+        steady: bool,
+        steps: &mut Steps<L>,
+    ) -> Result<Scene, Memory>
+        requires layable { Layable rules.now.base listing }
+        requires steady { IsSteadyIf rules.now.base listing steady }
+        ensures over { IfOk result (IsOver rules.now) }
+        ensures lines { IfOk result (λ s. lines_of s ≡ listing) }
+        ensures many { IfOk result (λ s. length s.listing.stands ≡ length (places_of listing)) }
+        ensures none_gone { IfOk result (λ s. (p : ℕ) → is_gone (marks s.listing) p ≡ false) }
+        ensures cost { steps.new ≤ steps.old + visits (length (places_of listing)) }
+        ensures rises { OnOk result (RisesByAtLeast steps.old steps.new (length (places_of listing))) }
+    {
+        let ground = Ground::of(alloc, &listing, rules.base, steady)?;
+        let live = KeptLive::new(alloc, &listing, steps)?;
+        let listing = EditedListing::new(alloc, listing)?;
+        Ok(Scene {
+            listing,
+            live,
+            ground,
+        })
+    }
+
+    /// What a window sees that begins at a kept place, with at most so many instructions. The layout, where one is kept, stands there then.
+    pub(crate) fn site(&mut self, rules: &Rules<'_>, place: u32) -> Site
+        requires over { IsOver rules.now self.old }
+        requires most { rules.now.longest ≤ 5 }
+        requires within { place < length self.old.listing.stands }
+        requires kept { is_gone (marks self.old.listing) place ≡ false }
+        ensures over { IsOver rules.now self.new }
+        ensures site { IsSite rules.now.longest self.new result }
+        ensures place { result.place ≡ place }
+        ensures near { IsNear self.new result }
+        ensures listing { self.new.listing ≡ self.old.listing }
+        ensures live { self.new.live ≡ self.old.live }
+    {
+        let number = self.listing.number(place);
+        let run = self.listing.run(place, usize::from(rules.longest));
+        let count = run.letters.len() as u32;
+        let is_op_behind = self.listing.is_op_behind(place, count);
+        let is_labelled = self.listing.is_labelled(place);
+        self.ground.go_to(number as usize);
+        Site {
+            place,
+            number,
+            run,
+            is_op_behind,
+            is_labelled,
+        }
+    }
+
+    /// The items that are live after the first instructions of a site's run, so many of them.
+    pub(crate) fn live_after(&self, rules: &Rules<'_>, site: &Site, count: usize) -> Items
+        requires kept { IsKept self.now }
+        requires site { IsSite rules.now.longest self.now site.now }
+        requires some { 0 < count }
+        requires few { count ≤ length site.now.run.letters }
+        ensures { (x : ℕ) → (has result.bits x ≡ true) ↔ LiveAfter (code_of (lines_of self.now)) (site.now.number + (count - 1)) x }
+    {
+        let end = self.listing.place_count();
+        let last = site.run.places[count - 1];
+        if last + 1 < end {
+            self.live.before(last + 1)
+        } else {
+            Items::none()
+        }
+    }
+
+    /// Whether each code label stays code where the first instructions of a site's run, so many of them, give way to others.
+    pub(crate) fn is_settled(
+        &self,
+        rules: &Rules<'_>,
+        site: &Site,
+        count: usize,
+        new: &[Instr],
+    ) -> bool
+        requires site { IsSite rules.now.longest self.now site.now }
+        requires few { count ≤ length site.now.run.letters }
+        ensures { (result ≡ true) ↔ IsSettled (places_of (lines_of self.now)) (labels_from 0 (lines_of self.now)) site.now.number count new.now }
+    {
+        if !new.is_empty() {
+            return true;
+        }
+        if count < site.run.letters.len() {
+            return true;
+        }
+        site.is_op_behind || !site.is_labelled
+    }
+
+    /// Makes a replacement that was chosen at a site. `lost` gains the places before which an item was live that isn't any more.
+    pub(crate) fn make(
+        &mut self,
+        rules: &Rules<'_>,
+        site: &Site,
+        choice: &Choice,
+        lost: &mut PlaceSet,
+    ) -> Result<(), Memory>
+        requires over { IsOver rules.now self.old }
+        requires site { IsSite rules.now.longest self.old site.now }
+        requires near { IsNear self.old site.now }
+        requires is { IsChoice (setting_of rules.now) (lines_of self.old) choice.now }
+        requires here { (choice_of choice.now).place ≡ site.now.number }
+        requires some { 0 < length choice.now.window }
+        requires fewer { length choice.now.new < length choice.now.window }
+        requires within { length choice.now.window ≤ length site.now.run.letters }
+        requires moved { Moves self.old.ground choice.now.window choice.now.new choice.now.moved }
+        requires room { length lost.old ≡ length self.old.listing.stands }
+        ensures over { OnOk result (IsOver rules.now self.new) }
+        ensures lines { OnOk result (lines_of self.new ≡ lines_after (setting_of rules.now) (choice_of choice.now) (lines_of self.old)) }
+        ensures many { OnOk result (length self.new.listing.stands ≡ length self.old.listing.stands) }
+        ensures steady { OnOk result (is_steady self.new.ground ≡ is_steady self.old.ground) }
+        ensures gone { OnOk result (marks self.new.listing ≡ marks_after (take (length choice.now.window) site.now.run.places.items) choice.now.new (marks self.old.listing)) }
+        ensures padded { OnOk result (padded self.new.listing ≡ exchanged (take (length choice.now.window) site.now.run.places.items) choice.now.new (padded self.old.listing)) }
+        ensures room { length lost.new ≡ length lost.old }
+        ensures lost { OnOk result ((p : ℕ) → (marked lost.new p ≡ true) ↔ ((marked lost.old p ≡ true) ⊎ LosesAt (set_at self.old.live.before p) (set_at self.new.live.before p))) }
+    {
+        let window = choice.window.as_slice();
+        let new = choice.new.as_slice();
+        let count = window.len();
+        let places = &site.run.places.as_slice()[..count];
+        self.ground.give_way(window, new, &choice.moved)?;
+        self.live.replace(places, new, lost);
+        self.listing.replace(site.place, count as u32, new);
+        Ok(())
+    }
+}
