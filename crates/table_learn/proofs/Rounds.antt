@@ -26,8 +26,11 @@ use Rattle.table_learn.specs.Lengths.{lines_length, rules_length}
 use Rattle.table_learn.specs.Progress.{Progress, HasLearnt, table_with, states_in, rules_in, search_cost, drop_cost}
 use Rattle.table_learn.specs.Dropping.{IsSided, runs_on}
 use Rattle.outcomes.specs.declared.tables.Tables.{Tables}
+use Rattle.outcomes.specs.Outcomes.{Extent}
+use Rattle.outcomes.specs.Tables.{AreTables, IsFor}
+use Rattle.seq_enum.specs.Alphabet.{alphabet}
 use Rattle.seq_enum.proofs.Numbered.{get_front}
-use Rattle.table_learn.specs.Keeping.{AreKept}
+use Rattle.table_learn.specs.Keeping.{AreKept, IsOfFirst}
 use Rattle.table_learn.specs.declared.learning.Learner.{Learner}
 use Rattle.table_learn.proofs.Fit.{no_longer}
 use Rattle.table_learn.proofs.Gains.{all_of, gain, few_shorter}
@@ -128,6 +131,15 @@ grown_length xs ys g =
 -- the tables serve later states too
 pub kept_later : (pool : List ℕ) (old new : List Seen) (t : Tables) → IsGrown old new → 0 < length old → AreKept pool old t → AreKept pool new t
 kept_later pool old new t g some kept start at = kept start (sym (get_front old g.more 0 some) ∙ ap (λ ss. slice_get ss 0) (sym g.grown) ∙ at)
+
+-- the letters of a table of them
+pub table_letters : (k : ℕ) (pool : List ℕ) (states : List WState) (e : Extent) → 0 < length states → IsOfFirst k pool (map seen states) e → e.letters ≡ alphabet k pool
+table_letters k pool [] e some is = absurd (omega (arith, some))
+table_letters k pool (s ∷ ss) e some is = (is s refl).letters
+
+-- a table that was taken out of them is put back
+pub put_back : (k : ℕ) (pool : List ℕ) (states : List Seen) (e : Extent) (old new : Tables) → AreKept pool states old → IsOfFirst k pool states e → ((p : List ℕ) (start : WState) → AreTables p start old → IsFor e.registers p start e → AreTables p start new) → AreKept pool states new
+put_back k pool states e old new kept is put start at = let here = is start at in put pool start (kept start at) (subst (λ j. IsFor j pool start e) (sym here.registers) here)
 
 -- the steps of one more window
 pub window_cost : (s : Settings) (windows : List Window) (w : Window) (l : Learner) (states found : List WState) (entries later : List Entry) (entry : Entry) (candidates : List ℕ) (before first middle after : ℕ) → AreInLimits s → HasLearnt s windows l → IsWindow s w → AreCandidates s (states_in l) w candidates → IsFit s (map seen states) (states_in l) (rule_of entry)

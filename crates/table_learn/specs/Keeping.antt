@@ -4,8 +4,13 @@ use Rattle.window_exec.specs.declared.state.WState.{WState}
 use Rattle.window_exec.specs.State.{seen}
 use Rattle.window_exec.specs.Seen.{Seen}
 use Rattle.outcomes.specs.declared.tables.Tables.{Tables}
-use Rattle.outcomes.specs.Tables.{AreTables}
+use Rattle.outcomes.specs.Outcomes.{Extent}
+use Rattle.outcomes.specs.Tables.{AreTables, IsFor}
 
 -- they are of the pool's numbers and the first of the states
 abbrev pub AreKept : List ℕ → List Seen → Tables → Type 0
 AreKept pool states tables = (start : WState) → slice_get states 0 ≡ Some (seen start) → AreTables pool start tables
+
+-- a table of the first k registers is of them too
+abbrev pub IsOfFirst : ℕ → List ℕ → List Seen → Extent → Type 0
+IsOfFirst k pool states e = (start : WState) → slice_get states 0 ≡ Some (seen start) → IsFor k pool start e

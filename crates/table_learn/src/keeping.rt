@@ -10,18 +10,24 @@ ghost use Rattle.table_audit.specs.Sides.{alphabet_registers};
 ghost use Rattle.table_learn.specs.Given.{settings_of};
 ghost use Rattle.table_learn.specs.Found.{window_in};
 ghost use Rattle.table_learn.specs.Searching.{shorter_than, AreCandidates};
-ghost use Rattle.table_learn.specs.Keeping.{AreKept};
+ghost use Rattle.table_learn.specs.Keeping.{AreKept, IsOfFirst};
 
 use crate::settings::Settings;
 use crate::window::Window;
-use outcomes::{Tables, Trial};
-use seq_enum::Pool;
+use outcomes::{Outcomes, Tables, Trial};
 use std::alloc::{AllocError, Global};
 use step_ledger::{Ledger, Steps};
 use window_exec::{WState, run_seq};
 
-/// The numbers of the shorter sequences that the first listed state doesn't tell from a window, with a step for each sequence that the table of
-/// the window's registers gets.
+/// The shorter sequences of a window that are to be tried: their numbers, and the table that has the sequence of each.
+#[derive(Drop)]
+pub(crate) struct ShortList {
+    pub numbers: Vec<u64>,
+    pub outcomes: Outcomes,
+}
+
+/// The shorter sequences that the first listed state doesn't tell from a window, with a step for each sequence that the table of the window's
+/// registers gets. That table is taken out of the kept ones; once the sequences are tried it goes back.
 pub(crate) fn candidates<L: Ledger>(
     alloc: Global,
     tables: &mut Tables,
@@ -29,7 +35,7 @@ pub(crate) fn candidates<L: Ledger>(
     settings: &Settings,
     states: &[WState],
     steps: &mut Steps<L>,
-) -> Result<Vec<u64>, AllocError>
+) -> Result<ShortList, AllocError>
     requires some { 0 < window.now.k }
     requires few { window.now.k ≤ 4 }
     requires counted { window.now.k ≡ alphabet_registers (settings_of settings.now) window.now.left }
@@ -38,7 +44,8 @@ pub(crate) fn candidates<L: Ledger>(
     requires states { 0 < length states.now }
     requires kept { AreKept settings.now.pool (map seen states.now) tables.old }
     ensures kept { AreKept settings.now.pool (map seen states.now) tables.new }
-    ensures candidates { IfOk result (λ numbers. AreCandidates (settings_of settings.now) (map seen states.now) (window_in window.now) numbers.items) }
+    ensures outcomes { IfOk result (λ list. IsOfFirst window.now.k settings.now.pool (map seen states.now) list.outcomes) }
+    ensures candidates { IfOk result (λ list. AreCandidates (settings_of settings.now) (map seen states.now) (window_in window.now) list.numbers.items) }
     ensures cost { steps.new ≤ steps.old + length (shorter_than (settings_of settings.now) (window_in window.now)) }
 {
     let start = states[0];
@@ -56,6 +63,5 @@ pub(crate) fn candidates<L: Ledger>(
         window.mask,
         steps,
     )?;
-    tables.put(outcomes);
-    Ok(numbers)
+    Ok(ShortList { numbers, outcomes })
 }

@@ -111,8 +111,9 @@ fn learn_window<L: Ledger>(
         mut tables,
     } = learner;
     let before = states.len();
-    let numbers = candidates(alloc, &mut tables, &window, settings, &states, steps)?;
-    let entry = search(alloc, settings, window, &numbers, &mut states, steps)?;
+    let list = candidates(alloc, &mut tables, &window, settings, &states, steps)?;
+    let entry = search(alloc, settings, window, &list, &mut states, steps)?;
+    tables.put(list.outcomes);
     let found = behind(&states, before);
     let lines = plus(
         entry_length(alloc, &entry)?,

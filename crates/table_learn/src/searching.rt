@@ -2,6 +2,7 @@
 ghost use Rattle.std.specs.Prelude.{◌≡◌, ◌<◌, ◌≤◌, ◌+◌, ◌*◌, ◌++◌, List, All, Some, IfOk, OnOk, length, map, slice_get};
 ghost use Rattle.window_exec.specs.State.{seen};
 ghost use Rattle.window_exec.specs.Seen.{Seen};
+ghost use Rattle.seq_enum.specs.Alphabet.{alphabet};
 ghost use Rattle.rule_table.specs.Views.{opened_of, rule_of};
 ghost use Rattle.table_audit.specs.Sides.{alphabet_registers};
 ghost use Rattle.table_learn.specs.Given.{settings_of, IsWindow};
@@ -12,6 +13,7 @@ ghost use Rattle.table_learn.specs.Searching.{shorter_than, AreCandidates, IsGro
 ghost use Rattle.table_learn.specs.Tried.{Tried};
 
 use crate::dropping::keep_below;
+use crate::keeping::ShortList;
 use crate::settings::Settings;
 use crate::trying::{Finding, try_sequence};
 use crate::window::{Window, copied};
@@ -19,33 +21,37 @@ use lrat_check::Line;
 use rule_table::{Entry, Open};
 use std::alloc::{AllocError, Global};
 use step_ledger::{Ledger, Steps};
-use table_audit::{count_shorter, shorter_at};
+use table_audit::count_shorter;
 use thumb_instr::Seq;
 use window_exec::WState;
 
-/// Tries the sequence of a number: a state that tells it is listed, and where the solver spends its budget the number is named open. The
-/// sequence with its proof, where no state tells it.
-fn try_number<L: Ledger>(
+/// A shorter sequence that is to be tried, and its number.
+#[derive(Drop)]
+struct Candidate {
+    number: u64,
+    seq: Seq,
+}
+
+/// Tries a candidate: a state that tells it is listed, and where the solver spends its budget its number is named open. The sequence with its
+/// proof, where no state tells it.
+fn try_candidate<L: Ledger>(
     alloc: Global,
     settings: &Settings,
     window: &Window,
-    number: u64,
+    candidate: Candidate,
     states: &mut Vec<WState>,
     opens: &mut Vec<Open>,
     steps: &mut Steps<L>,
 ) -> Result<Option<(Seq, Vec<Line>)>, AllocError>
-    requires some { 0 < window.now.k }
     requires few { window.now.k ≤ 4 }
     requires counted { window.now.k ≡ alphabet_registers (settings_of settings.now) window.now.left }
     requires window { IsWindow (settings_of settings.now) (window_in window.now) }
-    requires number { number < length (shorter_than (settings_of settings.now) (window_in window.now)) }
-    ensures tried { IfOk result (Tried (settings_of settings.now) (window_in window.now) (map seen states.old.items) (map opened_of opens.old.items) (map seen states.new.items) (map opened_of opens.new.items) number) }
+    requires sequence { slice_get (shorter_than (settings_of settings.now) (window_in window.now)) candidate.number ≡ Some candidate.seq }
+    ensures tried { IfOk result (Tried (settings_of settings.now) (window_in window.now) (map seen states.old.items) (map opened_of opens.old.items) (map seen states.new.items) (map opened_of opens.new.items) candidate.number) }
     ensures more { OnOk result (length states.old.items ≤ length states.new.items) }
     ensures cost { OnOk result (steps.new ≤ steps.old + query_cost settings.now.budget (length states.new.items) (length window.now.left)) }
 {
-    let Some(seq) = shorter_at(window.k, &settings.pool, window.left.len(), number) else {
-        unreachable!();
-    };
+    let Candidate { number, seq } = candidate;
     match try_sequence(alloc, states, window, &seq, settings, steps)? {
         Finding::Told => {}
         Finding::State(state) => states.push(state)?,
@@ -55,13 +61,13 @@ fn try_number<L: Ledger>(
     Ok(None)
 }
 
-/// The entry of a window, of whose shorter sequences but the candidates a listed state tells each. The states that the solver finds are put
+/// The entry of a window, of whose shorter sequences but those of the list a listed state tells each. The states that the solver finds are put
 /// behind the listed ones.
 pub(crate) fn search<L: Ledger>(
     alloc: Global,
     settings: &Settings,
     window: Window,
-    candidates: &[u64],
+    list: &ShortList,
     states: &mut Vec<WState>,
     steps: &mut Steps<L>,
 ) -> Result<Entry, AllocError>
@@ -69,17 +75,25 @@ pub(crate) fn search<L: Ledger>(
     requires few { window.k ≤ 4 }
     requires counted { window.k ≡ alphabet_registers (settings_of settings.now) window.left }
     requires window { IsWindow (settings_of settings.now) (window_in window) }
-    requires candidates { AreCandidates (settings_of settings.now) (map seen states.old.items) (window_in window) candidates.now }
+    requires letters { list.now.outcomes.letters ≡ alphabet window.k settings.now.pool }
+    requires candidates { AreCandidates (settings_of settings.now) (map seen states.old.items) (window_in window) list.now.numbers.items }
     ensures grown { OnOk result (IsGrown (map seen states.old.items) (map seen states.new.items)) }
     ensures earned { OnOk result (EarnedFrom (settings_of settings.now) (length states.old.items) (map seen states.new.items) (window_in window)) }
     ensures window { IfOk result (λ e. learnt_from (rule_of e) ≡ window_in window) }
     ensures fits { IfOk result (λ e. IsFit (settings_of settings.now) (map seen states.new.items) (map seen states.old.items) (rule_of e)) }
-    ensures cost { OnOk result (steps.new ≤ steps.old + length candidates.now * query_cost settings.now.budget (length states.new.items) (length window.left)) }
+    ensures cost { OnOk result (steps.new ≤ steps.old + length list.now.numbers.items * query_cost settings.now.budget (length states.new.items) (length window.left)) }
 {
     let mut opens = Vec::new(alloc);
-    for number in candidates {
-        if let Some((right, proof)) = try_number(
-            alloc, settings, &window, *number, states, &mut opens, steps,
+    for number in &list.numbers {
+        let Some(seq) = list.outcomes.sequence_at(*number) else {
+            unreachable!();
+        };
+        let candidate = Candidate {
+            number: *number,
+            seq,
+        };
+        if let Some((right, proof)) = try_candidate(
+            alloc, settings, &window, candidate, states, &mut opens, steps,
         )? {
             let limit = count_shorter(window.k, &settings.pool, right.len() as u8);
             return Ok(Entry {

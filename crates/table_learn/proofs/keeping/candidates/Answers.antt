@@ -6,7 +6,8 @@ use Rattle.window_exec.specs.State.{seen}
 use Rattle.window_exec.specs.Seen.{Seen}
 use Rattle.outcomes.specs.declared.trials.Trial.{Trial}
 use Rattle.outcomes.specs.Outcomes as table
-use Rattle.outcomes.specs.Tables.{AreTables}
+use Rattle.outcomes.specs.Outcomes.{Extent}
+use Rattle.outcomes.specs.Tables.{AreTables, IsFor}
 use Rattle.outcomes.proofs.Choosing.{few_added, grown_for_same}
 use Rattle.table_learn.specs.Given.{settings_of}
 use Rattle.table_learn.specs.Found.{window_in}
@@ -35,8 +36,16 @@ returns-clause-kept g c = λ start at.
     let zero : WState = record { r = []; nzcv = 0 } in
     let here : WState = get_or c.args.states.now 0 zero in
     let same : here ≡ start = same_state here start (same_Some (seen here) (seen start) (sym (first_seen c.args.states.now zero c.requires.states) ∙ at)) in
-    subst (λ (s : WState). AreTables c.args.settings.now.pool s c.put.new.self) same
-    (c.put.ensures c.args.settings.now.pool here c.take.ensures.kept (grown_for_same c.args.window.now.k c.args.settings.now.pool here (record { start = here; end = c.run_seq.result } ∷ []) (c.len-longest.result - 1) c.in_ok-outcomes.outcomes c.candidates.new.outcomes c.in_ok-outcomes.ensures.taken c.in_ok-numbers.ensures.grown))
+    subst (λ (s : WState). AreTables c.args.settings.now.pool s c.take.new.self) same c.take.ensures.kept
+
+pub returns-clause-outcomes : goal.returns-clause-outcomes
+returns-clause-outcomes g c = λ start at.
+    let zero : WState = record { r = []; nzcv = 0 } in
+    let here : WState = get_or c.args.states.now 0 zero in
+    let same : here ≡ start = same_state here start (same_Some (seen here) (seen start) (sym (first_seen c.args.states.now zero c.requires.states) ∙ at)) in
+    let registers : c.candidates.new.outcomes.registers ≡ c.args.window.now.k = ap (λ (e : Extent). e.registers) c.in_ok-numbers.ensures.grown ∙ c.in_ok-outcomes.ensures.taken.registers in
+    subst (λ (s : WState). IsFor c.args.window.now.k c.args.settings.now.pool s c.candidates.new.outcomes) same
+    (subst (λ j. IsFor j c.args.settings.now.pool here c.candidates.new.outcomes) registers (grown_for_same c.args.window.now.k c.args.settings.now.pool here (record { start = here; end = c.run_seq.result } ∷ []) (c.len-longest.result - 1) c.in_ok-outcomes.outcomes c.candidates.new.outcomes c.in_ok-outcomes.ensures.taken c.in_ok-numbers.ensures.grown))
 
 pub returns-clause-candidates : goal.returns-clause-candidates
 returns-clause-candidates g c =

@@ -1,4 +1,4 @@
-use Rattle.std.proofs.Common.{ℕ, ◌≡◌, ◌≤◌, ◌+◌, ◌-◌, ◌*◌, ◌∙◌, ◌∷◌, ◌++◌, [], rules, sym, ap, subst, arith, map, length, length-drop, drop, List}
+use Rattle.std.proofs.Common.{ℕ, ◌≡◌, ◌+◌, ◌-◌, ◌*◌, ◌∙◌, ◌∷◌, ◌++◌, [], rules, sym, ap, subst, arith, map, length, length-drop, drop, List}
 use Rattle.std.specs.Prelude.{All}
 use Rattle.std.proofs.lemmas.List.{map_push, length-map}
 use Rattle.window_exec.specs.declared.state.WState.{WState}
@@ -9,9 +9,9 @@ use Rattle.table_learn.specs.Given.{settings_of}
 use Rattle.table_learn.specs.Found.{window_in}
 use Rattle.table_learn.specs.Dropping.{IsSided}
 use Rattle.table_learn.specs.Lengths.{lines_length}
-use Rattle.table_learn.specs.Searching.{AreCandidates, query_cost}
-use Rattle.table_learn.specs.Keeping.{AreKept}
-use Rattle.table_learn.proofs.Rounds.{side_over, grown_length, all_sided, after_window, kept_later, window_cost}
+use Rattle.table_learn.specs.Searching.{AreCandidates}
+use Rattle.table_learn.specs.Keeping.{AreKept, IsOfFirst}
+use Rattle.table_learn.proofs.Rounds.{side_over, grown_length, all_sided, after_window, kept_later, table_letters, put_back, window_cost}
 use Rattle.table_learn.proofs.learning.learn_window.Goals as goal
 
 pub candidates-requires-clause-left : goal.candidates-requires-clause-left
@@ -24,10 +24,17 @@ candidates-requires-clause-states g c =
     let listed = ap (λ (ss : List WState). length ss) c.deref.ensures.value in
     omega (arith, known, many, listed)
 
+pub search-requires-clause-letters : goal.search-requires-clause-letters
+search-requires-clause-letters g c =
+    let known = c.requires.before.1.progress.long in
+    let many = length-map c.args.learner.states.items seen in
+    let of_first : IsOfFirst c.args.window.k c.args.settings.now.pool (map seen c.args.learner.states.items) c.in_ok-list.list.outcomes = subst (λ (ss : List WState). IsOfFirst c.args.window.k c.args.settings.now.pool (map seen ss) c.in_ok-list.list.outcomes) c.deref.ensures.value c.in_ok-list.ensures.outcomes in
+    table_letters c.args.window.k c.args.settings.now.pool c.args.learner.states.items c.in_ok-list.list.outcomes (omega (arith, known, many)) of_first
+
 pub behind-found-requires : goal.behind-found-requires
 behind-found-requires g c =
     let before : c.len-before.result ≡ length c.args.learner.states.items = search rules in
-    let many : length c.deref-3.result.now ≡ length c.search.new.states.items = ap (λ (ss : List WState). length ss) c.deref-3.ensures.value in
+    let many : length c.deref-2.result.now ≡ length c.search.new.states.items = ap (λ (ss : List WState). length ss) c.deref-2.ensures.value in
     let grown = grown_length c.args.learner.states.items c.search.new.states.items c.in_ok-entry.ensures.grown in
     omega (arith, before, many, grown)
 
@@ -41,7 +48,7 @@ pub overflow_sub-result : goal.overflow_sub-result
 overflow_sub-result g c =
     let before : c.len-before.result ≡ length c.args.learner.states.items = search rules in
     let found : c.behind-found.result.now ≡ drop (length c.args.learner.states.items) c.search.new.states.items =
-    c.behind-found.ensures ∙ ap (λ (j : ℕ). drop j c.deref-3.result.now) before ∙ ap (λ (ss : List WState). drop (length c.args.learner.states.items) ss) c.deref-3.ensures.value in
+    c.behind-found.ensures ∙ ap (λ (j : ℕ). drop j c.deref-2.result.now) before ∙ ap (λ (ss : List WState). drop (length c.args.learner.states.items) ss) c.deref-2.ensures.value in
     let sum : c.in_ok-lines.lines ≡ c.in_ok-entry_length.field-0 + c.in_ok-times.field-0 = c.in_ok-lines.ensures in
     let line : c.in_ok-entry_length.field-0 ≡ lines_length (rule_items (rule_of c.in_ok-entry.entry)) = c.in_ok-entry_length.ensures in
     let times : c.in_ok-times.field-0 ≡ length c.behind-found.result.now * 44 = c.in_ok-times.ensures in
@@ -55,7 +62,7 @@ pub returns-clause-learnt : goal.returns-clause-learnt
 returns-clause-learnt g c = λ windows h.
     let before : c.len-before.result ≡ length c.args.learner.states.items = search rules in
     let found : c.behind-found.result.now ≡ drop (length c.args.learner.states.items) c.search.new.states.items =
-    c.behind-found.ensures ∙ ap (λ (j : ℕ). drop j c.deref-3.result.now) before ∙ ap (λ (ss : List WState). drop (length c.args.learner.states.items) ss) c.deref-3.ensures.value in
+    c.behind-found.ensures ∙ ap (λ (j : ℕ). drop j c.deref-2.result.now) before ∙ ap (λ (ss : List WState). drop (length c.args.learner.states.items) ss) c.deref-2.ensures.value in
     let sum : c.in_ok-lines.lines ≡ c.in_ok-entry_length.field-0 + c.in_ok-times.field-0 = c.in_ok-lines.ensures in
     let line : c.in_ok-entry_length.field-0 ≡ lines_length (rule_items (rule_of c.in_ok-entry.entry)) = c.in_ok-entry_length.ensures in
     let times : c.in_ok-times.field-0 ≡ length c.behind-found.result.now * 44 = c.in_ok-times.ensures in
@@ -64,11 +71,13 @@ returns-clause-learnt g c = λ windows h.
     c.in_ok-entry.ensures.grown c.in_ok-entry.ensures.earned c.in_ok-entry.ensures.window c.in_ok-entry.ensures.fits found c.in_ok-push.ensures.items c.in_ok-entries.ensures.kept c.in_ok-entries.ensures.freed lines c.in_ok-whole.ensures in
     let text = after.1 in
     let kept : AreKept c.args.settings.now.pool (map seen c.args.learner.states.items) c.candidates.new.tables = subst (λ (ss : List WState). AreKept c.args.settings.now.pool (map seen ss) c.candidates.new.tables) c.deref.ensures.value c.candidates.ensures.kept in
+    let of_first : IsOfFirst c.args.window.k c.args.settings.now.pool (map seen c.args.learner.states.items) c.in_ok-list.list.outcomes = subst (λ (ss : List WState). IsOfFirst c.args.window.k c.args.settings.now.pool (map seen ss) c.in_ok-list.list.outcomes) c.deref.ensures.value c.in_ok-list.ensures.outcomes in
+    let back : AreKept c.args.settings.now.pool (map seen c.args.learner.states.items) c.put.new.self = put_back c.args.window.k c.args.settings.now.pool (map seen c.args.learner.states.items) c.in_ok-list.list.outcomes c.candidates.new.tables c.put.new.self kept of_first c.put.ensures in
     let many : length (map seen c.args.learner.states.items) ≡ length c.args.learner.states.items = length-map c.args.learner.states.items seen in
     record {
       progress = after.0;
       bytes = omega (arith, text);
-      kept = kept_later c.args.settings.now.pool (map seen c.args.learner.states.items) (map seen c.search.new.states.items) c.candidates.new.tables c.in_ok-entry.ensures.grown (let known = h.progress.long in omega (arith, known)) kept;
+      kept = kept_later c.args.settings.now.pool (map seen c.args.learner.states.items) (map seen c.search.new.states.items) c.put.new.self c.in_ok-entry.ensures.grown (let known = h.progress.long in omega (arith, known)) back;
     }
 
 pub returns-clause-grown : goal.returns-clause-grown
@@ -78,11 +87,8 @@ pub returns-clause-cost : goal.returns-clause-cost
 returns-clause-cost g c =
     let before : c.len-before.result ≡ length c.args.learner.states.items = search rules in
     let found : c.behind-found.result.now ≡ drop (length c.args.learner.states.items) c.search.new.states.items =
-    c.behind-found.ensures ∙ ap (λ (j : ℕ). drop j c.deref-3.result.now) before ∙ ap (λ (ss : List WState). drop (length c.args.learner.states.items) ss) c.deref-3.ensures.value in
-    let are : AreCandidates (settings_of c.args.settings.now) (map seen c.args.learner.states.items) (window_in c.args.window) c.in_ok-numbers.numbers.items = subst (λ (ss : List WState). AreCandidates (settings_of c.args.settings.now) (map seen ss) (window_in c.args.window) c.in_ok-numbers.numbers.items) c.deref.ensures.value c.in_ok-numbers.ensures.candidates in
+    c.behind-found.ensures ∙ ap (λ (j : ℕ). drop j c.deref-2.result.now) before ∙ ap (λ (ss : List WState). drop (length c.args.learner.states.items) ss) c.deref-2.ensures.value in
+    let are : AreCandidates (settings_of c.args.settings.now) (map seen c.args.learner.states.items) (window_in c.args.window) c.in_ok-list.list.numbers.items = subst (λ (ss : List WState). AreCandidates (settings_of c.args.settings.now) (map seen ss) (window_in c.args.window) c.in_ok-list.list.numbers.items) c.deref.ensures.value c.in_ok-list.ensures.candidates in
     let size : length c.behind-found.result.now ≡ length c.search.new.states.items - length c.args.learner.states.items = ap (λ (ss : List WState). length ss) found ∙ length-drop (length c.args.learner.states.items) c.search.new.states.items in
-    let count : length c.deref-2.result.now ≡ length c.in_ok-numbers.numbers.items = ap (λ (ns : List ℕ). length ns) c.deref-2.ensures.value in
-    let searched : c.search.new.steps ≤ c.candidates.new.steps + length c.in_ok-numbers.numbers.items * query_cost c.args.settings.now.budget (length c.search.new.states.items) (length c.args.window.left) =
-    subst (λ n. c.search.new.steps ≤ c.candidates.new.steps + n * query_cost c.args.settings.now.budget (length c.search.new.states.items) (length c.args.window.left)) count c.in_ok-entry.ensures.cost in
-    window_cost (settings_of c.args.settings.now) c.requires.before.0 (window_in c.args.window) c.args.learner c.search.new.states.items c.behind-found.result.now c.push.new.self.items c.in_ok-entries.entries.items c.in_ok-entry.entry c.in_ok-numbers.numbers.items c.args.steps.now c.candidates.new.steps c.search.new.steps c.drop_all_told.new.steps
-    c.requires.limits c.requires.before.1 c.requires.window are c.in_ok-entry.ensures.fits c.in_ok-push.ensures.items c.in_ok-entries.ensures.kept size c.candidates.ensures.cost searched (grown_length c.args.learner.states.items c.search.new.states.items c.in_ok-entry.ensures.grown) c.in_ok-entries.ensures.cost
+    window_cost (settings_of c.args.settings.now) c.requires.before.0 (window_in c.args.window) c.args.learner c.search.new.states.items c.behind-found.result.now c.push.new.self.items c.in_ok-entries.entries.items c.in_ok-entry.entry c.in_ok-list.list.numbers.items c.args.steps.now c.candidates.new.steps c.search.new.steps c.drop_all_told.new.steps
+    c.requires.limits c.requires.before.1 c.requires.window are c.in_ok-entry.ensures.fits c.in_ok-push.ensures.items c.in_ok-entries.ensures.kept size c.candidates.ensures.cost c.in_ok-entry.ensures.cost (grown_length c.args.learner.states.items c.search.new.states.items c.in_ok-entry.ensures.grown) c.in_ok-entries.ensures.cost

@@ -1,51 +1,86 @@
-use Rattle.std.proofs.Common.{ℕ, ◌≡◌, ◌+◌, ◌∙◌, sym, ap, subst, arith, refl, map, length, List}
+use Rattle.std.proofs.Common.{ℕ, ◌≡◌, ◌<◌, ◌≤◌, ◌+◌, ◌∙◌, Some, None, sym, ap, subst, arith, refl, map, length, get_or, List}
 use Rattle.std.proofs.lemmas.List.{length-map}
+use Rattle.thumb_instr.specs.declared.instr.Instr.{Instr}
 use Rattle.window_exec.specs.State.{seen}
 use Rattle.window_exec.specs.Seen.{Seen}
+use Rattle.seq_enum.specs.Alphabet.{alphabet}
 use Rattle.rule_table.specs.Views.{opened_of}
 use Rattle.table_audit.specs.Sides.{alphabet_registers}
 use Rattle.table_audit.specs.Shorter.{sequences_below}
+use Rattle.table_audit.proofs.Settling.{here, not_here}
+use Rattle.table_learn.specs.Settings.{Settings, Window}
 use Rattle.table_learn.specs.Given.{settings_of}
 use Rattle.table_learn.specs.Found.{window_in}
-use Rattle.table_learn.specs.Searching.{EarnedFrom}
+use Rattle.table_learn.specs.Searching.{shorter_than, AreCandidates, EarnedFrom}
 use Rattle.table_learn.specs.Tried.{Tried}
 use Rattle.table_learn.proofs.Costs.{query_more, query_within}
 use Rattle.table_learn.proofs.Searched.{search_next, right_found, none_found}
 use Rattle.table_learn.proofs.Steps.{search_begins}
 use Rattle.table_learn.proofs.searching.search.Goals as goal
 
+-- the letters are those of the window's registers
+letters_of : (s : Settings) (w : Window) (k : ℕ) (letters : List Instr) → k ≡ alphabet_registers s w.seq → letters ≡ alphabet k s.pool → letters ≡ alphabet (alphabet_registers s w.seq) s.pool
+letters_of s w k letters named is = is ∙ ap (λ j. alphabet j s.pool) named
+
+-- a number of the list is that of a shorter sequence
+number_low : (s : Settings) (states : List Seen) (w : Window) (numbers these : List ℕ) (i : ℕ) → AreCandidates s states w numbers → these ≡ numbers → i < length these → get_or these i 0 < length (shorter_than s w)
+number_low s states w numbers these i are same low = (subst (AreCandidates s states w) (sym same) are).within i 0 low
+
 pub loop-number-init : goal.loop-number-init
 loop-number-init g c = record {
-  search = rw c.new-opens.ensures.items (search_begins (settings_of c.args.settings.now) (window_in c.args.window) (map seen c.args.states.now.items) c.args.candidates.now c.requires.candidates.ascending);
+  search = rw c.new-opens.ensures.items (search_begins (settings_of c.args.settings.now) (window_in c.args.window) (map seen c.args.states.now.items) c.args.list.now.numbers.items c.requires.candidates.ascending);
   cost = omega arith;
 }
 
-pub returns-in-Some-clause-earned : goal.returns-in-Some-clause-earned
-returns-in-Some-clause-earned g c =
-    let tried = subst (Tried (settings_of c.args.settings.now) (window_in c.args.window) (map seen c.loop-number.states.items) (map opened_of c.loop-number.opens.items) (map seen c.try_number.new.states.items) (map opened_of c.try_number.new.opens.items) _) c.in-Some.is c.in_ok-right.ensures.tried in
+pub unreachable-requires : goal.unreachable-requires
+unreachable-requires g c =
+    let s = settings_of c.args.settings.now in
+    let w = window_in c.args.window in
+    let few = c.requires.window.canonical.renamable.few in
+    let letters = letters_of s w c.args.window.k c.args.list.now.outcomes.letters c.requires.counted c.requires.letters in
+    let low = number_low s (map seen c.args.states.now.items) w c.args.list.now.numbers.items c.deref-number-items.result.now c.loop-number.number-index c.requires.candidates c.deref-number-items.ensures.value c.loop-number-test.true in
+    not_here (alphabet_registers s w.seq) s.pool (length w.seq) (get_or c.deref-number-items.result.now c.loop-number.number-index 0) c.args.list.now.outcomes.letters c.sequence_at.result (omega (arith, few)) letters low c.sequence_at.ensures c.in_default.is
+
+pub try_candidate-requires-clause-sequence : goal.try_candidate-requires-clause-sequence
+try_candidate-requires-clause-sequence g c =
+    let s = settings_of c.args.settings.now in
+    let w = window_in c.args.window in
+    let few = c.requires.window.canonical.renamable.few in
+    let letters = letters_of s w c.args.window.k c.args.list.now.outcomes.letters c.requires.counted c.requires.letters in
+    let low = number_low s (map seen c.args.states.now.items) w c.args.list.now.numbers.items c.deref-number-items.result.now c.loop-number.number-index c.requires.candidates c.deref-number-items.ensures.value c.loop-number-test.true in
+    (here (alphabet_registers s w.seq) s.pool (length w.seq) (get_or c.deref-number-items.result.now c.loop-number.number-index 0) c.args.list.now.outcomes.letters c.sequence_at.result c.in-Some.seq (omega (arith, few)) letters low c.sequence_at.ensures c.in-Some.is).at
+
+pub returns-in-Some-2-clause-earned : goal.returns-in-Some-2-clause-earned
+returns-in-Some-2-clause-earned g c =
+    let tried = subst (Tried (settings_of c.args.settings.now) (window_in c.args.window) (map seen c.loop-number.states.items) (map opened_of c.loop-number.opens.items) (map seen c.try_candidate.new.states.items) (map opened_of c.try_candidate.new.opens.items) _) c.in-Some-2.is c.in_ok-right.ensures.tried in
     let l = length-map c.args.states.now.items seen in
     subst (λ (ss : List Seen). EarnedFrom (settings_of c.args.settings.now) (length c.args.states.now.items) ss (window_in c.args.window)) (sym tried.0)
     (λ i x from at. c.loop-number.invariant.search.earned i x (omega (arith, from, l)) at)
 
-pub returns-in-Some-clause-fits : goal.returns-in-Some-clause-fits
-returns-in-Some-clause-fits g c =
-    let tried = subst (Tried (settings_of c.args.settings.now) (window_in c.args.window) (map seen c.loop-number.states.items) (map opened_of c.loop-number.opens.items) (map seen c.try_number.new.states.items) (map opened_of c.try_number.new.opens.items) _) c.in-Some.is c.in_ok-right.ensures.tried in
-    let limit : c.count_shorter-limit.result ≡ length (sequences_below (alphabet_registers (settings_of c.args.settings.now) c.args.window.left) c.args.settings.now.pool (length c.in-Some.right)) =
+pub returns-in-Some-2-clause-fits : goal.returns-in-Some-2-clause-fits
+returns-in-Some-2-clause-fits g c =
+    let low : c.loop-number.number-index < length c.args.list.now.numbers.items = subst (λ (ns : List ℕ). c.loop-number.number-index < length ns) c.deref-number-items.ensures.value c.loop-number-test.true in
+    let there = subst (Tried (settings_of c.args.settings.now) (window_in c.args.window) (map seen c.loop-number.states.items) (map opened_of c.loop-number.opens.items) (map seen c.try_candidate.new.states.items) (map opened_of c.try_candidate.new.opens.items) _) c.in-Some-2.is c.in_ok-right.ensures.tried in
+    let tried = subst (λ (ns : List ℕ). Tried (settings_of c.args.settings.now) (window_in c.args.window) (map seen c.loop-number.states.items) (map opened_of c.loop-number.opens.items) (map seen c.try_candidate.new.states.items) (map opened_of c.try_candidate.new.opens.items) (get_or ns c.loop-number.number-index 0) (Some (c.in-Some-2.right, c.in-Some-2.proof))) c.deref-number-items.ensures.value there in
+    let limit : c.count_shorter-limit.result ≡ length (sequences_below (alphabet_registers (settings_of c.args.settings.now) c.args.window.left) c.args.settings.now.pool (length c.in-Some-2.right)) =
     c.count_shorter-limit.ensures ∙ ap (λ (j : ℕ). length (sequences_below j c.args.settings.now.pool c.len.result)) c.requires.counted ∙ ap (λ (j : ℕ). length (sequences_below (alphabet_registers (settings_of c.args.settings.now) c.args.window.left) c.args.settings.now.pool j)) c.len.ensures.value in
-    right_found (settings_of c.args.settings.now) (window_in c.args.window) _ (map seen c.args.states.now.items) (map seen c.loop-number.states.items) (map seen c.try_number.new.states.items) (map opened_of c.loop-number.opens.items) (map opened_of c.try_number.new.opens.items) (map opened_of c.in_ok-keep_below.field-0.items) c.args.candidates.now c.loop-number.number-index _ c.count_shorter-limit.result (c.in-Some.right, c.in-Some.proof)
-    refl c.requires.window c.args.window.mask.in_masks c.loop-number-test.true c.loop-number.invariant.search c.requires.candidates tried refl refl c.in_ok-keep_below.ensures limit
+    right_found (settings_of c.args.settings.now) (window_in c.args.window) _ (map seen c.args.states.now.items) (map seen c.loop-number.states.items) (map seen c.try_candidate.new.states.items) (map opened_of c.loop-number.opens.items) (map opened_of c.try_candidate.new.opens.items) (map opened_of c.in_ok-keep_below.field-0.items) c.args.list.now.numbers.items c.loop-number.number-index 0 c.count_shorter-limit.result (c.in-Some-2.right, c.in-Some-2.proof)
+    refl c.requires.window c.args.window.mask.in_masks low c.loop-number.invariant.search c.requires.candidates tried refl refl c.in_ok-keep_below.ensures limit
 
-pub returns-in-Some-clause-cost : goal.returns-in-Some-clause-cost
-returns-in-Some-clause-cost g c =
-    let more = query_more c.loop-number.steps c.try_number.new.steps c.args.steps.now c.loop-number.number-index (length c.loop-number.states.items) (length c.try_number.new.states.items) c.args.settings.now.budget (length c.args.window.left) c.loop-number.invariant.cost c.in_ok-right.ensures.cost c.in_ok-right.ensures.more in
-    query_within c.try_number.new.steps c.args.steps.now (c.loop-number.number-index + 1) (length c.args.candidates.now) _ more (omega arith)
+pub returns-in-Some-2-clause-cost : goal.returns-in-Some-2-clause-cost
+returns-in-Some-2-clause-cost g c =
+    let low : c.loop-number.number-index < length c.args.list.now.numbers.items = subst (λ (ns : List ℕ). c.loop-number.number-index < length ns) c.deref-number-items.ensures.value c.loop-number-test.true in
+    let more = query_more c.loop-number.steps c.try_candidate.new.steps c.args.steps.now c.loop-number.number-index (length c.loop-number.states.items) (length c.try_candidate.new.states.items) c.args.settings.now.budget (length c.args.window.left) c.loop-number.invariant.cost c.in_ok-right.ensures.cost c.in_ok-right.ensures.more in
+    query_within c.try_candidate.new.steps c.args.steps.now (c.loop-number.number-index + 1) (length c.args.list.now.numbers.items) _ more (omega (arith, low))
 
 pub loop-number-preserved : goal.loop-number-preserved
 loop-number-preserved g c =
-    let tried = subst (Tried (settings_of c.args.settings.now) (window_in c.args.window) (map seen c.loop-number.states.items) (map opened_of c.loop-number.opens.items) (map seen c.try_number.new.states.items) (map opened_of c.try_number.new.opens.items) _) c.in_default.is c.in_ok-right.ensures.tried in
+    let low : c.loop-number.number-index < length c.args.list.now.numbers.items = subst (λ (ns : List ℕ). c.loop-number.number-index < length ns) c.deref-number-items.ensures.value c.loop-number-test.true in
+    let there = subst (Tried (settings_of c.args.settings.now) (window_in c.args.window) (map seen c.loop-number.states.items) (map opened_of c.loop-number.opens.items) (map seen c.try_candidate.new.states.items) (map opened_of c.try_candidate.new.opens.items) _) c.in_default-2.is c.in_ok-right.ensures.tried in
+    let tried = subst (λ (ns : List ℕ). Tried (settings_of c.args.settings.now) (window_in c.args.window) (map seen c.loop-number.states.items) (map opened_of c.loop-number.opens.items) (map seen c.try_candidate.new.states.items) (map opened_of c.try_candidate.new.opens.items) (get_or ns c.loop-number.number-index 0) None) c.deref-number-items.ensures.value there in
     record {
-      search = search_next (settings_of c.args.settings.now) (window_in c.args.window) (map seen c.args.states.now.items) (map seen c.loop-number.states.items) (map seen c.try_number.new.states.items) (map opened_of c.loop-number.opens.items) (map opened_of c.try_number.new.opens.items) c.args.candidates.now c.loop-number.number-index _ c.loop-number-test.true tried c.loop-number.invariant.search;
-      cost = query_more c.loop-number.steps c.try_number.new.steps c.args.steps.now c.loop-number.number-index (length c.loop-number.states.items) (length c.try_number.new.states.items) c.args.settings.now.budget (length c.args.window.left) c.loop-number.invariant.cost c.in_ok-right.ensures.cost c.in_ok-right.ensures.more;
+      search = search_next (settings_of c.args.settings.now) (window_in c.args.window) (map seen c.args.states.now.items) (map seen c.loop-number.states.items) (map seen c.try_candidate.new.states.items) (map opened_of c.loop-number.opens.items) (map opened_of c.try_candidate.new.opens.items) c.args.list.now.numbers.items c.loop-number.number-index 0 low tried c.loop-number.invariant.search;
+      cost = query_more c.loop-number.steps c.try_candidate.new.steps c.args.steps.now c.loop-number.number-index (length c.loop-number.states.items) (length c.try_candidate.new.states.items) c.args.settings.now.budget (length c.args.window.left) c.loop-number.invariant.cost c.in_ok-right.ensures.cost c.in_ok-right.ensures.more;
     }
 
 pub returns-clause-earned : goal.returns-clause-earned
@@ -55,5 +90,6 @@ returns-clause-earned g c =
 
 pub returns-clause-fits : goal.returns-clause-fits
 returns-clause-fits g c =
-    none_found (settings_of c.args.settings.now) (window_in c.args.window) _ (map seen c.args.states.now.items) (map seen c.loop-number.states.items) (map opened_of c.loop-number.opens.items) c.args.candidates.now c.loop-number.number-index c.new.result
-    refl c.requires.window c.args.window.mask.in_masks c.loop-number-test.false c.loop-number.invariant.search c.requires.candidates c.copied.ensures refl c.new.ensures.items refl
+    let past : length c.args.list.now.numbers.items ≤ c.loop-number.number-index = subst (λ (ns : List ℕ). length ns ≤ c.loop-number.number-index) c.deref-number-items.ensures.value c.loop-number-test.false in
+    none_found (settings_of c.args.settings.now) (window_in c.args.window) _ (map seen c.args.states.now.items) (map seen c.loop-number.states.items) (map opened_of c.loop-number.opens.items) c.args.list.now.numbers.items c.loop-number.number-index c.new.result
+    refl c.requires.window c.args.window.mask.in_masks past c.loop-number.invariant.search c.requires.candidates c.copied.ensures refl c.new.ensures.items refl

@@ -8,6 +8,6 @@ use Rattle.table_learn.proofs.searching.search.Given as goal
 
 abbrev pub invariant-loop-number : goal.invariant-loop-number
 invariant-loop-number g l = record {
-  search : IsSearching (settings_of l.settings) (window_in l.window) (map seen l.initial.states.items) (map seen l.states.items) (map opened_of l.opens.items) (take l.number-index l.candidates) (drop l.number-index l.candidates);
+  search : IsSearching (settings_of l.settings) (window_in l.window) (map seen l.initial.states.items) (map seen l.states.items) (map opened_of l.opens.items) (take l.number-index l.list.numbers.items) (drop l.number-index l.list.numbers.items);
   cost : l.steps ≤ l.initial.steps + l.number-index * query_cost l.settings.budget (length l.states.items) (length l.window.left);
 }
