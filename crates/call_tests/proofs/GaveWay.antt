@@ -16,8 +16,8 @@ use Rattle.window_runs.specs.Rows.{rows_from}
 use Rattle.window_runs.specs.Runs.{run}
 use Rattle.window_runs.specs.Windows.{IsWindow}
 use Rattle.window_runs.proofs.Joined.{run_window}
-use Rattle.line_cursor.proofs.Settled.{IsGap, settled_stay}
-use Rattle.line_cursor.proofs.Nearer.{first_op, window_within}
+use Rattle.window_rewrite.proofs.Settled.{IsGap, settled_stay}
+use Rattle.window_rewrite.proofs.WindowPlaces.{first_op, window_within}
 use Rattle.call_tests.specs.Windows.{GaveWay}
 
 -- a run of two in a listing's rows is a window
