@@ -47,6 +47,8 @@ pub struct Rule {
     pub right: Vec<(Letter, u32, u32)>,
     /// The registers that its left side names and its mask doesn't have, and the flags that its mask doesn't have.
     pub dead: u32,
+    /// Whether its right side names a register more.
+    pub needs_scratch: bool,
 }
 
 /// The entries of a table by the keys of their left sides, each key's in their order. One that fits only where an earlier one does is left out.
@@ -81,9 +83,12 @@ impl Rules {
             let key = left.iter().fold(0, |key, (letter, ..)| longer(key, &naming.named(letter)));
             let dead_registers = !entry.mask & ((1 << naming.count) - 1);
             let dead = u32::from(dead_registers) | u32::from(!entry.mask >> 4) * N;
+            let right = letters_of(&entry.right);
+            let named = 1u32.checked_shl(u32::from(naming.count)).map_or(0, |end| !(end - 1) & 0xf);
+            let needs_scratch = right.iter().any(|(_, uses, writes)| (uses | writes) & named != 0);
             let alike = rules.by_left.entry(key).or_default();
-            if !alike.iter().any(|rule| rule.dead == dead && rule.right.len() == entry.right.len()) {
-                alike.push(Rule { right: letters_of(&entry.right), dead });
+            if !alike.iter().any(|rule| rule.dead == dead && rule.right.len() == right.len() && (needs_scratch || !rule.needs_scratch)) {
+                alike.push(Rule { right, dead, needs_scratch });
             }
             rules.longest = rules.longest.max(left.len());
         }

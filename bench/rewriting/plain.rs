@@ -39,12 +39,25 @@ use std::time::Instant;
 /// The place behind the last one.
 const END: u32 = u32::MAX;
 
-/// A window of instructions, by their places, and the registers that the names r0, r1 and so on stand for.
+/// A window of instructions, by their places, and the registers that the names r0, r1 and so on stand for, so many of them.
 #[derive(Clone, Copy)]
 struct Window {
     places: [u32; LONGEST],
     count: usize,
     order: [u8; 8],
+    named: u8,
+}
+
+impl Window {
+    /// With the least scratch register that is free for a rule, if the rule needs one.
+    fn with_scratch(mut self, rule: &Rule, live: u32) -> Option<Window> {
+        if rule.needs_scratch {
+            let named = &self.order[..usize::from(self.named)];
+            let free = (0..8).find(|register| !named.contains(register) && live >> register & 1 == 0)?;
+            self.order[usize::from(self.named)] = free;
+        }
+        Some(self)
+    }
 }
 
 /// A listing that is being rewritten. Places are those of the given listing: a window's new instructions stand at its first ones, and its others are gone.
@@ -116,18 +129,22 @@ impl<'a> Rewriter<'a> {
         is_kept
     }
 
-    fn applies(&mut self, rule: &Rule, window: &Window) -> bool {
+    /// The window with the registers under which an entry applies to it, if it does.
+    fn applied(&mut self, rule: &Rule, window: &Window) -> Option<Window> {
         let after = self.live.after(window.places[window.count - 1] as usize);
-        after & under(&window.order, rule.dead) == 0
-            && self.are_labels_kept(window, rule.right.len())
-            && self.is_reached(window, rule.right.len())
+        if after & under(&window.order, rule.dead) != 0 {
+            return None;
+        }
+        let window = window.with_scratch(rule, after)?;
+        let applies = self.are_labels_kept(&window, rule.right.len()) && self.is_reached(&window, rule.right.len());
+        applies.then_some(window)
     }
 
     /// The best entry at a place: of those that apply there the lowest with the longest left side.
     fn best(&mut self, place: u32) -> Option<(Window, &'a Rule)> {
         let rules = self.rules;
-        let mut window = Window { places: [0; LONGEST], count: 0, order: [0; 8] };
-        let mut keys = [0; LONGEST];
+        let mut window = Window { places: [0; LONGEST], count: 0, order: [0; 8], named: 0 };
+        let mut keys = [(0, 0); LONGEST];
         let mut naming = Naming::new();
         let (mut at, mut key) = (place, 0);
         while at != END && window.count < rules.longest {
@@ -140,16 +157,18 @@ impl<'a> Rewriter<'a> {
                 break;
             }
             key = longer(key, &named);
-            keys[window.count] = key;
+            keys[window.count] = (key, naming.count);
             window.places[window.count] = at;
             window.count += 1;
             at = self.next[at as usize];
         }
         window.order = naming.order;
         while window.count > 0 {
-            if let Some(found) = rules.by_left.get(&keys[window.count - 1]) {
-                if let Some(rule) = found.iter().find(|rule| self.applies(rule, &window)) {
-                    return Some((window, rule));
+            let (key, named) = keys[window.count - 1];
+            window.named = named as u8;
+            if let Some(found) = rules.by_left.get(&key) {
+                if let Some(applied) = found.iter().find_map(|rule| Some((self.applied(rule, &window)?, rule))) {
+                    return Some(applied);
                 }
             }
             window.count -= 1;

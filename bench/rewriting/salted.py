@@ -1,6 +1,6 @@
 #!/usr/bin/env python3
 """Puts so many windows into a listing that may be replaced: as many behind each function's label, where no branch or literal comes nearer to its reach and no
-flag is live. Use: salted.py WINDOWS < listing > salted"""
+flag is live. With a table they are the left sides of those of its entries whose right side names a register more. Use: salted.py WINDOWS [TABLE] < listing > salted"""
 import re
 import sys
 
@@ -17,8 +17,25 @@ def window(number):
     ][number % 3]
 
 
+def sides(entry, word):
+    return [line.removeprefix(word) for line in entry.split("\n") if line.startswith(word)]
+
+
+def last_register(texts):
+    return max((int(name) for text in texts for name in re.findall(r"\br(\d)\b", text)), default=-1)
+
+
+def windows_of(table):
+    """The left sides of a table whose right sides name a register more, as a function from a number to one of them in some of r0 to r7."""
+    with open(table, encoding="ascii") as file:
+        entries = file.read().split("entry\n")[1:]
+    lefts = [sides(entry, "left ") for entry in entries if last_register(sides(entry, "right ")) > last_register(sides(entry, "left "))]
+    return lambda number: [re.sub(r"\br(\d)\b", lambda name: f"r{(int(name[1]) + number) % 8}", text) for text in lefts[number % len(lefts)]]
+
+
 def main():
     windows = int(sys.argv[1])
+    window_of = windows_of(sys.argv[2]) if len(sys.argv) > 2 else window
     sys.stdin.reconfigure(encoding="latin-1")
     sys.stdout.reconfigure(encoding="latin-1")
     lines = sys.stdin.readlines()
@@ -30,7 +47,7 @@ def main():
         if line in functions:
             passed += 1
             while written < windows * passed // count:
-                sys.stdout.writelines(f"\t{text}\n" for text in window(written))
+                sys.stdout.writelines(f"\t{text}\n" for text in window_of(written))
                 written += 1
 
 
