@@ -1,2 +1,4 @@
 pub mod Flow
 pub mod Shapes
+pub mod Reached
+pub mod Marks

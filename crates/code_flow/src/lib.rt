@@ -3,7 +3,11 @@
 
 mod finding;
 pub mod laws;
+mod marks;
+mod reaching;
 mod way;
 
 pub use finding::ways_of;
+pub use marks::Reached;
+pub use reaching::reached;
 pub use way::{Next, Way, Ways};

@@ -14,7 +14,8 @@ use Rattle.thumb_model.specs.Steps.{label_place, loads_literal, word_of_place, w
 use Rattle.thumb_model.specs.Literals.{HasLiterals, is_word_place}
 use Rattle.thumb_model.specs.ReplacedLines.{is_op, labels_kept}
 use Rattle.thumb_model.proofs.Points.{point_places}
-use Rattle.flow_tidy.specs.Tidied.{aimed, aimed_line, aimed_lines, is_branch}
+use Rattle.listing_parser.specs.Retargeting.{aimed, aimed_line, aimed_lines}
+use Rattle.flow_tidy.specs.Tidied.{is_branch}
 use Rattle.flow_tidy.proofs.Ways.{second, some_naming}
 
 abbrev pub to_label : Name → Mention

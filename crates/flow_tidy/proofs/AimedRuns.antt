@@ -16,9 +16,10 @@ use Rattle.thumb_model.specs.Flow.{Way, way, Leads, Onward, ToPlace, AnyPoint, O
 use Rattle.thumb_model.specs.Same.{Alike, begun, here_or_ended}
 use Rattle.thumb_model.proofs.Simulation.{Advance, sooner, reached}
 use Rattle.thumb_model.proofs.Follow.{Keeps, state}
-use Rattle.flow_tidy.specs.Reached.{Reached, point, along}
+use Rattle.code_flow.specs.Reached.{Reached, point, along}
 use Rattle.flow_tidy.specs.Chains.{is_always, Hops, HopsBy}
-use Rattle.flow_tidy.specs.Tidied.{Setting, is_branch, GoesToEnd, aimed_lines}
+use Rattle.listing_parser.specs.Retargeting.{aimed_lines}
+use Rattle.flow_tidy.specs.Tidied.{Setting, is_branch, GoesToEnd}
 use Rattle.flow_tidy.proofs.Ways.{label_is_point}
 use Rattle.flow_tidy.proofs.Removed.{append_nothing, same_events}
 use Rattle.flow_tidy.proofs.Aimed.{to_label, aimed_code, get_aimed, get_other, name_stays, aim_stays, points_stay, point_forth, point_back, count_stays, literal_stays, literals_stay, fits_stays, code_aimed}

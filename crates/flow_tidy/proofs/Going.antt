@@ -12,7 +12,7 @@ use Rattle.thumb_model.specs.Flow.{Way, Leads, Onward, ToPlace, AnyPoint, Out, w
 use Rattle.thumb_model.specs.Replaced.{moved, move_label, replaced}
 use Rattle.thumb_model.proofs.Lists.{get_drop, get_take, get_front, get_back, take_all}
 use Rattle.thumb_model.proofs.Moved.{AreNoCalls, IsReplacement, IsOutside, fetch_outside, points_moved, place_moved}
-use Rattle.flow_tidy.specs.Reached.{Reached, point, along}
+use Rattle.code_flow.specs.Reached.{Reached, point, along}
 use Rattle.flow_tidy.proofs.Ways.{lead_to, way_to, ways_of_to, way_back, way_forth, one_of_map, one_of_unmap, points_to}
 
 -- an instruction that is no call, at whose place no code label stands unless an instruction follows, and which leads to the next place alone, if it is reached

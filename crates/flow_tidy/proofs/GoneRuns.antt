@@ -20,7 +20,7 @@ use Rattle.thumb_model.proofs.Tied.{TargetTied, LandingTied, NextTied, ActTied, 
 use Rattle.thumb_model.proofs.Moved.{data_moved, label_place_moved, point_at_moved, count_stays, place_moved, fits_stays, literals_stay}
 use Rattle.thumb_model.proofs.Points.{point_is}
 use Rattle.thumb_model.proofs.Follow.{Keeps, state}
-use Rattle.flow_tidy.specs.Reached.{Reached, point, along}
+use Rattle.code_flow.specs.Reached.{Reached, point, along}
 use Rattle.flow_tidy.proofs.Ways.{label_is_point, aim_is_point}
 use Rattle.flow_tidy.proofs.Going.{MayGo, new, to, is_replacement, all_outside, fetch, next_place, same_next, aim_moved}
 

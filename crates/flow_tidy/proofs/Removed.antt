@@ -21,7 +21,7 @@ use Rattle.thumb_model.proofs.Moved.{one_of_back}
 use Rattle.thumb_model.proofs.LinesReplaced.{code_replaced}
 use Rattle.thumb_model.proofs.LinesReplaced.{outside_of}
 use Rattle.thumb_model.proofs.Follow.{Keeps, state}
-use Rattle.flow_tidy.specs.Reached.{Reached, point}
+use Rattle.code_flow.specs.Reached.{Reached, point}
 use Rattle.flow_tidy.specs.Tidied.{Setting, is_branch, GoesToNext, IsIdle, lines_without}
 use Rattle.flow_tidy.proofs.Ways.{one_of_first, aim_is_point}
 use Rattle.flow_tidy.proofs.Going.{MayGo, reached_forth, reached_back}

@@ -1,5 +1,5 @@
-pub mod Reached
 pub mod Chains
 pub mod Tidied
 pub mod Laws
 pub mod Worked
+pub mod Tidying

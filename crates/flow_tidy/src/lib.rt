@@ -1,4 +1,11 @@
-//! What it means to tidy a listing's branches and what nothing reaches: definitions, and the laws that hold of them.
+//! Tidying a listing's branches and what nothing reaches.
 #![tactic(auto)]
 
+mod errors;
 pub mod laws;
+mod tidied;
+mod tidying;
+
+pub use errors::TidyError;
+pub use tidied::Tidy;
+pub use tidying::tidy;

@@ -103,9 +103,12 @@ shaped n (Some r) = Ok r
 abbrev pub most_lines : ℕ
 most_lines = 262144
 
+abbrev pub longest_line : ℕ
+longest_line = 1024
+
 -- line n is one too many or too long, or it is no line, or it is read
 unfoldable pub checked_line : Placed → Result Read (ℕ × Kind)
-checked_line l = if nat_lt most_lines l.number || nat_lt 1024 (length l.text) then Err (l.number, kind.Limit) else shaped l.number (read_line l)
+checked_line l = if nat_lt most_lines l.number || nat_lt longest_line (length l.text) then Err (l.number, kind.Limit) else shaped l.number (read_line l)
 
 abbrev pub with_front : List Read → Result (List Read) (ℕ × Kind) → Result (List Read) (ℕ × Kind)
 with_front front (Ok rs) = Ok (front ++ rs)

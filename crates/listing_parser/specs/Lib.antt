@@ -10,6 +10,7 @@ pub mod Targets
 pub mod Parsing
 pub mod Verdicts
 pub mod Replacing
+pub mod Retargeting
 pub mod Results
 pub mod ReadAgain
 pub mod Namings

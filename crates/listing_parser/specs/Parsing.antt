@@ -1,7 +1,7 @@
 -- Which texts are listings, and the first line by which a text is refused.
-use Rattle.std.specs.Prelude.{◌≡◌, ℕ, List, [], ◌∷◌, ◌++◌, map, false, Some, None, Ok, Err}
+use Rattle.std.specs.Prelude.{◌≡◌, ℕ, List, [], ◌∷◌, ◌++◌, map, false, Option, Some, None, Ok, Err}
 use Rattle.ascii_scan.specs.Lines.{lines_in}
-use Rattle.thumb_model.specs.Listing.{Line}
+use Rattle.thumb_model.specs.Listing.{Line, Mention}
 use Rattle.listing_parser.specs.declared.errors.Kind.{Kind}
 use Rattle.listing_parser.specs.declared.errors.Kind.TheVariants as kind
 use Rattle.listing_parser.specs.Targets.{DefineOnce, IsFirstAgain, functions, first_target}
@@ -39,3 +39,7 @@ text_of_lines (l ∷ ls) = l.text ++ text_of_lines ls
 -- a line of its own: a tab, the canonical text and a newline
 unfoldable pub own_line : Instr → List ℕ
 own_line i = 9 ∷ (text_of (shown_of i None) ++ 10 ∷ [])
+
+-- and with what the instruction mentions
+unfoldable pub line_mentioning : Instr → Option Mention → List ℕ
+line_mentioning i mention = 9 ∷ (text_of (shown_of i mention) ++ 10 ∷ [])

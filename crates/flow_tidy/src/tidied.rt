@@ -1,0 +1,9 @@
+//! What tidying gives.
+use listing_parser::Listing;
+
+/// A listing that was tidied, and how many changes were made.
+#[derive(Drop)]
+pub struct Tidy {
+    pub listing: Listing,
+    pub changes: u64,
+}
