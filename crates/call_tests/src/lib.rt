@@ -2,6 +2,8 @@
 #![tactic(auto)]
 
 #[cfg(test)]
+mod branches;
+#[cfg(test)]
 mod layouts;
 #[cfg(test)]
 mod live_items;

@@ -1,11 +1,11 @@
 -- Replacing lines defines no name again, and makes no more places.
-use Rattle.std.proofs.Common.{◌≡◌, ◌∙◌, inl, inr, ℕ, zero, suc, ◌+◌, ◌-◌, ◌<◌, ◌≤◌, ◌^◌, ◌==◌, ◌&&◌, ◌||◌, Bool, true, false, List, [], ◌∷◌, ◌++◌, length, map, take, drop, refl, sym, ap, arith, true≢false, append-nil, append_assoc, get_or, lt-ltb, Some, None}
+use Rattle.std.proofs.Common.{◌≡◌, ◌∙◌, inl, inr, ℕ, zero, suc, ◌+◌, ◌-◌, ◌<◌, ◌≤◌, ◌^◌, ◌==◌, ◌&&◌, ◌||◌, Bool, true, false, List, [], ◌∷◌, ◌++◌, length, map, take, drop, refl, sym, ap, arith, true≢false, append-nil, append_assoc, get_or, lt-ltb, Option, Some, None}
 use Rattle.std.specs.Prelude.{nat_lt, slice_get}
 use Rattle.std.proofs.lemmas.Bool.{cases_Bool, false_from_ne_true}
 use Rattle.std.proofs.lemmas.List.{length-append}
 use Rattle.std.proofs.Math.Seq.{drop-cons}
 use Rattle.thumb_instr.specs.declared.instr.Instr.{Instr}
-use Rattle.thumb_model.specs.Listing.{Name, Statement, Nothing, Runs, Words, Aligns, Sets, Line, Place, Op, Word, plain, places_in, places_of, is_op_place}
+use Rattle.thumb_model.specs.Listing.{Name, Statement, Nothing, Runs, Words, Aligns, Sets, Line, Mention, Place, Op, Word, plain, places_in, places_of, is_op_place}
 use Rattle.thumb_model.specs.Layout.{is_among}
 use Rattle.thumb_model.specs.ReplacedLines.{is_op, without, labels_kept, new_line, replaced_lines}
 use Rattle.thumb_model.specs.Cuts.{AreOps}
@@ -13,6 +13,7 @@ use Rattle.thumb_model.proofs.Lists.{get_drop, length_map, length_drop}
 use Rattle.thumb_model.proofs.Cuts.{without_none}
 use Rattle.thumb_model.proofs.LinesReplaced.{places_replaced}
 use Rattle.listing_parser.specs.Targets.{set_names, defined_in, DefineOnce}
+use Rattle.listing_parser.specs.Retargeting.{aimed, aimed_line, aimed_lines}
 use Rattle.listing_parser.proofs.FirstTwice.{first_twice, is_again}
 use Rattle.listing_parser.proofs.LabelLemmas.{or_false, or_true, among_append}
 use Rattle.listing_parser.proofs.TwiceLemmas.{once_none, none_once}
@@ -168,6 +169,71 @@ still_few write p (suc n) is ls one few ops limit =
     let behind = length_drop (p + suc n) (places_of ls) in
     omega arith
 
+-- ---- a branch that goes elsewhere ----
+
+aimed_sets : (label : Name) (s : Statement) → is_op s ≡ true → set_names (aimed label s) ≡ []
+aimed_sets label Nothing e = refl
+aimed_sets label (Runs i m) e = refl
+aimed_sets label (Words vs) e = refl
+aimed_sets label (Aligns size most) e = refl
+aimed_sets label (Sets name address) e = absurd (true≢false (sym e))
+
+once_branch : (write : Instr → Option Mention → List ℕ) (label : Name) (known : List Name) (l : Line) (ls : List Line) → is_op l.statement ≡ true → Once known ls → Once known (aimed_line write label l ∷ ls)
+unfolding Once
+once_branch write label known l ls op f j other w =
+    let sets : set_names (aimed label l.statement) ≡ [] = aimed_sets label l.statement op in
+    once_from j other (aimed_line write label l) ls
+    (ap (is_again other) sets)
+    (ap (λ (ns : List Name). first_twice (j + 1) (other ++ ns) ls) sets ∙ f (j + 1) (other ++ []) (within_none other known w))
+
+once_aimed : (write : Instr → Option Mention → List ℕ) (p : ℕ) (label : Name) (k j : ℕ) (known other : List Name) (ls : List Line) → Within other known → first_twice k known ls ≡ None
+    → first_twice j other (aimed_lines write p label ls) ≡ None
+unfolding Once
+once_aimed write p label k j known other [] w e = refl
+once_aimed write p label k j known other (l ∷ ls) w e =
+    let parts = once_parts k known l ls e in
+    elim (cases_Bool (is_op l.statement && (p == 0))) [
+      | inl h ↦
+          let op = and_first (is_op l.statement) (p == 0) h in
+          let defined : defined_in l ≡ l.names ++ [] = ap (λ (ns : List Name). l.names ++ ns) (op_sets l.statement op) in
+          let here : is_again known (l.names ++ []) ≡ false = ap (is_again known) (sym defined) ∙ parts.0 in
+          let rest : first_twice (k + 1) (known ++ (l.names ++ [])) ls ≡ None = ap (λ (ns : List Name). first_twice (k + 1) (known ++ ns) ls) (sym defined) ∙ parts.1 in
+          rw h (once_kept k known l l.names (aimed_line write label l ∷ ls) here
+          (once_branch write label (known ++ (l.names ++ [])) l ls op
+          (λ i some v. once_within (k + 1) i (known ++ (l.names ++ [])) some ls v rest))
+          j other w)
+      | inr h ↦ rw h (once_from j other l (aimed_lines write (p - length (places_in l.statement)) label ls) (not_again_within other known (defined_in l) w parts.0)
+          (once_aimed write (p - length (places_in l.statement)) label (k + 1) (j + 1) (known ++ defined_in l) (other ++ defined_in l) ls (within_same other known (defined_in l) w) parts.1))
+    ]
+
+pub aimed_once : (write : Instr → Option Mention → List ℕ) (p : ℕ) (label : Name) (ls : List Line) → DefineOnce ls → DefineOnce (aimed_lines write p label ls)
+aimed_once write p label ls once = none_once (aimed_lines write p label ls) (once_aimed write p label 1 1 [] [] ls (within_self []) (once_none ls once))
+
+kept_places : (l : Line) (ns : List Name) (ls : List Line) → places_of (labels_kept l ns ++ ls) ≡ places_of ls
+kept_places l [] ls = refl
+kept_places l (n ∷ ns) ls = refl
+
+aimed_place : (label : Name) (s : Statement) → length (places_in (aimed label s)) ≡ length (places_in s)
+aimed_place label Nothing = refl
+aimed_place label (Runs i m) = refl
+aimed_place label (Words vs) = refl
+aimed_place label (Aligns size most) = refl
+aimed_place label (Sets name address) = refl
+
+pub aimed_as_many : (write : Instr → Option Mention → List ℕ) (p : ℕ) (label : Name) (ls : List Line) → length (places_of (aimed_lines write p label ls)) ≡ length (places_of ls)
+aimed_as_many write p label [] = refl
+aimed_as_many write p label (l ∷ ls) = elim (cases_Bool (is_op l.statement && (p == 0))) [
+  | inl h ↦ rw h
+      (ap (λ (ps : List Place). length ps) (kept_places l l.names (aimed_line write label l ∷ ls))
+      ∙ length-append (places_in (aimed label l.statement)) (places_of ls)
+      ∙ ap (λ n. n + length (places_of ls)) (aimed_place label l.statement)
+      ∙ sym (length-append (places_in l.statement) (places_of ls)))
+  | inr h ↦ rw h
+      (length-append (places_in l.statement) (places_of (aimed_lines write (p - length (places_in l.statement)) label ls))
+      ∙ ap (λ n. length (places_in l.statement) + n) (aimed_as_many write (p - length (places_in l.statement)) label ls)
+      ∙ sym (length-append (places_in l.statement) (places_of ls)))
+]
+
 -- ---- line by line ----
 
 pub without_op : (n : ℕ) (l : Line) (ls : List Line) → (nat_lt 0 n && is_op l.statement) ≡ true → without n (l ∷ ls) ≡ without (n - 1) ls
@@ -190,6 +256,23 @@ kept_step f out all xs i n x new h at other is so_far =
     (ap (λ (l : Line). l ∷ without n (map f (drop (i + 1) xs))) is
     ∙ sym (without_other n (f x) (map f (drop (i + 1) xs)) other)
     ∙ ap (λ ys. without n (map f ys)) (sym (drop_step xs i x h at)))
+    ∙ so_far
+
+-- the branch's own line, in place of what stands there
+pub branch_step : {A : Type 0} (f : A → Line) (write : Instr → Option Mention → List ℕ) (label : Name) (out named branched new after all : List Line) (xs : List A) (i p : ℕ) (x : A) (branch : Instr) (m : Option Mention) (own : Line)
+    → i < length xs → x ≡ get_or xs i x → p ≡ 0 → (f x).statement ≡ Runs branch m
+    → own ≡ record { names = []; statement = Runs branch (Some (record { name = label; plus = 0 })); text = write branch (Some (record { name = label; plus = 0 })); front = [] }
+    → named ≡ out ++ labels_kept (f x) (f x).names → branched ≡ named ++ own ∷ [] → new ≡ branched ++ without 0 after → after ≡ map f (drop (i + 1) xs)
+    → out ++ aimed_lines write p label (map f (drop i xs)) ≡ all → new ≡ all
+branch_step f write label out named branched new after all xs i p x branch m own h at z op is names own_line others behind so_far =
+    let kept : List Line = labels_kept (f x) (f x).names in
+    let here : aimed_lines write p label (map f (drop i xs)) ≡ kept ++ own ∷ map f (drop (i + 1) xs) = rw (drop_step xs i x h at, z, op, is) refl in
+    others
+    ∙ ap (λ (ls : List Line). branched ++ ls) (without_none after ∙ behind)
+    ∙ ap (λ (ls : List Line). ls ++ map f (drop (i + 1) xs)) (own_line ∙ ap (λ (ls : List Line). ls ++ own ∷ []) names)
+    ∙ append_assoc (out ++ kept) (own ∷ []) (map f (drop (i + 1) xs))
+    ∙ append_assoc out kept (own ∷ map f (drop (i + 1) xs))
+    ∙ ap (λ (ls : List Line). out ++ ls) (sym here)
     ∙ so_far
 
 pub ruleset skipping = (without_op, without_other)

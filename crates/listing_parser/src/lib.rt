@@ -10,6 +10,7 @@ mod listing;
 mod parsing;
 mod reading;
 mod replacing;
+mod retargeting;
 mod splitting;
 mod statement;
 mod targets;

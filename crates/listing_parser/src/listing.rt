@@ -7,6 +7,7 @@ use crate::errors::Memory;
 use crate::index::Index;
 use crate::line::{Line, Place, Statement};
 use crate::replacing::replaced_lines;
+use crate::retargeting::retargeted_lines;
 use std::alloc::Global;
 use std::marker::Model;
 use thumb_instr::Instr;
@@ -197,12 +198,14 @@ impl Listing {
         let lines = replaced_lines(alloc, &self.lines, place as usize, count as usize, instrs)?;
         Listing::of(alloc, lines)
     }
+
     /// The listing with the branch at a place going to a code label. Its line becomes its bytes up to and with its last label's colon, where it has one, then
     /// a line of the branch's own: a tab, its canonical text with the label's name and a newline. All other lines stay byte for byte.
-    pub fn retargeted(&self, _alloc: Global, _place: u32, _name: &[u8]) -> Result<Listing, Memory>
-        requires op { is_op_place (slice_get (places_of self.now) _place) ≡ true }
-        ensures { IfOk result (λ l. l ≡ aimed_lines line_mentioning _place _name.now self.now) }
+    pub fn retargeted(&self, alloc: Global, place: u32, name: &[u8]) -> Result<Listing, Memory>
+        requires op { is_op_place (slice_get (places_of self.now) place) ≡ true }
+        ensures { IfOk result (λ l. l ≡ aimed_lines line_mentioning place name.now self.now) }
     {
-        Err(Memory)
+        let lines = retargeted_lines(alloc, &self.lines, place as usize, name)?;
+        Listing::of(alloc, lines)
     }
 }

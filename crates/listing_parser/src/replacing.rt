@@ -4,6 +4,8 @@ ghost use Rattle.thumb_model.specs.ReplacedLines.{is_op, labels_kept, new_line, 
 ghost use Rattle.listing_parser.specs.Views.{line_view, mention_view, names_view, statement_view, value_view};
 ghost use Rattle.listing_parser.specs.ToldView.{mark_view};
 ghost use Rattle.listing_parser.specs.Parsing.{own_line};
+ghost use Rattle.thumb_syntax.specs.ParsedView.{shown};
+ghost use Rattle.thumb_syntax.specs.Spelling.{text_of};
 
 use crate::errors::Memory;
 use crate::line::{Line, Mark, Mention, Statement, Value};
@@ -176,18 +178,11 @@ pub fn add_labels(alloc: Global, out: &mut Vec<Line>, line: &Line) -> Result<(),
     Ok(())
 }
 
-/// The line of a new instruction: a tab, its canonical text and a newline.
-#[tactic(auto, unfolding(crate::specs::Parsing::own_line))]
-fn own_text(alloc: Global, instr: &Instr) -> Result<Vec<u8>, Memory>
-    ensures { IfOk result (λ v. v.items ≡ own_line instr.now) }
+/// The text of a line of its own for an instruction: a tab, its canonical text and a newline.
+pub fn own_text(alloc: Global, parsed: &Parsed<'_>) -> Result<Vec<u8>, Memory>
+    ensures { IfOk result (λ v. v.items ≡ 9 ∷ (text_of (shown parsed.now) ++ 10 ∷ [])) }
 {
-    let written = write_instr(
-        alloc,
-        &Parsed {
-            instr: *instr,
-            label: None,
-        },
-    )?;
+    let written = write_instr(alloc, parsed)?;
     let mut text = Vec::with_capacity(alloc, written.len() + 2)?;
     text.push(b'\t')?;
     text.extend_from_slice(&written)?;
@@ -195,11 +190,18 @@ fn own_text(alloc: Global, instr: &Instr) -> Result<Vec<u8>, Memory>
     Ok(text)
 }
 
-/// A line of its own for an instruction that mentions nothing: a tab, its canonical text and a newline.
+/// The line of an instruction that mentions nothing.
+#[tactic(auto, unfolding(crate::specs::Parsing::own_line))]
 pub fn new_line(alloc: Global, instr: &Instr) -> Result<Line, Memory>
     ensures { IfOk result (λ l. line_view l ≡ new_line own_line instr.now) }
 {
-    let text = own_text(alloc, instr)?;
+    let text = own_text(
+        alloc,
+        &Parsed {
+            instr: *instr,
+            label: None,
+        },
+    )?;
     Ok(Line {
         names: Vec::new(alloc),
         statement: Statement::Runs {
@@ -232,7 +234,7 @@ fn is_skipped(left: usize, line: &Line) -> bool
 
 /// Adds lines, without the first instructions among them.
 #[tactic(auto, using(crate::proofs::ReplaceLemmas::skipping))]
-fn add_without(
+pub fn add_without(
     alloc: Global,
     out: &mut Vec<Line>,
     lines: &[Line],

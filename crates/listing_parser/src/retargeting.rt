@@ -1,0 +1,73 @@
+//! A branch that goes elsewhere, by lines.
+ghost use Rattle.std.specs.Prelude.{◌≡◌, [], Some, map, IfOk};
+ghost use Rattle.thumb_model.specs.Listing.{Runs};
+ghost use Rattle.listing_parser.specs.Views.{line_view};
+ghost use Rattle.listing_parser.specs.Parsing.{line_mentioning};
+ghost use Rattle.listing_parser.specs.Retargeting.{aimed_lines};
+
+use crate::errors::Memory;
+use crate::line::{Line, Mark, Mention, Statement};
+use crate::replacing::{add_labels, add_without, copy_line, own_text};
+use std::alloc::Global;
+use thumb_instr::Instr;
+use thumb_syntax::{Label, Parsed};
+
+/// A line of its own for a branch to a label.
+#[tactic(auto, unfolding(crate::specs::Parsing::line_mentioning))]
+fn branch_line(alloc: Global, instr: &Instr, name: &[u8]) -> Result<Line, Memory>
+    ensures { IfOk result (λ l. line_view l ≡ record {
+      names = [];
+      statement = Runs instr.now (Some (record { name = name.now; plus = 0 }));
+      text = line_mentioning instr.now (Some (record { name = name.now; plus = 0 }));
+      front = [];
+    }) }
+{
+    let label = Some(Label { name, added: 0 });
+    let text = own_text(
+        alloc,
+        &Parsed {
+            instr: *instr,
+            label,
+        },
+    )?;
+    let name = name.to_vec(alloc)?;
+    Ok(Line {
+        names: Vec::new(alloc),
+        statement: Statement::Runs {
+            instr: *instr,
+            mention: Some(Mention { name, plus: 0 }),
+        },
+        mark: Mark::Nothing,
+        text,
+        front: 0,
+    })
+}
+
+/// The lines with the branch at a place going to a label.
+pub fn retargeted_lines(
+    alloc: Global,
+    lines: &[Line],
+    place: usize,
+    name: &[u8],
+) -> Result<Vec<Line>, Memory>
+    ensures { IfOk result (λ v. map line_view v.items ≡ aimed_lines line_mentioning place name.now (map line_view lines.now)) }
+{
+    let mut out = Vec::with_capacity(alloc, lines.len())?;
+    let mut passing = place;
+    for (n, line) in lines.iter().enumerate() {
+        if passing == 0 {
+            if let Statement::Runs { instr, .. } = &line.statement {
+                add_labels(alloc, &mut out, line)?;
+                let branch = branch_line(alloc, instr, name)?;
+                out.push(branch)?;
+                let (_, after) = lines.split_at(n + 1);
+                add_without(alloc, &mut out, after, 0)?;
+                return Ok(out);
+            }
+        }
+        passing = passing.saturating_sub(line.statement.places());
+        let line = copy_line(alloc, line)?;
+        out.push(line)?;
+    }
+    Ok(out)
+}
