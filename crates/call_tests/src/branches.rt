@@ -32,7 +32,11 @@ fn branches_go_elsewhere(rt: HostRuntime) -> Result<(), Fail> {
         ("w: .word 1\nfar: bx lr\n", 0, None),
     ] {
         let found = aimed(rt.alloc(), text.as_bytes(), place, b"far")?;
-        assert_eq!(rt; found.as_deref(), want.map(|text| text.as_bytes()), "{text}{place}");
+        assert_eq!(rt;
+            found.as_deref(),
+            want.map(|text| text.as_bytes()),
+            "{text}{place}"
+        );
     }
     Ok(())
 }

@@ -10,4 +10,6 @@ mod live_items;
 #[cfg(test)]
 mod propagation;
 #[cfg(test)]
+mod reaching;
+#[cfg(test)]
 mod windows;

@@ -1,1 +1,3 @@
 mod Lists
+pub mod Marking
+mod Reaches

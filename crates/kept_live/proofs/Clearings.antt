@@ -15,7 +15,7 @@ use Rattle.code_flow.specs.declared.way.Ways.{Ways}
 use Rattle.code_flow.specs.Flow.{AreWays}
 use Rattle.liveness.specs.declared.graph.Graph.{Graph}
 use Rattle.liveness.specs.Live.{set_at}
-use Rattle.liveness.specs.Points.{marked, is_true, HasPoints}
+use Rattle.code_flow.specs.Points.{marked, is_true, HasPoints}
 use Rattle.liveness.specs.Graph.{ways_at}
 use Rattle.kept_live.specs.declared.counted.PointSets.{PointSets}
 use Rattle.kept_live.specs.declared.walk.Walk.{Walk}

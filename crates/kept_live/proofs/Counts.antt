@@ -9,7 +9,7 @@ use Rattle.thumb_instr.specs.declared.items.Items.{Items}
 use Rattle.thumb_instr.specs.Items.{has}
 use Rattle.thumb_instr.proofs.Bits.{has_none}
 use Rattle.liveness.specs.Live.{word_of, set_at}
-use Rattle.liveness.specs.Points.{marked}
+use Rattle.code_flow.specs.Points.{marked}
 use Rattle.kept_live.specs.declared.counted.PointSets.{PointSets}
 use Rattle.kept_live.specs.Counted.{points_with, AreCounted}
 

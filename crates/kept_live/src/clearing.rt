@@ -4,7 +4,7 @@ ghost use Rattle.std.specs.Prelude.{[], ◌∷◌, ◌≡◌, ◌≢◌, ◌<◌
 ghost use Rattle.thumb_instr.specs.Items.{has, one_of};
 ghost use Rattle.shrinking_sets.specs.Straight.{IsApart};
 ghost use Rattle.liveness.specs.Live.{set_at};
-ghost use Rattle.liveness.specs.Points.{marked};
+ghost use Rattle.code_flow.specs.Points.{marked};
 ghost use Rattle.liveness.specs.Graph.{JumpsTo, ways_at, AreCallers, AreReturns};
 ghost use Rattle.kept_live.specs.Counted.{AreCounted};
 ghost use Rattle.kept_live.specs.Passing.{passes_points, passes_to, Keeps};

@@ -18,7 +18,7 @@ use Rattle.code_flow.specs.declared.way.Ways.{Ways}
 use Rattle.code_flow.specs.Flow.{way_list, next_of, AreWays}
 use Rattle.liveness.specs.declared.graph.Jump.{Jump}
 use Rattle.liveness.specs.declared.graph.Callers.{Callers}
-use Rattle.liveness.specs.Points.{marked}
+use Rattle.code_flow.specs.Points.{marked}
 use Rattle.liveness.specs.Ways.{AreAllWays}
 use Rattle.liveness.specs.Graph.{leads_to, some_leads, some_return, other_than, jump_from, ways_in, ways_at, JumpsTo, IsLast, IsJump, AreCallers, AreReturns}
 use Rattle.liveness.proofs.Moves.{get_within, some_same}

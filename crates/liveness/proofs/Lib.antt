@@ -13,4 +13,3 @@ pub mod Visits
 pub mod Waits
 pub mod Jumps
 pub mod Settles
-pub mod Marks

@@ -7,9 +7,9 @@ use Rattle.std.proofs.lemmas.List.{length-set, length-replicate}
 use Rattle.thumb_instr.specs.Items.{one_of}
 use Rattle.thumb_instr.proofs.Listed.{one_of_append}
 use Rattle.liveness.specs.declared.waiting.Waiting.{Waiting}
-use Rattle.liveness.specs.Points.{marked}
+use Rattle.code_flow.specs.Points.{marked}
 use Rattle.liveness.specs.Waiting.{count_marked, left, AreWaiting, WaitMore, IsTaken}
-use Rattle.liveness.proofs.Marks.{set_here, set_else}
+use Rattle.code_flow.proofs.Marking.{set_here, set_else}
 use Rattle.liveness.proofs.Paths.{or_cases, or_left, or_right}
 
 -- ---- how many are marked ----

@@ -11,7 +11,7 @@ use Rattle.liveness.specs.declared.graph.Jump.{Jump}
 use Rattle.liveness.specs.declared.graph.Callers.{Callers}
 use Rattle.liveness.specs.declared.graph.Graph.{Graph}
 use Rattle.liveness.specs.Ways.{AreAllWays}
-use Rattle.liveness.specs.Points.{HasPoints}
+use Rattle.code_flow.specs.Points.{HasPoints}
 
 -- ---- ways ----
 

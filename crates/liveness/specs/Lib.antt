@@ -1,5 +1,4 @@
 pub mod Ways
-pub mod Points
 pub mod Passes
 pub mod Live
 pub mod Kept

@@ -3,7 +3,7 @@ use Rattle.std.specs.Prelude.{◌≡◌, ◌≢◌, ℕ, ◌+◌, ◌<◌, ◌�
 use Rattle.std.specs.Int.{from_bool}
 use Rattle.thumb_instr.specs.Items.{one_of}
 use Rattle.liveness.specs.declared.waiting.Waiting.{Waiting}
-use Rattle.liveness.specs.Points.{marked}
+use Rattle.code_flow.specs.Points.{marked}
 
 -- how many places are marked
 unfoldable pub count_marked : List Bool → ℕ

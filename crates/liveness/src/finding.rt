@@ -7,11 +7,10 @@ ghost use Rattle.liveness.specs.Live.{IsLive};
 
 use crate::flowing::{Flow, ways_and_flow};
 use crate::graph::graph_of;
-use crate::leaving::ways;
 use crate::sets::Live;
 use crate::settling::settle;
 use crate::visiting::Found;
-use code_flow::Ways;
+use code_flow::{Ways, ways};
 use listing_parser::{Listing, Memory};
 use std::alloc::{AllocError, Global};
 use step_ledger::{Ledger, Steps};

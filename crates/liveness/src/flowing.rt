@@ -10,9 +10,8 @@ ghost use Rattle.liveness.specs.Kept.{is_straight, some_reads, onward_writes, Ha
 ghost use Rattle.liveness.specs.Through.{uses_among};
 
 use crate::kept::is_straight;
-use crate::leaving::target;
 use arrayvec::ArrayVec;
-use code_flow::{Ways, ways_of};
+use code_flow::{Ways, target, ways_of};
 use listing_parser::{Listing, Place};
 use thumb_instr::items::{C, LR, N, V, Z};
 use thumb_instr::{Instr, Items, shape};

@@ -5,8 +5,7 @@ ghost use Rattle.code_flow.specs.Flow.{way_list};
 ghost use Rattle.liveness.specs.Ways.{AreAllWays};
 ghost use Rattle.liveness.specs.Graph.{is_return, jump_from, some_return, ways_at, AreCallers, AreReturns, IsGraph};
 
-use crate::points::all_points;
-use code_flow::{Next, Way, Ways};
+use code_flow::{Next, Way, Ways, all_points};
 use listing_parser::Listing;
 use std::alloc::{AllocError, Global};
 

@@ -1,5 +1,5 @@
 use Rattle.std.proofs.Common.{◌∙◌, get_or, add-one, ap, inl, inr, arith}
-use Rattle.liveness.specs.Points.{marked}
+use Rattle.code_flow.specs.Points.{marked}
 use Rattle.liveness.proofs.Jumps.{among_these, one_more}
 use Rattle.liveness.proofs.Waits.{more_on}
 use Rattle.liveness.proofs.settling.tell_returns.Goals as goal

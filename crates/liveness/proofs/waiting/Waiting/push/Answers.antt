@@ -1,7 +1,7 @@
 use Rattle.std.proofs.Common.{◌∙◌, ap, refl, true}
 use Rattle.std.proofs.lemmas.Option.{slice_get_read}
-use Rattle.liveness.specs.Points.{is_true}
-use Rattle.liveness.proofs.Marks.{set_here}
+use Rattle.code_flow.specs.Points.{is_true}
+use Rattle.code_flow.proofs.Marking.{set_here}
 use Rattle.liveness.proofs.Waits.{pushed}
 use Rattle.liveness.proofs.waiting.Waiting.push.Goals as goal
 

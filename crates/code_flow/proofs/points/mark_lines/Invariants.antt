@@ -2,8 +2,8 @@ use Rattle.std.proofs.Common.{◌≡◌, ◌+◌, ◌||◌, ℕ, drop, length, m
 use Rattle.thumb_model.specs.Items.{one_of}
 use Rattle.thumb_model.specs.Listing.{places_of, label_places, labels_from, return_places}
 use Rattle.listing_parser.specs.Views.{line_view}
-use Rattle.liveness.specs.Points.{marked}
-use Rattle.liveness.proofs.points.mark_lines.Given as goal
+use Rattle.code_flow.specs.Points.{marked}
+use Rattle.code_flow.proofs.points.mark_lines.Given as goal
 
 abbrev pub invariant-loop-line : goal.invariant-loop-line
 invariant-loop-line l = record {

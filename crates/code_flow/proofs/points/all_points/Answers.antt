@@ -1,9 +1,9 @@
 use Rattle.std.proofs.Common.{◌∙◌, ◌||◌, Bool, List, ap}
 use Rattle.thumb_model.specs.Items.{one_of}
 use Rattle.thumb_model.specs.Listing.{code_of, places_of, labels_from, label_places, return_places}
-use Rattle.liveness.specs.Points.{marked}
-use Rattle.liveness.proofs.Marks.{points_marked, none_marked}
-use Rattle.liveness.proofs.points.all_points.Goals as goal
+use Rattle.code_flow.specs.Points.{marked}
+use Rattle.code_flow.proofs.Marking.{points_marked, none_marked}
+use Rattle.code_flow.proofs.points.all_points.Goals as goal
 
 pub returns-clause-points : goal.returns-clause-points
 returns-clause-points c = points_marked (code_of c.args.listing.now) c.mark_lines.new.marks.items (λ q.

@@ -2,9 +2,9 @@ use Rattle.std.proofs.Common.{◌≡◌, ◌∙◌, ◌∷◌, ◌+◌, ◌||◌
 use Rattle.thumb_model.specs.Items.{one_of}
 use Rattle.thumb_model.specs.Listing.{Line, places_of, label_places, labels_from, return_places}
 use Rattle.listing_parser.specs.Views.{line_view}
-use Rattle.liveness.specs.Points.{marked}
-use Rattle.liveness.proofs.Marks.{line_step, next_line, places_next}
-use Rattle.liveness.proofs.points.mark_lines.Goals as goal
+use Rattle.code_flow.specs.Points.{marked}
+use Rattle.code_flow.proofs.Marking.{line_step, next_line, places_next}
+use Rattle.code_flow.proofs.points.mark_lines.Goals as goal
 
 pub loop-line-preserved : goal.loop-line-preserved
 loop-line-preserved c =

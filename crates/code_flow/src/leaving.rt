@@ -6,7 +6,8 @@ ghost use Rattle.thumb_model.specs.Flow.{ways};
 ghost use Rattle.listing_parser.specs.Views.{mention_view};
 ghost use Rattle.code_flow.specs.Flow.{AreWays, way_list};
 
-use code_flow::{Ways, ways_of};
+use crate::finding::ways_of;
+use crate::way::Ways;
 use listing_parser::{Listing, Mention, Place};
 
 /// The ways on from a place: what stands there, and where it may go on. None exactly at a data word or past the last place.
@@ -29,7 +30,7 @@ pub fn ways(listing: &Listing, place: u32) -> Option<Ways>
 }
 
 /// The place of the code label that is mentioned.
-pub(crate) fn target(listing: &Listing, mention: Option<&Mention>) -> Option<u32>
+pub fn target(listing: &Listing, mention: Option<&Mention>) -> Option<u32>
     ensures { result ≡ aim_of (code_of listing.now) (option_map (λ r. mention_view r.now) mention.entry) }
 {
     match mention {

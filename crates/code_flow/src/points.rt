@@ -3,7 +3,7 @@ ghost use Rattle.std.specs.Prelude.{◌≡◌, ℕ, ◌+◌, ◌<◌, ◌==◌, 
 ghost use Rattle.thumb_model.specs.Items.{one_of};
 ghost use Rattle.thumb_model.specs.Listing.{code_of, is_op_place, label_places, labels_from, places_of, return_places};
 ghost use Rattle.listing_parser.specs.Views.{line_view, statement_view};
-ghost use Rattle.liveness.specs.Points.{HasPoints, is_call_statement, marked, some_name};
+ghost use Rattle.code_flow.specs.Points.{HasPoints, is_call_statement, marked, some_name};
 
 use listing_parser::{Line, Listing, Statement, is_call};
 use std::alloc::{AllocError, Global};

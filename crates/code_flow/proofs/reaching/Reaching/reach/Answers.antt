@@ -1,0 +1,33 @@
+use Rattle.std.proofs.Common.{◌<◌, ◌∙◌, length, refl, ap, arith, true}
+use Rattle.std.proofs.lemmas.Option.{slice_get_read}
+use Rattle.code_flow.specs.Points.{is_true}
+use Rattle.code_flow.proofs.Marking.{set_here}
+use Rattle.code_flow.proofs.Reaches.{marks_more, still_reaching}
+use Rattle.code_flow.proofs.reaching.Reaching.reach.Goals as goal
+
+pub returns-clause-reaching : goal.returns-clause-reaching
+returns-clause-reaching c =
+    let within : c.args.place < length c.args.self.now.marks.items = omega (arith, c.if-at-len.false, c.len.ensures) in
+    λ code others r a.
+    still_reaching code others c.args.self.now _ c.args.place
+    (record {
+      within = within;
+      new = ap is_true (slice_get_read c.args.self.now.marks.items _ c.args.place c.index.result.now refl within c.index.ensures) ∙ c.if-index.false;
+      waits = c.in_ok-push.ensures.items;
+      marks = refl;
+    })
+    r a
+
+pub returns-clause-more : goal.returns-clause-more
+returns-clause-more c =
+    let within : c.args.place < length c.args.self.now.marks.items = omega (arith, c.if-at-len.false, c.len.ensures) in
+    marks_more c.args.self.now _ c.args.place
+    (record {
+      within = within;
+      new = ap is_true (slice_get_read c.args.self.now.marks.items _ c.args.place c.index.result.now refl within c.index.ensures) ∙ c.if-index.false;
+      waits = c.in_ok-push.ensures.items;
+      marks = refl;
+    })
+
+pub returns-clause-here : goal.returns-clause-here
+returns-clause-here c = λ l. set_here c.args.self.now.marks.items c.args.place true l
