@@ -19,7 +19,7 @@ use Rattle.liveness.specs.Changes.{AreReadFrom, WasLive}
 use Rattle.liveness.specs.Through.{live_through, nothing, AreThrough}
 use Rattle.liveness.proofs.Moves.{fits_in, get_within, map_back, move_way, some_same}
 use Rattle.liveness.proofs.FlowLaws.{flow_back}
-use Rattle.liveness.proofs.GivesWay.{GivesWay, gives_way_alone}
+use Rattle.liveness.proofs.GivesWay.{GivesWay, gives_way}
 use Rattle.liveness.proofs.Keeping.{alone_reads}
 use Rattle.liveness.proofs.KeptSets.{IsTested, is_live}
 
@@ -100,7 +100,7 @@ module _ (lines : List Line) (place old new : ℕ) (sets : Sets) (w : WasLive li
     code_is = ap code_of w.is ∙ code_left w.write w.before place old w.window w.instrs keeps (sym w.old_many) ∙ ap (λ n. replaced code place n w.instrs) (sym w.old_many)
 
     gives : GivesWay code left to place w.window w.instrs
-    gives = gives_way_alone code place w.window w.instrs keeps
+    gives = gives_way code place w.window w.instrs keeps
 
     -- the instructions that stand there are the new ones
     pub new_ones : (is : List Instr) → length is ≡ new → ((k : ℕ) (i : Instr) → slice_get is k ≡ Some i → slice_get (places_of lines) (place + k) ≡ Some (plain i)) → is ≡ w.instrs

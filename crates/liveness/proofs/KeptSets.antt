@@ -1,27 +1,25 @@
 -- The sets of the listing in which a window gave way: all that is live, or all but what comes by ways to the window's place.
-use Rattle.std.proofs.Common.{◌≡◌, ℕ, ◌+◌, ◌-◌, ◌<◌, ◌≤◌, Bool, true, false, List, [], ◌∷◌, ◌++◌, length, length-append, take, drop, map, Some, sym, ap, ◌∙◌, subst, ◌⊎◌, inl, inr, arith, ◌↔◌, eq-eqb}
+use Rattle.std.proofs.Common.{◌≡◌, ℕ, ◌+◌, ◌-◌, ◌<◌, ◌≤◌, Bool, true, false, List, [], ◌∷◌, ◌++◌, length, length-append, take, drop, map, sym, ap, ◌∙◌, subst, ◌⊎◌, inl, inr, arith, ◌↔◌}
 use Rattle.std.specs.Prelude.{slice_get}
 use Rattle.std.proofs.lemmas.Option.{slice_get_past}
-use Rattle.std.proofs.lemmas.Bool.{cases_lt, cases_eq}
+use Rattle.std.proofs.lemmas.Bool.{cases_lt}
 use Rattle.thumb_instr.specs.declared.instr.Instr.{Instr}
 use Rattle.thumb_instr.specs.declared.items.Items.{Items}
-use Rattle.thumb_instr.specs.Items.{one_of, has}
+use Rattle.thumb_instr.specs.Items.{has}
 use Rattle.thumb_instr.specs.Shape.{uses_of, writes_of}
 use Rattle.thumb_model.specs.Listing.{Code}
-use Rattle.thumb_model.specs.Flow.{Way, Onward, way, ways, Follows, Reads, now, later, LiveAfter}
-use Rattle.thumb_model.specs.Replaced.{moved, replaced}
+use Rattle.thumb_model.specs.Flow.{Way, Onward, way, ways, Follows, Reads, LiveAfter}
 use Rattle.thumb_model.proofs.Lists.{get_drop, get_take, get_front, get_back, length_map, take_all, length_drop}
 use Rattle.thumb_model.proofs.Moved.{IsOutside}
 use Rattle.liveness.specs.declared.flowing.Flow.{Flow}
 use Rattle.liveness.specs.declared.kept.NewSets.{NewSets}
 use Rattle.liveness.specs.Live.{Sets, word_of, set_at, IsLive}
-use Rattle.liveness.specs.Kept.{AreFlowsFrom, replaced_sets, KeepsLive}
+use Rattle.liveness.specs.Kept.{AreFlowsFrom, replaced_sets}
 use Rattle.liveness.specs.Through.{live_through, IsReadStill, AreThrough}
-use Rattle.liveness.specs.Growing.{Carries, IsGrowing, BeginsGrowing}
-use Rattle.liveness.proofs.Moves.{get_map, map_back, drop_at, drop_whole, move_leads, move_way, runs_at}
-use Rattle.liveness.proofs.GivesWay.{GivesWay, gives_way, gives_way_alone}
-use Rattle.liveness.proofs.Keeping.{only, passing, still_read, enters, read_before, read_within, within_read}
-use Rattle.liveness.proofs.Paths.{or_left, or_right, has_zero, within}
+use Rattle.liveness.proofs.Moves.{get_map, map_back, drop_at, move_way, runs_at}
+use Rattle.liveness.proofs.GivesWay.{GivesWay}
+use Rattle.liveness.proofs.Keeping.{only, still_read, enters, read_before, read_within, within_read}
+use Rattle.liveness.proofs.Paths.{has_zero}
 
 -- what is tested of a window and of new instructions, and the sets that are made
 pub record IsTested (window new : List Instr) (before after : Items) (ahead : List Flow) (kept : List NewSets) : Type 0 where
@@ -250,100 +248,6 @@ module _ (code new_code : Code) (to : ℕ → ℕ) (p : ℕ) (window new : List 
         | inr o ↦ subst (λ y. LiveAfter new_code y x) (sym o.2) ((after_new x o.0 o.1).1 (new_reads x (o.0 + 1) (omega (arith, o.1)) (sym (mid_after x r o.0 o.1 o.2) ∙ h)))
       ]
 
-  -- ---- and all of it but what comes by ways to the window's place ----
-
-  -- the way of a place that isn't new, where it was
-  old_way : (r q k : ℕ) (w : Way) → Apart q → r ≡ to q → slice_get (ways new_code r) k ≡ Some w → (v : Way) × (slice_get (ways code q) k ≡ Some v) × (w ≡ move_way to v)
-  old_way r q k w a e g = map_back (move_way to) (ways code q) k w (sym (ap (λ ws. slice_get ws k) (ap (ways new_code) e ∙ at.ways_moved q a)) ∙ g)
-
-  -- and that of a new instruction
-  new_way : (r j k : ℕ) (w : Way) (i : Instr) → r ≡ p + j → slice_get new j ≡ Some i → slice_get (ways new_code r) k ≡ Some w → way (uses_of i) (writes_of i) Onward ≡ w
-  new_way r j k w i e g h = only (ways new_code r) _ k w (ap (ways new_code) e ∙ runs_at new_code p new j i at.new_runs g) h
-
-  made_uses : (r k : ℕ) (w : Way) (x : ℕ) → slice_get (ways new_code r) k ≡ Some w → one_of x w.reads ≡ true → has (set_at made.before r) x ≡ true
-  made_uses r k w x e h =
-      elim (origin r) [
-        | inl o ↦
-            let v = old_way r o.0 k w o.1 o.2 e in
-            ap (λ w. has w x) (old_before r o.0 o.1 o.2) ∙ (live.before o.0 x (within code o.0 k v.0 v.1)).1 (now o.0 k v.0 v.1 (ap (λ (u : Way). one_of x u.reads) (sym v.2) ∙ h))
-        | inr o ↦
-            let i = drop_at new o.0 o.1 in
-            let one = new_way r o.0 k w i.0 o.2 i.1 e in
-            mid_before x r o.0 o.1 o.2 ∙ subst (λ (is : List Instr). live_through is behind_it x ≡ true) (sym i.2) (or_left _ _ (ap (λ (u : Way). one_of x u.reads) one ∙ h))
-      ]
-
-  -- along a way of a place that isn't new
-  carries_old : (r q k : ℕ) (w : Way) (s : ℕ) → Apart q → r ≡ to q → slice_get (ways new_code r) k ≡ Some w → Follows new_code r w.leads s → one_of s (p ∷ []) ≡ false → Carries made r w s
-  carries_old r q k w s a e g f n = record {
-    after = λ x h. ap (λ w. has w x) (old_after r q a e) ∙ (live.after q x (within code q k v.0 v.1)).1 (k, v.0, there.0, v.1, there.1, seen x h);
-    before = λ x h m. ap (λ w. has w x) (old_before r q a e) ∙ (live.before q x (within code q k v.0 v.1)).1 (later q k v.0 there.0 v.1 (ap (λ (u : Way). one_of x u.writes) (sym v.2) ∙ m) there.1 (seen x h));
-  }
-    where
-      v : (v : Way) × (slice_get (ways code q) k ≡ Some v) × (w ≡ move_way to v)
-      v = old_way r q k w a e g
-
-      there : (t : ℕ) × Follows code q v.0.leads t × (s ≡ to t)
-      there = at.follows_back q a v.0.leads s (subst (λ y. Follows new_code y (move_leads to v.0.leads) s) e (subst (λ (u : Way). Follows new_code r u.leads s) v.2 f))
-
-      apart : Apart there.0
-      apart =
-          elim (at.follows_outside q a k v.0 there.0 v.1 there.1) [
-            | inr h ↦ inr h
-            | inl h ↦ elim (cases_eq there.0 p) [
-              | inr d ↦ inl (omega (arith, h, d))
-              | inl c ↦
-                  let b = at.before there.0 h in
-                  let here : s ≡ p = there.2 ∙ b ∙ c in
-                  let is : one_of s (p ∷ []) ≡ true = or_left _ _ (eq-eqb s p here) in
-                  absurd (let bad : true ≡ false = sym is ∙ n in cc)
-            ]
-          ]
-
-      seen : (x : ℕ) → has (set_at made.before s) x ≡ true → Reads code x there.0
-      seen x h = reads_old x there.0 (sym (ap (λ w. has w x) (old_before s there.0 apart there.2)) ∙ h)
-
-  -- along that of a new instruction
-  carries_new : (r j k : ℕ) (w : Way) (s : ℕ) → j < length new → r ≡ p + j → slice_get (ways new_code r) k ≡ Some w → Follows new_code r w.leads s → Carries made r w s
-  carries_new r j k w s l e g f = record {
-    after = λ x h. mid_after x r j l e ∙ seen x h;
-    before = λ x h m.
-        mid_before x r j l e
-        ∙ subst (λ (is : List Instr). live_through is behind_it x ≡ true) (sym i.2) (or_right (one_of x (uses_of i.0)) _ (passing _ _ (seen x h) (ap (λ (u : Way). one_of x u.writes) one ∙ m)));
-  }
-    where
-      i : (i : Instr) × (slice_get new j ≡ Some i) × (drop j new ≡ i ∷ drop (j + 1) new)
-      i = drop_at new j l
-
-      one : way (uses_of i.0) (writes_of i.0) Onward ≡ w
-      one = new_way r j k w i.0 e i.1 g
-
-      next : s ≡ r + 1
-      next = subst (λ (u : Way). Follows new_code r u.leads s) (sym one) f
-
-      seen : (x : ℕ) → has (set_at made.before s) x ≡ true → live_through (drop (j + 1) new) behind_it x ≡ true
-      seen x h =
-          elim (cases_lt (j + 1) (length new)) [
-            | inl m ↦ sym (mid_before x s (j + 1) m (omega (arith, next, e))) ∙ h
-            | inr m ↦
-                let b = at.behind (p + length window) (omega arith) in
-                let last : s ≡ to (p + length window) = omega (arith, next, e) in
-                subst (λ (is : List Instr). live_through is behind_it x ≡ true) (sym (drop_whole new (j + 1) (omega (arith, l))))
-                (leave x (reads_old x (p + length window) (sym (ap (λ w. has w x) (old_before s (p + length window) (inr (omega arith)) last)) ∙ h)))
-          ]
-
-  pub is_growing : IsGrowing new_code (p ∷ []) made
-  is_growing = record {
-    before_len = made_before_len;
-    after_len = made_after_len;
-    read = made_reads;
-    live = made_live;
-    uses = made_uses;
-    carries = λ r k w s e f n. elim (origin r) [
-      | inl o ↦ carries_old r o.0 k w s o.1 o.2 e f n
-      | inr o ↦ carries_new r o.0 k w s o.1 o.2 e f
-    ];
-  }
-
   -- ---- and all of it, where the set before the window stays ----
 
   module _ (stays : (x : ℕ) → live_through new behind_it x ≡ true → has before.bits x ≡ true) where
@@ -383,20 +287,3 @@ module _ (code new_code : Code) (to : ℕ → ℕ) (p : ℕ) (window new : List 
       before = λ r x l. (made_reads r x, reads_made r x l);
       after = λ r x l. (made_live r x, live_made r x l);
     }
-
--- what is tested keeps the sets of live items
-pub keeps_live : (lead window new : List Instr) (before after : Items) (ahead : List Flow) (kept : List NewSets) → IsTested (lead ++ window) (lead ++ new) before after ahead kept
-    → ((x : ℕ) → live_through (lead ++ new) (λ y. has after.bits y) x ≡ true → has before.bits x ≡ true) → KeepsLive lead window new before after ahead kept
-keeps_live lead window new before after ahead kept t stays code p sets live led at flows eb ea =
-    let n : length lead + length window ≡ length (lead ++ window) = sym (length-append lead window) in
-    let end : p + length lead + length window ≡ p + length (lead ++ window) = let m = n in omega arith in
-    let there : AreFlowsFrom code (p + length (lead ++ window)) ahead = subst (λ y. AreFlowsFrom code y ahead) end flows in
-    let last : set_at sets.after (p + length (lead ++ window) - 1) ≡ after.bits = ap (λ y. set_at sets.after (y - 1)) (sym end) ∙ ea in
-    subst (λ (y : ℕ). IsLive (replaced code (p + length lead) (length window) new) (replaced_sets p y kept sets)) (sym n)
-    (is_live code (replaced code (p + length lead) (length window) new) (moved (p + length lead) (length window - length new)) p (lead ++ window) (lead ++ new) sets before after ahead kept t live
-    (gives_way code p lead window new led at) there eb last stays)
-
--- what is tested with no code that leads up makes sets that grow
-pub begins_growing : (window new : List Instr) (before after : Items) (ahead : List Flow) (kept : List NewSets) → IsTested window new before after ahead kept → BeginsGrowing window new before after ahead kept
-begins_growing window new before after ahead kept t code p sets live at flows eb ea =
-    is_growing code (replaced code p (length window) new) (moved p (length window - length new)) p window new sets before after ahead kept t live (gives_way_alone code p window new at) flows eb ea

@@ -1,6 +1,5 @@
 pub mod Moves
 pub mod FlowLaws
-pub mod Carried
 mod GivesWay
 mod GaveWay
 mod Keeping

@@ -7,31 +7,14 @@ use Rattle.thumb_instr.specs.declared.items.Items.{Items}
 use Rattle.thumb_instr.specs.Items.{one_of, has}
 use Rattle.thumb_instr.specs.Shape.{uses_of, writes_of}
 use Rattle.thumb_model.proofs.Lists.{get_front, get_back, length_drop}
-use Rattle.liveness.specs.declared.flowing.Flow.{Flow}
 use Rattle.liveness.specs.declared.kept.NewSets.{NewSets}
-use Rattle.liveness.specs.Through.{live_through, read_along, nothing, IsReadStill, AreThrough}
+use Rattle.liveness.specs.Through.{live_through, nothing, AreThrough}
 use Rattle.liveness.proofs.Paths.{has_zero}
 
 -- an item is live before straight code by whether it is live after it
 same_after : (is : List Instr) (x : ℕ) (a b : ℕ → Bool) → a x ≡ b x → live_through is a x ≡ live_through is b x
 same_after [] x a b e = e
 same_after (i ∷ is) x a b e = ap (λ t. one_of x (uses_of i) || (t && not (one_of x (writes_of i)))) (same_after is x a b e)
-
--- through straight code and what follows it
-pub through_both : (is js : List Instr) (x : ℕ) (after between : ℕ → Bool) → between x ≡ live_through js after x → live_through is between x ≡ live_through (is ++ js) after x
-through_both [] js x after between e = e
-through_both (i ∷ is) js x after between e = ap (λ t. one_of x (uses_of i) || (t && not (one_of x (writes_of i)))) (through_both is js x after between e)
-
--- from a place in the first of two lists on, or in the second
-pub drop_first : {A : Type 0} (xs ys : List A) (k : ℕ) → k ≤ length xs → drop k xs ++ ys ≡ drop k (xs ++ ys)
-drop_first xs ys zero h = refl
-drop_first [] ys (suc k) h = absurd (omega arith)
-drop_first (x ∷ xs) ys (suc k) h = drop_first xs ys k (omega arith)
-
-pub drop_second : {A : Type 0} (xs ys : List A) (k j : ℕ) → k ≡ length xs + j → drop j ys ≡ drop k (xs ++ ys)
-drop_second [] ys k j e = ap (λ n. drop n ys) (let f : j ≡ k = omega arith in f)
-drop_second (x ∷ xs) ys zero j e = absurd (omega arith)
-drop_second (x ∷ xs) ys (suc k) j e = drop_second xs ys k j (omega arith)
 
 -- a set less another is empty only where the other has all of it
 pub is_within : (a b left : ℕ) → ((x : ℕ) → has left x ≡ (has a x && not (has b x))) → left ≡ 0 → (x : ℕ) → has a x ≡ true → has b x ≡ true
@@ -41,15 +24,6 @@ is_within a b left e none x h = held (has a x) (has b x) (sym (e x) ∙ ap (λ w
     held true true e h = refl
     held true false e h = absurd (cc)
     held false b e h = absurd (cc)
-
--- all is read still where what is read no longer, less what is read ahead, is empty
-pub none_lost : (old new : List Instr) (ahead : List Flow) (m n was is gone read left : ℕ) → ((x : ℕ) → has m x ≡ false) → ((x : ℕ) → has n x ≡ false)
-    → ((x : ℕ) → has was x ≡ live_through old (λ y. has m y) x) → ((x : ℕ) → has is x ≡ live_through new (λ y. has n y) x) → ((x : ℕ) → has gone x ≡ (has was x && not (has is x)))
-    → ((x : ℕ) → has read x ≡ read_along ahead x) → ((x : ℕ) → has left x ≡ (has gone x && not (has read x))) → left ≡ 0 → IsReadStill old new ahead
-none_lost old new ahead m n was is gone read left em en ew ei eg er el e x hw hi =
-    let w : has was x ≡ true = ew x ∙ same_after old x (λ y. has m y) nothing (em x) ∙ hw in
-    let i : has is x ≡ false = ei x ∙ same_after new x (λ y. has n y) nothing (en x) ∙ hi in
-    sym (er x) ∙ is_within gone read left el e x (eg x ∙ ap (λ b. b && not (has is x)) w ∙ ap not i)
 
 -- what straight code doesn't read isn't live before it where nothing is after it
 pub not_read : (is : List Instr) (m was : ℕ) → ((x : ℕ) → has m x ≡ false) → ((x : ℕ) → has was x ≡ live_through is (λ y. has m y) x) → (x : ℕ) → live_through is nothing x ≡ false → has was x ≡ false

@@ -6,12 +6,12 @@ use Rattle.thumb_instr.specs.declared.instr.Instr.TheVariants as instr
 use Rattle.thumb_instr.specs.declared.items.Items.{Items}
 use Rattle.thumb_instr.specs.Items.{one_of, has}
 use Rattle.thumb_instr.specs.Window.{is_in_window}
-use Rattle.thumb_model.specs.Listing.{plain, Mention, Op, Label, Code, is_code}
+use Rattle.thumb_model.specs.Listing.{plain, Label, Code, is_code}
 use Rattle.thumb_model.specs.Flow.{Way, Leads, Onward, ToPlace, AnyPoint, Out, ways}
 use Rattle.thumb_model.specs.Replaced.{move_label, replaced}
 use Rattle.liveness.specs.declared.flowing.Flow.{Flow}
 use Rattle.liveness.specs.declared.kept.NewSets.{NewSets}
-use Rattle.liveness.specs.Live.{Sets, set_at, IsLive}
+use Rattle.liveness.specs.Live.{Sets}
 
 -- ---- flows ----
 
@@ -43,13 +43,9 @@ pub record FlowOf (ws : List Way) (f : Flow) : Type 0 where
   pub reads : (x : ℕ) → has f.reads.bits x ≡ some_reads ws x
   pub onward : HasThese (onward_writes ws) f.onward
 
--- the flows of places from q on, and of all
+-- the flows of places from q on
 abbrev pub AreFlowsFrom : Code → ℕ → List Flow → Type 0
 AreFlowsFrom code q fs = (k : ℕ) (f : Flow) → slice_get fs k ≡ Some f → FlowOf (ways code (q + k)) f
-
-pub record AreFlows (code : Code) (fs : List Flow) : Type 0 where
-  pub as_many : length fs ≡ length code.places
-  pub flows : AreFlowsFrom code 0 fs
 
 -- ---- straight code ----
 
@@ -62,12 +58,6 @@ is_straight (instr.BranchIf c d) = false
 is_straight (instr.Branch d) = false
 is_straight (instr.Call d) = false
 is_straight i = true
-
--- straight code from p on leads up to the place behind it: these instructions stand there, and a label at most at the first of them
-pub record LeadsUp (code : Code) (p : ℕ) (lead : List Instr) : Type 0 where
-  pub stands : (k : ℕ) (i : Instr) → slice_get lead k ≡ Some i → (m : Option Mention) × (slice_get code.places (p + k) ≡ Some (Op i m))
-  pub straight : list_all is_straight lead ≡ true
-  pub unlabelled : (k : ℕ) (l : Label) → slice_get code.labels k ≡ Some l → (l.place ≤ p) ⊎ (p + length lead < l.place)
 
 -- ---- a replacement ----
 
@@ -86,11 +76,3 @@ replaced_sets p count new sets = record {
   before = take p sets.before ++ (map (λ n. n.before) new ++ drop (p + count) sets.before);
   after = take p sets.after ++ (map (λ n. n.after) new ++ drop (p + count) sets.after);
 }
-
--- wherever straight code leads up to the window and it gives way to the new instructions, with these sets before that code and after the window and these flows ahead of it, all other sets of live items stay, and that code and the new instructions
--- have these
-abbrev pub KeepsLive : List Instr → List Instr → List Instr → Items → Items → List Flow → List NewSets → Type 0
-KeepsLive lead window new before after ahead kept =
-    (code : Code) (p : ℕ) (sets : Sets) → IsLive code sets → LeadsUp code p lead → KeepsAt code (p + length lead) window new → AreFlowsFrom code (p + length lead + length window) ahead
-    → set_at sets.before p ≡ before.bits → set_at sets.after (p + length lead + length window - 1) ≡ after.bits
-    → IsLive (replaced code (p + length lead) (length window) new) (replaced_sets p (length lead + length window) kept sets)

@@ -4,7 +4,6 @@ pub mod Live
 pub mod Kept
 pub mod Changes
 pub mod Through
-pub mod Growing
 pub mod Graph
 pub mod Waiting
 pub mod Settling

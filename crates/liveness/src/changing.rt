@@ -110,7 +110,7 @@ impl Live {
         if !are_read(listing, instrs.as_slice(), before, place + new) {
             return None;
         }
-        Some(new_sets(&[], instrs.as_slice(), after))
+        Some(new_sets(instrs.as_slice(), after))
     }
 
     /// Puts the sets of instructions in place of those of `count` places from one on.

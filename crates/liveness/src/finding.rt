@@ -1,11 +1,9 @@
 //! Live items from scratch: every place waits once, the last first, and again only where a set that it reads has grown.
 ghost use Rattle.std.specs.Prelude.{◌≡◌, ◌+◌, ◌-◌, ◌*◌, ◌^◌, ◌≤◌, min, length, IfOk, OnOk};
 ghost use Rattle.thumb_model.specs.Listing.{code_of, places_of};
-ghost use Rattle.liveness.specs.Kept.{AreFlows};
 ghost use Rattle.liveness.specs.Ways.{AreAllWays};
 ghost use Rattle.liveness.specs.Live.{IsLive};
 
-use crate::flowing::{Flow, ways_and_flow};
 use crate::graph::graph_of;
 use crate::sets::Live;
 use crate::settling::settle;
@@ -30,23 +28,6 @@ pub fn live<L: Ledger>(
 {
     let ways = all_ways(alloc, listing)?;
     live_by(alloc, listing, &ways, steps)
-}
-
-/// The items that are live before and after each place of a listing, and what each place reads and writes on its way to the next. Each place is looked at
-/// once for its ways and its flow.
-pub fn live_and_flows<L: Ledger>(
-    alloc: Global,
-    listing: &Listing,
-    steps: &mut Steps<L>,
-) -> Result<(Live, Vec<Flow>), Memory>
-    ensures live { IfOk result (λ r. IsLive (code_of listing.now) r.0) }
-    ensures flows { IfOk result (λ r. AreFlows (code_of listing.now) r.1.items) }
-    ensures cost { steps.new ≤ steps.old + (19 * length (places_of listing.now) + 1) * length (places_of listing.now) }
-    ensures visited { OnOk result (min (steps.old + length (places_of listing.now)) (2 ^ 64 - 1) ≤ steps.new) }
-{
-    let (ways, flows) = all_ways_and_flows(alloc, listing)?;
-    let live = live_by(alloc, listing, &ways, steps)?;
-    Ok((live, flows))
 }
 
 /// The items that are live before and after each place, whose ways these are.
@@ -86,24 +67,4 @@ pub fn all_ways(alloc: Global, listing: &Listing) -> Result<Vec<Option<Ways>>, A
         all.push(ways(listing, place))?;
     }
     Ok(all)
-}
-
-/// The ways and the flow of each place.
-fn all_ways_and_flows(
-    alloc: Global,
-    listing: &Listing,
-) -> Result<(Vec<Option<Ways>>, Vec<Flow>), AllocError>
-    ensures len { IfOk result (λ all. length all.0.items ≡ length (places_of listing.now)) }
-    ensures ways { IfOk result (λ all. AreAllWays (code_of listing.now) all.0.items) }
-    ensures flows { IfOk result (λ all. AreFlows (code_of listing.now) all.1.items) }
-{
-    let count = listing.place_count();
-    let mut ways = Vec::with_capacity(alloc, count as usize)?;
-    let mut flows = Vec::with_capacity(alloc, count as usize)?;
-    for place in 0..count {
-        let found = ways_and_flow(listing, place);
-        ways.push(found.ways)?;
-        flows.push(found.flow)?;
-    }
-    Ok((ways, flows))
 }

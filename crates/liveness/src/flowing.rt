@@ -1,7 +1,6 @@
 //! What a place reads, and what it writes on its way to the next place.
 ghost use Rattle.std.specs.Prelude.{◌≡◌, ◌<◌, ◌-◌, ◌^◌, ℕ, [], length, Option, true, None, Some};
 ghost use Rattle.thumb_instr.specs.Items.{has, one_of};
-ghost use Rattle.thumb_instr.specs.Window.{is_in_window};
 ghost use Rattle.thumb_model.specs.Listing.{code_of, places_of};
 ghost use Rattle.thumb_model.specs.States.{answered};
 ghost use Rattle.thumb_model.specs.Flow.{ways, ways_of};
@@ -9,7 +8,6 @@ ghost use Rattle.code_flow.specs.Flow.{AreWays, way_list};
 ghost use Rattle.liveness.specs.Kept.{is_straight, some_reads, onward_writes, HasThese, FlowOf, AreFlowsFrom};
 ghost use Rattle.liveness.specs.Through.{uses_among};
 
-use crate::kept::is_straight;
 use arrayvec::ArrayVec;
 use code_flow::{Ways, target, ways_of};
 use listing_parser::{Listing, Place};
@@ -18,9 +16,9 @@ use thumb_instr::{Instr, Items, shape};
 
 /// What some way of a place reads, and what its way straight to the next place writes, where it has one.
 #[derive(Clone, Copy, Debug, PartialEq, Eq)]
-pub struct Flow {
-    pub reads: Items,
-    pub onward: Option<Items>,
+pub(crate) struct Flow {
+    pub(crate) reads: Items,
+    pub(crate) onward: Option<Items>,
 }
 
 impl Default for Flow {
@@ -49,15 +47,25 @@ pub(crate) fn flows_from(listing: &Listing, place: u32) -> ArrayVec<Flow, AHEAD>
         if flows.is_full() {
             return flows;
         }
-        flows.push(ways_and_flow(listing, at).flow);
+        flows.push(flow_at(listing, at));
     }
     flows
 }
 
-/// The flow of an instruction that may stand in a window.
-pub fn flow_of(instr: &Instr) -> Flow
-    requires { is_in_window instr.now ≡ true }
-    ensures { FlowOf (ways_of None instr.now) result }
+/// That of a place where no instruction stands.
+fn nothing() -> Flow
+    ensures { FlowOf [] result }
+{
+    Flow {
+        reads: Items::none(),
+        onward: None,
+    }
+}
+
+/// That of an instruction that goes straight on.
+fn straight(instr: &Instr) -> Flow
+    requires { is_straight instr.now ≡ true }
+    ensures { (aim : Option ℕ) → FlowOf (ways_of aim instr.now) result }
 {
     let shape = shape(instr);
     Flow {
@@ -66,67 +74,21 @@ pub fn flow_of(instr: &Instr) -> Flow
     }
 }
 
-/// The ways and the flow of a place.
-#[derive(Clone, Copy, Debug, PartialEq, Eq)]
-pub(crate) struct WaysAndFlow {
-    pub(crate) ways: Option<Ways>,
-    pub(crate) flow: Flow,
-}
-
-/// Those of a place where no instruction stands.
-fn nothing() -> WaysAndFlow
-    ensures ways { result.ways ≡ None }
-    ensures flow { FlowOf [] result.flow }
-{
-    WaysAndFlow {
-        ways: None,
-        flow: Flow {
-            reads: Items::none(),
-            onward: None,
-        },
-    }
-}
-
-/// Those of an instruction that goes straight on.
-fn straight(instr: &Instr, place: u32) -> WaysAndFlow
-    requires straight { is_straight instr.now ≡ true }
-    requires place { place < 2 ^ 32 - 1 }
-    ensures ways { (aim : Option ℕ) → AreWays place (ways_of aim instr.now) (way_list result.ways) }
-    ensures flow { (aim : Option ℕ) → FlowOf (ways_of aim instr.now) result.flow }
-{
-    let ways = ways_of(instr, None, place);
-    let flow = Flow {
-        reads: ways.first.uses,
-        onward: Some(ways.first.writes),
-    };
-    WaysAndFlow {
-        ways: Some(ways),
-        flow,
-    }
-}
-
-/// Those of any instruction. `target` is the place of the code label that it mentions.
-fn branching(instr: &Instr, target: Option<u32>, place: u32) -> WaysAndFlow
+/// That of any instruction. `target` is the place of the code label that it mentions.
+fn branching(instr: &Instr, target: Option<u32>, place: u32) -> Flow
     requires { place < 2 ^ 32 - 1 }
-    ensures ways { AreWays place (ways_of target instr.now) (way_list result.ways) }
-    ensures flow { FlowOf (ways_of target instr.now) result.flow }
+    ensures { FlowOf (ways_of target instr.now) result }
 {
-    let ways = ways_of(instr, target, place);
-    let flow = Flow {
-        reads: reads_of(ways),
+    Flow {
+        reads: reads_of(ways_of(instr, target, place)),
         onward: onward(instr, target),
-    };
-    WaysAndFlow {
-        ways: Some(ways),
-        flow,
     }
 }
 
-/// The ways and the flow of a place. Most go straight on, and then no label is looked up.
-pub(crate) fn ways_and_flow(listing: &Listing, place: u32) -> WaysAndFlow
+/// The flow of a place. Most go straight on, and then no label is looked up.
+fn flow_at(listing: &Listing, place: u32) -> Flow
     requires { place < length (places_of listing.now) }
-    ensures ways { AreWays place (ways (code_of listing.now) place) (way_list result.ways) }
-    ensures flow { FlowOf (ways (code_of listing.now) place) result.flow }
+    ensures { FlowOf (ways (code_of listing.now) place) result }
 {
     let _count = listing.place_count();
     match listing.place(place) {
@@ -135,12 +97,27 @@ pub(crate) fn ways_and_flow(listing: &Listing, place: u32) -> WaysAndFlow
             Place::Word(_) => nothing(),
             Place::Op { instr, mention } => {
                 if is_straight(&instr) {
-                    straight(&instr, place)
+                    straight(&instr)
                 } else {
                     branching(&instr, target(listing, mention), place)
                 }
             }
         },
+    }
+}
+
+/// Whether control goes on from an instruction to the next place alone, and comes back from nowhere.
+fn is_straight(instr: &Instr) -> bool
+    ensures { result ≡ is_straight instr.now }
+{
+    match *instr {
+        Instr::Bx { .. } => false,
+        Instr::Blx { .. } => false,
+        Instr::Pop { list } => list.number < 256,
+        Instr::BranchIf { .. } => false,
+        Instr::Branch { .. } => false,
+        Instr::Call { .. } => false,
+        _ => true,
     }
 }
 

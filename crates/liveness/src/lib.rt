@@ -10,17 +10,13 @@ mod changing;
 mod finding;
 mod flowing;
 pub mod graph;
-mod growing;
 mod kept;
 mod sets;
 mod settling;
 mod visiting;
 mod waiting;
 
-pub use finding::{all_ways, live, live_and_flows};
-pub use flowing::{Flow, flow_of};
-pub use growing::{Source, grown};
-pub use kept::{LEAD, NewSets, is_straight, keep};
+pub use finding::{all_ways, live};
 pub use sets::Live;
 pub use settling::{settle, some_leads};
 pub use visiting::{Found, Seen, look};

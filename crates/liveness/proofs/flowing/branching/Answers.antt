@@ -4,8 +4,8 @@ use Rattle.code_flow.specs.Flow.{way_list}
 use Rattle.liveness.proofs.FlowLaws.{uses_are}
 use Rattle.liveness.proofs.flowing.branching.Goals as goal
 
-pub returns-clause-flow : goal.returns-clause-flow
-returns-clause-flow c = record {
-  reads = λ x. c.reads_of.ensures x ∙ uses_are c.args.place (ways_of c.args.target c.args.instr.now) (way_list (Some c.ways_of-ways.result)) x c.ways_of-ways.ensures;
+pub returns : goal.returns
+returns c = record {
+  reads = λ x. c.reads_of.ensures x ∙ uses_are c.args.place (ways_of c.args.target c.args.instr.now) (way_list (Some c.ways_of.result)) x c.ways_of.ensures;
   onward = c.onward.ensures;
 }
