@@ -1,4 +1,4 @@
-//! The ways on from an instruction: what it reads and writes, and where it leads.
+//! The ways on from an instruction and from a place of a listing: what is read and written, and where they lead; and the places that runs may come to.
 #![tactic(auto)]
 
 mod finding;
