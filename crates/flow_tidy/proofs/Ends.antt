@@ -236,21 +236,34 @@ cause_leaves s p ToNext ls h = without_leaves s p ls h.i h.mention h.stands
 cause_leaves s p (ToEnd label) ls h = aimed_leaves s p label ls h
 cause_leaves s p Idle ls h = without_leaves s p ls h.i h.mention h.stands
 
-within_room : (s : Setting) (ls : List Line) (cs : List Change) (new : List Line) → AreTidied s ls cs new → (length cs ≤ chains_of ls + most (length (places_of ls))) × (length (places_of new) ≤ length (places_of ls))
-unfolding Leaves
-within_room s ls [] new h = (omega arith, let e : length (places_of new) ≡ length (places_of ls) = ap (λ (l : List Line). length (places_of l)) h.1 in omega arith)
-within_room s ls (c ∷ cs) new h =
-    let one = cause_leaves s c.place c.cause ls h.0.possible.cause in
-    let rest = within_room s (lines_after s c ls) cs new h.1 in
-    (omega (arith, one.0, rest.0), omega (arith, one.1, rest.1))
+-- how many changes there can still be
+unfoldable pub room_of : List Line → ℕ
+room_of ls = chains_of ls + most (length (places_of ls))
+
+pub room_less : (s : Setting) (c : Change) (ls : List Line) → HasCause (code_of ls) c.place c.cause → (room_of (lines_after s c ls) + 1 ≤ room_of ls) × (length (places_of (lines_after s c ls)) ≤ length (places_of ls))
+unfolding room_of Leaves
+room_less s c ls h = cause_leaves s c.place c.cause ls h
 
 last_step : (k c m n z y : ℕ) → k ≤ c + m → c ≤ n → m ≤ z → y ≡ z + n → k ≤ y
 last_step k c m n z y a b d e = omega arith
 
+pub room_few : (ls : List Line) → room_of ls ≤ length (places_of ls) * (length (places_of ls) + 1)
+unfolding room_of
+room_few ls =
+    let n : ℕ = length (places_of ls) in
+    let product : n * (n + 1) ≡ n * n + n = ap (λ m. n * m) (let f : n + 1 ≡ suc n = omega arith in f) ∙ mul-suc n n in
+    last_step (room_of ls) (chains_of ls) (most n) n (n * n) (n * (n + 1)) (omega arith) (chained_few (code_of ls) (places_of ls)) (most_square n) product
+
+within_room : (s : Setting) (ls : List Line) (cs : List Change) (new : List Line) → AreTidied s ls cs new → (length cs ≤ room_of ls) × (length (places_of new) ≤ length (places_of ls))
+within_room s ls [] new h = (omega arith, let e : length (places_of new) ≡ length (places_of ls) = ap (λ (l : List Line). length (places_of l)) h.1 in omega arith)
+within_room s ls (c ∷ cs) new h =
+    let one = room_less s c ls h.0.possible.cause in
+    let rest = within_room s (lines_after s c ls) cs new h.1 in
+    (omega (arith, one.0, rest.0), omega (arith, one.1, rest.1))
+
 -- there are at most so many changes, and no more places
 pub tidying_ends : (s : Setting) (ls : List Line) (cs : List Change) (new : List Line) → AreTidied s ls cs new → (length cs ≤ length (places_of ls) * (length (places_of ls) + 1)) × (length (places_of new) ≤ length (places_of ls))
 tidying_ends s ls cs new h =
-    let n : ℕ = length (places_of ls) in
     let room = within_room s ls cs new h in
-    let product : n * (n + 1) ≡ n * n + n = ap (λ m. n * m) (let f : n + 1 ≡ suc n = omega arith in f) ∙ mul-suc n n in
-    (last_step (length cs) (chains_of ls) (most n) n (n * n) (n * (n + 1)) room.0 (chained_few (code_of ls) (places_of ls)) (most_square n) product, room.1)
+    let few = room_few ls in
+    (omega (arith, room.0, few), room.1)

@@ -7,4 +7,8 @@ pub mod Aimed
 pub mod AimedRuns
 pub mod Whole
 pub mod Ends
+pub mod Hops
+pub mod Lines
+pub mod Making
+pub mod Rounds
 pub mod Worked

@@ -39,7 +39,8 @@ label_same code p a b h k =
     let here : Op h.i (Some h.mention) ≡ Op k.i (Some k.mention) = same_Some _ _ (sym h.stands ∙ k.stands) in
     end_same code h.mention.name a b h.end (subst (λ (x : Name). IsEnd code x b) (sym (same_mention _ _ _ _ here)) k.end)
 
-cause_same : (code : Code) (p : ℕ) (a b : Cause) → rank a ≡ rank b → HasCause code p a → HasCause code p b → a ≡ b
+-- causes that are tried equally soon are one
+pub cause_same : (code : Code) (p : ℕ) (a b : Cause) → rank a ≡ rank b → HasCause code p a → HasCause code p b → a ≡ b
 cause_same code p ToNext ToNext e h k = refl
 cause_same code p (ToEnd a) (ToEnd b) e h k = ap ToEnd (label_same code p a b h k)
 cause_same code p Idle Idle e h k = refl

@@ -3,3 +3,4 @@ pub mod Tidied
 pub mod Laws
 pub mod Worked
 pub mod Tidying
+pub mod Made

@@ -1,8 +1,11 @@
 //! Tidying a listing's branches and what nothing reaches.
 #![tactic(auto)]
 
+mod chains;
+mod changing;
 mod errors;
 pub mod laws;
+mod limits;
 mod tidied;
 mod tidying;
 

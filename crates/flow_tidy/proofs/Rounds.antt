@@ -1,0 +1,65 @@
+-- Change after change: what was made so far, how many changes there can still be, and how many places are visited.
+use Rattle.std.proofs.Common.{◌≡◌, ℕ, ◌+◌, ◌*◌, ◌<◌, ◌≤◌, ◌^◌, List, [], ◌∷◌, ◌++◌, length, length-append, append_assoc, refl, sym, subst, arith}
+use Rattle.std.proofs.Math.Nat.{mul-le-mul_left}
+use Rattle.thumb_model.specs.Listing.{Line, places_of}
+use Rattle.flow_tidy.specs.Tidied.{Setting, Change, lines_after, IsFirst, NonePossible, AreTidied}
+use Rattle.flow_tidy.specs.Tidying.{setting, tidying_cost, AreTidiedBy}
+use Rattle.flow_tidy.specs.Made.{AreMadeBy}
+use Rattle.flow_tidy.proofs.Ends.{room_of, room_less, room_few}
+
+pub nothing_made : (s : Setting) (ls : List Line) → AreMadeBy s ls ls 0
+nothing_made s ls = record { changes = []; counted = refl; lead = λ more new h. h }
+
+pub one_more : (s : Setting) (given ls new : List Line) (n : ℕ) → AreMadeBy s given ls n → (c : Change) → IsFirst s c ls → new ≡ lines_after s c ls → AreMadeBy s given new (n + 1)
+one_more s given ls new n m c f e = record {
+  changes = m.changes ++ c ∷ [];
+  counted = let l = length-append m.changes (c ∷ []) in omega (arith, m.counted);
+  lead = λ more other h.
+      subst (λ (cs : List Change). AreTidied s given cs other) (sym (append_assoc m.changes (c ∷ []) more))
+      (m.lead (c ∷ more) other (f, subst (λ (l : List Line). AreTidied s l more other) e h));
+}
+
+pub all_made : (base : ℕ) (given ls : List Line) (n : ℕ) → AreMadeBy (setting base) given ls n → NonePossible (setting base) ls → AreTidiedBy base given ls n
+all_made base given ls n m h = record {
+  changes = m.changes ++ [];
+  are = m.lead [] ls (h, refl);
+  counted = let l = length-append m.changes [] in omega (arith, m.counted);
+}
+
+-- a change leaves room for the others
+pub room_left : (s : Setting) (ls new : List Line) (c : Change) → IsFirst s c ls → new ≡ lines_after s c ls → (room_of new + 1 ≤ room_of ls) × (length (places_of new) ≤ length (places_of ls))
+room_left s ls new c f e =
+    let r = room_less s c ls f.possible.cause in
+    subst (λ (l : List Line). (room_of l + 1 ≤ room_of ls) × (length (places_of l) ≤ length (places_of ls))) (sym e) r
+
+square_below : (n : ℕ) → n < 2 ^ 32 → n * (n + 1) < 2 ^ 64
+square_below n h =
+    let a : n ≤ 4294967295 = omega arith in
+    let b : n * (n + 1) ≤ n * 4294967296 = mul-le-mul_left n (omega arith) in
+    omega arith
+
+-- so many changes fit into 64 bits
+pub count_fits : (given ls new : List Line) (n : ℕ) → length (places_of given) < 2 ^ 32 → n + room_of ls ≤ room_of given → room_of new + 1 ≤ room_of ls → n + 1 < 2 ^ 64
+count_fits given ls new n h k l =
+    let few = room_few given in
+    let square = square_below (length (places_of given)) h in
+    fits n (room_of ls) (room_of given) (room_of new) _ k l few square
+  where
+    fits : (n a b c z : ℕ) → n + a ≤ b → c + 1 ≤ a → b ≤ z → z < 2 ^ 64 → n + 1 < 2 ^ 64
+    fits n a b c z h k l m = omega arith
+
+-- ---- how many places are visited ----
+
+pub round_spent : (before now after n places here : ℕ) → now ≤ before + n * places → after ≤ now + here → here ≤ places → after ≤ before + (n + 1) * places
+round_spent before now after n places here h k l = grind arith
+
+few_in_all : (n : ℕ) → n ≤ n * (n + 2)
+few_in_all n = let a : n * 1 ≤ n * (n + 2) = mul-le-mul_left n (omega arith) in omega arith
+
+pub all_spent : (before after n : ℕ) (ls : List Line) → after ≤ before + (n + 1) * length (places_of ls) → after ≤ before + tidying_cost ls n
+all_spent before after n ls h =
+    let more : (n + 1) * length (places_of ls) ≤ (n + 1) * (length (places_of ls) * (length (places_of ls) + 2)) = mul-le-mul_left (n + 1) (few_in_all (length (places_of ls))) in
+    more_spent _ _ _ _ h more
+  where
+    more_spent : (a b x y : ℕ) → a ≤ b + x → x ≤ y → a ≤ b + y
+    more_spent a b x y h k = omega arith

@@ -1,0 +1,13 @@
+use Rattle.std.proofs.lemmas.Result.{IfOk-weaker}
+use Rattle.flow_tidy.specs.Tidied.{lines_without, Idle}
+use Rattle.flow_tidy.specs.Tidying.{setting}
+use Rattle.flow_tidy.specs.Made.{IsAccepted, IsMade}
+use Rattle.flow_tidy.proofs.Making.{made}
+use Rattle.flow_tidy.proofs.changing.without_idle.Goals as goal
+
+pub returns : goal.returns
+returns c =
+    let s = setting c.args.base in
+    let here = c.is_idle.ensures.0 c.if-not-is_idle.false in
+    IfOk-weaker c.without.result (IsAccepted s (lines_without s c.args.place c.args.listing.now)) (IsMade s c.args.place 2 c.args.listing.now)
+    (λ r a. made s c.args.place Idle c.args.listing.now r here a) c.without.ensures

@@ -1,0 +1,85 @@
+-- What each step of tidying finds or makes, as the code tells it.
+use Rattle.std.specs.Prelude.{◌≡◌, ℕ, ◌≤◌, ◌==◌, not, Bool, List, ◌++◌, length, Option, Some, None, is_some, option_and_then, slice_get, if◌then◌else◌}
+use Rattle.thumb_model.specs.Listing.{Name, Place, Op, Word, Line, Code, place_of}
+use Rattle.thumb_model.specs.Layout.{Layable}
+use Rattle.flow_tidy.specs.Chains.{is_always, IsEnd}
+use Rattle.flow_tidy.specs.Tidied.{Setting, Cause, Change, is_branch, line_length, lines_by, lines_after, rank, IsPossible, IsFirst, NonePossible, AreTidied}
+
+-- ---- branches ----
+
+-- the label that a branch goes to
+abbrev pub label_of_branch : Option Place → Option Name
+label_of_branch None = None
+label_of_branch (Some (Word v)) = None
+label_of_branch (Some (Op i None)) = None
+label_of_branch (Some (Op i (Some m))) = if is_branch i then Some m.name else None
+
+-- and the label that a branch without a condition goes to
+abbrev pub label_of_always : Option Place → Option Name
+label_of_always None = None
+label_of_always (Some (Word v)) = None
+label_of_always (Some (Op i None)) = None
+label_of_always (Some (Op i (Some m))) = if is_always i then Some m.name else None
+
+abbrev pub if_code : Code → Name → Option Name
+if_code code name = if is_some (place_of code name) then Some name else None
+
+-- the label that is hopped to from a label
+abbrev pub hop_of : Code → Name → Option Name
+hop_of code from = option_and_then (if_code code) (option_and_then (λ q. label_of_always (slice_get code.places q)) (place_of code from))
+
+-- the end of the chain that begins at a label
+abbrev pub IsEndOf : Code → Name → Option Name → Type 0
+IsEndOf code from None = (label : Name) → IsEnd code from label → ⊥
+IsEndOf code from (Some label) = IsEnd code from label
+
+-- ---- lines ----
+
+-- a byte of a line before its newline
+abbrev pub is_no_newline : ℕ → Bool
+is_no_newline b = not (b == 10)
+
+-- no line is longer
+abbrev pub AreShort : ℕ → List Line → Type 0
+AreShort longest ls = (k : ℕ) (l : Line) → slice_get ls k ≡ Some l → line_length l.text ≤ longest
+
+-- there are neither too many lines nor too long ones
+abbrev pub AreWithin : ℕ → ℕ → List Line → Type 0
+AreWithin most longest ls = (length ls ≤ most) × AreShort longest ls
+
+-- lines that can be laid out and are within the limits
+pub record IsFit (s : Setting) (ls : List Line) : Type 0 where
+  pub layable : Layable s.base ls
+  pub few : length ls ≤ s.most_lines
+  pub short : AreShort s.longest_line ls
+
+-- lines that are left alone unless they are fit
+abbrev pub IsAccepted : Setting → List Line → Option (List Line) → Type 0
+IsAccepted s ls None = IsFit s ls → ⊥
+IsAccepted s ls (Some new) = IsFit s ls × (new ≡ ls)
+
+-- ---- changes ----
+
+abbrev pub change : ℕ → Cause → Change
+change p cause = record { place = p; cause = cause }
+
+-- the lines after the change of this rank at a place, where one is possible
+abbrev pub IsMade : Setting → ℕ → ℕ → List Line → Option (List Line) → Type 0
+IsMade s p r ls None = (o : Cause) → rank o ≡ r → IsPossible s (change p o) ls → ⊥
+IsMade s p r ls (Some new) = (c : Cause) × (rank c ≡ r) × IsPossible s (change p c) ls × (new ≡ lines_by s p c ls)
+
+-- the lines after the change at a place that is tried soonest, where one is possible
+abbrev pub IsMadeAt : Setting → ℕ → List Line → Option (List Line) → Type 0
+IsMadeAt s p ls None = (o : Cause) → IsPossible s (change p o) ls → ⊥
+IsMadeAt s p ls (Some new) = (c : Cause) × IsPossible s (change p c) ls × ((o : Cause) → IsPossible s (change p o) ls → rank c ≤ rank o) × (new ≡ lines_by s p c ls)
+
+-- the lines after the first change, where one is possible
+abbrev pub IsNext : Setting → List Line → Option (List Line) → Type 0
+IsNext s ls None = NonePossible s ls
+IsNext s ls (Some new) = (c : Change) × IsFirst s c ls × (new ≡ lines_after s c ls)
+
+-- so many changes, each the first, lead from the given lines to these
+pub record AreMadeBy (s : Setting) (given ls : List Line) (count : ℕ) : Type 0 where
+  pub changes : List Change
+  pub counted : count ≡ length changes
+  pub lead : (more : List Change) (new : List Line) → AreTidied s ls more new → AreTidied s given (changes ++ more) new

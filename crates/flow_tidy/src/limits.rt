@@ -1,0 +1,61 @@
+//! Whether lines may stand as they are: they can be laid out, and there are neither too many nor too long ones.
+ghost use Rattle.std.specs.Prelude.{◌≡◌, ◌↔◌, IsTrue, IfOk, map};
+ghost use Rattle.std.specs.List.{prefix_len};
+ghost use Rattle.listing_parser.specs.Grammar.{longest_line, most_lines};
+ghost use Rattle.listing_parser.specs.Views.{line_view};
+ghost use Rattle.flow_tidy.specs.Tidying.{setting};
+ghost use Rattle.flow_tidy.specs.Made.{is_no_newline, AreShort, AreWithin, IsAccepted};
+
+use label_layout::{LayoutError, layout};
+use listing_parser::{Line, Listing, Memory};
+use std::alloc::Global;
+
+/// How many lines a listing may have.
+const MOST_LINES: usize = 262_144;
+
+/// How many bytes a line may have without its newline.
+const LONGEST_LINE: usize = 1024;
+
+/// How many bytes a line has without its newline.
+fn line_length(text: &[u8]) -> usize
+    ensures { result ≡ prefix_len is_no_newline text.now }
+{
+    text.iter().take_while(|b| **b != b'\n').count()
+}
+
+/// Whether no line is too long.
+fn are_short(lines: &[Line]) -> bool
+    ensures { IsTrue result ↔ AreShort longest_line (map line_view lines.now) }
+{
+    for line in lines {
+        if line_length(&line.text) > LONGEST_LINE {
+            return false;
+        }
+    }
+    true
+}
+
+/// Whether there are neither too many lines nor too long ones.
+fn are_within_limits(lines: &[Line]) -> bool
+    ensures { IsTrue result ↔ AreWithin most_lines longest_line (map line_view lines.now) }
+{
+    lines.len() <= MOST_LINES && are_short(lines)
+}
+
+/// A listing that can be laid out from the base and is within the limits; nothing of another.
+pub(crate) fn accepted(
+    alloc: Global,
+    listing: Listing,
+    base: u32,
+) -> Result<Option<Listing>, Memory>
+    ensures { IfOk result (IsAccepted (setting base) listing) }
+{
+    if !are_within_limits(listing.lines()) {
+        return Ok(None);
+    }
+    match layout(alloc, &listing, base) {
+        Ok(_) => Ok(Some(listing)),
+        Err(LayoutError::Line { .. }) => Ok(None),
+        Err(LayoutError::Memory) => Err(Memory),
+    }
+}
