@@ -5,7 +5,7 @@
 //! decimal.
 use crate::printing::Answer;
 use crate::reading::Arguments;
-use crate::{arithmetic, codes, listings, living, machines, stepping};
+use crate::{arithmetic, codes, listings, living, machines, stepping, tidying};
 use std::alloc::Global;
 
 /// Whether a line asks for something.
@@ -37,6 +37,7 @@ fn answer_case(
         "addresses" => listings::addresses(alloc, arguments, answer),
         "live" => living::after(alloc, arguments, answer),
         "ledger" => living::ledger(answer),
+        "tidied" => tidying::tidied(alloc, arguments, answer),
         "named" => machines::named(alloc, arguments, answer),
         "fits" => machines::fits(alloc, arguments, answer),
         "run" => machines::run(alloc, arguments, answer),

@@ -30,7 +30,8 @@ pub(crate) fn refused(alloc: Global, arguments: Arguments<'_>, answer: &mut Answ
     }
 }
 
-fn add_kind(kind: Kind, answer: &mut Answer) -> Option<()> {
+/// Adds why a line can't be laid out.
+pub(crate) fn add_kind(kind: Kind, answer: &mut Answer) -> Option<()> {
     match kind {
         Kind::Range(distance) => {
             answer.word("range")?;

@@ -20,6 +20,7 @@ mod rule_part;
 mod stepping;
 mod tables;
 mod texts;
+mod tidying;
 
 use crate::rule_part::Given;
 use outer_store::{RealSink, Sink};
