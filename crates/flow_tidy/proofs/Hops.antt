@@ -46,18 +46,6 @@ hop_found code from to h = at (place_of code from) refl h
     at None e k = absurd (cc)
     at (Some q) e k = on q e (slice_get code.places q) refl k
 
-hop_is_found : (code : Code) (from to : Name) → Hops code from to → hop_of code from ≡ Some to
-hop_is_found code from to h =
-    let coded : is_some (place_of code h.mention.name) ≡ true = subst (λ (x : Name). IsSome (place_of code x)) (sym h.named) h.code_label in
-    ap (λ o. option_and_then (if_code code) (option_and_then (λ q. label_of_always (slice_get code.places q)) o)) h.labelled
-    ∙ ap (λ x. option_and_then (if_code code) (label_of_always x)) h.stands
-    ∙ ap (λ b. option_and_then (if_code code) (if b then Some h.mention.name else None)) h.always
-    ∙ ap (λ b. if b then Some h.mention.name else None) coded
-    ∙ ap (λ (n : Name). Some n) h.named
-
-pub hop_missing : (code : Code) (from : Name) → hop_of code from ≡ None → (to : Name) → Hops code from to → ⊥
-hop_missing code from e to h = let f : hop_of code from ≡ Some to = hop_is_found code from to h in absurd (cc)
-
 -- ---- many hops ----
 
 pub hops_on : (code : Code) (n : ℕ) (from mid to : Name) → HopsBy code n from mid → Hops code mid to → HopsBy code (suc n) from to
@@ -132,14 +120,8 @@ few_hops code n from to h s =
 
 -- ---- the end ----
 
-pub no_hop_no_end : (code : Code) (from : Name) → hop_of code from ≡ None → IsEndOf code from None
-no_hop_no_end code from e = λ label h. hop_missing code from e h.leads.0 h.leads.1
-
 pub goes_round : (code : Code) (n : ℕ) (from x : Name) → n ≡ length code.places → HopsBy code (suc n) from x → IsEndOf code from None
 goes_round code n from x e h = λ label k.
     let far = no_further code (suc k.more) (suc n) from label x k.leads k.stops h in
     let few = few_hops code (suc k.more) from label k.leads k.stops in
     absurd (omega arith)
-
-pub ends_here : (code : Code) (n : ℕ) (from to : Name) → HopsBy code (suc n) from to → hop_of code to ≡ None → IsEndOf code from (Some to)
-ends_here code n from to h e = record { more = n; leads = h; stops = hop_missing code to e }

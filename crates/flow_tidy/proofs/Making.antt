@@ -1,12 +1,11 @@
 -- What the code finds at a place is what the definitions say of it.
 use Rattle.std.proofs.Common.{◌≡◌, ℕ, ◌+◌, ◌<◌, ◌≤◌, Bool, true, false, List, length, Option, Some, None, refl, sym, ap, ◌∙◌, subst, arith, if◌then◌else◌}
-use Rattle.std.specs.Prelude.{option_and_then, slice_get}
+use Rattle.std.specs.Prelude.{slice_get}
 use Rattle.std.proofs.lemmas.Option.{same_Some, slice_get_within}
 use Rattle.thumb_instr.specs.declared.instr.Instr.{Instr}
-use Rattle.thumb_model.specs.Listing.{Name, Mention, Place, Op, Word, Line, Code, code_of, is_op_place, places_of, place_of}
-use Rattle.thumb_model.specs.Steps.{aim_of}
+use Rattle.thumb_model.specs.Listing.{Name, Mention, Place, Op, Word, Line, Code, code_of, places_of}
 use Rattle.flow_tidy.specs.Chains.{IsEnd}
-use Rattle.flow_tidy.specs.Tidied.{Setting, Cause, ToNext, ToEnd, Idle, Change, is_branch, lines_by, lines_after, rank, GoesToNext, GoesToEnd, IsIdle, HasCause, IsPossible}
+use Rattle.flow_tidy.specs.Tidied.{Setting, Cause, ToNext, ToEnd, Idle, Change, is_branch, lines_by, lines_after, rank, GoesToEnd, HasCause, IsPossible}
 use Rattle.flow_tidy.specs.Made.{change, label_of_branch, IsAccepted, IsEndOf, IsFit, IsMade, IsMadeAt, IsNext}
 use Rattle.flow_tidy.proofs.Unique.{cause_same}
 use Rattle.flow_tidy.proofs.Whole.{change_keeps}
@@ -14,7 +13,7 @@ use Rattle.flow_tidy.proofs.Whole.{change_keeps}
 -- ---- branches ----
 
 -- a branch with a label stands at the place
-pub record Branches (code : Code) (p : ℕ) (label : Name) : Type 0 where
+record Branches (code : Code) (p : ℕ) (label : Name) : Type 0 where
   pub i : Instr
   pub mention : Mention
   pub stands : slice_get code.places p ≡ Some (Op i (Some mention))
@@ -25,7 +24,7 @@ branch_only : (b : Bool) (n label : Name) → (if b then Some n else None) ≡ S
 branch_only true n label e = (refl, cc)
 branch_only false n label e = absurd (cc)
 
-pub branches : (code : Code) (p : ℕ) (label : Name) → label_of_branch (slice_get code.places p) ≡ Some label → Branches code p label
+branches : (code : Code) (p : ℕ) (label : Name) → label_of_branch (slice_get code.places p) ≡ Some label → Branches code p label
 branches code p label h = on (slice_get code.places p) refl h
   where
     on : (x : Option Place) → slice_get code.places p ≡ x → label_of_branch x ≡ Some label → Branches code p label
@@ -36,39 +35,13 @@ branches code p label h = on (slice_get code.places p) refl h
         let a = branch_only (is_branch i) m.name label k in
         record { i = i; mention = m; stands = e; branch = a.0; named = a.1 }
 
-pub labelled : (code : Code) (p : ℕ) (i : Instr) (m : Mention) → slice_get code.places p ≡ Some (Op i (Some m)) → is_branch i ≡ true → label_of_branch (slice_get code.places p) ≡ Some m.name
+labelled : (code : Code) (p : ℕ) (i : Instr) (m : Mention) → slice_get code.places p ≡ Some (Op i (Some m)) → is_branch i ≡ true → label_of_branch (slice_get code.places p) ≡ Some m.name
 labelled code p i m e b = ap label_of_branch e ∙ ap (λ t. if t then Some m.name else None) b
-
--- where the branch of a place goes
-abbrev pub target_of : Code → ℕ → Option ℕ
-target_of code p = option_and_then (place_of code) (label_of_branch (slice_get code.places p))
-
-pub next_found : (code : Code) (p : ℕ) → target_of code p ≡ Some (p + 1) → GoesToNext code p
-next_found code p h = on (label_of_branch (slice_get code.places p)) refl h
-  where
-    on : (o : Option Name) → label_of_branch (slice_get code.places p) ≡ o → option_and_then (place_of code) o ≡ Some (p + 1) → GoesToNext code p
-    on None e k = absurd (cc)
-    on (Some label) e k =
-        let b = branches code p label e in
-        record { i = b.i; mention = Some b.mention; stands = b.stands; branch = b.branch; next = ap (place_of code) b.named ∙ k }
-
-pub next_is_found : (code : Code) (p : ℕ) → GoesToNext code p → target_of code p ≡ Some (p + 1)
-next_is_found code p g = on g.mention g.stands g.next
-  where
-    on : (o : Option Mention) → slice_get code.places p ≡ Some (Op g.i o) → aim_of code o ≡ Some (p + 1) → target_of code p ≡ Some (p + 1)
-    on None e k = absurd (cc)
-    on (Some m) e k = ap (option_and_then (place_of code)) (labelled code p g.i m e g.branch) ∙ k
-
-pub branch_is_op : (code : Code) (p : ℕ) (label : Name) → label_of_branch (slice_get code.places p) ≡ Some label → is_op_place (slice_get code.places p) ≡ true
-branch_is_op code p label h = ap is_op_place (branches code p label h).stands
 
 pub end_is_found : (code : Code) (p : ℕ) (label end : Name) → label_of_branch (slice_get code.places p) ≡ Some label → IsEndOf code label (Some end) → GoesToEnd code p end
 end_is_found code p label end h k =
     let b = branches code p label h in
     record { i = b.i; mention = b.mention; stands = b.stands; branch = b.branch; end = subst (λ (x : Name). IsEnd code x end) (sym b.named) k }
-
-pub no_branch_no_end : (code : Code) (p : ℕ) → label_of_branch (slice_get code.places p) ≡ None → (end : Name) → GoesToEnd code p end → ⊥
-no_branch_no_end code p h end g = let e : label_of_branch (slice_get code.places p) ≡ Some g.mention.name = labelled code p g.i g.mention g.stands g.branch in absurd (cc)
 
 pub no_end_none : (code : Code) (p : ℕ) (label : Name) → label_of_branch (slice_get code.places p) ≡ Some label → IsEndOf code label None → (end : Name) → GoesToEnd code p end → ⊥
 no_end_none code p label h k end g =
@@ -88,14 +61,6 @@ pub made : (s : Setting) (p : ℕ) (c : Cause) (ls : List Line) (r : Option (Lis
 made s p c ls None h a = λ o e q. a (subst (λ (x : Cause). IsFit s (lines_by s p x ls)) (cause_same (code_of ls) p o c e q.cause h) (fit s (change p o) ls q))
 made s p c ls (Some new) h a = (c, refl, possible s (change p c) ls h a.0, a.1)
 
-pub not_next : (s : Setting) (p : ℕ) (ls : List Line) → (GoesToNext (code_of ls) p → ⊥) → IsMade s p 0 ls None
-not_next s p ls h = no
-  where
-    no : (o : Cause) → rank o ≡ 0 → IsPossible s (change p o) ls → ⊥
-    no ToNext e q = h q.cause
-    no (ToEnd label) e q = absurd (omega arith)
-    no Idle e q = absurd (omega arith)
-
 pub not_end : (s : Setting) (p : ℕ) (ls : List Line) → ((label : Name) → GoesToEnd (code_of ls) p label → ⊥) → IsMade s p 1 ls None
 not_end s p ls h = no
   where
@@ -103,41 +68,6 @@ not_end s p ls h = no
     no ToNext e q = absurd (omega arith)
     no (ToEnd label) e q = h label q.cause
     no Idle e q = absurd (omega arith)
-
-pub not_idle : (s : Setting) (p : ℕ) (ls : List Line) → (IsIdle (code_of ls) p → ⊥) → IsMade s p 2 ls None
-not_idle s p ls h = no
-  where
-    no : (o : Cause) → rank o ≡ 2 → IsPossible s (change p o) ls → ⊥
-    no ToNext e q = absurd (omega arith)
-    no (ToEnd label) e q = absurd (omega arith)
-    no Idle e q = h q.cause
-
--- ---- the soonest at a place ----
-
-pub soonest_next : (s : Setting) (p : ℕ) (ls new : List Line) → IsMade s p 0 ls (Some new) → IsMadeAt s p ls (Some new)
-soonest_next s p ls new h = (h.0, h.2, λ o q. omega (arith, h.1), h.3)
-
-pub soonest_end : (s : Setting) (p : ℕ) (ls new : List Line) → IsMade s p 0 ls None → IsMade s p 1 ls (Some new) → IsMadeAt s p ls (Some new)
-soonest_end s p ls new n h = (h.0, h.2, later, h.3)
-  where
-    later : (o : Cause) → IsPossible s (change p o) ls → rank h.0 ≤ rank o
-    later ToNext q = absurd (n ToNext refl q)
-    later (ToEnd label) q = omega (arith, h.1)
-    later Idle q = omega (arith, h.1)
-
-pub soonest_idle : (s : Setting) (p : ℕ) (ls : List Line) (r : Option (List Line)) → IsMade s p 0 ls None → IsMade s p 1 ls None → IsMade s p 2 ls r → IsMadeAt s p ls r
-soonest_idle s p ls None n m h = none
-  where
-    none : (o : Cause) → IsPossible s (change p o) ls → ⊥
-    none ToNext q = n ToNext refl q
-    none (ToEnd label) q = m (ToEnd label) refl q
-    none Idle q = h Idle refl q
-soonest_idle s p ls (Some new) n m h = (h.0, h.2, later, h.3)
-  where
-    later : (o : Cause) → IsPossible s (change p o) ls → rank h.0 ≤ rank o
-    later ToNext q = absurd (n ToNext refl q)
-    later (ToEnd label) q = absurd (m (ToEnd label) refl q)
-    later Idle q = omega (arith, h.1)
 
 -- ---- the first change ----
 
@@ -150,13 +80,6 @@ here s p ls o e q = subst (λ n. IsPossible s (change n o.cause) ls) e q
 
 pub none_before_more : (s : Setting) (p : ℕ) (ls : List Line) → NoneBefore s p ls → IsMadeAt s p ls None → NoneBefore s (p + 1) ls
 none_before_more s p ls h n = λ o q. let le = h o q in let ne : o.place ≡ p → ⊥ = λ e. n o.cause (here s p ls o e q) in omega arith
-
-pub first_here : (s : Setting) (p : ℕ) (ls new : List Line) → NoneBefore s p ls → IsMadeAt s p ls (Some new) → IsNext s ls (Some new)
-first_here s p ls new h m = (
-  change p m.0,
-  record { possible = m.1; least_place = h; soonest = λ o q e. m.2 o.cause (here s p ls o e q) },
-  m.3,
-)
 
 stands_within : (code : Code) (p : ℕ) (c : Cause) → HasCause code p c → p < length code.places
 stands_within code p ToNext h = slice_get_within code.places p _ h.stands

@@ -53,7 +53,7 @@ pub record IsFit (s : Setting) (ls : List Line) : Type 0 where
   pub few : length ls ≤ s.most_lines
   pub short : AreShort s.longest_line ls
 
--- lines that are left alone unless they are fit
+-- the lines themselves where they are fit, and else nothing
 abbrev pub IsAccepted : Setting → List Line → Option (List Line) → Type 0
 IsAccepted s ls None = IsFit s ls → ⊥
 IsAccepted s ls (Some new) = IsFit s ls × (new ≡ ls)
