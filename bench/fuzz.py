@@ -21,6 +21,7 @@ LINES = re.compile(
 )
 DONE = {
     "rewrite": re.compile(rb"replaced \d+\ninstructions \d+ \d+\n(image \d+\n)?"),
+    "tidy": re.compile(rb"tidied \d+\ninstructions \d+ \d+\n"),
     "audit": re.compile(rb"entries \d+ open \d+\n"),
     "learn": re.compile(rb"entries \d+ open \d+ states \d+\n"),
     "export": re.compile(rb"variables \d+ clauses \d+ lines \d+\n"),
@@ -49,7 +50,7 @@ LISTINGS = [
     b"x:\nsvc #5\nbkpt #1\nstrb r0, [r0]\nldmia r1!, {r2, r3}\nb x\n.align 2\nw: .word f+4\n.word 0xabcdef01\n",
     b"f:\neors r0, r1\neors r0, r1\nadds r0, #1\nrsbs r0, r0, #0\nbx lr\n",
 ]
-COMMANDS = ["rewrite t l o i", "rewrite t l o -", "rewrite t l l i --base 256", "audit t", "export t 1 o i", "export t 2 o o", "trace l f 500", "trace l x 100"]
+COMMANDS = ["rewrite t l o i", "rewrite t l o -", "rewrite t l l i --base 256", "audit t", "export t 1 o i", "export t 2 o o", "trace l f 500", "trace l x 100", "tidy l o", "tidy l l --base 256"]
 LEARN = ["--regs 1", "--regs 2", "--left 1", "--pool 1", "--pool 0,255", "--budget 1", "--budget 9", "--seed 0"]
 
 

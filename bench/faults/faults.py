@@ -24,6 +24,7 @@ COMMANDS = {
     "export": ("export t 1 o i", 1, ["o", "i"]),
     "trace": ("trace l f 100", 1, []),
     "demo": ("demo 1", 0, []),
+    "tidy": ("tidy l o", 1, ["o"]),
 }
 
 

@@ -19,3 +19,4 @@ pub mod HeadlineLemmas
 pub mod CompleteLemmas
 pub mod Refutations
 pub mod TrimLemmas
+pub mod TidyLemmas

@@ -17,9 +17,17 @@ printed words = words ++ 10 ∷ []
 abbrev pub and_number : ℕ → List ℕ
 and_number n = 32 ∷ decimal n
 
--- `replaced R` and `instructions BEFORE AFTER`
+-- `instructions BEFORE AFTER`
+abbrev pub instructions_line : ℕ → ℕ → List ℕ
+instructions_line before after = printed (codes "instructions" ++ and_number before ++ and_number after)
+
+-- `replaced R` and that line
 abbrev pub report_of : ℕ → ℕ → ℕ → List ℕ
-report_of replaced before after = printed (codes "replaced" ++ and_number replaced) ++ printed (codes "instructions" ++ and_number before ++ and_number after)
+report_of replaced before after = printed (codes "replaced" ++ and_number replaced) ++ instructions_line before after
+
+-- `tidied N` and that line
+abbrev pub tidied_report : ℕ → ℕ → ℕ → List ℕ
+tidied_report changes before after = printed (codes "tidied" ++ and_number changes) ++ instructions_line before after
 
 -- `image BYTES`
 abbrev pub image_line : ℕ → List ℕ

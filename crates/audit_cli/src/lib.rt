@@ -12,6 +12,7 @@ mod rewrite;
 mod running;
 mod start;
 mod steps;
+mod tidy;
 mod top;
 mod trace;
 mod trace_lines;

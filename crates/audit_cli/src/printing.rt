@@ -1,6 +1,6 @@
 //! What is kept and printed, as bytes.
 ghost use Rattle.std.specs.Prelude.{◌≡◌, ◌∷◌, [], IfOk};
-ghost use Rattle.audit_cli.specs.Printed.{report_of, image_line, entries_line, learnt_line, demo_line, formula_line, trimmed_line};
+ghost use Rattle.audit_cli.specs.Printed.{report_of, image_line, entries_line, learnt_line, demo_line, formula_line, trimmed_line, tidied_report};
 ghost use Rattle.command_runs.specs.Outcomes.{deed_view, outcome_view};
 ghost use Rattle.command_runs.specs.Plans.{Does};
 
@@ -70,6 +70,19 @@ pub fn trimmed_report(alloc: Global, before: u64, after: u64) -> Result<Vec<u8>,
     ensures { IfOk result (λ v. v.items ≡ trimmed_line before after) }
 {
     let text = format!(in alloc; "lines {before} {after}\n")?;
+    Ok(text.into_bytes())
+}
+
+/// What is printed of a tidied listing: how many changes were made, and how many instructions there were before and after.
+pub fn tidied_report(
+    alloc: Global,
+    changes: u64,
+    before: u64,
+    after: u64,
+) -> Result<Vec<u8>, AllocError>
+    ensures { IfOk result (λ v. v.items ≡ tidied_report changes before after) }
+{
+    let text = format!(in alloc; "tidied {changes}\ninstructions {before} {after}\n")?;
     Ok(text.into_bytes())
 }
 

@@ -10,6 +10,7 @@ use crate::demo::Demo;
 use crate::export::Export;
 use crate::learn::Learn;
 use crate::rewrite::Rewrite;
+use crate::tidy::Tidy;
 use crate::trace::Trace;
 use crate::trim::Trim;
 use crate::upgrade::Upgrade;
@@ -113,6 +114,14 @@ fn run_command<S: Store, O: Sink, L: Ledger>(
             let trim = Trim { out: out.as_str() };
             let names = [table.as_str()];
             return run(alloc, &trim, &names, store, sink, steps);
+        }
+        Command::Tidy { listing, out, base } => {
+            let tidy = Tidy {
+                out: out.as_str(),
+                base: *base,
+            };
+            let names = [listing.as_str()];
+            return run(alloc, &tidy, &names, store, sink, steps);
         }
     }
 }

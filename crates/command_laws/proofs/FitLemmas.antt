@@ -12,7 +12,7 @@ use Rattle.table_learn.specs.Settings.{Settings}
 use Rattle.table_learn.specs.Learnt.{width_of}
 use Rattle.window_rewrite.specs.Rewriting.{setting}
 use Rattle.thumb_assembler.specs.Refusals.{first_flaw}
-use Rattle.command_line.specs.CommandLine.{Request, rewrite, audit, learn, export, trace, demo, upgrade, trim}
+use Rattle.command_line.specs.CommandLine.{Request, rewrite, audit, learn, export, trace, demo, upgrade, trim, tidy}
 use Rattle.command_runs.specs.Plans.{Outcome, Refuses, Does}
 use Rattle.audit_cli.specs.Printed.{refusal_line, entries_line}
 use Rattle.audit_cli.specs.Rewrite.{Destination, Counts, Leaves, alone, pair, no_image, WantsNone, LinesRewrite, Rewrites, Comes}
@@ -27,10 +27,11 @@ use Rattle.audit_cli.specs.Trace as tracing
 use Rattle.audit_cli.specs.Demo as showing
 use Rattle.audit_cli.specs.Upgrade as upgrading
 use Rattle.audit_cli.specs.Trim as trimming
+use Rattle.audit_cli.specs.Tidy as tidying
 use Rattle.audit_cli.specs.Peep.{plan_of}
 use Rattle.command_laws.specs.Once.{IsLearning}
 use Rattle.audit_cli.specs.Complete.{TellsFull}
-use Rattle.command_laws.specs.Fit.{FitRewriting, FitExport, FitTrace, FitLearning, FitUpgrade, AreFit}
+use Rattle.command_laws.specs.Fit.{FitRewriting, FitExport, FitTrace, FitTidying, FitLearning, FitUpgrade, AreFit}
 use Rattle.command_laws.proofs.AddressLemmas.{still_flawless}
 use Rattle.audit_cli.proofs.DemoLemmas.{never_unaudited, none_some, never_without_image}
 use Rattle.command_laws.proofs.OnceLemmas.{Cause, never_unlisted, some_same, first_same, second_same, never_unread_listing, never_unlaid}
@@ -125,6 +126,16 @@ module _ (journey : Journey) (texts : List (List ℕ)) (fit : FitTrace journey.l
   traces_fit _ (tracing.unread cause h) r = never_unread_listing fit.text fit.lines cause fit.is_listing h
   traces_fit _ (tracing.read lines is o h) r = traces_lines o (subst (λ (ls : List Line). tracing.LinesTrace journey ls o) (one_listing fit.text lines fit.lines is fit.is_listing) h) r
 
+module _ (base : ℕ) (out : List ℕ) (texts : List (List ℕ)) (fit : FitTidying base texts) where
+  tidies_lines : (o : Outcome) → tidying.LinesTidy base out fit.lines o → IsRefusing o → ⊥
+  unfolding IsRefusing
+  tidies_lines _ (tidying.unlaid cause h) r = never_unlaid base fit.lines cause fit.layable h
+  tidies_lines _ (tidying.tidied laid o h) r = subst IsRefusing h.is r
+
+  tidies_fit : (o : Outcome) → tidying.Tidies base out fit.text o → IsRefusing o → ⊥
+  tidies_fit _ (tidying.unread cause h) r = never_unread_listing fit.text fit.lines cause fit.is_listing h
+  tidies_fit _ (tidying.read lines is o h) r = tidies_lines o (subst (λ (ls : List Line). tidying.LinesTidy base out ls o) (one_listing fit.text lines fit.lines is fit.is_listing) h) r
+
 -- ---- all that learn no table ----
 
 fit_unrefused : (r : Request) (texts : List (List ℕ)) (o : Outcome) → (IsLearning r → ⊥) → AreFit r texts → (plan_of r).comes texts o → IsRefusing o → ⊥
@@ -139,6 +150,7 @@ fit_unrefused (trace listing label steps) texts o plain fit h =
     traces_fit journey texts fit o (by_text (tracing.Traces journey) texts fit.text o fit.is_text h)
 fit_unrefused (demo windows) texts o plain fit h = absurd (plain tt)
 fit_unrefused (trim table out) texts o plain fit h = trims_fit out fit.text fit.rules o (record { is = fit.is_table; accepted = fit.accepted }) (by_text (trimming.Trims out) texts fit.text o fit.is_text h)
+fit_unrefused (tidy listing out base) texts o plain fit h = tidies_fit base out texts fit o (by_text (tidying.Tidies base out) texts fit.text o fit.is_text h)
 fit_unrefused (upgrade table out) texts o plain fit h = upgrades_fit out texts fit o (by_text (upgrading.Upgrades out) texts fit.text o fit.is_text h)
 
 pub never_refuses : (r : Request) (texts : List (List ℕ)) (line : List ℕ) → (IsLearning r → ⊥) → AreFit r texts → (plan_of r).comes texts (Refuses line) → ⊥
@@ -186,6 +198,7 @@ tells_full (learn listing out s) texts o fit h =
     learns_fit to texts fit o (by_text (learning.Learns to) texts fit.text o fit.is_text h)
 tells_full (demo windows) texts o fit h = shows_full windows o h
 tells_full (trim table out) texts o fit h = none_so o (fit_unrefused (trim table out) texts o (λ x. x) fit h)
+tells_full (tidy listing out base) texts o fit h = none_so o (fit_unrefused (tidy listing out base) texts o (λ x. x) fit h)
 tells_full (upgrade table out) texts o fit h = none_so o (fit_unrefused (upgrade table out) texts o (λ x. x) fit h)
 
 pub fit_full : (r : Request) (texts : List (List ℕ)) (line : List ℕ) → AreFit r texts → (plan_of r).comes texts (Refuses line) → TellsFull line

@@ -10,3 +10,5 @@ mod ImageRuns
 mod UpgradeLemmas
 mod ShorterTexts
 pub mod TrimLemmas
+mod TidyOnceLemmas
+mod TidyPromise

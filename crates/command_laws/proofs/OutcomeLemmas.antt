@@ -1,8 +1,9 @@
 -- Of each request by which no table is learnt, texts come to one outcome.
-use Rattle.command_line.specs.CommandLine.{rewrite, audit, learn, export, trace, demo, upgrade, trim}
+use Rattle.command_line.specs.CommandLine.{rewrite, audit, learn, export, trace, demo, upgrade, trim, tidy}
 use Rattle.command_laws.specs.Once.{TextsComeToOne}
 use Rattle.command_laws.proofs.OnceLemmas.{rewrite_once, audit_once, export_once, upgrade_once, trim_once}
 use Rattle.command_laws.proofs.TraceOnceLemmas.{trace_once}
+use Rattle.command_laws.proofs.TidyOnceLemmas.{tidy_once}
 
 pub come_to_one : TextsComeToOne
 come_to_one (rewrite table listing out image base) plain = rewrite_once (record { out = out; image = image; base = base })
@@ -13,3 +14,4 @@ come_to_one (trace listing label steps) plain = trace_once (record { label = lab
 come_to_one (demo windows) plain = absurd (plain tt)
 come_to_one (upgrade table out) plain = upgrade_once out
 come_to_one (trim table out) plain = trim_once out
+come_to_one (tidy listing out base) plain = tidy_once base out

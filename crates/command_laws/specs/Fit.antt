@@ -11,7 +11,7 @@ use Rattle.table_audit.specs.Sides.{SidesFit}
 use Rattle.table_learn.specs.Settings.{Settings}
 use Rattle.table_learn.specs.Learnt.{text_length, text_limit, width_of}
 use Rattle.thumb_assembler.specs.Refusals.{first_flaw}
-use Rattle.command_line.specs.CommandLine.{Request, rewrite, audit, learn, export, trace, demo, upgrade, trim, AskFor}
+use Rattle.command_line.specs.CommandLine.{Request, rewrite, audit, learn, export, trace, demo, upgrade, trim, tidy, AskFor}
 use Rattle.outer_store.specs.Outside.{Event, Seen, Sunk}
 use Rattle.command_runs.specs.declared.status.Status.{Status}
 use Rattle.command_runs.specs.Plans.{AreTexts, fetchings}
@@ -73,6 +73,14 @@ pub record FitTrace (label : List ℕ) (texts : List (List ℕ)) : Type 0 where
   pub layable : Layable 0 lines
   pub labelled : IsSome (place_of (code_of lines) label)
 
+-- a well-formed listing that can be laid out from the base on
+pub record FitTidying (base : ℕ) (texts : List (List ℕ)) : Type 0 where
+  pub text : List ℕ
+  pub is_text : texts ≡ text ∷ []
+  pub lines : List Line
+  pub is_listing : IsListing text lines
+  pub layable : Layable base lines
+
 -- a well-formed listing, and settings with at most 5,000,000 sequences that are shorter than the longest windows
 pub record FitLearning (s : Settings) (texts : List (List ℕ)) : Type 0 where
   pub text : List ℕ
@@ -91,6 +99,7 @@ AreFit (trace listing label steps) texts = FitTrace label texts
 AreFit (demo windows) texts = Unit {0}
 AreFit (upgrade table out) texts = FitUpgrade texts
 AreFit (trim table out) texts = FitAudit texts
+AreFit (tidy listing out base) texts = FitTidying base texts
 
 -- ---- the laws ----
 

@@ -3,3 +3,4 @@ pub mod Fit
 pub mod Images
 pub mod Upgrading
 pub mod Trimming
+pub mod Tidying

@@ -3,7 +3,7 @@ use Rattle.std.specs.Prelude.{◌≡◌, ◌≤◌, ◌⊎◌, ℕ, List, [], �
 use Rattle.thumb_model.specs.Listing.{Line}
 use Rattle.listing_parser.specs.Parsing.{IsListing}
 use Rattle.table_learn.specs.Learnt.{width_of}
-use Rattle.command_line.specs.CommandLine.{Request, rewrite, audit, learn, export, trace, demo, upgrade, trim}
+use Rattle.command_line.specs.CommandLine.{Request, rewrite, audit, learn, export, trace, demo, upgrade, trim, tidy}
 use Rattle.command_runs.specs.Plans.{Outcome}
 use Rattle.audit_cli.specs.Learn.{Lesson, LinesLearn, LearnComesTo}
 use Rattle.audit_cli.specs.Demo.{IsDemo}
@@ -23,6 +23,7 @@ IsLearning (trace listing label steps) = ⊥
 IsLearning (demo windows) = Unit {0}
 IsLearning (upgrade table out) = ⊥
 IsLearning (trim table out) = ⊥
+IsLearning (tidy listing out base) = ⊥
 
 -- so it is with each request by which none is
 abbrev pub TextsComeToOne : Type 0

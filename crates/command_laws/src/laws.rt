@@ -3,10 +3,11 @@
 ghost use Rattle.command_laws.specs.Fit.{FitTextsAreCarriedOut, FitTextsAreLearntFrom};
 ghost use Rattle.command_laws.specs.Images.{KeptImagesFollow};
 ghost use Rattle.command_laws.specs.Once.{DemosOfOneTableAreOne, LearningIsOneButForTables, TextsComeToOne};
+ghost use Rattle.command_laws.specs.Tidying.{TidiesAsPromised};
 ghost use Rattle.command_laws.specs.Trimming.{TrimmedTablesAreAccepted, TrimmedTablesRewriteAlike, TrimmedTablesStay, TrimmedTextsAreNoLonger, TrimmingIsOne};
 ghost use Rattle.command_laws.specs.Upgrading.{LaterTablesAreKept, UpgradesAreAuditedAlike, UpgradesAreTables, UpgradesRewriteAlike};
 
-/// The texts that `rewrite`, `audit`, `export` or `trace` reads come to one outcome: whether they are refused, by which line, and what is kept and printed are
+/// The texts that `rewrite`, `audit`, `export`, `trace`, `upgrade`, `trim` or `tidy` reads come to one outcome: whether they are refused, by which line, and what is kept and printed are
 /// fixed. So it is with `learn`, but where a table is learnt from one listing's lines: it may be another, and its text may be too long. What `demo` tells is fixed by
 /// the table that it learns.
 pub fn texts_come_to_one_outcome()
@@ -16,8 +17,8 @@ pub fn texts_come_to_one_outcome()
 {}
 
 /// Where the words ask for a command and nothing fails, texts that are fit for it give Done or Memory: for `rewrite` an accepted table, and a well-formed
-/// listing that can be laid out, where an image is asked for with an address for each external name and none inside the image. Where a table is learnt,
-/// it may also be that its text is too long.
+/// listing that can be laid out, where an image is asked for with an address for each external name and none inside the image; for `tidy` such a listing
+/// alone. Where a table is learnt, it may also be that its text is too long.
 pub fn fit_texts_are_carried_out()
     ensures carried_out { FitTextsAreCarriedOut }
     ensures learnt { FitTextsAreLearntFrom }
@@ -45,4 +46,9 @@ pub fn trimmed_tables_say_the_same()
     ensures no_longer { TrimmedTextsAreNoLonger }
     ensures one { TrimmingIsOne }
     ensures stay { TrimmedTablesStay }
+{}
+
+/// Whatever a call of `tidy` that ends done has done, told in one record, in the order in which a user would say it.
+pub fn tidying_is_as_promised()
+    ensures { TidiesAsPromised }
 {}

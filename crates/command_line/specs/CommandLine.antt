@@ -140,6 +140,7 @@ pub data Request : Type 0 where
   demo : (windows : ℕ) → Request
   upgrade : (table out : Text) → Request
   trim : (table out : Text) → Request
+  tidy : (listing out : Text) → ℕ → Request
 
 -- ---- the commands ----
 
@@ -152,6 +153,7 @@ pub data Form : Type 0 where
   demos : Form
   upgrades : Form
   trims : Form
+  tidies : Form
 
 abbrev pub name_of : Form → Text
 name_of rewrites = codes "rewrite"
@@ -162,10 +164,12 @@ name_of traces = codes "trace"
 name_of demos = codes "demo"
 name_of upgrades = codes "upgrade"
 name_of trims = codes "trim"
+name_of tidies = codes "tidy"
 
 abbrev pub options_of : Form → List Text
 options_of rewrites = codes "base" ∷ []
 options_of learns = codes "regs" ∷ codes "left" ∷ codes "budget" ∷ codes "seed" ∷ codes "pool" ∷ codes "scratch" ∷ []
+options_of tidies = codes "base" ∷ []
 options_of form = []
 
 -- what a command asks for, by its positional words and the values of its options
@@ -178,6 +182,7 @@ request_by traces (listing ∷ label ∷ count ∷ []) value = option_map (λ st
 request_by demos (count ∷ []) value = option_map (λ windows. demo windows) (windows_of count)
 request_by upgrades (table ∷ out ∷ []) value = Some (upgrade table out)
 request_by trims (table ∷ out ∷ []) value = Some (trim table out)
+request_by tidies (listing ∷ out ∷ []) value = option_map (λ base. tidy listing out base) (base_of (value (codes "base")))
 request_by form words value = None
 
 -- the words are a command that asks for this

@@ -4,7 +4,7 @@ ghost use Rattle.std.specs.Prelude.{◌≡◌, IfOk, false};
 ghost use Rattle.clap.specs.Words.{app_of, with_rule};
 ghost use Rattle.clap.specs.declared.builder.Command.TheViews.{out-Command as fields_of};
 ghost use Rattle.command_line.specs.App.{positional, option, app_for, bare_app, peep_app};
-ghost use Rattle.command_line.specs.CommandLine.{rewrites, audits, learns, exports, traces, demos, upgrades, trims};
+ghost use Rattle.command_line.specs.CommandLine.{rewrites, audits, learns, exports, traces, demos, upgrades, trims, tidies};
 
 use clap::{Arg, Command};
 use std::alloc::{AllocError, Global};
@@ -125,6 +125,17 @@ fn trim<'a>(alloc: Global) -> Result<Command<'a>, AllocError>
     with_word(alloc, command, "out")
 }
 
+/// `tidy LISTING OUT [--base N]`
+fn tidy<'a>(alloc: Global) -> Result<Command<'a>, AllocError>
+    ensures app { IfOk result (λ c. app_of c ≡ app_for tidies) }
+    ensures own { IfOk result (λ c. (fields_of c).has_globals ≡ false) }
+{
+    let command = Command::new(alloc, "tidy");
+    let command = with_word(alloc, command, "listing")?;
+    let command = with_word(alloc, command, "out")?;
+    with_option(alloc, command, "base")
+}
+
 /// The program without its commands: one is required, and there is no help.
 fn bare<'a>(alloc: Global) -> Command<'a>
     ensures { app_of result ≡ bare_app }
@@ -149,5 +160,6 @@ pub fn peep<'a>(alloc: Global) -> Result<Command<'a>, AllocError>
     let command = command.subcommand(demo(alloc)?)?;
     let command = command.subcommand(upgrade(alloc)?)?;
     let command = command.subcommand(trim(alloc)?)?;
+    let command = command.subcommand(tidy(alloc)?)?;
     Ok(command)
 }

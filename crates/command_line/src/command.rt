@@ -89,4 +89,10 @@ pub enum Command {
         table: String,
         out: String,
     },
+    /// Tidy the listing, as it is laid out from `base` on, and keep the result as `out`.
+    Tidy {
+        listing: String,
+        out: String,
+        base: Base,
+    },
 }

@@ -3,7 +3,7 @@
 ghost use Rattle.std.specs.Prelude.{◌≡◌, ◌-◌, ◌≤◌, ℕ, List, All, IfOk, MatchOption, Some, true, length, map, option_map, option_and_then, string_bytes};
 ghost use Rattle.clap.specs.Words.{first_of, first_value, found_of, rows_of, subcommand_rows_of};
 ghost use Rattle.command_line.specs.App.{asked_by, asked};
-ghost use Rattle.command_line.specs.CommandLine.{rewrites, audits, learns, exports, traces, demos, upgrades, trims, base_of, between_commas, is_base, number_from, pool_of, steps_of, windows_of};
+ghost use Rattle.command_line.specs.CommandLine.{rewrites, audits, learns, exports, traces, demos, upgrades, trims, tidies, base_of, between_commas, is_base, number_from, pool_of, steps_of, windows_of};
 ghost use Rattle.command_line.specs.Request.{request_of};
 ghost use Rattle.ascii_scan.specs.Numeral.{decimal};
 ghost use Rattle.seq_enum.specs.Pools.{is_pool};
@@ -291,6 +291,24 @@ fn trim(alloc: Global, given: &ArgMatches<'_>) -> Result<Option<Command>, AllocE
     }))
 }
 
+/// The values of `tidy`.
+fn tidy(alloc: Global, given: &ArgMatches<'_>) -> Result<Option<Command>, AllocError>
+    ensures { IfOk result (λ o. option_map request_of o ≡ asked_by tidies (first_value (found_of given.now))) }
+{
+    let (Some(listing), Some(out), Some(base)) = (
+        given.get_str("listing"),
+        given.get_str("out"),
+        base(given.get_str("base")),
+    ) else {
+        return Ok(None);
+    };
+    Ok(Some(Command::Tidy {
+        listing: String::from_str(alloc, listing)?,
+        out: String::from_str(alloc, out)?,
+        base,
+    }))
+}
+
 /// The command that clap found, with its values.
 pub fn command_of(alloc: Global, matches: &ArgMatches<'_>) -> Result<Option<Command>, AllocError>
     ensures { IfOk result (λ o. option_map request_of o ≡ option_and_then asked (subcommand_rows_of matches.now)) }
@@ -304,6 +322,7 @@ pub fn command_of(alloc: Global, matches: &ArgMatches<'_>) -> Result<Option<Comm
         Some(("demo", given)) => Ok(demo(given)),
         Some(("upgrade", given)) => upgrade(alloc, given),
         Some(("trim", given)) => trim(alloc, given),
+        Some(("tidy", given)) => tidy(alloc, given),
         _ => Ok(None),
     }
 }

@@ -1,6 +1,6 @@
 use Rattle.std.proofs.Common.{◌≡◌, ◌∙◌, [], ◌∷◌, ap, string_bytes, subst, sym}
 use Rattle.command_line.specs.declared.command.Command.{Command}
-use Rattle.command_line.specs.declared.command.Command.TheVariants.{Rewrite, Audit, Learn, Export, Trace, Demo, Upgrade, Trim}
+use Rattle.command_line.specs.declared.command.Command.TheVariants.{Rewrite, Audit, Learn, Export, Trace, Demo, Upgrade, Trim, Tidy}
 use Rattle.command_line.specs.Request.{request_of}
 use Rattle.outer_store.specs.Outside.{Seen, Sunk}
 use Rattle.command_runs.specs.declared.status.Status.{Status}
@@ -13,6 +13,7 @@ use Rattle.audit_cli.specs.Trace.{TraceComesTo}
 use Rattle.audit_cli.specs.Demo.{DemoComesTo}
 use Rattle.audit_cli.specs.Upgrade.{UpgradeComesTo}
 use Rattle.audit_cli.specs.Trim.{TrimComesTo}
+use Rattle.audit_cli.specs.Tidy.{TidyComesTo}
 use Rattle.audit_cli.specs.Peep.{plan_of}
 use Rattle.audit_cli.proofs.top.run_command.Goals as goal
 
@@ -89,3 +90,11 @@ returns-in-Trim-clause-runs g c =
     asked _ (Trim c.in-Trim.table c.in-Trim.out) c.args.command.now
     (g.S.Store.seen c.args.store.now) (g.S.Store.seen c.run-in-Trim.new.store) (g.O.Sink.sunk c.args.sink.now) (g.O.Sink.sunk c.run-in-Trim.new.sink) c.run-in-Trim.result
     (λ i. record { names = table i ∷ []; comes = TrimComesTo (out i) }) c.in-Trim.is c.run-in-Trim.ensures.runs
+
+pub returns-in-Tidy-clause-runs : goal.returns-in-Tidy-clause-runs
+returns-in-Tidy-clause-runs g c =
+    let out : c.as_str-in-Tidy.result.now ≡ string_bytes c.in-Tidy.out = c.as_str-in-Tidy.ensures.value in
+    let listing : c.as_str-in-Tidy-2.result.now ≡ string_bytes c.in-Tidy.listing = c.as_str-in-Tidy-2.ensures.value in
+    asked _ (Tidy c.in-Tidy.listing c.in-Tidy.out c.in-Tidy.base) c.args.command.now
+    (g.S.Store.seen c.args.store.now) (g.S.Store.seen c.run-in-Tidy.new.store) (g.O.Sink.sunk c.args.sink.now) (g.O.Sink.sunk c.run-in-Tidy.new.sink) c.run-in-Tidy.result
+    (λ i. record { names = listing i ∷ []; comes = TidyComesTo c.in-Tidy.base.address (out i) }) c.in-Tidy.is c.run-in-Tidy.ensures.runs

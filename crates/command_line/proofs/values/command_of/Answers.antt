@@ -1,7 +1,7 @@
 use Rattle.std.proofs.Common.{◌≡◌, ◌∙◌, rules, subst, sym, Option}
 use Rattle.std.specs.Prelude.{IfOk, option_map}
 use Rattle.clap.specs.Words.{found_of}
-use Rattle.command_line.specs.CommandLine.{Request, rewrites, audits, learns, exports, traces, demos, upgrades, trims, name_of}
+use Rattle.command_line.specs.CommandLine.{Request, rewrites, audits, learns, exports, traces, demos, upgrades, trims, tidies, name_of}
 use Rattle.command_line.specs.Request.{request_of}
 use Rattle.command_line.proofs.Usage.{asked_met}
 use Rattle.command_line.proofs.values.command_of.Goals as goal
@@ -53,3 +53,9 @@ returns-in-Some-trim-default c =
     let name : c.in-Some-trim-default.field-0-0.now ≡ name_of trims = search rules in
     let asks = asked_met trims c.args.matches.now (found_of c.in-Some-trim-default.given.now) c.in-Some-trim-default.field-0-0.now c.in-Some-trim-default.ensures.name c.in-Some-trim-default.ensures.rows name in
     subst (λ (v : Option Request). IfOk c.trim.result (λ o. option_map request_of o ≡ v)) (sym asks) c.trim.ensures
+
+pub returns-in-Some-tidy-default : goal.returns-in-Some-tidy-default
+returns-in-Some-tidy-default c =
+    let name : c.in-Some-tidy-default.field-0-0.now ≡ name_of tidies = search rules in
+    let asks = asked_met tidies c.args.matches.now (found_of c.in-Some-tidy-default.given.now) c.in-Some-tidy-default.field-0-0.now c.in-Some-tidy-default.ensures.name c.in-Some-tidy-default.ensures.rows name in
+    subst (λ (v : Option Request). IfOk c.tidy.result (λ o. option_map request_of o ≡ v)) (sym asks) c.tidy.ensures
