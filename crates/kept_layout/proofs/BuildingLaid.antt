@@ -13,7 +13,7 @@ use Rattle.kept_layout.specs.declared.stretch.Aim.{Aim}
 use Rattle.kept_layout.specs.declared.stretch.Stretch.{Stretch}
 use Rattle.kept_layout.specs.declared.kept.KeptLayout.{KeptLayout}
 use Rattle.kept_layout.specs.Stretches.{addresses, end_from, literal_last, shape_of, shapes_of, starts_from, AllReach, Divides, HasSlack, IsGrain, Shape}
-use Rattle.kept_layout.specs.Kept.{AreCut, IsLaid, Lays}
+use Rattle.kept_layout.specs.Kept.{AreCut, AreRooms, IsLaid, Lays}
 use Rattle.kept_layout.specs.Cutting.{part_shapes, stretch_in, mentioned, AreMet, KnowCallers, AreCallers}
 use Rattle.kept_layout.specs.Moves.{ungrained}
 use Rattle.kept_layout.proofs.BuildingParts.{are_cut}
@@ -35,6 +35,7 @@ pub record IsUnmoved (k : KeptLayout) : Type 0 where
   pub loose : AreFound sort.Label k.stretches.items (length k.stretches.items) k.loose.items
   pub absolute : AreFound sort.Address k.stretches.items (length k.stretches.items) k.absolute.items
   pub slack : k.slack ≡ 0
+  pub rooms : AreRooms k.rooms.items (shapes_of k.stretches.items)
 
 is_laid : (k : KeptLayout) → end_from k.base (shapes_of k.stretches.items) ≤ 2 ^ 29 → map (λ (s : Stretch). s.at) k.stretches.items ≡ starts_from k.base (shapes_of k.stretches.items) → AllReach k.base (shapes_of k.stretches.items)
     → AreMet (shapes_of k.stretches.items) → KnowCallers (length k.stretches.items) k.stretches.items → AreCallers k.stretches.items → k.here ≡ 0 → k.first ≡ 0 → 0 < length k.stretches.items → IsUnmoved k → IsLaid k
@@ -60,6 +61,7 @@ is_laid k end starts reach met known callers here first some unmoved =
       slack = λ j at s h e f. subst (λ n. HasSlack n at s.head) (sym unmoved.slack) (slack_none (starts_from k.base (shapes_of ss)) at s.head (reach j (shape_of s) at (shape_at j s e) f));
       here = omega arith;
       first = rw here first;
+      rooms = unmoved.rooms;
     }
 
 pub lays_lines : (k : KeptLayout) (ls : List Line) → shapes_of k.stretches.items ≡ part_shapes ls → end_from k.base (part_shapes ls) ≤ 2 ^ 29 → map (λ (s : Stretch). s.at) k.stretches.items ≡ starts_from k.base (part_shapes ls)
@@ -89,8 +91,8 @@ lays_built k built ls same shapes end starts known callers here first unmoved la
 -- its grains were noted, and the loose mentions were found
 pub unmoved : (k : KeptLayout) (built found again : List Stretch) → k.border ≡ 0 → k.shift ≡ 0 → map ungrained k.stretches.items ≡ map ungrained built → ((j : ℕ) (s : Stretch) → slice_get k.stretches.items j ≡ Some s → IsGrain s.grain (drop j (shapes_of built)))
     → ((i j : ℕ) (s : Shape) (d : Stretch) → slice_get (shapes_of built) i ≡ Some s → slice_get k.stretches.items j ≡ Some d → j ≤ literal_last i s.head → Divides 4 d.grain) → found ≡ k.stretches.items → again ≡ k.stretches.items
-    → AreFound sort.Label found (length found) k.loose.items → AreFound sort.Address again (length again) k.absolute.items → k.slack ≡ 0 → IsUnmoved k
-unmoved k built found again border shift same grains literals e f loose absolute slack = record {
+    → AreFound sort.Label found (length found) k.loose.items → AreFound sort.Address again (length again) k.absolute.items → k.slack ≡ 0 → AreRooms k.rooms.items (shapes_of k.stretches.items) → IsUnmoved k
+unmoved k built found again border shift same grains literals e f loose absolute slack rooms = record {
   border = border;
   shift = shift;
   grains = λ j s f. subst (λ (xs : List Shape). IsGrain s.grain (drop j xs)) (sym (shapes_same k.stretches.items built same)) (grains j s f);
@@ -98,4 +100,5 @@ unmoved k built found again border shift same grains literals e f loose absolute
   loose = subst (λ (xs : List Stretch). AreFound sort.Label xs (length xs) k.loose.items) e loose;
   absolute = subst (λ (xs : List Stretch). AreFound sort.Address xs (length xs) k.absolute.items) f absolute;
   slack = slack;
+  rooms = rooms;
 }

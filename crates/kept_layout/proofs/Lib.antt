@@ -9,6 +9,7 @@ pub mod Faults
 pub mod Giving
 pub mod MovingPlaces
 pub mod Reaching
+pub mod Rooms
 pub mod SetsKept
 pub mod ShrinkingKnown
 pub mod ShrinkingNotes

@@ -47,6 +47,7 @@ elsewhere k here first l h f = record {
   slack = l.slack;
   here = h;
   first = f;
+  rooms = l.rooms;
 }
 
 -- none stand before the first stretch

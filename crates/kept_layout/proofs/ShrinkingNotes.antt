@@ -13,7 +13,7 @@ use Rattle.kept_layout.specs.declared.stretch.Head.TheVariants as head
 use Rattle.kept_layout.specs.declared.stretch.Stretch.{Stretch}
 use Rattle.kept_layout.specs.declared.stretch.Target.TheVariants as target
 use Rattle.kept_layout.specs.Stretches.{addresses, end_from, is_loose, lessen, literal_last, located, shape_of, shapes_of, starts_from, total_places, AllReach, Divides, HasSlack, IsGrain, Shape}
-use Rattle.kept_layout.specs.Kept.{IsLaid}
+use Rattle.kept_layout.specs.Kept.{AreRooms, IsLaid}
 use Rattle.kept_layout.specs.Moves.{end_of, moved_starts, unplaced, AreSlack, IsMove, IsMoved, IsNote}
 use Rattle.kept_layout.proofs.MovingPlaces.{shape_at}
 use Rattle.kept_layout.proofs.ShrinkingPlaces.{addresses_are, get_map, lies_at, located_before, located_behind, moved_among, moved_before, moved_behind, shapes_length}
@@ -226,6 +226,7 @@ pub record IsAfter (k : KeptLayout) (new : List ℕ) (by bytes gone : ℕ) (ss :
   pub is : slice_get ss k.here ≡ Some s
   pub less : HasLess bytes gone s t
   pub stretches : after.stretches.items ≡ slice_set ss k.here t
+  pub rooms : AreRooms after.rooms.items (lessen k.here bytes gone (shapes_of k.stretches.items))
 
 laid_at : (k : KeptLayout) (new : List ℕ) (by bytes gone : ℕ) (ss : List Stretch) (after : KeptLayout) (j : ℕ) (d : Stretch) → IsAfter k new by bytes gone ss after → slice_get after.stretches.items j ≡ Some d → IsOne k new j d
 laid_at k new by bytes gone ss after j d a e = one_less k new ss bytes gone j a.s a.t d a.noted a.is a.less (ap (λ (xs : List Stretch). slice_get xs j) (sym a.stretches) ∙ e)
@@ -298,6 +299,7 @@ laid_after k new by bytes gone ss after l m r a =
       first =
           a.first ∙ l.first ∙ ap total_places (sym (places_lessen k.here bytes gone (shapes_of k.stretches.items)))
           ∙ ap (λ (xs : List Shape). total_places (take k.here xs)) (sym shapes) ∙ ap (λ n. total_places (take n (shapes_of after.stretches.items))) (sym a.here);
+      rooms = subst (AreRooms after.rooms.items) (sym shapes) a.rooms;
     }
 
 -- the shape of one that is noted
@@ -325,8 +327,8 @@ same_here : (k l : KeptLayout) (new : List ℕ) (bytes gone : ℕ) (s t : Stretc
 same_here k l new bytes gone s t h = ap (λ (x : KeptLayout). x.here) h.fields
 
 pub after_shrinking : (k l : KeptLayout) (new : List ℕ) (by bytes gone : ℕ) (s t : Stretch) (after : KeptLayout) → HasShrunk k l new bytes gone s t → after.base ≡ l.base → after.here ≡ l.here → after.first ≡ l.first → after.loose.items ≡ l.loose.items → after.absolute.items ≡ l.absolute.items → AreSlack k new by after.slack_from after.slack
-    → after.border ≡ suc l.here + length new → after.shift ≡ l.shift + by → after.stretches.items ≡ slice_set l.stretches.items l.here t → IsAfter k new by bytes gone l.stretches.items after
-after_shrinking k l new by bytes gone s t after h base here first near absolute slack border shift stretches =
+    → after.border ≡ suc l.here + length new → after.shift ≡ l.shift + by → after.stretches.items ≡ slice_set l.stretches.items l.here t → AreRooms after.rooms.items (lessen k.here bytes gone (shapes_of k.stretches.items)) → IsAfter k new by bytes gone l.stretches.items after
+after_shrinking k l new by bytes gone s t after h base here first near absolute slack border shift stretches rooms =
     let same : l.here ≡ k.here = same_here k l new bytes gone s t h in
     let before : l.shift ≡ k.shift = ap (λ (x : KeptLayout). x.shift) h.fields in
     record {
@@ -344,6 +346,7 @@ after_shrinking k l new by bytes gone s t after h base here first near absolute 
       is = ap (slice_get l.stretches.items) (sym same) ∙ h.is;
       less = less_from bytes gone s t h.less;
       stretches = stretches ∙ ap (λ n. slice_set l.stretches.items n t) same;
+      rooms = rooms;
     }
 
 pub shapes_after : (k l : KeptLayout) (new : List ℕ) (bytes gone : ℕ) (s t : Stretch) → HasShrunk k l new bytes gone s t → shapes_of (slice_set l.stretches.items l.here t) ≡ lessen k.here bytes gone (shapes_of k.stretches.items)

@@ -121,6 +121,14 @@ pub record AreCut (lines : List Line) (shapes : List Shape) : Type 0 where
 
 -- ---- what is kept ----
 
+-- so many places have the 128 ones from a number on
+abbrev pub IsRoom : List Shape → ℕ → ℕ → Type 0
+IsRoom shapes n room = total_places (take n shapes) + room ≡ total_places (take (n + 128) shapes)
+
+-- so many has each group of 128
+abbrev pub AreRooms : List ℕ → List Shape → Type 0
+AreRooms rooms shapes = (g room : ℕ) → slice_get rooms g ≡ Some room → IsRoom shapes (g * 128) room
+
 -- the stretches lie one behind the other from the base on, and each knows who mentions its label
 pub record IsLaid (k : KeptLayout) : Type 0 where
   pub in_code : end_from k.base (shapes_of k.stretches.items) ≤ 2 ^ 29
@@ -143,6 +151,7 @@ pub record IsLaid (k : KeptLayout) : Type 0 where
   -- it stands at one of them, before which there are so many places
   pub here : k.here < length k.stretches.items
   pub first : k.first ≡ total_places (take k.here (shapes_of k.stretches.items))
+  pub rooms : AreRooms k.rooms.items (shapes_of k.stretches.items)
 
 -- it is the layout of the lines
 pub record Lays (k : KeptLayout) (lines : List Line) : Type 0 where

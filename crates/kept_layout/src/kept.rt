@@ -3,6 +3,7 @@ ghost use Rattle.std.specs.Prelude.{◌≡◌, ◌-◌, ◌*◌, ◌≤◌, ◌^
 
 use crate::building::{lay, note_callers};
 use crate::grains::{Loose, find_loose, note_grains};
+use crate::groups::find_rooms;
 use crate::shrinking::Move;
 use crate::stretch::Stretch;
 use listing_parser::{Listing, Memory};
@@ -18,6 +19,8 @@ pub struct KeptLayout {
     pub here: usize,
     /// How many places stand before that stretch.
     pub first: usize,
+    /// How many places each group of stretches has.
+    pub rooms: Vec<usize>,
     /// The stretches from this number on lie `shift` bytes before where they were noted: they moved together, and none was looked at.
     pub border: usize,
     pub shift: u32,
@@ -63,11 +66,13 @@ impl KeptLayout {
         note_grains(&mut stretches);
         let loose = find_loose(alloc, &stretches, Loose::Label)?;
         let absolute = find_loose(alloc, &stretches, Loose::Address)?;
+        let rooms = find_rooms(alloc, &stretches)?;
         let mut kept = KeptLayout {
             base,
             stretches,
             here: 0,
             first: 0,
+            rooms,
             border: 0,
             shift: 0,
             loose,

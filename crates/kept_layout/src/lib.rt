@@ -4,6 +4,7 @@
 
 mod building;
 mod grains;
+mod groups;
 pub mod kept;
 mod moving;
 pub mod shrinking;

@@ -17,6 +17,9 @@ impl KeptLayout {
     {
         let count = self.stretches.len();
         while self.here + 1 < count {
+            if self.leap_on(place) {
+                continue;
+            }
             let here = self.here;
             let places = self.stretches[here].places;
             if place - self.first < places {
@@ -36,13 +39,16 @@ impl KeptLayout {
         ensures from { self.new.first ≤ place }
     {
         while place < self.first {
+            if self.leap_back(place) {
+                continue;
+            }
             let here = self.here - 1;
             self.first -= self.stretches[here].places;
             self.here = here;
         }
     }
 
-    /// Moves to a place. It costs as many stretches as lie between.
+    /// Moves to a place. It costs as many groups of stretches as lie between, and at most the stretches of two.
     pub fn go_to(&mut self, place: usize)
         requires { IsLaid self.old }
         ensures lays { (lines : List Listed) → Lays self.old lines → Lays self.new lines }

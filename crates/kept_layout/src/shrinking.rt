@@ -6,6 +6,7 @@ ghost use Rattle.kept_layout.specs.Stretches.{lessen, located, shapes_of, AllRea
 ghost use Rattle.kept_layout.specs.Kept.{IsLaid};
 ghost use Rattle.kept_layout.specs.Moves.{moved_starts, unplaced, IsMove, IsMoved, IsNote};
 
+use crate::groups::take_places;
 use crate::kept::KeptLayout;
 use crate::stretch::Stretch;
 use listing_parser::Memory;
@@ -133,6 +134,7 @@ impl KeptLayout {
         self.border = self.here + 1 + moved.at.len();
         self.shift += moved.by;
         let here = self.here;
+        take_places(&mut self.rooms, here, gone);
         take_from(&mut self.stretches[here], bytes, gone);
         Ok(())
     }
