@@ -1,6 +1,6 @@
 -- Stretches that were built, with their callers: they are the layout of the lines.
-use Rattle.std.proofs.Common.{◌≡◌, ◌∙◌, ℕ, ◌<◌, ◌≤◌, ◌^◌, true, List, length, drop, map, Some, refl, sym, ap, subst, arith}
-use Rattle.std.specs.Prelude.{slice_get, Contains}
+use Rattle.std.proofs.Common.{◌≡◌, ◌∙◌, ℕ, ◌<◌, ◌≤◌, ◌^◌, List, length, drop, map, Some, refl, sym, ap, subst, arith}
+use Rattle.std.specs.Prelude.{slice_get}
 use Rattle.std.proofs.lemmas.Option.{slice_get-map, slice_get_within}
 use Rattle.thumb_model.specs.Listing.{Line}
 use Rattle.thumb_model.specs.Layout.{Layable}
@@ -12,7 +12,7 @@ use Rattle.kept_layout.specs.declared.stretch.Head.TheVariants as head
 use Rattle.kept_layout.specs.declared.stretch.Aim.{Aim}
 use Rattle.kept_layout.specs.declared.stretch.Stretch.{Stretch}
 use Rattle.kept_layout.specs.declared.kept.KeptLayout.{KeptLayout}
-use Rattle.kept_layout.specs.Stretches.{addresses, end_from, literal_last, shape_of, shapes_of, starts_from, AllReach, Divides, HasSlack, IsGrain, Shape}
+use Rattle.kept_layout.specs.Stretches.{addresses, end_from, literal_last, shape_of, shapes_of, starts_from, AllReach, AreWalls, Divides, HasSlack, IsGrain, Shape}
 use Rattle.kept_layout.specs.Kept.{AreCut, AreRooms, IsLaid, Lays}
 use Rattle.kept_layout.specs.Cutting.{part_shapes, stretch_in, mentioned, AreMet, KnowCallers, AreCallers}
 use Rattle.kept_layout.specs.Moves.{ungrained}
@@ -36,6 +36,7 @@ pub record IsUnmoved (k : KeptLayout) : Type 0 where
   pub absolute : AreFound sort.Address k.stretches.items (length k.stretches.items) k.absolute.items
   pub slack : k.slack ≡ 0
   pub rooms : AreRooms k.rooms.items (shapes_of k.stretches.items)
+  pub walls : AreWalls k.walls.items (shapes_of k.stretches.items)
 
 is_laid : (k : KeptLayout) → end_from k.base (shapes_of k.stretches.items) ≤ 2 ^ 29 → map (λ (s : Stretch). s.at) k.stretches.items ≡ starts_from k.base (shapes_of k.stretches.items) → AllReach k.base (shapes_of k.stretches.items)
     → AreMet (shapes_of k.stretches.items) → KnowCallers (length k.stretches.items) k.stretches.items → AreCallers k.stretches.items → k.here ≡ 0 → k.first ≡ 0 → 0 < length k.stretches.items → IsUnmoved k → IsLaid k
@@ -62,6 +63,7 @@ is_laid k end starts reach met known callers here first some unmoved =
       here = omega arith;
       first = rw here first;
       rooms = unmoved.rooms;
+      walls = unmoved.walls;
     }
 
 pub lays_lines : (k : KeptLayout) (ls : List Line) → shapes_of k.stretches.items ≡ part_shapes ls → end_from k.base (part_shapes ls) ≤ 2 ^ 29 → map (λ (s : Stretch). s.at) k.stretches.items ≡ starts_from k.base (part_shapes ls)
@@ -91,8 +93,8 @@ lays_built k built ls same shapes end starts known callers here first unmoved la
 -- its grains were noted, and the loose mentions were found
 pub unmoved : (k : KeptLayout) (built found again : List Stretch) → k.border ≡ 0 → k.shift ≡ 0 → map ungrained k.stretches.items ≡ map ungrained built → ((j : ℕ) (s : Stretch) → slice_get k.stretches.items j ≡ Some s → IsGrain s.grain (drop j (shapes_of built)))
     → ((i j : ℕ) (s : Shape) (d : Stretch) → slice_get (shapes_of built) i ≡ Some s → slice_get k.stretches.items j ≡ Some d → j ≤ literal_last i s.head → Divides 4 d.grain) → found ≡ k.stretches.items → again ≡ k.stretches.items
-    → AreFound sort.Label found (length found) k.loose.items → AreFound sort.Address again (length again) k.absolute.items → k.slack ≡ 0 → AreRooms k.rooms.items (shapes_of k.stretches.items) → IsUnmoved k
-unmoved k built found again border shift same grains literals e f loose absolute slack rooms = record {
+    → AreFound sort.Label found (length found) k.loose.items → AreFound sort.Address again (length again) k.absolute.items → k.slack ≡ 0 → AreRooms k.rooms.items (shapes_of k.stretches.items) → AreWalls k.walls.items (shapes_of built) → IsUnmoved k
+unmoved k built found again border shift same grains literals e f loose absolute slack rooms walls = record {
   border = border;
   shift = shift;
   grains = λ j s f. subst (λ (xs : List Shape). IsGrain s.grain (drop j xs)) (sym (shapes_same k.stretches.items built same)) (grains j s f);
@@ -101,4 +103,5 @@ unmoved k built found again border shift same grains literals e f loose absolute
   absolute = subst (λ (xs : List Stretch). AreFound sort.Address xs (length xs) k.absolute.items) f absolute;
   slack = slack;
   rooms = rooms;
+  walls = subst (AreWalls k.walls.items) (sym (shapes_same k.stretches.items built same)) walls;
 }

@@ -1,7 +1,7 @@
 -- Mentions whose ends move, those of literals by a multiple of 4: together, or nearer to each other.
-use Rattle.std.proofs.Common.{◌≡◌, inl, inr, ℕ, ◌+◌, ◌-◌, ◌*◌, ◌%◌, ◌<◌, ◌≤◌, ◌==◌, ◌&&◌, true, false, Some, None, refl, arith}
+use Rattle.std.proofs.Common.{◌≡◌, ◌∙◌, inl, inr, ℕ, ◌+◌, ◌-◌, ◌*◌, ◌%◌, ◌<◌, ◌≤◌, ◌==◌, ◌&&◌, true, false, Some, None, refl, sym, subst, arith}
 use Rattle.std.specs.Prelude.{nat_le, nat_lt}
-use Rattle.std.proofs.lemmas.Bool.{cases_Bool, and_parts, ltb-true, leb-true, eqb-true, lt-ltb, le-leb, eq-eqb}
+use Rattle.std.proofs.lemmas.Bool.{cases_Bool, cases_lt, and_parts, ltb-true, leb-true, eqb-true, lt-ltb, le-leb, eq-eqb}
 use Rattle.thumb_instr.specs.declared.instr.Instr.{Instr}
 use Rattle.thumb_instr.specs.declared.instr.Instr.TheVariants as instr
 use Rattle.kept_layout.specs.Stretches.{is_literal, Divides}
@@ -90,3 +90,44 @@ aim_back d at to (instr.BranchIf c s) plus f h e = branch_back 128 d at to h e
 aim_back d at to (instr.Branch s) plus f h e = branch_back 1024 d at to h e
 aim_back d at to (instr.Call s) plus f h e = branch_back 8388608 d at to h e
 aim_back d at to i plus f h e = refl
+
+-- ---- both ends move, not alike ----
+
+-- a branch far ahead or far behind is a call
+ahead_far : (at to new_at new_to : ℕ) (i : Instr) (plus : ℕ) → is_literal i ≡ false → at + 2052 < to → new_at ≤ new_to → new_to ≤ new_at + 16000000 → aim_fault at i (Some to) plus ≡ None → aim_fault new_at i (Some new_to) plus ≡ None
+ahead_far at to new_at new_to (instr.Literal t s) plus f h o n e = absurd (let bad : true ≡ false = f in cc)
+ahead_far at to new_at new_to (instr.Address t s) plus f h o n e = absurd (let bad : true ≡ false = f in cc)
+ahead_far at to new_at new_to (instr.BranchIf c s) plus f h o n e = absurd (let r = (branch_parts 128 at to e).below in omega arith)
+ahead_far at to new_at new_to (instr.Branch s) plus f h o n e = absurd (let r = (branch_parts 1024 at to e).below in omega arith)
+ahead_far at to new_at new_to (instr.Call s) plus f h o n e = branch_from 8388608 new_at new_to (record { below = omega arith; above = omega arith })
+ahead_far at to new_at new_to i plus f h o n e = refl
+
+back_far : (at to new_at new_to : ℕ) (i : Instr) (plus : ℕ) → is_literal i ≡ false → to + 2052 < at → new_to ≤ new_at → new_at ≤ new_to + 16000000 → aim_fault at i (Some to) plus ≡ None → aim_fault new_at i (Some new_to) plus ≡ None
+back_far at to new_at new_to (instr.Literal t s) plus f h o n e = absurd (let bad : true ≡ false = f in cc)
+back_far at to new_at new_to (instr.Address t s) plus f h o n e = absurd (let bad : true ≡ false = f in cc)
+back_far at to new_at new_to (instr.BranchIf c s) plus f h o n e = absurd (let r = (branch_parts 128 at to e).above in omega arith)
+back_far at to new_at new_to (instr.Branch s) plus f h o n e = absurd (let r = (branch_parts 1024 at to e).above in omega arith)
+back_far at to new_at new_to (instr.Call s) plus f h o n e = branch_from 8388608 new_at new_to (record { below = omega arith; above = omega arith })
+back_far at to new_at new_to i plus f h o n e = refl
+
+no_literal : (i : Instr) (P : Type 0) → is_literal i ≡ false → is_literal i ≡ true → P
+no_literal i P f t = absurd (let never : true ≡ false = sym t ∙ f in cc)
+
+-- the later end moves at least as far, or both are far from each other
+pub aim_ahead_of : (bytes by at to : ℕ) (i : Instr) (plus : ℕ) → is_literal i ≡ false → bytes ≤ at → by ≤ to → at - bytes + 2 ≤ to - by → (by < bytes → (at + 2052 < to) × (to + bytes ≤ at + 16000000)) → aim_fault at i (Some to) plus ≡ None → aim_fault (at - bytes) i (Some (to - by)) plus ≡ None
+aim_ahead_of bytes by at to i plus f low less two far e = elim (cases_lt by bytes) [
+  | inl less_far ↦ let h = far less_far in let a = h.0 in let b = h.1 in ahead_far at to (at - bytes) (to - by) i plus f a (omega arith) (omega arith) e
+  | inr nearer ↦
+      let both = aim_moves bytes at to i plus (no_literal i (Divides 4 bytes) f) low (omega arith) e in
+      let near = aim_ahead (by - bytes) (at - bytes) (to - bytes) i plus (no_literal i (Divides 4 (by - bytes)) f) (omega arith) both in
+      subst (λ n. aim_fault (at - bytes) i (Some n) plus ≡ None) (let same : to - bytes - (by - bytes) ≡ to - by = omega arith in same) near
+]
+
+pub aim_back_of : (bytes by at to : ℕ) (i : Instr) (plus : ℕ) → is_literal i ≡ false → by ≤ at → bytes ≤ to → to - bytes ≤ at - by → (by < bytes → (to + 2052 < at) × (at + bytes ≤ to + 16000000)) → aim_fault at i (Some to) plus ≡ None → aim_fault (at - by) i (Some (to - bytes)) plus ≡ None
+aim_back_of bytes by at to i plus f low less order far e = elim (cases_lt by bytes) [
+  | inl less_far ↦ let h = far less_far in let a = h.0 in let b = h.1 in back_far at to (at - by) (to - bytes) i plus f a (omega arith) (omega arith) e
+  | inr nearer ↦
+      let both = aim_moves bytes at to i plus (no_literal i (Divides 4 bytes) f) (omega arith) less e in
+      let near = aim_back (by - bytes) (at - bytes) (to - bytes) i plus f (omega arith) both in
+      subst (λ n. aim_fault n i (Some (to - bytes)) plus ≡ None) (let same : at - bytes - (by - bytes) ≡ at - by = omega arith in same) near
+]

@@ -3,6 +3,7 @@ pub mod BuildingGrains
 pub mod BuildingLaid
 pub mod BuildingParts
 pub mod BuildingSteps
+pub mod BuildingWalls
 pub mod Cutting
 pub mod Distances
 pub mod Faults
@@ -19,4 +20,6 @@ pub mod ShrinkingStarts
 pub mod ShrinkingWalk
 pub mod ShrinkingWide
 pub mod Nearing
+pub mod Skipping
 pub mod Together
+pub mod Walls

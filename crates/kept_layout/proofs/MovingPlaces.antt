@@ -48,6 +48,7 @@ elsewhere k here first l h f = record {
   here = h;
   first = f;
   rooms = l.rooms;
+  walls = l.walls;
 }
 
 -- none stand before the first stretch

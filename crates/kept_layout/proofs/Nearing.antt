@@ -1,20 +1,18 @@
 -- By how many bytes mentions of addresses that are set may come nearer.
-use Rattle.std.proofs.Common.{◌≡◌, ◌∙◌, inl, inr, ℕ, suc, ◌+◌, ◌-◌, ◌<◌, ◌≤◌, min, true, false, List, length, Option, Some, None, refl, sym, ap, subst, arith, true≢false}
-use Rattle.std.specs.Prelude.{nat_le, slice_get, Contains}
+use Rattle.std.proofs.Common.{◌≡◌, inl, inr, ℕ, suc, ◌+◌, ◌-◌, ◌<◌, ◌≤◌, min, true, false, List, length, Option, Some, None, refl, sym, ap, subst, arith, true≢false}
+use Rattle.std.specs.Prelude.{nat_le, slice_get}
 use Rattle.std.proofs.lemmas.Bool.{and_parts, cases_Bool, cases_lt, leb-true}
 use Rattle.std.proofs.lemmas.Option.{slice_get_read, slice_get_within}
-use Rattle.thumb_instr.specs.declared.instr.Instr.{Instr}
 use Rattle.thumb_model.specs.Layout.{aim_fault}
 use Rattle.thumb_model.proofs.Lists.{present_at}
 use Rattle.kept_layout.specs.declared.kept.KeptLayout.{KeptLayout}
-use Rattle.kept_layout.specs.declared.stretch.Aim.{Aim}
 use Rattle.kept_layout.specs.declared.stretch.Head.{Head}
 use Rattle.kept_layout.specs.declared.stretch.Head.TheVariants as head
 use Rattle.kept_layout.specs.declared.stretch.Stretch.{Stretch}
 use Rattle.kept_layout.specs.declared.stretch.Target.{Target}
 use Rattle.kept_layout.specs.declared.stretch.Target.TheVariants as target
 use Rattle.kept_layout.specs.declared.grains.Loose.TheVariants as sort
-use Rattle.kept_layout.specs.Stretches.{head_fault, is_loose, is_loose_to, HasSlack, HasSlackTo, Reaches}
+use Rattle.kept_layout.specs.Stretches.{head_fault, is_loose, is_loose_to, HasSlack, HasSlackTo}
 use Rattle.kept_layout.specs.Kept.{IsLaid}
 use Rattle.kept_layout.specs.Moves.{end_of, has_slack, moved_starts, starts_of, AreSlack, IsMove}
 use Rattle.kept_layout.proofs.ShrinkingPlaces.{count_of, moved_before, moved_behind}
@@ -79,8 +77,8 @@ pub record IsLeft (k : KeptLayout) (new : List ℕ) (by number slack : ℕ) : Ty
   pub few : slack ≤ k.slack - by
   pub among : (j : ℕ) → k.here < j → j < number → HasOwn k new by slack j
 
-pub left_first : (k : KeptLayout) (new : List ℕ) (by number slack : ℕ) → number ≡ suc k.here → slack ≡ k.slack - by → IsLeft k new by number slack
-left_first k new by number slack e f = record { few = omega arith; among = λ j l m. absurd (omega arith) }
+pub left_first : (k : KeptLayout) (new : List ℕ) (by number slack : ℕ) → slack ≡ k.slack - by → ((j : ℕ) → k.here < j → j < number → HasOwn k new by slack j) → IsLeft k new by number slack
+left_first k new by number slack f calm = record { few = omega arith; among = calm }
 
 pub left_more : (k : KeptLayout) (new : List ℕ) (by number following slack own less : ℕ) → IsLeft k new by number slack → HasOwn k new by own number → less ≡ min slack own → following ≡ suc number → IsLeft k new by following less
 left_more k new by number following slack own less h o e f = record {

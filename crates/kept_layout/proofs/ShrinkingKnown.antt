@@ -1,5 +1,5 @@
 -- What is seen on the way over stretches that move: a mention is within reach or not as soon as it is known where both of its ends lie.
-use Rattle.std.proofs.Common.{◌≡◌, ◌∙◌, ◌⊎◌, inl, inr, ℕ, suc, ◌+◌, ◌-◌, ◌<◌, ◌≤◌, max, Bool, true, false, List, [], ◌∷◌, ◌++◌, length, map, take, drop, Option, Some, None, refl, sym, ap, subst, arith, append_assoc, length-append}
+use Rattle.std.proofs.Common.{◌≡◌, ◌∙◌, ◌⊎◌, inl, inr, ℕ, suc, ◌+◌, ◌-◌, ◌<◌, ◌≤◌, Bool, true, false, List, [], ◌∷◌, ◌++◌, length, map, take, drop, Option, Some, None, refl, sym, ap, subst, arith, append_assoc, length-append}
 use Rattle.std.specs.Prelude.{slice_get, Contains}
 use Rattle.std.proofs.lemmas.Bool.{cases_Bool, cases_lt, lt-ltb, ltb-true}
 use Rattle.thumb_model.specs.Layout.{aim_fault}
@@ -13,11 +13,10 @@ use Rattle.kept_layout.specs.declared.stretch.Target.{Target}
 use Rattle.kept_layout.specs.declared.stretch.Target.TheVariants as target
 use Rattle.kept_layout.specs.Stretches.{address_of, head_fault, later_end, later_to, lessen, shape_of, shapes_of, starts_from, AllReach}
 use Rattle.kept_layout.specs.Kept.{IsLaid}
-use Rattle.kept_layout.specs.Moves.{end_of, is_known, moved_starts, starts_of, AreKnownRight, IsMove, IsRight, IsRightIf}
+use Rattle.kept_layout.specs.Moves.{end_of, is_known, moved_starts, starts_of, AreKnownRight, IsMove, IsRight, IsRightIf, IsWalked}
 use Rattle.kept_layout.proofs.MovingPlaces.{shape_at}
 use Rattle.kept_layout.proofs.ShrinkingPlaces.{count_of, moved_before}
 use Rattle.kept_layout.proofs.ShrinkingStarts.{lessen_there}
-use Rattle.kept_layout.proofs.ShrinkingWalk.{IsWalked}
 
 -- ---- lists that begin alike ----
 
@@ -34,7 +33,7 @@ fronts_alike xs ys zs ws n h = λ j l. elim (cases_lt j (length xs)) [
 ]
 
 -- those up to the new addresses
-starts_alike : (k : KeptLayout) (new zs ws : List ℕ) → k.here < length k.stretches.items → AreAlike (end_of k new) (take (suc k.here) (starts_of k) ++ (new ++ zs)) (take (suc k.here) (starts_of k) ++ (new ++ ws))
+pub starts_alike : (k : KeptLayout) (new zs ws : List ℕ) → k.here < length k.stretches.items → AreAlike (end_of k new) (take (suc k.here) (starts_of k) ++ (new ++ zs)) (take (suc k.here) (starts_of k) ++ (new ++ ws))
 starts_alike k new zs ws h =
     let count = count_of k in
     let first = take_all (suc k.here) (starts_of k) (omega arith) in
@@ -63,7 +62,7 @@ fault_alike n j at xs ys (head.Pads size most) same l = refl
 fault_alike n j at xs ys (head.Aims aim) same l = ap (λ (t : Option ℕ). aim_fault at aim.instr t aim.plus) (target_alike n j xs ys aim.to same l)
 
 -- a mention both ends of which lie where the lists are alike
-right_alike : (n j : ℕ) (xs ys : List ℕ) (ss : List Stretch) (s : Stretch) → AreAlike n xs ys → slice_get ss j ≡ Some s → later_end j s.head < n → IsRight xs ss j → IsRight ys ss j
+pub right_alike : (n j : ℕ) (xs ys : List ℕ) (ss : List Stretch) (s : Stretch) → AreAlike n xs ys → slice_get ss j ≡ Some s → later_end j s.head < n → IsRight xs ss j → IsRight ys ss j
 right_alike n j xs ys ss s same e low r = λ other at f g.
     let one : s ≡ other = cc in
     let own = own_before j s.head in

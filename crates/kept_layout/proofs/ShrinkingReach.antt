@@ -20,14 +20,14 @@ use Rattle.kept_layout.specs.declared.stretch.Target.{Target}
 use Rattle.kept_layout.specs.declared.stretch.Target.TheVariants as target
 use Rattle.kept_layout.specs.Stretches.{address_of, head_fault, is_literal, is_loose, is_loose_to, last_to, lessen, literal_last, shape_of, shapes_of, starts_from, AllReach, AreWide, Divides, HasSlack, HasSlackTo, Shape}
 use Rattle.kept_layout.specs.Kept.{IsLaid}
-use Rattle.kept_layout.specs.Moves.{end_of, has_slack, moved_starts, starts_of, IsLookedAt, IsMove, IsMoved, IsRight}
+use Rattle.kept_layout.specs.Moves.{end_of, has_slack, moved_starts, starts_of, IsLookedAt, IsMove, IsMovedTo, IsRight}
 use Rattle.kept_layout.proofs.Distances.{aim_ahead, aim_back, aim_moves}
 use Rattle.kept_layout.proofs.MovingPlaces.{shape_at}
 use Rattle.kept_layout.proofs.ShrinkingPlaces.{count_of, moved_before, moved_behind, shapes_length}
 use Rattle.kept_layout.proofs.ShrinkingStarts.{lessen_at, lessen_there, starts_apart, starts_order}
 
 -- a mention of what lies nowhere has no fault: a row each
-aim_none : (at : ℕ) (i : Instr) (plus : ℕ) → aim_fault at i None plus ≡ None
+pub aim_none : (at : ℕ) (i : Instr) (plus : ℕ) → aim_fault at i None plus ≡ None
 aim_none at (instr.Literal t s) plus = refl
 aim_none at (instr.Address t s) plus = refl
 aim_none at (instr.BranchIf c s) plus = refl
@@ -166,10 +166,7 @@ label_right k new by bytes j t s at old to a m c x e f = elim (cases_lt k.here t
     ]
   ]
   | inl later ↦ elim (cases_lt t (end_of k new)) [
-    | inl among ↦
-        let within = m.laid.targets j t s a x.is x.head x.target in
-        let there = present_at k.stretches.items t within in
-        looked k (moved_starts k new by) j s at a (Some (target.Stretch t)) x (c.callers t j there.0 later among there.1 (m.laid.callers j t s there.0 a x.is x.head x.target there.1))
+    | inl among ↦ looked k (moved_starts k new by) j s at a (Some (target.Stretch t)) x (c.callers t j s a later among x.is x.head x.target)
     | inr last ↦ elim (cases_lt j k.here) [
       | inl before ↦ label_nearer k new by bytes j t s at old to a m x e f (omega arith) before
       | inr not ↦ elim (cases_lt j (end_of k new)) [
@@ -250,7 +247,7 @@ reach_from k new by bytes gone m r j s at e f =
     let right = r j there.0 at there.1 (subst (λ (xs : List ℕ). slice_get xs j ≡ Some at) (m.starts gone) f) in
     subst (λ (h : Head). head_fault (starts_from k.base (lessen k.here bytes gone (shapes_of k.stretches.items))) at h ≡ None) head (subst (λ (xs : List ℕ). head_fault xs at there.0.head ≡ None) (sym (m.starts gone)) right)
 
-pub right_from : (k : KeptLayout) (new : List ℕ) (by bytes gone : ℕ) → IsMoved k bytes new by → AllReach k.base (lessen k.here bytes gone (shapes_of k.stretches.items)) → (j : ℕ) → IsRight (moved_starts k new by) k.stretches.items j
+pub right_from : (k : KeptLayout) (new : List ℕ) (by bytes gone : ℕ) → IsMovedTo k bytes new by → AllReach k.base (lessen k.here bytes gone (shapes_of k.stretches.items)) → (j : ℕ) → IsRight (moved_starts k new by) k.stretches.items j
 right_from k new by bytes gone m r j s at e f =
     let there = lessen_there k.here bytes gone (shapes_of k.stretches.items) j (shape_of s) (shape_at k.stretches.items j s e) in
     let reach = r j there.0 at there.1 (subst (λ (xs : List ℕ). slice_get xs j ≡ Some at) (sym (m.starts gone)) f) in
@@ -295,20 +292,23 @@ called_right k P t d numbers e f h j other g c =
     let one : d ≡ other = cc in
     h j (subst (λ xs. Contains xs j) (sym (f ∙ ap (λ (x : Stretch). x.callers.items) one)) c)
 
--- from the one that it stands at up to a number, what they mention and what mentions their labels is within reach
-pub record AreMet (k : KeptLayout) (new : List ℕ) (by number : ℕ) : Type 0 where
-  pub heads : (j : ℕ) → k.here ≤ j → j < number → IsRight (moved_starts k new by) k.stretches.items j
-  pub callers : (t j : ℕ) (d : Stretch) → k.here < t → t < number → slice_get k.stretches.items t ≡ Some d → Contains d.callers.items j → IsRight (moved_starts k new by) k.stretches.items j
+-- what the one that it stands at mentions is within reach, and from another one up to a number, what they mention and what mentions their labels
+pub record AreMet (k : KeptLayout) (new : List ℕ) (by first number : ℕ) : Type 0 where
+  pub here : IsRight (moved_starts k new by) k.stretches.items k.here
+  pub heads : (j : ℕ) → first ≤ j → j < number → IsRight (moved_starts k new by) k.stretches.items j
+  pub callers : (t j : ℕ) (d : Stretch) → first ≤ t → t < number → slice_get k.stretches.items t ≡ Some d → Contains d.callers.items j → IsRight (moved_starts k new by) k.stretches.items j
 
-pub met_first : (k : KeptLayout) (new : List ℕ) (by number : ℕ) → number ≡ suc k.here → IsRight (moved_starts k new by) k.stretches.items k.here → AreMet k new by number
-met_first k new by number e r = record {
-  heads = λ j h l. subst (IsRight (moved_starts k new by) k.stretches.items) (let here : k.here ≡ j = omega arith in here) r;
+pub met_first : (k : KeptLayout) (new : List ℕ) (by first : ℕ) → IsRight (moved_starts k new by) k.stretches.items k.here → AreMet k new by first first
+met_first k new by first r = record {
+  here = r;
+  heads = λ j h l. absurd (omega arith);
   callers = λ t j d h l. absurd (omega arith);
 }
 
-pub met_more : (k : KeptLayout) (new : List ℕ) (by number following : ℕ) → following ≡ suc number → AreMet k new by number → IsRight (moved_starts k new by) k.stretches.items number
-    → ((j : ℕ) (d : Stretch) → slice_get k.stretches.items number ≡ Some d → Contains d.callers.items j → IsRight (moved_starts k new by) k.stretches.items j) → AreMet k new by following
-met_more k new by number following e m own called = record {
+pub met_more : (k : KeptLayout) (new : List ℕ) (by first number following : ℕ) → following ≡ suc number → AreMet k new by first number → IsRight (moved_starts k new by) k.stretches.items number
+    → ((j : ℕ) (d : Stretch) → slice_get k.stretches.items number ≡ Some d → Contains d.callers.items j → IsRight (moved_starts k new by) k.stretches.items j) → AreMet k new by first following
+met_more k new by first number following e m own called = record {
+  here = m.here;
   heads = λ j h l. elim (cases_lt j number) [
     | inl before ↦ m.heads j h before
     | inr not ↦ subst (IsRight (moved_starts k new by) k.stretches.items) (let here : number ≡ j = omega arith in here) own

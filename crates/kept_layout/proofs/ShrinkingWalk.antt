@@ -3,21 +3,13 @@ use Rattle.std.proofs.Common.{◌≡◌, ◌∙◌, ℕ, zero, suc, ◌+◌, ◌
 use Rattle.std.specs.Prelude.{slice_get}
 use Rattle.kept_layout.specs.declared.kept.KeptLayout.{KeptLayout}
 use Rattle.kept_layout.specs.declared.stretch.Stretch.{Stretch}
-use Rattle.kept_layout.specs.Stretches.{end_from, lessen, padding_of, shape_of, shapes_of, starts_from, Divides, IsGrain, Shape}
+use Rattle.kept_layout.specs.Stretches.{end_from, padding_of, shape_of, shapes_of, starts_from, Divides, IsGrain, Shape}
 use Rattle.kept_layout.specs.Kept.{IsLaid}
-use Rattle.kept_layout.specs.Moves.{end_of, starts_of, IsMoved}
+use Rattle.kept_layout.specs.Moves.{end_of, starts_of, IsMovedTo, IsWalked}
 use Rattle.kept_layout.proofs.MovingPlaces.{shape_at}
 use Rattle.kept_layout.proofs.ShrinkingPlaces.{count_of, shapes_length}
 use Rattle.kept_layout.proofs.ShrinkingStarts.{behind_low, drop_one, end_drop, end_lessen, starts_drop, starts_lessen, starts_order}
 use Rattle.kept_layout.proofs.Together.{divides_on, end_moves, starts_move}
-
--- those up to the next one begin at the new addresses, and that begins at the address
-pub record IsWalked (k : KeptLayout) (bytes : ℕ) (new : List ℕ) (at next : ℕ) : Type 0 where
-  pub count : next ≡ suc k.here + length new
-  pub within : next ≤ length k.stretches.items
-  pub in_code : at ≤ 2 ^ 29
-  pub starts : (gone : ℕ) → starts_from k.base (lessen k.here bytes gone (shapes_of k.stretches.items)) ≡ take (suc k.here) (starts_of k) ++ (new ++ starts_from at (drop next (shapes_of k.stretches.items)))
-  pub ends : (gone : ℕ) → end_from k.base (lessen k.here bytes gone (shapes_of k.stretches.items)) ≡ end_from at (drop next (shapes_of k.stretches.items))
 
 -- no stretch begins behind the Code region
 pub start_in_code : (k : KeptLayout) (j : ℕ) (s : Stretch) (a : ℕ) → IsLaid k → slice_get k.stretches.items j ≡ Some s → slice_get (starts_of k) j ≡ Some a → a ≤ 2 ^ 29
@@ -64,7 +56,7 @@ drop_all (suc n) [] h = refl
 drop_all (suc n) (x ∷ xs) h = drop_all n xs (omega arith)
 
 -- none is behind
-pub walk_over : (k : KeptLayout) (bytes : ℕ) (new : List ℕ) (at next : ℕ) → IsWalked k bytes new at next → length k.stretches.items ≤ next → IsMoved k bytes new 0
+pub walk_over : (k : KeptLayout) (bytes : ℕ) (new : List ℕ) (at next : ℕ) → IsWalked k bytes new at next → length k.stretches.items ≤ next → IsMovedTo k bytes new 0
 walk_over k bytes new at next w h =
     let count = w.count in
     let within = w.within in
@@ -80,7 +72,7 @@ walk_over k bytes new at next w h =
     }
 
 -- all that are behind move together
-pub walk_together : (k : KeptLayout) (bytes : ℕ) (new : List ℕ) (at next old : ℕ) (s : Stretch) → IsLaid k → IsWalked k bytes new at next → slice_get k.stretches.items next ≡ Some s → slice_get (starts_of k) next ≡ Some old → at ≤ old → Divides s.grain (old - at) → IsMoved k bytes new (old - at)
+pub walk_together : (k : KeptLayout) (bytes : ℕ) (new : List ℕ) (at next old : ℕ) (s : Stretch) → IsLaid k → IsWalked k bytes new at next → slice_get k.stretches.items next ≡ Some s → slice_get (starts_of k) next ≡ Some old → at ≤ old → Divides s.grain (old - at) → IsMovedTo k bytes new (old - at)
 walk_together k bytes new at next old s l w e f h d =
     let by : ℕ = old - at in
     let rest : List Shape = drop next (shapes_of k.stretches.items) in

@@ -33,7 +33,7 @@ head_stays g d at head.Plain i k m = refl
 head_stays g d at (head.Pads size most) i k m = padding_stays size most at d (divides_on size g d i k) m
 head_stays g d at (head.Aims aim) i k m = refl
 
-behind_moves : (g d at : ℕ) (s : Shape) → IsGrainOf g s.head → Divides g d → d ≤ at → behind (at - d) s ≡ behind at s - d
+pub behind_moves : (g d at : ℕ) (s : Shape) → IsGrainOf g s.head → Divides g d → d ≤ at → behind (at - d) s ≡ behind at s - d
 behind_moves g d at s i k m = let e = head_stays g d at s.head i k m in omega (arith, e, m)
 
 -- all begin as much earlier as the first, and the last ends so

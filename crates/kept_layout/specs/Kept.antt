@@ -15,7 +15,7 @@ use Rattle.kept_layout.specs.declared.stretch.Target.TheVariants as target
 use Rattle.kept_layout.specs.declared.stretch.Head.{Head}
 use Rattle.kept_layout.specs.declared.stretch.Head.TheVariants as head
 use Rattle.kept_layout.specs.declared.stretch.Stretch.{Stretch}
-use Rattle.kept_layout.specs.Stretches.{addresses, end_from, is_loose, literal_last, shapes_of, starts_from, total_places, AllReach, Divides, HasSlack, IsGrain, Shape}
+use Rattle.kept_layout.specs.Stretches.{addresses, end_from, is_loose, literal_last, shapes_of, starts_from, total_places, AllReach, AreWalls, Divides, HasSlack, IsGrain, Shape}
 
 -- ---- stretches of lines ----
 
@@ -152,6 +152,7 @@ pub record IsLaid (k : KeptLayout) : Type 0 where
   pub here : k.here < length k.stretches.items
   pub first : k.first ≡ total_places (take k.here (shapes_of k.stretches.items))
   pub rooms : AreRooms k.rooms.items (shapes_of k.stretches.items)
+  pub walls : AreWalls k.walls.items (shapes_of k.stretches.items)
 
 -- it is the layout of the lines
 pub record Lays (k : KeptLayout) (lines : List Line) : Type 0 where

@@ -1,8 +1,11 @@
 -- Stretches that move since one of them takes fewer bytes.
-use Rattle.std.specs.Prelude.{◌≡◌, ℕ, suc, ◌+◌, ◌-◌, ◌^◌, ◌<◌, ◌≤◌, ◌&&◌, nat_le, nat_lt, Bool, false, List, ◌++◌, length, map, take, drop, Some, None, slice_get, Contains}
+use Rattle.std.specs.Prelude.{◌≡◌, ℕ, suc, ◌+◌, ◌-◌, ◌^◌, ◌<◌, ◌≤◌, ◌&&◌, nat_le, nat_lt, Bool, false, List, ◌++◌, length, map, take, drop, Option, Some, None, slice_get, Contains}
 use Rattle.kept_layout.specs.declared.kept.KeptLayout.{KeptLayout}
 use Rattle.kept_layout.specs.declared.stretch.Stretch.{Stretch}
+use Rattle.kept_layout.specs.declared.stretch.Aim.{Aim}
 use Rattle.kept_layout.specs.declared.stretch.Head.{Head}
+use Rattle.kept_layout.specs.declared.stretch.Head.TheVariants as head
+use Rattle.kept_layout.specs.declared.stretch.Target.TheVariants as target
 use Rattle.kept_layout.specs.Stretches.{end_from, head_fault, later_end, lessen, literal_last, shapes_of, starts_from, Divides, HasSlack, Shape}
 
 -- where each one begins, from the base on
@@ -17,6 +20,22 @@ end_of k new = suc k.here + length new
 abbrev pub moved_starts : KeptLayout → List ℕ → ℕ → List ℕ
 moved_starts k new by = take (suc k.here) (starts_of k) ++ (new ++ map (λ a. a - by) (drop (end_of k new) (starts_of k)))
 
+-- the wall of the stretch behind the one that it stands at, if there is one
+abbrev pub wall_in : Option ℕ → ℕ → ℕ
+wall_in None n = n
+wall_in (Some wall) n = wall
+
+abbrev pub wall_of : KeptLayout → ℕ
+wall_of k = wall_in (slice_get k.walls.items (suc k.here)) (suc k.here)
+
+-- where the calm ones before the wall begin then, which lie as many bytes earlier as go
+abbrev pub calm_starts : KeptLayout → ℕ → List ℕ
+calm_starts k bytes = map (λ a. a - bytes) (take (wall_of k - suc k.here) (drop (suc k.here) (starts_of k)))
+
+-- and those behind them too, which begin at these addresses
+abbrev pub news : KeptLayout → ℕ → List ℕ → List ℕ
+news k bytes at = calm_starts k bytes ++ at
+
 -- there are so many stretches, of which the last ones can lie so many bytes earlier
 pub record IsMove (k : KeptLayout) (new : List ℕ) (by : ℕ) : Type 0 where
   pub within : end_of k new ≤ length k.stretches.items
@@ -25,10 +44,29 @@ pub record IsMove (k : KeptLayout) (new : List ℕ) (by : ℕ) : Type 0 where
   pub literals : (i : ℕ) (s : Shape) → slice_get (shapes_of k.stretches.items) i ≡ Some s → end_of k new ≤ literal_last i s.head → Divides 4 by
 
 -- so they move if the one that it stands at takes so many bytes fewer, however many places go with them
-pub record IsMoved (k : KeptLayout) (bytes : ℕ) (new : List ℕ) (by : ℕ) : Type 0 where
+pub record IsMovedTo (k : KeptLayout) (bytes : ℕ) (new : List ℕ) (by : ℕ) : Type 0 where
   pub move : IsMove k new by
   pub starts : (gone : ℕ) → starts_from k.base (lessen k.here bytes gone (shapes_of k.stretches.items)) ≡ moved_starts k new by
   pub in_code : (gone : ℕ) → end_from k.base (lessen k.here bytes gone (shapes_of k.stretches.items)) ≤ 2 ^ 29
+
+-- so they move where those behind the calm ones begin at these addresses
+abbrev pub IsMoved : KeptLayout → ℕ → List ℕ → ℕ → Type 0
+IsMoved k bytes at by = IsMovedTo k bytes (news k bytes at) by
+
+-- those up to the next one begin at the new addresses, and that begins at the address
+pub record IsWalked (k : KeptLayout) (bytes : ℕ) (new : List ℕ) (at next : ℕ) : Type 0 where
+  pub count : next ≡ suc k.here + length new
+  pub within : next ≤ length k.stretches.items
+  pub in_code : at ≤ 2 ^ 29
+  pub starts : (gone : ℕ) → starts_from k.base (lessen k.here bytes gone (shapes_of k.stretches.items)) ≡ take (suc k.here) (starts_of k) ++ (new ++ starts_from at (drop next (shapes_of k.stretches.items)))
+  pub ends : (gone : ℕ) → end_from k.base (lessen k.here bytes gone (shapes_of k.stretches.items)) ≡ end_from at (drop next (shapes_of k.stretches.items))
+
+-- the calm ones before this number are so far from those that move together that no mention between them comes out of reach, where those come less near than they do
+pub record AreFar (k : KeptLayout) (bytes by first : ℕ) : Type 0 where
+  pub from : k.here < first
+  pub until : first ≤ wall_of k
+  pub far : by < bytes → (j at wall : ℕ) → k.here < j → j < first → slice_get (starts_of k) j ≡ Some at → slice_get (starts_of k) (wall_of k) ≡ Some wall → at + 2052 < wall
+  pub small : by < bytes → suc k.here < first → (j at end : ℕ) → slice_get (starts_of k) 0 ≡ Some at → suc j ≡ length k.stretches.items → slice_get (starts_of k) j ≡ Some end → end + bytes ≤ at + 16000000
 
 -- what one of them mentions is within reach, where they begin at these addresses
 abbrev pub IsRight : List ℕ → List Stretch → ℕ → Type 0
@@ -57,15 +95,16 @@ AreSlack k new by from slack = (j at : ℕ) (s : Stretch) → from < j → slice
 -- what can come out of reach was looked at
 pub record IsLookedAt (k : KeptLayout) (new : List ℕ) (by : ℕ) : Type 0 where
   pub heads : (j : ℕ) → k.here ≤ j → j < end_of k new → IsRight (moved_starts k new by) k.stretches.items j
-  pub callers : (t j : ℕ) (d : Stretch) → k.here < t → t < end_of k new → slice_get k.stretches.items t ≡ Some d → Contains d.callers.items j → IsRight (moved_starts k new by) k.stretches.items j
+  pub callers : (t j : ℕ) (s : Stretch) (a : Aim) → k.here < t → t < end_of k new → slice_get k.stretches.items j ≡ Some s → s.head ≡ head.Aims a → a.to ≡ Some (target.Stretch t) → IsRight (moved_starts k new by) k.stretches.items j
   pub loose : 0 < by → (j : ℕ) → Contains k.loose.items j → IsRight (moved_starts k new by) k.stretches.items j
   pub absolute : 0 < by → has_slack k by ≡ false → (j : ℕ) → Contains k.absolute.items j → IsRight (moved_starts k new by) k.stretches.items j
 
 -- what is noted as the address of a stretch that lay at another one, where those behind the new addresses then lie so many bytes before what is noted of them
-pub record IsNote (k : KeptLayout) (new : List ℕ) (j old note : ℕ) : Type 0 where
+pub record IsNote (k : KeptLayout) (bytes : ℕ) (at : List ℕ) (j old note : ℕ) : Type 0 where
   pub before : j ≤ k.here → note ≡ old
-  pub among : k.here < j → j < end_of k new → slice_get new (j - suc k.here) ≡ Some note
-  pub behind : end_of k new ≤ j → note ≡ old + k.shift
+  pub calm : k.here < j → j < wall_of k → note ≡ old - bytes
+  pub among : k.here < j → wall_of k ≤ j → j < wall_of k + length at → slice_get at (j - wall_of k) ≡ Some note
+  pub behind : k.here < j → wall_of k + length at ≤ j → note ≡ old + k.shift
 
 -- each of these stretches is one of the others, noted at another address
 abbrev pub unplaced : Stretch → Stretch

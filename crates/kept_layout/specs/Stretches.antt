@@ -1,5 +1,5 @@
 -- Stretches of lines, one behind the other: where they begin, and whether what they mention is within reach.
-use Rattle.std.specs.Prelude.{◌≡◌, ℕ, zero, suc, ◌+◌, ◌-◌, ◌*◌, ◌&&◌, ◌≤◌, max, nat_le, nat_lt, Bool, true, false, List, [], ◌∷◌, map, Option, Some, None, slice_get, if◌then◌else◌}
+use Rattle.std.specs.Prelude.{◌≡◌, ℕ, zero, suc, ◌+◌, ◌-◌, ◌*◌, ◌&&◌, ◌||◌, ◌<◌, ◌≤◌, max, nat_eq, nat_le, nat_lt, not, Bool, true, false, List, [], ◌∷◌, length, map, Option, Some, None, slice_get, if◌then◌else◌}
 use Rattle.thumb_instr.specs.declared.instr.Instr.{Instr}
 use Rattle.thumb_instr.specs.declared.instr.Instr.TheVariants as instr
 use Rattle.thumb_model.specs.Layout.{aim_fault, padding, Fault}
@@ -134,6 +134,36 @@ abbrev pub is_loose : Loose → ℕ → Head → Bool
 is_loose l n head.Plain = false
 is_loose l n (head.Pads size most) = false
 is_loose l n (head.Aims aim) = is_loose_to l n aim.instr aim.to
+
+-- whether what a stretch begins with stays as it is where it and what it mentions move by one even number of bytes: no literal, no mention of an address that is set, and no alignment to more than two bytes
+abbrev pub is_calm_to : Option Target → Bool
+is_calm_to None = true
+is_calm_to (Some (target.Stretch k)) = true
+is_calm_to (Some (target.Address a)) = false
+
+abbrev pub is_calm : Head → Bool
+is_calm head.Plain = true
+is_calm (head.Pads size most) = nat_eq size 1 || nat_eq size 2
+is_calm (head.Aims aim) = not (is_literal aim.instr) && is_calm_to aim.to
+
+abbrev pub begins_literal : Head → Bool
+begins_literal head.Plain = false
+begins_literal (head.Pads size most) = false
+begins_literal (head.Aims aim) = is_literal aim.instr
+
+-- so it is with a stretch, whose label no literal mentions
+pub record IsCalm (shapes : List Shape) (n : ℕ) : Type 0 where
+  pub own : (s : Shape) → slice_get shapes n ≡ Some s → is_calm s.head ≡ true
+  pub label : (i : ℕ) (s : Shape) (a : Aim) → slice_get shapes i ≡ Some s → s.head ≡ head.Aims a → a.to ≡ Some (target.Stretch n) → is_literal a.instr ≡ false
+
+-- and with all from one of them up to before the wall, which is one of them too
+pub record IsWall (shapes : List Shape) (n wall : ℕ) : Type 0 where
+  pub from : n ≤ wall
+  pub within : wall < length shapes
+  pub calm : (j : ℕ) → n ≤ j → j < wall → IsCalm shapes j
+
+abbrev pub AreWalls : List ℕ → List Shape → Type 0
+AreWalls walls shapes = (n wall : ℕ) → slice_get walls n ≡ Some wall → IsWall shapes n wall
 
 -- what an instruction mentions is within reach wherever that lies up to so many bytes before an address
 abbrev pub Reaches : ℕ → ℕ → Instr → ℕ → ℕ → Type 0

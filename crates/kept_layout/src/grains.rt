@@ -51,7 +51,7 @@ fn grain_of(head: &Head, before_literal: bool, grain: u32) -> u32
 }
 
 /// Whether an instruction is a literal's.
-fn is_literal(instr: &Instr) -> bool
+pub(crate) fn is_literal(instr: &Instr) -> bool
     ensures { result ≡ mentions_literal instr.now }
 {
     match instr {

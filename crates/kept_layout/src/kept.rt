@@ -2,6 +2,7 @@
 ghost use Rattle.std.specs.Prelude.{◌≡◌, ◌-◌, ◌*◌, ◌≤◌, ◌^◌, length};
 
 use crate::building::{lay, note_callers};
+use crate::calm::find_walls;
 use crate::grains::{Loose, find_loose, note_grains};
 use crate::groups::find_rooms;
 use crate::shrinking::Move;
@@ -21,6 +22,8 @@ pub struct KeptLayout {
     pub first: usize,
     /// How many places each group of stretches has.
     pub rooms: Vec<usize>,
+    /// For each stretch the first one at or behind it up to which all stay as they are where they move by an even number of bytes.
+    pub walls: Vec<usize>,
     /// The stretches from this number on lie `shift` bytes before where they were noted: they moved together, and none was looked at.
     pub border: usize,
     pub shift: u32,
@@ -63,6 +66,7 @@ impl KeptLayout {
     {
         let mut stretches = lay(alloc, listing, base)?;
         note_callers(&mut stretches)?;
+        let walls = find_walls(alloc, &stretches)?;
         note_grains(&mut stretches);
         let loose = find_loose(alloc, &stretches, Loose::Label)?;
         let absolute = find_loose(alloc, &stretches, Loose::Address)?;
@@ -73,6 +77,7 @@ impl KeptLayout {
             here: 0,
             first: 0,
             rooms,
+            walls,
             border: 0,
             shift: 0,
             loose,

@@ -3,6 +3,7 @@
 #![tactic(auto)]
 
 mod building;
+mod calm;
 mod grains;
 mod groups;
 pub mod kept;

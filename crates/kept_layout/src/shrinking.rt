@@ -4,7 +4,7 @@ ghost use Rattle.std.specs.Prelude.{◌≡◌, ◌+◌, ◌-◌, ◌<◌, ◌≤
 ghost use Rattle.kept_layout.specs.declared.stretch.Stretch.{Stretch as OneStretch};
 ghost use Rattle.kept_layout.specs.Stretches.{lessen, located, shapes_of, AllReach, Shape};
 ghost use Rattle.kept_layout.specs.Kept.{IsLaid};
-ghost use Rattle.kept_layout.specs.Moves.{moved_starts, unplaced, IsMove, IsMoved, IsNote};
+ghost use Rattle.kept_layout.specs.Moves.{moved_starts, news, unplaced, IsMove, IsMoved, IsNote};
 
 use crate::groups::take_places;
 use crate::kept::KeptLayout;
@@ -14,7 +14,7 @@ use listing_parser::Memory;
 /// How stretches move if one of them takes fewer bytes.
 #[derive(Drop)]
 pub struct Move {
-    /// The new addresses of those behind it.
+    /// The new addresses of those from the wall behind it on; the calm ones before that come as many bytes nearer as go.
     pub at: Vec<u32>,
     /// How many bytes earlier all those lie that are behind these.
     pub by: u32,
@@ -31,16 +31,19 @@ fn take_from(stretch: &mut Stretch, bytes: u32, gone: usize)
 }
 
 /// What is noted of a stretch, which lay at an address.
-fn note(kept: &KeptLayout, moved: &Move, number: usize, old: u32) -> Result<u32, Memory>
+fn note(kept: &KeptLayout, moved: &Move, bytes: u32, number: usize, old: u32) -> Result<u32, Memory>
     requires { kept.now.here < length kept.now.stretches.items }
-    ensures { IfOk result (λ at. IsNote kept.now moved.now.at.items number old at) }
+    ensures { IfOk result (λ at. IsNote kept.now bytes moved.now.at.items number old at) }
 {
     if number <= kept.here {
         return Ok(old);
     }
-    let index = number - kept.here - 1;
-    if index < moved.at.len() {
-        return Ok(moved.at[index]);
+    let wall = kept.wall();
+    if number < wall {
+        return Ok(old.saturating_sub(bytes));
+    }
+    if number - wall < moved.at.len() {
+        return Ok(moved.at[number - wall]);
     }
     old.checked_add(kept.shift).ok_or(Memory)
 }
@@ -61,19 +64,22 @@ impl KeptLayout {
     }
 
     /// Where a stretch begins then.
-    pub(crate) fn new_address(&self, moved: &Move, number: usize) -> u32
+    pub(crate) fn new_address(&self, moved: &Move, bytes: u32, number: usize) -> u32
         requires laid { IsLaid self.now }
-        requires is { IsMove self.now moved.now.at.items moved.now.by }
+        requires is { IsMove self.now (news self.now bytes moved.now.at.items) moved.now.by }
         requires within { number < length self.now.stretches.items }
-        ensures { slice_get (moved_starts self.now moved.now.at.items moved.now.by) number ≡ Some result }
+        ensures { slice_get (moved_starts self.now (news self.now bytes moved.now.at.items) moved.now.by) number ≡ Some result }
     {
         let old = self.address(number);
         if number <= self.here {
             return old;
         }
-        let index = number - self.here - 1;
-        if index < moved.at.len() {
-            moved.at[index]
+        let wall = self.wall();
+        if number < wall {
+            return old.saturating_sub(bytes);
+        }
+        if number - wall < moved.at.len() {
+            moved.at[number - wall]
         } else {
             old - moved.by
         }
@@ -82,33 +88,33 @@ impl KeptLayout {
     // ---- what is noted ----
 
     /// Notes where a stretch begins then.
-    fn note_one(&mut self, moved: &Move, number: usize) -> Result<(), Memory>
+    fn note_one(&mut self, moved: &Move, bytes: u32, number: usize) -> Result<(), Memory>
         requires here { self.old.here < length self.old.stretches.items }
         requires within { number < length self.old.stretches.items }
         requires noted { (s : OneStretch) → slice_get self.old.stretches.items number ≡ Some s → self.old.border ≤ number → self.old.shift ≤ s.at }
         ensures fields { OnOk result (self.new ≡ record self.old { stretches = self.new.stretches }) }
         ensures same { OnOk result (map unplaced self.new.stretches.items ≡ map unplaced self.old.stretches.items) }
         ensures others { OnOk result ((j : ℕ) → (j ≡ number → ⊥) → slice_get self.new.stretches.items j ≡ slice_get self.old.stretches.items j) }
-        ensures note { OnOk result ((s d : OneStretch) → slice_get self.old.stretches.items number ≡ Some s → slice_get self.new.stretches.items number ≡ Some d → IsNote self.old moved.now.at.items number (located self.old.border self.old.shift number s.at) d.at) }
+        ensures note { OnOk result ((s d : OneStretch) → slice_get self.old.stretches.items number ≡ Some s → slice_get self.new.stretches.items number ≡ Some d → IsNote self.old bytes moved.now.at.items number (located self.old.border self.old.shift number s.at) d.at) }
     {
         let old = self.address(number);
-        let at = note(self, moved, number, old)?;
+        let at = note(self, moved, bytes, number, old)?;
         self.stretches[number].at = at;
         Ok(())
     }
 
     /// Notes where all stretches begin then.
-    fn note_all(&mut self, moved: &Move) -> Result<(), Memory>
+    fn note_all(&mut self, moved: &Move, bytes: u32) -> Result<(), Memory>
         requires laid { IsLaid self.old }
-        requires is { IsMove self.old moved.now.at.items moved.now.by }
+        requires is { IsMove self.old (news self.old bytes moved.now.at.items) moved.now.by }
         ensures fields { OnOk result (self.new ≡ record self.old { stretches = self.new.stretches }) }
         ensures same { OnOk result (map unplaced self.new.stretches.items ≡ map unplaced self.old.stretches.items) }
-        ensures notes { OnOk result ((j : ℕ) (s d : OneStretch) → slice_get self.old.stretches.items j ≡ Some s → slice_get self.new.stretches.items j ≡ Some d → IsNote self.old moved.now.at.items j (located self.old.border self.old.shift j s.at) d.at) }
+        ensures notes { OnOk result ((j : ℕ) (s d : OneStretch) → slice_get self.old.stretches.items j ≡ Some s → slice_get self.new.stretches.items j ≡ Some d → IsNote self.old bytes moved.now.at.items j (located self.old.border self.old.shift j s.at) d.at) }
     {
         let first = self.here + 1;
-        let end = first + moved.at.len();
+        let end = self.wall() + moved.at.len();
         for number in first.min(self.border)..end.max(self.border) {
-            self.note_one(moved, number)?;
+            self.note_one(moved, bytes, number)?;
         }
         Ok(())
     }
@@ -127,11 +133,11 @@ impl KeptLayout {
         if moved.by > u32::MAX - self.shift {
             return Err(Memory);
         }
-        let (slack, slack_from) = self.new_slack(moved);
-        self.note_all(moved)?;
+        let (slack, slack_from) = self.new_slack(moved, bytes);
+        self.note_all(moved, bytes)?;
         self.slack = slack;
         self.slack_from = slack_from;
-        self.border = self.here + 1 + moved.at.len();
+        self.border = self.wall() + moved.at.len();
         self.shift += moved.by;
         let here = self.here;
         take_places(&mut self.rooms, here, gone);

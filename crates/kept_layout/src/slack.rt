@@ -4,7 +4,7 @@ ghost use Rattle.thumb_model.specs.Layout.{aim_fault};
 ghost use Rattle.kept_layout.specs.declared.stretch.Stretch.{Stretch as OneStretch};
 ghost use Rattle.kept_layout.specs.Stretches.{head_fault, HasSlack, Reaches};
 ghost use Rattle.kept_layout.specs.Kept.{IsLaid};
-ghost use Rattle.kept_layout.specs.Moves.{has_slack as is_slack_enough, moved_starts, AreSlack, IsMove, IsRight};
+ghost use Rattle.kept_layout.specs.Moves.{has_slack as is_slack_enough, moved_starts, news, AreSlack, IsMove, IsRight};
 
 use crate::kept::KeptLayout;
 use crate::shrinking::Move;
@@ -49,63 +49,63 @@ impl KeptLayout {
     }
 
     /// By how many bytes what a stretch begins with may come nearer then.
-    fn own_slack(&self, moved: &Move, number: usize) -> u32
+    fn own_slack(&self, moved: &Move, bytes: u32, number: usize) -> u32
         requires laid { IsLaid self.now }
-        requires is { IsMove self.now moved.now.at.items moved.now.by }
+        requires is { IsMove self.now (news self.now bytes moved.now.at.items) moved.now.by }
         requires within { number < length self.now.stretches.items }
-        requires right { IsRight (moved_starts self.now moved.now.at.items moved.now.by) self.now.stretches.items number }
-        ensures { (at : ℕ) (s : OneStretch) → slice_get self.now.stretches.items number ≡ Some s → slice_get (moved_starts self.now moved.now.at.items moved.now.by) number ≡ Some at → HasSlack result at s.head }
+        requires right { IsRight (moved_starts self.now (news self.now bytes moved.now.at.items) moved.now.by) self.now.stretches.items number }
+        ensures { (at : ℕ) (s : OneStretch) → slice_get self.now.stretches.items number ≡ Some s → slice_get (moved_starts self.now (news self.now bytes moved.now.at.items) moved.now.by) number ≡ Some at → HasSlack result at s.head }
     {
         slack_of(
-            self.new_address(moved, number),
+            self.new_address(moved, bytes, number),
             &self.stretches[number].head,
         )
     }
 
     /// By how many bytes they may all come nearer that lie behind the one that it stands at: each of them is looked at.
-    fn slack_behind(&self, moved: &Move) -> u32
+    fn slack_behind(&self, moved: &Move, bytes: u32) -> u32
         requires laid { IsLaid self.now }
-        requires is { IsMove self.now moved.now.at.items moved.now.by }
-        requires right { (j : ℕ) → IsRight (moved_starts self.now moved.now.at.items moved.now.by) self.now.stretches.items j }
-        ensures { AreSlack self.now moved.now.at.items moved.now.by self.now.here result }
+        requires is { IsMove self.now (news self.now bytes moved.now.at.items) moved.now.by }
+        requires right { (j : ℕ) → IsRight (moved_starts self.now (news self.now bytes moved.now.at.items) moved.now.by) self.now.stretches.items j }
+        ensures { AreSlack self.now (news self.now bytes moved.now.at.items) moved.now.by self.now.here result }
     {
         let mut slack = u32::MAX;
         for number in &self.absolute {
             if *number <= self.here {
                 continue;
             }
-            slack = slack.min(self.own_slack(moved, *number));
+            slack = slack.min(self.own_slack(moved, bytes, *number));
         }
         slack
     }
 
     /// By how many bytes they may all come nearer where those that move together may do so: only those that move by themselves are looked at.
-    fn slack_left(&self, moved: &Move) -> u32
+    fn slack_left(&self, moved: &Move, bytes: u32) -> u32
         requires laid { IsLaid self.now }
-        requires is { IsMove self.now moved.now.at.items moved.now.by }
-        requires right { (j : ℕ) → IsRight (moved_starts self.now moved.now.at.items moved.now.by) self.now.stretches.items j }
+        requires is { IsMove self.now (news self.now bytes moved.now.at.items) moved.now.by }
+        requires right { (j : ℕ) → IsRight (moved_starts self.now (news self.now bytes moved.now.at.items) moved.now.by) self.now.stretches.items j }
         requires enough { is_slack_enough self.now moved.now.by ≡ true }
-        ensures { AreSlack self.now moved.now.at.items moved.now.by self.now.slack_from result }
+        ensures { AreSlack self.now (news self.now bytes moved.now.at.items) moved.now.by self.now.slack_from result }
     {
         let mut slack = self.slack - moved.by;
-        let first = self.here + 1;
-        for number in first..first + moved.at.len() {
-            slack = slack.min(self.own_slack(moved, number));
+        let wall = self.wall();
+        for number in wall..wall + moved.at.len() {
+            slack = slack.min(self.own_slack(moved, bytes, number));
         }
         slack
     }
 
     /// By how many bytes they may all come nearer then, and behind which stretch.
-    pub(crate) fn new_slack(&self, moved: &Move) -> (u32, usize)
+    pub(crate) fn new_slack(&self, moved: &Move, bytes: u32) -> (u32, usize)
         requires laid { IsLaid self.now }
-        requires is { IsMove self.now moved.now.at.items moved.now.by }
-        requires right { (j : ℕ) → IsRight (moved_starts self.now moved.now.at.items moved.now.by) self.now.stretches.items j }
-        ensures { AreSlack self.now moved.now.at.items moved.now.by result.1 result.0 }
+        requires is { IsMove self.now (news self.now bytes moved.now.at.items) moved.now.by }
+        requires right { (j : ℕ) → IsRight (moved_starts self.now (news self.now bytes moved.now.at.items) moved.now.by) self.now.stretches.items j }
+        ensures { AreSlack self.now (news self.now bytes moved.now.at.items) moved.now.by result.1 result.0 }
     {
         if self.has_slack(moved) {
-            (self.slack_left(moved), self.slack_from)
+            (self.slack_left(moved, bytes), self.slack_from)
         } else {
-            (self.slack_behind(moved), self.here)
+            (self.slack_behind(moved, bytes), self.here)
         }
     }
 }

@@ -1,11 +1,11 @@
 //! What moves when a stretch takes fewer bytes, up to where all that is behind moves by one distance that no padding and no literal notices. What comes out of reach is
 //! seen on the way, as soon as it is known where both of its ends lie, and ends the way there.
-ghost use Rattle.std.specs.Prelude.{◌≡◌, ◌+◌, ◌-◌, ◌<◌, ◌≤◌, ◌↔◌, ℕ, Bool, true, length, slice_get, is_some, IfOk, IfSome, IfNone, Some, Contains, false};
+ghost use Rattle.std.specs.Prelude.{◌≡◌, suc, ◌+◌, ◌-◌, ◌<◌, ◌≤◌, ◌↔◌, ℕ, Bool, true, length, slice_get, is_some, IfOk, IfSome, IfNone, Some, Contains, false};
 ghost use Rattle.kept_layout.specs.declared.stretch.Stretch.{Stretch as OneStretch};
 ghost use Rattle.kept_layout.specs.declared.stretch.Target.TheVariants.{Stretch as AtStretch};
 ghost use Rattle.kept_layout.specs.Stretches.{address_of, later_end, lessen, shapes_of, AllReach, AreWide, Divides, Shape};
 ghost use Rattle.kept_layout.specs.Kept.{IsLaid};
-ghost use Rattle.kept_layout.specs.Moves.{has_slack, is_known, moved_starts, AreKnownRight, IsLookedAt, IsMove, IsMoved, IsRight, IsRightIf};
+ghost use Rattle.kept_layout.specs.Moves.{calm_starts, has_slack, is_known, moved_starts, news, starts_of, wall_of, AreFar, AreKnownRight, IsLookedAt, IsMove, IsMoved, IsRight, IsRightIf, IsWalked};
 
 use crate::kept::KeptLayout;
 use crate::shrinking::Move;
@@ -16,6 +16,12 @@ use std::alloc::Global;
 
 /// Memory for so many new addresses is asked for at once: seldom do more stretches move by themselves.
 const FEW: usize = 64;
+
+/// No mention of a label but a call's reaches further than so many bytes.
+const REACH: u32 = 2052;
+
+/// In code of so many bytes each call reaches each label.
+const SMALL: u32 = 16_000_000;
 
 /// Whether the new address lies before the old one by a multiple of the grain.
 fn is_together(new: u32, old: u32, grain: u32) -> bool
@@ -39,30 +45,30 @@ fn later_end(number: usize, head: &Head) -> usize
 
 impl KeptLayout {
     /// Where a target lies then.
-    fn new_target(&self, moved: &Move, target: Option<Target>) -> Option<u32>
+    fn new_target(&self, moved: &Move, bytes: u32, target: Option<Target>) -> Option<u32>
         requires laid { IsLaid self.now }
-        requires is { IsMove self.now moved.now.at.items moved.now.by }
+        requires is { IsMove self.now (news self.now bytes moved.now.at.items) moved.now.by }
         requires within { (t : ℕ) → target ≡ Some (AtStretch t) → t < length self.now.stretches.items }
-        ensures { result ≡ address_of (moved_starts self.now moved.now.at.items moved.now.by) target }
+        ensures { result ≡ address_of (moved_starts self.now (news self.now bytes moved.now.at.items) moved.now.by) target }
     {
         match target {
             None => None,
-            Some(Target::Stretch(number)) => Some(self.new_address(moved, number)),
+            Some(Target::Stretch(number)) => Some(self.new_address(moved, bytes, number)),
             Some(Target::Address(address)) => Some(address),
         }
     }
 
     /// Whether what a stretch mentions is within reach then.
-    fn is_right(&self, moved: &Move, number: usize) -> bool
+    fn is_right(&self, moved: &Move, bytes: u32, number: usize) -> bool
         requires laid { IsLaid self.now }
-        requires is { IsMove self.now moved.now.at.items moved.now.by }
+        requires is { IsMove self.now (news self.now bytes moved.now.at.items) moved.now.by }
         requires within { number < length self.now.stretches.items }
-        ensures { (result ≡ true) ↔ IsRight (moved_starts self.now moved.now.at.items moved.now.by) self.now.stretches.items number }
+        ensures { (result ≡ true) ↔ IsRight (moved_starts self.now (news self.now bytes moved.now.at.items) moved.now.by) self.now.stretches.items number }
     {
         match self.stretches[number].head {
             Head::Aims(aim) => {
-                let at = self.new_address(moved, number);
-                let to = self.new_target(moved, aim.to);
+                let at = self.new_address(moved, bytes, number);
+                let to = self.new_target(moved, bytes, aim.to);
                 aim_fault(at, &aim.instr, to, aim.plus).is_none()
             }
             _ => true,
@@ -71,37 +77,37 @@ impl KeptLayout {
 
     /// Whether a stretch and the one whose label it mentions lie before those that move together.
     fn is_known(&self, moved: &Move, number: usize) -> bool
+        requires laid { IsLaid self.now }
         requires within { number < length self.now.stretches.items }
-        requires here { self.now.here < length self.now.stretches.items }
-        ensures { (s : OneStretch) → slice_get self.now.stretches.items number ≡ Some s → result ≡ is_known self.now moved.now.at.items number s.head }
+        ensures { (bytes : ℕ) (s : OneStretch) → slice_get self.now.stretches.items number ≡ Some s → result ≡ is_known self.now (news self.now bytes moved.now.at.items) number s.head }
     {
-        later_end(number, &self.stretches[number].head) < self.here + 1 + moved.at.len()
+        later_end(number, &self.stretches[number].head) < self.wall() + moved.at.len()
     }
 
     /// Whether what a stretch mentions is within reach then. It is looked at where both lie before those that move together, or where they don't.
-    fn is_right_if(&self, known: bool, moved: &Move, number: usize) -> bool
+    fn is_right_if(&self, known: bool, moved: &Move, bytes: u32, number: usize) -> bool
         requires laid { IsLaid self.now }
-        requires is { IsMove self.now moved.now.at.items moved.now.by }
+        requires is { IsMove self.now (news self.now bytes moved.now.at.items) moved.now.by }
         requires within { number < length self.now.stretches.items }
-        ensures { (result ≡ true) ↔ IsRightIf known self.now moved.now.at.items moved.now.by number }
+        ensures { (result ≡ true) ↔ IsRightIf known self.now (news self.now bytes moved.now.at.items) moved.now.by number }
     {
         if self.is_known(moved, number) == known {
-            self.is_right(moved, number)
+            self.is_right(moved, bytes, number)
         } else {
             true
         }
     }
 
     /// Whether what these stretches mention, as far as it is looked at, is within reach then.
-    fn are_right_if(&self, known: bool, moved: &Move, numbers: &[usize]) -> bool
+    fn are_right_if(&self, known: bool, moved: &Move, bytes: u32, numbers: &[usize]) -> bool
         requires laid { IsLaid self.now }
-        requires is { IsMove self.now moved.now.at.items moved.now.by }
+        requires is { IsMove self.now (news self.now bytes moved.now.at.items) moved.now.by }
         requires within { (j : ℕ) → Contains numbers.now j → j < length self.now.stretches.items }
-        ensures all { result ≡ true → (j : ℕ) → Contains numbers.now j → IsRightIf known self.now moved.now.at.items moved.now.by j }
-        ensures none { ((j : ℕ) → IsRightIf known self.now moved.now.at.items moved.now.by j) → result ≡ true }
+        ensures all { result ≡ true → (j : ℕ) → Contains numbers.now j → IsRightIf known self.now (news self.now bytes moved.now.at.items) moved.now.by j }
+        ensures none { ((j : ℕ) → IsRightIf known self.now (news self.now bytes moved.now.at.items) moved.now.by j) → result ≡ true }
     {
         for number in numbers {
-            if !self.is_right_if(known, moved, *number) {
+            if !self.is_right_if(known, moved, bytes, *number) {
                 return false;
             }
         }
@@ -109,33 +115,54 @@ impl KeptLayout {
     }
 
     /// Whether what a stretch mentions and what mentions its label, as far as it is looked at, is within reach then.
-    fn is_met(&self, known: bool, moved: &Move, number: usize) -> bool
+    fn is_met(&self, known: bool, moved: &Move, bytes: u32, number: usize) -> bool
         requires laid { IsLaid self.now }
-        requires is { IsMove self.now moved.now.at.items moved.now.by }
+        requires is { IsMove self.now (news self.now bytes moved.now.at.items) moved.now.by }
         requires within { number < length self.now.stretches.items }
-        ensures own { result ≡ true → IsRightIf known self.now moved.now.at.items moved.now.by number }
-        ensures callers { result ≡ true → (j : ℕ) (d : OneStretch) → slice_get self.now.stretches.items number ≡ Some d → Contains d.callers.items j → IsRightIf known self.now moved.now.at.items moved.now.by j }
-        ensures none { ((j : ℕ) → IsRightIf known self.now moved.now.at.items moved.now.by j) → result ≡ true }
+        ensures own { result ≡ true → IsRightIf known self.now (news self.now bytes moved.now.at.items) moved.now.by number }
+        ensures callers { result ≡ true → (j : ℕ) (d : OneStretch) → slice_get self.now.stretches.items number ≡ Some d → Contains d.callers.items j → IsRightIf known self.now (news self.now bytes moved.now.at.items) moved.now.by j }
+        ensures none { ((j : ℕ) → IsRightIf known self.now (news self.now bytes moved.now.at.items) moved.now.by j) → result ≡ true }
     {
-        self.is_right_if(known, moved, number)
-            && self.are_right_if(known, moved, &self.stretches[number].callers)
+        self.is_right_if(known, moved, bytes, number)
+            && self.are_right_if(known, moved, bytes, &self.stretches[number].callers)
     }
 
     // ---- the way ----
 
+    /// Where the wall begins then, where the calm ones before it come as many bytes nearer as go.
+    fn wall_address(&self, wall: usize, bytes: u32) -> Result<u32, Memory>
+        requires laid { IsLaid self.now }
+        requires is { wall ≡ wall_of self.now }
+        requires even { Divides 2 bytes }
+        requires few { (s : Shape) → slice_get (shapes_of self.now.stretches.items) self.now.here ≡ Some s → bytes ≤ s.bytes }
+        ensures { IfOk result (λ at. IsWalked self.now bytes (calm_starts self.now bytes) at wall) }
+    {
+        if wall < self.stretches.len() {
+            let start = self.address(wall);
+            return Ok(start - bytes);
+        }
+        let here = &self.stretches[self.here];
+        let at = self.address(self.here);
+        behind(at, &here.head, here.bytes - bytes)
+    }
+
     /// How stretches move if the one that it stands at takes so many bytes fewer: none where a mention is seen to come out of reach on the way.
     fn walk(&self, alloc: Global, bytes: u32) -> Result<Option<Move>, Memory>
         requires laid { IsLaid self.now }
+        requires wide { AreWide (shapes_of self.now.stretches.items) }
+        requires even { Divides 2 bytes }
         requires few { (s : Shape) → slice_get (shapes_of self.now.stretches.items) self.now.here ≡ Some s → bytes ≤ s.bytes }
         ensures moved { IfOk result (λ o. IfSome o (λ m. IsMoved self.now bytes m.at.items m.by)) }
-        ensures right { IfOk result (λ o. IfSome o (λ m. AreKnownRight self.now m.at.items m.by)) }
+        ensures right { IfOk result (λ o. IfSome o (λ m. AreKnownRight self.now (news self.now bytes m.at.items) m.by)) }
         ensures none { IfOk result (λ o. IfNone o ((gone : ℕ) → AllReach self.now.base (lessen self.now.here bytes gone (shapes_of self.now.stretches.items)) → ⊥)) }
     {
-        let here = &self.stretches[self.here];
-        let mut at = behind(self.address(self.here), &here.head, here.bytes - bytes)?;
+        let mut next = self.wall();
+        let mut at = self.wall_address(next, bytes)?;
         let new = Vec::with_capacity(alloc, FEW)?;
         let mut moved = Move { at: new, by: 0 };
-        let mut next = self.here + 1;
+        if !self.is_right_if(true, &moved, bytes, self.here) {
+            return Ok(None);
+        }
         while next < self.stretches.len() {
             let stretch = &self.stretches[next];
             let old = self.address(next);
@@ -145,7 +172,7 @@ impl KeptLayout {
             }
             moved.at.push(at)?;
             at = behind(at, &stretch.head, stretch.bytes)?;
-            if !self.is_met(true, &moved, next) {
+            if !self.is_met(true, &moved, bytes, next) {
                 return Ok(None);
             }
             next += 1;
@@ -155,34 +182,77 @@ impl KeptLayout {
 
     // ---- the end of the way ----
 
-    /// Whether the mentions of addresses that are set are within reach then: they are looked at where it isn't known.
-    fn keeps_reach(&self, moved: &Move) -> bool
-        requires laid { IsLaid self.now }
-        requires is { IsMove self.now moved.now.at.items moved.now.by }
-        ensures all { result ≡ true → has_slack self.now moved.now.by ≡ false → (j : ℕ) → Contains self.now.absolute.items j → IsRightIf false self.now moved.now.at.items moved.now.by j }
-        ensures none { ((j : ℕ) → IsRightIf false self.now moved.now.at.items moved.now.by j) → result ≡ true }
+    /// Whether no call of a label comes out of reach then, wherever both lie.
+    fn is_small(&self, bytes: u32) -> bool
+        requires { IsLaid self.now }
+        ensures { result ≡ true → (j at end : ℕ) → slice_get (starts_of self.now) 0 ≡ Some at → suc j ≡ length self.now.stretches.items → slice_get (starts_of self.now) j ≡ Some end → end + bytes ≤ at + 16000000 }
     {
-        self.has_slack(moved) || self.are_right_if(false, moved, &self.absolute)
+        let end = self.address(self.stretches.len() - 1);
+        let start = self.address(0);
+        bytes <= SMALL && end.saturating_sub(start) <= SMALL - bytes
+    }
+
+    /// The first of the calm stretches before the wall that are looked at, since what moves together behind the wall may come too far away from them.
+    fn near(&self, moved: &Move, bytes: u32) -> usize
+        requires { IsLaid self.now }
+        ensures { AreFar self.now bytes moved.now.by result }
+    {
+        let wall = self.wall();
+        if moved.by >= bytes {
+            return wall;
+        }
+        if wall == self.stretches.len() {
+            return wall;
+        }
+        if !self.is_small(bytes) {
+            return self.here + 1;
+        }
+        let end = self.address(wall);
+        let mut number = wall;
+        while number > self.here + 1 {
+            let at = self.address(number - 1);
+            if end.saturating_sub(at) > REACH {
+                return number;
+            }
+            number -= 1;
+        }
+        number
+    }
+
+    /// Whether the mentions of addresses that are set are within reach then: they are looked at where it isn't known.
+    fn keeps_reach(&self, moved: &Move, bytes: u32) -> bool
+        requires laid { IsLaid self.now }
+        requires is { IsMove self.now (news self.now bytes moved.now.at.items) moved.now.by }
+        ensures all { result ≡ true → has_slack self.now moved.now.by ≡ false → (j : ℕ) → Contains self.now.absolute.items j → IsRightIf false self.now (news self.now bytes moved.now.at.items) moved.now.by j }
+        ensures none { ((j : ℕ) → IsRightIf false self.now (news self.now bytes moved.now.at.items) moved.now.by j) → result ≡ true }
+    {
+        self.has_slack(moved) || self.are_right_if(false, moved, bytes, &self.absolute)
     }
 
     /// Whether all that could come out of reach is within reach then, where all is that was seen on the way.
-    fn all_reach(&self, moved: &Move) -> bool
+    fn all_reach(&self, moved: &Move, bytes: u32) -> bool
         requires laid { IsLaid self.now }
-        requires is { IsMove self.now moved.now.at.items moved.now.by }
-        requires right { AreKnownRight self.now moved.now.at.items moved.now.by }
-        ensures all { result ≡ true → IsLookedAt self.now moved.now.at.items moved.now.by }
-        ensures none { ((j : ℕ) → IsRight (moved_starts self.now moved.now.at.items moved.now.by) self.now.stretches.items j) → result ≡ true }
+        requires wide { AreWide (shapes_of self.now.stretches.items) }
+        requires moved { IsMoved self.now bytes moved.now.at.items moved.now.by }
+        requires few { (s : Shape) → slice_get (shapes_of self.now.stretches.items) self.now.here ≡ Some s → bytes ≤ s.bytes }
+        requires is { IsMove self.now (news self.now bytes moved.now.at.items) moved.now.by }
+        requires right { AreKnownRight self.now (news self.now bytes moved.now.at.items) moved.now.by }
+        ensures all { result ≡ true → IsLookedAt self.now (news self.now bytes moved.now.at.items) moved.now.by }
+        ensures none { ((j : ℕ) → IsRight (moved_starts self.now (news self.now bytes moved.now.at.items) moved.now.by) self.now.stretches.items j) → result ≡ true }
     {
-        if !self.is_right_if(false, moved, self.here) {
+        if !self.is_right_if(false, moved, bytes, self.here) {
             return false;
         }
-        let first = self.here + 1;
-        for number in first..first + moved.at.len() {
-            if !self.is_met(false, moved, number) {
+        let first = self.near(moved, bytes);
+        let end = self.wall() + moved.at.len();
+        for number in first..end {
+            if !self.is_met(false, moved, bytes, number) {
                 return false;
             }
         }
-        moved.by == 0 || (self.are_right_if(false, moved, &self.loose) && self.keeps_reach(moved))
+        moved.by == 0
+            || (self.are_right_if(false, moved, bytes, &self.loose)
+                && self.keeps_reach(moved, bytes))
     }
 
     /// How stretches move if the one that it stands at takes so many bytes fewer: none where a mention would be out of reach.
@@ -193,6 +263,7 @@ impl KeptLayout {
     ) -> Result<Option<Move>, Memory>
         requires laid { IsLaid self.now }
         requires wide { AreWide (shapes_of self.now.stretches.items) }
+        requires even { Divides 2 bytes }
         requires few { (s : Shape) → slice_get (shapes_of self.now.stretches.items) self.now.here ≡ Some s → bytes ≤ s.bytes }
         ensures reach { IfOk result (λ o. (gone : ℕ) → (is_some o ≡ true) ↔ AllReach self.now.base (lessen self.now.here bytes gone (shapes_of self.now.stretches.items))) }
         ensures moved { IfOk result (λ o. IfSome o (λ m. IsMoved self.now bytes m.at.items m.by)) }
@@ -200,7 +271,7 @@ impl KeptLayout {
         let Some(moved) = self.walk(alloc, bytes)? else {
             return Ok(None);
         };
-        if self.all_reach(&moved) {
+        if self.all_reach(&moved, bytes) {
             Ok(Some(moved))
         } else {
             Ok(None)

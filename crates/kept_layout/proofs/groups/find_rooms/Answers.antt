@@ -1,5 +1,4 @@
 use Rattle.std.proofs.Common.{◌≡◌, ◌+◌, length, refl, arith}
-use Rattle.std.specs.Prelude.{slice_get}
 use Rattle.std.proofs.lemmas.Option.{slice_get_read}
 use Rattle.kept_layout.proofs.Rooms.{count_full, count_on, none_counted}
 use Rattle.kept_layout.proofs.groups.find_rooms.Goals as goal

@@ -1,4 +1,4 @@
-use Rattle.std.proofs.Common.{◌≡◌, ◌-◌, ◌*◌, ◌<◌, ◌≤◌, ◌↔◌, Bool, true, ℕ, List, length, subst, sym}
+use Rattle.std.proofs.Common.{◌≡◌, ◌-◌, ◌*◌, ◌<◌, ◌≤◌, ◌↔◌, Bool, true, ℕ, List, length, subst, sym, arith}
 use Rattle.std.specs.Prelude.{is_some}
 use Rattle.std.specs.List.{list_all}
 use Rattle.std.proofs.lemmas.Result.{IfOk-weaker}
@@ -48,3 +48,6 @@ returns-clause-layable c =
 
 pub move_within_reach-requires-clause-wide : goal.move_within_reach-requires-clause-wide
 move_within_reach-requires-clause-wide c = cut_wide _ _ c.requires.stands.lays.cut
+
+pub move_within_reach-requires-clause-even : goal.move_within_reach-requires-clause-even
+move_within_reach-requires-clause-even c = (length c.args.window.now - length c.args.new.now, let is = c.bytes_gone-bytes.ensures in omega arith)

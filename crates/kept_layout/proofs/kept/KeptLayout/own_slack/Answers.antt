@@ -2,7 +2,7 @@ use Rattle.std.proofs.Common.{◌≡◌, length, refl, subst}
 use Rattle.std.proofs.lemmas.Option.{slice_get_read}
 use Rattle.kept_layout.specs.declared.stretch.Stretch.{Stretch}
 use Rattle.kept_layout.specs.Stretches.{HasSlack}
-use Rattle.kept_layout.specs.Moves.{moved_starts}
+use Rattle.kept_layout.specs.Moves.{news, moved_starts}
 use Rattle.kept_layout.proofs.kept.KeptLayout.own_slack.Goals as goal
 
 pub returns : goal.returns
@@ -12,5 +12,5 @@ returns c = λ at s e f.
     let is = slice_get_read k.stretches.items (length k.stretches.items) c.args.number c.index.result.now refl c.requires.within c.index.ensures in
     let one : c.index.result.now ≡ s = cc in
     let there : c.new_address.result ≡ at = let found = c.new_address.ensures in cc in
-    let slack = c.slack_of.ensures (moved_starts k m.at.items m.by) (c.requires.right c.index.result.now c.new_address.result is c.new_address.ensures) in
+    let slack = c.slack_of.ensures (moved_starts k (news k c.args.bytes m.at.items) m.by) (c.requires.right c.index.result.now c.new_address.result is c.new_address.ensures) in
     subst (λ n. HasSlack c.slack_of.result n s.head) there (subst (λ (x : Stretch). HasSlack c.slack_of.result c.new_address.result x.head) one slack)

@@ -1,10 +1,10 @@
-use Rattle.std.proofs.Common.{◌≡◌, ◌+◌, ◌<◌, ℕ, List, suc, length, map, slice_index_or, Some, refl, ap, sym, ◌∙◌, arith}
+use Rattle.std.proofs.Common.{◌≡◌, ◌+◌, ◌<◌, length, map, slice_index_or, Some, refl, ap, sym, ◌∙◌, arith}
 use Rattle.std.specs.Prelude.{slice_get}
 use Rattle.std.proofs.lemmas.Option.{slice_get_read}
 use Rattle.kept_layout.specs.declared.kept.KeptLayout.{KeptLayout}
 use Rattle.kept_layout.specs.declared.stretch.Stretch.{Stretch}
 use Rattle.kept_layout.specs.Stretches.{shape_of, shapes_of}
-use Rattle.kept_layout.specs.Moves.{unplaced}
+use Rattle.kept_layout.specs.Moves.{news, unplaced, wall_of}
 use Rattle.kept_layout.proofs.Rooms.{rooms_after, rooms_within}
 use Rattle.kept_layout.proofs.ShrinkingNotes.{after_shrinking, laid_after, map_length, noted_shape, shapes_after, HasShrunk}
 use Rattle.kept_layout.proofs.ShrinkingReach.{right_from}
@@ -24,7 +24,7 @@ here_shape : (k l : KeptLayout) (s : Stretch) → l ≡ record k { stretches = l
 here_shape k l s fields same within is = noted_shape k l.stretches.items k.here s same (ap (slice_get l.stretches.items) (sym (ap (λ (x : KeptLayout). x.here) fields)) ∙ here_read k l s fields same within is)
 
 pub new_slack-slack-requires-clause-right : goal.new_slack-slack-requires-clause-right
-new_slack-slack-requires-clause-right c = right_from c.args.self.now c.args.moved.now.at.items c.args.moved.now.by c.args.bytes c.args.gone c.requires.moved c.requires.reach
+new_slack-slack-requires-clause-right c = right_from c.args.self.now (news c.args.self.now c.args.bytes c.args.moved.now.at.items) c.args.moved.now.by c.args.bytes c.args.gone c.requires.moved c.requires.reach
 
 pub take_places-requires : goal.take_places-requires
 take_places-requires c = rooms_within c.args.self.now c.note_all.new.self c.args.gone c.requires.laid c.in_ok-note_all.ensures.fields c.requires.some
@@ -47,9 +47,9 @@ returns-clause-laid c =
     let m = c.args.moved.now in
     let is = here_read k l s c.in_ok-note_all.ensures.fields c.in_ok-note_all.ensures.same c.requires.laid.here c.index_mut.ensures.value in
     let shrunk : HasShrunk k l m.at.items c.args.bytes c.args.gone s c.take_from.new.stretch = record { fields = c.in_ok-note_all.ensures.fields; noted = record { same = c.in_ok-note_all.ensures.same; notes = c.in_ok-note_all.ensures.notes }; is = is; less = c.take_from.ensures } in
-    let border : l.here + 1 + c.len.result ≡ suc l.here + length m.at.items = omega arith in
+    let border : c.wall.result + c.len.result ≡ wall_of l + length m.at.items = omega arith in
     laid_after k m.at.items m.by c.args.bytes c.args.gone l.stretches.items _ c.requires.laid c.requires.moved c.requires.reach (after_shrinking k l m.at.items m.by c.args.bytes c.args.gone s c.take_from.new.stretch _ shrunk refl refl refl refl refl c.new_slack-slack.ensures border refl refl
-    (rooms_after k l c.take_places.new.rooms.items c.args.bytes c.args.gone c.requires.laid c.in_ok-note_all.ensures.fields c.requires.some c.take_places.ensures.own c.take_places.ensures.others))
+    (rooms_after k l c.take_places.new.rooms.items c.args.bytes c.args.gone c.requires.laid c.in_ok-note_all.ensures.fields c.requires.some c.take_places.ensures.own c.take_places.ensures.others) refl)
 
 pub returns-clause-shapes : goal.returns-clause-shapes
 returns-clause-shapes c =
