@@ -9,13 +9,14 @@ use Rattle.thumb_model.proofs.Lists.{present_at}
 use Rattle.kept_layout.specs.declared.grains.Loose.{Loose}
 use Rattle.kept_layout.specs.declared.stretch.Head.{Head}
 use Rattle.kept_layout.specs.declared.stretch.Head.TheVariants as head
+use Rattle.kept_layout.specs.declared.lag.Lag.{Lag}
 use Rattle.kept_layout.specs.declared.stretch.Stretch.{Stretch}
-use Rattle.kept_layout.specs.Stretches.{addresses, is_loose, literal_last, shape_of, shapes_of, Divides, IsGrain, IsGrainOf, Shape}
+use Rattle.kept_layout.specs.Stretches.{addresses, is_loose, lag_of, literal_last, located, shape_of, shapes_of, Divides, IsGrain, IsGrainOf, Shape}
 use Rattle.kept_layout.specs.Cutting.{AreCallers, KnowCallers}
 use Rattle.kept_layout.specs.Moves.{ungrained}
 use Rattle.kept_layout.proofs.MovingPlaces.{shape_at}
 use Rattle.kept_layout.proofs.ShrinkingNotes.{map_length, set_else, set_here}
-use Rattle.kept_layout.proofs.ShrinkingPlaces.{get_map, shapes_length}
+use Rattle.kept_layout.proofs.ShrinkingPlaces.{get_map, lag_behind, shapes_length}
 use Rattle.kept_layout.proofs.ShrinkingStarts.{drop_one}
 use Rattle.kept_layout.proofs.ShrinkingWalk.{drop_all}
 use Rattle.kept_layout.proofs.Together.{divides_on}
@@ -65,9 +66,12 @@ are_callers_same xs ys e a = λ t i d g c.
     omega arith
 
 -- none lies before where it was noted
-pub none_shifted : (ss : List Stretch) → addresses 0 0 ss ≡ map (λ (s : Stretch). s.at) ss
-none_shifted [] = refl
-none_shifted (s ∷ ss) = ap (λ (xs : List ℕ). (s.at - 0) ∷ xs) (none_shifted ss) ∙ ap (λ n. n ∷ map (λ (x : Stretch). x.at) ss) (let same : s.at - 0 ≡ s.at = omega arith in same)
+pub no_lag : (l : Lag) (n : ℕ) → l.border ≡ 0 → l.shift ≡ 0 → lag_of l n ≡ 0
+no_lag l n border shift = lag_behind l n (omega (arith, border)) ∙ shift
+
+pub none_shifted : (l : Lag) (n : ℕ) (ss : List Stretch) → l.border ≡ 0 → l.shift ≡ 0 → addresses l n ss ≡ map (λ (s : Stretch). s.at) ss
+none_shifted l n [] border shift = refl
+none_shifted l n (s ∷ ss) border shift = ap (λ (xs : List ℕ). located l n s.at ∷ xs) (none_shifted l (suc n) ss border shift) ∙ ap (λ x. x ∷ map (λ (y : Stretch). y.at) ss) (let none = no_lag l n border shift in let same : s.at - lag_of l n ≡ s.at = omega arith in same)
 
 -- ---- grains ----
 

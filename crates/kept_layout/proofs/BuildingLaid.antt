@@ -12,13 +12,13 @@ use Rattle.kept_layout.specs.declared.stretch.Head.TheVariants as head
 use Rattle.kept_layout.specs.declared.stretch.Aim.{Aim}
 use Rattle.kept_layout.specs.declared.stretch.Stretch.{Stretch}
 use Rattle.kept_layout.specs.declared.kept.KeptLayout.{KeptLayout}
-use Rattle.kept_layout.specs.Stretches.{addresses, end_from, literal_last, shape_of, shapes_of, starts_from, AllReach, AreWalls, Divides, HasSlack, IsGrain, Shape}
+use Rattle.kept_layout.specs.Stretches.{end_from, literal_last, shape_of, shapes_of, starts_from, AllReach, AreWalls, Divides, HasSlack, IsGrain, Shape}
 use Rattle.kept_layout.specs.Kept.{AreCut, AreRooms, IsLaid, Lays}
 use Rattle.kept_layout.specs.Cutting.{part_shapes, stretch_in, mentioned, AreMet, KnowCallers, AreCallers}
 use Rattle.kept_layout.specs.Moves.{ungrained}
 use Rattle.kept_layout.proofs.BuildingParts.{are_cut}
 use Rattle.kept_layout.proofs.BuildingCallers.{are_met}
-use Rattle.kept_layout.proofs.BuildingGrains.{AreFound, are_callers_same, known_same, none_shifted, shapes_same, starts_same}
+use Rattle.kept_layout.proofs.BuildingGrains.{AreFound, are_callers_same, known_same, no_lag, none_shifted, shapes_same, starts_same}
 use Rattle.kept_layout.proofs.Reaching.{cut_reaches}
 use Rattle.kept_layout.proofs.ShrinkingNotes.{map_length}
 use Rattle.kept_layout.proofs.Nearing.{slack_none}
@@ -28,8 +28,8 @@ aims_at h a t e f = ap mentioned e ∙ ap stretch_in f
 
 -- none was moved yet, and their grains and the loose mentions are known
 pub record IsUnmoved (k : KeptLayout) : Type 0 where
-  pub border : k.border ≡ 0
-  pub shift : k.shift ≡ 0
+  pub border : k.lag.border ≡ 0
+  pub shift : k.lag.shift ≡ 0
   pub grains : (j : ℕ) (s : Stretch) → slice_get k.stretches.items j ≡ Some s → IsGrain s.grain (drop j (shapes_of k.stretches.items))
   pub literals : (i j : ℕ) (s : Shape) (d : Stretch) → slice_get (shapes_of k.stretches.items) i ≡ Some s → slice_get k.stretches.items j ≡ Some d → j ≤ literal_last i s.head → Divides 4 d.grain
   pub loose : AreFound sort.Label k.stretches.items (length k.stretches.items) k.loose.items
@@ -46,9 +46,9 @@ is_laid k end starts reach met known callers here first some unmoved =
     let shape_at : (i : ℕ) (s : Stretch) → slice_get ss i ≡ Some s → slice_get (shapes_of ss) i ≡ Some (shape_of s) = λ i s e. slice_get-map shape_of ss i ∙ rw e refl in
     record {
       in_code = end;
-      starts = ap (λ b. addresses b k.shift ss) unmoved.border ∙ ap (λ n. addresses 0 n ss) unmoved.shift ∙ none_shifted ss ∙ starts;
+      starts = none_shifted k.lag 0 ss unmoved.border unmoved.shift ∙ starts;
       border = omega (arith, unmoved.border);
-      noted = λ j s e h. omega (arith, unmoved.shift);
+      noted = λ j s e. omega (arith, no_lag k.lag j unmoved.border unmoved.shift);
       grains = unmoved.grains;
       literals = unmoved.literals;
       reach = reach;
@@ -91,7 +91,7 @@ lays_built k built ls same shapes end starts known callers here first unmoved la
     (subst (λ n. KnowCallers n ss) (sym (map_length ungrained ss built same)) (known_same (length built) ss built same known)) (are_callers_same ss built same callers) here first unmoved layable
 
 -- its grains were noted, and the loose mentions were found
-pub unmoved : (k : KeptLayout) (built found again : List Stretch) → k.border ≡ 0 → k.shift ≡ 0 → map ungrained k.stretches.items ≡ map ungrained built → ((j : ℕ) (s : Stretch) → slice_get k.stretches.items j ≡ Some s → IsGrain s.grain (drop j (shapes_of built)))
+pub unmoved : (k : KeptLayout) (built found again : List Stretch) → k.lag.border ≡ 0 → k.lag.shift ≡ 0 → map ungrained k.stretches.items ≡ map ungrained built → ((j : ℕ) (s : Stretch) → slice_get k.stretches.items j ≡ Some s → IsGrain s.grain (drop j (shapes_of built)))
     → ((i j : ℕ) (s : Shape) (d : Stretch) → slice_get (shapes_of built) i ≡ Some s → slice_get k.stretches.items j ≡ Some d → j ≤ literal_last i s.head → Divides 4 d.grain) → found ≡ k.stretches.items → again ≡ k.stretches.items
     → AreFound sort.Label found (length found) k.loose.items → AreFound sort.Address again (length again) k.absolute.items → k.slack ≡ 0 → AreRooms k.rooms.items (shapes_of k.stretches.items) → AreWalls k.walls.items (shapes_of built) → IsUnmoved k
 unmoved k built found again border shift same grains literals e f loose absolute slack rooms walls = record {

@@ -1,7 +1,7 @@
 -- What is noted of stretches once they moved.
 use Rattle.std.proofs.Common.{◌≡◌, ◌∙◌, inl, inr, ℕ, zero, suc, ◌+◌, ◌-◌, ◌<◌, ◌≤◌, true, List, [], ◌∷◌, length, map, take, drop, Some, refl, sym, ap, subst, arith}
-use Rattle.std.specs.Prelude.{slice_get, slice_set, Contains}
-use Rattle.std.proofs.lemmas.Bool.{cases_lt}
+use Rattle.std.specs.Prelude.{nat_eq, nat_le, slice_get, slice_set, Contains}
+use Rattle.std.proofs.lemmas.Bool.{and_parts, cases_lt, eqb-true, leb-true}
 use Rattle.std.proofs.lemmas.List.{length-set}
 use Rattle.std.proofs.lemmas.Option.{slice_get_within}
 use Rattle.thumb_model.proofs.Lists.{length_map, present_at}
@@ -10,14 +10,15 @@ use Rattle.kept_layout.specs.declared.kept.KeptLayout.{KeptLayout}
 use Rattle.kept_layout.specs.declared.stretch.Aim.{Aim}
 use Rattle.kept_layout.specs.declared.stretch.Head.{Head}
 use Rattle.kept_layout.specs.declared.stretch.Head.TheVariants as head
+use Rattle.kept_layout.specs.declared.lag.Lag.{Lag}
 use Rattle.kept_layout.specs.declared.stretch.Stretch.{Stretch}
 use Rattle.kept_layout.specs.declared.stretch.Target.TheVariants as target
-use Rattle.kept_layout.specs.Stretches.{addresses, end_from, is_calm, is_loose, lessen, literal_last, located, shape_of, shapes_of, starts_from, total_places, AllReach, AreWalls, Divides, HasSlack, IsGrain, Shape}
+use Rattle.kept_layout.specs.Stretches.{addresses, end_from, is_calm, is_loose, lag_of, lessen, literal_last, located, shape_of, shapes_of, starts_from, total_places, AllReach, AreWalls, Divides, HasSlack, IsGrain, Shape}
 use Rattle.kept_layout.specs.Kept.{AreRooms, IsLaid}
-use Rattle.kept_layout.specs.Moves.{moved_starts, news, unplaced, wall_of, AreSlack, IsMove, IsMoved, IsNote}
+use Rattle.kept_layout.specs.Moves.{keeps_gap, moved_starts, news, starts_of, unplaced, wall_of, AreNoted, AreNotedIn, AreSlack, IsLagAfter, IsMove, IsMoved, IsNote}
 use Rattle.kept_layout.proofs.MovingPlaces.{shape_at}
-use Rattle.kept_layout.proofs.ShrinkingPlaces.{addresses_are, get_map, lies_at, located_before, located_behind, moved_among, moved_before, moved_behind, shapes_length}
-use Rattle.kept_layout.proofs.Walls.{bounds, end_news, news_behind, news_calm}
+use Rattle.kept_layout.proofs.ShrinkingPlaces.{addresses_are, get_map, lag_before, lag_behind, lag_gap, lies_at, moved_among, moved_before, moved_behind, shapes_length}
+use Rattle.kept_layout.proofs.Walls.{bounds, end_news, few_low, news_behind, news_calm}
 use Rattle.kept_layout.proofs.ShrinkingStarts.{grain_lessen, lessen_at, lessen_length, places_lessen, starts_length}
 
 -- ---- one stretch ----
@@ -42,83 +43,175 @@ same_set (x ∷ ss) (suc n) s t e f = ap (λ ys. unplaced x ∷ ys) (same_set ss
 
 -- ---- all of them ----
 
--- the stretches are those of the layout but for their addresses, and those below a number are noted anew
-pub record IsNoting (k : KeptLayout) (bytes : ℕ) (new : List ℕ) (number : ℕ) (ss : List Stretch) : Type 0 where
-  pub same : map unplaced ss ≡ map unplaced k.stretches.items
-  pub notes : (j : ℕ) (s d : Stretch) → j < number → slice_get k.stretches.items j ≡ Some s → slice_get ss j ≡ Some d → IsNote k bytes new j (located k.border k.shift j s.at) d.at
-  pub rest : (j : ℕ) → number ≤ j → slice_get ss j ≡ slice_get k.stretches.items j
-
 pub map_length : {A B : Type 0} (f : A → B) (xs ys : List A) → map f xs ≡ map f ys → length xs ≡ length ys
 map_length f xs ys e = sym (length_map f xs) ∙ ap length e ∙ length_map f ys
 
--- those before the border that don't move stay noted
-pub notes_begin : (k : KeptLayout) (bytes : ℕ) (new : List ℕ) (number : ℕ) → number ≤ suc k.here → number ≤ k.border → IsNoting k bytes new number k.stretches.items
-notes_begin k bytes new number h l = record {
-  same = refl;
-  notes = λ j s d m e f.
-      let one : s ≡ d = cc in
-      let at = ap (λ (x : Stretch). x.at) one in
-      let before = located_before k.border k.shift j s.at (omega arith) in
-      record { before = λ x. sym at ∙ sym before; calm = λ x. absurd (omega arith); among = λ x. absurd (omega arith); behind = λ x. absurd (omega arith) };
-  rest = λ j m. refl;
-}
+pub notes_begin : (k : KeptLayout) (bytes : ℕ) (new : List ℕ) (by : ℕ) (lag : Lag) (from : ℕ) → AreNotedIn k bytes new by lag from from k.stretches.items
+notes_begin k bytes new by lag from = record { same = refl; notes = λ j s d h m. absurd (omega arith); low = λ j h. refl; rest = λ j h. refl }
 
 -- it is told of a layout that stands at the same stretch
-note_alike : (l k : KeptLayout) (bytes : ℕ) (new : List ℕ) (j old note : ℕ) → l.here ≡ k.here → l.shift ≡ k.shift → wall_of l ≡ wall_of k → IsNote l bytes new j old note → IsNote k bytes new j old note
-note_alike l k bytes new j old note here shift wall n = record {
+note_alike : (l k : KeptLayout) (bytes : ℕ) (new : List ℕ) (by : ℕ) (lag : Lag) (j old note : ℕ) → l.here ≡ k.here → wall_of l ≡ wall_of k → IsNote l bytes new by lag j old note → IsNote k bytes new by lag j old note
+note_alike l k bytes new by lag j old note here wall n = record {
   before = λ h. n.before (omega arith);
   calm = λ h m. n.calm (omega arith) (omega arith);
-  among = λ h m o. subst (λ x. slice_get new (j - x) ≡ Some note) wall (n.among (omega arith) (omega arith) (omega arith));
-  behind = λ h m. let b = n.behind (omega arith) (omega arith) in omega arith;
+  among = λ h m o x e. n.among (omega arith) (omega arith) (omega arith) x (ap (λ w. slice_get new (j - w)) wall ∙ e);
+  behind = λ h m. n.behind (omega arith) (omega arith);
 }
 
-pub notes_on : (k l : KeptLayout) (bytes : ℕ) (new : List ℕ) (number following : ℕ) (more : List Stretch) → l ≡ (record k { stretches = l.stretches }) → IsNoting k bytes new number l.stretches.items → map unplaced more ≡ map unplaced l.stretches.items → ((j : ℕ) → (j ≡ number → ⊥) → slice_get more j ≡ slice_get l.stretches.items j)
-    → ((s d : Stretch) → slice_get l.stretches.items number ≡ Some s → slice_get more number ≡ Some d → IsNote l bytes new number (located l.border l.shift number s.at) d.at) → following ≡ suc number → IsNoting k bytes new following more
-notes_on k l bytes new number following more fields n same others note f = record {
+pub note_from : (k l : KeptLayout) (bytes : ℕ) (new : List ℕ) (by : ℕ) (lag : Lag) (j at note : ℕ) → l ≡ (record k { stretches = l.stretches }) → IsNote l bytes new by lag j (located l.lag j at) note → IsNote k bytes new by lag j (located k.lag j at) note
+note_from k l bytes new by lag j at note fields n =
+    subst (λ x. IsNote k bytes new by lag j x note) (ap (λ (x : KeptLayout). located x.lag j at) fields)
+    (note_alike l k bytes new by lag j (located l.lag j at) note (ap (λ (x : KeptLayout). x.here) fields) (ap (λ (x : KeptLayout). wall_of x) fields) n)
+
+pub notes_on : (k l : KeptLayout) (bytes : ℕ) (new : List ℕ) (by : ℕ) (lag : Lag) (from number following : ℕ) (more : List Stretch) → from ≤ number → l ≡ (record k { stretches = l.stretches }) → AreNotedIn k bytes new by lag from number l.stretches.items → map unplaced more ≡ map unplaced l.stretches.items
+    → ((j : ℕ) → (j ≡ number → ⊥) → slice_get more j ≡ slice_get l.stretches.items j) → ((s d : Stretch) → slice_get l.stretches.items number ≡ Some s → slice_get more number ≡ Some d → IsNote l bytes new by lag number (located l.lag number s.at) d.at) → following ≡ suc number
+    → AreNotedIn k bytes new by lag from following more
+notes_on k l bytes new by lag from number following more past fields n same others note f = record {
   same = same ∙ n.same;
-  notes = λ j s d m e g. elim (cases_lt j number) [
-    | inl h ↦ n.notes j s d h e (sym (others j (λ x. omega arith)) ∙ g)
+  notes = λ j s d low m e g. elim (cases_lt j number) [
+    | inl h ↦ n.notes j s d low h e (sym (others j (λ x. omega arith)) ∙ g)
     | inr h ↦
-        let here : j ≡ number = omega arith in
-        let found : slice_get l.stretches.items number ≡ Some s = n.rest number (omega arith) ∙ ap (slice_get k.stretches.items) (sym here) ∙ e in
-        let border : l.border ≡ k.border = ap (λ (x : KeptLayout). x.border) fields in
-        let shift : l.shift ≡ k.shift = ap (λ (x : KeptLayout). x.shift) fields in
-        let told = note_alike l k bytes new number (located l.border l.shift number s.at) d.at (ap (λ (x : KeptLayout). x.here) fields) shift (ap (λ (x : KeptLayout). wall_of x) fields) (note s d found (ap (slice_get more) (sym here) ∙ g)) in
-        let where_it_was : located l.border l.shift number s.at ≡ located k.border k.shift j s.at = ap (λ x. located x l.shift number s.at) border ∙ ap (λ x. located k.border x number s.at) shift ∙ ap (λ x. located k.border k.shift x s.at) (sym here) in
-        subst (λ i. IsNote k bytes new i (located k.border k.shift j s.at) d.at) (sym here) (subst (λ x. IsNote k bytes new number x d.at) where_it_was told)
+        let here : number ≡ j = omega arith in
+        let found : slice_get l.stretches.items number ≡ Some s = n.rest number (omega arith) ∙ ap (slice_get k.stretches.items) here ∙ e in
+        subst (λ i. IsNote k bytes new by lag i (located k.lag i s.at) d.at) here (note_from k l bytes new by lag number s.at d.at fields (note s d found (ap (slice_get more) here ∙ g)))
   ];
+  low = λ j h. others j (λ x. omega arith) ∙ n.low j h;
   rest = λ j m. others j (λ x. omega arith) ∙ n.rest j (omega arith);
 }
 
--- those behind the border stay noted
-pub notes_over : (k : KeptLayout) (bytes : ℕ) (new : List ℕ) (number : ℕ) (ss : List Stretch) → IsLaid k → IsNoting k bytes new number ss → wall_of k + length new ≤ number → k.border ≤ number
-    → (j : ℕ) (s d : Stretch) → slice_get k.stretches.items j ≡ Some s → slice_get ss j ≡ Some d → IsNote k bytes new j (located k.border k.shift j s.at) d.at
-notes_over k bytes new number ss l n h b j s d e f = elim (cases_lt j number) [
-  | inl m ↦ n.notes j s d m e f
-  | inr m ↦
-      let one : s ≡ d = let r = n.rest j (omega arith) in cc in
-      let at = ap (λ (x : Stretch). x.at) one in
-      let behind = located_behind k.border k.shift j s.at (omega arith) in
-      let low = l.noted j s e (omega arith) in
-      let from = (bounds k l).from in
-      record { before = λ x. absurd (omega arith); calm = λ x y. absurd (omega arith); among = λ x y z. absurd (omega arith); behind = λ x y. omega arith }
-]
+-- ---- those that aren't noted anew ----
+
+-- it lies further before its note by as many bytes as it moves
+still_noted : (k : KeptLayout) (bytes : ℕ) (new : List ℕ) (by : ℕ) (lag : Lag) (j at moves : ℕ) → lag_of k.lag j + moves ≤ at → lag_of lag j ≡ lag_of k.lag j + moves → (j ≤ k.here → moves ≡ 0) → (k.here < j → j < wall_of k → moves ≡ bytes) → (k.here < j → wall_of k ≤ j → (wall_of k + length new ≤ j) × (moves ≡ by))
+    → IsNote k bytes new by lag j (located k.lag j at) at
+still_noted k bytes new by lag j at moves low is before calm behind = record {
+  before = λ h. let none = before h in omega arith;
+  calm = λ h m. let all = calm h m in omega arith;
+  among = λ h m o x e. absurd (let never = (behind h m).0 in omega arith);
+  behind = λ h m. let from = behind h (omega arith) in let all = from.1 in omega arith;
+}
+
+-- what moves together behind the border
+still_behind : (k : KeptLayout) (bytes : ℕ) (new : List ℕ) (by : ℕ) (lag : Lag) (j : ℕ) (s : Stretch) → IsLaid k → IsMove k (news k bytes new) by → IsLagAfter k bytes new by lag → wall_of k + length new ≤ j → k.lag.border ≤ j → slice_get k.stretches.items j ≡ Some s → IsNote k bytes new by lag j (located k.lag j s.at) s.at
+still_behind k bytes new by lag j s l m a h b e =
+    let from = (bounds k l).from in
+    let end = end_news k bytes new l in
+    let border = a.border in
+    let shift = a.shift in
+    let old = lag_behind k.lag j b in
+    let new_lag = lag_behind lag j (omega arith) in
+    let noted = l.noted j s e in
+    let low = m.low j (located k.lag j s.at) (omega arith) (lies_at k j s l e) in
+    still_noted k bytes new by lag j s.at by (omega arith) (omega arith) (λ x. absurd (omega arith)) (λ x y. absurd (omega arith)) (λ x y. (h, refl))
+
+-- what doesn't move, before all that lies before its note
+still_before : (k : KeptLayout) (bytes : ℕ) (new : List ℕ) (by : ℕ) (lag : Lag) (j : ℕ) (s : Stretch) → IsLaid k → IsLagAfter k bytes new by lag → j ≤ k.here → j < k.lag.from → j < k.lag.border → slice_get k.stretches.items j ≡ Some s → IsNote k bytes new by lag j (located k.lag j s.at) s.at
+still_before k bytes new by lag j s l a h f b e =
+    let from = (bounds k l).from in
+    let border = a.border in
+    let first = a.from in
+    let old = lag_before k.lag j b f in
+    let new_lag = lag_before lag j (omega arith) (omega arith) in
+    still_noted k bytes new by lag j s.at 0 (omega arith) (omega arith) (λ x. refl) (λ x y. absurd (omega arith)) (λ x y. absurd (omega arith))
+
+-- the calm ones that lay before their notes already
+still_calm : (k : KeptLayout) (bytes : ℕ) (new : List ℕ) (by : ℕ) (lag : Lag) (j : ℕ) (s : Stretch) → IsLaid k → ((s : Shape) → slice_get (shapes_of k.stretches.items) k.here ≡ Some s → bytes ≤ s.bytes) → IsLagAfter k bytes new by lag → keeps_gap k ≡ true → k.here < j → k.lag.from ≤ j → j < wall_of k → slice_get k.stretches.items j ≡ Some s
+    → IsNote k bytes new by lag j (located k.lag j s.at) s.at
+still_calm k bytes new by lag j s l few a keeps h f w e =
+    let parts = and_parts (nat_eq k.lag.until (wall_of k)) (nat_le (wall_of k) k.lag.border) keeps in
+    let until = eqb-true k.lag.until (wall_of k) parts.0 in
+    let past = leb-true (wall_of k) k.lag.border parts.1 in
+    let border = a.border in
+    let first = a.from in
+    let last = a.until in
+    let gap = a.kept keeps in
+    let old = lag_gap k.lag j (omega arith) f (omega arith) in
+    let new_lag = lag_gap lag j (omega arith) (omega arith) (omega arith) in
+    let noted = l.noted j s e in
+    let low = few_low k bytes j (located k.lag j s.at) l few h (lies_at k j s l e) in
+    still_noted k bytes new by lag j s.at bytes (omega arith) (omega arith) (λ x. absurd (omega arith)) (λ x y. refl) (λ x y. absurd (omega arith))
+
+-- ---- where they lie then ----
+
+note_value : (k : KeptLayout) (bytes : ℕ) (new : List ℕ) (by : ℕ) (lag : Lag) (j old note x : ℕ) → IsLaid k → IsMove k (news k bytes new) by → slice_get (starts_of k) j ≡ Some old → IsNote k bytes new by lag j old note → slice_get (moved_starts k (news k bytes new) by) j ≡ Some x → note ≡ x + lag_of lag j
+note_value k bytes new by lag j old note x l m is n e =
+    let end = end_news k bytes new l in
+    elim (cases_lt k.here j) [
+      | inr before ↦ (let same = moved_before k (news k bytes new) by j m (omega arith) in let one : old ≡ x = cc in let v = n.before (omega arith) in omega arith)
+      | inl later ↦ elim (cases_lt j (wall_of k)) [
+        | inl calm ↦
+            let there = moved_among k (news k bytes new) by j m later (omega arith) ∙ news_calm k bytes new j old l later calm is in
+            let one : old - bytes ≡ x = cc in
+            let v = n.calm later calm in
+            omega arith
+        | inr not ↦ elim (cases_lt j (wall_of k + length new)) [
+          | inl among ↦ n.among later (omega arith) among x (sym (moved_among k (news k bytes new) by j m later (omega arith) ∙ news_behind k bytes new j l (omega arith)) ∙ e)
+          | inr behind ↦
+              let there = moved_behind k (news k bytes new) by j old m (omega arith) is in
+              let one : old - by ≡ x = cc in
+              let v = n.behind later (omega arith) in
+              omega arith
+        ]
+      ]
+    ]
+
+-- all of them, where each one is noted so
+noted_all : (k : KeptLayout) (bytes : ℕ) (new : List ℕ) (by : ℕ) (lag : Lag) (ss : List Stretch) → IsLaid k → IsMove k (news k bytes new) by → map unplaced ss ≡ map unplaced k.stretches.items
+    → ((j : ℕ) (s d : Stretch) → slice_get k.stretches.items j ≡ Some s → slice_get ss j ≡ Some d → IsNote k bytes new by lag j (located k.lag j s.at) d.at) → AreNoted k (news k bytes new) by lag ss
+noted_all k bytes new by lag ss l m same notes = record {
+  same = same;
+  lies = λ j x d e f.
+      let len = map_length unplaced ss k.stretches.items same in
+      let there = present_at k.stretches.items j (let w = slice_get_within ss j d e in omega arith) in
+      note_value k bytes new by lag j (located k.lag j there.0.at) d.at x l m (lies_at k j there.0 l there.1) (notes j there.0 d there.1 e) f;
+}
+
+at_same : (k : KeptLayout) (bytes : ℕ) (new : List ℕ) (by : ℕ) (lag : Lag) (j : ℕ) (s d : Stretch) → s ≡ d → IsNote k bytes new by lag j (located k.lag j s.at) s.at → IsNote k bytes new by lag j (located k.lag j s.at) d.at
+at_same k bytes new by lag j s d one n = subst (λ (x : Stretch). IsNote k bytes new by lag j (located k.lag j s.at) x.at) one n
+
+-- where all were noted from the first one on that moved or moves up to the last one
+pub noted_most : (k : KeptLayout) (bytes : ℕ) (new : List ℕ) (by : ℕ) (lag : Lag) (from until : ℕ) (ss : List Stretch) → IsLaid k → IsMove k (news k bytes new) by → IsLagAfter k bytes new by lag → from ≤ suc k.here → from ≤ k.lag.from → from ≤ k.lag.border → wall_of k + length new ≤ until → k.lag.border ≤ until
+    → AreNotedIn k bytes new by lag from until ss → AreNoted k (news k bytes new) by lag ss
+noted_most k bytes new by lag from until ss l m a h f b o u n = noted_all k bytes new by lag ss l m n.same (λ j s d e g. elim (cases_lt j from) [
+  | inl before ↦ at_same k bytes new by lag j s d (let r = n.low j before in cc) (still_before k bytes new by lag j s l a (omega arith) (omega arith) (omega arith) e)
+  | inr not ↦ elim (cases_lt j until) [
+    | inl within ↦ n.notes j s d (omega arith) within e g
+    | inr behind ↦ at_same k bytes new by lag j s d (let r = n.rest j (omega arith) in cc) (still_behind k bytes new by lag j s l m a (omega arith) (omega arith) e)
+  ]
+])
+
+-- where calm ones keep their notes
+pub noted_few : (k middle : KeptLayout) (bytes : ℕ) (new : List ℕ) (by : ℕ) (lag : Lag) (from until end : ℕ) (ss : List Stretch) → IsLaid k → IsMove k (news k bytes new) by → ((s : Shape) → slice_get (shapes_of k.stretches.items) k.here ≡ Some s → bytes ≤ s.bytes) → IsLagAfter k bytes new by lag → keeps_gap k ≡ true
+    → from ≤ suc k.here → from ≤ k.lag.from → until ≤ wall_of k → ((j : ℕ) → until ≤ j → j < wall_of k → (k.here < j) × (k.lag.from ≤ j)) → wall_of k + length new ≤ end → k.lag.border ≤ end → middle ≡ (record k { stretches = middle.stretches })
+    → AreNotedIn k bytes new by lag from until middle.stretches.items → AreNotedIn middle bytes new by lag (wall_of k) end ss → AreNoted k (news k bytes new) by lag ss
+noted_few k middle bytes new by lag from until end ss l m few a keeps h f w calm o u fields first rest = noted_all k bytes new by lag ss l m (rest.same ∙ first.same) (λ j s d e g. elim (cases_lt j (wall_of k)) [
+  | inl before ↦
+      let there : slice_get middle.stretches.items j ≡ Some d = sym (rest.low j before) ∙ g in
+      elim (cases_lt j from) [
+        | inl low ↦ at_same k bytes new by lag j s d (let r = first.low j low in cc) (still_before k bytes new by lag j s l a (omega arith) (omega arith) (let past = leb-true (wall_of k) k.lag.border (and_parts (nat_eq k.lag.until (wall_of k)) (nat_le (wall_of k) k.lag.border) keeps).1 in omega arith) e)
+        | inr not ↦ elim (cases_lt j until) [
+          | inl within ↦ first.notes j s d (omega arith) within e there
+          | inr past ↦ (let parts = calm j (omega arith) before in at_same k bytes new by lag j s d (let r = first.rest j (omega arith) in cc) (still_calm k bytes new by lag j s l few a keeps parts.0 parts.1 before e))
+        ]
+      ]
+  | inr not ↦
+      let there : slice_get middle.stretches.items j ≡ Some s = first.rest j (omega arith) ∙ e in
+      elim (cases_lt j end) [
+        | inl within ↦ note_from k middle bytes new by lag j s.at d.at fields (rest.notes j s d (omega arith) within there g)
+        | inr behind ↦ at_same k bytes new by lag j s d (let r = rest.rest j (omega arith) in cc) (still_behind k bytes new by lag j s l m a (omega arith) (omega arith) e)
+      ]
+])
 
 -- ---- one that takes fewer bytes ----
 
--- the stretches are those of the layout, noted anew
-pub record AreNoted (k : KeptLayout) (bytes : ℕ) (new : List ℕ) (ss : List Stretch) : Type 0 where
-  pub same : map unplaced ss ≡ map unplaced k.stretches.items
-  pub notes : (j : ℕ) (s d : Stretch) → slice_get k.stretches.items j ≡ Some s → slice_get ss j ≡ Some d → IsNote k bytes new j (located k.border k.shift j s.at) d.at
-
 -- one of them, but for its bytes and places
-record IsOne (k : KeptLayout) (bytes : ℕ) (new : List ℕ) (j : ℕ) (d : Stretch) : Type 0 where
+record IsOne (k : KeptLayout) (new : List ℕ) (by : ℕ) (lag : Lag) (j : ℕ) (d : Stretch) : Type 0 where
   s : Stretch
   is : slice_get k.stretches.items j ≡ Some s
   head : d.head ≡ s.head
   callers : d.callers.items ≡ s.callers.items
   grain : d.grain ≡ s.grain
-  note : IsNote k bytes new j (located k.border k.shift j s.at) d.at
+  note : (x : ℕ) → slice_get (moved_starts k new by) j ≡ Some x → d.at ≡ x + lag_of lag j
 
 -- a stretch with so many bytes and places fewer
 pub record HasLess (bytes gone : ℕ) (s t : Stretch) : Type 0 where
@@ -129,8 +222,8 @@ pub record HasLess (bytes gone : ℕ) (s t : Stretch) : Type 0 where
   pub callers : t.callers.items ≡ s.callers.items
   pub grain : t.grain ≡ s.grain
 
-one_noted : (k : KeptLayout) (bytes : ℕ) (new : List ℕ) (ss : List Stretch) (j : ℕ) (d : Stretch) → AreNoted k bytes new ss → slice_get ss j ≡ Some d → IsOne k bytes new j d
-one_noted k bytes new ss j d n e =
+one_noted : (k : KeptLayout) (new : List ℕ) (by : ℕ) (lag : Lag) (ss : List Stretch) (j : ℕ) (d : Stretch) → AreNoted k new by lag ss → slice_get ss j ≡ Some d → IsOne k new by lag j d
+one_noted k new by lag ss j d n e =
     let len = map_length unplaced ss k.stretches.items n.same in
     let within = slice_get_within ss j d e in
     let there = present_at k.stretches.items j (omega arith) in
@@ -145,17 +238,17 @@ one_noted k bytes new ss j d n e =
       head = ap (λ (x : Stretch). x.head) same;
       callers = ap (λ (x : Stretch). x.callers.items) same;
       grain = ap (λ (x : Stretch). x.grain) same;
-      note = n.notes j s d there.1 e;
+      note = λ x f. n.lies j x d e f;
     }
 
-one_less : (k : KeptLayout) (new : List ℕ) (ss : List Stretch) (bytes gone j : ℕ) (s t d : Stretch) → AreNoted k bytes new ss → slice_get ss k.here ≡ Some s → HasLess bytes gone s t → slice_get (slice_set ss k.here t) j ≡ Some d → IsOne k bytes new j d
-one_less k new ss bytes gone j s t d n e h f = elim (cases_lt j k.here) [
-  | inl l ↦ one_noted k bytes new ss j d n (sym (set_else ss k.here j t (λ x. omega arith)) ∙ f)
+one_less : (k : KeptLayout) (new : List ℕ) (by : ℕ) (lag : Lag) (ss : List Stretch) (bytes gone j : ℕ) (s t d : Stretch) → AreNoted k new by lag ss → slice_get ss k.here ≡ Some s → HasLess bytes gone s t → slice_get (slice_set ss k.here t) j ≡ Some d → IsOne k new by lag j d
+one_less k new by lag ss bytes gone j s t d n e h f = elim (cases_lt j k.here) [
+  | inl l ↦ one_noted k new by lag ss j d n (sym (set_else ss k.here j t (λ x. omega arith)) ∙ f)
   | inr l ↦ elim (cases_lt k.here j) [
-    | inl m ↦ one_noted k bytes new ss j d n (sym (set_else ss k.here j t (λ x. omega arith)) ∙ f)
+    | inl m ↦ one_noted k new by lag ss j d n (sym (set_else ss k.here j t (λ x. omega arith)) ∙ f)
     | inr m ↦
         let here : k.here ≡ j = omega arith in
-        let was = one_noted k bytes new ss j s n (ap (slice_get ss) (sym here) ∙ e) in
+        let was = one_noted k new by lag ss j s n (ap (slice_get ss) (sym here) ∙ e) in
         let at : slice_get (slice_set ss k.here t) k.here ≡ Some d = ap (slice_get (slice_set ss k.here t)) here ∙ f in
         let one : t ≡ d = let w = set_here ss k.here t (slice_get_within ss k.here s e) in cc in
         record {
@@ -164,7 +257,7 @@ one_less k new ss bytes gone j s t d n e h f = elim (cases_lt j k.here) [
           head = ap (λ (x : Stretch). x.head) (sym one) ∙ h.head ∙ was.head;
           callers = ap (λ (x : Stretch). x.callers.items) (sym one) ∙ h.callers ∙ was.callers;
           grain = ap (λ (x : Stretch). x.grain) (sym one) ∙ h.grain ∙ was.grain;
-          note = subst (λ a. IsNote k bytes new j (located k.border k.shift j was.s.at) a) (sym h.at ∙ ap (λ (x : Stretch). x.at) one) was.note;
+          note = λ x f. let v = was.note x f in let at = sym h.at ∙ ap (λ (x : Stretch). x.at) one in omega arith;
         }
   ]
 ]
@@ -191,38 +284,10 @@ shapes_set (x ∷ ss) zero bytes gone s t e h =
     ap (λ (y : Shape). y ∷ shapes_of ss) (shape_less bytes gone s t h ∙ ap (λ (z : Stretch). let y : Shape = record { head = z.head; bytes = z.bytes - bytes; places = z.places - gone } in y) same)
 shapes_set (x ∷ ss) (suc n) bytes gone s t e h = ap (λ (xs : List Shape). shape_of x ∷ xs) (shapes_set ss n bytes gone s t e h)
 
-pub shapes_less : (k : KeptLayout) (new : List ℕ) (ss : List Stretch) (bytes gone : ℕ) (s t : Stretch) → AreNoted k bytes new ss → slice_get ss k.here ≡ Some s → HasLess bytes gone s t → shapes_of (slice_set ss k.here t) ≡ lessen k.here bytes gone (shapes_of k.stretches.items)
-shapes_less k new ss bytes gone s t n e h = shapes_set ss k.here bytes gone s t e h ∙ ap (lessen k.here bytes gone) (shapes_same ss k.stretches.items n.same)
+pub shapes_less : (k : KeptLayout) (new : List ℕ) (by : ℕ) (lag : Lag) (ss : List Stretch) (bytes gone : ℕ) (s t : Stretch) → AreNoted k new by lag ss → slice_get ss k.here ≡ Some s → HasLess bytes gone s t → shapes_of (slice_set ss k.here t) ≡ lessen k.here bytes gone (shapes_of k.stretches.items)
+shapes_less k new by lag ss bytes gone s t n e h = shapes_set ss k.here bytes gone s t e h ∙ ap (lessen k.here bytes gone) (shapes_same ss k.stretches.items n.same)
 
 -- ---- the layout ----
-
--- where one lies by its note
-note_lies : (k : KeptLayout) (bytes : ℕ) (new : List ℕ) (by j : ℕ) (d : Stretch) → IsLaid k → IsMove k (news k bytes new) by → IsOne k bytes new j d → slice_get (moved_starts k (news k bytes new) by) j ≡ Some (located (wall_of k + length new) (k.shift + by) j d.at)
-note_lies k bytes new by j d l m o =
-    let old = lies_at k j o.s l o.is in
-    elim (cases_lt k.here j) [
-      | inr before ↦
-          let note = o.note.before (omega arith) in
-          let from = (bounds k l).from in
-          moved_before k (news k bytes new) by j m (omega arith) ∙ old ∙ ap (λ n. Some n) (sym note ∙ sym (located_before (wall_of k + length new) (k.shift + by) j d.at (omega arith)))
-      | inl later ↦ elim (cases_lt j (wall_of k + length new)) [
-        | inl among ↦
-            let end = end_news k bytes new l in
-            elim (cases_lt j (wall_of k)) [
-              | inl calm ↦
-                  moved_among k (news k bytes new) by j m later (omega arith) ∙ news_calm k bytes new j (located k.border k.shift j o.s.at) l later calm old
-                  ∙ ap (λ n. Some n) (sym (o.note.calm later calm) ∙ sym (located_before (wall_of k + length new) (k.shift + by) j d.at among))
-              | inr not ↦
-                  moved_among k (news k bytes new) by j m later (omega arith) ∙ news_behind k bytes new j l (omega arith) ∙ o.note.among later (omega arith) among
-                  ∙ ap (λ n. Some n) (sym (located_before (wall_of k + length new) (k.shift + by) j d.at among))
-            ]
-        | inr behind ↦
-            let end = end_news k bytes new l in
-            let note = o.note.behind later (omega arith) in
-            let at : located k.border k.shift j o.s.at - by ≡ d.at - (k.shift + by) = omega arith in
-            moved_behind k (news k bytes new) by j (located k.border k.shift j o.s.at) m (omega arith) old ∙ ap (λ n. Some n) (at ∙ sym (located_behind (wall_of k + length new) (k.shift + by) j d.at (omega arith)))
-      ]
-    ]
 
 -- a layout of these stretches
 pub record IsAfter (k : KeptLayout) (new : List ℕ) (by bytes gone : ℕ) (ss : List Stretch) (after : KeptLayout) : Type 0 where
@@ -232,9 +297,8 @@ pub record IsAfter (k : KeptLayout) (new : List ℕ) (by bytes gone : ℕ) (ss :
   pub loose : after.loose.items ≡ k.loose.items
   pub absolute : after.absolute.items ≡ k.absolute.items
   pub slack : AreSlack k (news k bytes new) by after.slack_from after.slack
-  pub border : after.border ≡ wall_of k + length new
-  pub shift : after.shift ≡ k.shift + by
-  pub noted : AreNoted k bytes new ss
+  pub lag : IsLagAfter k bytes new by after.lag
+  pub noted : AreNoted k (news k bytes new) by after.lag ss
   pub s : Stretch
   pub t : Stretch
   pub is : slice_get ss k.here ≡ Some s
@@ -243,34 +307,31 @@ pub record IsAfter (k : KeptLayout) (new : List ℕ) (by bytes gone : ℕ) (ss :
   pub rooms : AreRooms after.rooms.items (lessen k.here bytes gone (shapes_of k.stretches.items))
   pub walls : after.walls.items ≡ k.walls.items
 
-laid_at : (k : KeptLayout) (new : List ℕ) (by bytes gone : ℕ) (ss : List Stretch) (after : KeptLayout) (j : ℕ) (d : Stretch) → IsAfter k new by bytes gone ss after → slice_get after.stretches.items j ≡ Some d → IsOne k bytes new j d
-laid_at k new by bytes gone ss after j d a e = one_less k new ss bytes gone j a.s a.t d a.noted a.is a.less (ap (λ (xs : List Stretch). slice_get xs j) (sym a.stretches) ∙ e)
+laid_at : (k : KeptLayout) (new : List ℕ) (by bytes gone : ℕ) (ss : List Stretch) (after : KeptLayout) (j : ℕ) (d : Stretch) → IsAfter k new by bytes gone ss after → slice_get after.stretches.items j ≡ Some d → IsOne k (news k bytes new) by after.lag j d
+laid_at k new by bytes gone ss after j d a e = one_less k (news k bytes new) by after.lag ss bytes gone j a.s a.t d a.noted a.is a.less (ap (λ (xs : List Stretch). slice_get xs j) (sym a.stretches) ∙ e)
 
 laid_shapes : (k : KeptLayout) (new : List ℕ) (by bytes gone : ℕ) (ss : List Stretch) (after : KeptLayout) → IsAfter k new by bytes gone ss after → shapes_of after.stretches.items ≡ lessen k.here bytes gone (shapes_of k.stretches.items)
-laid_shapes k new by bytes gone ss after a = ap shapes_of a.stretches ∙ shapes_less k new ss bytes gone a.s a.t a.noted a.is a.less
+laid_shapes k new by bytes gone ss after a = ap shapes_of a.stretches ∙ shapes_less k (news k bytes new) by after.lag ss bytes gone a.s a.t a.noted a.is a.less
 
 laid_length : (k : KeptLayout) (new : List ℕ) (by bytes gone : ℕ) (ss : List Stretch) (after : KeptLayout) → IsAfter k new by bytes gone ss after → length after.stretches.items ≡ length k.stretches.items
 laid_length k new by bytes gone ss after a = ap length a.stretches ∙ length-set ss k.here a.t ∙ map_length unplaced ss k.stretches.items a.noted.same
 
--- where they begin
-laid_starts : (k : KeptLayout) (new : List ℕ) (by bytes gone : ℕ) (ss : List Stretch) (after : KeptLayout) → IsLaid k → IsMoved k bytes new by → IsAfter k new by bytes gone ss after → addresses after.border after.shift after.stretches.items ≡ moved_starts k (news k bytes new) by
-laid_starts k new by bytes gone ss after l m a =
-    let shapes : List Shape = lessen k.here bytes gone (shapes_of k.stretches.items) in
-    let count : length (moved_starts k (news k bytes new) by) ≡ length after.stretches.items =
-    ap length (sym (m.starts gone)) ∙ starts_length k.base shapes ∙ lessen_length k.here bytes gone (shapes_of k.stretches.items) ∙ shapes_length k.stretches.items ∙ sym (laid_length k new by bytes gone ss after a) in
-    addresses_are after.border after.shift after.stretches.items (moved_starts k (news k bytes new) by) count
-    (λ n d e. note_lies k bytes new by n d l m.move (laid_at k new by bytes gone ss after n d a e) ∙ ap (λ x. Some (located x (k.shift + by) n d.at)) (sym a.border) ∙ ap (λ x. Some (located after.border x n d.at)) (sym a.shift))
+moved_count : (k : KeptLayout) (new : List ℕ) (by bytes gone : ℕ) → IsMoved k bytes new by → length (moved_starts k (news k bytes new) by) ≡ length k.stretches.items
+moved_count k new by bytes gone m =
+    ap length (sym (m.starts gone)) ∙ starts_length k.base (lessen k.here bytes gone (shapes_of k.stretches.items)) ∙ lessen_length k.here bytes gone (shapes_of k.stretches.items) ∙ shapes_length k.stretches.items
 
-laid_noted : (k : KeptLayout) (new : List ℕ) (by bytes gone : ℕ) (ss : List Stretch) (after : KeptLayout) → IsLaid k → IsMoved k bytes new by → IsAfter k new by bytes gone ss after → (j : ℕ) (d : Stretch) → slice_get after.stretches.items j ≡ Some d → after.border ≤ j → after.shift ≤ d.at
-laid_noted k new by bytes gone ss after l m a j d e h =
-    let border = a.border in
-    let shift = a.shift in
-    let o = laid_at k new by bytes gone ss after j d a e in
-    let end = end_news k bytes new l in
-    let from = (bounds k l).from in
-    let note = o.note.behind (omega arith) (omega arith) in
-    let low = m.move.low j (located k.border k.shift j o.s.at) (omega arith) (lies_at k j o.s l o.is) in
-    omega arith
+-- where they begin
+laid_lies : (k : KeptLayout) (new : List ℕ) (by bytes gone : ℕ) (ss : List Stretch) (after : KeptLayout) → IsMoved k bytes new by → IsAfter k new by bytes gone ss after → (j : ℕ) (d : Stretch) → slice_get after.stretches.items j ≡ Some d → (x : ℕ) × (slice_get (moved_starts k (news k bytes new) by) j ≡ Some x) × (d.at ≡ x + lag_of after.lag j)
+laid_lies k new by bytes gone ss after m a j d e =
+    let count = moved_count k new by bytes gone m in
+    let len = laid_length k new by bytes gone ss after a in
+    let there = present_at (moved_starts k (news k bytes new) by) j (let w = slice_get_within after.stretches.items j d e in omega arith) in
+    (there.0, there.1, (laid_at k new by bytes gone ss after j d a e).note there.0 there.1)
+
+laid_starts : (k : KeptLayout) (new : List ℕ) (by bytes gone : ℕ) (ss : List Stretch) (after : KeptLayout) → IsMoved k bytes new by → IsAfter k new by bytes gone ss after → addresses after.lag 0 after.stretches.items ≡ moved_starts k (news k bytes new) by
+laid_starts k new by bytes gone ss after m a =
+    addresses_are after.lag after.stretches.items (moved_starts k (news k bytes new) by) (moved_count k new by bytes gone m ∙ sym (laid_length k new by bytes gone ss after a))
+    (λ n d e. let r = laid_lies k new by bytes gone ss after m a n d e in let v = r.2 in r.1 ∙ ap (λ x. Some x) (let same : r.0 ≡ d.at - lag_of after.lag n = omega arith in same))
 
 -- who mentions a label
 laid_callers : (k : KeptLayout) (new : List ℕ) (by bytes gone : ℕ) (ss : List Stretch) (after : KeptLayout) → IsLaid k → IsAfter k new by bytes gone ss after
@@ -305,9 +366,9 @@ laid_after k new by bytes gone ss after l m r a =
     let begins : starts_from after.base (shapes_of after.stretches.items) ≡ starts_from k.base (lessen k.here bytes gone (shapes_of k.stretches.items)) = ap (λ x. starts_from x (shapes_of after.stretches.items)) base ∙ ap (starts_from k.base) shapes in
     record {
       in_code = let c = m.in_code gone in omega arith;
-      starts = laid_starts k new by bytes gone ss after l m a ∙ sym (m.starts gone) ∙ sym begins;
-      border = let w = m.move.within in let b = a.border in let end = end_news k bytes new l in omega arith;
-      noted = laid_noted k new by bytes gone ss after l m a;
+      starts = laid_starts k new by bytes gone ss after m a ∙ sym (m.starts gone) ∙ sym begins;
+      border = let w = m.move.within in let b = a.lag.border in let end = end_news k bytes new l in omega arith;
+      noted = λ j d e. let r = laid_lies k new by bytes gone ss after m a j d e in let v = r.2 in omega arith;
       grains = λ j d e.
           let o = laid_at k new by bytes gone ss after j d a e in
           subst (λ g. IsGrain g (drop j (shapes_of after.stretches.items))) (sym o.grain) (subst (λ (xs : List Shape). IsGrain o.s.grain (drop j xs)) (sym shapes) (grain_lessen o.s.grain k.here bytes gone j (shapes_of k.stretches.items) (l.grains j o.s o.is)));
@@ -350,21 +411,19 @@ less_from bytes gone s t e = record {
 }
 
 -- a layout of which the stretches were noted anew, and one takes fewer bytes
-pub record HasShrunk (k l : KeptLayout) (new : List ℕ) (bytes gone : ℕ) (s t : Stretch) : Type 0 where
+pub record HasShrunk (k l : KeptLayout) (new : List ℕ) (by bytes gone : ℕ) (lag : Lag) (s t : Stretch) : Type 0 where
   pub fields : l ≡ (record k { stretches = l.stretches })
-  pub noted : AreNoted k bytes new l.stretches.items
+  pub noted : AreNoted k (news k bytes new) by lag l.stretches.items
   pub is : slice_get l.stretches.items l.here ≡ Some s
   pub less : t ≡ (record s { bytes = s.bytes - bytes; places = s.places - gone })
 
-same_here : (k l : KeptLayout) (new : List ℕ) (bytes gone : ℕ) (s t : Stretch) → HasShrunk k l new bytes gone s t → l.here ≡ k.here
-same_here k l new bytes gone s t h = ap (λ (x : KeptLayout). x.here) h.fields
+same_here : (k l : KeptLayout) (new : List ℕ) (by bytes gone : ℕ) (lag : Lag) (s t : Stretch) → HasShrunk k l new by bytes gone lag s t → l.here ≡ k.here
+same_here k l new by bytes gone lag s t h = ap (λ (x : KeptLayout). x.here) h.fields
 
-pub after_shrinking : (k l : KeptLayout) (new : List ℕ) (by bytes gone : ℕ) (s t : Stretch) (after : KeptLayout) → HasShrunk k l new bytes gone s t → after.base ≡ l.base → after.here ≡ l.here → after.first ≡ l.first → after.loose.items ≡ l.loose.items → after.absolute.items ≡ l.absolute.items → AreSlack k (news k bytes new) by after.slack_from after.slack
-    → after.border ≡ wall_of l + length new → after.shift ≡ l.shift + by → after.stretches.items ≡ slice_set l.stretches.items l.here t → AreRooms after.rooms.items (lessen k.here bytes gone (shapes_of k.stretches.items)) → after.walls.items ≡ l.walls.items → IsAfter k new by bytes gone l.stretches.items after
-after_shrinking k l new by bytes gone s t after h base here first near absolute slack border shift stretches rooms walls =
-    let same : l.here ≡ k.here = same_here k l new bytes gone s t h in
-    let wall : wall_of l ≡ wall_of k = ap (λ (x : KeptLayout). wall_of x) h.fields in
-    let before : l.shift ≡ k.shift = ap (λ (x : KeptLayout). x.shift) h.fields in
+pub after_shrinking : (k l : KeptLayout) (new : List ℕ) (by bytes gone : ℕ) (lag : Lag) (s t : Stretch) (after : KeptLayout) → HasShrunk k l new by bytes gone lag s t → after.base ≡ l.base → after.here ≡ l.here → after.first ≡ l.first → after.loose.items ≡ l.loose.items → after.absolute.items ≡ l.absolute.items → AreSlack k (news k bytes new) by after.slack_from after.slack
+    → after.lag ≡ lag → IsLagAfter k bytes new by lag → after.stretches.items ≡ slice_set l.stretches.items l.here t → AreRooms after.rooms.items (lessen k.here bytes gone (shapes_of k.stretches.items)) → after.walls.items ≡ l.walls.items → IsAfter k new by bytes gone l.stretches.items after
+after_shrinking k l new by bytes gone lag s t after h base here first near absolute slack is_lag lags stretches rooms walls =
+    let same : l.here ≡ k.here = same_here k l new by bytes gone lag s t h in
     record {
       base = base ∙ ap (λ (x : KeptLayout). x.base) h.fields;
       here = here ∙ same;
@@ -372,9 +431,8 @@ after_shrinking k l new by bytes gone s t after h base here first near absolute 
       loose = near ∙ ap (λ (x : KeptLayout). x.loose.items) h.fields;
       absolute = absolute ∙ ap (λ (x : KeptLayout). x.absolute.items) h.fields;
       slack = slack;
-      border = omega arith;
-      shift = omega arith;
-      noted = h.noted;
+      lag = subst (IsLagAfter k bytes new by) (sym is_lag) lags;
+      noted = subst (λ x. AreNoted k (news k bytes new) by x l.stretches.items) (sym is_lag) h.noted;
       s = s;
       t = t;
       is = ap (slice_get l.stretches.items) (sym same) ∙ h.is;
@@ -384,7 +442,7 @@ after_shrinking k l new by bytes gone s t after h base here first near absolute 
       walls = walls ∙ ap (λ (x : KeptLayout). x.walls.items) h.fields;
     }
 
-pub shapes_after : (k l : KeptLayout) (new : List ℕ) (bytes gone : ℕ) (s t : Stretch) → HasShrunk k l new bytes gone s t → shapes_of (slice_set l.stretches.items l.here t) ≡ lessen k.here bytes gone (shapes_of k.stretches.items)
-shapes_after k l new bytes gone s t h =
-    let same : l.here ≡ k.here = same_here k l new bytes gone s t h in
-    ap (λ n. shapes_of (slice_set l.stretches.items n t)) same ∙ shapes_less k new l.stretches.items bytes gone s t h.noted (ap (slice_get l.stretches.items) (sym same) ∙ h.is) (less_from bytes gone s t h.less)
+pub shapes_after : (k l : KeptLayout) (new : List ℕ) (by bytes gone : ℕ) (lag : Lag) (s t : Stretch) → HasShrunk k l new by bytes gone lag s t → shapes_of (slice_set l.stretches.items l.here t) ≡ lessen k.here bytes gone (shapes_of k.stretches.items)
+shapes_after k l new by bytes gone lag s t h =
+    let same : l.here ≡ k.here = same_here k l new by bytes gone lag s t h in
+    ap (λ n. shapes_of (slice_set l.stretches.items n t)) same ∙ shapes_less k (news k bytes new) by lag l.stretches.items bytes gone s t h.noted (ap (slice_get l.stretches.items) (sym same) ∙ h.is) (less_from bytes gone s t h.less)

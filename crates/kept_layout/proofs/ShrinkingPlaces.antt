@@ -1,50 +1,45 @@
 -- Where stretches lie by what is noted, and where they lie once those behind one moved.
-use Rattle.std.proofs.Common.{◌≡◌, ◌∙◌, inl, inr, ℕ, zero, suc, ◌-◌, ◌<◌, ◌≤◌, List, [], ◌∷◌, ◌++◌, length, map, take, drop, Some, refl, sym, ap, subst, arith}
-use Rattle.std.specs.Prelude.{nat_lt, slice_get}
-use Rattle.std.proofs.lemmas.Bool.{cases_lt, lt-ltb, ltb-true, cases_Bool}
+use Rattle.std.proofs.Common.{◌≡◌, ◌∙◌, inl, inr, ℕ, zero, suc, ◌+◌, ◌-◌, ◌<◌, ◌≤◌, List, [], ◌∷◌, ◌++◌, length, map, take, drop, Some, refl, sym, ap, subst, arith}
+use Rattle.std.specs.Prelude.{nat_le, nat_lt, slice_get}
+use Rattle.std.proofs.lemmas.Bool.{le-leb, leb-true, lt-ltb, ltb-true, cases_Bool}
 use Rattle.std.proofs.lemmas.Option.{slice_get_within}
 use Rattle.thumb_model.proofs.Lists.{get_back, get_drop, get_front, get_take, present_at, take_all}
 use Rattle.kept_layout.specs.declared.kept.KeptLayout.{KeptLayout}
+use Rattle.kept_layout.specs.declared.lag.Lag.{Lag}
 use Rattle.kept_layout.specs.declared.stretch.Stretch.{Stretch}
-use Rattle.kept_layout.specs.Stretches.{addresses, located, shapes_of}
+use Rattle.kept_layout.specs.Stretches.{addresses, lag_of, located, shapes_of}
 use Rattle.kept_layout.specs.Kept.{IsLaid}
 use Rattle.kept_layout.specs.Moves.{end_of, moved_starts, starts_of, IsMove}
 use Rattle.kept_layout.proofs.ShrinkingStarts.{starts_length}
 
 -- ---- by what is noted ----
 
-pub located_before : (border shift n at : ℕ) → n < border → located border shift n at ≡ at
-located_before border shift n at h = rw (lt-ltb n border h) refl
+pub lag_before : (l : Lag) (n : ℕ) → n < l.border → n < l.from → lag_of l n ≡ 0
+lag_before l n h m = elim (cases_Bool (nat_le l.from n)) [
+  | inl t ↦ absurd (let low = leb-true l.from n t in omega arith)
+  | inr f ↦ rw (lt-ltb n l.border h, f) refl
+]
 
-pub located_behind : (border shift n at : ℕ) → border ≤ n → located border shift n at ≡ at - shift
-located_behind border shift n at h = elim (cases_Bool (nat_lt n border)) [
-  | inl t ↦ absurd (let l = ltb-true n border t in omega arith)
+pub lag_gap : (l : Lag) (n : ℕ) → n < l.border → l.from ≤ n → n < l.until → lag_of l n ≡ l.gap
+lag_gap l n h m o = rw (lt-ltb n l.border h, le-leb l.from n m, lt-ltb n l.until o) refl
+
+pub lag_behind : (l : Lag) (n : ℕ) → l.border ≤ n → lag_of l n ≡ l.shift
+lag_behind l n h = elim (cases_Bool (nat_lt n l.border)) [
+  | inl t ↦ absurd (let low = ltb-true n l.border t in omega arith)
   | inr f ↦ rw f refl
 ]
 
-address_before : (border shift : ℕ) (ss : List Stretch) (n : ℕ) (s : Stretch) → n < border → slice_get ss n ≡ Some s → slice_get (addresses border shift ss) n ≡ Some s.at
-address_before border shift [] n s h e = absurd (cc)
-address_before zero shift (t ∷ ss) n s h e = absurd (omega arith)
-address_before (suc b) shift (t ∷ ss) zero s h e = let same : t ≡ s = cc in ap (λ (x : Stretch). Some x.at) same
-address_before (suc b) shift (t ∷ ss) (suc n) s h e = address_before b shift ss n s (omega arith) e
+address_from : (l : Lag) (first : ℕ) (ss : List Stretch) (n : ℕ) (s : Stretch) → slice_get ss n ≡ Some s → slice_get (addresses l first ss) n ≡ Some (located l (first + n) s.at)
+address_from l first [] n s e = absurd (cc)
+address_from l first (t ∷ ss) zero s e = let same : t ≡ s = cc in ap (λ (x : Stretch). Some (located l first x.at)) same ∙ ap (λ n. Some (located l n s.at)) (let zero : first ≡ first + 0 = omega arith in zero)
+address_from l first (t ∷ ss) (suc n) s e = address_from l (suc first) ss n s e ∙ ap (λ n. Some (located l n s.at)) (let next : suc first + n ≡ first + suc n = omega arith in next)
 
-address_behind : (border shift : ℕ) (ss : List Stretch) (n : ℕ) (s : Stretch) → border ≤ n → slice_get ss n ≡ Some s → slice_get (addresses border shift ss) n ≡ Some (s.at - shift)
-address_behind border shift [] n s h e = absurd (cc)
-address_behind zero shift (t ∷ ss) zero s h e = let same : t ≡ s = cc in ap (λ (x : Stretch). Some (x.at - shift)) same
-address_behind zero shift (t ∷ ss) (suc n) s h e = address_behind zero shift ss n s (omega arith) e
-address_behind (suc b) shift (t ∷ ss) zero s h e = absurd (omega arith)
-address_behind (suc b) shift (t ∷ ss) (suc n) s h e = address_behind b shift ss n s (omega arith) e
+pub address_at : (l : Lag) (ss : List Stretch) (n : ℕ) (s : Stretch) → slice_get ss n ≡ Some s → slice_get (addresses l 0 ss) n ≡ Some (located l n s.at)
+address_at l ss n s e = address_from l 0 ss n s e ∙ ap (λ n. Some (located l n s.at)) (let same : 0 + n ≡ n = omega arith in same)
 
-pub address_at : (border shift : ℕ) (ss : List Stretch) (n : ℕ) (s : Stretch) → slice_get ss n ≡ Some s → slice_get (addresses border shift ss) n ≡ Some (located border shift n s.at)
-address_at border shift ss n s e = elim (cases_lt n border) [
-  | inl h ↦ address_before border shift ss n s h e ∙ ap (λ m. Some m) (sym (located_before border shift n s.at h))
-  | inr h ↦ address_behind border shift ss n s (omega arith) e ∙ ap (λ m. Some m) (sym (located_behind border shift n s.at (omega arith)))
-]
-
-pub addresses_length : (border shift : ℕ) (ss : List Stretch) → length (addresses border shift ss) ≡ length ss
-addresses_length border shift [] = refl
-addresses_length zero shift (s ∷ ss) = ap suc (addresses_length zero shift ss)
-addresses_length (suc b) shift (s ∷ ss) = ap suc (addresses_length b shift ss)
+pub addresses_length : (l : Lag) (n : ℕ) (ss : List Stretch) → length (addresses l n ss) ≡ length ss
+addresses_length l n [] = refl
+addresses_length l n (s ∷ ss) = ap suc (addresses_length l (suc n) ss)
 
 -- lists of the same elements
 lists_same : {A : Type 0} (xs ys : List A) → length xs ≡ length ys → ((n : ℕ) (x : A) → slice_get ys n ≡ Some x → slice_get xs n ≡ Some x) → xs ≡ ys
@@ -57,18 +52,18 @@ lists_same (x ∷ xs) (y ∷ ys) l h =
     ap (λ z. z ∷ xs) first ∙ ap (λ z. y ∷ z) rest
 
 -- each lies where it is told
-pub addresses_are : (border shift : ℕ) (ss : List Stretch) (xs : List ℕ) → length xs ≡ length ss → ((n : ℕ) (s : Stretch) → slice_get ss n ≡ Some s → slice_get xs n ≡ Some (located border shift n s.at)) → addresses border shift ss ≡ xs
-addresses_are border shift ss xs l h = sym (lists_same xs (addresses border shift ss) (l ∙ sym (addresses_length border shift ss)) (λ n a e.
-    let within = slice_get_within (addresses border shift ss) n a e in
-    let len = addresses_length border shift ss in
+pub addresses_are : (lag : Lag) (ss : List Stretch) (xs : List ℕ) → length xs ≡ length ss → ((n : ℕ) (s : Stretch) → slice_get ss n ≡ Some s → slice_get xs n ≡ Some (located lag n s.at)) → addresses lag 0 ss ≡ xs
+addresses_are lag ss xs l h = sym (lists_same xs (addresses lag 0 ss) (l ∙ sym (addresses_length lag 0 ss)) (λ n a e.
+    let within = slice_get_within (addresses lag 0 ss) n a e in
+    let len = addresses_length lag 0 ss in
     let there = present_at ss n (omega arith) in
-    let found = address_at border shift ss n there.0 there.1 in
-    let same : a ≡ located border shift n there.0.at = cc in
+    let found = address_at lag ss n there.0 there.1 in
+    let same : a ≡ located lag n there.0.at = cc in
     h n there.0 there.1 ∙ ap (λ m. Some m) (sym same)))
 
 -- where a stretch of a layout lies
-pub lies_at : (k : KeptLayout) (n : ℕ) (s : Stretch) → IsLaid k → slice_get k.stretches.items n ≡ Some s → slice_get (starts_of k) n ≡ Some (located k.border k.shift n s.at)
-lies_at k n s l e = subst (λ xs. slice_get xs n ≡ Some (located k.border k.shift n s.at)) l.starts (address_at k.border k.shift k.stretches.items n s e)
+pub lies_at : (k : KeptLayout) (n : ℕ) (s : Stretch) → IsLaid k → slice_get k.stretches.items n ≡ Some s → slice_get (starts_of k) n ≡ Some (located k.lag n s.at)
+lies_at k n s l e = subst (λ xs. slice_get xs n ≡ Some (located k.lag n s.at)) l.starts (address_at k.lag k.stretches.items n s e)
 
 -- ---- once they moved ----
 
@@ -112,7 +107,7 @@ moved_behind k new by j a m h e =
     ∙ get_back new (map (λ a. a - by) rest) (j - end_of k new) (j - suc k.here) (omega arith)
     ∙ get_map (λ a. a - by) rest (j - end_of k new) a there
 
-pub address_is : (k : KeptLayout) (n a : ℕ) → IsLaid k → n < length k.stretches.items → ((s : Stretch) → slice_get k.stretches.items n ≡ Some s → a ≡ located k.border k.shift n s.at) → slice_get (starts_of k) n ≡ Some a
+pub address_is : (k : KeptLayout) (n a : ℕ) → IsLaid k → n < length k.stretches.items → ((s : Stretch) → slice_get k.stretches.items n ≡ Some s → a ≡ located k.lag n s.at) → slice_get (starts_of k) n ≡ Some a
 address_is k n a l h f =
     let there = present_at k.stretches.items n h in
     lies_at k n there.0 l there.1 ∙ ap (λ m. Some m) (sym (f there.0 there.1))

@@ -15,7 +15,7 @@ use Rattle.kept_layout.specs.declared.stretch.Target.TheVariants as target
 use Rattle.kept_layout.specs.declared.stretch.Head.{Head}
 use Rattle.kept_layout.specs.declared.stretch.Head.TheVariants as head
 use Rattle.kept_layout.specs.declared.stretch.Stretch.{Stretch}
-use Rattle.kept_layout.specs.Stretches.{addresses, end_from, is_loose, literal_last, shapes_of, starts_from, total_places, AllReach, AreWalls, Divides, HasSlack, IsGrain, Shape}
+use Rattle.kept_layout.specs.Stretches.{addresses, end_from, is_loose, lag_of, literal_last, shapes_of, starts_from, total_places, AllReach, AreWalls, Divides, HasSlack, IsGrain, Shape}
 
 -- ---- stretches of lines ----
 
@@ -132,9 +132,9 @@ AreRooms rooms shapes = (g room : ℕ) → slice_get rooms g ≡ Some room → I
 -- the stretches lie one behind the other from the base on, and each knows who mentions its label
 pub record IsLaid (k : KeptLayout) : Type 0 where
   pub in_code : end_from k.base (shapes_of k.stretches.items) ≤ 2 ^ 29
-  pub starts : addresses k.border k.shift k.stretches.items ≡ starts_from k.base (shapes_of k.stretches.items)
-  pub border : k.border ≤ length k.stretches.items
-  pub noted : (j : ℕ) (s : Stretch) → slice_get k.stretches.items j ≡ Some s → k.border ≤ j → k.shift ≤ s.at
+  pub starts : addresses k.lag 0 k.stretches.items ≡ starts_from k.base (shapes_of k.stretches.items)
+  pub border : k.lag.border ≤ length k.stretches.items
+  pub noted : (j : ℕ) (s : Stretch) → slice_get k.stretches.items j ≡ Some s → lag_of k.lag j ≤ s.at
   pub grains : (j : ℕ) (s : Stretch) → slice_get k.stretches.items j ≡ Some s → IsGrain s.grain (drop j (shapes_of k.stretches.items))
   -- 4 divides the grains of those that aren't behind a literal and its label
   pub literals : (i j : ℕ) (s : Shape) (d : Stretch) → slice_get (shapes_of k.stretches.items) i ≡ Some s → slice_get k.stretches.items j ≡ Some d → j ≤ literal_last i s.head → Divides 4 d.grain

@@ -1,12 +1,13 @@
 -- Stretches that move since one of them takes fewer bytes.
-use Rattle.std.specs.Prelude.{◌≡◌, ℕ, suc, ◌+◌, ◌-◌, ◌^◌, ◌<◌, ◌≤◌, ◌&&◌, nat_le, nat_lt, Bool, false, List, ◌++◌, length, map, take, drop, Option, Some, None, slice_get, Contains}
+use Rattle.std.specs.Prelude.{◌≡◌, ℕ, suc, ◌+◌, ◌-◌, ◌^◌, ◌<◌, ◌≤◌, ◌&&◌, nat_eq, nat_le, nat_lt, Bool, true, false, List, ◌++◌, length, map, take, drop, Option, Some, None, slice_get, Contains}
 use Rattle.kept_layout.specs.declared.kept.KeptLayout.{KeptLayout}
+use Rattle.kept_layout.specs.declared.lag.Lag.{Lag}
 use Rattle.kept_layout.specs.declared.stretch.Stretch.{Stretch}
 use Rattle.kept_layout.specs.declared.stretch.Aim.{Aim}
 use Rattle.kept_layout.specs.declared.stretch.Head.{Head}
 use Rattle.kept_layout.specs.declared.stretch.Head.TheVariants as head
 use Rattle.kept_layout.specs.declared.stretch.Target.TheVariants as target
-use Rattle.kept_layout.specs.Stretches.{end_from, head_fault, later_end, lessen, literal_last, shapes_of, starts_from, Divides, HasSlack, Shape}
+use Rattle.kept_layout.specs.Stretches.{end_from, head_fault, lag_of, later_end, lessen, literal_last, located, shapes_of, starts_from, Divides, HasSlack, Shape}
 
 -- where each one begins, from the base on
 abbrev pub starts_of : KeptLayout → List ℕ
@@ -99,16 +100,40 @@ pub record IsLookedAt (k : KeptLayout) (new : List ℕ) (by : ℕ) : Type 0 wher
   pub loose : 0 < by → (j : ℕ) → Contains k.loose.items j → IsRight (moved_starts k new by) k.stretches.items j
   pub absolute : 0 < by → has_slack k by ≡ false → (j : ℕ) → Contains k.absolute.items j → IsRight (moved_starts k new by) k.stretches.items j
 
--- what is noted as the address of a stretch that lay at another one, where those behind the new addresses then lie so many bytes before what is noted of them
-pub record IsNote (k : KeptLayout) (bytes : ℕ) (at : List ℕ) (j old note : ℕ) : Type 0 where
-  pub before : j ≤ k.here → note ≡ old
-  pub calm : k.here < j → j < wall_of k → note ≡ old - bytes
-  pub among : k.here < j → wall_of k ≤ j → j < wall_of k + length at → slice_get at (j - wall_of k) ≡ Some note
-  pub behind : k.here < j → wall_of k + length at ≤ j → note ≡ old + k.shift
-
 -- each of these stretches is one of the others, noted at another address
 abbrev pub unplaced : Stretch → Stretch
 unplaced s = record s { at = 0 }
+
+-- whether the calm ones that lie before where they were noted are those up to the wall behind the one that it stands at
+abbrev pub keeps_gap : KeptLayout → Bool
+keeps_gap k = nat_eq k.lag.until (wall_of k) && nat_le (wall_of k) k.lag.border
+
+-- how many bytes before where they are noted stretches lie once they moved so
+pub record IsLagAfter (k : KeptLayout) (bytes : ℕ) (at : List ℕ) (by : ℕ) (lag : Lag) : Type 0 where
+  pub border : lag.border ≡ wall_of k + length at
+  pub shift : lag.shift ≡ k.lag.shift + by
+  pub from : lag.from ≡ suc k.here
+  pub until : lag.until ≡ wall_of k
+  pub kept : keeps_gap k ≡ true → lag.gap ≡ k.lag.gap + bytes
+
+-- what is noted as the address of a stretch that lay at another one, where stretches lie so many bytes before what is noted of them
+pub record IsNote (k : KeptLayout) (bytes : ℕ) (at : List ℕ) (by : ℕ) (lag : Lag) (j old note : ℕ) : Type 0 where
+  pub before : j ≤ k.here → note ≡ old + lag_of lag j
+  pub calm : k.here < j → j < wall_of k → note ≡ old - bytes + lag_of lag j
+  pub among : k.here < j → wall_of k ≤ j → j < wall_of k + length at → (x : ℕ) → slice_get at (j - wall_of k) ≡ Some x → note ≡ x + lag_of lag j
+  pub behind : k.here < j → wall_of k + length at ≤ j → note ≡ old - by + lag_of lag j
+
+-- the stretches from a number up to another one are noted so, and the others as before
+pub record AreNotedIn (k : KeptLayout) (bytes : ℕ) (at : List ℕ) (by : ℕ) (lag : Lag) (from until : ℕ) (ss : List Stretch) : Type 0 where
+  pub same : map unplaced ss ≡ map unplaced k.stretches.items
+  pub notes : (j : ℕ) (s d : Stretch) → from ≤ j → j < until → slice_get k.stretches.items j ≡ Some s → slice_get ss j ≡ Some d → IsNote k bytes at by lag j (located k.lag j s.at) d.at
+  pub low : (j : ℕ) → j < from → slice_get ss j ≡ slice_get k.stretches.items j
+  pub rest : (j : ℕ) → until ≤ j → slice_get ss j ≡ slice_get k.stretches.items j
+
+-- all of them lie where they then begin
+pub record AreNoted (k : KeptLayout) (new : List ℕ) (by : ℕ) (lag : Lag) (ss : List Stretch) : Type 0 where
+  pub same : map unplaced ss ≡ map unplaced k.stretches.items
+  pub lies : (j x : ℕ) (d : Stretch) → slice_get ss j ≡ Some d → slice_get (moved_starts k new by) j ≡ Some x → d.at ≡ x + lag_of lag j
 
 -- and each of these is one of the others, with another grain
 abbrev pub ungrained : Stretch → Stretch

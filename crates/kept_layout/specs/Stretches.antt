@@ -10,6 +10,7 @@ use Rattle.kept_layout.specs.declared.stretch.Target.{Target}
 use Rattle.kept_layout.specs.declared.stretch.Target.TheVariants as target
 use Rattle.kept_layout.specs.declared.stretch.Head.{Head}
 use Rattle.kept_layout.specs.declared.stretch.Head.TheVariants as head
+use Rattle.kept_layout.specs.declared.lag.Lag.{Lag}
 use Rattle.kept_layout.specs.declared.stretch.Stretch.{Stretch}
 
 -- what of a stretch doesn't depend on where it lies: what it begins with, the bytes that it takes besides a padding, and how many places it has
@@ -70,15 +71,18 @@ AllReach base shapes =
 
 -- ---- stretches that move ----
 
--- where each one lies: those from the border on so many bytes before where it was noted
-abbrev pub addresses : ℕ → ℕ → List Stretch → List ℕ
-addresses border shift [] = []
-addresses zero shift (s ∷ ss) = (s.at - shift) ∷ addresses zero shift ss
-addresses (suc border) shift (s ∷ ss) = s.at ∷ addresses border shift ss
+-- how many bytes before where it was noted the one of this number lies
+abbrev pub lag_of : Lag → ℕ → ℕ
+lag_of l n = if nat_lt n l.border then (if nat_le l.from n && nat_lt n l.until then l.gap else 0) else l.shift
 
--- where the one of number n lies that was noted at an address
-abbrev pub located : ℕ → ℕ → ℕ → ℕ → ℕ
-located border shift n at = if nat_lt n border then at else at - shift
+-- where it lies, which was noted at an address
+abbrev pub located : Lag → ℕ → ℕ → ℕ
+located l n at = at - lag_of l n
+
+-- where each one lies from this number on
+abbrev pub addresses : Lag → ℕ → List Stretch → List ℕ
+addresses l n [] = []
+addresses l n (s ∷ ss) = located l n s.at ∷ addresses l (suc n) ss
 
 -- the first number divides the second
 abbrev pub Divides : ℕ → ℕ → Type 0

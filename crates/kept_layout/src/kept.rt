@@ -5,6 +5,7 @@ use crate::building::{lay, note_callers};
 use crate::calm::find_walls;
 use crate::grains::{Loose, find_loose, note_grains};
 use crate::groups::find_rooms;
+use crate::lag::Lag;
 use crate::shrinking::Move;
 use crate::stretch::Stretch;
 use listing_parser::{Listing, Memory};
@@ -24,9 +25,8 @@ pub struct KeptLayout {
     pub rooms: Vec<usize>,
     /// For each stretch the first one at or behind it up to which all stay as they are where they move by an even number of bytes.
     pub walls: Vec<usize>,
-    /// The stretches from this number on lie `shift` bytes before where they were noted: they moved together, and none was looked at.
-    pub border: usize,
-    pub shift: u32,
+    /// How many bytes before where they were noted they lie: those moved together, and none was looked at.
+    pub lag: Lag,
     /// The numbers of the stretches that begin with a mention of a label that may come out of reach by coming nearer.
     pub loose: Vec<usize>,
     /// The numbers of the stretches that begin with a mention of an address that is set.
@@ -78,8 +78,13 @@ impl KeptLayout {
             first: 0,
             rooms,
             walls,
-            border: 0,
-            shift: 0,
+            lag: Lag {
+                border: 0,
+                shift: 0,
+                from: 0,
+                until: 0,
+                gap: 0,
+            },
             loose,
             absolute,
             slack: 0,

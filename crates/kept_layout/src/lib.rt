@@ -7,6 +7,7 @@ mod calm;
 mod grains;
 mod groups;
 pub mod kept;
+pub mod lag;
 mod moving;
 pub mod shrinking;
 mod slack;

@@ -21,4 +21,4 @@ returns-clause-note c = λ s d e f.
     let here = set_here k.stretches.items c.args.number (record c.index_mut.result.now { at = c.in_ok-at.at }) c.requires.within in
     let one : (record c.index_mut.result.now { at = c.in_ok-at.at }) ≡ d = cc in
     let at : c.in_ok-at.at ≡ d.at = ap (λ (x : Stretch). x.at) one in
-    subst (λ a. IsNote k c.args.bytes c.args.moved.now.at.items c.args.number a d.at) was (subst (λ a. IsNote k c.args.bytes c.args.moved.now.at.items c.args.number c.address-old.result a) at c.in_ok-at.ensures)
+    subst (λ a. IsNote k c.args.bytes c.args.moved.now.at.items c.args.moved.now.by c.args.lag.now c.args.number a d.at) was (subst (λ a. IsNote k c.args.bytes c.args.moved.now.at.items c.args.moved.now.by c.args.lag.now c.args.number c.address-old.result a) at c.in_ok-at.ensures)

@@ -20,7 +20,7 @@ find_walls-requires-clause-callers c = callers_read c.note_callers.new.stretches
 
 pub go_to-requires : goal.go_to-requires
 go_to-requires c =
-    let k : KeptLayout = record { base = c.args.base; stretches = c.note_grains.new.stretches; here = 0; first = 0; rooms = c.in_ok-rooms.rooms; walls = c.in_ok-walls.walls; border = 0; shift = 0; loose = c.in_ok-loose.loose; absolute = c.in_ok-absolute.absolute; slack = 0; slack_from = 0 } in
+    let k : KeptLayout = record { base = c.args.base; stretches = c.note_grains.new.stretches; here = 0; first = 0; rooms = c.in_ok-rooms.rooms; walls = c.in_ok-walls.walls; lag = record { border = 0; shift = 0; from = 0; until = 0; gap = 0 }; loose = c.in_ok-loose.loose; absolute = c.in_ok-absolute.absolute; slack = 0; slack_from = 0 } in
     (lays_built k c.note_callers.new.stretches.items c.args.listing.now c.note_grains.ensures.same
     (c.in_ok-note_callers.ensures.shapes ∙ c.in_ok-stretches.ensures.shapes) c.in_ok-stretches.ensures.in_code
     (c.in_ok-note_callers.ensures.starts ∙ c.in_ok-stretches.ensures.starts) c.in_ok-note_callers.ensures.known c.in_ok-note_callers.ensures.callers refl refl
@@ -29,7 +29,7 @@ go_to-requires c =
 
 pub returns-clause-lays : goal.returns-clause-lays
 returns-clause-lays c =
-    let k : KeptLayout = record { base = c.args.base; stretches = c.note_grains.new.stretches; here = 0; first = 0; rooms = c.in_ok-rooms.rooms; walls = c.in_ok-walls.walls; border = 0; shift = 0; loose = c.in_ok-loose.loose; absolute = c.in_ok-absolute.absolute; slack = 0; slack_from = 0 } in
+    let k : KeptLayout = record { base = c.args.base; stretches = c.note_grains.new.stretches; here = 0; first = 0; rooms = c.in_ok-rooms.rooms; walls = c.in_ok-walls.walls; lag = record { border = 0; shift = 0; from = 0; until = 0; gap = 0 }; loose = c.in_ok-loose.loose; absolute = c.in_ok-absolute.absolute; slack = 0; slack_from = 0 } in
     c.go_to.ensures.lays c.args.listing.now
     (lays_built k c.note_callers.new.stretches.items c.args.listing.now c.note_grains.ensures.same
     (c.in_ok-note_callers.ensures.shapes ∙ c.in_ok-stretches.ensures.shapes) c.in_ok-stretches.ensures.in_code

@@ -1,10 +1,10 @@
-use Rattle.std.proofs.Common.{◌≡◌, ◌+◌, ◌<◌, length, map, slice_index_or, Some, refl, ap, sym, ◌∙◌, arith}
+use Rattle.std.proofs.Common.{◌≡◌, ◌<◌, length, map, slice_index_or, Some, refl, ap, sym, ◌∙◌, arith}
 use Rattle.std.specs.Prelude.{slice_get}
 use Rattle.std.proofs.lemmas.Option.{slice_get_read}
 use Rattle.kept_layout.specs.declared.kept.KeptLayout.{KeptLayout}
 use Rattle.kept_layout.specs.declared.stretch.Stretch.{Stretch}
 use Rattle.kept_layout.specs.Stretches.{shape_of, shapes_of}
-use Rattle.kept_layout.specs.Moves.{news, unplaced, wall_of}
+use Rattle.kept_layout.specs.Moves.{news, unplaced}
 use Rattle.kept_layout.proofs.Rooms.{rooms_after, rooms_within}
 use Rattle.kept_layout.proofs.ShrinkingNotes.{after_shrinking, laid_after, map_length, noted_shape, shapes_after, HasShrunk}
 use Rattle.kept_layout.proofs.ShrinkingReach.{right_from}
@@ -32,12 +32,12 @@ take_places-requires c = rooms_within c.args.self.now c.note_all.new.self c.args
 pub take_from-requires-clause-bytes : goal.take_from-requires-clause-bytes
 take_from-requires-clause-bytes c =
     let s = c.index_mut.result.now in
-    c.requires.few (shape_of s) (here_shape c.args.self.now c.note_all.new.self s c.in_ok-note_all.ensures.fields c.in_ok-note_all.ensures.same c.requires.laid.here c.index_mut.ensures.value)
+    c.requires.few (shape_of s) (here_shape c.args.self.now c.note_all.new.self s c.in_ok-note_all.ensures.fields c.in_ok-note_all.ensures.noted.same c.requires.laid.here c.index_mut.ensures.value)
 
 pub take_from-requires-clause-places : goal.take_from-requires-clause-places
 take_from-requires-clause-places c =
     let s = c.index_mut.result.now in
-    c.requires.some (shape_of s) (here_shape c.args.self.now c.note_all.new.self s c.in_ok-note_all.ensures.fields c.in_ok-note_all.ensures.same c.requires.laid.here c.index_mut.ensures.value)
+    c.requires.some (shape_of s) (here_shape c.args.self.now c.note_all.new.self s c.in_ok-note_all.ensures.fields c.in_ok-note_all.ensures.noted.same c.requires.laid.here c.index_mut.ensures.value)
 
 pub returns-clause-laid : goal.returns-clause-laid
 returns-clause-laid c =
@@ -45,10 +45,9 @@ returns-clause-laid c =
     let l = c.note_all.new.self in
     let s = c.index_mut.result.now in
     let m = c.args.moved.now in
-    let is = here_read k l s c.in_ok-note_all.ensures.fields c.in_ok-note_all.ensures.same c.requires.laid.here c.index_mut.ensures.value in
-    let shrunk : HasShrunk k l m.at.items c.args.bytes c.args.gone s c.take_from.new.stretch = record { fields = c.in_ok-note_all.ensures.fields; noted = record { same = c.in_ok-note_all.ensures.same; notes = c.in_ok-note_all.ensures.notes }; is = is; less = c.take_from.ensures } in
-    let border : c.wall.result + c.len.result ≡ wall_of l + length m.at.items = omega arith in
-    laid_after k m.at.items m.by c.args.bytes c.args.gone l.stretches.items _ c.requires.laid c.requires.moved c.requires.reach (after_shrinking k l m.at.items m.by c.args.bytes c.args.gone s c.take_from.new.stretch _ shrunk refl refl refl refl refl c.new_slack-slack.ensures border refl refl
+    let is = here_read k l s c.in_ok-note_all.ensures.fields c.in_ok-note_all.ensures.noted.same c.requires.laid.here c.index_mut.ensures.value in
+    let shrunk : HasShrunk k l m.at.items m.by c.args.bytes c.args.gone c.in_ok-lag.lag s c.take_from.new.stretch = record { fields = c.in_ok-note_all.ensures.fields; noted = c.in_ok-note_all.ensures.noted; is = is; less = c.take_from.ensures } in
+    laid_after k m.at.items m.by c.args.bytes c.args.gone l.stretches.items _ c.requires.laid c.requires.moved c.requires.reach (after_shrinking k l m.at.items m.by c.args.bytes c.args.gone c.in_ok-lag.lag s c.take_from.new.stretch _ shrunk refl refl refl refl refl c.new_slack-slack.ensures refl c.in_ok-lag.ensures refl
     (rooms_after k l c.take_places.new.rooms.items c.args.bytes c.args.gone c.requires.laid c.in_ok-note_all.ensures.fields c.requires.some c.take_places.ensures.own c.take_places.ensures.others) refl)
 
 pub returns-clause-shapes : goal.returns-clause-shapes
@@ -56,7 +55,7 @@ returns-clause-shapes c =
     let k = c.args.self.now in
     let l = c.note_all.new.self in
     let s = c.index_mut.result.now in
-    let is = here_read k l s c.in_ok-note_all.ensures.fields c.in_ok-note_all.ensures.same c.requires.laid.here c.index_mut.ensures.value in
-    let shrunk : HasShrunk k l c.args.moved.now.at.items c.args.bytes c.args.gone s c.take_from.new.stretch =
-    record { fields = c.in_ok-note_all.ensures.fields; noted = record { same = c.in_ok-note_all.ensures.same; notes = c.in_ok-note_all.ensures.notes }; is = is; less = c.take_from.ensures } in
-    shapes_after k l c.args.moved.now.at.items c.args.bytes c.args.gone s c.take_from.new.stretch shrunk
+    let is = here_read k l s c.in_ok-note_all.ensures.fields c.in_ok-note_all.ensures.noted.same c.requires.laid.here c.index_mut.ensures.value in
+    let shrunk : HasShrunk k l c.args.moved.now.at.items c.args.moved.now.by c.args.bytes c.args.gone c.in_ok-lag.lag s c.take_from.new.stretch =
+    record { fields = c.in_ok-note_all.ensures.fields; noted = c.in_ok-note_all.ensures.noted; is = is; less = c.take_from.ensures } in
+    shapes_after k l c.args.moved.now.at.items c.args.moved.now.by c.args.bytes c.args.gone c.in_ok-lag.lag s c.take_from.new.stretch shrunk
