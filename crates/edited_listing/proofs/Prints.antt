@@ -1,6 +1,6 @@
 -- The lines of a changed listing as a loop prints them.
-use Rattle.std.proofs.Common.{◌≡◌, ℕ, suc, ◌+◌, ◌-◌, ◌<◌, ◌≤◌, ◌^◌, ◌==◌, ◌&&◌, Bool, true, false, List, [], ◌∷◌, ◌++◌, length, length-append, map, drop, reverse, refl, sym, ap, ◌∙◌, inl, inr, arith, append_assoc}
-use Rattle.std.proofs.lemmas.List.{append-nil, reverse-append}
+use Rattle.std.proofs.Common.{◌≡◌, ℕ, suc, ◌+◌, ◌-◌, ◌<◌, ◌≤◌, ◌^◌, ◌==◌, ◌&&◌, Bool, true, false, List, [], ◌∷◌, ◌++◌, length, length-append, map, drop, refl, sym, ap, ◌∙◌, inl, inr, arith, append_assoc}
+use Rattle.std.proofs.lemmas.List.{append-nil}
 use Rattle.std.specs.Prelude.{slice_get, Some, None}
 use Rattle.std.proofs.lemmas.Bool.{cases_Bool, eq-eqb, ne_eqb}
 use Rattle.std.proofs.lemmas.Option.{same_Some}
@@ -185,11 +185,3 @@ added_more given stands out left place from marks l rest out' place' from' marks
 
 pub added_last : (given : List Line) (stands : List Standing) (out left : List Line) (place from : ℕ) (marks : List Bool) → AreAdded given stands out left place from marks → left ≡ [] → out ≡ lines_from own_line 0 (items_from 0 stands) given
 added_last given stands out left place from marks a e = sym (append-nil out) ∙ ap (λ ls. out ++ lines_from own_line place (rest_items from stands) ls) (sym e) ∙ a.lines
-
--- the last of the lines that are left, turned round
-pub left_lines : {A B : Type 0} (view : A → B) (xs ys : List A) (x : A) → xs ≡ ys ++ x ∷ [] → map view (reverse xs) ≡ view x ∷ map view (reverse ys)
-left_lines view xs ys x e = ap (λ zs. map view (reverse zs)) e ∙ ap (λ zs. map view zs) (reverse-append ys (x ∷ []))
-
-pub no_left : {A B : Type 0} (view : A → B) (xs : List A) → length xs ≡ 0 → map view (reverse xs) ≡ []
-no_left view [] h = refl
-no_left view (x ∷ xs) h = absurd (omega arith)

@@ -11,7 +11,7 @@ use std::alloc::{AllocError, Global};
 pub(crate) fn op_labels(alloc: Global, lines: &[Line]) -> Result<Vec<bool>, AllocError>
     ensures { IfOk result (λ labels. labels.items ≡ op_labels (map line_view lines.now)) }
 {
-    let mut labels = Vec::new(alloc);
+    let mut labels = Vec::with_capacity(alloc, lines.len())?;
     for line in lines {
         add_places(&mut labels, &line.statement, !line.names.is_empty())?;
     }

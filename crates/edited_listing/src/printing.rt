@@ -138,11 +138,9 @@ pub(crate) fn print(
     ensures { IfOk result (λ out. map line_view out.items ≡ lines_from own_line 0 (items_from 0 stands.now) (map line_view lines.items)) }
 {
     let mut out = Vec::with_capacity(alloc, lines.len())?;
-    let mut left = lines;
-    left.reverse();
     let mut place = 0;
     let mut from = 0;
-    while let Some(line) = left.pop() {
+    for line in lines {
         let places = line.statement.places() as u32;
         from = print_line(alloc, &mut out, line, place, from, stands, kept)?;
         place += places;

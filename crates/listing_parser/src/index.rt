@@ -54,23 +54,6 @@ fn add_spots(spots: &mut Vec<Spot>, line: usize, statement: &Statement) -> Resul
     Ok(())
 }
 
-/// Where each place stands, and what stands before each line.
-fn places(alloc: Global, lines: &[Line]) -> Result<(Vec<Spot>, Vec<Passed>), AllocError>
-    requires { length (places_of (map line_view lines.now)) < 2 ^ 32 }
-    ensures spots { IfOk result (λ r. r.0.items ≡ spots_from 0 (map line_view lines.now)) }
-    ensures passed { IfOk result (λ r. r.1.items ≡ passed_from 0 (map line_view lines.now)) }
-{
-    let mut spots = Vec::with_capacity(alloc, lines.len())?;
-    let mut passed = Vec::with_capacity(alloc, lines.len())?;
-    let mut places = 0;
-    for (n, line) in lines.iter().enumerate() {
-        passed.push(Passed { places })?;
-        places += line.statement.places();
-        add_spots(&mut spots, n, &line.statement)?;
-    }
-    Ok((spots, passed))
-}
-
 /// How many words of data stand from a statement on, where `behind` stand from the next line on.
 fn words_on(statement: &Statement, behind: usize) -> usize
     requires { length (places_in (statement_view statement.now)) + behind < 2 ^ 32 }
@@ -133,17 +116,6 @@ fn add_labels(
     Ok(())
 }
 
-/// The first line of each label.
-fn labels(alloc: Global, lines: &[Line]) -> Result<IndexMap<Vec<u8>, usize>, Memory>
-    ensures { IfOk result (λ m. (q : List ℕ) → lookup (is_key q) m.entries ≡ label_line q 0 (map line_view lines.now)) }
-{
-    let mut labels = IndexMap::new(alloc);
-    for (n, line) in lines.iter().enumerate() {
-        add_labels(alloc, &mut labels, &line.names, n)?;
-    }
-    Ok(labels)
-}
-
 /// Adds the address that a statement sets.
 fn add_address(
     alloc: Global,
@@ -158,15 +130,30 @@ fn add_address(
     }
 }
 
-/// The first address that is set for each name.
-fn addresses(alloc: Global, lines: &[Line]) -> Result<IndexMap<Vec<u8>, u32>, Memory>
-    ensures { IfOk result (λ m. (q : List ℕ) → lookup (is_key q) m.entries ≡ set_address q (map line_view lines.now)) }
+/// The tables of lines but for the runs of data words behind each.
+fn tables(alloc: Global, lines: &[Line]) -> Result<Index, Memory>
+    requires { length (places_of (map line_view lines.now)) < 2 ^ 32 }
+    ensures spots { IfOk result (λ i. i.spots.items ≡ spots_from 0 (map line_view lines.now)) }
+    ensures passed { IfOk result (λ i. i.passed.items ≡ passed_from 0 (map line_view lines.now)) }
+    ensures labels { IfOk result (λ i. (q : List ℕ) → lookup (is_key q) i.labels.entries ≡ label_line q 0 (map line_view lines.now)) }
+    ensures addresses { IfOk result (λ i. (q : List ℕ) → lookup (is_key q) i.addresses.entries ≡ set_address q (map line_view lines.now)) }
 {
-    let mut addresses = IndexMap::new(alloc);
-    for line in lines {
-        add_address(alloc, &mut addresses, &line.statement)?;
+    let mut index = Index {
+        spots: Vec::with_capacity(alloc, lines.len())?,
+        passed: Vec::with_capacity(alloc, lines.len())?,
+        runs: Vec::new(alloc),
+        labels: IndexMap::new(alloc),
+        addresses: IndexMap::new(alloc),
+    };
+    let mut places = 0;
+    for (n, line) in lines.iter().enumerate() {
+        index.passed.push(Passed { places })?;
+        places += line.statement.places();
+        add_spots(&mut index.spots, n, &line.statement)?;
+        add_labels(alloc, &mut index.labels, &line.names, n)?;
+        add_address(alloc, &mut index.addresses, &line.statement)?;
     }
-    Ok(addresses)
+    Ok(index)
 }
 
 impl Index {
@@ -182,16 +169,8 @@ impl Index {
         requires once { DefineOnce (map line_view lines.now) }
         ensures { IfOk result (λ i. IsIndex (map line_view lines.now) i) }
     {
-        let (spots, passed) = places(alloc, lines)?;
-        let runs = runs(alloc, lines)?;
-        let labels = labels(alloc, lines)?;
-        let addresses = addresses(alloc, lines)?;
-        Ok(Index {
-            spots,
-            passed,
-            runs,
-            labels,
-            addresses,
-        })
+        let mut index = tables(alloc, lines)?;
+        index.runs = runs(alloc, lines)?;
+        Ok(index)
     }
 }

@@ -31,11 +31,11 @@ use Rattle.window_rewrite.specs.Settled.{IsSettled}
 use Rattle.window_rewrite.proofs.Settled.{left_places, IsGap, settled_stay, stay_settled}
 use Rattle.window_rewrite.proofs.WindowPlaces.{first_op, window_within}
 use Rattle.window_rewrite.specs.declared.finding.Rules.{Rules}
-use Rattle.window_rewrite.specs.declared.ground.Ground.{Ground}
+use Rattle.window_rewrite.specs.declared.known_layout.KnownLayout.{KnownLayout}
 use Rattle.window_rewrite.specs.Rewriting.{setting}
 use Rattle.window_rewrite.specs.Choices.{FitsIn, Meets}
 use Rattle.window_rewrite.specs.Fitting.{left_registers, FitsWhole, IsScratchLeast, Shortens, StandsThere}
-use Rattle.window_rewrite.specs.Sweeps.{is_steady, AreOver as AreLaid}
+use Rattle.window_rewrite.specs.Layouts.{is_steady, AreOver as AreLaid}
 use Rattle.window_rewrite.proofs.Live.{Allowed, allowed_true, true_allowed}
 use Rattle.window_rewrite.proofs.Sides.{window_count}
 use Rattle.window_rewrite.proofs.Whole.{front_allowed, front_apart, front_matches, left_few, whole_allowed, whole_apart, whole_free}
@@ -140,8 +140,8 @@ least_there lines place rule registers window live n there least scratch at x l 
   | inr t ↦ inr (subst (λ k. LiveAfter (code_of lines) (place + k - 1) x) n ((there.live x).0 t))
 ]
 
--- what a rule leaves can be laid out: where its ground isn't steady, that is asked for
-pub laid : (r : Rules) (g : Ground) (lines : List Line) (place : ℕ) (rule : Rule) (registers : List Low) (window : List Instr) → AreLaid r g lines → IsSoundRule rule → length rule.right < length rule.left → length window ≡ length rule.left
+-- what a rule leaves can be laid out: where its layout isn't steady, that is asked for
+pub laid : (r : Rules) (g : KnownLayout) (lines : List Line) (place : ℕ) (rule : Rule) (registers : List Low) (window : List Instr) → AreLaid r g lines → IsSoundRule rule → length rule.right < length rule.left → length window ≡ length rule.left
     → (is_steady g ≡ false → Layable r.base (replaced_lines own_line place (length window) (map (renamed registers) rule.right) lines)) → Applies rule registers (code_of lines) place
     → Layable r.base (replaced_lines own_line place (length rule.left) (map (renamed registers) rule.right) lines)
 laid r g lines place rule registers window over sound shorter n asked a =

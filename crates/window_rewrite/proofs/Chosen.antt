@@ -32,7 +32,7 @@ use Rattle.window_rewrite.specs.Rules.{rules_in, side_length, is_marked, AreFit,
 use Rattle.window_rewrite.specs.Shapes.{shape_of}
 use Rattle.window_rewrite.specs.Forms.{form_of}
 use Rattle.window_rewrite.specs.Fitting.{left_registers, Shortens, Stands, StandsThere}
-use Rattle.window_rewrite.specs.Choices.{Awaits, choice_of, FitsIn, IsChoice, IsLowest, Meets, NoneOf, IsBest, NoneBefore, IsFirstChoice, of_length, longer}
+use Rattle.window_rewrite.specs.Choices.{Awaits, choice_of, FitsIn, IsChoice, IsLowest, Meets, NoneAt, NoneOf, IsBest, NoneBefore, IsFirstChoice, of_length, longer}
 use Rattle.window_rewrite.proofs.Applied.{made, is_made, rule_there, fits_shorter, back_shortens, meets, meets_less}
 use Rattle.window_rewrite.proofs.Keys.{awaited, none_awaited}
 use Rattle.window_rewrite.proofs.Heads.{stands_shape}
@@ -409,6 +409,15 @@ none_reached asked base longest rules lines place count is slice fit e f none o 
     let left = length_at rules o.entry s.rule s.at in
     let same_long = fit_length base rules o lines a.0 in
     none n o.entry s.rule s.registers (omega arith) s.at s.shortens
+
+-- and where none stands there at all, none applies
+pub none_there : (asked : Bool) (base longest : ℕ) (rules : List Rule) (lines : List Line) (place : ℕ) (is slice : List Instr) → AreFit longest rules → is ≡ run true longest (drop place (rows_from false lines)) → slice ≡ is
+    → ((n k : ℕ) (rule : Rule) (registers : List Low) → 0 < length rule.left → slice_get rules k ≡ Some rule → Shortens rule registers (take n slice) → ⊥) → NoneAt asked (setting base (alone rules)) lines place
+none_there asked base longest rules lines place is slice fit e f none o a at =
+    let w = applicable base longest rules lines o fit a.0 in
+    let some = w.some in
+    let long = w.long in
+    none_reached asked base longest rules lines place 0 is slice fit e f none o a at (omega arith)
 
 -- ---- the least place ----
 

@@ -24,7 +24,9 @@ use Rattle.padded_code.proofs.Kept.{kept_at}
 use Rattle.padded_code.proofs.Windows.{rank_taken, live_behind}
 use Rattle.window_rewrite.proofs.DueLines.{joined_before, joined_behind}
 use Rattle.window_rewrite.proofs.DuePlaces.{marks_stay, outside, places_stay, ranks_after, was_kept}
-use Rattle.window_rewrite.proofs.DueWindows.{alike_before, alike_behind, applies_alike, left_length, same_window, window_within, AreAlike, IsGap}
+use Rattle.window_rewrite.proofs.DueWindows.{alike_before, alike_behind, applies_alike, left_length, same_window, AreAlike}
+use Rattle.window_rewrite.proofs.Settled.{IsGap}
+use Rattle.window_rewrite.proofs.WindowPlaces.{window_within}
 
 -- the last instruction of a window may stand in one
 letter_at : (window : List Instr) → AreStraight window → (k : ℕ) → k < length window → (i : Instr) × (slice_get window k ≡ Some i) × (is_in_window i ≡ true)
@@ -40,12 +42,12 @@ stands_at window n p k q places i e h at is =
 pub record GaveWay (write : Instr → List ℕ) (gone : List Bool) (padded : Code) (lines : List Line) (g : ℕ) (ps : List ℕ) (is : List Instr) : Type 0 where
   pub padded_is : IsPadded gone padded (code_of lines)
   pub ranked : AreRanked gone g ps
-  pub gap : IsGap (code_of lines) g (length ps) is
+  pub gap : IsGap (places_of lines) (labels_from 0 lines) g (length ps) is
   pub ops : AreOps (length ps) (drop g (places_of lines))
   pub new_padded : IsPadded (marks_after ps is gone) (exchanged ps is padded) (code_of (replaced_lines write g (length ps) is lines))
 
 -- the code of the lines that are left
-left_code : (write : Instr → List ℕ) (g n : ℕ) (is : List Instr) (lines : List Line) → IsGap (code_of lines) g n is → AreOps n (drop g (places_of lines)) → code_of (replaced_lines write g n is lines) ≡ replaced (code_of lines) g n is
+left_code : (write : Instr → List ℕ) (g n : ℕ) (is : List Instr) (lines : List Line) → IsGap (places_of lines) (labels_from 0 lines) g n is → AreOps n (drop g (places_of lines)) → code_of (replaced_lines write g n is lines) ≡ replaced (code_of lines) g n is
 left_code write g zero is lines gap ops = absurd (let s = gap.shorter in omega arith)
 left_code write g (suc n) is lines gap ops = code_replaced write g n is lines gap.shorter ops (outside_of g (suc n) (labels_from 0 lines) gap.unlabelled)
 

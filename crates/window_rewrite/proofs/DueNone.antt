@@ -18,7 +18,7 @@ use Rattle.padded_code.proofs.Windows.{rank_taken}
 use Rattle.window_rewrite.specs.Choices.{FitsIn, Meets, NoneAt}
 use Rattle.window_rewrite.specs.Due.{Reaches}
 use Rattle.window_rewrite.proofs.DueFits.{applied_at, rank_now, GaveWay}
-use Rattle.window_rewrite.proofs.DueWindows.{window_within}
+use Rattle.window_rewrite.proofs.WindowPlaces.{window_within}
 
 -- each rule of the table that may be used is sound, leaves fewer instructions, and has a left side of at most so many
 pub record IsShort (longest : ℕ) (rule : Rule) : Type 0 where

@@ -7,14 +7,13 @@ use Rattle.kept_places.specs.Marks.{is_gone, marked, rank, IsLeast}
 use Rattle.kept_places.proofs.Ranks.{marked_other, marked_replicate, marked_set, unmarked}
 use Rattle.thumb_instr.specs.declared.instr.Instr.{Instr}
 use Rattle.thumb_instr.specs.Items.{has}
-use Rattle.thumb_model.specs.Listing.{plain, Code, Line, Place, code_of, places_of}
+use Rattle.thumb_model.specs.Listing.{plain, Code, Line, Place, code_of, labels_from, places_of}
 use Rattle.thumb_model.specs.Flow.{Reads}
-use Rattle.thumb_model.specs.Layout.{Layable}
 use Rattle.thumb_model.specs.ReplacedLines.{replaced_lines}
 use Rattle.thumb_model.proofs.Lists.{length_map, take_all}
 use Rattle.thumb_model.proofs.LinesReplaced.{ops_of}
 use Rattle.rule_model.specs.Rules.{Rule}
-use Rattle.rule_model.specs.Rewriting.{Setting, Replacement, lines_after, lines_after_rule, left_length_of, AppliesIn, IsFirst, NoneApplies}
+use Rattle.rule_model.specs.Rewriting.{Setting, Replacement, lines_after, left_length_of, AppliesIn, IsFirst, NoneApplies}
 use Rattle.rule_model.proofs.Costs.{weight_is_length}
 use Rattle.rule_model.proofs.Alone.{alone_is}
 use Rattle.liveness.specs.Kept.{KeepsAt}
@@ -41,7 +40,9 @@ use Rattle.window_rewrite.proofs.DueFits.{GaveWay}
 use Rattle.window_rewrite.proofs.DueMarks.{set_length, untaken, was_unmarked}
 use Rattle.window_rewrite.proofs.DueNone.{applies_at, none_still, AreShort, IsFar, NoneLost}
 use Rattle.window_rewrite.proofs.DuePlaces.{among, behind_by_rank, taken_ranked, was_kept}
-use Rattle.window_rewrite.proofs.DueWindows.{first_op, window_within, IsGap}
+use Rattle.window_rewrite.proofs.Applied.{meets}
+use Rattle.window_rewrite.proofs.Settled.{IsGap}
+use Rattle.window_rewrite.proofs.WindowPlaces.{first_op, window_within}
 
 -- ---- the table ----
 
@@ -52,13 +53,6 @@ short_rules r ready o rule at lowers =
     let left = weight_is_length (λ i. 1) (λ i. refl) rule.left in
     let right = weight_is_length (λ i. 1) (λ i. refl) rule.right in
     record { sound = f.sound; short = f.short; shorter = omega arith }
-
--- what applies meets this, whether the layout is asked or not
-meets : (asked : Bool) (s : Setting) (o : Replacement) (lines : List Line) → AppliesIn s o lines → Meets asked s o lines
-meets asked s o lines a = (
-  record { rule = a.rule; is_rule = a.is_rule; lowers = a.lowers; applies = a.applies; joined = a.joined },
-  λ _. subst (λ r. Layable s.base (lines_after_rule s r o lines)) (sym a.is_rule) a.layable,
-)
 
 -- where none fits, none fits that the layout allows
 pub none_less : (asked : Bool) (s : Setting) (lines : List Line) (p : ℕ) → NoneAt false s lines p → NoneAt asked s lines p
@@ -179,7 +173,7 @@ module _ (r : Rules) (old new : Scene) (t : Site) (c : Choice) (m : IsMadeAt r o
       record {
         padded_is = m.old_kept.is_padded;
         ranked = ranked;
-        gap = subst (λ n. IsGap (code_of (lines_of old)) t.number n c.new) (sym count) (record {
+        gap = subst (λ n. IsGap (places_of (lines_of old)) (labels_from 0 (lines_of old)) t.number n c.new) (sym count) (record {
           within = window_within c.window (length c.window) (places_of (lines_of old)) t.number refl (omega arith) keeps.stands;
           shorter = short;
           first = first_op c.window (length c.window) (places_of (lines_of old)) t.number refl (omega arith) keeps.stands;
@@ -256,7 +250,7 @@ choice_within r scene t c ready site is here =
 pub tried_same : (s : Setting) (old new : Scene) (d : Due) (p q : ℕ) → new.listing ≡ old.listing → q ≡ p → AreTriedBut s old d p → AreTriedBut s new d q
 tried_same s old new d p q e f t =
     subst (λ k. AreTriedBut s new d k) (sym f)
-    (subst (λ (l : Edited). AreTriedBut s (record { listing = l; live = new.live; ground = new.ground }) d p) (sym e)
+    (subst (λ (l : Edited). AreTriedBut s (record { listing = l; live = new.live; layout = new.layout }) d p) (sym e)
     (record {
       are = record { due_many = t.are.due_many; refused_many = t.are.refused_many; lost_many = t.are.lost_many; none_lost = t.are.none_lost };
       tried = t.tried;
@@ -305,18 +299,7 @@ tried_gone s scene d place gone t = record {
 pub none_due_before : (was now : List Bool) (place : ℕ) → IsLeast was place → now ≡ set was place false → (q : ℕ) → q < place → marked now q ≡ false
 none_due_before was now place l e q h = ap (λ (ms : List Bool). marked ms q) e ∙ marked_other was place q false (λ f. omega arith) ∙ l.least q h
 
--- ---- a look at a site ----
-
--- what is said at a site's number is said at its place's rank
-pub none_seen : (asked : Bool) (s : Setting) (old new : Scene) (t : Site) (place : ℕ) → new.listing ≡ old.listing → t.number ≡ rank (marks new.listing) t.place → t.place ≡ place → NoneAt asked s (lines_of new) t.number → NoneAt asked s (lines_of old) (rank (marks old.listing) place)
-none_seen asked s old new t place e n p none =
-    subst (λ (l : Edited). NoneAt asked s (lines_now l) (rank (marks l) place)) e
-    (subst (λ k. NoneAt asked s (lines_of new) k) (n ∙ ap (rank (marks new.listing)) p) none)
-
-pub best_seen : (s : Setting) (old new : Scene) (t : Site) (place : ℕ) (c : Choice) → new.listing ≡ old.listing → t.number ≡ rank (marks new.listing) t.place → t.place ≡ place → IsBest s (lines_of new) t.number c → IsBest s (lines_of old) (rank (marks old.listing) place) c
-best_seen s old new t place c e n p best =
-    subst (λ (l : Edited). IsBest s (lines_now l) (rank (marks l) place) c) e
-    (subst (λ k. IsBest s (lines_of new) k c) (n ∙ ap (rank (marks new.listing)) p) best)
+-- ---- a look at a place ----
 
 -- a place that was looked at was tried, whether something was refused there
 pub tried_refused : (s : Setting) (old new : Scene) (was : Due) (place : ℕ) (r : List Bool) → AreTriedBut s old was place → new.listing ≡ old.listing → place < length old.listing.stands → r ≡ set was.refused place true

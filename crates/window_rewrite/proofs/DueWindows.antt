@@ -12,6 +12,8 @@ use Rattle.thumb_model.specs.Replaced.{moved, move_label, replaced}
 use Rattle.thumb_model.proofs.Lists.{get_drop, get_take, get_front, get_back, length_map, take_all, take_short, length_drop}
 use Rattle.rule_model.specs.Rules.{Rule, Applies}
 use Rattle.rule_model.proofs.Table.{window_length}
+use Rattle.window_rewrite.proofs.Settled.{first_plain, IsGap}
+use Rattle.window_rewrite.proofs.WindowPlaces.{first_op, window_within}
 
 -- ---- what is left where instructions give way ----
 
@@ -37,10 +39,6 @@ left_behind p count is places q r within h e =
     ∙ get_back (map plain is) (drop (p + count) places) (q - (p + count)) (length is + (q - (p + count))) (omega arith)
     ∙ get_drop (p + count) places (q - (p + count)) q (omega arith)
 
-first_plain : (is : List Instr) → 0 < length is → is_op_place (slice_get (map plain is) 0) ≡ true
-first_plain [] h = absurd (omega arith)
-first_plain (i ∷ is) h = refl
-
 -- the places of a window, one by one
 pub same_window : (n p q : ℕ) (xs ys : List Place) → p + n ≤ length xs → q + n ≤ length ys → ((k : ℕ) → k < n → slice_get xs (p + k) ≡ slice_get ys (q + k)) → take n (drop p xs) ≡ take n (drop q ys)
 same_window n p q xs ys h l e = fronts n (drop p xs) (drop q ys) (let d = length_drop p xs in omega arith) (let d = length_drop q ys in omega arith) (λ k i. get_drop p xs k (p + k) refl ∙ e k i ∙ sym (get_drop q ys k (q + k) refl))
@@ -56,19 +54,6 @@ same_window n p q xs ys h l e = fronts n (drop p xs) (drop q ys) (let d = length
         let first = e 0 (omega arith) in
         let same : x ≡ y = cc in
         ap (λ z. z ∷ take n xs) same ∙ ap (λ zs. y ∷ zs) (fronts n xs ys (omega arith) (omega arith) (λ k i. e (suc k) (omega arith)))
-
-pub first_op : (window : List Instr) (n : ℕ) (places : List Place) (q : ℕ) → length window ≡ n → 0 < n → take n (drop q places) ≡ map plain window → is_op_place (slice_get places q) ≡ true
-first_op [] n places q l h e = absurd (omega arith)
-first_op (i ∷ is) n places q l h e =
-    ap is_op_place (sym (get_drop q places 0 q (omega arith)) ∙ sym (get_take n (drop q places) 0 h) ∙ ap (λ (ps : List Place). slice_get ps 0) e)
-
-pub window_within : (window : List Instr) (n : ℕ) (places : List Place) (q : ℕ) → length window ≡ n → 0 < n → take n (drop q places) ≡ map plain window → q + n ≤ length places
-window_within window n places q l h e =
-    let k = length_map plain window in
-    let w : length (take n (drop q places)) ≡ length (map plain window) = ap (λ (ps : List Place). length ps) e in
-    let short = take_short n (drop q places) in
-    let rest = length_drop q places in
-    omega arith
 
 moved_label : (p gone : ℕ) (labels : List Label) (k : ℕ) (l : Label) → slice_get labels k ≡ Some l → slice_get (map (move_label p gone) labels) k ≡ Some (move_label p gone l)
 moved_label p gone labels k l e = slice_get-map (move_label p gone) labels k ∙ ap (option_map (move_label p gone)) e
@@ -155,13 +140,6 @@ applies_alike rule registers code new p q s shorter live a = record {
 
 -- ---- a window that gives way behind it, or before it ----
 
--- what is asked of a window that gives way: it begins with an instruction, is longer than what comes, and no label stands within
-pub record IsGap (code : Code) (p count : ℕ) (is : List Instr) : Type 0 where
-  pub within : p + count ≤ length code.places
-  pub shorter : length is < count
-  pub first : is_op_place (slice_get code.places p) ≡ true
-  pub unlabelled : (k : ℕ) (l : Label) → slice_get code.labels k ≡ Some l → (l.place ≤ p) ⊎ (p + count ≤ l.place)
-
 pub left_length : (p count : ℕ) (is : List Instr) (places : List Place) → p + count ≤ length places → length (left p count is places) + count ≡ length places + length is
 left_length p count is places h =
     let a = length-append (take p places) (map plain is ++ drop (p + count) places) in
@@ -171,7 +149,7 @@ left_length p count is places h =
     let d = length_drop (p + count) places in
     omega arith
 
-pub alike_before : (code : Code) (g count : ℕ) (is : List Instr) (p n : ℕ) → IsGap code g count is → 0 < n → p + n ≤ g → AreAlike code (replaced code g count is) p p n
+pub alike_before : (code : Code) (g count : ℕ) (is : List Instr) (p n : ℕ) → IsGap code.places code.labels g count is → 0 < n → p + n ≤ g → AreAlike code (replaced code g count is) p p n
 alike_before code g count is p n gap some h =
     let w = gap.within in
     let s = gap.shorter in
@@ -196,7 +174,7 @@ alike_before code g count is p n gap some h =
           };
     }
 
-pub alike_behind : (code : Code) (g count : ℕ) (is : List Instr) (p q n : ℕ) → IsGap code g count is → 0 < n → g + count ≤ p → q + count ≡ p + length is → p + n ≤ length code.places → AreAlike code (replaced code g count is) p q n
+pub alike_behind : (code : Code) (g count : ℕ) (is : List Instr) (p q n : ℕ) → IsGap code.places code.labels g count is → 0 < n → g + count ≤ p → q + count ≡ p + length is → p + n ≤ length code.places → AreAlike code (replaced code g count is) p q n
 alike_behind code g count is p q n gap some h e within =
     let w = gap.within in
     let s = gap.shorter in

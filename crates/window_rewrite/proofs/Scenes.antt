@@ -45,10 +45,10 @@ use Rattle.kept_live.specs.KeptLive.{IsKeptLive}
 use Rattle.kept_live.specs.Window.{GivesWay}
 use Rattle.window_rewrite.specs.declared.choice.Choice.{Choice}
 use Rattle.window_rewrite.specs.declared.finding.Rules.{Rules}
-use Rattle.window_rewrite.specs.declared.ground.Ground.{Ground}
+use Rattle.window_rewrite.specs.declared.known_layout.KnownLayout.{KnownLayout}
 use Rattle.window_rewrite.specs.Choices.{setting_of, choice_of, IsChoice}
 use Rattle.window_rewrite.specs.Settled.{IsSettled}
-use Rattle.window_rewrite.specs.Sweeps.{is_steady, Allows, AreOver, HasLayout, IsSteadyIf, Moves, StandsNear}
+use Rattle.window_rewrite.specs.Layouts.{is_steady, Allows, AreOver, HasLayout, IsSteadyIf, Moves, StandsNear}
 use Rattle.window_rewrite.proofs.ScenesWindows.{gives_way, many_marks, many_places, ranked_at, ranked_front, still_padded}
 
 -- ---- at first ----
@@ -90,7 +90,7 @@ pub first_live : (lines : List Line) (e : Edited) (k : Parts) → e ≡ unchange
 first_live lines e k h live = subst (λ (c : Code). IsKeptLive c k) (sym (first_code lines e h)) live
 
 -- the layout, where it is kept, is that of the lines
-pub first_over : (r : Rules) (g : Ground) (lines now : List Line) (b : Bool) → now ≡ lines → Layable r.base lines → is_steady g ≡ b → IsSteadyIf r.base lines b → HasLayout r.base g lines → AreOver r g now
+pub first_over : (r : Rules) (g : KnownLayout) (lines now : List Line) (b : Bool) → now ≡ lines → Layable r.base lines → is_steady g ≡ b → IsSteadyIf r.base lines b → HasLayout r.base g lines → AreOver r g now
 first_over r g lines now b e layable same steady layout =
     subst (λ (ls : List Line). AreOver r g ls) (sym e) (record {
       layable = layable;
@@ -236,8 +236,8 @@ steady_left base lines place window new w letters shorter h =
     let c = cut own_line place n new (omega arith) (twos new letters) lines 0 place (omega arith) outside ops in
     subst (λ j. IsSteady base (replaced_lines own_line place j new lines)) (sym e) (cut_stays base lines (replaced_lines own_line place (suc n) new lines) c h)
 
--- the choice may be made on the ground
-pub allowed_here : (r : Rules) (g : Ground) (lines : List Line) (c : Choice) (place : ℕ) (window new : List Instr) → AreOver r g lines → StandsNear g place → IsChoice (setting_of r) lines c → (choice_of c).place ≡ place → Moves g c.window c.new c.moved
+-- the choice may be made on the layout
+pub allowed_here : (r : Rules) (g : KnownLayout) (lines : List Line) (c : Choice) (place : ℕ) (window new : List Instr) → AreOver r g lines → StandsNear g place → IsChoice (setting_of r) lines c → (choice_of c).place ≡ place → Moves g c.window c.new c.moved
     → window ≡ c.window → new ≡ c.new → Allows g window new c.moved
 allowed_here r g lines c place window new over near is at moves e f =
     let s : Setting = setting_of r in
@@ -255,8 +255,8 @@ allowed_here r g lines c place window new over near is at moves e f =
       fewer = keeps.shorter;
     }
 
--- and leaves lines of which as much is known, where the ground has their layout
-pub still_over : (r : Rules) (g h : Ground) (lines now : List Line) (c : Choice) (place : ℕ) (window new : List Instr) → IsChoice (setting_of r) lines c → (choice_of c).place ≡ place → window ≡ c.window → new ≡ c.new
+-- and leaves lines of which as much is known, where the layout has their layout
+pub still_over : (r : Rules) (g h : KnownLayout) (lines now : List Line) (c : Choice) (place : ℕ) (window new : List Instr) → IsChoice (setting_of r) lines c → (choice_of c).place ≡ place → window ≡ c.window → new ≡ c.new
     → now ≡ replaced_lines own_line place (length window) new lines → is_steady h ≡ is_steady g → HasLayout r.base h (replaced_lines own_line place (length window) new lines) → AreOver r g lines → AreOver r h now
 still_over r g h lines now c place window new is at e f left same layout over =
     let s : Setting = setting_of r in

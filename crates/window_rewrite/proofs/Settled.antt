@@ -47,7 +47,7 @@ pub record IsGap (places : List Place) (labels : List Label) (p count : ℕ) (is
   pub first : is_op_place (slice_get places p) ≡ true
   pub unlabelled : (k : ℕ) (l : Label) → slice_get labels k ≡ Some l → (l.place ≤ p) ⊎ (p + count ≤ l.place)
 
-first_plain : (is : List Instr) → 0 < length is → is_op_place (slice_get (map plain is) 0) ≡ true
+pub first_plain : (is : List Instr) → 0 < length is → is_op_place (slice_get (map plain is) 0) ≡ true
 first_plain [] h = absurd (omega arith)
 first_plain (i ∷ is) h = refl
 

@@ -8,13 +8,14 @@ use Rattle.window_runs.specs.Rows.{rows_from}
 use Rattle.window_runs.specs.Runs.{run}
 use Rattle.edited_listing.specs.Edited.{lines_now, marks, padded}
 use Rattle.edited_listing.specs.Known.{HasLabelAt}
+use Rattle.edited_listing.specs.declared.looks.Run.{Run}
 use Rattle.kept_live.specs.KeptLive.{IsKeptLive}
 use Rattle.window_rewrite.specs.declared.finding.Rules.{Rules}
 use Rattle.window_rewrite.specs.declared.finding.Look.{Look}
 use Rattle.window_rewrite.specs.Choices.{AreReady}
 use Rattle.window_rewrite.specs.declared.scene.Scene.{Scene}
 use Rattle.window_rewrite.specs.declared.scene.Site.{Site}
-use Rattle.window_rewrite.specs.Sweeps.{AreOver, StandsNear}
+use Rattle.window_rewrite.specs.Layouts.{AreOver, StandsNear}
 
 -- the lines now
 abbrev pub lines_of : Scene → List Line
@@ -29,9 +30,15 @@ pub record IsKept (s : Scene) : Type 0 where
 -- and so is its layout, where one is kept
 pub record IsOver (r : Rules) (s : Scene) : Type 0 where
   pub kept : IsKept s
-  pub over : AreOver r s.ground (lines_of s)
+  pub over : AreOver r s.layout (lines_of s)
 
--- a kept place of it, as a window begins there: the run of instructions that may stand in a window, with at most so many
+-- the run of instructions from a kept place on that may stand in a window, with at most so many
+pub record IsRun (most : ℕ) (s : Scene) (place : ℕ) (r : Run) : Type 0 where
+  pub letters : r.letters ≡ run true most (drop (rank (marks s.listing) place) (rows_from false (lines_of s)))
+  pub places : AreRanked (marks s.listing) (rank (marks s.listing) place) r.places.items
+  pub as_many : length r.places.items ≡ length r.letters
+
+-- a kept place of it, as a window begins there, with its run
 pub record IsSite (most : ℕ) (s : Scene) (t : Site) : Type 0 where
   pub within : t.place < length s.listing.stands
   pub kept : is_gone (marks s.listing) t.place ≡ false
@@ -44,7 +51,7 @@ pub record IsSite (most : ℕ) (s : Scene) (t : Site) : Type 0 where
 
 -- its layout, where one is kept, stands at the site
 abbrev pub IsNear : Scene → Site → Type 0
-IsNear s t = StandsNear s.ground t.number
+IsNear s t = StandsNear s.layout t.number
 
 -- ---- a look at a site ----
 

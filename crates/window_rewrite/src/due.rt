@@ -1,20 +1,23 @@
 //! The places of a listing at which an entry may apply: those that are due are looked at, the least first, until none is.
-ghost use Rattle.std.specs.Prelude.{◌≡◌, ◌+◌, ◌*◌, ◌<◌, ◌≤◌, ℕ, suc, true, false, All, length, map, replicate, slice_get, is_some, IfOk, OnOk, IfSome, IfNone};
+ghost use Rattle.std.specs.Prelude.{◌≡◌, ◌+◌, ◌*◌, ◌<◌, ◌≤◌, ℕ, suc, List, true, false, All, length, map, replicate, slice_get, take, is_some, Some, IfOk, OnOk, IfSome, IfNone};
 ghost use Rattle.std.specs.Int.{from_bool};
+ghost use Rattle.thumb_instr.specs.Renaming.{Low};
 ghost use Rattle.kept_places.specs.Marks.{is_gone, marked};
 ghost use Rattle.thumb_model.specs.Listing.{places_of};
+ghost use Rattle.rule_model.specs.Rules.{Rule};
 ghost use Rattle.rule_model.specs.Rewriting.{lines_after, AreRewritten, IsFirst};
 ghost use Rattle.edited_listing.specs.Edited.{marks};
 ghost use Rattle.step_ledger.specs.Counts.{RisesByAtLeast};
 ghost use Rattle.window_rewrite.specs.Choices.{choice_of, setting_of, AreReady, IsChoice};
+ghost use Rattle.window_rewrite.specs.Fitting.{Shortens};
 ghost use Rattle.window_rewrite.specs.Due.{AreTried, AreTriedBut, Reaches, StayMarked};
 ghost use Rattle.window_rewrite.specs.Rewriting.{replacement_of, IsWhole};
 ghost use Rattle.window_rewrite.specs.Rules.{rules_in};
 ghost use Rattle.window_rewrite.specs.Scenes.{lines_of, IsNear, IsOver, IsSite};
-ghost use Rattle.window_rewrite.specs.Sweeps.{Moves};
+ghost use Rattle.window_rewrite.specs.Layouts.{Moves};
 
 use crate::choice::{Choice, Replacement};
-use crate::finding::{Look, Rules, best};
+use crate::finding::{Look, Rules, best, reach};
 use crate::scene::{Scene, Site};
 use kept_places::PlaceSet;
 use listing_parser::Memory;
@@ -128,7 +131,7 @@ impl Due {
         requires near { IsNear scene.old site.now }
         requires is { IsChoice (setting_of rules.now) (lines_of scene.old) choice.now }
         requires here { (choice_of choice.now).place ≡ site.now.number }
-        requires moved { Moves scene.old.ground choice.now.window choice.now.new choice.now.moved }
+        requires moved { Moves scene.old.layout choice.now.window choice.now.new choice.now.moved }
         requires tried { AreTriedBut (setting_of rules.now) scene.old self.old site.now.place }
         ensures over { OnOk result (IsOver rules.now scene.new) }
         ensures lines { OnOk result (lines_of scene.new ≡ lines_after (setting_of rules.now) (choice_of choice.now) (lines_of scene.old)) }
@@ -141,6 +144,53 @@ impl Due {
         self.add_lost(scene, rules.longest);
         self.add_refused();
         Ok(())
+    }
+
+    /// Looks at the site of a place that was taken, before which none is due, and makes the best replacement there, if there is one. `reached` is with how many of
+    /// its instructions the site's run may begin some left side.
+    fn try_site<L: Ledger>(
+        &mut self,
+        alloc: Global,
+        rules: &Rules<'_>,
+        scene: &mut Scene,
+        site: &Site,
+        reached: usize,
+        steps: &mut Steps<L>,
+    ) -> Result<Option<Replacement>, Memory>
+        requires ready { AreReady rules.now }
+        requires over { IsOver rules.now scene.old }
+        requires site { IsSite rules.now.longest scene.old site.now }
+        requires near { IsNear scene.old site.now }
+        requires reached { reached ≤ length site.now.run.letters }
+        requires none { (n k : ℕ) (rule : Rule) (registers : List Low) → reached < length rule.left → slice_get (rules_in rules.now.entries.now) k ≡ Some rule → Shortens rule registers (take n site.now.run.letters) → ⊥ }
+        requires tried { AreTriedBut (setting_of rules.now) scene.old self.old site.now.place }
+        requires least { (q : ℕ) → q < site.now.place → marked self.old.due q ≡ false }
+        ensures over { OnOk result (IsOver rules.now scene.new) }
+        ensures many { OnOk result (length scene.new.listing.stands ≡ length scene.old.listing.stands) }
+        ensures tried { OnOk result (AreTried (setting_of rules.now) scene.new self.new) }
+        ensures none { IfOk result (λ o. IfNone o ((lines_of scene.new ≡ lines_of scene.old) × (self.new.due ≡ self.old.due))) }
+        ensures first { IfOk result (λ o. IfSome o (λ r. IsWhole r × IsFirst (setting_of rules.now) (replacement_of r) (lines_of scene.old) × (lines_of scene.new ≡ lines_after (setting_of rules.now) (replacement_of r) (lines_of scene.old)))) }
+        ensures cost { steps.new ≤ steps.old + length (rules_in rules.now.entries.now) }
+        ensures rises { IfOk result (λ o. RisesByAtLeast steps.old steps.new (from_bool (is_some o))) }
+    {
+        let mut is_refused = false;
+        let look = Look {
+            rules: &*rules,
+            scene: &*scene,
+            site,
+        };
+        match best(alloc, &look, reached, &mut is_refused, steps)? {
+            None => {
+                if is_refused {
+                    self.refused.insert(site.place);
+                }
+                Ok(None)
+            }
+            Some(choice) => {
+                self.make(rules, scene, site, &choice)?;
+                Ok(Some(choice.into_replacement()))
+            }
+        }
     }
 
     /// Looks at a kept place that was taken, before which none is due, and makes the best replacement there, if there is one.
@@ -166,25 +216,13 @@ impl Due {
         ensures cost { steps.new ≤ steps.old + length (rules_in rules.now.entries.now) }
         ensures rises { IfOk result (λ o. RisesByAtLeast steps.old steps.new (from_bool (is_some o))) }
     {
-        let site = scene.site(rules, place);
-        let mut is_refused = false;
-        let look = Look {
-            rules: &*rules,
-            scene: &*scene,
-            site: &site,
-        };
-        match best(alloc, &look, &mut is_refused, steps)? {
-            None => {
-                if is_refused {
-                    self.refused.insert(place);
-                }
-                Ok(None)
-            }
-            Some(choice) => {
-                self.make(rules, scene, &site, &choice)?;
-                Ok(Some(choice.into_replacement()))
-            }
+        let run = scene.run(rules, place);
+        let reached = reach(rules, run.letters.as_slice());
+        if reached == 0 {
+            return Ok(None);
         }
+        let site = scene.site(rules, place, run);
+        self.try_site(alloc, rules, scene, &site, reached, steps)
     }
 }
 

@@ -14,7 +14,7 @@ ghost use Rattle.window_rewrite.specs.Fitting.{IsForm, Shortens, StandsThere};
 ghost use Rattle.window_rewrite.specs.Rules.{rules_in, side_length};
 ghost use Rattle.window_rewrite.specs.Choices.{setting_of, choice_of, of_length, AreReady, Awaits, IsBest, IsChoice, IsLowest, Meets, NoneAt, NoneOf};
 ghost use Rattle.window_rewrite.specs.Scenes.{lines_seen, number_seen, IsLook};
-ghost use Rattle.window_rewrite.specs.Sweeps.{is_steady, Moves};
+ghost use Rattle.window_rewrite.specs.Layouts.{is_steady, Moves};
 
 use crate::choice::{Choice, Replacement};
 use crate::fitting::fitting;
@@ -62,10 +62,10 @@ fn moved_layout(
     requires window { IsWindow (lines_seen look.now) (number_seen look.now) window.now }
     requires letters { list_all is_in_window new.now ≡ true }
     requires fewer { length new.now < length window.now }
-    ensures layable { IfOk result (λ o. (is_some o ≡ true) ↔ (is_steady look.now.scene.now.ground ≡ false → Layable look.now.rules.now.base (replaced_lines own_line (number_seen look.now) (length window.now) new.now (lines_seen look.now)))) }
-    ensures moved { IfOk result (λ o. IfSome o (Moves look.now.scene.now.ground window.now new.now)) }
+    ensures layable { IfOk result (λ o. (is_some o ≡ true) ↔ (is_steady look.now.scene.now.layout ≡ false → Layable look.now.rules.now.base (replaced_lines own_line (number_seen look.now) (length window.now) new.now (lines_seen look.now)))) }
+    ensures moved { IfOk result (λ o. IfSome o (Moves look.now.scene.now.layout window.now new.now)) }
 {
-    match &look.scene.ground.kept {
+    match &look.scene.layout.kept {
         None => Ok(Some(Move {
             at: Vec::new(alloc),
             by: 0,
@@ -104,7 +104,7 @@ fn try_entry<L: Ledger>(
     requires number { number < length look.now.rules.now.entries.now }
     ensures long { IfOk result (λ o. OnSome o (side_length (rules_in look.now.rules.now.entries.now) number ≡ length window.now)) }
     ensures some { IfOk result (λ o. IfSome o (λ c. IsChoice (setting_of look.now.rules.now) (lines_seen look.now) c × ((choice_of c).place ≡ number_seen look.now) × ((choice_of c).entry ≡ number))) }
-    ensures moved { IfOk result (λ o. IfSome o (λ c. Moves look.now.scene.now.ground c.window c.new c.moved)) }
+    ensures moved { IfOk result (λ o. IfSome o (λ c. Moves look.now.scene.now.layout c.window c.new c.moved)) }
     ensures none { IfOk result (λ o. IfNone o (side_length (rules_in look.now.rules.now.entries.now) number ≡ length window.now → (registers : List Low) → Meets refused.new (setting_of look.now.rules.now) (record { place = number_seen look.now; entry = number; instance = 0; registers = registers }) (lines_seen look.now) → ⊥)) }
     ensures stays { OnOk result (refused.old ≡ true → refused.new ≡ true) }
     ensures cost { steps.new ≤ steps.old + from_bool (side_length (rules_in look.now.rules.now.entries.now) number == length window.now) }
@@ -150,7 +150,7 @@ fn try_entry<L: Ledger>(
 
 /// With how many of its instructions a run may begin some left side, but for registers. No entry that leaves fewer instructions has a longer left side that
 /// stands first in the run.
-fn reach(rules: &Rules<'_>, run: &[Instr]) -> usize
+pub(crate) fn reach(rules: &Rules<'_>, run: &[Instr]) -> usize
     requires ready { AreReady rules.now }
     ensures within { result ≤ length run.now }
     ensures none { (n k : ℕ) (rule : Rule) (registers : List Low) → result < length rule.left → slice_get (rules_in rules.now.entries.now) k ≡ Some rule → Shortens rule registers (take n run.now) → ⊥ }
@@ -188,7 +188,7 @@ fn lowest_by<L: Ledger>(
     requires within { length window.now ≤ length look.now.site.now.run.letters }
     requires form { IsForm window.now form.now }
     ensures some { IfOk result (λ o. IfSome o (IsLowest (setting_of look.now.rules.now) (lines_seen look.now) (number_seen look.now) (length window.now))) }
-    ensures moved { IfOk result (λ o. IfSome o (λ c. Moves look.now.scene.now.ground c.window c.new c.moved)) }
+    ensures moved { IfOk result (λ o. IfSome o (λ c. Moves look.now.scene.now.layout c.window c.new c.moved)) }
     ensures none { IfOk result (λ o. IfNone o (NoneOf refused.new (setting_of look.now.rules.now) (lines_seen look.now) (number_seen look.now) (length window.now))) }
     ensures stays { OnOk result (refused.old ≡ true → refused.new ≡ true) }
     ensures cost { steps.new ≤ steps.old + of_length (length window.now) (rules_in look.now.rules.now.entries.now) }
@@ -217,7 +217,7 @@ fn lowest<L: Ledger>(
     requires stands { StandsThere (lines_seen look.now) (number_seen look.now) window.now live.bits }
     requires within { length window.now ≤ length look.now.site.now.run.letters }
     ensures some { IfOk result (λ o. IfSome o (IsLowest (setting_of look.now.rules.now) (lines_seen look.now) (number_seen look.now) (length window.now))) }
-    ensures moved { IfOk result (λ o. IfSome o (λ c. Moves look.now.scene.now.ground c.window c.new c.moved)) }
+    ensures moved { IfOk result (λ o. IfSome o (λ c. Moves look.now.scene.now.layout c.window c.new c.moved)) }
     ensures none { IfOk result (λ o. IfNone o (NoneOf refused.new (setting_of look.now.rules.now) (lines_seen look.now) (number_seen look.now) (length window.now))) }
     ensures stays { OnOk result (refused.old ≡ true → refused.new ≡ true) }
     ensures cost { steps.new ≤ steps.old + of_length (length window.now) (rules_in look.now.rules.now.entries.now) }
@@ -232,24 +232,27 @@ fn lowest<L: Ledger>(
     }
 }
 
-/// The best entry at the place: of those that apply there the lowest with the longest left side. `refused` comes to be true where an entry fits and the layout
-/// refuses it.
+/// The best entry at the place: of those that apply there the lowest with the longest left side. `reached` is with how many of its instructions the run may
+/// begin some left side. `refused` comes to be true where an entry fits and the layout refuses it.
 pub(crate) fn best<L: Ledger>(
     alloc: Global,
     look: &Look<'_>,
+    reached: usize,
     refused: &mut bool,
     steps: &mut Steps<L>,
 ) -> Result<Option<Choice>, Memory>
     requires look { IsLook look.now }
+    requires within { reached ≤ length look.now.site.now.run.letters }
+    requires none { (n k : ℕ) (rule : Rule) (registers : List Low) → reached < length rule.left → slice_get (rules_in look.now.rules.now.entries.now) k ≡ Some rule → Shortens rule registers (take n look.now.site.now.run.letters) → ⊥ }
     ensures some { IfOk result (λ o. IfSome o (IsBest (setting_of look.now.rules.now) (lines_seen look.now) (number_seen look.now))) }
-    ensures moved { IfOk result (λ o. IfSome o (λ c. Moves look.now.scene.now.ground c.window c.new c.moved)) }
+    ensures moved { IfOk result (λ o. IfSome o (λ c. Moves look.now.scene.now.layout c.window c.new c.moved)) }
     ensures none { IfOk result (λ o. IfNone o (NoneAt refused.new (setting_of look.now.rules.now) (lines_seen look.now) (number_seen look.now))) }
     ensures stays { OnOk result (refused.old ≡ true → refused.new ≡ true) }
     ensures cost { steps.new ≤ steps.old + length (rules_in look.now.rules.now.entries.now) }
     ensures rises { IfOk result (λ o. RisesByAtLeast steps.old steps.new (from_bool (is_some o))) }
 {
     let run = look.site.run.letters.as_slice();
-    let mut count = reach(look.rules, run);
+    let mut count = reached;
     while count > 0 {
         let live = look.scene.live_after(look.rules, look.site, count);
         if let Some(choice) = lowest(alloc, look, &run[..count], live, refused, steps)? {

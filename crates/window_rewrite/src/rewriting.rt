@@ -11,7 +11,7 @@ ghost use Rattle.rule_model.specs.Rewriting.{AreRewritten};
 ghost use Rattle.window_rewrite.specs.Rewriting.{setting, replacement_of, rewriting_cost, IsRefusal, IsWhole};
 ghost use Rattle.window_rewrite.specs.Rules.{rules_in};
 ghost use Rattle.window_rewrite.specs.Choices.{setting_of, AreReady};
-ghost use Rattle.window_rewrite.specs.Sweeps.{IsSteadyIf};
+ghost use Rattle.window_rewrite.specs.Layouts.{IsSteadyIf};
 
 use crate::choice::Rewritten;
 use crate::due::go_through;

@@ -13,13 +13,13 @@ ghost use Rattle.kept_live.specs.KeptLive.{LosesAt};
 ghost use Rattle.step_ledger.specs.Counts.{RisesByAtLeast};
 ghost use Rattle.window_rewrite.specs.Choices.{choice_of, setting_of, IsChoice};
 ghost use Rattle.window_rewrite.specs.Rewriting.{visits};
-ghost use Rattle.window_rewrite.specs.Scenes.{lines_of, IsKept, IsNear, IsOver, IsSite};
+ghost use Rattle.window_rewrite.specs.Scenes.{lines_of, IsKept, IsNear, IsOver, IsRun, IsSite};
 ghost use Rattle.window_rewrite.specs.Settled.{IsSettled};
-ghost use Rattle.window_rewrite.specs.Sweeps.{is_steady, IsSteadyIf, Moves};
+ghost use Rattle.window_rewrite.specs.Layouts.{is_steady, IsSteadyIf, Moves};
 
 use crate::choice::Choice;
 use crate::finding::Rules;
-use crate::ground::Ground;
+use crate::known_layout::KnownLayout;
 use edited_listing::{EditedListing, Run};
 use kept_live::KeptLive;
 use kept_places::PlaceSet;
@@ -34,7 +34,7 @@ pub(crate) struct Scene {
     pub(crate) listing: EditedListing,
     pub(crate) live: KeptLive,
     /// Its layout, where that has to be asked.
-    pub(crate) ground: Ground,
+    pub(crate) layout: KnownLayout,
 }
 
 /// A kept place, as a window begins there.
@@ -70,35 +70,49 @@ impl Scene {
         ensures cost { steps.new ≤ steps.old + visits (length (places_of listing)) }
         ensures rises { OnOk result (RisesByAtLeast steps.old steps.new (length (places_of listing))) }
     {
-        let ground = Ground::of(alloc, &listing, rules.base, steady)?;
+        let layout = KnownLayout::of(alloc, &listing, rules.base, steady)?;
         let live = KeptLive::new(alloc, &listing, steps)?;
         let listing = EditedListing::new(alloc, listing)?;
         Ok(Scene {
             listing,
             live,
-            ground,
+            layout,
         })
     }
 
-    /// What a window sees that begins at a kept place, with at most so many instructions. The layout, where one is kept, stands there then.
-    pub(crate) fn site(&mut self, rules: &Rules<'_>, place: u32) -> Site
+    /// The instructions from a kept place on that may stand in a window, at most as many as a left side has.
+    pub(crate) fn run(&mut self, rules: &Rules<'_>, place: u32) -> Run
         requires over { IsOver rules.now self.old }
         requires most { rules.now.longest ≤ 5 }
         requires within { place < length self.old.listing.stands }
         requires kept { is_gone (marks self.old.listing) place ≡ false }
         ensures over { IsOver rules.now self.new }
+        ensures run { IsRun rules.now.longest self.new place result }
+        ensures listing { self.new.listing ≡ self.old.listing }
+        ensures live { self.new.live ≡ self.old.live }
+    {
+        self.listing.run(place, usize::from(rules.longest))
+    }
+
+    /// What a window sees that begins at a kept place, from which this run goes on. The layout, where one is kept, stands there then.
+    pub(crate) fn site(&mut self, rules: &Rules<'_>, place: u32, run: Run) -> Site
+        requires over { IsOver rules.now self.old }
+        requires within { place < length self.old.listing.stands }
+        requires kept { is_gone (marks self.old.listing) place ≡ false }
+        requires run { IsRun rules.now.longest self.old place run }
+        ensures over { IsOver rules.now self.new }
         ensures site { IsSite rules.now.longest self.new result }
         ensures place { result.place ≡ place }
+        ensures run { result.run ≡ run }
         ensures near { IsNear self.new result }
         ensures listing { self.new.listing ≡ self.old.listing }
         ensures live { self.new.live ≡ self.old.live }
     {
         let number = self.listing.number(place);
-        let run = self.listing.run(place, usize::from(rules.longest));
         let count = run.letters.len() as u32;
         let is_op_behind = self.listing.is_op_behind(place, count);
         let is_labelled = self.listing.is_labelled(place);
-        self.ground.go_to(number as usize);
+        self.layout.go_to(number as usize);
         Site {
             place,
             number,
@@ -162,12 +176,12 @@ impl Scene {
         requires some { 0 < length choice.now.window }
         requires fewer { length choice.now.new < length choice.now.window }
         requires within { length choice.now.window ≤ length site.now.run.letters }
-        requires moved { Moves self.old.ground choice.now.window choice.now.new choice.now.moved }
+        requires moved { Moves self.old.layout choice.now.window choice.now.new choice.now.moved }
         requires room { length lost.old ≡ length self.old.listing.stands }
         ensures over { OnOk result (IsOver rules.now self.new) }
         ensures lines { OnOk result (lines_of self.new ≡ lines_after (setting_of rules.now) (choice_of choice.now) (lines_of self.old)) }
         ensures many { OnOk result (length self.new.listing.stands ≡ length self.old.listing.stands) }
-        ensures steady { OnOk result (is_steady self.new.ground ≡ is_steady self.old.ground) }
+        ensures steady { OnOk result (is_steady self.new.layout ≡ is_steady self.old.layout) }
         ensures gone { OnOk result (marks self.new.listing ≡ marks_after (take (length choice.now.window) site.now.run.places.items) choice.now.new (marks self.old.listing)) }
         ensures padded { OnOk result (padded self.new.listing ≡ exchanged (take (length choice.now.window) site.now.run.places.items) choice.now.new (padded self.old.listing)) }
         ensures room { length lost.new ≡ length lost.old }
@@ -177,7 +191,7 @@ impl Scene {
         let new = choice.new.as_slice();
         let count = window.len();
         let places = &site.run.places.as_slice()[..count];
-        self.ground.give_way(window, new, &choice.moved)?;
+        self.layout.give_way(window, new, &choice.moved)?;
         self.live.replace(places, new, lost);
         self.listing.replace(site.place, count as u32, new);
         Ok(())

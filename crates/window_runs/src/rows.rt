@@ -21,7 +21,7 @@ pub struct Row {
 pub fn rows(alloc: Global, lines: &[Line]) -> Result<Vec<Row>, AllocError>
     ensures { IfOk result (λ rows. rows.items ≡ rows_from false (map line_view lines.now)) }
 {
-    let mut rows = Vec::new(alloc);
+    let mut rows = Vec::with_capacity(alloc, lines.len())?;
     let mut joined = false;
     for line in lines {
         joined = add_line(&mut rows, line, joined)?;

@@ -1,4 +1,4 @@
-use Rattle.std.proofs.Common.{◌-◌, ◌≤◌, List, length, ap, arith}
+use Rattle.std.proofs.Common.{◌-◌, ◌≤◌, List, length, ap, refl, arith}
 use Rattle.thumb_instr.specs.declared.instr.Instr.{Instr}
 use Rattle.step_ledger.proofs.Rises.{at_least-stays, at_least-fewer, at_least-goes_on}
 use Rattle.window_rewrite.specs.Rules.{rules_in}
@@ -10,10 +10,10 @@ use Rattle.window_rewrite.proofs.finding.best.Goals as goal
 
 pub loop-count-init : goal.loop-count-init
 loop-count-init g c = record {
-  within = omega (arith, c.reach-count.ensures.within, ap (λ (is : List Instr). length is) c.as_slice-run.ensures.value);
+  within = c.requires.within;
   none =
-      none_reached _ c.args.look.now.rules.now.base c.args.look.now.rules.now.longest (rules_in c.args.look.now.rules.now.entries.now) (lines_seen c.args.look.now) (number_seen c.args.look.now) c.reach-count.result
-      c.args.look.now.site.now.run.letters c.as_slice-run.result.now c.requires.look.ready.fit c.requires.look.site.letters c.as_slice-run.ensures.value c.reach-count.ensures.none;
+      none_reached _ c.args.look.now.rules.now.base c.args.look.now.rules.now.longest (rules_in c.args.look.now.rules.now.entries.now) (lines_seen c.args.look.now) (number_seen c.args.look.now) c.args.reached
+      c.args.look.now.site.now.run.letters c.args.look.now.site.now.run.letters c.requires.look.ready.fit c.requires.look.site.letters refl c.requires.none;
   stays = λ e. e;
   rises = at_least-stays c.args.steps.now;
   cost = omega arith;

@@ -9,7 +9,7 @@ use Rattle.window_runs.specs.Windows.{IsWindow}
 use Rattle.kept_layout.specs.Kept.{IsNear, Lays}
 use Rattle.kept_layout.specs.declared.shrinking.Move.{Move}
 use Rattle.window_rewrite.specs.Scenes.{lines_seen, number_seen}
-use Rattle.window_rewrite.specs.Sweeps.{is_steady}
+use Rattle.window_rewrite.specs.Layouts.{is_steady}
 use Rattle.window_rewrite.proofs.finding.moved_layout.Goals as goal
 
 -- where the layout needn't be asked, nothing is asked
@@ -34,5 +34,5 @@ returns-in-Some-clause-layable c =
     let left : List Line = replaced_lines own_line place (length c.args.window.now) c.args.new.now lines in
     IfOk-weaker _ _ _
     (λ (o : Option Move) (t : (ls : List Line) (p : ℕ) → Lays c.in-Some.kept ls → IsNear c.in-Some.kept p → IsWindow ls p c.args.window.now → (is_some o ≡ true) ↔ Layable c.in-Some.kept.base (replaced_lines own_line p (length c.args.window.now) c.args.new.now ls)).
-    told (is_some o) (is_steady c.args.look.now.scene.now.ground) c.in-Some.kept.base c.args.look.now.rules.now.base left (ap (λ k. not (is_some k)) c.in-Some.is) laid.0 (t lines place laid.1 near c.requires.window))
+    told (is_some o) (is_steady c.args.look.now.scene.now.layout) c.in-Some.kept.base c.args.look.now.rules.now.base left (ap (λ k. not (is_some k)) c.in-Some.is) laid.0 (t lines place laid.1 near c.requires.window))
     c.may_give_way.ensures.layable

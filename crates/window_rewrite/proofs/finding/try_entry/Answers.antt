@@ -26,7 +26,7 @@ use Rattle.window_rewrite.proofs.Applied.{applied, back, back_laid, laid, letter
 use Rattle.window_rewrite.proofs.Accepted.{entry_at}
 use Rattle.window_rewrite.proofs.Alike.{laid_under, settled_under}
 use Rattle.window_rewrite.proofs.Chosen.{length_at}
-use Rattle.window_rewrite.specs.Sweeps.{is_steady}
+use Rattle.window_rewrite.specs.Layouts.{is_steady}
 use Rattle.window_rewrite.proofs.finding.try_entry.Goals as goal
 
 -- what is known of the entry that was read
@@ -159,11 +159,11 @@ returns-clause-some g c =
     let count : length c.args.window.now ≡ length rule.left = sym e.long in
     let settled : IsSettled (places_of lines) (labels_from 0 lines) place (length c.args.window.now) c.renamed_all-new.result =
     subst (λ (js : List Instr). IsSettled (places_of lines) (labels_from 0 lines) place (length c.args.window.now) js) c.as_slice-2.ensures.value (c.is_settled.ensures.0 c.if-not-is_settled.false) in
-    let asked : is_steady c.args.look.now.scene.now.ground ≡ false → Layable c.args.look.now.rules.now.base (replaced_lines own_line place (length c.args.window.now) (map (renamed registers) rule.right) lines) =
+    let asked : is_steady c.args.look.now.scene.now.layout ≡ false → Layable c.args.look.now.rules.now.base (replaced_lines own_line place (length c.args.window.now) (map (renamed registers) rule.right) lines) =
     λ f. subst (λ (js : List Instr). Layable c.args.look.now.rules.now.base (replaced_lines own_line place (length c.args.window.now) js lines)) (c.as_slice-3.ensures.value ∙ new) (c.in_ok-moved_layout.ensures.layable.0 (ap is_some c.in-Some-2.is) f) in
     let m =
     applied c.args.look.now.rules.now.base (rules_in c.args.look.now.rules.now.entries.now) lines place c.args.number rule registers c.args.window.now c.args.form.now.live.bits c.renamed_all-new.result e.at e.fit.sound c.requires.stands c.in-Some.ensures.0 c.in-Some.ensures.1 new settled
-    (laid c.args.look.now.rules.now c.args.look.now.scene.now.ground lines place rule registers c.args.window.now c.requires.look.over.over e.fit.sound c.in-Some.ensures.0.fits.shorter count asked) in
+    (laid c.args.look.now.rules.now c.args.look.now.scene.now.layout lines place rule registers c.args.window.now c.requires.look.over.over e.fit.sound c.in-Some.ensures.0.fits.shorter count asked) in
     let number : c.args.number ≡ c.args.number + 1 - 1 = omega arith in
     let made_at : IsMade (setting_of c.args.look.now.rules.now) lines place (c.args.number + 1 - 1) registers c.copied.result c.renamed_all-new.result =
     subst (λ k. IsMade (setting_of c.args.look.now.rules.now) lines place k registers c.copied.result c.renamed_all-new.result) number

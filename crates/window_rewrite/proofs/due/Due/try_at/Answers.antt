@@ -1,46 +1,51 @@
-use Rattle.std.proofs.Common.{◌≡◌, Bool, ap, ◌∙◌, sym, subst}
+use Rattle.std.proofs.Common.{◌≡◌, ◌<◌, ℕ, List, length, take, false, Some, subst, sym, ap, ◌∙◌, arith}
+use Rattle.std.specs.Prelude.{slice_get, IfOk}
 use Rattle.std.specs.Option.{IfNone, IfSome}
-use Rattle.edited_listing.specs.Edited.{Edited, lines_now, marks}
-use Rattle.kept_places.specs.Marks.{rank}
+use Rattle.thumb_instr.specs.declared.instr.Instr.{Instr}
+use Rattle.thumb_instr.specs.Renaming.{Low}
+use Rattle.rule_model.specs.Rules.{Rule}
 use Rattle.rule_model.specs.Rewriting.{lines_after, IsFirst}
-use Rattle.window_rewrite.specs.declared.choice.Replacement.{Replacement as Made}
-use Rattle.window_rewrite.specs.declared.due.Due.{Due}
-use Rattle.window_rewrite.specs.Choices.{choice_of, setting_of, IsBest, NoneAt}
-use Rattle.window_rewrite.specs.Due.{AreTried}
+use Rattle.kept_places.specs.Marks.{rank}
+use Rattle.edited_listing.specs.Edited.{Edited, lines_now, marks}
+use Rattle.window_rewrite.specs.Choices.{setting_of, NoneAt}
+use Rattle.window_rewrite.specs.Fitting.{Shortens}
 use Rattle.window_rewrite.specs.Rewriting.{replacement_of, IsWhole}
+use Rattle.window_rewrite.specs.Rules.{rules_in}
 use Rattle.window_rewrite.specs.Scenes.{lines_of}
-use Rattle.window_rewrite.proofs.DueScenes.{best_seen, first_here, none_seen, tried_idle, tried_refused, tried_same}
+use Rattle.window_rewrite.proofs.Chosen.{none_there}
+use Rattle.window_rewrite.proofs.DueScenes.{tried_idle, tried_same}
 use Rattle.window_rewrite.proofs.due.Due.try_at.Goals as goal
-use Rattle.window_rewrite.proofs.due.Due.try_at.Goals.{then-is_refused, else-is_refused}
 
-pub make-requires-clause-tried : goal.make-requires-clause-tried
-make-requires-clause-tried g c = tried_same (setting_of c.args.rules.now) c.args.scene.now c.site-site.new.self c.args.self.now c.args.place c.site-site.result.place c.site-site.ensures.listing c.site-site.ensures.place c.requires.tried
+pub returns-then-reached-eq0-clause-tried : goal.returns-then-reached-eq0-clause-tried
+returns-then-reached-eq0-clause-tried g c =
+    let e = c.run-run.ensures in
+    let rules : List Rule = rules_in c.args.rules.now.entries.now in
+    let none : NoneAt false (setting_of c.args.rules.now) (lines_of c.run-run.new.self) (rank (marks c.run-run.new.self.listing) c.args.place) =
+    none_there false c.args.rules.now.base c.args.rules.now.longest rules (lines_of c.run-run.new.self) (rank (marks c.run-run.new.self.listing) c.args.place) c.run-run.result.letters c.as_slice.result.now
+    c.requires.ready.fit e.run.letters c.as_slice.ensures.value
+    (subst (λ (count : ℕ). (n k : ℕ) (rule : Rule) (registers : List Low) → count < length rule.left → slice_get rules k ≡ Some rule → Shortens rule registers (take n c.as_slice.result.now) → ⊥) c.if-reached-eq0.true c.reach-reached.ensures.none) in
+    tried_idle (setting_of c.args.rules.now) c.args.scene.now c.run-run.new.self c.args.self.now c.args.place c.requires.tried e.listing
+    (subst (λ (l : Edited). NoneAt false (setting_of c.args.rules.now) (lines_now l) (rank (marks l) c.args.place)) e.listing none)
 
-pub returns-after-is_refused-clause-tried : goal.returns-after-is_refused-clause-tried
-returns-after-is_refused-clause-tried g c =
-    let e = c.site-site.ensures in
-    let seen : NoneAt c.best.new.refused (setting_of c.args.rules.now) (lines_of c.site-site.new.self) c.site-site.result.number =
-    subst (λ o. IfNone o (NoneAt c.best.new.refused (setting_of c.args.rules.now) (lines_of c.site-site.new.self) c.site-site.result.number)) c.in-None.is c.in_ok-best.ensures.none in
-    let here = none_seen c.best.new.refused (setting_of c.args.rules.now) c.args.scene.now c.site-site.new.self c.site-site.result c.args.place e.listing e.site.number e.place seen in
-    elim c.if-is_refused.branch [
-      | then-is_refused w ↦ subst (λ (d : Due). AreTried (setting_of c.args.rules.now) c.site-site.new.self d) (sym w.self-is)
-          (tried_refused (setting_of c.args.rules.now) c.args.scene.now c.site-site.new.self c.args.self.now c.args.place w.insert.new.self c.requires.tried e.listing c.requires.within w.insert.ensures
-          (subst (λ b. NoneAt b (setting_of c.args.rules.now) (lines_of c.args.scene.now) (rank (marks c.args.scene.now.listing) c.args.place)) w.if-is_refused.true here))
-      | else-is_refused w ↦ subst (λ (d : Due). AreTried (setting_of c.args.rules.now) c.site-site.new.self d) (sym w.self-is)
-          (tried_idle (setting_of c.args.rules.now) c.args.scene.now c.site-site.new.self c.args.self.now c.args.place c.requires.tried e.listing
-          (subst (λ b. NoneAt b (setting_of c.args.rules.now) (lines_of c.args.scene.now) (rank (marks c.args.scene.now.listing) c.args.place)) w.if-is_refused.false here))
-    ]
+pub try_site-requires-clause-none : goal.try_site-requires-clause-none
+try_site-requires-clause-none g c =
+    let same : c.as_slice.result.now ≡ c.site-site.result.run.letters = c.as_slice.ensures.value ∙ sym (ap (λ r. r.letters) c.site-site.ensures.run) in
+    subst (λ (is : List Instr). (n k : ℕ) (rule : Rule) (registers : List Low) → c.reach-reached.result < length rule.left → slice_get (rules_in c.args.rules.now.entries.now) k ≡ Some rule → Shortens rule registers (take n is) → ⊥) same c.reach-reached.ensures.none
 
-pub returns-in_ok-make-in-Some-clause-first : goal.returns-in_ok-make-in-Some-clause-first
-returns-in_ok-make-in-Some-clause-first g c =
-    let e = c.site-site.ensures in
-    let same = c.into_replacement.ensures in
-    let seen : IsBest (setting_of c.args.rules.now) (lines_of c.site-site.new.self) c.site-site.result.number c.in-Some.choice =
-    subst (λ o. IfSome o (IsBest (setting_of c.args.rules.now) (lines_of c.site-site.new.self) c.site-site.result.number)) c.in-Some.is c.in_ok-best.ensures.some in
-    let best = best_seen (setting_of c.args.rules.now) c.args.scene.now c.site-site.new.self c.site-site.result c.args.place c.in-Some.choice e.listing e.site.number e.place seen in
-    let first : IsFirst (setting_of c.args.rules.now) (choice_of c.in-Some.choice) (lines_of c.args.scene.now) = first_here c.args.rules.now c.args.scene.now c.args.self.now c.args.place c.in-Some.choice c.requires.over.kept c.requires.tried c.requires.least best in (
-      subst (λ (m : Made). IsWhole m) (sym same) best.is.whole,
-      subst (λ (m : Made). IsFirst (setting_of c.args.rules.now) (replacement_of m) (lines_of c.args.scene.now)) (sym same) first,
-      c.in_ok-make-in-Some.ensures.lines ∙ ap (λ (l : Edited). lines_after (setting_of c.args.rules.now) (choice_of c.in-Some.choice) (lines_now l)) e.listing
-          ∙ ap (λ (m : Made). lines_after (setting_of c.args.rules.now) (replacement_of m) (lines_of c.args.scene.now)) (sym same),
-    )
+pub try_site-requires-clause-reached : goal.try_site-requires-clause-reached
+try_site-requires-clause-reached g c =
+    let same : c.as_slice.result.now ≡ c.site-site.result.run.letters = c.as_slice.ensures.value ∙ sym (ap (λ r. r.letters) c.site-site.ensures.run) in
+    omega (arith, c.reach-reached.ensures.within, ap (λ (is : List Instr). length is) same)
+
+pub try_site-requires-clause-tried : goal.try_site-requires-clause-tried
+try_site-requires-clause-tried g c =
+    tried_same (setting_of c.args.rules.now) c.args.scene.now c.site-site.new.self c.args.self.now c.args.place c.site-site.result.place (c.site-site.ensures.listing ∙ c.run-run.ensures.listing) c.site-site.ensures.place c.requires.tried
+
+pub returns-clause-none : goal.returns-clause-none
+returns-clause-none g c =
+    subst (λ (l : Edited). IfOk c.try_site.result (λ o. IfNone o ((lines_of c.try_site.new.scene ≡ lines_now l) × (c.try_site.new.self.due ≡ c.args.self.now.due)))) (c.site-site.ensures.listing ∙ c.run-run.ensures.listing) c.try_site.ensures.none
+
+pub returns-clause-first : goal.returns-clause-first
+returns-clause-first g c =
+    subst (λ (l : Edited). IfOk c.try_site.result (λ o. IfSome o (λ r. IsWhole r × IsFirst (setting_of c.args.rules.now) (replacement_of r) (lines_now l) × (lines_of c.try_site.new.scene ≡ lines_after (setting_of c.args.rules.now) (replacement_of r) (lines_now l)))))
+    (c.site-site.ensures.listing ∙ c.run-run.ensures.listing) c.try_site.ensures.first

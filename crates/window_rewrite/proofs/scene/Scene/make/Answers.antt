@@ -13,7 +13,7 @@ use Rattle.window_rewrite.proofs.scene.Scene.make.Goals as goal
 
 pub give_way-requires : goal.give_way-requires
 give_way-requires c =
-    allowed_here c.args.rules.now c.args.self.now.ground (lines_now c.args.self.now.listing) c.args.choice.now c.args.site.now.number c.as_slice-window.result.now c.as_slice-new.result.now c.requires.over.over c.requires.near c.requires.is c.requires.here
+    allowed_here c.args.rules.now c.args.self.now.layout (lines_now c.args.self.now.listing) c.args.choice.now c.args.site.now.number c.as_slice-window.result.now c.as_slice-new.result.now c.requires.over.over c.requires.near c.requires.is c.requires.here
     c.requires.moved c.as_slice-window.ensures.value c.as_slice-new.ensures.value
 
 pub replace-requires-clause-ascending : goal.replace-requires-clause-ascending
@@ -77,7 +77,7 @@ returns-clause-over c =
         as_many = made_many was now number _ window new (made c) kept.as_many;
         live = made_live was now number _ window new c.args.self.now.live c.replace.new.self (made c) kept.is_padded kept.as_many (ranked c) (many c) keeps c.replace.ensures.kept kept.live;
       };
-      over = still_over rules c.args.self.now.ground c.give_way.new.self lines (lines_now now) choice number window new c.requires.is c.requires.here c.as_slice-window.ensures.value c.as_slice-new.ensures.value (made c).lines
+      over = still_over rules c.args.self.now.layout c.give_way.new.self lines (lines_now now) choice number window new c.requires.is c.requires.here c.as_slice-window.ensures.value c.as_slice-new.ensures.value (made c).lines
           c.in_ok-give_way.ensures.steady layout c.requires.over.over;
     }
 

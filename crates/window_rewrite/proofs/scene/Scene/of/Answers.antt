@@ -3,7 +3,7 @@ use Rattle.window_rewrite.proofs.scene.Scene.of.Goals as goal
 
 pub returns-clause-over : goal.returns-clause-over
 returns-clause-over g c =
-    let ground = c.in_ok-ground.ensures in
+    let layout = c.in_ok-layout.ensures in
     let edited = c.in_ok-listing.ensures in
     record {
       kept = record {
@@ -11,7 +11,7 @@ returns-clause-over g c =
         as_many = first_as_many c.args.listing c.in_ok-listing.listing edited.is;
         live = first_live c.args.listing c.in_ok-listing.listing c.in_ok-live.live edited.is c.in_ok-live.ensures.kept;
       };
-      over = first_over c.args.rules.now c.in_ok-ground.ground c.args.listing _ c.args.steady edited.lines c.requires.layable ground.steady c.requires.steady ground.layout;
+      over = first_over c.args.rules.now c.in_ok-layout.layout c.args.listing _ c.args.steady edited.lines c.requires.layable layout.steady c.requires.steady layout.layout;
     }
 
 pub returns-clause-many : goal.returns-clause-many

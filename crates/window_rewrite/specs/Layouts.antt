@@ -13,26 +13,26 @@ use Rattle.kept_layout.specs.Kept.{Lays, IsNear}
 use Rattle.kept_layout.specs.Moves.{IsMoved}
 use Rattle.kept_layout.specs.declared.shrinking.Move.{Move}
 use Rattle.window_rewrite.specs.declared.finding.Rules.{Rules}
-use Rattle.window_rewrite.specs.declared.ground.Ground.{Ground}
+use Rattle.window_rewrite.specs.declared.known_layout.KnownLayout.{KnownLayout}
 
 -- whether the layout needn't be asked
-abbrev pub is_steady : Ground → Bool
+abbrev pub is_steady : KnownLayout → Bool
 is_steady g = not (is_some g.kept)
 
 -- the layout that is kept, if one is, is that of the lines from the base
-abbrev pub HasLayout : ℕ → Ground → List Line → Type 0
+abbrev pub HasLayout : ℕ → KnownLayout → List Line → Type 0
 HasLayout base g lines = IfSome g.kept (λ k. (k.base ≡ base) × Lays k lines)
 
 -- it stands where the place is
-abbrev pub StandsNear : Ground → ℕ → Type 0
+abbrev pub StandsNear : KnownLayout → ℕ → Type 0
 StandsNear g place = IfSome g.kept (λ k. IsNear k place)
 
 -- so the layout moves, if one is kept, where a window at which it stands gives way to fewer instructions
-abbrev pub Moves : Ground → List Instr → List Instr → Move → Type 0
+abbrev pub Moves : KnownLayout → List Instr → List Instr → Move → Type 0
 Moves g window new m = IfSome g.kept (λ k. IsMoved k (2 * (length window - length new)) m.at.items m.by)
 
--- a window at which the ground stands may give way to fewer instructions, which leave lines that can be laid out, where a layout is kept, which then moves so
-pub record Allows (g : Ground) (window new : List Instr) (m : Move) : Type 0 where
+-- a window at which the layout stands may give way to fewer instructions, which leave lines that can be laid out, where a layout is kept, which then moves so
+pub record Allows (g : KnownLayout) (window new : List Instr) (m : Move) : Type 0 where
   pub lines : List Line
   pub place : ℕ
   pub lays : IfSome g.kept (λ k. Lays k lines × Layable k.base (replaced_lines own_line place (length window) new lines))
@@ -42,8 +42,8 @@ pub record Allows (g : Ground) (window new : List Instr) (m : Move) : Type 0 whe
   pub letters : list_all is_in_window new ≡ true
   pub fewer : length new < length window
 
--- the lines can be laid out, and are steady, if the ground is; otherwise it has their layout
-pub record AreOver (r : Rules) (g : Ground) (lines : List Line) : Type 0 where
+-- the lines can be laid out, and are steady, if the layout is; otherwise it has their layout
+pub record AreOver (r : Rules) (g : KnownLayout) (lines : List Line) : Type 0 where
   pub layable : Layable r.base lines
   pub aligned : is_steady g ≡ true → r.base % 4 ≡ 0
   pub steady : is_steady g ≡ true → IsSteady r.base lines

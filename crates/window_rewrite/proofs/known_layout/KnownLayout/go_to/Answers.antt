@@ -1,6 +1,6 @@
 use Rattle.std.proofs.Common.{◌≡◌, ◌∙◌}
 use Rattle.kept_layout.specs.Kept.{Lays}
-use Rattle.window_rewrite.proofs.ground.Ground.go_to.Goals as goal
+use Rattle.window_rewrite.proofs.known_layout.KnownLayout.go_to.Goals as goal
 
 pub returns-in-Some-clause-layout : goal.returns-in-Some-clause-layout
 returns-in-Some-clause-layout c = λ base lines h.

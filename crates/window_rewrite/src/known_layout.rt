@@ -1,25 +1,25 @@
-//! What a sweep knows of the layouts of its lines.
+//! What is known of the layouts of the lines that are rewritten.
 
 use kept_layout::{KeptLayout, Move};
 use listing_parser::{Listing, Memory};
 use std::alloc::Global;
 use thumb_instr::Instr;
 
-/// What a sweep knows of the layouts of its lines.
+/// What is known of the layouts of the lines that are rewritten.
 #[derive(Drop)]
-pub(crate) struct Ground {
+pub(crate) struct KnownLayout {
     /// The layout of the lines, where it has to be asked for each replacement: none, where each listing that comes of them by replacements can be laid out.
     pub(crate) kept: Option<KeptLayout>,
 }
 
-impl Ground {
+impl KnownLayout {
     ghost use Rattle.std.specs.Prelude.{◌≡◌, ℕ, length, List, IfOk, OnOk, IfSome};
     ghost use Rattle.thumb_model.specs.Layout.{Layable};
     ghost use Rattle.thumb_model.specs.Listing.{Line as Listed};
     ghost use Rattle.thumb_model.specs.ReplacedLines.{replaced_lines};
     ghost use Rattle.listing_parser.specs.Parsing.{own_line};
     ghost use Rattle.kept_layout.specs.Kept.{IsLaid};
-    ghost use Rattle.window_rewrite.specs.Sweeps.{is_steady, Allows, HasLayout, StandsNear};
+    ghost use Rattle.window_rewrite.specs.Layouts.{is_steady, Allows, HasLayout, StandsNear};
     ghost use Rattle.window_runs.specs.Windows.{IsWindow};
 
     /// The layout of a listing that can be laid out from the base, where that is not `steady`. It stands at the first place.
@@ -28,17 +28,17 @@ impl Ground {
         listing: &Listing,
         base: u32,
         steady: bool,
-    ) -> Result<Ground, Memory>
+    ) -> Result<KnownLayout, Memory>
         requires { Layable base listing.now }
         ensures steady { IfOk result (λ g. is_steady g ≡ steady) }
         ensures layout { IfOk result (λ g. HasLayout base g listing.now) }
         ensures near { IfOk result (λ g. StandsNear g 0) }
     {
         if steady {
-            return Ok(Ground { kept: None });
+            return Ok(KnownLayout { kept: None });
         }
         let kept = KeptLayout::of(alloc, listing, base)?;
-        Ok(Ground { kept: Some(kept) })
+        Ok(KnownLayout { kept: Some(kept) })
     }
 
     /// Moves to a place.

@@ -3,7 +3,7 @@ use Rattle.thumb_model.specs.Layout.{Layable}
 use Rattle.thumb_model.specs.ReplacedLines.{replaced_lines}
 use Rattle.listing_parser.specs.Parsing.{own_line}
 use Rattle.kept_layout.specs.Kept.{Lays, IsNear}
-use Rattle.window_rewrite.proofs.ground.Ground.give_way.Goals as goal
+use Rattle.window_rewrite.proofs.known_layout.KnownLayout.give_way.Goals as goal
 
 pub give_way-requires-clause-leaves : goal.give_way-requires-clause-leaves
 give_way-requires-clause-leaves c =
