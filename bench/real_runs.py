@@ -1,10 +1,10 @@
 #!/usr/bin/env python3
-"""Takes each listing of a folder through `peep`: learns its table, audits it, rewrites the listing, rewrites what came of it, has GNU as read both, and traces both
-from each label.
+"""Takes each listing of a folder through `peep`: learns its table, audits it, rewrites the listing, rewrites what came of it, tidies both, has GNU as read all, and
+traces them from each label.
 
 Usage: python3 bench/real_runs.py FOLDER [STEPS [OPTIONS of learn..]]
 
-A run of the rewritten listing has to tell the events of the given one. They may differ in words that are addresses of code, which lies elsewhere now, and in how
+A run of the rewritten or tidied listing has to tell the events of the given one. They may differ in words that are addresses of code, which lies elsewhere now, and in how
 far STEPS (10,000) steps go. Tells what was counted, and ends with status 1 where something else differs. PEEP names another program than ./peep.
 """
 
@@ -73,6 +73,17 @@ def trace_both(given, rewritten, steps):
             WRONG.append(f"{given.name} from {label}: {kind}")
 
 
+def tidy(given, work, steps):
+    tidied, again = work / "tidied.s", work / "tidied-again.s"
+    FACTS["changes"] += told(peep("tidy", given, tidied))["tidied"]
+    if told(peep("tidy", tidied, again))["tidied"] or tidied.read_bytes() != again.read_bytes():
+        WRONG.append(f"{given.name}: a second run tidies")
+    if not is_assembled(tidied, work):
+        WRONG.append(f"{given.name}: as of what was tidied")
+    if tidied.read_bytes() != given.read_bytes():
+        trace_both(given, tidied, steps)
+
+
 def take(given, work, steps, options):
     table, new, again = (work / name for name in ("table", "new.s", "again.s"))
     entries = told(peep("learn", given, table, *options))
@@ -88,6 +99,8 @@ def take(given, work, steps, options):
         if not is_assembled(listing, work):
             WRONG.append(f"{given.name}: as")
     trace_both(given, new, steps)
+    tidy(given, work, steps)
+    tidy(new, work, steps)
     FACTS["listings"] += 1
 
 
