@@ -16,7 +16,9 @@ pub mod Sufficing
 pub mod Placed
 pub mod Shortened
 pub mod Parts
-pub mod Cutting
-pub mod Agreeing
+pub mod Ending
+pub mod Meant
+pub mod Spending
 pub mod Marking
-pub mod Turns
+pub mod Backward
+pub mod Showing

@@ -138,7 +138,7 @@ meant_added clauses last (deletion n ids ∷ lines) q c hints a i = elim (head_o
   | inr j ↦ meant_added clauses last lines q c hints a j
 ]
 
-meant_numbered : (clauses : List (List ℕ)) (last : ℕ) (lines : List Content) (q : ℕ) → Ascends last lines → q ≤ last → meant clauses lines q ≡ numbered clauses q
+pub meant_numbered : (clauses : List (List ℕ)) (last : ℕ) (lines : List Content) (q : ℕ) → Ascends last lines → q ≤ last → meant clauses lines q ≡ numbered clauses q
 meant_numbered clauses last [] q a b = refl
 meant_numbered clauses last (addition n l h ∷ lines) q a b =
     let d = a.0 in

@@ -138,3 +138,47 @@ module _ (live : ℕ → Option (List ℕ)) (from hints later : List ℕ) (i : �
   GoesOn-unit u n m r =
       let s : i + suc m ≡ (i + 1) + m = omega arith in
       subst (EndsAt live from hints) s (h (suc m) (rw (drop_more hints i 0 b) (clause, e, inr (u, m, n, r, refl))))
+
+-- what is looked at and what the rest of the hints name comes to no more than what the first hints name that end
+abbrev pub Spends : (ℕ → Option (List ℕ)) → List ℕ → List ℕ → List ℕ → List ℕ → ℕ → ℕ → Type 0
+Spends live from hints later rest before now = (n : ℕ) → EndsAt live from hints n → (k : ℕ) × EndsAt live later rest k × (now + hint_lengths live (take k rest) ≤ before + hint_lengths live (take n hints))
+
+pub Spends-begun : (live : ℕ → Option (List ℕ)) (from hints : List ℕ) (now : ℕ) → Spends live from hints from hints now now
+Spends-begun live from hints now n r = (n, r, omega arith)
+
+pub Spends-all : (live : ℕ → Option (List ℕ)) (from hints later rest : List ℕ) (before now : ℕ) → Spends live from hints later rest before now → (n : ℕ) → EndsAt live from hints n → now ≤ before + hint_lengths live (take n hints)
+Spends-all live from hints later rest before now h n r = let k = h n r in let b = k.2 in omega arith
+
+module _ (live : ℕ → Option (List ℕ)) (from hints later : List ℕ) (i before now : ℕ) (b : i < length hints) (h : Spends live from hints later (drop i hints) before now) (clause : List ℕ) (e : live (get_or hints i 0) ≡ Some clause) (after : ℕ) (w : after ≤ now + length clause) where
+  -- the first of the hints left names the clause
+  here : (k : ℕ) → EndsAt live later (drop i hints) k → EndsAt live later (get_or hints i 0 ∷ drop (i + 1) hints) k
+  here k r = subst (λ (xs : List ℕ). EndsAt live later xs k) (drop_more hints i 0 b) r
+
+  length_here : (k : ℕ) → EndsAt live later (drop i hints) k → length clause ≤ hint_lengths live (take k (drop i hints))
+  length_here k r = rw (drop_more hints i 0 b) (of_first (here k r))
+    where
+      of_first : EndsAt live later (get_or hints i 0 ∷ drop (i + 1) hints) k → length clause ≤ hint_lengths live (take k (get_or hints i 0 ∷ drop (i + 1) hints))
+      of_first (c, f, inl (g, z)) = rw (z, e) (omega arith)
+      of_first (c, f, inr (u, m, g, s, z)) = rw (z, e) (omega arith)
+
+  pub Spends-looked : (n : ℕ) → EndsAt live from hints n → after ≤ before + hint_lengths live (take n hints)
+  Spends-looked n r =
+      let k = h n r in
+      let x = k.2 in
+      let y : length clause ≤ hint_lengths live (take k.0 (drop i hints)) = length_here k.0 k.1 in
+      omega arith
+
+  pub Spends-unit : (u : ℕ) → IsUnit later clause u → Spends live from hints (later ++ u ∷ []) (drop (i + 1) hints) before after
+  Spends-unit u d n r =
+      let k = h n r in
+      go k.0 (here k.0 k.1) (subst (λ (xs : List ℕ). now + hint_lengths live (take k.0 xs) ≤ before + hint_lengths live (take n hints)) (drop_more hints i 0 b) k.2)
+    where
+      go : (k : ℕ) → EndsAt live later (get_or hints i 0 ∷ drop (i + 1) hints) k → now + hint_lengths live (take k (get_or hints i 0 ∷ drop (i + 1) hints)) ≤ before + hint_lengths live (take n hints) → (m : ℕ) × EndsAt live (later ++ u ∷ []) (drop (i + 1) hints) m × (after + hint_lengths live (take m (drop (i + 1) hints)) ≤ before + hint_lengths live (take n hints))
+      go k (c, f, inl (g, z)) x =
+          let same : clause ≡ c = (let o : Some clause ≡ Some c = sym e ∙ f in cc) in
+          absurd (Unit-conflict later c u (subst (λ (c : List ℕ). IsUnit later c u) same d) g)
+      go k (c, f, inr (v, m, g, s, z)) x =
+          let same : c ≡ clause = (let o : Some c ≡ Some clause = sym f ∙ e in cc) in
+          let v' : v ≡ u = Unit-only later clause v u (subst (λ (c : List ℕ). IsUnit later c v) same g) d in
+          let y = rw (z, e) at x in
+          (m, subst (λ (v : ℕ). EndsAt live (later ++ v ∷ []) (drop (i + 1) hints) m) v' s, omega arith)

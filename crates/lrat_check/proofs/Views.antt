@@ -28,11 +28,8 @@ module _ (hints : List ℤ) (i id : ℕ) (h : ℤ) (b : i < length hints) (is : 
   pub hint_at : get_or (map unsigned_abs hints) i 0 ≡ id
   hint_at = get_or-map unsigned_abs hints i h 0 b ∙ ap unsigned_abs (sym is) ∙ sym e
 
-  pub hint_some : (m : LiveMap) (v : Vec ℕ Global) (clause : List ℕ) → Some v ≡ get nat_eq m id → clause ≡ v.items → clause_at m (get_or (map unsigned_abs hints) i 0) ≡ Some clause
-  hint_some m v clause f g = rw hint_at (clause_at-some m id v clause f g)
-
-  pub hint_none : (m : LiveMap) → None ≡ get nat_eq m id → clause_at m (get_or (map unsigned_abs hints) i 0) ≡ None
-  hint_none m f = rw hint_at (clause_at-none m id f)
+  pub hint_names : (live : ℕ → Option (List ℕ)) (o : Option (List ℕ)) → live id ≡ o → live (get_or (map unsigned_abs hints) i 0) ≡ o
+  hint_names live o f = rw hint_at f
 
 -- a new entry
 pub clause_at-insert : (old new : LiveMap) (id : ℕ) (v : Vec ℕ Global) → Updates nat_eq old new id (Some v) → Adds (clause_at old) (clause_at new) id v.items

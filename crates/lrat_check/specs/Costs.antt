@@ -34,3 +34,7 @@ Looks old (deletion id ids) n = n ≡ 0
 -- a step for each literal that is looked at
 abbrev pub Counts : State → Content → ℕ → ℕ → Type 0
 Counts old content before after = (n : ℕ) × Looks old content n × RisesBy before after n
+
+-- what the one has under an id, the other has too
+abbrev pub IsPartOf : (ℕ → Option (List ℕ)) → (ℕ → Option (List ℕ)) → Type 0
+IsPartOf live later = (q : ℕ) (clause : List ℕ) → live q ≡ Some clause → later q ≡ Some clause

@@ -9,4 +9,6 @@ pub mod Live
 pub mod Deleting
 pub mod Runs
 pub mod Trimmed
+pub mod Ending
 pub mod Shown
+pub mod Meant

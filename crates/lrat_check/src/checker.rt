@@ -164,7 +164,7 @@ impl Checker {
 }
 
 /// The literals that the numbers name.
-fn literals_of(alloc: Global, numbers: &[i32]) -> Result<Vec<Literal>, AllocError>
+pub(crate) fn literals_of(alloc: Global, numbers: &[i32]) -> Result<Vec<Literal>, AllocError>
     ensures { IfOk result (λ literals. literals.items ≡ map code_of numbers.now) }
 {
     numbers

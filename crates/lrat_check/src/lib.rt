@@ -7,6 +7,7 @@ mod entry;
 mod fault;
 pub mod laws;
 mod line;
+mod meanings;
 mod propagation;
 mod shown;
 mod text;

@@ -1,11 +1,11 @@
 //! The one rule of proof, reverse unit propagation by hints: no search, so a line takes as long as the clauses that it names.
-ghost use Rattle.std.specs.Prelude.{◌≡◌, ℕ, ◌+◌, ◌≤◌, ◌⊎◌, map, unsigned_abs, OnOk, IfErr, IfOk, [], length};
+ghost use Rattle.std.specs.Prelude.{◌≡◌, ℕ, ◌+◌, ◌≤◌, ◌⊎◌, List, Option, Some, None, map, take, unsigned_abs, MatchOption, OnOk, IfErr, IfOk, [], length};
 ghost use Rattle.clause_model.specs.Literals.{negated, HasDistinctVariables};
 ghost use Rattle.clause_model.specs.Propagation.{Refutes, ReverseUnitPropagation, Stop, StopsAs, hint_lengths};
 ghost use Rattle.clause_model.specs.Standings.{StandsAs};
 ghost use Rattle.step_ledger.specs.Counts.{RisesBy};
 ghost use Rattle.lrat_check.specs.Live.{clause_at};
-ghost use Rattle.lrat_check.specs.Costs.{LooksAt};
+ghost use Rattle.lrat_check.specs.Costs.{LooksAt, IsPartOf};
 ghost use Rattle.lrat_check.specs.Faults.{fault_of};
 ghost use Rattle.lrat_check.specs.Trimmed.{Suffice};
 
@@ -15,6 +15,26 @@ use clause_model::{Assignment, Literal, Standing, standing_with};
 use std::alloc::AllocError;
 use std::collections::HashMap;
 use step_ledger::{Ledger, Steps};
+
+/// Clauses, each under an id.
+pub trait Clauses {
+    ghost at: { Self → ℕ → Option (List ℕ) };
+
+    /// The clause under an id.
+    fn clause(&self, id: u64) -> Option<&[Literal]>
+        ensures { MatchOption result (at self.now id ≡ None) (λ clause. at self.now id ≡ Some clause.now) };
+}
+
+impl Clauses for HashMap<u64, Vec<Literal>> {
+    ghost at = { clause_at };
+
+    fn clause(&self, id: u64) -> Option<&[Literal]> {
+        match self.get(&id) {
+            None => None,
+            Some(clause) => Some(clause.as_slice()),
+        }
+    }
+}
 
 /// How a clause stands, with a step for each literal that is looked at.
 fn counted_standing_of<L: Ledger>(
@@ -34,23 +54,24 @@ fn counted_standing_of<L: Ledger>(
 }
 
 /// Goes by the hints in order until a clause is false, and tells how many it went by.
-fn refute<L: Ledger>(
-    live: &HashMap<u64, Vec<Literal>>,
+fn refute<C: Clauses, L: Ledger>(
+    live: &C,
     hints: &[Hint],
     assignment: &mut Assignment,
     steps: &mut Steps<L>,
 ) -> Result<usize, LineFault>
-    ensures ok { OnOk result (Refutes (clause_at live.now) assignment.old (map unsigned_abs hints.now)) }
-    ensures used { IfOk result (Suffice (clause_at live.now) assignment.old (map unsigned_abs hints.now)) }
-    ensures err { IfErr result (λ e. (e ≡ LineFault.Memory) ⊎ ((stop : Stop) × StopsAs (clause_at live.now) assignment.old (map unsigned_abs hints.now) 1 stop × (e ≡ fault_of stop))) }
-    ensures cost { steps.new ≤ steps.old + hint_lengths (clause_at live.now) (map unsigned_abs hints.now) }
-    ensures count { OnOk result ((n : ℕ) × LooksAt (clause_at live.now) assignment.old (map unsigned_abs hints.now) n × RisesBy steps.old steps.new n) }
-    ensures fault_count { IfErr result (λ e. (e ≡ LineFault.Memory) ⊎ ((n : ℕ) × LooksAt (clause_at live.now) assignment.old (map unsigned_abs hints.now) n × RisesBy steps.old steps.new n)) }
+    ensures ok { OnOk result (Refutes (C.at live.now) assignment.old (map unsigned_abs hints.now)) }
+    ensures used { IfOk result (Suffice (C.at live.now) assignment.old (map unsigned_abs hints.now)) }
+    ensures err { IfErr result (λ e. (e ≡ LineFault.Memory) ⊎ ((stop : Stop) × StopsAs (C.at live.now) assignment.old (map unsigned_abs hints.now) 1 stop × (e ≡ fault_of stop))) }
+    ensures cost { steps.new ≤ steps.old + hint_lengths (C.at live.now) (map unsigned_abs hints.now) }
+    ensures fewest { (later : ℕ → Option (List ℕ)) (n : ℕ) → IsPartOf (C.at live.now) later → Suffice later assignment.old (map unsigned_abs hints.now) n → steps.new ≤ steps.old + hint_lengths later (take n (map unsigned_abs hints.now)) }
+    ensures count { OnOk result ((n : ℕ) × LooksAt (C.at live.now) assignment.old (map unsigned_abs hints.now) n × RisesBy steps.old steps.new n) }
+    ensures fault_count { IfErr result (λ e. (e ≡ LineFault.Memory) ⊎ ((n : ℕ) × LooksAt (C.at live.now) assignment.old (map unsigned_abs hints.now) n × RisesBy steps.old steps.new n)) }
 {
     let mut place = 0;
     for hint in hints {
         place += 1;
-        match live.get(&hint.id()) {
+        match live.clause(hint.id()) {
             None => return Err(LineFault::Dead(place)),
             Some(clause) => match counted_standing_of(clause, assignment, steps) {
                 Standing::Conflict => return Ok(place),
@@ -75,8 +96,8 @@ fn assume_false(literals: &[Literal], assignment: &mut Assignment) -> Result<(),
 }
 
 /// Whether the clause follows by its hints, begun with no literal true, and by how many of them.
-pub fn check<L: Ledger>(
-    live: &HashMap<u64, Vec<Literal>>,
+pub fn check<C: Clauses, L: Ledger>(
+    live: &C,
     literals: &[Literal],
     hints: &[Hint],
     assignment: &mut Assignment,
@@ -84,12 +105,13 @@ pub fn check<L: Ledger>(
 ) -> Result<usize, LineFault>
     requires empty { assignment.old ≡ [] }
     requires distinct { HasDistinctVariables literals.now }
-    ensures ok { OnOk result (ReverseUnitPropagation (clause_at live.now) literals.now (map unsigned_abs hints.now)) }
-    ensures used { IfOk result (Suffice (clause_at live.now) (map negated literals.now) (map unsigned_abs hints.now)) }
-    ensures err { IfErr result (λ e. (e ≡ LineFault.Memory) ⊎ ((stop : Stop) × StopsAs (clause_at live.now) (map negated literals.now) (map unsigned_abs hints.now) 1 stop × (e ≡ fault_of stop))) }
-    ensures cost { steps.new ≤ steps.old + hint_lengths (clause_at live.now) (map unsigned_abs hints.now) }
-    ensures count { OnOk result ((n : ℕ) × LooksAt (clause_at live.now) (map negated literals.now) (map unsigned_abs hints.now) n × RisesBy steps.old steps.new n) }
-    ensures fault_count { IfErr result (λ e. (e ≡ LineFault.Memory) ⊎ ((n : ℕ) × LooksAt (clause_at live.now) (map negated literals.now) (map unsigned_abs hints.now) n × RisesBy steps.old steps.new n)) }
+    ensures ok { OnOk result (ReverseUnitPropagation (C.at live.now) literals.now (map unsigned_abs hints.now)) }
+    ensures used { IfOk result (Suffice (C.at live.now) (map negated literals.now) (map unsigned_abs hints.now)) }
+    ensures err { IfErr result (λ e. (e ≡ LineFault.Memory) ⊎ ((stop : Stop) × StopsAs (C.at live.now) (map negated literals.now) (map unsigned_abs hints.now) 1 stop × (e ≡ fault_of stop))) }
+    ensures cost { steps.new ≤ steps.old + hint_lengths (C.at live.now) (map unsigned_abs hints.now) }
+    ensures fewest { (later : ℕ → Option (List ℕ)) (n : ℕ) → IsPartOf (C.at live.now) later → Suffice later (map negated literals.now) (map unsigned_abs hints.now) n → steps.new ≤ steps.old + hint_lengths later (take n (map unsigned_abs hints.now)) }
+    ensures count { OnOk result ((n : ℕ) × LooksAt (C.at live.now) (map negated literals.now) (map unsigned_abs hints.now) n × RisesBy steps.old steps.new n) }
+    ensures fault_count { IfErr result (λ e. (e ≡ LineFault.Memory) ⊎ ((n : ℕ) × LooksAt (C.at live.now) (map negated literals.now) (map unsigned_abs hints.now) n × RisesBy steps.old steps.new n)) }
 {
     assume_false(literals, assignment)?;
     refute(live, hints, assignment, steps)

@@ -1,18 +1,22 @@
-//! A proof without the lines and hints that it doesn't need: a pass forward counts the hints that show each addition, a pass backward
-//! marks what the empty clause stands on.
-ghost use Rattle.std.specs.Prelude.{◌≡◌, ℕ, ◌+◌, ◌<◌, ◌≤◌, List, AllPairs, IfOk, IfSome, MatchOption, length, map, slice_index_or, take, unsigned_abs};
+//! A proof without the lines and hints that it doesn't need. It is gone by from the first empty clause back, and only the lines that this clause stands
+//! on are looked at: the proof was accepted already, so nothing else is checked once more.
+ghost use Rattle.std.specs.Prelude.{◌≡◌, ℕ, ◌+◌, ◌<◌, ◌≤◌, List, [], AllPairs, IfOk, length, map};
 ghost use Rattle.clause_model.specs.Literals.{codes_of};
+ghost use Rattle.clause_model.specs.Propagation.{hint_lengths};
 ghost use Rattle.step_ledger.specs.Counts.{RisesByAtLeast, RisesBy};
 ghost use Rattle.lrat_check.specs.Content.{Content, content_of};
-ghost use Rattle.lrat_check.specs.Text.{id_of};
 ghost use Rattle.lrat_check.specs.Checking.{State, Starts};
 ghost use Rattle.lrat_check.specs.Runs.{contents_of, IsRefutation, Costs};
-ghost use Rattle.lrat_check.specs.Trimmed.{names_of, IsTrimmed, HasEmpty, EachIsNamed, used_lengths};
-ghost use Rattle.lrat_check.specs.Shown.{cut_of, cuts_of, IsBefore, IsCut, MarksNamed, MarksUsed, marked_of};
+ghost use Rattle.lrat_check.specs.Trimmed.{names_of, IsTrimmed, IsUsedPart, HasEmpty, EachIsNamed, used_lengths};
+ghost use Rattle.lrat_check.specs.Ending.{adds_of, up_to_empty};
+ghost use Rattle.lrat_check.specs.Shown.{cut_of, MarksNamed};
+ghost use Rattle.lrat_check.specs.Meant.{IsMeant, LooksAtFewest, ShowsAt, meant_by};
 
-use crate::checker::Checker;
 use crate::line::{Addition, Line};
+use crate::meanings::{Meanings, given_clauses, has_empty, place_of};
+use crate::propagation::check;
 use crate::shown::Shown;
+use clause_model::Assignment;
 use cnf_gates::{Formula, Memory};
 use std::alloc::{AllocError, Global};
 use step_ledger::{Ledger, Steps};
@@ -32,91 +36,88 @@ pub fn trim<L: Ledger>(
     ensures cost { (first : State) (n : ℕ) → Starts (codes_of formula.now.clauses) first → Costs first (contents_of lines.now) n → steps.new ≤ steps.old + n }
     ensures count { IfOk result (λ trimmed. RisesByAtLeast steps.old steps.new (used_lengths (codes_of formula.now.clauses) (contents_of lines.now) (contents_of trimmed.items))) }
 {
-    let mut checker = Checker::new(alloc, formula)?;
-    if checker.refuted() {
+    let given = given_clauses(alloc, formula)?;
+    if has_empty(&given) {
         return Ok(Vec::new(alloc));
     }
-    let shown = look_at(alloc, &mut checker, lines, steps)?;
-    let marks = mark_used(alloc, &shown)?;
-    Ok(copy_marked(alloc, &shown, &marks)?)
+    let additions = additions_of(alloc, lines)?;
+    let meanings = Meanings::new(alloc, given, additions)?;
+    Ok(keep_used(alloc, &meanings, steps)?)
 }
 
-/// Looks at the lines up to the first that adds the empty clause.
-fn look_at<'a, L: Ledger>(
-    alloc: Global,
-    checker: &mut Checker,
-    lines: &'a [Line],
-    steps: &mut Steps<L>,
-) -> Result<Vec<Shown<'a>>, Memory>
-    ensures cut { IfOk result (λ shown. (clauses : List (List ℕ)) → Starts clauses checker.old → IsRefutation clauses (contents_of lines.now) → (HasEmpty clauses → ⊥) → IsCut clauses (contents_of lines.now) (cuts_of shown.items)) }
-    ensures cost { (clauses : List (List ℕ)) (first : State) (n : ℕ) → Starts clauses checker.old → Starts clauses first → Costs first (contents_of lines.now) n → steps.new ≤ steps.old + n }
-    ensures count { IfOk result (λ shown. (clauses : List (List ℕ)) → Starts clauses checker.old → IsRefutation clauses (contents_of lines.now) → (HasEmpty clauses → ⊥) → RisesBy steps.old steps.new (used_lengths clauses (contents_of lines.now) (cuts_of shown.items))) }
+/// The additions up to the first of the empty clause.
+fn additions_of<'a>(alloc: Global, lines: &'a [Line]) -> Result<Vec<&'a Addition>, AllocError>
+    ensures { IfOk result (λ additions. adds_of additions.items ≡ up_to_empty (contents_of lines.now)) }
 {
-    let mut shown = Vec::new(alloc);
+    let mut additions = Vec::new(alloc);
     for line in lines {
         match line {
             Line::Addition(addition) => {
-                let Ok(hints) = checker.add_clause(addition, steps) else {
-                    return Err(Memory);
-                };
-                shown.push(Shown { addition, hints })?;
+                additions.push(addition)?;
                 if addition.literals.is_empty() {
-                    return Ok(shown);
+                    return Ok(additions);
                 }
             }
-            Line::Deletion(deletion) => {
-                let Ok(()) = checker.delete_clauses(deletion) else {
-                    return Err(Memory);
-                };
-            }
+            Line::Deletion(_) => {}
         }
     }
-    Ok(shown)
+    Ok(additions)
 }
 
-/// The ids of the additions.
-fn ids_of(alloc: Global, shown: &[Shown]) -> Result<Vec<u64>, AllocError>
-    ensures { IfOk result (λ ids. ids.items ≡ map (λ one. id_of (cut_of one)) shown.now) }
+/// The additions that a chain of hints leads to from the last one, each with the hints that show it.
+fn keep_used<L: Ledger>(
+    alloc: Global,
+    meanings: &Meanings,
+    steps: &mut Steps<L>,
+) -> Result<Vec<Line>, Memory>
+    ensures part { IfOk result (λ kept. (clauses : List (List ℕ)) (lines : List Content) → IsMeant clauses lines meanings.now → IsUsedPart clauses lines (contents_of kept.items)) }
+    ensures cost { (clauses : List (List ℕ)) (lines : List Content) (first : State) (n : ℕ) → IsMeant clauses lines meanings.now → Starts clauses first → Costs first lines n → steps.new ≤ steps.old + n }
+    ensures count { IfOk result (λ kept. (clauses : List (List ℕ)) (lines : List Content) → IsMeant clauses lines meanings.now → RisesBy steps.old steps.new (used_lengths clauses lines (contents_of kept.items))) }
 {
-    shown
-        .iter()
-        .map(|one| u64::from(one.addition.id.number()))
-        .collect(alloc)
-}
-
-/// Marks the additions that a chain of hints leads to from the last one.
-fn mark_used(alloc: Global, shown: &[Shown]) -> Result<Vec<bool>, AllocError>
-    ensures { IfOk result (λ marks. AllPairs IsBefore (cuts_of shown.now) → MarksUsed (cuts_of shown.now) marks.items) }
-{
-    let ids = ids_of(alloc, shown)?;
-    let count = shown.len();
+    let count = meanings.additions.len();
     let mut marks = vec![in alloc; false; count]?;
     if count > 0 {
         marks[count - 1] = true;
     }
+    let mut assignment = Assignment::new(alloc);
+    let mut kept = Vec::new(alloc);
     for place in (0..count).rev() {
         if marks[place] {
-            mark_named(&shown[place], &ids, &mut marks);
+            let shown = look_at(meanings, place, &mut assignment, steps)?;
+            mark_named(&shown, &meanings.ids, &mut marks);
+            kept.push(shortened(alloc, &shown)?)?;
         }
     }
-    Ok(marks)
+    kept.reverse();
+    Ok(kept)
 }
 
-/// The place of an id among those that go up. Ids that follow one another without a gap need no search, nor does one below all.
-fn place_of(ids: &[u64], id: u64) -> Option<usize>
-    ensures within { IfSome result (λ place. place < length ids.now) }
-    ensures place { AllPairs (λ id later. id < later) ids.now → MatchOption result ((k : ℕ) → k < length ids.now → slice_index_or ids.now k 0 ≡ id → ⊥) (λ place. (place < length ids.now) × (slice_index_or ids.now place 0 ≡ id)) }
+/// Looks at the hints of an addition up to the one whose clause becomes false.
+fn look_at<'a, L: Ledger>(
+    meanings: &Meanings<'a>,
+    place: usize,
+    assignment: &mut Assignment,
+    steps: &mut Steps<L>,
+) -> Result<Shown<'a>, Memory>
+    requires place { place < length meanings.now.additions.items }
+    requires empty { assignment.old ≡ [] }
+    ensures empty { assignment.new ≡ [] }
+    ensures shows { IfOk result (λ shown. ShowsAt meanings.now place shown) }
+    ensures count { IfOk result (λ shown. RisesBy steps.old steps.new (hint_lengths (meant_by meanings.now) (names_of (cut_of shown)))) }
+    ensures fewest { LooksAtFewest meanings.now place steps.old steps.new }
 {
-    if ids.is_empty() || id < ids[0] {
-        return None;
-    }
-    let guess = (id - ids[0]) as usize;
-    if guess < ids.len() && ids[guess] == id {
-        return Some(guess);
-    }
-    match ids.binary_search(&id) {
-        Ok(place) => Some(place),
-        Err(_) => None,
+    let addition = meanings.additions[place];
+    let outcome = check(
+        meanings,
+        &addition.literals,
+        &addition.hints,
+        assignment,
+        steps,
+    );
+    assignment.truncate(0);
+    match outcome {
+        Ok(hints) => Ok(Shown { addition, hints }),
+        Err(_) => Err(Memory),
     }
 }
 
@@ -131,20 +132,6 @@ fn mark_named(shown: &Shown, ids: &[u64], marks: &mut [bool])
             marks[place] = true;
         }
     }
-}
-
-/// The additions that are marked.
-fn copy_marked(alloc: Global, shown: &[Shown], marks: &[bool]) -> Result<Vec<Line>, AllocError>
-    requires { length marks.now ≡ length shown.now }
-    ensures { IfOk result (λ lines. contents_of lines.items ≡ marked_of marks.now (cuts_of shown.now)) }
-{
-    let mut lines = Vec::new(alloc);
-    for (place, one) in shown.iter().enumerate() {
-        if marks[place] {
-            lines.push(shortened(alloc, one)?)?;
-        }
-    }
-    Ok(lines)
 }
 
 /// The addition with the hints that show it.
