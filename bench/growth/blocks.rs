@@ -6,6 +6,7 @@ use crate::instruction::Instr;
 use crate::layout::{aim_fault, size};
 use crate::line::{Mention, Statement};
 use crate::listing::{Listing, Meaning};
+use crate::refusals::Refused;
 
 /// Blocks are in groups of so many, each with how far all of it has moved.
 const GROUP: usize = 512;
@@ -24,12 +25,6 @@ enum Head {
     Plain,
     Pads { size: u32, most: u32 },
     Aims { instr: Instr, plus: u32, to: Target },
-}
-
-/// Blocks between whose ends a distance would be out of reach.
-pub struct Refused {
-    pub first: usize,
-    pub last: usize,
 }
 
 /// Where all blocks lie.
@@ -352,61 +347,5 @@ impl Blocks {
         }
         self.bytes[here] -= bytes;
         Ok(())
-    }
-}
-
-/// Windows that were refused, by the blocks between which the distance lies: of each range of first blocks the greatest last one.
-pub struct Refusals {
-    width: usize,
-    last: Vec<u32>,
-    by_first: Vec<Vec<(u32, u32)>>,
-}
-
-impl Refusals {
-    pub fn none(blocks: usize) -> Refusals {
-        let width = blocks.next_power_of_two();
-        Refusals { width, last: vec![0; 2 * width], by_first: vec![Vec::new(); blocks] }
-    }
-
-    pub fn put(&mut self, refused: &Refused, place: usize) {
-        let last = refused.last as u32 + 1;
-        self.by_first[refused.first].push((last, place as u32));
-        self.note(refused.first, last.max(self.last[self.width + refused.first]));
-    }
-
-    fn note(&mut self, first: usize, last: u32) {
-        let mut at = self.width + first;
-        self.last[at] = last;
-        while at > 1 {
-            at /= 2;
-            self.last[at] = self.last[2 * at].max(self.last[2 * at + 1]);
-        }
-    }
-
-    /// Takes out the places whose distances have a block among theirs.
-    pub fn take(&mut self, block: usize, mut put: impl FnMut(usize)) {
-        while let Some(first) = self.first_around(1, (0, self.width), block) {
-            self.by_first[first].retain(|(last, place)| {
-                let is_kept = *last as usize <= block;
-                if !is_kept {
-                    put(*place as usize);
-                }
-                is_kept
-            });
-            let last = self.by_first[first].iter().map(|(last, _)| *last).max();
-            self.note(first, last.unwrap_or(0));
-        }
-    }
-
-    fn first_around(&self, at: usize, range: (usize, usize), block: usize) -> Option<usize> {
-        let (start, end) = range;
-        if start > block || self.last[at] as usize <= block {
-            return None;
-        }
-        if end - start == 1 {
-            return Some(start);
-        }
-        let middle = (start + end) / 2;
-        self.first_around(2 * at, (start, middle), block).or_else(|| self.first_around(2 * at + 1, (middle, end), block))
     }
 }

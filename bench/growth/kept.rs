@@ -93,4 +93,39 @@ impl Due {
         let word = word * 64 + middle[word].trailing_zeros() as usize;
         Some(word * 64 + low[word].trailing_zeros() as usize)
     }
+    /// The least place at or behind one.
+    // not each program needs this and what follows
+    #[allow(dead_code)]
+    pub fn at_or_behind(&self, place: usize) -> Option<usize> {
+        let mut at = place;
+        for (depth, level) in self.levels.iter().enumerate() {
+            let word = level.get(at / 64)? & (!0 << (at % 64));
+            if word != 0 {
+                return Some(self.under(depth, at / 64 * 64 + word.trailing_zeros() as usize, |word| word.trailing_zeros()));
+            }
+            at = at / 64 + 1;
+        }
+        let word = at + self.levels[2].get(at..)?.iter().position(|word| *word != 0)?;
+        Some(self.under(3, word, |word| word.trailing_zeros()))
+    }
+
+    /// The greatest place before one.
+    #[allow(dead_code)]
+    pub fn before(&self, place: usize) -> Option<usize> {
+        let mut end = place;
+        for (depth, level) in self.levels.iter().enumerate() {
+            let word = if end % 64 == 0 { 0 } else { level[end / 64] & !(!0 << (end % 64)) };
+            if word != 0 {
+                return Some(self.under(depth, end / 64 * 64 + word.ilog2() as usize, |word| word.ilog2()));
+            }
+            end /= 64;
+        }
+        let word = self.levels[2][..end].iter().rposition(|word| *word != 0)?;
+        Some(self.under(3, word, |word| word.ilog2()))
+    }
+
+    /// The place that one bit of a level stands for, by which bit of each word below is taken.
+    fn under(&self, depth: usize, at: usize, bit: impl Fn(u64) -> u32) -> usize {
+        self.levels[..depth].iter().rev().fold(at, |at, level| at * 64 + bit(level[at]) as usize)
+    }
 }

@@ -28,8 +28,9 @@ mod words;
 mod blocks;
 mod graph;
 mod kept;
+mod refusals;
 
-use crate::blocks::{Blocks, Refusals, Refused};
+use crate::blocks::Blocks;
 use crate::graph::Graph;
 use crate::kept::{Due, Kept, NONE};
 use crate::layout::{layout, Fault, LayoutError};
@@ -38,6 +39,7 @@ use crate::plain_rules::{instruction_count, left_of, longer, parted, under, Rule
 use crate::plain_tables::read_table;
 use crate::plain_windows::{rows, Letter, Naming};
 use crate::reach::is_steady;
+use crate::refusals::{Refusals, Refused};
 use std::hint::black_box;
 use std::io::{self, Read, Write};
 use std::time::Instant;

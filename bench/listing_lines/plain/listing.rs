@@ -109,6 +109,11 @@ fn runs_of_words(lines: &[Line]) -> Vec<usize> {
 impl Listing {
     pub fn of(lines: Vec<Line>) -> Result<Listing, Refusal> {
         let names = meanings(&lines)?;
+        Ok(Listing::with(lines, names))
+    }
+
+    /// The listing of lines, given what the names stand for that they define.
+    pub fn with(lines: Vec<Line>, names: HashMap<Vec<u8>, Meaning>) -> Listing {
         let mut spots = Vec::new();
         let mut passed = Vec::with_capacity(lines.len());
         for (n, line) in lines.iter().enumerate() {
@@ -119,7 +124,7 @@ impl Listing {
                 _ => {}
             }
         }
-        Ok(Listing { lines, names, spots, passed })
+        Listing { lines, names, spots, passed }
     }
 
     fn label_line(&self, name: &[u8]) -> Option<usize> {

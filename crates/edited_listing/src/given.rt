@@ -1,9 +1,8 @@
 //! A listing as it was given, with what is known of each of its places, so that no line is looked at again.
-ghost use Rattle.std.specs.Prelude.{◌≡◌, ◌++◌, map, replicate, IfOk, OnOk};
-ghost use Rattle.listing_parser.specs.Views.{line_view};
-ghost use Rattle.edited_listing.specs.Known.{last_breaks, last_labels};
+ghost use Rattle.std.specs.Prelude.{◌≡◌, IfOk};
+ghost use Rattle.edited_listing.specs.Known.{last_breaks};
 
-use listing_parser::{Line, Listing};
+use listing_parser::Listing;
 use std::alloc::{AllocError, Global};
 use std::marker::Model;
 use thumb_instr::Instr;
@@ -49,45 +48,24 @@ fn last_breaks(alloc: Global, rows: &[Row]) -> Result<Vec<usize>, AllocError>
     Ok(breaks)
 }
 
-/// Adds a number so many times.
-fn add_times(numbers: &mut Vec<usize>, number: usize, times: usize) -> Result<(), AllocError>
-    ensures { OnOk result (numbers.new.items ≡ numbers.old.items ++ replicate times number) }
-{
-    for _time in 0..times {
-        numbers.push(number)?;
-    }
-    Ok(())
-}
-
-/// Of each place of lines, one more than the place of the last label up to it; 0 where there is none.
-fn last_labels(alloc: Global, lines: &[Line]) -> Result<Vec<usize>, AllocError>
-    ensures { IfOk result (λ labels. labels.items ≡ last_labels 0 0 (map line_view lines.now)) }
-{
-    let mut labels = Vec::new(alloc);
-    let mut last = 0;
-    for line in lines {
-        if !line.names.is_empty() {
-            last = labels.len() + 1;
-        }
-        add_times(&mut labels, last, line.statement.places())?;
-    }
-    Ok(labels)
-}
-
 impl GivenListing {
     ghost use Rattle.std.specs.Prelude.{◌≡◌, ◌-◌, ◌<◌, ◌≤◌, ◌↔◌, suc, true, false, length, slice_get, IfOk};
     ghost use Rattle.thumb_model.specs.Listing.{labels_from, places_of};
     ghost use Rattle.window_runs.specs.Rows.{rows_from};
     ghost use Rattle.edited_listing.specs.Edited.{letter_in};
-    ghost use Rattle.edited_listing.specs.Known.{all_from, joined_at, HasLabelIn};
+    ghost use Rattle.edited_listing.specs.Known.{all_from, joined_at, last_labels, HasLabelIn};
 
-    /// What is known of a listing.
-    pub(crate) fn new(alloc: Global, listing: Listing) -> Result<Self, AllocError>
+    /// What is known of a listing. `labels` has of each place one more than the place of the last label up to it.
+    pub(crate) fn new(
+        alloc: Global,
+        listing: Listing,
+        labels: Vec<usize>,
+    ) -> Result<Self, AllocError>
+        requires { labels.items ≡ last_labels 0 0 listing }
         ensures { IfOk result (λ g. g ≡ listing) }
     {
         let rows = rows(alloc, listing.lines())?;
         let breaks = last_breaks(alloc, &rows)?;
-        let labels = last_labels(alloc, listing.lines())?;
         Ok(GivenListing {
             listing,
             rows,

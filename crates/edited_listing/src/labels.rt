@@ -1,21 +1,54 @@
-//! Of each place of lines, whether a label stands on its instruction's line.
-ghost use Rattle.std.specs.Prelude.{◌≡◌, ◌++◌, map, false, IfOk, OnOk};
+//! Where labels stand among the places of lines, in one pass over these.
+ghost use Rattle.std.specs.Prelude.{◌≡◌, ◌<◌, ◌^◌, ◌++◌, suc, map, replicate, false, if◌then◌else◌, IfOk, OnOk};
 ghost use Rattle.thumb_model.specs.Listing.{Words};
 ghost use Rattle.listing_parser.specs.Views.{line_view, statement_view, value_view};
-ghost use Rattle.edited_listing.specs.Counting.{labels_in, op_labels, some_name};
+ghost use Rattle.edited_listing.specs.Counting.{labels_in, op_labels};
+ghost use Rattle.edited_listing.specs.Known.{last_labels};
 
 use listing_parser::{Line, Statement, Value};
 use std::alloc::{AllocError, Global};
 
-/// Of each place, whether a label stands on its instruction's line.
-pub(crate) fn op_labels(alloc: Global, lines: &[Line]) -> Result<Vec<bool>, AllocError>
-    ensures { IfOk result (λ labels. labels.items ≡ op_labels (map line_view lines.now)) }
+/// What is known of labels at each place of lines: one more than the place of the last label up to it, 0 where there is none, and whether a label stands on
+/// its instruction's line.
+#[derive(Drop)]
+pub(crate) struct Labels {
+    pub(crate) lasts: Vec<usize>,
+    pub(crate) labelled: Vec<bool>,
+}
+
+/// What is known of labels at each place of lines. `places` is how many are made room for.
+pub(crate) fn labels_of(alloc: Global, lines: &[Line], places: usize) -> Result<Labels, AllocError>
+    ensures lasts { IfOk result (λ l. l.lasts.items ≡ last_labels 0 0 (map line_view lines.now)) }
+    ensures labelled { IfOk result (λ l. l.labelled.items ≡ op_labels (map line_view lines.now)) }
 {
-    let mut labels = Vec::with_capacity(alloc, lines.len())?;
+    let mut lasts = Vec::with_capacity(alloc, places)?;
+    let mut labelled = Vec::with_capacity(alloc, places)?;
+    let mut last = 0;
     for line in lines {
-        add_places(&mut labels, &line.statement, !line.names.is_empty())?;
+        let is_labelled = !line.names.is_empty();
+        last = last_with(is_labelled, lasts.len(), last);
+        add_times(&mut lasts, last, line.statement.places())?;
+        add_places(&mut labelled, &line.statement, is_labelled)?;
     }
-    Ok(labels)
+    Ok(Labels { lasts, labelled })
+}
+
+/// One more than a place, if a label stands there; or else what it was of the last one before.
+fn last_with(is_labelled: bool, place: usize, before: usize) -> usize
+    requires { place < 2 ^ 63 }
+    ensures { result ≡ (if is_labelled then suc place else before) }
+{
+    if is_labelled { place + 1 } else { before }
+}
+
+/// Adds a number so many times.
+fn add_times(numbers: &mut Vec<usize>, number: usize, times: usize) -> Result<(), AllocError>
+    ensures { OnOk result (numbers.new.items ≡ numbers.old.items ++ replicate times number) }
+{
+    for _time in 0..times {
+        numbers.push(number)?;
+    }
+    Ok(())
 }
 
 /// Adds the places of a statement.

@@ -11,8 +11,8 @@ ghost use Rattle.edited_listing.specs.declared.standing.Standing.TheVariants as 
 
 use crate::given::GivenListing;
 use crate::giving::give_way;
-use crate::labels::op_labels;
-use crate::looks::{Run, home, run_from};
+use crate::labels::{Labels, labels_of};
+use crate::looks::{Run, home, next_letter, run_from};
 use crate::passing::is_op_behind;
 use crate::printing::print;
 use crate::standing::Standing;
@@ -113,7 +113,7 @@ impl EditedListing {
     ghost use Rattle.padded_code.specs.Padding.{kept};
     ghost use Rattle.padded_code.specs.Windows.{AreRanked};
     ghost use Rattle.window_runs.specs.Rows.{rows_from};
-    ghost use Rattle.window_runs.specs.Runs.{run};
+    ghost use Rattle.window_runs.specs.Runs.{letter_at, run};
     ghost use Rattle.edited_listing.specs.Changes.{marks_of};
     ghost use Rattle.edited_listing.specs.Edited.{letter_in, lines_now, marks, padded, unchanged};
     ghost use Rattle.edited_listing.specs.Known.{HasLabelAt};
@@ -126,9 +126,10 @@ impl EditedListing {
         let count = listing.place_count();
         let stands = all_given(alloc, count)?;
         let kept = KeptPlaces::new(alloc, count)?;
-        let labelled = op_labels(alloc, listing.lines())?;
+        let labels = labels_of(alloc, listing.lines(), count as usize)?;
+        let Labels { lasts, labelled } = labels;
         let line_count = count_lines(&listing);
-        let listing = GivenListing::new(alloc, listing)?;
+        let listing = GivenListing::new(alloc, listing, lasts)?;
         Ok(EditedListing {
             listing,
             stands,
@@ -149,6 +150,15 @@ impl EditedListing {
             Standing::Gone => None,
             Standing::New { instr, home: _ } => letter(&instr, None),
         }
+    }
+
+    /// The instruction with which a run begins at a kept place, if one does.
+    pub fn first_letter(&self, place: u32) -> Option<Instr>
+        requires within { place < length self.now.stands }
+        requires kept { is_gone (marks self.now) place ≡ false }
+        ensures { result ≡ letter_at true (drop (rank (marks self.now) place) (rows_from false (lines_now self.now))) }
+    {
+        next_letter(&self.listing, &self.stands, true, place, place)
     }
 
     /// How many places there are, with those that are gone.

@@ -63,7 +63,7 @@ fn is_joined(given: &GivenListing, stands: &[Standing], before: u32, place: u32)
 }
 
 /// The instruction of a place that a run goes on with behind another place, or begins with.
-fn next_letter(
+pub(crate) fn next_letter(
     given: &GivenListing,
     stands: &[Standing],
     begins: bool,

@@ -63,6 +63,19 @@ pub found_greatest : (words ws : List ℕ) (past to w i word : ℕ) → ws ≡ w
 found_greatest words ws past to w i word s b z t e h one none =
     greatest_in words w i (λ p l. none_behind words to past b (λ k x y. ap (λ (l : List ℕ). slice_index l k) (sym s) ∙ z k x y) p (omega arith)) h (ap (λ v. bit_at v i) (sym e) ∙ one) (λ j l. ap (λ v. bit_at v j) (sym e) ∙ none j l)
 
+-- no bit is set where no word from the least on up to the past is used
+pub none_up_to : (words ws : List ℕ) (least past w : ℕ) → ws ≡ words → ((p : ℕ) → p < least * 64 → has words p ≡ false) → ((p : ℕ) → past * 64 ≤ p → has words p ≡ false) → ((k : ℕ) → least ≤ k → k < w → slice_index ws k ≡ 0) → past ≤ w → (p : ℕ) → has words p ≡ false
+none_up_to words ws least past w s b f z h p = elim (cases_lt p (past * 64)) [
+  | inl l ↦ none_before words least w b (λ k x y. ap (λ (l : List ℕ). slice_index l k) (sym s) ∙ z k x y) p (omega arith)
+  | inr l ↦ f p l
+]
+
+pub none_down_to : (words ws : List ℕ) (least past to : ℕ) → ws ≡ words → ((p : ℕ) → p < least * 64 → has words p ≡ false) → ((p : ℕ) → past * 64 ≤ p → has words p ≡ false) → ((k : ℕ) → to ≤ k → k < past → slice_index ws k ≡ 0) → to ≤ least → (p : ℕ) → has words p ≡ false
+none_down_to words ws least past to s b f z h p = elim (cases_lt p (least * 64)) [
+  | inl l ↦ b p l
+  | inr l ↦ none_behind words to past f (λ k x y. ap (λ (l : List ℕ). slice_index l k) (sym s) ∙ z k x y) p (omega arith)
+]
+
 -- where no bit is set no place is marked
 pub none_marked : (n : ℕ) (words : List ℕ) (ms : List Bool) → marks_of n words ≡ ms → ((p : ℕ) → n ≤ p → has words p ≡ false) → ((p : ℕ) → has words p ≡ false) → (p : ℕ) → marked ms p ≡ false
 none_marked n words ms v c z p = ap (λ (l : List Bool). marked l p) (sym v) ∙ marked_has n words c p ∙ z p

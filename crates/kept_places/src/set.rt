@@ -9,7 +9,7 @@ use std::marker::Model;
 /// Which of so many places are in a set. Contracts see it as a mark of each place that says whether it is.
 ///
 /// A word has the bits of 64 places. Before the word `least` and from the word `past` on all words are 0, so that taking all places, the least or the
-/// greatest first, passes each word once.
+/// greatest first, passes each word once, and only words between members that were there are passed. Once a set is found empty no word is between.
 #[derive(Drop)]
 pub struct PlaceSet {
     count: u32,
@@ -92,8 +92,10 @@ impl PlaceSet {
         ensures none { IfNone result ((p : ℕ) → marked self.old p ≡ false) }
         ensures same { IfNone result (self.new ≡ self.old) }
     {
-        self.least = first_used(&self.words, self.least);
-        if self.least == self.words.len() {
+        self.least = first_used(&self.words, self.least, self.past);
+        if self.least >= self.past {
+            self.least = self.words.len();
+            self.past = 0;
             return None;
         }
         let bit = lowest(self.words[self.least]);
@@ -109,8 +111,10 @@ impl PlaceSet {
         ensures none { IfNone result ((p : ℕ) → marked self.old p ≡ false) }
         ensures same { IfNone result (self.new ≡ self.old) }
     {
-        self.past = past_used(&self.words, self.past);
-        if self.past == 0 {
+        self.past = past_used(&self.words, self.least, self.past);
+        if self.past <= self.least {
+            self.least = self.words.len();
+            self.past = 0;
             return None;
         }
         let word = self.past - 1;

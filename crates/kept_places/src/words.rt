@@ -64,35 +64,36 @@ pub(crate) fn highest(word: u64) -> u32
     63 - word.leading_zeros()
 }
 
-/// The first word from one on that isn't 0, or how many words there are.
-pub(crate) fn first_used(words: &[u64], from: usize) -> usize
-    ensures within { result ≤ length words.now }
-    ensures used { result < length words.now → 0 < slice_index words.now result }
+/// The first word from one on and before the end that isn't 0, or the end.
+pub(crate) fn first_used(words: &[u64], from: usize, end: usize) -> usize
+    requires { end ≤ length words.now }
+    ensures within { result ≤ end }
+    ensures used { result < end → 0 < slice_index words.now result }
     ensures before { (k : ℕ) → from ≤ k → k < result → slice_index words.now k ≡ 0 }
 {
     let mut word = from;
-    while word < words.len() {
+    while word < end {
         if words[word] != 0 {
             return word;
         }
         word += 1;
     }
-    words.len()
+    end
 }
 
-/// The word behind the last one below some word that isn't 0, or 0.
-pub(crate) fn past_used(words: &[u64], past: usize) -> usize
+/// The word behind the last one from one on and below another that isn't 0, or the first of both where there is none.
+pub(crate) fn past_used(words: &[u64], from: usize, past: usize) -> usize
     requires { past ≤ length words.now }
     ensures within { result ≤ past }
-    ensures used { (k : ℕ) → k + 1 ≡ result → 0 < slice_index words.now k }
+    ensures used { (k : ℕ) → from ≤ k → k + 1 ≡ result → 0 < slice_index words.now k }
     ensures behind { (k : ℕ) → result ≤ k → k < past → slice_index words.now k ≡ 0 }
 {
     let mut past = past;
-    while past > 0 {
+    while past > from {
         if words[past - 1] != 0 {
             return past;
         }
         past -= 1;
     }
-    0
+    past
 }

@@ -24,7 +24,7 @@ turn_each test m (y ∷ xs) (suc i) x p e =
 
 sides_at : (t : Table) (i : ℕ) (e : Rule) → IsAccepted t → slice_get t.rules i ≡ Some e → SidesFit t e
 unfolding EntryVerdict
-sides_at t i e p at = (turn_each (EntryVerdict t) 1 t.rules i e p.1.1 at).0
+sides_at t i e p at = (turn_each (EntryVerdict t) 1 t.rules i e p.1.1.0 at).0
 
 -- the rule of an element of a mapped list
 record IsMapped {A B : Type 0} (f : A → B) (xs : List A) (k : ℕ) (y : B) : Type 0 where

@@ -23,7 +23,7 @@ use Rattle.padded_code.specs.Windows.{AreRanked}
 use Rattle.padded_code.proofs.Kept.{kept_at}
 use Rattle.padded_code.proofs.Windows.{rank_taken, live_behind}
 use Rattle.window_rewrite.proofs.DueLines.{joined_before, joined_behind}
-use Rattle.window_rewrite.proofs.DuePlaces.{marks_stay, outside, places_stay, ranks_after, was_kept}
+use Rattle.window_rewrite.proofs.DuePlaces.{marks_stay, outside, places_stay, ranks_after}
 use Rattle.window_rewrite.proofs.DueWindows.{alike_before, alike_behind, applies_alike, left_length, same_window, AreAlike}
 use Rattle.window_rewrite.proofs.Settled.{IsGap}
 use Rattle.window_rewrite.proofs.WindowPlaces.{window_within}

@@ -1,13 +1,12 @@
 -- Where no entry fitted, none fits when a window gave way elsewhere.
-use Rattle.std.proofs.Common.{◌≡◌, ℕ, suc, ◌+◌, ◌-◌, ◌<◌, ◌≤◌, Bool, true, false, List, length, Some, sym, subst, ◌⊎◌, inl, inr, arith, refl, ap, ◌∙◌, true≢false}
-use Rattle.std.proofs.lemmas.Bool.{cases_lt}
+use Rattle.std.proofs.Common.{◌≡◌, ℕ, suc, ◌+◌, ◌-◌, ◌<◌, ◌≤◌, Bool, false, List, length, Some, sym, subst, ◌⊎◌, inl, inr, arith, refl, ◌∙◌, true≢false}
 use Rattle.kept_places.specs.Marks.{is_gone, rank}
 use Rattle.thumb_instr.specs.declared.instr.Instr.{Instr}
 use Rattle.thumb_model.specs.Listing.{Code, Line, code_of, places_of}
 use Rattle.thumb_model.specs.Flow.{Reads}
 use Rattle.thumb_model.specs.Replaced.{moved}
-use Rattle.thumb_model.specs.ReplacedLines.{are_joined_from, replaced_lines}
-use Rattle.rule_model.specs.Rules.{Rule, weight, Applies, IsSoundRule}
+use Rattle.thumb_model.specs.ReplacedLines.{replaced_lines}
+use Rattle.rule_model.specs.Rules.{Rule, weight, IsSoundRule}
 use Rattle.rule_model.specs.Rewriting.{Setting, Replacement, used_rule, AppliesIn}
 use Rattle.rule_model.specs.Laws.{CostsOne}
 use Rattle.rule_model.proofs.LinesKept.{shorter_right}
@@ -15,7 +14,7 @@ use Rattle.rule_model.proofs.Table.{window_length}
 use Rattle.padded_code.specs.Padding.{IsPadded}
 use Rattle.padded_code.specs.Exchange.{marks_after, exchanged}
 use Rattle.padded_code.proofs.Windows.{rank_taken}
-use Rattle.window_rewrite.specs.Choices.{FitsIn, Meets, NoneAt}
+use Rattle.window_rewrite.specs.Choices.{NoneAt}
 use Rattle.window_rewrite.specs.Due.{Reaches}
 use Rattle.window_rewrite.proofs.DueFits.{applied_at, rank_now, GaveWay}
 use Rattle.window_rewrite.proofs.WindowPlaces.{window_within}

@@ -1,5 +1,5 @@
 -- Which choice comes first in a scene, and what is due in it when a window gave way.
-use Rattle.std.proofs.Common.{◌≡◌, ℕ, suc, ◌+◌, ◌-◌, ◌<◌, ◌≤◌, Bool, true, false, List, length, take, drop, map, Some, sym, subst, ◌⊎◌, ◌↔◌, inl, inr, arith, refl, ap, ◌∙◌, true≢false, replicate, set}
+use Rattle.std.proofs.Common.{◌≡◌, ℕ, suc, ◌+◌, ◌-◌, ◌<◌, ◌≤◌, Bool, true, false, List, length, take, drop, Some, sym, subst, inl, inr, arith, refl, ap, ◌∙◌, true≢false, replicate, set}
 use Rattle.std.specs.Prelude.{slice_get}
 use Rattle.std.proofs.lemmas.Bool.{cases_Bool, cases_eq, cases_lt}
 use Rattle.std.proofs.lemmas.List.{length-replicate}
@@ -7,12 +7,10 @@ use Rattle.kept_places.specs.Marks.{is_gone, marked, rank, IsLeast}
 use Rattle.kept_places.proofs.Ranks.{marked_other, marked_replicate, marked_set, unmarked}
 use Rattle.thumb_instr.specs.declared.instr.Instr.{Instr}
 use Rattle.thumb_instr.specs.Items.{has}
-use Rattle.thumb_model.specs.Listing.{plain, Code, Line, Place, code_of, labels_from, places_of}
-use Rattle.thumb_model.specs.Flow.{Reads}
+use Rattle.thumb_model.specs.Listing.{Code, Line, Place, code_of, labels_from, places_of}
 use Rattle.thumb_model.specs.ReplacedLines.{replaced_lines}
 use Rattle.thumb_model.proofs.Lists.{length_map, take_all}
 use Rattle.thumb_model.proofs.LinesReplaced.{ops_of}
-use Rattle.rule_model.specs.Rules.{Rule}
 use Rattle.rule_model.specs.Rewriting.{Setting, Replacement, lines_after, left_length_of, AppliesIn, IsFirst, NoneApplies}
 use Rattle.rule_model.proofs.Costs.{weight_is_length}
 use Rattle.rule_model.proofs.Alone.{alone_is}
@@ -32,7 +30,7 @@ use Rattle.window_rewrite.specs.declared.due.Due.{Due}
 use Rattle.window_rewrite.specs.declared.finding.Rules.{Rules}
 use Rattle.window_rewrite.specs.declared.scene.Scene.{Scene}
 use Rattle.window_rewrite.specs.declared.scene.Site.{Site}
-use Rattle.window_rewrite.specs.Choices.{choice_of, setting_of, AreReady, IsBest, IsChoice, Meets, NoneAt}
+use Rattle.window_rewrite.specs.Choices.{choice_of, setting_of, AreReady, IsBest, IsChoice, NoneAt}
 use Rattle.window_rewrite.specs.Due.{AreMarks, AreTried, AreTriedBut, Reaches, StayMarked}
 use Rattle.window_rewrite.specs.Rules.{rules_in}
 use Rattle.window_rewrite.specs.Scenes.{lines_of, IsKept, IsSite}

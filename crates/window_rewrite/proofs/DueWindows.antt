@@ -1,5 +1,5 @@
 -- A rule that applies where a window gave way applied before: what it sees of the code is the same.
-use Rattle.std.proofs.Common.{◌≡◌, ℕ, length-append, zero, suc, ◌+◌, ◌-◌, ◌<◌, ◌≤◌, Bool, true, false, List, [], ◌∷◌, ◌++◌, length, take, drop, map, Some, refl, sym, ap, ◌∙◌, subst, ◌⊎◌, inl, inr, arith}
+use Rattle.std.proofs.Common.{◌≡◌, ℕ, length-append, zero, suc, ◌+◌, ◌-◌, ◌<◌, ◌≤◌, true, List, [], ◌∷◌, ◌++◌, length, take, drop, map, Some, refl, sym, ap, ◌∙◌, ◌⊎◌, inl, inr, arith}
 use Rattle.std.specs.Prelude.{slice_get}
 use Rattle.std.specs.Option.{option_map}
 use Rattle.std.proofs.lemmas.Bool.{cases_lt}
@@ -9,11 +9,11 @@ use Rattle.thumb_instr.specs.Renaming.{Low, renamed}
 use Rattle.thumb_model.specs.Listing.{plain, Label, Place, Code, is_code, is_op_place}
 use Rattle.thumb_model.specs.Flow.{LiveAfter}
 use Rattle.thumb_model.specs.Replaced.{moved, move_label, replaced}
-use Rattle.thumb_model.proofs.Lists.{get_drop, get_take, get_front, get_back, length_map, take_all, take_short, length_drop}
+use Rattle.thumb_model.proofs.Lists.{get_drop, get_take, get_front, get_back, length_map, take_all, length_drop}
 use Rattle.rule_model.specs.Rules.{Rule, Applies}
 use Rattle.rule_model.proofs.Table.{window_length}
 use Rattle.window_rewrite.proofs.Settled.{first_plain, IsGap}
-use Rattle.window_rewrite.proofs.WindowPlaces.{first_op, window_within}
+use Rattle.window_rewrite.proofs.WindowPlaces.{first_op}
 
 -- ---- what is left where instructions give way ----
 

@@ -1,8 +1,9 @@
 -- What a left side shares with each window in which it stands.
-use Rattle.std.proofs.Common.{◌≡◌, ℕ, zero, suc, ◌+◌, ◌*◌, ◌<◌, ◌≤◌, ◌%◌, Bool, true, false, List, [], ◌∷◌, length, take, map, Some, refl, sym, ap, ◌∙◌, subst, arith, inl, inr}
-use Rattle.std.specs.Prelude.{slice_get, slice_set}
+use Rattle.std.proofs.Common.{◌≡◌, ℕ, zero, suc, ◌+◌, ◌*◌, ◌<◌, ◌≤◌, ◌%◌, Bool, true, false, List, [], ◌∷◌, length, take, map, Some, None, ◌⊎◌, refl, sym, ap, ◌∙◌, subst, arith, inl, inr}
+use Rattle.std.specs.Prelude.{slice_get, slice_set, if◌then◌else◌}
+use Rattle.std.specs.Option.{option_map}
 use Rattle.std.proofs.lemmas.Bool.{cases_lt, lt-ltb}
-use Rattle.std.proofs.lemmas.Option.{same_Some, slice_get_within}
+use Rattle.std.proofs.lemmas.Option.{same_Some, slice_get_within, slice_get-map}
 use Rattle.thumb_instr.specs.declared.instr.Instr.{Instr}
 use Rattle.thumb_instr.specs.declared.instr.Instr.TheVariants as instr
 use Rattle.thumb_instr.specs.Window.{normal_of}
@@ -13,7 +14,9 @@ use Rattle.thumb_model.proofs.Lists.{length_map}
 use Rattle.window_rewrite.specs.Rules.{is_marked, is_shorter, AreMarked, HaveMarks, IsNoted}
 use Rattle.window_rewrite.specs.Shapes.{head_number, next_shape, shape_from, shape_of}
 use Rattle.window_rewrite.specs.declared.marks.Marks.{Marks}
-use Rattle.window_rewrite.specs.Fitting.{Shortens}
+use Rattle.window_rewrite.specs.Fitting.{NoneBetween, Shortens}
+use Rattle.window_runs.specs.declared.rows.Row.{Row}
+use Rattle.window_runs.specs.Runs.{before, letter_at, run}
 
 -- ---- windows ----
 
@@ -115,6 +118,104 @@ unreached rules marks run at shape is shape_is missing n k rule registers longer
 -- a left side that stands in a window has its number
 pub stands_shape : (rule : Rule) (registers : List Low) (window : List Instr) → Shortens rule registers window → shape_of rule.left ≡ shape_of (map normal_of window)
 stands_shape rule registers window s = sym (shape_renamed registers 0 rule.left (map normal_of window) s.stands.matches)
+
+-- ---- how long the left sides are that stand first in a run ----
+
+front_long : (n : ℕ) (is : List Instr) → length (take n is) ≤ length is
+front_long zero is = omega arith
+front_long (suc n) [] = omega arith
+front_long (suc n) (i ∷ is) = let h = front_long n is in omega arith
+
+front_as_long : (n : ℕ) (is : List Instr) → take n is ≡ take (length (take n is)) is
+front_as_long zero is = refl
+front_as_long (suc n) [] = refl
+front_as_long (suc n) (i ∷ is) = ap (λ js. i ∷ js) (front_as_long n is)
+
+-- a side that stands in a window is as long
+stands_long : (rule : Rule) (registers : List Low) (window : List Instr) → Shortens rule registers window → length window ≡ length rule.left
+stands_long rule registers window s =
+    let count = ap (λ (is : List Instr). length is) s.stands.matches in
+    omega (arith, count, length_map (renamed registers) rule.left, length_map normalised window)
+
+-- where the instructions of a front don't have the number of a left side, no left side that stands there has as many
+unmarked_none : (rules : List Rule) (marks : Marks) (run : List Instr) (at shape : ℕ) → HaveMarks rules (length rules) marks → shape ≡ shape_of (take (at + 1) (map normal_of run)) → is_marked marks.wholes.items shape ≡ false
+    → (n k : ℕ) (rule : Rule) (registers : List Low) → length rule.left ≡ at + 1 → slice_get rules k ≡ Some rule → Shortens rule registers (take n run) → ⊥
+unmarked_none rules marks run at shape is shape_is missing n k rule registers long is_rule s =
+    let whole : is_marked marks.wholes.items (shape_of rule.left) ≡ true = (is.noted k rule (slice_get_within rules k rule is_rule) is_rule (shorter_is rule registers (take n run) s)).whole in
+    let count : at + 1 ≡ length (take n run) = sym long ∙ sym (stands_long rule registers (take n run) s) in
+    let same : shape ≡ shape_of rule.left =
+    shape_is ∙ ap (λ m. shape_of (take m (map normal_of run))) count
+    ∙ ap shape_of (front_map normal_of (length (take n run)) run) ∙ ap (λ is. shape_of (map normal_of is)) (sym (front_as_long n run)) ∙ sym (stands_shape rule registers (take n run) s) in
+    let bad : true ≡ false = sym whole ∙ ap (is_marked marks.wholes.items) (sym same) ∙ missing in
+    absurd (cc)
+
+-- with one instruction more
+pub between_more : (rules : List Rule) (marks : Marks) (run : List Instr) (at shape reached next : ℕ) → HaveMarks rules (length rules) marks → shape ≡ shape_of (take (at + 1) (map normal_of run)) → next ≡ (if is_marked marks.wholes.items shape then at + 1 else reached)
+    → NoneBetween rules run reached at → NoneBetween rules run next (at + 1)
+between_more rules marks run at shape reached next is shape_is e none = by (is_marked marks.wholes.items shape) refl
+  where
+    by : (b : Bool) → is_marked marks.wholes.items shape ≡ b → NoneBetween rules run next (at + 1)
+    by true m = λ n k rule registers longer few is_rule s. (
+        let same : next ≡ at + 1 = e ∙ ap (λ (b : Bool). if b then at + 1 else reached) m in
+        absurd (omega (arith, longer, few, same)))
+    by false m = λ n k rule registers longer few is_rule s. (
+        let same : next ≡ reached = e ∙ ap (λ (b : Bool). if b then at + 1 else reached) m in
+        elim (cases_lt at (length rule.left)) [
+          | inl l ↦ unmarked_none rules marks run at shape is shape_is m n k rule registers (omega (arith, l, few)) is_rule s
+          | inr l ↦ none n k rule registers (omega (arith, longer, same)) l is_rule s
+        ])
+
+pub between_within : (rules : List Rule) (marks : Marks) (run : List Instr) (at shape reached next : ℕ) → next ≡ (if is_marked marks.wholes.items shape then at + 1 else reached) → reached ≤ at → next ≤ at + 1
+between_within rules marks run at shape reached next e h = by (is_marked marks.wholes.items shape) e
+  where
+    by : (b : Bool) → next ≡ (if b then at + 1 else reached) → next ≤ at + 1
+    by true e = omega (arith, e)
+    by false e = omega (arith, e, h)
+
+-- where the next front isn't marked, no longer one stands there
+pub between_all : (rules : List Rule) (marks : Marks) (run : List Instr) (at shape reached : ℕ) → HaveMarks rules (length rules) marks → shape ≡ shape_of (take (at + 1) (map normal_of run)) → is_marked marks.fronts.items shape ≡ false → NoneBetween rules run reached at
+    → (n k : ℕ) (rule : Rule) (registers : List Low) → reached < length rule.left → slice_get rules k ≡ Some rule → Shortens rule registers (take n run) → ⊥
+between_all rules marks run at shape reached is shape_is missing none n k rule registers longer is_rule s = elim (cases_lt at (length rule.left)) [
+  | inl l ↦ unreached rules marks run at shape is shape_is missing n k rule registers l is_rule s
+  | inr l ↦ none n k rule registers longer l is_rule s
+]
+
+-- nor is a longer one than the run
+pub between_end : (rules : List Rule) (run : List Instr) (reached at : ℕ) → length run ≤ at → NoneBetween rules run reached at
+    → (n k : ℕ) (rule : Rule) (registers : List Low) → reached < length rule.left → slice_get rules k ≡ Some rule → Shortens rule registers (take n run) → ⊥
+between_end rules run reached at end none n k rule registers longer is_rule s =
+    none n k rule registers longer (let long = stands_long rule registers (take n run) s in omega (arith, long, front_long n run, end)) is_rule s
+
+-- ---- what a run begins with ----
+
+begun : (rows : List Row) (most : ℕ) (i : Instr) → Some i ≡ letter_at true rows → (run true most rows ≡ []) ⊎ (slice_get (run true most rows) 0 ≡ Some i)
+begun rows zero i e = inl refl
+begun [] (suc most) i e = absurd (cc)
+begun (r ∷ rs) (suc most) i e = inr (ap (λ o. slice_get (before o (run false most rs)) 0) (sym e))
+
+not_begun : (rows : List Row) (most : ℕ) → None ≡ letter_at true rows → run true most rows ≡ []
+not_begun rows zero e = refl
+not_begun [] (suc most) e = refl
+not_begun (r ∷ rs) (suc most) e = ap (λ o. before o (run false most rs)) (sym e)
+
+none_in_empty : (rule : Rule) (registers : List Low) (n : ℕ) (is : List Instr) → is ≡ [] → 0 < length rule.left → Shortens rule registers (take n is) → ⊥
+none_in_empty rule registers n is e some s =
+    let long = stands_long rule registers (take n is) s in
+    absurd (omega (arith, long, front_long n is, ap (λ (js : List Instr). length js) e, some))
+
+-- where no run begins, no left side stands first in it
+pub none_without : (rules : List Rule) (rows : List Row) → None ≡ letter_at true rows → (most n k : ℕ) (rule : Rule) (registers : List Low) → 0 < length rule.left → slice_get rules k ≡ Some rule → Shortens rule registers (take n (run true most rows)) → ⊥
+none_without rules rows e most n k rule registers some is_rule s = none_in_empty rule registers n (run true most rows) (not_begun rows most e) some s
+
+-- nor where its first instruction begins none
+pub none_begin : (rules : List Rule) (marks : Marks) (i : Instr) (rows : List Row) → HaveMarks rules (length rules) marks → is_marked marks.fronts.items (next_shape 0 (normal_of i)) ≡ false → Some i ≡ letter_at true rows → (most n k : ℕ) (rule : Rule) (registers : List Low) → 0 < length rule.left → slice_get rules k ≡ Some rule → Shortens rule registers (take n (run true most rows)) → ⊥
+none_begin rules marks i rows is missing e most n k rule registers some is_rule s = elim (begun rows most i e) [
+  | inl l ↦ none_in_empty rule registers n (run true most rows) l some s
+  | inr l ↦ (
+      let there : slice_get (map normal_of (run true most rows)) 0 ≡ Some (normal_of i) = slice_get-map normal_of (run true most rows) 0 ∙ ap (option_map normal_of) l in
+      unreached rules marks (run true most rows) 0 (next_shape 0 (normal_of i)) is (front_more 0 0 (map normal_of (run true most rows)) (normal_of i) there refl) missing n k rule registers some is_rule s
+      )
+]
 
 -- marks of no rules
 pub no_marks : (rules : List Rule) (marks : Marks) → length marks.wholes.items ≡ 65536 → length marks.fronts.items ≡ 65536 → HaveMarks rules 0 marks

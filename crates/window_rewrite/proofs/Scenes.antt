@@ -1,5 +1,5 @@
 -- What is known of a listing that is rewritten: at first, at a site, and where a window gives way.
-use Rattle.std.proofs.Common.{◌≡◌, ◌↔◌, ℕ, zero, suc, ◌+◌, ◌-◌, ◌<◌, ◌≤◌, ◌||◌, not, Bool, true, false, List, [], ◌∷◌, length, take, drop, get_or, replicate, Option, Some, None, refl, sym, ap, ◌∙◌, subst, ◌⊎◌, inl, inr, arith, true≢false}
+use Rattle.std.proofs.Common.{◌≡◌, ◌↔◌, ℕ, zero, suc, ◌+◌, ◌-◌, ◌<◌, ◌≤◌, Bool, true, false, List, [], ◌∷◌, length, take, drop, get_or, replicate, Option, Some, None, refl, sym, ap, ◌∙◌, subst, ◌⊎◌, inl, inr, arith, true≢false}
 use Rattle.std.specs.Prelude.{slice_get, IfSome}
 use Rattle.std.specs.Option.{option_map}
 use Rattle.std.specs.List.{list_all}
@@ -179,17 +179,23 @@ live_there e most number count letters items seen s is a n same some few x =
 pub settled_before : (lines : List Line) (most number count : ℕ) (letters new : List Instr) → letters ≡ run true most (drop number (rows_from false lines)) → count < length letters → IsSettled (places_of lines) (labels_from 0 lines) number count new
 settled_before lines most number count letters new e h = let there = run_stands lines most number count letters e h in inr (inl (ap is_op_place there.stands))
 
--- where none does and none comes
-pub settled_alone : (behind labelled : Bool) (places : List Place) (labels : List Label) (p count : ℕ) (new : List Instr) → behind ≡ is_op_place (slice_get places (p + count)) → (labelled ≡ true) ↔ HasLabelAt labels p → length new ≡ 0
-    → ((behind || not labelled) ≡ true) ↔ IsSettled places labels p count new
-settled_alone true labelled places labels p count new e h none = (λ _. inr (inl (sym e)), λ _. refl)
-settled_alone false false places labels p count new e h none = (λ _. inr (inr (λ k l is at. true≢false (sym (h.1 (record { number = k; label = l; is = is; at = at }))))), λ _. refl)
-settled_alone false true places labels p count new e h none = (λ t. absurd (true≢false (sym t)), λ s. absurd (never s))
+-- where no label stands at the place
+pub settled_unlabelled : (labelled : Bool) (places : List Place) (labels : List Label) (p count : ℕ) (new : List Instr) → (labelled ≡ true) ↔ HasLabelAt labels p → labelled ≡ false → IsSettled places labels p count new
+settled_unlabelled labelled places labels p count new h e = inr (inr (λ k l is at. true≢false (sym (h.1 (record { number = k; label = l; is = is; at = at })) ∙ e)))
+
+-- where one does and none comes
+pub settled_labelled : (behind labelled : Bool) (places : List Place) (labels : List Label) (p count : ℕ) → (labelled ≡ true) ↔ HasLabelAt labels p → labelled ≡ true → behind ≡ is_op_place (slice_get places (p + count)) → (behind ≡ true) ↔ IsSettled places labels p count []
+settled_labelled behind labelled places labels p count h e is = (λ b. inr (inl (sym is ∙ b)), back)
   where
-    never : IsSettled places labels p count new → ⊥
-    never (inl some) = omega arith
-    never (inr (inl op)) = true≢false (sym op ∙ sym e)
-    never (inr (inr no_label)) = let l = h.0 refl in no_label l.number l.label l.is l.at
+    back : IsSettled places labels p count [] → behind ≡ true
+    back (inl some) = absurd (omega arith)
+    back (inr (inl op)) = is ∙ op
+    back (inr (inr no_label)) = absurd (let l = h.0 e in no_label l.number l.label l.is l.at)
+
+-- where the whole run goes and none comes
+pub settled_whole : (vanishes : Bool) (places : List Place) (labels : List Label) (p count long : ℕ) (new : List Instr) → (vanishes ≡ true) ↔ IsSettled places labels p long [] → count ≡ long → length new ≡ 0 → (vanishes ≡ true) ↔ IsSettled places labels p count new
+settled_whole vanishes places labels p count long [] h e none = subst (λ k. (vanishes ≡ true) ↔ IsSettled places labels p k []) (sym e) h
+settled_whole vanishes places labels p count long (i ∷ is) h e none = absurd (omega arith)
 
 -- ---- a window that gives way ----
 

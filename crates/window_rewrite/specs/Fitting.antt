@@ -1,5 +1,5 @@
 -- Whether a rule may be used on a window.
-use Rattle.std.specs.Prelude.{◌≡◌, ℕ, ◌+◌, ◌-◌, ◌<◌, ◌↔◌, ◌||◌, ◌&&◌, not, nat_lt, Bool, true, false, List, length, map, take, Some, slice_get, ◌⊎◌}
+use Rattle.std.specs.Prelude.{◌≡◌, ℕ, ◌+◌, ◌-◌, ◌<◌, ◌≤◌, ◌↔◌, ◌||◌, ◌&&◌, not, nat_lt, Bool, true, false, List, length, map, take, Some, slice_get, ◌⊎◌}
 use Rattle.thumb_instr.specs.declared.instr.Instr.{Instr}
 use Rattle.thumb_instr.specs.Items.{has}
 use Rattle.thumb_instr.specs.Renaming.{Low, renamed, item_under}
@@ -28,6 +28,10 @@ pub record Stands (rule : Rule) (registers : List Low) (window : List Instr) : T
 pub record Shortens (rule : Rule) (registers : List Low) (window : List Instr) : Type 0 where
   pub stands : Stands rule registers window
   pub shorter : length rule.right < length rule.left
+
+-- of the rules none stands first in the run whose left side has more than so many instructions, and at most so many others
+abbrev pub NoneBetween : List Rule → List Instr → ℕ → ℕ → Type 0
+NoneBetween rules run low high = (n k : ℕ) (rule : Rule) (registers : List Low) → low < length rule.left → length rule.left ≤ high → slice_get rules k ≡ Some rule → Shortens rule registers (take n run) → ⊥
 
 -- the item may be live: the mask has it under the map, or it is a register outside the map
 abbrev pub is_allowed : List ℕ → List Low → ℕ → Bool

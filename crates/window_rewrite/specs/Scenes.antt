@@ -1,13 +1,12 @@
 -- A listing that is rewritten: what stands at its places, what is live before them and how it is laid out. Its places keep their numbers, and one that is left over is gone.
-use Rattle.std.specs.Prelude.{◌≡◌, ℕ, ◌+◌, ◌<◌, ◌↔◌, true, false, List, length, drop, slice_get}
-use Rattle.thumb_model.specs.Listing.{Line, code_of, is_op_place, labels_from, places_of}
+use Rattle.std.specs.Prelude.{◌≡◌, ℕ, ◌<◌, ◌↔◌, true, false, List, [], length, drop}
+use Rattle.thumb_model.specs.Listing.{Line, code_of, labels_from, places_of}
 use Rattle.kept_places.specs.Marks.{is_gone, rank}
 use Rattle.padded_code.specs.Padding.{IsPadded}
 use Rattle.padded_code.specs.Windows.{AreRanked}
 use Rattle.window_runs.specs.Rows.{rows_from}
 use Rattle.window_runs.specs.Runs.{run}
 use Rattle.edited_listing.specs.Edited.{lines_now, marks, padded}
-use Rattle.edited_listing.specs.Known.{HasLabelAt}
 use Rattle.edited_listing.specs.declared.looks.Run.{Run}
 use Rattle.kept_live.specs.KeptLive.{IsKeptLive}
 use Rattle.window_rewrite.specs.declared.finding.Rules.{Rules}
@@ -15,6 +14,7 @@ use Rattle.window_rewrite.specs.declared.finding.Look.{Look}
 use Rattle.window_rewrite.specs.Choices.{AreReady}
 use Rattle.window_rewrite.specs.declared.scene.Scene.{Scene}
 use Rattle.window_rewrite.specs.declared.scene.Site.{Site}
+use Rattle.window_rewrite.specs.Settled.{IsSettled}
 use Rattle.window_rewrite.specs.Layouts.{AreOver, StandsNear}
 
 -- the lines now
@@ -46,8 +46,7 @@ pub record IsSite (most : ℕ) (s : Scene) (t : Site) : Type 0 where
   pub letters : t.run.letters ≡ run true most (drop t.number (rows_from false (lines_of s)))
   pub places : AreRanked (marks s.listing) t.number t.run.places.items
   pub as_many : length t.run.places.items ≡ length t.run.letters
-  pub behind : t.is_op_behind ≡ is_op_place (slice_get (places_of (lines_of s)) (t.number + length t.run.letters))
-  pub labelled : (t.is_labelled ≡ true) ↔ HasLabelAt (labels_from 0 (lines_of s)) t.number
+  pub vanishes : (t.may_vanish ≡ true) ↔ IsSettled (places_of (lines_of s)) (labels_from 0 (lines_of s)) t.number (length t.run.letters) []
 
 -- its layout, where one is kept, stands at the site
 abbrev pub IsNear : Scene → Site → Type 0

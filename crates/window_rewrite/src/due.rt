@@ -16,6 +16,7 @@ ghost use Rattle.window_rewrite.specs.Rules.{rules_in};
 ghost use Rattle.window_rewrite.specs.Scenes.{lines_of, IsNear, IsOver, IsSite};
 ghost use Rattle.window_rewrite.specs.Layouts.{Moves};
 
+use crate::beginning::may_begin;
 use crate::choice::{Choice, Replacement};
 use crate::finding::{Look, Rules, best, reach};
 use crate::scene::{Scene, Site};
@@ -146,8 +147,8 @@ impl Due {
         Ok(())
     }
 
-    /// Looks at the site of a place that was taken, before which none is due, and makes the best replacement there, if there is one. `reached` is with how many of
-    /// its instructions the site's run may begin some left side.
+    /// Looks at the site of a place that was taken, before which none is due, and makes the best replacement there, if there is one. `reached` is how many
+    /// instructions the longest left side may have that stands there.
     fn try_site<L: Ledger>(
         &mut self,
         alloc: Global,
@@ -216,6 +217,9 @@ impl Due {
         ensures cost { steps.new ≤ steps.old + length (rules_in rules.now.entries.now) }
         ensures rises { IfOk result (λ o. RisesByAtLeast steps.old steps.new (from_bool (is_some o))) }
     {
+        if !may_begin(rules, scene.listing.first_letter(place)) {
+            return Ok(None);
+        }
         let run = scene.run(rules, place);
         let reached = reach(rules, run.letters.as_slice());
         if reached == 0 {

@@ -1,5 +1,5 @@
 //! The best replacement that can be made at a place.
-ghost use Rattle.std.specs.Prelude.{◌≡◌, ◌+◌, ◌<◌, ◌≤◌, ◌↔◌, ℕ, List, length, take, slice_get, true, false, ◌==◌, is_some, Some, IfOk, OnOk, IfSome, IfNone, OnSome};
+ghost use Rattle.std.specs.Prelude.{◌≡◌, ◌+◌, ◌<◌, ◌≤◌, ◌↔◌, ℕ, List, length, take, slice_get, true, false, ◌==◌, is_some, if◌then◌else◌, Some, IfOk, OnOk, IfSome, IfNone, OnSome};
 ghost use Rattle.std.specs.Int.{from_bool};
 ghost use Rattle.std.specs.List.{list_all};
 ghost use Rattle.thumb_instr.specs.Renaming.{Low};
@@ -11,7 +11,7 @@ ghost use Rattle.listing_parser.specs.Parsing.{own_line};
 ghost use Rattle.window_runs.specs.Windows.{IsWindow};
 ghost use Rattle.step_ledger.specs.Counts.{RisesByAtLeast};
 ghost use Rattle.window_rewrite.specs.Fitting.{IsForm, Shortens, StandsThere};
-ghost use Rattle.window_rewrite.specs.Rules.{rules_in, side_length};
+ghost use Rattle.window_rewrite.specs.Rules.{is_marked, rules_in, side_length};
 ghost use Rattle.window_rewrite.specs.Choices.{setting_of, choice_of, of_length, AreReady, Awaits, IsBest, IsChoice, IsLowest, Meets, NoneAt, NoneOf};
 ghost use Rattle.window_rewrite.specs.Scenes.{lines_seen, number_seen, IsLook};
 ghost use Rattle.window_rewrite.specs.Layouts.{is_steady, Moves};
@@ -148,21 +148,36 @@ fn try_entry<L: Ledger>(
     }))
 }
 
-/// With how many of its instructions a run may begin some left side, but for registers. No entry that leaves fewer instructions has a longer left side that
-/// stands first in the run.
+/// The count of instructions that have a number, if they may be a left side, but for registers; or else that of others.
+fn longest_of(rules: &Rules<'_>, shape: usize, count: usize, other: usize) -> usize
+    requires ready { AreReady rules.now }
+    requires small { shape < 65536 }
+    ensures { result ≡ (if is_marked rules.now.index.now.marks.wholes.items shape then count else other) }
+{
+    if rules.index.marks.has_whole(shape) {
+        count
+    } else {
+        other
+    }
+}
+
+/// How many instructions the longest left side may have that stands first in a run, but for registers; 0 where there is none. No entry that leaves fewer
+/// instructions has a longer left side that stands first in the run.
 pub(crate) fn reach(rules: &Rules<'_>, run: &[Instr]) -> usize
     requires ready { AreReady rules.now }
     ensures within { result ≤ length run.now }
     ensures none { (n k : ℕ) (rule : Rule) (registers : List Low) → result < length rule.left → slice_get (rules_in rules.now.entries.now) k ≡ Some rule → Shortens rule registers (take n run.now) → ⊥ }
 {
     let mut shape = 0;
+    let mut reached = 0;
     for at in 0..run.len() {
         shape = next_shape(shape, &normal(run[at]));
         if !rules.index.marks.has_front(shape) {
-            return at;
+            return reached;
         }
+        reached = longest_of(rules, shape, at + 1, reached);
     }
-    run.len()
+    reached
 }
 
 /// The first entry that is kept and whose left side may stand in a window, of which this is told.
@@ -232,8 +247,8 @@ fn lowest<L: Ledger>(
     }
 }
 
-/// The best entry at the place: of those that apply there the lowest with the longest left side. `reached` is with how many of its instructions the run may
-/// begin some left side. `refused` comes to be true where an entry fits and the layout refuses it.
+/// The best entry at the place: of those that apply there the lowest with the longest left side. `reached` is how many instructions the longest left
+/// side may have that stands there. `refused` comes to be true where an entry fits and the layout refuses it.
 pub(crate) fn best<L: Ledger>(
     alloc: Global,
     look: &Look<'_>,

@@ -11,6 +11,7 @@
 //! where items are live no more, and those at which the layout refused an entry that fits.
 #![tactic(auto)]
 
+mod beginning;
 mod chains;
 mod choice;
 mod due;

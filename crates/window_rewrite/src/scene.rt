@@ -1,6 +1,6 @@
 //! A listing that is rewritten: what stands at its places, what is live before them and how it is laid out.
-ghost use Rattle.std.specs.Prelude.{◌≡◌, ◌⊎◌, ◌+◌, ◌-◌, ◌<◌, ◌≤◌, ◌↔◌, ℕ, true, false, length, take, IfOk, OnOk};
-ghost use Rattle.kept_places.specs.Marks.{is_gone, marked};
+ghost use Rattle.std.specs.Prelude.{◌≡◌, ◌⊎◌, ◌+◌, ◌-◌, ◌<◌, ◌≤◌, ◌↔◌, ℕ, [], true, false, length, take, IfOk, OnOk};
+ghost use Rattle.kept_places.specs.Marks.{is_gone, marked, rank};
 ghost use Rattle.thumb_instr.specs.Items.{has};
 ghost use Rattle.thumb_model.specs.Flow.{LiveAfter};
 ghost use Rattle.thumb_model.specs.Layout.{Layable};
@@ -8,7 +8,7 @@ ghost use Rattle.thumb_model.specs.Listing.{code_of, labels_from, places_of};
 ghost use Rattle.rule_model.specs.Rewriting.{lines_after};
 ghost use Rattle.liveness.specs.Live.{set_at};
 ghost use Rattle.padded_code.specs.Exchange.{exchanged, marks_after};
-ghost use Rattle.edited_listing.specs.Edited.{marks, padded};
+ghost use Rattle.edited_listing.specs.Edited.{lines_now, marks, padded};
 ghost use Rattle.kept_live.specs.KeptLive.{LosesAt};
 ghost use Rattle.step_ledger.specs.Counts.{RisesByAtLeast};
 ghost use Rattle.window_rewrite.specs.Choices.{choice_of, setting_of, IsChoice};
@@ -46,10 +46,21 @@ pub(crate) struct Site {
     pub(crate) number: u32,
     /// The instructions from there on that may stand in a window, and their places.
     pub(crate) run: Run,
-    /// Whether an instruction stands behind these.
-    pub(crate) is_op_behind: bool,
-    /// Whether a label stands at the place.
-    pub(crate) is_labelled: bool,
+    /// Whether each code label stays code where all of these go and none comes.
+    pub(crate) may_vanish: bool,
+}
+
+/// Whether each code label stays code where so many instructions from a kept place on go and none comes: no label stands there, or an instruction behind.
+fn may_vanish(listing: &mut EditedListing, place: u32, count: u32) -> bool
+    requires within { place < length listing.old.stands }
+    requires kept { is_gone (marks listing.old) place ≡ false }
+    ensures settled { (result ≡ true) ↔ IsSettled (places_of (lines_now listing.old)) (labels_from 0 (lines_now listing.old)) (rank (marks listing.old) place) count [] }
+    ensures same { listing.new ≡ listing.old }
+{
+    if !listing.is_labelled(place) {
+        return true;
+    }
+    listing.is_op_behind(place, count)
 }
 
 impl Scene {
@@ -110,15 +121,13 @@ impl Scene {
     {
         let number = self.listing.number(place);
         let count = run.letters.len() as u32;
-        let is_op_behind = self.listing.is_op_behind(place, count);
-        let is_labelled = self.listing.is_labelled(place);
+        let may_vanish = may_vanish(&mut self.listing, place, count);
         self.layout.go_to(number as usize);
         Site {
             place,
             number,
             run,
-            is_op_behind,
-            is_labelled,
+            may_vanish,
         }
     }
 
@@ -157,7 +166,7 @@ impl Scene {
         if count < site.run.letters.len() {
             return true;
         }
-        site.is_op_behind || !site.is_labelled
+        site.may_vanish
     }
 
     /// Makes a replacement that was chosen at a site. `lost` gains the places before which an item was live that isn't any more.

@@ -1,4 +1,4 @@
-use Rattle.std.proofs.Common.{◌≡◌, ◌+◌, ◌-◌, ◌*◌, ◌<◌, ◌≤◌, List, [], Bool, ℕ, All, length, refl, ap, ◌∙◌, sym, subst, arith, length-append}
+use Rattle.std.proofs.Common.{◌≡◌, ◌+◌, ◌-◌, ◌*◌, ◌<◌, ◌≤◌, List, All, length, refl, ap, ◌∙◌, sym, subst, arith, length-append}
 use Rattle.std.specs.Int.{from_bool}
 use Rattle.std.specs.Prelude.{is_some}
 use Rattle.std.specs.Option.{IfNone, IfSome}

@@ -6,7 +6,7 @@ use Rattle.thumb_instr.specs.declared.instr.Instr.{Instr}
 use Rattle.thumb_instr.specs.Window.{normal_of}
 use Rattle.window_rewrite.specs.Rules.{rules_in, is_marked}
 use Rattle.window_rewrite.specs.Shapes.{next_shape, shape_of}
-use Rattle.window_rewrite.proofs.Heads.{front_more, unreached}
+use Rattle.window_rewrite.proofs.Heads.{between_all, between_end, between_more, between_within, front_more}
 use Rattle.window_rewrite.proofs.finding.reach.Goals as goal
 
 pub returns-then-not-has_front-clause-none : goal.returns-then-not-has_front-clause-none
@@ -17,15 +17,31 @@ returns-then-not-has_front-clause-none c = λ n k rule registers longer at s.
     let shape : c.next_shape-shape.result ≡ shape_of (take (c.loop-at.at + 1) (map normal_of run)) =
     c.next_shape-shape.ensures.value ∙ ap (next_shape c.loop-at.shape) c.normal.ensures ∙ front_more c.loop-at.shape c.loop-at.at (map normal_of run) (normal_of c.index-run-at.result) there c.loop-at.invariant.shape in
     let missing : is_marked c.args.rules.now.index.now.marks.fronts.items c.next_shape-shape.result ≡ false = sym c.has_front.ensures ∙ c.if-not-has_front.true in
-    unreached (rules_in c.args.rules.now.entries.now) c.args.rules.now.index.now.marks run c.loop-at.at c.next_shape-shape.result c.requires.ready.index.marks shape missing n k rule registers longer at s
+    between_all (rules_in c.args.rules.now.entries.now) c.args.rules.now.index.now.marks run c.loop-at.at c.next_shape-shape.result c.loop-at.reached c.requires.ready.index.marks shape missing c.loop-at.invariant.none n k rule registers longer at s
+
+pub returns-clause-none : goal.returns-clause-none
+returns-clause-none c = between_end (rules_in c.args.rules.now.entries.now) c.args.run.now c.loop-at.reached c.loop-at.at (let t = c.loop-at-test.false in omega arith) c.loop-at.invariant.none
+
+pub loop-at-init : goal.loop-at-init
+loop-at-init c = record {
+  within = omega arith;
+  shape = refl;
+  small = omega arith;
+  fewer = omega arith;
+  none = λ n k rule registers longer few is_rule s. absurd (omega (arith, longer, few));
+}
 
 pub loop-at-preserved : goal.loop-at-preserved
 loop-at-preserved c =
     let run : List Instr = c.args.run.now in
     let here : slice_get run c.loop-at.at ≡ Some c.index-run-at.result = slice_get_read run _ _ c.index-run-at.result refl c.loop-at-test.true c.index-run-at.is in
     let there : slice_get (map normal_of run) c.loop-at.at ≡ Some (normal_of c.index-run-at.result) = slice_get-map normal_of run c.loop-at.at ∙ ap (option_map normal_of) here in
+    let shape : c.next_shape-shape.result ≡ shape_of (take (c.loop-at.at + 1) (map normal_of run)) =
+    c.next_shape-shape.ensures.value ∙ ap (next_shape c.loop-at.shape) c.normal.ensures ∙ front_more c.loop-at.shape c.loop-at.at (map normal_of run) (normal_of c.index-run-at.result) there c.loop-at.invariant.shape in
     record {
       within = let t = c.loop-at-test.true in omega arith;
-      shape = c.next_shape-shape.ensures.value ∙ ap (next_shape c.loop-at.shape) c.normal.ensures ∙ front_more c.loop-at.shape c.loop-at.at (map normal_of run) (normal_of c.index-run-at.result) there c.loop-at.invariant.shape;
+      shape = shape;
       small = c.next_shape-shape.ensures.small;
+      fewer = between_within (rules_in c.args.rules.now.entries.now) c.args.rules.now.index.now.marks run c.loop-at.at c.next_shape-shape.result c.loop-at.reached c.longest_of-reached.result c.longest_of-reached.ensures c.loop-at.invariant.fewer;
+      none = between_more (rules_in c.args.rules.now.entries.now) c.args.rules.now.index.now.marks run c.loop-at.at c.next_shape-shape.result c.loop-at.reached c.longest_of-reached.result c.requires.ready.index.marks shape c.longest_of-reached.ensures c.loop-at.invariant.none;
     }

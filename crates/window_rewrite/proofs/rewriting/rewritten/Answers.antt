@@ -1,10 +1,9 @@
-use Rattle.std.proofs.Common.{◌≡◌, ◌+◌, ◌*◌, ◌≤◌, List, length, map, ap, ◌∙◌, sym, subst, arith}
+use Rattle.std.proofs.Common.{◌+◌, ◌*◌, ◌≤◌, List, length, map, sym, subst, arith}
 use Rattle.thumb_model.specs.Listing.{Line, places_of}
 use Rattle.rule_model.specs.Rewriting.{AreRewritten}
-use Rattle.step_ledger.specs.Counts.{RisesByAtLeast}
 use Rattle.step_ledger.proofs.Rises.{at_least-goes_on}
 use Rattle.window_rewrite.specs.Choices.{setting_of}
-use Rattle.window_rewrite.specs.Rewriting.{replacement_of, visits}
+use Rattle.window_rewrite.specs.Rewriting.{replacement_of}
 use Rattle.window_rewrite.specs.Rules.{rules_in}
 use Rattle.window_rewrite.specs.Scenes.{lines_of}
 use Rattle.window_rewrite.proofs.rewriting.rewritten.Goals as goal

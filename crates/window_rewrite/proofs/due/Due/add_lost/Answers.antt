@@ -1,4 +1,4 @@
-use Rattle.std.proofs.Common.{◌≡◌, ◌<◌, ℕ, suc, true, false, length, subst, sym, ◌∙◌, ap, arith, inl, inr, ◌-◌, List, Bool, true≢false}
+use Rattle.std.proofs.Common.{◌≡◌, suc, false, length, subst, sym, ◌∙◌, ap, arith, inl, inr, ◌-◌, List, Bool, true≢false}
 use Rattle.window_rewrite.specs.Due.{Reaches}
 use Rattle.kept_places.proofs.Ranks.{marked_within}
 use Rattle.edited_listing.specs.Edited.{marks}

@@ -1,6 +1,6 @@
-use Rattle.std.proofs.Common.{◌≡◌, ℕ, true, ◌<◌, length, arith, ap, ◌∙◌, sym, refl, inl, inr}
+use Rattle.std.proofs.Common.{◌<◌, length, arith, ap, ◌∙◌, sym, refl, inl, inr}
 use Rattle.edited_listing.specs.Edited.{marks}
-use Rattle.kept_places.specs.Marks.{is_gone, marked, rank}
+use Rattle.kept_places.specs.Marks.{marked, rank}
 use Rattle.std.proofs.lemmas.Bool.{cases_lt}
 use Rattle.window_rewrite.proofs.DueMarks.{marked_now, stay_both, stay_now}
 use Rattle.window_rewrite.proofs.DuePlaces.{same_place}

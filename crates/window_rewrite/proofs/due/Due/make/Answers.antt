@@ -1,4 +1,4 @@
-use Rattle.std.proofs.Common.{◌≡◌, ◌≤◌, List, Bool, ℕ, length, take, ap, ◌∙◌, sym, subst, inr, arith}
+use Rattle.std.proofs.Common.{◌≡◌, List, Bool, ℕ, length, take, ap, ◌∙◌, sym, subst, inr, arith}
 use Rattle.std.specs.Prelude.{slice_get}
 use Rattle.kept_places.specs.Marks.{marked}
 use Rattle.edited_listing.specs.Edited.{marks}

@@ -1,4 +1,4 @@
-use Rattle.std.proofs.Common.{◌≡◌, ◌<◌, ℕ, List, length, take, false, Some, subst, sym, ap, ◌∙◌, arith}
+use Rattle.std.proofs.Common.{◌≡◌, ◌<◌, ℕ, List, drop, length, take, true, false, Some, refl, subst, sym, ap, ◌∙◌, arith}
 use Rattle.std.specs.Prelude.{slice_get, IfOk}
 use Rattle.std.specs.Option.{IfNone, IfSome}
 use Rattle.thumb_instr.specs.declared.instr.Instr.{Instr}
@@ -7,6 +7,9 @@ use Rattle.rule_model.specs.Rules.{Rule}
 use Rattle.rule_model.specs.Rewriting.{lines_after, IsFirst}
 use Rattle.kept_places.specs.Marks.{rank}
 use Rattle.edited_listing.specs.Edited.{Edited, lines_now, marks}
+use Rattle.window_runs.specs.declared.rows.Row.{Row}
+use Rattle.window_runs.specs.Rows.{rows_from}
+use Rattle.window_runs.specs.Runs.{run}
 use Rattle.window_rewrite.specs.Choices.{setting_of, NoneAt}
 use Rattle.window_rewrite.specs.Fitting.{Shortens}
 use Rattle.window_rewrite.specs.Rewriting.{replacement_of, IsWhole}
@@ -15,6 +18,15 @@ use Rattle.window_rewrite.specs.Scenes.{lines_of}
 use Rattle.window_rewrite.proofs.Chosen.{none_there}
 use Rattle.window_rewrite.proofs.DueScenes.{tried_idle, tried_same}
 use Rattle.window_rewrite.proofs.due.Due.try_at.Goals as goal
+
+pub returns-then-not-may_begin-clause-tried : goal.returns-then-not-may_begin-clause-tried
+returns-then-not-may_begin-clause-tried g c =
+    let rules : List Rule = rules_in c.args.rules.now.entries.now in
+    let at : ℕ = rank (marks c.args.scene.now.listing) c.args.place in
+    let rows : List Row = drop at (rows_from false (lines_of c.args.scene.now)) in
+    tried_idle (setting_of c.args.rules.now) c.args.scene.now c.args.scene.now c.args.self.now c.args.place c.requires.tried refl
+    (none_there false c.args.rules.now.base c.args.rules.now.longest rules (lines_of c.args.scene.now) at (run true c.args.rules.now.longest rows) (run true c.args.rules.now.longest rows)
+    c.requires.ready.fit refl refl (c.may_begin.ensures c.if-not-may_begin.true rows c.first_letter.ensures c.args.rules.now.longest))
 
 pub returns-then-reached-eq0-clause-tried : goal.returns-then-reached-eq0-clause-tried
 returns-then-reached-eq0-clause-tried g c =

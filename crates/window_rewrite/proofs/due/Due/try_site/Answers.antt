@@ -1,4 +1,4 @@
-use Rattle.std.proofs.Common.{◌≡◌, ℕ, List, Bool, refl, ap, ◌∙◌, sym, subst}
+use Rattle.std.proofs.Common.{ℕ, List, Bool, refl, ap, ◌∙◌, sym, subst}
 use Rattle.std.specs.Option.{IfNone, IfSome}
 use Rattle.edited_listing.specs.Edited.{marks}
 use Rattle.kept_places.specs.Marks.{rank}

@@ -1,7 +1,0 @@
-use Rattle.std.proofs.Common.{◌≡◌, ◌++◌, length, drop, map}
-use Rattle.listing_parser.specs.Views.{line_view}
-use Rattle.edited_listing.specs.Known.{last_labels}
-use Rattle.edited_listing.proofs.given.last_labels.Given as goal
-
-abbrev pub invariant-loop-line : goal.invariant-loop-line
-invariant-loop-line l = l.labels.items ++ last_labels (length l.labels.items) l.last (map line_view (drop l.line-index l.lines)) ≡ last_labels 0 0 (map line_view l.lines)
