@@ -26,7 +26,7 @@ use Rattle.audit_cli.specs.declared.refusal.Refusal.{Refusal}
 use Rattle.audit_cli.specs.Printed.{refusal_line, demo_line, learnt_line, report_of, image_line}
 use Rattle.audit_cli.specs.Tables.{opens_of}
 use Rattle.audit_cli.specs.Learn.{IsUnlearnt, IsLearnt, too_wide, too_long as long_text}
-use Rattle.audit_cli.specs.Steps.{IsUnread, unread, IsUnlisted, unlisted, IsUnaudited, no_table, other_state, too_wide as wide_table, bad_entry, HasNoImage, no_address, inside}
+use Rattle.audit_cli.specs.Steps.{IsUnread, unread, IsUnlisted, unlisted, IsUnaudited, no_table, other_state, too_wide as wide_table, bad_family, bad_entry, HasNoImage, no_address, inside}
 use Rattle.audit_cli.specs.Rewrite.{instruction_count}
 use Rattle.audit_cli.specs.Demo.{demo_text, demo_settings, IsRewritingTold, IsDemo, DemoComesTo, shown, too_long}
 use Rattle.audit_cli.specs.Answers.{IsDemoListing}
@@ -53,6 +53,7 @@ never_unaudited text t _ is accepted (no_table r h) = never_unlisted text t r is
 never_unaudited text t _ is accepted (other_state u other place verdict) = two_verdicts text t u (audit.States place) is accepted other verdict
 never_unaudited text t _ is accepted (wide_table u other count verdict) = two_verdicts text t u (audit.Wide count) is accepted other verdict
 never_unaudited text t _ is accepted (bad_entry u other number k verdict) = two_verdicts text t u (audit.Entry number k) is accepted other verdict
+never_unaudited text t _ is accepted (bad_family u other number k verdict) = two_verdicts text t u (audit.Family number k) is accepted other verdict
 
 pub none_some : {A : Type 0} (o : Option A) (a : A) → o ≡ None → o ≡ Some a → ⊥
 none_some {A} o a e f = (let bad : None ≡ Some a = sym e ∙ f in absurd (cc))

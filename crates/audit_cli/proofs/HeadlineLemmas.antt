@@ -1,23 +1,21 @@
 -- A done run of `rewrite` has done what its headline says, field by field.
-use Rattle.std.proofs.Common.{◌≡◌, ℕ, List, [], ◌∷◌, ◌++◌, Option, Some, None, length, refl, sym, subst}
+use Rattle.std.proofs.Common.{◌≡◌, ℕ, List, [], ◌∷◌, ◌++◌, Option, Some, None, refl, sym, subst}
 use Rattle.std.proofs.lemmas.List.{append-nil}
-use Rattle.std.specs.Prelude.{All, Ok}
-use Rattle.std.specs.Str.{IsUtf8}
+use Rattle.std.specs.Prelude.{Ok}
 use Rattle.thumb_model.specs.Listing.{Line}
 use Rattle.thumb_model.specs.Layout.{Layable}
 use Rattle.listing_parser.specs.Parsing.{IsListing, text_of_lines}
 use Rattle.rule_table.specs.Table.{Table}
-use Rattle.command_line.specs.CommandLine.{Request, rewrite, AskFor}
+use Rattle.command_line.specs.CommandLine.{Request, rewrite}
 use Rattle.command_line.proofs.Usage.{asks_once}
-use Rattle.outer_store.specs.Outside.{Event, Putting, Seen, Sunk, Gave}
-use Rattle.command_runs.specs.declared.status.Status.TheVariants as status
-use Rattle.command_runs.specs.Plans.{Outcome, Refuses, Does, Keep, keeps_of, due, fetchings, keepings, AreTexts}
+use Rattle.outer_store.specs.Outside.{Putting, Seen, Sunk}
+use Rattle.command_runs.specs.Plans.{Outcome, Refuses, Does, keeps_of, due, fetchings, keepings, AreTexts}
 use Rattle.command_runs.specs.Runs.{IsDone}
 use Rattle.audit_cli.specs.Steps.{IsAudited}
 use Rattle.thumb_assembler.specs.Following.{IsAssembled}
 use Rattle.audit_cli.specs.Printed.{report_of}
 use Rattle.audit_cli.specs.Rewrite.{Destination, Counts, Leaves, alone, pair, no_image, RunsAsPromised, IsRewriting, LinesRewrite, unlaid, rewritten, Rewrites, unread, read, Comes, unaudited, audited}
-use Rattle.audit_cli.specs.Peep.{plan_of, Peeps}
+use Rattle.audit_cli.specs.Peep.{plan_of}
 use Rattle.audit_cli.specs.Headline.{IsHeadline, IsImage, RewritesAsPromised, image_kept, image_told}
 
 -- no refusal

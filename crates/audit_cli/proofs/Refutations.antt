@@ -1,8 +1,8 @@
 -- A proof in which no fault is found is a refutation, and the other way round: the states of a checker that goes through its lines.
-use Rattle.std.proofs.Common.{◌≡◌, ◌≢◌, ◌∙◌, ◌⊎◌, inl, inr, ℕ, zero, suc, ◌+◌, ◌-◌, ◌<◌, ◌||◌, Bool, true, false, not, List, [], ◌∷◌, ◌++◌, Option, Some, None, cond, filter, length, map, nat_eq, nat_lt, slice_get, refl, sym, ap, subst, arith, append_assoc, append-nil}
-use Rattle.std.specs.Prelude.{◌↔◌, Any, Contains, IsTrue}
+use Rattle.std.proofs.Common.{◌≡◌, ◌∙◌, inl, inr, ℕ, zero, suc, ◌+◌, ◌-◌, ◌<◌, ◌||◌, Bool, true, false, List, [], ◌∷◌, ◌++◌, Option, None, cond, length, nat_eq, slice_get, refl, sym, ap, subst, arith, append_assoc, append-nil}
+use Rattle.std.specs.Prelude.{◌↔◌, Any, IsTrue}
 use Rattle.std.specs.List.{list_any}
-use Rattle.std.proofs.lemmas.Bool.{cases_Bool, cases_eq, or_cases, or_left, or_right, true≢false}
+use Rattle.std.proofs.lemmas.Bool.{cases_Bool, or_cases, or_left, or_right, true≢false}
 use Rattle.std.proofs.lemmas.Bool.Decides.{nat_tests}
 use Rattle.std.proofs.lemmas.List.Folds.{Any-from_list_any, list_any-from_Any}
 use Rattle.lrat_check.specs.Content.{Content, addition, deletion}
@@ -11,7 +11,7 @@ use Rattle.lrat_check.specs.Deleting.{without, Deletes}
 use Rattle.lrat_check.specs.Checking.{State, live_at, Starts, Accepts as Leads}
 use Rattle.lrat_check.specs.Runs.{AcceptsAll, IsRefutation}
 use Rattle.clause_model.specs.Propagation.{numbered}
-use Rattle.proof_logs.specs.Lines.{Known, started, without_all, after_line, Accepts, AllAccepted, added, additions}
+use Rattle.proof_logs.specs.Lines.{Known, started, without_all, Accepts, AllAccepted, added, additions}
 use Rattle.proof_logs.specs.Checked.{known_of}
 use Rattle.proof_logs.specs.Proofs.{LinesVerdict, ProofVerdict}
 use Rattle.proof_logs.proofs.Checks.{begun_known, led_known, led_accepts, passed_accepted, refuted_next}

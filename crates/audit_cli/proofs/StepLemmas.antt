@@ -1,5 +1,5 @@
 -- Refusals of the shared steps.
-use Rattle.std.proofs.Common.{◌≡◌, ◌∙◌, ap, ◌⊎◌, inl, inr, ℕ, List, Option, Some, None, Result, Ok, Err, sym, subst}
+use Rattle.std.proofs.Common.{◌≡◌, ◌∙◌, ap, ◌⊎◌, inl, inr, ℕ, List, Option, Some, None, Result, Ok, Err, IfOk, sym, subst}
 use Rattle.std.specs.Result.{result_map_both}
 use Rattle.rule_table.specs.Table.{Table}
 use Rattle.rule_table.specs.Refused.{IsText, IsRefused as IsRefusedTable}
@@ -57,6 +57,15 @@ not_made {A} view base lines x r h e = subst (λ (y : Result A Refusal). MakesIm
 -- what holds of the refusal's line holds of an outcome that is it
 pub refused_so : (P : Outcome → Type 0) (r : Refusal) (o : Outcome) → o ≡ Refuses (refusal_line r) → P (Refuses (refusal_line r)) → P o
 refused_so P r o e h = subst P (sym e) h
+
+-- what is so of an answer by what is said of it
+pub ok_so : {A E : Type 0} (r : Result A E) (P Q : A → Type 0) → IfOk r P → ((a : A) → P a → Q a) → IfOk r Q
+ok_so {A} {E} (Ok a) P Q h f = f a h
+ok_so {A} {E} (Err e) P Q h f = h
+
+-- and by what was said of the answer that it was made of
+pub worked_so : {A E F : Type 0} (made : Result A F) (r : Result A E) (P Q : A → Type 0) → IfOk r (λ o. made ≡ Ok o) → IfOk made P → ((a : A) → P a → Q a) → IfOk r Q
+worked_so made r P Q is p f = ok_so r (λ o. made ≡ Ok o) Q is (λ a e. f a (subst (λ x. IfOk x P) e p))
 
 -- what a step answered, with a view of what it made
 

@@ -4,8 +4,8 @@ use Rattle.std.specs.List.{flat_map}
 use Rattle.std.specs.Prelude.{sum_by}
 use Rattle.std.proofs.lemmas.List.{length-map}
 use Rattle.std.proofs.lemmas.List.Sums.{sum_by-cons}
-use Rattle.rule_table.specs.Table.{Opened, Rule, Table}
-use Rattle.rule_table.specs.Text.{Item, State, Left, Right, Mask, Proof, Logged, End, header_items, items_of, line_of, open_items, rule_items, text_of, text_of_items}
+use Rattle.rule_table.specs.Table.{Opened, Rule, Family, Table}
+use Rattle.rule_table.specs.Text.{Item, State, Left, Right, Mask, Proof, Logged, End, header_items, items_of, line_of, open_items, rule_items, family_items, text_of, text_of_items}
 use Rattle.rule_table.specs.Refused.{IsText}
 use Rattle.audit_cli.specs.Tables.{open_count, opens_of}
 use Rattle.audit_cli.specs.Trim.{lines_in}
@@ -51,15 +51,23 @@ rules_short (e ∷ es) =
     let rest = rules_short es in
     omega arith
 
+-- how many lines a table has, part by part
+items_count : (t : Table) → length (items_of t) ≡ length (header_items t.header) + (length (map State t.states) + (length (flat_map rule_items t.rules) + (length (flat_map family_items t.families) + 1)))
+items_count t =
+    let last : List Item = flat_map family_items t.families ++ End ∷ [] in
+    let a = length-append (header_items t.header) (map State t.states ++ (flat_map rule_items t.rules ++ last)) in
+    let b = length-append (map State t.states) (flat_map rule_items t.rules ++ last) in
+    let c = length-append (flat_map rule_items t.rules) last in
+    let d = length-append (flat_map family_items t.families) (End ∷ []) in
+    omega (arith, a, b, c, d)
+
 -- and so each open number has one
 pub opens_within : (text : List ℕ) (t : Table) → IsText text t → opens_of t ≤ length text
 opens_within text t is =
     let all = items_within text t is in
     let some = rules_short t.rules in
-    let a : length (items_of t) ≡ length (header_items t.header) + length (map State t.states ++ (flat_map rule_items t.rules ++ End ∷ [])) = length-append (header_items t.header) (map State t.states ++ (flat_map rule_items t.rules ++ End ∷ [])) in
-    let b : length (map State t.states ++ (flat_map rule_items t.rules ++ End ∷ [])) ≡ length (map State t.states) + length (flat_map rule_items t.rules ++ End ∷ []) = length-append (map State t.states) (flat_map rule_items t.rules ++ End ∷ []) in
-    let c : length (flat_map rule_items t.rules ++ End ∷ []) ≡ length (flat_map rule_items t.rules) + 1 = length-append (flat_map rule_items t.rules) (End ∷ []) in
-    omega arith
+    let parts = items_count t in
+    omega (arith, all, some, parts)
 
 -- ---- lines of proofs ----
 
@@ -84,12 +92,20 @@ proofs_short (e ∷ es) =
     let rest = proofs_short es in
     omega (arith, both, sum, here, rest)
 
+raised_short : (families : List Family) → sum_by (λ (f : Family). length f.proof) families ≤ length (flat_map family_items families)
+raised_short [] = omega arith
+raised_short (f ∷ fs) =
+    let both = length-append (family_items f) (flat_map family_items fs) in
+    let sum = sum_by-cons (λ (g : Family). length g.proof) f fs in
+    let here : length (map Logged f.proof) ≡ length f.proof = length-map f.proof Logged in
+    let rest = raised_short fs in
+    omega (arith, both, sum, here, rest)
+
 -- each line of a proof has a byte of the table's text
 pub proofs_within : (t : Table) → lines_in t ≤ length (text_of t)
 proofs_within t =
     let all = items_short (items_of t) in
     let some = proofs_short t.rules in
-    let a : length (items_of t) ≡ length (header_items t.header) + length (map State t.states ++ (flat_map rule_items t.rules ++ End ∷ [])) = length-append (header_items t.header) (map State t.states ++ (flat_map rule_items t.rules ++ End ∷ [])) in
-    let b : length (map State t.states ++ (flat_map rule_items t.rules ++ End ∷ [])) ≡ length (map State t.states) + length (flat_map rule_items t.rules ++ End ∷ []) = length-append (map State t.states) (flat_map rule_items t.rules ++ End ∷ []) in
-    let c : length (flat_map rule_items t.rules ++ End ∷ []) ≡ length (flat_map rule_items t.rules) + 1 = length-append (flat_map rule_items t.rules) (End ∷ []) in
-    omega (arith, all, some, a, b, c)
+    let more = raised_short t.families in
+    let parts = items_count t in
+    omega (arith, all, some, more, parts)

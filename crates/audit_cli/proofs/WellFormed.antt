@@ -1,13 +1,11 @@
 -- What rewriting leaves is a listing: its text is read as its lines.
-use Rattle.std.proofs.Common.{◌≡◌, ◌∙◌, ℕ, zero, suc, ◌+◌, ◌<◌, ◌≤◌, true, List, [], ◌∷◌, length, map, drop, refl, sym, ap, subst, arith, true≢false}
+use Rattle.std.proofs.Common.{◌≡◌, ◌∙◌, ℕ, zero, suc, ◌+◌, ◌<◌, true, List, [], ◌∷◌, length, map, drop, refl, sym, ap, subst, arith, true≢false}
 use Rattle.std.specs.Prelude.{slice_get}
 use Rattle.std.specs.List.{list_all}
-use Rattle.std.proofs.lemmas.List.{length-map}
 use Rattle.thumb_instr.specs.declared.instr.Instr.{Instr}
 use Rattle.thumb_instr.specs.declared.instr.Instr.TheVariants as instr
 use Rattle.thumb_instr.specs.Renaming.{Low, renamed}
 use Rattle.thumb_instr.specs.Window.{is_in_window}
-use Rattle.ascii_scan.specs.Lines.{lines_of}
 use Rattle.thumb_model.specs.Listing.{Line, Place, plain, places_of, code_of, is_op_place}
 use Rattle.rule_model.specs.Rules.{Rule, Applies, AreSound}
 use Rattle.thumb_model.specs.Sides.{AreOver}
@@ -15,10 +13,8 @@ use Rattle.rule_model.specs.Rewriting.{Replacement, AppliesIn, AreRewritten, lin
 use Rattle.thumb_model.proofs.Lists.{get_drop, get_take}
 use Rattle.rule_model.proofs.LinesKept.{fewer_lines, one_line_keeps, some_left}
 use Rattle.rule_model.proofs.Table.{window_length}
-use Rattle.listing_parser.specs.Grammar.{Bare, Read, bare, most_lines}
 use Rattle.listing_parser.specs.Parsing.{IsListing, text_of_lines}
 use Rattle.listing_parser.specs.Replacing.{names_no_label}
-use Rattle.listing_parser.proofs.FewLemmas.{all_few}
 use Rattle.listing_parser.proofs.PrintLemmas.{prints_back}
 use Rattle.listing_parser.proofs.ReplacedLines.{replaced_reads_again}
 use Rattle.window_rewrite.specs.Rewriting.{setting}

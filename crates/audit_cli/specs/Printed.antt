@@ -6,6 +6,8 @@ use Rattle.listing_parser.specs.declared.errors.Kind.{Kind}
 use Rattle.listing_parser.specs.declared.errors.Kind.TheVariants as kind
 use Rattle.table_audit.specs.declared.errors.EntryFault.{EntryFault}
 use Rattle.table_audit.specs.declared.errors.EntryFault.TheVariants as fault
+use Rattle.table_audit.specs.declared.errors.FamilyKind.{FamilyKind}
+use Rattle.table_audit.specs.declared.errors.FamilyKind.TheVariants as family
 use Rattle.audit_cli.specs.declared.refusal.Refusal.{Refusal}
 use Rattle.audit_cli.specs.declared.refusal.Refusal.TheVariants as refusal
 
@@ -69,7 +71,13 @@ fault_words fault.Unfinished = codes " 3"
 fault_words (fault.Untold sequence) = codes " 4" ++ and_number sequence
 fault_words (fault.Open sequence) = codes " 5" ++ and_number sequence
 
--- `refused table LINE`, `refused states PLACE`, `refused wide COUNT`, `refused entry NUMBER KIND ..`, `refused number`,
+-- `1`, `2 LINE` and `3`, each behind a blank
+abbrev pub family_words : FamilyKind → List ℕ
+family_words family.Symbol = codes " 1"
+family_words (family.Proof line) = codes " 2" ++ and_number line
+family_words family.Unfinished = codes " 3"
+
+-- `refused table LINE`, `refused states PLACE`, `refused wide COUNT`, `refused entry NUMBER KIND ..`, `refused family NUMBER KIND ..`, `refused number`,
 -- `refused listing LINE KIND`, `refused listing LINE 4 DISTANCE`, `refused listing LINE 5 ADDRESS`, `refused label`, `refused address LINE`,
 -- `refused inside LINE` and `refused full BYTES`
 abbrev pub refusal_line : Refusal → List ℕ
@@ -77,6 +85,7 @@ refusal_line (refusal.Table line) = printed (codes "refused table" ++ and_number
 refusal_line (refusal.States place) = printed (codes "refused states" ++ and_number place)
 refusal_line (refusal.Wide count) = printed (codes "refused wide" ++ and_number count)
 refusal_line (refusal.Entry number k) = printed (codes "refused entry" ++ and_number number ++ fault_words k)
+refusal_line (refusal.Family number k) = printed (codes "refused family" ++ and_number number ++ family_words k)
 refusal_line refusal.Number = printed (codes "refused number")
 refusal_line (refusal.Listing line k) = printed (codes "refused listing" ++ and_number line ++ and_number (kind_number k))
 refusal_line (refusal.Range line distance) = printed (codes "refused listing" ++ and_number line ++ codes " 4 " ++ signed_decimal distance)

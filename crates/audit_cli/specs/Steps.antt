@@ -5,6 +5,7 @@ use Rattle.thumb_model.specs.Layout.{Fault}
 use Rattle.rule_table.specs.Table.{Table}
 use Rattle.rule_table.specs.Refused.{IsText, IsRefused as IsRefusedTable}
 use Rattle.table_audit.specs.declared.errors.EntryFault.{EntryFault}
+use Rattle.table_audit.specs.declared.errors.FamilyKind.{FamilyKind}
 use Rattle.table_audit.specs.declared.errors.AuditError.TheVariants as audit
 use Rattle.table_audit.specs.Acceptance.{TableVerdict, IsAccepted}
 use Rattle.listing_parser.specs.declared.errors.Kind.{Kind}
@@ -26,6 +27,7 @@ pub data IsUnaudited (text : List ℕ) : Refusal → Type 0 where
   other_state : (t : Table) → IsText text t → (place : ℕ) → TableVerdict t (Some (audit.States place)) → IsUnaudited text (refusal.States place)
   too_wide : (t : Table) → IsText text t → (count : ℕ) → TableVerdict t (Some (audit.Wide count)) → IsUnaudited text (refusal.Wide count)
   bad_entry : (t : Table) → IsText text t → (number : ℕ) (k : EntryFault) → TableVerdict t (Some (audit.Entry number k)) → IsUnaudited text (refusal.Entry number k)
+  bad_family : (t : Table) → IsText text t → (number : ℕ) (k : FamilyKind) → TableVerdict t (Some (audit.Family number k)) → IsUnaudited text (refusal.Family number k)
 
 -- a text is refused at the first line that makes it no listing
 pub data IsUnread (text : List ℕ) : Refusal → Type 0 where

@@ -1,6 +1,6 @@
 -- What the commands come to that read a table alone: `audit` and `export`.
-use Rattle.std.specs.Prelude.{◌≡◌, ℕ, List, [], ◌∷◌, length, sum_by, ◌-◌, ◌==◌, ◌++◌, Option, Some, None, slice_get, if◌then◌else◌}
-use Rattle.rule_table.specs.Table.{Rule, Table}
+use Rattle.std.specs.Prelude.{◌≡◌, ℕ, List, [], ◌∷◌, length, sum_by, ◌-◌, ◌++◌, Some, None}
+use Rattle.rule_table.specs.Table.{Rule, Family, Table}
 use Rattle.command_runs.specs.Plans.{Outcome, Refuses, Does}
 use Rattle.audit_cli.specs.declared.refusal.Refusal.{Refusal}
 use Rattle.audit_cli.specs.Printed.{refusal_line, entries_line, formula_line}
@@ -12,7 +12,9 @@ use Rattle.lrat_check.specs.Content.{Content}
 use Rattle.lrat_check.specs.Text.{text_of}
 use Rattle.rule_table.specs.Refused.{IsText}
 use Rattle.table_audit.specs.declared.errors.EntryFault.TheVariants as fault
+use Rattle.table_audit.specs.declared.errors.FamilyKind.TheVariants as family
 use Rattle.table_audit.specs.Sides.{SidesFit, formula_of}
+use Rattle.table_audit.specs.Families.{entry_at, entry_of, family_at, raised_formula, IsRaisable}
 use Rattle.audit_cli.specs.declared.refusal.Refusal.TheVariants as refusal
 
 -- ---- `audit` ----
@@ -35,30 +37,42 @@ AuditComesTo texts o = (text : List ℕ) × (texts ≡ text ∷ []) × Audits te
 
 -- ---- `export` ----
 
--- which entry, counted from 1, and the names that its formula and its proof are kept under
+-- which entry or family, counted from 1, the families behind the entries, and the names that its formula and its proof are kept under
 pub record Extract : Type 0 where
   pub entry : ℕ
   pub cnf : List ℕ
   pub lrat : List ℕ
 
--- the entry of that number, counted from 1
-abbrev pub entry_at : List Rule → ℕ → Option Rule
-entry_at rules number = if number == 0 then None else slice_get rules (number - 1)
-
 -- the lines of a proof, each with its newline
 abbrev pub proof_text : List Content → List ℕ
 proof_text lines = flat_map (λ line. text_of line ++ 10 ∷ []) lines
 
--- the entry's formula is kept, and then its proof
-abbrev pub extracted : Extract → Rule → Cnf → Outcome
-extracted to e f = Does ((to.cnf, dimacs f) ∷ (to.lrat, proof_text e.proof) ∷ []) (formula_line f.variables (length f.clauses) (length e.proof))
+-- the formula is kept, and then the proof
+abbrev pub extracted : Extract → Cnf → List Content → Outcome
+extracted to f proof = Does ((to.cnf, dimacs f) ∷ (to.lrat, proof_text proof) ∷ []) (formula_line f.variables (length f.clauses) (length proof))
 
--- what a text comes to: it is no table, or has no such entry, or the entry's sides or mask are not what the table's header allows, or formula and proof are kept
+-- what an entry comes to: its sides or mask are not what the table's header allows, or its formula and proof are kept
+pub data ExportsEntry (to : Extract) (t : Table) (e : Rule) : Outcome → Type 0 where
+  unfit : (SidesFit t e → ⊥) → ExportsEntry to t e (Refuses (refusal_line (refusal.Entry to.entry fault.Sides)))
+  found : SidesFit t e → ExportsEntry to t e (extracted to (formula_of t.header e) e.proof)
+
+-- a family counted from 1 among the families, by the number that it has behind the entries
+abbrev pub own_number : Extract → Table → ℕ
+own_number to t = to.entry - length t.rules
+
+-- what a family comes to: it raises no entry, or one whose sides or mask are not what the header allows, or its number can't be raised, or its formula and proof are kept
+pub data ExportsFamily (to : Extract) (t : Table) (f : Family) : Outcome → Type 0 where
+  raises_none : entry_of t f ≡ None → ExportsFamily to t f (Refuses (refusal_line (refusal.Family (own_number to t) family.Symbol)))
+  raises_unfit : (e : Rule) → entry_of t f ≡ Some e → (SidesFit t e → ⊥) → ExportsFamily to t f (Refuses (refusal_line (refusal.Entry f.entry fault.Sides)))
+  unraisable : (e : Rule) → entry_of t f ≡ Some e → SidesFit t e → (IsRaisable t.header.pool f e.left → ⊥) → ExportsFamily to t f (Refuses (refusal_line (refusal.Family (own_number to t) family.Symbol)))
+  raised : (e : Rule) → entry_of t f ≡ Some e → SidesFit t e → IsRaisable t.header.pool f e.left → ExportsFamily to t f (extracted to (raised_formula t.header f e) f.proof)
+
+-- what a text comes to: it is no table, or has neither such an entry nor such a family, or what the one that it has comes to
 pub data Exports (to : Extract) (text : List ℕ) : Outcome → Type 0 where
   refused : (r : Refusal) → IsUnlisted text r → Exports to text (Refuses (refusal_line r))
-  absent : (t : Table) → IsText text t → entry_at t.rules to.entry ≡ None → Exports to text (Refuses (refusal_line refusal.Number))
-  unfit : (t : Table) → IsText text t → (e : Rule) → entry_at t.rules to.entry ≡ Some e → (SidesFit t e → ⊥) → Exports to text (Refuses (refusal_line (refusal.Entry to.entry fault.Sides)))
-  found : (t : Table) → IsText text t → (e : Rule) → entry_at t.rules to.entry ≡ Some e → SidesFit t e → Exports to text (extracted to e (formula_of t.header e))
+  absent : (t : Table) → IsText text t → entry_at t.rules to.entry ≡ None → family_at t to.entry ≡ None → Exports to text (Refuses (refusal_line refusal.Number))
+  entry : (t : Table) → IsText text t → (e : Rule) → entry_at t.rules to.entry ≡ Some e → (o : Outcome) → ExportsEntry to t e o → Exports to text o
+  of_family : (t : Table) → IsText text t → (f : Family) → family_at t to.entry ≡ Some f → (o : Outcome) → ExportsFamily to t f o → Exports to text o
 
 -- `export` goes by one text
 abbrev pub ExportComesTo : Extract → List (List ℕ) → Outcome → Type 0

@@ -1,31 +1,40 @@
 -- What `trim` comes to.
-use Rattle.std.specs.Prelude.{◌≡◌, ℕ, List, [], ◌∷◌, length, sum_by}
+use Rattle.std.specs.Prelude.{◌≡◌, ℕ, ◌+◌, List, [], ◌∷◌, length, sum_by, Some}
 use Rattle.std.specs.List.{AllZip}
 use Rattle.clause_model.specs.Literals.{codes_of}
 use Rattle.lrat_check.specs.Trimmed.{IsTrimmed}
 use Rattle.rule_table.specs.Header.{Header}
-use Rattle.rule_table.specs.Table.{Rule, Table}
+use Rattle.rule_table.specs.Table.{Rule, Family, Table}
 use Rattle.rule_table.specs.Text.{text_of}
 use Rattle.table_audit.specs.Sides.{formula_of}
+use Rattle.table_audit.specs.Families.{entry_at, raised_formula}
 use Rattle.command_runs.specs.Plans.{Outcome, Refuses, Does}
 use Rattle.audit_cli.specs.declared.refusal.Refusal.{Refusal}
 use Rattle.audit_cli.specs.Printed.{refusal_line, trimmed_line}
 use Rattle.audit_cli.specs.Steps.{IsUnaudited, IsAudited}
 
--- the entry has a proof without what it doesn't need, and is else the same
+-- an entry has a proof without what it doesn't need, and is else the same
 pub record IsTrimmedRule (h : Header) (e trimmed : Rule) : Type 0 where
   pub same : trimmed ≡ record e { proof = trimmed.proof }
   pub proof : IsTrimmed (codes_of (formula_of h e).clauses) e.proof trimmed.proof
 
--- a table whose entries are those of another, each with such a proof
+-- and so for a family of these entries
+pub record IsTrimmedFamily (h : Header) (rules : List Rule) (f trimmed : Family) : Type 0 where
+  pub same : trimmed ≡ record f { proof = trimmed.proof }
+  pub entry : Rule
+  pub is_entry : entry_at rules f.entry ≡ Some entry
+  pub proof : IsTrimmed (codes_of (raised_formula h f entry).clauses) f.proof trimmed.proof
+
+-- a table whose entries and families are those of another, each with such a proof
 pub record IsTrimmedTable (t trimmed : Table) : Type 0 where
   pub header : trimmed.header ≡ t.header
   pub states : trimmed.states ≡ t.states
   pub rules : AllZip (IsTrimmedRule t.header) t.rules trimmed.rules
+  pub families : AllZip (IsTrimmedFamily t.header t.rules) t.families trimmed.families
 
--- how many lines the proofs of entries have
+-- how many lines the proofs of entries and families have
 abbrev pub lines_in : Table → ℕ
-lines_in t = sum_by (λ (e : Rule). length e.proof) t.rules
+lines_in t = sum_by (λ (e : Rule). length e.proof) t.rules + sum_by (λ (f : Family). length f.proof) t.families
 
 -- the table's text is kept, and the lines of its proofs are counted behind those that there were before
 abbrev pub trimmed_outcome : List ℕ → Table → ℕ → Outcome

@@ -1,41 +1,40 @@
-//! The command `export`: the formula of an entry of a table, and its proof.
-ghost use Rattle.std.specs.Prelude.{◌≡◌, ℕ, List, IfOk, map, option_map};
+//! The command `export`: the formula of an entry or a family of a table, and its proof.
+ghost use Rattle.std.specs.Prelude.{◌≡◌, ◌<◌, ℕ, List, IfOk, Ok, length, map};
 ghost use Rattle.lrat_check.specs.Content.{content_of};
 ghost use Rattle.rule_table.specs.Refused.{IsText};
-ghost use Rattle.rule_table.specs.Views.{header_in, rule_of, table_of};
-ghost use Rattle.table_audit.specs.Sides.{formula_of};
+ghost use Rattle.rule_table.specs.Views.{family_of, header_in, rule_of, table_of};
+ghost use Rattle.table_audit.specs.declared.errors.EntryFault.TheVariants.{Sides};
+ghost use Rattle.table_audit.specs.declared.errors.FamilyKind.TheVariants.{Symbol};
 ghost use Rattle.table_audit.specs.Canonical.{HasFormula};
+ghost use Rattle.table_audit.specs.Families.{raised_formula, IsRaisable};
+ghost use Rattle.table_audit.specs.Sides.{formula_of};
 ghost use Rattle.command_runs.specs.Outcomes.{outcome_view};
-ghost use Rattle.audit_cli.specs.Tables.{Exports, entry_at, extracted, proof_text};
+ghost use Rattle.command_runs.specs.Plans.{Refuses};
+ghost use Rattle.audit_cli.specs.Printed.{refusal_line};
+ghost use Rattle.audit_cli.specs.Tables.{Exports, ExportsEntry, ExportsFamily, extracted, own_number, proof_text};
 ghost use Rattle.audit_cli.specs.Commands.{extract_of};
 
 use crate::printing::{formula_report, keeps_two};
 use crate::refusal::{Refusal, refused};
 use crate::steps::read_rules;
-use cnf_gates::{Memory, write_dimacs};
+use cnf_gates::{Formula, Memory, write_dimacs};
 use command_runs::Outcome;
 use lrat_check::{Line, write_line};
-use rule_table::{Entry, Table};
+use rule_table::{Entry, Family, Table};
 use std::alloc::{AllocError, Global};
 use step_ledger::{Ledger, Steps};
-use table_audit::{EntryFault, entry_formula, sides_fit};
+use table_audit::{
+    EntryFault, FamilyKind, entry_at, entry_formula, entry_of, family_at, family_formula,
+    is_raisable, sides_fit,
+};
 
-/// The command `export`, with the number of an entry, from 1, and the names that its formula and its proof are kept under.
+/// The command `export`, with the number of an entry or a family, from 1, families behind the entries, and the names that its formula and its proof are kept
+/// under.
 #[derive(Drop)]
 pub(crate) struct Export<'a> {
     pub(crate) entry: u32,
     pub(crate) cnf: &'a str,
     pub(crate) lrat: &'a str,
-}
-
-/// The entry of a number, from 1.
-fn entry_at(entries: &[Entry], number: u32) -> Option<&Entry>
-    ensures { option_map (λ e. rule_of e.now) result ≡ entry_at (map rule_of entries.now) number }
-{
-    if number == 0 {
-        return None;
-    }
-    entries.get(number as usize - 1)
 }
 
 /// The lines of a proof, each with its newline.
@@ -50,54 +49,141 @@ fn proof_text(alloc: Global, lines: &[Line]) -> Result<Vec<u8>, Memory>
     Ok(text)
 }
 
-/// What is kept and printed of an entry.
-fn entry_outcome(
+/// What is kept and printed of a formula and its proof.
+fn formula_outcome(
+    alloc: Global,
+    to: &Export<'_>,
+    formula: &Formula,
+    proof: &[Line],
+) -> Result<Outcome, Memory>
+    ensures { IfOk result (λ o. outcome_view o ≡ extracted (extract_of to.now) formula.now (map content_of proof.now)) }
+{
+    let cnf = write_dimacs(alloc, formula)?;
+    let lrat = proof_text(alloc, proof)?;
+    let lines = formula_report(
+        alloc,
+        formula.variables(),
+        formula.clauses(),
+        proof.len() as u64,
+    )?;
+    let outcome = keeps_two(alloc, to.cnf, cnf, to.lrat, lrat, lines)?;
+    Ok(outcome)
+}
+
+/// What is kept and printed of an entry whose sides fit.
+fn fit_entry(
     alloc: Global,
     to: &Export<'_>,
     table: &Table,
     entry: &Entry,
 ) -> Result<Outcome, Memory>
     requires { HasFormula (header_in table.now) (rule_of entry.now) }
-    ensures { IfOk result (λ o. outcome_view o ≡ extracted (extract_of to.now) (rule_of entry.now) (formula_of (header_in table.now) (rule_of entry.now))) }
+    ensures { IfOk result (λ o. outcome_view o ≡ extracted (extract_of to.now) (formula_of (header_in table.now) (rule_of entry.now)) (rule_of entry.now).proof) }
 {
     let formula = entry_formula(alloc, table, entry)?;
-    let cnf = write_dimacs(alloc, &formula)?;
-    let lrat = proof_text(alloc, &entry.proof)?;
-    let lines = formula_report(
+    formula_outcome(alloc, to, &formula, &entry.proof)
+}
+
+/// What is kept and printed of a family whose entry's sides fit, and whose number can be raised.
+fn fit_family(
+    alloc: Global,
+    to: &Export<'_>,
+    table: &Table,
+    family: &Family,
+    entry: &Entry,
+) -> Result<Outcome, Memory>
+    requires entry { HasFormula (header_in table.now) (rule_of entry.now) }
+    requires raisable { IsRaisable table.now.pool (family_of family.now) entry.now.left }
+    ensures { IfOk result (λ o. outcome_view o ≡ extracted (extract_of to.now) (raised_formula (header_in table.now) (family_of family.now) (rule_of entry.now)) (family_of family.now).proof) }
+{
+    let formula = family_formula(alloc, table, family, entry)?;
+    formula_outcome(alloc, to, &formula, &family.proof)
+}
+
+/// The outcome of work that wants no more than memory.
+fn worked(outcome: Result<Outcome, Memory>) -> Result<Outcome, AllocError>
+    ensures { IfOk result (λ o. outcome ≡ Ok o) }
+{
+    match outcome {
+        Err(_) => Err(AllocError),
+        Ok(outcome) => Ok(outcome),
+    }
+}
+
+/// The refusal of an entry for its sides.
+fn unfit(alloc: Global, number: u32) -> Result<Outcome, AllocError>
+    ensures { IfOk result (λ o. outcome_view o ≡ Refuses (refusal_line (Refusal.Entry number Sides))) }
+{
+    refused(
         alloc,
-        formula.variables(),
-        formula.clauses(),
-        entry.proof.len() as u64,
-    )?;
-    let outcome = keeps_two(alloc, to.cnf, cnf, to.lrat, lrat, lines)?;
-    Ok(outcome)
+        Refusal::Entry {
+            number: u64::from(number),
+            fault: EntryFault::Sides,
+        },
+    )
+}
+
+/// What an entry comes to.
+fn entry_outcome(
+    alloc: Global,
+    to: &Export<'_>,
+    table: &Table,
+    entry: &Entry,
+) -> Result<Outcome, AllocError>
+    ensures { IfOk result (λ o. ExportsEntry (extract_of to.now) (table_of table.now) (rule_of entry.now) (outcome_view o)) }
+{
+    if !sides_fit(table, entry) {
+        return unfit(alloc, to.entry);
+    }
+    worked(fit_entry(alloc, to, table, entry))
+}
+
+/// The refusal of a family that can't be raised.
+fn unraisable(alloc: Global, to: &Export<'_>, table: &Table) -> Result<Outcome, AllocError>
+    requires { length table.now.entries.items < to.now.entry }
+    ensures { IfOk result (λ o. outcome_view o ≡ Refuses (refusal_line (Refusal.Family (own_number (extract_of to.now) (table_of table.now)) Symbol))) }
+{
+    refused(
+        alloc,
+        Refusal::Family {
+            number: (to.entry as usize - table.entries.len()) as u64,
+            kind: FamilyKind::Symbol,
+        },
+    )
+}
+
+/// What a family comes to.
+fn family_outcome(
+    alloc: Global,
+    to: &Export<'_>,
+    table: &Table,
+    family: &Family,
+) -> Result<Outcome, AllocError>
+    requires { length table.now.entries.items < to.now.entry }
+    ensures { IfOk result (λ o. ExportsFamily (extract_of to.now) (table_of table.now) (family_of family.now) (outcome_view o)) }
+{
+    let Some(entry) = entry_of(table, family) else {
+        return unraisable(alloc, to, table);
+    };
+    if !sides_fit(table, entry) {
+        return unfit(alloc, family.entry);
+    }
+    if !is_raisable(&table.pool, family, &entry.left) {
+        return unraisable(alloc, to, table);
+    }
+    worked(fit_family(alloc, to, table, family, entry))
 }
 
 /// What a table comes to.
 fn table_outcome(alloc: Global, to: &Export<'_>, table: &Table) -> Result<Outcome, AllocError>
     ensures { (text : List ℕ) → IsText text (table_of table.now) → IfOk result (λ o. Exports (extract_of to.now) text (outcome_view o)) }
 {
-    match entry_at(&table.entries, to.entry) {
-        None => {
-            let outcome = refused(alloc, Refusal::Number)?;
-            Ok(outcome)
-        }
-        Some(entry) => {
-            if sides_fit(table, entry) {
-                return match entry_outcome(alloc, to, table, entry) {
-                    Err(_) => Err(AllocError),
-                    Ok(outcome) => Ok(outcome),
-                };
-            }
-            let outcome = refused(
-                alloc,
-                Refusal::Entry {
-                    number: u64::from(to.entry),
-                    fault: EntryFault::Sides,
-                },
-            )?;
-            return Ok(outcome);
-        }
+    if let Some(entry) = entry_at(&table.entries, to.entry) {
+        return entry_outcome(alloc, to, table, entry);
+    }
+    match family_at(table, to.entry) {
+        None => refused(alloc, Refusal::Number),
+        Some(family) => family_outcome(alloc, to, table, family),
     }
 }
 

@@ -2,12 +2,12 @@
 ghost use Rattle.std.specs.Prelude.{◌≡◌, IfOk};
 ghost use Rattle.command_runs.specs.Outcomes.{outcome_view};
 ghost use Rattle.command_runs.specs.Plans.{Refuses};
-ghost use Rattle.audit_cli.specs.Printed.{fault_words, kind_number, refusal_line};
+ghost use Rattle.audit_cli.specs.Printed.{family_words, fault_words, kind_number, refusal_line};
 
 use command_runs::Outcome;
 use listing_parser::Kind;
 use std::alloc::{AllocError, Global};
-use table_audit::EntryFault;
+use table_audit::{EntryFault, FamilyKind};
 
 /// Why a run is refused. Lines are counted from 1.
 #[derive(Clone, Copy)]
@@ -20,6 +20,8 @@ pub(crate) enum Refusal {
     Wide { count: u64 },
     /// The entry, counted from 1, has this fault.
     Entry { number: u64, fault: EntryFault },
+    /// The family, counted from 1, is refused for this.
+    Family { number: u64, kind: FamilyKind },
     /// There is no such entry.
     Number,
     /// The line is the first that makes a text no listing.
@@ -90,6 +92,30 @@ fn entry_line(alloc: Global, number: u64, fault: EntryFault) -> Result<Vec<u8>, 
     let text = format!(in alloc; "refused entry {number}")?;
     let mut line = text.into_bytes();
     let words = fault_words(alloc, fault)?;
+    line.extend_from_slice(&words)?;
+    line.push(b'\n')?;
+    Ok(line)
+}
+
+/// The number of a kind, and what it tells: ` 1`, ` 2 LINE` or ` 3`.
+fn family_words(alloc: Global, kind: FamilyKind) -> Result<Vec<u8>, AllocError>
+    ensures { IfOk result (λ v. v.items ≡ family_words kind) }
+{
+    let text = match kind {
+        FamilyKind::Symbol => format!(in alloc; " 1")?,
+        FamilyKind::Proof(line) => format!(in alloc; " 2 {line}")?,
+        FamilyKind::Unfinished => format!(in alloc; " 3")?,
+    };
+    Ok(text.into_bytes())
+}
+
+/// `refused family NUMBER KIND ..`
+fn family_line(alloc: Global, number: u64, kind: FamilyKind) -> Result<Vec<u8>, AllocError>
+    ensures { IfOk result (λ v. v.items ≡ refusal_line (Refusal.Family number kind)) }
+{
+    let text = format!(in alloc; "refused family {number}")?;
+    let mut line = text.into_bytes();
+    let words = family_words(alloc, kind)?;
     line.extend_from_slice(&words)?;
     line.push(b'\n')?;
     Ok(line)
@@ -167,6 +193,7 @@ fn refusal_line(alloc: Global, refusal: Refusal) -> Result<Vec<u8>, AllocError>
         Refusal::States { place } => states_line(alloc, place),
         Refusal::Wide { count } => wide_line(alloc, count),
         Refusal::Entry { number, fault } => entry_line(alloc, number, fault),
+        Refusal::Family { number, kind } => family_line(alloc, number, kind),
         Refusal::Number => number_line(alloc),
         Refusal::Listing { line, kind } => listing_line(alloc, line, kind),
         Refusal::Range { line, distance } => range_line(alloc, line, distance),

@@ -63,6 +63,7 @@ fn audited<L: Ledger>(
             number,
             fault: kind,
         })),
+        Err(AuditError::Family { number, kind }) => Ok(Err(Refusal::Family { number, kind })),
         Ok(audited) => Ok(Ok(audited)),
     }
 }

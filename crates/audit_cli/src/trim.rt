@@ -1,26 +1,27 @@
 //! The command `trim`: an accepted table is kept with proofs from which all is gone that they don't need.
-ghost use Rattle.std.specs.Prelude.{◌≡◌, ◌<◌, ◌≤◌, ◌+◌, ◌^◌, IfOk, map, sum_by, length};
+ghost use Rattle.std.specs.Prelude.{◌≡◌, ◌<◌, ◌≤◌, ◌+◌, ◌^◌, All, IfOk, map, sum_by, length};
 ghost use Rattle.std.specs.List.{AllZip};
 ghost use Rattle.clause_model.specs.Literals.{codes_of};
 ghost use Rattle.lrat_check.specs.Runs.{IsRefutation};
-ghost use Rattle.rule_table.specs.Table.{Rule};
-ghost use Rattle.rule_table.specs.Views.{header_in, rule_of, table_of};
+ghost use Rattle.rule_table.specs.Table.{Rule, Family as Raised};
+ghost use Rattle.rule_table.specs.Views.{family_of, header_in, rule_of, table_of};
 ghost use Rattle.table_audit.specs.Acceptance.{IsAccepted};
 ghost use Rattle.table_audit.specs.Canonical.{HasFormula};
 ghost use Rattle.table_audit.specs.Sides.{formula_of};
 ghost use Rattle.command_runs.specs.Outcomes.{outcome_view};
-ghost use Rattle.audit_cli.specs.Trim.{IsTrimmedRule, IsTrimmedTable, IsTrimOf, Trims, lines_in, trimmed_outcome};
+ghost use Rattle.audit_cli.specs.Ready.{IsRaised};
+ghost use Rattle.audit_cli.specs.Trim.{IsTrimmedRule, IsTrimmedFamily, IsTrimmedTable, IsTrimOf, Trims, lines_in, trimmed_outcome};
 
 use crate::printing::{keeps_text, trimmed_report};
 use crate::refusal::refused;
 use crate::steps::read_audited;
 use cnf_gates::Memory;
 use command_runs::Outcome;
-use rule_table::{Entry, Table, write_table};
+use rule_table::{Entry, Family, Table, write_table};
 use std::alloc::{AllocError, Global};
 use std::mem;
 use step_ledger::{Ledger, Steps};
-use table_audit::entry_formula;
+use table_audit::{entry_formula, entry_of, family_formula};
 
 /// The command `trim`, with the name that the table is kept under.
 #[derive(Drop)]
@@ -38,6 +39,26 @@ fn count_lines(entries: &[Entry]) -> u64
         count += entry.proof.len() as u64;
     }
     count
+}
+
+/// How many lines the proofs of families have.
+fn count_raised(families: &[Family]) -> u64
+    requires { sum_by (λ (f : Raised). length f.proof) (map family_of families.now) < 2 ^ 63 }
+    ensures { result ≡ sum_by (λ (f : Raised). length f.proof) (map family_of families.now) }
+{
+    let mut count = 0;
+    for family in families {
+        count += family.proof.len() as u64;
+    }
+    count
+}
+
+/// How many lines the proofs of a table have.
+fn count_all(table: &Table) -> u64
+    requires { lines_in (table_of table.now) < 2 ^ 63 }
+    ensures { result ≡ lines_in (table_of table.now) }
+{
+    count_lines(&table.entries) + count_raised(&table.families)
 }
 
 /// The entry of a table with its proof trimmed.
@@ -69,7 +90,56 @@ fn trimmed_entry<L: Ledger>(
     })
 }
 
-/// The table with the proofs of its entries trimmed.
+/// The family of a table with its proof trimmed.
+fn trimmed_family<L: Ledger>(
+    alloc: Global,
+    table: &Table,
+    family: Family,
+    steps: &mut Steps<L>,
+) -> Result<Family, Memory>
+    requires { IsRaised (header_in table.now) (table_of table.now).rules (family_of family) }
+    ensures { IfOk result (λ f. IsTrimmedFamily (header_in table.now) (table_of table.now).rules (family_of family) (family_of f)) }
+{
+    let Some(raised) = entry_of(table, &family) else {
+        unreachable!();
+    };
+    let formula = family_formula(alloc, table, &family, raised)?;
+    let trimmed = lrat_check::trim(alloc, &formula, &family.proof, steps)?;
+    let Family {
+        entry,
+        number,
+        low,
+        high,
+        proof: _given,
+    } = family;
+    Ok(Family {
+        entry,
+        number,
+        low,
+        high,
+        proof: trimmed,
+    })
+}
+
+/// The families of a table with their proofs trimmed.
+fn trimmed_families<L: Ledger>(
+    alloc: Global,
+    table: &Table,
+    families: Vec<Family>,
+    steps: &mut Steps<L>,
+) -> Result<Vec<Family>, Memory>
+    requires { All (IsRaised (header_in table.now) (table_of table.now).rules) (map family_of families.items) }
+    ensures { IfOk result (λ fs. AllZip (IsTrimmedFamily (header_in table.now) (table_of table.now).rules) (map family_of families.items) (map family_of fs.items)) }
+{
+    let mut all = Vec::new(alloc);
+    for family in families {
+        let trimmed = trimmed_family(alloc, table, family, steps)?;
+        all.push(trimmed)?;
+    }
+    Ok(all)
+}
+
+/// The table with the proofs of its entries and families trimmed.
 fn trimmed_table<L: Ledger>(
     alloc: Global,
     mut table: Table,
@@ -78,11 +148,14 @@ fn trimmed_table<L: Ledger>(
     requires { IsAccepted (table_of table) }
     ensures { IfOk result (λ t. IsTrimmedTable (table_of table) (table_of t)) }
 {
+    let families = mem::replace(&mut table.families, Vec::new(alloc));
+    let families = trimmed_families(alloc, &table, families, steps)?;
     let entries = mem::replace(&mut table.entries, Vec::new(alloc));
     for entry in entries {
         let trimmed = trimmed_entry(alloc, &table, entry, steps)?;
         table.entries.push(trimmed)?;
     }
+    table.families = families;
     Ok(table)
 }
 
@@ -91,7 +164,7 @@ fn kept(alloc: Global, out: &str, table: &Table, before: u64) -> Result<Outcome,
     ensures { IfOk result (λ o. outcome_view o ≡ trimmed_outcome out.now (table_of table.now) before) }
 {
     let text = write_table(alloc, table)?;
-    let after = count_lines(&table.entries);
+    let after = count_all(table);
     let lines = trimmed_report(alloc, before, after)?;
     let outcome = keeps_text(alloc, out, text, lines)?;
     Ok(outcome)
@@ -108,7 +181,7 @@ fn table_outcome<L: Ledger>(
     requires few { lines_in (table_of table) < 2 ^ 63 }
     ensures { IfOk result (λ o. IsTrimOf out.now (table_of table) (outcome_view o)) }
 {
-    let before = count_lines(&table.entries);
+    let before = count_all(&table);
     match trimmed_table(alloc, table, steps) {
         Err(_) => Err(AllocError),
         Ok(trimmed) => {

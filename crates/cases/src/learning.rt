@@ -1,4 +1,5 @@
 //! The learner, over a window that is given.
+ghost use Rattle.std.specs.Prelude.{◌≤◌, ◌↔◌, IsTrue};
 ghost use Rattle.rule_table.specs.Views.{table_of};
 ghost use Rattle.rule_table.specs.Valid.{IsTable};
 
@@ -11,15 +12,25 @@ use step_ledger::{Counted, Steps};
 use table_audit::sides_fit;
 use table_learn::{LearnError, learn};
 
-/// What is learnt from the left side and the mask of a table's last entry, with the settings of its header.
+/// Whether tables of a version are learnt.
+fn is_learnt(version: u8) -> bool
+    ensures { IsTrue result ↔ (version ≤ 2) }
+{
+    version <= 2
+}
+
+/// What is learnt from the left side and the mask of a table's last entry, with the settings of its header, which is of a version that is learnt.
 fn lesson(given: &Given, mut table: Table) -> Option<Result<Table, LearnError>>
     requires { IsTable (table_of table) }
 {
+    if !is_learnt(table.version) {
+        return None;
+    }
     let entry = table.entries.pop()?;
     if !sides_fit(&table, &entry) {
         return None;
     }
-    let (settings, _, _) = table.into_parts();
+    let (settings, _, _, _) = table.into_parts();
     let windows = vec![in given.alloc; (entry.left, entry.mask)].ok()?;
     Some(learn(
         given.alloc,

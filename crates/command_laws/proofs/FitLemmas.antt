@@ -1,10 +1,10 @@
 -- Fit texts come to no refusal, but that a learnt table's text is too long.
-use Rattle.std.proofs.Common.{◌≡◌, ◌∙◌, ◌≤◌, ℕ, List, [], ◌∷◌, true≢false, refl, sym, subst, arith, Option, Some, None, length}
+use Rattle.std.proofs.Common.{◌≡◌, ◌∙◌, ◌≤◌, ◌⊎◌, inl, inr, ℕ, List, [], ◌∷◌, true≢false, refl, sym, subst, arith, Option, Some, None, length}
 use Rattle.std.specs.Prelude.{IsSome}
 use Rattle.thumb_model.specs.Listing.{Line, code_of, place_of}
 use Rattle.thumb_model.specs.Layout.{Layable}
 use Rattle.listing_parser.proofs.MadeLemmas.{one_listing}
-use Rattle.rule_table.specs.Table.{Table}
+use Rattle.rule_table.specs.Table.{Rule, Family, Table}
 use Rattle.rule_table.proofs.Progress.{one_table}
 use Rattle.table_audit.specs.Sides.{SidesFit}
 use Rattle.table_audit.specs.Soundness.{numbers_of}
@@ -18,7 +18,8 @@ use Rattle.audit_cli.specs.Printed.{refusal_line, entries_line}
 use Rattle.audit_cli.specs.Rewrite.{Destination, Counts, Leaves, alone, pair, no_image, WantsNone, LinesRewrite, Rewrites, Comes}
 use Rattle.audit_cli.specs.Rewrite as rewriting
 use Rattle.audit_cli.specs.Steps.{IsAudited}
-use Rattle.audit_cli.specs.Tables.{Extract, entry_at}
+use Rattle.audit_cli.specs.Tables.{Extract}
+use Rattle.table_audit.specs.Families.{entry_at, entry_of, family_at, IsRaisable}
 use Rattle.audit_cli.specs.Tables as tables
 use Rattle.audit_cli.specs.Learn.{Lesson}
 use Rattle.audit_cli.specs.Learn as learning
@@ -31,10 +32,10 @@ use Rattle.audit_cli.specs.Tidy as tidying
 use Rattle.audit_cli.specs.Peep.{plan_of}
 use Rattle.command_laws.specs.Once.{IsLearning}
 use Rattle.audit_cli.specs.Complete.{TellsFull}
-use Rattle.command_laws.specs.Fit.{FitRewriting, FitExport, FitTrace, FitTidying, FitLearning, FitUpgrade, AreFit}
+use Rattle.command_laws.specs.Fit.{HasFitEntry, HasFitFamily, FitRewriting, FitExport, FitTrace, FitTidying, FitLearning, FitUpgrade, AreFit}
 use Rattle.command_laws.proofs.AddressLemmas.{still_flawless}
 use Rattle.audit_cli.proofs.DemoLemmas.{never_unaudited, none_some, never_without_image}
-use Rattle.command_laws.proofs.OnceLemmas.{Cause, never_unlisted, some_same, first_same, second_same, never_unread_listing, never_unlaid}
+use Rattle.command_laws.proofs.OnceLemmas.{Cause, never_unlisted, some_same, first_same, second_same, never_unread_listing, never_unlaid, apart, entry_moved, family_moved}
 
 -- it refuses
 IsRefusing : Outcome → Type 0
@@ -98,18 +99,40 @@ module _ (out : List ℕ) (texts : List (List ℕ)) (fit : FitUpgrade texts) whe
       let same : t ≡ fit.rules = one_table fit.text t fit.rules is.is fit.is_table in
       kept_fit (entries_line (length t.rules) (tables.opens_of t)) o (subst (λ (u : Table). upgrading.IsKept out (upgrading.upgraded u) (entries_line (length t.rules) (tables.opens_of t)) o) same h) r
 
+module _ (to : Extract) (t : Table) where
+  never_absent : HasFitEntry t to.entry ⊎ HasFitFamily t to.entry → entry_at t.rules to.entry ≡ None → family_at t to.entry ≡ None → ⊥
+  never_absent (inl has) h k = none_some (entry_at t.rules to.entry) has.entry h has.is_entry
+  never_absent (inr has) h k = none_some (family_at t to.entry) has.family k has.is_family
+
+  entry_fit : HasFitEntry t to.entry ⊎ HasFitFamily t to.entry → (e : Rule) → entry_at t.rules to.entry ≡ Some e → SidesFit t e
+  entry_fit (inl has) e at = subst (SidesFit t) (some_same has.entry e (sym has.is_entry ∙ at)) has.fit
+  entry_fit (inr has) e at = absurd (apart t to.entry e has.family at has.is_family)
+
+  its_family : HasFitEntry t to.entry ⊎ HasFitFamily t to.entry → (f : Family) → family_at t to.entry ≡ Some f → (e : Rule) × (entry_of t f ≡ Some e) × SidesFit t e × IsRaisable t.header.pool f e.left
+  its_family (inl has) f at = absurd (apart t to.entry has.entry f has.is_entry at)
+  its_family (inr has) f at =
+      subst (λ (g : Family). (e : Rule) × (entry_of t g ≡ Some e) × SidesFit t e × IsRaisable t.header.pool g e.left) (some_same has.family f (sym has.is_family ∙ at)) (has.entry, has.is_entry, has.fit, has.raisable)
+
+  entry_exported : (e : Rule) → SidesFit t e → (o : Outcome) → tables.ExportsEntry to t e o → IsRefusing o → ⊥
+  unfolding IsRefusing
+  entry_exported e fit _ (tables.unfit not) r = not fit
+  entry_exported e fit _ (tables.found so) r = r
+
+  family_exported : (f : Family) → (e : Rule) × (entry_of t f ≡ Some e) × SidesFit t e × IsRaisable t.header.pool f e.left → (o : Outcome) → tables.ExportsFamily to t f o → IsRefusing o → ⊥
+  unfolding IsRefusing
+  family_exported f (e, at, fits, can) _ (tables.raises_none none) r = none_some (entry_of t f) e none at
+  family_exported f (e, at, fits, can) _ (tables.raises_unfit x there not) r = not (subst (SidesFit t) (some_same e x (sym at ∙ there)) fits)
+  family_exported f (e, at, fits, can) _ (tables.unraisable x there its not) r = not (subst (λ (y : Rule). IsRaisable t.header.pool f y.left) (some_same e x (sym at ∙ there)) can)
+  family_exported f (e, at, fits, can) _ (tables.raised x there its so) r = r
+
 module _ (to : Extract) (texts : List (List ℕ)) (fit : FitExport to.entry texts) where
   exports_fit : (o : Outcome) → tables.Exports to fit.text o → IsRefusing o → ⊥
-  unfolding IsRefusing
   exports_fit _ (tables.refused cause h) r = never_unlisted fit.text fit.rules cause fit.is_table h
-  exports_fit _ (tables.absent t is none) r =
-      let same : t ≡ fit.rules = one_table fit.text t fit.rules is fit.is_table in
-      none_some (entry_at fit.rules.rules to.entry) fit.entry (subst (λ (u : Table). entry_at u.rules to.entry ≡ None) same none) fit.is_entry
-  exports_fit _ (tables.unfit t is e there not) r =
-      let same : t ≡ fit.rules = one_table fit.text t fit.rules is fit.is_table in
-      let at : entry_at fit.rules.rules to.entry ≡ Some e = subst (λ (u : Table). entry_at u.rules to.entry ≡ Some e) same there in
-      not (subst (λ (u : Table). SidesFit u e) (sym same) (subst (SidesFit fit.rules) (some_same fit.entry e (sym fit.is_entry ∙ at)) fit.fit))
-  exports_fit _ (tables.found t is e there so) r = r
+  exports_fit _ (tables.absent t is a b) r = never_absent to fit.rules fit.has (entry_moved to fit.text t fit.rules None is fit.is_table a) (family_moved to fit.text t fit.rules None is fit.is_table b)
+  exports_fit _ (tables.entry t is e at o h) r =
+      entry_exported to fit.rules e (entry_fit to fit.rules fit.has e (entry_moved to fit.text t fit.rules (Some e) is fit.is_table at)) o (subst (λ (x : Table). tables.ExportsEntry to x e o) (one_table fit.text t fit.rules is fit.is_table) h) r
+  exports_fit _ (tables.of_family t is f at o h) r =
+      family_exported to fit.rules f (its_family to fit.rules fit.has f (family_moved to fit.text t fit.rules (Some f) is fit.is_table at)) o (subst (λ (x : Table). tables.ExportsFamily to x f o) (one_table fit.text t fit.rules is fit.is_table) h) r
 
 module _ (journey : Journey) (texts : List (List ℕ)) (fit : FitTrace journey.label texts) where
   no_label : (o : Option ℕ) → IsSome o → o ≡ None → ⊥

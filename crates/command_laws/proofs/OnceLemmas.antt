@@ -1,7 +1,8 @@
 -- Why texts come to one outcome: tables, listings, layouts, rewritings and images are each determined, and so is the first cause by which one is refused.
-use Rattle.std.proofs.Common.{◌≡◌, ◌∙◌, ◌≤◌, ◌<◌, ◌⊎◌, inl, inr, ℕ, List, [], ◌∷◌, ◌++◌, length, refl, sym, ap, subst, arith, Option, Some, None}
-use Rattle.std.specs.Prelude.{nat_le, unwrap_or}
-use Rattle.std.proofs.lemmas.Bool.{cases_Bool, leb-true, leb-false}
+use Rattle.std.proofs.Common.{◌≡◌, ◌∙◌, ◌≤◌, ◌<◌, ◌⊎◌, inl, inr, ℕ, zero, suc, List, [], ◌∷◌, ◌++◌, length, refl, sym, ap, subst, arith, Option, Some, None}
+use Rattle.std.specs.Prelude.{nat_le, nat_lt, false, unwrap_or}
+use Rattle.std.proofs.lemmas.Bool.{cases_Bool, leb-true, leb-false, le-ltb}
+use Rattle.std.proofs.lemmas.Option.{slice_get_within}
 use Rattle.thumb_model.specs.Listing.{Line}
 use Rattle.thumb_model.specs.Layout.{Fault, Layable}
 use Rattle.rule_model.specs.Rewriting.{Replacement}
@@ -10,26 +11,26 @@ use Rattle.listing_parser.specs.Parsing.{IsListing, text_of_lines}
 use Rattle.listing_parser.proofs.MadeLemmas.{one_listing}
 use Rattle.listing_parser.proofs.VerdictLemmas.{one_verdict}
 use Rattle.label_layout.specs.Faults.{first_fault}
-use Rattle.rule_table.specs.Table.{Rule, Table}
+use Rattle.rule_table.specs.Table.{Rule, Family, Table}
 use Rattle.rule_table.specs.Refused.{IsText}
 use Rattle.rule_table.proofs.Progress.{one_table, refused_once, not_both}
 use Rattle.table_audit.specs.declared.errors.AuditError.{AuditError}
 use Rattle.table_audit.specs.declared.errors.AuditError.TheVariants as audit
 use Rattle.table_audit.specs.Acceptance.{TableVerdict}
-use Rattle.table_audit.specs.Sides.{SidesFit, formula_of}
+use Rattle.table_audit.specs.Sides.{SidesFit}
+use Rattle.table_audit.specs.Families.{entry_at, entry_of, family_at, raised_formula, IsRaisable}
 use Rattle.table_audit.specs.Soundness.{numbers_of}
 use Rattle.table_audit.proofs.Determined.{table_same}
-use Rattle.table_audit.specs.Shorter.{sequences_below}
 use Rattle.table_learn.specs.Settings.{Settings, Window}
 use Rattle.table_learn.specs.Learnt.{Learnt, width_of}
 use Rattle.window_rewrite.specs.Rewriting.{setting}
 use Rattle.thumb_assembler.specs.Refusals.{first_flaw}
 use Rattle.command_runs.specs.Plans.{Outcome, Refuses, Does}
 use Rattle.audit_cli.specs.Printed.{refusal_line, unlaid_refusal, report_of, image_line, entries_line}
-use Rattle.audit_cli.specs.Steps.{IsUnlisted, unlisted, IsUnaudited, no_table, other_state, too_wide, bad_entry, IsUnread, unread, IsUnlaid, unlaid, HasNoImage, no_address, inside, IsAudited}
+use Rattle.audit_cli.specs.Steps.{IsUnlisted, unlisted, IsUnaudited, no_table, other_state, too_wide, bad_entry, bad_family, IsUnread, unread, IsUnlaid, unlaid, HasNoImage, no_address, inside, IsAudited}
 use Rattle.audit_cli.specs.Rewrite.{Destination, Counts, Leaves, alone, pair, no_image, IsRewriting, instruction_count}
 use Rattle.audit_cli.specs.Rewrite as rewriting
-use Rattle.audit_cli.specs.Tables.{Extract, entry_at, extracted}
+use Rattle.audit_cli.specs.Tables.{Extract, extracted}
 use Rattle.audit_cli.specs.Tables as tables
 use Rattle.audit_cli.specs.Upgrade as upgrading
 use Rattle.audit_cli.specs.Trim as trimming
@@ -70,12 +71,21 @@ unaudited_once text _ _ (no_table r h) (no_table s k) = unlisted_once text r s h
 unaudited_once text _ _ (no_table r h) (other_state t is place v) = absurd (never_unlisted text t r is h)
 unaudited_once text _ _ (no_table r h) (too_wide t is count v) = absurd (never_unlisted text t r is h)
 unaudited_once text _ _ (no_table r h) (bad_entry t is number k v) = absurd (never_unlisted text t r is h)
+unaudited_once text _ _ (no_table r h) (bad_family t is number k v) = absurd (never_unlisted text t r is h)
+unaudited_once text _ _ (bad_family t is number h v) (no_table s k) = absurd (never_unlisted text t s is k)
 unaudited_once text _ _ (other_state t is place v) (no_table s k) = absurd (never_unlisted text t s is k)
 unaudited_once text _ _ (too_wide t is count v) (no_table s k) = absurd (never_unlisted text t s is k)
 unaudited_once text _ _ (bad_entry t is number h v) (no_table s k) = absurd (never_unlisted text t s is k)
 unaudited_once text _ _ (other_state t is p v) (other_state u are q w) = let e : audit.States p ≡ audit.States q = errors_same text t u _ _ is are v w in cc
 unaudited_once text _ _ (other_state t is p v) (too_wide u are q w) = absurd (let e : audit.States p ≡ audit.Wide q = errors_same text t u _ _ is are v w in cc)
 unaudited_once text _ _ (other_state t is p v) (bad_entry u are q k w) = absurd (let e : audit.States p ≡ audit.Entry q k = errors_same text t u _ _ is are v w in cc)
+unaudited_once text _ _ (other_state t is p v) (bad_family u are q k w) = absurd (let e : audit.States p ≡ audit.Family q k = errors_same text t u _ _ is are v w in cc)
+unaudited_once text _ _ (too_wide t is p v) (bad_family u are q k w) = absurd (let e : audit.Wide p ≡ audit.Family q k = errors_same text t u _ _ is are v w in cc)
+unaudited_once text _ _ (bad_entry t is p h v) (bad_family u are q k w) = absurd (let e : audit.Entry p h ≡ audit.Family q k = errors_same text t u _ _ is are v w in cc)
+unaudited_once text _ _ (bad_family t is p h v) (other_state u are q w) = absurd (let e : audit.Family p h ≡ audit.States q = errors_same text t u _ _ is are v w in cc)
+unaudited_once text _ _ (bad_family t is p h v) (too_wide u are q w) = absurd (let e : audit.Family p h ≡ audit.Wide q = errors_same text t u _ _ is are v w in cc)
+unaudited_once text _ _ (bad_family t is p h v) (bad_entry u are q k w) = absurd (let e : audit.Family p h ≡ audit.Entry q k = errors_same text t u _ _ is are v w in cc)
+unaudited_once text _ _ (bad_family t is p h v) (bad_family u are q k w) = let e : audit.Family p h ≡ audit.Family q k = errors_same text t u _ _ is are v w in cc
 unaudited_once text _ _ (too_wide t is p v) (other_state u are q w) = absurd (let e : audit.Wide p ≡ audit.States q = errors_same text t u _ _ is are v w in cc)
 unaudited_once text _ _ (too_wide t is p v) (too_wide u are q w) = let e : audit.Wide p ≡ audit.Wide q = errors_same text t u _ _ is are v w in cc
 unaudited_once text _ _ (too_wide t is p v) (bad_entry u are q k w) = absurd (let e : audit.Wide p ≡ audit.Entry q k = errors_same text t u _ _ is are v w in cc)
@@ -196,39 +206,73 @@ audits_once text _ _ (tables.accepted t is) (tables.accepted u are) = ap (λ (x 
 pub audit_once : IsOne tables.AuditComesTo
 audit_once = one_text tables.Audits audits_once
 
--- a text's table has one entry of a number
-entries_same : (to : Extract) (text : List ℕ) (t u : Table) (o p : Option Rule) → IsText text t → IsText text u → entry_at t.rules to.entry ≡ o → entry_at u.rules to.entry ≡ p → o ≡ p
-entries_same to text t u o p is are h k = sym h ∙ (ap (λ (x : Table). entry_at x.rules to.entry) (one_table text t u is are) ∙ k)
+-- a number is that of an entry or of a family
+pub apart : (t : Table) (n : ℕ) (e : Rule) (f : Family) → entry_at t.rules n ≡ Some e → family_at t n ≡ Some f → ⊥
+apart t zero e f h k = none_some (entry_at t.rules zero) e refl h
+apart t (suc n) e f h k =
+    let low : n < length t.rules = slice_get_within t.rules n e h in
+    let within : nat_lt (length t.rules) (suc n) ≡ false = le-ltb (length t.rules) (suc n) low in
+    let none : family_at t (suc n) ≡ None = rw within refl in
+    none_some (family_at t (suc n)) f none k
 
-no_entry : (e : Rule) → None ≡ Some e → ⊥
-no_entry e h = none_some None e refl h
+entries_once : (to : Extract) (t : Table) (e : Rule) (o p : Outcome) → tables.ExportsEntry to t e o → tables.ExportsEntry to t e p → o ≡ p
+entries_once to t e _ _ (tables.unfit h) (tables.unfit k) = refl
+entries_once to t e _ _ (tables.unfit h) (tables.found k) = absurd (h k)
+entries_once to t e _ _ (tables.found h) (tables.unfit k) = absurd (k h)
+entries_once to t e _ _ (tables.found h) (tables.found k) = refl
 
-fit_same : (to : Extract) (text : List ℕ) (t u : Table) (e f : Rule) → IsText text t → IsText text u → entry_at t.rules to.entry ≡ Some e → entry_at u.rules to.entry ≡ Some f → SidesFit t e → SidesFit u f
-fit_same to text t u e f is are h k fit =
-    let tables : t ≡ u = one_table text t u is are in
-    let entries : e ≡ f = some_same e f (entries_same to text t u (Some e) (Some f) is are h k) in
-    subst (λ (x : Table × Rule). SidesFit x.0 x.1) (λ i. (tables i, entries i)) fit
+-- a family raises one entry
+raised_same : (t : Table) (f : Family) (e x : Rule) → entry_of t f ≡ Some e → entry_of t f ≡ Some x → e ≡ x
+raised_same t f e x h k = some_same e x (sym h ∙ k)
+
+families_once : (to : Extract) (t : Table) (f : Family) (o p : Outcome) → tables.ExportsFamily to t f o → tables.ExportsFamily to t f p → o ≡ p
+families_once to t f _ _ (tables.raises_none h) (tables.raises_none k) = refl
+families_once to t f _ _ (tables.raises_none h) (tables.raises_unfit x k m) = absurd (none_some (entry_of t f) x h k)
+families_once to t f _ _ (tables.raises_none h) (tables.unraisable x k s m) = absurd (none_some (entry_of t f) x h k)
+families_once to t f _ _ (tables.raises_none h) (tables.raised x k s m) = absurd (none_some (entry_of t f) x h k)
+families_once to t f _ _ (tables.raises_unfit e h n) (tables.raises_none k) = absurd (none_some (entry_of t f) e k h)
+families_once to t f _ _ (tables.raises_unfit e h n) (tables.raises_unfit x k m) = refl
+families_once to t f _ _ (tables.raises_unfit e h n) (tables.unraisable x k s m) = absurd (n (subst (SidesFit t) (raised_same t f x e k h) s))
+families_once to t f _ _ (tables.raises_unfit e h n) (tables.raised x k s m) = absurd (n (subst (SidesFit t) (raised_same t f x e k h) s))
+families_once to t f _ _ (tables.unraisable e h r n) (tables.raises_none k) = absurd (none_some (entry_of t f) e k h)
+families_once to t f _ _ (tables.unraisable e h r n) (tables.raises_unfit x k m) = absurd (m (subst (SidesFit t) (raised_same t f e x h k) r))
+families_once to t f _ _ (tables.unraisable e h r n) (tables.unraisable x k s m) = refl
+families_once to t f _ _ (tables.unraisable e h r n) (tables.raised x k s m) = absurd (n (subst (λ (y : Rule). IsRaisable t.header.pool f y.left) (raised_same t f x e k h) m))
+families_once to t f _ _ (tables.raised e h r n) (tables.raises_none k) = absurd (none_some (entry_of t f) e k h)
+families_once to t f _ _ (tables.raised e h r n) (tables.raises_unfit x k m) = absurd (m (subst (SidesFit t) (raised_same t f e x h k) r))
+families_once to t f _ _ (tables.raised e h r n) (tables.unraisable x k s m) = absurd (m (subst (λ (y : Rule). IsRaisable t.header.pool f y.left) (raised_same t f e x h k) n))
+families_once to t f _ _ (tables.raised e h r n) (tables.raised x k s m) = ap (λ (y : Rule). extracted to (raised_formula t.header f y) f.proof) (raised_same t f e x h k)
+
+-- what is said of one table of a text is so of the other
+pub entry_moved : (to : Extract) (text : List ℕ) (t u : Table) (o : Option Rule) → IsText text t → IsText text u → entry_at t.rules to.entry ≡ o → entry_at u.rules to.entry ≡ o
+entry_moved to text t u o is are h = subst (λ (x : Table). entry_at x.rules to.entry ≡ o) (one_table text t u is are) h
+
+pub family_moved : (to : Extract) (text : List ℕ) (t u : Table) (o : Option Family) → IsText text t → IsText text u → family_at t to.entry ≡ o → family_at u to.entry ≡ o
+family_moved to text t u o is are h = subst (λ (x : Table). family_at x to.entry ≡ o) (one_table text t u is are) h
 
 exports_once : (to : Extract) (text : List ℕ) (o p : Outcome) → tables.Exports to text o → tables.Exports to text p → o ≡ p
 exports_once to text _ _ (tables.refused r h) (tables.refused s k) = refuses_same r s (unlisted_once text r s h k)
-exports_once to text _ _ (tables.refused r h) (tables.absent t is k) = absurd (never_unlisted text t r is h)
-exports_once to text _ _ (tables.refused r h) (tables.unfit t is e k v) = absurd (never_unlisted text t r is h)
-exports_once to text _ _ (tables.refused r h) (tables.found t is e k v) = absurd (never_unlisted text t r is h)
-exports_once to text _ _ (tables.absent t is h) (tables.refused s k) = absurd (never_unlisted text t s is k)
-exports_once to text _ _ (tables.unfit t is e h v) (tables.refused s k) = absurd (never_unlisted text t s is k)
-exports_once to text _ _ (tables.found t is e h v) (tables.refused s k) = absurd (never_unlisted text t s is k)
-exports_once to text _ _ (tables.absent t is h) (tables.absent u are k) = refl
-exports_once to text _ _ (tables.absent t is h) (tables.unfit u are f k w) = absurd (no_entry f (entries_same to text t u None (Some f) is are h k))
-exports_once to text _ _ (tables.absent t is h) (tables.found u are f k w) = absurd (no_entry f (entries_same to text t u None (Some f) is are h k))
-exports_once to text _ _ (tables.unfit t is e h v) (tables.absent u are k) = absurd (no_entry e (entries_same to text u t None (Some e) are is k h))
-exports_once to text _ _ (tables.found t is e h v) (tables.absent u are k) = absurd (no_entry e (entries_same to text u t None (Some e) are is k h))
-exports_once to text _ _ (tables.unfit t is e h v) (tables.unfit u are f k w) = refl
-exports_once to text _ _ (tables.unfit t is e h v) (tables.found u are f k w) = absurd (v (fit_same to text u t f e are is k h w))
-exports_once to text _ _ (tables.found t is e h v) (tables.unfit u are f k w) = absurd (w (fit_same to text t u e f is are h k v))
-exports_once to text _ _ (tables.found t is e h v) (tables.found u are f k w) =
-    let tables : t ≡ u = one_table text t u is are in
-    let entries : e ≡ f = some_same e f (entries_same to text t u (Some e) (Some f) is are h k) in
-    ap (λ (x : Table × Rule). extracted to x.1 (formula_of x.0.header x.1)) (λ i. (tables i, entries i))
+exports_once to text _ _ (tables.refused r h) (tables.absent t is a b) = absurd (never_unlisted text t r is h)
+exports_once to text _ _ (tables.refused r h) (tables.entry t is e k p c) = absurd (never_unlisted text t r is h)
+exports_once to text _ _ (tables.refused r h) (tables.of_family t is f k p c) = absurd (never_unlisted text t r is h)
+exports_once to text _ _ (tables.absent t is a b) (tables.refused s k) = absurd (never_unlisted text t s is k)
+exports_once to text _ _ (tables.absent t is a b) (tables.absent u are c d) = refl
+exports_once to text _ _ (tables.absent t is a b) (tables.entry u are e k p c) = absurd (none_some (entry_at u.rules to.entry) e (entry_moved to text t u None is are a) k)
+exports_once to text _ _ (tables.absent t is a b) (tables.of_family u are f k p c) = absurd (none_some (family_at u to.entry) f (family_moved to text t u None is are b) k)
+exports_once to text _ _ (tables.entry t is e h o c) (tables.refused s k) = absurd (never_unlisted text t s is k)
+exports_once to text _ _ (tables.entry t is e h o c) (tables.absent u are a b) = absurd (none_some (entry_at t.rules to.entry) e (entry_moved to text u t None are is a) h)
+exports_once to text _ _ (tables.entry t is e h o c) (tables.entry u are x k p d) =
+    let same : x ≡ e = some_same x e (sym (entry_moved to text u t (Some x) are is k) ∙ h) in
+    let moved : tables.ExportsEntry to t x p = subst (λ (y : Table). tables.ExportsEntry to y x p) (one_table text u t are is) d in
+    entries_once to t e o p c (subst (λ (y : Rule). tables.ExportsEntry to t y p) same moved)
+exports_once to text _ _ (tables.entry t is e h o c) (tables.of_family u are f k p d) = absurd (apart t to.entry e f h (family_moved to text u t (Some f) are is k))
+exports_once to text _ _ (tables.of_family t is f h o c) (tables.refused s k) = absurd (never_unlisted text t s is k)
+exports_once to text _ _ (tables.of_family t is f h o c) (tables.absent u are a b) = absurd (none_some (family_at t to.entry) f (family_moved to text u t None are is b) h)
+exports_once to text _ _ (tables.of_family t is f h o c) (tables.entry u are e k p d) = absurd (apart t to.entry e f (entry_moved to text u t (Some e) are is k) h)
+exports_once to text _ _ (tables.of_family t is f h o c) (tables.of_family u are g k p d) =
+    let same : g ≡ f = some_same g f (sym (family_moved to text u t (Some g) are is k) ∙ h) in
+    let moved : tables.ExportsFamily to t g p = subst (λ (y : Table). tables.ExportsFamily to y g p) (one_table text u t are is) d in
+    families_once to t f o p c (subst (λ (x : Family). tables.ExportsFamily to t x p) same moved)
 
 pub export_once : (to : Extract) → IsOne (tables.ExportComesTo to)
 export_once to = one_text (tables.Exports to) (exports_once to)

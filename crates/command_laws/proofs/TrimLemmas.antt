@@ -1,77 +1,124 @@
 -- What is left of an accepted table when its proofs are trimmed.
-use Rattle.std.proofs.Common.{◌≡◌, ◌∙◌, ◌⊎◌, inl, inr, ℕ, ℤ, ◌+◌, ◌≤◌, ◌<◌, List, [], ◌∷◌, ◌++◌, Option, Some, None, length, map, refl, sym, ap, ap₂, subst, take, arith, length-append}
-use Rattle.std.specs.Prelude.{All, Contains}
+use Rattle.std.proofs.Common.{◌≡◌, ◌∙◌, inl, inr, ℕ, zero, suc, ℤ, ◌+◌, ◌≤◌, List, [], ◌∷◌, ◌++◌, Option, Some, None, length, map, refl, sym, ap, ap₂, subst, take, arith, length-append}
+use Rattle.std.specs.Prelude.{All}
 use Rattle.std.specs.List.{AllZip, flat_map}
 use Rattle.std.proofs.lemmas.List.Concat.{flat_map-append}
+use Rattle.std.proofs.lemmas.Option.{same_Some}
 use Rattle.std.proofs.lemmas.List.Elements.{All-nil, All-cons, All-head, All-tail, All-take, All-contains}
+use Rattle.thumb_instr.specs.declared.instr.Instr.{Instr}
 use Rattle.clause_model.specs.Literals.{codes_of}
 use Rattle.lrat_check.specs.Content.{Content, addition, deletion}
+use Rattle.lrat_check.specs.Runs.{IsRefutation}
 use Rattle.lrat_check.specs.Numbers.{IsHint}
 use Rattle.lrat_check.specs.Text.{text_of as text_of_line, id_of, IsLine}
 use Rattle.lrat_check.specs.Trimmed.{IsTrimmed, IsShortened, IsUsed}
 use Rattle.lrat_check.proofs.Parts.{trimmed_once, trimmed_refutes, trimmed_again}
 use Rattle.rule_table.specs.Header.{Header}
-use Rattle.rule_table.specs.Table.{Opened, Rule, Table}
-use Rattle.rule_table.specs.Text.{Item, State, Entry, Left, Right, Mask, Proof, Logged, Open, End, line_of, text_of_items, open_items, rule_items, header_items, items_of}
-use Rattle.rule_table.specs.Valid.{IsRule, IsTable}
-use Rattle.proof_logs.specs.Verdicts.{Then, InTurn}
+use Rattle.rule_table.specs.Table.{Opened, Rule, Family, Table}
+use Rattle.rule_table.specs.Text.{Item, State, Entry, Left, Right, Mask, Proof, Logged, Open, End, line_of, text_of_items, open_items, rule_items, family_items, header_items, items_of}
+use Rattle.rule_table.specs.Text as item
+use Rattle.rule_table.specs.Valid.{IsRule, IsFamily, IsTable}
+use Rattle.proof_logs.specs.Verdicts.{InTurn}
 use Rattle.table_audit.specs.declared.errors.EntryFault.TheVariants as fault
-use Rattle.table_audit.specs.declared.errors.AuditError.{AuditError}
 use Rattle.table_audit.specs.declared.errors.AuditError.TheVariants as audit
 use Rattle.table_audit.specs.Sides.{SidesFit, formula_of}
-use Rattle.table_audit.specs.Acceptance.{IsRightlyOpen, OpenTest, OpensVerdict, EntryVerdict, EntriesVerdict, IsAccepted}
-use Rattle.table_audit.specs.Soundness.{rewriting_rule, numbers_of}
+use Rattle.table_audit.specs.declared.errors.FamilyKind.TheVariants as kind
+use Rattle.table_audit.specs.Acceptance.{IsRightlyOpen, OpenTest, EntryVerdict, RaisedVerdict, FamilyVerdict, IsAccepted}
+use Rattle.table_audit.specs.Families.{entry_at, entry_of, raised_formula, IsRaisable}
+use Rattle.table_audit.specs.Soundness.{rewriting_rule}
 use Rattle.table_learn.specs.Learnt.{text_length}
 use Rattle.rule_model.specs.Rules as model
 use Rattle.window_rewrite.specs.Rewriting.{setting}
-use Rattle.audit_cli.specs.Trim.{IsTrimmedRule, IsTrimmedTable}
-use Rattle.audit_cli.proofs.Refutations.{refutes_passed}
-use Rattle.audit_cli.proofs.TrimLemmas.{IsReady, entry_ready, all_ready}
+use Rattle.audit_cli.specs.Trim.{IsTrimmedRule, IsTrimmedFamily, IsTrimmedTable}
+use Rattle.audit_cli.proofs.Refutations.{passed_refutes, refutes_passed}
+use Rattle.audit_cli.proofs.DemoLemmas.{none_some}
+use Rattle.audit_cli.specs.Ready.{IsRaised}
+use Rattle.audit_cli.proofs.TrimLemmas.{IsReady, entry_ready, all_ready, all_raised}
 use Rattle.command_laws.specs.Trimming.{TrimmedTablesAreAccepted, TrimmedTablesRewriteAlike, TrimmedTextsAreNoLonger, TrimmingIsOne, TrimmedTablesStay}
 use Rattle.command_laws.proofs.ShorterTexts.{bytes_of, trimmed_bytes}
 
--- the entry with another proof, and the table with other entries
+-- the entry with another proof, and the table with other entries and families
 abbrev proving : Rule → List Content → Rule
 proving e proof = record e { proof = proof }
 
-abbrev holding : Table → List Rule → Table
-holding t rules = record t { rules = rules }
+abbrev raising : Family → List Content → Family
+raising f proof = record f { proof = proof }
 
--- the table is the given one with its own entries
-its_own : (t u : Table) → IsTrimmedTable t u → u ≡ holding t u.rules
-its_own t u h = λ i. record { header = h.header i; states = h.states i; rules = u.rules }
+abbrev holding : Table → List Rule → List Family → Table
+holding t rules families = record t { rules = rules; families = families }
+
+-- the table is the given one with its own entries and families
+its_own : (t u : Table) → IsTrimmedTable t u → u ≡ holding t u.rules u.families
+its_own t u h = λ i. record { header = h.header i; states = h.states i; rules = u.rules; families = u.families }
 
 -- ---- the audit ----
 
-module _ (t : Table) (rules : List Rule) (e : Rule) (proof : List Content) where
-  fits : SidesFit t e → SidesFit (holding t rules) (proving e proof)
+module _ (t : Table) (rules : List Rule) (families : List Family) (e : Rule) (proof : List Content) where
+  fits : SidesFit t e → SidesFit (holding t rules families) (proving e proof)
   fits h = record { canonical = h.canonical; short = h.short; few = h.few; left = h.left; right = h.right; no_longer = h.no_longer; mask = h.mask }
 
-  stays_open : (o : Opened) → IsRightlyOpen t e o → IsRightlyOpen (holding t rules) (proving e proof) o
+  stays_open : (o : Opened) → IsRightlyOpen t e o → IsRightlyOpen (holding t rules families) (proving e proof) o
   stays_open o h = record { seq = h.seq; below = record { at = h.below.at; no_longer = h.below.no_longer; lighter = h.below.lighter }; untold = h.untold; spent = h.spent }
 
-  opens : (n i : ℕ) (os : List Opened) → InTurn (OpenTest t n e) i os None → InTurn (OpenTest (holding t rules) n (proving e proof)) i os None
+  opens : (n i : ℕ) (os : List Opened) → InTurn (OpenTest t n e) i os None → InTurn (OpenTest (holding t rules families) n (proving e proof)) i os None
   opens n i [] h = h
   opens n i (o ∷ os) h = (stays_open o h.0, opens n (i + 1) os h.1)
 
-  still_accepted : (n : ℕ) → IsTrimmed (codes_of (formula_of t.header e).clauses) e.proof proof → EntryVerdict t n e None → EntryVerdict (holding t rules) n (proving e proof) None
+  still_accepted : (n : ℕ) → IsTrimmed (codes_of (formula_of t.header e).clauses) e.proof proof → EntryVerdict t n e None → EntryVerdict (holding t rules families) n (proving e proof) None
   unfolding EntryVerdict
   still_accepted n trimmed v =
       let clauses = codes_of (formula_of t.header e).clauses in
       let refutes = trimmed_refutes clauses e.proof proof (entry_ready t n e v).refutes trimmed in
       (fits v.0, (refutes_passed (λ line. audit.Entry n (fault.Proof line)) (audit.Entry n fault.Unfinished) clauses proof refutes, (v.1.1.0, opens n 0 e.opens v.1.1.1)))
 
-entries_accepted : (t : Table) (rules : List Rule) (n : ℕ) (es fs : List Rule) → AllZip (IsTrimmedRule t.header) es fs → InTurn (EntryVerdict t) n es None → InTurn (EntryVerdict (holding t rules)) n fs None
-entries_accepted t rules n [] [] z h = h
-entries_accepted t rules n [] (f ∷ fs) z h = absurd z
-entries_accepted t rules n (e ∷ es) [] z h = absurd z
-entries_accepted t rules n (e ∷ es) (f ∷ fs) z h = (
-  subst (λ (g : Rule). EntryVerdict (holding t rules) n g None) (sym z.0.same) (still_accepted t rules e f.proof n z.0.proof h.0),
-  entries_accepted t rules (n + 1) es fs z.1 h.1,
+entries_accepted : (t : Table) (rules : List Rule) (families : List Family) (n : ℕ) (es fs : List Rule) → AllZip (IsTrimmedRule t.header) es fs → InTurn (EntryVerdict t) n es None → InTurn (EntryVerdict (holding t rules families)) n fs None
+entries_accepted t rules families n [] [] z h = h
+entries_accepted t rules families n [] (f ∷ fs) z h = absurd z
+entries_accepted t rules families n (e ∷ es) [] z h = absurd z
+entries_accepted t rules families n (e ∷ es) (f ∷ fs) z h = (
+  subst (λ (g : Rule). EntryVerdict (holding t rules families) n g None) (sym z.0.same) (still_accepted t rules families e f.proof n z.0.proof h.0),
+  entries_accepted t rules families (n + 1) es fs z.1 h.1,
 )
 
+-- the trimmed entry of a number
+trimmed_at : (h : Header) (es fs : List Rule) (n : ℕ) (e : Rule) → AllZip (IsTrimmedRule h) es fs → entry_at es n ≡ Some e → (f : Rule) × (entry_at fs n ≡ Some f) × IsTrimmedRule h e f
+trimmed_at h es fs zero e z at = absurd (none_some None e refl at)
+trimmed_at h [] [] (suc n) e z at = absurd (none_some None e refl at)
+trimmed_at h [] (f ∷ fs) (suc n) e z at = absurd z
+trimmed_at h (x ∷ es) [] (suc n) e z at = absurd z
+trimmed_at h (x ∷ es) (f ∷ fs) (suc zero) e z at = (f, refl, subst (λ (y : Rule). IsTrimmedRule h y f) (same_Some x e at) z.0)
+trimmed_at h (x ∷ es) (f ∷ fs) (suc (suc n)) e z at = trimmed_at h es fs (suc n) e z.1 at
+
+still_raisable : (pool : List ℕ) (f : Family) (proof : List Content) (left : List Instr) → IsRaisable pool f left → IsRaisable pool (raising f proof) left
+still_raisable pool f proof left h = record { pooled = h.pooled; from = h.from; to = h.to; bytes = h.bytes; held = h.held }
+
+module _ (t u : Table) (h : IsTrimmedTable t u) (f g : Family) (z : IsTrimmedFamily t.header t.rules f g) where
+  still_raised : (n : ℕ) → RaisedVerdict t n f (Some z.entry) None → FamilyVerdict (holding t u.rules u.families) n g None
+  unfolding FamilyVerdict
+  still_raised n v =
+      let clauses = codes_of (raised_formula t.header f z.entry).clauses in
+      let own = trimmed_at t.header t.rules u.rules f.entry z.entry h.rules z.is_entry in
+      let refutes = trimmed_refutes clauses f.proof g.proof (passed_refutes (λ line. audit.Family n (kind.Proof line)) (audit.Family n kind.Unfinished) clauses f.proof v.1) z.proof in
+      let passed : RaisedVerdict (holding t u.rules u.families) n (raising f g.proof) (Some (proving z.entry own.0.proof)) None =
+      (still_raisable t.header.pool f g.proof z.entry.left v.0, refutes_passed (λ line. audit.Family n (kind.Proof line)) (audit.Family n kind.Unfinished) clauses g.proof refutes) in
+      let of_own : RaisedVerdict (holding t u.rules u.families) n (raising f g.proof) (entry_at u.rules f.entry) None =
+      subst (λ (o : Option Rule). RaisedVerdict (holding t u.rules u.families) n (raising f g.proof) o None) (sym own.1)
+      (subst (λ (e : Rule). RaisedVerdict (holding t u.rules u.families) n (raising f g.proof) (Some e) None) (sym own.2.same) passed) in
+      subst (λ (x : Family). RaisedVerdict (holding t u.rules u.families) n x (entry_at u.rules x.entry) None) (sym z.same) of_own
+
+  family_accepted : (n : ℕ) → FamilyVerdict t n f None → FamilyVerdict (holding t u.rules u.families) n g None
+  unfolding FamilyVerdict
+  family_accepted n v = still_raised n (subst (λ (o : Option Rule). RaisedVerdict t n f o None) z.is_entry v)
+
+families_accepted : (t u : Table) → IsTrimmedTable t u → (n : ℕ) (fs gs : List Family) → AllZip (IsTrimmedFamily t.header t.rules) fs gs → InTurn (FamilyVerdict t) n fs None → InTurn (FamilyVerdict (holding t u.rules u.families)) n gs None
+families_accepted t u h n [] [] z v = v
+families_accepted t u h n [] (g ∷ gs) z v = absurd z
+families_accepted t u h n (f ∷ fs) [] z v = absurd z
+families_accepted t u h n (f ∷ fs) (g ∷ gs) z v = (family_accepted t u h f g z.0 n v.0, families_accepted t u h (n + 1) fs gs z.1 v.1)
+
 accepted : (t u : Table) → IsAccepted t → IsTrimmedTable t u → IsAccepted u
-accepted t u a h = subst IsAccepted (sym (its_own t u h)) (a.0, (a.1.0, entries_accepted t u.rules 1 t.rules u.rules h.rules a.1.1))
+accepted t u a h =
+    subst IsAccepted (sym (its_own t u h)) (a.0, (a.1.0, (entries_accepted t u.rules u.families 1 t.rules u.rules h.rules a.1.1.0, families_accepted t u h 1 t.families u.families h.families a.1.1.1)))
 
 -- ---- texts ----
 
@@ -105,9 +152,30 @@ rules_valid h [] (f ∷ fs) is z = absurd z
 rules_valid h (e ∷ es) [] is z = absurd z
 rules_valid h (e ∷ es) (f ∷ fs) is z = All-cons IsRule f fs (rule_valid h e f (All-head IsRule e es is) z.0) (rules_valid h es fs (All-tail IsRule e es is) z.1)
 
+families_valid : (t : Table) (fs gs : List Family) → All IsFamily fs → AllZip (IsTrimmedFamily t.header t.rules) fs gs → All IsFamily gs
+families_valid t [] [] is z = is
+families_valid t [] (g ∷ gs) is z = absurd z
+families_valid t (f ∷ fs) [] is z = absurd z
+families_valid t (f ∷ fs) (g ∷ gs) is z =
+    let own = All-head IsFamily f fs is in
+    let proof = lines_trimmed (codes_of (raised_formula t.header f z.0.entry).clauses) f.proof g.proof own.proof z.0.proof in
+    let one : IsFamily g = subst IsFamily (sym z.0.same) (record { entry = own.entry; number = own.number; low = own.low; high = own.high; proof = proof }) in
+    All-cons IsFamily g gs one (families_valid t fs gs (All-tail IsFamily f fs is) z.1)
+
+none_trimmed : (t : Table) (fs gs : List Family) → AllZip (IsTrimmedFamily t.header t.rules) fs gs → fs ≡ [] → gs ≡ []
+none_trimmed t [] [] z e = refl
+none_trimmed t [] (g ∷ gs) z e = absurd z
+none_trimmed t (f ∷ fs) gs z e = let bad : f ∷ fs ≡ [] = e in cc
+
 pub trimmed_accepted : TrimmedTablesAreAccepted
 trimmed_accepted t u valid a h = (
-  subst IsTable (sym (its_own t u h)) (record { header = valid.header; states = valid.states; rules = rules_valid t.header t.rules u.rules valid.rules h.rules }),
+  subst IsTable (sym (its_own t u h)) (record {
+    header = valid.header;
+    states = valid.states;
+    rules = rules_valid t.header t.rules u.rules valid.rules h.rules;
+    families = families_valid t t.families u.families valid.families h.families;
+    none_before = λ early. none_trimmed t t.families u.families h.families (valid.none_before early);
+  }),
   accepted t u a h,
 )
 
@@ -171,22 +239,54 @@ rules_room h (e ∷ es) (f ∷ fs) ready z =
     let b = room-append (rule_items f) (flat_map rule_items fs) in
     omega arith
 
+family_bytes : (f : Family) → room (family_items f) ≡ room (item.Family f.entry f.number f.low f.high ∷ Proof ∷ []) + bytes_of f.proof
+family_bytes f =
+    let a = room-append (item.Family f.entry f.number f.low f.high ∷ Proof ∷ []) (map Logged f.proof) in
+    let b = room_logged f.proof in
+    omega arith
+
+family_room : (t : Table) (f g : Family) → IsRaised t.header t.rules f → IsTrimmedFamily t.header t.rules f g → room (family_items g) ≤ room (family_items f)
+family_room t f g raised z =
+    let clauses = codes_of (raised_formula t.header f z.entry).clauses in
+    let same : raised.entry ≡ z.entry = same_Some raised.entry z.entry (sym raised.is_entry ∙ z.is_entry) in
+    let refutes = subst (λ (e : Rule). IsRefutation (codes_of (raised_formula t.header f e).clauses) f.proof) same raised.refutes in
+    let less = trimmed_bytes clauses f.proof g.proof refutes z.proof in
+    let a = family_bytes f in
+    let b = family_bytes g in
+    let c : room (item.Family g.entry g.number g.low g.high ∷ Proof ∷ []) ≡ room (item.Family f.entry f.number f.low f.high ∷ Proof ∷ []) =
+    subst (λ (x : Family). room (item.Family x.entry x.number x.low x.high ∷ Proof ∷ []) ≡ room (item.Family f.entry f.number f.low f.high ∷ Proof ∷ [])) (sym z.same) refl in
+    omega arith
+
+families_room : (t : Table) (fs gs : List Family) → All (IsRaised t.header t.rules) fs → AllZip (IsTrimmedFamily t.header t.rules) fs gs → room (flat_map family_items gs) ≤ room (flat_map family_items fs)
+families_room t [] [] raised z = omega arith
+families_room t [] (g ∷ gs) raised z = absurd z
+families_room t (f ∷ fs) [] raised z = absurd z
+families_room t (f ∷ fs) (g ∷ gs) raised z =
+    let here = family_room t f g (All-head (IsRaised t.header t.rules) f fs raised) z.0 in
+    let rest = families_room t fs gs (All-tail (IsRaised t.header t.rules) f fs raised) z.1 in
+    let a = room-append (family_items f) (flat_map family_items fs) in
+    let b = room-append (family_items g) (flat_map family_items gs) in
+    omega arith
+
 whole_room : (t : Table) → text_length t ≡ room (items_of t)
 unfolding room
 whole_room t = refl
 
 -- what all lines of a table take
-table_room : (t : Table) → text_length t ≡ room (header_items t.header) + (room (map State t.states) + (room (flat_map rule_items t.rules) + room (End ∷ [])))
+table_room : (t : Table) → text_length t ≡ room (header_items t.header) + (room (map State t.states) + (room (flat_map rule_items t.rules) + (room (flat_map family_items t.families) + room (End ∷ []))))
 table_room t =
-    let a = room-append (header_items t.header) (map State t.states ++ (flat_map rule_items t.rules ++ End ∷ [])) in
-    let b = room-append (map State t.states) (flat_map rule_items t.rules ++ End ∷ []) in
-    let c = room-append (flat_map rule_items t.rules) (End ∷ []) in
-    let d = whole_room t in
-    omega (arith, a, b, c, d)
+    let families : List Item = flat_map family_items t.families in
+    let a = room-append (header_items t.header) (map State t.states ++ (flat_map rule_items t.rules ++ (families ++ End ∷ []))) in
+    let b = room-append (map State t.states) (flat_map rule_items t.rules ++ (families ++ End ∷ [])) in
+    let c = room-append (flat_map rule_items t.rules) (families ++ End ∷ []) in
+    let d = room-append families (End ∷ []) in
+    let e = whole_room t in
+    omega (arith, a, b, c, d, e)
 
 pub trimmed_no_longer : TrimmedTextsAreNoLonger
 trimmed_no_longer t u a h =
     let less = rules_room t.header t.rules u.rules (all_ready t a) h.rules in
+    let fewer = families_room t t.families u.families (all_raised t a) h.families in
     let b = table_room t in
     let c = table_room u in
     let d = ap (λ (x : Header). room (header_items x)) h.header in
@@ -208,8 +308,26 @@ rules_once h (e ∷ es) [] gs y z = absurd y
 rules_once h (e ∷ es) (f ∷ fs) [] y z = absurd z
 rules_once h (e ∷ es) (f ∷ fs) (g ∷ gs) y z = ap₂ (λ (r : Rule) (rs : List Rule). r ∷ rs) (rule_once h e f g y.0 z.0) (rules_once h es fs gs y.1 z.1)
 
+family_once : (t : Table) (f g h : Family) → IsTrimmedFamily t.header t.rules f g → IsTrimmedFamily t.header t.rules f h → g ≡ h
+family_once t f g h y z =
+    let entry : z.entry ≡ y.entry = same_Some z.entry y.entry (sym z.is_entry ∙ y.is_entry) in
+    let proof = subst (λ (e : Rule). IsTrimmed (codes_of (raised_formula t.header f e).clauses) f.proof h.proof) entry z.proof in
+    let same = trimmed_once (codes_of (raised_formula t.header f y.entry).clauses) f.proof g.proof h.proof y.proof proof in
+    y.same ∙ (ap (λ (p : List Content). raising f p) same ∙ sym z.same)
+
+families_once : (t : Table) (fs gs hs : List Family) → AllZip (IsTrimmedFamily t.header t.rules) fs gs → AllZip (IsTrimmedFamily t.header t.rules) fs hs → gs ≡ hs
+families_once t [] [] [] y z = refl
+families_once t [] [] (h ∷ hs) y z = absurd z
+families_once t [] (g ∷ gs) hs y z = absurd y
+families_once t (f ∷ fs) [] hs y z = absurd y
+families_once t (f ∷ fs) (g ∷ gs) [] y z = absurd z
+families_once t (f ∷ fs) (g ∷ gs) (h ∷ hs) y z = ap₂ (λ (x : Family) (xs : List Family). x ∷ xs) (family_once t f g h y.0 z.0) (families_once t fs gs hs y.1 z.1)
+
 pub trimming_once : TrimmingIsOne
-trimming_once t a b y z = its_own t a y ∙ (ap (holding t) (rules_once t.header t.rules a.rules b.rules y.rules z.rules) ∙ sym (its_own t b z))
+trimming_once t a b y z =
+    let rules = rules_once t.header t.rules a.rules b.rules y.rules z.rules in
+    let families = families_once t t.families a.families b.families y.families z.families in
+    its_own t a y ∙ (ap₂ (holding t) rules families ∙ sym (its_own t b z))
 
 -- trimmed again it stays as it is
 rule_again : (h : Header) (e f : Rule) → IsReady h e → IsTrimmedRule h e f → IsTrimmedRule h f f
@@ -224,11 +342,30 @@ rules_again h [] (f ∷ fs) ready z = absurd z
 rules_again h (e ∷ es) [] ready z = absurd z
 rules_again h (e ∷ es) (f ∷ fs) ready z = (rule_again h e f (All-head (IsReady h) e es ready) z.0, rules_again h es fs (All-tail (IsReady h) e es ready) z.1)
 
+family_again : (t u : Table) → IsTrimmedTable t u → (f g : Family) → IsRaised t.header t.rules f → IsTrimmedFamily t.header t.rules f g → IsTrimmedFamily u.header u.rules g g
+family_again t u h f g raised z =
+    let clauses = codes_of (raised_formula t.header f z.entry).clauses in
+    let entry : raised.entry ≡ z.entry = same_Some raised.entry z.entry (sym raised.is_entry ∙ z.is_entry) in
+    let refutes = subst (λ (e : Rule). IsRefutation (codes_of (raised_formula t.header f e).clauses) f.proof) entry raised.refutes in
+    let again = trimmed_again clauses f.proof g.proof refutes z.proof in
+    let own = trimmed_at t.header t.rules u.rules f.entry z.entry h.rules z.is_entry in
+    let at : entry_of u g ≡ Some own.0 = ap (λ (x : Family). entry_at u.rules x.entry) z.same ∙ own.1 in
+    let same : raised_formula u.header g own.0 ≡ raised_formula t.header f z.entry =
+    ap (λ (x : Header). raised_formula x g own.0) h.header ∙ (ap (λ (x : Family). raised_formula t.header x own.0) z.same ∙ ap (λ (e : Rule). raised_formula t.header f e) own.2.same) in
+    record { same = refl; entry = own.0; is_entry = at; proof = subst (λ clauses. IsTrimmed clauses g.proof g.proof) (ap (λ c. codes_of c.clauses) (sym same)) again }
+
+families_again : (t u : Table) → IsTrimmedTable t u → (fs gs : List Family) → All (IsRaised t.header t.rules) fs → AllZip (IsTrimmedFamily t.header t.rules) fs gs → AllZip (IsTrimmedFamily u.header u.rules) gs gs
+families_again t u h [] [] raised z = tt
+families_again t u h [] (g ∷ gs) raised z = absurd z
+families_again t u h (f ∷ fs) [] raised z = absurd z
+families_again t u h (f ∷ fs) (g ∷ gs) raised z = (family_again t u h f g (All-head (IsRaised t.header t.rules) f fs raised) z.0, families_again t u h fs gs (All-tail (IsRaised t.header t.rules) f fs raised) z.1)
+
 pub trimmed_stay : TrimmedTablesStay
 trimmed_stay t u a h = record {
   header = refl;
   states = refl;
   rules = subst (λ (x : Header). AllZip (IsTrimmedRule x) u.rules u.rules) (sym h.header) (rules_again t.header t.rules u.rules (all_ready t a) h.rules);
+  families = families_again t u h t.families u.families (all_raised t a) h.families;
 }
 
 -- ---- rewriting ----

@@ -1,20 +1,20 @@
 -- Nothing that the audit says looks at a table's version.
-use Rattle.std.proofs.Common.{◌≡◌, ◌∙◌, ◌⊎◌, inl, inr, ℕ, ◌+◌, ◌≤◌, List, [], ◌∷◌, Option, Some, None, false, refl, ap, arith, max, leb-false}
+use Rattle.std.proofs.Common.{◌≡◌, ◌∙◌, inl, inr, ℕ, ◌+◌, ◌≤◌, List, [], ◌∷◌, Option, Some, None, false, refl, ap, arith, max, leb-false}
+use Rattle.std.proofs.lemmas.Bool.{cases_Bool, leb-true}
 use Rattle.std.specs.Prelude.{◌↔◌}
 use Rattle.rule_table.specs.declared.header.Field.{Field}
 use Rattle.rule_table.specs.declared.header.Field.TheVariants.{Version, Regs, Left, Seed, Budget, Scratch}
 use Rattle.rule_table.specs.declared.header.Head.TheVariants.{Number}
-use Rattle.rule_table.specs.Header.{IsWithin, number_in, has_line, since, blank}
-use Rattle.rule_table.specs.Table.{Opened, Rule, Table}
+use Rattle.rule_table.specs.Header.{IsWithin, number_in, has_line, has_families, since, blank}
+use Rattle.rule_table.specs.Table.{Opened, Rule, Family, Table}
 use Rattle.rule_table.specs.Text.{text_of}
-use Rattle.rule_table.specs.Valid.{IsTable}
 use Rattle.proof_logs.specs.Verdicts.{Tests, Then, InTurn}
 use Rattle.table_audit.specs.declared.errors.AuditError.{AuditError}
 use Rattle.table_audit.specs.declared.errors.AuditError.TheVariants as audit
 use Rattle.table_audit.specs.declared.errors.EntryFault.TheVariants as fault
 use Rattle.table_audit.specs.Sides.{SidesFit}
-use Rattle.table_audit.specs.Shorter.{IsBelow}
-use Rattle.table_audit.specs.Acceptance.{IsRightlyOpen, StatesVerdict, WideVerdict, SidesVerdict, EntryProofVerdict, ToldVerdict, OpensVerdict, OpenTest, EntryVerdict, EntriesVerdict, TableVerdict}
+use Rattle.table_audit.specs.Acceptance.{IsRightlyOpen, StatesVerdict, WideVerdict, SidesVerdict, EntryProofVerdict, ToldVerdict, OpensVerdict, OpenTest, EntryVerdict, EntriesVerdict, RaisedVerdict, FamilyVerdict, FamiliesVerdict, TableVerdict}
+use Rattle.table_audit.specs.Families.{entry_of}
 use Rattle.audit_cli.specs.Upgrade.{upgraded}
 use Rattle.command_laws.specs.Upgrading.{UpgradesAreAuditedAlike, UpgradesAreTables, UpgradesRewriteAlike, LaterTablesAreKept}
 
@@ -57,10 +57,22 @@ entry v t n e =
     each : (i : ℕ) (o : Opened) (f : Option AuditError) → OpenTest t n e i o f → OpenTest (in_version v t) n e i o f
     each i o = tests (IsRightlyOpen t e o) (IsRightlyOpen (in_version v t) e o) (audit.Entry n (fault.Open o.number)) (stays_open v t e o, stays_open t.header.version (in_version v t) e o)
 
+raised : (v : ℕ) (t : Table) (n : ℕ) (f : Family) (e : Option Rule) (o : Option AuditError) → RaisedVerdict t n f e o → RaisedVerdict (in_version v t) n f e o
+raised v t n f None o h = h
+raised v t n f (Some e) o h = h
+
+family : (v : ℕ) (t : Table) (n : ℕ) (f : Family) (o : Option AuditError) → FamilyVerdict t n f o → FamilyVerdict (in_version v t) n f o
+unfolding FamilyVerdict
+family v t n f o h = raised v t n f (entry_of t f) o h
+
 verdict : (v : ℕ) (t : Table) (o : Option AuditError) → TableVerdict t o → TableVerdict (in_version v t) o
-verdict v t = then (StatesVerdict t) (Then (WideVerdict t) (EntriesVerdict t)) (StatesVerdict (in_version v t)) (Then (WideVerdict (in_version v t)) (EntriesVerdict (in_version v t))) (λ o h. h)
-    (then (WideVerdict t) (EntriesVerdict t) (WideVerdict (in_version v t)) (EntriesVerdict (in_version v t)) (λ o h. h)
-    (in_turn (EntryVerdict t) (EntryVerdict (in_version v t)) (entry v t) 1 t.rules))
+verdict v t =
+    let u = in_version v t in
+    then (StatesVerdict t) (Then (WideVerdict t) (Then (EntriesVerdict t) (FamiliesVerdict t))) (StatesVerdict u) (Then (WideVerdict u) (Then (EntriesVerdict u) (FamiliesVerdict u))) (λ o h. h)
+    (then (WideVerdict t) (Then (EntriesVerdict t) (FamiliesVerdict t)) (WideVerdict u) (Then (EntriesVerdict u) (FamiliesVerdict u)) (λ o h. h)
+    (then (EntriesVerdict t) (FamiliesVerdict t) (EntriesVerdict u) (FamiliesVerdict u)
+    (in_turn (EntryVerdict t) (EntryVerdict u) (entry v t) 1 t.rules)
+    (in_turn (FamilyVerdict t) (FamilyVerdict u) (family v t) 1 t.families)))
 
 pub upgrades_audited_alike : UpgradesAreAuditedAlike
 upgrades_audited_alike t o = (verdict (max 2 t.header.version) t o, verdict t.header.version (upgraded t) o)
@@ -68,7 +80,7 @@ upgrades_audited_alike t o = (verdict (max 2 t.header.version) t o, verdict t.he
 -- ---- texts ----
 
 pub upgrades_are_tables : UpgradesAreTables
-upgrades_are_tables t h = record { header = record { numbers = each; pool = h.header.pool; unsaid = said }; states = h.states; rules = h.rules }
+upgrades_are_tables t h = record { header = record { numbers = each; pool = h.header.pool; unsaid = said }; states = h.states; rules = h.rules; families = h.families; none_before = early }
   where
     each : (field : Field) → IsWithin field (number_in (upgraded t).header field)
     each Version = let b = h.header.numbers Version in (omega arith, omega (arith, b.1))
@@ -89,6 +101,12 @@ upgrades_are_tables t h = record { header = record { numbers = each; pool = h.he
 
     said : (f : Field) → has_line (upgraded t).header.version (Number f) ≡ false → number_in (upgraded t).header f ≡ number_in blank f
     said f none = let two = since_two f in let late = leb-false (since (Number f)) (max 2 t.header.version) none in absurd (omega (arith, two, late))
+
+    early : has_families (upgraded t).header.version ≡ false → t.families ≡ []
+    early none = elim (cases_Bool (has_families t.header.version)) [
+      | inl has ↦ (let late = leb-false 3 (max 2 t.header.version) none in let three = leb-true 3 t.header.version has in absurd (omega (arith, late, three)))
+      | inr has ↦ h.none_before has
+    ]
 
 pub upgrades_rewrite_alike : UpgradesRewriteAlike
 upgrades_rewrite_alike t base = refl

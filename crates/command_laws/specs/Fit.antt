@@ -1,10 +1,10 @@
 -- Fit texts are carried out: what a text must be that nothing in it stands in the way of a command.
-use Rattle.std.specs.Prelude.{◌≡◌, ◌≤◌, ℕ, All, List, [], ◌∷◌, ◌++◌, Some, None, IsSome, codes}
+use Rattle.std.specs.Prelude.{◌≡◌, ◌≤◌, ◌⊎◌, ℕ, All, List, [], ◌∷◌, ◌++◌, Some, None, IsSome, codes}
 use Rattle.std.specs.Str.{IsUtf8}
 use Rattle.thumb_model.specs.Listing.{Line, code_of, place_of}
 use Rattle.thumb_model.specs.Layout.{Layable}
 use Rattle.listing_parser.specs.Parsing.{IsListing}
-use Rattle.rule_table.specs.Table.{Rule, Table}
+use Rattle.rule_table.specs.Table.{Rule, Family, Table}
 use Rattle.rule_table.specs.Refused.{IsText as IsTableText}
 use Rattle.table_audit.specs.Acceptance.{IsAccepted}
 use Rattle.table_audit.specs.Sides.{SidesFit}
@@ -15,7 +15,7 @@ use Rattle.command_line.specs.CommandLine.{Request, rewrite, audit, learn, expor
 use Rattle.outer_store.specs.Outside.{Event, Seen, Sunk}
 use Rattle.command_runs.specs.declared.status.Status.{Status}
 use Rattle.command_runs.specs.Plans.{AreTexts, fetchings}
-use Rattle.audit_cli.specs.Tables.{entry_at}
+use Rattle.table_audit.specs.Families.{entry_at, entry_of, family_at, IsRaisable}
 use Rattle.audit_cli.specs.Upgrade.{upgraded}
 use Rattle.audit_cli.specs.Peep.{plan_of, Peeps}
 use Rattle.audit_cli.specs.Complete.{IsUnhindered, IsCarriedOut, IsCarriedOutOrFull}
@@ -54,15 +54,28 @@ pub record FitUpgrade (texts : List (List ℕ)) : Type 0 where
   pub accepted : IsAccepted rules
   pub short : text_length (upgraded rules) ≤ text_limit
 
--- a table with an entry of this number, whose sides are what its header allows
+-- the table has an entry of this number, whose sides are what its header allows
+pub record HasFitEntry (rules : Table) (number : ℕ) : Type 0 where
+  pub entry : Rule
+  pub is_entry : entry_at rules.rules number ≡ Some entry
+  pub fit : SidesFit rules entry
+
+-- the table has a family of this number behind its entries, of such an entry, whose number can be raised so
+pub record HasFitFamily (rules : Table) (number : ℕ) : Type 0 where
+  pub family : Family
+  pub is_family : family_at rules number ≡ Some family
+  pub entry : Rule
+  pub is_entry : entry_of rules family ≡ Some entry
+  pub fit : SidesFit rules entry
+  pub raisable : IsRaisable rules.header.pool family entry.left
+
+-- a table with the one or the other
 pub record FitExport (number : ℕ) (texts : List (List ℕ)) : Type 0 where
   pub text : List ℕ
   pub is_text : texts ≡ text ∷ []
   pub rules : Table
   pub is_table : IsTableText text rules
-  pub entry : Rule
-  pub is_entry : entry_at rules.rules number ≡ Some entry
-  pub fit : SidesFit rules entry
+  pub has : HasFitEntry rules number ⊎ HasFitFamily rules number
 
 -- a well-formed listing that can be laid out from 0 on, with this code label
 pub record FitTrace (label : List ℕ) (texts : List (List ℕ)) : Type 0 where

@@ -22,16 +22,16 @@ use Rattle.rule_table.specs.declared.header.Field.{Field}
 use Rattle.rule_table.specs.declared.header.Field.TheVariants as field
 use Rattle.rule_table.specs.declared.header.Head.{Head}
 use Rattle.rule_table.specs.declared.header.Head.TheVariants as head
-use Rattle.rule_table.specs.Header.{Header, heads, has_line, number_in, with_number, is_same, blank, IsWithin, IsHeader}
-use Rattle.rule_table.specs.Table.{Opened, Rule, Table}
-use Rattle.rule_table.specs.Text.{Item, Number, Pool, State, Entry, Left, Right, Mask, Proof, Logged, Open, End, rule_items, line_items, header_items, items_of}
-use Rattle.rule_table.specs.Valid.{IsState, IsInstr, IsMask, IsOpened, IsRule, IsTable, numbers_of}
+use Rattle.rule_table.specs.Header.{Header, heads, has_line, has_families, number_in, with_number, is_same, blank, IsWithin, IsHeader}
+use Rattle.rule_table.specs.Table.{Opened, Rule, Family as Raised, Table}
+use Rattle.rule_table.specs.Text.{Item, Number, Pool, State, Entry, Left, Right, Mask, Proof, Logged, Open, Family, End, rule_items, family_items, line_items, header_items, items_of}
+use Rattle.rule_table.specs.Valid.{IsState, IsInstr, IsMask, IsOpened, IsRule, IsFamily, IsTable, numbers_of}
 use Rattle.rule_table.specs.Items.{IsItem}
-use Rattle.rule_table.specs.Grammar.{Stage, Start, Heading, Stated, Sided, Masked, Proved, Opening, Done, with_state, with_rule, with_opened, is_empty, heard, later, step, run}
+use Rattle.rule_table.specs.Grammar.{Stage, Start, Heading, Stated, Sided, Masked, Proved, Opening, Raising, Shown, Done, with_state, with_rule, with_opened, with_family, is_empty, heard, later, raising, step, run}
 
--- a header, states and finished rules
+-- a header, states, finished rules and finished families
 abbrev pub front_items : Table → List Item
-front_items t = header_items t.header ++ (map State t.states ++ flat_map rule_items t.rules)
+front_items t = header_items t.header ++ (map State t.states ++ (flat_map rule_items t.rules ++ flat_map family_items t.families))
 
 -- the lines that were read to come to a stage; of a header those before the lines that are due
 unfoldable pub written : Stage → List Item
@@ -41,6 +41,8 @@ written (Sided t ls rs) = front_items t ++ (Entry ∷ (map Left ls ++ map Right 
 written (Masked t ls rs m) = front_items t ++ (Entry ∷ (map Left ls ++ (map Right rs ++ Mask m ∷ [])))
 written (Proved t r) = front_items t ++ rule_items r
 written (Opening t r o) = front_items t ++ rule_items (with_opened r o)
+written (Raising t f) = front_items t ++ Family f.entry f.number f.low f.high ∷ []
+written (Shown t f) = front_items t ++ family_items f
 written (Done t) = items_of t
 
 -- few instructions, and none on the right before one on the left
@@ -76,14 +78,16 @@ pub record HasRead (h : Header) (due : List Head) : Type 0 where
   pub none : IsBlankFrom (length read) h
   pub first : HasFirst h due
 
--- what holds at a stage
+-- what holds at a stage; before the first family there are none
 unfoldable pub Fine : Stage → Type 0
 Fine (Heading h due) = IsHeader h × HasRead h due
-Fine (Stated t) = IsTable t × (t.rules ≡ [])
-Fine (Sided t ls rs) = IsTable t × AreSides ls rs
-Fine (Masked t ls rs m) = IsTable t × AreSides ls rs × (0 < length ls) × IsMask m
-Fine (Proved t r) = IsTable t × IsRule r × (r.opens ≡ [])
-Fine (Opening t r o) = IsTable t × IsRule (with_opened r o)
+Fine (Stated t) = IsTable t × (t.rules ≡ []) × (t.families ≡ [])
+Fine (Sided t ls rs) = IsTable t × AreSides ls rs × (t.families ≡ [])
+Fine (Masked t ls rs m) = IsTable t × AreSides ls rs × (0 < length ls) × IsMask m × (t.families ≡ [])
+Fine (Proved t r) = IsTable t × IsRule r × (r.opens ≡ []) × (t.families ≡ [])
+Fine (Opening t r o) = IsTable t × IsRule (with_opened r o) × (t.families ≡ [])
+Fine (Raising t f) = IsTable t × IsFamily f × (f.proof ≡ []) × (has_families t.header.version ≡ true)
+Fine (Shown t f) = IsTable t × IsFamily f × (has_families t.header.version ≡ true)
 Fine (Done t) = IsTable t
 
 record Steps (s t : Stage) (i : Item) : Type 0 where
@@ -97,6 +101,8 @@ table_state t s is state = record {
   header = is.header;
   states = All-push IsState t.states s is.states state;
   rules = is.rules;
+  families = is.families;
+  none_before = is.none_before;
 }
 
 table_rule : (t : Table) (r : Rule) → IsTable t → IsRule r → IsTable (with_rule t r)
@@ -104,6 +110,39 @@ table_rule t r is rule = record {
   header = is.header;
   states = is.states;
   rules = All-push IsRule t.rules r is.rules rule;
+  families = is.families;
+  none_before = is.none_before;
+}
+
+table_family : (t : Table) (f : Raised) → IsTable t → IsFamily f → has_families t.header.version ≡ true → IsTable (with_family t f)
+table_family t f is family has = record {
+  header = is.header;
+  states = is.states;
+  rules = is.rules;
+  families = All-push IsFamily t.families f is.families family;
+  none_before = λ hasnt. absurd (true≢false (sym has ∙ hasnt));
+}
+
+family_of_numbers : (entry number low high : ℕ) → IsItem (Family entry number low high) → IsFamily (record { entry = entry; number = number; low = low; high = high; proof = [] })
+family_of_numbers entry number low high is =
+    let P : ℕ → Type 0 = λ n. n < 2 ^ 32 in
+    let two = All-tail P entry (number ∷ low ∷ high ∷ []) is in
+    let three = All-tail P number (low ∷ high ∷ []) two in
+    record {
+      entry = All-head P entry (number ∷ low ∷ high ∷ []) is;
+      number = All-head P number (low ∷ high ∷ []) two;
+      low = All-head P low (high ∷ []) three;
+      high = All-head P high [] (All-tail P low (high ∷ []) three);
+      proof = All-nil IsLine;
+    }
+
+family_line : (f : Raised) (c : Content) → IsFamily f → IsLine c → IsFamily (record f { proof = f.proof ++ c ∷ [] })
+family_line f c is line = record {
+  entry = is.entry;
+  number = is.number;
+  low = is.low;
+  high = is.high;
+  proof = All-push IsLine f.proof c is.proof line;
 }
 
 rule_of_sides : (ls rs : List Instr) (m : ℕ) → AreSides ls rs → 0 < length ls → IsMask m → IsRule (record { left = ls; right = rs; mask = m; proof = []; opens = [] })
@@ -212,15 +251,25 @@ open_more r n = simp (flat_map-append, append_assoc) refl
 log_more : (r : Rule) (o : Opened) (c : Content) → rule_items (with_opened r (record { number = o.number; log = o.log ++ c ∷ [] })) ≡ rule_items (with_opened r o) ++ Logged c ∷ []
 log_more r o c = simp (flat_map-append, map-append, append_assoc, append-nil) refl
 
-rule_more : (t : Table) (r : Rule) (xs : List Item) → front_items (with_rule t r) ++ xs ≡ (front_items t ++ rule_items r) ++ xs
-rule_more t r xs = simp (flat_map-append, append_assoc, append-nil) refl
+rule_more : (t : Table) (r : Rule) (xs : List Item) → t.families ≡ [] → front_items (with_rule t r) ++ xs ≡ (front_items t ++ rule_items r) ++ xs
+rule_more t r xs none = rw none (simp (flat_map-append, append_assoc, append-nil) refl)
+
+-- the first line of a family's proof, and a further one
+shown_more : (f : Raised) → f.proof ≡ [] → family_items f ≡ (Family f.entry f.number f.low f.high ∷ []) ++ Proof ∷ []
+shown_more f none = ap (λ cs. Family f.entry f.number f.low f.high ∷ Proof ∷ map Logged cs) none
+
+family_more : (f : Raised) (c : Content) → family_items (record f { proof = f.proof ++ c ∷ [] }) ≡ family_items f ++ Logged c ∷ []
+family_more f c = ap (λ us. Family f.entry f.number f.low f.high ∷ Proof ∷ us) (map-append Logged f.proof (c ∷ []))
+
+families_more : (t : Table) (f : Raised) (xs : List Item) → front_items (with_family t f) ++ xs ≡ (front_items t ++ family_items f) ++ xs
+families_more t f xs = simp (flat_map-append, append_assoc, append-nil) refl
 
 table_more : (t : Table) → items_of t ≡ front_items t ++ End ∷ []
 table_more t = simp append_assoc refl
 
-state_more : (t : Table) (s : _) → t.rules ≡ [] → front_items (with_state t s) ≡ front_items t ++ State s ∷ []
-state_more t s none =
-    rw none (ap (λ us. header_items t.header ++ us) (last_more State t.states s) ∙ sym (append_assoc (header_items t.header) (map State t.states ++ []) (State s ∷ [])))
+state_more : (t : Table) (s : _) → t.rules ≡ [] → t.families ≡ [] → front_items (with_state t s) ≡ front_items t ++ State s ∷ []
+state_more t s none none_raised =
+    rw (none, none_raised) (ap (λ us. header_items t.header ++ us) (last_more State t.states s) ∙ sym (append_assoc (header_items t.header) (map State t.states ++ []) (State s ∷ [])))
 
 empty : (xs : List Instr) → is_empty xs ≡ true → xs ≡ []
 empty [] e = refl
@@ -417,7 +466,7 @@ goes_on : (g : Header) (read due : List Head) → IsHeader g → IsBlankFrom (le
 unfolding written Fine
 goes_on g read [] is none e = (
   append-nil (header_items g) ∙ ap (flat_map (line_items g)) (sym e ∙ append-nil read),
-  (record { header = is; states = All-nil IsState; rules = All-nil IsRule }, refl),
+  (record { header = is; states = All-nil IsState; rules = All-nil IsRule; families = All-nil IsFamily; none_before = λ hasnt. refl }, refl, refl),
 )
 goes_on g read (line ∷ due) is none e = by (has_line g.version line) refl (goes_on g (read ++ line ∷ []) due is less (append_assoc read (line ∷ []) due ∙ e))
   where
@@ -454,11 +503,22 @@ heading_step h line due i t is r item e =
 
 -- ---- one line
 
+-- a family begins behind a table's lines
+family_step : (s : Stage) (b : Table) (entry number low high : ℕ) (t : Stage) → IsTable b → IsItem (Family entry number low high)
+    → front_items b ++ Family entry number low high ∷ [] ≡ written s ++ Family entry number low high ∷ [] → raising b entry number low high ≡ Some t
+    → Steps s t (Family entry number low high)
+unfolding written Fine
+family_step s b entry number low high t table is lines e =
+    let f : Raised = record { entry = entry; number = number; low = low; high = high; proof = [] } in
+    let parts = cond_some (has_families b.header.version) (Raising b f) t e in
+    subst (λ u. Steps s u (Family entry number low high)) parts.1 (record { more = lines; fine = (table, family_of_numbers entry number low high is, refl, parts.0) })
+
 step_written : (s : Stage) (i : Item) (t : Stage) → Fine s → IsItem i → step s i ≡ Some t → Steps s t i
 unfolding step written Fine ascends_from
 step_written (Heading h (line ∷ due)) i t f is e = heading_step h line due i t f.0 f.1 is e
-step_written (Stated b) (State s) t f is e = rw (← same_Some _ _ e) (record { more = state_more b s f.1; fine = (table_state b s f.0 is, f.1) })
-step_written (Stated b) Entry t f is e = rw (← same_Some _ _ e) (record { more = refl; fine = (f.0, no_sides) })
+step_written (Stated b) (State s) t f is e = rw (← same_Some _ _ e) (record { more = state_more b s f.1 f.2; fine = (table_state b s f.0 is, f.1, f.2) })
+step_written (Stated b) Entry t f is e = rw (← same_Some _ _ e) (record { more = refl; fine = (f.0, no_sides, f.2) })
+step_written (Stated b) (Family entry number low high) t f is e = family_step (Stated b) b entry number low high t f.0 is refl e
 step_written (Stated b) End t f is e = rw (← same_Some _ _ e) (record { more = table_more b; fine = f.0 })
 step_written (Sided b ls rs) (Left i) t f is e =
     let parts = cond_some (nat_lt (length ls) 5 && is_empty rs) (Sided b (ls ++ i ∷ []) rs) t e in
@@ -476,6 +536,7 @@ step_written (Sided b ls rs) (Left i) t f is e =
           right = All-nil IsInstr;
           after_left = λ h. absurd cc;
         },
+        f.2,
       );
     })
 step_written (Sided b ls rs) (Right i) t f is e =
@@ -494,33 +555,36 @@ step_written (Sided b ls rs) (Right i) t f is e =
           right = All-push IsInstr rs i f.1.right is;
           after_left = λ h. some;
         },
+        f.2,
       );
     })
 step_written (Sided b ls rs) (Mask m) t f is e =
     let parts = cond_some (nat_lt 0 (length ls)) (Masked b ls rs m) t e in
-    rw (← parts.1) (record { more = behind b (Entry ∷ (map Left ls ++ map Right rs)) _ (Mask m) (mask_more ls rs m); fine = (f.0, f.1, ltb-true 0 (length ls) parts.0, is) })
+    rw (← parts.1) (record { more = behind b (Entry ∷ (map Left ls ++ map Right rs)) _ (Mask m) (mask_more ls rs m); fine = (f.0, f.1, ltb-true 0 (length ls) parts.0, is, f.2) })
 step_written (Masked b ls rs m) Proof t f is e =
     rw (← same_Some _ _ e) (record {
       more = behind b (Entry ∷ (map Left ls ++ (map Right rs ++ Mask m ∷ []))) _ Proof (proof_more ls rs m);
-      fine = (f.0, rule_of_sides ls rs m f.1 f.2 f.3, refl);
+      fine = (f.0, rule_of_sides ls rs m f.1 f.2 f.3, refl, f.4);
     })
 step_written (Proved b r) (Logged c) t f is e =
-    rw (← same_Some _ _ e) (record { more = behind b (rule_items r) _ (Logged c) (line_more r c f.2); fine = (f.0, rule_line r c f.1 is, f.2) })
+    rw (← same_Some _ _ e) (record { more = behind b (rule_items r) _ (Logged c) (line_more r c f.2); fine = (f.0, rule_line r c f.1 is, f.2, f.3) })
 step_written (Proved b r) (Open n) t f is e =
     rw (← same_Some _ _ e) (record {
       more = behind b (rule_items r) _ (Open n) (open_more r n);
-      fine = (f.0, rule_opens r (r.opens ++ record { number = n; log = [] } ∷ []) f.1 (All-push IsOpened r.opens _ f.1.opens (opened n is)) (rw (f.2, le-leb 0 n (omega arith)) refl));
+      fine = (f.0, rule_opens r (r.opens ++ record { number = n; log = [] } ∷ []) f.1 (All-push IsOpened r.opens _ f.1.opens (opened n is)) (rw (f.2, le-leb 0 n (omega arith)) refl), f.3);
     })
 step_written (Proved b r) Entry t f is e =
-    rw (← same_Some _ _ e) (record { more = rule_more b r (Entry ∷ []); fine = (table_rule b r f.0 f.1, no_sides) })
+    rw (← same_Some _ _ e) (record { more = rule_more b r (Entry ∷ []) f.3; fine = (table_rule b r f.0 f.1, no_sides, f.3) })
+step_written (Proved b r) (Family entry number low high) t f is e =
+    family_step (Proved b r) (with_rule b r) entry number low high t (table_rule b r f.0 f.1) is (rule_more b r (Family entry number low high ∷ []) f.3) e
 step_written (Proved b r) End t f is e =
-    rw (← same_Some _ _ e) (record { more = table_more (with_rule b r) ∙ rule_more b r (End ∷ []); fine = table_rule b r f.0 f.1 })
+    rw (← same_Some _ _ e) (record { more = table_more (with_rule b r) ∙ rule_more b r (End ∷ []) f.3; fine = table_rule b r f.0 f.1 })
 step_written (Opening b r o) (Logged c) t f is e =
     let opens = All-front r.opens o f.1.opens in
     let next : Opened = record { number = o.number; log = o.log ++ c ∷ [] } in
     rw (← same_Some _ _ e) (record {
       more = behind b (rule_items (with_opened r o)) _ (Logged c) (log_more r o c);
-      fine = (f.0, rule_opens (with_opened r o) (r.opens ++ next ∷ []) f.1 (All-push IsOpened r.opens next opens.0 (opened_line o c opens.1 is)) (rises_same 0 r.opens o next refl f.1.ascending));
+      fine = (f.0, rule_opens (with_opened r o) (r.opens ++ next ∷ []) f.1 (All-push IsOpened r.opens next opens.0 (opened_line o c opens.1 is)) (rises_same 0 r.opens o next refl f.1.ascending), f.2);
     })
 step_written (Opening b r o) (Open n) t f is e =
     let next : Opened = record { number = n; log = [] } in
@@ -531,12 +595,24 @@ step_written (Opening b r o) (Open n) t f is e =
         f.0,
         rule_opens (with_opened r o) ((r.opens ++ o ∷ []) ++ next ∷ []) f.1 (All-push IsOpened (r.opens ++ o ∷ []) next f.1.opens (opened n is))
             (rises_more 0 r.opens o next f.1.ascending (ltb-true o.number n parts.0)),
+        f.2,
       );
     })
 step_written (Opening b r o) Entry t f is e =
-    rw (← same_Some _ _ e) (record { more = rule_more b (with_opened r o) (Entry ∷ []); fine = (table_rule b (with_opened r o) f.0 f.1, no_sides) })
+    rw (← same_Some _ _ e) (record { more = rule_more b (with_opened r o) (Entry ∷ []) f.2; fine = (table_rule b (with_opened r o) f.0 f.1, no_sides, f.2) })
+step_written (Opening b r o) (Family entry number low high) t f is e =
+    family_step (Opening b r o) (with_rule b (with_opened r o)) entry number low high t (table_rule b (with_opened r o) f.0 f.1) is
+    (rule_more b (with_opened r o) (Family entry number low high ∷ []) f.2) e
 step_written (Opening b r o) End t f is e =
-    rw (← same_Some _ _ e) (record { more = table_more (with_rule b (with_opened r o)) ∙ rule_more b (with_opened r o) (End ∷ []); fine = table_rule b (with_opened r o) f.0 f.1 })
+    rw (← same_Some _ _ e) (record { more = table_more (with_rule b (with_opened r o)) ∙ rule_more b (with_opened r o) (End ∷ []) f.2; fine = table_rule b (with_opened r o) f.0 f.1 })
+step_written (Raising b r) Proof t f is e =
+    rw (← same_Some _ _ e) (record { more = behind b (Family r.entry r.number r.low r.high ∷ []) _ Proof (shown_more r f.2); fine = (f.0, f.1, f.3) })
+step_written (Shown b r) (Logged c) t f is e =
+    rw (← same_Some _ _ e) (record { more = behind b (family_items r) _ (Logged c) (family_more r c); fine = (f.0, family_line r c f.1 is, f.2) })
+step_written (Shown b r) (Family entry number low high) t f is e =
+    family_step (Shown b r) (with_family b r) entry number low high t (table_family b r f.0 f.1 f.2) is (families_more b r (Family entry number low high ∷ [])) e
+step_written (Shown b r) End t f is e =
+    rw (← same_Some _ _ e) (record { more = table_more (with_family b r) ∙ families_more b r (End ∷ []); fine = table_family b r f.0 f.1 f.2 })
 step_written s i t f is e = absurd cc
 
 pub run_written : (p : List Item) (s t : Stage) → Fine s → All IsItem p → run s p ≡ Some t → (written t ≡ written s ++ p) × Fine t
@@ -593,6 +669,14 @@ from_opening : (t : Table) (r : Rule) (o : Opened) → Fine (Opening t r o) → 
 unfolding step
 from_opening t r o f = by_step (Opening t r o) End (Done (with_rule t (with_opened r o))) f tt refl (done (with_rule t (with_opened r o)))
 
+from_shown : (t : Table) (f : Raised) → Fine (Shown t f) → Opens (written (Shown t f))
+unfolding step
+from_shown t f fine = by_step (Shown t f) End (Done (with_family t f)) fine tt refl (done (with_family t f))
+
+from_raising : (t : Table) (f : Raised) → Fine (Raising t f) → Opens (written (Raising t f))
+unfolding step
+from_raising t f fine = by_step (Raising t f) Proof (Shown t f) fine tt refl (from_shown t f)
+
 from_masked : (t : Table) (ls rs : List Instr) (m : ℕ) → Fine (Masked t ls rs m) → Opens (written (Masked t ls rs m))
 unfolding step
 from_masked t ls rs m f =
@@ -626,8 +710,8 @@ from_stated t f = by_step (Stated t) End (Done t) f tt refl (done t)
 from_heading : (h : Header) (due : List Head) → Fine (Heading h due) → Opens (written (Heading h due))
 unfolding written Fine
 from_heading h due f = record {
-  table = record { header = h; states = []; rules = [] };
-  valid = record { header = f.0; states = All-nil IsState; rules = All-nil IsRule };
+  table = record { header = h; states = []; rules = []; families = [] };
+  valid = record { header = f.0; states = All-nil IsState; rules = All-nil IsRule; families = All-nil IsFamily; none_before = λ hasnt. refl };
   rest = flat_map (line_items h) (drop read heads) ++ End ∷ [];
   whole = ap (λ ls. flat_map (line_items h) ls ++ End ∷ []) (sym (take-append-drop read heads))
       ∙ ap (λ us. us ++ End ∷ []) (flat_map-append (line_items h) (take read heads) (drop read heads))
@@ -644,6 +728,8 @@ completes (Sided t ls rs) f = from_sided t ls rs f
 completes (Masked t ls rs m) f = from_masked t ls rs m f
 completes (Proved t r) f = from_proved t r f
 completes (Opening t r o) f = from_opening t r o f
+completes (Raising t r) f = from_raising t r f
+completes (Shown t r) f = from_shown t r f
 completes (Done t) f = done t f
 
 blank_fine : IsHeader blank

@@ -65,7 +65,7 @@ hex_inside (suc n) w =
 
 -- ---- words
 
-blanks_inside : {X : Type 0} (f : X → List ℕ) (P : X → Type 0) → ((x : X) → P x → IsInside (f x)) → (xs : List X) → All P xs → IsInside (after_blanks (map f xs))
+pub blanks_inside : {X : Type 0} (f : X → List ℕ) (P : X → Type 0) → ((x : X) → P x → IsInside (f x)) → (xs : List X) → All P xs → IsInside (after_blanks (map f xs))
 blanks_inside f P each [] all = refl
 blanks_inside f P each (x ∷ xs) all =
     and_from (is_inside 32) _ refl (inside_both (f x) (after_blanks (map f xs)) (each x (All-head P x xs all)) (blanks_inside f P each xs (All-tail P x xs all)))

@@ -13,16 +13,17 @@ use Rattle.rule_table.specs.declared.header.Field.{Field}
 use Rattle.rule_table.specs.declared.header.Field.TheVariants as field
 use Rattle.rule_table.specs.declared.words.Word.TheVariants as word
 use Rattle.rule_table.specs.Header.{row, IsWithin}
-use Rattle.rule_table.specs.Text.{Item, Number, Pool, State, Entry, Left, Right, Mask, Proof, Logged, Open, End, line_of, instr_text, after_blanks, hex_of, mask_text, mask_rows, named}
+use Rattle.rule_table.specs.Text.{Item, Number, Pool, State, Entry, Left, Right, Mask, Proof, Logged, Open, Family, End, line_of, instr_text, after_blanks, hex_of, mask_text, mask_rows, named}
 use Rattle.rule_table.specs.Valid.{IsState, IsInstr}
 use Rattle.rule_table.specs.Items.{IsItem}
 use Rattle.rule_table.specs.Fronts.{words, front, word_of, tail_of}
 use Rattle.rule_table.proofs.FrontLemmas.{same_pair}
-use Rattle.rule_table.proofs.InsideLines.{IsInside, inside_both, decimal_inside, logged_inside, state_inside, pool_inside, named_inside, Digital, decimal_digital, logged_digital}
+use Rattle.rule_table.proofs.InsideLines.{IsInside, inside_both, blanks_inside, decimal_inside, logged_inside, state_inside, pool_inside, named_inside, Digital, decimal_digital, logged_digital}
 use Rattle.rule_table.proofs.InstrTexts.{instr_inside, instr_tells, instr_lettered}
 use Rattle.rule_table.proofs.MaskTexts.{mask_tells}
 use Rattle.rule_table.proofs.HexTexts.{state_tells}
-use Rattle.rule_table.proofs.PoolTexts.{pools_tell}
+use Rattle.rule_table.proofs.PoolTexts.{IsShort, blanks_tell, pools_tell}
+use Rattle.rule_table.proofs.FamilyTexts.{words_short}
 
 -- ---- fronts
 
@@ -47,6 +48,7 @@ front_line (Mask m) is = refl
 front_line Proof is = refl
 front_line (Logged c) is = digit_front (text_of_line c) (logged_digital c is)
 front_line (Open n) is = refl
+front_line (Family entry number low high) is = refl
 front_line End is = refl
 
 -- ---- no newline
@@ -90,6 +92,9 @@ line_inside (Mask m) is = inside_both (codes "mask") (mask_text m) refl (mask_in
 line_inside Proof is = refl
 line_inside (Logged c) is = logged_inside c is
 line_inside (Open n) is = number_inside (codes "open ") n refl is
+line_inside (Family entry number low high) is =
+    let ns : List ℕ = entry ∷ number ∷ low ∷ high ∷ [] in
+    inside_both (codes "family") (after_blanks (map decimal ns)) refl (blanks_inside decimal IsShort decimal_inside ns (words_short ns is))
 line_inside End is = refl
 
 -- ---- tails
@@ -114,6 +119,13 @@ states s t a b e =
     let parts = state_tells s.r t.r s.nzcv t.nzcv (a.four ∙ sym b.four) a.words b.words a.flags b.flags e in
     same_seen s t parts.0 parts.1
 
+families : (a b c d e f g h : ℕ) → IsItem (Family a b c d) → IsItem (Family e f g h) → tail_of (Family a b c d) ≡ tail_of (Family e f g h) → Family a b c d ≡ Family e f g h
+families a b c d e f g h is also same =
+    let ns : List ℕ = a ∷ b ∷ c ∷ d ∷ [] in
+    let ms : List ℕ = e ∷ f ∷ g ∷ h ∷ [] in
+    let all : a ∷ b ∷ c ∷ d ∷ [] ≡ e ∷ f ∷ g ∷ h ∷ [] = blanks_tell ns ms (words_short ns is) (words_short ms also) same in
+    cc
+
 tails_tell : (i j : Item) → IsItem i → IsItem j → word_of i ≡ word_of j → tail_of i ≡ tail_of j → i ≡ j
 tails_tell (Number f m) (Number g n) a b w e =
     let same : f ≡ g = cc in
@@ -129,6 +141,7 @@ tails_tell (Mask m) (Mask n) a b w e = ap Mask (mask_tells m n a b e)
 tails_tell Proof Proof a b w e = refl
 tails_tell (Logged c) (Logged d) a b w e = ap Logged (text_of-injective c d a b e)
 tails_tell (Open m) (Open n) a b w e = ap Open (numbers m n a b e)
+tails_tell (Family k l m n) (Family o p q r) a b w e = families k l m n o p q r a b e
 tails_tell End End a b w e = refl
 tails_tell i j a b w e = absurd cc
 

@@ -47,7 +47,7 @@ split_numbers n ns all =
 pub numbers_tell : (ns ms : List ℕ) → All IsShort ns → All IsShort ms → map decimal ns ≡ map decimal ms → ns ≡ ms
 numbers_tell = map-injective IsShort decimal (λ x y h k e. decimal_injective x y h k e)
 
-blanks_tell : (ns ms : List ℕ) → All IsShort ns → All IsShort ms → after_blanks (map decimal ns) ≡ after_blanks (map decimal ms) → ns ≡ ms
+pub blanks_tell : (ns ms : List ℕ) → All IsShort ns → All IsShort ms → after_blanks (map decimal ns) ≡ after_blanks (map decimal ms) → ns ≡ ms
 blanks_tell [] [] h k e = refl
 blanks_tell [] (m ∷ ms) h k e = cc
 blanks_tell (n ∷ ns) [] h k e = cc

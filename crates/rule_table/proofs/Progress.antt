@@ -1,5 +1,5 @@
 -- What has been read of a text, and what comes of it.
-use Rattle.std.proofs.Common.{◌≡◌, ◌∙◌, ℕ, ◌+◌, ◌≤◌, ◌==◌, true, false, List, [], ◌∷◌, ◌++◌, length, map, refl, sym, ap, subst, arith, Option, Some, None, append_assoc, append-nil, length-append, inl, inr, true≢false, Ok, Err}
+use Rattle.std.proofs.Common.{◌≡◌, ◌∙◌, ℕ, ◌+◌, ◌<◌, ◌≤◌, ◌^◌, ◌==◌, true, false, List, [], ◌∷◌, ◌++◌, length, map, refl, sym, ap, subst, arith, Option, Some, None, append_assoc, append-nil, length-append, inl, inr, true≢false, Ok, Err}
 use Rattle.std.specs.Prelude.{if◌then◌else◌}
 use Rattle.std.specs.Option.{option_and_then}
 use Rattle.std.specs.List.{flat_map, All, concat}
@@ -12,9 +12,9 @@ use Rattle.ascii_scan.proofs.LineLemmas.{lines_nil, lines_newline, lines_other, 
 use Rattle.rule_table.specs.declared.header.Head.{Head}
 use Rattle.rule_table.specs.declared.header.Head.TheVariants as head
 use Rattle.rule_table.specs.Header.{Header, heads, has_line, IsHeader}
-use Rattle.rule_table.specs.Table.{Opened, Rule, Table}
-use Rattle.rule_table.specs.Text.{Item, State, Entry, Left, Right, Mask, Proof, Logged, Open, End, line_of, text_of_items, text_of, open_items, rule_items, line_items, said, header_items, items_of}
-use Rattle.rule_table.specs.Valid.{IsOpened, IsRule, IsTable}
+use Rattle.rule_table.specs.Table.{Opened, Rule, Family as Raised, Table}
+use Rattle.rule_table.specs.Text.{Item, State, Entry, Left, Right, Mask, Proof, Logged, Open, Family, End, line_of, text_of_items, text_of, open_items, rule_items, family_items, line_items, said, header_items, items_of}
+use Rattle.rule_table.specs.Valid.{IsOpened, IsRule, IsFamily, IsTable}
 use Rattle.rule_table.specs.Items.{IsItem}
 use Rattle.rule_table.specs.Grammar.{Stage, Start, Done, step, run}
 use Rattle.rule_table.specs.Steps.{Follows, StepsTo}
@@ -92,6 +92,17 @@ rule_all r is =
     (All-append IsItem (map Logged r.proof) opens (All-map IsItem Logged r.proof is.proof)
     (many_items IsOpened open_items opened_items r.opens is.opens))))))
 
+numbers_item : (f : Raised) → IsFamily f → IsItem (Family f.entry f.number f.low f.high)
+numbers_item f is =
+    let P : ℕ → Type 0 = λ n. n < 2 ^ 32 in
+    All-cons P f.entry (f.number ∷ f.low ∷ f.high ∷ []) is.entry
+    (All-cons P f.number (f.low ∷ f.high ∷ []) is.number (All-cons P f.low (f.high ∷ []) is.low (All-cons P f.high [] is.high (All-nil P))))
+
+family_all : (f : Raised) → IsFamily f → All IsItem (family_items f)
+family_all f is =
+    All-cons IsItem (Family f.entry f.number f.low f.high) (Proof ∷ map Logged f.proof) (numbers_item f is)
+    (All-cons IsItem Proof (map Logged f.proof) tt (All-map IsItem Logged f.proof is.proof))
+
 said_item : (h : Header) → IsHeader h → (line : Head) → IsItem (said h line)
 said_item h is (head.Number field) = is.numbers field
 said_item h is head.Pool = is.pool
@@ -108,12 +119,14 @@ heads_all h is (line ∷ lines) = All-append IsItem (line_items h line) (flat_ma
 
 pub table_all : (t : Table) → IsTable t → All IsItem (items_of t)
 table_all t is =
-    let rules = flat_map rule_items t.rules ++ End ∷ [] in
+    let families = flat_map family_items t.families ++ End ∷ [] in
+    let rules = flat_map rule_items t.rules ++ families in
     let body = map State t.states ++ rules in
     All-append IsItem (header_items t.header) body (heads_all t.header is.header heads)
     (All-append IsItem (map State t.states) rules (All-map IsItem State t.states is.states)
-    (All-append IsItem (flat_map rule_items t.rules) (End ∷ []) (many_items IsRule rule_items rule_all t.rules is.rules)
-    (All-cons IsItem End [] tt (All-nil IsItem))))
+    (All-append IsItem (flat_map rule_items t.rules) families (many_items IsRule rule_items rule_all t.rules is.rules)
+    (All-append IsItem (flat_map family_items t.families) (End ∷ []) (many_items IsFamily family_items family_all t.families is.families)
+    (All-cons IsItem End [] tt (All-nil IsItem)))))
 
 pub table_lines : (t : Table) → IsTable t → lines_of (text_of t) ≡ map ended (items_of t)
 table_lines t is = lines_items (items_of t) (table_all t is)

@@ -1,8 +1,8 @@
 -- A table's lines are read as the table.
-use Rattle.std.proofs.Common.{◌≡◌, ℕ, ◌⊎◌, inl, inr, zero, suc, subst, ◌+◌, ◌<◌, ◌≤◌, true, List, [], ◌∷◌, ◌++◌, length, map, nat_le, nat_lt, refl, sym, ◌∙◌, ap, arith, Option, Some, None, append_assoc, append-nil, length-append, lt-ltb, leb-true}
+use Rattle.std.proofs.Common.{◌≡◌, ℕ, ◌⊎◌, inl, inr, zero, suc, subst, ◌+◌, ◌<◌, ◌≤◌, true, false, List, [], ◌∷◌, ◌++◌, length, map, nat_le, nat_lt, refl, sym, ◌∙◌, ap, arith, Option, Some, None, append_assoc, append-nil, length-append, lt-ltb, leb-true}
 use Rattle.std.specs.Option.{option_and_then}
 use Rattle.std.specs.List.{flat_map, All}
-use Rattle.std.proofs.lemmas.Bool.{and_parts}
+use Rattle.std.proofs.lemmas.Bool.{and_parts, cases_Bool}
 use Rattle.std.proofs.lemmas.List.Elements.{All-head, All-tail}
 use Rattle.seq_enum.specs.Lists.{ascends_from}
 use Rattle.lrat_check.specs.Content.{Content}
@@ -10,11 +10,11 @@ use Rattle.window_exec.specs.Seen.{Seen}
 use Rattle.thumb_instr.specs.declared.instr.Instr.{Instr}
 use Rattle.rule_table.specs.declared.header.Field.TheVariants as field
 use Rattle.rule_table.specs.declared.header.Head.TheVariants as head
-use Rattle.rule_table.specs.Header.{Header, has_line, IsWithin, IsHeader}
-use Rattle.rule_table.specs.Table.{Opened, Rule, Table}
-use Rattle.rule_table.specs.Text.{Item, State, Entry, Left, Right, Mask, Proof, Logged, End, open_items, rule_items, header_items, items_of}
+use Rattle.rule_table.specs.Header.{Header, has_line, has_families, IsWithin, IsHeader}
+use Rattle.rule_table.specs.Table.{Opened, Rule, Family as Raised, Table}
+use Rattle.rule_table.specs.Text.{Item, State, Entry, Left, Right, Mask, Proof, Logged, End, open_items, rule_items, family_items, header_items, items_of}
 use Rattle.rule_table.specs.Valid.{IsRule, IsTable, numbers_of}
-use Rattle.rule_table.specs.Grammar.{Stage, Start, Stated, Sided, Proved, Opening, Done, with_state, with_rule, with_opened, step, run}
+use Rattle.rule_table.specs.Grammar.{Stage, Start, Stated, Sided, Proved, Opening, Shown, Done, with_state, with_rule, with_opened, with_family, step, run}
 
 pub run-append : (s : Stage) (p q : List Item) → run s (p ++ q) ≡ option_and_then (λ t. run t q) (run s p)
 unfolding run
@@ -26,19 +26,21 @@ run-append s (i ∷ p) q = from (step s i) (λ t. run-append t p q)
     from None h = refl
     from (Some t) h = h t
 
--- a table with more states, more rules
+-- a table with more states, more rules, more families
 more_states : Table → List Seen → Table
-more_states t ss = record { header = t.header; states = t.states ++ ss; rules = t.rules }
+more_states t ss = record t { states = t.states ++ ss }
 
 more_rules : Table → List Rule → Table
-more_rules t rs = record { header = t.header; states = t.states; rules = t.rules ++ rs }
+more_rules t rs = record t { rules = t.rules ++ rs }
+
+more_families : Table → List Raised → Table
+more_families t fs = record t { families = t.families ++ fs }
 
 reads_states : (t : Table) (ss : List Seen) (rest : List Item) → run (Stated t) (map State ss ++ rest) ≡ run (Stated (more_states t ss)) rest
 unfolding run step more_states
-reads_states t [] rest = ap (λ us. run (Stated (record { header = t.header; states = us; rules = t.rules })) rest) (sym (append-nil t.states))
+reads_states t [] rest = ap (λ us. run (Stated (record t { states = us })) rest) (sym (append-nil t.states))
 reads_states t (s ∷ ss) rest =
-    reads_states (with_state t s) ss rest
-    ∙ ap (λ us. run (Stated (record { header = t.header; states = us; rules = t.rules })) rest) (append_assoc t.states (s ∷ []) ss)
+    reads_states (with_state t s) ss rest ∙ ap (λ us. run (Stated (record t { states = us })) rest) (append_assoc t.states (s ∷ []) ss)
 
 reads_left : (t : Table) (ls is : List Instr) (rest : List Item) → length ls + length is ≤ 5 → run (Sided t ls []) (map Left is ++ rest) ≡ run (Sided t (ls ++ is) []) rest
 unfolding run step
@@ -71,9 +73,10 @@ reads_log t r o (c ∷ cs) rest =
     reads_log t r (record { number = o.number; log = o.log ++ c ∷ [] }) cs rest
     ∙ ap (λ us. run (Opening t r (record { number = o.number; log = us })) rest) (append_assoc o.log (c ∷ []) cs)
 
--- what a rule ends before: the next rule, or the end of the table
+-- what a rule ends before: the next rule, a family, or the end of the table
 record Closes (rest : List Item) : Type 0 where
   same : (t : Table) (r : Rule) (o : Opened) → run (Opening t r o) rest ≡ run (Proved t (with_opened r o)) rest
+  next : (t : Table) (r : Rule) → run (Proved t r) rest ≡ run (Stated (with_rule t r)) rest
 
 more_opens : Rule → List Opened → Rule
 more_opens r os = record { left = r.left; right = r.right; mask = r.mask; proof = r.proof; opens = r.opens ++ os }
@@ -121,35 +124,65 @@ reads_rule t r rest is closes =
 
 closes_entry : (rest : List Item) → Closes (Entry ∷ rest)
 unfolding run step
-closes_entry rest = record { same = λ t r o. refl }
+closes_entry rest = record { same = λ t r o. refl; next = λ t r. refl }
 
-closes_end : (rest : List Item) → Closes (End ∷ rest)
+closes_families : (fs : List Raised) → Closes (flat_map family_items fs ++ End ∷ [])
 unfolding run step
-closes_end rest = record { same = λ t r o. refl }
+closes_families [] = record { same = λ t r o. refl; next = λ t r. refl }
+closes_families (f ∷ fs) = record { same = λ t r o. refl; next = λ t r. refl }
 
-closes_rules : (rs : List Rule) → Closes (flat_map rule_items rs ++ End ∷ [])
-closes_rules [] = closes_end []
-closes_rules (r ∷ rs) = closes_entry _
+closes_rules : (rs : List Rule) (rest : List Item) → Closes rest → Closes (flat_map rule_items rs ++ rest)
+closes_rules [] rest closes = closes
+closes_rules (r ∷ rs) rest closes = closes_entry _
 
--- rules behind a finished one
-reads_rules : (t : Table) (r : Rule) (rs : List Rule) → All IsRule rs → run (Proved t r) (flat_map rule_items rs ++ End ∷ []) ≡ Some (Done (more_rules t (r ∷ rs)))
+-- rules are read as one by one behind the states
+reads_rules : (t : Table) (rs : List Rule) (rest : List Item) → Closes rest → All IsRule rs → run (Stated t) (flat_map rule_items rs ++ rest) ≡ run (Stated (more_rules t rs)) rest
 unfolding run step more_rules tail_items
-reads_rules t r [] all = refl
-reads_rules t r (q ∷ rs) all =
-    ap (run (Sided (with_rule t r) [] [])) (append_assoc (tail_items q) (flat_map rule_items rs) (End ∷ []))
-    ∙ reads_rule (with_rule t r) q (flat_map rule_items rs ++ End ∷ []) (All-head IsRule q rs all) (closes_rules rs)
-    ∙ reads_rules (with_rule t r) q rs (All-tail IsRule q rs all)
-    ∙ ap (λ us. Some (Done (record { header = t.header; states = t.states; rules = us }))) (append_assoc t.rules (r ∷ []) (q ∷ rs))
+reads_rules t [] rest closes all = ap (λ us. run (Stated (record t { rules = us })) rest) (sym (append-nil t.rules))
+reads_rules t (r ∷ rs) rest closes all =
+    let later = closes_rules rs rest closes in
+    ap (run (Sided t [] [])) (append_assoc (tail_items r) (flat_map rule_items rs) rest)
+    ∙ reads_rule t r (flat_map rule_items rs ++ rest) (All-head IsRule r rs all) later
+    ∙ later.next t r
+    ∙ reads_rules (with_rule t r) rs rest closes (All-tail IsRule r rs all)
+    ∙ ap (λ us. run (Stated (record t { rules = us })) rest) (append_assoc t.rules (r ∷ []) rs)
 
-reads_all : (t : Table) (rs : List Rule) → t.rules ≡ [] → All IsRule rs
-    → run (Stated t) (flat_map rule_items rs ++ End ∷ []) ≡ Some (Done (record { header = t.header; states = t.states; rules = rs }))
-unfolding run step more_rules tail_items
-reads_all t [] none all = ap (λ us. Some (Done (record { header = t.header; states = t.states; rules = us }))) none
-reads_all t (r ∷ rs) none all =
-    ap (run (Sided t [] [])) (append_assoc (tail_items r) (flat_map rule_items rs) (End ∷ []))
-    ∙ reads_rule t r (flat_map rule_items rs ++ End ∷ []) (All-head IsRule r rs all) (closes_rules rs)
-    ∙ reads_rules t r rs (All-tail IsRule r rs all)
-    ∙ ap (λ us. Some (Done (record { header = t.header; states = t.states; rules = us ++ r ∷ rs }))) none
+-- what a family ends before: the next one, or the end of the table
+record Ends (rest : List Item) : Type 0 where
+  same : (t : Table) (f : Raised) → run (Shown t f) rest ≡ run (Stated (with_family t f)) rest
+
+ends : (fs : List Raised) → Ends (flat_map family_items fs ++ End ∷ [])
+unfolding run step
+ends [] = record { same = λ t f. refl }
+ends (f ∷ fs) = record { same = λ t f. refl }
+
+reads_shown : (t : Table) (f : Raised) (cs : List Content) (rest : List Item) → run (Shown t f) (map Logged cs ++ rest) ≡ run (Shown t (record f { proof = f.proof ++ cs })) rest
+unfolding run step
+reads_shown t f [] rest = ap (λ us. run (Shown t (record f { proof = us })) rest) (sym (append-nil f.proof))
+reads_shown t f (c ∷ cs) rest =
+    reads_shown t (record f { proof = f.proof ++ c ∷ [] }) cs rest ∙ ap (λ us. run (Shown t (record f { proof = us })) rest) (append_assoc f.proof (c ∷ []) cs)
+
+reads_families : (t : Table) (fs : List Raised) → has_families t.header.version ≡ true → run (Stated t) (flat_map family_items fs ++ End ∷ []) ≡ Some (Done (more_families t fs))
+unfolding run step more_families
+reads_families t [] has = ap (λ us. Some (Done (record t { families = us }))) (sym (append-nil t.families))
+reads_families t (f ∷ fs) has =
+    let rest = flat_map family_items fs ++ End ∷ [] in
+    rw has (ap (run (Shown t (record f { proof = [] }))) (append_assoc (map Logged f.proof) (flat_map family_items fs) (End ∷ []))
+    ∙ reads_shown t (record f { proof = [] }) f.proof rest
+    ∙ (ends fs).same t f
+    ∙ reads_families (with_family t f) fs has
+    ∙ ap (λ us. Some (Done (record t { families = us }))) (append_assoc t.families (f ∷ []) fs))
+
+reads_none : (t : Table) → run (Stated t) (End ∷ []) ≡ Some (Done (more_families t []))
+unfolding run step more_families
+reads_none t = ap (λ us. Some (Done (record t { families = us }))) (sym (append-nil t.families))
+
+-- only later versions have any
+reads_ends : (t : Table) (fs : List Raised) → (has_families t.header.version ≡ false → fs ≡ []) → run (Stated t) (flat_map family_items fs ++ End ∷ []) ≡ Some (Done (more_families t fs))
+reads_ends t fs none = elim (cases_Bool (has_families t.header.version)) [
+  | inl has ↦ reads_families t fs has
+  | inr hasnt ↦ subst (λ gs. run (Stated t) (flat_map family_items gs ++ End ∷ []) ≡ Some (Done (more_families t gs))) (sym (none hasnt)) (reads_none t)
+]
 
 -- a header of each version by what it says
 of_first : (h : Header) → IsHeader h → h.version ≡ 1 → h ≡ record { version = 1; regs = h.regs; left = h.left; seed = h.seed; budget = h.budget; pool = h.pool; scratch = 0 }
@@ -157,29 +190,36 @@ of_first h is e =
     let none : h.scratch ≡ 0 = is.unsaid field.Scratch (ap (λ v. has_line v (head.Number field.Scratch)) e) in
     λ i. record { version = e i; regs = h.regs; left = h.left; seed = h.seed; budget = h.budget; pool = h.pool; scratch = none i }
 
-of_second : (h : Header) → h.version ≡ 2 → h ≡ record { version = 2; regs = h.regs; left = h.left; seed = h.seed; budget = h.budget; pool = h.pool; scratch = h.scratch }
-of_second h e = λ i. record { version = e i; regs = h.regs; left = h.left; seed = h.seed; budget = h.budget; pool = h.pool; scratch = h.scratch }
+of_later : (h : Header) (v : ℕ) → h.version ≡ v → h ≡ record h { version = v }
+of_later h v e = λ i. record h { version = e i }
 
-versions : (v : ℕ) → IsWithin field.Version v → (v ≡ 1) ⊎ (v ≡ 2)
+versions : (v : ℕ) → IsWithin field.Version v → (v ≡ 1) ⊎ ((v ≡ 2) ⊎ (v ≡ 3))
 versions zero w = absurd (omega (arith, w.0))
 versions (suc zero) w = inl refl
-versions (suc (suc zero)) w = inr refl
-versions (suc (suc (suc v))) w = absurd (omega (arith, w.1))
+versions (suc (suc zero)) w = inr (inl refl)
+versions (suc (suc (suc zero))) w = inr (inr refl)
+versions (suc (suc (suc (suc v)))) w = absurd (omega (arith, w.1))
 
 abbrev ReadsHeader : List Item → Header → Type 0
-ReadsHeader rest h = run Start (header_items h ++ rest) ≡ run (Stated (record { header = h; states = []; rules = [] })) rest
+ReadsHeader rest h = run Start (header_items h ++ rest) ≡ run (Stated (record { header = h; states = []; rules = []; families = [] })) rest
 
 reads_header : (h : Header) (rest : List Item) → IsHeader h → ReadsHeader rest h
 unfolding run step
 reads_header h rest is = elim (versions h.version (is.numbers field.Version)) [
   | inl e ↦ subst (ReadsHeader rest) (sym (of_first h is e)) refl
-  | inr e ↦ subst (ReadsHeader rest) (sym (of_second h e)) refl
+  | inr later ↦ elim later [
+    | inl e ↦ subst (ReadsHeader rest) (sym (of_later h 2 e)) refl
+    | inr e ↦ subst (ReadsHeader rest) (sym (of_later h 3 e)) refl
+  ]
 ]
 
 pub reads : (t : Table) → IsTable t → run Start (items_of t) ≡ Some (Done t)
-unfolding more_states
+unfolding more_states more_rules more_families
 reads t is =
-    let begun : Table = record { header = t.header; states = []; rules = [] } in
-    reads_header t.header (map State t.states ++ (flat_map rule_items t.rules ++ End ∷ [])) is.header
-    ∙ reads_states begun t.states (flat_map rule_items t.rules ++ End ∷ [])
-    ∙ reads_all (record { header = t.header; states = t.states; rules = [] }) t.rules refl is.rules
+    let begun : Table = record { header = t.header; states = []; rules = []; families = [] } in
+    let families = flat_map family_items t.families ++ End ∷ [] in
+    let rules = flat_map rule_items t.rules ++ families in
+    reads_header t.header (map State t.states ++ rules) is.header
+    ∙ reads_states begun t.states rules
+    ∙ reads_rules (record begun { states = t.states }) t.rules families (closes_families t.families) is.rules
+    ∙ reads_ends (record begun { states = t.states; rules = t.rules }) t.families is.none_before

@@ -8,10 +8,10 @@ use Rattle.rule_table.specs.declared.header.Head.TheVariants as head
 use Rattle.rule_table.specs.declared.words.Word.{Word}
 use Rattle.rule_table.specs.declared.words.Word.TheVariants as word
 use Rattle.rule_table.specs.Header.{heads, row}
-use Rattle.rule_table.specs.Text.{Item, Number, Pool, State, Entry, Left, Right, Mask, Proof, Logged, Open, End, after_blanks, hex_of, instr_text, mask_text}
+use Rattle.rule_table.specs.Text.{Item, Number, Pool, State, Entry, Left, Right, Mask, Proof, Logged, Open, Family, End, after_blanks, hex_of, instr_text, mask_text}
 
 unfoldable pub words : List Word
-words = map word.Head heads ++ word.State ∷ word.Entry ∷ word.Right ∷ word.Mask ∷ word.Proof ∷ word.Open ∷ word.End ∷ []
+words = map word.Head heads ++ word.State ∷ word.Entry ∷ word.Right ∷ word.Mask ∷ word.Proof ∷ word.Open ∷ word.Family ∷ word.End ∷ []
 
 abbrev pub word_text : Word → List ℕ
 word_text (word.Head (head.Number field)) = (row field).word
@@ -22,6 +22,7 @@ word_text word.Right = codes "right "
 word_text word.Mask = codes "mask"
 word_text word.Proof = codes "proof"
 word_text word.Open = codes "open "
+word_text word.Family = codes "family"
 word_text word.End = codes "end"
 word_text word.Digit = []
 
@@ -78,6 +79,7 @@ tail_of (Mask m) = mask_text m
 tail_of Proof = []
 tail_of (Logged c) = text_of_line c
 tail_of (Open n) = decimal n
+tail_of (Family entry number low high) = after_blanks (map decimal (entry ∷ number ∷ low ∷ high ∷ []))
 tail_of End = []
 
 -- a left side's instructions stand behind the word of the header's number
@@ -92,4 +94,5 @@ word_of (Mask m) = word.Mask
 word_of Proof = word.Proof
 word_of (Logged c) = word.Digit
 word_of (Open n) = word.Open
+word_of (Family entry number low high) = word.Family
 word_of End = word.End

@@ -33,6 +33,10 @@ since line = 1
 abbrev pub has_line : ℕ → Head → Bool
 has_line version line = nat_le (since line) version
 
+-- whether a version has families
+abbrev pub has_families : ℕ → Bool
+has_families version = nat_le 3 version
+
 -- the lines from the first that a version has
 abbrev pub due_in : ℕ → List Head → List Head
 due_in version [] = []
@@ -70,7 +74,7 @@ pub record Row : Type 0 where
   pub greatest : ℕ
 
 abbrev pub row : Field → Row
-row Version = record { word = codes "peep "; least = 1; greatest = 2 }
+row Version = record { word = codes "peep "; least = 1; greatest = 3 }
 row Regs = record { word = codes "regs "; least = 1; greatest = 4 }
 row Left = record { word = codes "left "; least = 1; greatest = 5 }
 row Seed = record { word = codes "seed "; least = 0; greatest = 4294967295 }

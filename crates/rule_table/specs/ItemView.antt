@@ -3,7 +3,7 @@ use Rattle.lrat_check.specs.Content.{content_of}
 use Rattle.window_exec.specs.State.{seen}
 use Rattle.rule_table.specs.declared.item.Item.{Item as Code}
 use Rattle.rule_table.specs.declared.item.Item.TheVariants as code
-use Rattle.rule_table.specs.Text.{Item, Number, Pool, State, Entry, Left, Right, Mask, Proof, Logged, Open, End}
+use Rattle.rule_table.specs.Text.{Item, Number, Pool, State, Entry, Left, Right, Mask, Proof, Logged, Open, Family, End}
 
 abbrev pub item_of : Code → Item
 item_of (code.Number field n) = Number field n
@@ -16,4 +16,5 @@ item_of (code.Mask m) = Mask m.items.bits
 item_of code.Proof = Proof
 item_of (code.Logged l) = Logged (content_of l)
 item_of (code.Open n) = Open n
+item_of (code.Family entry number low high) = Family entry number low high
 item_of code.End = End

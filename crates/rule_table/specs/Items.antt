@@ -1,9 +1,10 @@
 -- Which lines there are, each by what it says.
-use Rattle.std.specs.Prelude.{◌≡◌, ◌<◌, ◌^◌, true}
+use Rattle.std.specs.Prelude.{◌≡◌, ◌<◌, ◌^◌, true, [], ◌∷◌}
+use Rattle.std.specs.List.{All}
 use Rattle.seq_enum.specs.Pools.{is_pool}
 use Rattle.lrat_check.specs.Text.{IsLine}
 use Rattle.rule_table.specs.Header.{IsWithin}
-use Rattle.rule_table.specs.Text.{Item, Number, Pool, State, Entry, Left, Right, Mask, Proof, Logged, Open, End}
+use Rattle.rule_table.specs.Text.{Item, Number, Pool, State, Entry, Left, Right, Mask, Proof, Logged, Open, Family, End}
 use Rattle.rule_table.specs.Valid.{IsState, IsInstr, IsMask}
 
 -- what a line says lies in its limits
@@ -18,4 +19,5 @@ IsItem (Mask m) = IsMask m
 IsItem Proof = Unit {0}
 IsItem (Logged c) = IsLine c
 IsItem (Open n) = n < 2 ^ 64
+IsItem (Family entry number low high) = All (λ n. n < 2 ^ 32) (entry ∷ number ∷ low ∷ high ∷ [])
 IsItem End = Unit {0}

@@ -18,7 +18,16 @@ pub record Rule : Type 0 where
   pub proof : List Content
   pub opens : List Opened
 
+-- the rule of the entry of this number, raised: this number of the pool, where it stands in 8 bits, has each value from the least to the greatest, by the proof
+pub record Family : Type 0 where
+  pub entry : ℕ
+  pub number : ℕ
+  pub low : ℕ
+  pub high : ℕ
+  pub proof : List Content
+
 pub record Table : Type 0 where
   pub header : Header
   pub states : List Seen
   pub rules : List Rule
+  pub families : List Family

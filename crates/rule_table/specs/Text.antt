@@ -12,7 +12,7 @@ use Rattle.rule_table.specs.declared.header.Field.{Field}
 use Rattle.rule_table.specs.declared.header.Head.{Head}
 use Rattle.rule_table.specs.declared.header.Head.TheVariants as head
 use Rattle.rule_table.specs.Header.{Header, heads, has_line, number_in, row}
-use Rattle.rule_table.specs.Table.{Opened, Rule, Table}
+use Rattle.rule_table.specs.Table.{Opened, Rule, Family as Raised, Table}
 
 -- a digit of a hexadecimal number, in lower case, and the last n digits of a number
 abbrev pub hex_digit : ℕ → ℕ
@@ -51,6 +51,7 @@ pub data Item : Type 0 where
   Proof : Item
   Logged : Content → Item
   Open : ℕ → Item
+  Family : (entry number low high : ℕ) → Item
   End : Item
 
 -- words with a blank before each
@@ -69,6 +70,7 @@ line_of (Mask m) = codes "mask" ++ mask_text m
 line_of Proof = codes "proof"
 line_of (Logged c) = text_of_line c
 line_of (Open n) = codes "open " ++ decimal n
+line_of (Family entry number low high) = codes "family" ++ after_blanks (map decimal (entry ∷ number ∷ low ∷ high ∷ []))
 line_of End = codes "end"
 
 -- lines, each with its newline
@@ -81,6 +83,9 @@ open_items o = Open o.number ∷ map Logged o.log
 
 abbrev pub rule_items : Rule → List Item
 rule_items r = Entry ∷ (map Left r.left ++ (map Right r.right ++ Mask r.mask ∷ Proof ∷ (map Logged r.proof ++ flat_map open_items r.opens)))
+
+abbrev pub family_items : Raised → List Item
+family_items f = Family f.entry f.number f.low f.high ∷ Proof ∷ map Logged f.proof
 
 -- what a line of a header says
 abbrev pub said : Header → Head → Item
@@ -96,7 +101,7 @@ header_items h = flat_map (line_items h) heads
 
 -- the lines of a table
 abbrev pub items_of : Table → List Item
-items_of t = header_items t.header ++ (map State t.states ++ (flat_map rule_items t.rules ++ End ∷ []))
+items_of t = header_items t.header ++ (map State t.states ++ (flat_map rule_items t.rules ++ (flat_map family_items t.families ++ End ∷ [])))
 
 abbrev pub text_of : Table → List ℕ
 text_of t = text_of_items (items_of t)

@@ -1,5 +1,5 @@
 -- Which tables have a text: the limits of its lines, and of how many there are of each kind.
-use Rattle.std.specs.Prelude.{◌≡◌, ℕ, ◌<◌, ◌≤◌, ◌^◌, true, List, length, map}
+use Rattle.std.specs.Prelude.{◌≡◌, ℕ, ◌<◌, ◌≤◌, ◌^◌, true, false, List, [], length, map}
 use Rattle.std.specs.List.{All}
 use Rattle.thumb_instr.specs.declared.instr.Instr.{Instr}
 use Rattle.thumb_instr.specs.Items.{has, is_in_masks}
@@ -8,8 +8,8 @@ use Rattle.thumb_instr.specs.Renaming.{named, AreBelow}
 use Rattle.seq_enum.specs.Lists.{ascends_from}
 use Rattle.lrat_check.specs.Text.{IsLine}
 use Rattle.window_exec.specs.Seen.{Seen}
-use Rattle.rule_table.specs.Header.{IsHeader}
-use Rattle.rule_table.specs.Table.{Opened, Rule, Table}
+use Rattle.rule_table.specs.Header.{IsHeader, has_families}
+use Rattle.rule_table.specs.Table.{Opened, Rule, Family, Table}
 
 -- four words, and the four flags
 pub record IsState (s : Seen) : Type 0 where
@@ -46,8 +46,18 @@ pub record IsRule (r : Rule) : Type 0 where
   pub opens : All IsOpened r.opens
   pub ascending : ascends_from 0 (numbers_of r.opens) ≡ true
 
--- the header is one, and so is each state and rule
+-- four numbers of 32 bits, with lines of a proof
+pub record IsFamily (f : Family) : Type 0 where
+  pub entry : f.entry < 2 ^ 32
+  pub number : f.number < 2 ^ 32
+  pub low : f.low < 2 ^ 32
+  pub high : f.high < 2 ^ 32
+  pub proof : All IsLine f.proof
+
+-- the header is one, and so is each state, rule and family, of which only later versions have any
 pub record IsTable (t : Table) : Type 0 where
   pub header : IsHeader t.header
   pub states : All IsState t.states
   pub rules : All IsRule t.rules
+  pub families : All IsFamily t.families
+  pub none_before : has_families t.header.version ≡ false → t.families ≡ []

@@ -6,9 +6,10 @@ use Rattle.rule_table.specs.declared.header.Header as heading
 use Rattle.rule_table.specs.declared.header.Row as line
 use Rattle.rule_table.specs.declared.table.Open as opening
 use Rattle.rule_table.specs.declared.table.Entry as entry
+use Rattle.rule_table.specs.declared.table.Family as raised
 use Rattle.rule_table.specs.declared.table.Table as code
 use Rattle.rule_table.specs.Header.{Header, Row}
-use Rattle.rule_table.specs.Table.{Opened, Rule, Table}
+use Rattle.rule_table.specs.Table.{Opened, Rule, Family, Table}
 
 abbrev pub row_of : line.Row → Row
 row_of r = record { word = r.word.now; least = r.least; greatest = r.greatest }
@@ -25,5 +26,8 @@ opened_of o = record { number = o.number; log = map content_of o.log.items }
 abbrev pub rule_of : entry.Entry → Rule
 rule_of e = record { left = e.left; right = e.right; mask = e.mask.items.bits; proof = map content_of e.proof.items; opens = map opened_of e.opens.items }
 
+abbrev pub family_of : raised.Family → Family
+family_of f = record { entry = f.entry; number = f.number; low = f.low; high = f.high; proof = map content_of f.proof.items }
+
 abbrev pub table_of : code.Table → Table
-table_of t = record { header = header_in t; states = map seen t.states; rules = map rule_of t.entries.items }
+table_of t = record { header = header_in t; states = map seen t.states; rules = map rule_of t.entries.items; families = map family_of t.families.items }

@@ -3,17 +3,17 @@ ghost use Rattle.std.specs.Prelude.{◌≡◌, ◌<◌, ◌∷◌, ◌++◌, [],
 ghost use Rattle.lrat_check.specs.Content.{content_of};
 ghost use Rattle.window_exec.specs.State.{seen};
 ghost use Rattle.rule_table.specs.Table.{Table as Held};
-ghost use Rattle.rule_table.specs.Views.{header_in, table_of, rule_of, opened_of};
+ghost use Rattle.rule_table.specs.Views.{header_in, table_of, rule_of, opened_of, family_of};
 ghost use Rattle.rule_table.specs.Items.{IsItem};
 ghost use Rattle.rule_table.specs.ItemView.{item_of};
 ghost use Rattle.rule_table.specs.Header.{blank, with_number, IsWithin};
 ghost use Rattle.rule_table.specs.StageView.{stage_of, goes};
-ghost use Rattle.rule_table.specs.Grammar.{step, heard, is_empty, with_state, with_rule, with_opened, Start, Heading as heading, Stated as stated, Sided as sided, Masked as masked, Proved as proved, Opening as opening, Done as done};
+ghost use Rattle.rule_table.specs.Grammar.{step, heard, is_empty, with_state, with_rule, with_opened, with_family, raising, Start, Heading as heading, Stated as stated, Sided as sided, Masked as masked, Proved as proved, Opening as opening, Raising as unshown, Shown as shown, Done as done};
 ghost use Rattle.rule_table.specs.declared.draft.Part.TheVariants as part;
 
-use crate::header::{Field, Head, due_in, heads, is_same};
+use crate::header::{Field, Head, due_in, has_families, heads, is_same};
 use crate::item::Item;
-use crate::table::{Entry, Open, Table};
+use crate::table::{Entry, Family, Open, Table};
 use seq_enum::Pool;
 use std::alloc::{AllocError, Global};
 use std::mem;
@@ -32,17 +32,22 @@ pub(crate) enum Part {
     Masked,
     Proved,
     Opening,
+    /// a family whose proof is due, and its proof
+    Raising,
+    Shown,
     /// all
     Done,
 }
 
-/// The table so far, the entry that is being read, and the number that it opened last. What a part doesn't have yet means nothing.
+/// The table so far, the entry that is being read, the number that it opened last, and the family that is being read. What a part doesn't
+/// have yet means nothing.
 #[derive(Drop)]
 pub(crate) struct Draft {
     part: Part,
     table: Table,
     entry: Entry,
     last: Open,
+    family: Family,
 }
 
 /// A table of which nothing was read.
@@ -63,6 +68,7 @@ fn blank(alloc: Global) -> Table
         scratch: 0,
         states: States::new(Vec::new(alloc)),
         entries: Vec::new(alloc),
+        families: Vec::new(alloc),
     }
 }
 
@@ -128,6 +134,19 @@ fn opened(alloc: Global, number: u64) -> Open
     }
 }
 
+/// A family without its proof.
+fn raised(alloc: Global, entry: u32, number: u32, low: u32, high: u32) -> Family
+    ensures { family_of result ≡ record { entry = entry; number = number; low = low; high = high; proof = [] } }
+{
+    Family {
+        entry,
+        number,
+        low,
+        high,
+        proof: Vec::new(alloc),
+    }
+}
+
 /// Whether there is no instruction.
 fn is_empty(instrs: &[Instr]) -> bool
     ensures { result ≡ is_empty instrs.now }
@@ -158,6 +177,7 @@ impl Draft {
             table: blank(alloc),
             entry: empty(alloc),
             last: opened(alloc, 0),
+            family: raised(alloc, 0, 0, 0, 0),
         }
     }
 
@@ -190,6 +210,27 @@ impl Draft {
         Ok(())
     }
 
+    /// Goes on to a new family; false where the version has none.
+    fn raise(&mut self, alloc: Global, entry: u32, number: u32, low: u32, high: u32) -> bool
+        ensures { goes result (stage_of self.new) ≡ raising (table_of self.old.table) entry number low high }
+    {
+        if !has_families(self.table.version) {
+            return false;
+        }
+        self.family = raised(alloc, entry, number, low, high);
+        self.part = Part::Raising;
+        true
+    }
+
+    /// Puts the family that was read behind the others.
+    fn keep_family(&mut self, alloc: Global) -> Result<(), AllocError>
+        ensures { OnOk result (table_of self.new.table ≡ with_family (table_of self.old.table) (family_of self.old.family)) }
+    {
+        let family = mem::replace(&mut self.family, raised(alloc, 0, 0, 0, 0));
+        self.table.families.push(family)?;
+        Ok(())
+    }
+
     /// Goes on by one line; false where it may not follow.
     #[tactic(auto, unfolding(crate::specs::Grammar::step))]
     pub(crate) fn take(&mut self, alloc: Global, item: Item) -> Result<bool, AllocError>
@@ -203,6 +244,8 @@ impl Draft {
             Part::Masked => Ok(self.take_masked(alloc, item)),
             Part::Proved => self.take_proved(alloc, item),
             Part::Opening => self.take_opening(alloc, item),
+            Part::Raising => Ok(self.take_raising(item)),
+            Part::Shown => self.take_shown(alloc, item),
             Part::Done => Ok(false),
         }
     }
@@ -223,6 +266,7 @@ impl Draft {
         if due.is_empty() {
             self.table.states = States::new(Vec::new(alloc));
             self.table.entries = Vec::new(alloc);
+            self.table.families = Vec::new(alloc);
             self.part = Part::Stated;
         } else {
             self.part = Part::Heading(due);
@@ -244,6 +288,12 @@ impl Draft {
                 self.begin();
                 Ok(true)
             }
+            Item::Family {
+                entry,
+                number,
+                low,
+                high,
+            } => Ok(self.raise(alloc, entry, number, low, high)),
             Item::End => {
                 self.part = Part::Done;
                 Ok(true)
@@ -323,6 +373,15 @@ impl Draft {
                 self.begin();
                 Ok(true)
             }
+            Item::Family {
+                entry,
+                number,
+                low,
+                high,
+            } => {
+                self.keep_entry(alloc)?;
+                Ok(self.raise(alloc, entry, number, low, high))
+            }
             Item::End => {
                 self.keep_entry(alloc)?;
                 self.part = Part::Done;
@@ -357,9 +416,61 @@ impl Draft {
                 self.begin();
                 Ok(true)
             }
+            Item::Family {
+                entry,
+                number,
+                low,
+                high,
+            } => {
+                self.keep_open(alloc)?;
+                self.keep_entry(alloc)?;
+                Ok(self.raise(alloc, entry, number, low, high))
+            }
             Item::End => {
                 self.keep_open(alloc)?;
                 self.keep_entry(alloc)?;
+                self.part = Part::Done;
+                Ok(true)
+            }
+            _ => Ok(false),
+        }
+    }
+
+    #[tactic(auto, unfolding(crate::specs::Grammar::step))]
+    fn take_raising(&mut self, item: Item) -> bool
+        requires { self.old.part ≡ part.Raising }
+        ensures { goes result (stage_of self.new) ≡ step (unshown (table_of self.old.table) (family_of self.old.family)) (item_of item) }
+    {
+        match item {
+            Item::Proof => {
+                self.part = Part::Shown;
+                true
+            }
+            _ => false,
+        }
+    }
+
+    #[tactic(auto, unfolding(crate::specs::Grammar::step))]
+    fn take_shown(&mut self, alloc: Global, item: Item) -> Result<bool, AllocError>
+        requires { self.old.part ≡ part.Shown }
+        ensures { IfOk result (λ b. goes b (stage_of self.new) ≡ step (shown (table_of self.old.table) (family_of self.old.family)) (item_of item)) }
+    {
+        match item {
+            Item::Logged(line) => {
+                self.family.proof.push(line)?;
+                Ok(true)
+            }
+            Item::Family {
+                entry,
+                number,
+                low,
+                high,
+            } => {
+                self.keep_family(alloc)?;
+                Ok(self.raise(alloc, entry, number, low, high))
+            }
+            Item::End => {
+                self.keep_family(alloc)?;
                 self.part = Part::Done;
                 Ok(true)
             }

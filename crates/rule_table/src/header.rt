@@ -1,12 +1,12 @@
 //! The header of a table, and its lines. What they begin with and which numbers they may have stands in rows, by which they are read and
 //! written: a further line is a row more, with the first version that has it.
 ghost use Rattle.std.specs.Prelude.{◌≡◌};
-ghost use Rattle.rule_table.specs.Header.{due_in, has_line, heads, is_same, row, since};
+ghost use Rattle.rule_table.specs.Header.{due_in, has_families, has_line, heads, is_same, row, since};
 ghost use Rattle.rule_table.specs.Views.{row_of};
 
 use seq_enum::Pool;
 
-/// What the first lines of a table say: its version (1 or 2), how many registers (1 to 4) and instructions (1 to 5) left sides have at most,
+/// What the first lines of a table say: its version (1 to 3), how many registers (1 to 4) and instructions (1 to 5) left sides have at most,
 /// the seed of the first states, how many clauses a query may learn (1 to 1,000,000), the pool of the alphabet's numbers, and how many
 /// registers a right side may name that its left side doesn't (0 or 1; 0 in version 1).
 #[derive(Drop)]
@@ -79,6 +79,13 @@ pub(crate) fn has_line(version: u8, line: Head) -> bool
     since(line) <= version
 }
 
+/// Whether a version has families.
+pub(crate) fn has_families(version: u8) -> bool
+    ensures { result ≡ has_families version }
+{
+    3 <= version
+}
+
 /// The lines from the first that a version has.
 pub(crate) fn due_in(version: u8, lines: &'static [Head]) -> &'static [Head]
     ensures { result.now ≡ due_in version lines.entry.now }
@@ -121,7 +128,7 @@ impl Row {
         ensures { row_of result ≡ row field }
     {
         match field {
-            Field::Version => Row::new(b"peep ", 1, 2),
+            Field::Version => Row::new(b"peep ", 1, 3),
             Field::Regs => Row::new(b"regs ", 1, 4),
             Field::Left => Row::new(b"left ", 1, 5),
             Field::Seed => Row::new(b"seed ", 0, u32::MAX),

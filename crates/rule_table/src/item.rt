@@ -18,5 +18,11 @@ pub(crate) enum Item {
     Proof,
     Logged(Line),
     Open(u64),
+    Family {
+        entry: u32,
+        number: u32,
+        low: u32,
+        high: u32,
+    },
     End,
 }

@@ -2,7 +2,7 @@
 //! zeros, instructions in canonical text over r0 to r3.
 //!
 //! ```text
-//! peep N                   the version, 1 or 2
+//! peep N                   the version, 1 to 3
 //! regs N                   1 to 4
 //! left N                   1 to 5
 //! seed N                   below 2^32
@@ -16,6 +16,9 @@
 //! mask ITEM ..             some of r0 r1 r2 r3 n z c v, in this order
 //! proof                    with lines in LRAT behind it
 //! open NUMBER              any number of them, each number above the one before, with lines in LRAT behind each
+//! family ENTRY NUMBER LOW HIGH
+//!                          any number of families, from version 3 on: each this line, of four numbers below 2^32, and
+//! proof                    with lines in LRAT behind it
 //! end
 //! ```
 #![tactic(auto)]
@@ -45,6 +48,6 @@ pub use map::Map;
 pub use matching::matches;
 pub use reading::read_table;
 pub use scratch::free_scratch;
-pub use table::{Entry, Open, Table};
+pub use table::{Entry, Family, Open, Table};
 pub use windows::canonical;
 pub use writing::write_table;

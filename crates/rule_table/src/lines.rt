@@ -122,6 +122,33 @@ fn write_numbers(out: &mut Vec<u8>, numbers: &[u8]) -> Result<(), AllocError>
     Ok(())
 }
 
+/// The line of a family: the entry, the number of the pool, its least and its greatest value.
+pub(crate) fn write_family_line(
+    out: &mut Vec<u8>,
+    entry: u32,
+    number: u32,
+    low: u32,
+    high: u32,
+) -> Result<(), AllocError>
+    ensures { OnOk result (out.new.items ≡ out.old.items ++ (line_of (item.Family entry number low high) ++ 10 ∷ [])) }
+{
+    out.extend_from_slice(b"family")?;
+    write_behind_blank(out, entry)?;
+    write_behind_blank(out, number)?;
+    write_behind_blank(out, low)?;
+    write_behind_blank(out, high)?;
+    out.push(b'\n')?;
+    Ok(())
+}
+
+/// A number behind a blank.
+fn write_behind_blank(out: &mut Vec<u8>, number: u32) -> Result<(), AllocError>
+    ensures { OnOk result (out.new.items ≡ out.old.items ++ 32 ∷ decimal number) }
+{
+    out.push(b' ')?;
+    write_decimal(out, u64::from(number))
+}
+
 /// A mask.
 pub(crate) fn write_mask(out: &mut Vec<u8>, mask: Mask) -> Result<(), AllocError>
     ensures { OnOk result (out.new.items ≡ out.old.items ++ (line_of (item.Mask mask.items.bits) ++ 10 ∷ [])) }

@@ -74,6 +74,19 @@ pub(crate) fn bytes_of(words: &[&[u8]]) -> Option<ArrayVec<u8, 16>>
     Some(bytes)
 }
 
+/// The number of the first word, of 32 bits, and the words behind it.
+pub(crate) fn first_number<'a, 'b>(words: &'b [&'a [u8]]) -> Option<(u32, &'b [&'a [u8]])>
+    ensures { MatchOption result ((n : ℕ) (ns : List ℕ) → n < 2 ^ 32 → map decimal (n ∷ ns) ≡ all_now words.entry.now → ⊥) (λ p. decimal p.0 ∷ all_now p.1.now ≡ all_now words.entry.now) }
+{
+    let Some((first, rest)) = words.split_first() else {
+        return None;
+    };
+    match number_within(first, 0, u64::from(u32::MAX)) {
+        None => None,
+        Some(number) => Some((number as u32, rest)),
+    }
+}
+
 /// The value of a hexadecimal digit, in lower case.
 fn digit(byte: u8) -> Option<u32>
     ensures value { result ≡ digit_value byte }

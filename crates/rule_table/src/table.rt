@@ -1,7 +1,7 @@
 //! A table as its text has it. Nothing here says that it is true: that is the audit's work.
 ghost use Rattle.std.specs.Prelude.{◌≡◌, map};
 ghost use Rattle.window_exec.specs.State.{seen};
-ghost use Rattle.rule_table.specs.Views.{header_of, rule_of, table_of};
+ghost use Rattle.rule_table.specs.Views.{family_of, header_of, rule_of, table_of};
 
 use crate::header::Header;
 use lrat_check::Line;
@@ -27,7 +27,22 @@ pub struct Entry {
     pub proof: Vec<Line>,
 }
 
-/// A table: what its header says, states and entries.
+/// An entry raised: a number of the pool, where it stands in 8 bits, has each value of a range.
+#[derive(Drop)]
+pub struct Family {
+    /// The entry, counted from 1.
+    pub entry: u32,
+    /// The number of the pool.
+    pub number: u32,
+    /// The least value.
+    pub low: u32,
+    /// The greatest value.
+    pub high: u32,
+    /// The proof that the sides are equal under the mask for each value.
+    pub proof: Vec<Line>,
+}
+
+/// A table: what its header says, states, entries and families.
 #[derive(Drop)]
 pub struct Table {
     pub version: u8,
@@ -39,12 +54,14 @@ pub struct Table {
     pub scratch: u8,
     pub states: States,
     pub entries: Vec<Entry>,
+    /// None before version 3.
+    pub families: Vec<Family>,
 }
 
 impl Table {
     /// The table with a header.
-    pub fn new(header: Header, states: States, entries: Vec<Entry>) -> Table
-        ensures { table_of result ≡ record { header = header_of header; states = map seen states; rules = map rule_of entries.items } }
+    pub fn new(header: Header, states: States, entries: Vec<Entry>, families: Vec<Family>) -> Table
+        ensures { table_of result ≡ record { header = header_of header; states = map seen states; rules = map rule_of entries.items; families = map family_of families.items } }
     {
         Table {
             version: header.version,
@@ -56,12 +73,13 @@ impl Table {
             scratch: header.scratch,
             states,
             entries,
+            families,
         }
     }
 
-    /// Its header, states and entries.
-    pub fn into_parts(self) -> (Header, States, Vec<Entry>)
-        ensures { table_of self ≡ record { header = header_of result.0; states = map seen result.1; rules = map rule_of result.2.items } }
+    /// Its header, states, entries and families.
+    pub fn into_parts(self) -> (Header, States, Vec<Entry>, Vec<Family>)
+        ensures { table_of self ≡ record { header = header_of result.0; states = map seen result.1; rules = map rule_of result.2.items; families = map family_of result.3.items } }
     {
         let header = Header {
             version: self.version,
@@ -72,6 +90,6 @@ impl Table {
             pool: self.pool,
             scratch: self.scratch,
         };
-        (header, self.states, self.entries)
+        (header, self.states, self.entries, self.families)
     }
 }

@@ -6,12 +6,14 @@ ghost use Rattle.thumb_instr.specs.declared.instr.Instr.{Instr};
 ghost use Rattle.seq_enum.specs.Pools.{is_pool};
 ghost use Rattle.window_exec.specs.State.{seen};
 ghost use Rattle.window_exec.specs.Seen.{Seen};
-ghost use Rattle.rule_table.specs.Text.{after_blanks, instr_text, mask_rows, mask_text, State};
+ghost use Rattle.rule_table.specs.Text.{after_blanks, instr_text, mask_rows, mask_text, State, Family};
 ghost use Rattle.rule_table.specs.Valid.{IsState, IsInstr, IsMask};
+ghost use Rattle.rule_table.specs.Items.{IsItem};
+ghost use Rattle.lrat_check.specs.Reading.{all_now};
 ghost use Rattle.rule_table.specs.Fronts.{strip, is_taken, left_of, taken, tail_of};
 ghost use Rattle.rule_table.specs.MaskView.{row_of};
 
-use crate::numbers::{blank_digit, blank_words, bytes_of, words_in};
+use crate::numbers::{blank_digit, blank_words, bytes_of, first_number, words_in};
 use crate::words::strip;
 use seq_enum::Pool;
 use std::alloc::{AllocError, Global};
@@ -53,6 +55,59 @@ pub(crate) fn state(tail: &[u8]) -> Option<WState>
             nzcv,
         }),
     }
+}
+
+/// The numbers of a family: the entry, the number of the pool, its least and its greatest value.
+#[derive(Clone, Copy)]
+pub(crate) struct Raised {
+    pub(crate) entry: u32,
+    pub(crate) number: u32,
+    pub(crate) low: u32,
+    pub(crate) high: u32,
+}
+
+/// The numbers of a family, where these are the words.
+fn raised_of(words: &[&[u8]]) -> Option<Raised>
+    ensures { MatchOption result ((entry number low high : ℕ) → IsItem (Family entry number low high) → map decimal (entry ∷ number ∷ low ∷ high ∷ []) ≡ all_now words.entry.now → ⊥)
+        (λ r. IsItem (Family r.entry r.number r.low r.high) × (map decimal (r.entry ∷ r.number ∷ r.low ∷ r.high ∷ []) ≡ all_now words.entry.now)) }
+{
+    let Some((entry, rest)) = first_number(words) else {
+        return None;
+    };
+    let Some((number, rest)) = first_number(rest) else {
+        return None;
+    };
+    let Some((low, rest)) = first_number(rest) else {
+        return None;
+    };
+    let Some((high, rest)) = first_number(rest) else {
+        return None;
+    };
+    if rest.is_empty() {
+        Some(Raised {
+            entry,
+            number,
+            low,
+            high,
+        })
+    } else {
+        None
+    }
+}
+
+/// The numbers of a family, each behind a blank.
+pub(crate) fn family(alloc: Global, tail: &[u8]) -> Result<Option<Raised>, AllocError>
+    ensures { IfOk result (λ r. MatchOption r ((entry number low high : ℕ) → IsItem (Family entry number low high) → tail_of (Family entry number low high) ≡ tail.now → ⊥)
+        (λ r. IsItem (Family r.entry r.number r.low r.high) × (tail_of (Family r.entry r.number r.low r.high) ≡ tail.now))) }
+{
+    let Some((first, rest)) = tail.split_first() else {
+        return Ok(None);
+    };
+    if *first != b' ' {
+        return Ok(None);
+    }
+    let words = words_in(alloc, rest)?;
+    Ok(raised_of(&words))
 }
 
 /// An item of masks, as it is written.

@@ -7,7 +7,7 @@ ghost use Rattle.rule_table.specs.declared.words.Word.TheVariants as word;
 use crate::header::{Field, Head, Row};
 use crate::item::Item;
 use crate::numbers::{number, number_within};
-use crate::tails::{instruction, mask, pool, state};
+use crate::tails::{family, instruction, mask, pool, state};
 use crate::words::{Word, front};
 use lrat_check::read_line;
 use std::alloc::{AllocError, Global};
@@ -90,6 +90,20 @@ fn open(tail: &[u8]) -> Option<Item>
     }
 }
 
+fn family_line(alloc: Global, tail: &[u8]) -> Result<Option<Item>, AllocError>
+    ensures { IfOk result (Tells word.Family tail.now) }
+{
+    match family(alloc, tail)? {
+        None => Ok(None),
+        Some(raised) => Ok(Some(Item::Family {
+            entry: raised.entry,
+            number: raised.number,
+            low: raised.low,
+            high: raised.high,
+        })),
+    }
+}
+
 /// What a word says with what stands behind it.
 fn told(alloc: Global, word: Word, tail: &[u8]) -> Result<Option<Item>, AllocError>
     ensures { IfOk result (Tells word tail.now) }
@@ -103,6 +117,7 @@ fn told(alloc: Global, word: Word, tail: &[u8]) -> Result<Option<Item>, AllocErr
         Word::Mask => Ok(mask_line(tail)),
         Word::Proof => Ok(alone(tail, Item::Proof)),
         Word::Open => Ok(open(tail)),
+        Word::Family => family_line(alloc, tail),
         Word::End => Ok(alone(tail, Item::End)),
         Word::Digit => logged(alloc, tail),
     }

@@ -14,12 +14,13 @@ pub(crate) enum Word {
     Mask,
     Proof,
     Open,
+    Family,
     End,
     Digit,
 }
 
 /// All words but the digits.
-static WORDS: [Word; 14] = [
+static WORDS: [Word; 15] = [
     Word::Head(Head::Number(Field::Version)),
     Word::Head(Head::Number(Field::Regs)),
     Word::Head(Head::Number(Field::Left)),
@@ -33,6 +34,7 @@ static WORDS: [Word; 14] = [
     Word::Mask,
     Word::Proof,
     Word::Open,
+    Word::Family,
     Word::End,
 ];
 
@@ -56,6 +58,7 @@ fn word_text(word: Word) -> &'static [u8]
         Word::Mask => b"mask",
         Word::Proof => b"proof",
         Word::Open => b"open ",
+        Word::Family => b"family",
         Word::End => b"end",
         Word::Digit => b"",
     }

@@ -3,16 +3,17 @@ ghost use Rattle.std.specs.Prelude.{◌≡◌, ◌++◌, ◌∷◌, [], codes, O
 ghost use Rattle.std.specs.List.{flat_map};
 ghost use Rattle.lrat_check.specs.Content.{content_of};
 ghost use Rattle.window_exec.specs.State.{seen};
-ghost use Rattle.rule_table.specs.Text.{text_of_items, text_of, line_items, header_items, rule_items, open_items};
+ghost use Rattle.rule_table.specs.Text.{text_of_items, text_of, line_items, header_items, rule_items, open_items, family_items};
 ghost use Rattle.rule_table.specs.Text as item;
-ghost use Rattle.rule_table.specs.Views.{header_in, table_of, rule_of, opened_of};
+ghost use Rattle.rule_table.specs.Views.{header_in, table_of, rule_of, opened_of, family_of};
 ghost use Rattle.rule_table.specs.Header.{number_in};
 
 use crate::header::{Field, Head, Row, has_line, heads};
 use crate::lines::{
-    write_instruction, write_logged, write_mask, write_number, write_pool, write_state,
+    write_family_line, write_instruction, write_logged, write_mask, write_number, write_pool,
+    write_state,
 };
-use crate::table::{Entry, Open, Table};
+use crate::table::{Entry, Family, Open, Table};
 use lrat_check::Line;
 use std::alloc::{AllocError, Global};
 use thumb_instr::Instr;
@@ -26,6 +27,7 @@ pub fn write_table(alloc: Global, table: &Table) -> Result<Vec<u8>, AllocError>
     write_header(&mut out, table)?;
     write_states(&mut out, table.states.as_slice())?;
     write_entries(alloc, &mut out, &table.entries)?;
+    write_families(alloc, &mut out, &table.families)?;
     out.extend_from_slice(b"end\n")?;
     Ok(out)
 }
@@ -98,6 +100,23 @@ fn write_entry(alloc: Global, out: &mut Vec<u8>, entry: &Entry) -> Result<(), Al
     out.extend_from_slice(b"proof\n")?;
     write_log(alloc, out, &entry.proof)?;
     write_opens(alloc, out, &entry.opens)
+}
+
+fn write_families(alloc: Global, out: &mut Vec<u8>, families: &[Family]) -> Result<(), AllocError>
+    ensures { OnOk result (out.new.items ≡ out.old.items ++ text_of_items (flat_map family_items (map family_of families.entry.now))) }
+{
+    for family in families {
+        write_family(alloc, out, family)?;
+    }
+    Ok(())
+}
+
+fn write_family(alloc: Global, out: &mut Vec<u8>, family: &Family) -> Result<(), AllocError>
+    ensures { OnOk result (out.new.items ≡ out.old.items ++ text_of_items (family_items (family_of family.entry.now))) }
+{
+    write_family_line(out, family.entry, family.number, family.low, family.high)?;
+    out.extend_from_slice(b"proof\n")?;
+    write_log(alloc, out, &family.proof)
 }
 
 fn write_left(alloc: Global, out: &mut Vec<u8>, instrs: &[Instr]) -> Result<(), AllocError>

@@ -1,11 +1,12 @@
 -- The audit of a table has one answer.
-use Rattle.std.proofs.Common.{ℕ, ◌≡◌, Option, Result, IfErr}
-use Rattle.rule_table.specs.Table.{Rule, Table}
+use Rattle.std.proofs.Common.{ℕ, ◌≡◌, Option, Some, None, Result, IfErr, sym, ◌∙◌}
+use Rattle.rule_table.specs.Table.{Rule, Family, Table}
 use Rattle.proof_logs.specs.Verdicts.{Answers}
 use Rattle.proof_logs.proofs.Determined.{IsOne, tests_one, then_one, turn_one, proof_one, passing_answers}
 use Rattle.table_audit.specs.declared.errors.AuditError.{AuditError}
 use Rattle.table_audit.specs.declared.errors.AuditError.TheVariants.{Memory}
-use Rattle.table_audit.specs.Acceptance.{StateTest, StatesVerdict, WideVerdict, SidesVerdict, EntryProofVerdict, ToldTest, ToldVerdict, OpenTest, OpensVerdict, EntryVerdict, EntriesVerdict, TableVerdict, IsAccepted}
+use Rattle.table_audit.specs.Acceptance.{StateTest, StatesVerdict, WideVerdict, SidesVerdict, EntryProofVerdict, ToldTest, ToldVerdict, OpenTest, OpensVerdict, EntryVerdict, SymbolVerdict, FamilyProofVerdict, RaisedVerdict, FamilyVerdict, EntriesVerdict, FamiliesVerdict, TableVerdict, IsAccepted}
+use Rattle.table_audit.specs.Families.{entry_of}
 
 entry_one : (t : Table) (n : ℕ) (e : Rule) → IsOne (EntryVerdict t n e)
 unfolding EntryVerdict
@@ -14,10 +15,20 @@ entry_one t n e =
     let opens = turn_one (OpenTest t n e) 0 e.opens (λ i o. tests_one _ _) in
     then_one (SidesVerdict t n e) _ (tests_one _ _) (then_one (EntryProofVerdict t n e) _ (proof_one _ _ _ _) (then_one (ToldVerdict t n e) (OpensVerdict t n e) told opens))
 
+raised_one : (t : Table) (n : ℕ) (f : Family) (e : Option Rule) → IsOne (RaisedVerdict t n f e)
+raised_one t n f None = record { same = λ a b p q. p ∙ sym q }
+raised_one t n f (Some e) = then_one (SymbolVerdict t n f e) (FamilyProofVerdict t n f e) (tests_one _ _) (proof_one _ _ _ _)
+
+family_one : (t : Table) (n : ℕ) (f : Family) → IsOne (FamilyVerdict t n f)
+unfolding FamilyVerdict
+family_one t n f = raised_one t n f (entry_of t f)
+
 table_one : (t : Table) → IsOne (TableVerdict t)
 table_one t =
+    let entries = turn_one (EntryVerdict t) 1 t.rules (λ n e. entry_one t n e) in
+    let families = turn_one (FamilyVerdict t) 1 t.families (λ n f. family_one t n f) in
     then_one (StatesVerdict t) _ (turn_one (StateTest t) 0 _ (λ n s. tests_one _ _))
-    (then_one (WideVerdict t) (EntriesVerdict t) (tests_one _ _) (turn_one (EntryVerdict t) 1 t.rules (λ n e. entry_one t n e)))
+    (then_one (WideVerdict t) _ (tests_one _ _) (then_one (EntriesVerdict t) (FamiliesVerdict t) entries families))
 
 pub table_same : (t : Table) (a b : Option AuditError) → TableVerdict t a → TableVerdict t b → a ≡ b
 table_same t a b p q = (table_one t).same a b p q

@@ -4,6 +4,7 @@ pub mod Tellings
 pub mod Appearing
 pub mod Fitting
 pub mod Answering
+pub mod Raising
 pub mod Counting
 pub mod Upcoming
 pub mod Walking
@@ -14,3 +15,4 @@ pub mod Determined
 pub mod OneToOne
 pub mod CanonicalForms
 pub mod Settling
+pub mod Growing

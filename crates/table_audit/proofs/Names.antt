@@ -19,7 +19,7 @@ use Rattle.table_audit.proofs.Appearing.{has_low}
 eqb_turned : (a b : ℕ) → (a == b) ≡ (b == a)
 eqb_turned a b = grind arith
 
-one_of_has : (x : ℕ) (xs : List ℕ) → one_of x xs ≡ has xs x
+pub one_of_has : (x : ℕ) (xs : List ℕ) → one_of x xs ≡ has xs x
 one_of_has x [] = refl
 one_of_has x (y ∷ ys) = rw (eqb_turned x y, one_of_has x ys) refl
 

@@ -1,5 +1,5 @@
--- An accepted table's rules are sound and shortest, and what they name open is rightly so.
-use Rattle.std.proofs.Common.{◌≡◌, ℕ, ◌+◌, ◌-◌, ◌^◌, ◌<◌, ◌≤◌, ◌⊎◌, ◌==◌, ◌&&◌, inl, inr, true, false, List, Option, Some, None, slice_get, get_or, length, refl, sym, ◌∙◌, subst, arith, All, nat_lt, nat_le, zero-add}
+-- An accepted table's rules are sound and shortest, what they name open is rightly so, and its families hold for each of their values.
+use Rattle.std.proofs.Common.{◌≡◌, ℕ, ◌+◌, ◌-◌, ◌^◌, ◌<◌, ◌≤◌, ◌⊎◌, ◌==◌, ◌&&◌, inl, inr, true, false, List, Option, Some, None, slice_get, get_or, length, map, refl, sym, ◌∙◌, subst, arith, All, nat_lt, nat_le, zero-add}
 use Rattle.std.specs.Option.{option_map}
 use Rattle.std.proofs.lemmas.Nat.Bits.{bit_at-lt}
 use Rattle.std.proofs.lemmas.List.{get_or_past}
@@ -13,23 +13,31 @@ use Rattle.rule_model.specs.Rules.{IsSoundRule, rule_registers}
 use Rattle.rule_model.specs.Rules as model
 use Rattle.rule_model.proofs.Alone.{alone_sound, count_over}
 use Rattle.window_exec.specs.Seen.{Seen}
-use Rattle.bit_blast.specs.Exactness.{IsMask, HasNoModel, AreEqual}
+use Rattle.bit_blast.specs.Slots.{filled, instance}
+use Rattle.bit_blast.specs.Exactness.{IsMask, HasNoModel, AreEqual, AreEqualForAll}
 use Rattle.bit_blast.proofs.Exact.{no_model_is_equal}
+use Rattle.bit_blast.proofs.Families.{no_model_is_equal_for_all}
+use Rattle.bit_blast.proofs.Holes.{side_itself}
 use Rattle.rule_table.specs.declared.header.Field.TheVariants.{Scratch}
-use Rattle.rule_table.specs.Table.{Rule, Table}
+use Rattle.rule_table.specs.Header.{Header}
+use Rattle.rule_table.specs.Table.{Rule, Family, Table}
 use Rattle.rule_table.specs.Valid.{IsState, IsRule, IsTable}
 use Rattle.proof_logs.proofs.Turns.{turn_each}
 use Rattle.proof_logs.proofs.Sound.{proved_unsatisfied}
 use Rattle.table_audit.specs.declared.errors.EntryFault.TheVariants.{Proof, Unfinished}
 use Rattle.table_audit.specs.declared.errors.AuditError.TheVariants.{Entry}
+use Rattle.table_audit.specs.declared.errors.AuditError.TheVariants as error
+use Rattle.table_audit.specs.declared.errors.FamilyKind.TheVariants as family
 use Rattle.table_audit.specs.Sides.{named_count, alphabet_registers, SidesFit, formula_of}
 use Rattle.table_audit.specs.Canonical.{HasFormula}
 use Rattle.table_audit.specs.Shorter.{shorter, IsBelow, values_in, IsTold}
 use Rattle.table_audit.specs.Shorter.{is_named as is_open}
-use Rattle.table_audit.specs.Acceptance.{EntryVerdict, EntryProofVerdict, ToldTest, ToldVerdict, OpenTest, OpensVerdict, IsAccepted}
-use Rattle.table_audit.specs.Soundness.{items_in, rewriting_rule, rules_of, IsShortest, IsSound}
+use Rattle.table_audit.specs.Acceptance.{EntryVerdict, EntryProofVerdict, ToldTest, ToldVerdict, OpenTest, OpensVerdict, FamilyProofVerdict, RaisedVerdict, FamilyVerdict, IsAccepted}
+use Rattle.table_audit.specs.Families.{entry_of, symbol_of, IsRaisable, raised_formula, AreEqualWithEach, NoneIsShorter}
+use Rattle.table_audit.specs.Soundness.{items_in, rewriting_rule, rules_of, IsShortest, IsSoundFamily, IsSound}
 use Rattle.table_audit.proofs.Numbering.{below_from}
 use Rattle.table_audit.proofs.Fitting.{formula_fits, ordered_of}
+use Rattle.table_audit.proofs.Raising.{entry_stands, verdict_raised}
 use Rattle.table_audit.proofs.Walking.{over_more, mask_more, own_within, counted_over}
 use Rattle.table_audit.proofs.Names.{count_same, all_named, has_one, one_has, of_four}
 
@@ -134,6 +142,27 @@ shortest_rule t n e valid rule sides told = record { no_longer = sides.no_longer
           | inr tells ↦ told_differs t.states e.left seq e.mask valid.states rule.mask tells same
         ]
 
+-- ---- one family ----
+
+-- both sides leave the same with each value
+equal_with_each : (t : Table) (n : ℕ) (f : Family) (e : Rule) → HasFormula t.header e → IsMask e.mask → IsRaisable t.header.pool f e.left → FamilyProofVerdict t n f e None → AreEqualWithEach f e (items_in e.mask)
+equal_with_each t n f e fits masks raisable p x within v words i h =
+    let none : HasNoModel (raised_formula t.header f e) = proved_unsatisfied (λ line. error.Family n (family.Proof line)) (error.Family n family.Unfinished) (raised_formula t.header f e).clauses f.proof p in
+    let own = named_count e.left in
+    let registers = alphabet_registers t.header e.left in
+    let wider : own ≤ registers = own_within t.header e.left fits.canonical in
+    let small : f.low < 256 = omega (arith, raisable.from, raisable.to, raisable.bytes) in
+    let same : AreEqualForAll e.left e.right (symbol_of f) e.mask =
+    (no_model_is_equal_for_all e.left e.right (symbol_of f) e.mask registers small (over_more own registers e.left wider fits.left) fits.right masks (mask_more own registers e.mask wider fits.mask)).0 none in
+    same x within v words i (has_one e.mask i h).0
+
+-- with the family's own number the left side is itself
+none_is_shorter : (h : Header) (pool : List ℕ) (f : Family) (e : Rule) → IsRaisable pool f e.left → IsShortest h e → NoneIsShorter h f e (items_in e.mask)
+none_is_shorter h pool f e raisable shortest n is number other below unnamed same =
+    let itself : instance f.number e.left n ≡ e.left = subst (λ m. instance m e.left n ≡ e.left) is (side_itself n e.left) in
+    let equal = same n (omega (arith, raisable.from, is), omega (arith, raisable.to, is)) in
+    shortest.least number (map (filled n) other) below unnamed (subst (λ left. Equal left (map (filled n) other) (items_in e.mask)) itself equal)
+
 -- ---- the table ----
 
 -- what is known of an entry of an accepted table
@@ -147,7 +176,7 @@ record IsPassed (t : Table) (n : ℕ) (e : Rule) : Type 0 where
 passed : (t : Table) (i : ℕ) (e : Rule) → IsTable t → IsAccepted t → slice_get t.rules i ≡ Some e → IsPassed t (1 + i) e
 unfolding EntryVerdict
 passed t i e valid p at =
-    let here = turn_each (EntryVerdict t) 1 t.rules i e p.1.1 at in
+    let here = turn_each (EntryVerdict t) 1 t.rules i e p.1.1.0 at in
     let rule : IsRule e = subst IsRule (get_or_from_slice_get t.rules i e e at) (valid.rules i e (slice_get_within t.rules i e at)) in
     record { rule = rule; sides = here.0; proof = here.1.0; told = here.1.1.0; opens = here.1.1.1 }
 
@@ -159,6 +188,36 @@ rule_at {P} t k rule at next = go (slice_get t.rules k) refl (sym (slice_get-map
     go None e h = absurd (cc)
     go (Some x) e h = next x e (same_Some _ _ h)
 
+-- what is known of a family of an accepted table
+record IsRaised (t : Table) (n : ℕ) (f : Family) : Type 0 where
+  place : ℕ
+  entry : Rule
+  is_entry : entry_of t f ≡ Some entry
+  stands : slice_get t.rules place ≡ Some entry
+  raisable : IsRaisable t.header.pool f entry.left
+  proof : FamilyProofVerdict t n f entry None
+
+raised : (t : Table) (k : ℕ) (f : Family) → IsAccepted t → slice_get t.families k ≡ Some f → IsRaised t (1 + k) f
+raised t k f p at =
+    let here = turn_each (FamilyVerdict t) 1 t.families k f p.1.1.1 at in
+    go (entry_of t f) refl (verdict_raised t (1 + k) f (entry_of t f) None refl here)
+  where
+    go : (o : Option Rule) → entry_of t f ≡ o → RaisedVerdict t (1 + k) f o None → IsRaised t (1 + k) f
+    go None e h = absurd (cc)
+    go (Some x) e h = entry_stands t.rules f.entry x e (λ i there. record { place = i; entry = x; is_entry = e; stands = there; raisable = h.0; proof = h.1 })
+
+sound_family : (t : Table) (k : ℕ) (f : Family) → IsTable t → IsAccepted t → slice_get t.families k ≡ Some f → IsSoundFamily t f
+sound_family t k f valid p at =
+    let r = raised t k f p at in
+    let q = passed t r.place r.entry valid p r.stands in
+    record {
+      entry = r.entry;
+      is_entry = r.is_entry;
+      raisable = r.raisable;
+      equal = equal_with_each t (1 + k) f r.entry (formula_fits t r.entry q.sides) q.rule.mask r.raisable r.proof;
+      least = none_is_shorter t.header t.header.pool f r.entry r.raisable (shortest_rule t (1 + r.place) r.entry valid q.rule q.sides q.told);
+    }
+
 pub accepted_sound : (t : Table) → IsTable t → IsAccepted t → IsSound t
 accepted_sound t valid p = record {
   sound = alone_sound (rules_of t) (λ k rule at. rule_at t k rule at (λ e there is.
@@ -168,4 +227,5 @@ accepted_sound t valid p = record {
   opens = λ k e there i o at.
       let q = passed t k e valid p there in
       turn_each (OpenTest t (1 + k) e) 0 e.opens i o q.opens at;
+  families = λ k f at. sound_family t k f valid p at;
 }

@@ -4,15 +4,18 @@ use Rattle.thumb_instr.specs.declared.instr.Instr.{Instr}
 use Rattle.clause_model.specs.Literals.{codes_of}
 use Rattle.window_exec.specs.Seen.{Seen}
 use Rattle.fingerprints.specs.Seeded.{seeded_states}
-use Rattle.rule_table.specs.Table.{Opened, Rule, Table}
+use Rattle.rule_table.specs.Table.{Opened, Rule, Family, Table}
 use Rattle.proof_logs.specs.Verdicts.{Tests, Then, InTurn}
 use Rattle.proof_logs.specs.Proofs.{ProofVerdict}
 use Rattle.proof_logs.specs.Logs.{IsSpentLog}
 use Rattle.table_audit.specs.declared.errors.EntryFault.TheVariants.{Sides, Proof, Unfinished, Untold, Open}
 use Rattle.table_audit.specs.declared.errors.AuditError.{AuditError}
+use Rattle.table_audit.specs.declared.errors.FamilyKind.TheVariants as family
 use Rattle.table_audit.specs.declared.errors.AuditError.TheVariants.{States, Wide, Entry}
+use Rattle.table_audit.specs.declared.errors.AuditError.TheVariants as error
 use Rattle.table_audit.specs.Sides.{SidesFit, with_scratch, formula_against, formula_of}
 use Rattle.table_audit.specs.Shorter.{sequences_below, shorter, IsBelow, IsTold, is_named}
+use Rattle.table_audit.specs.Families.{entry_of, IsRaisable, raised_formula}
 
 -- ---- the table ----
 
@@ -62,14 +65,34 @@ OpensVerdict t n e = InTurn (OpenTest t n e) 0 e.opens
 unfoldable pub EntryVerdict : Table → ℕ → Rule → Option AuditError → Type 0
 EntryVerdict t n e = Then (SidesVerdict t n e) (Then (EntryProofVerdict t n e) (Then (ToldVerdict t n e) (OpensVerdict t n e)))
 
+-- ---- a family, which has this number ----
+
+abbrev pub SymbolVerdict : Table → ℕ → Family → Rule → Option AuditError → Type 0
+SymbolVerdict t n f e = Tests (IsRaisable t.header.pool f e.left) (error.Family n family.Symbol)
+
+-- the proof shows that no state and no value tell the sides apart
+abbrev pub FamilyProofVerdict : Table → ℕ → Family → Rule → Option AuditError → Type 0
+FamilyProofVerdict t n f e = ProofVerdict (λ line. error.Family n (family.Proof line)) (error.Family n family.Unfinished) (codes_of (raised_formula t.header f e).clauses) f.proof
+
+-- a family of no entry is refused
+abbrev pub RaisedVerdict : Table → ℕ → Family → Option Rule → Option AuditError → Type 0
+RaisedVerdict t n f None = λ o. o ≡ Some (error.Family n family.Symbol)
+RaisedVerdict t n f (Some e) = Then (SymbolVerdict t n f e) (FamilyProofVerdict t n f e)
+
+unfoldable pub FamilyVerdict : Table → ℕ → Family → Option AuditError → Type 0
+FamilyVerdict t n f = RaisedVerdict t n f (entry_of t f)
+
 -- ---- all ----
 
 abbrev pub EntriesVerdict : Table → Option AuditError → Type 0
 EntriesVerdict t = InTurn (EntryVerdict t) 1 t.rules
 
+abbrev pub FamiliesVerdict : Table → Option AuditError → Type 0
+FamiliesVerdict t = InTurn (FamilyVerdict t) 1 t.families
+
 -- the first cause for which the table is refused, or none
 abbrev pub TableVerdict : Table → Option AuditError → Type 0
-TableVerdict t = Then (StatesVerdict t) (Then (WideVerdict t) (EntriesVerdict t))
+TableVerdict t = Then (StatesVerdict t) (Then (WideVerdict t) (Then (EntriesVerdict t) (FamiliesVerdict t)))
 
 abbrev pub IsAccepted : Table → Type 0
 IsAccepted t = TableVerdict t None

@@ -2,11 +2,12 @@
 use Rattle.std.specs.Prelude.{ℕ, ◌+◌, ◌*◌, List, Option, Some, None, length, slice_get, sum_by}
 use Rattle.thumb_instr.specs.declared.instr.Instr.{Instr}
 use Rattle.clause_model.specs.Literals.{codes_of}
-use Rattle.rule_table.specs.Table.{Opened, Rule, Table}
+use Rattle.rule_table.specs.Table.{Opened, Rule, Family, Table}
 use Rattle.proof_logs.specs.Lines.{started}
 use Rattle.proof_logs.specs.Costs.{lines_cost, spent_cost}
 use Rattle.table_audit.specs.Sides.{formula_against, formula_of}
 use Rattle.table_audit.specs.Shorter.{shorter}
+use Rattle.table_audit.specs.Families.{entry_of, raised_formula}
 
 -- steps of instructions: both sides on each state once, and again for each shorter sequence and for each that is named open
 abbrev pub runs_cost : Table → Rule → ℕ
@@ -27,5 +28,19 @@ open_cost t e o = log_cost t e o (slice_get (shorter t e) o.number)
 abbrev pub entry_cost : Table → Rule → ℕ
 entry_cost t e = runs_cost t e + proof_cost t e + sum_by (open_cost t e) e.opens
 
+-- looks at literals for a family's proof
+abbrev pub raised_cost : Table → Family → Option Rule → ℕ
+raised_cost t f None = 0
+raised_cost t f (Some e) = lines_cost (started (codes_of (raised_formula t.header f e).clauses)) f.proof
+
+abbrev pub family_cost : Table → Family → ℕ
+family_cost t f = raised_cost t f (entry_of t f)
+
+abbrev pub entries_cost : Table → ℕ
+entries_cost t = sum_by (entry_cost t) t.rules
+
+abbrev pub families_cost : Table → ℕ
+families_cost t = sum_by (family_cost t) t.families
+
 abbrev pub table_cost : Table → ℕ
-table_cost t = sum_by (entry_cost t) t.rules
+table_cost t = entries_cost t + families_cost t

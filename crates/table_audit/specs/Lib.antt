@@ -3,6 +3,7 @@ pub mod Canonical
 pub mod Orders
 pub mod Shorter
 pub mod Naming
+pub mod Families
 pub mod Acceptance
 pub mod Faults
 pub mod Costs

@@ -8,6 +8,7 @@ use Rattle.rule_table.specs.Header.{Header}
 use Rattle.rule_table.specs.Table as table
 use Rattle.table_audit.specs.Shorter.{IsBelow, is_named}
 use Rattle.table_audit.specs.Acceptance.{IsRightlyOpen}
+use Rattle.table_audit.specs.Families.{entry_of, IsRaisable, AreEqualWithEach, NoneIsShorter}
 
 -- ---- entries as rewriting has them ----
 
@@ -42,8 +43,20 @@ AreShortest t = (k : ℕ) (e : table.Rule) → slice_get t.rules k ≡ Some e �
 abbrev pub AreRightlyOpen : table.Table → Type 0
 AreRightlyOpen t = (k : ℕ) (e : table.Rule) → slice_get t.rules k ≡ Some e → (i : ℕ) (o : table.Opened) → slice_get e.opens i ≡ Some o → IsRightlyOpen t e o
 
--- a table's rules are sound and shortest, and what they name open is rightly so
+-- a family's entry holds for each value, and its right side is shortest for all of them together
+pub record IsSoundFamily (t : table.Table) (f : table.Family) : Type 0 where
+  pub entry : table.Rule
+  pub is_entry : entry_of t f ≡ Some entry
+  pub raisable : IsRaisable t.header.pool f entry.left
+  pub equal : AreEqualWithEach f entry (items_in entry.mask)
+  pub least : NoneIsShorter t.header f entry (items_in entry.mask)
+
+abbrev pub AreSoundFamilies : table.Table → Type 0
+AreSoundFamilies t = (k : ℕ) (f : table.Family) → slice_get t.families k ≡ Some f → IsSoundFamily t f
+
+-- a table's rules are sound and shortest, what they name open is rightly so, and its families hold for each of their values
 pub record IsSound (t : table.Table) : Type 0 where
   pub sound : AreSound (numbers_of t)
   pub shortest : AreShortest t
   pub opens : AreRightlyOpen t
+  pub families : AreSoundFamilies t

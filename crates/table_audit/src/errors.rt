@@ -24,6 +24,21 @@ pub enum EntryFault {
     Open(u64),
 }
 
+/// Why a family is refused.
+#[derive(Clone, Copy, Debug, PartialEq, Eq, Error)]
+pub enum FamilyKind {
+    /// There is no such entry, or the number isn't of the pool, or not in the range, or the range isn't one of bytes, or the left side doesn't have the number
+    /// in 8 bits.
+    #[error("the number can't be raised")]
+    Symbol,
+    /// The first line of the proof that isn't accepted, by its number from 1.
+    #[error("line {0} of the proof is not accepted")]
+    Proof(u64),
+    /// All lines are accepted, and no clause is empty.
+    #[error("the proof does not come to an empty clause")]
+    Unfinished,
+}
+
 /// Why a table is refused.
 #[derive(Clone, Copy, Debug, PartialEq, Eq, Error)]
 pub enum AuditError {
@@ -36,6 +51,9 @@ pub enum AuditError {
     /// An entry, by its number from 1.
     #[error("entry {number}: {kind}")]
     Entry { number: u64, kind: EntryFault },
+    /// A family, by its number from 1.
+    #[error("family {number}: {kind}")]
+    Family { number: u64, kind: FamilyKind },
     /// The memory didn't suffice.
     #[error("out of memory")]
     Memory,

@@ -1,8 +1,9 @@
-//! The audit of a table of rules: an accepted table's rules are sound, and shortest but for what they name open.
+//! The audit of a table of rules: an accepted table's rules are sound, and shortest but for what they name open, and its families hold for each value.
 #![tactic(auto)]
 
 mod audited;
 mod errors;
+mod families;
 pub mod laws;
 mod opens;
 mod refutation;
@@ -13,7 +14,8 @@ mod verdict;
 mod widths;
 
 pub use audited::Audited;
-pub use errors::{AuditError, EntryFault};
+pub use errors::{AuditError, EntryFault, FamilyKind};
+pub use families::{entry_at, entry_of, family_at, family_formula, is_raisable};
 pub use sides::{entry_formula, named_count, sides_fit, with_scratch};
 pub use verdict::audit;
 pub use widths::{count_shorter, shorter_at};

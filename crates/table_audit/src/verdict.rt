@@ -8,10 +8,11 @@ ghost use Rattle.outcomes.specs.Tables.{AreTables};
 ghost use Rattle.table_audit.specs.Naming.{first_of};
 ghost use Rattle.table_audit.specs.Canonical.{HasFormula};
 ghost use Rattle.table_audit.specs.Acceptance.{ToldVerdict, OpensVerdict, EntryVerdict, EntriesVerdict, TableVerdict};
-ghost use Rattle.table_audit.specs.Costs.{runs_cost, open_cost, entry_cost, table_cost};
+ghost use Rattle.table_audit.specs.Costs.{runs_cost, open_cost, entry_cost, entries_cost, table_cost};
 
 use crate::audited::Audited;
 use crate::errors::{AuditError, EntryFault};
+use crate::families::check_families;
 use crate::opens::check_opens;
 use crate::refutation::check_proof;
 use crate::sides::{alphabet_registers, sides_fit};
@@ -81,7 +82,7 @@ fn check_entries<L: Ledger>(
 ) -> Result<(), AuditError>
     requires { IsTable (table_of table.now) }
     ensures answers { Answers AuditError.Memory result (EntriesVerdict (table_of table.now)) }
-    ensures cost { steps.new ≤ steps.old + table_cost (table_of table.now) }
+    ensures cost { steps.new ≤ steps.old + entries_cost (table_of table.now) }
 {
     let mut tables = Tables::new();
     for (place, entry) in table.entries.iter().enumerate() {
@@ -102,13 +103,14 @@ fn check_table<L: Ledger>(
 {
     check_states(alloc, table)?;
     check_width(table)?;
-    check_entries(alloc, table, steps)
+    check_entries(alloc, table, steps)?;
+    check_families(alloc, table, steps)
 }
 
 /// Accepts a table, or tells the first cause for which it is refused, and gives the table up. In order: the first of the seed's states that
 /// is missing or another; that there are too many shorter sequences; then entry by entry its sides, the first line of its proof that isn't
 /// accepted, that the proof comes to no empty clause, the lowest shorter sequence that is neither named open nor told by a state, and the
-/// first number that isn't rightly named open.
+/// first number that isn't rightly named open; then family by family that it can't be raised so, and its proof.
 ///
 /// A step is an instruction that is run, a sequence whose outcome is worked out, or a look at a literal of a clause.
 pub fn audit<L: Ledger>(

@@ -17,7 +17,7 @@ use Rattle.rand_pcg.specs.Pcg.{pcg32}
 use Rattle.window_exec.specs.Seen.{Seen}
 use Rattle.fingerprints.specs.Seeded.{next_state, seeded_states, states_from}
 use Rattle.rule_table.specs.Table.{Rule}
-use Rattle.rule_table.specs.Valid.{IsState, IsInstr, IsOpened, IsRule, IsTable}
+use Rattle.rule_table.specs.Valid.{IsState, IsInstr, IsOpened, IsRule, IsFamily, IsTable}
 use Rattle.table_audit.specs.Sides.{named_count, alphabet_registers, with_scratch, formula_against}
 use Rattle.table_audit.specs.Acceptance.{StateTest, EntryVerdict, IsAccepted}
 use Rattle.table_audit.proofs.Fitting.{are_over, ordered_of}
@@ -174,7 +174,10 @@ accepted s windows states rules g narrow = (
       subst (λ j. slice_get states j ≡ Some x) (sym (zero-add i)) there),
   (
     narrow,
-    turn_all (EntryVerdict (table_with s states rules)) 1 rules (λ i e at. fit_passes s states rules (1 + i) e (g.fits i e at)),
+    (
+      turn_all (EntryVerdict (table_with s states rules)) 1 rules (λ i e at. fit_passes s states rules (1 + i) e (g.fits i e at)),
+      tt,
+    ),
   ),
 )
 
@@ -234,7 +237,7 @@ pub in_limits : (s : Settings) → AreInLimits s → s.seed < 2 ^ 32 → is_pool
 in_limits s l seed pool = record { numbers = each; pool = pool; unsaid = said }
   where
     each : (f : Field) → IsWithin f (number_in s f)
-    each field.Version = (l.some_version, l.few_version)
+    each field.Version = (l.some_version, omega (arith, l.few_version))
     each field.Regs = (l.some_regs, l.few_regs)
     each field.Left = (l.some_left, l.few_left)
     each field.Seed = (omega arith, omega (arith, seed))
@@ -258,4 +261,6 @@ valid s windows states rules l is narrow g = record {
   header = is;
   states = g.valid;
   rules = all_of IsRule rules (λ i e at. valid_rule s states e l narrow (g.fits i e at));
+  families = All-nil IsFamily;
+  none_before = λ early. refl;
 }

@@ -1,5 +1,5 @@
 -- What holds after some windows.
-use Rattle.std.specs.Prelude.{ℕ, ◌≡◌, ◌≤◌, ◌+◌, ◌*◌, List, Some, All, length, map, slice_get, take}
+use Rattle.std.specs.Prelude.{ℕ, ◌≡◌, ◌≤◌, ◌+◌, ◌*◌, List, [], Some, All, length, map, slice_get, take}
 use Rattle.window_exec.specs.State.{seen}
 use Rattle.window_exec.specs.Seen.{Seen}
 use Rattle.fingerprints.specs.Seeded.{seeded_states}
@@ -12,9 +12,9 @@ use Rattle.table_learn.specs.Learnt.{learnt_from, AreEarned, width_of, text_leng
 use Rattle.table_learn.specs.Fitness.{IsFit}
 use Rattle.table_learn.specs.Keeping.{AreKept}
 
--- a table with these settings
+-- a table with these settings, and no families
 abbrev pub table_with : Settings → List Seen → List Rule → Table
-table_with s states rules = record { header = s; states = states; rules = rules }
+table_with s states rules = record { header = s; states = states; rules = rules; families = [] }
 
 -- the states and entries that some windows gave
 pub record Progress (s : Settings) (windows : List Window) (states : List Seen) (rules : List Rule) : Type 0 where

@@ -48,10 +48,10 @@ pub(crate) struct Learner {
 }
 
 /// The table of states and entries.
-fn table_of(settings: Settings, states: Vec<WState>, entries: Vec<Entry>) -> Table
+fn table_of(alloc: Global, settings: Settings, states: Vec<WState>, entries: Vec<Entry>) -> Table
     ensures { table_of result ≡ table_with (settings_of settings) (map seen states.items) (map rule_of entries.items) }
 {
-    Table::new(settings, States::new(states), entries)
+    Table::new(settings, States::new(states), entries, Vec::new(alloc))
 }
 
 /// Before the first window there are the states of the seed alone.
@@ -64,9 +64,9 @@ fn begin(alloc: Global, settings: Settings) -> Result<(Settings, Learner), Alloc
 {
     hold(&settings);
     let states = seeded(alloc, settings.seed)?.into_vec();
-    let table = table_of(settings, states, Vec::new(alloc));
+    let table = table_of(alloc, settings, states, Vec::new(alloc));
     let bytes = write_table(alloc, &table)?.len() as u64;
-    let (settings, states, entries) = table.into_parts();
+    let (settings, states, entries, _none) = table.into_parts();
     let learner = Learner {
         states: states.into_vec(),
         entries,
@@ -167,9 +167,9 @@ pub fn learn<L: Ledger>(
         learner = learn_window(alloc, &settings, learner, window, steps)?;
         if learner.bytes > TEXT_LIMIT {
             let bytes = learner.bytes;
-            let table = table_of(settings, learner.states, learner.entries);
+            let table = table_of(alloc, settings, learner.states, learner.entries);
             return Err(LearnError::Full { table, bytes });
         }
     }
-    Ok(table_of(settings, learner.states, learner.entries))
+    Ok(table_of(alloc, settings, learner.states, learner.entries))
 }

@@ -1,8 +1,8 @@
-use Rattle.std.proofs.Common.{◌≡◌, ◌∙◌, ◌<◌, ◌^◌, rules, arith, sym, subst, ap, length, List, [], ℕ}
+use Rattle.std.proofs.Common.{◌∙◌, ◌<◌, ◌^◌, rules, arith, sym, subst, ap, length, List, [], ℕ}
 use Rattle.rule_table.specs.Views.{table_of}
 use Rattle.command_runs.specs.Plans.{Does}
 use Rattle.command_runs.specs.Outcomes.{outcome_view}
-use Rattle.audit_cli.specs.Tables.{Audits, unaudited, accepted, opens_of}
+use Rattle.audit_cli.specs.Tables.{Audits, unaudited, accepted}
 use Rattle.audit_cli.proofs.StepLemmas.{is_audited, not_audited, refused_so}
 use Rattle.audit_cli.proofs.TableTexts.{opens_within}
 use Rattle.audit_cli.proofs.audit.outcome.Goals as goal

@@ -1,33 +1,29 @@
-use Rattle.std.proofs.Common.{◌≡◌, rules, refl, sym, subst, ℕ, Some, None}
-use Rattle.rule_table.specs.Views.{rule_of, table_of}
-use Rattle.table_audit.specs.declared.errors.EntryFault.TheVariants as fault
-use Rattle.command_runs.specs.Plans.{Refuses}
+use Rattle.std.proofs.Common.{◌≡◌, rules, sym, subst, None, Some}
+use Rattle.rule_table.specs.Views.{rule_of, family_of, table_of}
+use Rattle.table_audit.specs.Families.{entry_at, family_at}
 use Rattle.command_runs.specs.Outcomes.{outcome_view}
-use Rattle.audit_cli.specs.declared.refusal.Refusal.TheVariants as refusal
-use Rattle.audit_cli.specs.Printed.{refusal_line}
 use Rattle.audit_cli.specs.Commands.{extract_of}
-use Rattle.audit_cli.specs.Tables.{Exports, absent, unfit, found, entry_at}
-use Rattle.audit_cli.proofs.StepLemmas.{refused_so}
+use Rattle.audit_cli.specs.Tables as tables
+use Rattle.audit_cli.proofs.StepLemmas.{ok_so}
 use Rattle.audit_cli.proofs.export.table_outcome.Goals as goal
-
-pub returns-in-Ok : goal.returns-in-Ok
-returns-in-Ok c = λ text is.
-    let t = table_of c.args.table.now in
-    let e = rule_of c.in-Some.entry.now in
-    let at : entry_at t.rules c.args.to.now.entry ≡ Some e = search rules in
-    subst (Exports (extract_of c.args.to.now) text) (sym c.in-Ok.ensures) (found t is e at (c.if-sides_fit.ensures.fit.0 refl))
 
 pub returns-in-Some : goal.returns-in-Some
 returns-in-Some c = λ text is.
     let t = table_of c.args.table.now in
     let e = rule_of c.in-Some.entry.now in
     let at : entry_at t.rules c.args.to.now.entry ≡ Some e = search rules in
-    refused_so (Exports (extract_of c.args.to.now) text) (refusal.Entry c.from.result fault.Sides) (outcome_view c.in_ok-outcome-in-Some.outcome) c.in_ok-outcome-in-Some.ensures
-    (subst (λ (n : ℕ). Exports (extract_of c.args.to.now) text (Refuses (refusal_line (refusal.Entry n fault.Sides)))) (sym c.from.ensures)
-    (unfit t is e at (λ fit. let bad = c.if-sides_fit.ensures.fit.1 fit in cc)))
+    ok_so c.entry_outcome.result _ _ c.entry_outcome.ensures (λ o h. tables.entry t is e at (outcome_view o) h)
 
-pub returns : goal.returns
-returns c = λ text is.
+pub returns-in-None : goal.returns-in-None
+returns-in-None c = λ text is.
     let t = table_of c.args.table.now in
-    let at : entry_at t.rules c.args.to.now.entry ≡ None = search rules in
-    refused_so (Exports (extract_of c.args.to.now) text) refusal.Number (outcome_view c.in_ok-outcome-in-None.outcome) c.in_ok-outcome-in-None.ensures (absent t is at)
+    let entry : entry_at t.rules c.args.to.now.entry ≡ None = search rules in
+    let family : family_at t c.args.to.now.entry ≡ None = search rules in
+    ok_so c.refused.result _ _ c.refused.ensures (λ o h. subst (tables.Exports (extract_of c.args.to.now) text) (sym h) (tables.absent t is entry family))
+
+pub returns-in-Some-family_at : goal.returns-in-Some-family_at
+returns-in-Some-family_at c = λ text is.
+    let t = table_of c.args.table.now in
+    let f = family_of c.in-Some-family_at.family.now in
+    let at : family_at t c.args.to.now.entry ≡ Some f = search rules in
+    ok_so c.family_outcome.result _ _ c.family_outcome.ensures (λ o h. tables.of_family t is f at (outcome_view o) h)

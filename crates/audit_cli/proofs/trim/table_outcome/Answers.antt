@@ -5,7 +5,7 @@ use Rattle.audit_cli.proofs.trim.table_outcome.Goals as goal
 
 pub returns-in_ok-outcome-in-Ok : goal.returns-in_ok-outcome-in-Ok
 returns-in_ok-outcome-in-Ok g c =
-    let before : c.count_lines-before.result ≡ lines_in (table_of c.args.table) = search rules in
+    let before : c.count_all-before.result ≡ lines_in (table_of c.args.table) = search rules in
     record {
       trimmed = table_of c.in-Ok.trimmed;
       are = c.in-Ok.ensures;

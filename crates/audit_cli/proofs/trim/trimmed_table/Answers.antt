@@ -1,4 +1,4 @@
-use Rattle.std.proofs.Common.{◌≡◌, ◌∙◌, ◌++◌, [], ◌∷◌, rules, refl, sym, subst, map, List}
+use Rattle.std.proofs.Common.{◌≡◌, ◌++◌, [], ◌∷◌, rules, refl, ap, sym, subst, map, List}
 use Rattle.std.specs.Prelude.{All}
 use Rattle.std.specs.List.{AllZip}
 use Rattle.std.proofs.lemmas.List.{map_push}
@@ -6,13 +6,15 @@ use Rattle.std.proofs.lemmas.List.Elements.{All-head, All-tail, AllZip-push}
 use Rattle.clause_model.specs.Literals.{codes_of}
 use Rattle.lrat_check.specs.Runs.{IsRefutation}
 use Rattle.rule_table.specs.declared.table.Entry.{Entry}
+use Rattle.rule_table.specs.declared.table.Family.{Family}
 use Rattle.rule_table.specs.Header.{Header}
 use Rattle.rule_table.specs.Table.{Rule}
-use Rattle.rule_table.specs.Views.{header_in, rule_of, table_of}
+use Rattle.rule_table.specs.Views.{family_of, header_in, rule_of, table_of}
 use Rattle.table_audit.specs.Canonical.{HasFormula}
 use Rattle.table_audit.specs.Sides.{formula_of}
+use Rattle.audit_cli.specs.Ready.{IsRaised}
 use Rattle.audit_cli.specs.Trim.{IsTrimmedRule}
-use Rattle.audit_cli.proofs.TrimLemmas.{IsReady, all_ready}
+use Rattle.audit_cli.proofs.TrimLemmas.{IsReady, all_ready, all_raised}
 use Rattle.audit_cli.proofs.trim.trimmed_table.Goals as goal
 
 pub loop-entry-init : goal.loop-entry-init
@@ -56,3 +58,7 @@ loop-entry-preserved g c =
           (subst (λ (rs : List Rule). AllZip (IsTrimmedRule h) (map rule_of (c.loop-entry.yielded ++ entry ∷ [])) rs) (sym pushed)
           (subst (λ (rs : List Rule). AllZip (IsTrimmedRule h) rs (map rule_of c.loop-entry.table.entries.items ++ rule_of c.in_ok-trimmed.trimmed ∷ [])) (sym passed) both));
     }
+
+pub trimmed_families-requires : goal.trimmed_families-requires
+trimmed_families-requires g c =
+    subst (λ (fs : List Family). All (IsRaised (header_in c.args.table) (table_of c.args.table).rules) (map family_of fs)) (sym (ap (λ v. v.items) c.replace-families.ensures.value)) (all_raised (table_of c.args.table) c.requires)

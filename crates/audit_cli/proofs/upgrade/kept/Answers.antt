@@ -1,4 +1,4 @@
-use Rattle.std.proofs.Common.{◌≡◌, ◌∙◌, ◌<◌, ◌≤◌, [], ◌∷◌, rules, arith, sym, ap, subst, length, List, ℕ}
+use Rattle.std.proofs.Common.{◌≡◌, ◌∙◌, [], ◌∷◌, rules, arith, sym, ap, subst, length, List, ℕ}
 use Rattle.rule_table.specs.Views.{table_of}
 use Rattle.table_learn.specs.Learnt.{text_length}
 use Rattle.command_runs.specs.Plans.{Refuses, Does}

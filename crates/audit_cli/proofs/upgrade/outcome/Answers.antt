@@ -3,7 +3,6 @@ use Rattle.rule_table.specs.declared.table.Table.{Table as Held}
 use Rattle.rule_table.specs.Table.{Table}
 use Rattle.rule_table.specs.Views.{table_of}
 use Rattle.command_runs.specs.Outcomes.{outcome_view}
-use Rattle.audit_cli.specs.Tables.{opens_of}
 use Rattle.audit_cli.specs.Upgrade.{IsKept, Upgrades, unaudited, accepted, upgraded}
 use Rattle.audit_cli.proofs.StepLemmas.{is_audited, not_audited, refused_so}
 use Rattle.audit_cli.proofs.TableTexts.{opens_within}

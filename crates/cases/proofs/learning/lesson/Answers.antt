@@ -39,7 +39,7 @@ learn-requires-clause-settings c =
       some_budget = (c.requires.header.numbers Budget).0;
       few_budget = (c.requires.header.numbers Budget).1;
       some_version = (c.requires.header.numbers Version).0;
-      few_version = (c.requires.header.numbers Version).1;
+      few_version = c.is_learnt.ensures.0 c.if-not-is_learnt.false;
       few_scratch = (c.requires.header.numbers Scratch).1;
       first_version = λ e. c.requires.header.unsaid Scratch (ap (λ (v : ℕ). has_line v (Number Scratch)) e);
     } in

@@ -1,15 +1,16 @@
-use Rattle.std.proofs.Common.{ap, map}
+use Rattle.std.proofs.Common.{ap, map, refl}
 use Rattle.clause_model.specs.Literals.{codes_of}
 use Rattle.lrat_check.specs.Content.{content_of}
 use Rattle.rule_table.specs.Views.{header_in, rule_of}
 use Rattle.table_audit.specs.Sides.{formula_of}
+use Rattle.table_audit.specs.Faults.{fault_of}
 use Rattle.table_audit.proofs.Answering.{proof_passed, proof_failed}
 use Rattle.table_audit.proofs.refutation.check_proof.Goals as goal
 
 pub returns-in-Ok-clause-answers : goal.returns-in-Ok-clause-answers
 returns-in-Ok-clause-answers g c =
-    proof_passed c.args.number _ (codes_of (formula_of (header_in c.args.table.now) (rule_of c.args.entry.now)).clauses) _ (rule_of c.args.entry.now).proof (ap (λ f. codes_of f.clauses) c.in_ok-formula.ensures) (ap (map content_of) c.deref.ensures.value) c.in-Ok.ensures.answers
+    proof_passed (fault_of c.args.number) _ (codes_of (formula_of (header_in c.args.table.now) (rule_of c.args.entry.now)).clauses) _ (rule_of c.args.entry.now).proof (ap (λ f. codes_of f.clauses) c.in_ok-formula.ensures) (ap (map content_of) c.deref.ensures.value) c.in-Ok.ensures.answers
 
 pub returns-clause-answers : goal.returns-clause-answers
 returns-clause-answers g c =
-    proof_failed c.args.number _ (codes_of (formula_of (header_in c.args.table.now) (rule_of c.args.entry.now)).clauses) _ (rule_of c.args.entry.now).proof c.in-Err.fault _ (ap (λ f. codes_of f.clauses) c.in_ok-formula.ensures) (ap (map content_of) c.deref.ensures.value) c.fault_of.ensures c.in-Err.ensures.answers
+    proof_failed (fault_of c.args.number) _ (codes_of (formula_of (header_in c.args.table.now) (rule_of c.args.entry.now)).clauses) _ (rule_of c.args.entry.now).proof c.in-Err.fault _ refl (ap (λ f. codes_of f.clauses) c.in_ok-formula.ensures) (ap (map content_of) c.deref.ensures.value) c.fault_of.ensures c.in-Err.ensures.answers

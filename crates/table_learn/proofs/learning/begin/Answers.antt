@@ -6,7 +6,7 @@ use Rattle.fingerprints.specs.Seeded.{seeded_states}
 use Rattle.rule_table.specs.declared.table.Entry.{Entry}
 use Rattle.rule_table.specs.Table.{Rule, Table}
 use Rattle.rule_table.specs.Text.{text_of}
-use Rattle.rule_table.specs.Views.{header_of, rule_of, table_of}
+use Rattle.rule_table.specs.Views.{header_of, rule_of, family_of, table_of}
 use Rattle.rule_table.specs.Header.{IsHeader}
 use Rattle.table_learn.specs.Given.{settings_of}
 use Rattle.table_learn.specs.Learnt.{text_length}
@@ -15,8 +15,8 @@ use Rattle.table_learn.proofs.Gains.{start, in_limits, length-states_from}
 use Rattle.table_learn.proofs.TextLengths.{text_begins}
 use Rattle.table_learn.proofs.learning.begin.Goals as goal
 
-module _ (c : goal.After-new-2) where
-  taken_apart : record { header = header_of c.into_parts-settings.result.0; states = map seen c.into_parts-settings.result.1; rules = map rule_of c.into_parts-settings.result.2.items } ≡
+module _ (c : goal.After-drop-none) where
+  taken_apart : record { header = header_of c.into_parts-settings.result.0; states = map seen c.into_parts-settings.result.1; rules = map rule_of c.into_parts-settings.result.2.items; families = map family_of c.into_parts-settings.result.3.items } ≡
       table_with (settings_of c.args.settings) (map seen c.into_vec-states.result.items) (map rule_of c.new.result.items)
   taken_apart = sym c.into_parts-settings.ensures ∙ c.table_of-table.ensures
 

@@ -1,0 +1,16 @@
+-- What trimming a family's proof asks.
+use Rattle.std.specs.Prelude.{◌≡◌, List, Some}
+use Rattle.clause_model.specs.Literals.{codes_of}
+use Rattle.lrat_check.specs.Runs.{IsRefutation}
+use Rattle.rule_table.specs.Header.{Header}
+use Rattle.rule_table.specs.Table.{Rule, Family}
+use Rattle.table_audit.specs.Canonical.{HasFormula}
+use Rattle.table_audit.specs.Families.{entry_at, raised_formula, IsRaisable}
+
+-- a family's entry has a formula, its number can be raised, and its proof refutes the formula of the two
+pub record IsRaised (h : Header) (rules : List Rule) (f : Family) : Type 0 where
+  pub entry : Rule
+  pub is_entry : entry_at rules f.entry ≡ Some entry
+  pub formula : HasFormula h entry
+  pub raisable : IsRaisable h.pool f entry.left
+  pub refutes : IsRefutation (codes_of (raised_formula h f entry).clauses) f.proof
