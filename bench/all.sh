@@ -33,6 +33,7 @@ measure "" bash machine_steps.sh
 measure python3 bash listing_lines.sh --all "$listings"
 measure python3 bash rewriting.sh "$listings"
 measure python3 bash growth.sh
+measure python3 bash tidying.sh "$listings"
 measure python3 bash table_texts.sh
 measure python3 bash newness.sh
 measure python3 bash live_items.sh "$listings"

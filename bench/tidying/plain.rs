@@ -1,0 +1,303 @@
+//! Tidies a listing in plain Rust, in time that grows as little as is known. Standard input has the listing, and the tidied one goes to standard output. Tells on
+//! standard error the microseconds of tidying, those of reading, tidying and printing, how many changes there were, and how many instructions there were before and
+//! after; or why the listing is refused. Use: plain [BASE [LINES [BYTES]]], the address from which the listing is laid out (0), and the limits.
+//!
+//! Each place at which a change is possible is due, or it waits for lines while there are as many as there may be; so the least of these places is the one to look
+//! at, and where nothing is possible it is due no more. What makes it due again is what it was refused for, and nothing else can make a change possible:
+//!
+//! - A cause comes only by what goes. The place before it has another next place then. The chains that come to the labels of a branch that goes have other ends
+//!   where it was the last one and the next place's branch doesn't lead on, or the other way round. What is reached never changes, and a branch that gets the end of
+//!   its chain changes no other end.
+//! - A branch out of reach of its end has to come nearer by so many bytes: that is noted, and lowered by all that goes near it.
+//! - What can't go since a mention would be out of reach then is due when bytes go between that mention and what it mentions, when the mention itself goes or
+//!   changes, or when an alignment from there on to what it mentions comes to lie elsewhere.
+//! - Labels stay code labels, and lines get neither more nor longer but by a branch that gets another label: so that alone is held up by the limits.
+
+#[path = "../listing_lines/plain/instruction.rs"]
+mod instruction;
+#[path = "../growth/kept.rs"]
+mod kept;
+#[path = "../listing_lines/plain/layout.rs"]
+mod layout;
+#[path = "../listing_lines/plain/line.rs"]
+mod line;
+#[path = "../listing_lines/plain/listing.rs"]
+mod listing;
+#[path = "../listing_lines/plain/operands.rs"]
+mod operands;
+#[path = "../growth/refusals.rs"]
+mod refusals;
+#[path = "../listing_lines/plain/words.rs"]
+mod words;
+
+mod chains;
+mod ground;
+mod mentioned;
+mod rooms;
+mod shared;
+
+use crate::chains::{Aim, Chains};
+use crate::ground::{Ground, Refusal, WINDOW};
+use crate::kept::{Due, Kept, NONE};
+use crate::layout::size;
+use crate::line::{line, Line, Statement};
+use crate::listing::{Listing, Meaning};
+use crate::mentioned::{idle, mentioned};
+use crate::refusals::Refusals;
+use crate::rooms::Rooms;
+use crate::shared::{own_length, own_text, refusal, run, Setting};
+
+/// Branches are looked at again within so many bytes of where the end of a chain was or is. An alignment may lie between.
+const NEAR: u32 = WINDOW + 1024;
+
+struct Tidier<'a> {
+    listing: &'a Listing,
+    setting: &'a Setting,
+    kept: Kept,
+    /// The places where a change may be possible, and those where one is but for the number of lines.
+    due: Due,
+    wait_for_lines: Due,
+    is_idle: Vec<bool>,
+    chains: Chains<'a>,
+    ground: Ground,
+    /// By how many bytes the branch of each block misses the end of its chain, at least, as far as that lies near.
+    misses: Rooms,
+    /// The instructions that can't go, by the blocks whose bytes and the alignments whose paddings are to blame.
+    by_bytes: Refusals,
+    by_paddings: Refusals,
+    is_retargeted: Vec<bool>,
+    lines: usize,
+    changes: u64,
+}
+
+impl<'a> Tidier<'a> {
+    fn of(listing: &'a Listing, setting: &'a Setting) -> Tidier<'a> {
+        let count = listing.spots.len();
+        let mut kept = Kept::all(count);
+        let mentioned = mentioned(listing);
+        let chains = Chains::of(listing, &mentioned, &mut kept);
+        let ground = Ground::of(listing, &mentioned, setting.base);
+        let is_idle = idle(listing);
+        let mut due = Due::none(count);
+        (0..count).filter(|place| is_idle[*place] || chains.aim(*place).is_some()).for_each(|place| due.put(place));
+        Tidier {
+            listing,
+            setting,
+            kept,
+            due,
+            wait_for_lines: Due::none(count),
+            is_idle,
+            chains,
+            misses: Rooms::none(ground.count()),
+            by_bytes: Refusals::none(ground.count()),
+            by_paddings: Refusals::none(ground.count()),
+            ground,
+            is_retargeted: vec![false; count],
+            lines: listing.lines.len(),
+            changes: 0,
+        }
+    }
+
+    fn line(&self, place: usize) -> u32 {
+        self.listing.spots[place].0
+    }
+
+    /// Whether a place's line has labels, which stay when what stands behind them changes.
+    fn has_labels(&self, place: usize) -> bool {
+        !self.is_retargeted[place] && !self.listing.lines[self.line(place) as usize].names.is_empty()
+    }
+
+    /// Makes all branches due within reach of a block's first and last byte, and some more.
+    fn put_near(&mut self, block: usize) {
+        let (from, to) = self.ground.around(block, NEAR);
+        for place in (from..to).filter_map(|block| self.ground.place(block)) {
+            if self.chains.aim(place).is_some() {
+                self.due.put(place);
+            }
+        }
+    }
+
+    /// Makes the branches due that may come into reach of the ends of their chains by what is about to go.
+    fn put_missed(&mut self) {
+        if self.misses.is_empty() {
+            return;
+        }
+        for (block, by) in &self.ground.shorter {
+            let (from, to) = self.ground.around(*block, WINDOW);
+            self.misses.lower(from, to, *by as i32);
+        }
+        while let Some(block) = self.misses.first_below(1) {
+            self.misses.take(block);
+            self.ground.place(block).into_iter().for_each(|place| self.due.put(place));
+        }
+    }
+
+    /// Makes what was refused due again that a change of these may allow: of a block's bytes, or else of an alignment's padding.
+    fn put_refused(&mut self, block: usize, is_padding: bool) {
+        let Tidier { kept, due, by_bytes, by_paddings, .. } = self;
+        let refusals = if is_padding { by_paddings } else { by_bytes };
+        refusals.take(block, |place| {
+            if kept.is_kept(place) {
+                due.put(place);
+            }
+        });
+    }
+
+    /// The ends of chains change where a branch goes at which one ended and from which one goes on now, or the other way round: those that came to its labels.
+    fn leave(&mut self, place: usize, block: usize) {
+        let next = self.kept.next[place];
+        let change_ends = self.chains.has_callers(place) && self.chains.is_hop(place) != self.chains.is_hop(next);
+        let few = if change_ends { self.chains.few_before(place) } else { Some(Vec::new()) };
+        if change_ends {
+            self.chains.forget(place);
+        }
+        self.chains.leave(&mut self.kept, place);
+        self.kept.leave(place);
+        match few {
+            // the branch that went may have led to what came to it
+            Some(few) => few.into_iter().filter(|place| self.kept.is_kept(*place)).for_each(|place| self.due.put(place)),
+            None => {
+                self.put_near(block);
+                if let Some(end) = self.chains.end(&mut self.kept, next) {
+                    self.put_near(self.ground.block(end.line));
+                }
+            }
+        }
+    }
+
+    /// Takes the instruction of a place away, where the layout allows it.
+    fn remove(&mut self, place: usize) -> bool {
+        let line = self.line(place);
+        let block = self.ground.block(line);
+        let bytes = size(&self.listing.lines[line as usize].statement, 0) as u32;
+        if let Err(Refusal { bytes, paddings }) = self.ground.may_go(place, line, bytes) {
+            self.by_bytes.put(&bytes, place);
+            self.by_paddings.put(&paddings, place);
+            return false;
+        }
+        self.put_missed();
+        self.ground.settle();
+        self.lines -= usize::from(!self.has_labels(place));
+        self.due.take(place);
+        let before = self.kept.previous[place];
+        if before != NONE && self.chains.aim(before).is_some() {
+            self.due.put(before);
+        }
+        self.leave(place, block);
+        self.put_refused(block, false);
+        self.ground.unmentioned.into_iter().for_each(|label| self.put_refused(label, false));
+        for n in 0..self.ground.moved.len() {
+            self.put_refused(self.ground.moved[n], true);
+        }
+        true
+    }
+
+    /// Gives a branch the label of its chain's end, where that is in reach and within the limits.
+    fn retarget(&mut self, place: usize, end: Aim) -> bool {
+        let block = self.ground.block(self.line(place));
+        if let Some(by) = self.ground.miss(block, end.line) {
+            self.misses.put(block, by);
+            return false;
+        }
+        if own_length(self.listing, self.line(place), end.named) > self.setting.longest {
+            return false;
+        }
+        if self.has_labels(place) {
+            if self.lines >= self.setting.lines {
+                self.wait_for_lines.put(place);
+                return false;
+            }
+            self.lines += 1;
+        }
+        self.is_retargeted[place] = true;
+        self.chains.retarget(&mut self.kept, place, end);
+        self.ground.retarget(block, end.line);
+        self.due.put(place);
+        self.put_refused(block, false);
+        true
+    }
+
+    /// Makes the change of a place that is tried soonest, where one is possible.
+    fn change(&mut self, place: usize) -> bool {
+        self.wait_for_lines.take(place);
+        let mut is_tried = false;
+        if let Some(aim) = self.chains.aim(place) {
+            self.misses.take(self.ground.block(self.line(place)));
+            let to = self.chains.place(&mut self.kept, aim);
+            is_tried = to == self.kept.next[place];
+            if is_tried && self.remove(place) {
+                return true;
+            }
+            if let Some(end) = self.chains.end(&mut self.kept, to) {
+                if self.retarget(place, end) {
+                    return true;
+                }
+            }
+        }
+        self.is_idle[place] && !is_tried && self.remove(place)
+    }
+
+    /// The least place at which a change may be possible.
+    fn least(&self) -> Option<usize> {
+        let waits = if self.lines < self.setting.lines { self.wait_for_lines.least() } else { None };
+        self.due.least().into_iter().chain(waits).min()
+    }
+
+    fn tidy(&mut self) {
+        while let Some(place) = self.least() {
+            if self.change(place) {
+                self.changes += 1;
+            } else {
+                self.due.take(place);
+            }
+        }
+    }
+
+    /// The lines whose instructions changed, each with the branch that stands there now, if one does.
+    fn changed(&self) -> Vec<(usize, Option<Vec<u8>>)> {
+        let is_changed = |place: &usize| self.is_retargeted[*place] || !self.kept.is_kept(*place);
+        let branch = |place: usize| self.chains.aim(place).filter(|_| self.kept.is_kept(place)).map(|aim| own_text(self.listing, self.line(place), aim.named));
+        (0..self.listing.spots.len()).filter(is_changed).map(|place| (self.line(place) as usize, branch(place))).collect()
+    }
+}
+
+/// The listing with these branches in place of the instructions of some lines, whose labels stay.
+fn left_of(listing: Listing, changed: Vec<(usize, Option<Vec<u8>>)>) -> Listing {
+    let Listing { lines: given, mut names, .. } = listing;
+    let mut lines = Vec::with_capacity(given.len());
+    let mut numbers = Vec::with_capacity(given.len());
+    let mut changed = changed.into_iter().peekable();
+    for (number, mut one) in given.into_iter().enumerate() {
+        numbers.push(lines.len());
+        let Some((_, branch)) = changed.next_if(|(changed, _)| *changed == number) else {
+            lines.push(one);
+            continue;
+        };
+        if !one.names.is_empty() {
+            one.text.truncate(one.front);
+            one.text.push(b'\n');
+            lines.push(Line { statement: Statement::Nothing, ..one });
+        }
+        lines.extend(branch.map(|text| line(&text).expect("a branch")));
+    }
+    for meaning in names.values_mut() {
+        if let Meaning::Label(line) = meaning {
+            *line = numbers[*line];
+        }
+    }
+    Listing::with(lines, names)
+}
+
+fn tidied(listing: Listing, setting: &Setting) -> Result<(Listing, u64), String> {
+    let mut tidier = Tidier::of(&listing, setting);
+    if !tidier.ground.is_laid() {
+        return Err(refusal(&listing, setting.base).unwrap_or_default());
+    }
+    tidier.tidy();
+    let (changed, changes) = (tidier.changed(), tidier.changes);
+    Ok((left_of(listing, changed), changes))
+}
+
+fn main() -> std::io::Result<()> {
+    run(tidied)
+}
