@@ -1,4 +1,6 @@
 //! The formula that two sequences leave something different, in plain Rust, which the plain programs of the measures share.
+// not each program needs all of it
+#![allow(dead_code)]
 
 use crate::plain_steps::{ByteOperation, Extension, Instr, Mask, Operation, Reversal, Shift, Sum};
 use std::collections::HashMap;
@@ -211,9 +213,10 @@ fn moved_out(kind: Shift, n: usize, x: &Word) -> Bit {
     if matches!(kind, Shift::Lsl) { x[32 - n] } else { x[n - 1] }
 }
 
-/// The registers and flags as bits.
+/// The registers and flags as bits, and the number of 8 bits that stands for a word, if one does.
 #[derive(Clone)]
 struct Bits {
+    symbol: Option<(u32, Word)>,
     registers: Vec<Word>,
     n: Bit,
     z: Bit,
@@ -329,7 +332,10 @@ impl Bits {
                 self.set_shifted(b, target, (moved(kind, amount as usize, &x), moved_out(kind, amount as usize, &x)));
             }
             Instr::TwoNumber { operation, target, number } => {
-                let number = constant(number);
+                let number = match self.symbol {
+                    Some((symbol, word)) if symbol == number => word,
+                    _ => constant(number),
+                };
                 match operation {
                     ByteOperation::Mov => self.set_tested(b, target, number),
                     ByteOperation::Cmp => {
@@ -366,16 +372,22 @@ impl Bits {
     }
 }
 
-/// The formula that two sequences of the first `k` registers differ under the mask.
-pub fn formula(left: &[Instr], right: &[Instr], mask: Mask, k: usize) -> Builder {
-    let mut b = Builder::default();
-    let registers = (0..k).map(|_| std::array::from_fn(|_| b.input())).collect();
-    let mut l = Bits { registers, n: b.input(), z: b.input(), c: b.input(), v: b.input() };
-    let mut r = l.clone();
-    left.iter().for_each(|instr| l.form(&mut b, instr));
-    right.iter().for_each(|instr| r.form(&mut b, instr));
+/// The clause of each bit that a number of at least so much needs: it, or one of the higher ones that the least hasn't.
+fn at_least(b: &mut Builder, bits: &[Bit; 8], least: u32) {
+    for j in (0..8).rev().filter(|j| least >> j & 1 == 1) {
+        let higher = (j + 1..8).rev().filter(|i| least >> i & 1 == 0).map(|i| bits[i]);
+        let clause: Vec<Bit> = std::iter::once(bits[j]).chain(higher).collect();
+        b.some_of(&clause);
+    }
+}
+
+/// What two sequences leave differs under the mask.
+fn add_difference(b: &mut Builder, start: Bits, left: &[Instr], right: &[Instr], mask: Mask) {
+    let (mut l, mut r) = (start.clone(), start);
+    left.iter().for_each(|instr| l.form(b, instr));
+    right.iter().for_each(|instr| r.form(b, instr));
     let mut found = Vec::new();
-    for register in (0..k).filter(|register| mask.registers[*register]) {
+    for register in (0..l.registers.len()).filter(|register| mask.registers[*register]) {
         found.extend(b.each(Builder::xor, &l.registers[register], &r.registers[register]));
     }
     let flags = [(8, l.n, r.n), (4, l.z, r.z), (2, l.c, r.c), (1, l.v, r.v)];
@@ -385,5 +397,30 @@ pub fn formula(left: &[Instr], right: &[Instr], mask: Mask, k: usize) -> Builder
         }
     }
     b.some_of(&found);
+}
+
+/// A start of the first `k` registers.
+fn start(b: &mut Builder, k: usize) -> Bits {
+    let registers = (0..k).map(|_| std::array::from_fn(|_| b.input())).collect();
+    Bits { symbol: None, registers, n: b.input(), z: b.input(), c: b.input(), v: b.input() }
+}
+
+/// The formula that two sequences of the first `k` registers differ under the mask.
+pub fn formula(left: &[Instr], right: &[Instr], mask: Mask, k: usize) -> Builder {
+    let mut b = Builder::default();
+    let start = start(&mut b, k);
+    add_difference(&mut b, start, left, right, mask);
+    b
+}
+
+/// The same with a value of a range in place of a number of 8 bits.
+pub fn family_formula(left: &[Instr], right: &[Instr], number: u32, low: u32, high: u32, mask: Mask, k: usize) -> Builder {
+    let mut b = Builder::default();
+    let mut start = start(&mut b, k);
+    let bits: [Bit; 8] = std::array::from_fn(|_| b.input());
+    at_least(&mut b, &bits, low);
+    at_least(&mut b, &bits.map(Bit::not), 255 - high);
+    start.symbol = Some((number, std::array::from_fn(|i| if i < 8 { bits[i] } else { FALSE })));
+    add_difference(&mut b, start, left, right, mask);
     b
 }

@@ -1,10 +1,13 @@
-//! The entries of a table by their left sides, and the listing that rewriting leaves, in plain Rust, which the plain programs that rewrite share.
+//! The entries and families of a table by their left sides, and the listing that rewriting leaves, in plain Rust, which the plain programs that rewrite share.
+
+// not each program needs all of it
+#![allow(dead_code)]
 
 use crate::instruction::instruction;
 use crate::line::{line, Line, Statement};
 use crate::listing::Listing;
 use crate::plain_flows::{shape, N};
-use crate::plain_tables::{self, write_instr, Table};
+use crate::plain_tables::{self, write_instr, Entry, Table};
 use crate::plain_windows::{letter_of, Letter, Naming};
 use std::collections::HashMap;
 use std::hash::{BuildHasherDefault, Hasher};
@@ -42,6 +45,7 @@ impl Hasher for Mixed {
 }
 
 /// An entry that takes instructions away.
+#[derive(Clone)]
 pub struct Rule {
     /// The right side, each with the items that it reads and writes.
     pub right: Vec<(Letter, u32, u32)>,
@@ -51,9 +55,44 @@ pub struct Rule {
     pub needs_scratch: bool,
 }
 
-/// The entries of a table by the keys of their left sides, each key's in their order. One that fits only where an earlier one does is left out.
+/// A letter whose number has 8 bits, with another number.
+pub fn with_byte(letter: &Letter, number: u8) -> Letter {
+    if (4..=7).contains(&letter.form) { Letter { number, ..*letter } } else { *letter }
+}
+
+/// A family that takes instructions away: its entry's rule, and where its number stands in the left side.
+pub struct Family {
+    pub rule: Rule,
+    left: Vec<Letter>,
+    hole: usize,
+    number: u8,
+    low: u32,
+    high: u32,
+}
+
+impl Family {
+    /// A letter with a value in its hole.
+    fn filled(&self, letter: &Letter, value: u8) -> Letter {
+        if letter.number == self.number { with_byte(letter, value) } else { *letter }
+    }
+
+    /// The rule of the value under which the left side is a window, where it is.
+    pub fn instance(&self, window: &[Letter]) -> Option<Rule> {
+        let value = window[self.hole].number;
+        let is_left = |(own, there): (&Letter, &Letter)| self.filled(own, value).number == there.number;
+        if u32::from(value) < self.low || u32::from(value) > self.high || !self.left.iter().zip(window).all(is_left) {
+            return None;
+        }
+        let right = self.rule.right.iter().map(|(letter, uses, writes)| (self.filled(letter, value), *uses, *writes)).collect();
+        Some(Rule { right, ..self.rule })
+    }
+}
+
+/// The entries of a table by the keys of their left sides, each key's in their order. One that fits only where an earlier one does is left out. The families
+/// by the keys of their left sides with 0 for each number of 8 bits.
 pub struct Rules {
     pub by_left: HashMap<u128, Vec<Rule>, BuildHasherDefault<Mixed>>,
+    pub by_blinded: HashMap<u128, Vec<Family>, BuildHasherDefault<Mixed>>,
     pub longest: usize,
 }
 
@@ -74,23 +113,40 @@ pub fn under(order: &[u8; 8], items: u32) -> u32 {
     (0..4).filter(|name| items >> name & 1 == 1).fold(items & !0xf, |all, name| all | 1 << order[name])
 }
 
+/// An entry's rule, and its left side by its names.
+fn rule_of(entry: &Entry) -> (Rule, Vec<Letter>) {
+    let mut naming = Naming::new();
+    let left: Vec<Letter> = letters_of(&entry.left).iter().map(|(letter, ..)| naming.named(letter)).collect();
+    let dead_registers = !entry.mask & ((1 << naming.count) - 1);
+    let dead = u32::from(dead_registers) | u32::from(!entry.mask >> 4) * N;
+    let right = letters_of(&entry.right);
+    let named = 1u32.checked_shl(u32::from(naming.count)).map_or(0, |end| !(end - 1) & 0xf);
+    let needs_scratch = right.iter().any(|(_, uses, writes)| (uses | writes) & named != 0);
+    (Rule { right, dead, needs_scratch }, left)
+}
+
 impl Rules {
     pub fn of(table: &Table) -> Rules {
-        let mut rules = Rules { by_left: HashMap::default(), longest: 0 };
+        let mut rules = Rules { by_left: HashMap::default(), by_blinded: HashMap::default(), longest: 0 };
         for entry in table.entries.iter().filter(|entry| entry.right.len() < entry.left.len()) {
-            let left = letters_of(&entry.left);
-            let mut naming = Naming::new();
-            let key = left.iter().fold(0, |key, (letter, ..)| longer(key, &naming.named(letter)));
-            let dead_registers = !entry.mask & ((1 << naming.count) - 1);
-            let dead = u32::from(dead_registers) | u32::from(!entry.mask >> 4) * N;
-            let right = letters_of(&entry.right);
-            let named = 1u32.checked_shl(u32::from(naming.count)).map_or(0, |end| !(end - 1) & 0xf);
-            let needs_scratch = right.iter().any(|(_, uses, writes)| (uses | writes) & named != 0);
-            let alike = rules.by_left.entry(key).or_default();
-            if !alike.iter().any(|rule| rule.dead == dead && rule.right.len() == right.len() && (needs_scratch || !rule.needs_scratch)) {
-                alike.push(Rule { right, dead, needs_scratch });
+            let (rule, left) = rule_of(entry);
+            let alike = rules.by_left.entry(left.iter().fold(0, longer)).or_default();
+            let leads = |led: &Rule| led.dead == rule.dead && led.right.len() == rule.right.len() && (rule.needs_scratch || !led.needs_scratch);
+            if !alike.iter().any(leads) {
+                alike.push(rule);
             }
             rules.longest = rules.longest.max(left.len());
+        }
+        for raised in &table.families {
+            let entry = &table.entries[raised.entry as usize - 1];
+            if entry.right.len() < entry.left.len() {
+                let (rule, left) = rule_of(entry);
+                let number = raised.number as u8;
+                let hole = left.iter().position(|letter| (4..=7).contains(&letter.form) && letter.number == number).expect("a hole");
+                let key = left.iter().fold(0, |key, letter| longer(key, &with_byte(letter, 0)));
+                let family = Family { rule, left, hole, number, low: raised.low, high: raised.high };
+                rules.by_blinded.entry(key).or_default().push(family);
+            }
         }
         rules
     }

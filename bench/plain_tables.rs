@@ -22,7 +22,9 @@ pub struct Open { pub number: u64, pub log: Vec<Line> }
 
 pub struct Entry { pub left: Vec<Instr>, pub right: Vec<Instr>, pub mask: u8, pub proof: Vec<Line>, pub opens: Vec<Open> }
 
-pub struct Table { pub version: u8, pub scratch: u8, pub regs: u8, pub left: u8, pub seed: u32, pub budget: u32, pub pool: Vec<u8>, pub states: Vec<([u32; 4], u8)>, pub entries: Vec<Entry> }
+pub struct Family { pub entry: u32, pub number: u32, pub low: u32, pub high: u32, pub proof: Vec<Line> }
+
+pub struct Table { pub version: u8, pub scratch: u8, pub regs: u8, pub left: u8, pub seed: u32, pub budget: u32, pub pool: Vec<u8>, pub states: Vec<([u32; 4], u8)>, pub entries: Vec<Entry>, pub families: Vec<Family> }
 
 /// What follows a mnemonic: registers as `r`, the same register as the first as `=`, and numbers by their ranges.
 enum Shape { Registers(usize), Product, Negation, RegistersAndNumber(usize, u16, u16) }
@@ -156,11 +158,11 @@ fn mask(tail: &str) -> Option<u8> {
 }
 
 /// What may come next.
-enum Place { Start, Regs, Left, Seed, Budget, Pool, Scratch, States, Sides, Proof, Log, OpenLog, End }
+enum Place { Start, Regs, Left, Seed, Budget, Pool, Scratch, States, Sides, Proof, Log, OpenLog, Raised, RaisedLog, End }
 
 fn step(table: &mut Table, place: Place, line: &str) -> Option<Place> {
     match place {
-        Place::Start => { table.version = number_within(line.strip_prefix("peep ")?, 1, 2)? as u8; Some(Place::Regs) }
+        Place::Start => { table.version = number_within(line.strip_prefix("peep ")?, 1, 3)? as u8; Some(Place::Regs) }
         Place::Regs => { table.regs = number_within(line.strip_prefix("regs ")?, 1, 4)? as u8; Some(Place::Left) }
         Place::Left => { table.left = number_within(line.strip_prefix("left ")?, 1, 5)? as u8; Some(Place::Seed) }
         Place::Seed => { table.seed = number_within(line.strip_prefix("seed ")?, 0, u64::from(u32::MAX))? as u32; Some(Place::Budget) }
@@ -210,11 +212,31 @@ fn step(table: &mut Table, place: Place, line: &str) -> Option<Place> {
             }
             entry_or_end(table, line)
         }
+        Place::Raised => (line == "proof").then_some(Place::RaisedLog),
+        Place::RaisedLog if line.as_bytes().first()?.is_ascii_digit() => {
+            table.families.last_mut()?.proof.push(proof_line(line)?);
+            Some(Place::RaisedLog)
+        }
+        Place::RaisedLog => family_or_end(table, line),
         Place::End => None,
     }
 }
 
+fn family_or_end(table: &mut Table, line: &str) -> Option<Place> {
+    if line == "end" {
+        return Some(Place::End);
+    }
+    let words: Vec<&str> = line.strip_prefix("family ")?.split(' ').collect();
+    let numbers: Vec<u32> = words.iter().map(|word| u32::try_from(number(word)?).ok()).collect::<Option<_>>()?;
+    let [entry, number, low, high] = <[u32; 4]>::try_from(numbers).ok()?;
+    table.families.push(Family { entry, number, low, high, proof: Vec::new() });
+    Some(Place::Raised)
+}
+
 fn entry_or_end(table: &mut Table, line: &str) -> Option<Place> {
+    if table.version > 2 && line.starts_with("family ") {
+        return family_or_end(table, line);
+    }
     match line {
         "entry" => {
             table.entries.push(Entry { left: Vec::new(), right: Vec::new(), mask: 0, proof: Vec::new(), opens: Vec::new() });
@@ -226,7 +248,7 @@ fn entry_or_end(table: &mut Table, line: &str) -> Option<Place> {
 }
 
 pub fn read_table(text: &[u8]) -> Result<Table, u64> {
-    let mut table = Table { version: 1, scratch: 0, regs: 0, left: 0, seed: 0, budget: 0, pool: Vec::new(), states: Vec::new(), entries: Vec::new() };
+    let mut table = Table { version: 1, scratch: 0, regs: 0, left: 0, seed: 0, budget: 0, pool: Vec::new(), states: Vec::new(), entries: Vec::new(), families: Vec::new() };
     let mut place = Place::Start;
     let mut line_number = 1;
     let mut rest = text;
@@ -295,6 +317,10 @@ pub fn write_table(table: &Table) -> Vec<u8> {
             writeln!(out, "open {}", open.number).unwrap();
             write_log(&mut out, &open.log);
         }
+    }
+    for family in &table.families {
+        writeln!(out, "family {} {} {} {}\nproof", family.entry, family.number, family.low, family.high).unwrap();
+        write_log(&mut out, &family.proof);
     }
     out.extend_from_slice(b"end\n");
     out

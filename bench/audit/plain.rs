@@ -1,5 +1,5 @@
 //! Audits the table whose text stands on standard input in plain Rust: each entry's proof is checked over the formula of its sides; the shorter sequences that
-//! the first state doesn't tell are looked up, and run on the other states until one tells them. Tells on standard error the microseconds of the audit and those of reading.
+//! the first state doesn't tell are looked up, and run on the other states until one tells them; then each family's proof over its formula. Tells on standard error the microseconds of the audit and those of reading.
 //! With the word `trim` it writes the table with trimmed proofs, and tells the microseconds of trimming and writing too.
 
 #[path = "../plain_checker.rs"]
@@ -16,18 +16,18 @@ mod plain_steps;
 mod plain_tables;
 
 use plain_checker::{Checker, code};
-use plain_formulas::formula;
+use plain_formulas::{Builder, family_formula, formula};
 use plain_letters::{alphabet, text_of};
 use plain_outcomes::Outcomes;
 use plain_steps::{Instr, Mask, WState, differ, run};
-use plain_tables::{Entry, Line, read_table, write_instr, write_table};
+use plain_tables::{Entry, Family, Line, read_table, write_instr, write_table};
 use std::collections::HashMap;
 use std::io::{self, Read, Write};
 use std::time::Instant;
 
-/// How many hints each line needs, those of deletions being 0, where the proof refutes the formula that the sides differ.
-fn refutation(left: &[Instr], right: &[Instr], mask: Mask, k: usize, proof: &[Line]) -> Option<Vec<usize>> {
-    let mut checker = Checker::new(formula(left, right, mask, k).clauses);
+/// How many hints each line needs, those of deletions being 0, where the proof refutes the formula.
+fn refutation(formula: Builder, proof: &[Line]) -> Option<Vec<usize>> {
+    let mut checker = Checker::new(formula.clauses);
     let mut used = Vec::with_capacity(proof.len());
     for line in proof {
         checker.used = 0;
@@ -113,26 +113,50 @@ fn main() -> io::Result<()> {
     let mut is_refused = |entry: &Entry| {
         let (left, right, mask) = (side(&entry.left), side(&entry.right), mask_of(entry.mask));
         let k = (register_count(&left) + scratch).min(4);
-        let Some(hints) = refutation(&left, &right, mask, k as usize, &entry.proof) else {
+        let Some(hints) = refutation(formula(&left, &right, mask, k as usize), &entry.proof) else {
             return true;
         };
         used.push(hints);
         has_untold(&mut outcomes[k as usize], &states, &left, right.len(), mask)
     };
     let bad = table.entries.iter().position(|entry| is_refused(entry));
+    let mut used_by_families = Vec::new();
+    let mut is_refused = |family: &Family| {
+        let Some(entry) = (family.entry as usize).checked_sub(1).and_then(|place| table.entries.get(place)) else {
+            return true;
+        };
+        let (left, right, mask) = (side(&entry.left), side(&entry.right), mask_of(entry.mask));
+        let Family { number, low, high, .. } = *family;
+        let is_hole = |instr: &Instr| matches!(instr, Instr::TwoNumber { number: held, .. } if *held == number);
+        if !pool.contains(&number) || low > number || number > high || high > 255 || !left.iter().any(is_hole) {
+            return true;
+        }
+        let k = (register_count(&left) + scratch).min(4);
+        let formula = family_formula(&left, &right, number, low, high, mask, k as usize);
+        let Some(hints) = refutation(formula, &family.proof) else {
+            return true;
+        };
+        used_by_families.push(hints);
+        false
+    };
+    let bad_family = if bad.is_none() { table.families.iter().position(|family| is_refused(family)) } else { None };
     let auditing = start.elapsed().as_micros();
     let start = Instant::now();
-    if std::env::args().nth(1).as_deref() == Some("trim") && bad.is_none() {
+    if std::env::args().nth(1).as_deref() == Some("trim") && bad.is_none() && bad_family.is_none() {
         for (entry, used) in table.entries.iter_mut().zip(&used) {
             entry.proof = trimmed(&entry.proof, used);
+        }
+        for (family, used) in table.families.iter_mut().zip(&used_by_families) {
+            family.proof = trimmed(&family.proof, used);
         }
         io::stdout().write_all(&write_table(&table))?;
         eprintln!("{auditing} {reading} {}", start.elapsed().as_micros());
         return Ok(());
     }
-    match bad {
-        Some(place) => println!("entry {} is refused", place + 1),
-        None => println!("entries {}", table.entries.len()),
+    match (bad, bad_family) {
+        (Some(place), _) => println!("entry {} is refused", place + 1),
+        (_, Some(place)) => println!("family {} is refused", place + 1),
+        _ => println!("entries {}", table.entries.len()),
     }
     eprintln!("{auditing} {reading}");
     Ok(())

@@ -48,4 +48,5 @@ def main():
     print("\n".join(lines + ["end"]))
 
 
-main()
+if __name__ == "__main__":
+    main()

@@ -28,10 +28,11 @@ mod words;
 use crate::layout::{layout, Fault, LayoutError};
 use crate::listing::{parse, print, Listing};
 use crate::live::Live;
-use crate::plain_rules::{instruction_count, left_of, longer, parted, under, Rule, Rules, LONGEST};
+use crate::plain_rules::{instruction_count, left_of, longer, parted, under, with_byte, Rule, Rules, LONGEST};
 use crate::plain_tables::read_table;
 use crate::plain_windows::{rows, Letter, Naming};
 use crate::reach::Reach;
+use std::borrow::Cow;
 use std::hint::black_box;
 use std::io::{self, Read, Write};
 use std::time::Instant;
@@ -140,13 +141,30 @@ impl<'a> Rewriter<'a> {
         applies.then_some(window)
     }
 
-    /// The best entry at a place: of those that apply there the lowest with the longest left side.
-    fn best(&mut self, place: u32) -> Option<(Window, &'a Rule)> {
+    /// The first entry that applies to a window of this key, and the window with its registers.
+    fn first_entry(&mut self, key: u128, window: &Window) -> Option<(Window, Cow<'a, Rule>)> {
+        let rules = self.rules;
+        rules.by_left.get(&key)?.iter().find_map(|rule| Some((self.applied(rule, window)?, Cow::Borrowed(rule))))
+    }
+
+    /// The first family that applies to a window of this key, which is blind to numbers of 8 bits.
+    fn first_family(&mut self, key: u128, letters: &[Letter], window: &Window) -> Option<(Window, Cow<'a, Rule>)> {
+        let rules = self.rules;
+        rules.by_blinded.get(&key)?.iter().find_map(|family| {
+            let rule = family.instance(letters)?;
+            Some((self.applied(&rule, window)?, Cow::Owned(rule)))
+        })
+    }
+
+    /// The best rule at a place: of those that apply there one with the longest left side, an entry before a family, and of each kind the lowest.
+    fn best(&mut self, place: u32) -> Option<(Window, Cow<'a, Rule>)> {
         let rules = self.rules;
         let mut window = Window { places: [0; LONGEST], count: 0, order: [0; 8], named: 0 };
-        let mut keys = [(0, 0); LONGEST];
+        let mut keys = [(0, 0, 0); LONGEST];
+        let mut letters = [Letter { form: 0, registers: [0; 3], count: 0, number: 0 }; LONGEST];
+        let has_families = !rules.by_blinded.is_empty();
         let mut naming = Naming::new();
-        let (mut at, mut key) = (place, 0);
+        let (mut at, mut key, mut blinded) = (place, 0, 0);
         while at != END && window.count < rules.longest {
             let (Some(letter), is_joined) = self.rows[at as usize] else { break };
             if !is_joined && window.count > 0 {
@@ -157,17 +175,24 @@ impl<'a> Rewriter<'a> {
                 break;
             }
             key = longer(key, &named);
-            keys[window.count] = (key, naming.count);
+            if has_families {
+                blinded = longer(blinded, &with_byte(&named, 0));
+                letters[window.count] = named;
+            }
+            keys[window.count] = (key, blinded, naming.count);
             window.places[window.count] = at;
             window.count += 1;
             at = self.next[at as usize];
         }
         window.order = naming.order;
         while window.count > 0 {
-            let (key, named) = keys[window.count - 1];
+            let (key, blinded, named) = keys[window.count - 1];
             window.named = named as u8;
-            if let Some(found) = rules.by_left.get(&key) {
-                if let Some(applied) = found.iter().find_map(|rule| Some((self.applied(rule, &window)?, rule))) {
+            if let Some(applied) = self.first_entry(key, &window) {
+                return Some(applied);
+            }
+            if has_families {
+                if let Some(applied) = self.first_family(blinded, &letters[..window.count], &window) {
                     return Some(applied);
                 }
             }
@@ -231,7 +256,7 @@ impl<'a> Rewriter<'a> {
         let mut at = self.first;
         while at != END {
             at = match self.best(at) {
-                Some((window, rule)) => self.replace(&window, rule),
+                Some((window, rule)) => self.replace(&window, &rule),
                 None => self.next[at as usize],
             };
         }
