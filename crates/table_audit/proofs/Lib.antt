@@ -10,6 +10,7 @@ pub mod Upcoming
 pub mod Walking
 pub mod Openings
 pub mod Names
+pub mod Instances
 pub mod Sound
 pub mod Determined
 pub mod OneToOne

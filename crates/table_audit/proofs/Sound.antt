@@ -1,17 +1,15 @@
 -- An accepted table's rules are sound and shortest, what they name open is rightly so, and its families hold for each of their values.
 use Rattle.std.proofs.Common.{◌≡◌, ℕ, ◌+◌, ◌-◌, ◌^◌, ◌<◌, ◌≤◌, ◌⊎◌, ◌==◌, ◌&&◌, inl, inr, true, false, List, Option, Some, None, slice_get, get_or, length, map, refl, sym, ◌∙◌, subst, arith, All, nat_lt, nat_le, zero-add}
-use Rattle.std.specs.Option.{option_map}
 use Rattle.std.proofs.lemmas.Nat.Bits.{bit_at-lt}
 use Rattle.std.proofs.lemmas.List.{get_or_past}
-use Rattle.std.proofs.lemmas.Option.{slice_get-map, slice_get_within, get_or_from_slice_get, same_Some}
+use Rattle.std.proofs.lemmas.Option.{slice_get_within, get_or_from_slice_get, same_Some}
 use Rattle.std.proofs.lemmas.Bool.Decides.{leb_tells}
 use Rattle.std.proofs.lemmas.Bool.{false≢true, or_cases, and_parts, ltb-true, ne_eqb}
 use Rattle.thumb_instr.specs.declared.instr.Instr.{Instr}
 use Rattle.thumb_model.specs.Items.{AreWords, one_of}
 use Rattle.thumb_model.specs.Sides.{Equal, AreOver, register_count}
 use Rattle.rule_model.specs.Rules.{IsSoundRule, rule_registers}
-use Rattle.rule_model.specs.Rules as model
-use Rattle.rule_model.proofs.Alone.{alone_sound, count_over}
+use Rattle.rule_model.proofs.Alone.{count_over}
 use Rattle.window_exec.specs.Seen.{Seen}
 use Rattle.bit_blast.specs.Slots.{filled, instance}
 use Rattle.bit_blast.specs.Exactness.{IsMask, HasNoModel, AreEqual, AreEqualForAll}
@@ -34,11 +32,12 @@ use Rattle.table_audit.specs.Shorter.{shorter, IsBelow, values_in, IsTold}
 use Rattle.table_audit.specs.Shorter.{is_named as is_open}
 use Rattle.table_audit.specs.Acceptance.{EntryVerdict, EntryProofVerdict, ToldTest, ToldVerdict, OpenTest, OpensVerdict, FamilyProofVerdict, RaisedVerdict, FamilyVerdict, IsAccepted}
 use Rattle.table_audit.specs.Families.{entry_of, symbol_of, IsRaisable, raised_formula, AreEqualWithEach, NoneIsShorter}
-use Rattle.table_audit.specs.Soundness.{items_in, rewriting_rule, rules_of, IsShortest, IsSoundFamily, IsSound}
+use Rattle.table_audit.specs.Soundness.{items_in, rewriting_rule, IsShortest, IsSoundFamily, IsSound}
 use Rattle.table_audit.proofs.Numbering.{below_from}
 use Rattle.table_audit.proofs.Fitting.{formula_fits, ordered_of}
 use Rattle.table_audit.proofs.Raising.{entry_stands, verdict_raised}
 use Rattle.table_audit.proofs.Walking.{over_more, mask_more, own_within, counted_over}
+use Rattle.table_audit.proofs.Instances.{numbers_sound}
 use Rattle.table_audit.proofs.Names.{count_same, all_named, has_one, one_has, of_four}
 
 -- ---- the words of listed states ----
@@ -180,14 +179,6 @@ passed t i e valid p at =
     let rule : IsRule e = subst IsRule (get_or_from_slice_get t.rules i e e at) (valid.rules i e (slice_get_within t.rules i e at)) in
     record { rule = rule; sides = here.0; proof = here.1.0; told = here.1.1.0; opens = here.1.1.1 }
 
--- a rule for rewriting is that of an entry
-rule_at : {P : Type 0} (t : Table) (k : ℕ) (rule : model.Rule) → slice_get (rules_of t) k ≡ Some rule → ((e : Rule) → slice_get t.rules k ≡ Some e → rewriting_rule e ≡ rule → P) → P
-rule_at {P} t k rule at next = go (slice_get t.rules k) refl (sym (slice_get-map rewriting_rule t.rules k) ∙ at)
-  where
-    go : (o : Option Rule) → slice_get t.rules k ≡ o → option_map rewriting_rule o ≡ Some rule → P
-    go None e h = absurd (cc)
-    go (Some x) e h = next x e (same_Some _ _ h)
-
 -- what is known of a family of an accepted table
 record IsRaised (t : Table) (n : ℕ) (f : Family) : Type 0 where
   place : ℕ
@@ -220,9 +211,12 @@ sound_family t k f valid p at =
 
 pub accepted_sound : (t : Table) → IsTable t → IsAccepted t → IsSound t
 accepted_sound t valid p = record {
-  sound = alone_sound (rules_of t) (λ k rule at. rule_at t k rule at (λ e there is.
-      let q = passed t k e valid p there in
-      subst IsSoundRule is (sound_rule t (1 + k) e valid q.sides q.rule.mask q.proof)));
+  sound = numbers_sound t
+      (λ k e there. let q = passed t k e valid p there in sound_rule t (1 + k) e valid q.sides q.rule.mask q.proof)
+      (λ k f e x at own within.
+      let family = sound_family t k f valid p at in
+      let same : family.entry ≡ e = same_Some family.entry e (sym family.is_entry ∙ own) in
+      subst (λ (r : Rule). Equal (instance f.number r.left x) (instance f.number r.right x) (items_in r.mask)) same (family.equal x within));
   shortest = λ k e there. (let q = passed t k e valid p there in shortest_rule t (1 + k) e valid q.rule q.sides q.told);
   opens = λ k e there i o at.
       let q = passed t k e valid p there in

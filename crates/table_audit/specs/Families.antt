@@ -1,5 +1,5 @@
 -- Families: an entry's rule for each value of a number that stands in 8 bits.
-use Rattle.std.specs.Prelude.{◌≡◌, ℕ, zero, suc, ◌-◌, ◌≤◌, ◌==◌, Bool, true, false, List, length, map, nat_lt, Option, None, slice_get, if◌then◌else◌}
+use Rattle.std.specs.Prelude.{◌≡◌, ℕ, zero, suc, ◌+◌, ◌-◌, ◌≤◌, ◌==◌, Bool, true, false, List, length, map, nat_lt, Option, None, slice_get, if◌then◌else◌}
 use Rattle.std.specs.List.{list_any}
 use Rattle.thumb_instr.specs.declared.instr.Instr.{Instr}
 use Rattle.thumb_instr.specs.declared.instr.Instr.TheVariants as instr
@@ -10,6 +10,7 @@ use Rattle.bit_blast.specs.declared.slots.Slot.{Slot}
 use Rattle.bit_blast.specs.declared.slots.Symbol.{Symbol}
 use Rattle.bit_blast.specs.Slots.{Byte, IsValue, filled, instance}
 use Rattle.bit_blast.specs.Differences.{family_formula}
+use Rattle.seq_enum.specs.Lists.{numbers_from, held_in}
 use Rattle.rule_table.specs.Header.{Header}
 use Rattle.rule_table.specs.Table.{Rule, Family, Table}
 use Rattle.table_audit.specs.Sides.{alphabet_registers}
@@ -42,6 +43,14 @@ pub record IsRaisable (pool : List ℕ) (f : Family) (left : List Instr) : Type 
 
 abbrev pub symbol_of : Family → Symbol
 symbol_of f = record { number = f.number; low = f.low; high = f.high }
+
+-- the values of the range, in order
+abbrev pub values_of : Family → List Byte
+values_of f = held_in 0 256 (numbers_from f.low (f.high + 1 - f.low))
+
+-- an entry's rule with a value in the holes for a number
+abbrev pub raised : ℕ → Rule → Byte → Rule
+raised number e x = record e { left = instance number e.left x; right = instance number e.right x }
 
 -- the formula that the sides of a family's entry differ for some value
 abbrev pub raised_formula : Header → Family → Rule → Cnf

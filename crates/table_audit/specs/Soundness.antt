@@ -1,5 +1,5 @@
 -- What the entries of an accepted table are.
-use Rattle.std.specs.Prelude.{ℕ, ◌≡◌, ◌≤◌, false, List, [], ◌∷◌, Some, filter, length, map, slice_get}
+use Rattle.std.specs.Prelude.{ℕ, ◌≡◌, ◌≤◌, false, List, [], ◌∷◌, Option, None, Some, ◌++◌, filter, length, map, slice_get}
 use Rattle.thumb_instr.specs.declared.instr.Instr.{Instr}
 use Rattle.thumb_instr.specs.Items.{has}
 use Rattle.rule_model.specs.Rules.{Rule, alone, AreSound}
@@ -8,7 +8,7 @@ use Rattle.rule_table.specs.Header.{Header}
 use Rattle.rule_table.specs.Table as table
 use Rattle.table_audit.specs.Shorter.{IsBelow, is_named}
 use Rattle.table_audit.specs.Acceptance.{IsRightlyOpen}
-use Rattle.table_audit.specs.Families.{entry_of, IsRaisable, AreEqualWithEach, NoneIsShorter}
+use Rattle.table_audit.specs.Families.{entry_at, entry_of, values_of, raised, IsRaisable, AreEqualWithEach, NoneIsShorter}
 
 -- ---- entries as rewriting has them ----
 
@@ -25,9 +25,17 @@ rewriting_rule e = record { left = e.left; right = e.right; mask = items_in e.ma
 abbrev pub rules_of : table.Table → List Rule
 rules_of t = map rewriting_rule t.rules
 
--- each number of a table stands for the rule of its entry
+-- a family's instances: its entry's rule with each value
+abbrev pub instances_of : table.Family → Option table.Rule → List Rule
+instances_of f None = []
+instances_of f (Some e) = map (λ x. rewriting_rule (raised f.number e x)) (values_of f)
+
+-- the numbers of entries and, behind them, of families: an entry's stands for its rule, a family's for its instances
+abbrev pub numbers_in : List table.Rule → List table.Family → List (List Rule)
+numbers_in es fs = alone (map rewriting_rule es) ++ map (λ f. instances_of f (entry_at es f.entry)) fs
+
 abbrev pub numbers_of : table.Table → List (List Rule)
-numbers_of t = alone (rules_of t)
+numbers_of t = numbers_in t.rules t.families
 
 -- ---- shortness ----
 

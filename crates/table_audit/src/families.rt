@@ -2,6 +2,7 @@
 ghost use Rattle.std.specs.Prelude.{◌≡◌, ◌<◌, ◌≤◌, ◌+◌, ◌↔◌, IfOk, IfSome, IsTrue, None, Some, length, map, option_map};
 ghost use Rattle.std.specs.List.{list_any};
 ghost use Rattle.thumb_model.specs.Items.{one_of};
+ghost use Rattle.bit_blast.specs.Slots.{filled, slot, instance};
 ghost use Rattle.rule_table.specs.Views.{family_of, header_in, rule_of, table_of};
 ghost use Rattle.proof_logs.specs.Verdicts.{Answers};
 ghost use Rattle.table_audit.specs.declared.errors.AuditError.TheVariants.{Memory};
@@ -20,7 +21,7 @@ use rule_table::{Entry, Family, Table};
 use seq_enum::Pool;
 use std::alloc::Global;
 use step_ledger::{Ledger, Steps};
-use thumb_instr::{Instr, Seq};
+use thumb_instr::{Byte, Instr, Seq};
 
 /// The entry of a number, from 1, where there is one.
 pub fn entry_at(entries: &[Entry], number: u32) -> Option<&Entry>
@@ -67,6 +68,42 @@ fn has_hole(number: u32, side: &[Instr]) -> bool
     ensures { result ≡ list_any (is_hole number) side.now }
 {
     side.iter().any(|instr| is_hole(number, instr))
+}
+
+/// An instruction with a value in its 8-bit place, where that holds this number.
+fn filled(number: u32, instr: &Instr, value: Byte) -> Instr
+    ensures { result ≡ filled value (slot number instr.now) }
+{
+    match *instr {
+        Instr::TwoNumber {
+            operation,
+            target,
+            number: held,
+        } => {
+            if held.number == number {
+                Instr::TwoNumber {
+                    operation,
+                    target,
+                    number: value,
+                }
+            } else {
+                *instr
+            }
+        }
+        _ => *instr,
+    }
+}
+
+/// A side of an entry with a value in each 8-bit place of a number.
+pub fn raised_side(side: &[Instr], number: u32, value: Byte) -> Seq
+    requires { length side.now ≤ 5 }
+    ensures { result ≡ instance number side.now value }
+{
+    let mut raised = Seq::new();
+    for instr in side {
+        raised.push(filled(number, instr, value));
+    }
+    raised
 }
 
 /// Whether a number is one of a pool's.

@@ -177,20 +177,20 @@ pub record IsLedTo (asked : Bool) (s : Setting) (kept : List Bool) (o : Replacem
   pub meets : Meets asked s (made o.place leader registers) lines
   pub as_long : left_length s (made o.place leader registers) ≡ left_length s o
 
-pub led_to : (asked : Bool) (base longest : ℕ) (rules : List Rule) (kept : List Bool) (lines : List Line) (o : Replacement) → AreFit longest rules → AreLed rules kept (length rules) → Meets asked (setting base (alone rules)) o lines
+pub led_to : (asked : Bool) (base longest : ℕ) (rules : List Rule) (kept : List Bool) (lines : List Line) (o : Replacement) → AreFit longest (alone rules) → AreLed rules kept (length rules) → Meets asked (setting base (alone rules)) o lines
     → IsLedTo asked (setting base (alone rules)) kept o lines
 led_to asked base longest rules kept lines o fit led m =
     let s : Setting = setting base (alone rules) in
     let rule : Rule = m.0.rule in
     let there = rule_there base rules o rule m.0.is_rule in
-    let shorter = fits_shorter base rules o lines m.0 in
+    let shorter = fits_shorter base (alone rules) o lines m.0 in
     let l = led o.entry rule (slice_get_within rules o.entry rule there) there (lt-ltb (length rule.right) (length rule.left) shorter) in
     let other : Rule = l.other in
     let as_long = l.alike.as_long in
-    let rule_fit = fit o.entry rule there in
-    let other_fit = fit l.leader other l.at in
+    let rule_fit = fit o.entry o.instance rule m.0.is_rule in
     let first : List Low = take (rule_registers other) o.registers in
     let used : used_rule s (made o.place l.leader first) ≡ Some other = alone_at rules l.leader other l.at in
+    let other_fit = fit l.leader 0 other used in
     let count : length other.left ≡ length rule.left = ap (λ (is : List Instr). length is) l.alike.left in
     let is : List Instr = map (renamed o.registers) rule.right in
     let js : List Instr = map (renamed first) other.right in

@@ -17,7 +17,7 @@ use Rattle.rule_model.specs.Rules.{Rule, Applies, IsSoundRule, alone}
 use Rattle.thumb_model.specs.Sides.{AreOver, register_count, normalised}
 use Rattle.thumb_model.specs.Replaced.{moved}
 use Rattle.rule_model.specs.Rewriting.{Setting, Replacement, used_rule, lines_after_rule, lines_after, IsLeastScratch, AppliesIn, left_length, left_length_of}
-use Rattle.rule_model.proofs.Alone.{alone_at, alone_is}
+use Rattle.rule_model.proofs.Alone.{alone_is}
 use Rattle.rule_model.proofs.Costs.{weight_is_length, shorter_lowers}
 use Rattle.rule_model.proofs.LinesKept.{fewer_lines_by}
 use Rattle.thumb_model.specs.ReplacedLines.{replaced_lines, are_joined_from}
@@ -97,8 +97,8 @@ pub rule_there : (base : ℕ) (rules : List Rule) (o : Replacement) (rule : Rule
 rule_there base rules o rule at = (alone_is rules o.entry o.instance rule at).0
 
 -- a rule that fits leaves fewer instructions
-pub fits_shorter : (base : ℕ) (rules : List Rule) (o : Replacement) (lines : List Line) → (a : FitsIn (setting base (alone rules)) o lines) → length a.rule.right < length a.rule.left
-fits_shorter base rules o lines a =
+pub fits_shorter : (base : ℕ) (table : List (List Rule)) (o : Replacement) (lines : List Line) → (a : FitsIn (setting base table) o lines) → length a.rule.right < length a.rule.left
+fits_shorter base table o lines a =
     let lowers = a.lowers in
     let left = weight_is_length (λ i. 1) (λ i. refl) a.rule.left in
     let right = weight_is_length (λ i. 1) (λ i. refl) a.rule.right in
@@ -152,22 +152,22 @@ laid r g lines place rule registers window over sound shorter n asked a =
     ]
 
 -- a rule puts new instructions in place of a window
-pub record IsMade (s : Setting) (lines : List Line) (place number : ℕ) (registers : List Low) (window new : List Instr) : Type 0 where
-  pub applies : AppliesIn s (made place number registers) lines
-  pub is_window : IsWindow lines place window
-  pub keeps : KeepsAt (code_of lines) place window new
-  pub leaves : replaced_lines s.write place (length window) new lines ≡ lines_after s (made place number registers) lines
-  pub long : length window ≡ left_length s (made place number registers)
+pub record IsMade (s : Setting) (lines : List Line) (r : Replacement) (window new : List Instr) : Type 0 where
+  pub applies : AppliesIn s r lines
+  pub is_window : IsWindow lines r.place window
+  pub keeps : KeepsAt (code_of lines) r.place window new
+  pub leaves : replaced_lines s.write r.place (length window) new lines ≡ lines_after s r lines
+  pub long : length window ≡ left_length s r
 
-pub applied : (base : ℕ) (rules : List Rule) (lines : List Line) (place number : ℕ) (rule : Rule) (registers : List Low) (window : List Instr) (live : ℕ) (new : List Instr)
-    → slice_get rules number ≡ Some rule → IsSoundRule rule → StandsThere lines place window live → FitsWhole rule registers window live → IsScratchLeast rule registers live → new ≡ map (renamed registers) rule.right
-    → IsSettled (places_of lines) (labels_from 0 lines) place (length window) new
-    → (Applies rule registers (code_of lines) place → Layable base (replaced_lines own_line place (length rule.left) (map (renamed registers) rule.right) lines))
-    → IsMade (setting base (alone rules)) lines place number registers window new
-applied base rules lines place number rule registers window live new at sound there fits least same settled layable =
-    let s : Setting = setting base (alone rules) in
-    let r : Replacement = made place number registers in
-    let used : used_rule s r ≡ Some rule = alone_at rules number rule at in
+pub applied : (base : ℕ) (table : List (List Rule)) (lines : List Line) (r : Replacement) (rule : Rule) (window : List Instr) (live : ℕ) (new : List Instr)
+    → used_rule (setting base table) r ≡ Some rule → IsSoundRule rule → StandsThere lines r.place window live → FitsWhole rule r.registers window live → IsScratchLeast rule r.registers live → new ≡ map (renamed r.registers) rule.right
+    → IsSettled (places_of lines) (labels_from 0 lines) r.place (length window) new
+    → (Applies rule r.registers (code_of lines) r.place → Layable base (replaced_lines own_line r.place (length rule.left) (map (renamed r.registers) rule.right) lines))
+    → IsMade (setting base table) lines r window new
+applied base table lines r rule window live new used sound there fits least same settled layable =
+    let s : Setting = setting base table in
+    let place : ℕ = r.place in
+    let registers : List Low = r.registers in
     let is : List Instr = map (renamed registers) rule.right in
     let n : length window ≡ length rule.left = window_count rule (left_registers rule registers) window fits.fits.stands in
     let a = fitted lines place rule registers window live sound there fits (subst (λ (js : List Instr). IsSettled (places_of lines) (labels_from 0 lines) place (length window) js) same settled) in
@@ -217,20 +217,22 @@ record IsUsed (rule : Rule) (registers : List Low) (lines : List Line) (place : 
   shorter : length rule.right < length rule.left
   applies : Applies rule registers (code_of lines) place
 
-used_there : (base : ℕ) (rules : List Rule) (lines : List Line) (place number : ℕ) (rule : Rule) (registers : List Low) → slice_get rules number ≡ Some rule → FitsIn (setting base (alone rules)) (made place number registers) lines → IsUsed rule registers lines place
-used_there base rules lines place number rule registers at a =
-    let same : a.rule ≡ rule = same_rule a.rule rule (slice_get rules number) (rule_there base rules (made place number registers) a.rule a.is_rule) at in
+used_there : (base : ℕ) (table : List (List Rule)) (lines : List Line) (r : Replacement) (rule : Rule) → used_rule (setting base table) r ≡ Some rule → FitsIn (setting base table) r lines → IsUsed rule r.registers lines r.place
+used_there base table lines r rule at a =
+    let same : a.rule ≡ rule = same_rule a.rule rule (used_rule (setting base table) r) a.is_rule at in
     record {
-      shorter = subst (λ (k : Rule). length k.right < length k.left) same (fits_shorter base rules (made place number registers) lines a);
-      applies = subst (λ (k : Rule). Applies k registers (code_of lines) place) same a.applies;
+      shorter = subst (λ (k : Rule). length k.right < length k.left) same (fits_shorter base table r lines a);
+      applies = subst (λ (k : Rule). Applies k r.registers (code_of lines) r.place) same a.applies;
     }
 
 -- the rule that fits stands in the window that stands there
-pub back_shortens : (base : ℕ) (rules : List Rule) (lines : List Line) (place number : ℕ) (rule : Rule) (registers : List Low) (window : List Instr)
-    → slice_get rules number ≡ Some rule → IsSoundRule rule → length rule.left ≡ length window → IsWindow lines place window → FitsIn (setting base (alone rules)) (made place number registers) lines
-    → Shortens rule (left_registers rule registers) window
-back_shortens base rules lines place number rule registers window at sound n there a =
-    let used = used_there base rules lines place number rule registers at a in
+pub back_shortens : (base : ℕ) (table : List (List Rule)) (lines : List Line) (r : Replacement) (rule : Rule) (window : List Instr)
+    → used_rule (setting base table) r ≡ Some rule → IsSoundRule rule → length rule.left ≡ length window → IsWindow lines r.place window → FitsIn (setting base table) r lines
+    → Shortens rule (left_registers rule r.registers) window
+back_shortens base table lines r rule window at sound n there a =
+    let place : ℕ = r.place in
+    let registers : List Low = r.registers in
+    let used = used_there base table lines r rule at a in
     let w : used.applies.window ≡ window = same_window rule registers lines place window n there used.applies in
     record {
       stands = record {
@@ -241,15 +243,17 @@ back_shortens base rules lines place number rule registers window at sound n the
       shorter = used.shorter;
     }
 
-pub back : (base : ℕ) (rules : List Rule) (lines : List Line) (place number : ℕ) (rule : Rule) (registers : List Low) (window : List Instr) (live : ℕ)
-    → slice_get rules number ≡ Some rule → IsSoundRule rule → length rule.left ≡ length window → StandsThere lines place window live → FitsIn (setting base (alone rules)) (made place number registers) lines
-    → IsFitted lines place rule registers window live
-back base rules lines place number rule registers window live at sound n there a =
+pub back : (base : ℕ) (table : List (List Rule)) (lines : List Line) (r : Replacement) (rule : Rule) (window : List Instr) (live : ℕ)
+    → used_rule (setting base table) r ≡ Some rule → IsSoundRule rule → length rule.left ≡ length window → StandsThere lines r.place window live → FitsIn (setting base table) r lines
+    → IsFitted lines r.place rule r.registers window live
+back base table lines r rule window live at sound n there a =
+    let place : ℕ = r.place in
+    let registers : List Low = r.registers in
     let is : List Instr = map (renamed registers) rule.right in
-    let used = used_there base rules lines place number rule registers at a in
+    let used = used_there base table lines r rule at a in
     let shorter = used.shorter in
     let applies = used.applies in
-    let shortens = back_shortens base rules lines place number rule registers window at sound n there.is_window a in
+    let shortens = back_shortens base table lines r rule window at sound n there.is_window a in
     let known : (x : ℕ) → has live x ≡ true → Allowed rule.mask registers x = λ x h. applies.live x (subst (λ k. LiveAfter (code_of lines) (place + k - 1) x) (sym n) ((there.live x).0 h)) in
     record {
       fits = record {
@@ -266,11 +270,9 @@ back base rules lines place number rule registers window live at sound n there a
     }
 
 -- and where it meets what the layout says, what the window gives way to can be laid out
-pub back_laid : (base : ℕ) (rules : List Rule) (lines : List Line) (place number : ℕ) (rule : Rule) (registers : List Low) (window : List Instr)
-    → slice_get rules number ≡ Some rule → length rule.left ≡ length window → Meets true (setting base (alone rules)) (made place number registers) lines
-    → Layable base (replaced_lines own_line place (length window) (map (renamed registers) rule.right) lines)
-back_laid base rules lines place number rule registers window at n m =
-    let s : Setting = setting base (alone rules) in
-    let r : Replacement = made place number registers in
-    subst (λ k. Layable base (replaced_lines own_line place k (map (renamed registers) rule.right) lines)) n
-    (subst (λ (o : Option Rule). Layable base (lines_after_rule s o r lines)) (alone_at rules number rule at) (m.1 refl))
+pub back_laid : (base : ℕ) (table : List (List Rule)) (lines : List Line) (r : Replacement) (rule : Rule) (window : List Instr)
+    → used_rule (setting base table) r ≡ Some rule → length rule.left ≡ length window → Meets true (setting base table) r lines
+    → Layable base (replaced_lines own_line r.place (length window) (map (renamed r.registers) rule.right) lines)
+back_laid base table lines r rule window at n m =
+    subst (λ k. Layable base (replaced_lines own_line r.place k (map (renamed r.registers) rule.right) lines)) n
+    (subst (λ (o : Option Rule). Layable base (lines_after_rule (setting base table) o r lines)) at (m.1 refl))

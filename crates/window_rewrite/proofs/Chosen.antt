@@ -7,11 +7,12 @@ use Rattle.std.proofs.lemmas.Option.{slice_get_within}
 use Rattle.std.proofs.lemmas.Bool.{cases_lt, eqb-true, ltb-true, lt-ltb}
 use Rattle.thumb_instr.specs.declared.instr.Instr.{Instr}
 use Rattle.thumb_instr.specs.Items.{has}
-use Rattle.thumb_instr.specs.Window.{is_in_window, normal_of}
+use Rattle.thumb_instr.specs.Window.{is_in_window}
 use Rattle.thumb_instr.specs.Renaming.{Low}
 use Rattle.thumb_model.specs.Listing.{plain, Place, Label, Line, places_of, labels_from, code_of}
-use Rattle.rule_model.specs.Rules.{Rule, IsSoundRule, alone}
-use Rattle.rule_model.specs.Rewriting.{Setting, Replacement, NoneApplies, left_length, left_length_of}
+use Rattle.rule_model.specs.Rules.{Rule, IsSoundRule, alone, rule_at}
+use Rattle.rule_model.specs.Rewriting.{Setting, Replacement, NoneApplies, used_rule, left_length, left_length_of}
+use Rattle.rule_model.proofs.Alone.{alone_is}
 use Rattle.thumb_model.specs.ReplacedLines.{are_joined_from}
 use Rattle.thumb_model.specs.Flow.{LiveAfter}
 use Rattle.thumb_model.proofs.Lists.{length_map, take_all, take_short, length_drop}
@@ -27,15 +28,12 @@ use Rattle.window_runs.proofs.Joined.{run_window, window_in_run}
 use Rattle.window_rewrite.specs.declared.choice.Choice.{Choice}
 use Rattle.window_rewrite.specs.Rewriting.{setting}
 use Rattle.table_audit.specs.Sides.{IsCanonicalSide}
-use Rattle.window_rewrite.specs.declared.marks.Marks.{Marks}
-use Rattle.window_rewrite.specs.Rules.{rules_in, side_length, is_marked, AreFit, AreLed, HaveMarks, first_with}
-use Rattle.window_rewrite.specs.Shapes.{shape_of}
+use Rattle.window_rewrite.specs.Rules.{rules_in, side_length, is_marked, AreFit, AreLed, first_with}
 use Rattle.window_rewrite.specs.Forms.{form_of}
-use Rattle.window_rewrite.specs.Fitting.{left_registers, Shortens, Stands, StandsThere}
+use Rattle.window_rewrite.specs.Fitting.{left_registers, NoneStands, Shortens, Stands, StandsThere}
 use Rattle.window_rewrite.specs.Choices.{Awaits, choice_of, FitsIn, IsChoice, IsLowest, Meets, NoneAt, NoneOf, IsBest, NoneBefore, IsFirstChoice, of_length, longer}
-use Rattle.window_rewrite.proofs.Applied.{made, is_made, rule_there, fits_shorter, back_shortens, meets, meets_less}
+use Rattle.window_rewrite.proofs.Applied.{made, rule_there, fits_shorter, back_shortens, meets, meets_less}
 use Rattle.window_rewrite.proofs.Keys.{awaited, none_awaited}
-use Rattle.window_rewrite.proofs.Heads.{stands_shape}
 use Rattle.window_rewrite.proofs.Alike.{led_to}
 
 -- ---- counts of rules ----
@@ -51,14 +49,14 @@ taken_more c (r ∷ rs) zero (suc n) h = omega arith
 taken_more c (r ∷ rs) (suc k) zero h = absurd (omega arith)
 taken_more c (r ∷ rs) (suc k) (suc n) h = let t = taken_more c rs k n (omega arith) in omega arith
 
-taken_all : (c : ℕ) (rules : List Rule) (k : ℕ) → of_length c (take k rules) ≤ of_length c rules
+pub taken_all : (c : ℕ) (rules : List Rule) (k : ℕ) → of_length c (take k rules) ≤ of_length c rules
 unfolding of_length
 taken_all c [] zero = omega arith
 taken_all c [] (suc k) = omega arith
 taken_all c (r ∷ rs) zero = omega arith
 taken_all c (r ∷ rs) (suc k) = let t = taken_all c rs k in omega arith
 
-taken_one : (c : ℕ) (rules : List Rule) (n : ℕ) (rule : Rule) → slice_get rules n ≡ Some rule → of_length c (take n rules) + from_bool (length rule.left == c) ≤ of_length c (take (suc n) rules)
+pub taken_one : (c : ℕ) (rules : List Rule) (n : ℕ) (rule : Rule) → slice_get rules n ≡ Some rule → of_length c (take n rules) + from_bool (length rule.left == c) ≤ of_length c (take (suc n) rules)
 unfolding of_length
 taken_one c [] n rule e = absurd (cc)
 taken_one c (r ∷ rs) zero rule e =
@@ -126,37 +124,35 @@ fit_length : (base : ℕ) (rules : List Rule) (o : Replacement) (lines : List Li
 fit_length base rules o lines a = ap left_length_of (rule_there base rules o a.rule a.is_rule) ∙ sym (ap left_length_of a.is_rule)
 
 -- the rule of a choice at the place by a left side of the window's length stands in the window
-pub record StandsIn (rules : List Rule) (window : List Instr) (o : Replacement) : Type 0 where
+pub record StandsIn (table : List (List Rule)) (window : List Instr) (o : Replacement) : Type 0 where
   pub rule : Rule
-  pub at : slice_get rules o.entry ≡ Some rule
+  pub at : rule_at table o.entry o.instance ≡ Some rule
   pub registers : List Low
   pub shortens : Shortens rule registers window
 
-stands_in : (base longest : ℕ) (rules : List Rule) (lines : List Line) (place : ℕ) (window : List Instr) (o : Replacement) → AreFit longest rules → IsWindow lines place window
-    → FitsIn (setting base (alone rules)) o lines → o.place ≡ place → left_length (setting base (alone rules)) o ≡ length window → StandsIn rules window o
-stands_in base longest rules lines place window o fit there a at long =
-    let here : FitsIn (setting base (alone rules)) (made o.place o.entry o.registers) lines = subst (λ (r : Replacement). FitsIn (setting base (alone rules)) r lines) (is_made base rules o a.rule a.is_rule) a in
-    let moved : FitsIn (setting base (alone rules)) (made place o.entry o.registers) lines = subst (λ p. FitsIn (setting base (alone rules)) (made p o.entry o.registers) lines) at here in
+pub stands_in : (base longest : ℕ) (table : List (List Rule)) (lines : List Line) (place : ℕ) (window : List Instr) (o : Replacement) → AreFit longest table → IsWindow lines place window
+    → FitsIn (setting base table) o lines → o.place ≡ place → left_length (setting base table) o ≡ length window → StandsIn table window o
+stands_in base longest table lines place window o fit there a at long =
+    let here : IsWindow lines o.place window = subst (λ p. IsWindow lines p window) (sym at) there in
     let n : length a.rule.left ≡ length window = sym (ap left_length_of a.is_rule) ∙ long in
-    let there_at = rule_there base rules o a.rule a.is_rule in
     record {
       rule = a.rule;
-      at = there_at;
+      at = a.is_rule;
       registers = left_registers a.rule o.registers;
-      shortens = back_shortens base rules lines place o.entry a.rule o.registers window there_at (fit o.entry a.rule there_at).sound n there moved;
+      shortens = back_shortens base table lines o a.rule window a.is_rule (fit o.entry o.instance a.rule a.is_rule).sound n here a;
     }
 
 -- the search through the rules that may stand in a window: those below k don't meet this
 pub record IsSearch (asked : Bool) (base : ℕ) (rules : List Rule) (kept : List Bool) (lines : List Line) (place : ℕ) (window : List Instr) (at : Option ℕ) (start steps : ℕ) : Type 0 where
   pub longest : ℕ
-  pub fit : AreFit longest rules
+  pub fit : AreFit longest (alone rules)
   pub led : AreLed rules kept (length rules)
   pub k : ℕ
   pub awaits : Awaits rules kept window k at
   pub none : (o : Replacement) → Meets asked (setting base (alone rules)) o lines → o.place ≡ place → left_length (setting base (alone rules)) o ≡ length window → o.entry < k → ⊥
   pub cost : steps ≤ start + of_length (length window) (take k rules)
 
-pub search_begins : (asked : Bool) (base longest : ℕ) (rules : List Rule) (kept : List Bool) (lines : List Line) (place : ℕ) (window : List Instr) (at : Option ℕ) (start : ℕ) → AreFit longest rules → AreLed rules kept (length rules)
+pub search_begins : (asked : Bool) (base longest : ℕ) (rules : List Rule) (kept : List Bool) (lines : List Line) (place : ℕ) (window : List Instr) (at : Option ℕ) (start : ℕ) → AreFit longest (alone rules) → AreLed rules kept (length rules)
     → Awaits rules kept window 0 at → IsSearch asked base rules kept lines place window at start start
 search_begins asked base longest rules kept lines place window at start fit led awaits = record { longest = longest; fit = fit; led = led; k = 0; awaits = awaits; none = λ o a e l h. absurd (omega arith); cost = omega arith }
 
@@ -171,8 +167,9 @@ none_before asked base rules kept lines place window n at start steps there s is
       | inl b ↦ s.none (made o.place d.leader d.registers) d.meets e (d.as_long ∙ l) b
       | inr b ↦ (
           let next = awaited rules kept window s.k n at s.awaits is in
-          let i = stands_in base s.longest rules lines place window (made o.place d.leader d.registers) s.fit there d.meets.0 e (d.as_long ∙ l) in
-          next.none d.leader i.rule i.registers b (omega arith) i.at d.is_kept i.shortens
+          let u = made o.place d.leader d.registers in
+          let i = stands_in base s.longest (alone rules) lines place window u s.fit there d.meets.0 e (d.as_long ∙ l) in
+          next.none d.leader i.rule i.registers b (omega arith) (rule_there base rules u i.rule i.at) d.is_kept i.shortens
           )
     ]
 
@@ -226,6 +223,10 @@ search_smaller asked base rules kept lines place window n at next start steps s 
         let inside : m < length rules = slice_get_within rules m j.rule j.at in
         omega arith
 
+-- an entry has one instance
+alone_first : (base : ℕ) (rules : List Rule) (o : Replacement) (rule : Rule) → used_rule (setting base (alone rules)) o ≡ Some rule → o.instance ≡ 0
+alone_first base rules o rule at = (alone_is rules o.entry o.instance rule at).1
+
 pub search_found : (asked : Bool) (base : ℕ) (rules : List Rule) (kept : List Bool) (lines : List Line) (place : ℕ) (window : List Instr) (n : ℕ) (at : Option ℕ) (start steps : ℕ) (c : Choice) → IsWindow lines place window
     → IsSearch asked base rules kept lines place window at start steps → at ≡ Some n
     → side_length rules n ≡ length window → IsChoice (setting base (alone rules)) lines c → (choice_of c).place ≡ place → (choice_of c).entry ≡ n → IsLowest (setting base (alone rules)) lines place (length window) c
@@ -238,6 +239,7 @@ search_found asked base rules kept lines place window n at start steps c there s
         | inl b ↦ absurd (none_before asked base rules kept lines place window n at start steps there s is o (meets asked (setting base (alone rules)) o lines a) e l b)
         | inr b ↦ omega arith
       ];
+      lowest_instance = λ o a e l f. let first = alone_first base rules (choice_of c) choice.applies.rule choice.applies.is_rule in omega arith;
     }
 
 pub search_cost : (asked : Bool) (base : ℕ) (rules : List Rule) (kept : List Bool) (lines : List Line) (place : ℕ) (window : List Instr) (n : ℕ) (at : Option ℕ) (start steps after : ℕ) → IsSearch asked base rules kept lines place window at start steps → at ≡ Some n
@@ -258,8 +260,9 @@ search_none asked base rules kept lines place window at start steps there s is o
     elim (cases_lt d.leader s.k) [
       | inl b ↦ s.none (made o.place d.leader d.registers) d.meets e (d.as_long ∙ l) b
       | inr b ↦ (
-          let i = stands_in base s.longest rules lines place window (made o.place d.leader d.registers) s.fit there d.meets.0 e (d.as_long ∙ l) in
-          none_awaited rules kept window s.k at s.awaits is d.leader i.rule i.registers b i.at d.is_kept i.shortens
+          let u = made o.place d.leader d.registers in
+          let i = stands_in base s.longest (alone rules) lines place window u s.fit there d.meets.0 e (d.as_long ∙ l) in
+          none_awaited rules kept window s.k at s.awaits is d.leader i.rule i.registers b (rule_there base rules u i.rule i.at) d.is_kept i.shortens
           )
     ]
 
@@ -271,21 +274,18 @@ next_within entries kept window k n o a e =
     let i = awaited (rules_in entries) kept window k n o a e in
     omega (arith, slice_get_within (rules_in entries) n i.rule i.at, length_map rewriting_rule (map rule_of entries), length_map rule_of entries)
 
--- no left side stands in a window whose number isn't marked
-pub none_whole : (asked : Bool) (base longest : ℕ) (rules : List Rule) (marks : Marks) (lines : List Line) (place shape : ℕ) (window : List Instr) → AreFit longest rules → HaveMarks rules (length rules) marks → IsWindow lines place window
-    → shape ≡ shape_of (map normal_of window) → is_marked marks.wholes.items shape ≡ false → NoneOf asked (setting base (alone rules)) lines place (length window)
-none_whole asked base longest rules marks lines place shape window fit have there is missing o a e l =
-    let i = stands_in base longest rules lines place window o fit there a.0 e l in
-    let noted = have.noted o.entry i.rule (slice_get_within rules o.entry i.rule i.at) i.at (lt-ltb (length i.rule.right) (length i.rule.left) i.shortens.shorter) in
-    let bad : true ≡ false = sym noted.whole ∙ ap (is_marked marks.wholes.items) (stands_shape i.rule i.registers window i.shortens ∙ sym is) ∙ missing in
-    absurd (cc)
+-- where no rule stands in a window, none applies there
+pub none_in : (asked : Bool) (base longest : ℕ) (table : List (List Rule)) (lines : List Line) (place : ℕ) (window : List Instr) → AreFit longest table → IsWindow lines place window → NoneStands table window → NoneOf asked (setting base table) lines place (length window)
+none_in asked base longest table lines place window fit there none o a e l =
+    let i = stands_in base longest table lines place window o fit there a.0 e l in
+    none o.entry o.instance i.rule i.registers i.at i.shortens
 
 -- nor in one that no left side has the form of
-pub none_formed : (asked : Bool) (base longest : ℕ) (rules : List Rule) (lines : List Line) (place : ℕ) (window : List Instr) → AreFit longest rules → IsWindow lines place window
-    → ((rule : Rule) (registers : List Low) → IsSoundRule rule → IsCanonicalSide rule.left → Stands rule registers window → ⊥) → NoneOf asked (setting base (alone rules)) lines place (length window)
-none_formed asked base longest rules lines place window fit there none o a e l =
-    let i = stands_in base longest rules lines place window o fit there a.0 e l in
-    let f = fit o.entry i.rule i.at in
+pub none_formed : (asked : Bool) (base longest : ℕ) (table : List (List Rule)) (lines : List Line) (place : ℕ) (window : List Instr) → AreFit longest table → IsWindow lines place window
+    → ((rule : Rule) (registers : List Low) → IsSoundRule rule → IsCanonicalSide rule.left → Stands rule registers window → ⊥) → NoneOf asked (setting base table) lines place (length window)
+none_formed asked base longest table lines place window fit there none o a e l =
+    let i = stands_in base longest table lines place window o fit there a.0 e l in
+    let f = fit o.entry o.instance i.rule i.at in
     none i.rule i.registers f.sound f.canonical i.shortens.stands
 
 -- ---- the best entry of a place ----
@@ -294,19 +294,19 @@ straight_letters : (is : List Instr) → AreStraight is → list_all is_in_windo
 straight_letters [] h = refl
 straight_letters (i ∷ is) h = rw (h.0) (straight_letters is h.1)
 
--- where an entry fits stands a window as long as its left side, which is no longer than the longest
-pub record IsApplicable (lines : List Line) (base longest : ℕ) (rules : List Rule) (o : Replacement) : Type 0 where
+-- where a rule fits stands a window as long as its left side, which is no longer than the longest
+pub record IsApplicable (lines : List Line) (base longest : ℕ) (table : List (List Rule)) (o : Replacement) : Type 0 where
   pub window : List Instr
   pub is_window : IsWindow lines o.place window
-  pub long : left_length (setting base (alone rules)) o ≡ length window
+  pub long : left_length (setting base table) o ≡ length window
   pub some : 1 ≤ length window
   pub few : length window ≤ longest
 
-pub applicable : (base longest : ℕ) (rules : List Rule) (lines : List Line) (o : Replacement) → AreFit longest rules → FitsIn (setting base (alone rules)) o lines → IsApplicable lines base longest rules o
-applicable base longest rules lines o fit a =
-    let f = fit o.entry a.rule (rule_there base rules o a.rule a.is_rule) in
+pub applicable : (base longest : ℕ) (table : List (List Rule)) (lines : List Line) (o : Replacement) → AreFit longest table → FitsIn (setting base table) o lines → IsApplicable lines base longest table o
+applicable base longest table lines o fit a =
+    let f = fit o.entry o.instance a.rule a.is_rule in
     let n : length a.applies.window ≡ length a.rule.left = window_length a.rule o.registers (code_of lines) o.place a.applies in
-    let shorter = fits_shorter base rules o lines a in
+    let shorter = fits_shorter base table o lines a in
     let short = f.short in
     record {
       window = a.applies.window;
@@ -322,9 +322,9 @@ applicable base longest rules lines o fit a =
     }
 
 -- and it stands among the places
-pub place_within : (base longest : ℕ) (rules : List Rule) (lines : List Line) (o : Replacement) → AreFit longest rules → FitsIn (setting base (alone rules)) o lines → o.place < length (places_of lines)
-place_within base longest rules lines o fit a =
-    let w = applicable base longest rules lines o fit a in
+pub place_within : (base longest : ℕ) (table : List (List Rule)) (lines : List Line) (o : Replacement) → AreFit longest table → FitsIn (setting base table) o lines → o.place < length (places_of lines)
+place_within base longest table lines o fit a =
+    let w = applicable base longest table lines o fit a in
     let some = w.some in
     let k = length_map plain w.window in
     let e = ap (λ (ps : List Place). length ps) w.is_window.stands in
@@ -356,10 +356,10 @@ abbrev pub NoneLonger : Bool → Setting → List Line → ℕ → ℕ → Type 
 NoneLonger asked s lines place count = (o : Replacement) → Meets asked s o lines → o.place ≡ place → count < left_length s o → ⊥
 
 -- none has one that is longer than the run from there
-none_beyond : (asked : Bool) (base longest : ℕ) (rules : List Rule) (lines : List Line) (place : ℕ) (is : List Instr) → AreFit longest rules → is ≡ run true longest (drop place (rows_from false lines))
-    → NoneLonger asked (setting base (alone rules)) lines place (length is)
-none_beyond asked base longest rules lines place is fit e o a at h =
-    let w = applicable base longest rules lines o fit a.0 in
+none_beyond : (asked : Bool) (base longest : ℕ) (table : List (List Rule)) (lines : List Line) (place : ℕ) (is : List Instr) → AreFit longest table → is ≡ run true longest (drop place (rows_from false lines))
+    → NoneLonger asked (setting base table) lines place (length is)
+none_beyond asked base longest table lines place is fit e o a at h =
+    let w = applicable base longest table lines o fit a.0 in
     let long = w.long in
     let there : IsWindow lines place w.window = subst (λ p. IsWindow lines p w.window) at w.is_window in
     let within : length w.window ≤ length (run true longest (drop place (rows_from false lines))) = window_in_run lines place longest w.window w.some w.few there in
@@ -391,33 +391,32 @@ none_shorter asked s lines place (suc m) slice some few n h =
     subst (λ k. NoneLonger asked s lines place k) (let e : m ≡ suc m - 1 = omega arith in e) (none_longer asked s lines place m n (subst (λ k. NoneOf asked s lines place k) all h))
 
 -- where no left side of more than so many instructions stands first in the run from a place, none that applies there is longer
-pub none_reached : (asked : Bool) (base longest : ℕ) (rules : List Rule) (lines : List Line) (place count : ℕ) (is slice : List Instr) → AreFit longest rules → is ≡ run true longest (drop place (rows_from false lines)) → slice ≡ is
-    → ((n k : ℕ) (rule : Rule) (registers : List Low) → count < length rule.left → slice_get rules k ≡ Some rule → Shortens rule registers (take n slice) → ⊥) → NoneLonger asked (setting base (alone rules)) lines place count
-none_reached asked base longest rules lines place count is slice fit e f none o a at longer_left =
-    let w = applicable base longest rules lines o fit a.0 in
+pub none_reached : (asked : Bool) (base longest : ℕ) (table : List (List Rule)) (lines : List Line) (place count : ℕ) (is slice : List Instr) → AreFit longest table → is ≡ run true longest (drop place (rows_from false lines)) → slice ≡ is
+    → ((n k i : ℕ) (rule : Rule) (registers : List Low) → count < length rule.left → rule_at table k i ≡ Some rule → Shortens rule registers (take n slice) → ⊥) → NoneLonger asked (setting base table) lines place count
+none_reached asked base longest table lines place count is slice fit e f none o a at longer_left =
+    let w = applicable base longest table lines o fit a.0 in
     let some = w.some in
     let long = w.long in
     let n : ℕ = length w.window in
     let same : slice ≡ run true longest (drop place (rows_from false lines)) = f ∙ e in
     let few : n ≤ length slice = elim (cases_lt (length slice) n) [
-      | inl h ↦ absurd (none_beyond asked base longest rules lines place slice fit same o a at (omega arith))
+      | inl h ↦ absurd (none_beyond asked base longest table lines place slice fit same o a at (omega arith))
       | inr h ↦ omega arith
     ] in
     let there = front_window lines place longest n slice same (omega arith) few in
     let all : length (take n slice) ≡ n = take_all n slice few in
-    let s = stands_in base longest rules lines place (take n slice) o fit there a.0 at (long ∙ sym all) in
-    let left = length_at rules o.entry s.rule s.at in
-    let same_long = fit_length base rules o lines a.0 in
-    none n o.entry s.rule s.registers (omega arith) s.at s.shortens
+    let s = stands_in base longest table lines place (take n slice) o fit there a.0 at (long ∙ sym all) in
+    let left = ap left_length_of s.at in
+    none n o.entry o.instance s.rule s.registers (omega (arith, left, longer_left)) s.at s.shortens
 
 -- and where none stands there at all, none applies
-pub none_there : (asked : Bool) (base longest : ℕ) (rules : List Rule) (lines : List Line) (place : ℕ) (is slice : List Instr) → AreFit longest rules → is ≡ run true longest (drop place (rows_from false lines)) → slice ≡ is
-    → ((n k : ℕ) (rule : Rule) (registers : List Low) → 0 < length rule.left → slice_get rules k ≡ Some rule → Shortens rule registers (take n slice) → ⊥) → NoneAt asked (setting base (alone rules)) lines place
-none_there asked base longest rules lines place is slice fit e f none o a at =
-    let w = applicable base longest rules lines o fit a.0 in
+pub none_there : (asked : Bool) (base longest : ℕ) (table : List (List Rule)) (lines : List Line) (place : ℕ) (is slice : List Instr) → AreFit longest table → is ≡ run true longest (drop place (rows_from false lines)) → slice ≡ is
+    → ((n k i : ℕ) (rule : Rule) (registers : List Low) → 0 < length rule.left → rule_at table k i ≡ Some rule → Shortens rule registers (take n slice) → ⊥) → NoneAt asked (setting base table) lines place
+none_there asked base longest table lines place is slice fit e f none o a at =
+    let w = applicable base longest table lines o fit a.0 in
     let some = w.some in
     let long = w.long in
-    none_reached asked base longest rules lines place 0 is slice fit e f none o a at (omega arith)
+    none_reached asked base longest table lines place 0 is slice fit e f none o a at (omega arith)
 
 -- ---- the least place ----
 
@@ -433,11 +432,11 @@ is_first asked s lines place c none b =
         ];
         longest = λ o a e. b.longest o a (e ∙ here);
         lowest = λ o a e l. b.lowest o a (e ∙ here) l;
-        lowest_instance = λ o a e l f. omega arith;
+        lowest_instance = λ o a e l f. b.lowest_instance o a (e ∙ here) l f;
       };
       is = b.is;
     }
 
 -- where none meets it before the end, none applies
-pub none_applies : (asked : Bool) (base longest : ℕ) (rules : List Rule) (lines : List Line) (place : ℕ) → AreFit longest rules → length (places_of lines) ≤ place → NoneBefore asked (setting base (alone rules)) lines place → NoneApplies (setting base (alone rules)) lines
-none_applies asked base longest rules lines place fit h none o a = let m = meets asked (setting base (alone rules)) o lines a in let w = place_within base longest rules lines o fit m.0 in none o m (omega arith)
+pub none_applies : (asked : Bool) (base longest : ℕ) (table : List (List Rule)) (lines : List Line) (place : ℕ) → AreFit longest table → length (places_of lines) ≤ place → NoneBefore asked (setting base table) lines place → NoneApplies (setting base table) lines
+none_applies asked base longest table lines place fit h none o a = let m = meets asked (setting base table) o lines a in let w = place_within base longest table lines o fit m.0 in none o m (omega arith)

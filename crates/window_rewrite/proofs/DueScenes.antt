@@ -13,7 +13,6 @@ use Rattle.thumb_model.proofs.Lists.{length_map, take_all}
 use Rattle.thumb_model.proofs.LinesReplaced.{ops_of}
 use Rattle.rule_model.specs.Rewriting.{Setting, Replacement, lines_after, left_length_of, AppliesIn, IsFirst, NoneApplies}
 use Rattle.rule_model.proofs.Costs.{weight_is_length}
-use Rattle.rule_model.proofs.Alone.{alone_is}
 use Rattle.liveness.specs.Kept.{KeepsAt}
 use Rattle.liveness.specs.Live.{set_at}
 use Rattle.padded_code.specs.Padding.{IsPadded}
@@ -32,7 +31,6 @@ use Rattle.window_rewrite.specs.declared.scene.Scene.{Scene}
 use Rattle.window_rewrite.specs.declared.scene.Site.{Site}
 use Rattle.window_rewrite.specs.Choices.{choice_of, setting_of, AreReady, IsBest, IsChoice, NoneAt}
 use Rattle.window_rewrite.specs.Due.{AreMarks, AreTried, AreTriedBut, Reaches, StayMarked}
-use Rattle.window_rewrite.specs.Rules.{rules_in}
 use Rattle.window_rewrite.specs.Scenes.{lines_of, IsKept, IsSite}
 use Rattle.window_rewrite.proofs.DueFits.{GaveWay}
 use Rattle.window_rewrite.proofs.DueMarks.{set_length, untaken, was_unmarked}
@@ -47,7 +45,7 @@ use Rattle.window_rewrite.proofs.WindowPlaces.{first_op, window_within}
 -- the rules of a table that is ready
 pub short_rules : (r : Rules) → AreReady r → AreShort (setting_of r) r.longest
 short_rules r ready o rule at lowers =
-    let f = ready.fit o.entry rule (alone_is (rules_in r.entries.now) o.entry o.instance rule at).0 in
+    let f = ready.fit o.entry o.instance rule at in
     let left = weight_is_length (λ i. 1) (λ i. refl) rule.left in
     let right = weight_is_length (λ i. 1) (λ i. refl) rule.right in
     record { sound = f.sound; short = f.short; shorter = omega arith }
@@ -93,7 +91,7 @@ first_here r scene d place c k tried least b =
       least_place = λ o a. let l = none_lesser r scene d place k tried least o a in omega arith;
       longest = λ o a e. b.longest o a (e ∙ here);
       lowest = λ o a e l. b.lowest o a (e ∙ here) l;
-      lowest_instance = λ o a e l f. omega arith;
+      lowest_instance = λ o a e l f. b.lowest_instance o a (e ∙ here) l f;
     }
 
 -- where none is due none applies

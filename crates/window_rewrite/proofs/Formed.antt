@@ -194,9 +194,10 @@ fits_mask rule registers window live x s f h =
         ]
 
 -- what the canonical form tells
-pub is_form : (window : List Instr) (f : Form) (side : List Instr) (given : List (Option Low)) → f.number < 65536 → f.number ≡ form_of side → IsRenamable window → IsCanonical window f.live.bits side given f.mask.items.bits → IsForm window f
-is_form window f side given small is w c = record {
+pub is_form : (window : List Instr) (f : Form) (side : List Instr) (given : List (Option Low)) → f.side ≡ side → f.number < 65536 → f.number ≡ form_of side → IsRenamable window → IsCanonical window f.live.bits side given f.mask.items.bits → IsForm window f
+is_form window f side given own small is w c = record {
   small = small;
+  side = λ rule registers s left h. form_is_left rule registers window f.live.bits side given f.mask.items.bits s left h w c ∙ sym own;
   number = λ rule registers s left h. ap form_of (form_is_left rule registers window f.live.bits side given f.mask.items.bits s left h w c) ∙ sym is;
   mask = λ rule registers s left h x there.
       fits_mask rule registers window f.live.bits x s h

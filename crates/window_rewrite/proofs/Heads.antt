@@ -1,20 +1,28 @@
 -- What a left side shares with each window in which it stands.
-use Rattle.std.proofs.Common.{◌≡◌, ℕ, zero, suc, ◌+◌, ◌*◌, ◌<◌, ◌≤◌, ◌%◌, Bool, true, false, List, [], ◌∷◌, length, take, map, Some, None, ◌⊎◌, refl, sym, ap, ◌∙◌, subst, arith, inl, inr}
+use Rattle.std.proofs.Common.{◌≡◌, ℕ, zero, suc, ◌+◌, ◌-◌, ◌*◌, ◌<◌, ◌≤◌, ◌%◌, ◌==◌, Bool, true, false, List, [], ◌∷◌, length, take, map, Option, Some, None, ◌⊎◌, refl, sym, ap, ◌∙◌, subst, arith, inl, inr}
 use Rattle.std.specs.Prelude.{slice_get, slice_set, if◌then◌else◌}
 use Rattle.std.specs.Option.{option_map}
-use Rattle.std.proofs.lemmas.Bool.{cases_lt, lt-ltb}
+use Rattle.std.proofs.lemmas.Bool.{cases_lt, lt-ltb, ltb-true}
 use Rattle.std.proofs.lemmas.Option.{same_Some, slice_get_within, slice_get-map}
 use Rattle.thumb_instr.specs.declared.instr.Instr.{Instr}
 use Rattle.thumb_instr.specs.declared.instr.Instr.TheVariants as instr
 use Rattle.thumb_instr.specs.Window.{normal_of}
 use Rattle.thumb_instr.specs.Renaming.{Low, renamed}
-use Rattle.rule_model.specs.Rules.{Rule}
-use Rattle.thumb_model.specs.Sides.{normalised}
+use Rattle.rule_model.specs.Rules.{Rule, alone, rule_among, rule_at}
+use Rattle.rule_model.proofs.Alone.{alone_at, alone_is}
+use Rattle.rule_table.specs.Table as tables
+use Rattle.bit_blast.specs.Slots.{Byte, filled, instance, slot}
+use Rattle.bit_blast.specs.declared.slots.Slot.TheVariants.{Plain, Hole}
+use Rattle.bit_blast.proofs.Holes.{by_test, side_length as length_raised}
+use Rattle.table_audit.specs.Families.{entry_at, raised}
+use Rattle.table_audit.specs.Soundness.{instances_of, numbers_in, rewriting_rule}
+use Rattle.table_audit.proofs.Instances.{entries_length, instance_is, rule_at_before, rule_at_behind}
 use Rattle.thumb_model.proofs.Lists.{length_map}
-use Rattle.window_rewrite.specs.Rules.{is_marked, is_shorter, AreMarked, HaveMarks, IsNoted}
-use Rattle.window_rewrite.specs.Shapes.{head_number, next_shape, shape_from, shape_of}
+use Rattle.window_rewrite.specs.Rules.{families_in, is_marked, is_shorter, AreMany, AreMarked, AreNoted, IsIndex, IsNoted, StayNoted}
+use Rattle.window_rewrite.specs.Shapes.{blind, head_number, next_shape, seen, shape_from, shape_of}
 use Rattle.window_rewrite.specs.declared.marks.Marks.{Marks}
-use Rattle.window_rewrite.specs.Fitting.{NoneBetween, Shortens}
+use Rattle.window_rewrite.specs.Fitting.{NoneBetween, NoneMarked, NoneReaches, NoneStands, Shortens}
+use Rattle.window_rewrite.specs.declared.index.Index.{Index}
 use Rattle.window_runs.specs.declared.rows.Row.{Row}
 use Rattle.window_runs.specs.Runs.{before, letter_at, run}
 
@@ -87,39 +95,76 @@ mark_more old new side at shape kept here is a = λ b less. elim (cases_lt b at)
       )
 ]
 
+-- ---- marks of a table ----
+
 -- what is marked stays so while marks come
-pub still_noted : (old new : Marks) (rule : Rule) → ((q : ℕ) → is_marked old.wholes.items q ≡ true → is_marked new.wholes.items q ≡ true) → ((q : ℕ) → is_marked old.fronts.items q ≡ true → is_marked new.fronts.items q ≡ true)
-    → IsNoted old rule → IsNoted new rule
-still_noted old new rule wholes fronts n = record {
-  whole = wholes (shape_of rule.left) n.whole;
-  fronts = λ a w. fronts (shape_of (take (suc a) rule.left)) (n.fronts a w);
+pub still_noted : (old new : Marks) (side : List Instr) → StayNoted old new → IsNoted old side → IsNoted new side
+still_noted old new side stay n = record {
+  whole = stay.wholes (shape_of side) n.whole;
+  fronts = λ a w. stay.fronts (shape_of (take (suc a) side)) (n.fronts a w);
 }
 
--- where a front of a run isn't marked, no left side that stands first in the run is as long
-pub unreached : (rules : List Rule) (marks : Marks) (run : List Instr) (at shape : ℕ) → HaveMarks rules (length rules) marks → shape ≡ shape_of (take (at + 1) (map normal_of run)) → is_marked marks.fronts.items shape ≡ false
-    → (n k : ℕ) (rule : Rule) (registers : List Low) → at < length rule.left → slice_get rules k ≡ Some rule → Shortens rule registers (take n run) → ⊥
-unreached rules marks run at shape is shape_is missing n k rule registers longer is_rule s =
-    let marked : is_marked marks.fronts.items (shape_of (take (suc at) rule.left)) ≡ true = (is.noted k rule (slice_get_within rules k rule is_rule) is_rule (shorter_is rule registers (take n run) s)).fronts at longer in
-    let count = ap (λ (is : List Instr). length is) s.stands.matches in
-    let long : suc at ≤ n = omega (arith, count, length_map (renamed registers) rule.left, length_map normalised (take n run), taken n run) in
-    let front : take (suc at) (map normal_of run) ≡ map (renamed registers) (take (suc at) rule.left) =
-    front_map normal_of (suc at) run ∙ ap (map normal_of) (sym (front_front (suc at) n run long)) ∙ sym (front_map normal_of (suc at) (take n run)) ∙ ap (take (suc at)) s.stands.matches ∙ front_map (renamed registers) (suc at) rule.left in
-    let same : shape ≡ shape_of (take (suc at) rule.left) =
-    shape_is ∙ ap (λ m. shape_of (take m (map normal_of run))) (let one : at + 1 ≡ suc at = omega arith in one)
-    ∙ shape_renamed registers 0 (take (suc at) rule.left) (take (suc at) (map normal_of run)) front in
-    let bad : true ≡ false = sym marked ∙ ap (is_marked marks.fronts.items) (sym same) ∙ missing in
-    absurd (cc)
-  where
-    taken : (n : ℕ) (is : List Instr) → length (take n is) ≤ n
-    taken zero is = omega arith
-    taken (suc n) [] = omega arith
-    taken (suc n) (i ∷ is) = let h = taken n is in omega arith
+pub stay_there : (marks : Marks) → StayNoted marks marks
+stay_there marks = record { wholes = λ q h. h; fronts = λ q h. h }
 
--- a left side that stands in a window has its number
-pub stands_shape : (rule : Rule) (registers : List Low) (window : List Instr) → Shortens rule registers window → shape_of rule.left ≡ shape_of (map normal_of window)
-stands_shape rule registers window s = sym (shape_renamed registers 0 rule.left (map normal_of window) s.stands.matches)
+-- no rules are marked
+pub none_noted : (side : Rule → List Instr) (table : List (List Rule)) (marks : Marks) → AreMany marks → AreNoted side table 0 marks
+none_noted side table marks many = record { many = many; noted = λ k i rule l at s. absurd (omega (arith, l)) }
 
--- ---- how long the left sides are that stand first in a run ----
+-- with one number more of a table
+pub more_noted : (side : Rule → List Instr) (table : List (List Rule)) (n : ℕ) (rules : List Rule) (old new : Marks) → slice_get table n ≡ Some rules → AreNoted side table n old → AreMany new → StayNoted old new
+    → ((i : ℕ) (rule : Rule) → slice_get rules i ≡ Some rule → is_shorter rule ≡ true → IsNoted new (side rule)) → AreNoted side table (n + 1) new
+more_noted side table n rules old new at x many stay here = record {
+  many = many;
+  noted = λ k i rule l there s. elim (cases_lt k n) [
+    | inl m ↦ still_noted old new (side rule) stay (x.noted k i rule m there s)
+    | inr m ↦ (
+        let same : k ≡ n = omega arith in
+        here i rule (sym (ap (λ o. rule_among o i) (ap (slice_get table) same ∙ at)) ∙ there) s
+        )
+  ];
+}
+
+-- the rule of an entry alone
+pub one_alone : (r : Rule) (P : Rule → Type 0) → P r → (i : ℕ) (rule : Rule) → slice_get (r ∷ []) i ≡ Some rule → P rule
+one_alone r P p zero rule e = subst P (same_Some r rule e) p
+one_alone r P p (suc i) rule e = absurd (cc)
+
+pub alone_there : (rules : List Rule) (n : ℕ) (rule : Rule) → slice_get rules n ≡ Some rule → slice_get (alone rules) n ≡ Some (rule ∷ [])
+alone_there rules n rule at = slice_get-map (λ r. r ∷ []) rules n ∙ ap (option_map (λ r. r ∷ [])) at
+
+-- a value in the holes makes no difference where all 8-bit numbers are 0
+blind_slot : (n : ℕ) (i : Instr) (x : Byte) → blind (filled x (slot n i)) ≡ blind i
+blind_slot n (instr.TwoNumber o d j) x = by_test (λ s. blind (filled x s) ≡ blind (instr.TwoNumber o d j)) (j.number == n) (Hole o d) (Plain (instr.TwoNumber o d j)) (λ _. refl) (λ _. refl)
+blind_slot n i x = refl
+
+pub blind_instance : (n : ℕ) (side : List Instr) (x : Byte) → map blind (instance n side x) ≡ map blind side
+blind_instance n [] x = refl
+blind_instance n (i ∷ is) x = ap (λ j. j ∷ map blind (instance n is x)) (blind_slot n i x) ∙ ap (λ js. blind i ∷ js) (blind_instance n is x)
+
+-- the left sides of a family's instances differ in the number alone
+pub family_noted : (f : tables.Family) (o : Option tables.Rule) (marks : Marks) → ((e : tables.Rule) → o ≡ Some e → is_shorter (rewriting_rule e) ≡ true → IsNoted marks (map blind e.left))
+    → (i : ℕ) (rule : Rule) → slice_get (instances_of f o) i ≡ Some rule → is_shorter rule ≡ true → IsNoted marks (map blind rule.left)
+family_noted f o marks h i rule at s = instance_is f o i rule at (λ e x own value is.
+    let left = length_raised f.number e.left x in
+    let right = length_raised f.number e.right x in
+    let raised_shorter : is_shorter (rewriting_rule (raised f.number e x)) ≡ true = ap is_shorter is ∙ s in
+    let shorter : length e.right < length e.left = (let l = ltb-true (length (instance f.number e.right x)) (length (instance f.number e.left x)) raised_shorter in omega (arith, l, left, right)) in
+    let own_side = h e own (lt-ltb (length e.right) (length e.left) shorter) in
+    subst (λ (r : Rule). IsNoted marks (map blind r.left)) is (subst (λ (l : List Instr). IsNoted marks l) (sym (blind_instance f.number e.left x)) own_side))
+
+-- ---- sides that stand first in a run ----
+
+-- a side that stands in a window is as long
+side_long : (hidden : Bool) (side : List Instr) (registers : List Low) (window : List Instr) → map (seen hidden) window ≡ map (renamed registers) side → length window ≡ length side
+side_long hidden side registers window e =
+    let count = ap (λ (is : List Instr). length is) e in
+    omega (arith, count, length_map (renamed registers) side, length_map (seen hidden) window)
+
+front_short : (n : ℕ) (is : List Instr) → length (take n is) ≤ n
+front_short zero is = omega arith
+front_short (suc n) [] = omega arith
+front_short (suc n) (i ∷ is) = let h = front_short n is in omega arith
 
 front_long : (n : ℕ) (is : List Instr) → length (take n is) ≤ length is
 front_long zero is = omega arith
@@ -131,60 +176,69 @@ front_as_long zero is = refl
 front_as_long (suc n) [] = refl
 front_as_long (suc n) (i ∷ is) = ap (λ js. i ∷ js) (front_as_long n is)
 
--- a side that stands in a window is as long
-stands_long : (rule : Rule) (registers : List Low) (window : List Instr) → Shortens rule registers window → length window ≡ length rule.left
-stands_long rule registers window s =
-    let count = ap (λ (is : List Instr). length is) s.stands.matches in
-    omega (arith, count, length_map (renamed registers) rule.left, length_map normalised window)
+-- and has the window's number
+pub side_shape : (hidden : Bool) (side : List Instr) (registers : List Low) (window : List Instr) → map (seen hidden) window ≡ map (renamed registers) side → shape_of side ≡ shape_of (map (seen hidden) window)
+side_shape hidden side registers window e = sym (shape_renamed registers 0 side (map (seen hidden) window) e)
 
--- where the instructions of a front don't have the number of a left side, no left side that stands there has as many
-unmarked_none : (rules : List Rule) (marks : Marks) (run : List Instr) (at shape : ℕ) → HaveMarks rules (length rules) marks → shape ≡ shape_of (take (at + 1) (map normal_of run)) → is_marked marks.wholes.items shape ≡ false
-    → (n k : ℕ) (rule : Rule) (registers : List Low) → length rule.left ≡ at + 1 → slice_get rules k ≡ Some rule → Shortens rule registers (take n run) → ⊥
-unmarked_none rules marks run at shape is shape_is missing n k rule registers long is_rule s =
-    let whole : is_marked marks.wholes.items (shape_of rule.left) ≡ true = (is.noted k rule (slice_get_within rules k rule is_rule) is_rule (shorter_is rule registers (take n run) s)).whole in
-    let count : at + 1 ≡ length (take n run) = sym long ∙ sym (stands_long rule registers (take n run) s) in
-    let same : shape ≡ shape_of rule.left =
-    shape_is ∙ ap (λ m. shape_of (take m (map normal_of run))) count
-    ∙ ap shape_of (front_map normal_of (length (take n run)) run) ∙ ap (λ is. shape_of (map normal_of is)) (sym (front_as_long n run)) ∙ sym (stands_shape rule registers (take n run) s) in
-    let bad : true ≡ false = sym whole ∙ ap (is_marked marks.wholes.items) (sym same) ∙ missing in
+-- where a front of a run isn't marked, no marked side that stands first in the run is as long
+pub unreached : (marks : Marks) (hidden : Bool) (run : List Instr) (at shape : ℕ) → shape ≡ shape_of (take (at + 1) (map (seen hidden) run)) → is_marked marks.fronts.items shape ≡ false → NoneMarked marks hidden run at
+unreached marks hidden run at shape shape_is missing n side registers longer noted e =
+    let marked : is_marked marks.fronts.items (shape_of (take (suc at) side)) ≡ true = noted.fronts at longer in
+    let count = side_long hidden side registers (take n run) e in
+    let long : suc at ≤ n = omega (arith, count, front_short n run) in
+    let front : take (suc at) (map (seen hidden) run) ≡ map (renamed registers) (take (suc at) side) =
+    front_map (seen hidden) (suc at) run ∙ ap (map (seen hidden)) (sym (front_front (suc at) n run long)) ∙ sym (front_map (seen hidden) (suc at) (take n run)) ∙ ap (take (suc at)) e ∙ front_map (renamed registers) (suc at) side in
+    let same : shape ≡ shape_of (take (suc at) side) =
+    shape_is ∙ ap (λ m. shape_of (take m (map (seen hidden) run))) (let one : at + 1 ≡ suc at = omega arith in one) ∙ shape_renamed registers 0 (take (suc at) side) (take (suc at) (map (seen hidden) run)) front in
+    let bad : true ≡ false = sym marked ∙ ap (is_marked marks.fronts.items) (sym same) ∙ missing in
+    absurd (cc)
+
+-- where the instructions of a front don't have the number of a marked side, no marked side that stands there has as many
+unmarked_none : (marks : Marks) (hidden : Bool) (run : List Instr) (at shape : ℕ) → shape ≡ shape_of (take (at + 1) (map (seen hidden) run)) → is_marked marks.wholes.items shape ≡ false
+    → (n : ℕ) (side : List Instr) (registers : List Low) → length side ≡ at + 1 → IsNoted marks side → map (seen hidden) (take n run) ≡ map (renamed registers) side → ⊥
+unmarked_none marks hidden run at shape shape_is missing n side registers long noted e =
+    let count : at + 1 ≡ length (take n run) = sym long ∙ sym (side_long hidden side registers (take n run) e) in
+    let same : shape ≡ shape_of side =
+    shape_is ∙ ap (λ m. shape_of (take m (map (seen hidden) run))) count ∙ ap shape_of (front_map (seen hidden) (length (take n run)) run)
+    ∙ ap (λ is. shape_of (map (seen hidden) is)) (sym (front_as_long n run)) ∙ sym (side_shape hidden side registers (take n run) e) in
+    let bad : true ≡ false = sym noted.whole ∙ ap (is_marked marks.wholes.items) (sym same) ∙ missing in
     absurd (cc)
 
 -- with one instruction more
-pub between_more : (rules : List Rule) (marks : Marks) (run : List Instr) (at shape reached next : ℕ) → HaveMarks rules (length rules) marks → shape ≡ shape_of (take (at + 1) (map normal_of run)) → next ≡ (if is_marked marks.wholes.items shape then at + 1 else reached)
-    → NoneBetween rules run reached at → NoneBetween rules run next (at + 1)
-between_more rules marks run at shape reached next is shape_is e none = by (is_marked marks.wholes.items shape) refl
+pub between_more : (marks : Marks) (hidden : Bool) (run : List Instr) (at shape reached next : ℕ) → shape ≡ shape_of (take (at + 1) (map (seen hidden) run)) → next ≡ (if is_marked marks.wholes.items shape then at + 1 else reached)
+    → NoneBetween marks hidden run reached at → NoneBetween marks hidden run next (at + 1)
+between_more marks hidden run at shape reached next shape_is e none = by (is_marked marks.wholes.items shape) refl
   where
-    by : (b : Bool) → is_marked marks.wholes.items shape ≡ b → NoneBetween rules run next (at + 1)
-    by true m = λ n k rule registers longer few is_rule s. (
+    by : (b : Bool) → is_marked marks.wholes.items shape ≡ b → NoneBetween marks hidden run next (at + 1)
+    by true m = λ n side registers longer few noted s. (
         let same : next ≡ at + 1 = e ∙ ap (λ (b : Bool). if b then at + 1 else reached) m in
         absurd (omega (arith, longer, few, same)))
-    by false m = λ n k rule registers longer few is_rule s. (
+    by false m = λ n side registers longer few noted s. (
         let same : next ≡ reached = e ∙ ap (λ (b : Bool). if b then at + 1 else reached) m in
-        elim (cases_lt at (length rule.left)) [
-          | inl l ↦ unmarked_none rules marks run at shape is shape_is m n k rule registers (omega (arith, l, few)) is_rule s
-          | inr l ↦ none n k rule registers (omega (arith, longer, same)) l is_rule s
+        elim (cases_lt at (length side)) [
+          | inl l ↦ unmarked_none marks hidden run at shape shape_is m n side registers (omega (arith, l, few)) noted s
+          | inr l ↦ none n side registers (omega (arith, longer, same)) l noted s
         ])
 
-pub between_within : (rules : List Rule) (marks : Marks) (run : List Instr) (at shape reached next : ℕ) → next ≡ (if is_marked marks.wholes.items shape then at + 1 else reached) → reached ≤ at → next ≤ at + 1
-between_within rules marks run at shape reached next e h = by (is_marked marks.wholes.items shape) e
+pub between_within : (marks : Marks) (at shape reached next : ℕ) → next ≡ (if is_marked marks.wholes.items shape then at + 1 else reached) → reached ≤ at → next ≤ at + 1
+between_within marks at shape reached next e h = by (is_marked marks.wholes.items shape) e
   where
     by : (b : Bool) → next ≡ (if b then at + 1 else reached) → next ≤ at + 1
     by true e = omega (arith, e)
     by false e = omega (arith, e, h)
 
 -- where the next front isn't marked, no longer one stands there
-pub between_all : (rules : List Rule) (marks : Marks) (run : List Instr) (at shape reached : ℕ) → HaveMarks rules (length rules) marks → shape ≡ shape_of (take (at + 1) (map normal_of run)) → is_marked marks.fronts.items shape ≡ false → NoneBetween rules run reached at
-    → (n k : ℕ) (rule : Rule) (registers : List Low) → reached < length rule.left → slice_get rules k ≡ Some rule → Shortens rule registers (take n run) → ⊥
-between_all rules marks run at shape reached is shape_is missing none n k rule registers longer is_rule s = elim (cases_lt at (length rule.left)) [
-  | inl l ↦ unreached rules marks run at shape is shape_is missing n k rule registers l is_rule s
-  | inr l ↦ none n k rule registers longer l is_rule s
+pub between_all : (marks : Marks) (hidden : Bool) (run : List Instr) (at shape reached : ℕ) → shape ≡ shape_of (take (at + 1) (map (seen hidden) run)) → is_marked marks.fronts.items shape ≡ false → NoneBetween marks hidden run reached at
+    → NoneMarked marks hidden run reached
+between_all marks hidden run at shape reached shape_is missing none n side registers longer noted s = elim (cases_lt at (length side)) [
+  | inl l ↦ unreached marks hidden run at shape shape_is missing n side registers l noted s
+  | inr l ↦ none n side registers longer l noted s
 ]
 
 -- nor is a longer one than the run
-pub between_end : (rules : List Rule) (run : List Instr) (reached at : ℕ) → length run ≤ at → NoneBetween rules run reached at
-    → (n k : ℕ) (rule : Rule) (registers : List Low) → reached < length rule.left → slice_get rules k ≡ Some rule → Shortens rule registers (take n run) → ⊥
-between_end rules run reached at end none n k rule registers longer is_rule s =
-    none n k rule registers longer (let long = stands_long rule registers (take n run) s in omega (arith, long, front_long n run, end)) is_rule s
+pub between_end : (marks : Marks) (hidden : Bool) (run : List Instr) (reached at : ℕ) → length run ≤ at → NoneBetween marks hidden run reached at → NoneMarked marks hidden run reached
+between_end marks hidden run reached at end none n side registers longer noted s =
+    none n side registers longer (let long = side_long hidden side registers (take n run) s in omega (arith, long, front_long n run, end)) noted s
 
 -- ---- what a run begins with ----
 
@@ -198,56 +252,104 @@ not_begun rows zero e = refl
 not_begun [] (suc most) e = refl
 not_begun (r ∷ rs) (suc most) e = ap (λ o. before o (run false most rs)) (sym e)
 
-none_in_empty : (rule : Rule) (registers : List Low) (n : ℕ) (is : List Instr) → is ≡ [] → 0 < length rule.left → Shortens rule registers (take n is) → ⊥
-none_in_empty rule registers n is e some s =
-    let long = stands_long rule registers (take n is) s in
-    absurd (omega (arith, long, front_long n is, ap (λ (js : List Instr). length js) e, some))
-
 -- where no run begins, no left side stands first in it
-pub none_without : (rules : List Rule) (rows : List Row) → None ≡ letter_at true rows → (most n k : ℕ) (rule : Rule) (registers : List Low) → 0 < length rule.left → slice_get rules k ≡ Some rule → Shortens rule registers (take n (run true most rows)) → ⊥
-none_without rules rows e most n k rule registers some is_rule s = none_in_empty rule registers n (run true most rows) (not_begun rows most e) some s
+pub none_without : (table : List (List Rule)) (rows : List Row) → None ≡ letter_at true rows → (most : ℕ) → NoneReaches table (run true most rows) 0
+none_without table rows e most n k i rule registers some is_rule s =
+    let long = side_long false rule.left registers (take n (run true most rows)) s.stands.matches in
+    absurd (omega (arith, long, front_long n (run true most rows), ap (λ (js : List Instr). length js) (not_begun rows most e), some))
 
 -- nor where its first instruction begins none
-pub none_begin : (rules : List Rule) (marks : Marks) (i : Instr) (rows : List Row) → HaveMarks rules (length rules) marks → is_marked marks.fronts.items (next_shape 0 (normal_of i)) ≡ false → Some i ≡ letter_at true rows → (most n k : ℕ) (rule : Rule) (registers : List Low) → 0 < length rule.left → slice_get rules k ≡ Some rule → Shortens rule registers (take n (run true most rows)) → ⊥
-none_begin rules marks i rows is missing e most n k rule registers some is_rule s = elim (begun rows most i e) [
-  | inl l ↦ none_in_empty rule registers n (run true most rows) l some s
+pub none_begin : (marks : Marks) (hidden : Bool) (first : Instr) (rows : List Row) → is_marked marks.fronts.items (next_shape 0 (seen hidden first)) ≡ false → Some first ≡ letter_at true rows → (most : ℕ) → NoneMarked marks hidden (run true most rows) 0
+none_begin marks hidden first rows missing e most n side registers some noted s = elim (begun rows most first e) [
+  | inl l ↦ (
+      let long = side_long hidden side registers (take n (run true most rows)) s in
+      absurd (omega (arith, long, front_long n (run true most rows), ap (λ (js : List Instr). length js) l, some))
+      )
   | inr l ↦ (
-      let there : slice_get (map normal_of (run true most rows)) 0 ≡ Some (normal_of i) = slice_get-map normal_of (run true most rows) 0 ∙ ap (option_map normal_of) l in
-      unreached rules marks (run true most rows) 0 (next_shape 0 (normal_of i)) is (front_more 0 0 (map normal_of (run true most rows)) (normal_of i) there refl) missing n k rule registers some is_rule s
+      let there : slice_get (map (seen hidden) (run true most rows)) 0 ≡ Some (seen hidden first) = slice_get-map (seen hidden) (run true most rows) 0 ∙ ap (option_map (seen hidden)) l in
+      unreached marks hidden (run true most rows) 0 (next_shape 0 (seen hidden first)) (front_more 0 0 (map (seen hidden) (run true most rows)) (seen hidden first) there refl) missing n side registers some noted s
       )
 ]
 
--- marks of no rules
-pub no_marks : (rules : List Rule) (marks : Marks) → length marks.wholes.items ≡ 65536 → length marks.fronts.items ≡ 65536 → HaveMarks rules 0 marks
-no_marks rules marks wholes fronts = record { many_wholes = wholes; many_fronts = fronts; noted = λ k rule l at f. absurd (omega (arith, l)) }
+-- ---- rules of a table ----
 
--- one rule more that leaves as many
-pub same_marks : (rules : List Rule) (n : ℕ) (rule : Rule) (marks : Marks) → slice_get rules n ≡ Some rule → is_shorter rule ≡ false → HaveMarks rules n marks → HaveMarks rules (n + 1) marks
-same_marks rules n rule marks at f x = record {
-  many_wholes = x.many_wholes;
-  many_fronts = x.many_fronts;
-  noted = λ k own l here s. elim (cases_lt k n) [
-    | inl m ↦ x.noted k own m here s
-    | inr m ↦ absurd (
-        let same : k ≡ n = omega arith in
-        let is : own ≡ rule = same_Some own rule (sym here ∙ ap (slice_get rules) same ∙ at) in
-        let bad : true ≡ false = sym s ∙ ap is_shorter is ∙ f in
-        cc)
-  ];
-}
+-- a rule that stands in a window does so blind
+blind_stands : (rule : Rule) (registers : List Low) (window : List Instr) → Shortens rule registers window → map (seen true) window ≡ map (renamed registers) (map blind rule.left)
+blind_stands rule registers window s = both window ∙ ap (map blind) s.stands.matches ∙ under rule.left
+  where
+    both : (is : List Instr) → map (seen true) is ≡ map blind (map normal_of is)
+    both [] = refl
+    both (i ∷ is) = ap (λ js. seen true i ∷ js) (both is)
 
--- one that leaves fewer
-pub more_marks : (rules : List Rule) (n : ℕ) (rule : Rule) (old new : Marks) → slice_get rules n ≡ Some rule → HaveMarks rules n old → length new.wholes.items ≡ 65536 → length new.fronts.items ≡ 65536
-    → ((own : Rule) → IsNoted old own → IsNoted new own) → IsNoted new rule → HaveMarks rules (n + 1) new
-more_marks rules n rule old new at x wholes fronts still here = record {
-  many_wholes = wholes;
-  many_fronts = fronts;
-  noted = λ k own l there s. elim (cases_lt k n) [
-    | inl m ↦ still own (x.noted k own m there s)
-    | inr m ↦ (
-        let same : k ≡ n = omega arith in
-        let is : own ≡ rule = same_Some own rule (sym there ∙ ap (slice_get rules) same ∙ at) in
-        subst (IsNoted new) (sym is) here
+    one : (i : Instr) → blind (renamed registers i) ≡ renamed registers (blind i)
+    one (instr.TwoNumber o d j) = refl
+    one i = refl
+
+    under : (is : List Instr) → map blind (map (renamed registers) is) ≡ map (renamed registers) (map blind is)
+    under [] = refl
+    under (i ∷ is) = ap (λ j. j ∷ map blind (map (renamed registers) is)) (one i) ∙ ap (λ js. renamed registers (blind i) ∷ js) (under is)
+
+module _ (es : List tables.Rule) (fs : List tables.Family) (index : Index) (are : IsIndex es fs index) where
+  -- the number of a family's instance among the families
+  behind : (k i : ℕ) (rule : Rule) → rule_at (families_in es fs) k i ≡ Some rule → k < length fs
+  behind k i rule at = by (slice_get (families_in es fs) k) refl at
+    where
+      by : (o : Option (List Rule)) → slice_get (families_in es fs) k ≡ o → rule_among o i ≡ Some rule → k < length fs
+      by None e h = absurd (cc)
+      by (Some rules) e h = let w = slice_get_within (families_in es fs) k rules e in let m = length_map (λ f. instances_of f (entry_at es f.entry)) fs in omega (arith, w, m)
+
+  -- a rule of the table is one of the entries, or of the families
+  pub split : {P : Type 0} (k i : ℕ) (rule : Rule) → rule_at (numbers_in es fs) k i ≡ Some rule → (slice_get (map rewriting_rule es) k ≡ Some rule → P) → ((j : ℕ) → rule_at (families_in es fs) j i ≡ Some rule → P) → P
+  split {P} k i rule at entry family = elim (cases_lt k (length es)) [
+    | inl l ↦ (
+        let before : k < length (alone (map rewriting_rule es)) = (let n = entries_length es fs in omega (arith, n, l)) in
+        entry (alone_is (map rewriting_rule es) k i rule (sym (rule_at_before (alone (map rewriting_rule es)) (families_in es fs) k i before) ∙ at)).0
         )
-  ];
-}
+    | inr l ↦ (
+        let past : length (alone (map rewriting_rule es)) ≤ k = (let n = entries_length es fs in omega (arith, n, l)) in
+        family (k - length (alone (map rewriting_rule es))) (sym (rule_at_behind (alone (map rewriting_rule es)) (families_in es fs) k i past) ∙ at)
+        )
+  ]
+
+  entry_noted : (k : ℕ) (rule : Rule) → slice_get (map rewriting_rule es) k ≡ Some rule → is_shorter rule ≡ true → IsNoted index.marks rule.left
+  entry_noted k rule at s =
+      let w = slice_get_within (map rewriting_rule es) k rule at in
+      let m = length_map rewriting_rule es in
+      are.marks.noted k 0 rule (omega (arith, w, m)) (alone_at (map rewriting_rule es) k rule at) s
+
+  hole_noted : (k i : ℕ) (rule : Rule) → rule_at (families_in es fs) k i ≡ Some rule → is_shorter rule ≡ true → IsNoted index.holes (map blind rule.left)
+  hole_noted k i rule at s = are.holes.noted k i rule (behind k i rule at) at s
+
+  blind_long : (rule : Rule) → length (map blind rule.left) ≡ length rule.left
+  blind_long rule = length_map blind rule.left
+
+  -- no rule is longer where no marked side is
+  pub reached_both : (run : List Instr) (own raised count : ℕ) → NoneMarked index.marks false run own → NoneMarked index.holes true run raised → own ≤ count → raised ≤ count → NoneReaches (numbers_in es fs) run count
+  reached_both run own raised count entries families a b n k i rule registers longer at s = split k i rule at
+      (λ there. entries n rule.left registers (omega (arith, a, longer)) (entry_noted k rule there (shorter_is rule registers (take n run) s)) s.stands.matches)
+      (λ j there. families n (map blind rule.left) registers (let m = blind_long rule in omega (arith, b, longer, m)) (hole_noted j i rule there (shorter_is rule registers (take n run) s)) (blind_stands rule registers (take n run) s))
+
+  -- nor where there are no families
+  pub reached_own : (run : List Instr) (own : ℕ) → length fs ≡ 0 → NoneMarked index.marks false run own → NoneReaches (numbers_in es fs) run own
+  reached_own run own none entries n k i rule registers longer at s = split k i rule at
+      (λ there. entries n rule.left registers longer (entry_noted k rule there (shorter_is rule registers (take n run) s)) s.stands.matches)
+      (λ j there. absurd (let w = behind j i rule there in omega (arith, w, none)))
+
+  -- no family's instance stands in a window whose number isn't marked
+  pub none_raised : (window : List Instr) (shape : ℕ) → shape ≡ shape_of (map (seen true) window) → is_marked index.holes.wholes.items shape ≡ false → NoneStands (families_in es fs) window
+  none_raised window shape is missing k i rule registers at s =
+      let noted = hole_noted k i rule at (shorter_is rule registers window s) in
+      let bad : true ≡ false = sym noted.whole ∙ ap (is_marked index.holes.wholes.items) (side_shape true (map blind rule.left) registers window (blind_stands rule registers window s) ∙ sym is) ∙ missing in
+      absurd (cc)
+
+  pub none_raised_empty : (window : List Instr) → length fs ≡ 0 → NoneStands (families_in es fs) window
+  none_raised_empty window none k i rule registers at s = absurd (let w = behind k i rule at in omega (arith, w, none))
+
+  -- nor any rule where no entry's left side is marked either
+  pub none_standing : (window : List Instr) (shape : ℕ) → shape ≡ shape_of (map (seen false) window) → is_marked index.marks.wholes.items shape ≡ false → NoneStands (families_in es fs) window → NoneStands (numbers_in es fs) window
+  none_standing window shape is missing families k i rule registers at s = split k i rule at
+      (λ there.
+      let noted = entry_noted k rule there (shorter_is rule registers window s) in
+      let bad : true ≡ false = sym noted.whole ∙ ap (is_marked index.marks.wholes.items) (side_shape false rule.left registers window s.stands.matches ∙ sym is) ∙ missing in
+      absurd (cc))
+      (λ j there. families j i rule registers there s)

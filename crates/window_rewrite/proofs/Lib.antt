@@ -13,6 +13,10 @@ pub mod Alike
 pub mod Formed
 pub mod Chosen
 pub mod Accepted
+pub mod Opened
+pub mod Results
+pub mod Joined
+pub mod Raised
 pub mod Rounds
 pub mod DueLines
 pub mod DuePlaces

@@ -1,30 +1,48 @@
 -- Replacements that can be made, and which of them comes first.
-use Rattle.std.specs.Prelude.{◌≡◌, ℕ, ◌+◌, ◌<◌, ◌≤◌, ◌==◌, nat_lt, Bool, true, List, [], ◌∷◌, length, drop, slice_get, Option, Some}
+use Rattle.std.specs.Prelude.{◌≡◌, ℕ, ◌+◌, ◌<◌, ◌≤◌, ◌==◌, nat_lt, Bool, true, List, [], ◌∷◌, ◌++◌, length, drop, map, slice_get, Option, Some}
 use Rattle.std.specs.Int.{from_bool}
 use Rattle.thumb_instr.specs.declared.instr.Instr.{Instr}
 use Rattle.thumb_instr.specs.Renaming.{Low}
 use Rattle.thumb_model.specs.Listing.{Line, code_of}
 use Rattle.liveness.specs.Kept.{KeepsAt}
 use Rattle.thumb_model.specs.Layout.{Layable}
-use Rattle.rule_model.specs.Rules.{Rule, weight, alone, Applies}
+use Rattle.rule_model.specs.Rules.{Rule, weight, alone, rule_at, Applies}
 use Rattle.rule_model.specs.Rewriting.{Setting, Replacement, used_rule, AppliesIn, IsFirst, lines_after, left_length}
 use Rattle.thumb_model.specs.ReplacedLines.{are_joined_from, replaced_lines}
 use Rattle.window_runs.specs.Windows.{IsWindow}
 use Rattle.window_rewrite.specs.declared.choice.Choice.{Choice}
 use Rattle.window_rewrite.specs.declared.finding.Rules.{Rules}
 use Rattle.window_rewrite.specs.Rewriting.{setting, replacement_of, IsWhole}
-use Rattle.window_rewrite.specs.Rules.{rules_in, first_with, AreFit, IsIndex}
+use Rattle.rule_table.specs.Views.{family_of, rule_of}
+use Rattle.table_audit.specs.Soundness.{numbers_in}
+use Rattle.window_rewrite.specs.Rules.{rules_in, raised_rules, first_with, with_open, AreFit, AreRaised, IsIndex}
 use Rattle.window_rewrite.specs.Forms.{form_of}
 use Rattle.window_rewrite.specs.Fitting.{Shortens}
 
--- the table of a finder, whose index is that of its entries
-abbrev pub setting_of : Rules → Setting
-setting_of r = setting r.base (alone (rules_in r.entries.now))
+-- the table of a finder
+abbrev pub table_in : Rules → List (List Rule)
+table_in r = numbers_in (map rule_of r.entries.now) (map family_of r.families.now)
 
+abbrev pub setting_of : Rules → Setting
+setting_of r = setting r.base (table_in r)
+
+-- its entries alone
+abbrev pub entries_setting : Rules → Setting
+entries_setting r = setting r.base (alone (rules_in r.entries.now))
+
+-- rules with the left sides of its families, and with those of its entries too
+abbrev pub families_sides : Rules → List Rule
+families_sides r = raised_rules (map rule_of r.entries.now) (map family_of r.families.now)
+
+abbrev pub sides_of : Rules → List Rule
+sides_of r = rules_in r.entries.now ++ families_sides r
+
+-- its index is that of its rules
 pub record AreReady (r : Rules) : Type 0 where
   pub few : r.longest ≤ 5
-  pub fit : AreFit r.longest (rules_in r.entries.now)
-  pub index : IsIndex (rules_in r.entries.now) r.index.now
+  pub fit : AreFit r.longest (table_in r)
+  pub raised : AreRaised (map rule_of r.entries.now) (map family_of r.families.now)
+  pub index : IsIndex (map rule_of r.entries.now) (map family_of r.families.now) r.index.now
 
 -- each left side that may give way in the window has this number
 abbrev pub HaveForm : List Rule → List Instr → ℕ → Type 0
@@ -64,14 +82,26 @@ pub record IsChoice (s : Setting) (lines : List Line) (c : Choice) : Type 0 wher
   pub leaves : replaced_lines s.write (choice_of c).place (length c.window) c.new lines ≡ lines_after s (choice_of c) lines
   pub long : length c.window ≡ left_length s (choice_of c)
 
--- of the choices at a place by left sides of so many instructions it has the lowest entry
+-- a rule with these sides and this mask applies at the place as this number's instance
+pub record IsChoiceBy (base : ℕ) (rule : Rule) (lines : List Line) (place entry instance : ℕ) (c : Choice) : Type 0 where
+  pub is : (table : List (List Rule)) (numbers : List ℕ) → rule_at table entry instance ≡ Some (with_open rule numbers) → IsChoice (setting base table) lines c
+  pub at : (choice_of c).place ≡ place
+  pub entry_is : (choice_of c).entry ≡ entry
+  pub instance_is : (choice_of c).instance ≡ instance
+
+-- no rule with these sides and this mask meets this at the place
+abbrev pub NoneBy : Bool → ℕ → Rule → List Line → ℕ → Type 0
+NoneBy asked base rule lines place = (table : List (List Rule)) (numbers : List ℕ) (o : Replacement) → used_rule (setting base table) o ≡ Some (with_open rule numbers) → o.place ≡ place → Meets asked (setting base table) o lines → ⊥
+
+-- of the choices at a place by left sides of so many instructions it has the lowest number
 pub record IsLowest (s : Setting) (lines : List Line) (place count : ℕ) (c : Choice) : Type 0 where
   pub is : IsChoice s lines c
   pub at : (choice_of c).place ≡ place
   pub long : left_length s (choice_of c) ≡ count
   pub lowest : (o : Replacement) → AppliesIn s o lines → o.place ≡ place → left_length s o ≡ count → (choice_of c).entry ≤ o.entry
+  pub lowest_instance : (o : Replacement) → AppliesIn s o lines → o.place ≡ place → left_length s o ≡ count → o.entry ≡ (choice_of c).entry → (choice_of c).instance ≤ o.instance
 
--- no entry meets this at a place by a left side of so many instructions
+-- none meets this at a place by a left side of so many instructions
 abbrev pub NoneOf : Bool → Setting → List Line → ℕ → ℕ → Type 0
 NoneOf asked s lines place count = (o : Replacement) → Meets asked s o lines → o.place ≡ place → left_length s o ≡ count → ⊥
 
@@ -81,6 +111,7 @@ pub record IsBest (s : Setting) (lines : List Line) (place : ℕ) (c : Choice) :
   pub at : (choice_of c).place ≡ place
   pub longest : (o : Replacement) → AppliesIn s o lines → o.place ≡ place → left_length s o ≤ left_length s (choice_of c)
   pub lowest : (o : Replacement) → AppliesIn s o lines → o.place ≡ place → left_length s o ≡ left_length s (choice_of c) → (choice_of c).entry ≤ o.entry
+  pub lowest_instance : (o : Replacement) → AppliesIn s o lines → o.place ≡ place → left_length s o ≡ left_length s (choice_of c) → o.entry ≡ (choice_of c).entry → (choice_of c).instance ≤ o.instance
 
 -- none does at a place
 abbrev pub NoneAt : Bool → Setting → List Line → ℕ → Type 0

@@ -6,12 +6,15 @@ use Rattle.thumb_instr.specs.Renaming.{Low, renamed, item_under}
 use Rattle.thumb_model.specs.Flow.{LiveAfter}
 use Rattle.thumb_model.specs.Items.{one_of}
 use Rattle.thumb_model.specs.Listing.{Line, code_of}
-use Rattle.rule_model.specs.Rules.{Rule, rule_registers, IsSoundRule}
+use Rattle.rule_model.specs.Rules.{Rule, rule_at, rule_registers, IsSoundRule}
 use Rattle.thumb_model.specs.Sides.{IsOneToOne, register_count, normalised}
 use Rattle.table_audit.specs.Sides.{IsCanonicalSide}
 use Rattle.window_runs.specs.Windows.{IsWindow}
 use Rattle.window_rewrite.specs.declared.forms.Form.{Form}
+use Rattle.window_rewrite.specs.declared.marks.Marks.{Marks}
 use Rattle.window_rewrite.specs.Forms.{form_of}
+use Rattle.window_rewrite.specs.Rules.{IsNoted}
+use Rattle.window_rewrite.specs.Shapes.{seen}
 
 -- the instructions are a window at the place, after which these items are live
 pub record StandsThere (lines : List Line) (place : ℕ) (window : List Instr) (items : ℕ) : Type 0 where
@@ -29,9 +32,21 @@ pub record Shortens (rule : Rule) (registers : List Low) (window : List Instr) :
   pub stands : Stands rule registers window
   pub shorter : length rule.right < length rule.left
 
--- of the rules none stands first in the run whose left side has more than so many instructions, and at most so many others
-abbrev pub NoneBetween : List Rule → List Instr → ℕ → ℕ → Type 0
-NoneBetween rules run low high = (n k : ℕ) (rule : Rule) (registers : List Low) → low < length rule.left → length rule.left ≤ high → slice_get rules k ≡ Some rule → Shortens rule registers (take n run) → ⊥
+-- of the rules of the table none that leaves fewer instructions stands in the window
+abbrev pub NoneStands : List (List Rule) → List Instr → Type 0
+NoneStands table window = (k i : ℕ) (rule : Rule) (registers : List Low) → rule_at table k i ≡ Some rule → Shortens rule registers window → ⊥
+
+-- and none with a left side of more than so many instructions stands first in the run
+abbrev pub NoneReaches : List (List Rule) → List Instr → ℕ → Type 0
+NoneReaches table run count = (n k i : ℕ) (rule : Rule) (registers : List Low) → count < length rule.left → rule_at table k i ≡ Some rule → Shortens rule registers (take n run) → ⊥
+
+-- of the sides that are marked none stands first in the run, its instructions as they are or blind, that has more than so many instructions
+abbrev pub NoneMarked : Marks → Bool → List Instr → ℕ → Type 0
+NoneMarked marks hidden run low = (n : ℕ) (side : List Instr) (registers : List Low) → low < length side → IsNoted marks side → map (seen hidden) (take n run) ≡ map (renamed registers) side → ⊥
+
+-- nor with at most so many others
+abbrev pub NoneBetween : Marks → Bool → List Instr → ℕ → ℕ → Type 0
+NoneBetween marks hidden run low high = (n : ℕ) (side : List Instr) (registers : List Low) → low < length side → length side ≤ high → IsNoted marks side → map (seen hidden) (take n run) ≡ map (renamed registers) side → ⊥
 
 -- the item may be live: the mask has it under the map, or it is a register outside the map
 abbrev pub is_allowed : List ℕ → List Low → ℕ → Bool
@@ -68,5 +83,6 @@ pub record FitsWhole (rule : Rule) (registers : List Low) (window : List Instr) 
 -- what is told of a window is true of each rule that may stand in it
 pub record IsForm (window : List Instr) (f : Form) : Type 0 where
   pub small : f.number < 65536
+  pub side : (rule : Rule) (registers : List Low) → IsSoundRule rule → IsCanonicalSide rule.left → Stands rule registers window → rule.left ≡ f.side
   pub number : (rule : Rule) (registers : List Low) → IsSoundRule rule → IsCanonicalSide rule.left → Stands rule registers window → form_of rule.left ≡ f.number
   pub mask : (rule : Rule) (registers : List Low) → IsSoundRule rule → IsCanonicalSide rule.left → Fits rule registers window f.live.bits → (x : ℕ) → has f.mask.items.bits x ≡ true → one_of x rule.mask ≡ true

@@ -5,6 +5,7 @@ pub mod Forms
 pub mod Rules
 pub mod Fitting
 pub mod Choices
+pub mod Families
 pub mod Layouts
 pub mod Scenes
 pub mod Settled

@@ -22,9 +22,9 @@ registers_of [] = []
 registers_of (None ∷ os) = registers_of os
 registers_of (Some r ∷ os) = r ∷ registers_of os
 
--- a replacement that was made: its entry is counted from 0, and has one instance
+-- a replacement that was made: its entry or family is counted from 0
 abbrev pub replacement_of : Made → Replacement
-replacement_of m = record { place = m.place; entry = m.entry - 1; instance = 0; registers = registers_of m.map }
+replacement_of m = record { place = m.place; entry = m.entry - 1; instance = m.instance; registers = registers_of m.map }
 
 -- the map of so many registers that gives these in place of r0, r1, .. , and none in place of those behind
 abbrev pub map_of : ℕ → List Low → List (Option Low)
@@ -32,7 +32,7 @@ map_of zero rs = []
 map_of (suc n) [] = None ∷ map_of n []
 map_of (suc n) (r ∷ rs) = Some r ∷ map_of n rs
 
--- a replacement that was made says its entry as counted from 1, and its registers in place of r0, r1, .. and of no others of the eight
+-- a replacement that was made says its entry or family as counted from 1, and its registers in place of r0, r1, .. and of no others of the eight
 pub record IsWhole (m : Made) : Type 0 where
   pub counted : 1 ≤ m.entry
   pub in_place : m.map ≡ map_of 8 (registers_of m.map)
@@ -46,10 +46,10 @@ IsRefusal base lines error.Memory = Unit {0}
 abbrev pub visits : ℕ → ℕ
 visits places = (19 * places + 1) * places
 
--- how many matches are tried for one replacement, in a listing of so many places by a table of so many entries
+-- how many matches are tried for one replacement, in a listing of so many places by a table of so many entries and families
 abbrev pub round_cost : ℕ → ℕ → ℕ
-round_cost places entries = places * entries
+round_cost places numbers = places * numbers
 
 -- the cost of some replacements, and of finding that there is no more: the matches, and the visits for the live items of the given lines
-abbrev pub rewriting_cost : List Line → List Rule → ℕ → ℕ
-rewriting_cost lines rules replacements = (replacements + 1) * round_cost (length (places_of lines)) (length rules) + visits (length (places_of lines))
+abbrev pub rewriting_cost : List Line → ℕ → ℕ → ℕ
+rewriting_cost lines numbers replacements = (replacements + 1) * round_cost (length (places_of lines)) numbers + visits (length (places_of lines))

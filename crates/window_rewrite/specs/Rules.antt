@@ -1,19 +1,22 @@
 -- The rules of a table, and how they are found by their left sides.
 use Rattle.std.specs.Prelude.{◌≡◌, ℕ, suc, ◌+◌, ◌==◌, ◌<◌, ◌≤◌, ◌&&◌, Bool, true, false, List, [], ◌∷◌, length, map, take, drop, nat_lt, Option, Some, None, slice_get, if◌then◌else◌}
+use Rattle.std.specs.List.{list_any}
 use Rattle.thumb_instr.specs.declared.instr.Instr.{Instr}
-use Rattle.rule_model.specs.Rules.{Rule, IsSoundRule}
+use Rattle.rule_model.specs.Rules.{Rule, alone, rule_at, IsSoundRule}
 use Rattle.rule_model.specs.Rewriting.{left_length_of}
 use Rattle.thumb_model.specs.Sides.{register_count}
 use Rattle.rule_table.specs.declared.table.Entry.{Entry}
 use Rattle.rule_table.specs.Views.{rule_of}
-use Rattle.table_audit.specs.Soundness.{rewriting_rule}
+use Rattle.rule_table.specs.Table as tables
+use Rattle.table_audit.specs.Families.{entry_at, is_hole}
+use Rattle.table_audit.specs.Soundness.{instances_of, rewriting_rule}
 use Rattle.table_audit.specs.Sides.{IsCanonicalSide}
 use Rattle.window_rewrite.specs.declared.chains.Chains.{Chains}
 use Rattle.window_rewrite.specs.declared.index.Index.{Index}
 use Rattle.window_rewrite.specs.declared.marks.Marks.{Marks}
 use Rattle.window_rewrite.specs.declared.shadows.Kept.{Kept}
 use Rattle.window_rewrite.specs.Forms.{form_of}
-use Rattle.window_rewrite.specs.Shapes.{shape_of}
+use Rattle.window_rewrite.specs.Shapes.{blind, shape_of}
 
 abbrev pub entry_rule : Entry → Rule
 entry_rule e = rewriting_rule (rule_of e)
@@ -27,8 +30,46 @@ pub record IsFit (longest : ℕ) (rule : Rule) : Type 0 where
   pub canonical : IsCanonicalSide rule.left
   pub short : length rule.left ≤ longest
 
-abbrev pub AreFit : ℕ → List Rule → Type 0
-AreFit longest rules = (k : ℕ) (rule : Rule) → slice_get rules k ≡ Some rule → IsFit longest rule
+abbrev pub AreFit : ℕ → List (List Rule) → Type 0
+AreFit longest table = (k i : ℕ) (rule : Rule) → rule_at table k i ≡ Some rule → IsFit longest rule
+
+-- the rule with other numbers of sequences that it leaves open, at which rewriting doesn't look
+abbrev pub with_open : Rule → List ℕ → Rule
+with_open r numbers = record r { open_numbers = numbers }
+
+-- ---- families ----
+
+-- the instances of each family
+abbrev pub families_in : List tables.Rule → List tables.Family → List (List Rule)
+families_in es fs = map (λ f. instances_of f (entry_at es f.entry)) fs
+
+-- a family's entry is there, its range is one of bytes, and the left side has a hole for its number
+pub record IsRaised (es : List tables.Rule) (f : tables.Family) : Type 0 where
+  pub entry : tables.Rule
+  pub is_entry : entry_at es f.entry ≡ Some entry
+  pub bytes : f.high ≤ 255
+  pub held : list_any (is_hole f.number) entry.left ≡ true
+
+abbrev pub AreRaised : List tables.Rule → List tables.Family → Type 0
+AreRaised es fs = (k : ℕ) (f : tables.Family) → slice_get fs k ≡ Some f → IsRaised es f
+
+-- the rule of the entry that a family raises: its left side is as long as those of the instances
+abbrev pub raised_rule : Option tables.Rule → Rule
+raised_rule None = record { left = []; right = []; mask = []; open_numbers = [] }
+raised_rule (Some e) = rewriting_rule e
+
+-- the number of the entry's left side with 0 for 8-bit numbers, and that of each family
+abbrev pub raised_form : Option tables.Rule → ℕ
+raised_form None = 0
+raised_form (Some e) = form_of (map blind e.left)
+
+abbrev pub raised_forms : List tables.Rule → List tables.Family → List ℕ
+raised_forms es fs = map (λ f. raised_form (entry_at es f.entry)) fs
+
+abbrev pub raised_rules : List tables.Rule → List tables.Family → List Rule
+raised_rules es fs = map (λ f. raised_rule (entry_at es f.entry)) fs
+
+-- ---- lengths ----
 
 -- how long the left side of the rule of a number is
 abbrev pub side_length : List Rule → ℕ → ℕ
@@ -55,16 +96,32 @@ is_marked marks k = is_true (slice_get marks k)
 abbrev pub AreMarked : List Bool → List Instr → ℕ → Type 0
 AreMarked marks side count = (at : ℕ) → at < count → is_marked marks (shape_of (take (suc at) side)) ≡ true
 
--- the left side of the rule is marked
-pub record IsNoted (marks : Marks) (rule : Rule) : Type 0 where
-  pub whole : is_marked marks.wholes.items (shape_of rule.left) ≡ true
-  pub fronts : AreMarked marks.fronts.items rule.left (length rule.left)
+-- a side is marked
+pub record IsNoted (marks : Marks) (side : List Instr) : Type 0 where
+  pub whole : is_marked marks.wholes.items (shape_of side) ≡ true
+  pub fronts : AreMarked marks.fronts.items side (length side)
 
--- those of the first n rules are that leave fewer instructions
-pub record HaveMarks (rules : List Rule) (n : ℕ) (marks : Marks) : Type 0 where
-  pub many_wholes : length marks.wholes.items ≡ 65536
-  pub many_fronts : length marks.fronts.items ≡ 65536
-  pub noted : (k : ℕ) (rule : Rule) → k < n → slice_get rules k ≡ Some rule → is_shorter rule ≡ true → IsNoted marks rule
+-- there is a mark for each number
+pub record AreMany (marks : Marks) : Type 0 where
+  pub wholes : length marks.wholes.items ≡ 65536
+  pub fronts : length marks.fronts.items ≡ 65536
+
+-- what was marked still is
+pub record StayNoted (old new : Marks) : Type 0 where
+  pub wholes : (q : ℕ) → is_marked old.wholes.items q ≡ true → is_marked new.wholes.items q ≡ true
+  pub fronts : (q : ℕ) → is_marked old.fronts.items q ≡ true → is_marked new.fronts.items q ≡ true
+
+-- a rule's left side, and that with 0 for 8-bit numbers
+abbrev pub left_side : Rule → List Instr
+left_side r = r.left
+
+abbrev pub blind_side : Rule → List Instr
+blind_side r = map blind r.left
+
+-- such sides of the rules of the first n numbers of a table are marked that leave fewer instructions
+pub record AreNoted (side : Rule → List Instr) (table : List (List Rule)) (n : ℕ) (marks : Marks) : Type 0 where
+  pub many : AreMany marks
+  pub noted : (k i : ℕ) (rule : Rule) → k < n → rule_at table k i ≡ Some rule → is_shorter rule ≡ true → IsNoted marks (side rule)
 
 -- ---- shadows ----
 
@@ -120,6 +177,8 @@ pub record AreChains (rules : List Rule) (n : ℕ) (chains : Chains) : Type 0 wh
   pub as_many : length chains.nexts.items ≡ length rules
   pub nexts : AreNexts rules chains.kept.items chains.nexts.items n
 
-pub record IsIndex (rules : List Rule) (index : Index) : Type 0 where
-  pub marks : HaveMarks rules (length rules) index.marks
-  pub chains : AreChains rules 0 index.chains
+pub record IsIndex (entries : List tables.Rule) (families : List tables.Family) (index : Index) : Type 0 where
+  pub marks : AreNoted left_side (alone (map rewriting_rule entries)) (length entries) index.marks
+  pub holes : AreNoted blind_side (families_in entries families) (length families) index.holes
+  pub chains : AreChains (map rewriting_rule entries) 0 index.chains
+  pub forms : index.forms.items ≡ raised_forms entries families

@@ -4,13 +4,15 @@ use listing_parser::Listing;
 use rule_table::Map;
 use thumb_instr::Seq;
 
-/// An entry was used: its right side stands in place of its left side.
+/// An entry or a family was used: its right side stands in place of its left side.
 #[derive(Drop)]
 pub struct Replacement {
     /// The place of the first instruction that was replaced, counted from 0 in the listing as it then was.
     pub place: u32,
-    /// The entry of the table, counted from 1.
+    /// The entry of the table, counted from 1, or the family, where these are counted behind the entries.
     pub entry: u64,
+    /// How far the value of a family's number is above the least; 0 for an entry.
+    pub instance: u8,
     /// The registers that stood in place of the entry's own, and of a scratch register where its right side names one.
     pub map: Map,
 }

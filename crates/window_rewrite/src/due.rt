@@ -1,24 +1,21 @@
-//! The places of a listing at which an entry may apply: those that are due are looked at, the least first, until none is.
-ghost use Rattle.std.specs.Prelude.{◌≡◌, ◌+◌, ◌*◌, ◌<◌, ◌≤◌, ℕ, suc, List, true, false, All, length, map, replicate, slice_get, take, is_some, Some, IfOk, OnOk, IfSome, IfNone};
+//! The places of a listing at which an entry or a family may apply: those that are due are looked at, the least first, until none is.
+ghost use Rattle.std.specs.Prelude.{◌≡◌, ◌+◌, ◌*◌, ◌<◌, ◌≤◌, ℕ, suc, List, true, false, All, length, map, replicate, slice_get, is_some, Some, IfOk, OnOk, IfSome, IfNone};
 ghost use Rattle.std.specs.Int.{from_bool};
-ghost use Rattle.thumb_instr.specs.Renaming.{Low};
 ghost use Rattle.kept_places.specs.Marks.{is_gone, marked};
 ghost use Rattle.thumb_model.specs.Listing.{places_of};
-ghost use Rattle.rule_model.specs.Rules.{Rule};
 ghost use Rattle.rule_model.specs.Rewriting.{lines_after, AreRewritten, IsFirst};
 ghost use Rattle.edited_listing.specs.Edited.{marks};
 ghost use Rattle.step_ledger.specs.Counts.{RisesByAtLeast};
-ghost use Rattle.window_rewrite.specs.Choices.{choice_of, setting_of, AreReady, IsChoice};
-ghost use Rattle.window_rewrite.specs.Fitting.{Shortens};
+ghost use Rattle.window_rewrite.specs.Choices.{choice_of, setting_of, sides_of, table_in, AreReady, IsChoice};
+ghost use Rattle.window_rewrite.specs.Fitting.{NoneReaches};
 ghost use Rattle.window_rewrite.specs.Due.{AreTried, AreTriedBut, Reaches, StayMarked};
 ghost use Rattle.window_rewrite.specs.Rewriting.{replacement_of, IsWhole};
-ghost use Rattle.window_rewrite.specs.Rules.{rules_in};
 ghost use Rattle.window_rewrite.specs.Scenes.{lines_of, IsNear, IsOver, IsSite};
 ghost use Rattle.window_rewrite.specs.Layouts.{Moves};
 
-use crate::beginning::may_begin;
 use crate::choice::{Choice, Replacement};
-use crate::finding::{Look, Rules, best, reach};
+use crate::finding::{Look, Rules, best};
+use crate::fronts::{may_begin, reach};
 use crate::scene::{Scene, Site};
 use kept_places::PlaceSet;
 use listing_parser::Memory;
@@ -163,7 +160,7 @@ impl Due {
         requires site { IsSite rules.now.longest scene.old site.now }
         requires near { IsNear scene.old site.now }
         requires reached { reached ≤ length site.now.run.letters }
-        requires none { (n k : ℕ) (rule : Rule) (registers : List Low) → reached < length rule.left → slice_get (rules_in rules.now.entries.now) k ≡ Some rule → Shortens rule registers (take n site.now.run.letters) → ⊥ }
+        requires none { NoneReaches (table_in rules.now) site.now.run.letters reached }
         requires tried { AreTriedBut (setting_of rules.now) scene.old self.old site.now.place }
         requires least { (q : ℕ) → q < site.now.place → marked self.old.due q ≡ false }
         ensures over { OnOk result (IsOver rules.now scene.new) }
@@ -171,7 +168,7 @@ impl Due {
         ensures tried { OnOk result (AreTried (setting_of rules.now) scene.new self.new) }
         ensures none { IfOk result (λ o. IfNone o ((lines_of scene.new ≡ lines_of scene.old) × (self.new.due ≡ self.old.due))) }
         ensures first { IfOk result (λ o. IfSome o (λ r. IsWhole r × IsFirst (setting_of rules.now) (replacement_of r) (lines_of scene.old) × (lines_of scene.new ≡ lines_after (setting_of rules.now) (replacement_of r) (lines_of scene.old)))) }
-        ensures cost { steps.new ≤ steps.old + length (rules_in rules.now.entries.now) }
+        ensures cost { steps.new ≤ steps.old + length (sides_of rules.now) }
         ensures rises { IfOk result (λ o. RisesByAtLeast steps.old steps.new (from_bool (is_some o))) }
     {
         let mut is_refused = false;
@@ -214,7 +211,7 @@ impl Due {
         ensures tried { OnOk result (AreTried (setting_of rules.now) scene.new self.new) }
         ensures none { IfOk result (λ o. IfNone o ((lines_of scene.new ≡ lines_of scene.old) × (self.new.due ≡ self.old.due))) }
         ensures first { IfOk result (λ o. IfSome o (λ r. IsWhole r × IsFirst (setting_of rules.now) (replacement_of r) (lines_of scene.old) × (lines_of scene.new ≡ lines_after (setting_of rules.now) (replacement_of r) (lines_of scene.old)))) }
-        ensures cost { steps.new ≤ steps.old + length (rules_in rules.now.entries.now) }
+        ensures cost { steps.new ≤ steps.old + length (sides_of rules.now) }
         ensures rises { IfOk result (λ o. RisesByAtLeast steps.old steps.new (from_bool (is_some o))) }
     {
         if !may_begin(rules, scene.listing.first_letter(place)) {
@@ -243,7 +240,7 @@ pub(crate) fn go_through<L: Ledger>(
     ensures over { OnOk result (IsOver rules.now scene.new) }
     ensures whole { IfOk result (λ rs. All IsWhole rs.items) }
     ensures rewritten { IfOk result (λ rs. AreRewritten (setting_of rules.now) (lines_of scene.old) (map replacement_of rs.items) (lines_of scene.new)) }
-    ensures cost { IfOk result (λ rs. steps.new ≤ steps.old + (length rs.items + 1) * (length (places_of (lines_of scene.old)) * length (rules_in rules.now.entries.now))) }
+    ensures cost { IfOk result (λ rs. steps.new ≤ steps.old + (length rs.items + 1) * (length (places_of (lines_of scene.old)) * length (sides_of rules.now))) }
     ensures rises { IfOk result (λ rs. RisesByAtLeast steps.old steps.new (length rs.items)) }
 {
     let mut due = Due::all(alloc, scene.listing.place_count())?;

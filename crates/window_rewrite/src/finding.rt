@@ -1,40 +1,41 @@
 //! The best replacement that can be made at a place.
-ghost use Rattle.std.specs.Prelude.{◌≡◌, ◌+◌, ◌<◌, ◌≤◌, ◌↔◌, ℕ, List, length, take, slice_get, true, false, ◌==◌, is_some, if◌then◌else◌, Some, IfOk, OnOk, IfSome, IfNone, OnSome};
+ghost use Rattle.std.specs.Prelude.{◌≡◌, ◌+◌, ◌-◌, ◌<◌, ◌≤◌, ◌↔◌, List, length, true, false, ◌==◌, is_some, IfOk, OnOk, IfSome, IfNone, OnSome};
 ghost use Rattle.std.specs.Int.{from_bool};
 ghost use Rattle.std.specs.List.{list_all};
 ghost use Rattle.thumb_instr.specs.Renaming.{Low};
 ghost use Rattle.thumb_instr.specs.Window.{is_in_window};
 ghost use Rattle.thumb_model.specs.Layout.{Layable};
 ghost use Rattle.thumb_model.specs.ReplacedLines.{replaced_lines};
-ghost use Rattle.rule_model.specs.Rules.{Rule};
 ghost use Rattle.listing_parser.specs.Parsing.{own_line};
 ghost use Rattle.window_runs.specs.Windows.{IsWindow};
 ghost use Rattle.step_ledger.specs.Counts.{RisesByAtLeast};
-ghost use Rattle.window_rewrite.specs.Fitting.{IsForm, Shortens, StandsThere};
-ghost use Rattle.window_rewrite.specs.Rules.{is_marked, rules_in, side_length};
-ghost use Rattle.window_rewrite.specs.Choices.{setting_of, choice_of, of_length, AreReady, Awaits, IsBest, IsChoice, IsLowest, Meets, NoneAt, NoneOf};
+ghost use Rattle.window_rewrite.specs.Fitting.{IsForm, NoneReaches, StandsThere};
+ghost use Rattle.window_rewrite.specs.Rules.{entry_rule, rules_in, side_length, IsFit};
+ghost use Rattle.window_rewrite.specs.Choices.{entries_setting, setting_of, sides_of, table_in, choice_of, of_length, AreReady, Awaits, IsBest, IsChoice, IsChoiceBy, IsLowest, Meets, NoneAt, NoneBy, NoneOf};
 ghost use Rattle.window_rewrite.specs.Scenes.{lines_seen, number_seen, IsLook};
 ghost use Rattle.window_rewrite.specs.Layouts.{is_steady, Moves};
 
 use crate::choice::{Choice, Replacement};
+use crate::families::lowest_family;
 use crate::fitting::fitting;
 use crate::forms::Form;
+use crate::fronts::may_stand;
 use crate::index::Index;
 use crate::items::registers_of;
 use crate::replacing::renamed_all;
 use crate::scene::{Scene, Site};
-use crate::shapes::{next_shape, shape_of};
 use kept_layout::Move;
 use listing_parser::Memory;
-use rule_table::Entry;
+use rule_table::{Entry, Family};
 use std::alloc::Global;
 use step_ledger::{Ledger, Steps};
-use thumb_instr::{Instr, Items, Seq, normal};
+use thumb_instr::{Instr, Items, Seq};
 
 /// A table as the finder goes by it.
 #[derive(Drop)]
 pub(crate) struct Rules<'a> {
     pub(crate) entries: &'a [Entry],
+    pub(crate) families: &'a [Family],
     pub(crate) index: &'a Index,
     /// How many instructions a left side has at most.
     pub(crate) longest: u8,
@@ -86,6 +87,68 @@ fn copied(window: &[Instr]) -> Seq
     seq
 }
 
+/// What a rule makes of a window at the place, of which this is told and which is as long as the rule's left side. It is an entry, or an instance of a family with
+/// the sides and the mask of this one. `refused` comes to be true where the rule fits and the layout refuses it.
+pub(crate) fn try_rule<L: Ledger>(
+    alloc: Global,
+    look: &Look<'_>,
+    window: &[Instr],
+    form: &Form,
+    rule: &Entry,
+    entry: u64,
+    instance: u8,
+    refused: &mut bool,
+    steps: &mut Steps<L>,
+) -> Result<Option<Choice>, Memory>
+    requires look { IsLook look.now }
+    requires stands { StandsThere (lines_seen look.now) (number_seen look.now) window.now form.now.live.bits }
+    requires within { length window.now ≤ length look.now.site.now.run.letters }
+    requires form { IsForm window.now form.now }
+    requires fit { IsFit look.now.rules.now.longest (entry_rule rule.now) }
+    requires long { length rule.now.left ≡ length window.now }
+    requires counted { 1 ≤ entry }
+    ensures some { IfOk result (λ o. IfSome o (IsChoiceBy look.now.rules.now.base (entry_rule rule.now) (lines_seen look.now) (number_seen look.now) (entry - 1) instance)) }
+    ensures moved { IfOk result (λ o. IfSome o (λ c. Moves look.now.scene.now.layout c.window c.new c.moved)) }
+    ensures none { IfOk result (λ o. IfNone o (NoneBy refused.new look.now.rules.now.base (entry_rule rule.now) (lines_seen look.now) (number_seen look.now))) }
+    ensures stays { OnOk result (refused.old ≡ true → refused.new ≡ true) }
+    ensures cost { steps.new ≤ steps.old + 1 }
+    ensures rises { IfOk result (λ o. RisesByAtLeast steps.old steps.new (from_bool (is_some o))) }
+{
+    if !form.may_fit(rule.mask) {
+        return Ok(None);
+    }
+    steps.tick();
+    let map = match fitting(rule, window, form.live) {
+        None => return Ok(None),
+        Some(map) => map,
+    };
+    let new = renamed_all(rule.right.as_slice(), &registers_of(&map));
+    if !look
+        .scene
+        .is_settled(look.rules, look.site, window.len(), new.as_slice())
+    {
+        return Ok(None);
+    }
+    let moved = match moved_layout(alloc, look, window, new.as_slice())? {
+        None => {
+            *refused = true;
+            return Ok(None);
+        }
+        Some(moved) => moved,
+    };
+    Ok(Some(Choice {
+        replacement: Replacement {
+            place: look.site.number,
+            entry,
+            instance,
+            map,
+        },
+        window: copied(window),
+        new,
+        moved,
+    }))
+}
+
 /// What the entry of a number makes of a window at the place, of which this is told, where its left side is as long. `refused` comes to be true where
 /// the entry fits and the layout refuses it.
 fn try_entry<L: Ledger>(
@@ -103,9 +166,9 @@ fn try_entry<L: Ledger>(
     requires form { IsForm window.now form.now }
     requires number { number < length look.now.rules.now.entries.now }
     ensures long { IfOk result (λ o. OnSome o (side_length (rules_in look.now.rules.now.entries.now) number ≡ length window.now)) }
-    ensures some { IfOk result (λ o. IfSome o (λ c. IsChoice (setting_of look.now.rules.now) (lines_seen look.now) c × ((choice_of c).place ≡ number_seen look.now) × ((choice_of c).entry ≡ number))) }
+    ensures some { IfOk result (λ o. IfSome o (λ c. IsChoice (entries_setting look.now.rules.now) (lines_seen look.now) c × ((choice_of c).place ≡ number_seen look.now) × ((choice_of c).entry ≡ number))) }
     ensures moved { IfOk result (λ o. IfSome o (λ c. Moves look.now.scene.now.layout c.window c.new c.moved)) }
-    ensures none { IfOk result (λ o. IfNone o (side_length (rules_in look.now.rules.now.entries.now) number ≡ length window.now → (registers : List Low) → Meets refused.new (setting_of look.now.rules.now) (record { place = number_seen look.now; entry = number; instance = 0; registers = registers }) (lines_seen look.now) → ⊥)) }
+    ensures none { IfOk result (λ o. IfNone o (side_length (rules_in look.now.rules.now.entries.now) number ≡ length window.now → (registers : List Low) → Meets refused.new (entries_setting look.now.rules.now) (record { place = number_seen look.now; entry = number; instance = 0; registers = registers }) (lines_seen look.now) → ⊥)) }
     ensures stays { OnOk result (refused.old ≡ true → refused.new ≡ true) }
     ensures cost { steps.new ≤ steps.old + from_bool (side_length (rules_in look.now.rules.now.entries.now) number == length window.now) }
     ensures rises { IfOk result (λ o. RisesByAtLeast steps.old steps.new (from_bool (is_some o))) }
@@ -114,70 +177,17 @@ fn try_entry<L: Ledger>(
     if entry.left.len() != window.len() {
         return Ok(None);
     }
-    if !form.may_fit(entry.mask) {
-        return Ok(None);
-    }
-    steps.tick();
-    let map = match fitting(entry, window, form.live) {
-        None => return Ok(None),
-        Some(map) => map,
-    };
-    let new = renamed_all(entry.right.as_slice(), &registers_of(&map));
-    if !look
-        .scene
-        .is_settled(look.rules, look.site, window.len(), new.as_slice())
-    {
-        return Ok(None);
-    }
-    let moved = match moved_layout(alloc, look, window, new.as_slice())? {
-        None => {
-            *refused = true;
-            return Ok(None);
-        }
-        Some(moved) => moved,
-    };
-    Ok(Some(Choice {
-        replacement: Replacement {
-            place: look.site.number,
-            entry: number as u64 + 1,
-            map,
-        },
-        window: copied(window),
-        new,
-        moved,
-    }))
-}
-
-/// The count of instructions that have a number, if they may be a left side, but for registers; or else that of others.
-fn longest_of(rules: &Rules<'_>, shape: usize, count: usize, other: usize) -> usize
-    requires ready { AreReady rules.now }
-    requires small { shape < 65536 }
-    ensures { result ≡ (if is_marked rules.now.index.now.marks.wholes.items shape then count else other) }
-{
-    if rules.index.marks.has_whole(shape) {
-        count
-    } else {
-        other
-    }
-}
-
-/// How many instructions the longest left side may have that stands first in a run, but for registers; 0 where there is none. No entry that leaves fewer
-/// instructions has a longer left side that stands first in the run.
-pub(crate) fn reach(rules: &Rules<'_>, run: &[Instr]) -> usize
-    requires ready { AreReady rules.now }
-    ensures within { result ≤ length run.now }
-    ensures none { (n k : ℕ) (rule : Rule) (registers : List Low) → result < length rule.left → slice_get (rules_in rules.now.entries.now) k ≡ Some rule → Shortens rule registers (take n run.now) → ⊥ }
-{
-    let mut shape = 0;
-    let mut reached = 0;
-    for at in 0..run.len() {
-        shape = next_shape(shape, &normal(run[at]));
-        if !rules.index.marks.has_front(shape) {
-            return reached;
-        }
-        reached = longest_of(rules, shape, at + 1, reached);
-    }
-    reached
+    try_rule(
+        alloc,
+        look,
+        window,
+        form,
+        entry,
+        number as u64 + 1,
+        0,
+        refused,
+        steps,
+    )
 }
 
 /// The first entry that is kept and whose left side may stand in a window, of which this is told.
@@ -202,9 +212,9 @@ fn lowest_by<L: Ledger>(
     requires stands { StandsThere (lines_seen look.now) (number_seen look.now) window.now form.now.live.bits }
     requires within { length window.now ≤ length look.now.site.now.run.letters }
     requires form { IsForm window.now form.now }
-    ensures some { IfOk result (λ o. IfSome o (IsLowest (setting_of look.now.rules.now) (lines_seen look.now) (number_seen look.now) (length window.now))) }
+    ensures some { IfOk result (λ o. IfSome o (IsLowest (entries_setting look.now.rules.now) (lines_seen look.now) (number_seen look.now) (length window.now))) }
     ensures moved { IfOk result (λ o. IfSome o (λ c. Moves look.now.scene.now.layout c.window c.new c.moved)) }
-    ensures none { IfOk result (λ o. IfNone o (NoneOf refused.new (setting_of look.now.rules.now) (lines_seen look.now) (number_seen look.now) (length window.now))) }
+    ensures none { IfOk result (λ o. IfNone o (NoneOf refused.new (entries_setting look.now.rules.now) (lines_seen look.now) (number_seen look.now) (length window.now))) }
     ensures stays { OnOk result (refused.old ≡ true → refused.new ≡ true) }
     ensures cost { steps.new ≤ steps.old + of_length (length window.now) (rules_in look.now.rules.now.entries.now) }
     ensures rises { IfOk result (λ o. RisesByAtLeast steps.old steps.new (from_bool (is_some o))) }
@@ -219,7 +229,33 @@ fn lowest_by<L: Ledger>(
     Ok(None)
 }
 
-/// The lowest entry that applies to a window at the place, after which these items are live.
+/// The lowest entry that applies to a window at the place, of which this is told, or the lowest family where no entry does.
+fn lowest_in<L: Ledger>(
+    alloc: Global,
+    look: &Look<'_>,
+    window: &[Instr],
+    form: &Form,
+    refused: &mut bool,
+    steps: &mut Steps<L>,
+) -> Result<Option<Choice>, Memory>
+    requires look { IsLook look.now }
+    requires stands { StandsThere (lines_seen look.now) (number_seen look.now) window.now form.now.live.bits }
+    requires within { length window.now ≤ length look.now.site.now.run.letters }
+    requires form { IsForm window.now form.now }
+    ensures some { IfOk result (λ o. IfSome o (IsLowest (setting_of look.now.rules.now) (lines_seen look.now) (number_seen look.now) (length window.now))) }
+    ensures moved { IfOk result (λ o. IfSome o (λ c. Moves look.now.scene.now.layout c.window c.new c.moved)) }
+    ensures none { IfOk result (λ o. IfNone o (NoneOf refused.new (setting_of look.now.rules.now) (lines_seen look.now) (number_seen look.now) (length window.now))) }
+    ensures stays { OnOk result (refused.old ≡ true → refused.new ≡ true) }
+    ensures cost { steps.new ≤ steps.old + of_length (length window.now) (sides_of look.now.rules.now) }
+    ensures rises { IfOk result (λ o. RisesByAtLeast steps.old steps.new (from_bool (is_some o))) }
+{
+    if let Some(choice) = lowest_by(alloc, look, window, form, refused, steps)? {
+        return Ok(Some(choice));
+    }
+    lowest_family(alloc, look, window, form, refused, steps)
+}
+
+/// The lowest entry, or else family, that applies to a window at the place, after which these items are live.
 fn lowest<L: Ledger>(
     alloc: Global,
     look: &Look<'_>,
@@ -235,20 +271,20 @@ fn lowest<L: Ledger>(
     ensures moved { IfOk result (λ o. IfSome o (λ c. Moves look.now.scene.now.layout c.window c.new c.moved)) }
     ensures none { IfOk result (λ o. IfNone o (NoneOf refused.new (setting_of look.now.rules.now) (lines_seen look.now) (number_seen look.now) (length window.now))) }
     ensures stays { OnOk result (refused.old ≡ true → refused.new ≡ true) }
-    ensures cost { steps.new ≤ steps.old + of_length (length window.now) (rules_in look.now.rules.now.entries.now) }
+    ensures cost { steps.new ≤ steps.old + of_length (length window.now) (sides_of look.now.rules.now) }
     ensures rises { IfOk result (λ o. RisesByAtLeast steps.old steps.new (from_bool (is_some o))) }
 {
-    if !look.rules.index.marks.has_whole(shape_of(window)) {
+    if !may_stand(look.rules, window) {
         return Ok(None);
     }
     match Form::of(window, live) {
         None => Ok(None),
-        Some(form) => lowest_by(alloc, look, window, &form, refused, steps),
+        Some(form) => lowest_in(alloc, look, window, &form, refused, steps),
     }
 }
 
-/// The best entry at the place: of those that apply there the lowest with the longest left side. `reached` is how many instructions the longest left
-/// side may have that stands there. `refused` comes to be true where an entry fits and the layout refuses it.
+/// The best entry or family at the place: of those that apply there the lowest with the longest left side. `reached` is how many instructions the longest left
+/// side may have that stands there. `refused` comes to be true where one fits and the layout refuses it.
 pub(crate) fn best<L: Ledger>(
     alloc: Global,
     look: &Look<'_>,
@@ -258,12 +294,12 @@ pub(crate) fn best<L: Ledger>(
 ) -> Result<Option<Choice>, Memory>
     requires look { IsLook look.now }
     requires within { reached ≤ length look.now.site.now.run.letters }
-    requires none { (n k : ℕ) (rule : Rule) (registers : List Low) → reached < length rule.left → slice_get (rules_in look.now.rules.now.entries.now) k ≡ Some rule → Shortens rule registers (take n look.now.site.now.run.letters) → ⊥ }
+    requires none { NoneReaches (table_in look.now.rules.now) look.now.site.now.run.letters reached }
     ensures some { IfOk result (λ o. IfSome o (IsBest (setting_of look.now.rules.now) (lines_seen look.now) (number_seen look.now))) }
     ensures moved { IfOk result (λ o. IfSome o (λ c. Moves look.now.scene.now.layout c.window c.new c.moved)) }
     ensures none { IfOk result (λ o. IfNone o (NoneAt refused.new (setting_of look.now.rules.now) (lines_seen look.now) (number_seen look.now))) }
     ensures stays { OnOk result (refused.old ≡ true → refused.new ≡ true) }
-    ensures cost { steps.new ≤ steps.old + length (rules_in look.now.rules.now.entries.now) }
+    ensures cost { steps.new ≤ steps.old + length (sides_of look.now.rules.now) }
     ensures rises { IfOk result (λ o. RisesByAtLeast steps.old steps.new (from_bool (is_some o))) }
 {
     let run = look.site.run.letters.as_slice();

@@ -1,23 +1,30 @@
-//! What of a window tells which entries may fit it: a number of its canonical form, and the items that are live after it, by the names of that form.
-ghost use Rattle.std.specs.Prelude.{◌≡◌, ◌<◌, ℕ, List, true, IfSome, IfNone};
+//! What of a window tells which entries may fit it: its canonical form and a number of that, and the items that are live after it, by the names of that form.
+ghost use Rattle.std.specs.Prelude.{◌≡◌, ◌<◌, ℕ, List, map, true, IfOk, IfSome, IfNone};
 ghost use Rattle.std.specs.List.{list_all};
 ghost use Rattle.thumb_instr.specs.Items.{has};
 ghost use Rattle.thumb_instr.specs.Renaming.{Low};
 ghost use Rattle.thumb_instr.specs.Window.{is_in_window};
 ghost use Rattle.rule_model.specs.Rules.{Rule, IsSoundRule};
+ghost use Rattle.rule_table.specs.Views.{family_of, rule_of};
+ghost use Rattle.table_audit.specs.Families.{entry_at};
 ghost use Rattle.table_audit.specs.Sides.{IsCanonicalSide};
 ghost use Rattle.window_rewrite.specs.Fitting.{IsForm, Stands};
 ghost use Rattle.window_rewrite.specs.Forms.{form_of, letter_number, next_form};
+ghost use Rattle.window_rewrite.specs.Rules.{raised_form, raised_forms};
 
-use crate::shapes::SHAPES;
-use rule_table::canonical;
+use crate::shapes::{SHAPES, blind_all};
+use listing_parser::Memory;
+use rule_table::{Entry, Family, canonical};
 use seq_enum::rank;
-use thumb_instr::{Instr, Items, Mask, parts};
+use std::alloc::Global;
+use table_audit::entry_at;
+use thumb_instr::{Instr, Items, Mask, Seq, parts};
 
 /// What of a window tells which entries may fit it.
 #[derive(Drop)]
 pub(crate) struct Form {
-    /// The number of each left side that stands in the window.
+    /// The left side of each rule that stands in the window, and its number.
+    pub(crate) side: Seq,
     pub(crate) number: usize,
     /// The items that are live after it.
     pub(crate) live: Items,
@@ -56,6 +63,31 @@ pub(crate) fn form_of(instrs: &[Instr]) -> usize
     form
 }
 
+/// The number of the left side of the entry that a family raises, with 0 for 8-bit numbers.
+fn raised_form(entries: &[Entry], family: &Family) -> usize
+    ensures { result ≡ raised_form (entry_at (map rule_of entries.now) family.now.entry) }
+{
+    match entry_at(entries, family.entry) {
+        None => 0,
+        Some(entry) => form_of(blind_all(entry.left.as_slice()).as_slice()),
+    }
+}
+
+/// Those of families.
+pub(crate) fn raised_forms(
+    alloc: Global,
+    entries: &[Entry],
+    families: &[Family],
+) -> Result<Vec<usize>, Memory>
+    ensures { IfOk result (λ forms. forms.items ≡ raised_forms (map rule_of entries.now) (map family_of families.now)) }
+{
+    let mut forms = Vec::new(alloc);
+    for family in families {
+        forms.push(raised_form(entries, family))?;
+    }
+    Ok(forms)
+}
+
 impl Form {
     /// The form of a window after which these items are live: none where no left side stands in it.
     pub(crate) fn of(window: &[Instr], live: Items) -> Option<Form>
@@ -66,11 +98,15 @@ impl Form {
     {
         match canonical(window, live) {
             None => None,
-            Some((side, _map, mask)) => Some(Form {
-                number: form_of(side.as_slice()),
-                live,
-                mask,
-            }),
+            Some((side, _map, mask)) => {
+                let number = form_of(side.as_slice());
+                Some(Form {
+                    side,
+                    number,
+                    live,
+                    mask,
+                })
+            }
         }
     }
 

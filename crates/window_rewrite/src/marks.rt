@@ -1,17 +1,21 @@
 //! Marks of numbers that left sides share with all that differ from them in registers alone.
-ghost use Rattle.std.specs.Prelude.{◌≡◌, ◌+◌, ◌<◌, ℕ, length, slice_get, Some, true, IfOk};
-ghost use Rattle.rule_model.specs.Rules.{Rule};
-ghost use Rattle.window_rewrite.specs.Rules.{entry_rule, is_marked, is_shorter, rules_in, AreMarked, HaveMarks};
+ghost use Rattle.std.specs.Prelude.{◌≡◌, ◌+◌, ◌<◌, ℕ, length, map, slice_get, Some, true, IfOk};
+ghost use Rattle.rule_model.specs.Rules.{Rule, alone};
+ghost use Rattle.rule_table.specs.Views.{family_of, rule_of};
+ghost use Rattle.table_audit.specs.Families.{entry_at};
+ghost use Rattle.table_audit.specs.Soundness.{instances_of};
+ghost use Rattle.window_rewrite.specs.Rules.{blind_side, families_in, is_marked, is_shorter, left_side, rules_in, AreMany, AreMarked, AreNoted, IsNoted, StayNoted};
 ghost use Rattle.window_rewrite.specs.Shapes.{shape_of};
 
 use crate::shadows::is_shorter;
-use crate::shapes::{SHAPES, next_shape};
+use crate::shapes::{SHAPES, blind_all, next_shape};
 use listing_parser::Memory;
-use rule_table::Entry;
+use rule_table::{Entry, Family};
 use std::alloc::Global;
+use table_audit::entry_at;
 use thumb_instr::Instr;
 
-/// Which numbers the left sides have of the entries that leave fewer instructions.
+/// Which numbers the left sides have of the rules that leave fewer instructions.
 #[derive(Drop)]
 pub(crate) struct Marks {
     /// Whether a left side may have a number.
@@ -49,37 +53,85 @@ pub(crate) fn mark_fronts(marks: &mut Vec<bool>, left: &[Instr]) -> usize
 }
 
 impl Marks {
-    /// The marks of these entries.
-    pub(crate) fn of(alloc: Global, entries: &[Entry]) -> Result<Marks, Memory>
-        ensures { IfOk result (λ marks. HaveMarks (rules_in entries.now) (length entries.now) marks) }
+    /// No marks.
+    fn none(alloc: Global) -> Result<Marks, Memory>
+        ensures { IfOk result AreMany }
     {
-        let mut marks = Marks {
+        Ok(Marks {
             wholes: vec![in alloc; false; SHAPES]?,
             fronts: vec![in alloc; false; SHAPES]?,
-        };
+        })
+    }
+
+    /// The marks of these entries.
+    pub(crate) fn of(alloc: Global, entries: &[Entry]) -> Result<Marks, Memory>
+        ensures { IfOk result (AreNoted left_side (alone (rules_in entries.now)) (length entries.now)) }
+    {
+        let mut marks = Marks::none(alloc)?;
         for number in 0..entries.len() {
             marks.add(entries, number);
         }
         Ok(marks)
     }
 
+    /// The marks of these families, by left sides with 0 for 8-bit numbers.
+    pub(crate) fn of_families(
+        alloc: Global,
+        entries: &[Entry],
+        families: &[Family],
+    ) -> Result<Marks, Memory>
+        ensures { IfOk result (AreNoted blind_side (families_in (map rule_of entries.now) (map family_of families.now)) (length families.now)) }
+    {
+        let mut marks = Marks::none(alloc)?;
+        for number in 0..families.len() {
+            marks.add_family(entries, &families[number]);
+        }
+        Ok(marks)
+    }
+
+    /// Marks a side.
+    fn add_side(&mut self, side: &[Instr])
+        requires { AreMany self.old }
+        ensures many { AreMany self.new }
+        ensures stay { StayNoted self.old self.new }
+        ensures noted { IsNoted self.new side.now }
+    {
+        let shape = mark_fronts(&mut self.fronts, side);
+        mark(&mut self.wholes, shape);
+    }
+
     /// Marks the left side of an entry, if it leaves fewer instructions.
     fn add(&mut self, entries: &[Entry], number: usize)
         requires number { number < length entries.now }
-        requires marks { HaveMarks (rules_in entries.now) number self.old }
-        ensures { HaveMarks (rules_in entries.now) (number + 1) self.new }
+        requires marks { AreNoted left_side (alone (rules_in entries.now)) number self.old }
+        ensures { AreNoted left_side (alone (rules_in entries.now)) (number + 1) self.new }
     {
         if !is_shorter(&entries[number]) {
             return;
         }
-        let left = entries[number].left.as_slice();
-        let shape = mark_fronts(&mut self.fronts, left);
-        mark(&mut self.wholes, shape);
+        self.add_side(entries[number].left.as_slice());
+    }
+
+    /// Marks the left side that a family's instances share but for the number, if they leave fewer instructions.
+    fn add_family(&mut self, entries: &[Entry], family: &Family)
+        requires { AreMany self.old }
+        ensures many { AreMany self.new }
+        ensures stay { StayNoted self.old self.new }
+        ensures noted { (i : ℕ) (rule : Rule) → slice_get (instances_of (family_of family.now) (entry_at (map rule_of entries.now) family.now.entry)) i ≡ Some rule → is_shorter rule ≡ true → IsNoted self.new (blind_side rule) }
+    {
+        match entry_at(entries, family.entry) {
+            None => {}
+            Some(entry) => {
+                if is_shorter(entry) {
+                    self.add_side(blind_all(entry.left.as_slice()).as_slice());
+                }
+            }
+        }
     }
 
     /// Whether some left side may have this number.
     pub(crate) fn has_whole(&self, shape: usize) -> bool
-        requires many { length self.now.wholes.items ≡ 65536 }
+        requires many { AreMany self.now }
         requires small { shape < 65536 }
         ensures { result ≡ is_marked self.now.wholes.items shape }
     {
@@ -88,7 +140,7 @@ impl Marks {
 
     /// Whether some left side may begin with instructions of this number.
     pub(crate) fn has_front(&self, shape: usize) -> bool
-        requires many { length self.now.fronts.items ≡ 65536 }
+        requires many { AreMany self.now }
         requires small { shape < 65536 }
         ensures { result ≡ is_marked self.now.fronts.items shape }
     {

@@ -1,16 +1,15 @@
-//! Replacing until no entry applies.
+//! Replacing until no rule applies.
 ghost use Rattle.std.specs.Prelude.{◌+◌, ◌≤◌, All, length, map, IfOk, MatchResult};
 ghost use Rattle.step_ledger.specs.Counts.{RisesByAtLeast};
 ghost use Rattle.rule_table.specs.Views.{table_of};
-ghost use Rattle.table_audit.specs.Soundness.{numbers_of, rules_of};
+ghost use Rattle.table_audit.specs.Soundness.{numbers_of};
 ghost use Rattle.thumb_model.specs.Layout.{Layable};
 ghost use Rattle.thumb_model.specs.Listing.{code_of, places_of};
 ghost use Rattle.thumb_model.specs.Literals.{HasLiterals};
 ghost use Rattle.thumb_model.specs.Same.{Same};
 ghost use Rattle.rule_model.specs.Rewriting.{AreRewritten};
 ghost use Rattle.window_rewrite.specs.Rewriting.{setting, replacement_of, rewriting_cost, IsRefusal, IsWhole};
-ghost use Rattle.window_rewrite.specs.Rules.{rules_in};
-ghost use Rattle.window_rewrite.specs.Choices.{setting_of, AreReady};
+ghost use Rattle.window_rewrite.specs.Choices.{setting_of, sides_of, AreReady};
 ghost use Rattle.window_rewrite.specs.Layouts.{IsSteadyIf};
 
 use crate::choice::Rewritten;
@@ -48,8 +47,8 @@ fn judge(alloc: Global, listing: &Listing, base: u32) -> Result<bool, RewriteErr
     Ok(false)
 }
 
-/// Rewrites a listing by an accepted table, for an image that begins at the base: at the least place where some entry applies, the one with the longest
-/// left side, then the lowest, until none applies. What is left runs as the given listing does. One that cannot be laid out from the base is refused at its first
+/// Rewrites a listing by an accepted table, for an image that begins at the base: at the least place where some entry or family applies, the one with the longest
+/// left side, then an entry before a family, then the lowest, until none applies. What is left runs as the given listing does. One that cannot be laid out from the base is refused at its first
 /// such line.
 ///
 /// A step is a match tried, or a visit of a place for its live items: at least one for each replacement, and one for each place.
@@ -64,15 +63,17 @@ pub fn rewrite<L: Ledger>(
     ensures same { IfOk result (λ new. HasLiterals (code_of listing) → Same (code_of listing) (code_of new.listing)) }
     ensures whole { IfOk result (λ new. All IsWhole new.replacements.items) }
     ensures verdict { MatchResult result (λ _. Layable base listing) (IsRefusal base listing) }
-    ensures cost { IfOk result (λ new. steps.new ≤ steps.old + rewriting_cost listing (rules_of (table_of table.now)) (length new.replacements.items)) }
+    ensures cost { IfOk result (λ new. steps.new ≤ steps.old + rewriting_cost listing (length (numbers_of (table_of table.now))) (length new.replacements.items)) }
     ensures rises { IfOk result (λ new. RisesByAtLeast steps.old steps.new (length (places_of listing) + length new.replacements.items)) }
 {
     let steady = judge(alloc, &listing, base)?;
     let accepted = table.table();
     let entries = accepted.entries.as_slice();
-    let index = Index::of(alloc, entries)?;
+    let families = accepted.families.as_slice();
+    let index = Index::of(alloc, entries, families)?;
     let rules = Rules {
         entries,
+        families,
         index: &index,
         longest: accepted.left,
         base,
@@ -81,7 +82,7 @@ pub fn rewrite<L: Ledger>(
     Ok(new)
 }
 
-/// What is left of a listing once no entry applies any more. `steady` is whether each listing that comes of it by replacements can surely be laid out.
+/// What is left of a listing once no rule applies any more. `steady` is whether each listing that comes of it by replacements can surely be laid out.
 fn rewritten<L: Ledger>(
     alloc: Global,
     rules: &Rules<'_>,
@@ -94,7 +95,7 @@ fn rewritten<L: Ledger>(
     requires steady { IsSteadyIf rules.now.base listing steady }
     ensures rewritten { IfOk result (λ new. AreRewritten (setting_of rules.now) listing (map replacement_of new.replacements.items) new.listing) }
     ensures whole { IfOk result (λ new. All IsWhole new.replacements.items) }
-    ensures cost { IfOk result (λ new. steps.new ≤ steps.old + rewriting_cost listing (rules_in rules.now.entries.now) (length new.replacements.items)) }
+    ensures cost { IfOk result (λ new. steps.new ≤ steps.old + rewriting_cost listing (length (sides_of rules.now)) (length new.replacements.items)) }
     ensures rises { IfOk result (λ new. RisesByAtLeast steps.old steps.new (length (places_of listing) + length new.replacements.items)) }
 {
     let mut scene = Scene::of(alloc, rules, listing, steady, steps)?;

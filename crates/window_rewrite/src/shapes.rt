@@ -1,10 +1,9 @@
 //! Numbers that instructions share with all that differ from them in registers alone.
-ghost use Rattle.std.specs.Prelude.{◌≡◌, ◌<◌, map};
-ghost use Rattle.thumb_instr.specs.Window.{normal_of};
-ghost use Rattle.window_rewrite.specs.Shapes.{head_number, next_shape, number_in, shape_of};
+ghost use Rattle.std.specs.Prelude.{◌≡◌, ◌<◌, ◌≤◌, length, map};
+ghost use Rattle.window_rewrite.specs.Shapes.{blind, head_number, next_shape, number_in, seen, shape_of};
 
 use seq_enum::rank;
-use thumb_instr::{Instr, normal, parts};
+use thumb_instr::{Byte, Instr, Seq, normal, parts};
 
 /// How many numbers of sequences there are.
 pub(crate) const SHAPES: usize = 65_536;
@@ -40,14 +39,55 @@ pub(crate) fn next_shape(shape: usize, instr: &Instr) -> usize
     (shape * 1283 + head_number(instr)) % SHAPES
 }
 
-/// The number of a window's instructions, each in its normal form.
-pub(crate) fn shape_of(window: &[Instr]) -> usize
-    ensures value { result ≡ shape_of (map normal_of window.now) }
+/// `movs`, `cmp`, `adds` and `subs` with 0 for their 8-bit number, and other instructions as they are.
+fn blind(instr: &Instr) -> Instr
+    ensures { result ≡ blind instr.now }
+{
+    match *instr {
+        Instr::TwoNumber {
+            operation,
+            target,
+            ..
+        } => Instr::TwoNumber {
+            operation,
+            target,
+            number: Byte::of(0),
+        },
+        _ => *instr,
+    }
+}
+
+/// Instructions with 0 for their 8-bit numbers.
+pub(crate) fn blind_all(instrs: &[Instr]) -> Seq
+    requires { length instrs.now ≤ 5 }
+    ensures { result ≡ map blind instrs.now }
+{
+    let mut seq = Seq::new();
+    for instr in instrs {
+        seq.push(blind(instr));
+    }
+    seq
+}
+
+/// An instruction in its normal form, with its 8-bit number or with 0 for it.
+pub(crate) fn seen(hidden: bool, instr: Instr) -> Instr
+    ensures { result ≡ seen hidden instr }
+{
+    if hidden {
+        blind(&normal(instr))
+    } else {
+        normal(instr)
+    }
+}
+
+/// The number of a window's instructions, each in its normal form, with its 8-bit number or with 0 for it.
+pub(crate) fn shape_of(hidden: bool, window: &[Instr]) -> usize
+    ensures value { result ≡ shape_of (map (seen hidden) window.now) }
     ensures small { result < 65536 }
 {
     let mut shape = 0;
     for instr in window {
-        shape = next_shape(shape, &normal(*instr));
+        shape = next_shape(shape, &seen(hidden, *instr));
     }
     shape
 }

@@ -10,10 +10,9 @@ use Rattle.rule_model.proofs.LinesKept.{fewer_after}
 use Rattle.step_ledger.specs.Counts.{RisesByAtLeast}
 use Rattle.step_ledger.proofs.Rises.{at_least-fewer, at_least-goes_on, at_least-stays}
 use Rattle.window_rewrite.specs.declared.choice.Replacement.{Replacement as Made}
-use Rattle.window_rewrite.specs.Choices.{setting_of}
+use Rattle.window_rewrite.specs.Choices.{setting_of, sides_of}
 use Rattle.window_rewrite.specs.Due.{before_least, Completes}
 use Rattle.window_rewrite.specs.Rewriting.{replacement_of, IsWhole}
-use Rattle.window_rewrite.specs.Rules.{rules_in}
 use Rattle.window_rewrite.specs.Scenes.{lines_of}
 use Rattle.window_rewrite.proofs.DueMarks.{least_is, least_on, none_marked}
 use Rattle.window_rewrite.proofs.DueScenes.{none_due_before, none_left, tried_at_first, tried_but, tried_gone, whole_many}
@@ -55,8 +54,8 @@ loop-place-preserved-then-is_gone g c =
       many = i.many;
       completes = i.completes;
       whole = i.whole;
-      cost = round_goes c.args.steps.now c.loop-place.steps c.loop-place.steps (length c.loop-place.replacements.items) (length c.args.scene.now.listing.stands * length (rules_in c.args.rules.now.entries.now))
-          (length (rules_in c.args.rules.now.entries.now)) (before_least c.loop-place.due.due) (before_least c.take_least.new.self) i.cost (omega arith) l.0;
+      cost = round_goes c.args.steps.now c.loop-place.steps c.loop-place.steps (length c.loop-place.replacements.items) (length c.args.scene.now.listing.stands * length (sides_of c.args.rules.now))
+          (length (sides_of c.args.rules.now)) (before_least c.loop-place.due.due) (before_least c.take_least.new.self) i.cost (omega arith) l.0;
       rises = i.rises;
     }
 
@@ -92,15 +91,15 @@ loop-place-preserved-in-Continue-branch-4 g c =
     let long : length c.push.new.self.items ≡ length c.loop-place.replacements.items + 1 = ap (λ (ms : List Made). length ms) more ∙ length-append c.loop-place.replacements.items _ in
     let w = marked_within c.loop-place.due.due c.in-Some.place c.in-Some.ensures.least.here in
     let within : before_least c.loop-place.due.due < length c.args.scene.now.listing.stands = omega (arith, w, least_is c.loop-place.due.due c.in-Some.place c.in-Some.ensures.least, i.tried.are.due_many, i.many) in
-    let cost = round_ends c.args.steps.now c.loop-place.steps c.try_at.new.steps (length c.loop-place.replacements.items) (length c.args.scene.now.listing.stands * length (rules_in c.args.rules.now.entries.now))
-    (length (rules_in c.args.rules.now.entries.now)) (before_least c.loop-place.due.due) (length c.args.scene.now.listing.stands) i.cost done.cost within refl in
+    let cost = round_ends c.args.steps.now c.loop-place.steps c.try_at.new.steps (length c.loop-place.replacements.items) (length c.args.scene.now.listing.stands * length (sides_of c.args.rules.now))
+    (length (sides_of c.args.rules.now)) (before_least c.loop-place.due.due) (length c.args.scene.now.listing.stands) i.cost done.cost within refl in
     record {
       over = done.over;
       tried = done.tried;
       many = done.many ∙ i.many;
       completes = one_more (setting_of c.args.rules.now) (lines_of c.args.scene.now) (lines_of c.loop-place.scene) (lines_of c.try_at.new.scene) c.loop-place.replacements.items c.push.new.self.items c.in-Some-2.replacement first.1 first.2 more i.completes;
       whole = subst (λ (ms : List Made). All IsWhole ms) (sym more) (All-push IsWhole c.loop-place.replacements.items c.in-Some-2.replacement i.whole first.0);
-      cost = subst (λ n. c.try_at.new.steps ≤ c.args.steps.now + n * (length c.args.scene.now.listing.stands * length (rules_in c.args.rules.now.entries.now)) + before_least c.try_at.new.self.due * length (rules_in c.args.rules.now.entries.now)) (sym long) (omega arith);
+      cost = subst (λ n. c.try_at.new.steps ≤ c.args.steps.now + n * (length c.args.scene.now.listing.stands * length (sides_of c.args.rules.now)) + before_least c.try_at.new.self.due * length (sides_of c.args.rules.now)) (sym long) (omega arith);
       rises = subst (λ n. RisesByAtLeast c.args.steps.now c.try_at.new.steps n) (sym long) (at_least-goes_on c.args.steps.now c.loop-place.steps c.try_at.new.steps (length c.loop-place.replacements.items) 1 i.rises rises);
     }
 
@@ -128,8 +127,8 @@ loop-place-preserved g c =
       many = done.many ∙ i.many;
       completes = subst (λ ls. Completes (setting_of c.args.rules.now) (lines_of c.args.scene.now) c.loop-place.replacements.items ls) (sym idle.0) i.completes;
       whole = i.whole;
-      cost = round_goes c.args.steps.now c.loop-place.steps c.try_at.new.steps (length c.loop-place.replacements.items) (length c.args.scene.now.listing.stands * length (rules_in c.args.rules.now.entries.now))
-          (length (rules_in c.args.rules.now.entries.now)) (before_least c.loop-place.due.due) (before_least c.try_at.new.self.due) i.cost done.cost (omega (arith, l.0, next));
+      cost = round_goes c.args.steps.now c.loop-place.steps c.try_at.new.steps (length c.loop-place.replacements.items) (length c.args.scene.now.listing.stands * length (sides_of c.args.rules.now))
+          (length (sides_of c.args.rules.now)) (before_least c.loop-place.due.due) (before_least c.try_at.new.self.due) i.cost done.cost (omega (arith, l.0, next));
       rises = at_least-fewer c.args.steps.now c.try_at.new.steps (length c.loop-place.replacements.items + _) (length c.loop-place.replacements.items) (omega arith) (at_least-goes_on c.args.steps.now c.loop-place.steps c.try_at.new.steps (length c.loop-place.replacements.items) _ i.rises done.rises);
     }
 
@@ -141,5 +140,5 @@ returns-clause-rewritten g c =
 pub returns-clause-cost : goal.returns-clause-cost
 returns-clause-cost g c =
     let i = c.loop-place.invariant in
-    cost_ends c.args.steps.now c.loop-place.steps (length c.loop-place.replacements.items) (length c.args.scene.now.listing.stands) (length (rules_in c.args.rules.now.entries.now)) (before_least c.loop-place.due.due) (length (places_of (lines_of c.args.scene.now))) i.cost
+    cost_ends c.args.steps.now c.loop-place.steps (length c.loop-place.replacements.items) (length c.args.scene.now.listing.stands) (length (sides_of c.args.rules.now)) (before_least c.loop-place.due.due) (length (places_of (lines_of c.args.scene.now))) i.cost
     (none_marked c.loop-place.due.due c.in_default.ensures.none ∙ i.tried.are.due_many ∙ i.many) (whole_many c.args.scene.now c.requires.over.kept c.requires.none_gone)

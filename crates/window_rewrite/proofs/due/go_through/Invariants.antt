@@ -1,10 +1,9 @@
 use Rattle.std.proofs.Common.{◌≡◌, ◌+◌, ◌-◌, ◌*◌, ◌≤◌, All, length}
 use Rattle.thumb_model.specs.Listing.{places_of}
 use Rattle.step_ledger.specs.Counts.{RisesByAtLeast}
-use Rattle.window_rewrite.specs.Choices.{setting_of}
+use Rattle.window_rewrite.specs.Choices.{setting_of, sides_of}
 use Rattle.window_rewrite.specs.Due.{before_least, AreTried, Completes}
 use Rattle.window_rewrite.specs.Rewriting.{IsWhole}
-use Rattle.window_rewrite.specs.Rules.{rules_in}
 use Rattle.window_rewrite.specs.Scenes.{lines_of, IsOver}
 use Rattle.window_rewrite.proofs.due.go_through.Given as goal
 
@@ -16,7 +15,7 @@ invariant-loop-place g l = record {
   many : length l.scene.listing.stands ≡ length l.fn.scene.listing.stands;
   completes : Completes (setting_of l.rules) (lines_of l.fn.scene) l.replacements.items (lines_of l.scene);
   whole : All IsWhole l.replacements.items;
-  cost : l.steps ≤ l.fn.steps + length l.replacements.items * (length l.fn.scene.listing.stands * length (rules_in l.rules.entries.now)) + before_least l.due.due * length (rules_in l.rules.entries.now);
+  cost : l.steps ≤ l.fn.steps + length l.replacements.items * (length l.fn.scene.listing.stands * length (sides_of l.rules)) + before_least l.due.due * length (sides_of l.rules);
   rises : RisesByAtLeast l.fn.steps l.steps (length l.replacements.items);
 }
 

@@ -1,8 +1,7 @@
 use Rattle.std.proofs.Common.{◌-◌, ◌≤◌, List, length, ap, refl, arith}
 use Rattle.thumb_instr.specs.declared.instr.Instr.{Instr}
 use Rattle.step_ledger.proofs.Rises.{at_least-stays, at_least-fewer, at_least-goes_on}
-use Rattle.window_rewrite.specs.Rules.{rules_in}
-use Rattle.window_rewrite.specs.Choices.{setting_of}
+use Rattle.window_rewrite.specs.Choices.{setting_of, sides_of, table_in}
 use Rattle.window_rewrite.specs.Scenes.{lines_seen, number_seen}
 use Rattle.window_rewrite.proofs.Applied.{meets_less}
 use Rattle.window_rewrite.proofs.Chosen.{front_stands, none_reached, none_shorter, count_cost, all_cost}
@@ -12,7 +11,7 @@ pub loop-count-init : goal.loop-count-init
 loop-count-init g c = record {
   within = c.requires.within;
   none =
-      none_reached _ c.args.look.now.rules.now.base c.args.look.now.rules.now.longest (rules_in c.args.look.now.rules.now.entries.now) (lines_seen c.args.look.now) (number_seen c.args.look.now) c.args.reached
+      none_reached _ c.args.look.now.rules.now.base c.args.look.now.rules.now.longest (table_in c.args.look.now.rules.now) (lines_seen c.args.look.now) (number_seen c.args.look.now) c.args.reached
       c.args.look.now.site.now.run.letters c.args.look.now.site.now.run.letters c.requires.look.ready.fit c.requires.look.site.letters refl c.requires.none;
   stays = λ e. e;
   rises = at_least-stays c.args.steps.now;
@@ -27,14 +26,14 @@ lowest-requires-clause-stands g c =
 pub returns-in_err-choice-clause-cost : goal.returns-in_err-choice-clause-cost
 returns-in_err-choice-clause-cost g c =
     let few : c.loop-count.count ≤ length c.as_slice-run.result.now = omega (arith, c.loop-count.invariant.within, ap (λ (is : List Instr). length is) c.as_slice-run.ensures.value) in
-    all_cost (rules_in c.args.look.now.rules.now.entries.now) (c.loop-count.count - 1) c.args.steps.now _
-    (count_cost (rules_in c.args.look.now.rules.now.entries.now) c.loop-count.count c.as_slice-run.result.now c.args.steps.now _ _ c.loop-count-test.true few c.loop-count.invariant.cost c.lowest.ensures.cost)
+    all_cost (sides_of c.args.look.now.rules.now) (c.loop-count.count - 1) c.args.steps.now _
+    (count_cost (sides_of c.args.look.now.rules.now) c.loop-count.count c.as_slice-run.result.now c.args.steps.now _ _ c.loop-count-test.true few c.loop-count.invariant.cost c.lowest.ensures.cost)
 
 pub returns-in-Some-clause-cost : goal.returns-in-Some-clause-cost
 returns-in-Some-clause-cost g c =
     let few : c.loop-count.count ≤ length c.as_slice-run.result.now = omega (arith, c.loop-count.invariant.within, ap (λ (is : List Instr). length is) c.as_slice-run.ensures.value) in
-    all_cost (rules_in c.args.look.now.rules.now.entries.now) (c.loop-count.count - 1) c.args.steps.now _
-    (count_cost (rules_in c.args.look.now.rules.now.entries.now) c.loop-count.count c.as_slice-run.result.now c.args.steps.now _ _ c.loop-count-test.true few c.loop-count.invariant.cost c.lowest.ensures.cost)
+    all_cost (sides_of c.args.look.now.rules.now) (c.loop-count.count - 1) c.args.steps.now _
+    (count_cost (sides_of c.args.look.now.rules.now) c.loop-count.count c.as_slice-run.result.now c.args.steps.now _ _ c.loop-count-test.true few c.loop-count.invariant.cost c.lowest.ensures.cost)
 
 pub loop-count-preserved : goal.loop-count-preserved
 loop-count-preserved g c =
@@ -46,11 +45,11 @@ loop-count-preserved g c =
           (λ o m. c.loop-count.invariant.none o (meets_less _ _ (setting_of c.args.look.now.rules.now) o (lines_seen c.args.look.now) c.in_ok-choice.ensures.stays m)) none;
       stays = λ e. c.in_ok-choice.ensures.stays (c.loop-count.invariant.stays e);
       rises = at_least-goes_on _ _ _ 0 0 c.loop-count.invariant.rises (at_least-fewer _ _ _ 0 (omega arith) c.in_ok-choice.ensures.rises);
-      cost = count_cost (rules_in c.args.look.now.rules.now.entries.now) c.loop-count.count c.as_slice-run.result.now c.args.steps.now _ _ c.loop-count-test.true few c.loop-count.invariant.cost c.lowest.ensures.cost;
+      cost = count_cost (sides_of c.args.look.now.rules.now) c.loop-count.count c.as_slice-run.result.now c.args.steps.now _ _ c.loop-count-test.true few c.loop-count.invariant.cost c.lowest.ensures.cost;
     }
 
 pub returns-clause-cost : goal.returns-clause-cost
-returns-clause-cost g c = all_cost (rules_in c.args.look.now.rules.now.entries.now) c.loop-count.count c.args.steps.now _ c.loop-count.invariant.cost
+returns-clause-cost g c = all_cost (sides_of c.args.look.now.rules.now) c.loop-count.count c.args.steps.now _ c.loop-count.invariant.cost
 
 pub returns-in-Some-clause-rises : goal.returns-in-Some-clause-rises
 returns-in-Some-clause-rises g c = at_least-goes_on _ _ _ 0 1 c.loop-count.invariant.rises (rw c.in-Some.is at c.in_ok-choice.ensures.rises)

@@ -1,7 +1,6 @@
 use Rattle.std.proofs.Common.{◌≡◌, ◌+◌, ◌≤◌, true, length}
 use Rattle.step_ledger.specs.Counts.{RisesByAtLeast}
-use Rattle.window_rewrite.specs.Rules.{rules_in}
-use Rattle.window_rewrite.specs.Choices.{setting_of, longer}
+use Rattle.window_rewrite.specs.Choices.{setting_of, sides_of, longer}
 use Rattle.window_rewrite.specs.Scenes.{lines_seen, number_seen}
 use Rattle.window_rewrite.proofs.Chosen.{NoneLonger}
 use Rattle.window_rewrite.proofs.finding.best.Given as goal
@@ -12,7 +11,7 @@ invariant-loop-count g l = record {
   none : NoneLonger l.refused (setting_of l.look.rules.now) (lines_seen l.look) (number_seen l.look) l.count;
   stays : l.initial.refused ≡ true → l.refused ≡ true;
   rises : RisesByAtLeast l.initial.steps l.steps 0;
-  cost : l.steps ≤ l.initial.steps + longer l.count (rules_in l.look.rules.now.entries.now);
+  cost : l.steps ≤ l.initial.steps + longer l.count (sides_of l.look.rules.now);
 }
 
 abbrev pub decreases-loop-count : goal.decreases-loop-count

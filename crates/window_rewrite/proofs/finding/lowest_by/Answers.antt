@@ -1,6 +1,8 @@
-use Rattle.std.proofs.Common.{◌+◌, arith}
+use Rattle.std.proofs.Common.{◌+◌, arith, map}
 use Rattle.step_ledger.proofs.Rises.{at_least-stays, at_least-fewer, at_least-goes_on}
+use Rattle.rule_table.specs.Views.{family_of, rule_of}
 use Rattle.window_rewrite.specs.Rules.{rules_in}
+use Rattle.window_rewrite.proofs.Joined.{entries_fit}
 use Rattle.window_rewrite.specs.Scenes.{lines_seen, number_seen}
 use Rattle.window_rewrite.proofs.Keys.{awaited}
 use Rattle.window_rewrite.proofs.Chosen.{search_begins, search_next, search_smaller, search_found, search_cost, search_none, none_cost, next_within}
@@ -8,7 +10,7 @@ use Rattle.window_rewrite.proofs.finding.lowest_by.Goals as goal
 
 pub loop-at-init : goal.loop-at-init
 loop-at-init g c = record {
-  search = search_begins _ c.args.look.now.rules.now.base c.args.look.now.rules.now.longest (rules_in c.args.look.now.rules.now.entries.now) c.args.look.now.rules.now.index.now.chains.kept.items (lines_seen c.args.look.now) (number_seen c.args.look.now) c.args.window.now c.first_number-at.result _ c.requires.look.ready.fit c.requires.look.ready.index.chains.led c.first_number-at.ensures;
+  search = search_begins _ c.args.look.now.rules.now.base c.args.look.now.rules.now.longest (rules_in c.args.look.now.rules.now.entries.now) c.args.look.now.rules.now.index.now.chains.kept.items (lines_seen c.args.look.now) (number_seen c.args.look.now) c.args.window.now c.first_number-at.result _ (entries_fit c.args.look.now.rules.now.longest (map rule_of c.args.look.now.rules.now.entries.now) (map family_of c.args.look.now.rules.now.families.now) c.requires.look.ready.fit) c.requires.look.ready.index.chains.led c.first_number-at.ensures;
   stays = λ e. e;
   rises = at_least-stays c.args.steps.now;
 }

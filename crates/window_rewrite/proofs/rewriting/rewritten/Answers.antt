@@ -2,9 +2,8 @@ use Rattle.std.proofs.Common.{◌+◌, ◌*◌, ◌≤◌, List, length, map, sy
 use Rattle.thumb_model.specs.Listing.{Line, places_of}
 use Rattle.rule_model.specs.Rewriting.{AreRewritten}
 use Rattle.step_ledger.proofs.Rises.{at_least-goes_on}
-use Rattle.window_rewrite.specs.Choices.{setting_of}
+use Rattle.window_rewrite.specs.Choices.{setting_of, sides_of}
 use Rattle.window_rewrite.specs.Rewriting.{replacement_of}
-use Rattle.window_rewrite.specs.Rules.{rules_in}
 use Rattle.window_rewrite.specs.Scenes.{lines_of}
 use Rattle.window_rewrite.proofs.rewriting.rewritten.Goals as goal
 
@@ -16,7 +15,7 @@ returns-clause-rewritten g c =
 
 pub returns-clause-cost : goal.returns-clause-cost
 returns-clause-cost g c =
-    let rest = subst (λ (ls : List Line). c.go_through.new.steps ≤ c.of.new.steps + (length c.in_ok-replacements.replacements.items + 1) * (length (places_of ls) * length (rules_in c.args.rules.now.entries.now))) c.in_ok-scene.ensures.lines c.in_ok-replacements.ensures.cost in
+    let rest = subst (λ (ls : List Line). c.go_through.new.steps ≤ c.of.new.steps + (length c.in_ok-replacements.replacements.items + 1) * (length (places_of ls) * length (sides_of c.args.rules.now))) c.in_ok-scene.ensures.lines c.in_ok-replacements.ensures.cost in
     omega (arith, c.of.ensures.cost, rest)
 
 pub returns-clause-rises : goal.returns-clause-rises

@@ -1,8 +1,7 @@
-use Rattle.std.proofs.Common.{◌≡◌, ◌<◌, ℕ, List, drop, length, take, true, false, Some, refl, subst, sym, ap, ◌∙◌, arith}
-use Rattle.std.specs.Prelude.{slice_get, IfOk}
+use Rattle.std.proofs.Common.{◌≡◌, ℕ, List, drop, length, true, false, refl, subst, sym, ap, ◌∙◌, arith}
+use Rattle.std.specs.Prelude.{IfOk}
 use Rattle.std.specs.Option.{IfNone, IfSome}
 use Rattle.thumb_instr.specs.declared.instr.Instr.{Instr}
-use Rattle.thumb_instr.specs.Renaming.{Low}
 use Rattle.rule_model.specs.Rules.{Rule}
 use Rattle.rule_model.specs.Rewriting.{lines_after, IsFirst}
 use Rattle.kept_places.specs.Marks.{rank}
@@ -10,10 +9,9 @@ use Rattle.edited_listing.specs.Edited.{Edited, lines_now, marks}
 use Rattle.window_runs.specs.declared.rows.Row.{Row}
 use Rattle.window_runs.specs.Rows.{rows_from}
 use Rattle.window_runs.specs.Runs.{run}
-use Rattle.window_rewrite.specs.Choices.{setting_of, NoneAt}
-use Rattle.window_rewrite.specs.Fitting.{Shortens}
+use Rattle.window_rewrite.specs.Choices.{setting_of, table_in, NoneAt}
+use Rattle.window_rewrite.specs.Fitting.{NoneReaches}
 use Rattle.window_rewrite.specs.Rewriting.{replacement_of, IsWhole}
-use Rattle.window_rewrite.specs.Rules.{rules_in}
 use Rattle.window_rewrite.specs.Scenes.{lines_of}
 use Rattle.window_rewrite.proofs.Chosen.{none_there}
 use Rattle.window_rewrite.proofs.DueScenes.{tried_idle, tried_same}
@@ -21,28 +19,28 @@ use Rattle.window_rewrite.proofs.due.Due.try_at.Goals as goal
 
 pub returns-then-not-may_begin-clause-tried : goal.returns-then-not-may_begin-clause-tried
 returns-then-not-may_begin-clause-tried g c =
-    let rules : List Rule = rules_in c.args.rules.now.entries.now in
+    let table : List (List Rule) = table_in c.args.rules.now in
     let at : ℕ = rank (marks c.args.scene.now.listing) c.args.place in
     let rows : List Row = drop at (rows_from false (lines_of c.args.scene.now)) in
     tried_idle (setting_of c.args.rules.now) c.args.scene.now c.args.scene.now c.args.self.now c.args.place c.requires.tried refl
-    (none_there false c.args.rules.now.base c.args.rules.now.longest rules (lines_of c.args.scene.now) at (run true c.args.rules.now.longest rows) (run true c.args.rules.now.longest rows)
+    (none_there false c.args.rules.now.base c.args.rules.now.longest table (lines_of c.args.scene.now) at (run true c.args.rules.now.longest rows) (run true c.args.rules.now.longest rows)
     c.requires.ready.fit refl refl (c.may_begin.ensures c.if-not-may_begin.true rows c.first_letter.ensures c.args.rules.now.longest))
 
 pub returns-then-reached-eq0-clause-tried : goal.returns-then-reached-eq0-clause-tried
 returns-then-reached-eq0-clause-tried g c =
     let e = c.run-run.ensures in
-    let rules : List Rule = rules_in c.args.rules.now.entries.now in
+    let table : List (List Rule) = table_in c.args.rules.now in
     let none : NoneAt false (setting_of c.args.rules.now) (lines_of c.run-run.new.self) (rank (marks c.run-run.new.self.listing) c.args.place) =
-    none_there false c.args.rules.now.base c.args.rules.now.longest rules (lines_of c.run-run.new.self) (rank (marks c.run-run.new.self.listing) c.args.place) c.run-run.result.letters c.as_slice.result.now
+    none_there false c.args.rules.now.base c.args.rules.now.longest table (lines_of c.run-run.new.self) (rank (marks c.run-run.new.self.listing) c.args.place) c.run-run.result.letters c.as_slice.result.now
     c.requires.ready.fit e.run.letters c.as_slice.ensures.value
-    (subst (λ (count : ℕ). (n k : ℕ) (rule : Rule) (registers : List Low) → count < length rule.left → slice_get rules k ≡ Some rule → Shortens rule registers (take n c.as_slice.result.now) → ⊥) c.if-reached-eq0.true c.reach-reached.ensures.none) in
+    (subst (λ (count : ℕ). NoneReaches table c.as_slice.result.now count) c.if-reached-eq0.true c.reach-reached.ensures.none) in
     tried_idle (setting_of c.args.rules.now) c.args.scene.now c.run-run.new.self c.args.self.now c.args.place c.requires.tried e.listing
     (subst (λ (l : Edited). NoneAt false (setting_of c.args.rules.now) (lines_now l) (rank (marks l) c.args.place)) e.listing none)
 
 pub try_site-requires-clause-none : goal.try_site-requires-clause-none
 try_site-requires-clause-none g c =
     let same : c.as_slice.result.now ≡ c.site-site.result.run.letters = c.as_slice.ensures.value ∙ sym (ap (λ r. r.letters) c.site-site.ensures.run) in
-    subst (λ (is : List Instr). (n k : ℕ) (rule : Rule) (registers : List Low) → c.reach-reached.result < length rule.left → slice_get (rules_in c.args.rules.now.entries.now) k ≡ Some rule → Shortens rule registers (take n is) → ⊥) same c.reach-reached.ensures.none
+    subst (λ (is : List Instr). NoneReaches (table_in c.args.rules.now) is c.reach-reached.result) same c.reach-reached.ensures.none
 
 pub try_site-requires-clause-reached : goal.try_site-requires-clause-reached
 try_site-requires-clause-reached g c =

@@ -1,10 +1,14 @@
-use Rattle.std.proofs.Common.{sym, subst}
-use Rattle.window_rewrite.specs.Rules.{rules_in, HaveMarks}
-use Rattle.window_rewrite.proofs.Accepted.{rules_length}
+use Rattle.std.proofs.Common.{map, subst, sym}
+use Rattle.std.proofs.lemmas.List.{length-map}
+use Rattle.rule_model.specs.Rules.{alone}
+use Rattle.rule_table.specs.Views.{family_of, rule_of}
+use Rattle.window_rewrite.specs.Rules.{blind_side, families_in, left_side, rules_in, AreNoted}
 use Rattle.window_rewrite.proofs.index.Index.of.Goals as goal
 
 pub returns : goal.returns
 returns c = record {
-  marks = subst (λ n. HaveMarks (rules_in c.args.entries.now) n c.in_ok-of.field-0) (sym (rules_length c.args.entries.now)) c.in_ok-of.ensures;
+  marks = subst (λ n. AreNoted left_side (alone (rules_in c.args.entries.now)) n c.in_ok-of.field-0) (sym (length-map c.args.entries.now rule_of)) c.in_ok-of.ensures;
+  holes = subst (λ n. AreNoted blind_side (families_in (map rule_of c.args.entries.now) (map family_of c.args.families.now)) n c.in_ok-of_families.field-0) (sym (length-map c.args.families.now family_of)) c.in_ok-of_families.ensures;
   chains = c.in_ok-of-2.ensures;
+  forms = c.in_ok-raised_forms.ensures;
 }

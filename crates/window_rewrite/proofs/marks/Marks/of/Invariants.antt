@@ -1,5 +1,6 @@
-use Rattle.window_rewrite.specs.Rules.{rules_in, HaveMarks}
+use Rattle.window_rewrite.specs.Rules.{left_side, rules_in, AreNoted}
+use Rattle.rule_model.specs.Rules.{alone}
 use Rattle.window_rewrite.proofs.marks.Marks.of.Given as goal
 
 abbrev pub invariant-loop-number : goal.invariant-loop-number
-invariant-loop-number l = HaveMarks (rules_in l.entries) l.number l.marks
+invariant-loop-number l = AreNoted left_side (alone (rules_in l.entries)) l.number l.marks

@@ -1,0 +1,235 @@
+//! The families of a table at a window: a family's number has one value there at most, which is read off the window's canonical form.
+ghost use Rattle.std.specs.Prelude.{◌≡◌, ◌+◌, ◌<◌, ◌≤◌, ◌==◌, length, map, slice_get, true, is_some, IfOk, OnOk, IfSome, IfNone, MatchOption, Some};
+ghost use Rattle.std.specs.Int.{from_bool};
+ghost use Rattle.std.specs.List.{list_any};
+ghost use Rattle.bit_blast.specs.Slots.{instance, Byte, IsValue};
+ghost use Rattle.rule_table.specs.Views.{family_of, rule_of};
+ghost use Rattle.table_audit.specs.Families.{entry_at, is_hole, symbol_of};
+ghost use Rattle.step_ledger.specs.Counts.{RisesByAtLeast};
+ghost use Rattle.window_rewrite.specs.Fitting.{IsForm, StandsThere};
+ghost use Rattle.window_rewrite.specs.Families.{IsByteOf, IsInstance, IsOnlyInstance, IsFamilyChoice, IsLowestFamily, NoneOfFamily, NoneOfFamilies};
+ghost use Rattle.window_rewrite.specs.Forms.{form_of};
+ghost use Rattle.window_rewrite.specs.Rules.{raised_forms, side_length, IsRaised};
+ghost use Rattle.window_rewrite.specs.Shapes.{blind};
+ghost use Rattle.window_rewrite.specs.Choices.{families_sides, of_length, AreReady};
+ghost use Rattle.window_rewrite.specs.Scenes.{lines_seen, number_seen, IsLook};
+ghost use Rattle.window_rewrite.specs.Layouts.{Moves};
+
+use crate::choice::Choice;
+use crate::finding::{Look, Rules, try_rule};
+use crate::forms::{Form, form_of};
+use crate::fronts::may_raise;
+use crate::shapes::blind_all;
+use listing_parser::Memory;
+use rule_table::{Entry, Family};
+use std::alloc::Global;
+use step_ledger::{Ledger, Steps};
+use table_audit::raised_side;
+use thumb_instr::{Byte, Instr};
+
+/// Whether an instruction is `movs`, `cmp`, `adds` or `subs` with this number in 8 bits.
+fn is_hole(number: u32, instr: &Instr) -> bool
+    ensures { result ≡ is_hole number instr.now }
+{
+    match instr {
+        Instr::TwoNumber { number: held, .. } => held.number == number,
+        _ => false,
+    }
+}
+
+/// The number that `movs`, `cmp`, `adds` or `subs` has in 8 bits.
+fn byte_of(instr: &Instr) -> Option<Byte>
+    ensures { (x : Byte) → IsByteOf instr.now x → result ≡ Some x }
+{
+    match *instr {
+        Instr::TwoNumber { number, .. } => Some(number),
+        _ => None,
+    }
+}
+
+/// The value with which an entry's left side may be another side: what this has in the first place of the number.
+fn value_at(number: u32, left: &[Instr], side: &[Instr]) -> Option<Byte>
+    ensures { (x : Byte) → list_any (is_hole number) left.now ≡ true → instance number left.now x ≡ side.now → result ≡ Some x }
+{
+    match left {
+        [] => None,
+        [first, rest @ ..] => match side {
+            [] => None,
+            [other, others @ ..] => {
+                if is_hole(number, first) {
+                    byte_of(other)
+                } else {
+                    value_at(number, rest, others)
+                }
+            }
+        },
+    }
+}
+
+/// An instance of a family.
+#[derive(Drop)]
+struct Instance {
+    /// Its sides and its mask.
+    rule: Entry,
+    /// How far the number's value is above the least.
+    number: u8,
+}
+
+/// The instance with a value of the range.
+fn instance_with(alloc: Global, family: &Family, entry: &Entry, value: Byte) -> Instance
+    requires bytes { family.now.high ≤ 255 }
+    requires value { IsValue (symbol_of (family_of family.now)) value }
+    ensures { IsInstance (family_of family.now) (rule_of entry.now) value result }
+{
+    Instance {
+        rule: Entry {
+            left: raised_side(entry.left.as_slice(), family.number, value),
+            right: raised_side(entry.right.as_slice(), family.number, value),
+            mask: entry.mask,
+            opens: Vec::new(alloc),
+            proof: Vec::new(alloc),
+        },
+        number: (value.number - family.low) as u8,
+    }
+}
+
+/// The instance whose left side may be this one.
+fn instance_at(alloc: Global, family: &Family, entry: &Entry, side: &[Instr]) -> Option<Instance>
+    requires bytes { family.now.high ≤ 255 }
+    requires held { list_any (is_hole family.now.number) entry.now.left ≡ true }
+    ensures { MatchOption result ((x : Byte) → IsValue (symbol_of (family_of family.now)) x → instance family.now.number entry.now.left x ≡ side.now → ⊥) (IsOnlyInstance (family_of family.now) (rule_of entry.now) side.now) }
+{
+    match value_at(family.number, entry.left.as_slice(), side) {
+        None => None,
+        Some(value) => {
+            if value.number < family.low || family.high < value.number {
+                return None;
+            }
+            Some(instance_with(alloc, family, entry, value))
+        }
+    }
+}
+
+/// The entry that a family raises.
+fn entry_raised<'a>(entries: &'a [Entry], family: &Family) -> &'a Entry
+    requires { IsRaised (map rule_of entries.now) (family_of family.now) }
+    ensures { entry_at (map rule_of entries.now) family.now.entry ≡ Some (rule_of result.now) }
+{
+    &entries[family.entry as usize - 1]
+}
+
+/// The number of the left side of a family's entry with 0 for 8-bit numbers.
+fn hidden_of(rules: &Rules<'_>, number: usize) -> usize
+    requires ready { AreReady rules.now }
+    requires number { number < length rules.now.families.now }
+    ensures { slice_get (raised_forms (map rule_of rules.now.entries.now) (map family_of rules.now.families.now)) number ≡ Some result }
+{
+    rules.index.forms[number]
+}
+
+/// What the family of a number makes of a window at the place, of which this is told, where its entry's left side is as long. `hidden` is the number of the
+/// window's canonical form with 0 for 8-bit numbers, which is that of each left side that may stand there. `refused` comes to be true where an
+/// instance fits and the layout refuses it.
+fn try_family<L: Ledger>(
+    alloc: Global,
+    look: &Look<'_>,
+    window: &[Instr],
+    form: &Form,
+    hidden: usize,
+    number: usize,
+    refused: &mut bool,
+    steps: &mut Steps<L>,
+) -> Result<Option<Choice>, Memory>
+    requires look { IsLook look.now }
+    requires stands { StandsThere (lines_seen look.now) (number_seen look.now) window.now form.now.live.bits }
+    requires within { length window.now ≤ length look.now.site.now.run.letters }
+    requires form { IsForm window.now form.now }
+    requires hidden { hidden ≡ form_of (map blind form.now.side) }
+    requires number { number < length look.now.rules.now.families.now }
+    ensures some { IfOk result (λ o. IfSome o (IsFamilyChoice look.now.rules.now (lines_seen look.now) (number_seen look.now) (length window.now) number)) }
+    ensures moved { IfOk result (λ o. IfSome o (λ c. Moves look.now.scene.now.layout c.window c.new c.moved)) }
+    ensures none { IfOk result (λ o. IfNone o (NoneOfFamily refused.new look.now.rules.now (lines_seen look.now) (number_seen look.now) (length window.now) number)) }
+    ensures stays { OnOk result (refused.old ≡ true → refused.new ≡ true) }
+    ensures cost { steps.new ≤ steps.old + from_bool (side_length (families_sides look.now.rules.now) number == length window.now) }
+    ensures rises { IfOk result (λ o. RisesByAtLeast steps.old steps.new (from_bool (is_some o))) }
+{
+    if hidden_of(look.rules, number) != hidden {
+        return Ok(None);
+    }
+    let family = &look.rules.families[number];
+    let entry = entry_raised(look.rules.entries, family);
+    if entry.left.len() != window.len() {
+        return Ok(None);
+    }
+    match instance_at(alloc, family, entry, form.side.as_slice()) {
+        None => Ok(None),
+        Some(instance) => try_rule(
+            alloc,
+            look,
+            window,
+            form,
+            &instance.rule,
+            (look.rules.entries.len() + number) as u64 + 1,
+            instance.number,
+            refused,
+            steps,
+        ),
+    }
+}
+
+/// The lowest of all families that applies to a window at the place, of which this is told.
+fn first_family<L: Ledger>(
+    alloc: Global,
+    look: &Look<'_>,
+    window: &[Instr],
+    form: &Form,
+    refused: &mut bool,
+    steps: &mut Steps<L>,
+) -> Result<Option<Choice>, Memory>
+    requires look { IsLook look.now }
+    requires stands { StandsThere (lines_seen look.now) (number_seen look.now) window.now form.now.live.bits }
+    requires within { length window.now ≤ length look.now.site.now.run.letters }
+    requires form { IsForm window.now form.now }
+    ensures some { IfOk result (λ o. IfSome o (IsLowestFamily look.now.rules.now (lines_seen look.now) (number_seen look.now) (length window.now))) }
+    ensures moved { IfOk result (λ o. IfSome o (λ c. Moves look.now.scene.now.layout c.window c.new c.moved)) }
+    ensures none { IfOk result (λ o. IfNone o (NoneOfFamilies refused.new look.now.rules.now (lines_seen look.now) (number_seen look.now) (length window.now) (length look.now.rules.now.families.now))) }
+    ensures stays { OnOk result (refused.old ≡ true → refused.new ≡ true) }
+    ensures cost { steps.new ≤ steps.old + of_length (length window.now) (families_sides look.now.rules.now) }
+    ensures rises { IfOk result (λ o. RisesByAtLeast steps.old steps.new (from_bool (is_some o))) }
+{
+    let hidden = form_of(blind_all(form.side.as_slice()).as_slice());
+    for number in 0..look.rules.families.len() {
+        if let Some(choice) = try_family(
+            alloc, look, window, form, hidden, number, refused, steps,
+        )? {
+            return Ok(Some(choice));
+        }
+    }
+    Ok(None)
+}
+
+/// The lowest family that applies to a window at the place, of which this is told.
+pub(crate) fn lowest_family<L: Ledger>(
+    alloc: Global,
+    look: &Look<'_>,
+    window: &[Instr],
+    form: &Form,
+    refused: &mut bool,
+    steps: &mut Steps<L>,
+) -> Result<Option<Choice>, Memory>
+    requires look { IsLook look.now }
+    requires stands { StandsThere (lines_seen look.now) (number_seen look.now) window.now form.now.live.bits }
+    requires within { length window.now ≤ length look.now.site.now.run.letters }
+    requires form { IsForm window.now form.now }
+    ensures some { IfOk result (λ o. IfSome o (IsLowestFamily look.now.rules.now (lines_seen look.now) (number_seen look.now) (length window.now))) }
+    ensures moved { IfOk result (λ o. IfSome o (λ c. Moves look.now.scene.now.layout c.window c.new c.moved)) }
+    ensures none { IfOk result (λ o. IfNone o (NoneOfFamilies refused.new look.now.rules.now (lines_seen look.now) (number_seen look.now) (length window.now) (length look.now.rules.now.families.now))) }
+    ensures stays { OnOk result (refused.old ≡ true → refused.new ≡ true) }
+    ensures cost { steps.new ≤ steps.old + of_length (length window.now) (families_sides look.now.rules.now) }
+    ensures rises { IfOk result (λ o. RisesByAtLeast steps.old steps.new (from_bool (is_some o))) }
+{
+    if !may_raise(look.rules, window) {
+        return Ok(None);
+    }
+    first_family(alloc, look, window, form, refused, steps)
+}

@@ -1,0 +1,106 @@
+//! What the marks tell of a run: how long the left sides may be that stand first in it. Those of entries are marked as they are, but for registers, and those of
+//! families with 0 for 8-bit numbers too. Where a table has no families these aren't asked for.
+ghost use Rattle.std.specs.Prelude.{◌≡◌, ◌≤◌, ◌<◌, ℕ, List, length, map, true, false, Some, if◌then◌else◌};
+ghost use Rattle.window_runs.specs.declared.rows.Row.{Row};
+ghost use Rattle.window_runs.specs.Runs.{letter_at, run};
+ghost use Rattle.rule_table.specs.Views.{family_of, rule_of};
+ghost use Rattle.window_rewrite.specs.Fitting.{NoneMarked, NoneReaches, NoneStands};
+ghost use Rattle.window_rewrite.specs.Rules.{families_in, is_marked, AreMany};
+ghost use Rattle.window_rewrite.specs.Choices.{table_in, AreReady};
+
+use crate::finding::Rules;
+use crate::marks::Marks;
+use crate::shapes::{next_shape, seen, shape_of};
+use thumb_instr::Instr;
+
+/// Whether a side that is marked may begin with an instruction.
+fn may_begin_in(marks: &Marks, hidden: bool, first: Instr) -> bool
+    requires { AreMany marks.now }
+    ensures { result ≡ false → (rows : List Row) → Some first ≡ letter_at true rows → (most : ℕ) → NoneMarked marks.now hidden (run true most rows) 0 }
+{
+    marks.has_front(next_shape(0, &seen(hidden, first)))
+}
+
+/// Whether some left side may begin with an instruction that a run begins with, but for registers. Where there is none or none may, no rule that leaves fewer
+/// instructions stands first in the run.
+pub(crate) fn may_begin(rules: &Rules<'_>, first: Option<Instr>) -> bool
+    requires ready { AreReady rules.now }
+    ensures { result ≡ false → (rows : List Row) → first ≡ letter_at true rows → (most : ℕ) → NoneReaches (table_in rules.now) (run true most rows) 0 }
+{
+    match first {
+        None => false,
+        Some(instr) => {
+            if may_begin_in(&rules.index.marks, false, instr) {
+                return true;
+            }
+            if rules.families.is_empty() {
+                return false;
+            }
+            may_begin_in(&rules.index.holes, true, instr)
+        }
+    }
+}
+
+/// The count of instructions that have a number, if they may be a marked side, but for registers; or else that of others.
+fn longest_of(marks: &Marks, shape: usize, count: usize, other: usize) -> usize
+    requires many { AreMany marks.now }
+    requires small { shape < 65536 }
+    ensures { result ≡ (if is_marked marks.now.wholes.items shape then count else other) }
+{
+    if marks.has_whole(shape) { count } else { other }
+}
+
+/// How many instructions the longest marked side may have that stands first in a run, but for registers; 0 where there is none.
+fn reach_in(marks: &Marks, hidden: bool, run: &[Instr]) -> usize
+    requires { AreMany marks.now }
+    ensures within { result ≤ length run.now }
+    ensures none { NoneMarked marks.now hidden run.now result }
+{
+    let mut shape = 0;
+    let mut reached = 0;
+    for at in 0..run.len() {
+        shape = next_shape(shape, &seen(hidden, run[at]));
+        if !marks.has_front(shape) {
+            return reached;
+        }
+        reached = longest_of(marks, shape, at + 1, reached);
+    }
+    reached
+}
+
+/// How many instructions the longest left side may have that stands first in a run, but for registers; 0 where there is none. No rule that leaves fewer
+/// instructions has a longer left side that stands first in the run.
+pub(crate) fn reach(rules: &Rules<'_>, run: &[Instr]) -> usize
+    requires ready { AreReady rules.now }
+    ensures within { result ≤ length run.now }
+    ensures none { NoneReaches (table_in rules.now) run.now result }
+{
+    let own = reach_in(&rules.index.marks, false, run);
+    if rules.families.is_empty() {
+        return own;
+    }
+    let raised = reach_in(&rules.index.holes, true, run);
+    own.max(raised)
+}
+
+/// Whether an instance of a family may stand in a window, but for registers and 8-bit numbers.
+pub(crate) fn may_raise(rules: &Rules<'_>, window: &[Instr]) -> bool
+    requires ready { AreReady rules.now }
+    ensures { result ≡ false → NoneStands (families_in (map rule_of rules.now.entries.now) (map family_of rules.now.families.now)) window.now }
+{
+    if rules.families.is_empty() {
+        return false;
+    }
+    rules.index.holes.has_whole(shape_of(true, window))
+}
+
+/// Whether a rule may stand in a window, but for registers and, of families, 8-bit numbers.
+pub(crate) fn may_stand(rules: &Rules<'_>, window: &[Instr]) -> bool
+    requires ready { AreReady rules.now }
+    ensures { result ≡ false → NoneStands (table_in rules.now) window.now }
+{
+    if rules.index.marks.has_whole(shape_of(false, window)) {
+        return true;
+    }
+    may_raise(rules, window)
+}
