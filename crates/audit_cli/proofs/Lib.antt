@@ -20,3 +20,5 @@ pub mod CompleteLemmas
 pub mod Refutations
 pub mod TrimLemmas
 pub mod TidyLemmas
+pub mod VersionLemmas
+pub mod GeneraliseLemmas

@@ -9,6 +9,9 @@ use Rattle.table_learn.specs.Settings.{Settings}
 use Rattle.audit_cli.specs.Learn.{Lesson}
 use Rattle.audit_cli.specs.declared.trace.Trace.{Trace}
 use Rattle.audit_cli.specs.Trace.{Journey}
+use Rattle.audit_cli.specs.declared.generalising.Generalise.{Generalise}
+use Rattle.rule_table.specs.Table.{Family}
+use Rattle.audit_cli.specs.Generalise.{wanted}
 
 abbrev pub destination_of : Rewrite → Destination
 destination_of r = record { out = r.out.now; image = r.image.now; base = r.base.address }
@@ -27,3 +30,6 @@ lesson_of l = record { out = l.out.now; settings = settings_for l }
 
 abbrev pub journey_of : Trace → Journey
 journey_of t = record { label = t.label.now; most = t.most }
+
+abbrev pub wanted_by : Generalise → Family
+wanted_by g = wanted g.entry g.number g.low g.high

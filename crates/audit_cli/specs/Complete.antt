@@ -37,7 +37,7 @@ pub record IsUnhindered (plan : Plan) (old new : Seen) (before after : Sunk) : T
 abbrev pub IsUnrefused : Plan → Seen → Type 0
 IsUnrefused plan old = (line : List ℕ) → ComesTo plan old (Refuses line) → ⊥
 
--- the line tells that a learnt table's text is too long
+-- the line tells that a table's text is too long
 abbrev pub TellsFull : List ℕ → Type 0
 TellsFull line = (bytes : ℕ) × (line ≡ refusal_line (refusal.Full bytes))
 

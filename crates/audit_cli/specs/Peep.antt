@@ -1,6 +1,6 @@
 -- The whole contract of the top call: what the words ask for, and what the run of it has done.
 use Rattle.std.specs.Prelude.{◌≡◌, ℕ, ◌⊎◌, List, [], ◌∷◌}
-use Rattle.command_line.specs.CommandLine.{Request, rewrite, audit, learn, export, trace, demo, upgrade, trim, tidy, AskFor}
+use Rattle.command_line.specs.CommandLine.{Request, rewrite, audit, learn, export, trace, demo, upgrade, trim, tidy, generalise, AskFor}
 use Rattle.outer_store.specs.Outside.{Seen, SameHeld, Sunk, WroteNone}
 use Rattle.command_runs.specs.declared.status.Status.{Status}
 use Rattle.command_runs.specs.declared.status.Status.TheVariants as status
@@ -14,6 +14,7 @@ use Rattle.audit_cli.specs.Demo.{DemoComesTo}
 use Rattle.audit_cli.specs.Upgrade.{UpgradeComesTo}
 use Rattle.audit_cli.specs.Trim.{TrimComesTo}
 use Rattle.audit_cli.specs.Tidy.{TidyComesTo}
+use Rattle.audit_cli.specs.Generalise.{wanted, GeneraliseComesTo}
 
 -- what a request fetches, and what comes of it
 abbrev pub plan_of : Request → Plan
@@ -26,6 +27,7 @@ plan_of (demo windows) = record { names = []; comes = λ texts. DemoComesTo wind
 plan_of (upgrade table out) = record { names = table ∷ []; comes = UpgradeComesTo out }
 plan_of (trim table out) = record { names = table ∷ []; comes = TrimComesTo out }
 plan_of (tidy listing out base) = record { names = listing ∷ []; comes = TidyComesTo base out }
+plan_of (generalise table entry number low high out) = record { names = table ∷ []; comes = GeneraliseComesTo out (wanted entry number low high) }
 
 -- nothing was asked of the store or the sink, and nothing was kept or printed
 pub record IsUntouched (old new : Seen) (before after : Sunk) : Type 0 where

@@ -55,6 +55,10 @@ formula_line variables clauses lines = printed (codes "variables" ++ and_number 
 abbrev pub trimmed_line : ℕ → ℕ → List ℕ
 trimmed_line before after = printed (codes "lines" ++ and_number before ++ and_number after)
 
+-- `families F lines P`
+abbrev pub families_line : ℕ → ℕ → List ℕ
+families_line families lines = printed (codes "families" ++ and_number families ++ codes " lines" ++ and_number lines)
+
 -- ---- refusals ----
 
 abbrev pub kind_number : Kind → ℕ
@@ -79,7 +83,7 @@ family_words family.Unfinished = codes " 3"
 
 -- `refused table LINE`, `refused states PLACE`, `refused wide COUNT`, `refused entry NUMBER KIND ..`, `refused family NUMBER KIND ..`, `refused number`,
 -- `refused listing LINE KIND`, `refused listing LINE 4 DISTANCE`, `refused listing LINE 5 ADDRESS`, `refused label`, `refused address LINE`,
--- `refused inside LINE` and `refused full BYTES`
+-- `refused inside LINE`, `refused full BYTES`, `refused symbol 1`, `refused symbol 2 VALUE` and `refused symbol 3 BUDGET`
 abbrev pub refusal_line : Refusal → List ℕ
 refusal_line (refusal.Table line) = printed (codes "refused table" ++ and_number line)
 refusal_line (refusal.States place) = printed (codes "refused states" ++ and_number place)
@@ -94,6 +98,9 @@ refusal_line refusal.Label = printed (codes "refused label")
 refusal_line (refusal.Address line) = printed (codes "refused address" ++ and_number line)
 refusal_line (refusal.Inside line) = printed (codes "refused inside" ++ and_number line)
 refusal_line (refusal.Full bytes) = printed (codes "refused full" ++ and_number bytes)
+refusal_line refusal.Symbol = printed (codes "refused symbol 1")
+refusal_line (refusal.Differ value) = printed (codes "refused symbol 2" ++ and_number value)
+refusal_line (refusal.Spent budget) = printed (codes "refused symbol 3" ++ and_number budget)
 
 -- the refusal of a line that can't be laid out
 abbrev pub unlaid_refusal : ℕ → layout.Fault → Refusal

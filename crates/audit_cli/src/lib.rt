@@ -4,9 +4,11 @@
 mod audit;
 mod demo;
 mod export;
+mod generalising;
 pub mod laws;
 mod learn;
 mod printing;
+mod raising;
 mod refusal;
 mod rewrite;
 mod running;
@@ -21,4 +23,5 @@ mod upgrade;
 
 pub use command_line::{Command, usage_of};
 pub use command_runs::Status;
+pub use raising::{FamilyFault, generalise};
 pub use top::peep;

@@ -1,6 +1,6 @@
 //! What is kept and printed, as bytes.
 ghost use Rattle.std.specs.Prelude.{◌≡◌, ◌∷◌, [], IfOk};
-ghost use Rattle.audit_cli.specs.Printed.{report_of, image_line, entries_line, learnt_line, demo_line, formula_line, trimmed_line, tidied_report};
+ghost use Rattle.audit_cli.specs.Printed.{report_of, image_line, entries_line, learnt_line, demo_line, formula_line, trimmed_line, families_line, tidied_report};
 ghost use Rattle.command_runs.specs.Outcomes.{deed_view, outcome_view};
 ghost use Rattle.command_runs.specs.Plans.{Does};
 
@@ -70,6 +70,14 @@ pub fn trimmed_report(alloc: Global, before: u64, after: u64) -> Result<Vec<u8>,
     ensures { IfOk result (λ v. v.items ≡ trimmed_line before after) }
 {
     let text = format!(in alloc; "lines {before} {after}\n")?;
+    Ok(text.into_bytes())
+}
+
+/// What is printed of a table with a family more: how many families it has, and how many lines the proof of that one has.
+pub fn families_report(alloc: Global, families: u64, lines: u64) -> Result<Vec<u8>, AllocError>
+    ensures { IfOk result (λ v. v.items ≡ families_line families lines) }
+{
+    let text = format!(in alloc; "families {families} lines {lines}\n")?;
     Ok(text.into_bytes())
 }
 

@@ -38,6 +38,12 @@ pub(crate) enum Refusal {
     Inside { line: u64 },
     /// The text of a table has so many bytes, which are too many.
     Full { bytes: u64 },
+    /// The number of an entry can't be raised.
+    Symbol,
+    /// The sides of an entry with this value aren't equal under the mask.
+    Differ { value: u8 },
+    /// The solver spent this budget.
+    Spent { budget: u32 },
 }
 
 /// The number of a kind of refusal.
@@ -184,6 +190,29 @@ fn full_line(alloc: Global, bytes: u64) -> Result<Vec<u8>, AllocError>
     Ok(text.into_bytes())
 }
 
+/// `refused symbol 1`
+fn symbol_line(alloc: Global) -> Result<Vec<u8>, AllocError>
+    ensures { IfOk result (λ v. v.items ≡ refusal_line Refusal.Symbol) }
+{
+    b"refused symbol 1\n".to_vec(alloc)
+}
+
+/// `refused symbol 2 VALUE`
+fn differ_line(alloc: Global, value: u8) -> Result<Vec<u8>, AllocError>
+    ensures { IfOk result (λ v. v.items ≡ refusal_line (Refusal.Differ value)) }
+{
+    let text = format!(in alloc; "refused symbol 2 {value}\n")?;
+    Ok(text.into_bytes())
+}
+
+/// `refused symbol 3 BUDGET`
+fn spent_line(alloc: Global, budget: u32) -> Result<Vec<u8>, AllocError>
+    ensures { IfOk result (λ v. v.items ≡ refusal_line (Refusal.Spent budget)) }
+{
+    let text = format!(in alloc; "refused symbol 3 {budget}\n")?;
+    Ok(text.into_bytes())
+}
+
 /// The line that tells a refusal.
 fn refusal_line(alloc: Global, refusal: Refusal) -> Result<Vec<u8>, AllocError>
     ensures { IfOk result (λ v. v.items ≡ refusal_line refusal) }
@@ -202,6 +231,9 @@ fn refusal_line(alloc: Global, refusal: Refusal) -> Result<Vec<u8>, AllocError>
         Refusal::Address { line } => address_line(alloc, line),
         Refusal::Inside { line } => inside_line(alloc, line),
         Refusal::Full { bytes } => full_line(alloc, bytes),
+        Refusal::Symbol => symbol_line(alloc),
+        Refusal::Differ { value } => differ_line(alloc, value),
+        Refusal::Spent { budget } => spent_line(alloc, budget),
     }
 }
 

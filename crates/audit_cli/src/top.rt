@@ -8,6 +8,7 @@ ghost use Rattle.audit_cli.specs.Peep.{plan_of, Peeps};
 use crate::audit::Audit;
 use crate::demo::Demo;
 use crate::export::Export;
+use crate::generalising::Generalise;
 use crate::learn::Learn;
 use crate::rewrite::Rewrite;
 use crate::tidy::Tidy;
@@ -122,6 +123,24 @@ fn run_command<S: Store, O: Sink, L: Ledger>(
             };
             let names = [listing.as_str()];
             return run(alloc, &tidy, &names, store, sink, steps);
+        }
+        Command::Generalise {
+            table,
+            entry,
+            number,
+            low,
+            high,
+            out,
+        } => {
+            let generalise = Generalise {
+                entry: *entry,
+                number: *number,
+                low: *low,
+                high: *high,
+                out: out.as_str(),
+            };
+            let names = [table.as_str()];
+            return run(alloc, &generalise, &names, store, sink, steps);
         }
     }
 }

@@ -11,7 +11,7 @@ use Rattle.command_runs.specs.Plans.{StopsAt}
 use Rattle.command_runs.specs.Runs.{IsRefused}
 use Rattle.audit_cli.specs.Peep.{plan_of, Peeps, Ran}
 use Rattle.audit_cli.specs.Complete.{IsWithin, CanBeFetched, CanAllBeFetched, IsUnhindered, IsCarriedOut, IsCarriedOutOrFull}
-use Rattle.command_laws.specs.Once.{IsLearning}
+use Rattle.command_laws.specs.Once.{AsksSolver}
 use Rattle.command_laws.specs.Fit.{WereRead, ReadsFit, FitTextsAreCarriedOut, FitTextsAreLearntFrom}
 use Rattle.command_laws.proofs.FitLemmas.{never_refuses, fit_full}
 
@@ -61,12 +61,12 @@ module _ (words : List (List ℕ)) (r : Request) (old new : Seen) (before after 
       let k = refused_run h.0 h.1 h.2 in
       inr (refl, k.line, fit_full r k.outcome.texts k.line (fit k.outcome.texts (were_read k)) k.outcome.comes, k.wrote)
 
-  unrefused : (IsLearning r → ⊥) → ReadsFit r old new → Ran words old new before after status.Refused → ⊥
+  unrefused : (AsksSolver r → ⊥) → ReadsFit r old new → Ran words old new before after status.Refused → ⊥
   unrefused plain fit h =
       let k = refused_run h.0 h.1 h.2 in
       never_refuses r k.outcome.texts k.line plain (fit k.outcome.texts (were_read k)) k.outcome.comes
 
-  pub ends : (s : Status) → Peeps words old new before after s → IsUnhindered (plan_of r) old new before after → (IsLearning r → ⊥) → ReadsFit r old new → IsCarriedOut s
+  pub ends : (s : Status) → Peeps words old new before after s → IsUnhindered (plan_of r) old new before after → (AsksSolver r → ⊥) → ReadsFit r old new → IsCarriedOut s
   ends status.Done h u plain fit = inl refl
   ends status.Memory h u plain fit = inr refl
   ends status.Refused h u plain fit = absurd (unrefused plain fit h)

@@ -3,18 +3,20 @@ use Rattle.std.proofs.Common.{◌≡◌, ◌∙◌, ◌≤◌, ◌⊎◌, inl, i
 use Rattle.std.specs.Prelude.{IsSome}
 use Rattle.thumb_model.specs.Listing.{Line, code_of, place_of}
 use Rattle.thumb_model.specs.Layout.{Layable}
+use Rattle.thumb_model.specs.Sides.{Equal}
+use Rattle.bit_blast.specs.Slots.{instance}
 use Rattle.listing_parser.proofs.MadeLemmas.{one_listing}
 use Rattle.rule_table.specs.Table.{Rule, Family, Table}
 use Rattle.rule_table.proofs.Progress.{one_table}
 use Rattle.table_audit.specs.Sides.{SidesFit}
-use Rattle.table_audit.specs.Soundness.{numbers_of}
+use Rattle.table_audit.specs.Soundness.{items_in, numbers_of}
 use Rattle.table_learn.specs.Settings.{Settings}
-use Rattle.table_learn.specs.Learnt.{width_of}
+use Rattle.table_learn.specs.Learnt.{text_length, width_of}
 use Rattle.window_rewrite.specs.Rewriting.{setting}
 use Rattle.thumb_assembler.specs.Refusals.{first_flaw}
-use Rattle.command_line.specs.CommandLine.{Request, rewrite, audit, learn, export, trace, demo, upgrade, trim, tidy}
+use Rattle.command_line.specs.CommandLine.{Request, rewrite, audit, learn, export, trace, demo, upgrade, trim, tidy, generalise}
 use Rattle.command_runs.specs.Plans.{Outcome, Refuses, Does}
-use Rattle.audit_cli.specs.Printed.{refusal_line, entries_line}
+use Rattle.audit_cli.specs.Printed.{refusal_line, entries_line, families_line}
 use Rattle.audit_cli.specs.Rewrite.{Destination, Counts, Leaves, alone, pair, no_image, WantsNone, LinesRewrite, Rewrites, Comes}
 use Rattle.audit_cli.specs.Rewrite as rewriting
 use Rattle.audit_cli.specs.Steps.{IsAudited}
@@ -29,13 +31,16 @@ use Rattle.audit_cli.specs.Demo as showing
 use Rattle.audit_cli.specs.Upgrade as upgrading
 use Rattle.audit_cli.specs.Trim as trimming
 use Rattle.audit_cli.specs.Tidy as tidying
+use Rattle.audit_cli.specs.Generalise.{wanted}
+use Rattle.audit_cli.specs.Generalise as generalising
+use Rattle.audit_cli.proofs.GeneraliseLemmas.{not_none, not_unraisable, same_entry}
 use Rattle.audit_cli.specs.Peep.{plan_of}
-use Rattle.command_laws.specs.Once.{IsLearning}
+use Rattle.command_laws.specs.Once.{AsksSolver}
 use Rattle.audit_cli.specs.Complete.{TellsFull}
-use Rattle.command_laws.specs.Fit.{HasFitEntry, HasFitFamily, FitRewriting, FitExport, FitTrace, FitTidying, FitLearning, FitUpgrade, AreFit}
+use Rattle.command_laws.specs.Fit.{HasFitEntry, HasFitFamily, FitRewriting, FitExport, FitTrace, FitTidying, FitLearning, FitUpgrade, FitGeneralising, AreFit}
 use Rattle.command_laws.proofs.AddressLemmas.{still_flawless}
 use Rattle.audit_cli.proofs.DemoLemmas.{never_unaudited, none_some, never_without_image}
-use Rattle.command_laws.proofs.OnceLemmas.{Cause, never_unlisted, some_same, first_same, second_same, never_unread_listing, never_unlaid, apart, entry_moved, family_moved}
+use Rattle.command_laws.proofs.OnceLemmas.{Cause, one_audited, never_unlisted, some_same, first_same, second_same, never_unread_listing, never_unlaid, apart, entry_moved, family_moved}
 
 -- it refuses
 IsRefusing : Outcome → Type 0
@@ -161,7 +166,7 @@ module _ (base : ℕ) (out : List ℕ) (texts : List (List ℕ)) (fit : FitTidyi
 
 -- ---- all that learn no table ----
 
-fit_unrefused : (r : Request) (texts : List (List ℕ)) (o : Outcome) → (IsLearning r → ⊥) → AreFit r texts → (plan_of r).comes texts o → IsRefusing o → ⊥
+fit_unrefused : (r : Request) (texts : List (List ℕ)) (o : Outcome) → (AsksSolver r → ⊥) → AreFit r texts → (plan_of r).comes texts o → IsRefusing o → ⊥
 fit_unrefused (rewrite table listing out image base) texts o plain fit h = rewriting_fit (record { out = out; image = image; base = base }) texts fit o h
 fit_unrefused (audit table) texts o plain fit h = audits_fit fit.text fit.rules o (record { is = fit.is_table; accepted = fit.accepted }) (by_text tables.Audits texts fit.text o fit.is_text h)
 fit_unrefused (learn listing out settings) texts o plain fit h = absurd (plain tt)
@@ -172,11 +177,12 @@ fit_unrefused (trace listing label steps) texts o plain fit h =
     let journey : Journey = record { label = label; most = steps } in
     traces_fit journey texts fit o (by_text (tracing.Traces journey) texts fit.text o fit.is_text h)
 fit_unrefused (demo windows) texts o plain fit h = absurd (plain tt)
+fit_unrefused (generalise table entry number low high out) texts o plain fit h = absurd (plain tt)
 fit_unrefused (trim table out) texts o plain fit h = trims_fit out fit.text fit.rules o (record { is = fit.is_table; accepted = fit.accepted }) (by_text (trimming.Trims out) texts fit.text o fit.is_text h)
 fit_unrefused (tidy listing out base) texts o plain fit h = tidies_fit base out texts fit o (by_text (tidying.Tidies base out) texts fit.text o fit.is_text h)
 fit_unrefused (upgrade table out) texts o plain fit h = upgrades_fit out texts fit o (by_text (upgrading.Upgrades out) texts fit.text o fit.is_text h)
 
-pub never_refuses : (r : Request) (texts : List (List ℕ)) (line : List ℕ) → (IsLearning r → ⊥) → AreFit r texts → (plan_of r).comes texts (Refuses line) → ⊥
+pub never_refuses : (r : Request) (texts : List (List ℕ)) (line : List ℕ) → (AsksSolver r → ⊥) → AreFit r texts → (plan_of r).comes texts (Refuses line) → ⊥
 unfolding IsRefusing
 never_refuses r texts line plain fit h = fit_unrefused r texts (Refuses line) plain fit h tt
 
@@ -211,6 +217,28 @@ unfolding TellsFullIf
 shows_full n _ (showing.shown told h) = tt
 shows_full n _ (showing.too_long lines is windows are t bytes full) = (bytes, refl)
 
+-- ---- where a family is added ----
+
+module _ (out : List ℕ) (f : Family) (texts : List (List ℕ)) (fit : FitGeneralising f texts) where
+  audited : IsAudited fit.text fit.rules
+  audited = record { is = fit.is_table; accepted = fit.accepted }
+
+  never_unraised : (r : Cause) → generalising.IsUnraised fit.rules f r → ⊥
+  never_unraised _ (generalising.no_entry none) = not_none fit.rules f fit.entry fit.raisable.is_entry none
+  never_unraised _ (generalising.unraisable not) = not_unraisable fit.rules f fit.entry fit.raisable not
+  never_unraised _ (generalising.differ e can x within other) = other (subst (λ (y : Rule). Equal (instance f.number y.left x) (instance f.number y.right x) (items_in y.mask)) (same_entry fit.rules f fit.entry e fit.raisable can) (fit.equal x within))
+  never_unraised _ (generalising.spent log h) = fit.unspent log h
+
+  kept_full : (t : Table) (line : List ℕ) (o : Outcome) → upgrading.IsKept out t line o → TellsFullIf o
+  unfolding TellsFullIf
+  kept_full t line _ (upgrading.kept fits) = tt
+  kept_full t line _ (upgrading.full long) = (text_length t, refl)
+
+  generalises_fit : (o : Outcome) → generalising.Generalises out f fit.text o → TellsFullIf o
+  generalises_fit _ (generalising.unaudited cause h) = absurd (never_unaudited fit.text fit.rules cause fit.is_table fit.accepted h)
+  generalises_fit _ (generalising.unraised t is cause h) = absurd (never_unraised cause (subst (λ (x : Table). generalising.IsUnraised x f cause) (one_audited fit.text fit.rules t audited is) h))
+  generalises_fit _ (generalising.generalised t is raised h o kept) = kept_full raised (families_line (length raised.families) (length h.proof)) o kept
+
 tells_full : (r : Request) (texts : List (List ℕ)) (o : Outcome) → AreFit r texts → (plan_of r).comes texts o → TellsFullIf o
 tells_full (rewrite table listing out image base) texts o fit h = none_so o (fit_unrefused (rewrite table listing out image base) texts o (λ x. x) fit h)
 tells_full (audit table) texts o fit h = none_so o (fit_unrefused (audit table) texts o (λ x. x) fit h)
@@ -220,6 +248,9 @@ tells_full (learn listing out s) texts o fit h =
     let to : Lesson = record { out = out; settings = s } in
     learns_fit to texts fit o (by_text (learning.Learns to) texts fit.text o fit.is_text h)
 tells_full (demo windows) texts o fit h = shows_full windows o h
+tells_full (generalise table entry number low high out) texts o fit h =
+    let f : Family = wanted entry number low high in
+    generalises_fit out f texts fit o (by_text (generalising.Generalises out f) texts fit.text o fit.is_text h)
 tells_full (trim table out) texts o fit h = none_so o (fit_unrefused (trim table out) texts o (λ x. x) fit h)
 tells_full (tidy listing out base) texts o fit h = none_so o (fit_unrefused (tidy listing out base) texts o (λ x. x) fit h)
 tells_full (upgrade table out) texts o fit h = none_so o (fit_unrefused (upgrade table out) texts o (λ x. x) fit h)

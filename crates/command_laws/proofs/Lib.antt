@@ -11,4 +11,5 @@ mod UpgradeLemmas
 mod ShorterTexts
 pub mod TrimLemmas
 mod TidyOnceLemmas
+mod GeneraliseOnceLemmas
 mod TidyPromise

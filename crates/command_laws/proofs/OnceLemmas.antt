@@ -66,7 +66,7 @@ never_unlisted text t _ is (unlisted line h) = not_both text t line is h
 errors_same : (text : List ℕ) (t u : Table) (e f : AuditError) → IsText text t → IsText text u → TableVerdict t (Some e) → TableVerdict u (Some f) → e ≡ f
 errors_same text t u e f is are v w = some_same e f (table_same t (Some e) (Some f) v (subst (λ (x : Table). TableVerdict x (Some f)) (one_table text u t are is) w))
 
-unaudited_once : (text : List ℕ) (r s : Cause) → IsUnaudited text r → IsUnaudited text s → r ≡ s
+pub unaudited_once : (text : List ℕ) (r s : Cause) → IsUnaudited text r → IsUnaudited text s → r ≡ s
 unaudited_once text _ _ (no_table r h) (no_table s k) = unlisted_once text r s h k
 unaudited_once text _ _ (no_table r h) (other_state t is place v) = absurd (never_unlisted text t r is h)
 unaudited_once text _ _ (no_table r h) (too_wide t is count v) = absurd (never_unlisted text t r is h)

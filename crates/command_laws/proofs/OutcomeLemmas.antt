@@ -1,5 +1,5 @@
--- Of each request by which no table is learnt, texts come to one outcome.
-use Rattle.command_line.specs.CommandLine.{rewrite, audit, learn, export, trace, demo, upgrade, trim, tidy}
+-- Of each request by which the solver isn't asked, texts come to one outcome.
+use Rattle.command_line.specs.CommandLine.{rewrite, audit, learn, export, trace, demo, upgrade, trim, tidy, generalise}
 use Rattle.command_laws.specs.Once.{TextsComeToOne}
 use Rattle.command_laws.proofs.OnceLemmas.{rewrite_once, audit_once, export_once, upgrade_once, trim_once}
 use Rattle.command_laws.proofs.TraceOnceLemmas.{trace_once}
@@ -15,3 +15,4 @@ come_to_one (demo windows) plain = absurd (plain tt)
 come_to_one (upgrade table out) plain = upgrade_once out
 come_to_one (trim table out) plain = trim_once out
 come_to_one (tidy listing out base) plain = tidy_once base out
+come_to_one (generalise table entry number low high out) plain = absurd (plain tt)

@@ -25,7 +25,7 @@ use Rattle.table_audit.specs.Sides.{SidesFit, formula_of}
 use Rattle.table_audit.specs.declared.errors.FamilyKind.TheVariants as kind
 use Rattle.table_audit.specs.Acceptance.{IsRightlyOpen, OpenTest, EntryVerdict, RaisedVerdict, FamilyVerdict, IsAccepted}
 use Rattle.table_audit.specs.Families.{entry_at, entry_of, raised_formula, IsRaisable}
-use Rattle.table_audit.specs.Soundness.{rewriting_rule}
+use Rattle.table_audit.specs.Soundness.{rewriting_rule, instances_of}
 use Rattle.table_learn.specs.Learnt.{text_length}
 use Rattle.rule_model.specs.Rules as model
 use Rattle.window_rewrite.specs.Rewriting.{setting}
@@ -376,5 +376,22 @@ rewriting_alike h [] (f ∷ fs) z = absurd z
 rewriting_alike h (e ∷ es) [] z = absurd z
 rewriting_alike h (e ∷ es) (f ∷ fs) z = ap₂ (λ (r : model.Rule) (rs : List model.Rule). r ∷ rs) (ap rewriting_rule z.0.same) (rewriting_alike h es fs z.1)
 
+-- a family's instances go by its entry's sides
+instances_alike : (t u : Table) → IsTrimmedTable t u → (f g : Family) → IsTrimmedFamily t.header t.rules f g → instances_of g (entry_at u.rules g.entry) ≡ instances_of f (entry_at t.rules f.entry)
+instances_alike t u h f g z =
+    let own = trimmed_at t.header t.rules u.rules f.entry z.entry h.rules z.is_entry in
+    let same : entry_at u.rules f.entry ≡ Some (proving z.entry own.0.proof) = own.1 ∙ ap Some own.2.same in
+    ap (λ (x : Family). instances_of x (entry_at u.rules x.entry)) z.same
+    ∙ ap (instances_of (raising f g.proof)) same
+    ∙ ap (instances_of f) (sym z.is_entry)
+
+families_alike : (t u : Table) → IsTrimmedTable t u → (fs gs : List Family) → AllZip (IsTrimmedFamily t.header t.rules) fs gs
+    → map (λ f. instances_of f (entry_at u.rules f.entry)) gs ≡ map (λ f. instances_of f (entry_at t.rules f.entry)) fs
+families_alike t u h [] [] z = refl
+families_alike t u h [] (g ∷ gs) z = absurd z
+families_alike t u h (f ∷ fs) [] z = absurd z
+families_alike t u h (f ∷ fs) (g ∷ gs) z = ap₂ (λ (is : List model.Rule) (rest : List (List model.Rule)). is ∷ rest) (instances_alike t u h f g z.0) (families_alike t u h fs gs z.1)
+
 pub trimmed_rewrite_alike : TrimmedTablesRewriteAlike
-trimmed_rewrite_alike t u base h = ap (λ (rs : List model.Rule). setting base (model.alone rs)) (rewriting_alike t.header t.rules u.rules h.rules)
+trimmed_rewrite_alike t u base h =
+    ap₂ (λ (rules : List model.Rule) (instances : List (List model.Rule)). setting base (model.alone rules ++ instances)) (rewriting_alike t.header t.rules u.rules h.rules) (families_alike t u h t.families u.families h.families)

@@ -1,78 +1,12 @@
 -- Nothing that the audit says looks at a table's version.
-use Rattle.std.proofs.Common.{◌≡◌, ◌∙◌, inl, inr, ℕ, ◌+◌, ◌≤◌, List, [], ◌∷◌, Option, Some, None, false, refl, ap, arith, max, leb-false}
+use Rattle.std.proofs.Common.{◌≡◌, ◌∙◌, inl, inr, ℕ, ◌≤◌, [], false, refl, ap, arith, max, leb-false}
 use Rattle.std.proofs.lemmas.Bool.{cases_Bool, leb-true}
-use Rattle.std.specs.Prelude.{◌↔◌}
-use Rattle.rule_table.specs.declared.header.Field.{Field}
-use Rattle.rule_table.specs.declared.header.Field.TheVariants.{Version, Regs, Left, Seed, Budget, Scratch}
-use Rattle.rule_table.specs.declared.header.Head.TheVariants.{Number}
-use Rattle.rule_table.specs.Header.{IsWithin, number_in, has_line, has_families, since, blank}
-use Rattle.rule_table.specs.Table.{Opened, Rule, Family, Table}
+use Rattle.rule_table.specs.declared.header.Field.TheVariants.{Version}
+use Rattle.rule_table.specs.Header.{has_families}
 use Rattle.rule_table.specs.Text.{text_of}
-use Rattle.proof_logs.specs.Verdicts.{Tests, Then, InTurn}
-use Rattle.table_audit.specs.declared.errors.AuditError.{AuditError}
-use Rattle.table_audit.specs.declared.errors.AuditError.TheVariants as audit
-use Rattle.table_audit.specs.declared.errors.EntryFault.TheVariants as fault
-use Rattle.table_audit.specs.Sides.{SidesFit}
-use Rattle.table_audit.specs.Acceptance.{IsRightlyOpen, StatesVerdict, WideVerdict, SidesVerdict, EntryProofVerdict, ToldVerdict, OpensVerdict, OpenTest, EntryVerdict, EntriesVerdict, RaisedVerdict, FamilyVerdict, FamiliesVerdict, TableVerdict}
-use Rattle.table_audit.specs.Families.{entry_of}
 use Rattle.audit_cli.specs.Upgrade.{upgraded}
+use Rattle.audit_cli.proofs.VersionLemmas.{header_in_version, in_version, verdict}
 use Rattle.command_laws.specs.Upgrading.{UpgradesAreAuditedAlike, UpgradesAreTables, UpgradesRewriteAlike, LaterTablesAreKept}
-
--- ---- verdicts ----
-
-tests : {F : Type 0} (P Q : Type 0) (e : F) → (P ↔ Q) → (o : Option F) → Tests P e o → Tests Q e o
-tests P Q e same None h = same.0 h
-tests P Q e same (Some f) h = (h.0, λ q. h.1 (same.1 q))
-
-then : {F : Type 0} (a b c d : Option F → Type 0) → ((o : Option F) → a o → c o) → ((o : Option F) → b o → d o) → (o : Option F) → Then a b o → Then c d o
-then a b c d first second None h = (first None h.0, second None h.1)
-then a b c d first second (Some f) h = elim h [ inl one ↦ inl (first (Some f) one) | inr two ↦ inr (first None two.0, second (Some f) two.1) ]
-
-in_turn : {X F : Type 0} (a b : ℕ → X → Option F → Type 0) → ((n : ℕ) (x : X) (o : Option F) → a n x o → b n x o) → (n : ℕ) (xs : List X) (o : Option F) → InTurn a n xs o → InTurn b n xs o
-in_turn a b each n [] o h = h
-in_turn a b each n (x ∷ xs) o h = then (a n x) (InTurn a (n + 1) xs) (b n x) (InTurn b (n + 1) xs) (each n x) (in_turn a b each (n + 1) xs) o h
-
--- ---- tables of two headers that differ in their versions alone ----
-
--- the table in this version
-abbrev in_version : ℕ → Table → Table
-in_version v t = record t { header = record t.header { version = v } }
-
-fits : (v : ℕ) (t : Table) (e : Rule) → SidesFit t e → SidesFit (in_version v t) e
-fits v t e h = record { canonical = h.canonical; short = h.short; few = h.few; left = h.left; right = h.right; no_longer = h.no_longer; mask = h.mask }
-
-stays_open : (v : ℕ) (t : Table) (e : Rule) (o : Opened) → IsRightlyOpen t e o → IsRightlyOpen (in_version v t) e o
-stays_open v t e o h = record { seq = h.seq; below = record { at = h.below.at; no_longer = h.below.no_longer; lighter = h.below.lighter }; untold = h.untold; spent = h.spent }
-
-entry : (v : ℕ) (t : Table) (n : ℕ) (e : Rule) (o : Option AuditError) → EntryVerdict t n e o → EntryVerdict (in_version v t) n e o
-unfolding EntryVerdict
-entry v t n e =
-    then (SidesVerdict t n e) (Then (EntryProofVerdict t n e) (Then (ToldVerdict t n e) (OpensVerdict t n e)))
-    (SidesVerdict (in_version v t) n e) (Then (EntryProofVerdict (in_version v t) n e) (Then (ToldVerdict (in_version v t) n e) (OpensVerdict (in_version v t) n e)))
-    (tests (SidesFit t e) (SidesFit (in_version v t) e) (audit.Entry n fault.Sides) (fits v t e, fits t.header.version (in_version v t) e))
-    (then (EntryProofVerdict t n e) (Then (ToldVerdict t n e) (OpensVerdict t n e)) (EntryProofVerdict (in_version v t) n e) (Then (ToldVerdict (in_version v t) n e) (OpensVerdict (in_version v t) n e)) (λ o h. h)
-    (then (ToldVerdict t n e) (OpensVerdict t n e) (ToldVerdict (in_version v t) n e) (OpensVerdict (in_version v t) n e) (λ o h. h)
-    (in_turn (OpenTest t n e) (OpenTest (in_version v t) n e) each 0 e.opens)))
-  where
-    each : (i : ℕ) (o : Opened) (f : Option AuditError) → OpenTest t n e i o f → OpenTest (in_version v t) n e i o f
-    each i o = tests (IsRightlyOpen t e o) (IsRightlyOpen (in_version v t) e o) (audit.Entry n (fault.Open o.number)) (stays_open v t e o, stays_open t.header.version (in_version v t) e o)
-
-raised : (v : ℕ) (t : Table) (n : ℕ) (f : Family) (e : Option Rule) (o : Option AuditError) → RaisedVerdict t n f e o → RaisedVerdict (in_version v t) n f e o
-raised v t n f None o h = h
-raised v t n f (Some e) o h = h
-
-family : (v : ℕ) (t : Table) (n : ℕ) (f : Family) (o : Option AuditError) → FamilyVerdict t n f o → FamilyVerdict (in_version v t) n f o
-unfolding FamilyVerdict
-family v t n f o h = raised v t n f (entry_of t f) o h
-
-verdict : (v : ℕ) (t : Table) (o : Option AuditError) → TableVerdict t o → TableVerdict (in_version v t) o
-verdict v t =
-    let u = in_version v t in
-    then (StatesVerdict t) (Then (WideVerdict t) (Then (EntriesVerdict t) (FamiliesVerdict t))) (StatesVerdict u) (Then (WideVerdict u) (Then (EntriesVerdict u) (FamiliesVerdict u))) (λ o h. h)
-    (then (WideVerdict t) (Then (EntriesVerdict t) (FamiliesVerdict t)) (WideVerdict u) (Then (EntriesVerdict u) (FamiliesVerdict u)) (λ o h. h)
-    (then (EntriesVerdict t) (FamiliesVerdict t) (EntriesVerdict u) (FamiliesVerdict u)
-    (in_turn (EntryVerdict t) (EntryVerdict u) (entry v t) 1 t.rules)
-    (in_turn (FamilyVerdict t) (FamilyVerdict u) (family v t) 1 t.families)))
 
 pub upgrades_audited_alike : UpgradesAreAuditedAlike
 upgrades_audited_alike t o = (verdict (max 2 t.header.version) t o, verdict t.header.version (upgraded t) o)
@@ -80,28 +14,14 @@ upgrades_audited_alike t o = (verdict (max 2 t.header.version) t o, verdict t.he
 -- ---- texts ----
 
 pub upgrades_are_tables : UpgradesAreTables
-upgrades_are_tables t h = record { header = record { numbers = each; pool = h.header.pool; unsaid = said }; states = h.states; rules = h.rules; families = h.families; none_before = early }
+upgrades_are_tables t h = record {
+  header = header_in_version (max 2 t.header.version) t.header (omega arith) (let b = h.header.numbers Version in omega (arith, b.1)) h.header;
+  states = h.states;
+  rules = h.rules;
+  families = h.families;
+  none_before = early;
+}
   where
-    each : (field : Field) → IsWithin field (number_in (upgraded t).header field)
-    each Version = let b = h.header.numbers Version in (omega arith, omega (arith, b.1))
-    each Regs = h.header.numbers Regs
-    each Left = h.header.numbers Left
-    each Seed = h.header.numbers Seed
-    each Budget = h.header.numbers Budget
-    each Scratch = h.header.numbers Scratch
-
-    -- version 2 and later ones have a line for each number
-    since_two : (f : Field) → since (Number f) ≤ 2
-    since_two Version = omega arith
-    since_two Regs = omega arith
-    since_two Left = omega arith
-    since_two Seed = omega arith
-    since_two Budget = omega arith
-    since_two Scratch = omega arith
-
-    said : (f : Field) → has_line (upgraded t).header.version (Number f) ≡ false → number_in (upgraded t).header f ≡ number_in blank f
-    said f none = let two = since_two f in let late = leb-false (since (Number f)) (max 2 t.header.version) none in absurd (omega (arith, two, late))
-
     early : has_families (upgraded t).header.version ≡ false → t.families ≡ []
     early none = elim (cases_Bool (has_families t.header.version)) [
       | inl has ↦ (let late = leb-false 3 (max 2 t.header.version) none in let three = leb-true 3 t.header.version has in absurd (omega (arith, late, three)))

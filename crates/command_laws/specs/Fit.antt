@@ -6,20 +6,23 @@ use Rattle.thumb_model.specs.Layout.{Layable}
 use Rattle.listing_parser.specs.Parsing.{IsListing}
 use Rattle.rule_table.specs.Table.{Rule, Family, Table}
 use Rattle.rule_table.specs.Refused.{IsText as IsTableText}
+use Rattle.lrat_check.specs.Content.{Content}
 use Rattle.table_audit.specs.Acceptance.{IsAccepted}
 use Rattle.table_audit.specs.Sides.{SidesFit}
+use Rattle.table_audit.specs.Soundness.{items_in}
 use Rattle.table_learn.specs.Settings.{Settings}
 use Rattle.table_learn.specs.Learnt.{text_length, text_limit, width_of}
 use Rattle.thumb_assembler.specs.Refusals.{first_flaw}
-use Rattle.command_line.specs.CommandLine.{Request, rewrite, audit, learn, export, trace, demo, upgrade, trim, tidy, AskFor}
+use Rattle.command_line.specs.CommandLine.{Request, rewrite, audit, learn, export, trace, demo, upgrade, trim, tidy, generalise, AskFor}
 use Rattle.outer_store.specs.Outside.{Event, Seen, Sunk}
 use Rattle.command_runs.specs.declared.status.Status.{Status}
 use Rattle.command_runs.specs.Plans.{AreTexts, fetchings}
-use Rattle.table_audit.specs.Families.{entry_at, entry_of, family_at, IsRaisable}
+use Rattle.table_audit.specs.Families.{entry_at, entry_of, family_at, IsRaisable, AreEqualWithEach}
 use Rattle.audit_cli.specs.Upgrade.{upgraded}
+use Rattle.audit_cli.specs.Generalise.{wanted, IsRaisableFor, IsSpentOn}
 use Rattle.audit_cli.specs.Peep.{plan_of, Peeps}
 use Rattle.audit_cli.specs.Complete.{IsUnhindered, IsCarriedOut, IsCarriedOutOrFull}
-use Rattle.command_laws.specs.Once.{IsLearning}
+use Rattle.command_laws.specs.Once.{AsksSolver}
 
 -- ---- what is fit ----
 
@@ -102,6 +105,18 @@ pub record FitLearning (s : Settings) (texts : List (List ℕ)) : Type 0 where
   pub is_listing : IsListing text lines
   pub narrow : width_of s ≤ 5000000
 
+-- an accepted table with an entry whose number can be raised so, whose sides with each value are equal under the mask, and no log spends the budget on the family
+pub record FitGeneralising (f : Family) (texts : List (List ℕ)) : Type 0 where
+  pub text : List ℕ
+  pub is_text : texts ≡ text ∷ []
+  pub rules : Table
+  pub is_table : IsTableText text rules
+  pub accepted : IsAccepted rules
+  pub entry : Rule
+  pub raisable : IsRaisableFor rules f entry
+  pub equal : AreEqualWithEach f entry (items_in entry.mask)
+  pub unspent : (log : List Content) → IsSpentOn rules f log → ⊥
+
 -- the texts are what a request needs
 abbrev pub AreFit : Request → List (List ℕ) → Type 0
 AreFit (rewrite table listing out image base) texts = FitRewriting image base texts
@@ -113,6 +128,7 @@ AreFit (demo windows) texts = Unit {0}
 AreFit (upgrade table out) texts = FitUpgrade texts
 AreFit (trim table out) texts = FitAudit texts
 AreFit (tidy listing out base) texts = FitTidying base texts
+AreFit (generalise table entry number low high out) texts = FitGeneralising (wanted entry number low high) texts
 
 -- ---- the laws ----
 
@@ -126,10 +142,10 @@ pub record WereRead (old new : Seen) (names texts : List (List ℕ)) : Type 0 wh
 abbrev pub ReadsFit : Request → Seen → Seen → Type 0
 ReadsFit r old new = (texts : List (List ℕ)) → WereRead old new (plan_of r).names texts → AreFit r texts
 
--- where fit texts are read, what the words ask for is carried out; where a table is learnt, or its text is too long
+-- where fit texts are read, what the words ask for is carried out; where the solver is asked, or the table's text is too long
 abbrev pub FitTextsAreCarriedOut : Type 0
 FitTextsAreCarriedOut = (words : List (List ℕ)) (r : Request) (old new : Seen) (before after : Sunk) (s : Status) → All IsUtf8 words → AskFor words r → Peeps words old new before after s
-    → IsUnhindered (plan_of r) old new before after → ReadsFit r old new → (IsLearning r → ⊥) → IsCarriedOut s
+    → IsUnhindered (plan_of r) old new before after → ReadsFit r old new → (AsksSolver r → ⊥) → IsCarriedOut s
 
 abbrev pub FitTextsAreLearntFrom : Type 0
 FitTextsAreLearntFrom = (words : List (List ℕ)) (r : Request) (old new : Seen) (before after : Sunk) (s : Status) → All IsUtf8 words → AskFor words r → Peeps words old new before after s

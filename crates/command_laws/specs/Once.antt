@@ -1,33 +1,37 @@
--- Texts come to one outcome: what a request is to do with them is fixed, but for which table the solver's searches give where one is learnt.
+-- Texts come to one outcome: what a request is to do with them is fixed, but for what the solver's searches give where a table is learnt or a family added.
 use Rattle.std.specs.Prelude.{◌≡◌, ◌≤◌, ◌⊎◌, ℕ, List, [], ◌∷◌}
 use Rattle.thumb_model.specs.Listing.{Line}
 use Rattle.listing_parser.specs.Parsing.{IsListing}
+use Rattle.rule_table.specs.Table.{Rule, Family, Table}
 use Rattle.table_learn.specs.Learnt.{width_of}
-use Rattle.command_line.specs.CommandLine.{Request, rewrite, audit, learn, export, trace, demo, upgrade, trim, tidy}
+use Rattle.command_line.specs.CommandLine.{Request, rewrite, audit, learn, export, trace, demo, upgrade, trim, tidy, generalise}
 use Rattle.command_runs.specs.Plans.{Outcome}
 use Rattle.audit_cli.specs.Learn.{Lesson, LinesLearn, LearnComesTo}
 use Rattle.audit_cli.specs.Demo.{IsDemo}
+use Rattle.audit_cli.specs.Steps.{IsAudited}
+use Rattle.audit_cli.specs.Generalise.{IsRaisableFor, Generalises, GeneraliseComesTo}
 use Rattle.audit_cli.specs.Peep.{plan_of}
 
 -- texts come to at most one outcome
 abbrev pub IsOne : (List (List ℕ) → Outcome → Type 0) → Type 0
 IsOne comes = (texts : List (List ℕ)) (o p : Outcome) → comes texts o → comes texts p → o ≡ p
 
--- a table is learnt
-abbrev pub IsLearning : Request → Type 0
-IsLearning (rewrite table listing out image base) = ⊥
-IsLearning (audit table) = ⊥
-IsLearning (learn listing out settings) = Unit {0}
-IsLearning (export table entry cnf lrat) = ⊥
-IsLearning (trace listing label steps) = ⊥
-IsLearning (demo windows) = Unit {0}
-IsLearning (upgrade table out) = ⊥
-IsLearning (trim table out) = ⊥
-IsLearning (tidy listing out base) = ⊥
+-- the solver is asked: a table is learnt, or a family added
+abbrev pub AsksSolver : Request → Type 0
+AsksSolver (rewrite table listing out image base) = ⊥
+AsksSolver (audit table) = ⊥
+AsksSolver (learn listing out settings) = Unit {0}
+AsksSolver (export table entry cnf lrat) = ⊥
+AsksSolver (trace listing label steps) = ⊥
+AsksSolver (demo windows) = Unit {0}
+AsksSolver (upgrade table out) = ⊥
+AsksSolver (trim table out) = ⊥
+AsksSolver (tidy listing out base) = ⊥
+AsksSolver (generalise table entry number low high out) = Unit {0}
 
--- so it is with each request by which none is
+-- so it is with each request by which it isn't
 abbrev pub TextsComeToOne : Type 0
-TextsComeToOne = (r : Request) → (IsLearning r → ⊥) → IsOne (plan_of r).comes
+TextsComeToOne = (r : Request) → (AsksSolver r → ⊥) → IsOne (plan_of r).comes
 
 -- a table was learnt from the lines of the one listing, and kept, or its text is too long
 pub record AreOfOneListing (to : Lesson) (texts : List (List ℕ)) (o p : Outcome) : Type 0 where
@@ -46,3 +50,19 @@ LearningIsOneButForTables = (to : Lesson) (texts : List (List ℕ)) (o p : Outco
 -- and with `demo`: by one table so many windows come to one thing
 abbrev pub DemosOfOneTableAreOne : Type 0
 DemosOfOneTableAreOne = (n : ℕ) (told other : List ℕ) (h : IsDemo n told) (k : IsDemo n other) → h.table ≡ k.table → told ≡ other
+
+-- the one table is accepted and has an entry whose number can be raised so, and the solver was asked for the family
+pub record AreOfOneFamily (out : List ℕ) (f : Family) (texts : List (List ℕ)) (o p : Outcome) : Type 0 where
+  pub text : List ℕ
+  pub is_text : texts ≡ text ∷ []
+  pub table : Table
+  pub audited : IsAudited text table
+  pub entry : Rule
+  pub raisable : IsRaisableFor table f entry
+  pub first : Generalises out f text o
+  pub second : Generalises out f text p
+
+-- and with `generalise`, but for what the solver then finds
+abbrev pub GeneralisingIsOneButForSearches : Type 0
+GeneralisingIsOneButForSearches =
+    (out : List ℕ) (f : Family) (texts : List (List ℕ)) (o p : Outcome) → GeneraliseComesTo out f texts o → GeneraliseComesTo out f texts p → (o ≡ p) ⊎ AreOfOneFamily out f texts o p

@@ -2,23 +2,26 @@
 
 ghost use Rattle.command_laws.specs.Fit.{FitTextsAreCarriedOut, FitTextsAreLearntFrom};
 ghost use Rattle.command_laws.specs.Images.{KeptImagesFollow};
-ghost use Rattle.command_laws.specs.Once.{DemosOfOneTableAreOne, LearningIsOneButForTables, TextsComeToOne};
+ghost use Rattle.command_laws.specs.Once.{DemosOfOneTableAreOne, GeneralisingIsOneButForSearches, LearningIsOneButForTables, TextsComeToOne};
 ghost use Rattle.command_laws.specs.Tidying.{TidiesAsPromised};
 ghost use Rattle.command_laws.specs.Trimming.{TrimmedTablesAreAccepted, TrimmedTablesRewriteAlike, TrimmedTablesStay, TrimmedTextsAreNoLonger, TrimmingIsOne};
 ghost use Rattle.command_laws.specs.Upgrading.{LaterTablesAreKept, UpgradesAreAuditedAlike, UpgradesAreTables, UpgradesRewriteAlike};
 
 /// The texts that `rewrite`, `audit`, `export`, `trace`, `upgrade`, `trim` or `tidy` reads come to one outcome: whether they are refused, by which line, and what is kept and printed are
 /// fixed. So it is with `learn`, but where a table is learnt from one listing's lines: it may be another, and its text may be too long. What `demo` tells is fixed by
-/// the table that it learns.
+/// the table that it learns. And so it is with `generalise`, but where the table is accepted and the entry's number can be raised: what the solver then finds may be
+/// another.
 pub fn texts_come_to_one_outcome()
     ensures one { TextsComeToOne }
     ensures learning { LearningIsOneButForTables }
     ensures demo { DemosOfOneTableAreOne }
+    ensures generalising { GeneralisingIsOneButForSearches }
 {}
 
 /// Where the words ask for a command and nothing fails, texts that are fit for it give Done or Memory: for `rewrite` an accepted table, and a well-formed
 /// listing that can be laid out, where an image is asked for with an address for each external name and none inside the image; for `tidy` such a listing
-/// alone. Where a table is learnt, it may also be that its text is too long.
+/// alone; for `generalise` an accepted table with an entry whose number can be raised and whose sides with each value are equal, where no log spends the budget. Where
+/// the solver is asked, it may also be that the table's text is too long.
 pub fn fit_texts_are_carried_out()
     ensures carried_out { FitTextsAreCarriedOut }
     ensures learnt { FitTextsAreLearntFrom }

@@ -4,7 +4,7 @@ use Rattle.clap.specs.Words.{App, AddsSubcommand, app_of, with_subcommand}
 use Rattle.clap.specs.declared.builder.command.Command.{Command}
 use Rattle.clap.specs.declared.builder.Command.TheViews.{out-Command as fields_of}
 use Rattle.command_line.specs.App.{app_for, bare_app, peep_app}
-use Rattle.command_line.specs.CommandLine.{Form, rewrites, audits, learns, exports, traces, demos, upgrades, trims, tidies}
+use Rattle.command_line.specs.CommandLine.{Form, rewrites, audits, learns, exports, traces, demos, upgrades, trims, tidies, generalises}
 
 pub with_form : App → Form → App
 with_form a form = with_subcommand a (app_for form).top
@@ -15,6 +15,6 @@ unfolding with_form
 form_added old sub new a form adds own is was = adds.shape own ∙ ap (λ (s : App). with_subcommand (app_of old) s.top) is ∙ ap (λ (b : App). with_form b form) was
 
 -- the program with all of its commands, one added after the other
-pub all_added : (new : App) → new ≡ with_form (with_form (with_form (with_form (with_form (with_form (with_form (with_form (with_form bare_app rewrites) audits) learns) exports) traces) demos) upgrades) trims) tidies → new ≡ peep_app
+pub all_added : (new : App) → new ≡ with_form (with_form (with_form (with_form (with_form (with_form (with_form (with_form (with_form (with_form bare_app rewrites) audits) learns) exports) traces) demos) upgrades) trims) tidies) generalises → new ≡ peep_app
 unfolding with_form
 all_added new added = added

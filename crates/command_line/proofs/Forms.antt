@@ -4,7 +4,7 @@ use Rattle.std.specs.Prelude.{option_and_then}
 use Rattle.std.specs.List.{list_all}
 use Rattle.clap.specs.Words.{Row, fault_of, first_of, subcommand_of}
 use Rattle.command_line.specs.App.{asked, asked_by, form_of, peep_app, words_for}
-use Rattle.command_line.specs.CommandLine.{AskFor, Form, rewrites, audits, learns, exports, traces, demos, upgrades, trims, tidies, Given, IsCommand, Request, rewrite, learn, tidy, Text, all_given, base_of, settings_of, settings_by, number_from, pool_of, is_one_of, name_of, options_of, request_by, value_of}
+use Rattle.command_line.specs.CommandLine.{AskFor, Form, rewrites, audits, learns, exports, traces, demos, upgrades, trims, tidies, generalises, Given, IsCommand, Request, rewrite, learn, tidy, Text, all_given, base_of, settings_of, settings_by, number_from, pool_of, is_one_of, name_of, options_of, request_by, value_of}
 use Rattle.command_line.proofs.Items.{is_name}
 use Rattle.command_line.proofs.Law.{rows}
 use Rattle.command_line.proofs.Views.{AreTexts}
@@ -39,6 +39,7 @@ is_form demos = record { few = omega arith; names = refl; apart = refl; named = 
 is_form upgrades = record { few = omega arith; names = refl; apart = refl; named = refl }
 is_form trims = record { few = omega arith; names = refl; apart = refl; named = refl }
 is_form tidies = record { few = omega arith; names = refl; apart = refl; named = refl }
+is_form generalises = record { few = omega arith; names = refl; apart = refl; named = refl }
 
 -- the settings are told by the values of their options
 same_settings : (f g : Text → Option Text) → ((n : Text) → is_one_of (options_of learns) n ≡ true → f n ≡ g n) → settings_of f ≡ settings_of g
@@ -72,6 +73,8 @@ same_options trims (t ∷ o ∷ []) f g e = refl
 same_options trims ps f g e = refl
 same_options tidies (l ∷ o ∷ []) f g e = ap (λ (v : Option Text). option_map (λ base. tidy l o base) (base_of v)) (e (codes "base") refl)
 same_options tidies ps f g e = refl
+same_options generalises (t ∷ n ∷ x ∷ l ∷ h ∷ o ∷ []) f g e = refl
+same_options generalises ps f g e = refl
 
 -- a request has a word for each name
 counted : (form : Form) (ps : List Text) (value : Text → Option Text) (r : Request) → request_by form ps value ≡ Some r → length ps ≡ length (words_for form)
@@ -93,6 +96,8 @@ counted trims (t ∷ o ∷ []) value r e = refl
 counted trims ps value r e = absurd (let bad : None ≡ Some r = e in cc)
 counted tidies (l ∷ o ∷ []) value r e = refl
 counted tidies ps value r e = absurd (let bad : None ≡ Some r = e in cc)
+counted generalises (t ∷ n ∷ x ∷ l ∷ h ∷ o ∷ []) value r e = refl
+counted generalises ps value r e = absurd (let bad : None ≡ Some r = e in cc)
 
 -- ---- of all ----
 

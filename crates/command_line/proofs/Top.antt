@@ -11,7 +11,7 @@ use Rattle.clap.specs.Kinds.{Kinds, or_else}
 use Rattle.clap.specs.declared.error.kind.ErrorKind.TheVariants as kind
 use Rattle.clap.proofs.OnLiterals.{clap_on_literals}
 use Rattle.command_line.specs.App.{forms, peep_app, words_for}
-use Rattle.command_line.specs.CommandLine.{Form, rewrites, audits, learns, exports, traces, demos, upgrades, trims, tidies, name_of, options_of}
+use Rattle.command_line.specs.CommandLine.{Form, rewrites, audits, learns, exports, traces, demos, upgrades, trims, tidies, generalises, name_of, options_of}
 use Rattle.command_line.proofs.Level.{leaf, or_else_nil}
 use Rattle.command_line.proofs.Law.{Is, is_dashes, is_joined, is_apart, is_unknown, is_short, is_plain, clean}
 use Rattle.command_line.proofs.Lookup.{options, words_from}
@@ -80,6 +80,7 @@ enters demos = record { fault = λ ws. stopped_at (name_of demos) ws refl refl �
 enters upgrades = record { fault = λ ws. stopped_at (name_of upgrades) ws refl refl ∙ or_else_nil _; found = λ ws. stopped_in (name_of upgrades) ws }
 enters trims = record { fault = λ ws. stopped_at (name_of trims) ws refl refl ∙ or_else_nil _; found = λ ws. stopped_in (name_of trims) ws }
 enters tidies = record { fault = λ ws. stopped_at (name_of tidies) ws refl refl ∙ or_else_nil _; found = λ ws. stopped_in (name_of tidies) ws }
+enters generalises = record { fault = λ ws. stopped_at (name_of generalises) ws refl refl ∙ or_else_nil _; found = λ ws. stopped_in (name_of generalises) ws }
 
 -- ---- no words, and words that begin with another
 

@@ -2,7 +2,7 @@
 use Rattle.std.specs.Prelude.{true, List, [], ◌∷◌, Option, Some, codes, find, fold, map, option_and_then}
 use Rattle.std.specs.Str.{bytes_eq}
 use Rattle.clap.specs.Words.{App, Row, first_of, Rule, Text, new_app, new_rule, with_rule, with_subcommand}
-use Rattle.command_line.specs.CommandLine.{Request, Form, rewrites, audits, learns, exports, traces, demos, upgrades, trims, tidies, all_given, name_of, options_of, request_by}
+use Rattle.command_line.specs.CommandLine.{Request, Form, rewrites, audits, learns, exports, traces, demos, upgrades, trims, tidies, generalises, all_given, name_of, options_of, request_by}
 
 -- a positional word
 abbrev pub positional : Text → Rule
@@ -19,7 +19,7 @@ command_app name words options =
 
 -- the commands
 abbrev pub forms : List Form
-forms = rewrites ∷ audits ∷ learns ∷ exports ∷ traces ∷ demos ∷ upgrades ∷ trims ∷ tidies ∷ []
+forms = rewrites ∷ audits ∷ learns ∷ exports ∷ traces ∷ demos ∷ upgrades ∷ trims ∷ tidies ∷ generalises ∷ []
 
 -- the names of a command's positional words
 abbrev pub words_for : Form → List Text
@@ -32,6 +32,7 @@ words_for demos = codes "windows" ∷ []
 words_for upgrades = codes "table" ∷ codes "out" ∷ []
 words_for trims = codes "table" ∷ codes "out" ∷ []
 words_for tidies = codes "listing" ∷ codes "out" ∷ []
+words_for generalises = codes "table" ∷ codes "entry" ∷ codes "number" ∷ codes "low" ∷ codes "high" ∷ codes "out" ∷ []
 
 abbrev pub app_for : Form → App
 app_for form = command_app (name_of form) (words_for form) (options_of form)

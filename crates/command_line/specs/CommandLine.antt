@@ -92,6 +92,10 @@ base_of (Some v) = option_and_then (λ b. if is_base b then Some b else None) (n
 abbrev pub steps_of : Text → Option ℕ
 steps_of v = option_and_then (λ n. if nat_le n 1000000 then Some n else None) (numeral v)
 
+-- a byte is at most 255
+abbrev pub byte_of : Text → Option ℕ
+byte_of v = option_and_then (λ n. if nat_le n 255 then Some n else None) (numeral v)
+
 -- the windows of a demonstration are from 1 to 20,000
 abbrev pub windows_of : Text → Option ℕ
 windows_of v = option_and_then (λ n. if nat_le 1 n && nat_le n 20000 then Some n else None) (numeral v)
@@ -141,6 +145,7 @@ pub data Request : Type 0 where
   upgrade : (table out : Text) → Request
   trim : (table out : Text) → Request
   tidy : (listing out : Text) → ℕ → Request
+  generalise : (table : Text) (entry number low high : ℕ) (out : Text) → Request
 
 -- ---- the commands ----
 
@@ -154,6 +159,7 @@ pub data Form : Type 0 where
   upgrades : Form
   trims : Form
   tidies : Form
+  generalises : Form
 
 abbrev pub name_of : Form → Text
 name_of rewrites = codes "rewrite"
@@ -165,6 +171,7 @@ name_of demos = codes "demo"
 name_of upgrades = codes "upgrade"
 name_of trims = codes "trim"
 name_of tidies = codes "tidy"
+name_of generalises = codes "generalise"
 
 abbrev pub options_of : Form → List Text
 options_of rewrites = codes "base" ∷ []
@@ -183,6 +190,8 @@ request_by demos (count ∷ []) value = option_map (λ windows. demo windows) (w
 request_by upgrades (table ∷ out ∷ []) value = Some (upgrade table out)
 request_by trims (table ∷ out ∷ []) value = Some (trim table out)
 request_by tidies (listing ∷ out ∷ []) value = option_map (λ base. tidy listing out base) (base_of (value (codes "base")))
+request_by generalises (table ∷ entry ∷ number ∷ low ∷ high ∷ out ∷ []) value = option_and_then (λ e. option_and_then (λ n. option_and_then (λ l.
+    option_map (λ h. generalise table e n l h out) (byte_of high)) (byte_of low)) (byte_of number)) (numeral entry)
 request_by form words value = None
 
 -- the words are a command that asks for this

@@ -1,8 +1,8 @@
 -- What a command asks for, without its memory.
 use Rattle.std.specs.Prelude.{string_bytes}
-use Rattle.command_line.specs.CommandLine.{Request, rewrite, audit, learn, export, trace, demo, upgrade, trim, tidy}
+use Rattle.command_line.specs.CommandLine.{Request, rewrite, audit, learn, export, trace, demo, upgrade, trim, tidy, generalise}
 use Rattle.command_line.specs.declared.command.Command.{Command}
-use Rattle.command_line.specs.declared.command.Command.TheVariants.{Rewrite, Audit, Learn, Export, Trace, Demo, Upgrade, Trim, Tidy}
+use Rattle.command_line.specs.declared.command.Command.TheVariants.{Rewrite, Audit, Learn, Export, Trace, Demo, Upgrade, Trim, Tidy, Generalise}
 
 -- the request of a command
 abbrev pub request_of : Command → Request
@@ -17,3 +17,4 @@ request_of (Demo windows) = demo windows.number
 request_of (Upgrade table out) = upgrade (string_bytes table) (string_bytes out)
 request_of (Trim table out) = trim (string_bytes table) (string_bytes out)
 request_of (Tidy listing out base) = tidy (string_bytes listing) (string_bytes out) base.address
+request_of (Generalise table entry number low high out) = generalise (string_bytes table) entry number low high (string_bytes out)

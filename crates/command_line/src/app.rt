@@ -4,7 +4,7 @@ ghost use Rattle.std.specs.Prelude.{◌≡◌, IfOk, false};
 ghost use Rattle.clap.specs.Words.{app_of, with_rule};
 ghost use Rattle.clap.specs.declared.builder.Command.TheViews.{out-Command as fields_of};
 ghost use Rattle.command_line.specs.App.{positional, option, app_for, bare_app, peep_app};
-ghost use Rattle.command_line.specs.CommandLine.{rewrites, audits, learns, exports, traces, demos, upgrades, trims, tidies};
+ghost use Rattle.command_line.specs.CommandLine.{rewrites, audits, learns, exports, traces, demos, upgrades, trims, tidies, generalises};
 
 use clap::{Arg, Command};
 use std::alloc::{AllocError, Global};
@@ -136,6 +136,20 @@ fn tidy<'a>(alloc: Global) -> Result<Command<'a>, AllocError>
     with_option(alloc, command, "base")
 }
 
+/// `generalise TABLE ENTRY NUMBER LOW HIGH OUT`
+fn generalise<'a>(alloc: Global) -> Result<Command<'a>, AllocError>
+    ensures app { IfOk result (λ c. app_of c ≡ app_for generalises) }
+    ensures own { IfOk result (λ c. (fields_of c).has_globals ≡ false) }
+{
+    let command = Command::new(alloc, "generalise");
+    let command = with_word(alloc, command, "table")?;
+    let command = with_word(alloc, command, "entry")?;
+    let command = with_word(alloc, command, "number")?;
+    let command = with_word(alloc, command, "low")?;
+    let command = with_word(alloc, command, "high")?;
+    with_word(alloc, command, "out")
+}
+
 /// The program without its commands: one is required, and there is no help.
 fn bare<'a>(alloc: Global) -> Command<'a>
     ensures { app_of result ≡ bare_app }
@@ -161,5 +175,6 @@ pub fn peep<'a>(alloc: Global) -> Result<Command<'a>, AllocError>
     let command = command.subcommand(upgrade(alloc)?)?;
     let command = command.subcommand(trim(alloc)?)?;
     let command = command.subcommand(tidy(alloc)?)?;
+    let command = command.subcommand(generalise(alloc)?)?;
     Ok(command)
 }

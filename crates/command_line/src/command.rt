@@ -95,4 +95,13 @@ pub enum Command {
         out: String,
         base: Base,
     },
+    /// Audit the table, and keep it as `out` with a family more: that of an entry, counted from 1, for each value from `low` to `high` of a number.
+    Generalise {
+        table: String,
+        entry: u32,
+        number: u8,
+        low: u8,
+        high: u8,
+        out: String,
+    },
 }

@@ -3,7 +3,7 @@
 ghost use Rattle.std.specs.Prelude.{◌≡◌, ◌-◌, ◌≤◌, ℕ, List, All, IfOk, MatchOption, Some, true, length, map, option_map, option_and_then, string_bytes};
 ghost use Rattle.clap.specs.Words.{first_of, first_value, found_of, rows_of, subcommand_rows_of};
 ghost use Rattle.command_line.specs.App.{asked_by, asked};
-ghost use Rattle.command_line.specs.CommandLine.{rewrites, audits, learns, exports, traces, demos, upgrades, trims, tidies, base_of, between_commas, is_base, number_from, pool_of, steps_of, windows_of};
+ghost use Rattle.command_line.specs.CommandLine.{rewrites, audits, learns, exports, traces, demos, upgrades, trims, tidies, generalises, base_of, between_commas, byte_of, is_base, number_from, pool_of, steps_of, windows_of};
 ghost use Rattle.command_line.specs.Request.{request_of};
 ghost use Rattle.ascii_scan.specs.Numeral.{decimal};
 ghost use Rattle.seq_enum.specs.Pools.{is_pool};
@@ -37,6 +37,16 @@ fn steps(word: &str) -> Option<u32>
     ensures { result ≡ steps_of word.now }
 {
     number(word.as_bytes()).filter(|steps| *steps <= STEPS_LIMIT)
+}
+
+/// The byte that the word is, or None where it is none.
+fn byte_in(word: &str) -> Option<u8>
+    ensures { result ≡ byte_of word.now }
+{
+    match number(word.as_bytes()) {
+        Some(byte) if byte <= 255 => Some(byte as u8),
+        _ => None,
+    }
 }
 
 /// The windows of a demonstration that the word is, or None where it is none.
@@ -309,6 +319,38 @@ fn tidy(alloc: Global, given: &ArgMatches<'_>) -> Result<Option<Command>, AllocE
     }))
 }
 
+/// The values of `generalise`.
+fn generalise(alloc: Global, given: &ArgMatches<'_>) -> Result<Option<Command>, AllocError>
+    ensures { IfOk result (λ o. option_map request_of o ≡ asked_by generalises (first_value (found_of given.now))) }
+{
+    let (Some(table), Some(entry), Some(byte), Some(low), Some(high), Some(out)) = (
+        given.get_str("table"),
+        given.get_str("entry"),
+        given.get_str("number"),
+        given.get_str("low"),
+        given.get_str("high"),
+        given.get_str("out"),
+    ) else {
+        return Ok(None);
+    };
+    let (Some(entry), Some(number), Some(low), Some(high)) = (
+        number(entry.as_bytes()),
+        byte_in(byte),
+        byte_in(low),
+        byte_in(high),
+    ) else {
+        return Ok(None);
+    };
+    Ok(Some(Command::Generalise {
+        table: String::from_str(alloc, table)?,
+        entry,
+        number,
+        low,
+        high,
+        out: String::from_str(alloc, out)?,
+    }))
+}
+
 /// The command that clap found, with its values.
 pub fn command_of(alloc: Global, matches: &ArgMatches<'_>) -> Result<Option<Command>, AllocError>
     ensures { IfOk result (λ o. option_map request_of o ≡ option_and_then asked (subcommand_rows_of matches.now)) }
@@ -323,6 +365,7 @@ pub fn command_of(alloc: Global, matches: &ArgMatches<'_>) -> Result<Option<Comm
         Some(("upgrade", given)) => upgrade(alloc, given),
         Some(("trim", given)) => trim(alloc, given),
         Some(("tidy", given)) => tidy(alloc, given),
+        Some(("generalise", given)) => generalise(alloc, given),
         _ => Ok(None),
     }
 }

@@ -1,6 +1,6 @@
 use Rattle.std.proofs.Common.{◌≡◌, ◌∙◌, [], ◌∷◌, ap, string_bytes, subst, sym}
 use Rattle.command_line.specs.declared.command.Command.{Command}
-use Rattle.command_line.specs.declared.command.Command.TheVariants.{Rewrite, Audit, Learn, Export, Trace, Demo, Upgrade, Trim, Tidy}
+use Rattle.command_line.specs.declared.command.Command.TheVariants.{Rewrite, Audit, Learn, Export, Trace, Demo, Upgrade, Trim, Tidy, Generalise}
 use Rattle.command_line.specs.Request.{request_of}
 use Rattle.outer_store.specs.Outside.{Seen, Sunk}
 use Rattle.command_runs.specs.declared.status.Status.{Status}
@@ -14,6 +14,7 @@ use Rattle.audit_cli.specs.Demo.{DemoComesTo}
 use Rattle.audit_cli.specs.Upgrade.{UpgradeComesTo}
 use Rattle.audit_cli.specs.Trim.{TrimComesTo}
 use Rattle.audit_cli.specs.Tidy.{TidyComesTo}
+use Rattle.audit_cli.specs.Generalise.{wanted, GeneraliseComesTo}
 use Rattle.audit_cli.specs.Peep.{plan_of}
 use Rattle.audit_cli.proofs.top.run_command.Goals as goal
 
@@ -98,3 +99,11 @@ returns-in-Tidy-clause-runs g c =
     asked _ (Tidy c.in-Tidy.listing c.in-Tidy.out c.in-Tidy.base) c.args.command.now
     (g.S.Store.seen c.args.store.now) (g.S.Store.seen c.run-in-Tidy.new.store) (g.O.Sink.sunk c.args.sink.now) (g.O.Sink.sunk c.run-in-Tidy.new.sink) c.run-in-Tidy.result
     (λ i. record { names = listing i ∷ []; comes = TidyComesTo c.in-Tidy.base.address (out i) }) c.in-Tidy.is c.run-in-Tidy.ensures.runs
+
+pub returns-in-Generalise-clause-runs : goal.returns-in-Generalise-clause-runs
+returns-in-Generalise-clause-runs g c =
+    let out : c.as_str-in-Generalise.result.now ≡ string_bytes c.in-Generalise.out = c.as_str-in-Generalise.ensures.value in
+    let table : c.as_str-in-Generalise-2.result.now ≡ string_bytes c.in-Generalise.table = c.as_str-in-Generalise-2.ensures.value in
+    asked _ (Generalise c.in-Generalise.table c.in-Generalise.entry c.in-Generalise.number c.in-Generalise.low c.in-Generalise.high c.in-Generalise.out) c.args.command.now
+    (g.S.Store.seen c.args.store.now) (g.S.Store.seen c.run-in-Generalise.new.store) (g.O.Sink.sunk c.args.sink.now) (g.O.Sink.sunk c.run-in-Generalise.new.sink) c.run-in-Generalise.result
+    (λ i. record { names = table i ∷ []; comes = GeneraliseComesTo (out i) (wanted c.in-Generalise.entry c.in-Generalise.number c.in-Generalise.low c.in-Generalise.high) }) c.in-Generalise.is c.run-in-Generalise.ensures.runs

@@ -1,4 +1,5 @@
 use Rattle.command_laws.proofs.DemoOnceLemmas.{demos_once}
+use Rattle.command_laws.proofs.GeneraliseOnceLemmas.{generalising_once}
 use Rattle.command_laws.proofs.OnceLemmas.{learning_once}
 use Rattle.command_laws.proofs.OutcomeLemmas.{come_to_one}
 use Rattle.command_laws.proofs.laws.texts_come_to_one_outcome.Goals as goal
@@ -11,3 +12,6 @@ returns-clause-learning c = learning_once
 
 pub returns-clause-demo : goal.returns-clause-demo
 returns-clause-demo c = demos_once
+
+pub returns-clause-generalising : goal.returns-clause-generalising
+returns-clause-generalising c = generalising_once

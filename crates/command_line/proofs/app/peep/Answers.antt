@@ -1,4 +1,4 @@
-use Rattle.command_line.specs.CommandLine.{rewrites, audits, learns, exports, traces, demos, upgrades, trims, tidies}
+use Rattle.command_line.specs.CommandLine.{rewrites, audits, learns, exports, traces, demos, upgrades, trims, tidies, generalises}
 use Rattle.command_line.proofs.Added.{all_added, form_added}
 use Rattle.command_line.proofs.app.peep.Goals as goal
 
@@ -13,4 +13,5 @@ returns c =
     let seventh = form_added _ _ _ _ upgrades c.in_ok-command-7.ensures c.in_ok-upgrade.ensures.own c.in_ok-upgrade.ensures.app sixth in
     let eighth = form_added _ _ _ _ trims c.in_ok-command-8.ensures c.in_ok-trim.ensures.own c.in_ok-trim.ensures.app seventh in
     let ninth = form_added _ _ _ _ tidies c.in_ok-command-9.ensures c.in_ok-tidy.ensures.own c.in_ok-tidy.ensures.app eighth in
-    all_added _ ninth
+    let tenth = form_added _ _ _ _ generalises c.in_ok-command-10.ensures c.in_ok-generalise.ensures.own c.in_ok-generalise.ensures.app ninth in
+    all_added _ tenth

@@ -1,7 +1,7 @@
 use Rattle.std.proofs.Common.{◌≡◌, ◌∙◌, rules, subst, sym, Option}
 use Rattle.std.specs.Prelude.{IfOk, option_map}
 use Rattle.clap.specs.Words.{found_of}
-use Rattle.command_line.specs.CommandLine.{Request, rewrites, audits, learns, exports, traces, demos, upgrades, trims, tidies, name_of}
+use Rattle.command_line.specs.CommandLine.{Request, rewrites, audits, learns, exports, traces, demos, upgrades, trims, tidies, generalises, name_of}
 use Rattle.command_line.specs.Request.{request_of}
 use Rattle.command_line.proofs.Usage.{asked_met}
 use Rattle.command_line.proofs.values.command_of.Goals as goal
@@ -59,3 +59,9 @@ returns-in-Some-tidy-default c =
     let name : c.in-Some-tidy-default.field-0-0.now ≡ name_of tidies = search rules in
     let asks = asked_met tidies c.args.matches.now (found_of c.in-Some-tidy-default.given.now) c.in-Some-tidy-default.field-0-0.now c.in-Some-tidy-default.ensures.name c.in-Some-tidy-default.ensures.rows name in
     subst (λ (v : Option Request). IfOk c.tidy.result (λ o. option_map request_of o ≡ v)) (sym asks) c.tidy.ensures
+
+pub returns-in-Some-generalise-default : goal.returns-in-Some-generalise-default
+returns-in-Some-generalise-default c =
+    let name : c.in-Some-generalise-default.field-0-0.now ≡ name_of generalises = search rules in
+    let asks = asked_met generalises c.args.matches.now (found_of c.in-Some-generalise-default.given.now) c.in-Some-generalise-default.field-0-0.now c.in-Some-generalise-default.ensures.name c.in-Some-generalise-default.ensures.rows name in
+    subst (λ (v : Option Request). IfOk c.generalise.result (λ o. option_map request_of o ≡ v)) (sym asks) c.generalise.ensures

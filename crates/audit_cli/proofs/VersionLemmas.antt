@@ -1,0 +1,88 @@
+-- Tables in other versions: the audit has the same verdict on them.
+use Rattle.std.proofs.Common.{◌≡◌, ℕ, ◌+◌, ◌≤◌, List, [], ◌∷◌, Option, Some, None, false, inl, inr, arith, leb-false}
+use Rattle.std.specs.Prelude.{◌↔◌}
+use Rattle.rule_table.specs.declared.header.Field.{Field}
+use Rattle.rule_table.specs.declared.header.Field.TheVariants.{Version, Regs, Left, Seed, Budget, Scratch}
+use Rattle.rule_table.specs.declared.header.Head.TheVariants.{Number}
+use Rattle.rule_table.specs.Header.{Header, IsHeader, IsWithin, number_in, has_line, since, blank}
+use Rattle.rule_table.specs.Table.{Opened, Rule, Table}
+use Rattle.proof_logs.specs.Verdicts.{Tests, Then, InTurn}
+use Rattle.table_audit.specs.declared.errors.AuditError.{AuditError}
+use Rattle.table_audit.specs.declared.errors.AuditError.TheVariants as audit
+use Rattle.table_audit.specs.declared.errors.EntryFault.TheVariants as fault
+use Rattle.table_audit.specs.Sides.{SidesFit}
+use Rattle.table_audit.specs.Acceptance.{IsRightlyOpen, StatesVerdict, WideVerdict, SidesVerdict, EntryProofVerdict, ToldVerdict, OpensVerdict, OpenTest, EntryVerdict, EntriesVerdict, FamilyVerdict, FamiliesVerdict, TableVerdict}
+use Rattle.table_audit.proofs.Growing.{family_in_version}
+
+-- ---- verdicts ----
+
+tests : {F : Type 0} (P Q : Type 0) (e : F) → (P ↔ Q) → (o : Option F) → Tests P e o → Tests Q e o
+tests P Q e same None h = same.0 h
+tests P Q e same (Some f) h = (h.0, λ q. h.1 (same.1 q))
+
+then : {F : Type 0} (a b c d : Option F → Type 0) → ((o : Option F) → a o → c o) → ((o : Option F) → b o → d o) → (o : Option F) → Then a b o → Then c d o
+then a b c d first second None h = (first None h.0, second None h.1)
+then a b c d first second (Some f) h = elim h [ inl one ↦ inl (first (Some f) one) | inr two ↦ inr (first None two.0, second (Some f) two.1) ]
+
+in_turn : {X F : Type 0} (a b : ℕ → X → Option F → Type 0) → ((n : ℕ) (x : X) (o : Option F) → a n x o → b n x o) → (n : ℕ) (xs : List X) (o : Option F) → InTurn a n xs o → InTurn b n xs o
+in_turn a b each n [] o h = h
+in_turn a b each n (x ∷ xs) o h = then (a n x) (InTurn a (n + 1) xs) (b n x) (InTurn b (n + 1) xs) (each n x) (in_turn a b each (n + 1) xs) o h
+
+-- ---- tables of two headers that differ in their versions alone ----
+
+-- the table in this version
+abbrev pub in_version : ℕ → Table → Table
+in_version v t = record t { header = record t.header { version = v } }
+
+fits : (v : ℕ) (t : Table) (e : Rule) → SidesFit t e → SidesFit (in_version v t) e
+fits v t e h = record { canonical = h.canonical; short = h.short; few = h.few; left = h.left; right = h.right; no_longer = h.no_longer; mask = h.mask }
+
+stays_open : (v : ℕ) (t : Table) (e : Rule) (o : Opened) → IsRightlyOpen t e o → IsRightlyOpen (in_version v t) e o
+stays_open v t e o h = record { seq = h.seq; below = record { at = h.below.at; no_longer = h.below.no_longer; lighter = h.below.lighter }; untold = h.untold; spent = h.spent }
+
+entry : (v : ℕ) (t : Table) (n : ℕ) (e : Rule) (o : Option AuditError) → EntryVerdict t n e o → EntryVerdict (in_version v t) n e o
+unfolding EntryVerdict
+entry v t n e =
+    then (SidesVerdict t n e) (Then (EntryProofVerdict t n e) (Then (ToldVerdict t n e) (OpensVerdict t n e)))
+    (SidesVerdict (in_version v t) n e) (Then (EntryProofVerdict (in_version v t) n e) (Then (ToldVerdict (in_version v t) n e) (OpensVerdict (in_version v t) n e)))
+    (tests (SidesFit t e) (SidesFit (in_version v t) e) (audit.Entry n fault.Sides) (fits v t e, fits t.header.version (in_version v t) e))
+    (then (EntryProofVerdict t n e) (Then (ToldVerdict t n e) (OpensVerdict t n e)) (EntryProofVerdict (in_version v t) n e) (Then (ToldVerdict (in_version v t) n e) (OpensVerdict (in_version v t) n e)) (λ o h. h)
+    (then (ToldVerdict t n e) (OpensVerdict t n e) (ToldVerdict (in_version v t) n e) (OpensVerdict (in_version v t) n e) (λ o h. h)
+    (in_turn (OpenTest t n e) (OpenTest (in_version v t) n e) each 0 e.opens)))
+  where
+    each : (i : ℕ) (o : Opened) (f : Option AuditError) → OpenTest t n e i o f → OpenTest (in_version v t) n e i o f
+    each i o = tests (IsRightlyOpen t e o) (IsRightlyOpen (in_version v t) e o) (audit.Entry n (fault.Open o.number)) (stays_open v t e o, stays_open t.header.version (in_version v t) e o)
+
+pub verdict : (v : ℕ) (t : Table) (o : Option AuditError) → TableVerdict t o → TableVerdict (in_version v t) o
+verdict v t =
+    let u = in_version v t in
+    then (StatesVerdict t) (Then (WideVerdict t) (Then (EntriesVerdict t) (FamiliesVerdict t))) (StatesVerdict u) (Then (WideVerdict u) (Then (EntriesVerdict u) (FamiliesVerdict u))) (λ o h. h)
+    (then (WideVerdict t) (Then (EntriesVerdict t) (FamiliesVerdict t)) (WideVerdict u) (Then (EntriesVerdict u) (FamiliesVerdict u)) (λ o h. h)
+    (then (EntriesVerdict t) (FamiliesVerdict t) (EntriesVerdict u) (FamiliesVerdict u)
+    (in_turn (EntryVerdict t) (EntryVerdict u) (entry v t) 1 t.rules)
+    (in_turn (FamilyVerdict t) (FamilyVerdict u) (family_in_version v t) 1 t.families)))
+
+-- ---- headers ----
+
+-- version 2 and later ones have a line for each number
+since_two : (f : Field) → since (Number f) ≤ 2
+since_two Version = omega arith
+since_two Regs = omega arith
+since_two Left = omega arith
+since_two Seed = omega arith
+since_two Budget = omega arith
+since_two Scratch = omega arith
+
+pub header_in_version : (v : ℕ) (h : Header) → 2 ≤ v → v ≤ 3 → IsHeader h → IsHeader (record h { version = v })
+header_in_version v h two three is = record { numbers = each; pool = is.pool; unsaid = said }
+  where
+    each : (field : Field) → IsWithin field (number_in (record h { version = v }) field)
+    each Version = (omega (arith, two), three)
+    each Regs = is.numbers Regs
+    each Left = is.numbers Left
+    each Seed = is.numbers Seed
+    each Budget = is.numbers Budget
+    each Scratch = is.numbers Scratch
+
+    said : (f : Field) → has_line v (Number f) ≡ false → number_in (record h { version = v }) f ≡ number_in blank f
+    said f none = let first = since_two f in let late = leb-false (since (Number f)) v none in absurd (omega (arith, first, late, two))
