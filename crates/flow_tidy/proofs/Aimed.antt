@@ -255,7 +255,7 @@ aimed_behind label (x ∷ xs) ys zero m e = absurd (omega arith)
 aimed_behind label (x ∷ xs) ys (suc p) m e = ap (λ (l : List Place). x ∷ l) (aimed_behind label xs ys p m (omega arith))
 
 -- an instruction doesn't stand among words
-past_words : (vs : List Value) (ys : List Place) (p : ℕ) (i : Instr) (mention : Option Mention) → slice_get (map Word vs ++ ys) p ≡ Some (Op i mention) → (m : ℕ) × (p ≡ length (map Word vs) + m) × (slice_get ys m ≡ Some (Op i mention))
+pub past_words : (vs : List Value) (ys : List Place) (p : ℕ) (i : Instr) (mention : Option Mention) → slice_get (map Word vs ++ ys) p ≡ Some (Op i mention) → (m : ℕ) × (p ≡ length (map Word vs) + m) × (slice_get ys m ≡ Some (Op i mention))
 past_words [] ys p i mention e = (p, omega arith, e)
 past_words (v ∷ vs) ys zero i mention e = absurd (cc)
 past_words (v ∷ vs) ys (suc p) i mention e = let r = past_words vs ys p i mention e in (r.0, omega (arith, r.1), r.2)

@@ -17,18 +17,18 @@ use Rattle.flow_tidy.proofs.AimedRuns.{last_is_code}
 -- ---- hops as a test ----
 
 -- at the place an unconditional branch to a code label stands
-abbrev hops_on : Code → Option Place → Bool
+abbrev pub hops_on : Code → Option Place → Bool
 hops_on code None = false
 hops_on code (Some (Word v)) = false
 hops_on code (Some (Op i None)) = false
 hops_on code (Some (Op i (Some m))) = is_always i && is_some (place_of code m.name)
 
-abbrev hops_at : Code → Option ℕ → Bool
+abbrev pub hops_at : Code → Option ℕ → Bool
 hops_at code None = false
 hops_at code (Some q) = hops_on code (slice_get code.places q)
 
 -- from the label a hop leads on
-abbrev has_hop : Code → Name → Bool
+abbrev pub has_hop : Code → Name → Bool
 has_hop code name = hops_at code (place_of code name)
 
 both : (a b : Bool) → a ≡ true → b ≡ true → (a && b) ≡ true
@@ -43,12 +43,12 @@ second_true : (a b : Bool) → (a && b) ≡ true → b ≡ true
 second_true true b h = h
 second_true false b h = absurd (cc)
 
-hop_is : (code : Code) (from to : Name) → Hops code from to → has_hop code from ≡ true
+pub hop_is : (code : Code) (from to : Name) → Hops code from to → has_hop code from ≡ true
 hop_is code from to h =
     ap (hops_at code) h.labelled ∙ ap (hops_on code) h.stands
     ∙ both (is_always h.i) (is_some (place_of code h.mention.name)) h.always (subst (λ (x : Name). IsSome (place_of code x)) (sym h.named) h.code_label)
 
-hop_from : (code : Code) (from : Name) (o : Option ℕ) → place_of code from ≡ o → hops_at code o ≡ true → (to : Name) × Hops code from to
+pub hop_from : (code : Code) (from : Name) (o : Option ℕ) → place_of code from ≡ o → hops_at code o ≡ true → (to : Name) × Hops code from to
 hop_from code from None e h = absurd (cc)
 hop_from code from (Some q) e h = on (slice_get code.places q) refl h
   where
@@ -75,7 +75,7 @@ not_true true h = absurd (h refl)
 not_true false h = refl
 
 -- where a chain stops no hop leads on
-end_stops : (code : Code) (label : Name) → ((next : Name) → Hops code label next → ⊥) → has_hop code label ≡ false
+pub end_stops : (code : Code) (label : Name) → ((next : Name) → Hops code label next → ⊥) → has_hop code label ≡ false
 end_stops code label h = not_true (has_hop code label) (λ t. let n = hop_from code label (place_of code label) refl t in h n.0 n.1)
 
 -- ---- branches of chains, counted ----
@@ -131,7 +131,7 @@ module _ (code : Code) (p : ℕ) (label : Name) (g : GoesToEnd code p label) whe
   at_same None = refl
   at_same (Some q) = on_same q
 
-  hops_same : (name : Name) → has_hop after name ≡ has_hop code name
+  pub hops_same : (name : Name) → has_hop after name ≡ has_hop code name
   hops_same name = ap (hops_at after) (name_stays code p label name) ∙ at_same (place_of code name)
 
   chain_same : (x : Place) → is_chained after x ≡ is_chained code x
@@ -173,7 +173,7 @@ module _ (code : Code) (p : ℕ) (label : Name) (g : GoesToEnd code p label) whe
   pub less_chained : chained after after.places + 1 ≡ chained code code.places
   less_chained = ap (λ n. n + 1) (all_same (aimed_places p label code.places)) ∙ one_less p code.places g.stands
 
-same_length : (p : ℕ) (label : Name) (xs : List Place) → length (aimed_places p label xs) ≡ length xs
+pub same_length : (p : ℕ) (label : Name) (xs : List Place) → length (aimed_places p label xs) ≡ length xs
 same_length p label [] = refl
 same_length zero label (x ∷ xs) = refl
 same_length (suc p) label (x ∷ xs) = ap suc (same_length p label xs)
@@ -192,7 +192,7 @@ most_square : (n : ℕ) → most n ≤ n * n
 most_square zero = omega arith
 most_square (suc n) = square_step (most n) (n * n) n (suc n * suc n) (most_square n) (mul-suc (suc n) n ∙ ap (λ x. x + suc n) (suc-mul n n))
 
-one_place_less : (s : Setting) (p : ℕ) (ls : List Line) (i : Instr) (mention : Option Mention) → slice_get (places_of ls) p ≡ Some (Op i mention) → length (places_of (lines_without s p ls)) + 1 ≡ length (places_of ls)
+pub one_place_less : (s : Setting) (p : ℕ) (ls : List Line) (i : Instr) (mention : Option Mention) → slice_get (places_of ls) p ≡ Some (Op i mention) → length (places_of (lines_without s p ls)) + 1 ≡ length (places_of ls)
 one_place_less s p ls i mention e =
     let l : p < length (places_of ls) = slice_get_within (places_of ls) p _ e in
     let a : length (places_of (lines_without s p ls)) ≡ length (take p (places_of ls) ++ drop (p + 1) (places_of ls)) = ap (λ (c : Code). length c.places) (code_without s p ls i mention e) in

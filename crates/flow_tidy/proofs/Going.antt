@@ -90,7 +90,7 @@ module _ (code : Code) (p : ℕ) where
     same_next = omega arith
 
     -- each place of the new listing is one of the old
-    origin : (r : ℕ) → (q : ℕ) × (q ≢ p) × (to q ≡ r)
+    pub origin : (r : ℕ) → (q : ℕ) × (q ≢ p) × (to q ≡ r)
     origin r = elim (cases_lt r p) [
       | inl h ↦ (r, (λ e. absurd (omega arith)), omega arith)
       | inr h ↦ (r + 1, (λ e. absurd (omega arith)), omega arith)

@@ -5,10 +5,13 @@ pub mod GoneRuns
 pub mod Removed
 pub mod Aimed
 pub mod AimedRuns
+pub mod Aims
 pub mod Whole
 pub mod Ends
 pub mod Hops
 pub mod Lines
 pub mod Making
 pub mod Rounds
+pub mod Causes
+pub mod Settled
 pub mod Worked

@@ -1,9 +1,10 @@
 -- Change after change: what was made so far, how many changes there can still be, and how many places are visited.
 use Rattle.std.proofs.Common.{◌≡◌, ℕ, ◌+◌, ◌*◌, ◌<◌, ◌≤◌, ◌^◌, List, [], ◌∷◌, ◌++◌, length, length-append, append_assoc, refl, sym, subst, arith}
-use Rattle.std.proofs.Math.Nat.{mul-le-mul_left}
+use Rattle.std.proofs.Math.Nat.{mul_comm, mul-le-mul_left}
 use Rattle.thumb_model.specs.Listing.{Line, places_of}
 use Rattle.flow_tidy.specs.Tidied.{Setting, Change, lines_after, IsFirst, NonePossible, AreTidied}
 use Rattle.flow_tidy.specs.Tidying.{setting, tidying_cost, AreTidiedBy}
+use Rattle.flow_tidy.specs.Due.{IsNextAt}
 use Rattle.flow_tidy.specs.Made.{AreMadeBy}
 use Rattle.flow_tidy.proofs.Ends.{room_of, room_less, room_few}
 
@@ -38,6 +39,13 @@ square_below n h =
     let b : n * (n + 1) ≤ n * 4294967296 = mul-le-mul_left n (omega arith) in
     omega arith
 
+-- the first change, where it is found at a place
+pub next_made : (s : Setting) (given ls new : List Line) (n p : ℕ) → AreMadeBy s given ls n → IsNextAt s p ls new → AreMadeBy s given new (n + 1)
+next_made s given ls new n p m x = one_more s given ls new n m (record { place = p; cause = x.cause }) x.first x.lines
+
+pub next_room : (s : Setting) (ls new : List Line) (p : ℕ) → IsNextAt s p ls new → room_of new + 1 ≤ room_of ls
+next_room s ls new p x = (room_left s ls new (record { place = p; cause = x.cause }) x.first x.lines).0
+
 -- so many changes fit into 64 bits
 pub count_fits : (given ls new : List Line) (n : ℕ) → length (places_of given) < 2 ^ 32 → n + room_of ls ≤ room_of given → room_of new + 1 ≤ room_of ls → n + 1 < 2 ^ 64
 count_fits given ls new n h k l =
@@ -50,16 +58,14 @@ count_fits given ls new n h k l =
 
 -- ---- how many places are visited ----
 
-pub round_spent : (before now after n places here : ℕ) → now ≤ before + n * places → after ≤ now + here → here ≤ places → after ≤ before + (n + 1) * places
-round_spent before now after n places here h k l = grind arith
-
 few_in_all : (n : ℕ) → n ≤ n * (n + 2)
 few_in_all n = let a : n * 1 ≤ n * (n + 2) = mul-le-mul_left n (omega arith) in omega arith
 
-pub all_spent : (before after n : ℕ) (ls : List Line) → after ≤ before + (n + 1) * length (places_of ls) → after ≤ before + tidying_cost ls n
-all_spent before after n ls h =
-    let more : (n + 1) * length (places_of ls) ≤ (n + 1) * (length (places_of ls) * (length (places_of ls) + 2)) = mul-le-mul_left (n + 1) (few_in_all (length (places_of ls))) in
-    more_spent _ _ _ _ h more
-  where
-    more_spent : (a b x y : ℕ) → a ≤ b + x → x ≤ y → a ≤ b + y
-    more_spent a b x y h k = omega arith
+pub once_spent : (before after n : ℕ) (ls : List Line) → after ≤ before + length (places_of ls) → after ≤ before + tidying_cost ls n
+once_spent before after n ls h =
+    let places : ℕ = length (places_of ls) in
+    let all : ℕ = places * (places + 2) in
+    let few : places ≤ all = few_in_all places in
+    let more : all * 1 ≤ all * (n + 1) = mul-le-mul_left all (omega arith) in
+    let same : all * (n + 1) ≡ (n + 1) * all = mul_comm all (n + 1) in
+    omega (arith, h, few, more, same)

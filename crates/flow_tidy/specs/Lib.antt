@@ -4,3 +4,4 @@ pub mod Laws
 pub mod Worked
 pub mod Tidying
 pub mod Made
+pub mod Due

@@ -2,8 +2,10 @@
 use Rattle.std.specs.Prelude.{◌≡◌, ℕ, ◌≤◌, ◌==◌, not, Bool, List, ◌++◌, length, Option, Some, None, is_some, option_and_then, slice_get, if◌then◌else◌}
 use Rattle.thumb_model.specs.Listing.{Name, Place, Op, Word, Line, Code, place_of}
 use Rattle.thumb_model.specs.Layout.{Layable}
+use Rattle.label_layout.specs.Addresses.{Addresses, AreAddresses}
+use Rattle.flow_tidy.specs.declared.found.Changed.{Changed}
 use Rattle.flow_tidy.specs.Chains.{is_always, IsEnd}
-use Rattle.flow_tidy.specs.Tidied.{Setting, Cause, Change, is_branch, line_length, lines_by, lines_after, rank, IsPossible, IsFirst, NonePossible, AreTidied}
+use Rattle.flow_tidy.specs.Tidied.{Setting, Cause, Change, is_branch, line_length, lines_by, rank, IsPossible, AreTidied}
 
 -- ---- branches ----
 
@@ -47,6 +49,20 @@ AreShort longest ls = (k : ℕ) (l : Line) → slice_get ls k ≡ Some l → lin
 abbrev pub AreWithin : ℕ → ℕ → List Line → Type 0
 AreWithin most longest ls = (length ls ≤ most) × AreShort longest ls
 
+-- where lines lie, if that is told
+abbrev pub IsMovedTo : ℕ → List Line → Option Addresses → Type 0
+IsMovedTo base ls None = Unit {0}
+IsMovedTo base ls (Some a) = AreAddresses ls a × (a.base ≡ base)
+
+-- these lines, and if it is told where they lie
+abbrev pub AreLines : ℕ → List Line → Changed → Type 0
+AreLines base ls new = (new.listing ≡ ls) × IsMovedTo base ls new.moved
+
+-- the lines themselves where they are within the limits, and else nothing
+abbrev pub IsWithin : ℕ → ℕ → List Line → Option Changed → Type 0
+IsWithin most longest ls None = AreWithin most longest ls → ⊥
+IsWithin most longest ls (Some new) = AreWithin most longest ls × (new.listing ≡ ls) × (new.moved ≡ None)
+
 -- lines that can be laid out and are within the limits
 pub record IsFit (s : Setting) (ls : List Line) : Type 0 where
   pub layable : Layable s.base ls
@@ -54,9 +70,9 @@ pub record IsFit (s : Setting) (ls : List Line) : Type 0 where
   pub short : AreShort s.longest_line ls
 
 -- the lines themselves where they are fit, and else nothing
-abbrev pub IsAccepted : Setting → List Line → Option (List Line) → Type 0
+abbrev pub IsAccepted : Setting → List Line → Option Changed → Type 0
 IsAccepted s ls None = IsFit s ls → ⊥
-IsAccepted s ls (Some new) = IsFit s ls × (new ≡ ls)
+IsAccepted s ls (Some new) = IsFit s ls × AreLines s.base ls new
 
 -- ---- changes ----
 
@@ -64,19 +80,14 @@ abbrev pub change : ℕ → Cause → Change
 change p cause = record { place = p; cause = cause }
 
 -- the lines after the change of this rank at a place, where one is possible
-abbrev pub IsMade : Setting → ℕ → ℕ → List Line → Option (List Line) → Type 0
+abbrev pub IsMade : Setting → ℕ → ℕ → List Line → Option Changed → Type 0
 IsMade s p r ls None = (o : Cause) → rank o ≡ r → IsPossible s (change p o) ls → ⊥
-IsMade s p r ls (Some new) = (c : Cause) × (rank c ≡ r) × IsPossible s (change p c) ls × (new ≡ lines_by s p c ls)
+IsMade s p r ls (Some new) = (c : Cause) × (rank c ≡ r) × IsPossible s (change p c) ls × AreLines s.base (lines_by s p c ls) new
 
 -- the lines after the change at a place that is tried soonest, where one is possible
-abbrev pub IsMadeAt : Setting → ℕ → List Line → Option (List Line) → Type 0
+abbrev pub IsMadeAt : Setting → ℕ → List Line → Option Changed → Type 0
 IsMadeAt s p ls None = (o : Cause) → IsPossible s (change p o) ls → ⊥
-IsMadeAt s p ls (Some new) = (c : Cause) × IsPossible s (change p c) ls × ((o : Cause) → IsPossible s (change p o) ls → rank c ≤ rank o) × (new ≡ lines_by s p c ls)
-
--- the lines after the first change, where one is possible
-abbrev pub IsNext : Setting → List Line → Option (List Line) → Type 0
-IsNext s ls None = NonePossible s ls
-IsNext s ls (Some new) = (c : Change) × IsFirst s c ls × (new ≡ lines_after s c ls)
+IsMadeAt s p ls (Some new) = (c : Cause) × IsPossible s (change p c) ls × ((o : Cause) → IsPossible s (change p o) ls → rank c ≤ rank o) × AreLines s.base (lines_by s p c ls) new
 
 -- so many changes, each the first, lead from the given lines to these
 pub record AreMadeBy (s : Setting) (given ls : List Line) (count : ℕ) : Type 0 where

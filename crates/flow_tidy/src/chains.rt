@@ -9,14 +9,14 @@ use listing_parser::{Listing, Place};
 use thumb_instr::Instr;
 
 /// Whether an instruction is a branch without a condition.
-fn is_always(instr: &Instr) -> bool
+pub(crate) fn is_always(instr: &Instr) -> bool
     ensures { result ≡ is_always instr.now }
 {
     matches!(instr, Instr::Branch { .. })
 }
 
 /// Whether an instruction is a branch, with a condition or without.
-fn is_branch(instr: &Instr) -> bool
+pub(crate) fn is_branch(instr: &Instr) -> bool
     ensures { result ≡ is_branch instr.now }
 {
     matches!(instr, Instr::BranchIf { .. } | Instr::Branch { .. })

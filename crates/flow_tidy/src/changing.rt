@@ -1,14 +1,21 @@
 //! The changes at a place, in the order in which they are tried. A listing is made anew only where its change has its cause.
 ghost use Rattle.std.specs.Prelude.{◌≡◌, ◌<◌, ◌↔◌, true, IsTrue, IfOk, length, option_and_then, slice_get};
+ghost use Rattle.thumb_model.specs.Layout.{Layable};
 ghost use Rattle.thumb_model.specs.Listing.{code_of, is_op_place, place_of, places_of};
+ghost use Rattle.label_layout.specs.Addresses.{AreAddresses};
+ghost use Rattle.listing_parser.specs.Parsing.{line_mentioning};
+ghost use Rattle.listing_parser.specs.Retargeting.{aimed_lines};
 ghost use Rattle.code_flow.specs.Marks.{AreMarks};
 ghost use Rattle.flow_tidy.specs.Tidied.{lines_without, GoesToNext, IsIdle};
+ghost use Rattle.flow_tidy.specs.Due.{HasEnd};
 ghost use Rattle.flow_tidy.specs.Tidying.{setting};
 ghost use Rattle.flow_tidy.specs.Made.{label_of_branch, IsAccepted, IsMade, IsMadeAt};
 
 use crate::chains::{chain_end, label_of_branch};
-use crate::limits::accepted;
-use code_flow::Reached;
+use crate::found::Changed;
+use crate::limits::{accepted, within_limits};
+use crate::marks::Marks;
+use label_layout::{Layout, aim_fault};
 use listing_parser::{Listing, Memory, Place, is_call};
 use std::alloc::Global;
 
@@ -21,7 +28,7 @@ fn target(listing: &Listing, place: u32) -> Option<u32>
 }
 
 /// Whether a branch to the next place stands at this one.
-fn goes_to_next(listing: &Listing, place: u32) -> bool
+pub(crate) fn goes_to_next(listing: &Listing, place: u32) -> bool
     ensures { IsTrue result ↔ GoesToNext (code_of listing.now) place }
 {
     match target(listing, place) {
@@ -31,7 +38,7 @@ fn goes_to_next(listing: &Listing, place: u32) -> bool
 }
 
 /// Whether an instruction that nothing reaches stands at this place, and no call.
-fn is_idle(listing: &Listing, reached: &Reached, place: u32) -> bool
+pub(crate) fn is_idle(listing: &Listing, reached: &Marks, place: u32) -> bool
     requires within { place < length (places_of listing.now) }
     requires reached { AreMarks (code_of listing.now) reached.now }
     ensures { IsTrue result ↔ IsIdle (code_of listing.now) place }
@@ -48,7 +55,7 @@ fn without(
     listing: &Listing,
     base: u32,
     place: u32,
-) -> Result<Option<Listing>, Memory>
+) -> Result<Option<Changed>, Memory>
     requires { is_op_place (slice_get (places_of listing.now) place) ≡ true }
     ensures { IfOk result (IsAccepted (setting base) (lines_without (setting base) place listing.now)) }
 {
@@ -62,7 +69,7 @@ fn without_branch(
     listing: &Listing,
     base: u32,
     place: u32,
-) -> Result<Option<Listing>, Memory>
+) -> Result<Option<Changed>, Memory>
     ensures { IfOk result (IsMade (setting base) place 0 listing.now) }
 {
     if !goes_to_next(listing, place) {
@@ -71,14 +78,43 @@ fn without_branch(
     without(alloc, listing, base, place)
 }
 
-/// The listing with a branch going to the end of its chain.
+/// Whether a branch stands at a place whose chain has an end.
+pub(crate) fn has_end(listing: &Listing, place: u32) -> bool
+    ensures { IsTrue result ↔ HasEnd (code_of listing.now) place }
+{
+    let Some(label) = label_of_branch(listing, place) else {
+        return false;
+    };
+    chain_end(listing, label).is_some()
+}
+
+/// Whether the listing can be laid out once the branch at a place goes to this label: nothing moves, so it is enough that the branch reaches it.
+/// The layout is the listing's.
+fn reaches(listing: &Listing, laid: &Layout, place: u32, label: &[u8]) -> bool
+    requires laid { AreAddresses listing.now laid.now }
+    requires layable { Layable laid.now.base listing.now }
+    requires op { is_op_place (slice_get (places_of listing.now) place) ≡ true }
+    ensures { IsTrue result ↔ Layable laid.now.base (aimed_lines line_mentioning place label.now listing.now) }
+{
+    match listing.place(place) {
+        Some(Place::Op { instr, .. }) => {
+            let to = laid.target(listing, label);
+            aim_fault(laid.address(place), &instr, to, 0).is_none()
+        }
+        _ => unreachable!(),
+    }
+}
+
+/// The listing with a branch going to the end of its chain. The layout is the listing's.
 fn with_end(
     alloc: Global,
     listing: &Listing,
-    base: u32,
+    laid: &Layout,
     place: u32,
-) -> Result<Option<Listing>, Memory>
-    ensures { IfOk result (IsMade (setting base) place 1 listing.now) }
+) -> Result<Option<Changed>, Memory>
+    requires laid { AreAddresses listing.now laid.now }
+    requires layable { Layable laid.now.base listing.now }
+    ensures { IfOk result (IsMade (setting laid.now.base) place 1 listing.now) }
 {
     let Some(label) = label_of_branch(listing, place) else {
         return Ok(None);
@@ -86,18 +122,21 @@ fn with_end(
     let Some(end) = chain_end(listing, label) else {
         return Ok(None);
     };
+    if !reaches(listing, laid, place, end) {
+        return Ok(None);
+    }
     let new = listing.retargeted(alloc, place, end)?;
-    accepted(alloc, new, base)
+    Ok(within_limits(new))
 }
 
 /// The listing without an instruction that nothing reaches.
 fn without_idle(
     alloc: Global,
     listing: &Listing,
-    reached: &Reached,
+    reached: &Marks,
     base: u32,
     place: u32,
-) -> Result<Option<Listing>, Memory>
+) -> Result<Option<Changed>, Memory>
     requires within { place < length (places_of listing.now) }
     requires reached { AreMarks (code_of listing.now) reached.now }
     ensures { IfOk result (IsMade (setting base) place 2 listing.now) }
@@ -108,22 +147,25 @@ fn without_idle(
     without(alloc, listing, base, place)
 }
 
-/// The listing after the change at a place that is tried soonest, where one is possible.
+/// The listing after the change at a place that is tried soonest, where one is possible. The layout is the listing's.
 pub(crate) fn changed_at(
     alloc: Global,
     listing: &Listing,
-    reached: &Reached,
-    base: u32,
+    laid: &Layout,
+    reached: &Marks,
     place: u32,
-) -> Result<Option<Listing>, Memory>
+) -> Result<Option<Changed>, Memory>
     requires within { place < length (places_of listing.now) }
+    requires laid { AreAddresses listing.now laid.now }
+    requires layable { Layable laid.now.base listing.now }
     requires reached { AreMarks (code_of listing.now) reached.now }
-    ensures { IfOk result (IsMadeAt (setting base) place listing.now) }
+    ensures { IfOk result (IsMadeAt (setting laid.now.base) place listing.now) }
 {
+    let base = laid.base();
     if let Some(changed) = without_branch(alloc, listing, base, place)? {
         return Ok(Some(changed));
     }
-    if let Some(changed) = with_end(alloc, listing, base, place)? {
+    if let Some(changed) = with_end(alloc, listing, laid, place)? {
         return Ok(Some(changed));
     }
     without_idle(alloc, listing, reached, base, place)

@@ -3,9 +3,14 @@
 
 mod chains;
 mod changing;
+mod due;
 mod errors;
+mod found;
 pub mod laws;
 mod limits;
+mod marks;
+mod searching;
+mod settling;
 mod tidied;
 mod tidying;
 

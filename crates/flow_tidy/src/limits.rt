@@ -4,8 +4,9 @@ ghost use Rattle.std.specs.List.{prefix_len};
 ghost use Rattle.listing_parser.specs.Grammar.{longest_line, most_lines};
 ghost use Rattle.listing_parser.specs.Views.{line_view};
 ghost use Rattle.flow_tidy.specs.Tidying.{setting};
-ghost use Rattle.flow_tidy.specs.Made.{is_no_newline, AreShort, AreWithin, IsAccepted};
+ghost use Rattle.flow_tidy.specs.Made.{is_no_newline, AreShort, AreWithin, IsAccepted, IsWithin};
 
+use crate::found::Changed;
 use label_layout::{LayoutError, layout};
 use listing_parser::{Line, Listing, Memory};
 use std::alloc::Global;
@@ -42,19 +43,36 @@ fn are_within_limits(lines: &[Line]) -> bool
     lines.len() <= MOST_LINES && are_short(lines)
 }
 
-/// A listing that can be laid out from the base and is within the limits; nothing of another.
+/// A listing in which nothing moved, where it has neither too many lines nor too long ones; nothing of another.
+pub(crate) fn within_limits(listing: Listing) -> Option<Changed>
+    ensures { IsWithin most_lines longest_line listing result }
+{
+    if are_within_limits(listing.lines()) {
+        Some(Changed {
+            listing,
+            moved: None,
+        })
+    } else {
+        None
+    }
+}
+
+/// A listing with where it lies, where it can be laid out from the base and is within the limits; nothing of another.
 pub(crate) fn accepted(
     alloc: Global,
     listing: Listing,
     base: u32,
-) -> Result<Option<Listing>, Memory>
+) -> Result<Option<Changed>, Memory>
     ensures { IfOk result (IsAccepted (setting base) listing) }
 {
     if !are_within_limits(listing.lines()) {
         return Ok(None);
     }
     match layout(alloc, &listing, base) {
-        Ok(_) => Ok(Some(listing)),
+        Ok(laid) => Ok(Some(Changed {
+            listing,
+            moved: Some(laid),
+        })),
         Err(LayoutError::Line { .. }) => Ok(None),
         Err(LayoutError::Memory) => Err(Memory),
     }

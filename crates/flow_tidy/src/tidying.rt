@@ -1,54 +1,58 @@
 //! Tidying until no change is possible any more.
 ghost use Rattle.std.specs.Prelude.{◌≡◌, ◌+◌, ◌≤◌, length, IfOk, MatchResult};
 ghost use Rattle.thumb_model.specs.Layout.{Layable};
-ghost use Rattle.thumb_model.specs.Listing.{code_of, places_of};
+ghost use Rattle.thumb_model.specs.Listing.{code_of};
 ghost use Rattle.thumb_model.specs.Literals.{HasLiterals};
 ghost use Rattle.thumb_model.specs.Same.{Same};
+ghost use Rattle.code_flow.specs.Marks.{AreMarks};
+ghost use Rattle.label_layout.specs.Addresses.{AreAddresses};
 ghost use Rattle.flow_tidy.specs.Tidying.{setting, tidying_cost, AreTidiedBy, IsRefusal};
-ghost use Rattle.flow_tidy.specs.Made.{IsNext};
 
-use crate::changing::changed_at;
+use crate::due::Due;
 use crate::errors::TidyError;
+use crate::found::{Changed, Found};
+use crate::marks::Marks;
+use crate::searching::first_change;
+use crate::settling::settle;
 use crate::tidied::Tidy;
 use code_flow::reached;
-use label_layout::layout;
+use label_layout::{Layout, layout};
 use listing_parser::{Listing, Memory};
 use std::alloc::Global;
 use step_ledger::{Ledger, Steps};
 
-/// The listing after the first change that is possible: at the least place, for the cause that is tried soonest.
-fn changed<L: Ledger>(
-    alloc: Global,
-    listing: &Listing,
-    base: u32,
-    steps: &mut Steps<L>,
-) -> Result<Option<Listing>, Memory>
-    ensures next { IfOk result (IsNext (setting base) listing.now) }
-    ensures cost { steps.new ≤ steps.old + length (places_of listing.now) }
-{
-    let reached = reached(alloc, listing, steps)?;
-    for place in 0..listing.place_count() {
-        if let Some(changed) = changed_at(alloc, listing, &reached, base, place)? {
-            return Ok(Some(changed));
-        }
-    }
-    Ok(None)
-}
-
-/// What is left of a listing once no change is possible any more.
-fn tidied<L: Ledger>(
+/// What is left of a listing once no change is possible any more. The layout is the listing's, and so are the marks of what is reached.
+fn tidied(
     alloc: Global,
     mut listing: Listing,
-    base: u32,
-    steps: &mut Steps<L>,
+    mut laid: Layout,
+    mut reached: Marks,
 ) -> Result<Tidy, Memory>
-    ensures tidied { IfOk result (λ new. AreTidiedBy base listing new.listing new.changes) }
-    ensures cost { IfOk result (λ new. steps.new ≤ steps.old + tidying_cost listing new.changes) }
+    requires laid { AreAddresses listing laid }
+    requires layable { Layable laid.base listing }
+    requires reached { AreMarks (code_of listing) reached }
+    ensures { IfOk result (λ new. AreTidiedBy laid.base listing new.listing new.changes) }
 {
     // Places are counted in 32 bits, so changes fit into 64.
-    let _places = listing.place_count();
+    let places = listing.place_count();
+    let mut due = Due::all(alloc, places)?;
     let mut changes = 0;
-    while let Some(new) = changed(alloc, &listing, base, steps)? {
+    while let Some(found) = first_change(alloc, &listing, &laid, &reached, &mut due)? {
+        let Found { place, changed } = found;
+        let Changed {
+            listing: new,
+            moved,
+        } = changed;
+        settle(
+            alloc,
+            &listing,
+            &new,
+            moved,
+            place,
+            &mut laid,
+            &mut reached,
+            &mut due,
+        )?;
         listing = new;
         changes += 1;
     }
@@ -71,7 +75,9 @@ pub fn tidy<L: Ledger>(
     ensures verdict { MatchResult result (λ _. Layable base listing) (IsRefusal base listing) }
     ensures cost { IfOk result (λ new. steps.new ≤ steps.old + tidying_cost listing new.changes) }
 {
-    let _laid = layout(alloc, &listing, base)?;
-    let tidy = tidied(alloc, listing, base, steps)?;
+    let laid = layout(alloc, &listing, base)?;
+    let reached = reached(alloc, &listing, steps)?;
+    let marks = Marks::of(alloc, &reached, listing.place_count())?;
+    let tidy = tidied(alloc, listing, laid, marks)?;
     Ok(tidy)
 }

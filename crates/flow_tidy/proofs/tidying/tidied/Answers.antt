@@ -1,52 +1,67 @@
-use Rattle.std.proofs.Common.{◌+◌, ◌<◌, ◌^◌, length, subst, arith}
-use Rattle.thumb_model.specs.Listing.{places_of}
+use Rattle.std.proofs.Common.{◌∙◌, ◌+◌, ◌<◌, ◌^◌, length, refl, sym, subst, arith}
+use Rattle.thumb_model.specs.Listing.{code_of, places_of}
+use Rattle.flow_tidy.specs.Due.{IsFoundNext, IsNextAt}
+use Rattle.flow_tidy.specs.Tidied.{NonePossible}
 use Rattle.flow_tidy.specs.Tidying.{setting}
-use Rattle.flow_tidy.specs.Made.{IsNext}
+use Rattle.flow_tidy.specs.Due.{AreDue}
 use Rattle.flow_tidy.proofs.Ends.{room_of}
-use Rattle.flow_tidy.proofs.Rounds.{all_made, all_spent, count_fits, nothing_made, one_more, room_left, round_spent}
+use Rattle.flow_tidy.proofs.Rounds.{all_made, count_fits, next_made, next_room, nothing_made}
+use Rattle.flow_tidy.proofs.Settled.{all_due}
 use Rattle.flow_tidy.proofs.tidying.tidied.Goals as goal
 
-pub loop-listing-init : goal.loop-listing-init
-loop-listing-init g c = record { made = nothing_made (setting c.args.base) c.args.listing; room = omega arith; few = omega arith; cost = omega arith }
+pub loop-due-init : goal.loop-due-init
+loop-due-init c = record {
+  made = nothing_made (setting c.args.laid.base) c.args.listing;
+  room = omega arith;
+  base = refl;
+  known = record {
+    laid = c.requires.laid;
+    layable = c.requires.layable;
+    reached = c.requires.reached;
+    due = subst (AreDue (code_of c.args.listing)) (sym c.in_ok-due.ensures) (all_due (code_of c.args.listing) c.place_count-places.result c.place_count-places.ensures);
+  };
+}
+
+pub settle-requires-clause-next : goal.settle-requires-clause-next
+settle-requires-clause-next c = (subst (IsFoundNext (setting c.loop-due.laid.base) c.loop-due.listing) c.in-Some.is c.in_ok-found.ensures.next).0
+
+pub settle-requires-clause-moved : goal.settle-requires-clause-moved
+settle-requires-clause-moved c = (subst (IsFoundNext (setting c.loop-due.laid.base) c.loop-due.listing) c.in-Some.is c.in_ok-found.ensures.next).1
 
 pub overflow_add-changes : goal.overflow_add-changes
-overflow_add-changes g c =
-    let s = setting c.args.base in
-    let i = c.loop-listing.invariant in
-    let next = subst (IsNext s c.loop-listing.listing) c.in-Some.is c.in_ok-new.ensures.next in
-    let left = room_left s c.loop-listing.listing c.in-Some.new next.0 next.1 next.2 in
+overflow_add-changes c =
+    let s = setting c.loop-due.laid.base in
+    let i = c.loop-due.invariant in
+    let next = subst (IsFoundNext s c.loop-due.listing) c.in-Some.is c.in_ok-found.ensures.next in
+    let left = next_room s c.loop-due.listing c.in-Some.found.changed.listing c.in-Some.found.place next.0 in
     let few : length (places_of c.args.listing) < 2 ^ 32 = omega (arith, c.place_count-places.ensures, c.place_count-places.type_inv) in
-    let fits : c.loop-listing.changes + 1 < 2 ^ 64 = count_fits c.args.listing c.loop-listing.listing c.in-Some.new c.loop-listing.changes few i.room left.0 in
+    let fits : c.loop-due.changes + 1 < 2 ^ 64 = count_fits c.args.listing c.loop-due.listing c.in-Some.found.changed.listing c.loop-due.changes few i.room left in
     omega arith
 
-pub loop-listing-smaller : goal.loop-listing-smaller
-loop-listing-smaller g c =
-    let s = setting c.args.base in
-    let next = subst (IsNext s c.loop-listing.listing) c.in-Some.is c.in_ok-new.ensures.next in
-    let left = room_left s c.loop-listing.listing c.in-Some.new next.0 next.1 next.2 in
-    let less : room_of c.in-Some.new < room_of c.loop-listing.listing = omega (arith, left.0) in
+pub loop-due-smaller : goal.loop-due-smaller
+loop-due-smaller c =
+    let s = setting c.loop-due.laid.base in
+    let next = subst (IsFoundNext s c.loop-due.listing) c.in-Some.is c.in_ok-found.ensures.next in
+    let left = next_room s c.loop-due.listing c.in-Some.found.changed.listing c.in-Some.found.place next.0 in
+    let less : room_of c.in-Some.found.changed.listing < room_of c.loop-due.listing = omega (arith, left) in
     less
 
-pub loop-listing-preserved : goal.loop-listing-preserved
-loop-listing-preserved g c =
-    let s = setting c.args.base in
-    let i = c.loop-listing.invariant in
-    let next = subst (IsNext s c.loop-listing.listing) c.in-Some.is c.in_ok-new.ensures.next in
-    let left = room_left s c.loop-listing.listing c.in-Some.new next.0 next.1 next.2 in
+pub loop-due-preserved : goal.loop-due-preserved
+loop-due-preserved c =
+    let s = setting c.loop-due.laid.base in
+    let i = c.loop-due.invariant in
+    let next = subst (IsFoundNext s c.loop-due.listing) c.in-Some.is c.in_ok-found.ensures.next in
+    let left = next_room s c.loop-due.listing c.in-Some.found.changed.listing c.in-Some.found.place next.0 in
+    let same : IsNextAt (setting c.args.laid.base) c.in-Some.found.place c.loop-due.listing c.in-Some.found.changed.listing = subst (λ b. IsNextAt (setting b) c.in-Some.found.place c.loop-due.listing c.in-Some.found.changed.listing) i.base next.0 in
     record {
-      made = one_more s c.args.listing c.loop-listing.listing c.in-Some.new c.loop-listing.changes i.made next.0 next.1 next.2;
-      room = omega (arith, left.0, i.room);
-      few = omega (arith, left.1, i.few);
-      cost = round_spent c.args.steps.now c.loop-listing.steps c.changed.new.steps c.loop-listing.changes (length (places_of c.args.listing)) (length (places_of c.loop-listing.listing)) i.cost c.changed.ensures.cost i.few;
+      made = next_made (setting c.args.laid.base) c.args.listing c.loop-due.listing c.in-Some.found.changed.listing c.loop-due.changes c.in-Some.found.place i.made same;
+      room = omega (arith, left, i.room);
+      base = c.in_ok-settle.ensures.base ∙ i.base;
+      known = c.in_ok-settle.ensures.known;
     }
 
-pub returns-clause-tidied : goal.returns-clause-tidied
-returns-clause-tidied g c =
-    let none = subst (IsNext (setting c.args.base) c.loop-listing.listing) c.in_default.is c.in_ok-new.ensures.next in
-    all_made c.args.base c.args.listing c.loop-listing.listing c.loop-listing.changes c.loop-listing.invariant.made none
-
-pub returns-clause-cost : goal.returns-clause-cost
-returns-clause-cost g c =
-    let i = c.loop-listing.invariant in
-    all_spent c.args.steps.now c.changed.new.steps c.loop-listing.changes c.args.listing
-    (round_spent c.args.steps.now c.loop-listing.steps c.changed.new.steps c.loop-listing.changes (length (places_of c.args.listing)) (length (places_of c.loop-listing.listing)) i.cost c.changed.ensures.cost i.few)
+pub returns : goal.returns
+returns c =
+    let i = c.loop-due.invariant in
+    let none = subst (IsFoundNext (setting c.loop-due.laid.base) c.loop-due.listing) c.in_default.is c.in_ok-found.ensures.next in
+    all_made c.args.laid.base c.args.listing c.loop-due.listing c.loop-due.changes i.made (subst (λ b. NonePossible (setting b) c.loop-due.listing) i.base none)

@@ -1,0 +1,69 @@
+-- Places at which a change has its cause.
+use Rattle.std.specs.Prelude.{◌≡◌, ℕ, zero, suc, ◌+◌, ◌<◌, ◌≤◌, ◌&&◌, not, Bool, true, false, List, length, Option, Some, None, slice_get, slice_set}
+use Rattle.thumb_model.specs.Layout.{Layable}
+use Rattle.thumb_model.specs.Listing.{Name, Place, Op, Word, Line, Code, code_of}
+use Rattle.code_flow.specs.Marks.{AreMarks}
+use Rattle.label_layout.specs.Addresses.{Addresses, AreAddresses}
+use Rattle.flow_tidy.specs.Chains.{is_always}
+use Rattle.flow_tidy.specs.Tidied.{Setting, Cause, is_branch, lines_by, GoesToEnd, HasCause, IsFirst, NonePossible}
+use Rattle.flow_tidy.specs.declared.found.Found.{Found}
+use Rattle.flow_tidy.specs.Made.{IsMovedTo}
+
+-- some change has its cause at the place
+pub record IsCaused (code : Code) (p : ℕ) : Type 0 where
+  pub cause : Cause
+  pub is : HasCause code p cause
+
+-- a branch stands there whose chain has an end
+pub record HasEnd (code : Code) (p : ℕ) : Type 0 where
+  pub label : Name
+  pub goes : GoesToEnd code p label
+
+-- marks of all places, among which each is marked where a change has its cause
+pub record AreDue (code : Code) (due : List Bool) : Type 0 where
+  pub len : length due ≡ length code.places
+  pub each : (p : ℕ) → IsCaused code p → slice_get due p ≡ Some true
+
+-- whether a branch with a condition stands at a place
+abbrev pub is_branch_if : Option Place → Bool
+is_branch_if None = false
+is_branch_if (Some (Word v)) = false
+is_branch_if (Some (Op i mention)) = is_branch i && not (is_always i)
+
+-- whether a branch without one does
+abbrev pub is_branch_always : Option Place → Bool
+is_branch_always None = false
+is_branch_always (Some (Word v)) = false
+is_branch_always (Some (Op i mention)) = is_always i
+
+-- whether a branch with a condition stands at a place, and one without at the next: where the first goes, chains that ended at its labels go on
+abbrev pub lets_on : Code → ℕ → Bool
+lets_on code p = is_branch_if (slice_get code.places p) && is_branch_always (slice_get code.places (p + 1))
+
+-- no place before this one is marked
+pub record IsLeast (due : List Bool) (place : ℕ) : Type 0 where
+  pub within : place ≤ length due
+  pub free : (k : ℕ) → k < place → slice_get due k ≡ Some true → ⊥
+
+-- marks with that of the place before one set
+abbrev pub before_is_due : ℕ → List Bool → List Bool
+before_is_due zero due = due
+before_is_due (suc p) due = slice_set due p true
+
+-- what is known of lines while they are tidied: where they lie, what is reached, and what is due
+pub record IsKnown (ls : List Line) (addresses : Addresses) (marks dues : List Bool) : Type 0 where
+  pub laid : AreAddresses ls addresses
+  pub layable : Layable addresses.base ls
+  pub reached : AreMarks (code_of ls) marks
+  pub due : AreDue (code_of ls) dues
+
+-- the lines after the first change, which is made at this place
+pub record IsNextAt (s : Setting) (p : ℕ) (ls new : List Line) : Type 0 where
+  pub cause : Cause
+  pub first : IsFirst s (record { place = p; cause = cause }) ls
+  pub lines : new ≡ lines_by s p cause ls
+
+-- the lines after the first change with its place, where one is possible
+abbrev pub IsFoundNext : Setting → List Line → Option Found → Type 0
+IsFoundNext s ls None = NonePossible s ls
+IsFoundNext s ls (Some found) = IsNextAt s found.place ls found.changed.listing × IsMovedTo s.base found.changed.listing found.changed.moved

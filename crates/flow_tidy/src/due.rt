@@ -1,0 +1,109 @@
+//! The places that are due: those at which a change may have its cause.
+ghost use Rattle.std.specs.Prelude.{◌≡◌, ◌<◌, ◌≤◌, ℕ, Some, true, length, slice_get};
+
+use std::alloc::{AllocError, Global};
+use std::marker::Model;
+
+/// Which places of a listing are due, while some of them go. Contracts see a mark for each. None before `least` is.
+#[derive(Drop)]
+pub(crate) struct Due {
+    marks: Vec<bool>,
+    least: usize,
+}
+
+impl Model for Due {
+    ghost use Rattle.std.specs.Prelude.{Bool, List};
+
+    ghost Value = { List Bool };
+
+    ghost use Rattle.flow_tidy.specs.Due.{IsLeast};
+
+    ghost view = { λ d. d.marks.items };
+
+    ghost invariant = { λ d. IsLeast d.marks.items d.least };
+}
+
+/// The first place from one on that is marked, or the end.
+fn past_free(marks: &[bool], from: usize) -> usize
+    requires { from ≤ length marks.now }
+    ensures from { from ≤ result }
+    ensures within { result ≤ length marks.now }
+    ensures free { (k : ℕ) → from ≤ k → k < result → slice_get marks.now k ≡ Some true → ⊥ }
+{
+    let mut place = from;
+    while place < marks.len() && !marks[place] {
+        place += 1;
+    }
+    place
+}
+
+impl Due {
+    ghost use Rattle.std.specs.Prelude.{◌≡◌, ◌<◌, ◌≤◌, ℕ, Some, true, false, IfOk, length, replicate, slice_get, slice_set};
+    ghost use Rattle.std.specs.List.{remove};
+    ghost use Rattle.flow_tidy.specs.Due.{before_is_due, IsLeast};
+
+    /// All of so many places.
+    pub(crate) fn all(alloc: Global, count: u32) -> Result<Self, AllocError>
+        ensures { IfOk result (λ d. d ≡ replicate count true) }
+    {
+        let marks = vec![in alloc; true; count as usize]?;
+        Ok(Due { marks, least: 0 })
+    }
+
+    /// A place before which none is due: the least that is, where one is.
+    pub(crate) fn least(&mut self) -> usize
+        ensures least { IsLeast self.new result }
+        ensures same { self.new ≡ self.old }
+    {
+        self.least = past_free(&self.marks, self.least);
+        self.least
+    }
+
+    /// Whether a place is due.
+    pub(crate) fn has(&self, place: u32) -> bool
+        requires { place < length self.now }
+        ensures { slice_get self.now place ≡ Some result }
+    {
+        self.marks[place as usize]
+    }
+
+    /// Lets a place be due no more.
+    pub(crate) fn take(&mut self, place: u32)
+        requires { place < length self.old }
+        ensures { self.new ≡ slice_set self.old place false }
+    {
+        self.marks[place as usize] = false;
+    }
+
+    /// Makes a place due.
+    fn put(&mut self, place: usize)
+        requires { place < length self.old }
+        ensures { self.new ≡ slice_set self.old place true }
+    {
+        self.marks[place] = true;
+        self.least = self.least.min(place);
+    }
+
+    /// Lets a place go, and makes the one before due.
+    pub(crate) fn leave(&mut self, place: u32)
+        requires { place < length self.old }
+        ensures { self.new ≡ before_is_due place (remove self.old place) }
+    {
+        let at = place as usize;
+        let _mark = self.marks.remove(at);
+        self.least = self.least.min(at);
+        if at > 0 {
+            self.put(at - 1);
+        }
+    }
+
+    /// Lets a place go, and makes all others due.
+    pub(crate) fn leave_all(&mut self, place: u32)
+        requires { place < length self.old }
+        ensures { self.new ≡ replicate (length (remove self.old place)) true }
+    {
+        let _mark = self.marks.remove(place as usize);
+        self.marks.fill(true);
+        self.least = 0;
+    }
+}

@@ -1,0 +1,53 @@
+//! Marks of what is reached. Each place that stays is reached after a change exactly where it was before, so they are made once.
+ghost use Rattle.std.specs.Prelude.{◌≡◌, IfOk, length};
+
+use code_flow::Reached;
+use std::alloc::{AllocError, Global};
+use std::marker::Model;
+
+/// Which places of a listing are reached, while some of them go.
+#[derive(Drop)]
+pub(crate) struct Marks {
+    marks: Vec<bool>,
+}
+
+impl Model for Marks {
+    ghost use Rattle.std.specs.Prelude.{Bool, List};
+
+    ghost Value = { List Bool };
+
+    ghost view = { λ m. m.marks.items };
+}
+
+impl Marks {
+    ghost use Rattle.std.specs.Prelude.{◌≡◌, ◌<◌, Some, IfOk, length, slice_get};
+    ghost use Rattle.std.specs.List.{remove};
+
+    /// The marks of so many places as they are.
+    pub(crate) fn of(alloc: Global, reached: &Reached, count: u32) -> Result<Self, AllocError>
+        requires { count ≡ length reached.now }
+        ensures { IfOk result (λ m. m ≡ reached.now) }
+    {
+        let mut marks = Vec::with_capacity(alloc, count as usize)?;
+        for place in 0..count {
+            marks.push(reached.at(place))?;
+        }
+        Ok(Marks { marks })
+    }
+
+    /// Whether this place, one of the listing's, is reached.
+    pub(crate) fn at(&self, place: u32) -> bool
+        requires { place < length self.now }
+        ensures { slice_get self.now place ≡ Some result }
+    {
+        self.marks[place as usize]
+    }
+
+    /// Lets a place go.
+    pub(crate) fn leave(&mut self, place: u32)
+        requires { place < length self.old }
+        ensures { self.new ≡ remove self.old place }
+    {
+        let _mark = self.marks.remove(place as usize);
+    }
+}

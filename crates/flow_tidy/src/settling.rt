@@ -1,0 +1,120 @@
+//! What is known of a listing after a change, from what was known before.
+ghost use Rattle.std.specs.Prelude.{◌≡◌, ◌<◌, ◌⊎◌, [], OnOk, IfOk, length, slice_get};
+ghost use Rattle.thumb_model.specs.Layout.{Layable};
+ghost use Rattle.thumb_model.specs.Listing.{code_of, places_of};
+ghost use Rattle.thumb_model.specs.Replaced.{replaced};
+ghost use Rattle.code_flow.specs.Marks.{AreMarks};
+ghost use Rattle.label_layout.specs.Addresses.{AreAddresses};
+ghost use Rattle.flow_tidy.specs.Due.{is_branch_always as branches_always, is_branch_if as branches_if, lets_on as code_lets_on, AreDue, IsKnown, IsNextAt};
+ghost use Rattle.flow_tidy.specs.Made.{IsMovedTo};
+ghost use Rattle.flow_tidy.specs.Tidied.{GoesToNext, IsIdle};
+ghost use Rattle.flow_tidy.specs.Tidying.{setting};
+
+use crate::chains::{is_always, is_branch};
+use crate::due::Due;
+use crate::marks::Marks;
+use label_layout::{Layout, LayoutError, layout};
+use listing_parser::{Listing, Memory, Place};
+use std::alloc::Global;
+
+/// Whether a branch with a condition stands at a place.
+fn is_branch_if(listing: &Listing, place: u32) -> bool
+    ensures { result ≡ branches_if (slice_get (places_of listing.now) place) }
+{
+    match listing.place(place) {
+        Some(Place::Op { instr, .. }) => is_branch(&instr) && !is_always(&instr),
+        _ => false,
+    }
+}
+
+/// Whether a branch without a condition stands at a place.
+fn is_branch_always(listing: &Listing, place: u32) -> bool
+    ensures { result ≡ branches_always (slice_get (places_of listing.now) place) }
+{
+    match listing.place(place) {
+        Some(Place::Op { instr, .. }) => is_always(&instr),
+        _ => false,
+    }
+}
+
+/// Whether chains may go on that ended at a place, once the instruction there goes.
+fn lets_on(listing: &Listing, place: u32) -> bool
+    requires { place < length (places_of listing.now) }
+    ensures { result ≡ code_lets_on (code_of listing.now) place }
+{
+    let _places = listing.place_count();
+    is_branch_if(listing, place) && is_branch_always(listing, place + 1)
+}
+
+/// Where a listing lies that can be laid out.
+fn laid_out(alloc: Global, listing: &Listing, base: u32) -> Result<Layout, Memory>
+    requires { Layable base listing.now }
+    ensures base { IfOk result (λ l. l.base ≡ base) }
+    ensures laid { IfOk result (λ l. AreAddresses listing.now l) }
+{
+    match layout(alloc, listing, base) {
+        Ok(laid) => Ok(laid),
+        Err(LayoutError::Memory) => Err(Memory),
+        Err(LayoutError::Line { .. }) => unreachable!(),
+    }
+}
+
+/// Lets a place go whose branch goes to the next place, or which nothing reaches.
+fn leave(listing: &Listing, place: u32, reached: &mut Marks, due: &mut Due)
+    requires goes { GoesToNext (code_of listing.now) place ⊎ IsIdle (code_of listing.now) place }
+    requires reached { AreMarks (code_of listing.now) reached.old }
+    requires due { AreDue (code_of listing.now) due.old }
+    ensures reached { AreMarks (replaced (code_of listing.now) place 1 []) reached.new }
+    ensures due { AreDue (replaced (code_of listing.now) place 1 []) due.new }
+{
+    reached.leave(place);
+    if lets_on(listing, place) {
+        due.leave_all(place);
+    } else {
+        due.leave(place);
+    }
+}
+
+/// Where the listing lies after a change. `moved` is what was found of it.
+fn laid_after(
+    alloc: Global,
+    new: &Listing,
+    base: u32,
+    moved: Option<Layout>,
+) -> Result<Layout, Memory>
+    requires layable { Layable base new.now }
+    requires moved { IsMovedTo base new.now moved }
+    ensures base { IfOk result (λ l. l.base ≡ base) }
+    ensures laid { IfOk result (λ l. AreAddresses new.now l) }
+{
+    match moved {
+        Some(laid) => Ok(laid),
+        None => laid_out(alloc, new, base),
+    }
+}
+
+/// Settles what is known of the listing after a change at a place. `moved` is where the new listing lies, if that was found. A branch that goes elsewhere changes
+/// nothing of what is known.
+pub(crate) fn settle(
+    alloc: Global,
+    listing: &Listing,
+    new: &Listing,
+    moved: Option<Layout>,
+    place: u32,
+    laid: &mut Layout,
+    reached: &mut Marks,
+    due: &mut Due,
+) -> Result<(), Memory>
+    requires known { IsKnown listing.now laid.old reached.old due.old }
+    requires next { IsNextAt (setting laid.old.base) place listing.now new.now }
+    requires moved { IsMovedTo laid.old.base new.now moved }
+    ensures base { OnOk result (laid.new.base ≡ laid.old.base) }
+    ensures known { OnOk result (IsKnown new.now laid.new reached.new due.new) }
+{
+    if new.place_count() < listing.place_count() {
+        leave(listing, place, reached, due);
+        let base = laid.base();
+        *laid = laid_after(alloc, new, base, moved)?;
+    }
+    Ok(())
+}
