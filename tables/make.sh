@@ -1,7 +1,7 @@
 #!/usr/bin/env bash
 # Makes the tables of this folder again from source packages: fetches them by Debian's ordinary client, compiles them to listings at -Os and -O2, takes the windows
 # of the functions that lie in the profile, learns rules for them and for their left sides under other masks, keeps those that take an instruction away, and of these
-# those that the windows of enough files have. Use: tables/make.sh FOLDER, which holds the packages and all that is made, and from which a second run goes on.
+# those that the windows of enough files have; raises their entries with numbers to families. Use: tables/make.sh FOLDER, which holds the packages and all that is made, and from which a second run goes on.
 #
 # Windows are learnt many at a time by the plain learner of `bench/`, which writes the table that `peep learn` writes of them. Whoever learnt a table, `peep audit`
 # judges it by its text.
@@ -98,6 +98,34 @@ shipped() {
     "$top/peep" trim "$here/$1.peep" "$here/$1.peep"
 }
 
+# families: raises the entries of the shipped tables to families, ships these as size-families, and takes what they cover from the tables. Those of the other pools are
+# learnt in the usual one: by three numbers each, since with one another right side may be found, that can't be raised as wide.
+families() {
+    local room=$folder/families name
+    mkdir -p "$room"
+    for name in size size-rare size-numbers size-others; do
+        [ -s "$room/$name.peep" ] || nice -n 10 "$top/driver/peep-table" raise "$here/$name.peep" "$room/$name.peep"
+        "$top/driver/peep-table" families "$room/$name.peep" "$room/$name.families.peep"
+    done
+    "$top/driver/peep-table" instances "$room/again.windows" "$usual" 3 "$room/size-numbers.families.peep" "$room/size-others.families.peep"
+    learnt "$room/again"
+    "$top/driver/peep-table" filter "$room/again.peep" "$room/again.kept.peep"
+    nice -n 10 "$top/driver/peep-table" raise "$room/again.kept.peep" "$room/again.raised.peep"
+    "$top/driver/peep-table" families "$room/again.raised.peep" "$room/again.families.peep"
+    "$top/driver/peep-table" merge "$room/merged.peep" "$room"/{size,size-rare,again}.families.peep
+    pruned "$room/merged.peep" size-families
+    for name in size size-rare size-numbers size-others; do
+        "$top/driver/peep-table" uncovered "$room/$name.rest.peep" "$here/$name.peep" "$here/size-families.peep"
+        pruned "$room/$name.rest.peep" "$name"
+    done
+}
+
+# pruned FROM TABLE: ships a table without the states that it can do without, with trimmed proofs.
+pruned() {
+    nice -n 10 "$top/driver/peep-table" prune "$1" "$here/$2.peep"
+    "$top/peep" trim "$here/$2.peep" "$here/$2.peep"
+}
+
 # used NAME RULES LEAST: the left sides and masks of rules that windows of at least so many files have.
 used() { "$top/driver/peep-table" used "$folder/$1/used$3.windows" "$3" "$folder/$1/$2.peep" "$folder/$1"/windows/*.s; }
 
@@ -120,3 +148,4 @@ shipped size-numbers "$folder/numbers/used1" 5000
 rules others 4 3 1000 "$third" "$usual"
 used others seen 1
 shipped size-others "$folder/others/used1" 5000
+families

@@ -1,4 +1,4 @@
-"""Tables of rules as text: what takes part, which entries do anything, and several as one.
+"""Tables of rules as text: what takes part, which entries and families do anything, and several as one.
 
 Any table is audited from its text before it is used, so nothing here has to be trusted.
 """
@@ -12,8 +12,23 @@ from collections.abc import Iterable
 from .files import write_text
 
 
+VERSION_OF_FAMILIES = 3
+# the instructions whose number has 8 bits
+IN_BYTES = re.compile(r"((?:movs|cmp|adds|subs) r\d, #)(\d+)$")
+
+
 class TableError(Exception):
     """Tables that don't go together."""
+
+
+def bytes_of(side: list[str]) -> list[int | None]:
+    """The numbers that a side's instructions have in 8 bits, nothing where one has none."""
+    return [int(found[2]) if (found := IN_BYTES.match(line)) else None for line in side]
+
+
+def instance(side: list[str], number: int, value: int) -> list[str]:
+    """A side with a value in the 8-bit places of a number."""
+    return [f"{found[1]}{value}" if (found := IN_BYTES.match(line)) and int(found[2]) == number else line for line in side]
 
 
 class Entry:
@@ -50,21 +65,92 @@ class Entry:
         return "".join(line + "\n" for line in lines)
 
 
-class Table:
-    """A table's header, its listed states and its entries."""
+class Family:
+    """An entry raised: where a number stands in 8-bit places of its sides, each value of a range may stand. The proof as lines of text."""
 
-    def __init__(self, head: list[str] | None = None, states: list[str] | None = None, entries: list[Entry] | None = None) -> None:
+    def __init__(self, entry: Entry, number: int, low: int, high: int, proof: list[str] | None = None) -> None:
+        self.entry = entry
+        self.number = number
+        self.low = low
+        self.high = high
+        self.proof = proof or []
+
+    def width(self) -> int:
+        """How many values it has."""
+        return self.high - self.low + 1
+
+    def pattern(self) -> tuple[str, ...]:
+        """The left side with its 8-bit places of the number left open."""
+        return tuple(f"{found[1]}?" if (found := IN_BYTES.match(line)) and int(found[2]) == self.number else line for line in self.entry.left)
+
+    def value_for(self, left: list[str]) -> int | None:
+        """The value with which its left side is this one, where there is one."""
+        if len(left) != len(self.entry.left):
+            return None
+        values = {value for own, value in zip(bytes_of(self.entry.left), bytes_of(left)) if own == self.number}
+        value = values.pop() if len(values) == 1 else None
+        if value is None or not self.low <= value <= self.high or instance(self.entry.left, self.number, value) != left:
+            return None
+        return value
+
+    def covers_entry(self, other: Entry) -> bool:
+        """Whether an entry does nothing that this family doesn't. It needs the one that it raises."""
+        wide = self.entry is not other and self.entry.mask >= other.mask and len(self.entry.right) <= len(other.right)
+        return wide and self.value_for(other.left) is not None
+
+    def covers(self, other: Family) -> bool:
+        """Whether the other family does nothing that this one doesn't, and is a narrower one."""
+        own, its = self.entry, other.entry
+        if self is other or not (self.low <= other.low and other.high <= self.high and own.mask >= its.mask and len(own.right) <= len(its.right)):
+            return False
+        wider = self.width() > other.width() or own.mask > its.mask or len(own.right) < len(its.right)
+        return wider and self.pattern() == other.pattern()
+
+    def is_as(self, other: Family) -> bool:
+        """Whether both do the same."""
+        own, its = self.entry, other.entry
+        return (self.low, self.high, own.mask, len(own.right)) == (other.low, other.high, its.mask, len(its.right)) and self.pattern() == other.pattern()
+
+    def text(self, place: int) -> str:
+        """Its text in a table, where its entry stands at a place, from 1."""
+        return "".join(line + "\n" for line in [f"family {place} {self.number} {self.low} {self.high}", "proof", *self.proof])
+
+
+class Table:
+    """A table's header, its listed states, its entries and the families that raise some of them."""
+
+    def __init__(
+        self, head: list[str] | None = None, states: list[str] | None = None, entries: list[Entry] | None = None, families: list[Family] | None = None
+    ) -> None:
         self.head = head or []
         self.states = states or []
         self.entries = entries or []
+        self.families = families or []
 
     def text(self) -> str:
-        """The table's text."""
-        return "".join(line + "\n" for line in [*self.head, *self.states]) + "".join(entry.text() for entry in self.entries) + "end\n"
+        """The table's text. Families name their entries as they are counted now."""
+        places = {id(entry): place for place, entry in enumerate(self.entries, 1)}
+        parts = [line + "\n" for line in [*self.head, *self.states]]
+        parts += [entry.text() for entry in self.entries]
+        parts += [family.text(places[id(family.entry)]) for family in self.families]
+        return "".join(parts) + "end\n"
 
     def bare(self) -> Table:
         """The table with no entry: by it a listing is read and nothing replaced, and there is nothing to audit."""
         return Table(self.head, self.states, [])
+
+    def pool(self) -> list[int]:
+        """The numbers of its pool."""
+        return [int(word) for line in self.head if line.startswith("pool ") for word in line.split()[1:]]
+
+
+def in_version(head: list[str], least: int) -> list[str]:
+    """A header in this version, or in its own later one. From version 2 on it says behind the pool how many scratch registers there are."""
+    version = int(head[0].split()[1])
+    if version >= least:
+        return head
+    scratch = ["scratch 0"] if version < 2 <= least else []
+    return [f"peep {least}", *head[1:], *scratch]
 
 
 def read_table(text: str) -> Table:
@@ -85,8 +171,13 @@ def read_table(text: str) -> Table:
             table.entries[-1].right.append(rest)
         elif word == "mask":
             table.entries[-1].mask = frozenset(rest.split())
+        elif word == "family":
+            place, number, low, high = map(int, rest.split())
+            if not 1 <= place <= len(table.entries):
+                raise TableError(f"a family of entry {place}, which isn't there")
+            table.families.append(Family(table.entries[place - 1], number, low, high))
         elif word == "proof":
-            log = table.entries[-1].proof
+            log = (table.families or table.entries)[-1].proof
         elif word == "open":
             log = []
             table.entries[-1].opens.append((int(rest), log))
@@ -96,32 +187,77 @@ def read_table(text: str) -> Table:
 
 
 def filtered(table: Table, most_bytes: int = 100_000) -> Table:
-    """The table's entries that take something away, but those that another covers or whose text is long: the proof of each is checked at each run."""
+    """The table's entries that take something away, but those that another or a family covers or whose text is long: the proof of each is checked at each run. The
+    families of what is left, with the entries that these raise."""
     shorter = [entry for entry in table.entries if entry.is_shorter() and len(entry.text()) <= most_bytes]
+    takes = {id(entry) for entry in shorter}
+    families = _uncovered([family for family in table.families if id(family.entry) in takes and family.width() > 1 and len(family.text(0)) <= most_bytes])
+    raised = {id(family.entry) for family in families}
     by_left: dict[tuple[str, ...], list[Entry]] = {}
     for entry in shorter:
         by_left.setdefault(tuple(entry.left), []).append(entry)
-    kept = [entry for entry in shorter if not any(other.covers(entry) for other in by_left[tuple(entry.left)])]
-    return Table(table.head, table.states, kept)
+    by_shape: dict[tuple[str, ...], list[Family]] = {}
+    for family in families:
+        by_shape.setdefault(_shape(family.entry.left), []).append(family)
+    kept = [
+        entry
+        for entry in shorter
+        if id(entry) in raised
+        or not any(other.covers(entry) for other in by_left[tuple(entry.left)])
+        and not any(family.covers_entry(entry) for family in by_shape.get(_shape(entry.left), ()))
+    ]
+    return Table(table.head, table.states, kept, families)
+
+
+def _shape(left: list[str]) -> tuple[str, ...]:
+    """A left side with all its numbers in 8 bits left open."""
+    return tuple(IN_BYTES.sub(r"\1?", line) for line in left)
+
+
+def _uncovered(families: list[Family]) -> list[Family]:
+    """The families that none of the others covers, and of those that do the same the first."""
+    by_pattern: dict[tuple[str, ...], list[Family]] = {}
+    for family in families:
+        by_pattern.setdefault(family.pattern(), []).append(family)
+    kept: list[Family] = []
+    for family in families:
+        others = by_pattern[family.pattern()]
+        first = next(other for other in others if other is family or other.is_as(family))
+        if first is family and not any(other.covers(family) for other in others):
+            kept.append(family)
+    return kept
 
 
 def merged(tables: Iterable[Table]) -> Table:
-    """One table of several that were learnt with the same options: the states of all, and of each left side and mask the entry with the shortest right side.
+    """One table of several that were learnt with the same options: the states of all, and of each left side and mask the entry with the shortest right side; the families
+    with the entries that they raise. Tables of several versions come in the latest.
 
     A state of one table may tell a sequence that an entry of another names open; such a name has to go (`drop_told`)."""
     out = Table()
     best: dict[tuple[tuple[str, ...], frozenset[str]], Entry] = {}
+    raised: dict[tuple[tuple[str, ...], tuple[str, ...], frozenset[str]], Entry] = {}
     for table in tables:
-        if out.head and out.head != table.head:
-            raise TableError("tables of different options: " + "; ".join(sorted(set(table.head) ^ set(out.head))))
-        out.head = table.head
+        head = table.head
+        if out.head:
+            version = max(int(one[0].split()[1]) for one in (head, out.head))
+            head, out.head = in_version(head, version), in_version(out.head, version)
+            if head != out.head:
+                raise TableError("tables of different options: " + "; ".join(sorted(set(head) ^ set(out.head))))
+        out.head = head
         known = set(out.states)
         out.states += [state for state in table.states if state not in known]
         for entry in table.entries:
             key = (tuple(entry.left), entry.mask)
             if key not in best or len(entry.right) < len(best[key].right):
                 best[key] = entry
-    out.entries = sorted(best.values(), key=lambda entry: (len(entry.right) - len(entry.left), -len(entry.mask)))
+        for family in table.families:
+            entry = raised.setdefault((tuple(family.entry.left), tuple(family.entry.right), family.entry.mask), family.entry)
+            out.families.append(Family(entry, family.number, family.low, family.high, family.proof))
+    for (left, right, mask), entry in raised.items():
+        if tuple(best[left, mask].right) == right:
+            best[left, mask] = entry
+    chosen = {id(entry): entry for entry in [*best.values(), *raised.values()]}
+    out.entries = sorted(chosen.values(), key=lambda entry: (len(entry.right) - len(entry.left), -len(entry.mask)))
     return out
 
 

@@ -14,6 +14,32 @@ from peep_cc.tables import read_table
 MOVES = TOP / "examples" / "moves.peep"
 RULES = TOP / "examples" / "rules.peep"
 
+FAMILIES = """\
+peep 3
+scratch 0
+entry
+left mvns r0, r0
+mask r0
+proof
+entry
+left movs r0, #3
+left adds r1, #1
+left cmp r0, #3
+mask r0 r1
+proof
+entry
+left movs r0, #7
+left adds r1, #1
+left cmp r0, #7
+mask r0 r1
+proof
+open 7
+1 0
+family 2 3 2 32
+proof
+1 0 2 0
+end
+"""
 NAMES = {"mov r0, r0": "one", "mov r1, r1": "two"}
 
 
@@ -116,8 +142,12 @@ class Recipe(unittest.TestCase):
 
     def test_keys_of_windows(self) -> None:
         lines = ["f:\n", "\tsubs\tr1, r1, #0x10\t@ tmp, x\n", "\t.loc 1 2 3\n", "@ a.c:3: y\n", "\tcmp\tr2, r1\n", ".L1:\n", "\tnegs\tr0, r1\n", "\tldr\tr0, [r1]\n", "\tmov\tr0, r9\n"]
-        self.assertEqual(keys_in(lines, 3), {"subs#16.0", "cmp.0.1", "subs#16.0 cmp.1.0", "rsbs#0.0.1", "mov.0.1"})
-        self.assertEqual(keys_in(lines, 1), {"subs#16.0", "cmp.0.1", "rsbs#0.0.1", "mov.0.1"})
+        self.assertEqual(keys_in(lines, 3), {"subs#.0": {(16,)}, "cmp.0.1": {()}, "subs#.0 cmp.1.0": {(16,)}, "rsbs#0.0.1": {()}, "mov.0.1": {()}})
+        self.assertEqual(keys_in(lines, 1), {"subs#.0": {(16,)}, "cmp.0.1": {()}, "rsbs#0.0.1": {()}, "mov.0.1": {()}})
+
+    def test_numbers_of_8_bits_stand_apart(self) -> None:
+        lines = ["f:", "\tmovs r0, #1", "\tadds r0, #2", "\tadds r0, r1, #3", "\tlsls r0, r0, #4", "\tmovs r0, #5"]
+        self.assertEqual(keys_in(lines, 5)["movs#.0 adds#.0 adds#3.0.1 lsls#4.0 movs#.0"], {(1, 2, 5)})
 
     def test_left_sides_are_found_by_other_names_of_their_registers(self) -> None:
         entry = "entry\nleft subs r0, #1\nleft adds r1, r0, r1\nmask r0\nproof\n"
@@ -130,6 +160,30 @@ class Recipe(unittest.TestCase):
         self.assertTrue(shelf.is_table)
         self.assertEqual(shelf.text(range(len(shelf.entries))), RULES.read_text())
         self.assertFalse(Shelf("").is_table)
+
+    def test_families_are_found_by_values_of_their_range(self) -> None:
+        shelf = Shelf(FAMILIES)
+        for code, places in (
+            ("movs r4, #9\n\tadds r5, #1\n\tcmp r4, #9", [1, 3]),
+            ("movs r4, #7\n\tadds r5, #1\n\tcmp r4, #7", [1, 2, 3]),
+            ("movs r4, #7\n\tadds r5, r5, #1\n\tcmp r4, #7", [1, 2, 3]),
+            ("movs r4, #1\n\tadds r5, #1\n\tcmp r4, #1", []),
+            ("movs r4, #9\n\tadds r5, #1\n\tcmp r4, #8", []),
+            ("movs r4, #9\n\tadds r5, #2\n\tcmp r4, #9", []),
+            ("movs r4, #33\n\tadds r5, #1\n\tcmp r4, #33", []),
+            ("mvns r4, r4", [0]),
+        ):
+            self.assertEqual(shelf.fitting(keys_in([f"\t{line}\n" for line in code.split("\n\t")], 5)), places, code)
+
+    def test_a_family_comes_with_its_entry(self) -> None:
+        shelf = Shelf(FAMILIES)
+        chosen = read_table(shelf.text([1, 3]))
+        self.assertEqual([entry.left for entry in chosen.entries], [["movs r0, #3", "adds r1, #1", "cmp r0, #3"]])
+        self.assertEqual([(family.entry, family.number, family.low, family.high, family.proof) for family in chosen.families], [(chosen.entries[0], 3, 2, 32, ["1 0 2 0"])])
+        self.assertEqual(shelf.text([0]), FAMILIES[: FAMILIES.index("entry\nleft movs r0, #3")] + "end\n")
+        self.assertEqual(shelf.text(range(4)), FAMILIES)
+        self.assertFalse(Shelf(FAMILIES.replace("family 2", "family 4")).is_table)
+        self.assertFalse(Shelf(FAMILIES.replace("family 2 3", "family 2 x")).is_table)
 
     def test_refused_table(self) -> None:
         class Refuses(Stand):
