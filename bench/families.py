@@ -3,7 +3,7 @@
 
 Usage: bench/families.py FOLDER ROOM [LEARN_OPTION ..]
 
-FOLDER has listings. Of each a table is learnt (ROOM, outside the repository, keeps them), and each entry that leaves fewer instructions and has a number of the
+FOLDER has listings, or tables, whose names end with .peep. Of each listing a table is learnt (ROOM, outside the repository, keeps them), and each entry that leaves fewer instructions and has a number of the
 pool in 8 bits is raised by `generalise`, from all bytes down: past each value that is refused towards the entry's own. What comes of it is told: how many entries
 and families, how wide, and how many windows more are replaced by them. CaDiCaL has to refute the formula that `export` writes of each family; where a
 range is refused for a value, a model that CaDiCaL finds has to be a state and a value that tell the two sides apart, by instructions as they are carried out here;
@@ -151,7 +151,7 @@ def entries_of(text):
         word, _, rest = line.partition(" ")
         if line == "entry":
             entries.append({"left": [], "right": [], "mask": []})
-        elif word in ("left", "right"):
+        elif word in ("left", "right") and entries:
             entries[-1][word].append(instruction(rest))
         elif word == "mask":
             entries[-1]["mask"] = rest.split()
@@ -202,7 +202,8 @@ def judged_model(room, table, entry, at, number, low, high, scratch):
 def raised(room, listing, options):
     """Raises the entries of a listing's table. What came of it, as numbers to be added up, and the widths of the families."""
     table, wider = room / f"{listing.name}.peep", room / f"{listing.name}.wide.peep"
-    status, said = peep("learn", listing, table, *options)
+    is_table = listing.suffix == ".peep"
+    status, said = peep("upgrade", listing, table) if is_table else peep("learn", listing, table, *options)
     assert status == 0, (listing, said)
     text = table.read_text()
     entries, pool = entries_of(text), [int(word) for word in next(line for line in text.split("\n") if line.startswith("pool")).split()[1:]]
@@ -232,8 +233,8 @@ def raised(room, listing, options):
         assert status == 0 and solved(cnf) is None, (listing, n, said)
         for state in STATES:
             assert not any(tells(entry, number, value, state) for value in range(low, high + 1))
-    replaced = []
-    for name in (table, wider):
+    replaced = [0, 0] if is_table else []
+    for name in () if is_table else (table, wider):
         status, said = peep("rewrite", name, listing, room / f"{listing.name}.out", "-")
         assert status == 0, (name, said)
         replaced.append(int(said[1]))

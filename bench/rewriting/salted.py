@@ -1,6 +1,7 @@
 #!/usr/bin/env python3
 """Puts so many windows into a listing that may be replaced: as many behind each function's label, where no branch or literal comes nearer to its reach and no
-flag is live. With a table they are the left sides of those of its entries whose right side names a register more. Use: salted.py WINDOWS [TABLE] < listing > salted"""
+flag is live. With a table they are the left sides of those of its entries whose right side names a register more, or, where it has families, of these with values
+of their ranges. Use: salted.py WINDOWS [TABLE] < listing > salted"""
 import re
 import sys
 
@@ -25,12 +26,22 @@ def last_register(texts):
     return max((int(name) for text in texts for name in re.findall(r"\br(\d)\b", text)), default=-1)
 
 
+def raised(entries, family):
+    """The left side of a family, as a function from a number to the texts with a value of the range."""
+    entry, held, low, high = map(int, family.split())
+    left = sides(entries[entry - 1], "left ")
+    hole = re.compile(rf"^((?:movs|cmp|adds|subs) r\d, #){held}$")
+    return lambda number: [hole.sub(rf"\g<1>{low + number // 8 % (high - low + 1)}", text) for text in left]
+
+
 def windows_of(table):
-    """The left sides of a table whose right sides name a register more, as a function from a number to one of them in some of r0 to r7."""
+    """The left sides of a table's families, or else those whose right sides name a register more, as a function from a number to one of them in some of r0 to r7."""
     with open(table, encoding="ascii") as file:
-        entries = file.read().split("entry\n")[1:]
-    lefts = [sides(entry, "left ") for entry in entries if last_register(sides(entry, "right ")) > last_register(sides(entry, "left "))]
-    return lambda number: [re.sub(r"\br(\d)\b", lambda name: f"r{(int(name[1]) + number) % 8}", text) for text in lefts[number % len(lefts)]]
+        text = file.read()
+    entries, families = text.split("entry\n")[1:], [line.removeprefix("family ") for line in text.split("\n") if line.startswith("family ")]
+    scratch = [sides(entry, "left ") for entry in entries if last_register(sides(entry, "right ")) > last_register(sides(entry, "left "))]
+    lefts = [raised(entries, family) for family in families] or [lambda _, left=left: left for left in scratch]
+    return lambda number: [re.sub(r"\br(\d)\b", lambda name: f"r{(int(name[1]) + number) % 8}", text) for text in lefts[number % len(lefts)](number)]
 
 
 def main():
