@@ -7,3 +7,9 @@ pub mod Mnemonics
 pub mod Words
 pub mod Steps
 pub mod Starts
+pub mod EndedLines
+pub mod CostLines
+pub mod CostReading
+pub mod Weighing
+pub mod Counting
+pub mod CheaperSequences

@@ -2,6 +2,10 @@
 #![tactic(auto)]
 
 mod alphabet;
+mod by_cost;
+mod cost_text;
+mod costs;
+pub mod laws;
 mod members;
 mod numbering;
 mod pool;
@@ -9,8 +13,12 @@ mod rows;
 mod sequences;
 mod values;
 mod walk;
+mod weights;
 
 pub use alphabet::size;
+pub use by_cost::cheaper;
+pub use cost_text::{CostLine, read_costs};
+pub use costs::{Costs, weight};
 pub use numbering::{Numbering, number_of};
 pub use pool::Pool;
 pub use rows::rank;

@@ -1,0 +1,80 @@
+//! What all sequences cost, in order of their numbers. The sequences of one letter more are, for each of the longest ones in order, each letter behind it, so
+//! that what a sequence costs comes from what it costs without its last letter.
+ghost use Rattle.std.specs.Prelude.{◌≡◌, ◌+◌, ◌<◌, ◌≤◌, ◌++◌, All, IfOk, OnOk, Some, drop, length, map};
+ghost use Rattle.std.specs.List.{flat_map};
+ghost use Rattle.seq_enum.specs.Lists.{numbers_from};
+ghost use Rattle.seq_enum.specs.Alphabet.{alphabet, words};
+ghost use Rattle.seq_enum.specs.Costs.{cost_in, weight_under};
+
+use crate::costs::Costs;
+use crate::pool::Pool;
+use crate::walk::letters;
+use std::alloc::{AllocError, Global};
+use thumb_instr::Instr;
+
+/// What each letter costs, 1 to 64.
+fn letter_costs(alloc: Global, letters: &[Instr], costs: &Costs) -> Result<Vec<u16>, AllocError>
+    ensures value { IfOk result (λ v. v.items ≡ map (cost_in costs.now) letters.now) }
+    ensures small { IfOk result (λ v. All (λ cost. cost ≤ 64) v.items) }
+{
+    let mut all = Vec::with_capacity(alloc, letters.len())?;
+    for letter in letters {
+        all.push(costs.of_instr(letter) as u16)?;
+    }
+    Ok(all)
+}
+
+/// Puts what a sequence costs with each letter behind it behind the others.
+#[inline(always)]
+fn push_letters(weights: &mut Vec<u16>, letters: &[u16], weight: u16) -> Result<(), AllocError>
+    requires small { weight ≤ 320 }
+    requires letters { All (λ cost. cost ≤ 64) letters.now }
+    ensures { OnOk result (weights.new.items ≡ weights.old.items ++ map (λ cost. weight + cost) letters.now) }
+{
+    for letter in letters {
+        weights.push(weight + *letter)?;
+    }
+    Ok(())
+}
+
+/// Puts what the sequences from a place on cost, each with each letter behind it, behind the others.
+fn push_longer(weights: &mut Vec<u16>, letters: &[u16], first: usize) -> Result<(), AllocError>
+    requires within { first ≤ length weights.old.items }
+    requires small { All (λ weight. weight ≤ 320) weights.old.items }
+    requires letters { All (λ cost. cost ≤ 64) letters.now }
+    ensures { OnOk result (weights.new.items ≡ weights.old.items
+        ++ flat_map (λ weight. map (λ cost. weight + cost) letters.now) (drop first weights.old.items)) }
+{
+    for place in first..weights.len() {
+        let weight = weights[place];
+        push_letters(weights, letters, weight)?;
+    }
+    Ok(())
+}
+
+/// What each sequence of at most `longest` instructions costs, by number: at most 320.
+pub(crate) fn weights(
+    alloc: Global,
+    k: u8,
+    pool: &Pool,
+    costs: &Costs,
+    longest: u8,
+) -> Result<Vec<u16>, AllocError>
+    requires some { 0 < k }
+    requires few { k ≤ 4 }
+    requires short { longest ≤ 5 }
+    ensures value { IfOk result (λ v. v.items ≡ map (weight_under (Some costs.now)) (flat_map (words (alphabet k pool.now)) (numbers_from 0 (longest + 1)))) }
+    ensures small { IfOk result (λ v. All (λ weight. weight ≤ 320) v.items) }
+{
+    let _numbers = costs.numbers();
+    let letters = letters(alloc, k, pool)?;
+    let letters = letter_costs(alloc, &letters, costs)?;
+    let mut weights = vec![in alloc; 0]?;
+    let mut first = 0;
+    for _turn in 0..longest {
+        let next = weights.len();
+        push_longer(&mut weights, &letters, first)?;
+        first = next;
+    }
+    Ok(weights)
+}
