@@ -5,14 +5,15 @@ use Rattle.std.specs.Option.{option_map}
 use Rattle.std.proofs.Math.Seq.{take-append_seam}
 use Rattle.std.proofs.lemmas.Bool.{and_parts, cases_Bool}
 use Rattle.std.proofs.lemmas.Nat.Bits.{bit_at-zero}
-use Rattle.std.specs.Prelude.{◌==◌, if◌then◌else◌}
+use Rattle.std.specs.Prelude.{◌==◌, ◌⊎◌, if◌then◌else◌, IfSome, IsSome, is_some, None, Option, replicate}
 use Rattle.std.proofs.lemmas.Option.{cond_some, same_Some, option_and_then_some}
 use Rattle.std.proofs.lemmas.List.{map-append, take-append-drop}
 use Rattle.thumb_syntax.proofs.Steps.{map_some}
 use Rattle.std.proofs.lemmas.List.Concat.{flat_map-append}
-use Rattle.std.proofs.lemmas.List.Elements.{All-nil, All-cons, All-head, All-tail, All-push}
+use Rattle.std.proofs.lemmas.List.Elements.{All-nil, All-cons, All-head, All-tail, All-push, All-replicate}
 use Rattle.seq_enum.specs.Lists.{ascends_from}
 use Rattle.seq_enum.specs.Pools.{is_pool}
+use Rattle.seq_enum.specs.Costs.{AreCosts}
 use Rattle.thumb_instr.specs.declared.instr.Instr.{Instr}
 use Rattle.thumb_instr.specs.declared.instr.Instr.TheVariants as instr
 use Rattle.thumb_instr.specs.declared.within.Within.{Within}
@@ -24,7 +25,7 @@ use Rattle.rule_table.specs.declared.header.Head.{Head}
 use Rattle.rule_table.specs.declared.header.Head.TheVariants as head
 use Rattle.rule_table.specs.Header.{Header, heads, has_line, has_families, number_in, with_number, is_same, blank, IsWithin, IsHeader}
 use Rattle.rule_table.specs.Table.{Opened, Rule, Family as Raised, Table}
-use Rattle.rule_table.specs.Text.{Item, Number, Pool, State, Entry, Left, Right, Mask, Proof, Logged, Open, Family, End, rule_items, family_items, line_items, header_items, items_of}
+use Rattle.rule_table.specs.Text.{Item, Number, Pool, Costs, State, Entry, Left, Right, Mask, Proof, Logged, Open, Family, End, rule_items, family_items, line_items, header_items, items_of}
 use Rattle.rule_table.specs.Valid.{IsState, IsInstr, IsMask, IsOpened, IsRule, IsFamily, IsTable, numbers_of}
 use Rattle.rule_table.specs.Items.{IsItem}
 use Rattle.rule_table.specs.Grammar.{Stage, Start, Heading, Stated, Sided, Masked, Proved, Opening, Raising, Shown, Done, with_state, with_rule, with_opened, with_family, is_empty, heard, later, raising, step, run}
@@ -62,10 +63,21 @@ place (head.Number field.Seed) = 3
 place (head.Number field.Budget) = 4
 place head.Pool = 5
 place (head.Number field.Scratch) = 6
+place head.Costs = 7
 
--- the numbers whose lines stand from a place on are the least header's
-abbrev pub IsBlankFrom : ℕ → Header → Type 0
-IsBlankFrom from h = (x : Field) → from ≤ place (head.Number x) → number_in h x ≡ number_in blank x
+-- a header of which lines are due: a header, but for costs that are still to come
+pub record IsBegun (h : Header) : Type 0 where
+  pub numbers : (x : Field) → IsWithin x (number_in h x)
+  pub pool : is_pool h.pool ≡ true
+  pub costs : IfSome h.costs AreCosts
+  pub uncosted : has_line h.version head.Costs ≡ false → h.costs ≡ None
+  pub unsaid : (x : Field) → has_line h.version (head.Number x) ≡ false → number_in h x ≡ number_in blank x
+
+-- what the lines say that stand from a place on is the least header's; the costs are there where their line stands before it
+pub record IsReadTo (to : ℕ) (h : Header) : Type 0 where
+  pub numbers : (x : Field) → to ≤ place (head.Number x) → number_in h x ≡ number_in blank x
+  pub uncosted : to ≤ place head.Costs → h.costs ≡ None
+  pub costed : place head.Costs < to → has_line h.version head.Costs ≡ true → IsSome h.costs
 
 abbrev pub HasFirst : Header → List Head → Type 0
 HasFirst h [] = Unit {0}
@@ -75,12 +87,12 @@ HasFirst h (line ∷ due) = has_line h.version line ≡ true
 pub record HasRead (h : Header) (due : List Head) : Type 0 where
   pub read : List Head
   pub split : read ++ due ≡ heads
-  pub none : IsBlankFrom (length read) h
+  pub none : IsReadTo (length read) h
   pub first : HasFirst h due
 
 -- what holds at a stage; before the first family there are none
 unfoldable pub Fine : Stage → Type 0
-Fine (Heading h due) = IsHeader h × HasRead h due
+Fine (Heading h due) = IsBegun h × HasRead h due
 Fine (Stated t) = IsTable t × (t.rules ≡ []) × (t.families ≡ [])
 Fine (Sided t ls rs) = IsTable t × AreSides ls rs × (t.families ≡ [])
 Fine (Masked t ls rs m) = IsTable t × AreSides ls rs × (0 < length ls) × IsMask m × (t.families ≡ [])
@@ -307,28 +319,66 @@ number_kept h field.Budget field.Budget n e = absurd cc
 number_kept h field.Scratch field.Scratch n e = absurd cc
 number_kept h f x n e = refl
 
-pool_kept : (h : Header) (f : Field) (n : ℕ) → (with_number h f n).pool ≡ h.pool
-pool_kept h field.Version n = refl
-pool_kept h field.Regs n = refl
-pool_kept h field.Left n = refl
-pool_kept h field.Seed n = refl
-pool_kept h field.Budget n = refl
-pool_kept h field.Scratch n = refl
+lists_kept : (h : Header) (f : Field) (n : ℕ) → ((with_number h f n).pool ≡ h.pool) × ((with_number h f n).costs ≡ h.costs)
+lists_kept h field.Version n = (refl, refl)
+lists_kept h field.Regs n = (refl, refl)
+lists_kept h field.Left n = (refl, refl)
+lists_kept h field.Seed n = (refl, refl)
+lists_kept h field.Budget n = (refl, refl)
+lists_kept h field.Scratch n = (refl, refl)
 
-numbers_kept : (h : Header) (ns : List ℕ) (x : Field) → number_in (record h { pool = ns }) x ≡ number_in h x
-numbers_kept h ns field.Version = refl
-numbers_kept h ns field.Regs = refl
-numbers_kept h ns field.Left = refl
-numbers_kept h ns field.Seed = refl
-numbers_kept h ns field.Budget = refl
-numbers_kept h ns field.Scratch = refl
+numbers_kept : (h : Header) (pool : List ℕ) (costs : Option (List ℕ)) (x : Field) → number_in (record h { pool = pool; costs = costs }) x ≡ number_in h x
+numbers_kept h pool costs field.Version = refl
+numbers_kept h pool costs field.Regs = refl
+numbers_kept h pool costs field.Left = refl
+numbers_kept h pool costs field.Seed = refl
+numbers_kept h pool costs field.Budget = refl
+numbers_kept h pool costs field.Scratch = refl
+
+-- with its costs a header is whole
+whole : (h : Header) → IsBegun h → (has_line h.version head.Costs ≡ true → IsSome h.costs) → IsHeader h
+whole h is costed = record { numbers = is.numbers; pool = is.pool; costs = is.costs; costed = costed; uncosted = is.uncosted; unsaid = is.unsaid }
+
+with_costs : (h : Header) (ns : List ℕ) → IsBegun h → has_line h.version head.Costs ≡ true → AreCosts ns → IsBegun (record h { costs = Some ns })
+with_costs h ns is has are = record {
+  numbers = λ x. subst (IsWithin x) (sym (numbers_kept h h.pool (Some ns) x)) (is.numbers x);
+  pool = is.pool;
+  costs = are;
+  uncosted = λ hasnt. absurd (true≢false (sym has ∙ hasnt));
+  unsaid = λ x unsaid. numbers_kept h h.pool (Some ns) x ∙ is.unsaid x unsaid;
+}
+
+-- the lines before that of the costs stay
+costs_kept : (h : Header) (costs : Option (List ℕ)) (l : Head) → place l < place head.Costs → line_items (record h { costs = costs }) l ≡ line_items h l
+costs_kept h costs (head.Number x) less = ap (λ m. if has_line h.version (head.Number x) then Number x m ∷ [] else []) (numbers_kept h h.pool costs x)
+costs_kept h costs head.Pool less = refl
+costs_kept h costs head.Costs less = absurd (omega (arith, less))
+
+numbers_before : (f : Field) → place (head.Number f) < place head.Costs
+numbers_before field.Version = omega arith
+numbers_before field.Regs = omega arith
+numbers_before field.Left = omega arith
+numbers_before field.Seed = omega arith
+numbers_before field.Budget = omega arith
+numbers_before field.Scratch = omega arith
+
+-- the costs stand last
+last_line : (l : Head) → place head.Costs ≤ place l → l ≡ head.Costs
+last_line (head.Number f) h = absurd (omega (arith, h, numbers_before f))
+last_line head.Pool h = absurd (omega (arith, h))
+last_line head.Costs h = refl
+
+no_line_behind : (l : Head) → place l ≤ place head.Costs
+no_line_behind (head.Number f) = omega (arith, numbers_before f)
+no_line_behind head.Pool = omega arith
+no_line_behind head.Costs = omega arith
 
 abbrev StandFrom : ℕ → List Head → Type 0
 StandFrom from [] = Unit {0}
 StandFrom from (line ∷ lines) = (place line ≡ from) × StandFrom (suc from) lines
 
 heads_stand : StandFrom 0 heads
-heads_stand = (refl, (refl, (refl, (refl, (refl, (refl, (refl, tt)))))))
+heads_stand = (refl, (refl, (refl, (refl, (refl, (refl, (refl, (refl, tt))))))))
 
 stands_later : (from : ℕ) (read : List Head) (line : Head) (due : List Head) → StandFrom from (read ++ line ∷ due) → from ≤ place line
 stands_later from [] line due o = omega (arith, o.0)
@@ -340,12 +390,12 @@ stands_at from (l ∷ read) line due o = omega (arith, stands_at (suc from) read
 
 -- one more line: what it says is held, what was read before stays, and what comes later is still the least header's
 record Hears (h g : Header) (line : Head) (i : Item) : Type 0 where
-  fine : IsHeader g
+  fine : IsBegun g
   says : line_items g line ≡ i ∷ []
   kept : (l : Head) → place l < place line → line_items g l ≡ line_items h l
-  blank_behind : IsBlankFrom (suc (place line)) g
+  behind : IsReadTo (suc (place line)) g
 
-module _ (h : Header) (f : Field) (n : ℕ) (is : IsHeader h) (none : IsBlankFrom (place (head.Number f)) h) (due : has_line h.version (head.Number f) ≡ true) (within : IsWithin f n) where
+module _ (h : Header) (f : Field) (n : ℕ) (is : IsBegun h) (none : IsReadTo (place (head.Number f)) h) (due : has_line h.version (head.Number f) ≡ true) (within : IsWithin f n) where
   heard_number : Header
   heard_number = with_number h f n
 
@@ -373,7 +423,7 @@ module _ (h : Header) (f : Field) (n : ℕ) (is : IsHeader h) (none : IsBlankFro
   -- before the version all else is the least header's
   still_blank : (x : Field) → has_line heard_number.version (head.Number x) ≡ false → number_in h x ≡ number_in blank x
   still_blank x unsaid = elim (cases_Bool (is_same f field.Version)) [
-    | inl e ↦ none x (omega (arith, ap (λ y. place (head.Number y)) (same_field f field.Version e)))
+    | inl e ↦ none.numbers x (omega (arith, ap (λ y. place (head.Number y)) (same_field f field.Version e)))
     | inr e ↦ is.unsaid x (sym (lines_kept e (head.Number x)) ∙ unsaid)
   ]
 
@@ -382,6 +432,13 @@ module _ (h : Header) (f : Field) (n : ℕ) (is : IsHeader h) (none : IsBlankFro
   unsaid_fine x unsaid = elim (cases_Bool (is_same f x)) [
     | inl e ↦ absurd (true≢false (sym own_line ∙ ap (λ y. has_line (with_number h f n).version (head.Number y)) (same_field f x e) ∙ unsaid))
     | inr e ↦ number_kept h f x n e ∙ still_blank x unsaid
+  ]
+
+  uncosted_fine : has_line heard_number.version head.Costs ≡ false → heard_number.costs ≡ None
+  unfolding heard_number
+  uncosted_fine hasnt = (lists_kept h f n).1 ∙ elim (cases_Bool (is_same f field.Version)) [
+    | inl e ↦ none.uncosted (omega (arith, numbers_before f))
+    | inr e ↦ is.uncosted (sym (lines_kept e head.Costs) ∙ hasnt)
   ]
 
   number_line_kept : (x : Field) → place (head.Number x) < place (head.Number f) → line_items heard_number (head.Number x) ≡ line_items h (head.Number x)
@@ -400,50 +457,81 @@ module _ (h : Header) (f : Field) (n : ℕ) (is : IsHeader h) (none : IsBlankFro
   pool_line_kept less = elim (cases_Bool (is_same f field.Version)) [
     | inl v ↦ absurd (omega (arith, ap (λ y. place (head.Number y)) (same_field f field.Version v), less))
     | inr v ↦ ap (λ b. if b then Pool (with_number h f n).pool ∷ [] else []) (lines_kept v head.Pool)
-        ∙ ap (λ ns. if has_line h.version head.Pool then Pool ns ∷ [] else []) (pool_kept h f n)
+        ∙ ap (λ ns. if has_line h.version head.Pool then Pool ns ∷ [] else []) (lists_kept h f n).0
   ]
 
   number_heard : Hears h (with_number h f n) (head.Number f) (Number f n)
   unfolding heard_number
   number_heard = record {
-    fine = record { numbers = numbers_fine; pool = ap is_pool (pool_kept h f n) ∙ is.pool; unsaid = unsaid_fine };
+    fine = record {
+      numbers = numbers_fine;
+      pool = ap is_pool (lists_kept h f n).0 ∙ is.pool;
+      costs = subst (λ costs. IfSome costs AreCosts) (sym (lists_kept h f n).1) is.costs;
+      uncosted = uncosted_fine;
+      unsaid = unsaid_fine;
+    };
     says = rw own_line (ap (λ m. Number f m ∷ []) (number_set h f n));
     kept = kept;
-    blank_behind = λ x later. elim (cases_Bool (is_same f x)) [
-      | inl e ↦ absurd (omega (arith, ap (λ y. place (head.Number y)) (same_field f x e), later))
-      | inr e ↦ number_kept h f x n e ∙ none x (omega (arith, later))
-    ];
+    behind = record {
+      numbers = λ x later. elim (cases_Bool (is_same f x)) [
+        | inl e ↦ absurd (omega (arith, ap (λ y. place (head.Number y)) (same_field f x e), later))
+        | inr e ↦ number_kept h f x n e ∙ none.numbers x (omega (arith, later))
+      ];
+      uncosted = λ later. (lists_kept h f n).1 ∙ none.uncosted (omega (arith, numbers_before f));
+      costed = λ less has. absurd (omega (arith, less, numbers_before f));
+    };
   }
     where
       kept : (l : Head) → place l < place (head.Number f) → line_items (with_number h f n) l ≡ line_items h l
       kept (head.Number x) less = number_line_kept x less
       kept head.Pool less = pool_line_kept less
+      kept head.Costs less = absurd (omega (arith, less, numbers_before f))
 
-pool_heard : (h : Header) (ns : List ℕ) → IsHeader h → IsBlankFrom 5 h → has_line h.version head.Pool ≡ true → is_pool ns ≡ true → Hears h (record h { pool = ns }) head.Pool (Pool ns)
+pool_heard : (h : Header) (ns : List ℕ) → IsBegun h → IsReadTo 5 h → has_line h.version head.Pool ≡ true → is_pool ns ≡ true → Hears h (record h { pool = ns }) head.Pool (Pool ns)
 pool_heard h ns is none due pool = record {
   fine = record {
-    numbers = λ x. subst (IsWithin x) (sym (numbers_kept h ns x)) (is.numbers x);
+    numbers = λ x. subst (IsWithin x) (sym (numbers_kept h ns h.costs x)) (is.numbers x);
     pool = pool;
-    unsaid = λ x unsaid. numbers_kept h ns x ∙ is.unsaid x unsaid;
+    costs = is.costs;
+    uncosted = is.uncosted;
+    unsaid = λ x unsaid. numbers_kept h ns h.costs x ∙ is.unsaid x unsaid;
   };
   says = rw due refl;
   kept = kept;
-  blank_behind = λ x later. numbers_kept h ns x ∙ none x (omega (arith, later));
+  behind = record {
+    numbers = λ x later. numbers_kept h ns h.costs x ∙ none.numbers x (omega (arith, later));
+    uncosted = λ later. none.uncosted (omega arith);
+    costed = λ less has. absurd (omega (arith, less));
+  };
 }
   where
     kept : (l : Head) → place l < 5 → line_items (record h { pool = ns }) l ≡ line_items h l
-    kept (head.Number x) less = ap (λ m. if has_line h.version (head.Number x) then Number x m ∷ [] else []) (numbers_kept h ns x)
+    kept (head.Number x) less = ap (λ m. if has_line h.version (head.Number x) then Number x m ∷ [] else []) (numbers_kept h ns h.costs x)
     kept head.Pool less = absurd (omega (arith, less))
+    kept head.Costs less = absurd (omega (arith, less))
 
-hears : (h g : Header) (line : Head) (i : Item) → IsHeader h → IsBlankFrom (place line) h → has_line h.version line ≡ true → IsItem i → heard h line i ≡ Some g → Hears h g line i
+costs_heard : (h : Header) (ns : List ℕ) → IsBegun h → IsReadTo 7 h → has_line h.version head.Costs ≡ true → AreCosts ns → Hears h (record h { costs = Some ns }) head.Costs (Costs ns)
+costs_heard h ns is none due are = record {
+  fine = with_costs h ns is due are;
+  says = rw due refl;
+  kept = costs_kept h (Some ns);
+  behind = record {
+    numbers = λ x later. numbers_kept h h.pool (Some ns) x ∙ none.numbers x (omega (arith, later));
+    uncosted = λ later. absurd (omega (arith, later));
+    costed = λ less has. refl;
+  };
+}
+
+hears : (h g : Header) (line : Head) (i : Item) → IsBegun h → IsReadTo (place line) h → has_line h.version line ≡ true → IsItem i → heard h line i ≡ Some g → Hears h g line i
 hears h g (head.Number due) (Number f n) is none has within e =
     let parts = cond_some (is_same due f) (with_number h f n) g e in
     let same = same_field due f parts.0 in
-    let blank : IsBlankFrom (place (head.Number f)) h = subst (λ d. IsBlankFrom (place (head.Number d)) h) same none in
+    let blank : IsReadTo (place (head.Number f)) h = subst (λ d. IsReadTo (place (head.Number d)) h) same none in
     let own : has_line h.version (head.Number f) ≡ true = subst (λ d. has_line h.version (head.Number d) ≡ true) same has in
     let at : Hears h g (head.Number f) (Number f n) = subst (λ k. Hears h k (head.Number f) (Number f n)) parts.1 (number_heard h f n is blank own within) in
     subst (λ d. Hears h g (head.Number d) (Number f n)) (sym same) at
 hears h g head.Pool (Pool ns) is none has pool e = subst (λ k. Hears h k head.Pool (Pool ns)) (same_Some _ _ e) (pool_heard h ns is none has pool)
+hears h g head.Costs (Costs ns) is none has costs e = subst (λ k. Hears h k head.Costs (Costs ns)) (same_Some _ _ e) (costs_heard h ns is none has costs)
 hears h g line i is none has item e = absurd cc
 
 read_kept : (h g : Header) (line : Head) (from : ℕ) (read due : List Head) → ((l : Head) → place l < place line → line_items g l ≡ line_items h l) → StandFrom from (read ++ line ∷ due)
@@ -462,37 +550,46 @@ before h read due e = subst (λ ls. flat_map (line_items h) (take (length ls - l
     size = omega (arith, length-append read due)
 
 -- a line that the version doesn't have is passed over
-goes_on : (g : Header) (read due : List Head) → IsHeader g → IsBlankFrom (length read) g → read ++ due ≡ heads → (written (later due g) ≡ flat_map (line_items g) read) × Fine (later due g)
+passed : (g : Header) (read : List Head) (line : Head) (due : List Head) → IsReadTo (length read) g → read ++ line ∷ due ≡ heads → has_line g.version line ≡ false
+    → IsReadTo (length (read ++ line ∷ [])) g
+passed g read line due none e hasnt = record {
+  numbers = λ x far. none.numbers x (omega (arith, far, size));
+  uncosted = λ far. none.uncosted (omega (arith, far, size));
+  costed = λ less has. absurd (true≢false (sym has ∙ ap (has_line g.version) (sym (last_line line (omega (arith, less, size, at)))) ∙ hasnt));
+}
+  where
+    size : length (read ++ line ∷ []) ≡ length read + 1
+    size = length-append read (line ∷ [])
+
+    at : place line ≡ length read
+    at = omega (arith, stands_at 0 read line due (subst (StandFrom 0) (sym e) heads_stand))
+
+goes_on : (g : Header) (read due : List Head) → IsBegun g → IsReadTo (length read) g → read ++ due ≡ heads → (written (later due g) ≡ flat_map (line_items g) read) × Fine (later due g)
 unfolding written Fine
 goes_on g read [] is none e = (
   append-nil (header_items g) ∙ ap (flat_map (line_items g)) (sym e ∙ append-nil read),
-  (record { header = is; states = All-nil IsState; rules = All-nil IsRule; families = All-nil IsFamily; none_before = λ hasnt. refl }, refl, refl),
+  (record { header = whole g is (none.costed (omega (arith, ap length e, length-append read []))); states = All-nil IsState; rules = All-nil IsRule; families = All-nil IsFamily; none_before = λ hasnt. refl }, refl, refl),
 )
-goes_on g read (line ∷ due) is none e = by (has_line g.version line) refl (goes_on g (read ++ line ∷ []) due is less (append_assoc read (line ∷ []) due ∙ e))
-  where
-    less : IsBlankFrom (length (read ++ line ∷ [])) g
-    less x far = none x (omega (arith, far, length-append read (line ∷ [])))
+goes_on g read (line ∷ due) is none e = elim (cases_Bool (has_line g.version line)) [
+  | inl has ↦ rw has (before g read (line ∷ due) e, (is, record { read = read; split = e; none = none; first = has }))
+  | inr hasnt ↦ (let rest = goes_on g (read ++ line ∷ []) due is (passed g read line due none e hasnt) (append_assoc read (line ∷ []) due ∙ e) in
+      let dropped : flat_map (line_items g) (read ++ line ∷ []) ≡ flat_map (line_items g) read =
+      flat_map-append (line_items g) read (line ∷ []) ∙ rw hasnt (append-nil (flat_map (line_items g) read)) in
+      rw hasnt (rest.0 ∙ dropped, rest.1))
+]
 
-    by : (b : Bool) → has_line g.version line ≡ b → (written (later due g) ≡ flat_map (line_items g) (read ++ line ∷ [])) × Fine (later due g)
-        → (written (later (line ∷ due) g) ≡ flat_map (line_items g) read) × Fine (later (line ∷ due) g)
-    by true has rest = rw has (before g read (line ∷ due) e, (is, record { read = read; split = e; none = none; first = has }))
-    by false hasnt rest =
-        let dropped : flat_map (line_items g) (read ++ line ∷ []) ≡ flat_map (line_items g) read =
-        flat_map-append (line_items g) read (line ∷ []) ∙ rw hasnt (append-nil (flat_map (line_items g) read)) in
-        rw hasnt (rest.0 ∙ dropped, rest.1)
-
-heading_step : (h : Header) (line : Head) (due : List Head) (i : Item) (t : Stage) → IsHeader h → HasRead h (line ∷ due) → IsItem i → option_map (later due) (heard h line i) ≡ Some t
+heading_step : (h : Header) (line : Head) (due : List Head) (i : Item) (t : Stage) → IsBegun h → HasRead h (line ∷ due) → IsItem i → option_map (later due) (heard h line i) ≡ Some t
     → Steps (Heading h (line ∷ due)) t i
 unfolding written
 heading_step h line due i t is r item e =
     let found = map_some (heard h line i) (later due) t e in
     let stand : StandFrom 0 (r.read ++ line ∷ due) = subst (StandFrom 0) (sym r.split) heads_stand in
     let at : place line ≡ length r.read = omega (arith, stands_at 0 r.read line due stand) in
-    let none : IsBlankFrom (place line) h = subst (λ n. IsBlankFrom n h) (sym at) r.none in
+    let none : IsReadTo (place line) h = subst (λ n. IsReadTo n h) (sym at) r.none in
     let new = hears h found.0 line i is none r.first item found.1 in
     let all : (r.read ++ line ∷ []) ++ due ≡ heads = append_assoc r.read (line ∷ []) due ∙ r.split in
     let size : suc (place line) ≡ length (r.read ++ line ∷ []) = omega (arith, at, length-append r.read (line ∷ [])) in
-    let next = goes_on found.0 (r.read ++ line ∷ []) due new.fine (subst (λ n. IsBlankFrom n found.0) size new.blank_behind) all in
+    let next = goes_on found.0 (r.read ++ line ∷ []) due new.fine (subst (λ n. IsReadTo n found.0) size new.behind) all in
     let old : flat_map (line_items found.0) r.read ≡ flat_map (line_items h) r.read = read_kept h found.0 line 0 r.read due new.kept stand in
     let own : flat_map (line_items found.0) (line ∷ []) ≡ i ∷ [] = append-nil (line_items found.0 line) ∙ new.says in
     subst (λ u. Steps (Heading h (line ∷ due)) u i) found.2 (record {
@@ -706,20 +803,51 @@ from_stated : (t : Table) → Fine (Stated t) → Opens (written (Stated t))
 unfolding step
 from_stated t f = by_step (Stated t) End (Done t) f tt refl (done t)
 
--- of a header its other lines as they are held
-from_heading : (h : Header) (due : List Head) → Fine (Heading h due) → Opens (written (Heading h due))
-unfolding written Fine
-from_heading h due f = record {
-  table = record { header = h; states = []; rules = []; families = [] };
-  valid = record { header = f.0; states = All-nil IsState; rules = All-nil IsRule; families = All-nil IsFamily; none_before = λ hasnt. refl };
-  rest = flat_map (line_items h) (drop read heads) ++ End ∷ [];
-  whole = ap (λ ls. flat_map (line_items h) ls ++ End ∷ []) (sym (take-append-drop read heads))
-      ∙ ap (λ us. us ++ End ∷ []) (flat_map-append (line_items h) (take read heads) (drop read heads))
-      ∙ append_assoc (flat_map (line_items h) (take read heads)) (flat_map (line_items h) (drop read heads)) (End ∷ []);
+-- of a header its other lines as a whole one says them
+from_lines : (g : Header) (due : List Head) → IsHeader g → Opens (written (Heading g due))
+unfolding written
+from_lines g due is = record {
+  table = record { header = g; states = []; rules = []; families = [] };
+  valid = record { header = is; states = All-nil IsState; rules = All-nil IsRule; families = All-nil IsFamily; none_before = λ hasnt. refl };
+  rest = flat_map (line_items g) (drop read heads) ++ End ∷ [];
+  whole = ap (λ ls. flat_map (line_items g) ls ++ End ∷ []) (sym (take-append-drop read heads))
+      ∙ ap (λ us. us ++ End ∷ []) (flat_map-append (line_items g) (take read heads) (drop read heads))
+      ∙ append_assoc (flat_map (line_items g) (take read heads)) (flat_map (line_items g) (drop read heads)) (End ∷ []);
 }
   where
     read : ℕ
     read = length heads - length due
+
+-- some costs
+ones : List ℕ
+ones = replicate 28 1
+
+are_costs : AreCosts ones
+unfolding ones
+are_costs = record { as_many = refl; each = All-replicate (λ n. (1 ≤ n) × (n ≤ 64)) 28 1 (omega arith, omega arith) }
+
+-- where costs are still to come, the lines before stay with some
+some_costs : (h : Header) (ns : List ℕ) (due : List Head) → h.costs ≡ None → has_line h.version head.Costs ≡ true → HasRead h due
+    → written (Heading (record h { costs = Some ns }) due) ≡ written (Heading h due)
+unfolding written
+some_costs h ns [] none has r = absurd (let some = r.none.costed (omega (arith, ap length r.split, length-append r.read [])) has in cc)
+some_costs h ns (line ∷ due) none has r =
+    let g : Header = record h { costs = Some ns } in
+    let stand : StandFrom 0 (r.read ++ line ∷ due) = subst (StandFrom 0) (sym r.split) heads_stand in
+    before g r.read (line ∷ due) r.split
+    ∙ read_kept h g line 0 r.read due (λ l less. costs_kept h (Some ns) l (omega (arith, less, no_line_behind line))) stand
+    ∙ sym (before h r.read (line ∷ due) r.split)
+
+from_heading : (h : Header) (due : List Head) → Fine (Heading h due) → Opens (written (Heading h due))
+unfolding Fine
+from_heading h due f = by h.costs refl (cases_Bool (has_line h.version head.Costs))
+  where
+    by : (costs : Option (List ℕ)) → h.costs ≡ costs → (has_line h.version head.Costs ≡ true) ⊎ (has_line h.version head.Costs ≡ false) → Opens (written (Heading h due))
+    by (Some ns) e either = from_lines h due (whole h f.0 (λ has. ap is_some e))
+    by None e (inr hasnt) = from_lines h due (whole h f.0 (λ has. absurd (true≢false (sym has ∙ hasnt))))
+    by None e (inl has) =
+        let g : Header = record h { costs = Some ones } in
+        subst Opens (some_costs h ones due e has f.1) (from_lines g due (whole g (with_costs h ones f.0 has are_costs) (λ has'. refl)))
 
 pub completes : (s : Stage) → Fine s → Opens (written s)
 completes (Heading h due) f = from_heading h due f
@@ -732,9 +860,9 @@ completes (Raising t r) f = from_raising t r f
 completes (Shown t r) f = from_shown t r f
 completes (Done t) f = done t f
 
-blank_fine : IsHeader blank
+blank_fine : IsBegun blank
 unfolding is_pool ascends_from
-blank_fine = record { numbers = least; pool = refl; unsaid = λ x unsaid. refl }
+blank_fine = record { numbers = least; pool = refl; costs = tt; uncosted = λ hasnt. refl; unsaid = λ x unsaid. refl }
   where
     least : (x : Field) → IsWithin x (number_in blank x)
     least field.Version = (omega arith, omega arith)
@@ -746,7 +874,12 @@ blank_fine = record { numbers = least; pool = refl; unsaid = λ x unsaid. refl }
 
 -- nothing is read
 nothing_read : HasRead blank heads
-nothing_read = record { read = []; split = refl; none = λ x far. refl; first = refl }
+nothing_read = record {
+  read = [];
+  split = refl;
+  none = record { numbers = λ x far. refl; uncosted = λ far. refl; costed = λ less has. absurd (omega (arith, less)) };
+  first = refl;
+}
 
 -- what is read from the start begins a table, and what a whole table's lines are read as is that table
 pub read_opens : (p : List Item) (s : Stage) → All IsItem p → run Start p ≡ Some s → Opens p

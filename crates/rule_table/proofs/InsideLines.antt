@@ -1,6 +1,6 @@
 -- No newline stands inside a line.
-use Rattle.std.proofs.Common.{◌≡◌, ℕ, ℤ, pos, negsuc, zero, suc, ◌%◌, ◌/◌, ◌<◌, ◌^◌, ◌&&◌, Bool, true, false, List, [], ◌∷◌, ◌++◌, length, map, refl, ◌∙◌, ap, arith, cond, w64}
-use Rattle.std.specs.Prelude.{decimal, nat_lt, nat_le, FitsSigned}
+use Rattle.std.proofs.Common.{◌≡◌, ℕ, ℤ, pos, negsuc, zero, suc, ◌%◌, ◌/◌, ◌<◌, ◌^◌, Bool, true, false, List, [], ◌∷◌, ◌++◌, length, map, refl, ◌∙◌, ap, arith, cond, w64}
+use Rattle.std.specs.Prelude.{decimal, FitsSigned}
 use Rattle.std.specs.Fmt.{signed_decimal}
 use Rattle.std.specs.List.{list_all, join_with_byte, All}
 use Rattle.std.specs.Char.{is_ascii_digit}
@@ -13,7 +13,6 @@ use Rattle.std.proofs.lemmas.Nat.{mod_below}
 use Rattle.std.proofs.lemmas.List.Folds.{list_all-append}
 use Rattle.std.proofs.lemmas.List.Elements.{All-nil, All-cons, All-head, All-tail, All-append, All-map, All-weaker}
 use Rattle.ascii_scan.specs.FirstLine.{is_inside}
-use Rattle.seq_enum.specs.Pools.{is_pool, inside}
 use Rattle.thumb_instr.specs.Items.{has}
 use Rattle.clause_model.specs.Literals.{number_of}
 use Rattle.lrat_check.specs.Content.{Content, addition, deletion}
@@ -116,7 +115,7 @@ joined_first w (v ∷ ws) d = digital_more w (32 ∷ join_with_byte 32 (v ∷ ws
 pub logged_digital : (c : Content) → IsLine c → Digital (text_of_line c)
 logged_digital c is = joined_first (decimal (id_of c)) (middle_of c ++ end_word ∷ []) (decimal_digital (id_of c) (omega (arith, is.0.1)))
 
--- ---- states, pools, masks
+-- ---- states, masks
 
 pub state_inside : (s : Seen) → IsInside (after_blanks (map (hex_of 8) s.r) ++ 32 ∷ hex_of 1 s.nzcv)
 state_inside s =
@@ -125,25 +124,6 @@ state_inside s =
     words : (ws : List ℕ) → IsInside (after_blanks (map (hex_of 8) ws))
     words [] = refl
     words (w ∷ ws) = and_from (is_inside 32) _ refl (inside_both (hex_of 8 w) (after_blanks (map (hex_of 8) ws)) (hex_inside 8 w) (words ws))
-
-bytes_small : (ns : List ℕ) → list_all (inside 0 256) ns ≡ true → All (λ n. n < 2 ^ 64) ns
-bytes_small [] all = All-nil (λ n. n < 2 ^ 64)
-bytes_small (n ∷ ns) all =
-    let both = and_parts (inside 0 256 n) (list_all (inside 0 256) ns) all in
-    All-cons (λ n. n < 2 ^ 64) n ns (byte n both.0) (bytes_small ns both.1)
-  where
-    byte : (n : ℕ) → inside 0 256 n ≡ true → n < 2 ^ 64
-    byte n e = grind arith
-
-pub pool_small : (ns : List ℕ) → is_pool ns ≡ true → All (λ n. n < 2 ^ 64) ns
-unfolding is_pool
-pool_small ns e =
-    let a = and_parts (nat_lt 0 (length ns) && nat_le (length ns) 16 && list_all (inside 0 256) ns) _ e in
-    let b = and_parts (nat_lt 0 (length ns) && nat_le (length ns) 16) (list_all (inside 0 256) ns) a.0 in
-    bytes_small ns b.1
-
-pub pool_inside : (ns : List ℕ) → is_pool ns ≡ true → IsInside (after_blanks (map decimal ns))
-pool_inside ns e = blanks_inside decimal (λ n. n < 2 ^ 64) decimal_inside ns (pool_small ns e)
 
 pub named_inside : (m item : ℕ) (text : List ℕ) → IsInside text → IsInside (named m item text)
 named_inside m item text h = by (has m item)

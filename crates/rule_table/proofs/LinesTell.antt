@@ -13,16 +13,16 @@ use Rattle.rule_table.specs.declared.header.Field.{Field}
 use Rattle.rule_table.specs.declared.header.Field.TheVariants as field
 use Rattle.rule_table.specs.declared.words.Word.TheVariants as word
 use Rattle.rule_table.specs.Header.{row, IsWithin}
-use Rattle.rule_table.specs.Text.{Item, Number, Pool, State, Entry, Left, Right, Mask, Proof, Logged, Open, Family, End, line_of, instr_text, after_blanks, hex_of, mask_text, mask_rows, named}
+use Rattle.rule_table.specs.Text.{Item, Number, Pool, Costs, State, Entry, Left, Right, Mask, Proof, Logged, Open, Family, End, line_of, instr_text, after_blanks, hex_of, mask_text, mask_rows, named}
 use Rattle.rule_table.specs.Valid.{IsState, IsInstr}
 use Rattle.rule_table.specs.Items.{IsItem}
 use Rattle.rule_table.specs.Fronts.{words, front, word_of, tail_of}
 use Rattle.rule_table.proofs.FrontLemmas.{same_pair}
-use Rattle.rule_table.proofs.InsideLines.{IsInside, inside_both, blanks_inside, decimal_inside, logged_inside, state_inside, pool_inside, named_inside, Digital, decimal_digital, logged_digital}
+use Rattle.rule_table.proofs.InsideLines.{IsInside, inside_both, blanks_inside, decimal_inside, logged_inside, state_inside, named_inside, Digital, decimal_digital, logged_digital}
 use Rattle.rule_table.proofs.InstrTexts.{instr_inside, instr_tells, instr_lettered}
 use Rattle.rule_table.proofs.MaskTexts.{mask_tells}
 use Rattle.rule_table.proofs.HexTexts.{state_tells}
-use Rattle.rule_table.proofs.PoolTexts.{IsShort, blanks_tell, pools_tell}
+use Rattle.rule_table.proofs.ListTexts.{IsShort, blanks_tell, pools_tell, pool_inside, costs_tell, costs_inside}
 use Rattle.rule_table.proofs.FamilyTexts.{words_short}
 
 -- ---- fronts
@@ -40,6 +40,7 @@ front_line (Number field.Seed n) is = refl
 front_line (Number field.Budget n) is = refl
 front_line (Number field.Scratch n) is = refl
 front_line (Pool ns) is = refl
+front_line (Costs ns) is = refl
 front_line (State s) is = refl
 front_line Entry is = refl
 front_line (Left i) is = refl
@@ -84,6 +85,7 @@ within_small field.Scratch n is = omega (arith, is.1)
 pub line_inside : (i : Item) → IsItem i → IsInside (line_of i)
 line_inside (Number field n) is = number_inside (row field).word n (word_inside field) (within_small field n is)
 line_inside (Pool ns) is = inside_both (codes "pool") (after_blanks (map decimal ns)) refl (pool_inside ns is)
+line_inside (Costs ns) is = inside_both (codes "costs") (after_blanks (map decimal ns)) refl (costs_inside ns is)
 line_inside (State s) is = inside_both (codes "state") (after_blanks (map (hex_of 8) s.r) ++ 32 ∷ hex_of 1 s.nzcv) refl (state_inside s)
 line_inside Entry is = refl
 line_inside (Left i) is = inside_both (codes "left ") (instr_text i) refl (instr_inside i is)
@@ -132,6 +134,7 @@ tails_tell (Number f m) (Number g n) a b w e =
     ap (λ h. Number h m) same ∙ ap (Number g) (numbers m n (within_small f m a) (within_small g n b) e)
 tails_tell (Number f m) (Left i) a b w e = absurd (no_instr m i (within_small f m a) b e)
 tails_tell (Pool ms) (Pool ns) a b w e = ap Pool (pools_tell ms ns a b e)
+tails_tell (Costs ms) (Costs ns) a b w e = ap Costs (costs_tell ms ns a b e)
 tails_tell (State s) (State t) a b w e = ap State (states s t a b e)
 tails_tell Entry Entry a b w e = refl
 tails_tell (Left i) (Number f n) a b w e = absurd (no_instr n i (within_small f n b) a (sym e))

@@ -1,6 +1,6 @@
 -- What has been read of a text, and what comes of it.
 use Rattle.std.proofs.Common.{◌≡◌, ◌∙◌, ℕ, ◌+◌, ◌<◌, ◌≤◌, ◌^◌, ◌==◌, true, false, List, [], ◌∷◌, ◌++◌, length, map, refl, sym, ap, subst, arith, Option, Some, None, append_assoc, append-nil, length-append, inl, inr, true≢false, Ok, Err}
-use Rattle.std.specs.Prelude.{if◌then◌else◌}
+use Rattle.std.specs.Prelude.{IfSome, IsSome}
 use Rattle.std.specs.Option.{option_and_then}
 use Rattle.std.specs.List.{flat_map, All, concat}
 use Rattle.std.proofs.lemmas.Bool.{cases_Bool}
@@ -9,11 +9,12 @@ use Rattle.std.proofs.lemmas.List.{map-append, length-map}
 use Rattle.std.proofs.lemmas.List.Elements.{All-nil, All-cons, All-head, All-tail, All-append, All-map, All-push}
 use Rattle.ascii_scan.specs.Lines.{lines_of, onto_first, content_of, is_ended, Placed, placed, placed_from, lines_in, whole}
 use Rattle.ascii_scan.proofs.LineLemmas.{lines_nil, lines_newline, lines_other, lines_join, map-whole, length-lines_in}
+use Rattle.seq_enum.specs.Costs.{AreCosts}
 use Rattle.rule_table.specs.declared.header.Head.{Head}
 use Rattle.rule_table.specs.declared.header.Head.TheVariants as head
 use Rattle.rule_table.specs.Header.{Header, heads, has_line, IsHeader}
 use Rattle.rule_table.specs.Table.{Opened, Rule, Family as Raised, Table}
-use Rattle.rule_table.specs.Text.{Item, State, Entry, Left, Right, Mask, Proof, Logged, Open, Family, End, line_of, text_of_items, text_of, open_items, rule_items, family_items, line_items, said, header_items, items_of}
+use Rattle.rule_table.specs.Text.{Item, State, Entry, Left, Right, Mask, Proof, Logged, Open, Family, End, line_of, text_of_items, text_of, open_items, rule_items, family_items, line_items, cost_numbers, said, header_items, items_of}
 use Rattle.rule_table.specs.Valid.{IsOpened, IsRule, IsFamily, IsTable}
 use Rattle.rule_table.specs.Items.{IsItem}
 use Rattle.rule_table.specs.Grammar.{Stage, Start, Done, step, run}
@@ -103,14 +104,20 @@ family_all f is =
     All-cons IsItem (Family f.entry f.number f.low f.high) (Proof ∷ map Logged f.proof) (numbers_item f is)
     (All-cons IsItem Proof (map Logged f.proof) tt (All-map IsItem Logged f.proof is.proof))
 
-said_item : (h : Header) → IsHeader h → (line : Head) → IsItem (said h line)
-said_item h is (head.Number field) = is.numbers field
-said_item h is head.Pool = is.pool
+costs_said : (costs : Option (List ℕ)) → IsSome costs → IfSome costs AreCosts → AreCosts (cost_numbers costs)
+costs_said None some are = absurd cc
+costs_said (Some ns) some are = are
+
+-- what a line says that the version has
+said_item : (h : Header) → IsHeader h → (line : Head) → has_line h.version line ≡ true → IsItem (said h line)
+said_item h is (head.Number field) has = is.numbers field
+said_item h is head.Pool has = is.pool
+said_item h is head.Costs has = costs_said h.costs (is.costed has) is.costs
 
 head_all : (h : Header) → IsHeader h → (line : Head) → All IsItem (line_items h line)
-head_all h is line = elim (has_line h.version line) as (λ b. All IsItem (if b then said h line ∷ [] else [])) [
-  | true ↦ All-cons IsItem (said h line) [] (said_item h is line) (All-nil IsItem)
-  | false ↦ All-nil IsItem
+head_all h is line = elim (cases_Bool (has_line h.version line)) [
+  | inl has ↦ rw has (All-cons IsItem (said h line) [] (said_item h is line has) (All-nil IsItem))
+  | inr hasnt ↦ rw hasnt (All-nil IsItem)
 ]
 
 heads_all : (h : Header) → IsHeader h → (lines : List Head) → All IsItem (flat_map (line_items h) lines)

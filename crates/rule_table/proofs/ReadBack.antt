@@ -1,5 +1,6 @@
 -- A table's lines are read as the table.
 use Rattle.std.proofs.Common.{◌≡◌, ℕ, ◌⊎◌, inl, inr, zero, suc, subst, ◌+◌, ◌<◌, ◌≤◌, true, false, List, [], ◌∷◌, ◌++◌, length, map, nat_le, nat_lt, refl, sym, ◌∙◌, ap, arith, Option, Some, None, append_assoc, append-nil, length-append, lt-ltb, leb-true}
+use Rattle.std.specs.Prelude.{IsSome}
 use Rattle.std.specs.Option.{option_and_then}
 use Rattle.std.specs.List.{flat_map, All}
 use Rattle.std.proofs.lemmas.Bool.{and_parts, cases_Bool}
@@ -185,20 +186,22 @@ reads_ends t fs none = elim (cases_Bool (has_families t.header.version)) [
 ]
 
 -- a header of each version by what it says
-of_first : (h : Header) → IsHeader h → h.version ≡ 1 → h ≡ record { version = 1; regs = h.regs; left = h.left; seed = h.seed; budget = h.budget; pool = h.pool; scratch = 0 }
+of_first : (h : Header) → IsHeader h → h.version ≡ 1 → h ≡ record h { version = 1; scratch = 0; costs = None }
 of_first h is e =
     let none : h.scratch ≡ 0 = is.unsaid field.Scratch (ap (λ v. has_line v (head.Number field.Scratch)) e) in
-    λ i. record { version = e i; regs = h.regs; left = h.left; seed = h.seed; budget = h.budget; pool = h.pool; scratch = none i }
+    let free : h.costs ≡ None = is.uncosted (ap (λ v. has_line v head.Costs) e) in
+    λ i. record h { version = e i; scratch = none i; costs = free i }
 
-of_later : (h : Header) (v : ℕ) → h.version ≡ v → h ≡ record h { version = v }
-of_later h v e = λ i. record h { version = e i }
+of_later : (h : Header) (v : ℕ) (costs : Option (List ℕ)) → h.version ≡ v → h.costs ≡ costs → h ≡ record h { version = v; costs = costs }
+of_later h v costs e f = λ i. record h { version = e i; costs = f i }
 
-versions : (v : ℕ) → IsWithin field.Version v → (v ≡ 1) ⊎ ((v ≡ 2) ⊎ (v ≡ 3))
+versions : (v : ℕ) → IsWithin field.Version v → (v ≡ 1) ⊎ ((v ≡ 2) ⊎ ((v ≡ 3) ⊎ (v ≡ 4)))
 versions zero w = absurd (omega (arith, w.0))
 versions (suc zero) w = inl refl
 versions (suc (suc zero)) w = inr (inl refl)
-versions (suc (suc (suc zero))) w = inr (inr refl)
-versions (suc (suc (suc (suc v)))) w = absurd (omega (arith, w.1))
+versions (suc (suc (suc zero))) w = inr (inr (inl refl))
+versions (suc (suc (suc (suc zero)))) w = inr (inr (inr refl))
+versions (suc (suc (suc (suc (suc v))))) w = absurd (omega (arith, w.1))
 
 abbrev ReadsHeader : List Item → Header → Type 0
 ReadsHeader rest h = run Start (header_items h ++ rest) ≡ run (Stated (record { header = h; states = []; rules = []; families = [] })) rest
@@ -208,10 +211,17 @@ unfolding run step
 reads_header h rest is = elim (versions h.version (is.numbers field.Version)) [
   | inl e ↦ subst (ReadsHeader rest) (sym (of_first h is e)) refl
   | inr later ↦ elim later [
-    | inl e ↦ subst (ReadsHeader rest) (sym (of_later h 2 e)) refl
-    | inr e ↦ subst (ReadsHeader rest) (sym (of_later h 3 e)) refl
+    | inl e ↦ subst (ReadsHeader rest) (sym (of_later h 2 None e (is.uncosted (ap (λ v. has_line v head.Costs) e)))) refl
+    | inr last ↦ elim last [
+      | inl e ↦ subst (ReadsHeader rest) (sym (of_later h 3 None e (is.uncosted (ap (λ v. has_line v head.Costs) e)))) refl
+      | inr e ↦ by_costs h.costs refl e (is.costed (ap (λ v. has_line v head.Costs) e))
+    ]
   ]
 ]
+  where
+    by_costs : (costs : Option (List ℕ)) → h.costs ≡ costs → h.version ≡ 4 → IsSome h.costs → ReadsHeader rest h
+    by_costs None f e some = absurd cc
+    by_costs (Some ns) f e some = subst (ReadsHeader rest) (sym (of_later h 4 (Some ns) e f)) refl
 
 pub reads : (t : Table) → IsTable t → run Start (items_of t) ≡ Some (Done t)
 unfolding more_states more_rules more_families

@@ -8,7 +8,7 @@ use Rattle.rule_table.specs.declared.header.Head.TheVariants as head
 use Rattle.rule_table.specs.declared.words.Word.{Word}
 use Rattle.rule_table.specs.declared.words.Word.TheVariants as word
 use Rattle.rule_table.specs.Header.{heads, row}
-use Rattle.rule_table.specs.Text.{Item, Number, Pool, State, Entry, Left, Right, Mask, Proof, Logged, Open, Family, End, after_blanks, hex_of, instr_text, mask_text}
+use Rattle.rule_table.specs.Text.{Item, Number, Pool, Costs, State, Entry, Left, Right, Mask, Proof, Logged, Open, Family, End, after_blanks, hex_of, instr_text, mask_text}
 
 unfoldable pub words : List Word
 words = map word.Head heads ++ word.State ∷ word.Entry ∷ word.Right ∷ word.Mask ∷ word.Proof ∷ word.Open ∷ word.Family ∷ word.End ∷ []
@@ -16,6 +16,7 @@ words = map word.Head heads ++ word.State ∷ word.Entry ∷ word.Right ∷ word
 abbrev pub word_text : Word → List ℕ
 word_text (word.Head (head.Number field)) = (row field).word
 word_text (word.Head head.Pool) = codes "pool"
+word_text (word.Head head.Costs) = codes "costs"
 word_text word.State = codes "state"
 word_text word.Entry = codes "entry"
 word_text word.Right = codes "right "
@@ -71,6 +72,7 @@ taken (r ∷ rs) bs = and_taken bs r.0 (strip r.1 bs) (taken rs)
 abbrev pub tail_of : Item → List ℕ
 tail_of (Number field n) = decimal n
 tail_of (Pool ns) = after_blanks (map decimal ns)
+tail_of (Costs ns) = after_blanks (map decimal ns)
 tail_of (State s) = after_blanks (map (hex_of 8) s.r) ++ 32 ∷ hex_of 1 s.nzcv
 tail_of Entry = []
 tail_of (Left i) = instr_text i
@@ -86,6 +88,7 @@ tail_of End = []
 abbrev pub word_of : Item → Word
 word_of (Number field n) = word.Head (head.Number field)
 word_of (Pool ns) = word.Head head.Pool
+word_of (Costs ns) = word.Head head.Costs
 word_of (State s) = word.State
 word_of Entry = word.Entry
 word_of (Left i) = word.Head (head.Number field.Left)

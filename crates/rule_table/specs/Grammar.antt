@@ -7,7 +7,7 @@ use Rattle.rule_table.specs.declared.header.Head.{Head}
 use Rattle.rule_table.specs.declared.header.Head.TheVariants as head
 use Rattle.rule_table.specs.Header.{Header, heads, due_in, with_number, is_same, blank, has_families}
 use Rattle.rule_table.specs.Table.{Opened, Rule, Family as Raised, Table}
-use Rattle.rule_table.specs.Text.{Item, Number, Pool, State, Entry, Left, Right, Mask, Proof, Logged, Open, Family, End}
+use Rattle.rule_table.specs.Text.{Item, Number, Pool, Costs, State, Entry, Left, Right, Mask, Proof, Logged, Open, Family, End}
 
 -- what has been read: some lines of the header, with those that are due; a header with its states; behind the rules before, the sides of a rule, a rule with its
 -- mask, one with its proof, one with the number that was opened last; behind the families before, a family whose proof is due, one with its proof; all
@@ -46,6 +46,7 @@ Start = Heading blank heads
 abbrev pub heard : Header → Head → Item → Option Header
 heard h (head.Number due) (Number field n) = if is_same due field then Some (with_number h field n) else None
 heard h head.Pool (Pool ns) = Some (record h { pool = ns })
+heard h head.Costs (Costs ns) = Some (record h { costs = Some ns })
 heard h due i = None
 
 -- behind the last line of the header come the states

@@ -1,11 +1,12 @@
 -- The header of a table, which its first lines say: the record, and the lines in order, each with its word, its limits and the first version that has
 -- it. A further line is a field of the record and a row of each list here.
-use Rattle.std.specs.Prelude.{◌≡◌, ◌≤◌, ℕ, Bool, true, false, List, [], ◌∷◌, codes, nat_le, if◌then◌else◌}
+use Rattle.std.specs.Prelude.{◌≡◌, ◌≤◌, ℕ, Bool, true, false, List, [], ◌∷◌, codes, nat_le, Option, None, IfSome, IsSome, if◌then◌else◌}
 use Rattle.seq_enum.specs.Pools.{is_pool}
+use Rattle.seq_enum.specs.Costs.{AreCosts}
 use Rattle.rule_table.specs.declared.header.Field.{Field}
 use Rattle.rule_table.specs.declared.header.Field.TheVariants.{Version, Regs, Left, Seed, Budget, Scratch}
 use Rattle.rule_table.specs.declared.header.Head.{Head}
-use Rattle.rule_table.specs.declared.header.Head.TheVariants.{Number, Pool}
+use Rattle.rule_table.specs.declared.header.Head.TheVariants.{Number, Pool, Costs}
 
 pub record Header : Type 0 where
   pub version : ℕ
@@ -20,14 +21,17 @@ pub record Header : Type 0 where
   pub pool : List ℕ
   -- how many registers a right side may name that its left side doesn't
   pub scratch : ℕ
+  -- what instructions cost, a number for each mnemonic; where there are none each costs 1
+  pub costs : Option (List ℕ)
 
 -- the lines of the last version in order
 abbrev pub heads : List Head
-heads = Number Version ∷ Number Regs ∷ Number Left ∷ Number Seed ∷ Number Budget ∷ Pool ∷ Number Scratch ∷ []
+heads = Number Version ∷ Number Regs ∷ Number Left ∷ Number Seed ∷ Number Budget ∷ Pool ∷ Number Scratch ∷ Costs ∷ []
 
 -- the first version that has a line, and whether a version has it
 abbrev pub since : Head → ℕ
 since (Number Scratch) = 2
+since Costs = 4
 since line = 1
 
 abbrev pub has_line : ℕ → Head → Bool
@@ -74,7 +78,7 @@ pub record Row : Type 0 where
   pub greatest : ℕ
 
 abbrev pub row : Field → Row
-row Version = record { word = codes "peep "; least = 1; greatest = 3 }
+row Version = record { word = codes "peep "; least = 1; greatest = 4 }
 row Regs = record { word = codes "regs "; least = 1; greatest = 4 }
 row Left = record { word = codes "left "; least = 1; greatest = 5 }
 row Seed = record { word = codes "seed "; least = 0; greatest = 4294967295 }
@@ -86,10 +90,13 @@ IsWithin field n = ((row field).least ≤ n) × (n ≤ (row field).greatest)
 
 -- the least header: what is held of one before its lines are read
 abbrev pub blank : Header
-blank = record { version = 1; regs = 1; left = 1; seed = 0; budget = 1; pool = 0 ∷ []; scratch = 0 }
+blank = record { version = 1; regs = 1; left = 1; seed = 0; budget = 1; pool = 0 ∷ []; scratch = 0; costs = None }
 
--- each number lies in its limits, the pool is one, and a number that the version has no line for is the least header's
+-- each number lies in its limits, the pool is one, and so are the costs, which stand where the version has a line for them alone; a number that it has no line for is the least header's
 pub record IsHeader (h : Header) : Type 0 where
   pub numbers : (field : Field) → IsWithin field (number_in h field)
   pub pool : is_pool h.pool ≡ true
+  pub costs : IfSome h.costs AreCosts
+  pub costed : has_line h.version Costs ≡ true → IsSome h.costs
+  pub uncosted : has_line h.version Costs ≡ false → h.costs ≡ None
   pub unsaid : (field : Field) → has_line h.version (Number field) ≡ false → number_in h field ≡ number_in blank field

@@ -2,15 +2,17 @@
 use Rattle.std.specs.Prelude.{◌≡◌, ◌<◌, ◌^◌, true, [], ◌∷◌}
 use Rattle.std.specs.List.{All}
 use Rattle.seq_enum.specs.Pools.{is_pool}
+use Rattle.seq_enum.specs.Costs.{AreCosts}
 use Rattle.lrat_check.specs.Text.{IsLine}
 use Rattle.rule_table.specs.Header.{IsWithin}
-use Rattle.rule_table.specs.Text.{Item, Number, Pool, State, Entry, Left, Right, Mask, Proof, Logged, Open, Family, End}
+use Rattle.rule_table.specs.Text.{Item, Number, Pool, Costs, State, Entry, Left, Right, Mask, Proof, Logged, Open, Family, End}
 use Rattle.rule_table.specs.Valid.{IsState, IsInstr, IsMask}
 
 -- what a line says lies in its limits
 abbrev pub IsItem : Item → Type 0
 IsItem (Number field n) = IsWithin field n
 IsItem (Pool ns) = is_pool ns ≡ true
+IsItem (Costs ns) = AreCosts ns
 IsItem (State s) = IsState s
 IsItem Entry = Unit {0}
 IsItem (Left i) = IsInstr i

@@ -9,6 +9,7 @@ pub mod Grammar
 pub mod Refused
 pub mod Reading
 pub mod Fronts
+pub mod Words
 pub mod Digits
 pub mod Steps
 pub mod ItemView

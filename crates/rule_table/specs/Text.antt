@@ -1,5 +1,5 @@
 -- The text of a table: its lines in order, each with a newline at its end.
-use Rattle.std.specs.Prelude.{ℕ, zero, suc, ◌+◌, ◌/◌, ◌%◌, List, [], ◌∷◌, ◌++◌, map, codes, decimal, nat_lt, None, if◌then◌else◌}
+use Rattle.std.specs.Prelude.{ℕ, zero, suc, ◌+◌, ◌/◌, ◌%◌, List, [], ◌∷◌, ◌++◌, map, codes, decimal, nat_lt, Option, Some, None, if◌then◌else◌}
 use Rattle.std.specs.List.{flat_map}
 use Rattle.thumb_instr.specs.declared.instr.Instr.{Instr}
 use Rattle.thumb_instr.specs.Items.{has}
@@ -43,6 +43,7 @@ mask_text m = flat_map (λ (r : ℕ × List ℕ). named m r.0 r.1) mask_rows
 pub data Item : Type 0 where
   Number : Field → ℕ → Item
   Pool : List ℕ → Item
+  Costs : List ℕ → Item
   State : Seen → Item
   Entry : Item
   Left : Instr → Item
@@ -62,6 +63,7 @@ after_blanks words = flat_map (λ w. 32 ∷ w) words
 abbrev pub line_of : Item → List ℕ
 line_of (Number field n) = (row field).word ++ decimal n
 line_of (Pool ns) = codes "pool" ++ after_blanks (map decimal ns)
+line_of (Costs ns) = codes "costs" ++ after_blanks (map decimal ns)
 line_of (State s) = codes "state" ++ (after_blanks (map (hex_of 8) s.r) ++ 32 ∷ hex_of 1 s.nzcv)
 line_of Entry = codes "entry"
 line_of (Left i) = codes "left " ++ instr_text i
@@ -87,10 +89,16 @@ rule_items r = Entry ∷ (map Left r.left ++ (map Right r.right ++ Mask r.mask �
 abbrev pub family_items : Raised → List Item
 family_items f = Family f.entry f.number f.low f.high ∷ Proof ∷ map Logged f.proof
 
+-- the numbers of costs; none where there are no costs
+abbrev pub cost_numbers : Option (List ℕ) → List ℕ
+cost_numbers None = []
+cost_numbers (Some ns) = ns
+
 -- what a line of a header says
 abbrev pub said : Header → Head → Item
 said h (head.Number field) = Number field (number_in h field)
 said h head.Pool = Pool h.pool
+said h head.Costs = Costs (cost_numbers h.costs)
 
 -- the line, where the header's version has it
 abbrev pub line_items : Header → Head → List Item

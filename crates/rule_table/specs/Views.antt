@@ -15,10 +15,10 @@ abbrev pub row_of : line.Row → Row
 row_of r = record { word = r.word.now; least = r.least; greatest = r.greatest }
 
 abbrev pub header_of : heading.Header → Header
-header_of h = record { version = h.version; regs = h.regs; left = h.left; seed = h.seed; budget = h.budget; pool = h.pool; scratch = h.scratch }
+header_of h = record { version = h.version; regs = h.regs; left = h.left; seed = h.seed; budget = h.budget; pool = h.pool; scratch = h.scratch; costs = h.costs }
 
 abbrev pub header_in : code.Table → Header
-header_in t = record { version = t.version; regs = t.regs; left = t.left; seed = t.seed; budget = t.budget; pool = t.pool; scratch = t.scratch }
+header_in t = record { version = t.version; regs = t.regs; left = t.left; seed = t.seed; budget = t.budget; pool = t.pool; scratch = t.scratch; costs = t.costs }
 
 abbrev pub opened_of : opening.Open → Opened
 opened_of o = record { number = o.number; log = map content_of o.log.items }

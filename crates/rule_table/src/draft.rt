@@ -66,6 +66,7 @@ fn blank(alloc: Global) -> Table
         budget: 1,
         pool,
         scratch: 0,
+        costs: None,
         states: States::new(Vec::new(alloc)),
         entries: Vec::new(alloc),
         families: Vec::new(alloc),
@@ -106,6 +107,13 @@ fn hear(table: &mut Table, line: Head, item: Item) -> bool
         Head::Pool => match item {
             Item::Pool(pool) => {
                 table.pool = pool;
+                true
+            }
+            _ => false,
+        },
+        Head::Costs => match item {
+            Item::Costs(costs) => {
+                table.costs = Some(costs);
                 true
             }
             _ => false,

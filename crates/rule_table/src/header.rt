@@ -4,11 +4,12 @@ ghost use Rattle.std.specs.Prelude.{◌≡◌};
 ghost use Rattle.rule_table.specs.Header.{due_in, has_families, has_line, heads, is_same, row, since};
 ghost use Rattle.rule_table.specs.Views.{row_of};
 
-use seq_enum::Pool;
+use seq_enum::{Costs, Pool};
 
-/// What the first lines of a table say: its version (1 to 3), how many registers (1 to 4) and instructions (1 to 5) left sides have at most,
-/// the seed of the first states, how many clauses a query may learn (1 to 1,000,000), the pool of the alphabet's numbers, and how many
-/// registers a right side may name that its left side doesn't (0 or 1; 0 in version 1).
+/// What the first lines of a table say: its version (1 to 4), how many registers (1 to 4) and instructions (1 to 5) left sides have at most,
+/// the seed of the first states, how many clauses a query may learn (1 to 1,000,000), the pool of the alphabet's numbers, how many registers
+/// a right side may name that its left side doesn't (0 or 1; 0 in version 1), and what instructions cost (in version 4 alone; in the others
+/// each costs 1).
 #[derive(Drop)]
 pub struct Header {
     pub version: u8,
@@ -18,6 +19,7 @@ pub struct Header {
     pub budget: u32,
     pub pool: Pool,
     pub scratch: u8,
+    pub costs: Option<Costs>,
 }
 
 /// A number of the header.
@@ -43,10 +45,11 @@ pub(crate) fn is_same(a: Field, b: Field) -> bool
 pub enum Head {
     Number(Field),
     Pool,
+    Costs,
 }
 
 /// The lines of the header, in order.
-static HEADS: [Head; 7] = [
+static HEADS: [Head; 8] = [
     Head::Number(Field::Version),
     Head::Number(Field::Regs),
     Head::Number(Field::Left),
@@ -54,6 +57,7 @@ static HEADS: [Head; 7] = [
     Head::Number(Field::Budget),
     Head::Pool,
     Head::Number(Field::Scratch),
+    Head::Costs,
 ];
 
 pub(crate) fn heads() -> &'static [Head]
@@ -68,6 +72,7 @@ fn since(line: Head) -> u8
 {
     match line {
         Head::Number(Field::Scratch) => 2,
+        Head::Costs => 4,
         _ => 1,
     }
 }
@@ -128,7 +133,7 @@ impl Row {
         ensures { row_of result ≡ row field }
     {
         match field {
-            Field::Version => Row::new(b"peep ", 1, 3),
+            Field::Version => Row::new(b"peep ", 1, 4),
             Field::Regs => Row::new(b"regs ", 1, 4),
             Field::Left => Row::new(b"left ", 1, 5),
             Field::Seed => Row::new(b"seed ", 0, u32::MAX),

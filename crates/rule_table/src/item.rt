@@ -1,7 +1,7 @@
 //! What one line of a table says. A table is read as a list of such items, whose order is checked apart from their texts.
 use crate::header::Field;
 use lrat_check::Line;
-use seq_enum::Pool;
+use seq_enum::{Costs, Pool};
 use thumb_instr::{Instr, Mask};
 use window_exec::WState;
 
@@ -10,6 +10,7 @@ use window_exec::WState;
 pub(crate) enum Item {
     Number(Field, u32),
     Pool(Pool),
+    Costs(Costs),
     State(WState),
     Entry,
     Left(Instr),

@@ -2,13 +2,14 @@
 //! zeros, instructions in canonical text over r0 to r3.
 //!
 //! ```text
-//! peep N                   the version, 1 to 3
+//! peep N                   the version, 1 to 4
 //! regs N                   1 to 4
 //! left N                   1 to 5
 //! seed N                   below 2^32
 //! budget N                 1 to 1,000,000
 //! pool N ..                1 to 16 numbers from 0 to 255, ascending
 //! scratch N                0 or 1; from version 2 on
+//! costs N ..               28 numbers from 1 to 64; in version 4 alone
 //! state R0 R1 R2 R3 F      any number of them: eight hexadecimal digits each and one for the flags, in lower case
 //! entry                    any number of entries, each these lines:
 //! left INSTRUCTION         1 to 5

@@ -101,11 +101,11 @@ fn write_words(out: &mut Vec<u8>, words: &[u32]) -> Result<(), AllocError>
     Ok(())
 }
 
-/// The numbers of a pool.
-pub(crate) fn write_pool(out: &mut Vec<u8>, numbers: &[u8]) -> Result<(), AllocError>
-    ensures { OnOk result (out.new.items ≡ out.old.items ++ (line_of (item.Pool numbers.entry.now) ++ 10 ∷ [])) }
+/// A word, numbers each behind a blank, and a newline.
+pub(crate) fn write_list(out: &mut Vec<u8>, word: &[u8], numbers: &[u8]) -> Result<(), AllocError>
+    ensures { OnOk result (out.new.items ≡ out.old.items ++ ((word.entry.now ++ after_blanks (map decimal numbers.entry.now)) ++ 10 ∷ [])) }
 {
-    out.extend_from_slice(b"pool")?;
+    out.extend_from_slice(word)?;
     write_numbers(out, numbers)?;
     out.push(b'\n')?;
     Ok(())

@@ -1,10 +1,12 @@
 //! Numbers of lines, each read exactly as it is written.
-ghost use Rattle.std.specs.Prelude.{◌≡◌, ℕ, List, [], ◌∷◌, ◌++◌, ◌<◌, ◌≤◌, ◌^◌, map, decimal, All, MatchOption, IfOk, IfSome, IsSome, IsTrue, ◌↔◌, ◌==◌, length};
+ghost use Rattle.std.specs.Prelude.{◌≡◌, ℕ, List, [], ◌∷◌, ◌++◌, ◌<◌, ◌≤◌, ◌^◌, map, decimal, MatchOption, IfOk, IfSome, IsSome, IsTrue, ◌↔◌, ◌==◌, length};
 ghost use Rattle.std.specs.List.{slice_split};
 ghost use Rattle.lrat_check.specs.Reading.{all_now};
-ghost use Rattle.rule_table.specs.Text.{hex_of};
+ghost use Rattle.rule_table.specs.Text.{after_blanks, hex_of};
+ghost use Rattle.rule_table.specs.Words.{AreBytes, AreWords};
 ghost use Rattle.rule_table.specs.Digits.{digit_value, pair_text};
 
+use crate::words::strip;
 use arrayvec::ArrayVec;
 use itoa::Buffer;
 use std::alloc::{AllocError, Global};
@@ -51,17 +53,30 @@ pub(crate) fn number_within(word: &[u8], least: u64, most: u64) -> Option<u64>
 }
 
 /// The parts between blanks.
-pub(crate) fn words_in(alloc: Global, bytes: &[u8]) -> Result<Vec<&[u8]>, AllocError>
-    ensures { IfOk result (λ words. all_now words.items ≡ slice_split (λ b. b == 32) bytes.entry.now) }
+fn parts_of(alloc: Global, bytes: &[u8]) -> Result<Vec<&[u8]>, AllocError>
+    ensures { IfOk result (λ parts. all_now parts.items ≡ slice_split (λ b. b == 32) bytes.entry.now) }
 {
     bytes.split(|b| *b == b' ').collect(alloc)
 }
 
-/// The numbers of at most 16 words, each a byte.
-pub(crate) fn bytes_of(words: &[&[u8]]) -> Option<ArrayVec<u8, 16>>
-    ensures { MatchOption result ((ns : List ℕ) → length ns ≤ 16 → All (λ n. n ≤ 255) ns → map decimal ns ≡ all_now words.entry.now → ⊥) (λ v. All (λ n. n ≤ 255) v.items × (map decimal v.items ≡ all_now words.entry.now)) }
+/// The words of bytes in which a blank stands before each word, and at least one does.
+pub(crate) fn words_in(alloc: Global, bytes: &[u8]) -> Result<Option<Vec<&[u8]>>, AllocError>
+    ensures { IfOk result (λ r. MatchOption r ((words : List (List ℕ)) → AreWords bytes.entry.now words → ⊥) (λ words. AreWords bytes.entry.now (all_now words.items))) }
 {
-    if words.len() > 16 {
+    match strip(b" ", bytes) {
+        None => Ok(None),
+        Some(rest) => {
+            let words = parts_of(alloc, rest)?;
+            Ok(Some(words))
+        }
+    }
+}
+
+/// The numbers of at most 28 words, each a byte.
+fn bytes_of(words: &[&[u8]]) -> Option<ArrayVec<u8, 28>>
+    ensures { MatchOption result ((ns : List ℕ) → AreBytes ns → map decimal ns ≡ all_now words.entry.now → ⊥) (λ v. AreBytes v.items × (map decimal v.items ≡ all_now words.entry.now)) }
+{
+    if words.len() > 28 {
         return None;
     }
     let mut bytes = ArrayVec::new();
@@ -72,6 +87,16 @@ pub(crate) fn bytes_of(words: &[&[u8]]) -> Option<ArrayVec<u8, 16>>
         }
     }
     Some(bytes)
+}
+
+/// The numbers that the bytes are, with a blank before each: 1 to 28, each a byte.
+pub(crate) fn bytes_in(alloc: Global, bytes: &[u8]) -> Result<Option<ArrayVec<u8, 28>>, AllocError>
+    ensures { IfOk result (λ r. MatchOption r ((ns : List ℕ) → AreBytes ns → 0 < length ns → after_blanks (map decimal ns) ≡ bytes.now → ⊥) (λ v. AreBytes v.items × (after_blanks (map decimal v.items) ≡ bytes.now))) }
+{
+    match words_in(alloc, bytes)? {
+        None => Ok(None),
+        Some(words) => Ok(bytes_of(&words)),
+    }
 }
 
 /// The number of the first word, of 32 bits, and the words behind it.

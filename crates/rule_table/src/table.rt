@@ -5,7 +5,7 @@ ghost use Rattle.rule_table.specs.Views.{family_of, header_of, rule_of, table_of
 
 use crate::header::Header;
 use lrat_check::Line;
-use seq_enum::Pool;
+use seq_enum::{Costs, Pool};
 use thumb_instr::{Mask, Seq};
 use window_exec::States;
 
@@ -16,8 +16,8 @@ pub struct Open {
     pub log: Vec<Line>,
 }
 
-/// A rule: under the mask the right side leaves the same as the left side, by the proof. The open sequences are shorter than the right side
-/// and not shown to differ.
+/// A rule: under the mask the right side leaves the same as the left side, by the proof. The open sequences are shorter than the right side,
+/// or where the table has costs cheaper, and not shown to differ.
 #[derive(Drop)]
 pub struct Entry {
     pub left: Seq,
@@ -52,6 +52,8 @@ pub struct Table {
     pub budget: u32,
     pub pool: Pool,
     pub scratch: u8,
+    /// In version 4 alone.
+    pub costs: Option<Costs>,
     pub states: States,
     pub entries: Vec<Entry>,
     /// None before version 3.
@@ -71,6 +73,7 @@ impl Table {
             budget: header.budget,
             pool: header.pool,
             scratch: header.scratch,
+            costs: header.costs,
             states,
             entries,
             families,
@@ -89,6 +92,7 @@ impl Table {
             budget: self.budget,
             pool: self.pool,
             scratch: self.scratch,
+            costs: self.costs,
         };
         (header, self.states, self.entries, self.families)
     }

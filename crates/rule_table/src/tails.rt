@@ -4,6 +4,7 @@ ghost use Rattle.std.specs.List.{list_all};
 ghost use Rattle.thumb_instr.specs.Items.{has as has_item, one_of};
 ghost use Rattle.thumb_instr.specs.declared.instr.Instr.{Instr};
 ghost use Rattle.seq_enum.specs.Pools.{is_pool};
+ghost use Rattle.seq_enum.specs.Costs.{AreCosts};
 ghost use Rattle.window_exec.specs.State.{seen};
 ghost use Rattle.window_exec.specs.Seen.{Seen};
 ghost use Rattle.rule_table.specs.Text.{after_blanks, instr_text, mask_rows, mask_text, State, Family};
@@ -13,9 +14,9 @@ ghost use Rattle.lrat_check.specs.Reading.{all_now};
 ghost use Rattle.rule_table.specs.Fronts.{strip, is_taken, left_of, taken, tail_of};
 ghost use Rattle.rule_table.specs.MaskView.{row_of};
 
-use crate::numbers::{blank_digit, blank_words, bytes_of, first_number, words_in};
+use crate::numbers::{blank_digit, blank_words, bytes_in, first_number, words_in};
 use crate::words::strip;
-use seq_enum::Pool;
+use seq_enum::{Costs, Pool};
 use std::alloc::{AllocError, Global};
 use thumb_instr::{Instr, Items, Low, Mask, in_window, registers_of};
 use thumb_syntax::{Parsed, read_instr, write_instr};
@@ -25,16 +26,19 @@ use window_exec::WState;
 pub(crate) fn pool(alloc: Global, tail: &[u8]) -> Result<Option<Pool>, AllocError>
     ensures { IfOk result (λ r. MatchOption r ((ns : List ℕ) → is_pool ns ≡ true → after_blanks (map decimal ns) ≡ tail.now → ⊥) (λ p. (is_pool p ≡ true) × (after_blanks (map decimal p) ≡ tail.now))) }
 {
-    let Some((first, rest)) = tail.split_first() else {
-        return Ok(None);
-    };
-    if *first != b' ' {
-        return Ok(None);
-    }
-    let words = words_in(alloc, rest)?;
-    match bytes_of(&words) {
+    match bytes_in(alloc, tail)? {
         None => Ok(None),
         Some(numbers) => Ok(Pool::new(&numbers)),
+    }
+}
+
+/// The costs of instructions, each behind a blank.
+pub(crate) fn costs(alloc: Global, tail: &[u8]) -> Result<Option<Costs>, AllocError>
+    ensures { IfOk result (λ r. MatchOption r ((ns : List ℕ) → AreCosts ns → after_blanks (map decimal ns) ≡ tail.now → ⊥) (λ c. AreCosts c × (after_blanks (map decimal c) ≡ tail.now))) }
+{
+    match bytes_in(alloc, tail)? {
+        None => Ok(None),
+        Some(numbers) => Ok(Costs::new(&numbers)),
     }
 }
 
@@ -100,14 +104,10 @@ pub(crate) fn family(alloc: Global, tail: &[u8]) -> Result<Option<Raised>, Alloc
     ensures { IfOk result (λ r. MatchOption r ((entry number low high : ℕ) → IsItem (Family entry number low high) → tail_of (Family entry number low high) ≡ tail.now → ⊥)
         (λ r. IsItem (Family r.entry r.number r.low r.high) × (tail_of (Family r.entry r.number r.low r.high) ≡ tail.now))) }
 {
-    let Some((first, rest)) = tail.split_first() else {
-        return Ok(None);
-    };
-    if *first != b' ' {
-        return Ok(None);
+    match words_in(alloc, tail)? {
+        None => Ok(None),
+        Some(words) => Ok(raised_of(&words)),
     }
-    let words = words_in(alloc, rest)?;
-    Ok(raised_of(&words))
 }
 
 /// An item of masks, as it is written.

@@ -7,7 +7,7 @@ ghost use Rattle.rule_table.specs.declared.words.Word.TheVariants as word;
 use crate::header::{Field, Head, Row};
 use crate::item::Item;
 use crate::numbers::{number, number_within};
-use crate::tails::{family, instruction, mask, pool, state};
+use crate::tails::{costs, family, instruction, mask, pool, state};
 use crate::words::{Word, front};
 use lrat_check::read_line;
 use std::alloc::{AllocError, Global};
@@ -51,6 +51,15 @@ fn pool_line(alloc: Global, tail: &[u8]) -> Result<Option<Item>, AllocError>
     match pool(alloc, tail)? {
         None => Ok(None),
         Some(pool) => Ok(Some(Item::Pool(pool))),
+    }
+}
+
+fn costs_line(alloc: Global, tail: &[u8]) -> Result<Option<Item>, AllocError>
+    ensures { IfOk result (Tells (word.Head head.Costs) tail.now) }
+{
+    match costs(alloc, tail)? {
+        None => Ok(None),
+        Some(costs) => Ok(Some(Item::Costs(costs))),
     }
 }
 
@@ -111,6 +120,7 @@ fn told(alloc: Global, word: Word, tail: &[u8]) -> Result<Option<Item>, AllocErr
     match word {
         Word::Head(Head::Number(field)) => numbered(alloc, field, tail),
         Word::Head(Head::Pool) => pool_line(alloc, tail),
+        Word::Head(Head::Costs) => costs_line(alloc, tail),
         Word::State => Ok(state_line(tail)),
         Word::Entry => Ok(alone(tail, Item::Entry)),
         Word::Right => right(alloc, tail),

@@ -20,7 +20,7 @@ pub(crate) enum Word {
 }
 
 /// All words but the digits.
-static WORDS: [Word; 15] = [
+static WORDS: [Word; 16] = [
     Word::Head(Head::Number(Field::Version)),
     Word::Head(Head::Number(Field::Regs)),
     Word::Head(Head::Number(Field::Left)),
@@ -28,6 +28,7 @@ static WORDS: [Word; 15] = [
     Word::Head(Head::Number(Field::Budget)),
     Word::Head(Head::Pool),
     Word::Head(Head::Number(Field::Scratch)),
+    Word::Head(Head::Costs),
     Word::State,
     Word::Entry,
     Word::Right,
@@ -52,6 +53,7 @@ fn word_text(word: Word) -> &'static [u8]
     match word {
         Word::Head(Head::Number(field)) => Row::of(field).word,
         Word::Head(Head::Pool) => b"pool",
+        Word::Head(Head::Costs) => b"costs",
         Word::State => b"state",
         Word::Entry => b"entry",
         Word::Right => b"right ",

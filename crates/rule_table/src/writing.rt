@@ -3,18 +3,19 @@ ghost use Rattle.std.specs.Prelude.{◌≡◌, ◌++◌, ◌∷◌, [], codes, O
 ghost use Rattle.std.specs.List.{flat_map};
 ghost use Rattle.lrat_check.specs.Content.{content_of};
 ghost use Rattle.window_exec.specs.State.{seen};
-ghost use Rattle.rule_table.specs.Text.{text_of_items, text_of, line_items, header_items, rule_items, open_items, family_items};
+ghost use Rattle.rule_table.specs.Text.{cost_numbers, text_of_items, text_of, line_items, header_items, rule_items, open_items, family_items};
 ghost use Rattle.rule_table.specs.Text as item;
 ghost use Rattle.rule_table.specs.Views.{header_in, table_of, rule_of, opened_of, family_of};
 ghost use Rattle.rule_table.specs.Header.{number_in};
 
 use crate::header::{Field, Head, Row, has_line, heads};
 use crate::lines::{
-    write_family_line, write_instruction, write_logged, write_mask, write_number, write_pool,
+    write_family_line, write_instruction, write_list, write_logged, write_mask, write_number,
     write_state,
 };
 use crate::table::{Entry, Family, Open, Table};
 use lrat_check::Line;
+use seq_enum::Costs;
 use std::alloc::{AllocError, Global};
 use thumb_instr::Instr;
 use window_exec::WState;
@@ -46,6 +47,16 @@ fn number_in(table: &Table, field: Field) -> u32
     }
 }
 
+/// The numbers of costs; none where there are no costs.
+fn cost_numbers(costs: &Option<Costs>) -> &[u8]
+    ensures { result.now ≡ cost_numbers costs.now }
+{
+    match costs {
+        None => &[],
+        Some(costs) => costs.numbers(),
+    }
+}
+
 /// A line of a table's header, where the table's version has it.
 fn write_head(out: &mut Vec<u8>, table: &Table, line: Head) -> Result<(), AllocError>
     ensures { OnOk result (out.new.items ≡ out.old.items ++ text_of_items (line_items (header_in table.now) line)) }
@@ -59,7 +70,8 @@ fn write_head(out: &mut Vec<u8>, table: &Table, line: Head) -> Result<(), AllocE
             Row::of(field).word,
             u64::from(number_in(table, field)),
         ),
-        Head::Pool => write_pool(out, table.pool.numbers()),
+        Head::Pool => write_list(out, b"pool", table.pool.numbers()),
+        Head::Costs => write_list(out, b"costs", cost_numbers(&table.costs)),
     }
 }
 

@@ -14,6 +14,6 @@ stops_reading : {X : Type 0} (P : X → Type 0) (f : X → List ℕ) (words : Li
 stops_reading P f words i w b e n xs h m = read_stops P f xs i w h (rw m b) (rw m e) n
 
 pub returns-in-None : goal.returns-in-None
-returns-in-None c = λ ns few small e.
+returns-in-None c = λ ns bytes e.
     stops_reading (λ (n : ℕ). n ≤ 255) decimal (map (λ w. w.now) c.args.words.now) c.loop-word.word-index _
-    (rw length-map c.loop-word-test.true) (get_or-map (λ w. w.now) c.args.words.now c.loop-word.word-index _ _ c.loop-word-test.true) (λ n h k. c.in-None.ensures n (omega arith) h k) ns small e
+    (rw length-map c.loop-word-test.true) (get_or-map (λ w. w.now) c.args.words.now c.loop-word.word-index _ _ c.loop-word-test.true) (λ n h k. c.in-None.ensures n (omega arith) h k) ns bytes.each e

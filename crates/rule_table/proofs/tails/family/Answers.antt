@@ -1,19 +1,17 @@
-use Rattle.std.proofs.Common.{◌≡◌, ◌∙◌, ◌∷◌, ap, sym, arith, length}
+use Rattle.std.proofs.Common.{[], ◌∷◌, map, subst, sym}
+use Rattle.std.specs.Prelude.{decimal}
 use Rattle.lrat_check.specs.Reading.{all_now}
+use Rattle.rule_table.specs.Words.{AreWords}
 use Rattle.rule_table.proofs.FamilyTexts.{family_words, made_family}
 use Rattle.rule_table.proofs.tails.family.Goals as goal
 
-pub returns-in_default : goal.returns-in_default
-returns-in_default c = λ entry number low high h e. let found = family_words c.args.tail.now entry number low high h e in omega (arith, c.in_default.ensures.cases, ap length found.is)
+pub returns-in-None : goal.returns-in-None
+returns-in-None c = λ entry number low high is e.
+    let none = rw c.in-None.is at c.in_ok-words_in.ensures in
+    none (map decimal (entry ∷ number ∷ low ∷ high ∷ [])) (family_words c.args.tail.now entry number low high is e)
 
-pub returns-then-first-ne32 : goal.returns-then-first-ne32
-returns-then-first-ne32 c = λ entry number low high h e.
-    let found = family_words c.args.tail.now entry number low high h e in
-    let same : c.in-Some.first.now ∷ c.in-Some.rest.now ≡ 32 ∷ found.rest = sym c.in-Some.ensures.cases.0 ∙ found.is in
-    let first : c.in-Some.first.now ≡ 32 = cc in
-    c.if-first-ne32.true first
-
-pub returns : goal.returns
-returns c =
-    let tail = c.in-Some.ensures.cases.0 ∙ ap (λ a. a ∷ c.in-Some.rest.now) c.if-first-ne32.false in
-    made_family c.args.tail.now c.in-Some.rest.now (all_now c.deref.result.now) c.raised_of.result tail (ap all_now c.deref.ensures.value ∙ c.in_ok-words.ensures) c.raised_of.ensures
+pub returns-in-Some : goal.returns-in-Some
+returns-in-Some c =
+    let words = rw c.in-Some.is at c.in_ok-words_in.ensures in
+    made_family c.args.tail.now (all_now c.deref.result.now) c.raised_of.result
+    (subst (λ ws. AreWords c.args.tail.now (all_now ws)) (sym c.deref.ensures.value) words) c.raised_of.ensures
