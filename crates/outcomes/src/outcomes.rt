@@ -69,6 +69,15 @@ impl Outcomes {
         self.k
     }
 
+    /// The instructions of the alphabet, in order.
+    pub fn letters(&self) -> &[Instr]
+        ensures value { result.now ≡ self.now.letters }
+        ensures some { 0 < length result.now }
+        ensures few { length result.now ≤ 1952 }
+    {
+        &self.letters
+    }
+
     /// Adds the sequences of at most `longest` instructions, with a step for each, where they aren't there yet.
     pub fn grow<L: Ledger>(
         &mut self,

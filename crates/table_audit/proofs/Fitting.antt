@@ -87,8 +87,9 @@ fits t e k registers short o is these = (forth, back)
           left = v.left;
           right = v.right;
           no_longer = v.no_longer;
+          no_dearer = v.no_dearer;
           mask = v.mask;
         }
 
     back : SidesFit t e → AreWithin t e k registers
-    back f = subst (λ j. AreWithin t e j registers) (sym is) (subst (AreWithin t e (named_count e.left)) (sym these) (record { short = f.short; few = f.few; left = f.left; right = f.right; no_longer = f.no_longer; mask = f.mask }))
+    back f = subst (λ j. AreWithin t e j registers) (sym is) (subst (AreWithin t e (named_count e.left)) (sym these) (record { short = f.short; few = f.few; left = f.left; right = f.right; no_longer = f.no_longer; no_dearer = f.no_dearer; mask = f.mask }))

@@ -1,10 +1,11 @@
 -- A table with one family more is accepted where the family is, and nothing that the audit says of a family looks at a table's version.
 use Rattle.std.proofs.Common.{◌≡◌, ℕ, ◌+◌, List, [], ◌∷◌, ◌++◌, Option, None, length, subst, arith}
+use Rattle.thumb_instr.specs.declared.instr.Instr.{Instr}
 use Rattle.rule_table.specs.Table.{Opened, Rule, Family, Table}
 use Rattle.proof_logs.specs.Verdicts.{InTurn}
 use Rattle.table_audit.specs.declared.errors.AuditError.{AuditError}
 use Rattle.table_audit.specs.Sides.{SidesFit}
-use Rattle.table_audit.specs.Acceptance.{IsRightlyOpen, OpenTest, EntryVerdict, FamilyVerdict, TableVerdict}
+use Rattle.table_audit.specs.Acceptance.{IsUntold, IsRightlyOpen, OpenTest, EntryVerdict, FamilyVerdict, TableVerdict}
 
 -- ---- elements in turn that pass ----
 
@@ -25,15 +26,18 @@ abbrev with_families : Table → List Family → Table
 with_families t families = record t { families = families }
 
 fits : (t : Table) (families : List Family) (e : Rule) → SidesFit t e → SidesFit (with_families t families) e
-fits t families e h = record { canonical = h.canonical; short = h.short; few = h.few; left = h.left; right = h.right; no_longer = h.no_longer; mask = h.mask }
+fits t families e h = record { canonical = h.canonical; short = h.short; few = h.few; left = h.left; right = h.right; no_longer = h.no_longer; no_dearer = h.no_dearer; mask = h.mask }
 
 stays_open : (t : Table) (families : List Family) (e : Rule) (o : Opened) → IsRightlyOpen t e o → IsRightlyOpen (with_families t families) e o
 stays_open t families e o h = record { seq = h.seq; below = h.below; untold = h.untold; spent = h.spent }
 
+stays_untold : (t : Table) (families : List Family) (e : Rule) (q : ℕ) (seq : List Instr) → IsUntold (with_families t families) e q seq → IsUntold t e q seq
+stays_untold t families e q seq h = record { below = h.below; unnamed = h.unnamed; untold = h.untold }
+
 entry_passes : (t : Table) (families : List Family) (n : ℕ) (e : Rule) → EntryVerdict t n e None → EntryVerdict (with_families t families) n e None
 unfolding EntryVerdict
 entry_passes t families n e h =
-    (fits t families e h.0, (h.1.0, (h.1.1.0, all_pass (OpenTest t n e) (OpenTest (with_families t families) n e) (λ i o. stays_open t families e o) 0 e.opens h.1.1.1)))
+    (fits t families e h.0, (h.1.0, (λ q seq u. h.1.1.0 q seq (stays_untold t families e q seq u), all_pass (OpenTest t n e) (OpenTest (with_families t families) n e) (λ i o. stays_open t families e o) 0 e.opens h.1.1.1)))
 
 family_passes : (t : Table) (families : List Family) (n : ℕ) (f : Family) (o : Option AuditError) → FamilyVerdict t n f o → FamilyVerdict (with_families t families) n f o
 unfolding FamilyVerdict

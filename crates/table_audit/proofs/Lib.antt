@@ -15,5 +15,9 @@ pub mod Sound
 pub mod Determined
 pub mod OneToOne
 pub mod CanonicalForms
+pub mod Below
+pub mod Gathering
 pub mod Settling
+pub mod Covering
+pub mod Limits
 pub mod Growing

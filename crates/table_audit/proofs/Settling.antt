@@ -1,13 +1,11 @@
--- Candidates, one after the other, until one isn't settled.
-use Rattle.std.proofs.Common.{◌≡◌, ℕ, zero, suc, ◌+◌, ◌-◌, ◌*◌, ◌<◌, ◌≤◌, ◌⊎◌, inl, inr, true, List, [], ◌∷◌, Option, Some, None, Contains, drop, length, map, get_or, slice_get, refl, sym, ◌∙◌, ap, subst, arith, nat_le}
+-- Numbers, one after the other: the first untold sequence so far.
+use Rattle.std.proofs.Common.{◌≡◌, ℕ, zero, suc, ◌+◌, ◌<◌, ◌≤◌, ◌⊎◌, inl, inr, true, List, [], ◌∷◌, Option, Some, None, Contains, MatchOption, drop, length, map, get_or, slice_get, refl, sym, ◌∙◌, ap, subst, arith}
 use Rattle.std.proofs.Math.Seq.{drop-cons}
-use Rattle.std.proofs.Math.Nat.{mul-le-mul_right}
-use Rattle.std.proofs.lemmas.Bool.{and_parts, leb-true}
+use Rattle.std.proofs.lemmas.Bool.{cases_lt}
 use Rattle.std.proofs.lemmas.List.{drop_all}
 use Rattle.std.proofs.lemmas.List.Elements.{Contains-get_or}
 use Rattle.std.proofs.lemmas.Option.{same_Some}
 use Rattle.thumb_instr.specs.declared.instr.Instr.{Instr}
-use Rattle.thumb_instr.specs.Items.{has, is_in_masks}
 use Rattle.window_exec.specs.declared.state.WState.{WState}
 use Rattle.window_exec.specs.State.{seen}
 use Rattle.window_exec.specs.Seen.{Seen}
@@ -16,57 +14,45 @@ use Rattle.seq_enum.specs.Alphabet.{alphabet, sequences, sequences_of}
 use Rattle.outcomes.specs.declared.trials.Trial.{Trial}
 use Rattle.outcomes.specs.Trials.{AreTrials, start_of}
 use Rattle.outcomes.specs.Outcomes as table
-use Rattle.outcomes.specs.Outcomes.{Extent, added}
-use Rattle.outcomes.specs.Candidates.{AreCandidates, BeginsAt, grown_for, added_for}
-use Rattle.outcomes.proofs.Choosing.{told_or_candidate, few_added}
-use Rattle.proof_logs.specs.Verdicts.{InTurn}
+use Rattle.outcomes.specs.Outcomes.{Extent}
+use Rattle.outcomes.specs.Candidates.{BeginsAt, grown_for}
+use Rattle.outcomes.specs.Tables.{IsFor}
 use Rattle.rule_table.specs.Table.{Rule, Table}
 use Rattle.table_audit.specs.declared.errors.EntryFault.TheVariants.{Untold}
 use Rattle.table_audit.specs.declared.errors.AuditError.TheVariants.{Entry}
 use Rattle.table_audit.specs.Sides.{alphabet_registers}
-use Rattle.table_audit.specs.Shorter.{sequences_below, shorter, IsTold, is_named}
+use Rattle.table_audit.specs.Shorter.{sequences_below, weight_in}
 use Rattle.table_audit.specs.Naming.{first_of}
-use Rattle.table_audit.specs.Acceptance.{ToldTest, ToldVerdict}
+use Rattle.table_audit.specs.Lighter.{IsWithin, CoverUntold}
+use Rattle.table_audit.specs.Acceptance.{IsUntold, IsFirstUntold, ToldVerdict}
 use Rattle.table_audit.proofs.Numbering.{below_in}
-use Rattle.table_audit.proofs.Tellings.{told_is}
+use Rattle.table_audit.proofs.Below.{none_below}
+use Rattle.table_audit.proofs.Upcoming.{ascends_above, ascends_drop}
 use Rattle.table_audit.proofs.Walking.{present_at}
 
--- ---- verdicts in turn ----
+-- ---- the first so far ----
 
--- the first of which the test fails
-pub turn_lowest : {X F : Type 0} (test : ℕ → X → Option F → Type 0) (m : ℕ) (xs : List X) (i : ℕ) (x : X) (f : F) → slice_get xs i ≡ Some x → ((j : ℕ) (y : X) → j < i → slice_get xs j ≡ Some y → test (m + j) y None) → test (m + i) x (Some f) → InTurn test m xs (Some f)
-turn_lowest test m [] i x f at before here = absurd (cc)
-turn_lowest test m (y ∷ xs) zero x f at before here =
-    let none : m + 0 ≡ m = omega arith in
-    inl (subst (λ n. test n y (Some f)) none (subst (λ z. test (m + 0) z (Some f)) (sym (same_Some y x at)) here))
-turn_lowest test m (y ∷ xs) (suc i) x f at before here =
-    let none : m + 0 ≡ m = omega arith in
-    let next : m + suc i ≡ m + 1 + i = omega arith in
-    inr (subst (λ n. test n y None) none (before 0 y (omega arith) refl), turn_lowest test (m + 1) xs i x f at (λ j z low there. let e : m + suc j ≡ m + 1 + j = omega arith in subst (λ n. test n z None) e (before (suc j) z (omega (arith, low)) there)) (subst (λ n. test n x (Some f)) next here))
+-- it comes no later, by weight and then by number
+abbrev pub ComesFirst : (limit number weight q : ℕ) → Type 0
+ComesFirst limit number weight q = (limit < weight) ⊎ ((limit ≡ weight) × (number ≤ q))
 
-pub turn_all : {X F : Type 0} (test : ℕ → X → Option F → Type 0) (m : ℕ) (xs : List X) → ((j : ℕ) (y : X) → slice_get xs j ≡ Some y → test (m + j) y None) → InTurn test m xs None
-turn_all test m [] each = tt
-turn_all test m (y ∷ xs) each =
-    let none : m + 0 ≡ m = omega arith in
-    (subst (λ n. test n y None) none (each 0 y refl), turn_all test (m + 1) xs (λ j z there. let e : m + suc j ≡ m + 1 + j = omega arith in subst (λ n. test n z None) e (each (suc j) z there)))
+-- of the sequences of the numbers before, this one is untold and the first such; the numbers to come are above its own
+pub record IsFirstBefore (t : Table) (e : Rule) (rest : List ℕ) (number limit : ℕ) : Type 0 where
+  pub seq : List Instr
+  pub is : IsUntold t e number seq
+  pub weighs : weight_in t.header seq ≡ limit
+  pub before : (q : ℕ) → Contains rest q → number < q
+  pub first : (q : ℕ) (other : List Instr) → IsUntold t e q other → Contains rest q ⊎ ComesFirst limit number (weight_in t.header other) q
 
--- ---- what is settled ----
+-- where there is none yet, the right side's weight is to be beaten
+abbrev pub SoFar : Table → Rule → List ℕ → Option ℕ → ℕ → Type 0
+SoFar t e rest None limit = (limit ≡ weight_in t.header e.right) × ((q : ℕ) (other : List Instr) → IsUntold t e q other → Contains rest q)
+SoFar t e rest (Some number) limit = IsFirstBefore t e rest number limit
 
--- named open, or told
-abbrev pub Settled : Table → Rule → ℕ → List Instr → Type 0
-Settled t e q seq = (is_named e.opens q ≡ true) ⊎ IsTold t.states e.left seq e.mask
-
--- the sequences that aren't among these candidates are settled
-pub record AllSettledBut (t : Table) (e : Rule) (numbers : List ℕ) : Type 0 where
-  pub each : (q : ℕ) (seq : List Instr) → slice_get (shorter t e) q ≡ Some seq → Contains numbers q ⊎ Settled t e q seq
-
-pub settled_first : (t : Table) (e : Rule) (trials : List Trial) (numbers : List ℕ) → ((x : ℕ) → has e.mask x ≡ true → is_in_masks x ≡ true) → AreTrials e.left t.states trials → AreCandidates (shorter t e) trials e.mask numbers → AllSettledBut t e numbers
-settled_first t e trials numbers in_masks are candidates = record {
-  each = λ q seq at. elim (told_or_candidate (shorter t e) trials e.mask numbers in_masks candidates q seq at) [
-    | inl has ↦ inl has
-    | inr tells ↦ inr (inr ((told_is e.left t.states trials seq e.mask are).0 tells))
-  ];
-}
+-- no sequence is untold that is to come and doesn't beat the limit
+pub record SettledBefore (t : Table) (e : Rule) (numbers : List ℕ) (i : ℕ) (first : Option ℕ) (limit : ℕ) : Type 0 where
+  pub most : limit ≤ weight_in t.header e.right
+  pub so_far : SoFar t e (drop i numbers) first limit
 
 split : (numbers : List ℕ) (i : ℕ) → i < length numbers → drop i numbers ≡ get_or numbers i 0 ∷ drop (i + 1) numbers
 split numbers i low = let one : suc i ≡ i + 1 = omega arith in drop-cons numbers i 0 low ∙ ap (λ n. get_or numbers i 0 ∷ drop n numbers) one
@@ -78,93 +64,180 @@ first_or_later x ys q c = found c.0 c.1 c.2
     found zero low e = inl e
     found (suc k) low e = inr (k, omega (arith, low), e)
 
-pub settled_next : (t : Table) (e : Rule) (numbers : List ℕ) (i : ℕ) → i < length numbers → AllSettledBut t e (drop i numbers) → (here : List Instr) → slice_get (shorter t e) (get_or numbers i 0) ≡ Some here → Settled t e (get_or numbers i 0) here → AllSettledBut t e (drop (i + 1) numbers)
-settled_next t e numbers i low but here stands settled_here = record {
-  each = λ q seq at. elim (but.each q seq at) [
-    | inl has ↦ elim (first_or_later (get_or numbers i 0) (drop (i + 1) numbers) q (subst (λ xs. Contains xs q) (split numbers i low) has)) [
-      | inl is ↦ (
-          let there : slice_get (shorter t e) (get_or numbers i 0) ≡ Some seq = ap (λ n. slice_get (shorter t e) n) is ∙ at in
-          let same : here ≡ seq = same_Some here seq (sym stands ∙ there) in
-          inr (subst (λ n. Settled t e n seq) is (subst (λ w. Settled t e (get_or numbers i 0) w) same settled_here))
-          )
-      | inr later ↦ inl later
-    ]
-    | inr settled ↦ inr settled
-  ];
-}
+-- the sequence of a number that is tried
+module _ (t : Table) (e : Rule) (numbers : List ℕ) (i : ℕ) (low : i < length numbers) (cover : CoverUntold t e numbers) (letters : List Instr) (is : letters ≡ alphabet (alphabet_registers t.header e.left) t.header.pool)
+    (o : Option (List Instr)) (got : o ≡ slice_get (sequences_of letters) (get_or numbers i 0)) where
+  its_within : IsWithin t e (get_or numbers i 0)
+  its_within = cover.within (get_or numbers i 0) (Contains-get_or numbers i 0 low)
 
--- a candidate is the number of a sequence
-pub candidate_low : (seqs : List (List Instr)) (trials : List Trial) (mask : ℕ) (numbers : List ℕ) (i : ℕ) → i < length numbers → AreCandidates seqs trials mask numbers → get_or numbers i 0 < length seqs
-candidate_low seqs trials mask numbers i low are = are.within (get_or numbers i 0) (Contains-get_or numbers i 0 low)
+  its_option : o ≡ Some its_within.seq
+  its_option = got ∙ ap (λ ls. slice_get (sequences_of ls) (get_or numbers i 0)) is ∙ its_within.at
 
-ascends_drop : (low : ℕ) (xs : List ℕ) (i : ℕ) → i < length xs → ascends_from low xs ≡ true → ascends_from (suc (get_or xs i 0)) (drop (i + 1) xs) ≡ true
-unfolding ascends_from
-ascends_drop low [] i h a = absurd (omega (arith, h))
-ascends_drop low (x ∷ xs) zero h a = (and_parts (nat_le low x) (ascends_from (suc x) xs) a).1
-ascends_drop low (x ∷ xs) (suc i) h a =
-    let next : suc (i + 1) ≡ suc i + 1 = omega arith in
-    subst (λ n. ascends_from (suc (get_or xs i 0)) (drop n (x ∷ xs)) ≡ true) next (ascends_drop (suc x) xs i (omega (arith, h)) (and_parts (nat_le low x) (ascends_from (suc x) xs) a).1)
+  pub cover_there : o ≡ None → ⊥
+  cover_there none = let no : None ≡ Some its_within.seq = sym none ∙ its_option in absurd (cc)
 
-ascends_above : (low : ℕ) (xs : List ℕ) (q : ℕ) → ascends_from low xs ≡ true → Contains xs q → low ≤ q
-unfolding ascends_from
-ascends_above low xs q a c = above low xs a c.0 c.1 c.2
-  where
-    above : (low : ℕ) (xs : List ℕ) → ascends_from low xs ≡ true → (k : ℕ) → k < length xs → get_or xs k q ≡ q → low ≤ q
-    above low [] a k h e = absurd (omega (arith, h))
-    above low (x ∷ xs) a zero h e = (let l = leb-true low x (and_parts (nat_le low x) (ascends_from (suc x) xs) a).0 in omega (arith, l, e))
-    above low (x ∷ xs) a (suc k) h e =
-        let parts = and_parts (nat_le low x) (ascends_from (suc x) xs) a in
-        let l = leb-true low x parts.0 in
-        let r = above (suc x) xs parts.1 k (omega (arith, h)) e in
-        omega (arith, l, r)
+  pub cover_at : (seq : List Instr) → o ≡ Some seq → (slice_get (sequences (alphabet_registers t.header e.left) t.header.pool) (get_or numbers i 0) ≡ Some seq) × (length seq ≤ length e.left)
+  cover_at seq e' =
+      let same : its_within.seq ≡ seq = same_Some its_within.seq seq (sym its_option ∙ e') in
+      (its_within.at ∙ ap (λ z. Some z) same, subst (λ (w : List Instr). length w ≤ length e.left) same its_within.no_longer)
 
--- the candidate at which the search stops is the lowest
-pub untold_verdict : (t : Table) (e : Rule) (number : ℕ) (numbers : List ℕ) (i : ℕ) (seq : List Instr) → i < length numbers → ascends_from 0 numbers ≡ true → AllSettledBut t e (drop i numbers) → slice_get (shorter t e) (get_or numbers i 0) ≡ Some seq
-    → (Settled t e (get_or numbers i 0) seq → ⊥) → ToldVerdict t number e (Some (Entry number (Untold (get_or numbers i 0))))
-untold_verdict t e number numbers i seq low ascending but at never =
-    let x : ℕ = get_or numbers i 0 in
-    let zero_on : 0 + x ≡ x = omega arith in
-    turn_lowest (ToldTest t number e) 0 (shorter t e) x seq (Entry number (Untold x)) at
-    (λ j y before there.
-    let same : 0 + j ≡ j = omega arith in
-    elim (but.each j y there) [
-      | inl has ↦ elim (first_or_later x (drop (i + 1) numbers) j (subst (λ xs. Contains xs j) (split numbers i low) has)) [
-        | inl is ↦ absurd (omega (arith, is, before))
-        | inr later ↦ absurd (let l = ascends_above (suc x) (drop (i + 1) numbers) j (ascends_drop 0 numbers i low ascending) later in omega (arith, l, before))
+-- a number's sequence is one
+same_sequence : (t : Table) (e : Rule) (x q : ℕ) (seq other : List Instr) → slice_get (sequences (alphabet_registers t.header e.left) t.header.pool) x ≡ Some seq → x ≡ q → IsUntold t e q other → seq ≡ other
+same_sequence t e x q seq other at is u = same_Some seq other (sym at ∙ ap (slice_get (sequences (alphabet_registers t.header e.left) t.header.pool)) is ∙ u.below.at)
+
+pub settled_start : (t : Table) (e : Rule) (numbers : List ℕ) → CoverUntold t e numbers → SettledBefore t e numbers 0 None (weight_in t.header e.right)
+settled_start t e numbers cover = record { most = omega arith; so_far = (refl, λ q other u. cover.untold q other u) }
+
+module _ (t : Table) (e : Rule) (numbers : List ℕ) (i : ℕ) (low : i < length numbers) (ascending : ascends_from 0 numbers ≡ true) (seq : List Instr)
+    (at : slice_get (sequences (alphabet_registers t.header e.left) t.header.pool) (get_or numbers i 0) ≡ Some seq) where
+  abbrev x : ℕ
+  x = get_or numbers i 0
+
+  abbrev rest : List ℕ
+  rest = drop (i + 1) numbers
+
+  -- the number is x, or one to come
+  this_or_rest : (q : ℕ) → Contains (drop i numbers) q → (x ≡ q) ⊎ Contains rest q
+  this_or_rest q c = first_or_later x rest q (subst (λ xs. Contains xs q) (split numbers i low) c)
+
+  above_this : (q : ℕ) → Contains rest q → x < q
+  above_this q c = (let l = ascends_above (suc x) rest q (ascends_drop 0 numbers i low ascending) c in omega (arith, l))
+
+  in_rest : (q : ℕ) → Contains rest q → Contains (drop i numbers) q
+  in_rest q c = subst (λ xs. Contains xs q) (sym (split numbers i low)) (suc c.0, omega (arith, c.1), c.2)
+
+  this_in : Contains (drop i numbers) x
+  this_in = subst (λ xs. Contains xs x) (sym (split numbers i low)) (0, omega arith, refl)
+
+  -- a sequence that isn't lighter comes no sooner
+  pub settled_heavy : (first : Option ℕ) (limit : ℕ) → SettledBefore t e numbers i first limit → limit ≤ weight_in t.header seq → SettledBefore t e numbers (i + 1) first limit
+  settled_heavy None limit s heavy = record {
+    most = s.most;
+    so_far = (
+      s.so_far.0,
+      λ q other u. elim (this_or_rest q (s.so_far.1 q other u)) [
+        | inl is ↦ absurd (omega (arith, heavy, s.so_far.0, u.below.lighter, ap (weight_in t.header) (same_sequence t e x q seq other at is u)))
+        | inr more ↦ more
+      ],
+    );
+  }
+  settled_heavy (Some number) limit s heavy = record {
+    most = s.most;
+    so_far = record {
+      seq = s.so_far.seq;
+      is = s.so_far.is;
+      weighs = s.so_far.weighs;
+      before = λ q c. s.so_far.before q (in_rest q c);
+      first = λ q other u. elim (s.so_far.first q other u) [
+        | inl c ↦ elim (this_or_rest q c) [
+          | inl is ↦ (
+              let weight = ap (weight_in t.header) (same_sequence t e x q seq other at is u) in
+              let below : number < x = s.so_far.before x this_in in
+              elim (cases_lt limit (weight_in t.header other)) [
+                | inl less ↦ inr (inl less)
+                | inr same ↦ inr (inr (omega (arith, heavy, weight, same), omega (arith, below, is)))
+              ]
+              )
+          | inr more ↦ inl more
+        ]
+        | inr after ↦ inr after
+      ];
+    };
+  }
+
+  -- nor does one that is named open or told
+  pub settled_told : (first : Option ℕ) (limit : ℕ) → SettledBefore t e numbers i first limit → (IsUntold t e x seq → ⊥) → SettledBefore t e numbers (i + 1) first limit
+  settled_told None limit s never = record {
+    most = s.most;
+    so_far = (
+      s.so_far.0,
+      λ q other u. elim (this_or_rest q (s.so_far.1 q other u)) [
+        | inl is ↦ absurd (never (not_this q other is u))
+        | inr more ↦ more
+      ],
+    );
+  }
+    where
+      not_this : (q : ℕ) (other : List Instr) → x ≡ q → IsUntold t e q other → IsUntold t e x seq
+      not_this q other is u = subst (λ (w : List Instr). IsUntold t e x w) (sym (same_sequence t e x q seq other at is u)) (subst (λ n. IsUntold t e n other) (sym is) u)
+  settled_told (Some number) limit s never = record {
+    most = s.most;
+    so_far = record {
+      seq = s.so_far.seq;
+      is = s.so_far.is;
+      weighs = s.so_far.weighs;
+      before = λ q c. s.so_far.before q (in_rest q c);
+      first = λ q other u. elim (s.so_far.first q other u) [
+        | inl c ↦ elim (this_or_rest q c) [
+          | inl is ↦ absurd (never (subst (λ (w : List Instr). IsUntold t e x w) (sym (same_sequence t e x q seq other at is u)) (subst (λ n. IsUntold t e n other) (sym is) u)))
+          | inr more ↦ inl more
+        ]
+        | inr after ↦ inr after
+      ];
+    };
+  }
+
+  -- one that is lighter and untold is the first now
+  pub settled_first : (first : Option ℕ) (limit : ℕ) → SettledBefore t e numbers i first limit → weight_in t.header seq < limit → IsUntold t e x seq → SettledBefore t e numbers (i + 1) (Some x) (weight_in t.header seq)
+  settled_first first limit s light untold = record {
+    most = omega (arith, s.most, light);
+    so_far = record { seq = seq; is = untold; weighs = refl; before = above_this; first = λ q other u. onward first s.so_far q other u };
+  }
+    where
+      here : (q : ℕ) (other : List Instr) → IsUntold t e q other → Contains (drop i numbers) q → Contains rest q ⊎ ComesFirst (weight_in t.header seq) x (weight_in t.header other) q
+      here q other u c = elim (this_or_rest q c) [
+        | inl is ↦ inr (inr (ap (weight_in t.header) (same_sequence t e x q seq other at is u), omega (arith, is)))
+        | inr more ↦ inl more
       ]
-      | inr settled ↦ subst (λ n. ToldTest t number e n y None) (sym same) settled
-    ])
-    (subst (λ n. ToldTest t number e n seq (Some (Entry number (Untold x)))) (sym zero_on) (refl, never))
 
-pub told_verdict : (t : Table) (e : Rule) (number : ℕ) (numbers : List ℕ) (i : ℕ) → length numbers ≤ i → AllSettledBut t e (drop i numbers) → ToldVerdict t number e None
-told_verdict t e number numbers i past but =
-    turn_all (ToldTest t number e) 0 (shorter t e) (λ j y there.
-    let same : 0 + j ≡ j = omega arith in
-    elim (but.each j y there) [
-      | inl has ↦ absurd (nothing (subst (λ xs. Contains xs j) (drop_all i numbers past) has))
-      | inr settled ↦ subst (λ n. ToldTest t number e n y None) (sym same) settled
-    ])
+      onward : (first : Option ℕ) → SoFar t e (drop i numbers) first limit → (q : ℕ) (other : List Instr) → IsUntold t e q other → Contains rest q ⊎ ComesFirst (weight_in t.header seq) x (weight_in t.header other) q
+      onward None h q other u = here q other u (h.1 q other u)
+      onward (Some number) h q other u = elim (h.first q other u) [
+        | inl c ↦ here q other u c
+        | inr after ↦ elim after [
+          | inl less ↦ inr (inl (omega (arith, less, light)))
+          | inr same ↦ inr (inl (omega (arith, same.0, light)))
+        ]
+      ]
+
+-- ---- the verdict at the end ----
+
+nothing : {q : ℕ} → Contains [] q → ⊥
+nothing c = omega (arith, c.1)
+
+pub settled_verdict : (t : Table) (e : Rule) (number : ℕ) (numbers : List ℕ) (i : ℕ) (first : Option ℕ) (limit : ℕ) → length numbers ≤ i → SettledBefore t e numbers i first limit
+    → MatchOption first (ToldVerdict t number e None) (λ q. ToldVerdict t number e (Some (Entry number (Untold q))))
+settled_verdict t e number numbers i None limit past s = λ q other u. nothing (subst (λ xs. Contains xs q) (drop_all i numbers past) (s.so_far.1 q other u))
+settled_verdict t e number numbers i (Some first) limit past s = (first, (is_first, refl))
   where
-    nothing : {j : ℕ} → Contains [] j → ⊥
-    nothing c = omega (arith, c.1)
+    is_first : IsFirstUntold t e first
+    is_first = record {
+      seq = s.so_far.seq;
+      is = s.so_far.is;
+      first = λ q other u. elim (s.so_far.first q other u) [
+        | inl c ↦ absurd (nothing (subst (λ xs. Contains xs q) (drop_all i numbers past) c))
+        | inr after ↦ elim after [
+          | inl less ↦ inl (omega (arith, less, s.so_far.weighs))
+          | inr same ↦ inr (s.so_far.weighs ∙ same.0, same.1)
+        ]
+      ];
+    }
 
--- where there is no shorter sequence
-pub nothing_shorter : (t : Table) (e : Rule) (number : ℕ) → length e.right ≡ 0 → ToldVerdict t number e None
-nothing_shorter t e number none =
-    turn_all (ToldTest t number e) 0 (shorter t e) (λ j y there.
-    let l = (below_in (alphabet_registers t.header e.left) t.header.pool (length e.right) j y (omega (arith, none)) there).1 in
-    absurd (omega (arith, l, none)))
+-- where the right side is empty, nothing is below it
+pub nothing_below : (t : Table) (e : Rule) (number : ℕ) → length e.right ≡ 0 → ToldVerdict t number e None
+nothing_below t e number none = λ q seq u. none_below t.header e.left e.right q seq none u.below
 
 pub some_there : {X : Type 0} (xs : List X) → (xs ≡ [] → ⊥) → 0 < length xs
 some_there [] h = absurd (h refl)
 some_there (x ∷ xs) h = omega arith
 
-pub grown_letters : (trials : List Trial) (longest : ℕ) (e new : Extent) → new ≡ grown_for trials longest e → new.letters ≡ e.letters
-grown_letters trials longest e new h = ap (λ (x : Extent). x.letters) h ∙ same trials
-  where
-    same : (trials : List Trial) → (grown_for trials longest e).letters ≡ e.letters
-    same [] = refl
-    same (t ∷ ts) = refl
+-- a table that has grown is of the same registers, letters and state
+pub grown_is_for : (k : ℕ) (pool : List ℕ) (start : WState) (trials : List Trial) (longest : ℕ) (old new : Extent) → new ≡ grown_for trials longest old → IsFor k pool start old → IsFor k pool start new
+grown_is_for k pool start [] longest old new e is = subst (IsFor k pool start) (sym e) is
+grown_is_for k pool start (t ∷ ts) longest old new e is = subst (IsFor k pool start) (sym e) (record { registers = is.registers; letters = is.letters; state = is.state })
+
+pub is_for_own : (k : ℕ) (pool : List ℕ) (start : WState) (x : Extent) → IsFor k pool start x → IsFor x.registers pool start x
+is_for_own k pool start x is = record { registers = refl; letters = is.letters ∙ ap (λ j. alphabet j pool) (sym is.registers); state = is.state }
 
 -- ---- sequences by number ----
 
@@ -206,33 +279,3 @@ begins_at left (s ∷ ss) (t ∷ ts) start are is =
 pub below_same : (k n : ℕ) (pool : List ℕ) (letters : List Instr) (m : ℕ) → letters ≡ alphabet k pool → m ≡ n → table.sequences_below letters m ≡ sequences_below k pool n
 unfolding table.sequences_below sequences_below
 below_same k n pool letters m is e = ap (λ j. table.sequences_below letters j) e ∙ ap (λ ls. table.sequences_below ls n) is
-
--- ---- steps ----
-
-pub few_grown : (trials : List Trial) (longest : ℕ) (e : Extent) (share : ℕ) → length (table.sequences_below e.letters (longest + 1)) ≡ share → added_for trials longest e ≤ length trials * share
-few_grown [] longest e share h = omega arith
-few_grown (t ∷ ts) longest e share h =
-    let one = few_added e longest in
-    let more : 1 * share ≤ suc (length ts) * share = mul-le-mul_right share (omega arith) in
-    omega (arith, one, h, more)
-
--- ascending numbers below a limit are no more than it
-pub few_numbers : (low n : ℕ) (xs : List ℕ) → low ≤ n → ascends_from low xs ≡ true → ((q : ℕ) → Contains xs q → q < n) → low + length xs ≤ n
-unfolding ascends_from
-few_numbers low n [] h a all = omega (arith, h)
-few_numbers low n (x ∷ xs) h a all =
-    let parts = and_parts (nat_le low x) (ascends_from (suc x) xs) a in
-    let least : low ≤ x = leb-true low x parts.0 in
-    let below : x < n = all x (0, omega arith, refl) in
-    let r = few_numbers (suc x) n xs (omega (arith, below)) parts.1 (λ q c. all q (suc c.0, omega (arith, c.1), c.2)) in
-    omega (arith, least, r)
-
-pub shares : (before middle after grown candidates count trials r : ℕ) → middle ≤ before + grown → grown ≤ trials * count → after ≤ middle + candidates * (trials * (r - 1)) → candidates ≤ count → 0 < r → after ≤ before + count * (trials * r)
-shares before middle after grown candidates count trials r h g k few some =
-    let a : candidates * (trials * (r - 1)) ≤ count * (trials * (r - 1)) = mul-le-mul_right (trials * (r - 1)) few in
-    let e : r ≡ r - 1 + 1 = omega (arith, some) in
-    let b : count * (trials * r) ≡ count * (trials * (r - 1)) + trials * count = ap (λ n. count * (trials * n)) e ∙ parts count trials (r - 1) in
-    omega (arith, h, g, k, a, b)
-  where
-    parts : (c t n : ℕ) → c * (t * (n + 1)) ≡ c * (t * n) + t * c
-    parts c t n = grind arith

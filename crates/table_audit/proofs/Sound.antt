@@ -1,10 +1,10 @@
 -- An accepted table's rules are sound and shortest, what they name open is rightly so, and its families hold for each of their values.
-use Rattle.std.proofs.Common.{◌≡◌, ℕ, ◌+◌, ◌-◌, ◌^◌, ◌<◌, ◌≤◌, ◌⊎◌, ◌==◌, ◌&&◌, inl, inr, true, false, List, Option, Some, None, slice_get, get_or, length, map, refl, sym, ◌∙◌, subst, arith, All, nat_lt, nat_le, zero-add}
+use Rattle.std.proofs.Common.{◌≡◌, ℕ, ◌+◌, ◌-◌, ◌^◌, ◌<◌, ◌≤◌, ◌⊎◌, ◌==◌, ◌&&◌, inl, inr, true, false, List, Option, Some, None, slice_get, get_or, length, map, refl, sym, ◌∙◌, subst, arith, All, nat_lt, nat_le}
 use Rattle.std.proofs.lemmas.Nat.Bits.{bit_at-lt}
 use Rattle.std.proofs.lemmas.List.{get_or_past}
 use Rattle.std.proofs.lemmas.Option.{slice_get_within, get_or_from_slice_get, same_Some}
 use Rattle.std.proofs.lemmas.Bool.Decides.{leb_tells}
-use Rattle.std.proofs.lemmas.Bool.{false≢true, or_cases, and_parts, ltb-true, ne_eqb}
+use Rattle.std.proofs.lemmas.Bool.{or_cases, and_parts, ltb-true, ne_eqb}
 use Rattle.thumb_instr.specs.declared.instr.Instr.{Instr}
 use Rattle.thumb_model.specs.Items.{AreWords, one_of}
 use Rattle.thumb_model.specs.Sides.{Equal, AreOver, register_count}
@@ -28,12 +28,11 @@ use Rattle.table_audit.specs.declared.errors.AuditError.TheVariants as error
 use Rattle.table_audit.specs.declared.errors.FamilyKind.TheVariants as family
 use Rattle.table_audit.specs.Sides.{named_count, alphabet_registers, SidesFit, formula_of}
 use Rattle.table_audit.specs.Canonical.{HasFormula}
-use Rattle.table_audit.specs.Shorter.{shorter, IsBelow, values_in, IsTold}
+use Rattle.table_audit.specs.Shorter.{IsBelow, values_in, IsTold}
 use Rattle.table_audit.specs.Shorter.{is_named as is_open}
-use Rattle.table_audit.specs.Acceptance.{EntryVerdict, EntryProofVerdict, ToldTest, ToldVerdict, OpenTest, OpensVerdict, FamilyProofVerdict, RaisedVerdict, FamilyVerdict, IsAccepted}
+use Rattle.table_audit.specs.Acceptance.{EntryVerdict, EntryProofVerdict, ToldVerdict, OpenTest, OpensVerdict, FamilyProofVerdict, RaisedVerdict, FamilyVerdict, IsAccepted}
 use Rattle.table_audit.specs.Families.{entry_of, symbol_of, IsRaisable, raised_formula, AreEqualWithEach, NoneIsShorter}
 use Rattle.table_audit.specs.Soundness.{items_in, rewriting_rule, IsShortest, IsSoundFamily, IsSound}
-use Rattle.table_audit.proofs.Numbering.{below_from}
 use Rattle.table_audit.proofs.Fitting.{formula_fits, ordered_of}
 use Rattle.table_audit.proofs.Raising.{entry_stands, verdict_raised}
 use Rattle.table_audit.proofs.Walking.{over_more, mask_more, own_within, counted_over}
@@ -128,18 +127,11 @@ sound_rule t n e valid sides masks p =
     }
 
 shortest_rule : (t : Table) (n : ℕ) (e : Rule) → IsTable t → IsRule e → SidesFit t e → ToldVerdict t n e None → IsShortest t.header e
-shortest_rule t n e valid rule sides told = record { no_longer = sides.no_longer; least = least }
-  where
-    least : (number : ℕ) (seq : List Instr) → IsBelow t.header e.left e.right number seq → is_open e.opens number ≡ false → Equal e.left seq (items_in e.mask) → ⊥
-    least number seq below unnamed same =
-        let there : slice_get (shorter t e) number ≡ Some seq =
-        below_from (alphabet_registers t.header e.left) t.header.pool (length e.right) number seq (omega (arith, rule.few_right)) below.at below.lighter in
-        let here = turn_each (ToldTest t n e) 0 (shorter t e) number seq told there in
-        let found : ToldTest t n e number seq None = subst (λ j. ToldTest t n e j seq None) (zero-add number) here in
-        elim found [
-          | inl named ↦ false≢true (sym unnamed ∙ named)
-          | inr tells ↦ told_differs t.states e.left seq e.mask valid.states rule.mask tells same
-        ]
+shortest_rule t n e valid rule sides told = record {
+  no_longer = sides.no_longer;
+  least = λ number seq below unnamed same.
+      told number seq (record { below = below; unnamed = unnamed; untold = λ tells. told_differs t.states e.left seq e.mask valid.states rule.mask tells same });
+}
 
 -- ---- one family ----
 

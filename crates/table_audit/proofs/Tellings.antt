@@ -1,7 +1,8 @@
 -- Trials, and the listed states that they begin at.
-use Rattle.std.proofs.Common.{◌≡◌, ℕ, ◌<◌, ◌↔◌, List, Some, length, get_or, slice_get, map, sym, ◌∙◌, ap, subst, inl, inr, arith}
+use Rattle.std.proofs.Common.{◌≡◌, ℕ, ◌<◌, ◌↔◌, Bool, true, false, not, IsTrue, List, Some, length, get_or, slice_get, map, sym, ◌∙◌, ap, subst, inl, inr, refl, arith}
 use Rattle.std.specs.List.{Any}
 use Rattle.std.specs.Option.{option_map}
+use Rattle.std.proofs.lemmas.Bool.{false≢true}
 use Rattle.std.proofs.lemmas.List.{get_or_default, length-map}
 use Rattle.std.proofs.Math.ListN.{get_or-map}
 use Rattle.std.proofs.lemmas.Option.{slice_get_cases, slice_get-map}
@@ -55,3 +56,9 @@ told_is left states trials seq mask are = (forth, back)
         let same : found.1 ≡ seen t.start = sym found.3 ∙ get_or_default states k found.1 (seen t.start) found.2 ∙ listed in
         let tells : Tells (values_in (seen t.start)) left seq mask = subst (λ s. Tells (values_in s) left seq mask) same found.4 in
         (k, t, low, here.1, subst (λ v. Differ v (after_all seq (values_of t.start)) mask) (sym end) tells)
+
+-- a sequence that isn't named and isn't told by the trials is neither
+pub untold_is : (left : List Instr) (states : List Seen) (trials : List Trial) (seq : List Instr) (mask : ℕ) (named told : Bool) → AreTrials left states trials
+    → IsTrue told ↔ Any (λ t. Differ (values_of t.end) (after_all seq (values_of t.start)) mask) trials → named ≡ false → IsTrue (not told) ↔ (named ≡ false) × (IsTold states left seq mask → ⊥)
+untold_is left states trials seq mask named true are t unnamed = (λ no. absurd (false≢true no), λ h. absurd (h.1 ((told_is left states trials seq mask are).0 (t.0 refl))))
+untold_is left states trials seq mask named false are t unnamed = (λ yes. (unnamed, λ tells. false≢true (t.1 ((told_is left states trials seq mask are).1 tells))), λ h. refl)

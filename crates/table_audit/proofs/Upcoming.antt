@@ -1,10 +1,11 @@
 -- Whether a number is among those named open, which ascend.
-use Rattle.std.proofs.Common.{◌≡◌, ℕ, zero, suc, Bool, ◌||◌, length, get_or, slice_get, map, ◌<◌, ◌≤◌, ◌==◌, true, false, List, [], ◌∷◌, Some, refl, sym, ◌∙◌, ap, subst, arith, nat_le, nat_lt}
+use Rattle.std.proofs.Common.{◌≡◌, ℕ, zero, suc, ◌+◌, Bool, ◌||◌, Contains, length, drop, get_or, slice_get, map, ◌<◌, ◌≤◌, ◌==◌, true, false, List, [], ◌∷◌, ◌++◌, Some, refl, sym, ◌∙◌, ap, subst, arith, nat_le, nat_lt}
 use Rattle.std.specs.List.{AllWithin}
 use Rattle.std.specs.List.Sorted.{IsNonDecreasingBy}
-use Rattle.std.proofs.lemmas.Bool.{and_parts, leb-true, ltb-true, ltb-false, ne_eqb}
+use Rattle.std.proofs.lemmas.Bool.{and_parts, and_from, leb-true, ltb-true, ltb-false, ne_eqb}
 use Rattle.std.proofs.lemmas.Option.{same_Some}
 use Rattle.seq_enum.specs.Lists.{ascends_from}
+use Rattle.outcomes.proofs.Looking.{ascends_lower}
 use Rattle.rule_table.specs.declared.table.Open as code
 use Rattle.rule_table.specs.Views.{opened_of}
 use Rattle.rule_table.specs.Table.{Opened}
@@ -65,6 +66,50 @@ ascends_rise low (x ∷ xs) a (suc i) zero h l = absurd (omega (arith, h))
 ascends_rise low (x ∷ xs) a (suc i) (suc j) h l =
     let parts = and_parts (nat_le low x) (ascends_from (suc x) xs) a in
     ascends_rise (suc x) xs parts.1 i j (omega (arith, h)) (omega (arith, l))
+
+-- a later one is above an earlier one
+pub ascends_rises : (low : ℕ) (xs : List ℕ) → ascends_from low xs ≡ true → (i j : ℕ) → i < j → j < length xs → get_or xs i 0 < get_or xs j 0
+unfolding ascends_from
+ascends_rises low [] a i j h l = absurd (omega (arith, l))
+ascends_rises low (x ∷ xs) a i zero h l = absurd (omega (arith, h))
+ascends_rises low (x ∷ xs) a zero (suc j) h l =
+    let parts = and_parts (nat_le low x) (ascends_from (suc x) xs) a in
+    let r : suc x ≤ get_or xs j 0 = ascends_get (suc x) xs parts.1 j (omega (arith, l)) in
+    omega (arith, r)
+ascends_rises low (x ∷ xs) a (suc i) (suc j) h l =
+    let parts = and_parts (nat_le low x) (ascends_from (suc x) xs) a in
+    ascends_rises (suc x) xs parts.1 i j (omega (arith, h)) (omega (arith, l))
+
+-- each is at least the lowest, and those behind one are above it
+pub ascends_above : (low : ℕ) (xs : List ℕ) (q : ℕ) → ascends_from low xs ≡ true → Contains xs q → low ≤ q
+unfolding ascends_from
+ascends_above low xs q a c = above low xs a c.0 c.1 c.2
+  where
+    above : (low : ℕ) (xs : List ℕ) → ascends_from low xs ≡ true → (k : ℕ) → k < length xs → get_or xs k q ≡ q → low ≤ q
+    above low [] a k h e = absurd (omega (arith, h))
+    above low (x ∷ xs) a zero h e = (let l = leb-true low x (and_parts (nat_le low x) (ascends_from (suc x) xs) a).0 in omega (arith, l, e))
+    above low (x ∷ xs) a (suc k) h e =
+        let parts = and_parts (nat_le low x) (ascends_from (suc x) xs) a in
+        let l = leb-true low x parts.0 in
+        let r = above (suc x) xs parts.1 k (omega (arith, h)) e in
+        omega (arith, l, r)
+
+pub ascends_drop : (low : ℕ) (xs : List ℕ) (i : ℕ) → i < length xs → ascends_from low xs ≡ true → ascends_from (suc (get_or xs i 0)) (drop (i + 1) xs) ≡ true
+unfolding ascends_from
+ascends_drop low [] i h a = absurd (omega (arith, h))
+ascends_drop low (x ∷ xs) zero h a = (and_parts (nat_le low x) (ascends_from (suc x) xs) a).1
+ascends_drop low (x ∷ xs) (suc i) h a =
+    let next : suc (i + 1) ≡ suc i + 1 = omega arith in
+    subst (λ n. ascends_from (suc (get_or xs i 0)) (drop n (x ∷ xs)) ≡ true) next (ascends_drop (suc x) xs i (omega (arith, h)) (and_parts (nat_le low x) (ascends_from (suc x) xs) a).1)
+
+-- numbers that ascend from one on behind others that ascend to below it
+pub ascends_append : (low high : ℕ) (xs ys : List ℕ) → low ≤ high → ascends_from low xs ≡ true → ((q : ℕ) → Contains xs q → q < high) → ascends_from high ys ≡ true → ascends_from low (xs ++ ys) ≡ true
+unfolding ascends_from
+ascends_append low high [] ys h a below b = ascends_lower low high ys h b
+ascends_append low high (x ∷ xs) ys h a below b =
+    let parts = and_parts (nat_le low x) (ascends_from (suc x) xs) a in
+    let here : x < high = below x (0, omega arith, refl) in
+    and_from (nat_le low x) (ascends_from (suc x) (xs ++ ys)) parts.0 (ascends_append (suc x) high xs ys (omega (arith, here)) parts.1 (λ q c. below q (suc c.0, omega (arith, c.1), c.2)) b)
 
 -- ---- the numbers as the code has them ----
 

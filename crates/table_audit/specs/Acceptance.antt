@@ -1,9 +1,10 @@
 -- Whether the audit accepts a table, or why not: the first cause in order.
-use Rattle.std.specs.Prelude.{ℕ, ◌≡◌, ◌≤◌, ◌⊎◌, ◌+◌, true, List, Option, Some, None, length, slice_get}
+use Rattle.std.specs.Prelude.{ℕ, ◌≡◌, ◌<◌, ◌≤◌, ◌⊎◌, ◌+◌, true, false, List, Option, Some, None, length, slice_get}
 use Rattle.thumb_instr.specs.declared.instr.Instr.{Instr}
 use Rattle.clause_model.specs.Literals.{codes_of}
 use Rattle.window_exec.specs.Seen.{Seen}
 use Rattle.fingerprints.specs.Seeded.{seeded_states}
+use Rattle.rule_table.specs.Header.{Header}
 use Rattle.rule_table.specs.Table.{Opened, Rule, Family, Table}
 use Rattle.proof_logs.specs.Verdicts.{Tests, Then, InTurn}
 use Rattle.proof_logs.specs.Proofs.{ProofVerdict}
@@ -14,7 +15,7 @@ use Rattle.table_audit.specs.declared.errors.FamilyKind.TheVariants as family
 use Rattle.table_audit.specs.declared.errors.AuditError.TheVariants.{States, Wide, Entry}
 use Rattle.table_audit.specs.declared.errors.AuditError.TheVariants as error
 use Rattle.table_audit.specs.Sides.{SidesFit, with_scratch, formula_against, formula_of}
-use Rattle.table_audit.specs.Shorter.{sequences_below, shorter, IsBelow, IsTold, is_named}
+use Rattle.table_audit.specs.Shorter.{sequences_below, weight_in, IsBelow, IsTold, is_named}
 use Rattle.table_audit.specs.Families.{entry_of, IsRaisable, raised_formula}
 
 -- ---- the table ----
@@ -26,9 +27,17 @@ StateTest t n s = Tests (slice_get t.states n ≡ Some s) (States (n + 1))
 abbrev pub StatesVerdict : Table → Option AuditError → Type 0
 StatesVerdict t = InTurn (StateTest t) 0 (seeded_states t.header.seed)
 
+-- the sequences that an entry may have to be told from have fewer instructions than this, where left sides have at most so many: with costs they may be as long
+abbrev pub lengths_below : Option (List ℕ) → ℕ → ℕ
+lengths_below None left = left
+lengths_below (Some costs) left = left + 1
+
 -- how many sequences an entry of a table may have to be told from, at most
+abbrev pub width_of : Header → ℕ
+width_of h = length (sequences_below (with_scratch h h.regs) h.pool (lengths_below h.costs h.left))
+
 abbrev pub width : Table → ℕ
-width t = length (sequences_below (with_scratch t.header t.header.regs) t.header.pool t.header.left)
+width t = width_of t.header
 
 abbrev pub WideVerdict : Table → Option AuditError → Type 0
 WideVerdict t = Tests (width t ≤ 5000000) (Wide (width t))
@@ -42,14 +51,24 @@ SidesVerdict t n e = Tests (SidesFit t e) (Entry n Sides)
 abbrev pub EntryProofVerdict : Table → ℕ → Rule → Option AuditError → Type 0
 EntryProofVerdict t n e = ProofVerdict (λ line. Entry n (Proof line)) (Entry n Unfinished) (codes_of (formula_of t.header e).clauses) e.proof
 
--- each shorter sequence is named open, or some state tells it from the left side
-abbrev pub ToldTest : Table → ℕ → Rule → ℕ → List Instr → Option AuditError → Type 0
-ToldTest t n e number seq = Tests ((is_named e.opens number ≡ true) ⊎ IsTold t.states e.left seq e.mask) (Entry n (Untold number))
+-- the sequence of a number is below the right side, isn't named open, and no state tells it from the left side
+pub record IsUntold (t : Table) (e : Rule) (number : ℕ) (seq : List Instr) : Type 0 where
+  pub below : IsBelow t.header e.left e.right number seq
+  pub unnamed : is_named e.opens number ≡ false
+  pub untold : IsTold t.states e.left seq e.mask → ⊥
 
+-- it is the first such by weight, then by number
+pub record IsFirstUntold (t : Table) (e : Rule) (number : ℕ) : Type 0 where
+  pub seq : List Instr
+  pub is : IsUntold t e number seq
+  pub first : (q : ℕ) (other : List Instr) → IsUntold t e q other → (weight_in t.header seq < weight_in t.header other) ⊎ ((weight_in t.header seq ≡ weight_in t.header other) × (number ≤ q))
+
+-- each sequence below the right side is named open, or some state tells it from the left side
 abbrev pub ToldVerdict : Table → ℕ → Rule → Option AuditError → Type 0
-ToldVerdict t n e = InTurn (ToldTest t n e) 0 (shorter t e)
+ToldVerdict t n e None = (q : ℕ) (seq : List Instr) → IsUntold t e q seq → ⊥
+ToldVerdict t n e (Some fault) = (number : ℕ) × (IsFirstUntold t e number × (fault ≡ Entry n (Untold number)))
 
--- an open number is that of a shorter sequence, which no state tells from the left side, and its log spends the budget on the formula of the two
+-- an open number is that of a sequence below the right side, which no state tells from the left side, and its log spends the budget on the formula of the two
 pub record IsRightlyOpen (t : Table) (e : Rule) (o : Opened) : Type 0 where
   pub seq : List Instr
   pub below : IsBelow t.header e.left e.right o.number seq

@@ -1,17 +1,17 @@
 -- How many steps the audit of a table counts at most.
-use Rattle.std.specs.Prelude.{ℕ, ◌+◌, ◌*◌, List, Option, Some, None, length, slice_get, sum_by}
+use Rattle.std.specs.Prelude.{ℕ, ◌+◌, ◌*◌, List, Option, Some, None, length, sum_by}
 use Rattle.thumb_instr.specs.declared.instr.Instr.{Instr}
 use Rattle.clause_model.specs.Literals.{codes_of}
 use Rattle.rule_table.specs.Table.{Opened, Rule, Family, Table}
 use Rattle.proof_logs.specs.Lines.{started}
 use Rattle.proof_logs.specs.Costs.{lines_cost, spent_cost}
 use Rattle.table_audit.specs.Sides.{formula_against, formula_of}
-use Rattle.table_audit.specs.Shorter.{shorter}
+use Rattle.table_audit.specs.Shorter.{below, below_at}
 use Rattle.table_audit.specs.Families.{entry_of, raised_formula}
 
--- steps of instructions: both sides on each state once, and again for each shorter sequence and for each that is named open
+-- steps of instructions: both sides on each state once, and again for each sequence below the right side and for each that is named open
 abbrev pub runs_cost : Table → Rule → ℕ
-runs_cost t e = (2 * length (shorter t e) + 1) * (length t.states * (length e.left + length e.right))
+runs_cost t e = (2 * length (below t.header e.left e.right) + 1) * (length t.states * (length e.left + length e.right))
 
 -- looks at literals: those of the proof's lines
 abbrev pub proof_cost : Table → Rule → ℕ
@@ -23,7 +23,7 @@ log_cost t e o None = 0
 log_cost t e o (Some seq) = spent_cost (codes_of (formula_against t.header e seq).clauses) o.log
 
 abbrev pub open_cost : Table → Rule → Opened → ℕ
-open_cost t e o = log_cost t e o (slice_get (shorter t e) o.number)
+open_cost t e o = log_cost t e o (below_at t.header e.left e.right o.number)
 
 abbrev pub entry_cost : Table → Rule → ℕ
 entry_cost t e = runs_cost t e + proof_cost t e + sum_by (open_cost t e) e.opens

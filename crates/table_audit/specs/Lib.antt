@@ -5,6 +5,7 @@ pub mod Shorter
 pub mod Naming
 pub mod Families
 pub mod Acceptance
+pub mod Lighter
 pub mod Faults
 pub mod Costs
 pub mod Soundness

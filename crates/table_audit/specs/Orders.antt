@@ -5,6 +5,7 @@ use Rattle.thumb_instr.specs.declared.instr.Instr.{Instr}
 use Rattle.thumb_instr.specs.Window.{is_in_window}
 use Rattle.seq_enum.specs.Lists.{numbers_from}
 use Rattle.seq_enum.specs.Alphabet.{IsOver}
+use Rattle.seq_enum.specs.Costs.{weight_under}
 use Rattle.bit_blast.specs.Exactness.{IsMaskOver}
 use Rattle.rule_table.specs.Canonical.{appearing}
 use Rattle.rule_table.specs.Table.{Rule, Table}
@@ -31,4 +32,5 @@ pub record AreWithin (t : Table) (e : Rule) (k registers : ℕ) : Type 0 where
   pub left : IsOver k t.header.pool e.left
   pub right : IsOver registers t.header.pool e.right
   pub no_longer : length e.right ≤ length e.left
+  pub no_dearer : weight_under t.header.costs e.right ≤ weight_under t.header.costs e.left
   pub mask : IsMaskOver k e.mask

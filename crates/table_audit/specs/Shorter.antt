@@ -1,5 +1,6 @@
--- The shorter sequences of an entry, and the states that tell them.
-use Rattle.std.specs.Prelude.{ℕ, ◌≡◌, ◌<◌, ◌≤◌, ◌==◌, Bool, List, Any, Some, length, slice_get, slice_index, if◌then◌else◌}
+-- The sequences below a side of an entry, and the states that tell them: those that are shorter, or cheaper where the table has costs.
+use Rattle.std.specs.Prelude.{ℕ, ◌≡◌, ◌+◌, ◌<◌, ◌≤◌, ◌==◌, ◌&&◌, Bool, List, Any, Option, Some, None, filter, length, nat_le, nat_lt, slice_get, slice_index, if◌then◌else◌}
+use Rattle.std.specs.Option.{option_and_then}
 use Rattle.std.specs.List.{flat_map, list_any}
 use Rattle.std.specs.Int.{bit_at}
 use Rattle.thumb_instr.specs.declared.instr.Instr.{Instr}
@@ -8,6 +9,7 @@ use Rattle.window_exec.specs.Telling.{Tells}
 use Rattle.window_exec.specs.Seen.{Seen}
 use Rattle.seq_enum.specs.Lists.{numbers_from}
 use Rattle.seq_enum.specs.Alphabet.{alphabet, words, sequences}
+use Rattle.seq_enum.specs.Costs.{weight_under}
 use Rattle.rule_table.specs.Header.{Header}
 use Rattle.rule_table.specs.Table.{Opened, Rule, Table}
 use Rattle.table_audit.specs.Sides.{alphabet_registers}
@@ -16,15 +18,35 @@ use Rattle.table_audit.specs.Sides.{alphabet_registers}
 unfoldable pub sequences_below : ℕ → List ℕ → ℕ → List (List Instr)
 sequences_below k pool n = flat_map (words (alphabet k pool)) (numbers_from 0 n)
 
--- those that are shorter than an entry's right side, of the alphabet of its registers
-abbrev pub shorter : Table → Rule → List (List Instr)
-shorter t e = sequences_below (alphabet_registers t.header e.left) t.header.pool (length e.right)
+-- how much a sequence weighs by a table: what it costs, or without costs how long it is
+abbrev pub weight_in : Header → List Instr → ℕ
+weight_in h seq = weight_under h.costs seq
 
--- the number is that of a sequence of the entry's alphabet, which is no longer than the left side and has fewer instructions than this side
+-- the number is that of a sequence of the entry's alphabet, which is no longer than the left side and weighs less than this side
 pub record IsBelow (h : Header) (left side : List Instr) (number : ℕ) (seq : List Instr) : Type 0 where
   pub at : slice_get (sequences (alphabet_registers h left) h.pool) number ≡ Some seq
   pub no_longer : length seq ≤ length left
-  pub lighter : length seq < length side
+  pub lighter : weight_in h seq < weight_in h side
+
+-- whether a sequence weighs less than a limit
+abbrev pub is_lighter : Option (List ℕ) → ℕ → List Instr → Bool
+is_lighter costs limit seq = nat_lt (weight_under costs seq) limit
+
+-- all such sequences
+unfoldable pub below : Header → (left side : List Instr) → List (List Instr)
+below h left side = filter (is_lighter h.costs (weight_in h side)) (sequences_below (alphabet_registers h left) h.pool (length left + 1))
+
+-- a sequence, where it is no longer than the left side and weighs less than the other side
+abbrev pub if_below : Option (List ℕ) → (left side seq : List Instr) → Option (List Instr)
+if_below costs left side seq = if nat_le (length seq) (length left) && nat_lt (weight_under costs seq) (weight_under costs side) then Some seq else None
+
+-- that of a number over the first k registers and a pool, if there is
+unfoldable pub lighter_at : Option (List ℕ) → ℕ → List ℕ → (left side : List Instr) → ℕ → Option (List Instr)
+lighter_at costs k pool left side number = option_and_then (if_below costs left side) (slice_get (sequences k pool) number)
+
+-- that of a number over an entry's alphabet
+abbrev pub below_at : Header → (left side : List Instr) → ℕ → Option (List Instr)
+below_at h left side number = lighter_at h.costs (alphabet_registers h left) h.pool left side number
 
 -- r0 to r3 and the flags of a state, with N as 8, Z as 4, C as 2 and V as 1
 abbrev pub values_in : Seen → Values

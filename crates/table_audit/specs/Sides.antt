@@ -4,6 +4,7 @@ use Rattle.thumb_instr.specs.declared.instr.Instr.{Instr}
 use Rattle.thumb_instr.specs.Window.{normal_of}
 use Rattle.seq_enum.specs.Lists.{numbers_from}
 use Rattle.seq_enum.specs.Alphabet.{IsOver}
+use Rattle.seq_enum.specs.Costs.{weight_under}
 use Rattle.cnf_gates.specs.Cnf.{Cnf}
 use Rattle.bit_blast.specs.Differences.{sides_formula}
 use Rattle.bit_blast.specs.Exactness.{IsMaskOver}
@@ -38,6 +39,8 @@ pub record SidesFit (t : Table) (e : Rule) : Type 0 where
   pub left : IsOver (named_count e.left) t.header.pool e.left
   pub right : IsOver (alphabet_registers t.header e.left) t.header.pool e.right
   pub no_longer : length e.right ≤ length e.left
+  -- nor does the right side cost more
+  pub no_dearer : weight_under t.header.costs e.right ≤ weight_under t.header.costs e.left
   -- the mask has no register that the left side doesn't name, so not the scratch register
   pub mask : IsMaskOver (named_count e.left) e.mask
 

@@ -37,7 +37,7 @@ numbers_in es fs = alone (map rewriting_rule es) ++ map (λ f. instances_of f (e
 abbrev pub numbers_of : table.Table → List (List Rule)
 numbers_of t = numbers_in t.rules t.families
 
--- ---- shortness ----
+-- ---- shortest, or with costs cheapest ----
 
 -- an entry's right side is no longer than its left side, and no sequence below it leaves the same under the mask, save those that the entry names open
 pub record IsShortest (h : Header) (e : table.Rule) : Type 0 where
@@ -47,7 +47,7 @@ pub record IsShortest (h : Header) (e : table.Rule) : Type 0 where
 abbrev pub AreShortest : table.Table → Type 0
 AreShortest t = (k : ℕ) (e : table.Rule) → slice_get t.rules k ≡ Some e → IsShortest t.header e
 
--- each number that an entry names open is that of a shorter sequence and has its log
+-- each number that an entry names open is that of a sequence below its right side and has its log
 abbrev pub AreRightlyOpen : table.Table → Type 0
 AreRightlyOpen t = (k : ℕ) (e : table.Rule) → slice_get t.rules k ≡ Some e → (i : ℕ) (o : table.Opened) → slice_get e.opens i ≡ Some o → IsRightlyOpen t e o
 

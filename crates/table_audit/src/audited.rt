@@ -8,7 +8,8 @@ ghost use Rattle.table_audit.specs.Soundness.{IsSound};
 use rule_table::Table;
 use std::marker::Model;
 
-/// A table that the audit accepts: its rules are sound, and shortest but for what they name open, and its families hold for each of their values.
+/// A table that the audit accepts: its rules are sound, and shortest, or with costs cheapest, but for what they name open, and its families hold for each of
+/// their values.
 #[derive(Drop)]
 pub struct Audited {
     table: Table,

@@ -16,10 +16,10 @@ pub enum EntryFault {
     /// All lines are accepted, and no clause is empty.
     #[error("the proof does not come to an empty clause")]
     Unfinished,
-    /// The lowest shorter sequence that isn't named open and that no state tells from the left side, by its number.
+    /// The first sequence below the right side, by weight and then by number, that isn't named open and that no state tells from the left side: its number.
     #[error("no state tells sequence {0}")]
     Untold(u64),
-    /// The first number named open that isn't that of a shorter sequence, or whose sequence a state tells, or whose log doesn't spend the budget.
+    /// The first number named open that isn't that of a sequence below the right side, or whose sequence a state tells, or whose log doesn't spend the budget.
     #[error("{0} is not rightly named open")]
     Open(u64),
 }
@@ -45,7 +45,7 @@ pub enum AuditError {
     /// The place, from 1, of the first of the seed's states that is missing or another.
     #[error("state {0} is not the seed's")]
     States(u64),
-    /// How many shorter sequences there may be, where these are more than 5,000,000.
+    /// How many sequences there may be below a right side, where these are more than 5,000,000.
     #[error("{0} sequences are too many")]
     Wide(u64),
     /// An entry, by its number from 1.

@@ -1,10 +1,11 @@
-//! The audit of a table of rules: an accepted table's rules are sound, and shortest but for what they name open, and its families hold for each value.
+//! The audit of a table of rules: an accepted table's rules are sound, and shortest, or with costs cheapest, but for what they name open, and its families hold for each value.
 #![tactic(auto)]
 
 mod audited;
 mod errors;
 mod families;
 pub mod laws;
+mod lighter;
 mod opens;
 mod refutation;
 mod sides;
@@ -18,4 +19,4 @@ pub use errors::{AuditError, EntryFault, FamilyKind};
 pub use families::{entry_at, entry_of, family_at, family_formula, is_raisable, raised_side};
 pub use sides::{entry_formula, named_count, sides_fit, with_scratch};
 pub use verdict::audit;
-pub use widths::{count_shorter, shorter_at};
+pub use widths::{below_at, count_shorter, width};

@@ -1,5 +1,5 @@
 //! The numbers that an entry names open.
-ghost use Rattle.std.specs.Prelude.{◌≡◌, ◌<◌, ◌≤◌, ◌+◌, ◌*◌, ◌↔◌, true, IfOk, IfSome, IsTrue, length, map, slice_get, sum_by};
+ghost use Rattle.std.specs.Prelude.{◌≡◌, ◌<◌, ◌≤◌, ◌+◌, ◌*◌, ◌↔◌, true, IfOk, IsTrue, length, map, sum_by};
 ghost use Rattle.window_exec.specs.State.{seen};
 ghost use Rattle.seq_enum.specs.Lists.{ascends_from};
 ghost use Rattle.rule_table.specs.Valid.{numbers_of};
@@ -7,7 +7,7 @@ ghost use Rattle.rule_table.specs.Views.{header_in, opened_of, rule_of, table_of
 ghost use Rattle.proof_logs.specs.Verdicts.{Answers};
 ghost use Rattle.table_audit.specs.Sides.{alphabet_registers};
 ghost use Rattle.table_audit.specs.Canonical.{HasFormula};
-ghost use Rattle.table_audit.specs.Shorter.{shorter};
+ghost use Rattle.table_audit.specs.Shorter.{below};
 ghost use Rattle.outcomes.specs.Trials.{AreTrials};
 ghost use Rattle.table_audit.specs.Acceptance.{IsRightlyOpen, OpensVerdict};
 ghost use Rattle.table_audit.specs.Costs.{open_cost};
@@ -15,7 +15,7 @@ ghost use Rattle.table_audit.specs.Naming.{told_cost};
 
 use crate::errors::{AuditError, EntryFault};
 use crate::sides::formula_against;
-use crate::widths::shorter_at;
+use crate::widths::below_at;
 use cnf_gates::Memory;
 use outcomes::{Trial, is_told};
 use proof_logs::is_spent;
@@ -23,7 +23,7 @@ use rule_table::{Entry, Open, Table};
 use std::alloc::Global;
 use step_ledger::{Ledger, Steps};
 
-/// Whether a number that an entry names open is that of a shorter sequence, which no state tells from the left side, and its log spends the
+/// Whether a number that an entry names open is that of a sequence below its right side, which no state tells from the left side, and its log spends the
 /// budget on the formula of the two.
 fn is_rightly_open<L: Ledger>(
     alloc: Global,
@@ -38,12 +38,18 @@ fn is_rightly_open<L: Ledger>(
     requires some { 0 < k }
     requires few { k ≤ 4 }
     requires formula { HasFormula (header_in table.now) (rule_of entry.now) }
-    requires no_longer { length entry.now.right ≤ length entry.now.left }
     requires trials { AreTrials entry.now.left (map seen table.now.states) trials.now }
     ensures right { IfOk result (λ right. IsTrue right ↔ IsRightlyOpen (table_of table.now) (rule_of entry.now) (opened_of open.now)) }
-    ensures cost { steps.new ≤ steps.old + (told_cost (table_of table.now) (rule_of entry.now) (opened_of open.now) + open_cost (table_of table.now) (rule_of entry.now) (opened_of open.now)) }
+    ensures cost { steps.new ≤ steps.old + (told_cost (table_of table.now) (rule_of entry.now) open.now.number + open_cost (table_of table.now) (rule_of entry.now) (opened_of open.now)) }
 {
-    match shorter_at(k, &table.pool, entry.right.len(), open.number) {
+    match below_at(
+        &table.costs,
+        k,
+        &table.pool,
+        &entry.left,
+        &entry.right,
+        open.number,
+    ) {
         None => Ok(false),
         Some(seq) => {
             if is_told(trials, seq.as_slice(), entry.mask, steps) {
@@ -69,11 +75,10 @@ pub(crate) fn check_opens<L: Ledger>(
     requires some { 0 < k }
     requires few { k ≤ 4 }
     requires formula { HasFormula (header_in table.now) (rule_of entry.now) }
-    requires no_longer { length entry.now.right ≤ length entry.now.left }
     requires ascending { ascends_from 0 (numbers_of (map opened_of entry.now.opens.items)) ≡ true }
     requires trials { AreTrials entry.now.left (map seen table.now.states) trials.now }
     ensures answers { Answers AuditError.Memory result (OpensVerdict (table_of table.now) number (rule_of entry.now)) }
-    ensures cost { steps.new ≤ steps.old + (length (shorter (table_of table.now) (rule_of entry.now)) * (length (table_of table.now).states * length entry.now.right)
+    ensures cost { steps.new ≤ steps.old + (length (below (header_in table.now) entry.now.left entry.now.right) * (length (table_of table.now).states * length entry.now.left)
         + sum_by (open_cost (table_of table.now) (rule_of entry.now)) (map opened_of entry.now.opens.items)) }
 {
     for open in &entry.opens {

@@ -17,7 +17,7 @@ ghost use Rattle.table_audit.specs.Orders.{IsAstray, IsInOrder, AreWithin};
 use bit_blast::formula;
 use cnf_gates::{Formula, Memory};
 use rule_table::{Entry, Table};
-use seq_enum::{Pool, number_of};
+use seq_enum::{Pool, number_of, weight};
 use std::alloc::Global;
 use thumb_instr::{Instr, Low, Mask, Seq, in_window, normal, registers_of};
 
@@ -103,7 +103,7 @@ fn is_mask_over(k: u8, mask: Mask) -> bool
 }
 
 /// Whether left side and mask are over the first `k` registers, the right side over the first `registers`, and all within the header's
-/// numbers.
+/// numbers, and the right side neither has more instructions than the left side nor weighs more.
 fn are_within(table: &Table, entry: &Entry, k: u8, registers: u8) -> bool
     requires some { (0 < k) × (0 < registers) }
     requires few { (k ≤ 4) × (registers ≤ 4) }
@@ -111,6 +111,7 @@ fn are_within(table: &Table, entry: &Entry, k: u8, registers: u8) -> bool
 {
     entry.left.len() <= usize::from(table.left)
         && entry.right.len() <= entry.left.len()
+        && weight(&table.costs, &entry.right) <= weight(&table.costs, &entry.left)
         && k <= table.regs
         && is_over(k, &table.pool, &entry.left)
         && is_over(registers, &table.pool, &entry.right)

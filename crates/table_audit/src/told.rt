@@ -1,29 +1,35 @@
-//! Each shorter sequence is named open, or some state tells it. The first state tells nearly all, by a table of what each sequence leaves of it,
-//! and the others are run on all states.
-ghost use Rattle.std.specs.Prelude.{◌≡◌, ℕ, ◌<◌, ◌≤◌, ◌+◌, ◌-◌, ◌*◌, true, None, Some, MatchOption, length, map};
+//! Each sequence below the right side is named open, or some state tells it. The first state tells nearly all, by a table of what each sequence leaves of it,
+//! and the others are run on all states. Where the table would have far more sequences than are below the right side, those are run at once.
+ghost use Rattle.std.specs.Prelude.{◌≡◌, ℕ, ◌<◌, ◌≤◌, ◌+◌, ◌*◌, ◌↔◌, true, false, List, None, Some, IfOk, OnOk, IsTrue, MatchOption, length, map};
+ghost use Rattle.thumb_model.specs.Sides.{AreOver};
+ghost use Rattle.window_exec.specs.declared.state.WState.{WState as State};
 ghost use Rattle.window_exec.specs.State.{seen};
+ghost use Rattle.window_exec.specs.Seen.{Seen};
 ghost use Rattle.seq_enum.specs.Lists.{ascends_from};
 ghost use Rattle.seq_enum.specs.Alphabet.{alphabet};
 ghost use Rattle.outcomes.specs.Trials.{AreTrials};
-ghost use Rattle.outcomes.specs.Tables.{AreTables};
-ghost use Rattle.outcomes.specs.Candidates.{AreCandidates};
-ghost use Rattle.rule_table.specs.Valid.{numbers_of};
+ghost use Rattle.outcomes.specs.Tables.{AreTables, IsFor};
+ghost use Rattle.rule_table.specs.Valid.{IsTable, numbers_of};
 ghost use Rattle.rule_table.specs.Views.{header_in, opened_of, rule_of, table_of};
 ghost use Rattle.proof_logs.specs.Verdicts.{Answers};
 ghost use Rattle.table_audit.specs.declared.errors.AuditError.TheVariants.{Memory, Entry as OfEntry};
 ghost use Rattle.table_audit.specs.declared.errors.EntryFault.TheVariants.{Untold};
 ghost use Rattle.table_audit.specs.Canonical.{HasFormula};
-ghost use Rattle.table_audit.specs.Shorter.{shorter, is_named};
+ghost use Rattle.table_audit.specs.Shorter.{below, IsTold, is_named};
 ghost use Rattle.table_audit.specs.Naming.{first_of};
+ghost use Rattle.table_audit.specs.Lighter.{CoverUntold};
 ghost use Rattle.table_audit.specs.Sides.{alphabet_registers};
-ghost use Rattle.table_audit.specs.Acceptance.{ToldVerdict};
+ghost use Rattle.table_audit.specs.Acceptance.{lengths_below, ToldVerdict};
 
 use crate::errors::{AuditError, EntryFault};
+use crate::lighter::few_lighter;
 use crate::sides::alphabet_registers;
 use outcomes::{Outcomes, Tables, Trial, candidates, is_told};
 use rule_table::{Entry, Open, Table};
-use std::alloc::Global;
+use seq_enum::weight;
+use std::alloc::{AllocError, Global};
 use step_ledger::{Ledger, Steps};
+use thumb_instr::Seq;
 use window_exec::WState;
 
 /// Whether a number is named open. The numbers named open ascend.
@@ -48,7 +54,25 @@ fn first_of(states: &[WState]) -> WState
     }
 }
 
-/// The first of the candidates that isn't named open and that no state tells from the left side.
+/// Whether a sequence isn't named open, and no state tells it from the left side.
+fn is_untold<L: Ledger>(
+    entry: &Entry,
+    number: u64,
+    seq: &Seq,
+    trials: &[Trial],
+    steps: &mut Steps<L>,
+) -> bool
+    requires ascending { ascends_from 0 (numbers_of (map opened_of entry.now.opens.items)) ≡ true }
+    requires over { AreOver 4 seq.now }
+    ensures untold { (states : List Seen) → AreTrials entry.now.left states trials.now
+        → IsTrue result ↔ (is_named (map opened_of entry.now.opens.items) number ≡ false) × (IsTold states entry.now.left seq.now entry.now.mask.items.bits → ⊥) }
+    ensures cost { steps.new ≤ steps.old + length trials.now * length seq.now }
+{
+    !is_named(&entry.opens, number) && !is_told(trials, seq.as_slice(), entry.mask, steps)
+}
+
+/// The number of the first sequence below the right side, by weight and then by number, that isn't named open and that no state tells from the left side,
+/// where each such is among the numbers given.
 fn first_untold<L: Ledger>(
     table: &Table,
     entry: &Entry,
@@ -57,32 +81,60 @@ fn first_untold<L: Ledger>(
     trials: &[Trial],
     steps: &mut Steps<L>,
 ) -> Option<u64>
-    requires some { 0 < length entry.now.right }
-    requires short { length entry.now.right ≤ 5 }
     requires letters { outcomes.now.letters ≡ alphabet (alphabet_registers (header_in table.now) entry.now.left) table.now.pool }
+    requires few { length entry.now.left ≤ 5 }
     requires ascending { ascends_from 0 (numbers_of (map opened_of entry.now.opens.items)) ≡ true }
     requires trials { AreTrials entry.now.left (map seen table.now.states) trials.now }
-    requires candidates { AreCandidates (shorter (table_of table.now) (rule_of entry.now)) trials.now entry.now.mask.items.bits numbers.now }
+    requires numbers { CoverUntold (table_of table.now) (rule_of entry.now) numbers.now }
     ensures verdict { (number : ℕ) → MatchOption result (ToldVerdict (table_of table.now) number (rule_of entry.now) None)
         (λ q. ToldVerdict (table_of table.now) number (rule_of entry.now) (Some (OfEntry number (Untold q)))) }
-    ensures cost { steps.new ≤ steps.old + length numbers.now * (length trials.now * (length entry.now.right - 1)) }
+    ensures cost { steps.new ≤ steps.old + length (below (header_in table.now) entry.now.left entry.now.right) * (length table.now.states * length entry.now.left) }
 {
+    let mut first = None;
+    let mut limit = weight(&table.costs, &entry.right);
     for number in numbers {
-        match outcomes.sequence_at(*number) {
-            None => unreachable!(),
-            Some(seq) => {
-                if !is_named(&entry.opens, *number)
-                    && !is_told(trials, seq.as_slice(), entry.mask, steps)
-                {
-                    return Some(*number);
-                }
-            }
+        let Some(seq) = outcomes.sequence_at(*number) else {
+            unreachable!();
+        };
+        let weight = weight(&table.costs, &seq);
+        if weight < limit && is_untold(entry, *number, &seq, trials, steps) {
+            first = Some(*number);
+            limit = weight;
         }
     }
-    None
+    first
 }
 
-/// Tells the lowest number of a sequence, shorter than the right side, that isn't named open and that no state tells from the left side. The
+/// Numbers, ascending, of sequences no longer than the left side, with each that is below the right side and that the first state doesn't tell from the
+/// left side. The table of outcomes grows where that pays.
+fn numbers_to_try<L: Ledger>(
+    alloc: Global,
+    table: &Table,
+    entry: &Entry,
+    outcomes: &mut Outcomes,
+    trials: &[Trial],
+    steps: &mut Steps<L>,
+) -> Result<Vec<u64>, AllocError>
+    requires table { IsTable (table_of table.now) }
+    requires some { 0 < length entry.now.right }
+    requires no_longer { length entry.now.right ≤ length entry.now.left }
+    requires short { lengths_below table.now.costs (length entry.now.left) ≤ 5 }
+    requires letters { outcomes.old.letters ≡ alphabet (alphabet_registers (header_in table.now) entry.now.left) table.now.pool }
+    requires start { outcomes.old.start ≡ first_of table.now.states }
+    requires trials { AreTrials entry.now.left (map seen table.now.states) trials.now }
+    ensures numbers { IfOk result (λ v. CoverUntold (table_of table.now) (rule_of entry.now) v.items) }
+    ensures same { OnOk result ((k : ℕ) (pool : List ℕ) (start : State) → IsFor k pool start outcomes.old → IsFor k pool start outcomes.new) }
+    ensures cost { steps.new ≤ steps.old + 128 * length (below (header_in table.now) entry.now.left entry.now.right) }
+{
+    let limit = weight(&table.costs, &entry.right);
+    let longest = entry.left.len().min(limit as usize - 1) as u8;
+    match few_lighter(alloc, &table.costs, outcomes, longest, limit)? {
+        Some(numbers) => Ok(numbers),
+        None => candidates(alloc, outcomes, longest, trials, entry.mask, steps),
+    }
+}
+
+/// Tells the first sequence below the right side, by weight and then by number, that isn't named open and that no state tells from the left side. The
 /// tables are kept from entry to entry.
 pub(crate) fn check_told<L: Ledger>(
     alloc: Global,
@@ -93,30 +145,32 @@ pub(crate) fn check_told<L: Ledger>(
     tables: &mut Tables,
     steps: &mut Steps<L>,
 ) -> Result<(), AuditError>
+    requires table { IsTable (table_of table.now) }
     requires formula { HasFormula (header_in table.now) (rule_of entry.now) }
+    requires no_longer { length entry.now.right ≤ length entry.now.left }
+    requires short { lengths_below table.now.costs (length entry.now.left) ≤ 5 }
     requires ascending { ascends_from 0 (numbers_of (map opened_of entry.now.opens.items)) ≡ true }
     requires trials { AreTrials entry.now.left (map seen table.now.states) trials.now }
     requires kept { AreTables table.now.pool (first_of table.now.states) tables.old }
     ensures kept { AreTables table.now.pool (first_of table.now.states) tables.new }
     ensures answers { Answers Memory result (ToldVerdict (table_of table.now) number (rule_of entry.now)) }
-    ensures cost { steps.new ≤ steps.old + length (shorter (table_of table.now) (rule_of entry.now)) * (length trials.now * length entry.now.right) }
+    ensures cost { steps.new ≤ steps.old + length (below (header_in table.now) entry.now.left entry.now.right) * (128 + length table.now.states * length entry.now.left) }
 {
     if entry.right.is_empty() {
         return Ok(());
     }
     let k = alphabet_registers(table, entry);
-    let longest = entry.right.len() as u8 - 1;
     let start = first_of(table.states.as_slice());
     let mut outcomes = tables.take(alloc, k, &table.pool, start)?;
-    let numbers = candidates(alloc, &mut outcomes, longest, trials, entry.mask, steps)?;
+    let numbers = numbers_to_try(alloc, table, entry, &mut outcomes, trials, steps)?;
     let untold = first_untold(table, entry, &outcomes, &numbers, trials, steps);
     tables.put(outcomes);
     match untold {
         None => Ok(()),
-        Some(lowest) => {
+        Some(first) => {
             Err(AuditError::Entry {
                 number,
-                kind: EntryFault::Untold(lowest),
+                kind: EntryFault::Untold(first),
             })
         }
     }

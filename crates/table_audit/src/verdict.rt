@@ -7,7 +7,7 @@ ghost use Rattle.proof_logs.specs.Verdicts.{Answers, Then};
 ghost use Rattle.outcomes.specs.Tables.{AreTables};
 ghost use Rattle.table_audit.specs.Naming.{first_of};
 ghost use Rattle.table_audit.specs.Canonical.{HasFormula};
-ghost use Rattle.table_audit.specs.Acceptance.{ToldVerdict, OpensVerdict, EntryVerdict, EntriesVerdict, TableVerdict};
+ghost use Rattle.table_audit.specs.Acceptance.{lengths_below, ToldVerdict, OpensVerdict, EntryVerdict, EntriesVerdict, TableVerdict};
 ghost use Rattle.table_audit.specs.Costs.{runs_cost, open_cost, entry_cost, entries_cost, table_cost};
 
 use crate::audited::Audited;
@@ -24,7 +24,7 @@ use rule_table::{Entry, Table};
 use std::alloc::Global;
 use step_ledger::{Ledger, Steps};
 
-/// Tells the lowest shorter sequence that is neither named open nor told by a state, or the first number that isn't rightly named open.
+/// Tells the first sequence below the right side that is neither named open nor told by a state, or the first number that isn't rightly named open.
 #[tactic(auto, using(crate::proofs::Fitting::ordered_of))]
 fn check_shorter<L: Ledger>(
     alloc: Global,
@@ -34,8 +34,11 @@ fn check_shorter<L: Ledger>(
     tables: &mut Tables,
     steps: &mut Steps<L>,
 ) -> Result<(), AuditError>
+    requires table { IsTable (table_of table.now) }
+    requires states { 64 ≤ length table.now.states }
     requires formula { HasFormula (header_in table.now) (rule_of entry.now) }
     requires no_longer { length entry.now.right ≤ length entry.now.left }
+    requires short { lengths_below table.now.costs (length entry.now.left) ≤ 5 }
     requires ascending { ascends_from 0 (numbers_of (map opened_of entry.now.opens.items)) ≡ true }
     requires kept { AreTables table.now.pool (first_of table.now.states) tables.old }
     ensures kept { AreTables table.now.pool (first_of table.now.states) tables.new }
@@ -58,6 +61,9 @@ fn check_entry<L: Ledger>(
     tables: &mut Tables,
     steps: &mut Steps<L>,
 ) -> Result<(), AuditError>
+    requires table { IsTable (table_of table.now) }
+    requires states { 64 ≤ length table.now.states }
+    requires short { lengths_below table.now.costs table.now.left ≤ 5 }
     requires ascending { ascends_from 0 (numbers_of (map opened_of entry.now.opens.items)) ≡ true }
     requires kept { AreTables table.now.pool (first_of table.now.states) tables.old }
     ensures kept { AreTables table.now.pool (first_of table.now.states) tables.new }
@@ -80,7 +86,9 @@ fn check_entries<L: Ledger>(
     table: &Table,
     steps: &mut Steps<L>,
 ) -> Result<(), AuditError>
-    requires { IsTable (table_of table.now) }
+    requires table { IsTable (table_of table.now) }
+    requires states { 64 ≤ length table.now.states }
+    requires short { lengths_below table.now.costs table.now.left ≤ 5 }
     ensures answers { Answers AuditError.Memory result (EntriesVerdict (table_of table.now)) }
     ensures cost { steps.new ≤ steps.old + entries_cost (table_of table.now) }
 {
@@ -108,9 +116,10 @@ fn check_table<L: Ledger>(
 }
 
 /// Accepts a table, or tells the first cause for which it is refused, and gives the table up. In order: the first of the seed's states that
-/// is missing or another; that there are too many shorter sequences; then entry by entry its sides, the first line of its proof that isn't
-/// accepted, that the proof comes to no empty clause, the lowest shorter sequence that is neither named open nor told by a state, and the
-/// first number that isn't rightly named open; then family by family that it can't be raised so, and its proof.
+/// is missing or another; that there are too many sequences that may be below a right side; then entry by entry its sides, the first line of its proof that
+/// isn't accepted, that the proof comes to no empty clause, the first sequence below the right side, by weight and then by number, that is neither named open
+/// nor told by a state, and the first number that isn't rightly named open; then family by family that it can't be raised so, and its proof. A sequence is
+/// below the right side where it is no longer than the left side and weighs less than the right side: it costs less, or without costs it is shorter.
 ///
 /// A step is an instruction that is run, a sequence whose outcome is worked out, or a look at a literal of a clause.
 pub fn audit<L: Ledger>(

@@ -1,44 +1,67 @@
-//! How many shorter sequences there are, and which they are.
-ghost use Rattle.std.specs.Prelude.{◌≡◌, ◌<◌, ◌≤◌, IfSome, length, slice_get};
+//! How many sequences are below right sides, and which they are.
+ghost use Rattle.std.specs.Prelude.{◌≡◌, ◌<◌, ◌≤◌, IfSome, length};
 ghost use Rattle.thumb_model.specs.Sides.{AreOver};
 ghost use Rattle.rule_table.specs.Valid.{IsTable};
 ghost use Rattle.rule_table.specs.Views.{table_of};
 ghost use Rattle.proof_logs.specs.Verdicts.{Answers};
 ghost use Rattle.table_audit.specs.declared.errors.AuditError.TheVariants.{Memory};
-ghost use Rattle.table_audit.specs.Shorter.{sequences_below};
-ghost use Rattle.table_audit.specs.Acceptance.{WideVerdict};
+ghost use Rattle.table_audit.specs.Shorter.{lighter_at, sequences_below};
+ghost use Rattle.table_audit.specs.Acceptance.{lengths_below, WideVerdict};
 
 use crate::errors::AuditError;
 use crate::sides::with_scratch;
 use outcomes::count_below;
 use rule_table::Table;
-use seq_enum::{Pool, seq_at, size};
+use seq_enum::{Costs, Pool, seq_at, size, weight};
 use thumb_instr::Seq;
 
-/// The greatest number of shorter sequences that a table may have.
+/// The greatest number of sequences that may have to be told from an entry.
 const WIDEST: u64 = 5_000_000;
 
 /// How many sequences of the first `k` registers and a pool have fewer than `count` instructions.
 pub fn count_shorter(k: u8, pool: &Pool, count: u8) -> u64
     requires some { 0 < k }
     requires few { k ≤ 4 }
-    requires short { count ≤ 5 }
+    requires short { count ≤ 6 }
     ensures { result ≡ length (sequences_below k pool.now count) }
 {
     count_below(size(k, pool), u32::from(count))
 }
 
-/// The sequence of a number, of the first `k` registers and a pool, where it has fewer than `count` instructions.
-pub fn shorter_at(k: u8, pool: &Pool, count: usize, number: u64) -> Option<Seq>
+/// How many sequences of the first `k` registers and a pool an entry may have to be told from at most, whose left side has at most so many instructions:
+/// all that are shorter, and with costs those that are as long too.
+pub fn width(costs: &Option<Costs>, k: u8, pool: &Pool, left: u8) -> u64
     requires some { 0 < k }
     requires few { k ≤ 4 }
-    requires short { count ≤ 5 }
-    ensures value { result ≡ slice_get (sequences_below k pool.now count) number }
+    requires short { left ≤ 5 }
+    ensures { result ≡ length (sequences_below k pool.now (lengths_below costs.now left)) }
+{
+    let count = match costs {
+        None => left,
+        Some(_) => left + 1,
+    };
+    count_shorter(k, pool, count)
+}
+
+/// The sequence of a number, of the first `k` registers and a pool, where it is no longer than a left side and weighs less than another side.
+pub fn below_at(
+    costs: &Option<Costs>,
+    k: u8,
+    pool: &Pool,
+    left: &Seq,
+    side: &Seq,
+    number: u64,
+) -> Option<Seq>
+    requires some { 0 < k }
+    requires few { k ≤ 4 }
+    ensures value { result ≡ lighter_at costs.now k pool.now left.now side.now number }
     ensures over { IfSome result (λ seq. AreOver k seq) }
-    ensures shorter { IfSome result (λ seq. length seq < count) }
+    ensures no_longer { IfSome result (λ seq. length seq ≤ length left.now) }
 {
     match seq_at(k, pool, number) {
-        Some(seq) if seq.len() < count => Some(seq),
+        Some(seq) if seq.len() <= left.len() && weight(costs, &seq) < weight(costs, side) => Some(
+            seq,
+        ),
         _ => None,
     }
 }
@@ -49,7 +72,7 @@ pub(crate) fn check_width(table: &Table) -> Result<(), AuditError>
     ensures { Answers Memory result (WideVerdict (table_of table.now)) }
 {
     let registers = with_scratch(table.regs, table.scratch);
-    let width = count_shorter(registers, &table.pool, table.left);
+    let width = width(&table.costs, registers, &table.pool, table.left);
     if width > WIDEST {
         return Err(AuditError::Wide(width));
     }

@@ -1,86 +1,85 @@
-use Rattle.std.proofs.Common.{◌≡◌, ◌≤◌, ◌-◌, ◌∙◌, inl, inr, false, sym, ap, subst, arith, length, map, get_or}
+use Rattle.std.proofs.Common.{◌≡◌, ◌+◌, ◌*◌, ◌<◌, ◌≤◌, ◌∙◌, Some, get_or, length, sum_by, map, sym, ap, subst, arith}
 use Rattle.std.proofs.lemmas.Bool.{false≢true}
-use Rattle.window_exec.specs.State.{seen}
+use Rattle.std.proofs.lemmas.List.{length-map}
+use Rattle.std.proofs.lemmas.Option.{slice_get-get_or}
 use Rattle.thumb_model.specs.Sides.{AreOver}
-use Rattle.rule_table.specs.Views.{header_in, opened_of, rule_of, table_of}
+use Rattle.window_exec.specs.State.{seen}
+use Rattle.rule_table.specs.Views.{header_in, rule_of, table_of}
 use Rattle.table_audit.specs.Sides.{alphabet_registers}
-use Rattle.table_audit.specs.Shorter.{shorter, IsTold, is_named}
-use Rattle.table_audit.proofs.Counting.{run_cost, no_cost, within_cost, end_cost}
-use Rattle.table_audit.proofs.Tellings.{told_is}
+use Rattle.table_audit.specs.Shorter.{weight_in, IsBelow, below}
+use Rattle.table_audit.specs.Acceptance.{IsUntold}
+use Rattle.table_audit.specs.Naming.{told_cost}
+use Rattle.table_audit.proofs.Below.{below_is, run_within, told_most}
+use Rattle.table_audit.proofs.Counting.{entries_next, entries_end}
+use Rattle.table_audit.proofs.Openings.{as_many}
+use Rattle.table_audit.proofs.Settling.{SettledBefore, cover_there, cover_at, settled_heavy, settled_told, settled_first, settled_verdict}
 use Rattle.table_audit.proofs.Walking.{over_more, numbered_over}
-use Rattle.table_audit.proofs.Settling.{here, not_here, settled_first, settled_next, untold_verdict, told_verdict, candidate_low}
 use Rattle.table_audit.proofs.told.first_untold.Goals as goal
-use Rattle.table_audit.proofs.told.first_untold.Goals.{else-not-is_named-via-then-not-is_named+else-not-is_told, else-not-is_named-via-else-not-is_named}
-
-pub loop-number-init : goal.loop-number-init
-loop-number-init g c = record {
-  settled = settled_first (table_of c.args.table.now) (rule_of c.args.entry.now) c.args.trials.now c.args.numbers.now c.args.entry.now.mask.in_masks c.requires.trials c.requires.candidates;
-  cost = omega arith;
-}
+use Rattle.table_audit.proofs.told.first_untold.Goals.{then-weight-limit+then-is_untold, else-weight-limit, else-weight-limit-via-then-weight-limit+else-is_untold, else-weight-limit-via-else-weight-limit}
 
 pub unreachable-requires : goal.unreachable-requires
 unreachable-requires g c =
-    let low = candidate_low (shorter (table_of c.args.table.now) (rule_of c.args.entry.now)) c.args.trials.now c.args.entry.now.mask.items.bits c.args.numbers.now c.loop-number.number-index c.loop-number-test.true c.requires.candidates in
-    not_here (alphabet_registers (header_in c.args.table.now) c.args.entry.now.left) c.args.table.now.pool (length c.args.entry.now.right) _ c.args.outcomes.now.letters c.sequence_at.result (omega (arith, c.requires.short)) c.requires.letters low c.sequence_at.ensures c.in-None.is
+    cover_there (table_of c.args.table.now) (rule_of c.args.entry.now) c.args.numbers.now c.loop-number.number-index c.loop-number-test.true c.requires.numbers c.args.outcomes.now.letters c.requires.letters c.sequence_at.result c.sequence_at.ensures c.in_default.is
 
-pub is_told-requires : goal.is_told-requires
-is_told-requires g c =
-    let low = candidate_low (shorter (table_of c.args.table.now) (rule_of c.args.entry.now)) c.args.trials.now c.args.entry.now.mask.items.bits c.args.numbers.now c.loop-number.number-index c.loop-number-test.true c.requires.candidates in
-    let h = here (alphabet_registers (header_in c.args.table.now) c.args.entry.now.left) c.args.table.now.pool (length c.args.entry.now.right) _ c.args.outcomes.now.letters c.sequence_at.result c.in-Some.seq (omega (arith, c.requires.short)) c.requires.letters low c.sequence_at.ensures c.in-Some.is in
-    subst (AreOver 4) (sym c.as_slice.ensures.value) (over_more (alphabet_registers (header_in c.args.table.now) c.args.entry.now.left) 4 c.in-Some.seq (omega arith) (numbered_over (alphabet_registers (header_in c.args.table.now) c.args.entry.now.left) c.args.table.now.pool _ c.in-Some.seq (omega arith) h.all))
-
-pub returns-then-not-is_told-clause-verdict : goal.returns-then-not-is_told-clause-verdict
-returns-then-not-is_told-clause-verdict g c = λ number.
-    let t = table_of c.args.table.now in
-    let e = rule_of c.args.entry.now in
-    let low = candidate_low (shorter t e) c.args.trials.now c.args.entry.now.mask.items.bits c.args.numbers.now c.loop-number.number-index c.loop-number-test.true c.requires.candidates in
-    let h = here (alphabet_registers (header_in c.args.table.now) c.args.entry.now.left) c.args.table.now.pool (length c.args.entry.now.right) _ c.args.outcomes.now.letters c.sequence_at.result c.in-Some.seq (omega (arith, c.requires.short)) c.requires.letters low c.sequence_at.ensures c.in-Some.is in
-    let states = told_is c.args.entry.now.left (map seen c.args.table.now.states) c.args.trials.now c.as_slice.result.now c.args.entry.now.mask.items.bits c.requires.trials in
-    let unnamed : is_named (map opened_of c.args.entry.now.opens.items) (get_or c.args.numbers.now c.loop-number.number-index 0) ≡ false =
-    sym (c.is_named.ensures ∙ ap (λ os. is_named (map opened_of os) (get_or c.args.numbers.now c.loop-number.number-index 0)) c.deref.ensures.value) ∙ c.if-not-is_named.true in
-    let untold : IsTold (map seen c.args.table.now.states) c.args.entry.now.left c.in-Some.seq c.args.entry.now.mask.items.bits → ⊥ = λ told.
-    false≢true (sym c.if-not-is_told.true ∙ c.is_told.ensures.told.1 (states.1 (subst (λ s. IsTold (map seen c.args.table.now.states) c.args.entry.now.left s c.args.entry.now.mask.items.bits) (sym c.as_slice.ensures.value) told))) in
-    untold_verdict t e number c.args.numbers.now c.loop-number.number-index c.in-Some.seq c.loop-number-test.true c.requires.candidates.ascending c.loop-number.invariant.settled h.at
-    (λ settled. elim settled [
-      | inl named ↦ false≢true (sym unnamed ∙ named)
-      | inr told ↦ untold told
-    ])
-
-pub returns-then-not-is_told-clause-cost : goal.returns-then-not-is_told-clause-cost
-returns-then-not-is_told-clause-cost g c =
-    let low = candidate_low (shorter (table_of c.args.table.now) (rule_of c.args.entry.now)) c.args.trials.now c.args.entry.now.mask.items.bits c.args.numbers.now c.loop-number.number-index c.loop-number-test.true c.requires.candidates in
-    let h = here (alphabet_registers (header_in c.args.table.now) c.args.entry.now.left) c.args.table.now.pool (length c.args.entry.now.right) _ c.args.outcomes.now.letters c.sequence_at.result c.in-Some.seq (omega (arith, c.requires.short)) c.requires.letters low c.sequence_at.ensures c.in-Some.is in
-    let short : length c.as_slice.result.now ≤ length c.args.entry.now.right - 1 = omega (arith, ap length c.as_slice.ensures.value, h.short) in
-    within_cost _ _ c.loop-number.number-index _ _ (run_cost c.loop-number.steps _ _ c.loop-number.number-index _ _ _ c.loop-number.invariant.cost c.is_told.ensures.cost short) c.loop-number-test.true
+pub is_untold-requires-clause-over : goal.is_untold-requires-clause-over
+is_untold-requires-clause-over g c =
+    let k = alphabet_registers (header_in c.args.table.now) c.args.entry.now.left in
+    let at = cover_at (table_of c.args.table.now) (rule_of c.args.entry.now) c.args.numbers.now c.loop-number.number-index c.loop-number-test.true c.requires.numbers c.args.outcomes.now.letters c.requires.letters c.sequence_at.result c.sequence_at.ensures c.in-Some.seq c.in-Some.is in
+    over_more k 4 c.in-Some.seq (omega arith) (numbered_over k c.args.table.now.pool _ c.in-Some.seq (omega arith) at.0)
 
 pub loop-number-preserved : goal.loop-number-preserved
 loop-number-preserved g c =
     let t = table_of c.args.table.now in
     let e = rule_of c.args.entry.now in
     let i = c.loop-number.number-index in
-    let low = candidate_low (shorter t e) c.args.trials.now c.args.entry.now.mask.items.bits c.args.numbers.now i c.loop-number-test.true c.requires.candidates in
-    let h = here (alphabet_registers (header_in c.args.table.now) c.args.entry.now.left) c.args.table.now.pool (length c.args.entry.now.right) _ c.args.outcomes.now.letters c.sequence_at.result c.in-Some.seq (omega (arith, c.requires.short)) c.requires.letters low c.sequence_at.ensures c.in-Some.is in
-    let test : c.is_named.result ≡ is_named (map opened_of c.args.entry.now.opens.items) (get_or c.args.numbers.now i 0) =
-    c.is_named.ensures ∙ ap (λ os. is_named (map opened_of os) (get_or c.args.numbers.now i 0)) c.deref.ensures.value in
-    elim c.else-not-is_named.branch [
-      | else-not-is_named-via-then-not-is_named+else-not-is_told w ↦ (
-          let states = told_is c.args.entry.now.left (map seen c.args.table.now.states) c.args.trials.now w.as_slice.result.now c.args.entry.now.mask.items.bits c.requires.trials in
-          let told : IsTold (map seen c.args.table.now.states) c.args.entry.now.left c.in-Some.seq c.args.entry.now.mask.items.bits =
-          subst (λ s. IsTold (map seen c.args.table.now.states) c.args.entry.now.left s c.args.entry.now.mask.items.bits) w.as_slice.ensures.value (states.0 (w.is_told.ensures.told.0 w.if-not-is_told.false)) in
-          let short : length w.as_slice.result.now ≤ length c.args.entry.now.right - 1 = omega (arith, ap length w.as_slice.ensures.value, h.short) in
+    let numbers = c.args.numbers.now in
+    let low : i < length numbers = c.loop-number-test.true in
+    let seq = c.in-Some.seq in
+    let at = cover_at t e numbers i low c.requires.numbers c.args.outcomes.now.letters c.requires.letters c.sequence_at.result c.sequence_at.ensures seq c.in-Some.is in
+    let weight : c.weight-weight.result ≡ weight_in t.header seq = c.weight-weight.ensures.value in
+    let before = c.loop-number.invariant.settled in
+    let stands = slice_get-get_or numbers i 0 low in
+    elim c.if-weight-limit.branch [
+      | then-weight-limit+then-is_untold w ↦ (
+          let tests = (w.is_untold.ensures.untold (map seen c.args.table.now.states) c.requires.trials).0 w.if-is_untold.true in
+          let light : weight_in t.header seq < c.loop-number.limit = omega (arith, weight, w.if-weight-limit.true) in
+          let below : IsBelow t.header e.left e.right (get_or numbers i 0) seq = record { at = at.0; no_longer = at.1; lighter = omega (arith, light, before.most) } in
+          let untold : IsUntold t e (get_or numbers i 0) seq = record { below = below; unnamed = tests.0; untold = tests.1 } in
           record {
-            settled = settled_next t e c.args.numbers.now i c.loop-number-test.true c.loop-number.invariant.settled c.in-Some.seq h.at (inr told);
-            cost = rw w.steps-is (run_cost c.loop-number.steps _ _ i _ _ _ c.loop-number.invariant.cost w.is_told.ensures.cost short);
+            settled = rw (w.first-is, w.limit-is) (subst (SettledBefore t e numbers (i + 1) (Some (get_or numbers i 0))) (sym weight)
+                (settled_first t e numbers i low c.requires.numbers.ascending seq at.0 c.loop-number.first c.loop-number.limit before light untold));
+            cost = rw w.steps-is (entries_next (told_cost t e) numbers i _ _ _ (get_or numbers i 0) stands c.loop-number.invariant.cost
+                (run_within t e (get_or numbers i 0) seq _ _ _ _ (below_is t.header e.left e.right (get_or numbers i 0) seq below) (as_many e.left t.states c.args.trials.now c.requires.trials) at.1 w.is_untold.ensures.cost));
           }
           )
-      | else-not-is_named-via-else-not-is_named w ↦ record {
-        settled = settled_next t e c.args.numbers.now i c.loop-number-test.true c.loop-number.invariant.settled c.in-Some.seq h.at (inl (sym test ∙ w.if-not-is_named.false));
-        cost = rw w.steps-is (no_cost c.loop-number.steps _ i _ c.loop-number.invariant.cost);
-      }
+      | else-weight-limit w ↦ elim w.else-weight-limit.branch [
+        | else-weight-limit-via-then-weight-limit+else-is_untold v ↦ (
+            let light : weight_in t.header seq < c.loop-number.limit = omega (arith, weight, v.if-weight-limit.true) in
+            let below : IsBelow t.header e.left e.right (get_or numbers i 0) seq = record { at = at.0; no_longer = at.1; lighter = omega (arith, light, before.most) } in
+            let tests = (v.is_untold.ensures.untold (map seen c.args.table.now.states) c.requires.trials).1 in
+            record {
+              settled = rw (w.first-is, w.limit-is) (settled_told t e numbers i low c.requires.numbers.ascending seq at.0 c.loop-number.first c.loop-number.limit before
+                  (λ u. false≢true (sym v.if-is_untold.false ∙ tests (u.unnamed, u.untold))));
+              cost = rw (w.steps-is, v.steps-is) (entries_next (told_cost t e) numbers i _ _ _ (get_or numbers i 0) stands c.loop-number.invariant.cost
+                  (run_within t e (get_or numbers i 0) seq _ _ _ _ (below_is t.header e.left e.right (get_or numbers i 0) seq below) (as_many e.left t.states c.args.trials.now c.requires.trials) at.1 v.is_untold.ensures.cost));
+            }
+            )
+        | else-weight-limit-via-else-weight-limit v ↦ record {
+          settled = rw (w.first-is, w.limit-is) (settled_heavy t e numbers i low c.requires.numbers.ascending seq at.0 c.loop-number.first c.loop-number.limit before (omega (arith, weight, v.if-weight-limit.false)));
+          cost = rw (w.steps-is, v.steps-is) (entries_next (told_cost t e) numbers i _ _ c.loop-number.steps (get_or numbers i 0) stands c.loop-number.invariant.cost (omega arith));
+        }
+      ]
     ]
 
 pub returns-clause-verdict : goal.returns-clause-verdict
-returns-clause-verdict g c = λ number. told_verdict (table_of c.args.table.now) (rule_of c.args.entry.now) number c.args.numbers.now c.loop-number.number-index c.loop-number-test.false c.loop-number.invariant.settled
+returns-clause-verdict g c = λ number. settled_verdict (table_of c.args.table.now) (rule_of c.args.entry.now) number c.args.numbers.now c.loop-number.number-index c.loop-number.first c.loop-number.limit c.loop-number-test.false c.loop-number.invariant.settled
 
 pub returns-clause-cost : goal.returns-clause-cost
-returns-clause-cost g c = end_cost _ _ c.loop-number.number-index _ _ c.loop-number.invariant.cost (omega (arith, c.loop-number.auto.number-index-end))
+returns-clause-cost g c =
+    let all = entries_end (told_cost (table_of c.args.table.now) (rule_of c.args.entry.now)) c.args.numbers.now c.loop-number.number-index c.args.steps.now c.loop-number.steps c.loop-number.invariant.cost in
+    let states = length-map c.args.table.now.states seen in
+    let share = length (below (header_in c.args.table.now) c.args.entry.now.left c.args.entry.now.right) in
+    let most : sum_by (told_cost (table_of c.args.table.now) (rule_of c.args.entry.now)) c.args.numbers.now ≤ share * (length (map seen c.args.table.now.states) * length c.args.entry.now.left) =
+    told_most (table_of c.args.table.now) (rule_of c.args.entry.now) c.args.numbers.now c.requires.few c.requires.numbers.ascending in
+    let same = ap (λ n. share * (n * length c.args.entry.now.left)) states in
+    omega (arith, all, most, same)

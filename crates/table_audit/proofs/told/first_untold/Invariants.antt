@@ -1,11 +1,12 @@
-use Rattle.std.proofs.Common.{◌≤◌, ◌+◌, ◌-◌, ◌*◌, drop, length}
+use Rattle.std.proofs.Common.{◌≤◌, ◌+◌, sum_by, take}
 use Rattle.rule_table.specs.Views.{rule_of, table_of}
-use Rattle.table_audit.proofs.Settling.{AllSettledBut}
+use Rattle.table_audit.specs.Naming.{told_cost}
+use Rattle.table_audit.proofs.Settling.{SettledBefore}
 use Rattle.table_audit.proofs.told.first_untold.Given as goal
 
--- all sequences but the candidates that are still to come are settled
+-- the first untold one of the numbers so far is known, and what beats it
 abbrev pub invariant-loop-number : goal.invariant-loop-number
 invariant-loop-number g l = record {
-  settled : AllSettledBut (table_of l.table) (rule_of l.entry) (drop l.number-index l.numbers);
-  cost : l.steps ≤ l.initial.steps + l.number-index * (length l.trials * (length l.entry.right - 1));
+  settled : SettledBefore (table_of l.table) (rule_of l.entry) l.numbers l.number-index l.first l.limit;
+  cost : l.steps ≤ l.initial.steps + sum_by (told_cost (table_of l.table) (rule_of l.entry)) (take l.number-index l.numbers);
 }

@@ -17,7 +17,7 @@ check_entry-requires-clause-ascending g c =
     subst (λ es. slice_get (map rule_of es) c.loop-place.place ≡ Some (rule_of c.entry-item.result)) c.deref-entry-items.ensures.value (listed rule_of _ c.loop-place.place c.entry-item.result c.loop-place-test.true c.entry-item.is) in
     let low = slice_get_within (map rule_of c.args.table.now.entries.items) c.loop-place.place (rule_of c.entry-item.result) at in
     let rule : IsRule (rule_of c.entry-item.result) =
-    subst IsRule (get_or_from_slice_get (map rule_of c.args.table.now.entries.items) c.loop-place.place (rule_of c.entry-item.result) (rule_of c.entry-item.result) at) (c.requires.rules c.loop-place.place (rule_of c.entry-item.result) low) in
+    subst IsRule (get_or_from_slice_get (map rule_of c.args.table.now.entries.items) c.loop-place.place (rule_of c.entry-item.result) (rule_of c.entry-item.result) at) (c.requires.table.rules c.loop-place.place (rule_of c.entry-item.result) low) in
     rule.ascending
 
 pub returns-in_err-check_entry-clause-answers : goal.returns-in_err-check_entry-clause-answers

@@ -1,0 +1,446 @@
+-- Light sequences are found by putting letters behind those that were found before.
+use Rattle.std.proofs.Common.{◌≡◌, ℕ, zero, suc, ◌+◌, ◌-◌, ◌*◌, ◌/◌, ◌%◌, ◌^◌, ◌<◌, ◌≤◌, ◌⊎◌, ◌&&◌, inl, inr, Bool, true, false, List, [], ◌∷◌, ◌++◌, Option, Some, None, Contains, cond, filter, get_or, length, map, nat_lt, slice_get, refl, sym, ◌∙◌, ap, subst, arith, lt-ltb, add-one, append-nil, append_assoc, length-append, ◌↔◌}
+use Rattle.std.specs.Option.{option_map, option_and_then}
+use Rattle.std.proofs.Math.Nat.{mul-le-mul_left, mul-le-mul_right, pow-suc, pow-zero}
+use Rattle.std.proofs.lemmas.Bool.{and_parts, and_from, cases_lt, ltb-true}
+use Rattle.std.proofs.lemmas.List.{get_or_default, length-map}
+use Rattle.std.proofs.lemmas.List.Elements.{Contains-append_left, Contains-append_right, Contains-append_cases, Contains-get_or, filter-append}
+use Rattle.std.proofs.lemmas.Nat.{div-add-mod', mod_below}
+use Rattle.std.proofs.lemmas.Option.{slice_get_within, slice_get_cases, slice_get-map, slice_get-get_or, get_or_from_slice_get, option_and_then_some, same_Some}
+use Rattle.thumb_instr.specs.declared.instr.Instr.{Instr}
+use Rattle.seq_enum.specs.Lists.{numbers_from, ascends_from}
+use Rattle.seq_enum.specs.Alphabet.{words, sequences_of}
+use Rattle.seq_enum.specs.Costs.{cost_under, weight_under}
+use Rattle.seq_enum.proofs.Numbered.{get_front, get_back, get-flat_map, get-flat_map-digits, length-numbers, numbers_at}
+use Rattle.seq_enum.proofs.Words.{length-words, word_length, power_small}
+use Rattle.outcomes.specs.Outcomes.{sequences_below}
+use Rattle.outcomes.proofs.Growing.{below_none, below_more, below_longest, below_longer}
+use Rattle.outcomes.proofs.Looking.{filter_has, filter_in, filter_does, filter_ascends, numbers_ascend}
+use Rattle.fingerprints.proofs.Candidates.{numbers_split}
+use Rattle.table_audit.specs.Shorter.{is_lighter}
+use Rattle.table_audit.specs.Lighter.{AreLighter, is_light_letter, is_light_at}
+use Rattle.table_audit.proofs.Below.{weight_push, few_numbers}
+use Rattle.table_audit.proofs.Upcoming.{ascends_append, ascends_rises}
+
+-- ---- a sequence by its number ----
+
+pub whole : (letters : List Instr) → sequences_of letters ≡ sequences_below letters 6
+unfolding sequences_of sequences_below
+whole letters = refl
+
+-- where a sequence stands: behind all that are shorter, at its place among those that are as long
+abbrev LocatedAmong : List Instr → ℕ → ℕ → List Instr → Type 0
+LocatedAmong letters n q seq = (place : ℕ) × (q ≡ length (sequences_below letters n) + place) × (slice_get (words letters n) place ≡ Some seq)
+
+located : (letters : List Instr) (n q : ℕ) (seq : List Instr) → slice_get (sequences_below letters n) q ≡ Some seq → LocatedAmong letters (length seq) q seq × (length seq < n)
+located letters zero q seq e = absurd (let no : None ≡ Some seq = sym (ap (λ ws. slice_get ws q) (below_none letters)) ∙ e in cc)
+located letters (suc n) q seq e =
+    let front = sequences_below letters n in
+    let split : slice_get (front ++ words letters n) q ≡ Some seq =
+    ap (λ ws. slice_get ws q) (sym (ap (sequences_below letters) (sym (add-one n)) ∙ below_more letters n)) ∙ e in
+    elim (cases_lt q (length front)) [
+      | inl low ↦ (let r = located letters n q seq (sym (get_front front (words letters n) q low) ∙ split) in (r.0, omega (arith, r.1)))
+      | inr past ↦ (
+          let there : slice_get (words letters n) (q - length front) ≡ Some seq = sym (get_back front (words letters n) q past) ∙ split in
+          let size : length seq ≡ n = word_length letters n (q - length front) seq there in
+          let is : q ≡ length front + (q - length front) = omega (arith, past) in
+          (subst (λ m. LocatedAmong letters m q seq) (sym size) (q - length front, is, there), omega (arith, size))
+          )
+    ]
+
+-- how many are shorter
+shorter_count : (letters : List Instr) (n : ℕ) → length (sequences_below letters (n + 1)) ≡ length (sequences_below letters n) + length letters ^ n
+shorter_count letters n = ap (λ ws. length ws) (below_more letters n) ∙ length-append (sequences_below letters n) (words letters n) ∙ ap (λ m. length (sequences_below letters n) + m) (length-words letters n)
+
+-- the letters behind a sequence have the numbers from one on
+pub next_count : (letters : List Instr) (n : ℕ) → length (sequences_below letters (n + 1)) ≡ length (sequences_below letters n) * length letters + 1
+next_count letters zero =
+    let none : length (sequences_below letters 0) ≡ 0 = ap (λ ws. length ws) (below_none letters) in
+    let one : length letters ^ 0 ≡ 1 = pow-zero (length letters) in
+    let product : length (sequences_below letters 0) * length letters ≡ 0 = ap (λ n. n * length letters) none ∙ omega arith in
+    omega (arith, shorter_count letters 0, none, one, product)
+next_count letters (suc n) =
+    let again : length (sequences_below letters (suc n)) ≡ length (sequences_below letters n) * length letters + 1 = ap (λ m. length (sequences_below letters m)) (sym (add-one n)) ∙ next_count letters n in
+    let before : length (sequences_below letters (suc n)) ≡ length (sequences_below letters n) + length letters ^ n = ap (λ m. length (sequences_below letters m)) (sym (add-one n)) ∙ shorter_count letters n in
+    let power : length letters ^ suc n ≡ length letters ^ n * length letters = pow-suc (length letters) n in
+    let product : length (sequences_below letters (suc n)) * length letters ≡ (length (sequences_below letters n) + length letters ^ n) * length letters = ap (λ m. m * length letters) before in
+    omega (arith, shorter_count letters (suc n), again, power, product)
+
+-- there are not so many
+short_count : (letters : List Instr) (n : ℕ) → length letters ≤ 1952 → n ≤ 5 → length (sequences_below letters n) ≤ n * 1952 ^ 4
+short_count letters zero few h = omega (arith, ap (λ ws. length ws) (below_none letters))
+short_count letters (suc n) few h =
+    let more : length (sequences_below letters (suc n)) ≡ length (sequences_below letters n) + length letters ^ n = ap (λ m. length (sequences_below letters m)) (sym (add-one n)) ∙ shorter_count letters n in
+    omega (arith, more, short_count letters n few (omega (arith, h)), power_small (length letters) n few (omega (arith, h)))
+
+-- a word with a letter behind it, by place
+word_behind : (letters : List Instr) (n i j : ℕ) (w : List Instr) (x : Instr) → slice_get (words letters n) i ≡ Some w → slice_get letters j ≡ Some x → slice_get (words letters (suc n)) (i * length letters + j) ≡ Some (w ++ x ∷ [])
+unfolding words
+word_behind letters n i j w x front last =
+    get-flat_map (λ v. map (λ y. v ++ y ∷ []) letters) (length letters) (words letters n) (λ h v e. length-map letters (λ y. v ++ y ∷ [])) i j (slice_get_within letters j x last)
+    ∙ ap (option_and_then (λ v. slice_get (map (λ y. v ++ y ∷ []) letters) j)) front
+    ∙ slice_get-map (λ y. w ++ y ∷ []) letters j ∙ ap (option_map (λ y. w ++ y ∷ [])) last
+
+-- a word by its length and place is the sequence of its number
+word_at : (letters : List Instr) (n m i : ℕ) (w : List Instr) → n < m → slice_get (words letters n) i ≡ Some w → slice_get (sequences_below letters m) (length (sequences_below letters n) + i) ≡ Some w
+word_at letters n m i w h e =
+    let front = sequences_below letters n in
+    let there : length front + i - length front ≡ i = omega arith in
+    let at : slice_get (sequences_below letters (n + 1)) (length front + i) ≡ Some w =
+    ap (λ ws. slice_get ws (length front + i)) (below_more letters n) ∙ get_back front (words letters n) (length front + i) (omega arith) ∙ ap (slice_get (words letters n)) there ∙ e in
+    below_longest letters (n + 1) m (length front + i) w (omega (arith, h)) at
+
+-- the number of a sequence with a letter behind it
+pub longer_at : (letters : List Instr) (n m j : ℕ) (w : List Instr) (x : Instr) → slice_get (sequences_below letters n) m ≡ Some w → slice_get letters j ≡ Some x
+    → slice_get (sequences_below letters (n + 1)) (m * length letters + 1 + j) ≡ Some (w ++ x ∷ [])
+longer_at letters n m j w x e last =
+    let here = located letters n m w e in
+    let place = here.0 in
+    let base = length (sequences_below letters (length w)) in
+    let product : m * length letters ≡ (base + place.0) * length letters = ap (λ q. q * length letters) place.1 in
+    let number : length (sequences_below letters (length w + 1)) + (place.0 * length letters + j) ≡ m * length letters + 1 + j = omega (arith, next_count letters (length w), product) in
+    let word : slice_get (words letters (length w + 1)) (place.0 * length letters + j) ≡ Some (w ++ x ∷ []) =
+    ap (λ k. slice_get (words letters k) (place.0 * length letters + j)) (add-one (length w)) ∙ word_behind letters (length w) place.0 j w x place.2 last in
+    subst (λ q. slice_get (sequences_below letters (n + 1)) q ≡ Some (w ++ x ∷ [])) number
+    (word_at letters (length w + 1) (n + 1) (place.0 * length letters + j) (w ++ x ∷ []) (omega (arith, here.1)) word)
+
+-- a sequence by the one without its last letter
+record IsLonger (letters : List Instr) (n q : ℕ) (seq : List Instr) : Type 0 where
+  front : List Instr
+  number : ℕ
+  last : ℕ
+  letter : Instr
+  at : slice_get (sequences_below letters n) number ≡ Some front
+  is_letter : slice_get letters last ≡ Some letter
+  is : q ≡ number * length letters + 1 + last
+  parts : seq ≡ front ++ letter ∷ []
+
+first_or_longer : (letters : List Instr) (n q : ℕ) (seq : List Instr) → 0 < length letters → slice_get (sequences_below letters n) q ≡ Some seq → (q ≡ 0) ⊎ IsLonger letters n q seq
+unfolding words
+first_or_longer letters n q seq some e = by (length seq) refl
+  where
+    here : LocatedAmong letters (length seq) q seq × (length seq < n)
+    here = located letters n q seq e
+
+    by : (m : ℕ) → length seq ≡ m → (q ≡ 0) ⊎ IsLonger letters n q seq
+    by zero size =
+        let place : LocatedAmong letters 0 q seq = subst (λ k. LocatedAmong letters k q seq) size here.0 in
+        let none : length (sequences_below letters 0) ≡ 0 = ap (λ ws. length ws) (below_none letters) in
+        let low = slice_get_within (words letters 0) place.0 seq place.2 in
+        inl (omega (arith, place.1, none, low))
+    by (suc m) size =
+        let place : LocatedAmong letters (suc m) q seq = subst (λ k. LocatedAmong letters k q seq) size here.0 in
+        let i = place.0 in
+        let split : option_and_then (λ w. slice_get (map (λ x. w ++ x ∷ []) letters) (i % length letters)) (slice_get (words letters m) (i / length letters)) ≡ Some seq =
+        sym (get-flat_map-digits (λ w. map (λ x. w ++ x ∷ []) letters) (length letters) some (words letters m) (λ h w f. length-map letters (λ x. w ++ x ∷ [])) i) ∙ place.2 in
+        option_and_then_some (λ w. slice_get (map (λ x. w ++ x ∷ []) letters) (i % length letters)) (slice_get (words letters m) (i / length letters)) seq split (λ w front there.
+        last w front (slice_get letters (i % length letters)) refl (sym (slice_get-map (λ x. w ++ x ∷ []) letters (i % length letters)) ∙ there))
+      where
+        place_of : LocatedAmong letters (suc m) q seq
+        place_of = subst (λ k. LocatedAmong letters k q seq) size here.0
+
+        last : (w : List Instr) → slice_get (words letters m) (place_of.0 / length letters) ≡ Some w → (o : Option Instr) → slice_get letters (place_of.0 % length letters) ≡ o → option_map (λ x. w ++ x ∷ []) o ≡ Some seq
+            → (q ≡ 0) ⊎ IsLonger letters n q seq
+        last w front None at is = absurd (cc)
+        last w front (Some x) at is =
+            let i = place_of.0 in
+            let digits : i / length letters * length letters + i % length letters ≡ i = div-add-mod' i (length letters) in
+            let next : length (sequences_below letters (suc m)) ≡ length (sequences_below letters m) * length letters + 1 = ap (λ k. length (sequences_below letters k)) (sym (add-one m)) ∙ next_count letters m in
+            inr (record {
+              front = w;
+              number = length (sequences_below letters m) + i / length letters;
+              last = i % length letters;
+              letter = x;
+              at = word_at letters m n (i / length letters) w (omega (arith, here.1, size)) front;
+              is_letter = at;
+              is = omega (arith, place_of.1, digits, next);
+              parts = sym (same_Some (w ++ x ∷ []) seq is);
+            })
+
+-- ---- light sequences ----
+
+-- the number is that of a sequence of fewer than n letters, which weighs less than the limit
+pub record IsLight (costs : Option (List ℕ)) (letters : List Instr) (limit n q : ℕ) : Type 0 where
+  pub seq : List Instr
+  pub at : slice_get (sequences_below letters n) q ≡ Some seq
+  pub light : weight_under costs seq < limit
+
+-- the number is that of a sequence with a letter behind it
+pub record IsBehind (letters : List Instr) (number q : ℕ) : Type 0 where
+  pub from : number * length letters + 1 ≤ q
+  pub to : q < number * length letters + 1 + length letters
+
+-- within a count, a number's sequence is one of fewer letters
+within_count : (letters : List Instr) (n m q : ℕ) (seq : List Instr) → n ≤ m → slice_get (sequences_below letters m) q ≡ Some seq → q < length (sequences_below letters n) → slice_get (sequences_below letters n) q ≡ Some seq
+within_count letters n m q seq h e low = elim (slice_get_cases (sequences_below letters n) q).1 [
+  | inl p ↦ (let same : p.0 ≡ seq = same_Some p.0 seq (sym (below_longest letters n m q p.0 h p.2) ∙ e) in p.2 ∙ ap (λ z. Some z) same)
+  | inr p ↦ absurd (omega (arith, p.0, low))
+]
+
+-- of a light sequence the letters behind it that are tested are those that leave it light
+module _ (costs : Option (List ℕ)) (letters : List Instr) (limit n number : ℕ) (w : List Instr) (at : slice_get (sequences_below letters n) number ≡ Some w) (light : weight_under costs w < limit) where
+  abbrev begin : ℕ
+  begin = number * length letters + 1
+
+  abbrev keeps : ℕ → Bool
+  keeps = is_light_at costs letters begin (limit - weight_under costs w) (length (sequences_below letters n))
+
+  tested_light : (q : ℕ) → begin ≤ q → keeps q ≡ true → IsLight costs letters limit n q
+  tested_light q from h = by (slice_get letters (q - begin)) refl both.1
+    where
+      both : (nat_lt q (length (sequences_below letters n)) ≡ true) × (is_light_letter costs (limit - weight_under costs w) (slice_get letters (q - begin)) ≡ true)
+      both = and_parts (nat_lt q (length (sequences_below letters n))) (is_light_letter costs (limit - weight_under costs w) (slice_get letters (q - begin))) h
+
+      by : (o : Option Instr) → slice_get letters (q - begin) ≡ o → is_light_letter costs (limit - weight_under costs w) o ≡ true → IsLight costs letters limit n q
+      by None e k = absurd (cc)
+      by (Some x) e k =
+          let place : begin + (q - begin) ≡ q = omega (arith, from) in
+          let longer : slice_get (sequences_below letters (n + 1)) q ≡ Some (w ++ x ∷ []) = subst (λ r. slice_get (sequences_below letters (n + 1)) r ≡ Some (w ++ x ∷ [])) place (longer_at letters n number (q - begin) w x at e) in
+          record {
+            seq = w ++ x ∷ [];
+            at = within_count letters n (n + 1) q (w ++ x ∷ []) (omega arith) longer (ltb-true q (length (sequences_below letters n)) both.0);
+            light = omega (arith, weight_push costs w x, ltb-true (cost_under costs x) (limit - weight_under costs w) k, light);
+          }
+
+  light_tested : (q : ℕ) → IsBehind letters number q → IsLight costs letters limit n q → keeps q ≡ true
+  light_tested q behind l = by (slice_get letters (q - begin)) refl
+    where
+      by : (o : Option Instr) → slice_get letters (q - begin) ≡ o → keeps q ≡ true
+      by None e = absurd (let one = slice_get-get_or letters (q - begin) in elim (slice_get_cases letters (q - begin)).1 [
+        | inl p ↦ (let no : None ≡ Some p.0 = sym e ∙ p.2 in cc)
+        | inr p ↦ omega (arith, p.0, behind.from, behind.to)
+      ])
+      by (Some x) e =
+          let place : begin + (q - begin) ≡ q = omega (arith, behind.from) in
+          let longer : slice_get (sequences_below letters (n + 1)) q ≡ Some (w ++ x ∷ []) = subst (λ r. slice_get (sequences_below letters (n + 1)) r ≡ Some (w ++ x ∷ [])) place (longer_at letters n number (q - begin) w x at e) in
+          let same : l.seq ≡ w ++ x ∷ [] = same_Some l.seq (w ++ x ∷ []) (sym (below_longest letters n (n + 1) q l.seq (omega arith) l.at) ∙ longer) in
+          let weight : weight_under costs l.seq ≡ weight_under costs w + cost_under costs x = ap (weight_under costs) same ∙ weight_push costs w x in
+          and_from (nat_lt q (length (sequences_below letters n))) (is_light_letter costs (limit - weight_under costs w) (slice_get letters (q - begin)))
+          (lt-ltb q (length (sequences_below letters n)) (slice_get_within (sequences_below letters n) q l.seq l.at))
+          (ap (is_light_letter costs (limit - weight_under costs w)) e ∙ lt-ltb (cost_under costs x) (limit - weight_under costs w) (omega (arith, l.light, weight)))
+
+-- ---- the numbers so far ----
+
+-- all of them are light, and the letters were put behind those before a place
+pub record Queue (costs : Option (List ℕ)) (letters : List Instr) (limit n place : ℕ) (numbers : List ℕ) : Type 0 where
+  pub start : Contains numbers 0
+  pub ascending : ascends_from 0 numbers ≡ true
+  pub light : (q : ℕ) → Contains numbers q → IsLight costs letters limit n q
+  pub closed : (i q : ℕ) → i < place → IsBehind letters (get_or numbers i 0) q → IsLight costs letters limit n q → Contains numbers q
+  pub fresh : (q i : ℕ) → Contains numbers q → place ≤ i → i < length numbers → q ≤ get_or numbers i 0 * length letters
+
+number_in : (first count q : ℕ) → Contains (numbers_from first count) q → (first ≤ q) × (q < first + count)
+number_in first count q c =
+    let size = length-numbers first count in
+    let low : c.0 < count = omega (arith, c.1, size) in
+    let is : first + c.0 ≡ q = sym (get_or_from_slice_get (numbers_from first count) c.0 (first + c.0) q (numbers_at first count c.0 low)) ∙ c.2 in
+    (omega (arith, is), omega (arith, is, low))
+
+in_numbers : (first count q : ℕ) → first ≤ q → q < first + count → Contains (numbers_from first count) q
+in_numbers first count q h k =
+    let low : q - first < count = omega (arith, h, k) in
+    let is : first + (q - first) ≡ q = omega (arith, h) in
+    let size = length-numbers first count in
+    (q - first, omega (arith, low, size), get_or_from_slice_get (numbers_from first count) (q - first) (first + (q - first)) q (numbers_at first count (q - first) low) ∙ is)
+
+get_append : (xs ys : List ℕ) (i : ℕ) → i < length xs → get_or (xs ++ ys) i 0 ≡ get_or xs i 0
+get_append xs ys i h = get_or_from_slice_get (xs ++ ys) i (get_or xs i 0) 0 (get_front xs ys i h ∙ slice_get-get_or xs i 0 h)
+
+zero_weight : (costs : Option (List ℕ)) → weight_under costs [] ≡ 0
+zero_weight None = refl
+zero_weight (Some costs) = refl
+
+no_word : (letters : List Instr) → slice_get (words letters 0) 0 ≡ Some []
+unfolding words
+no_word letters = refl
+
+pub queue_begun : (costs : Option (List ℕ)) (letters : List Instr) (limit n : ℕ) → 0 < limit → 0 < n → Queue costs letters limit n 0 (0 ∷ [])
+unfolding ascends_from
+queue_begun costs letters limit n some long = record {
+  start = (0, omega arith, refl);
+  ascending = refl;
+  light = λ q c.
+      let none : length (sequences_below letters 0) ≡ 0 = ap (λ ws. length ws) (below_none letters) in
+      let zero_is : length (sequences_below letters 0) + 0 ≡ q = (let z = only c.0 c.1 c.2 in omega (arith, none, z)) in
+      let empty : slice_get (sequences_below letters n) q ≡ Some [] = subst (λ r. slice_get (sequences_below letters n) r ≡ Some []) zero_is (word_at letters 0 n 0 [] long (no_word letters)) in
+      record { seq = []; at = empty; light = omega (arith, zero_weight costs, some) };
+  closed = λ i q low. absurd (omega (arith, low));
+  fresh = λ q i c h k. (let z = only c.0 c.1 c.2 in omega (arith, z));
+}
+  where
+    only : {q : ℕ} (k : ℕ) → k < 1 → get_or (0 ∷ []) k q ≡ q → q ≡ 0
+    only zero low e = sym e
+    only (suc k) low e = absurd (omega (arith, low))
+
+pub queue_next : (costs : Option (List ℕ)) (letters : List Instr) (limit n place : ℕ) (numbers new : List ℕ) (w : List Instr) → place < length numbers → Queue costs letters limit n place numbers
+    → slice_get (sequences_below letters n) (get_or numbers place 0) ≡ Some w
+    → new ≡ numbers ++ filter (is_light_at costs letters (get_or numbers place 0 * length letters + 1) (limit - weight_under costs w) (length (sequences_below letters n)))
+    (numbers_from (get_or numbers place 0 * length letters + 1) (length letters))
+    → Queue costs letters limit n (place + 1) new
+queue_next costs letters limit n place numbers new w low queue at is = subst (Queue costs letters limit n (place + 1)) (sym is) (record {
+  start = Contains-append_left numbers added 0 queue.start;
+  ascending = ascends_append 0 begin numbers added (omega arith) queue.ascending before (filter_ascends keeps begin range (numbers_ascend begin (length letters)));
+  light = λ q c. elim (Contains-append_cases numbers added q c) [
+    | inl old ↦ queue.light q old
+    | inr more ↦ tested_light costs letters limit n number w at here_light q (range_of q more).0 (filter_does keeps range q more)
+  ];
+  closed = λ i q h behind l.
+      elim (cases_lt i place) [
+        | inl less ↦ (
+            let same : get_or (numbers ++ added) i 0 ≡ get_or numbers i 0 = get_append numbers added i (omega (arith, less, low)) in
+            Contains-append_left numbers added q (queue.closed i q less (subst (λ m. IsBehind letters m q) same behind) l)
+            )
+        | inr more ↦ (
+            let it : i ≡ place = omega (arith, h, more) in
+            let same : get_or (numbers ++ added) i 0 ≡ number = ap (λ j. get_or (numbers ++ added) j 0) it ∙ get_append numbers added place low in
+            let b : IsBehind letters number q = subst (λ m. IsBehind letters m q) same behind in
+            Contains-append_right numbers added q (filter_has keeps range q (light_tested costs letters limit n number w at here_light q b l) (in_numbers begin (length letters) q b.from b.to))
+            )
+      ];
+  fresh = λ q i c h k.
+      let above : number < get_or (numbers ++ added) i 0 = later i (omega (arith, h)) k in
+      let more : (number + 1) * length letters ≤ get_or (numbers ++ added) i 0 * length letters = mul-le-mul_right (length letters) (omega (arith, above)) in
+      elim (Contains-append_cases numbers added q c) [
+        | inl old ↦ (let most = queue.fresh q place old (omega arith) low in omega (arith, most, more))
+        | inr new ↦ (let most = (range_of q new).1 in omega (arith, most, more))
+      ];
+})
+  where
+    number : ℕ
+    number = get_or numbers place 0
+
+    begin : ℕ
+    begin = number * length letters + 1
+
+    keeps : ℕ → Bool
+    keeps = is_light_at costs letters begin (limit - weight_under costs w) (length (sequences_below letters n))
+
+    range : List ℕ
+    range = numbers_from begin (length letters)
+
+    added : List ℕ
+    added = filter keeps range
+
+    here_light : weight_under costs w < limit
+    here_light =
+        let l = queue.light number (Contains-get_or numbers place 0 low) in
+        let same : l.seq ≡ w = same_Some l.seq w (sym l.at ∙ at) in
+        omega (arith, l.light, ap (weight_under costs) same)
+
+    before : (q : ℕ) → Contains numbers q → q < begin
+    before q c = (let most = queue.fresh q place c (omega arith) low in omega (arith, most))
+
+    range_of : (q : ℕ) → Contains added q → (begin ≤ q) × (q < begin + length letters)
+    range_of q c = number_in begin (length letters) q (filter_in keeps range q c)
+
+    whole_ascends : ascends_from 0 (numbers ++ added) ≡ true
+    whole_ascends = ascends_append 0 begin numbers added (omega arith) queue.ascending before (filter_ascends keeps begin range (numbers_ascend begin (length letters)))
+
+    later : (i : ℕ) → place < i → i < length (numbers ++ added) → number < get_or (numbers ++ added) i 0
+    later i h k =
+        let rises = ascends_rises 0 (numbers ++ added) whole_ascends place i h k in
+        omega (arith, rises, get_append numbers added place low)
+
+-- the sequence of the number whose turn it is
+module _ (costs : Option (List ℕ)) (letters ls : List Instr) (limit n place number : ℕ) (numbers : List ℕ) (low : place < length numbers) (is : number ≡ get_or numbers place number) (same : ls ≡ letters) (short : n ≤ 6)
+    (queue : Queue costs letters limit n place numbers) (o : Option (List Instr)) (got : o ≡ slice_get (sequences_of ls) number) where
+  its_light : IsLight costs letters limit n number
+  its_light = queue.light number (place, low, sym is)
+
+  its_option : o ≡ Some its_light.seq
+  its_option = got ∙ ap (λ xs. slice_get (sequences_of xs) number) same ∙ ap (λ ws. slice_get ws number) (whole letters) ∙ below_longest letters n 6 number its_light.seq short its_light.at
+
+  pub queue_there : o ≡ None → ⊥
+  queue_there none = let no : None ≡ Some its_light.seq = sym none ∙ its_option in absurd (cc)
+
+  pub queue_light : (w : List Instr) → o ≡ Some w → weight_under costs w < limit
+  queue_light w e =
+      let is_w : its_light.seq ≡ w = same_Some its_light.seq w (sym its_option ∙ e) in
+      subst (λ (v : List Instr). weight_under costs v < limit) is_w its_light.light
+
+  pub queue_small : length letters ≤ 1952 → n ≤ 5 → number < 2 ^ 50
+  queue_small few five =
+      let within = slice_get_within (sequences_below letters n) number its_light.seq its_light.at in
+      let count = short_count letters n few five in
+      let times : n * 1952 ^ 4 ≤ 5 * 1952 ^ 4 = mul-le-mul_right (1952 ^ 4) five in
+      omega (arith, within, count, times)
+
+  pub queue_step : (w : List Instr) (room count : ℕ) (new : List ℕ) → o ≡ Some w → room ≡ limit - weight_under costs w → count ≡ length (sequences_below letters n)
+      → new ≡ numbers ++ filter (is_light_at costs letters (number * length letters + 1) room count) (numbers_from (number * length letters + 1) (length letters)) → Queue costs letters limit n (place + 1) new
+  queue_step w room count new e f g h =
+      let is_w : its_light.seq ≡ w = same_Some its_light.seq w (sym its_option ∙ e) in
+      let here : number ≡ get_or numbers place 0 = is ∙ get_or_default numbers place number 0 low in
+      let at : slice_get (sequences_below letters n) (get_or numbers place 0) ≡ Some w = ap (slice_get (sequences_below letters n)) (sym here) ∙ its_light.at ∙ ap (λ z. Some z) is_w in
+      let one = subst (λ r. new ≡ numbers ++ filter (is_light_at costs letters (number * length letters + 1) r count) (numbers_from (number * length letters + 1) (length letters))) f h in
+      let two = subst (λ m. new ≡ numbers ++ filter (is_light_at costs letters (number * length letters + 1) (limit - weight_under costs w) m) (numbers_from (number * length letters + 1) (length letters))) g one in
+      queue_next costs letters limit n place numbers new w low queue at
+      (subst (λ m. new ≡ numbers ++ filter (is_light_at costs letters (m * length letters + 1) (limit - weight_under costs w) (length (sequences_below letters n))) (numbers_from (m * length letters + 1) (length letters))) here two)
+
+-- at the end each light sequence was found
+pub queue_done : (costs : Option (List ℕ)) (letters : List Instr) (limit n place : ℕ) (numbers : List ℕ) → 0 < length letters → length numbers ≤ place → Queue costs letters limit n place numbers
+    → AreLighter costs limit (sequences_below letters n) numbers
+queue_done costs letters limit n place numbers some past queue = record {
+  ascending = queue.ascending;
+  within = λ q c. (let l = queue.light q c in slice_get_within (sequences_below letters n) q l.seq l.at);
+  each = λ q seq at. (
+    λ c.
+        let l = queue.light q c in
+        let same : l.seq ≡ seq = same_Some l.seq seq (sym l.at ∙ at) in
+        lt-ltb (weight_under costs seq) limit (subst (λ (w : List Instr). weight_under costs w < limit) same l.light),
+    λ light. found (suc q) q (omega arith) (record { seq = seq; at = at; light = ltb-true (weight_under costs seq) limit light }),
+  );
+}
+  where
+    found : (fuel q : ℕ) → q < fuel → IsLight costs letters limit n q → Contains numbers q
+    found zero q h l = absurd (omega (arith, h))
+    found (suc fuel) q h l = elim (first_or_longer letters n q l.seq some l.at) [
+      | inl none ↦ subst (Contains numbers) (sym none) queue.start
+      | inr longer ↦ (
+          let m = longer.number in
+          let product : m * 1 ≤ m * length letters = mul-le-mul_left m some in
+          let weight : weight_under costs l.seq ≡ weight_under costs longer.front + cost_under costs longer.letter = ap (weight_under costs) longer.parts ∙ weight_push costs longer.front longer.letter in
+          let lighter : weight_under costs longer.front < limit = omega (arith, l.light, weight) in
+          let here = found fuel m (omega (arith, h, longer.is, product)) (record { seq = longer.front; at = longer.at; light = lighter }) in
+          let low : longer.last < length letters = slice_get_within letters longer.last longer.letter longer.is_letter in
+          let number : get_or numbers here.0 0 ≡ m = get_or_default numbers here.0 0 m here.1 ∙ here.2 in
+          let behind : IsBehind letters m q = record { from = omega (arith, longer.is); to = omega (arith, longer.is, low) } in
+          queue.closed here.0 q (omega (arith, here.1, past)) (subst (λ k. IsBehind letters k q) (sym number) behind) l
+          )
+    ]
+
+-- no more are found than there are
+pub queue_few : (costs : Option (List ℕ)) (letters : List Instr) (limit n place : ℕ) (numbers : List ℕ) → Queue costs letters limit n place numbers
+    → length numbers ≤ length (filter (is_lighter costs limit) (sequences_below letters n))
+queue_few costs letters limit n place numbers queue =
+    few_numbers (is_lighter costs limit) (sequences_below letters n) numbers queue.ascending
+    (λ q c. let l = queue.light q c in (l.seq, l.at, lt-ltb (weight_under costs l.seq) limit l.light))
+
+-- the table is no longer than 128 times as many
+pub few_enough : (costs : Option (List ℕ)) (letters : List Instr) (limit n place count most : ℕ) (numbers : List ℕ) → count ≡ length (sequences_below letters n) → most ≡ count / 128 → most < length numbers
+    → Queue costs letters limit n place numbers → length (sequences_below letters n) ≤ 128 * length (filter (is_lighter costs limit) (sequences_below letters n))
+few_enough costs letters limit n place count most numbers e d h queue = omega (arith, e, d, h, queue_few costs letters limit n place numbers queue)
+
+-- ---- the letters behind one sequence ----
+
+range_more : (f : ℕ → Bool) (first place : ℕ) → filter f (numbers_from first (place + 1)) ≡ filter f (numbers_from first place) ++ cond (f (first + place)) ((first + place) ∷ []) []
+unfolding numbers_from
+range_more f first place = ap (filter f) (numbers_split first place 1) ∙ filter-append f (numbers_from first place) ((first + place) ∷ [])
+
+pub none_tested : (f : ℕ → Bool) (first : ℕ) (numbers : List ℕ) → numbers ≡ numbers ++ filter f (numbers_from first 0)
+unfolding numbers_from
+none_tested f first numbers = sym (append-nil numbers)
+
+-- one letter tested more
+pub pushed : (f : ℕ → Bool) (first place : ℕ) (numbers old new : List ℕ) → old ≡ numbers ++ filter f (numbers_from first place) → f (first + place) ≡ true → new ≡ old ++ (first + place) ∷ [] → new ≡ numbers ++ filter f (numbers_from first (place + 1))
+pushed f first place numbers old new e h is = is ∙ ap (λ xs. xs ++ (first + place) ∷ []) e ∙ append_assoc numbers (filter f (numbers_from first place)) ((first + place) ∷ []) ∙ ap (λ xs. numbers ++ xs) (sym (range_more f first place ∙ ap (λ b. filter f (numbers_from first place) ++ cond b ((first + place) ∷ []) []) h))
+
+pub passed : (f : ℕ → Bool) (first place : ℕ) (numbers old : List ℕ) → old ≡ numbers ++ filter f (numbers_from first place) → f (first + place) ≡ false → old ≡ numbers ++ filter f (numbers_from first (place + 1))
+passed f first place numbers old e h = e ∙ ap (λ xs. numbers ++ xs) (sym (range_more f first place ∙ ap (λ b. filter f (numbers_from first place) ++ cond b ((first + place) ∷ []) []) h ∙ append-nil (filter f (numbers_from first place))))
+
+-- what the test of a letter says
+pub tests_letter : (costs : Option (List ℕ)) (letters : List Instr) (first limit count place : ℕ) (x : Instr) → place < length letters → x ≡ get_or letters place x
+    → is_light_at costs letters first limit count (first + place) ≡ (nat_lt (first + place) count && nat_lt (cost_under costs x) limit)
+tests_letter costs letters first limit count place x low is =
+    let there : first + place - first ≡ place = omega arith in
+    let at : slice_get letters (first + place - first) ≡ Some x = ap (slice_get letters) there ∙ slice_get-get_or letters place x low ∙ ap (λ z. Some z) (sym is) in
+    ap (λ o. nat_lt (first + place) count && is_light_letter costs limit o) at

@@ -1,0 +1,8 @@
+use Rattle.std.proofs.Common.{◌≡◌, ◌+◌, ◌*◌, ◌++◌, filter, length}
+use Rattle.seq_enum.specs.Lists.{numbers_from}
+use Rattle.table_audit.specs.Lighter.{is_light_at}
+use Rattle.table_audit.proofs.lighter.push_longer.Given as goal
+
+abbrev pub invariant-loop-place : goal.invariant-loop-place
+invariant-loop-place l =
+    l.numbers.items ≡ l.initial.numbers.items ++ filter (is_light_at l.costs l.letters (l.number * length l.letters + 1) l.limit l.count) (numbers_from (l.number * length l.letters + 1) l.place)

@@ -1,0 +1,88 @@
+//! The sequences that weigh less than a limit, where they are few beside those that are as long. Each letter weighs something, so a sequence without its last
+//! letter is lighter: all of them are found by putting letters behind those that were found before.
+ghost use Rattle.std.specs.Prelude.{◌≡◌, ◌<◌, ◌≤◌, ◌+◌, ◌*◌, ◌^◌, ◌++◌, IfOk, OnOk, MatchOption, filter, length};
+ghost use Rattle.seq_enum.specs.Lists.{numbers_from};
+ghost use Rattle.seq_enum.specs.Costs.{cost_under};
+ghost use Rattle.outcomes.specs.Outcomes.{sequences_below};
+ghost use Rattle.table_audit.specs.Shorter.{is_lighter};
+ghost use Rattle.table_audit.specs.Lighter.{is_light_at, AreLighter};
+
+use outcomes::Outcomes;
+use seq_enum::{Costs, weight};
+use std::alloc::{AllocError, Global};
+use thumb_instr::Instr;
+
+/// For each sequence that is lighter a table of outcomes may have so many: a table of rules lists at least 64 states, and an audit may run a sequence on
+/// each of them twice.
+const SHARE: u64 = 128;
+
+/// What an instruction weighs: what it costs, and 1 without costs.
+fn cost(costs: &Option<Costs>, instr: &Instr) -> u32
+    ensures { result ≡ cost_under costs.now instr.now }
+{
+    match costs {
+        None => 1,
+        Some(costs) => costs.of_instr(instr),
+    }
+}
+
+/// Puts the numbers of a sequence with one letter more, in order of the letters, behind the others, where they are below a count and the letter weighs
+/// less than a limit.
+fn push_longer(
+    numbers: &mut Vec<u64>,
+    costs: &Option<Costs>,
+    letters: &[Instr],
+    number: u64,
+    limit: u32,
+    count: u64,
+) -> Result<(), AllocError>
+    requires few { length letters.now ≤ 1952 }
+    requires small { number < 2 ^ 50 }
+    ensures { OnOk result (numbers.new.items ≡ numbers.old.items
+        ++ filter (is_light_at costs.now letters.now (number * length letters.now + 1) limit count) (numbers_from (number * length letters.now + 1) (length letters.now))) }
+{
+    let first = number * letters.len() as u64 + 1;
+    for (place, letter) in letters.iter().enumerate() {
+        let longer = first + place as u64;
+        if longer < count && cost(costs, letter) < limit {
+            numbers.push(longer)?;
+        }
+    }
+    Ok(())
+}
+
+/// The numbers, ascending, of the sequences of at most `longest` instructions that weigh less than a limit. None where a table of outcomes that is so long
+/// has no more than 128 sequences for each of them.
+pub(crate) fn few_lighter(
+    alloc: Global,
+    costs: &Option<Costs>,
+    outcomes: &Outcomes,
+    longest: u8,
+    limit: u32,
+) -> Result<Option<Vec<u64>>, AllocError>
+    requires short { longest ≤ 4 }
+    requires some { 0 < limit }
+    ensures { IfOk result (λ found. MatchOption found
+        (length (sequences_below outcomes.now.letters (longest + 1)) ≤ 128 * length (filter (is_lighter costs.now limit) (sequences_below outcomes.now.letters (longest + 1))))
+        (λ v. AreLighter costs.now limit (sequences_below outcomes.now.letters (longest + 1)) v.items)) }
+{
+    let letters = outcomes.letters();
+    let count = outcomes.count(longest);
+    let most = (count / SHARE) as usize;
+    let mut numbers = vec![in alloc; 0]?;
+    let mut place = 0;
+    while place < numbers.len() && numbers.len() <= most {
+        let number = numbers[place];
+        let Some(seq) = outcomes.sequence_at(number) else {
+            unreachable!();
+        };
+        let left = limit - weight(costs, &seq);
+        push_longer(&mut numbers, costs, letters, number, left, count)?;
+        place += 1;
+    }
+    if numbers.len() <= most {
+        Ok(Some(numbers))
+    } else {
+        Ok(None)
+    }
+}
