@@ -9,7 +9,7 @@ use Rattle.seq_enum.specs.Lists.{ascends_from}
 use Rattle.rule_table.specs.Table.{Opened, Rule}
 use Rattle.rule_table.specs.Valid.{numbers_of}
 use Rattle.table_learn.specs.Settings.{Settings}
-use Rattle.table_learn.specs.Learnt.{width_of}
+use Rattle.table_audit.specs.Acceptance.{width_of}
 use Rattle.table_learn.specs.Failing.{learn_cost}
 use Rattle.table_learn.specs.Searching.{query_cost}
 use Rattle.table_learn.specs.Progress.{search_cost, drop_cost}
@@ -48,10 +48,12 @@ twice n l = grind arith
 twist : (a b : ℕ) → a * (2 * b) ≡ 2 * (a * b)
 twist a b = grind arith
 
+share : (f g l : ℕ) → (f + g) * l ≡ f * l + g * l
+share f g l = grind arith
+
 drop_both : (x l w f g : ℕ) → w * (x * ((f + g) * l)) ≡ w * (x * (f * l)) + w * (x * (g * l))
 drop_both x l w f g =
-    let a : (f + g) * l ≡ f * l + g * l = grind arith in
-    ap (λ n. w * (x * n)) a ∙ ap (λ n. w * n) (both (f * l) (g * l) x) ∙ both (x * (f * l)) (x * (g * l)) w
+    ap (λ n. w * (x * n)) (share f g l) ∙ ap (λ n. w * n) (both (f * l) (g * l) x) ∙ both (x * (f * l)) (x * (g * l)) w
 
 pub next_share : (n unit : ℕ) → (n + 1) * unit ≡ n * unit + unit
 next_share n unit = grind arith
@@ -59,7 +61,7 @@ next_share n unit = grind arith
 -- one more candidate's runs and query
 pub query_more : (before after start n u v b l : ℕ) → before ≤ start + n * query_cost b u l → after ≤ before + query_cost b v l → u ≤ v → after ≤ start + (n + 1) * query_cost b v l
 query_more before after start n u v b l h k more =
-    let wide : u * (l + (l - 1)) ≤ v * (l + (l - 1)) = mul-le-mul_right (l + (l - 1)) more in
+    let wide : u * (l + l) ≤ v * (l + l) = mul-le-mul_right (l + l) more in
     let each : query_cost b u l ≤ query_cost b v l = omega (arith, wide) in
     let all : n * query_cost b u l ≤ n * query_cost b v l = mul-le-mul_left n each in
     let next : (n + 1) * query_cost b v l ≡ n * query_cost b v l + query_cost b v l = next_share n (query_cost b v l) in
@@ -68,16 +70,15 @@ query_more before after start n u v b l h k more =
 pub query_within : (after start n count unit : ℕ) → after ≤ start + n * unit → n ≤ count → after ≤ start + count * unit
 query_within after start n count unit h k = let e : n * unit ≤ count * unit = mul-le-mul_right unit k in omega (arith, h, e)
 
--- a window's outcomes, as many as there are shorter sequences, and its queries
-pub search_within : (s : Settings) (n m u l : ℕ) → n ≤ m → m ≤ width_of s → l ≤ s.left → 0 < l → 0 < u → m + n * query_cost s.budget u l ≤ search_cost s u
-search_within s n m u l fewer few short long some =
+-- a window's outcomes and its queries
+pub search_within : (s : Settings) (n m u l : ℕ) → n ≤ m → m ≤ width_of s → l ≤ s.left → m + n * query_cost s.budget u l ≤ search_cost s u
+search_within s n m u l fewer few short =
     let q : ℕ = (s.budget + 1) * 200001 in
-    let a : ℕ = u * (l + (l - 1)) in
+    let a : ℕ = u * (l + l) in
     let wide : u * (l + l) ≤ u * (s.left + s.left) = mul-le-mul_left u (omega (arith, short)) in
-    let split : u * (l + l) ≡ a + u = (let e : l + l ≡ l + (l - 1) + 1 = omega arith in ap (λ n. u * n) e ∙ both (l + (l - 1)) 1 u ∙ (let one : u * (l + (l - 1)) + u * 1 ≡ a + u = omega arith in one)) in
-    let each : a + q + 1 ≤ u * (s.left + s.left) + q = omega (arith, wide, split, some) in
-    let all : width_of s * (a + q + 1) ≤ width_of s * (u * (s.left + s.left) + q) = mul-le-mul_left (width_of s) each in
-    let sum : width_of s * (a + q + 1) ≡ width_of s * (a + q) + width_of s * 1 = both (a + q) 1 (width_of s) in
+    let each : 1 + (a + q) ≤ 1 + u * (s.left + s.left) + q = omega (arith, wide) in
+    let all : width_of s * (1 + (a + q)) ≤ width_of s * (1 + u * (s.left + s.left) + q) = mul-le-mul_left (width_of s) each in
+    let sum : width_of s * (1 + (a + q)) ≡ width_of s * 1 + width_of s * (a + q) = both 1 (a + q) (width_of s) in
     let mine : n * (a + q) ≤ width_of s * (a + q) = mul-le-mul_right (a + q) (omega (arith, fewer, few)) in
     omega (arith, all, sum, mine, few)
 
@@ -102,7 +103,7 @@ learn_more s before after start i w u v h k some more within =
     let x : ℕ = width_of s in
     let l : ℕ = s.left + s.left in
     let a : u * l ≤ v * l = mul-le-mul_right l more in
-    let b : u * l + (s.budget + 1) * 200001 ≤ v * l + (s.budget + 1) * 200001 = omega (arith, a) in
+    let b : 1 + u * l + (s.budget + 1) * 200001 ≤ 1 + v * l + (s.budget + 1) * 200001 = omega (arith, a) in
     let c : search_cost s u ≤ search_cost s v = mul-le-mul_left x b in
     let d : i * search_cost s u ≤ i * search_cost s v = mul-le-mul_left i c in
     let e : (i + 1) * search_cost s v ≡ i * search_cost s v + search_cost s v = grind arith in
@@ -112,19 +113,21 @@ learn_more s before after start i w u v h k some more within =
     let j : drop_cost s w (v - 64) ≡ drop_cost s w (u - 64) + drop_cost s w (v - u) = subst (λ n. drop_cost s w n ≡ drop_cost s w (u - 64) + drop_cost s w (v - u)) (sym sum) g in
     omega (arith, h, k, d, e, f, j)
 
--- all windows
-pub learn_all : (s : Settings) (after start w u : ℕ) → after ≤ start + (w * search_cost s u + drop_cost s w (u - 64)) → after ≤ start + learn_cost s w u
-learn_all s after start w u h =
+-- all windows: no open number is run on the first 64 states, which makes up for the outcomes
+pub learn_all : (s : Settings) (after start w u : ℕ) → 1 ≤ s.left → 64 ≤ u → after ≤ start + (w * search_cost s u + drop_cost s w (u - 64)) → after ≤ start + learn_cost s w u
+learn_all s after start w u some many h =
     let x : ℕ = width_of s in
     let l : ℕ = s.left + s.left in
-    let less : u - 64 ≤ u = omega arith in
-    let a : (u - 64) * l ≤ u * l = mul-le-mul_right l less in
-    let b : x * ((u - 64) * l) ≤ x * (u * l) = mul-le-mul_left x a in
-    let c : w * (x * ((u - 64) * l)) ≤ w * (x * (u * l)) = mul-le-mul_left w b in
-    let d : x * (u * l + (s.budget + 1) * 200001) ≡ x * (u * l) + x * ((s.budget + 1) * 200001) = both (u * l) ((s.budget + 1) * 200001) x in
-    let e : w * (x * (u * l) + x * ((s.budget + 1) * 200001)) ≡ w * (x * (u * l)) + w * (x * ((s.budget + 1) * 200001)) = both (x * (u * l)) (x * ((s.budget + 1) * 200001)) w in
-    let f : w * search_cost s u ≡ w * (x * (u * l)) + w * (x * ((s.budget + 1) * 200001)) = ap (λ n. w * n) d ∙ e in
+    let r : ℕ = (s.budget + 1) * 200001 in
+    let one : 1 ≤ 64 * l = omega (arith, some) in
+    let parts : (u - 64) * l + 64 * l ≡ u * l = (let m : u - 64 + 64 ≡ u = omega (arith, many) in sym (share (u - 64) 64 l) ∙ ap (λ n. n * l) m) in
+    let a : 1 + (u - 64) * l ≤ u * l = omega (arith, one, parts) in
+    let b : w * (x * (1 + (u - 64) * l)) ≤ w * (x * (u * l)) = mul-le-mul_left w (mul-le-mul_left x a) in
+    let c : w * (x * (1 + (u - 64) * l)) ≡ w * (x * 1) + w * (x * ((u - 64) * l)) = ap (λ n. w * n) (both 1 ((u - 64) * l) x) ∙ both (x * 1) (x * ((u - 64) * l)) w in
+    let d : x * (1 + u * l + r) ≡ x * (1 + u * l) + x * r = both (1 + u * l) r x in
+    let e : w * (x * (1 + u * l + r)) ≡ w * (x * (1 + u * l)) + w * (x * r) = ap (λ n. w * n) d ∙ both (x * (1 + u * l)) (x * r) w in
+    let f : w * (x * (1 + u * l)) ≡ w * (x * 1) + w * (x * (u * l)) = ap (λ n. w * n) (both 1 (u * l) x) ∙ both (x * 1) (x * (u * l)) w in
     let g : u * l ≡ 2 * (u * s.left) = twice u s.left in
     let j : x * (u * l) ≡ 2 * (x * (u * s.left)) = ap (λ n. x * n) g ∙ twist x (u * s.left) in
     let k : w * (x * (u * l)) ≡ 2 * (w * (x * (u * s.left))) = ap (λ n. w * n) j ∙ twist w (x * (u * s.left)) in
-    omega (arith, h, c, f, k)
+    omega (arith, h, b, c, e, f, k)

@@ -9,12 +9,13 @@ use Rattle.rule_table.specs.Header.{IsHeader}
 use Rattle.rule_table.specs.Table.{Table}
 use Rattle.rule_table.specs.Valid.{IsTable}
 use Rattle.rule_table.specs.Views.{rule_of}
+use Rattle.table_audit.specs.Acceptance.{width_of}
 use Rattle.table_learn.specs.declared.window.Window as code
 use Rattle.table_learn.specs.declared.learning.Learner.{Learner}
 use Rattle.table_learn.specs.Settings.{Settings, Window}
-use Rattle.table_learn.specs.Given.{window_of, IsWindow, AreInLimits, AreWindows}
+use Rattle.table_learn.specs.Given.{window_of, IsWindow, AreWindows}
 use Rattle.table_learn.specs.Found.{window_in}
-use Rattle.table_learn.specs.Learnt.{Learnt, IsFull, learnt_from, width_of, text_length, text_limit}
+use Rattle.table_learn.specs.Learnt.{Learnt, IsFull, learnt_from, text_length, text_limit}
 use Rattle.table_learn.specs.Failing.{learn_cost}
 use Rattle.table_learn.specs.Progress.{HasLearnt, table_with, states_in, rules_in, search_cost, drop_cost}
 use Rattle.table_learn.proofs.Gains.{learnt, valid}
@@ -75,17 +76,17 @@ pub learnt_all : (s t : Settings) (ws : Pairs) (n : ℕ) (l : Learner) (table : 
 learnt_all s t ws n l table same narrow h e =
     subst (Learnt s (map window_of (take n ws))) (sym (e ∙ ap (λ u. table_with u (states_in l) (rules_in l)) same)) (learnt s (map window_of (take n ws)) (states_in l) (rules_in l) h.progress narrow)
 
-pub valid_all : (s t : Settings) (ws : Pairs) (n : ℕ) (l : Learner) (table : Table) → t ≡ s → AreInLimits s → IsHeader s → width_of s ≤ 5000000 → HasLearnt s (map window_of (take n ws)) l → table ≡ table_with t (states_in l) (rules_in l) → IsTable table
-valid_all s t ws n l table same limits is narrow h e =
-    subst IsTable (sym (e ∙ ap (λ u. table_with u (states_in l) (rules_in l)) same)) (valid s (map window_of (take n ws)) (states_in l) (rules_in l) limits is narrow h.progress)
+pub valid_all : (s t : Settings) (ws : Pairs) (n : ℕ) (l : Learner) (table : Table) → t ≡ s → IsHeader s → width_of s ≤ 5000000 → HasLearnt s (map window_of (take n ws)) l → table ≡ table_with t (states_in l) (rules_in l) → IsTable table
+valid_all s t ws n l table same is narrow h e =
+    subst IsTable (sym (e ∙ ap (λ u. table_with u (states_in l) (rules_in l)) same)) (valid s (map window_of (take n ws)) (states_in l) (rules_in l) is narrow h.progress)
 
-pub is_full : (s t : Settings) (ws : Pairs) (n : ℕ) (l : Learner) (table : Table) → t ≡ s → AreInLimits s → IsHeader s → width_of s ≤ 5000000 → 1 ≤ n → n ≤ length ws → HasLearnt s (map window_of (take n ws)) l → table ≡ table_with t (states_in l) (rules_in l) → text_limit < l.bytes → IsFull s (map window_of ws) table l.bytes
-is_full s t ws n l table same limits is narrow some low h e long = record {
+pub is_full : (s t : Settings) (ws : Pairs) (n : ℕ) (l : Learner) (table : Table) → t ≡ s → IsHeader s → width_of s ≤ 5000000 → 1 ≤ n → n ≤ length ws → HasLearnt s (map window_of (take n ws)) l → table ≡ table_with t (states_in l) (rules_in l) → text_limit < l.bytes → IsFull s (map window_of ws) table l.bytes
+is_full s t ws n l table same is narrow some low h e long = record {
   count = n;
   some = some;
   within = (let a = length-map ws window_of in omega (arith, a, low));
   learnt = subst (λ vs. Learnt s vs table) (take-map n ws) (learnt_all s t ws n l table same narrow h e);
-  valid = valid_all s t ws n l table same limits is narrow h e;
+  valid = valid_all s t ws n l table same is narrow h e;
   is_length = h.bytes ∙ ap (λ (u : Table). text_length u) (sym (e ∙ ap (λ u. table_with u (states_in l) (rules_in l)) same));
   long = long;
 }
@@ -97,8 +98,8 @@ pub fits_all : (s t : Settings) (ws : Pairs) (n : ℕ) (l : Learner) (table : Ta
 fits_all s t ws n l table same h e low = subst (λ j. j ≤ text_limit) (h.bytes ∙ ap (λ (u : Table). text_length u) (sym (e ∙ ap (λ u. table_with u (states_in l) (rules_in l)) same))) low
 
 -- what the first n windows took is no more than what all may take
-pub cost_all : (s t : Settings) (ws : Pairs) (n after start : ℕ) (l : Learner) (table : Table) → n ≤ length ws → table ≡ table_with t (states_in l) (rules_in l) → after ≤ start + (n * search_cost s (length l.states.items) + drop_cost s (length ws) (length l.states.items - 64)) → after ≤ start + learn_cost s (length ws) (length table.states)
-cost_all s t ws n after start l table low e h =
+pub cost_all : (s t : Settings) (ws : Pairs) (n after start : ℕ) (l : Learner) (table : Table) → 1 ≤ s.left → HasLearnt s (map window_of (take n ws)) l → n ≤ length ws → table ≡ table_with t (states_in l) (rules_in l) → after ≤ start + (n * search_cost s (length l.states.items) + drop_cost s (length ws) (length l.states.items - 64)) → after ≤ start + learn_cost s (length ws) (length table.states)
+cost_all s t ws n after start l table some learnt low e h =
     let size : length l.states.items ≡ length table.states = sym (ap (λ (u : Table). length u.states) e ∙ length-map l.states.items seen) in
     let most : n * search_cost s (length l.states.items) ≤ length ws * search_cost s (length l.states.items) = mul-le-mul_right (search_cost s (length l.states.items)) low in
-    subst (λ j. after ≤ start + learn_cost s (length ws) j) size (learn_all s after start (length ws) (length l.states.items) (omega (arith, h, most)))
+    subst (λ j. after ≤ start + learn_cost s (length ws) j) size (learn_all s after start (length ws) (length l.states.items) some (states_count s (map window_of (take n ws)) l learnt) (omega (arith, h, most)))

@@ -1,21 +1,22 @@
 -- Entries fit as more states are found, and pass the audit.
 use Rattle.std.proofs.Common.{◌≡◌, ℕ, zero, suc, ◌+◌, ◌≤◌, ◌⊎◌, ◌==◌, inl, inr, Bool, true, false, not, List, [], ◌∷◌, ◌++◌, Option, Some, None, cond, filter, length, slice_get, refl, sym, ◌∙◌, ap, subst, arith, eqb-true, zero-add, nat_le}
-use Rattle.std.proofs.lemmas.Bool.{or_cases, or_left, or_right, false≢true, and_parts, leb-true, le-leb}
+use Rattle.std.proofs.lemmas.Bool.{or_cases, or_left, or_right, false≢true, true≢false, and_parts, leb-true, le-leb}
 use Rattle.seq_enum.specs.Lists.{ascends_from}
+use Rattle.thumb_instr.specs.declared.instr.Instr.{Instr}
 use Rattle.window_exec.specs.Seen.{Seen}
 use Rattle.rule_table.specs.Table.{Opened, Rule, Table}
 use Rattle.rule_table.specs.Valid.{numbers_of}
 use Rattle.proof_logs.specs.Verdicts.{InTurn}
 use Rattle.table_audit.specs.declared.errors.EntryFault.TheVariants.{Proof, Unfinished}
 use Rattle.table_audit.specs.declared.errors.AuditError.TheVariants.{Entry}
-use Rattle.table_audit.specs.Sides.{alphabet_registers, formula_of, formula_against}
-use Rattle.table_audit.specs.Shorter.{shorter, is_named}
-use Rattle.table_audit.specs.Acceptance.{EntryVerdict, ToldTest, OpenTest}
-use Rattle.table_audit.proofs.Numbering.{below_in}
+use Rattle.table_audit.specs.Sides.{formula_of, formula_against}
+use Rattle.table_audit.specs.Shorter.{weight_in, below_at, is_named}
+use Rattle.table_audit.specs.Acceptance.{EntryVerdict, IsUntold, OpenTest}
+use Rattle.table_audit.proofs.Below.{below_is}
 use Rattle.table_learn.specs.Settings.{Settings}
-use Rattle.table_learn.specs.Learnt.{KeepsOrShortens}
+use Rattle.table_learn.specs.Learnt.{KeepsOrLowers}
 use Rattle.table_learn.specs.Tellings.{told}
-use Rattle.table_learn.specs.Fitness.{IsFit, shorter_of, tells_number, stays_open, without_told}
+use Rattle.table_learn.specs.Fitness.{IsFit, tells_number, stays_open, without_told}
 use Rattle.table_learn.specs.Progress.{table_with}
 use Rattle.table_learn.proofs.Certificates.{refutation_passes, search_spends}
 use Rattle.table_learn.proofs.Telling.{told_is, untold, told_more, told-append, untold_both}
@@ -30,9 +31,20 @@ turn_all test m (x ∷ xs) h =
       turn_all test (m + 1) xs (λ i y e. let k : m + suc i ≡ m + 1 + i = omega arith in subst (λ j. test j y None) k (h (suc i) y e)),
     )
 
-pub no_longer : (e : Rule) → KeepsOrShortens e → length e.right ≤ length e.left
-no_longer e (inl same) = let l : length e.right ≡ length e.left = ap length same in omega (arith, l)
-no_longer e (inr less) = omega (arith, less)
+pub no_longer : (s : Settings) (e : Rule) → KeepsOrLowers s e → length e.right ≤ length e.left
+no_longer s e (inl same) = let l : length e.right ≡ length e.left = ap length same in omega (arith, l)
+no_longer s e (inr lower) = lower.1.no_longer
+
+no_dearer : (s : Settings) (e : Rule) → KeepsOrLowers s e → weight_in s e.right ≤ weight_in s e.left
+no_dearer s e (inl same) = let w : weight_in s e.right ≡ weight_in s e.left = ap (weight_in s) same in omega (arith, w)
+no_dearer s e (inr lower) = let less = lower.1.lighter in omega (arith, less)
+
+-- nothing is left untold
+none_untold : (s : Settings) (states : List Seen) (rules : List Rule) (e : Rule) → IsFit s states states e → (q : ℕ) (seq : List Instr) → IsUntold (table_with s states rules) e q seq → ⊥
+none_untold s states rules e f q seq u = elim (f.settles q seq u.below) [
+  | inl named ↦ true≢false (sym named ∙ u.unnamed)
+  | inr does ↦ u.untold (told_is states e.left seq e.mask does)
+]
 
 pub fit_passes : (s : Settings) (states : List Seen) (rules : List Rule) (n : ℕ) (e : Rule) → IsFit s states states e → EntryVerdict (table_with s states rules) n e None
 unfolding EntryVerdict
@@ -44,20 +56,17 @@ fit_passes s states rules n e f =
         few = f.window.few;
         left = f.window.over;
         right = f.right;
-        no_longer = no_longer e f.keeps;
+        no_longer = no_longer s e f.keeps;
+        no_dearer = no_dearer s e f.keeps;
         mask = f.window.mask;
       },
       (
         refutation_passes (λ line. Entry n (Proof line)) (Entry n Unfinished) s.budget (formula_of s e) e.proof f.proved,
         (
-          turn_all (ToldTest t n e) 0 (shorter t e) (λ i seq at. subst (λ j. ToldTest t n e j seq None) (sym (zero-add i)) (elim (f.settles i seq at) [
-            | inl named ↦ inl named
-            | inr does ↦ inr (told_is states e.left seq e.mask does)
-          ])),
+          none_untold s states rules e f,
           turn_all (OpenTest t n e) 0 e.opens (λ i o at. let name = f.names i o at in record {
             seq = name.seq;
-            below = (let whole = below_in (alphabet_registers s e.left) s.pool (length e.right) o.number name.seq (omega (arith, no_longer e f.keeps, f.window.canonical.renamable.few)) name.is_shorter in
-                record { at = whole.0; no_longer = omega (arith, whole.1, no_longer e f.keeps); lighter = whole.1 });
+            below = name.below;
             untold = untold states e.left name.seq e.mask f.mask name.untold;
             spent = search_spends s.budget (formula_against s e name.seq) o.log name.log;
           }),
@@ -75,7 +84,7 @@ fit_more s tellers more silent e f = record {
   keeps = f.keeps;
   proved = f.proved;
   lines = f.lines;
-  settles = λ q seq at. elim (f.settles q seq at) [
+  settles = λ q seq below. elim (f.settles q seq below) [
     | inl named ↦ inl named
     | inr does ↦ inr (told_more tellers more e.left seq e.mask does)
   ];
@@ -148,12 +157,12 @@ fit_without s silent found e f = record {
   keeps = f.keeps;
   proved = record { log = f.proved.log; refutes = f.proved.refutes; says = f.proved.says };
   lines = f.lines;
-  settles = λ q seq at.
+  settles = λ q seq below.
       elim (told found e.left seq e.mask) as (λ b. told found e.left seq e.mask ≡ b → (is_named (without_told s found e).opens q ≡ true) ⊎ (told (silent ++ found) e.left seq e.mask ≡ true)) [
         | true ↦ λ k. inr (told-append silent found e.left seq e.mask ∙ or_right (told silent e.left seq e.mask) _ k)
-        | false ↦ λ k. elim (f.settles q seq at) [
+        | false ↦ λ k. elim (f.settles q seq below) [
           | inl r ↦ inl (named-filter (stays_open s found e) e.opens q
-              (λ o same. let here : slice_get (shorter_of s e) o.number ≡ Some seq = subst (λ j. slice_get (shorter_of s e) j ≡ Some seq) (sym same) at in
+              (λ o same. let here : below_at s e.left e.right o.number ≡ Some seq = subst (λ j. below_at s e.left e.right j ≡ Some seq) (sym same) (below_is s e.left e.right q seq below) in
               ap not (ap (tells_number found e) here ∙ k)) r)
           | inr r ↦ inr r
         ]
@@ -161,10 +170,10 @@ fit_without s silent found e f = record {
   names = λ i o at.
       let kept = filter_at (stays_open s found e) e.opens i o at in
       let name = f.names kept.1.0 o kept.1.1 in
-      let quiet : told found e.left name.seq e.mask ≡ false = sym (ap (tells_number found e) name.is_shorter) ∙ not_flip (tells_number found e (slice_get (shorter_of s e) o.number)) kept.0 in
+      let quiet : told found e.left name.seq e.mask ≡ false = sym (ap (tells_number found e) (below_is s e.left e.right o.number name.seq name.below)) ∙ not_flip (tells_number found e (below_at s e.left e.right o.number)) kept.0 in
       record {
         seq = name.seq;
-        is_shorter = name.is_shorter;
+        below = name.below;
         untold = untold_both silent found e.left name.seq e.mask name.untold quiet;
         log = name.log;
         lines = name.lines;

@@ -1,11 +1,13 @@
 -- One more window, and the table in the end.
-use Rattle.std.proofs.Common.{◌≡◌, ℕ, zero, suc, ◌+◌, ◌-◌, ◌<◌, ◌≤◌, ◌^◌, ◌%◌, ◌/◌, ◌*◌, inl, inr, List, [], ◌∷◌, ◌++◌, Some, All, length, map, slice_get, take, get_or, refl, sym, ◌∙◌, ap, subst, arith, zero-add, length-append, true, false, nat_le, leb-false}
+use Rattle.std.proofs.Common.{◌≡◌, ℕ, zero, suc, ◌+◌, ◌-◌, ◌<◌, ◌≤◌, ◌^◌, ◌%◌, ◌/◌, ◌*◌, inl, inr, List, [], ◌∷◌, ◌++◌, Option, Some, None, All, length, map, slice_get, take, get_or, refl, sym, ◌∙◌, ap, subst, arith, zero-add, length-append, true, false, nat_le, leb-true, leb-false}
+use Rattle.std.specs.Prelude.{IfSome, IsSome}
 use Rattle.std.proofs.lemmas.List.{take-append-le, take_all}
 use Rattle.std.proofs.lemmas.List.Elements.{All-nil, All-cons, All-append}
 use Rattle.std.proofs.lemmas.Bool.{cases_lt}
 use Rattle.std.proofs.lemmas.Option.{slice_get_within, slice_get-get_or, same_Some}
 use Rattle.thumb_instr.specs.declared.instr.Instr.{Instr}
 use Rattle.thumb_model.specs.Sides.{AreOver}
+use Rattle.seq_enum.specs.Costs.{AreCosts}
 use Rattle.seq_enum.specs.Pools.{is_pool}
 use Rattle.seq_enum.specs.Alphabet.{IsOver}
 use Rattle.seq_enum.proofs.Numbered.{get_front}
@@ -16,10 +18,11 @@ use Rattle.rand_pcg.specs.Lcg.{Lcg}
 use Rattle.rand_pcg.specs.Pcg.{pcg32}
 use Rattle.window_exec.specs.Seen.{Seen}
 use Rattle.fingerprints.specs.Seeded.{next_state, seeded_states, states_from}
-use Rattle.rule_table.specs.Table.{Rule}
+use Rattle.rule_table.specs.Table.{Opened, Rule}
 use Rattle.rule_table.specs.Valid.{IsState, IsInstr, IsOpened, IsRule, IsFamily, IsTable}
-use Rattle.table_audit.specs.Sides.{named_count, alphabet_registers, with_scratch, formula_against}
-use Rattle.table_audit.specs.Acceptance.{StateTest, EntryVerdict, IsAccepted}
+use Rattle.table_audit.specs.Sides.{named_count, alphabet_registers, formula_against}
+use Rattle.table_audit.specs.Shorter.{sequences_below}
+use Rattle.table_audit.specs.Acceptance.{StateTest, EntryVerdict, IsAccepted, lengths_below, width_of}
 use Rattle.table_audit.proofs.Fitting.{are_over, ordered_of}
 use Rattle.table_audit.proofs.Walking.{over_more}
 use Rattle.rule_table.specs.declared.header.Field.{Field}
@@ -27,15 +30,15 @@ use Rattle.rule_table.specs.declared.header.Field.TheVariants as field
 use Rattle.rule_table.specs.declared.header.Head.TheVariants.{Number}
 use Rattle.rule_table.specs.Header.{number_in, has_line, blank, IsWithin, IsHeader}
 use Rattle.table_learn.specs.Settings.{Settings, Window}
-use Rattle.table_learn.specs.Given.{AreInLimits}
-use Rattle.table_learn.specs.Learnt.{Learnt, TellsFirst, AreEarned, learnt_from, width_of, KeepsOrShortens, IsProvedBySolver, IsOpenBySolver, IsSpentSearch}
-use Rattle.table_learn.specs.Fitness.{IsFit, shorter_of, without_told}
-use Rattle.table_learn.specs.Searching.{EarnedFrom}
+use Rattle.table_learn.specs.Given.{IsVersionFor, AreInLimits}
+use Rattle.table_learn.specs.Learnt.{Learnt, TellsFirst, AreEarned, learnt_from, KeepsOrLowers, IsProvedBySolver, IsOpenBySolver, IsSpentSearch}
+use Rattle.table_learn.specs.Fitness.{IsFit, without_told}
+use Rattle.table_learn.specs.Searching.{EarnedFrom, width_at}
 use Rattle.table_learn.specs.Progress.{Progress, table_with}
+use Rattle.table_learn.proofs.Below.{one_below, below_among, width_within}
 use Rattle.table_learn.proofs.Fit.{turn_all, fit_passes, fit_more, fit_without, no_longer}
 use Rattle.table_learn.proofs.Steps.{push_cases}
-use Rattle.table_learn.proofs.Monotone.{shorter_more}
-use Rattle.table_learn.proofs.Registers.{more_registers, few_registers, some_registers, narrow_registers}
+use Rattle.table_learn.proofs.Registers.{more_registers, few_registers}
 use Rattle.table_learn.proofs.Wider.{over_wider}
 
 -- ---- lists ----
@@ -185,14 +188,14 @@ pub learnt : (s : Settings) (windows : List Window) (states : List Seen) (rules 
 learnt s windows states rules g narrow = record {
   header = refl;
   entries = g.matched;
-  rights = all_of KeepsOrShortens rules (λ i e at. (g.fits i e at).keeps);
+  rights = all_of (KeepsOrLowers s) rules (λ i e at. (g.fits i e at).keeps);
   states = g.earned;
   accepted = accepted s windows states rules g narrow;
   proofs = all_of (IsProvedBySolver s) rules (λ i e at. (g.fits i e at).proved);
-  logs = all_of (λ e. All (IsOpenBySolver (table_with s states rules) e) e.opens) rules (λ i e at.
-      all_of (IsOpenBySolver (table_with s states rules) e) e.opens (λ j o here seq there.
+  logs = all_of (λ e. All (IsOpenBySolver s e) e.opens) rules (λ i e at.
+      all_of (IsOpenBySolver s e) e.opens (λ j o here seq there.
       let name = (g.fits i e at).names j o here in
-      let same : name.seq ≡ seq = same_Some name.seq seq (sym name.is_shorter ∙ there) in
+      let same : name.seq ≡ seq = one_below s e.left e.right e.right o.number name.seq seq name.below there in
       subst (λ z. IsSpentSearch s.budget (formula_against s e z) o.log) same name.log));
 }
 
@@ -205,17 +208,20 @@ over_instrs (i ∷ is) over = All-cons IsInstr i is (record { window = over.0; l
 side_instrs : (pool : List ℕ) (k : ℕ) (is : List Instr) → k ≤ 4 → IsOver k pool is → All IsInstr is
 side_instrs pool k is few over = over_instrs is (over_more k 4 is few (are_over k pool is (omega (arith, few)) over))
 
-pub few_shorter : (s : Settings) (silent tellers : List Seen) (e : Rule) → AreInLimits s → IsFit s tellers silent e → length (shorter_of s e) ≤ width_of s
-few_shorter s silent tellers e l f =
-    let w = learnt_from e in
-    let n = no_longer e f.keeps in
-    shorter_more (alphabet_registers s e.left) (with_scratch s s.regs) s.pool (length e.right) s.left (some_registers s w f.window) (narrow_registers s w f.window) (omega arith) (omega (arith, n, f.window.short))
+-- an open number is below the number of all sequences that count
+pub low_name : (s : Settings) (tellers silent : List Seen) (e : Rule) (i : ℕ) (o : Opened) → IsFit s tellers silent e → slice_get e.opens i ≡ Some o → o.number < width_of s
+low_name s tellers silent e i o f at =
+    let name = f.names i o at in
+    let among = below_among s e.left e.right o.number name.seq f.window.canonical.renamable.few (no_longer s e f.keeps) name.below in
+    let low : o.number < width_at s (learnt_from e) = slice_get_within (sequences_below (alphabet_registers s e.left) s.pool (lengths_below s.costs (length e.left))) o.number name.seq among in
+    let within = width_within s (learnt_from e) f.window in
+    omega (arith, low, within)
 
-valid_rule : (s : Settings) (states : List Seen) (e : Rule) → AreInLimits s → width_of s ≤ 5000000 → IsFit s states states e → IsRule e
-valid_rule s states e l narrow f =
+valid_rule : (s : Settings) (states : List Seen) (e : Rule) → width_of s ≤ 5000000 → IsFit s states states e → IsRule e
+valid_rule s states e narrow f =
     let k : ℕ = alphabet_registers s e.left in
     let few_named = (ordered_of e.left f.window.canonical).few in
-    let n = no_longer e f.keeps in
+    let n = no_longer s e f.keeps in
     let five : length e.left ≤ 5 = f.window.canonical.renamable.few in
     record {
       some = f.window.canonical.renamable.some;
@@ -227,17 +233,29 @@ valid_rule s states e l narrow f =
       proof = f.lines;
       opens = all_of IsOpened e.opens (λ i z at.
           let name = f.names i z at in
-          let low : z.number < length (shorter_of s e) = slice_get_within (shorter_of s e) z.number name.seq name.is_shorter in
-          let few = few_shorter s states states e l f in
-          record { small = omega (arith, low, few, narrow); log = name.lines });
+          let low = low_name s states states e i z f at in
+          record { small = omega (arith, low, narrow); log = name.lines });
       ascending = f.ascending;
     }
 
-pub in_limits : (s : Settings) → AreInLimits s → s.seed < 2 ^ 32 → is_pool s.pool ≡ true → IsHeader s
-in_limits s l seed pool = record { numbers = each; pool = pool; unsaid = said }
+-- versions with and without costs
+version_within : (costs : Option (List ℕ)) (version : ℕ) → IsVersionFor costs version → (1 ≤ version) × (version ≤ 4)
+version_within None version is = (is.0, (let few = is.1 in omega (arith, few)))
+version_within (Some costs) version is = (omega (arith, is), omega (arith, is))
+
+costed : (costs : Option (List ℕ)) (version : ℕ) → IsVersionFor costs version → nat_le 4 version ≡ true → IsSome costs
+costed None version is late = let four = leb-true 4 version late in let few = is.1 in absurd (omega (arith, four, few))
+costed (Some costs) version is late = refl
+
+uncosted : (costs : Option (List ℕ)) (version : ℕ) → IsVersionFor costs version → nat_le 4 version ≡ false → costs ≡ None
+uncosted None version is early = refl
+uncosted (Some costs) version is early = let low = leb-false 4 version early in absurd (omega (arith, low, is))
+
+pub in_limits : (s : Settings) → AreInLimits s → s.seed < 2 ^ 32 → is_pool s.pool ≡ true → IfSome s.costs AreCosts → IsHeader s
+in_limits s l seed pool costs = record { numbers = each; pool = pool; costs = costs; costed = costed s.costs s.version l.version; uncosted = uncosted s.costs s.version l.version; unsaid = said }
   where
     each : (f : Field) → IsWithin f (number_in s f)
-    each field.Version = (l.some_version, omega (arith, l.few_version))
+    each field.Version = version_within s.costs s.version l.version
     each field.Regs = (l.some_regs, l.few_regs)
     each field.Left = (l.some_left, l.few_left)
     each field.Seed = (omega arith, omega (arith, seed))
@@ -246,7 +264,7 @@ in_limits s l seed pool = record { numbers = each; pool = pool; unsaid = said }
 
     -- each version has a line for each number but that of scratch registers
     has : nat_le 1 s.version ≡ false → ⊥
-    has none = let late = leb-false 1 s.version none in let some = l.some_version in omega (arith, late, some)
+    has none = let late = leb-false 1 s.version none in let some = (version_within s.costs s.version l.version).0 in omega (arith, late, some)
 
     said : (f : Field) → has_line s.version (Number f) ≡ false → number_in s f ≡ number_in blank f
     said field.Version none = absurd (has none)
@@ -254,13 +272,13 @@ in_limits s l seed pool = record { numbers = each; pool = pool; unsaid = said }
     said field.Left none = absurd (has none)
     said field.Seed none = absurd (has none)
     said field.Budget none = absurd (has none)
-    said field.Scratch none = let late = leb-false 2 s.version none in let some = l.some_version in l.first_version (omega (arith, late, some))
+    said field.Scratch none = let late = leb-false 2 s.version none in let some = (version_within s.costs s.version l.version).0 in l.first_version (omega (arith, late, some))
 
-pub valid : (s : Settings) (windows : List Window) (states : List Seen) (rules : List Rule) → AreInLimits s → IsHeader s → width_of s ≤ 5000000 → Progress s windows states rules → IsTable (table_with s states rules)
-valid s windows states rules l is narrow g = record {
+pub valid : (s : Settings) (windows : List Window) (states : List Seen) (rules : List Rule) → IsHeader s → width_of s ≤ 5000000 → Progress s windows states rules → IsTable (table_with s states rules)
+valid s windows states rules is narrow g = record {
   header = is;
   states = g.valid;
-  rules = all_of IsRule rules (λ i e at. valid_rule s states e l narrow (g.fits i e at));
+  rules = all_of IsRule rules (λ i e at. valid_rule s states e narrow (g.fits i e at));
   families = All-nil IsFamily;
   none_before = λ early. refl;
 }

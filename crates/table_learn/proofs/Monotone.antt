@@ -1,6 +1,6 @@
--- How many shorter sequences there are, at more registers and more instructions.
+-- How many sequences there are, at more registers and more instructions.
 use Rattle.std.proofs.Common.{◌≡◌, ℕ, zero, suc, ◌+◌, ◌-◌, ◌*◌, ◌^◌, ◌<◌, ◌≤◌, List, length, sym, subst, arith}
-use Rattle.std.proofs.Math.Nat.{le_refl, le_trans, pow-le-pow_left}
+use Rattle.std.proofs.Math.Nat.{le_refl, le_trans, mul-le-mul, pow-le-pow_left}
 use Rattle.seq_enum.specs.Lists.{held_in}
 use Rattle.seq_enum.specs.Places.{sum_below}
 use Rattle.seq_enum.specs.Alphabet.{alphabet}
@@ -53,7 +53,14 @@ alphabet_more k m pool some h few =
     let g = size_more (length (held_in 0 8 pool)) (length (held_in 0 256 pool)) (length (held_in 1 32 pool)) (length (held_in 1 33 pool)) k m some h few in
     rw (e, f) g
 
-sum_more : (a b n : ℕ) → a ≤ b → sum_below (λ i. a ^ i) n ≤ sum_below (λ i. b ^ i) n
+-- each mnemonic of two registers or one has a letter
+pub least_letters : (k : ℕ) (pool : List ℕ) → 0 < k → k ≤ 4 → 26 ≤ length (alphabet k pool)
+least_letters k pool some few =
+    let e = size_formula k pool (omega (arith, few)) in
+    let square : 1 * 1 ≤ k * k = mul-le-mul some some in
+    omega (arith, e, square)
+
+pub sum_more : (a b n : ℕ) → a ≤ b → sum_below (λ i. a ^ i) n ≤ sum_below (λ i. b ^ i) n
 unfolding sum_below
 sum_more a b zero h = le_refl _
 sum_more a b (suc n) h = let p = pow-le-pow_left h n in let q = sum_more a b n h in omega (arith, p, q)

@@ -3,7 +3,6 @@ use Rattle.std.proofs.Common.{◌≡◌, ℕ, zero, suc, ◌+◌, ◌-◌, ◌*�
 use Rattle.std.proofs.Math.Seq.{drop-append_seam}
 use Rattle.std.proofs.lemmas.List.{length-map, map_push}
 use Rattle.std.proofs.lemmas.List.Elements.{All-nil, All-cons, All-append}
-use Rattle.std.proofs.lemmas.Option.{slice_get_within}
 use Rattle.thumb_instr.specs.declared.instr.Instr.{Instr}
 use Rattle.thumb_model.specs.Sides.{AreOver}
 use Rattle.window_exec.specs.declared.state.WState.{WState}
@@ -14,14 +13,16 @@ use Rattle.rule_table.specs.Views.{rule_of}
 use Rattle.rule_table.specs.Table.{Opened, Rule}
 use Rattle.rule_table.specs.Valid.{IsState}
 use Rattle.rule_table.specs.Text.{rule_items}
-use Rattle.table_audit.specs.Sides.{named_count, alphabet_registers, with_scratch}
+use Rattle.table_audit.specs.Sides.{named_count, alphabet_registers}
+use Rattle.table_audit.specs.Shorter.{below_at}
+use Rattle.table_audit.specs.Acceptance.{width_of}
 use Rattle.table_audit.proofs.Fitting.{are_over, ordered_of}
 use Rattle.table_audit.proofs.Walking.{over_more}
 use Rattle.table_learn.specs.Settings.{Settings, Window}
-use Rattle.table_learn.specs.Given.{IsWindow, AreInLimits}
-use Rattle.table_learn.specs.Learnt.{learnt_from, text_length, width_of}
-use Rattle.table_learn.specs.Fitness.{IsFit, shorter_of, tells_number, stays_open, without_told}
-use Rattle.table_learn.specs.Searching.{shorter_than, AreCandidates, IsGrown, EarnedFrom, query_cost}
+use Rattle.table_learn.specs.Given.{IsWindow}
+use Rattle.table_learn.specs.Learnt.{learnt_from, text_length}
+use Rattle.table_learn.specs.Fitness.{IsFit, tells_number, stays_open, without_told}
+use Rattle.table_learn.specs.Searching.{width_at, AreCandidates, IsGrown, EarnedFrom, query_cost}
 use Rattle.table_learn.specs.Lengths.{lines_length, rules_length}
 use Rattle.table_learn.specs.Progress.{Progress, HasLearnt, table_with, states_in, rules_in, search_cost, drop_cost}
 use Rattle.table_learn.specs.Dropping.{IsSided, runs_on}
@@ -33,18 +34,18 @@ use Rattle.seq_enum.proofs.Numbered.{get_front}
 use Rattle.table_learn.specs.Keeping.{AreKept, IsOfFirst}
 use Rattle.table_learn.specs.declared.learning.Learner.{Learner}
 use Rattle.table_learn.proofs.Fit.{no_longer}
-use Rattle.table_learn.proofs.Gains.{all_of, gain, few_shorter}
+use Rattle.table_learn.proofs.Below.{width_within}
+use Rattle.table_learn.proofs.Gains.{all_of, gain, low_name}
 use Rattle.table_learn.proofs.TextLengths.{text_more}
-use Rattle.table_learn.proofs.Costs.{few_opens, few_numbers, search_within, drop_within}
-use Rattle.table_learn.proofs.Monotone.{shorter_more}
-use Rattle.table_learn.proofs.Registers.{more_registers, few_registers, some_registers, narrow_registers}
+use Rattle.table_learn.proofs.Costs.{few_opens, search_within, drop_within}
+use Rattle.table_learn.proofs.Registers.{more_registers, few_registers}
 use Rattle.table_learn.proofs.Steps.{push_cases}
 
 -- ---- nothing found drops nothing ----
 
 all_stay : (s : Settings) (e : Rule) (opens : List Opened) → filter (stays_open s [] e) opens ≡ opens
 all_stay s e [] = refl
-all_stay s e (o ∷ opens) = rw (stays (slice_get (shorter_of s e) o.number)) (ap (λ (os : List Opened). o ∷ os) (all_stay s e opens))
+all_stay s e (o ∷ opens) = rw (stays (below_at s e.left e.right o.number)) (ap (λ (os : List Opened). o ∷ os) (all_stay s e opens))
   where
     stays : (seq : Option (List Instr)) → not (tells_number [] e seq) ≡ true
     stays None = refl
@@ -87,17 +88,16 @@ side_over s w i =
     (few_registers s w.seq, over_more (named_count w.seq) (alphabet_registers s w.seq) w.seq more over, over_more (named_count w.seq) 4 w.seq few over)
 
 sided : (s : Settings) (tellers silent : List Seen) (e : Rule) → IsFit s tellers silent e → IsSided e
-sided s tellers silent e f = record { canonical = f.window.canonical; over = (side_over s (learnt_from e) f.window).2; no_longer = no_longer e f.keeps }
+sided s tellers silent e f = record { canonical = f.window.canonical; over = (side_over s (learnt_from e) f.window).2; no_longer = no_longer s e f.keeps }
 
 pub all_sided : (s : Settings) (windows : List Window) (old new : List Seen) (rules : List Rule) (e : Rule) → Progress s windows old rules → IsFit s new old e → All IsSided (rules ++ e ∷ [])
 all_sided s windows old new rules e g fit = All-append IsSided rules (e ∷ []) (all_of IsSided rules (λ i z at. sided s old old z (g.fits i z at))) (All-cons IsSided e [] (sided s new old e fit) (All-nil IsSided))
 
 -- how many open numbers an entry has, and how long it is
-pub few_each : (s : Settings) (tellers silent : List Seen) (e : Rule) → AreInLimits s → IsFit s tellers silent e → (length e.opens ≤ width_of s) × (length e.left ≤ s.left)
-few_each s tellers silent e l f =
-    let few = few_shorter s silent tellers e l f in
-    let opens : 0 + length e.opens ≤ length (shorter_of s e) = few_opens 0 (length (shorter_of s e)) e.opens (omega arith) f.ascending (λ i o at. let name = f.names i o at in slice_get_within (shorter_of s e) o.number name.seq name.is_shorter) in
-    (omega (arith, few, opens), f.window.short)
+pub few_each : (s : Settings) (tellers silent : List Seen) (e : Rule) → IsFit s tellers silent e → (length e.opens ≤ width_of s) × (length e.left ≤ s.left)
+few_each s tellers silent e f =
+    let opens : 0 + length e.opens ≤ width_of s = few_opens 0 (width_of s) e.opens (omega arith) f.ascending (λ i o at. low_name s tellers silent e i o f at) in
+    (omega (arith, opens), f.window.short)
 
 map-drop : {X Y : Type 0} (f : X → Y) (n : ℕ) (xs : List X) → map f (drop n xs) ≡ drop n (map f xs)
 map-drop f zero xs = refl
@@ -142,20 +142,16 @@ pub put_back : (k : ℕ) (pool : List ℕ) (states : List Seen) (e : Extent) (ol
 put_back k pool states e old new kept is put start at = let here = is start at in put pool start (kept start at) (subst (λ j. IsFor j pool start e) (sym here.registers) here)
 
 -- the steps of one more window
-pub window_cost : (s : Settings) (windows : List Window) (w : Window) (l : Learner) (states found : List WState) (entries later : List Entry) (entry : Entry) (candidates : List ℕ) (before first middle after : ℕ) → AreInLimits s → HasLearnt s windows l → IsWindow s w → AreCandidates s (states_in l) w candidates → IsFit s (map seen states) (states_in l) (rule_of entry)
+pub window_cost : (s : Settings) (windows : List Window) (w : Window) (l : Learner) (states found : List WState) (entries later : List Entry) (entry : Entry) (candidates : List ℕ) (before first middle after : ℕ) → HasLearnt s windows l → IsWindow s w → AreCandidates s (states_in l) w candidates → IsFit s (map seen states) (states_in l) (rule_of entry)
     → entries ≡ l.entries.items ++ entry ∷ [] → map rule_of later ≡ map (without_told s (map seen found)) (map rule_of entries) → length found ≡ length states - length l.states.items
-    → first ≤ before + length (shorter_than s w) → middle ≤ first + length candidates * query_cost s.budget (length states) (length w.seq) → length l.states.items ≤ length states → after ≤ middle + runs_on (length found) (map rule_of entries)
+    → first ≤ before + width_at s w → middle ≤ first + length candidates * query_cost s.budget (length states) (length w.seq) → length l.states.items ≤ length states → after ≤ middle + runs_on (length found) (map rule_of entries)
     → after ≤ before + search_cost s (length states) + drop_cost s (length later) (length states - length l.states.items)
-window_cost s windows w l states found entries later entry candidates before first middle after limits h window are fit e k size table m more n =
+window_cost s windows w l states found entries later entry candidates before first middle after h window are fit e k size table m more n =
     let rules : map rule_of entries ≡ rules_in l ++ rule_of entry ∷ [] = ap (map rule_of) e ∙ map_push rule_of l.entries.items entry in
-    let few : 0 + length candidates ≤ length (shorter_than s w) = few_numbers 0 (length (shorter_than s w)) candidates (omega arith) are.ascending are.within in
-    let wide : length (shorter_than s w) ≤ width_of s = shorter_more (alphabet_registers s w.seq) (with_scratch s s.regs) s.pool (length w.seq) s.left (some_registers s w window) (narrow_registers s w window) (omega arith) window.short in
-    let known = h.progress.long in
-    let listed : length (states_in l) ≡ length l.states.items = length-map l.states.items seen in
-    let searched : length (shorter_than s w) + length candidates * query_cost s.budget (length states) (length w.seq) ≤ search_cost s (length states) = search_within s (length candidates) (length (shorter_than s w)) (length states) (length w.seq) (omega (arith, few)) wide window.short window.canonical.renamable.some (omega (arith, known, listed, more)) in
+    let searched : width_at s w + length candidates * query_cost s.budget (length states) (length w.seq) ≤ search_cost s (length states) = search_within s (length candidates) (width_at s w) (length states) (length w.seq) are.few (width_within s w window) window.short in
     let dropped : runs_on (length found) (rules_in l ++ rule_of entry ∷ []) ≤ drop_cost s (length (rules_in l ++ rule_of entry ∷ [])) (length found) = drop_within s (length found) (rules_in l ++ rule_of entry ∷ []) (λ i z at. elim (push_cases (rules_in l) (rule_of entry) i z at) [
-      | inl q ↦ few_each s (states_in l) (states_in l) z limits (h.progress.fits i z q)
-      | inr q ↦ subst (λ y. (length y.opens ≤ width_of s) × (length y.left ≤ s.left)) q.1 (few_each s (map seen states) (states_in l) (rule_of entry) limits fit)
+      | inl q ↦ few_each s (states_in l) (states_in l) z (h.progress.fits i z q)
+      | inr q ↦ subst (λ y. (length y.opens ≤ width_of s) × (length y.left ≤ s.left)) q.1 (few_each s (map seen states) (states_in l) (rule_of entry) fit)
     ]) in
     let runs : runs_on (length found) (map rule_of entries) ≡ runs_on (length found) (rules_in l ++ rule_of entry ∷ []) = ap (λ (rs : List Rule). runs_on (length found) rs) rules in
     let many : length (map rule_of later) ≡ length (rules_in l ++ rule_of entry ∷ []) = ap (λ (rs : List Rule). length rs) k ∙ length-map (map rule_of entries) (without_told s (map seen found)) ∙ ap (λ (rs : List Rule). length rs) rules in

@@ -1,6 +1,6 @@
 -- A search as its loop sees it.
 use Rattle.std.specs.Global.{Global}
-use Rattle.std.proofs.Common.{◌≡◌, ℕ, ◌+◌, ◌<◌, ◌≤◌, List, [], ◌∷◌, ◌++◌, All, Some, filter, length, map, slice_get, get_or, take, drop, sym, ◌∙◌, ap, subst, append-nil}
+use Rattle.std.proofs.Common.{◌≡◌, ℕ, ◌+◌, ◌<◌, ◌≤◌, List, [], ◌∷◌, ◌++◌, All, filter, length, map, get_or, take, drop, sym, ◌∙◌, ap, subst, append-nil}
 use Rattle.std.specs.Prelude.{Vec}
 use Rattle.std.proofs.lemmas.List.{take_more, take_all, drop_all, take-append-drop}
 use Rattle.std.proofs.lemmas.List.Elements.{All-nil}
@@ -16,11 +16,12 @@ use Rattle.bit_blast.specs.Differences.{sides_formula}
 use Rattle.bit_blast.specs.Exactness.{IsMask}
 use Rattle.rule_table.specs.Table.{Opened, Rule}
 use Rattle.table_audit.specs.Sides.{alphabet_registers}
+use Rattle.table_audit.specs.Shorter.{IsBelow}
 use Rattle.table_learn.specs.Settings.{Settings, Window}
 use Rattle.table_learn.specs.Given.{IsWindow}
 use Rattle.table_learn.specs.Learnt.{IsRefutation, learnt_from}
-use Rattle.table_learn.specs.Fitness.{IsFit, shorter_of}
-use Rattle.table_learn.specs.Searching.{shorter_than, AreCandidates, IsSearching, is_below}
+use Rattle.table_learn.specs.Fitness.{IsFit}
+use Rattle.table_learn.specs.Searching.{AreCandidates, IsSearching, is_below}
 use Rattle.table_learn.specs.Tried.{IsRightSide}
 use Rattle.table_learn.proofs.Certificates.{nothing_refutes}
 use Rattle.table_learn.proofs.Rounds.{side_over}
@@ -38,10 +39,10 @@ search_next s w old states later opens more candidates i d low tried g =
     (tried old (take i candidates) (drop (i + 1) candidates) (subst (λ rs. IsSearching s w old states opens (take i candidates) rs) (split_at candidates i d low) g))
 
 -- the candidate at a place is the right side
-pub right_found : (s : Settings) (w : Window) (e : Rule) (old states later : List Seen) (opens more kept : List Opened) (candidates : List ℕ) (i d limit : ℕ) (right : List Instr × Vec Line Global) → learnt_from e ≡ w → IsWindow s w → IsMask w.mask → i < length candidates
+pub right_found : (s : Settings) (w : Window) (e : Rule) (old states later : List Seen) (opens more : List Opened) (candidates : List ℕ) (i d : ℕ) (right : List Instr × Vec Line Global) → learnt_from e ≡ w → IsWindow s w → IsMask w.mask → i < length candidates
     → IsSearching s w old states opens (take i candidates) (drop i candidates) → AreCandidates s old w candidates → (later ≡ states) × (more ≡ opens) × IsRightSide s w (get_or candidates i d) right → e.right ≡ right.0 → e.proof ≡ map content_of right.1.items
-    → e.opens ≡ filter (is_below limit) more → limit ≡ length (shorter_of s e) → IsFit s later old e
-right_found s w e old states later opens more kept candidates i d limit right same window mask low g are tried r p o l =
+    → e.opens ≡ filter (is_below s w.seq right.0) more → IsFit s later old e
+right_found s w e old states later opens more candidates i d right same window mask low g are tried r p o =
     subst (λ ss. IsFit s ss old e) (sym tried.0)
     (search_proves s e old states opens (take i candidates) (drop (i + 1) candidates) candidates (get_or candidates i d)
     (subst (IsWindow s) (sym same) window)
@@ -49,8 +50,8 @@ right_found s w e old states later opens more kept candidates i d limit right sa
     (subst (λ (v : Window). IsSearching s v old states opens (take i candidates) (get_or candidates i d ∷ drop (i + 1) candidates)) (sym same) (subst (λ rs. IsSearching s w old states opens (take i candidates) rs) (split_at candidates i d low) g))
     (subst (λ (v : Window). AreCandidates s old v candidates) (sym same) are)
     (sym (take-append-drop i candidates) ∙ ap (λ rs. take i candidates ++ rs) (split_at candidates i d low))
-    (subst (λ (v : Window). slice_get (shorter_than s v) (get_or candidates i d) ≡ Some e.right) (sym same) (tried.2.at ∙ ap (λ z. Some z) (sym r)))
-    (o ∙ ap (λ n. filter (is_below n) more) l ∙ ap (λ os. filter (is_below (length (shorter_of s e))) os) tried.1)
+    (subst (λ (v : Window). IsBelow s v.seq v.seq (get_or candidates i d) e.right) (sym same) (subst (λ z. IsBelow s w.seq w.seq (get_or candidates i d) z) (sym r) tried.2.below))
+    (o ∙ ap (λ os. filter (is_below s w.seq right.0) os) tried.1 ∙ ap (λ z. filter (is_below s w.seq z) opens) (sym r) ∙ ap (λ (v : Window). filter (is_below s v.seq e.right) opens) (sym same))
     (subst (λ (v : Window). IsRefutation s.budget (sides_formula v.seq e.right v.mask (alphabet_registers s v.seq)) e.proof) (sym same) (subst (λ z. IsRefutation s.budget (sides_formula w.seq z w.mask (alphabet_registers s w.seq)) e.proof) (sym r) (subst (λ ls. IsRefutation s.budget (sides_formula w.seq right.0 w.mask (alphabet_registers s w.seq)) ls) (sym p) tried.2.proof)))
     (subst (All IsLine) (sym p) tried.2.lines))
 

@@ -1,11 +1,11 @@
 -- The length of a table's text, part by part.
 use Rattle.std.proofs.Common.{◌≡◌, ℕ, zero, suc, ◌+◌, ◌*◌, ◌<◌, ◌≤◌, ◌^◌, ◌/◌, inl, inr, List, [], ◌∷◌, ◌++◌, All, map, length, take, get_or, refl, sym, ◌∙◌, ap, arith, length-append, append-nil, true, false, cond, nat_le, nat_lt}
-use Rattle.std.specs.Prelude.{decimal, sum_by, codes}
+use Rattle.std.specs.Prelude.{decimal, sum_by, codes, Option, Some, None, IfSome}
 use Rattle.std.specs.List.{flat_map, list_all}
 use Rattle.std.proofs.lemmas.Bool.{and_parts, cases_Bool, ltb-true}
 use Rattle.std.proofs.lemmas.Fmt.{length-decimal-le}
 use Rattle.std.proofs.lemmas.List.Concat.{flat_map-append}
-use Rattle.std.proofs.lemmas.List.Elements.{All-head, All-tail}
+use Rattle.std.proofs.lemmas.List.Elements.{All-nil, All-cons, All-head, All-tail, All-weaker}
 use Rattle.std.proofs.lemmas.List.Sums.{sum_by-cons}
 use Rattle.thumb_instr.specs.declared.instr.Instr.{Instr}
 use Rattle.thumb_instr.specs.Items.{has}
@@ -15,6 +15,7 @@ use Rattle.lrat_check.specs.Text.{text_of as text_of_line}
 use Rattle.lrat_check.specs.declared.line.Line.{Line}
 use Rattle.rule_table.specs.declared.table.Open as code
 use Rattle.rule_table.specs.Views.{opened_of}
+use Rattle.seq_enum.specs.Costs.{AreCosts}
 use Rattle.seq_enum.specs.Pools.{inside}
 use Rattle.seq_enum.proofs.Bounds.{bounds}
 use Rattle.window_exec.specs.Seen.{Seen}
@@ -26,7 +27,7 @@ use Rattle.rule_table.specs.Header.{Header, heads, has_line, number_in, row, IsW
 use Rattle.rule_table.specs.Table.{Opened, Rule, Table}
 use Rattle.rule_table.specs.Valid.{IsState}
 use Rattle.rule_table.proofs.LinesTell.{within_small}
-use Rattle.rule_table.specs.Text.{Item, Number, Pool, State, Entry, Left, Right, Mask, Proof, Logged, Open, End, hex_of, instr_text, named, after_blanks, line_of, text_of_items, open_items, rule_items, said, line_items, header_items, items_of}
+use Rattle.rule_table.specs.Text.{Item, Number, Pool, Costs, State, Entry, Left, Right, Mask, Proof, Logged, Open, End, hex_of, instr_text, named, after_blanks, line_of, text_of_items, open_items, rule_items, said, cost_numbers, line_items, header_items, items_of}
 use Rattle.table_learn.specs.Settings.{Settings}
 use Rattle.table_learn.specs.Learnt.{text_length}
 use Rattle.table_learn.specs.Lengths.{lines_length, log_length, opens_length, rules_length, instr_length, item_length}
@@ -209,16 +210,28 @@ text_more s states more rules later e freed old new h =
 few_digits : (n : ℕ) → n < 2 ^ 64 → length (decimal n) ≤ 20
 few_digits n h = length-decimal-le 20 n (omega arith) (omega (arith, h)) h
 
-pool_length : (ns : List ℕ) → list_all (inside 0 256) ns ≡ true → length (after_blanks (map decimal ns)) ≤ 21 * length ns
-pool_length [] h = omega arith
-pool_length (n ∷ ns) h =
-    let parts = and_parts (inside 0 256 n) (list_all (inside 0 256) ns) h in
-    let byte_ = and_parts (nat_le 0 n) (nat_lt n 256) parts.0 in
-    let low : n < 256 = ltb-true n 256 byte_.1 in
+numbers_length : (ns : List ℕ) → All (λ n. n < 256) ns → length (after_blanks (map decimal ns)) ≤ 21 * length ns
+numbers_length [] h = omega arith
+numbers_length (n ∷ ns) h =
+    let low : n < 256 = All-head (λ m. m < 256) n ns h in
     let d = few_digits n (omega (arith, low)) in
-    let r = pool_length ns parts.1 in
+    let r = numbers_length ns (All-tail (λ m. m < 256) n ns h) in
     let e = length-append (32 ∷ decimal n) (after_blanks (map decimal ns)) in
     omega (arith, d, r, e)
+
+pool_low : (ns : List ℕ) → list_all (inside 0 256) ns ≡ true → All (λ n. n < 256) ns
+pool_low [] h = All-nil (λ n. n < 256)
+pool_low (n ∷ ns) h =
+    let parts = and_parts (inside 0 256 n) (list_all (inside 0 256) ns) h in
+    let byte_ = and_parts (nat_le 0 n) (nat_lt n 256) parts.0 in
+    All-cons (λ m. m < 256) n ns (ltb-true n 256 byte_.1) (pool_low ns parts.1)
+
+costs_length : (costs : Option (List ℕ)) → IfSome costs AreCosts → length (after_blanks (map decimal (cost_numbers costs))) ≤ 588
+costs_length None are = omega arith
+costs_length (Some ns) are =
+    let many = are.as_many in
+    let n = numbers_length ns (All-weaker (λ m. (1 ≤ m) × (m ≤ 64)) (λ m. m < 256) (λ m h. let few = h.1 in omega (arith, few)) ns are.each) in
+    omega (arith, many, n)
 
 numbered_line : (x : Item) (word : List ℕ) (n : ℕ) → line_of x ≡ word ++ decimal n → n < 2 ^ 64 → lines_length (x ∷ []) ≤ length word + 21
 numbered_line x word n is small =
@@ -239,30 +252,35 @@ short_word field.Scratch = omega arith
 row_line : (f : Field) (n : ℕ) → IsWithin f n → lines_length (Number f n ∷ []) ≤ length (row f).word + 21
 row_line f n is = numbered_line (Number f n) (row f).word n refl (within_small f n is)
 
--- the numbers' lines and the pool's
-head_short : (h : Header) → IsHeader h → (line : Head) → lines_length (said h line ∷ []) ≤ 400
+-- the numbers' lines, the pool's and that of the costs
+head_short : (h : Header) → IsHeader h → (line : Head) → lines_length (said h line ∷ []) ≤ 600
 head_short h is (head.Number f) = omega (arith, row_line f (number_in h f) (is.numbers f), short_word f)
 head_short h is head.Pool =
     let p = bounds h.pool is.pool in
     let one = one_line (Pool h.pool) in
     let z = length-append (codes "pool") (after_blanks (map decimal h.pool)) in
-    let q = pool_length h.pool p.bytes in
+    let q = numbers_length h.pool (pool_low h.pool p.bytes) in
     let few = p.few in
     omega (arith, one, z, q, few)
+head_short h is head.Costs =
+    let one = one_line (Costs (cost_numbers h.costs)) in
+    let z = length-append (codes "costs") (after_blanks (map decimal (cost_numbers h.costs))) in
+    let q = costs_length h.costs is.costs in
+    omega (arith, one, z, q)
 
-line_short : (h : Header) → IsHeader h → (line : Head) → lines_length (line_items h line) ≤ 400
+line_short : (h : Header) → IsHeader h → (line : Head) → lines_length (line_items h line) ≤ 600
 line_short h is line = elim (cases_Bool (has_line h.version line)) [
   | inl e ↦ rw e (head_short h is line)
   | inr e ↦ rw e (let none = no_line in omega (arith, none))
 ]
 
-heads_short : (h : Header) → IsHeader h → (lines : List Head) → lines_length (flat_map (line_items h) lines) ≤ 400 * length lines
+heads_short : (h : Header) → IsHeader h → (lines : List Head) → lines_length (flat_map (line_items h) lines) ≤ 600 * length lines
 heads_short h is [] = (let none = no_line in omega (arith, none))
 heads_short h is (line ∷ lines) =
     let both = lines-append (line_items h line) (flat_map (line_items h) lines) in
     omega (arith, both, line_short h is line, heads_short h is lines)
 
-pub short_header : (s : Settings) → IsHeader s → lines_length (header_items s) ≤ 2800
+pub short_header : (s : Settings) → IsHeader s → lines_length (header_items s) ≤ 4800
 short_header s is = heads_short s is heads
 
 -- before the first window

@@ -4,7 +4,8 @@ use Rattle.rule_table.specs.Views.{table_of}
 use Rattle.table_learn.specs.declared.errors.LearnError.{LearnError}
 use Rattle.table_learn.specs.declared.errors.LearnError.TheVariants.{Wide, Full, Memory}
 use Rattle.table_learn.specs.Settings.{Settings, Window}
-use Rattle.table_learn.specs.Learnt.{IsFull, width_of}
+use Rattle.table_audit.specs.Acceptance.{width_of}
+use Rattle.table_learn.specs.Learnt.{IsFull}
 
 -- when each error comes
 abbrev pub FailsAs : Settings → List Window → LearnError → Type 0
@@ -18,7 +19,7 @@ FailsAs s windows Memory = Unit {0}
 abbrev pub learn_cost : Settings → ℕ → ℕ → ℕ
 learn_cost s windows states = 4 * (windows * (width_of s * (states * s.left))) + windows * (width_of s * ((s.budget + 1) * 200001))
 
--- before an error: none where too many sequences are shorter, and where a text is too long no more than the table of these states takes
+-- before an error: none where there are too many sequences, and where a text is too long no more than the table of these states takes
 abbrev pub SpendsAs : Settings → ℕ → ℕ → ℕ → LearnError → Type 0
 SpendsAs s windows before after (Wide count) = after ≡ before
 SpendsAs s windows before after (Full t bytes) = after ≤ before + learn_cost s windows (length (table_of t).states)

@@ -9,20 +9,16 @@ use Rattle.bit_blast.specs.Exactness.{IsMask}
 use Rattle.rule_table.specs.Table.{Opened, Rule}
 use Rattle.rule_table.specs.Valid.{numbers_of}
 use Rattle.table_audit.specs.Sides.{alphabet_registers, formula_against}
-use Rattle.table_audit.specs.Shorter.{sequences_below, is_named}
+use Rattle.table_audit.specs.Shorter.{IsBelow, below_at, is_named}
 use Rattle.table_learn.specs.Settings.{Settings}
 use Rattle.table_learn.specs.Given.{IsWindow}
-use Rattle.table_learn.specs.Learnt.{learnt_from, KeepsOrShortens, IsProvedBySolver, IsSpentSearch}
+use Rattle.table_learn.specs.Learnt.{learnt_from, KeepsOrLowers, IsProvedBySolver, IsSpentSearch}
 use Rattle.table_learn.specs.Tellings.{told}
 
--- the sequences that are shorter than a right side
-abbrev pub shorter_of : Settings → Rule → List (List Instr)
-shorter_of s e = sequences_below (alphabet_registers s e.left) s.pool (length e.right)
-
--- a number is that of a shorter sequence, none of these states tells it, and its log is the solver's
+-- a number is that of a sequence below the right side, none of these states tells it, and its log is the solver's
 pub record IsFitName (s : Settings) (silent : List Seen) (e : Rule) (o : Opened) : Type 0 where
   pub seq : List Instr
-  pub is_shorter : slice_get (shorter_of s e) o.number ≡ Some seq
+  pub below : IsBelow s e.left e.right o.number seq
   pub untold : told silent e.left seq e.mask ≡ false
   pub log : IsSpentSearch s.budget (formula_against s e seq) o.log
   pub lines : All IsLine o.log
@@ -32,22 +28,22 @@ pub record IsFit (s : Settings) (tellers silent : List Seen) (e : Rule) : Type 0
   pub window : IsWindow s (learnt_from e)
   pub mask : IsMask e.mask
   pub right : IsOver (alphabet_registers s e.left) s.pool e.right
-  pub keeps : KeepsOrShortens e
+  pub keeps : KeepsOrLowers s e
   pub proved : IsProvedBySolver s e
   pub lines : All IsLine e.proof
-  pub settles : (q : ℕ) (seq : List Instr) → slice_get (shorter_of s e) q ≡ Some seq → (is_named e.opens q ≡ true) ⊎ (told tellers e.left seq e.mask ≡ true)
+  pub settles : (q : ℕ) (seq : List Instr) → IsBelow s e.left e.right q seq → (is_named e.opens q ≡ true) ⊎ (told tellers e.left seq e.mask ≡ true)
   pub names : (i : ℕ) (o : Opened) → slice_get e.opens i ≡ Some o → IsFitName s silent e o
   pub ascending : ascends_from 0 (numbers_of e.opens) ≡ true
 
 -- ---- without what was told since ----
 
--- whether one of the states tells the sequence of a number, if there is one
+-- whether one of the states tells a sequence, if there is one
 abbrev pub tells_number : List Seen → Rule → Option (List Instr) → Bool
 tells_number found e None = false
 tells_number found e (Some seq) = told found e.left seq e.mask
 
 abbrev pub stays_open : Settings → List Seen → Rule → Opened → Bool
-stays_open s found e o = not (tells_number found e (slice_get (shorter_of s e) o.number))
+stays_open s found e o = not (tells_number found e (below_at s e.left e.right o.number))
 
 -- the entry without the open numbers that a found state tells
 abbrev pub without_told : Settings → List Seen → Rule → Rule

@@ -1,4 +1,4 @@
--- What becomes of a shorter sequence.
+-- What becomes of a sequence below a window.
 use Rattle.std.specs.Prelude.{ℕ, ◌≡◌, true, false, List, All, map}
 use Rattle.thumb_instr.specs.declared.instr.Instr.{Instr}
 use Rattle.window_exec.specs.State.{seen}

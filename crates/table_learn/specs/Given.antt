@@ -1,5 +1,5 @@
 -- What is asked of the settings and the windows that are given.
-use Rattle.std.specs.Prelude.{◌≡◌, ◌≤◌, List, All, length}
+use Rattle.std.specs.Prelude.{ℕ, ◌≡◌, ◌≤◌, List, All, Option, Some, None, length}
 use Rattle.thumb_instr.specs.declared.instr.Instr.{Instr}
 use Rattle.thumb_instr.specs.declared.items.Mask.{Mask}
 use Rattle.seq_enum.specs.Alphabet.{IsOver}
@@ -12,7 +12,12 @@ use Rattle.table_learn.specs.Settings.{Settings, Window}
 abbrev pub settings_of : code.Header → Settings
 settings_of s = header_of s
 
--- each lies in its limits; the seed and the pool do so by their types
+-- tables that go by costs are of version 4, others of version 1 or 2
+abbrev pub IsVersionFor : Option (List ℕ) → ℕ → Type 0
+IsVersionFor None version = (1 ≤ version) × (version ≤ 2)
+IsVersionFor (Some costs) version = version ≡ 4
+
+-- each lies in its limits; the seed, the pool and the costs do so by their types
 pub record AreInLimits (s : Settings) : Type 0 where
   pub some_regs : 1 ≤ s.regs
   pub few_regs : s.regs ≤ 4
@@ -20,8 +25,7 @@ pub record AreInLimits (s : Settings) : Type 0 where
   pub few_left : s.left ≤ 5
   pub some_budget : 1 ≤ s.budget
   pub few_budget : s.budget ≤ 1000000
-  pub some_version : 1 ≤ s.version
-  pub few_version : s.version ≤ 2
+  pub version : IsVersionFor s.costs s.version
   pub few_scratch : s.scratch ≤ 1
   -- version 1 has no scratch register
   pub first_version : s.version ≡ 1 → s.scratch ≡ 0

@@ -12,8 +12,8 @@ use Rattle.cdcl_core.specs.Solved.{VerdictOf}
 use Rattle.rule_table.specs.Table.{Opened, Rule, Table}
 use Rattle.rule_table.specs.Text.{text_of}
 use Rattle.rule_table.specs.Valid.{IsTable}
-use Rattle.table_audit.specs.Sides.{with_scratch, formula_of, formula_against}
-use Rattle.table_audit.specs.Shorter.{IsBelow, IsTold, sequences_below, shorter, values_in}
+use Rattle.table_audit.specs.Sides.{formula_of, formula_against}
+use Rattle.table_audit.specs.Shorter.{IsBelow, IsTold, values_in}
 use Rattle.table_audit.specs.Acceptance.{IsAccepted}
 use Rattle.table_learn.specs.Settings.{Settings, Window}
 
@@ -23,8 +23,9 @@ use Rattle.table_learn.specs.Settings.{Settings, Window}
 abbrev pub learnt_from : Rule → Window
 learnt_from e = record { seq = e.left; mask = e.mask }
 
-abbrev pub KeepsOrShortens : Rule → Type 0
-KeepsOrShortens e = (e.right ≡ e.left) ⊎ (length e.right < length e.left)
+-- the right side is the left side or below it
+abbrev pub KeepsOrLowers : Settings → Rule → Type 0
+KeepsOrLowers s e = (e.right ≡ e.left) ⊎ ((number : ℕ) × IsBelow s e.left e.left number e.right)
 
 -- the lines are the log by which the solver refutes a formula
 pub record IsRefutation (budget : ℕ) (formula : Cnf) (lines : List Content) : Type 0 where
@@ -43,8 +44,8 @@ abbrev pub IsProvedBySolver : Settings → Rule → Type 0
 IsProvedBySolver s e = IsRefutation s.budget (formula_of s e) e.proof
 
 -- a number's log is the solver's, of the formula of the left side and the number's sequence
-abbrev pub IsOpenBySolver : Table → Rule → Opened → Type 0
-IsOpenBySolver t e o = (seq : List Instr) → slice_get (shorter t e) o.number ≡ Some seq → IsSpentSearch t.header.budget (formula_against t.header e seq) o.log
+abbrev pub IsOpenBySolver : Settings → Rule → Opened → Type 0
+IsOpenBySolver s e o = (seq : List Instr) → IsBelow s e.left e.right o.number seq → IsSpentSearch s.budget (formula_against s e seq) o.log
 
 -- ---- states ----
 
@@ -69,16 +70,16 @@ AreEarned s windows states = (i : ℕ) (x : Seen) → 64 ≤ i → slice_get sta
 
 -- ---- tables ----
 
--- the table's header is the settings, it has an entry for each window in order, whose right side is the left side or shorter, no state past the
+-- the table's header is the settings, it has an entry for each window in order, whose right side is the left side or below it, no state past the
 -- seed's that isn't needed, and the audit accepts it; proofs and logs are the solver's
 pub record Learnt (s : Settings) (windows : List Window) (t : Table) : Type 0 where
   pub header : t.header ≡ s
   pub entries : map learnt_from t.rules ≡ windows
-  pub rights : All KeepsOrShortens t.rules
+  pub rights : All (KeepsOrLowers t.header) t.rules
   pub states : AreEarned t.header windows t.states
   pub accepted : IsAccepted t
   pub proofs : All (IsProvedBySolver t.header) t.rules
-  pub logs : All (λ e. All (IsOpenBySolver t e) e.opens) t.rules
+  pub logs : All (λ e. All (IsOpenBySolver t.header e) e.opens) t.rules
 
 -- ---- refusals ----
 
@@ -88,10 +89,6 @@ text_limit = 67108864
 
 abbrev pub text_length : Table → ℕ
 text_length t = length (text_of t)
-
--- how many sequences are shorter than the longest windows, over the most registers that may stand against one
-abbrev pub width_of : Settings → ℕ
-width_of s = length (sequences_below (with_scratch s s.regs) s.pool s.left)
 
 -- the first windows, at least one, give a table of which a text could be read, but for its length
 pub record IsFull (s : Settings) (windows : List Window) (t : Table) (bytes : ℕ) : Type 0 where

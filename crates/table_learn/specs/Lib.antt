@@ -4,6 +4,7 @@ pub mod Given
 pub mod Failing
 pub mod Tellings
 pub mod Fitness
+pub mod Orders
 pub mod Searching
 pub mod Found
 pub mod Lengths

@@ -8,7 +8,8 @@ use Rattle.rule_table.specs.Valid.{IsState}
 use Rattle.rule_table.specs.Views.{rule_of}
 use Rattle.table_learn.specs.declared.learning.Learner.{Learner}
 use Rattle.table_learn.specs.Settings.{Settings, Window}
-use Rattle.table_learn.specs.Learnt.{learnt_from, AreEarned, width_of, text_length}
+use Rattle.table_audit.specs.Acceptance.{width_of}
+use Rattle.table_learn.specs.Learnt.{learnt_from, AreEarned, text_length}
 use Rattle.table_learn.specs.Fitness.{IsFit}
 use Rattle.table_learn.specs.Keeping.{AreKept}
 
@@ -37,9 +38,9 @@ pub record HasLearnt (s : Settings) (windows : List Window) (l : Learner) : Type
   pub bytes : l.bytes ≡ text_length (table_with s (states_in l) (rules_in l))
   pub kept : AreKept s.pool (states_in l) l.tables
 
--- the steps of a window's search and of the dropping behind it, where so many states are listed in the end and so many entries are there
+-- the steps of a window's outcomes and its search, and of the dropping behind it, where so many states are listed in the end and so many entries are there
 abbrev pub search_cost : Settings → ℕ → ℕ
-search_cost s states = width_of s * (states * (s.left + s.left) + (s.budget + 1) * 200001)
+search_cost s states = width_of s * (1 + states * (s.left + s.left) + (s.budget + 1) * 200001)
 
 abbrev pub drop_cost : Settings → ℕ → ℕ → ℕ
 drop_cost s entries found = entries * (width_of s * (found * (s.left + s.left)))

@@ -1,7 +1,9 @@
 -- How far the search for a window's right side has come.
-use Rattle.std.specs.Prelude.{ℕ, ◌≡◌, ◌<◌, ◌≤◌, ◌⊎◌, ◌+◌, ◌-◌, ◌*◌, ◌++◌, Bool, true, false, nat_lt, List, All, Contains, Some, length, slice_get, take}
+use Rattle.std.specs.Prelude.{ℕ, ◌≡◌, ◌<◌, ◌≤◌, ◌⊎◌, ◌+◌, ◌*◌, ◌++◌, Bool, true, false, List, [], ◌∷◌, Contains, Option, Some, None, is_some, length, nat_lt, slice_get, take, if◌then◌else◌}
+use Rattle.std.specs.List.{All}
 use Rattle.thumb_instr.specs.declared.instr.Instr.{Instr}
 use Rattle.seq_enum.specs.Lists.{ascends_from}
+use Rattle.seq_enum.specs.Alphabet.{alphabet}
 use Rattle.window_exec.specs.Seen.{Seen}
 use Rattle.lrat_check.specs.Text.{IsLine}
 use Rattle.rule_table.specs.Table.{Opened}
@@ -9,29 +11,40 @@ use Rattle.rule_table.specs.Valid.{numbers_of, IsState}
 use Rattle.cnf_gates.specs.Cnf.{Cnf}
 use Rattle.bit_blast.specs.Differences.{sides_formula}
 use Rattle.table_audit.specs.Sides.{alphabet_registers}
-use Rattle.table_audit.specs.Shorter.{sequences_below, is_named}
+use Rattle.table_audit.specs.Shorter.{IsBelow, sequences_below, below_at, is_named}
+use Rattle.table_audit.specs.Acceptance.{lengths_below}
 use Rattle.table_learn.specs.Settings.{Settings, Window}
 use Rattle.table_learn.specs.Learnt.{TellsFirst, IsSpentSearch}
+use Rattle.table_learn.specs.Orders.{AreInOrder, weight_at}
 use Rattle.table_learn.specs.Tellings.{told}
 
--- the sequences that are shorter than a window
-abbrev pub shorter_than : Settings → Window → List (List Instr)
-shorter_than s w = sequences_below (alphabet_registers s w.seq) s.pool (length w.seq)
+-- how many sequences have no more instructions than those below a window may have
+abbrev pub width_at : Settings → Window → ℕ
+width_at s w = length (sequences_below (alphabet_registers s w.seq) s.pool (lengths_below s.costs (length w.seq)))
 
 -- the formula that a window and a sequence differ
 abbrev pub formula_for : Settings → Window → List Instr → Cnf
 formula_for s w seq = sides_formula w.seq seq w.mask (alphabet_registers s w.seq)
 
--- the numbers, ascending, of all shorter sequences but some that one of the states tells
+-- what the sequence of a number weighs that stands against a window
+abbrev pub weight_against : Settings → Window → ℕ → ℕ
+weight_against s w number = weight_at s.costs (alphabet (alphabet_registers s w.seq) s.pool) number
+
+-- the number is that of a sequence below a window
+abbrev pub IsCandidate : Settings → Window → ℕ → Type 0
+IsCandidate s w number = (seq : List Instr) × IsBelow s w.seq w.seq number seq
+
+-- the numbers, by weight and then by number, of all sequences below a window but some that one of the states tells
 pub record AreCandidates (s : Settings) (states : List Seen) (w : Window) (numbers : List ℕ) : Type 0 where
-  pub ascending : ascends_from 0 numbers ≡ true
-  pub within : All (λ q. q < length (shorter_than s w)) numbers
-  pub others : (q : ℕ) (seq : List Instr) → slice_get (shorter_than s w) q ≡ Some seq → Contains numbers q ⊎ (told states w.seq seq w.mask ≡ true)
+  pub ordered : AreInOrder (weight_against s w) numbers
+  pub few : length numbers ≤ width_at s w
+  pub each : All (IsCandidate s w) numbers
+  pub others : (q : ℕ) (seq : List Instr) → IsBelow s w.seq w.seq q seq → Contains numbers q ⊎ (told states w.seq seq w.mask ≡ true)
 
 -- an open number: none of the states that were known before the search tells its sequence, and its log is the solver's
 pub record IsOpenNumber (s : Settings) (w : Window) (old : List Seen) (o : Opened) : Type 0 where
   pub seq : List Instr
-  pub at : slice_get (shorter_than s w) o.number ≡ Some seq
+  pub below : IsBelow s w.seq w.seq o.number seq
   pub untold : told old w.seq seq w.mask ≡ false
   pub log : IsSpentSearch s.budget (formula_for s w seq) o.log
   pub lines : All IsLine o.log
@@ -49,15 +62,21 @@ EarnedFrom s from states w = (i : ℕ) (x : Seen) → from ≤ i → slice_get s
 -- of the candidates those that are passed are told or named open; the others are still to come
 pub record IsSearching (s : Settings) (w : Window) (old states : List Seen) (opens : List Opened) (passed rest : List ℕ) : Type 0 where
   pub growth : IsGrown old states
-  pub settles : (q : ℕ) (seq : List Instr) → Contains passed q → slice_get (shorter_than s w) q ≡ Some seq → (is_named opens q ≡ true) ⊎ (told states w.seq seq w.mask ≡ true)
-  pub names : (i : ℕ) (o : Opened) → slice_get opens i ≡ Some o → IsOpenNumber s w old o
-  pub ascending : ascends_from 0 (numbers_of opens ++ rest) ≡ true
+  pub settles : (q : ℕ) (seq : List Instr) → Contains passed q → IsBelow s w.seq w.seq q seq → (is_named opens q ≡ true) ⊎ (told states w.seq seq w.mask ≡ true)
+  pub names : (i : ℕ) (o : Opened) → slice_get opens i ≡ Some o → Contains passed o.number × IsOpenNumber s w old o
+  pub ascending : ascends_from 0 (numbers_of opens) ≡ true
+  pub ordered : AreInOrder (weight_against s w) (passed ++ rest)
   pub earned : EarnedFrom s (length old) states w
 
--- whether a number is below a limit
-abbrev pub is_below : ℕ → Opened → Bool
-is_below limit o = nat_lt o.number limit
+-- open numbers with one more, at its place among those that ascend
+abbrev pub put_in : Opened → List Opened → List Opened
+put_in o [] = o ∷ []
+put_in o (x ∷ opens) = if nat_lt x.number o.number then x ∷ put_in o opens else o ∷ x ∷ opens
 
--- the runs of a window and of a shorter sequence on the states, and the query
+-- whether the sequence of an open number is below a right side
+abbrev pub is_below : Settings → (left right : List Instr) → Opened → Bool
+is_below s left right o = is_some (below_at s left right o.number)
+
+-- the runs of a window and of a sequence below it on the states, and the query
 abbrev pub query_cost : ℕ → ℕ → ℕ → ℕ
-query_cost budget states left = states * (left + (left - 1)) + (budget + 1) * 200001
+query_cost budget states left = states * (left + left) + (budget + 1) * 200001

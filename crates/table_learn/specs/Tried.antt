@@ -7,13 +7,14 @@ use Rattle.lrat_check.specs.declared.line.Line.{Line}
 use Rattle.lrat_check.specs.Content.{content_of}
 use Rattle.lrat_check.specs.Text.{IsLine}
 use Rattle.rule_table.specs.Table.{Opened}
+use Rattle.table_audit.specs.Shorter.{IsBelow}
 use Rattle.table_learn.specs.Settings.{Settings, Window}
 use Rattle.table_learn.specs.Learnt.{IsRefutation}
-use Rattle.table_learn.specs.Searching.{shorter_than, formula_for, IsSearching}
+use Rattle.table_learn.specs.Searching.{formula_for, IsSearching}
 
 -- the sequence of a number, with the solver's proof that no state tells it from the window
 pub record IsRightSide (s : Settings) (w : Window) (number : ℕ) (right : List Instr × Vec Line Global) : Type 0 where
-  pub at : slice_get (shorter_than s w) number ≡ Some right.0
+  pub below : IsBelow s w.seq w.seq number right.0
   pub proof : IsRefutation s.budget (formula_for s w right.0) (map content_of right.1.items)
   pub lines : All IsLine (map content_of right.1.items)
 

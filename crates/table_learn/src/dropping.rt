@@ -1,12 +1,13 @@
 //! Open numbers that a later state tells are dropped, with their logs.
-ghost use Rattle.std.specs.Prelude.{◌≡◌, ◌<◌, ◌≤◌, ◌+◌, ◌*◌, ℕ, true, All, IfOk, OnOk, filter, length, map, slice_get};
+ghost use Rattle.std.specs.Prelude.{◌≡◌, ◌<◌, ◌≤◌, ◌+◌, ◌*◌, ℕ, true, All, IfOk, OnOk, filter, length, map};
 ghost use Rattle.window_exec.specs.State.{seen};
 ghost use Rattle.thumb_model.specs.Sides.{AreOver};
 ghost use Rattle.rule_table.specs.Table.{Rule};
 ghost use Rattle.rule_table.specs.Views.{opened_of, rule_of};
 ghost use Rattle.table_audit.specs.Sides.{alphabet_registers, IsCanonicalSide};
+ghost use Rattle.table_audit.specs.Shorter.{below_at};
 ghost use Rattle.table_learn.specs.Given.{settings_of};
-ghost use Rattle.table_learn.specs.Fitness.{shorter_of, tells_number, stays_open, without_told};
+ghost use Rattle.table_learn.specs.Fitness.{tells_number, stays_open, without_told};
 ghost use Rattle.table_learn.specs.Lengths.{opens_length, rules_length};
 ghost use Rattle.table_learn.specs.Searching.{is_below};
 ghost use Rattle.table_learn.specs.Dropping.{IsSided, Dropped, runs_on};
@@ -18,32 +19,37 @@ use crate::window::Window;
 use rule_table::{Entry, Open};
 use std::alloc::{AllocError, Global};
 use step_ledger::{Ledger, Steps};
-use table_audit::shorter_at;
+use thumb_instr::Seq;
 use window_exec::WState;
 
-/// The open numbers that are below a limit.
+/// The open numbers whose sequences are below a right side.
 pub(crate) fn keep_below(
     alloc: Global,
+    settings: &Settings,
+    window: &Window,
+    right: &Seq,
     opens: Vec<Open>,
-    limit: u64,
 ) -> Result<Vec<Open>, AllocError>
-    ensures { IfOk result (λ kept. map opened_of kept.items ≡ filter (is_below limit) (map opened_of opens.items)) }
+    requires some { 0 < window.now.k }
+    requires few { window.now.k ≤ 4 }
+    requires counted { window.now.k ≡ alphabet_registers (settings_of settings.now) window.now.left }
+    ensures { IfOk result (λ kept. map opened_of kept.items ≡ filter (is_below (settings_of settings.now) window.now.left right.now) (map opened_of opens.items)) }
 {
     let mut kept = Vec::new(alloc);
     for name in opens {
-        if name.number < limit {
+        if window.below_at(settings, right, name.number).is_some() {
             kept.push(name)?;
         }
     }
     Ok(kept)
 }
 
-/// Whether one of the states tells the window from the sequence of a number, where that has fewer than `count` instructions.
+/// Whether one of the states tells the window from the sequence of a number, where that is below the right side.
 fn tells_open<L: Ledger>(
     settings: &Settings,
     found: &[WState],
     window: &Window,
-    count: usize,
+    right: &Seq,
     number: u64,
     steps: &mut Steps<L>,
 ) -> bool
@@ -51,12 +57,10 @@ fn tells_open<L: Ledger>(
     requires few { window.now.k ≤ 4 }
     requires counted { window.now.k ≡ alphabet_registers (settings_of settings.now) window.now.left }
     requires left { AreOver 4 window.now.left }
-    requires short { count ≤ length window.now.left }
-    requires five { count ≤ 5 }
-    ensures told { (e : Rule) → e.left ≡ window.now.left → e.mask ≡ window.now.mask.items.bits → length e.right ≡ count → result ≡ tells_number (map seen found.now) e (slice_get (shorter_of (settings_of settings.now) e) number) }
+    ensures told { (e : Rule) → e.left ≡ window.now.left → e.mask ≡ window.now.mask.items.bits → e.right ≡ right.now → result ≡ tells_number (map seen found.now) e (below_at (settings_of settings.now) e.left e.right number) }
     ensures cost { steps.new ≤ steps.old + length found.now * (length window.now.left + length window.now.left) }
 {
-    match shorter_at(window.k, &settings.pool, count, number) {
+    match window.below_at(settings, right, number) {
         Some(seq) => is_told(found, &window.left, &seq, window.mask, steps),
         None => false,
     }
@@ -82,11 +86,10 @@ fn drop_told<L: Ledger>(
         proof,
     } = entry;
     let window = Window::new(&left, mask, settings);
-    let count = right.len();
     let mut kept = Vec::new(alloc);
     let mut freed = 0;
     for name in opens {
-        if tells_open(settings, found, &window, count, name.number, steps) {
+        if tells_open(settings, found, &window, &right, name.number, steps) {
             freed = plus(freed, open_length(alloc, &name)?)?;
         } else {
             kept.push(name)?;

@@ -9,7 +9,7 @@ use thiserror::Error;
 /// Why no table is learnt.
 #[derive(Drop, Error)]
 pub enum LearnError {
-    /// How many sequences are shorter than the longest windows, where these are more than 5,000,000.
+    /// How many sequences a window of the most instructions and registers may have to be told from, where these are more than 5,000,000.
     #[error("{0} sequences are too many")]
     Wide(u64),
     /// The table of the first windows, whose text has so many bytes, which are more than 67,108,864.

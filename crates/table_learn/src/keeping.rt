@@ -7,27 +7,29 @@ ghost use Rattle.std.specs.Prelude.{◌≡◌, ◌<◌, ◌≤◌, ◌+◌, IfOk
 ghost use Rattle.thumb_model.specs.Sides.{AreOver};
 ghost use Rattle.window_exec.specs.State.{seen};
 ghost use Rattle.table_audit.specs.Sides.{alphabet_registers};
-ghost use Rattle.table_learn.specs.Given.{settings_of};
+ghost use Rattle.table_learn.specs.Given.{settings_of, IsWindow};
 ghost use Rattle.table_learn.specs.Found.{window_in};
-ghost use Rattle.table_learn.specs.Searching.{shorter_than, AreCandidates};
+ghost use Rattle.table_audit.specs.Acceptance.{lengths_below};
+ghost use Rattle.table_learn.specs.Searching.{AreCandidates, width_at};
 ghost use Rattle.table_learn.specs.Keeping.{AreKept, IsOfFirst};
 
-use crate::settings::Settings;
+use crate::ordering::in_order;
+use crate::settings::{Settings, hold};
 use crate::window::Window;
 use outcomes::{Outcomes, Tables, Trial};
 use std::alloc::{AllocError, Global};
 use step_ledger::{Ledger, Steps};
 use window_exec::{WState, run_seq};
 
-/// The shorter sequences of a window that are to be tried: their numbers, and the table that has the sequence of each.
+/// The sequences below a window that are to be tried: their numbers, and the table that has the sequence of each.
 #[derive(Drop)]
 pub(crate) struct ShortList {
     pub numbers: Vec<u64>,
     pub outcomes: Outcomes,
 }
 
-/// The shorter sequences that the first listed state doesn't tell from a window, with a step for each sequence that the table of the window's
-/// registers gets. That table is taken out of the kept ones; once the sequences are tried it goes back.
+/// The sequences below a window that the first listed state doesn't tell from it, in the order in which they are tried, with a step for each
+/// sequence that the table of the window's registers gets. That table is taken out of the kept ones; once the sequences are tried it goes back.
 pub(crate) fn candidates<L: Ledger>(
     alloc: Global,
     tables: &mut Tables,
@@ -40,28 +42,24 @@ pub(crate) fn candidates<L: Ledger>(
     requires few { window.now.k ≤ 4 }
     requires counted { window.now.k ≡ alphabet_registers (settings_of settings.now) window.now.left }
     requires left { AreOver 4 window.now.left }
-    requires long { 0 < length window.now.left }
+    requires window { IsWindow (settings_of settings.now) (window_in window.now) }
+    requires short { lengths_below (settings_of settings.now).costs (length window.now.left) ≤ 5 }
     requires states { 0 < length states.now }
     requires kept { AreKept settings.now.pool (map seen states.now) tables.old }
     ensures kept { AreKept settings.now.pool (map seen states.now) tables.new }
     ensures outcomes { IfOk result (λ list. IsOfFirst window.now.k settings.now.pool (map seen states.now) list.outcomes) }
     ensures candidates { IfOk result (λ list. AreCandidates (settings_of settings.now) (map seen states.now) (window_in window.now) list.numbers.items) }
-    ensures cost { steps.new ≤ steps.old + length (shorter_than (settings_of settings.now) (window_in window.now)) }
+    ensures cost { steps.new ≤ steps.old + width_at (settings_of settings.now) (window_in window.now) }
 {
+    hold(settings);
     let start = states[0];
     let trial = Trial {
         start,
         end: run_seq(&window.left, start),
     };
     let mut outcomes = tables.take(alloc, window.k, &settings.pool, start)?;
-    let longest = window.len() - 1;
-    let numbers = outcomes::candidates(
-        alloc,
-        &mut outcomes,
-        longest,
-        &[trial],
-        window.mask,
-        steps,
-    )?;
+    let longest = window.longest_below(settings);
+    let found = outcomes::candidates(alloc, &mut outcomes, longest, &[trial], window.mask, steps)?;
+    let numbers = in_order(alloc, settings, window, &outcomes, found)?;
     Ok(ShortList { numbers, outcomes })
 }

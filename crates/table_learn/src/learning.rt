@@ -5,10 +5,11 @@ ghost use Rattle.window_exec.specs.State.{seen};
 ghost use Rattle.rule_table.specs.Header.{IsHeader};
 ghost use Rattle.rule_table.specs.Views.{rule_of, table_of};
 ghost use Rattle.table_audit.specs.Sides.{alphabet_registers};
+ghost use Rattle.table_audit.specs.Acceptance.{width_of};
 ghost use Rattle.table_learn.specs.Settings.{Window as Model};
 ghost use Rattle.table_learn.specs.Given.{settings_of, window_of, AreInLimits, AreWindows, IsWindow};
 ghost use Rattle.table_learn.specs.Found.{window_in};
-ghost use Rattle.table_learn.specs.Learnt.{Learnt, text_limit, text_length, width_of};
+ghost use Rattle.table_learn.specs.Learnt.{Learnt, text_limit, text_length};
 ghost use Rattle.table_learn.specs.Failing.{FailsAs, SpendsAs, learn_cost};
 ghost use Rattle.table_learn.specs.Progress.{HasLearnt, table_with, states_in, rules_in, search_cost, drop_cost};
 
@@ -24,11 +25,11 @@ use outcomes::Tables;
 use rule_table::{Entry, Table, write_table};
 use std::alloc::{AllocError, Global};
 use step_ledger::{Ledger, Steps};
-use table_audit::{count_shorter, with_scratch};
+use table_audit::{width, with_scratch};
 use thumb_instr::{Mask, Seq};
 use window_exec::{States, WState};
 
-/// The greatest number of sequences that may be shorter than the longest windows.
+/// The greatest number of sequences that a window may have to be told from.
 const WIDEST: u64 = 5_000_000;
 
 /// The greatest number of bytes of a table's text.
@@ -98,6 +99,7 @@ fn learn_window<L: Ledger>(
     requires counted { window.k ≡ alphabet_registers (settings_of settings.now) window.left }
     requires limits { AreInLimits (settings_of settings.now) }
     requires window { IsWindow (settings_of settings.now) (window_in window) }
+    requires narrow { width_of (settings_of settings.now) ≤ 5000000 }
     requires before { (windows : List Model) × HasLearnt (settings_of settings.now) windows learner }
     ensures learnt { (windows : List Model) → HasLearnt (settings_of settings.now) windows learner → IfOk result (HasLearnt (settings_of settings.now) (windows ++ window_in window ∷ [])) }
     ensures grown { IfOk result (λ l. length learner.states.items ≤ length l.states.items) }
@@ -132,15 +134,16 @@ fn learn_window<L: Ledger>(
 
 /// Learns a table from windows, each with the items that may be live after it.
 ///
-/// For each window in turn, the sequences of the alphabet of the registers that it names and the pool that are shorter than it are gone
-/// through by number. One that a listed state tells from the window is passed. Of any other the solver finds a state that tells it, which is
+/// For each window in turn, the sequences below it are gone through: those of the alphabet of the registers that it names and the pool that are
+/// shorter than it, or where the settings have costs those that are cheaper and no longer. They come by length or cost, then by number. One that
+/// a listed state tells from the window is passed. Of any other the solver finds a state that tells it, which is
 /// listed from then on, or a proof that none does, and then the sequence is the right side, or it spends its budget, and then the
-/// sequence is named open. Where none is left, the right side is the window itself. Open numbers that aren't those of sequences shorter than the
+/// sequence is named open. Where none is left, the right side is the window itself. Open numbers that aren't those of sequences below the
 /// right side, or that a state listed later tells, are dropped.
 ///
-/// `Wide` comes where more than 5,000,000 sequences are shorter than the longest windows, `Full` at the first window after which the table's text
-/// has more than 67,108,864 bytes. A step is an instruction that is run on a listed state, a sequence whose outcome is worked out, or a
-/// decision or a conflict of the solver.
+/// `Wide` comes where there are more than 5,000,000 sequences that are shorter than the longest windows, or with costs no longer than these; `Full`
+/// at the first window after which the table's text has more than 67,108,864 bytes. A step is an instruction that is run on a listed state, a
+/// sequence whose outcome is worked out, or a decision or a conflict of the solver.
 pub fn learn<L: Ledger>(
     alloc: Global,
     windows: Vec<(Seq, Mask)>,
@@ -157,7 +160,7 @@ pub fn learn<L: Ledger>(
     ensures spends { IfErr result (SpendsAs (settings_of settings) (length windows.items) steps.old steps.new) }
 {
     let registers = with_scratch(settings.regs, settings.scratch);
-    let width = count_shorter(registers, &settings.pool, settings.left);
+    let width = width(&settings.costs, registers, &settings.pool, settings.left);
     if width > WIDEST {
         return Err(LearnError::Wide(width));
     }

@@ -1,4 +1,4 @@
-//! The learning of a table of rules from windows: for each window the shortest sequence that leaves the same, with its proof.
+//! The learning of a table of rules from windows: for each window the shortest sequence that leaves the same, or the cheapest, with its proof.
 #![tactic(auto)]
 
 mod dropping;
@@ -7,6 +7,7 @@ mod keeping;
 pub mod laws;
 mod learning;
 mod lengths;
+mod ordering;
 mod searching;
 mod settings;
 mod trying;

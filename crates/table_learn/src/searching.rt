@@ -1,15 +1,17 @@
-//! The right side of a window: the first of the shorter sequences that no state tells from it.
-ghost use Rattle.std.specs.Prelude.{◌≡◌, ◌<◌, ◌≤◌, ◌+◌, ◌*◌, ◌++◌, List, All, Some, IfOk, OnOk, length, map, slice_get};
+//! The right side of a window: the first of the sequences below it that no state tells from it.
+ghost use Rattle.std.specs.Prelude.{◌≡◌, ◌<◌, ◌≤◌, ◌+◌, ◌*◌, true, IfOk, OnOk, length, map};
 ghost use Rattle.window_exec.specs.State.{seen};
-ghost use Rattle.window_exec.specs.Seen.{Seen};
+ghost use Rattle.seq_enum.specs.Lists.{ascends_from};
 ghost use Rattle.seq_enum.specs.Alphabet.{alphabet};
+ghost use Rattle.rule_table.specs.Valid.{numbers_of};
 ghost use Rattle.rule_table.specs.Views.{opened_of, rule_of};
 ghost use Rattle.table_audit.specs.Sides.{alphabet_registers};
+ghost use Rattle.table_audit.specs.Shorter.{IsBelow};
 ghost use Rattle.table_learn.specs.Given.{settings_of, IsWindow};
 ghost use Rattle.table_learn.specs.Learnt.{learnt_from};
 ghost use Rattle.table_learn.specs.Fitness.{IsFit};
 ghost use Rattle.table_learn.specs.Found.{window_in};
-ghost use Rattle.table_learn.specs.Searching.{shorter_than, AreCandidates, IsGrown, EarnedFrom, query_cost};
+ghost use Rattle.table_learn.specs.Searching.{AreCandidates, IsGrown, EarnedFrom, put_in, query_cost};
 ghost use Rattle.table_learn.specs.Tried.{Tried};
 
 use crate::dropping::keep_below;
@@ -21,15 +23,24 @@ use lrat_check::Line;
 use rule_table::{Entry, Open};
 use std::alloc::{AllocError, Global};
 use step_ledger::{Ledger, Steps};
-use table_audit::count_shorter;
 use thumb_instr::Seq;
 use window_exec::WState;
 
-/// A shorter sequence that is to be tried, and its number.
+/// A sequence below a window that is to be tried, and its number.
 #[derive(Drop)]
 struct Candidate {
     number: u64,
     seq: Seq,
+}
+
+/// Puts an open number at its place among others.
+fn put_in(opens: &mut Vec<Open>, name: Open) -> Result<(), AllocError>
+    requires { ascends_from 0 (numbers_of (map opened_of opens.old.items)) ≡ true }
+    ensures { IfOk result (λ _. map opened_of opens.new.items ≡ put_in (opened_of name) (map opened_of opens.old.items)) }
+{
+    let place = opens.partition_point(|open| open.number < name.number);
+    opens.insert(place, name)?;
+    Ok(())
 }
 
 /// Tries a candidate: a state that tells it is listed, and where the solver spends its budget its number is named open. The sequence with its
@@ -46,7 +57,8 @@ fn try_candidate<L: Ledger>(
     requires few { window.now.k ≤ 4 }
     requires counted { window.now.k ≡ alphabet_registers (settings_of settings.now) window.now.left }
     requires window { IsWindow (settings_of settings.now) (window_in window.now) }
-    requires sequence { slice_get (shorter_than (settings_of settings.now) (window_in window.now)) candidate.number ≡ Some candidate.seq }
+    requires candidate { IsBelow (settings_of settings.now) window.now.left window.now.left candidate.number candidate.seq }
+    requires ascending { ascends_from 0 (numbers_of (map opened_of opens.old.items)) ≡ true }
     ensures tried { IfOk result (Tried (settings_of settings.now) (window_in window.now) (map seen states.old.items) (map opened_of opens.old.items) (map seen states.new.items) (map opened_of opens.new.items) candidate.number) }
     ensures more { OnOk result (length states.old.items ≤ length states.new.items) }
     ensures cost { OnOk result (steps.new ≤ steps.old + query_cost settings.now.budget (length states.new.items) (length window.now.left)) }
@@ -55,13 +67,13 @@ fn try_candidate<L: Ledger>(
     match try_sequence(alloc, states, window, &seq, settings, steps)? {
         Finding::Told => {}
         Finding::State(state) => states.push(state)?,
-        Finding::Log(log) => opens.push(Open { number, log })?,
+        Finding::Log(log) => put_in(opens, Open { number, log })?,
         Finding::Proof(proof) => return Ok(Some((seq, proof))),
     }
     Ok(None)
 }
 
-/// The entry of a window, of whose shorter sequences but those of the list a listed state tells each. The states that the solver finds are put
+/// The entry of a window, where a listed state tells each sequence below it but those of the list. The states that the solver finds are put
 /// behind the listed ones.
 pub(crate) fn search<L: Ledger>(
     alloc: Global,
@@ -95,12 +107,12 @@ pub(crate) fn search<L: Ledger>(
         if let Some((right, proof)) = try_candidate(
             alloc, settings, &window, candidate, states, &mut opens, steps,
         )? {
-            let limit = count_shorter(window.k, &settings.pool, right.len() as u8);
+            let opens = keep_below(alloc, settings, &window, &right, opens)?;
             return Ok(Entry {
                 left: window.left,
                 right,
                 mask: window.mask,
-                opens: keep_below(alloc, opens, limit)?,
+                opens,
                 proof,
             });
         }

@@ -1,4 +1,4 @@
-//! One shorter sequence: the listed states, and then the solver.
+//! One sequence below a window: the listed states, and then the solver.
 ghost use Rattle.std.specs.Prelude.{◌≡◌, ◌<◌, ◌≤◌, ◌+◌, ◌*◌, OnOk, IfOk, length, map};
 ghost use Rattle.std.specs.List.{list_any};
 ghost use Rattle.thumb_model.specs.Sides.{AreOver};
@@ -20,7 +20,7 @@ use step_ledger::{Ledger, Steps};
 use thumb_instr::{Mask, Seq};
 use window_exec::{WState, tells};
 
-/// What becomes of a shorter sequence.
+/// What becomes of a sequence below a window.
 #[derive(Drop)]
 pub(crate) enum Finding {
     /// A listed state tells it from the window.
@@ -92,7 +92,7 @@ fn ask<L: Ledger>(
     }
 }
 
-/// What becomes of a shorter sequence: the listed states are run on it, and where none tells it the solver is asked.
+/// What becomes of a sequence that is no longer than the window: the listed states are run on it, and where none tells it the solver is asked.
 pub(crate) fn try_sequence<L: Ledger>(
     alloc: Global,
     states: &[WState],
@@ -105,7 +105,7 @@ pub(crate) fn try_sequence<L: Ledger>(
     requires counted { window.now.k ≡ alphabet_registers (settings_of settings.now) window.now.left }
     requires left { AreOver window.now.k window.now.left }
     requires right { AreOver window.now.k seq.now }
-    requires shorter { length seq.now < length window.now.left }
+    requires no_longer { length seq.now ≤ length window.now.left }
     requires mask { IsMaskOver window.now.k window.now.mask.items.bits }
     ensures found { IfOk result (IsFinding (settings_of settings.now) (map seen states.now) (window_in window.now) seq.now) }
     ensures cost { OnOk result (steps.new ≤ steps.old + query_cost settings.now.budget (length states.now) (length window.now.left)) }

@@ -1,10 +1,13 @@
 //! A window that is learnt.
-ghost use Rattle.std.specs.Prelude.{◌≡◌, ◌<◌, ◌≤◌, length};
+ghost use Rattle.std.specs.Prelude.{◌≡◌, ◌<◌, ◌≤◌, ◌-◌, IfSome, length, min};
+ghost use Rattle.thumb_model.specs.Sides.{AreOver};
 ghost use Rattle.table_audit.specs.Sides.{alphabet_registers, IsCanonicalSide};
+ghost use Rattle.table_audit.specs.Shorter.{below_at, weight_in};
 ghost use Rattle.table_learn.specs.Given.{settings_of};
 
 use crate::settings::Settings;
-use table_audit::{named_count, with_scratch};
+use seq_enum::weight;
+use table_audit::{below_at, named_count, with_scratch};
 use thumb_instr::{Mask, Seq};
 
 /// A window, the items that may be live after it, and how many registers the sequences have that stand against it.
@@ -39,6 +42,33 @@ impl Window {
         ensures few { result ≤ 5 }
     {
         self.left.len() as u8
+    }
+
+    /// How many instructions the sequences below it have at most: no more than it has, and fewer than it weighs, as each weighs something.
+    pub fn longest_below(&self, settings: &Settings) -> u8
+        ensures { result ≡ min (length self.now.left) (weight_in (settings_of settings.now) self.now.left - 1) }
+    {
+        let weight = weight(&settings.costs, &self.left);
+        u32::from(self.len()).min(weight.saturating_sub(1)) as u8
+    }
+
+    /// The sequence of a number, where it is below a side of the window's entry.
+    pub fn below_at(&self, settings: &Settings, side: &Seq, number: u64) -> Option<Seq>
+        requires some { 0 < self.now.k }
+        requires few { self.now.k ≤ 4 }
+        requires counted { self.now.k ≡ alphabet_registers (settings_of settings.now) self.now.left }
+        ensures value { result ≡ below_at (settings_of settings.now) self.now.left side.now number }
+        ensures over { IfSome result (λ seq. AreOver self.now.k seq) }
+        ensures no_longer { IfSome result (λ seq. length seq ≤ length self.now.left) }
+    {
+        below_at(
+            &settings.costs,
+            self.k,
+            &settings.pool,
+            &self.left,
+            side,
+            number,
+        )
     }
 }
 

@@ -1,10 +1,11 @@
-use Rattle.std.proofs.Common.{ℕ, ◌≡◌, ◌+◌, ◌*◌, ◌∷◌, ◌++◌, [], ◌∙◌, ap, sym, arith, not, map, length, true, false, length-append, slice_get}
+use Rattle.std.proofs.Common.{ℕ, ◌≡◌, ◌+◌, ◌*◌, ◌∷◌, ◌++◌, [], ◌∙◌, ap, sym, arith, not, map, length, true, false, length-append, refl}
 use Rattle.thumb_instr.specs.declared.items.Mask.{Mask}
 use Rattle.window_exec.specs.State.{seen}
 use Rattle.rule_table.specs.Views.{opened_of, rule_of}
 use Rattle.rule_table.specs.Text.{open_items}
+use Rattle.table_audit.specs.Shorter.{below_at}
 use Rattle.table_learn.specs.Given.{settings_of}
-use Rattle.table_learn.specs.Fitness.{stays_open, tells_number, shorter_of}
+use Rattle.table_learn.specs.Fitness.{stays_open, tells_number}
 use Rattle.table_learn.specs.Lengths.{lines_length}
 use Rattle.table_learn.proofs.Costs.{next_share}
 use Rattle.table_learn.proofs.Dropped.{name_dropped, name_kept, names_longer, new_longer}
@@ -13,8 +14,8 @@ use Rattle.table_learn.proofs.dropping.drop_told.Goals as goal
 pub loop-name-preserved-then-tells_open : goal.loop-name-preserved-then-tells_open
 loop-name-preserved-then-tells_open g c =
     let p = stays_open (settings_of c.args.settings.now) (map seen c.args.found.now) (rule_of c.args.entry) in
-    let tells : c.tells_open.result ≡ tells_number (map seen c.args.found.now) (rule_of c.args.entry) (slice_get (shorter_of (settings_of c.args.settings.now) (rule_of c.args.entry)) c.in-Some.name.number) =
-    c.tells_open.ensures.told (rule_of c.args.entry) (sym c.new-window.ensures.left) (ap (λ (m : Mask). m.items.bits) (sym c.new-window.ensures.mask)) (sym c.len-count.ensures.value) in
+    let tells : c.tells_open.result ≡ tells_number (map seen c.args.found.now) (rule_of c.args.entry) (below_at (settings_of c.args.settings.now) c.args.entry.left c.args.entry.right c.in-Some.name.number) =
+    c.tells_open.ensures.told (rule_of c.args.entry) (sym c.new-window.ensures.left) (ap (λ (m : Mask). m.items.bits) (sym c.new-window.ensures.mask)) refl in
     let drops : stays_open (settings_of c.args.settings.now) (map seen c.args.found.now) (rule_of c.args.entry) (opened_of c.in-Some.name) ≡ false = ap not (sym tells ∙ c.if-tells_open.true) in
     let more = names_longer c.loop-name.yielded c.in-Some.name in
     let l = length-append c.loop-name.yielded (c.in-Some.name ∷ []) in
@@ -30,8 +31,8 @@ loop-name-preserved-then-tells_open g c =
 pub loop-name-preserved : goal.loop-name-preserved
 loop-name-preserved g c =
     let p = stays_open (settings_of c.args.settings.now) (map seen c.args.found.now) (rule_of c.args.entry) in
-    let tells : c.tells_open.result ≡ tells_number (map seen c.args.found.now) (rule_of c.args.entry) (slice_get (shorter_of (settings_of c.args.settings.now) (rule_of c.args.entry)) c.in-Some.name.number) =
-    c.tells_open.ensures.told (rule_of c.args.entry) (sym c.new-window.ensures.left) (ap (λ (m : Mask). m.items.bits) (sym c.new-window.ensures.mask)) (sym c.len-count.ensures.value) in
+    let tells : c.tells_open.result ≡ tells_number (map seen c.args.found.now) (rule_of c.args.entry) (below_at (settings_of c.args.settings.now) c.args.entry.left c.args.entry.right c.in-Some.name.number) =
+    c.tells_open.ensures.told (rule_of c.args.entry) (sym c.new-window.ensures.left) (ap (λ (m : Mask). m.items.bits) (sym c.new-window.ensures.mask)) refl in
     let stays : stays_open (settings_of c.args.settings.now) (map seen c.args.found.now) (rule_of c.args.entry) (opened_of c.in-Some.name) ≡ true = ap not (sym tells ∙ c.if-tells_open.false) in
     let more = names_longer c.loop-name.yielded c.in-Some.name in
     let new = new_longer c.loop-name.kept.items c.push.new.self.items c.in-Some.name c.in_ok-push.ensures.items in

@@ -1,4 +1,4 @@
-use Rattle.std.proofs.Common.{List, ◌≡◌, ◌+◌, ◌-◌, ◌<◌, ◌∙◌, [], ◌∷◌, ap, sym, refl, subst, arith, length, map, get_or, slice_get, Some}
+use Rattle.std.proofs.Common.{ℕ, List, ◌≡◌, ◌+◌, ◌≤◌, ◌<◌, ◌∙◌, [], ◌∷◌, ap, sym, refl, subst, arith, length, map, get_or, slice_get, Some}
 use Rattle.std.proofs.lemmas.Option.{slice_get-get_or, slice_get-map, same_Some}
 use Rattle.std.specs.Option.{option_map}
 use Rattle.window_exec.specs.declared.state.WState.{WState}
@@ -11,59 +11,84 @@ use Rattle.outcomes.specs.Tables.{AreTables, IsFor}
 use Rattle.outcomes.proofs.Choosing.{few_added, grown_for_same}
 use Rattle.table_learn.specs.Given.{settings_of}
 use Rattle.table_learn.specs.Found.{window_in}
-use Rattle.table_learn.specs.Searching.{shorter_than}
-use Rattle.table_learn.proofs.Candidates.{shorter_in, candidates_are}
+use Rattle.table_audit.specs.Acceptance.{lengths_below}
+use Rattle.table_learn.proofs.Below.{longest_short, table_within}
+use Rattle.table_learn.proofs.Candidates.{table_below, are_left, all_there, candidates_are}
 use Rattle.table_learn.proofs.keeping.candidates.Goals as goal
 
 first_seen : (states : List WState) (d : WState) → 0 < length states → slice_get (map seen states) 0 ≡ Some (seen (get_or states 0 d))
 first_seen states d some = slice_get-map seen states 0 ∙ ap (option_map seen) (slice_get-get_or states 0 d some)
 
+abbrev zeros : WState
+zeros = record { r = []; nzcv = 0 }
+
 -- states of which the same is seen are the same
 same_state : (a b : WState) → seen a ≡ seen b → a ≡ b
 same_state a b e = ap (λ (s : Seen). let t : WState = record { r = s.r; nzcv = s.nzcv } in t) e
+
+pub returns-in_err-found-clause-cost : goal.returns-in_err-found-clause-cost
+returns-in_err-found-clause-cost g c =
+    let w = c.args.window.now in
+    let e = c.in_ok-outcomes.outcomes in
+    let taken = c.in_ok-outcomes.ensures.taken in
+    let n : ℕ = c.longest_below-longest.result + 1 in
+    let seqs = table_below (settings_of c.args.settings.now) (window_in w) w.k n e.letters c.requires.counted taken.letters in
+    let short : n ≤ lengths_below c.args.settings.now.costs (length w.left) = (let l = longest_short c.args.settings.now.costs w.left c.requires.window.canonical.renamable.some in let is = c.longest_below-longest.ensures in omega (arith, l, is)) in
+    let within = table_within (settings_of c.args.settings.now) (window_in w) n c.requires.window short in
+    omega (arith, c.candidates.ensures.most, few_added e c.longest_below-longest.result, ap length seqs, within)
 
 pub returns-in_err-numbers-clause-cost : goal.returns-in_err-numbers-clause-cost
 returns-in_err-numbers-clause-cost g c =
     let w = c.args.window.now in
     let e = c.in_ok-outcomes.outcomes in
     let taken = c.in_ok-outcomes.ensures.taken in
-    let long : c.len-longest.result - 1 + 1 ≡ length w.left = omega (arith, c.len-longest.ensures.value, c.requires.long) in
-    let seqs : table.sequences_below e.letters (c.len-longest.result - 1 + 1) ≡ shorter_than (settings_of c.args.settings.now) (window_in w) = shorter_in (settings_of c.args.settings.now) (window_in w) w.k (c.len-longest.result - 1) e.letters c.requires.counted taken.letters long in
-    omega (arith, c.candidates.ensures.most, few_added e (c.len-longest.result - 1), ap length seqs)
+    let n : ℕ = c.longest_below-longest.result + 1 in
+    let seqs = table_below (settings_of c.args.settings.now) (window_in w) w.k n e.letters c.requires.counted taken.letters in
+    let short : n ≤ lengths_below c.args.settings.now.costs (length w.left) = (let l = longest_short c.args.settings.now.costs w.left c.requires.window.canonical.renamable.some in let is = c.longest_below-longest.ensures in omega (arith, l, is)) in
+    let within = table_within (settings_of c.args.settings.now) (window_in w) n c.requires.window short in
+    omega (arith, c.candidates.ensures.most, few_added e c.longest_below-longest.result, ap length seqs, within)
 
 pub returns-clause-kept : goal.returns-clause-kept
 returns-clause-kept g c = λ start at.
-    let zero : WState = record { r = []; nzcv = 0 } in
-    let here : WState = get_or c.args.states.now 0 zero in
-    let same : here ≡ start = same_state here start (same_Some (seen here) (seen start) (sym (first_seen c.args.states.now zero c.requires.states) ∙ at)) in
+    let here : WState = get_or c.args.states.now 0 zeros in
+    let same : here ≡ start = same_state here start (same_Some (seen here) (seen start) (sym (first_seen c.args.states.now zeros c.requires.states) ∙ at)) in
     subst (λ (s : WState). AreTables c.args.settings.now.pool s c.take.new.self) same c.take.ensures.kept
 
 pub returns-clause-outcomes : goal.returns-clause-outcomes
 returns-clause-outcomes g c = λ start at.
-    let zero : WState = record { r = []; nzcv = 0 } in
-    let here : WState = get_or c.args.states.now 0 zero in
-    let same : here ≡ start = same_state here start (same_Some (seen here) (seen start) (sym (first_seen c.args.states.now zero c.requires.states) ∙ at)) in
-    let registers : c.candidates.new.outcomes.registers ≡ c.args.window.now.k = ap (λ (e : Extent). e.registers) c.in_ok-numbers.ensures.grown ∙ c.in_ok-outcomes.ensures.taken.registers in
+    let here : WState = get_or c.args.states.now 0 zeros in
+    let same : here ≡ start = same_state here start (same_Some (seen here) (seen start) (sym (first_seen c.args.states.now zeros c.requires.states) ∙ at)) in
+    let registers : c.candidates.new.outcomes.registers ≡ c.args.window.now.k = ap (λ (e : Extent). e.registers) c.in_ok-found.ensures.grown ∙ c.in_ok-outcomes.ensures.taken.registers in
     subst (λ (s : WState). IsFor c.args.window.now.k c.args.settings.now.pool s c.candidates.new.outcomes) same
-    (subst (λ j. IsFor j c.args.settings.now.pool here c.candidates.new.outcomes) registers (grown_for_same c.args.window.now.k c.args.settings.now.pool here (record { start = here; end = c.run_seq.result } ∷ []) (c.len-longest.result - 1) c.in_ok-outcomes.outcomes c.candidates.new.outcomes c.in_ok-outcomes.ensures.taken c.in_ok-numbers.ensures.grown))
+    (subst (λ j. IsFor j c.args.settings.now.pool here c.candidates.new.outcomes) registers (grown_for_same c.args.window.now.k c.args.settings.now.pool here (record { start = here; end = c.run_seq.result } ∷ []) c.longest_below-longest.result c.in_ok-outcomes.outcomes c.candidates.new.outcomes c.in_ok-outcomes.ensures.taken c.in_ok-found.ensures.grown))
+
+pub in_order-requires : goal.in_order-requires
+in_order-requires g c =
+    let s = settings_of c.args.settings.now in
+    let w = window_in c.args.window.now in
+    let e = c.in_ok-outcomes.outcomes in
+    let trial : Trial = record { start = get_or c.args.states.now 0 zeros; end = c.run_seq.result } in
+    all_there s w (table.sequences_below e.letters (c.longest_below-longest.result + 1)) c.candidates.new.outcomes.letters trial c.in_ok-found.found.items
+    (are_left s w c.args.window.now.k c.longest_below-longest.result e c.candidates.new.outcomes trial c.in_ok-found.found.items c.requires.window c.hold.ensures.costs c.requires.short c.requires.counted c.in_ok-outcomes.ensures.taken.letters c.longest_below-longest.ensures c.in_ok-found.ensures.grown c.in_ok-found.ensures.candidates)
 
 pub returns-clause-candidates : goal.returns-clause-candidates
 returns-clause-candidates g c =
-    let w = c.args.window.now in
-    let zero : WState = record { r = []; nzcv = 0 } in
-    let here : WState = get_or c.args.states.now 0 zero in
+    let s = settings_of c.args.settings.now in
+    let w = window_in c.args.window.now in
     let e = c.in_ok-outcomes.outcomes in
-    let taken = c.in_ok-outcomes.ensures.taken in
-    let long : c.len-longest.result - 1 + 1 ≡ length w.left = omega (arith, c.len-longest.ensures.value, c.requires.long) in
-    let seqs : table.sequences_below e.letters (c.len-longest.result - 1 + 1) ≡ shorter_than (settings_of c.args.settings.now) (window_in w) = shorter_in (settings_of c.args.settings.now) (window_in w) w.k (c.len-longest.result - 1) e.letters c.requires.counted taken.letters long in
+    let here : WState = get_or c.args.states.now 0 zeros in
     let trial : Trial = record { start = here; end = c.run_seq.result } in
-    candidates_are (settings_of c.args.settings.now) c.args.states.now (window_in w) _ here trial c.in_ok-numbers.numbers.items w.mask.in_masks seqs (first_seen c.args.states.now zero c.requires.states) refl c.run_seq.ensures.values c.in_ok-numbers.ensures.candidates
+    let left = are_left s w c.args.window.now.k c.longest_below-longest.result e c.candidates.new.outcomes trial c.in_ok-found.found.items c.requires.window c.hold.ensures.costs c.requires.short c.requires.counted c.in_ok-outcomes.ensures.taken.letters c.longest_below-longest.ensures c.in_ok-found.ensures.grown c.in_ok-found.ensures.candidates in
+    candidates_are s c.args.states.now w (table.sequences_below e.letters (c.longest_below-longest.result + 1)) c.candidates.new.outcomes.letters here trial c.in_ok-found.found.items c.in_ok-numbers.numbers.items c.args.window.now.mask.in_masks left
+    (first_seen c.args.states.now zeros c.requires.states) refl c.run_seq.ensures.values c.in_ok-numbers.ensures
 
 pub returns-clause-cost : goal.returns-clause-cost
 returns-clause-cost g c =
     let w = c.args.window.now in
     let e = c.in_ok-outcomes.outcomes in
     let taken = c.in_ok-outcomes.ensures.taken in
-    let long : c.len-longest.result - 1 + 1 ≡ length w.left = omega (arith, c.len-longest.ensures.value, c.requires.long) in
-    let seqs : table.sequences_below e.letters (c.len-longest.result - 1 + 1) ≡ shorter_than (settings_of c.args.settings.now) (window_in w) = shorter_in (settings_of c.args.settings.now) (window_in w) w.k (c.len-longest.result - 1) e.letters c.requires.counted taken.letters long in
-    omega (arith, c.candidates.ensures.most, few_added e (c.len-longest.result - 1), ap length seqs)
+    let n : ℕ = c.longest_below-longest.result + 1 in
+    let seqs = table_below (settings_of c.args.settings.now) (window_in w) w.k n e.letters c.requires.counted taken.letters in
+    let short : n ≤ lengths_below c.args.settings.now.costs (length w.left) = (let l = longest_short c.args.settings.now.costs w.left c.requires.window.canonical.renamable.some in let is = c.longest_below-longest.ensures in omega (arith, l, is)) in
+    let within = table_within (settings_of c.args.settings.now) (window_in w) n c.requires.window short in
+    omega (arith, c.candidates.ensures.most, few_added e c.longest_below-longest.result, ap length seqs, within)

@@ -41,7 +41,7 @@ module _ (c : goal.After-drop-none) where
       ∙ ap (λ (rs : List Rule). text_length (table_with (settings_of c.args.settings) (map seen c.into_vec.result.items) rs)) (ap (λ (es : List Entry). map rule_of es) c.new.ensures.items)
 
   is_header : IsHeader (settings_of c.args.settings)
-  is_header = in_limits (settings_of c.args.settings) c.requires.limits c.hold.ensures.seed c.hold.ensures.pool
+  is_header = in_limits (settings_of c.args.settings) c.requires.limits c.hold.ensures.seed c.hold.ensures.pool c.hold.ensures.costs
 
 pub returns-clause-header : goal.returns-clause-header
 returns-clause-header c = is_header c

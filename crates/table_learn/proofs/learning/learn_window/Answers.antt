@@ -11,11 +11,15 @@ use Rattle.table_learn.specs.Dropping.{IsSided}
 use Rattle.table_learn.specs.Lengths.{lines_length}
 use Rattle.table_learn.specs.Searching.{AreCandidates}
 use Rattle.table_learn.specs.Keeping.{AreKept, IsOfFirst}
+use Rattle.table_learn.proofs.Below.{narrow_lengths}
 use Rattle.table_learn.proofs.Rounds.{side_over, grown_length, all_sided, after_window, kept_later, table_letters, put_back, window_cost}
 use Rattle.table_learn.proofs.learning.learn_window.Goals as goal
 
 pub candidates-requires-clause-left : goal.candidates-requires-clause-left
 candidates-requires-clause-left g c = (side_over (settings_of c.args.settings.now) (window_in c.args.window) c.requires.window).2
+
+pub candidates-requires-clause-short : goal.candidates-requires-clause-short
+candidates-requires-clause-short g c = narrow_lengths (settings_of c.args.settings.now) (window_in c.args.window) c.requires.window c.requires.limits.few_left c.requires.narrow
 
 pub candidates-requires-clause-states : goal.candidates-requires-clause-states
 candidates-requires-clause-states g c =
@@ -91,4 +95,4 @@ returns-clause-cost g c =
     let are : AreCandidates (settings_of c.args.settings.now) (map seen c.args.learner.states.items) (window_in c.args.window) c.in_ok-list.list.numbers.items = subst (λ (ss : List WState). AreCandidates (settings_of c.args.settings.now) (map seen ss) (window_in c.args.window) c.in_ok-list.list.numbers.items) c.deref.ensures.value c.in_ok-list.ensures.candidates in
     let size : length c.behind-found.result.now ≡ length c.search.new.states.items - length c.args.learner.states.items = ap (λ (ss : List WState). length ss) found ∙ length-drop (length c.args.learner.states.items) c.search.new.states.items in
     window_cost (settings_of c.args.settings.now) c.requires.before.0 (window_in c.args.window) c.args.learner c.search.new.states.items c.behind-found.result.now c.push.new.self.items c.in_ok-entries.entries.items c.in_ok-entry.entry c.in_ok-list.list.numbers.items c.args.steps.now c.candidates.new.steps c.search.new.steps c.drop_all_told.new.steps
-    c.requires.limits c.requires.before.1 c.requires.window are c.in_ok-entry.ensures.fits c.in_ok-push.ensures.items c.in_ok-entries.ensures.kept size c.candidates.ensures.cost c.in_ok-entry.ensures.cost (grown_length c.args.learner.states.items c.search.new.states.items c.in_ok-entry.ensures.grown) c.in_ok-entries.ensures.cost
+    c.requires.before.1 c.requires.window are c.in_ok-entry.ensures.fits c.in_ok-push.ensures.items c.in_ok-entries.ensures.kept size c.candidates.ensures.cost c.in_ok-entry.ensures.cost (grown_length c.args.learner.states.items c.search.new.states.items c.in_ok-entry.ensures.grown) c.in_ok-entries.ensures.cost

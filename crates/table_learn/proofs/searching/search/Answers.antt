@@ -1,17 +1,17 @@
-use Rattle.std.proofs.Common.{ℕ, ◌≡◌, ◌<◌, ◌≤◌, ◌+◌, ◌∙◌, Some, None, sym, ap, subst, arith, refl, map, length, get_or, List}
+use Rattle.std.proofs.Common.{ℕ, ◌≡◌, ◌<◌, ◌≤◌, ◌+◌, ◌∙◌, Some, None, sym, ap, subst, arith, refl, map, length, get_or, List, Option, slice_get}
 use Rattle.std.proofs.lemmas.List.{length-map}
+use Rattle.std.proofs.lemmas.Option.{same_Some}
 use Rattle.thumb_instr.specs.declared.instr.Instr.{Instr}
 use Rattle.window_exec.specs.State.{seen}
 use Rattle.window_exec.specs.Seen.{Seen}
-use Rattle.seq_enum.specs.Alphabet.{alphabet}
+use Rattle.seq_enum.specs.Alphabet.{alphabet, sequences_of}
 use Rattle.rule_table.specs.Views.{opened_of}
 use Rattle.table_audit.specs.Sides.{alphabet_registers}
-use Rattle.table_audit.specs.Shorter.{sequences_below}
-use Rattle.table_audit.proofs.Settling.{here, not_here}
+use Rattle.table_audit.specs.Shorter.{IsBelow}
 use Rattle.table_learn.specs.Settings.{Settings, Window}
 use Rattle.table_learn.specs.Given.{settings_of}
 use Rattle.table_learn.specs.Found.{window_in}
-use Rattle.table_learn.specs.Searching.{shorter_than, AreCandidates, EarnedFrom}
+use Rattle.table_learn.specs.Searching.{IsCandidate, AreCandidates, EarnedFrom}
 use Rattle.table_learn.specs.Tried.{Tried}
 use Rattle.table_learn.proofs.Costs.{query_more, query_within}
 use Rattle.table_learn.proofs.Searched.{search_next, right_found, none_found}
@@ -22,13 +22,16 @@ use Rattle.table_learn.proofs.searching.search.Goals as goal
 letters_of : (s : Settings) (w : Window) (k : ℕ) (letters : List Instr) → k ≡ alphabet_registers s w.seq → letters ≡ alphabet k s.pool → letters ≡ alphabet (alphabet_registers s w.seq) s.pool
 letters_of s w k letters named is = is ∙ ap (λ j. alphabet j s.pool) named
 
--- a number of the list is that of a shorter sequence
-number_low : (s : Settings) (states : List Seen) (w : Window) (numbers these : List ℕ) (i : ℕ) → AreCandidates s states w numbers → these ≡ numbers → i < length these → get_or these i 0 < length (shorter_than s w)
-number_low s states w numbers these i are same low = (subst (AreCandidates s states w) (sym same) are).within i 0 low
+none_there : {X : Type 0} (o : Option X) (x : X) → o ≡ Some x → o ≡ None → ⊥
+none_there o x some none = let e : Some x ≡ None = sym some ∙ none in cc
+
+-- a number of the list is that of a sequence below the window
+candidate_at : (s : Settings) (states : List Seen) (w : Window) (numbers these : List ℕ) (i : ℕ) → AreCandidates s states w numbers → these ≡ numbers → i < length these → IsCandidate s w (get_or these i 0)
+candidate_at s states w numbers these i are same low = (subst (AreCandidates s states w) (sym same) are).each i 0 low
 
 pub loop-number-init : goal.loop-number-init
 loop-number-init g c = record {
-  search = rw c.new-opens.ensures.items (search_begins (settings_of c.args.settings.now) (window_in c.args.window) (map seen c.args.states.now.items) c.args.list.now.numbers.items c.requires.candidates.ascending);
+  search = rw c.new-opens.ensures.items (search_begins (settings_of c.args.settings.now) (window_in c.args.window) (map seen c.args.states.now.items) c.args.list.now.numbers.items c.requires.candidates.ordered);
   cost = omega arith;
 }
 
@@ -36,19 +39,20 @@ pub unreachable-requires : goal.unreachable-requires
 unreachable-requires g c =
     let s = settings_of c.args.settings.now in
     let w = window_in c.args.window in
-    let few = c.requires.window.canonical.renamable.few in
     let letters = letters_of s w c.args.window.k c.args.list.now.outcomes.letters c.requires.counted c.requires.letters in
-    let low = number_low s (map seen c.args.states.now.items) w c.args.list.now.numbers.items c.deref-number-items.result.now c.loop-number.number-index c.requires.candidates c.deref-number-items.ensures.value c.loop-number-test.true in
-    not_here (alphabet_registers s w.seq) s.pool (length w.seq) (get_or c.deref-number-items.result.now c.loop-number.number-index 0) c.args.list.now.outcomes.letters c.sequence_at.result (omega (arith, few)) letters low c.sequence_at.ensures c.in_default.is
+    let candidate = candidate_at s (map seen c.args.states.now.items) w c.args.list.now.numbers.items c.deref-number-items.result.now c.loop-number.number-index c.requires.candidates c.deref-number-items.ensures.value c.loop-number-test.true in
+    let there : c.sequence_at.result ≡ Some candidate.0 = c.sequence_at.ensures ∙ ap (λ ls. slice_get (sequences_of ls) (get_or c.deref-number-items.result.now c.loop-number.number-index 0)) letters ∙ candidate.1.at in
+    none_there c.sequence_at.result candidate.0 there c.in_default.is
 
-pub try_candidate-requires-clause-sequence : goal.try_candidate-requires-clause-sequence
-try_candidate-requires-clause-sequence g c =
+pub try_candidate-requires-clause-candidate : goal.try_candidate-requires-clause-candidate
+try_candidate-requires-clause-candidate g c =
     let s = settings_of c.args.settings.now in
     let w = window_in c.args.window in
-    let few = c.requires.window.canonical.renamable.few in
     let letters = letters_of s w c.args.window.k c.args.list.now.outcomes.letters c.requires.counted c.requires.letters in
-    let low = number_low s (map seen c.args.states.now.items) w c.args.list.now.numbers.items c.deref-number-items.result.now c.loop-number.number-index c.requires.candidates c.deref-number-items.ensures.value c.loop-number-test.true in
-    (here (alphabet_registers s w.seq) s.pool (length w.seq) (get_or c.deref-number-items.result.now c.loop-number.number-index 0) c.args.list.now.outcomes.letters c.sequence_at.result c.in-Some.seq (omega (arith, few)) letters low c.sequence_at.ensures c.in-Some.is).at
+    let candidate = candidate_at s (map seen c.args.states.now.items) w c.args.list.now.numbers.items c.deref-number-items.result.now c.loop-number.number-index c.requires.candidates c.deref-number-items.ensures.value c.loop-number-test.true in
+    let there : c.sequence_at.result ≡ Some candidate.0 = c.sequence_at.ensures ∙ ap (λ ls. slice_get (sequences_of ls) (get_or c.deref-number-items.result.now c.loop-number.number-index 0)) letters ∙ candidate.1.at in
+    let same : candidate.0 ≡ c.in-Some.seq = same_Some candidate.0 c.in-Some.seq (sym there ∙ c.in-Some.is) in
+    subst (λ z. IsBelow s w.seq w.seq (get_or c.deref-number-items.result.now c.loop-number.number-index 0) z) same candidate.1
 
 pub returns-in-Some-2-clause-earned : goal.returns-in-Some-2-clause-earned
 returns-in-Some-2-clause-earned g c =
@@ -62,10 +66,8 @@ returns-in-Some-2-clause-fits g c =
     let low : c.loop-number.number-index < length c.args.list.now.numbers.items = subst (λ (ns : List ℕ). c.loop-number.number-index < length ns) c.deref-number-items.ensures.value c.loop-number-test.true in
     let there = subst (Tried (settings_of c.args.settings.now) (window_in c.args.window) (map seen c.loop-number.states.items) (map opened_of c.loop-number.opens.items) (map seen c.try_candidate.new.states.items) (map opened_of c.try_candidate.new.opens.items) _) c.in-Some-2.is c.in_ok-right.ensures.tried in
     let tried = subst (λ (ns : List ℕ). Tried (settings_of c.args.settings.now) (window_in c.args.window) (map seen c.loop-number.states.items) (map opened_of c.loop-number.opens.items) (map seen c.try_candidate.new.states.items) (map opened_of c.try_candidate.new.opens.items) (get_or ns c.loop-number.number-index 0) (Some (c.in-Some-2.right, c.in-Some-2.proof))) c.deref-number-items.ensures.value there in
-    let limit : c.count_shorter-limit.result ≡ length (sequences_below (alphabet_registers (settings_of c.args.settings.now) c.args.window.left) c.args.settings.now.pool (length c.in-Some-2.right)) =
-    c.count_shorter-limit.ensures ∙ ap (λ (j : ℕ). length (sequences_below j c.args.settings.now.pool c.len.result)) c.requires.counted ∙ ap (λ (j : ℕ). length (sequences_below (alphabet_registers (settings_of c.args.settings.now) c.args.window.left) c.args.settings.now.pool j)) c.len.ensures.value in
-    right_found (settings_of c.args.settings.now) (window_in c.args.window) _ (map seen c.args.states.now.items) (map seen c.loop-number.states.items) (map seen c.try_candidate.new.states.items) (map opened_of c.loop-number.opens.items) (map opened_of c.try_candidate.new.opens.items) (map opened_of c.in_ok-keep_below.field-0.items) c.args.list.now.numbers.items c.loop-number.number-index 0 c.count_shorter-limit.result (c.in-Some-2.right, c.in-Some-2.proof)
-    refl c.requires.window c.args.window.mask.in_masks low c.loop-number.invariant.search c.requires.candidates tried refl refl c.in_ok-keep_below.ensures limit
+    right_found (settings_of c.args.settings.now) (window_in c.args.window) _ (map seen c.args.states.now.items) (map seen c.loop-number.states.items) (map seen c.try_candidate.new.states.items) (map opened_of c.loop-number.opens.items) (map opened_of c.try_candidate.new.opens.items) c.args.list.now.numbers.items c.loop-number.number-index 0 (c.in-Some-2.right, c.in-Some-2.proof)
+    refl c.requires.window c.args.window.mask.in_masks low c.loop-number.invariant.search c.requires.candidates tried refl refl c.in_ok-opens.ensures
 
 pub returns-in-Some-2-clause-cost : goal.returns-in-Some-2-clause-cost
 returns-in-Some-2-clause-cost g c =
