@@ -1,4 +1,4 @@
--- What replacing does to lines: what stands before stays, a run without names becomes a shorter one, and what stands behind stays.
+-- What replacing does to lines: what stands before stays, a run without names gives way to one of no more bytes, and what stands behind stays.
 use Rattle.std.proofs.Common.{◌≡◌, ◌∙◌, inl, inr, ℕ, zero, suc, ◌+◌, ◌-◌, ◌*◌, ◌<◌, ◌≤◌, ◌==◌, ◌&&◌, Bool, true, false, List, [], ◌∷◌, ◌++◌, length, drop, map, Option, Some, None, refl, sym, ap, subst, arith, append_assoc, ne_eqb, if◌then◌else◌}
 use Rattle.std.proofs.lemmas.Bool.{and_parts, and_from, eqb-true}
 use Rattle.thumb_instr.specs.declared.instr.Instr.{Instr}
@@ -33,7 +33,7 @@ flags x [] = x
 flags x (l ∷ ls) = flags (ends_aligned x l.statement) ls
 
 -- a run of lines comes in place of another, without more bytes
-pub record IsShorter (old new : List Line) : Type 0 where
+pub record IsNoLonger (old new : List Line) : Type 0 where
   pub bare_old : AreBare old
   pub bare_new : AreBare new
   pub bytes : total new ≤ total old
@@ -187,7 +187,7 @@ alike_split l (n ∷ ns) ls e = record {
 
 -- ---- cuts ----
 
--- lines, and what is left of them where a run becomes a shorter one
+-- lines, and what is left of them where a run gives way to one of no more bytes
 pub record IsCut (ls news : List Line) : Type 0 where
   pub front : List Line
   pub old : List Line
@@ -195,7 +195,7 @@ pub record IsCut (ls news : List Line) : Type 0 where
   pub back : List Line
   pub alike : AreAlike ls (front ++ (old ++ back))
   pub is_new : news ≡ front ++ (new ++ back)
-  pub shorter : IsShorter old new
+  pub no_longer : IsNoLonger old new
 
 cut_cons : (l : Line) (ls news : List Line) → IsCut ls news → IsCut (l ∷ ls) (l ∷ news)
 cut_cons l ls news c = record {
@@ -205,7 +205,7 @@ cut_cons l ls news c = record {
   back = c.back;
   alike = alike_cons l ls (c.front ++ (c.old ++ c.back)) c.alike;
   is_new = ap (λ x. l ∷ x) c.is_new;
-  shorter = c.shorter;
+  no_longer = c.no_longer;
 }
 
 -- the lines of new instructions
@@ -221,9 +221,9 @@ fresh_sets : (write : Instr → List ℕ) (is : List Instr) (name : Name) (ls : 
 fresh_sets write [] name ls = refl
 fresh_sets write (i ∷ is) name ls = fresh_sets write is name ls
 
-window_shorter : (write : Instr → List ℕ) (n : ℕ) (is : List Instr) (l : Line) (i : Instr) (ls : List Line) → l.statement ≡ Runs i None → instr_size i ≡ 2 → length is ≤ n → AreTwos is → (k : IsInner n ls)
-    → IsShorter (bare_of l ∷ k.old) (map (new_line write) is ++ k.new)
-window_shorter write n is l i ls e two short twos k = record {
+window_no_longer : (write : Instr → List ℕ) (n : ℕ) (is : List Instr) (l : Line) (i : Instr) (ls : List Line) → l.statement ≡ Runs i None → instr_size i ≡ 2 → length is ≤ suc n → AreTwos is → (k : IsInner n ls)
+    → IsNoLonger (bare_of l ∷ k.old) (map (new_line write) is ++ k.new)
+window_no_longer write n is l i ls e two short twos k = record {
   bare_old = (record { names = refl; steady = λ labels sets base here. rw e refl }, k.bare_old);
   bare_new = bare_append (map (new_line write) is) k.new (fresh_bare write is) k.bare_new;
   bytes =
@@ -241,7 +241,7 @@ window_shorter write n is l i ls e two short twos k = record {
       ∙ ap (set_address name) (sym (append_assoc (map (new_line write) is) k.new ms));
 }
 
-cut_window : (write : Instr → List ℕ) (n : ℕ) (is : List Instr) (l : Line) (i : Instr) (ls : List Line) → l.statement ≡ Runs i None → instr_size i ≡ 2 → length is ≤ n → AreTwos is → IsInner n ls
+cut_window : (write : Instr → List ℕ) (n : ℕ) (is : List Instr) (l : Line) (i : Instr) (ls : List Line) → l.statement ≡ Runs i None → instr_size i ≡ 2 → length is ≤ suc n → AreTwos is → IsInner n ls
     → IsCut (l ∷ ls) (labels_kept l l.names ++ (map (new_line write) is ++ without n ls))
 cut_window write n is l i ls e two short twos k = record {
   front = labels_kept l l.names;
@@ -250,7 +250,7 @@ cut_window write n is l i ls e two short twos k = record {
   back = k.back;
   alike = subst (λ (x : List Line). AreAlike (l ∷ ls) (labels_kept l l.names ++ (bare_of l ∷ x))) k.is_old (alike_split l l.names ls refl);
   is_new = ap (λ x. labels_kept l l.names ++ x) (ap (λ x. map (new_line write) is ++ x) k.is_new ∙ sym (append_assoc (map (new_line write) is) k.new k.back));
-  shorter = window_shorter write n is l i ls e two short twos k;
+  no_longer = window_no_longer write n is l i ls e two short twos k;
 }
 
 -- ---- replaced lines ----
@@ -270,7 +270,7 @@ cut_behind write at n q p m is l s ls rec e g out h =
     let c = rec (q + length (places_in s)) m (omega arith) (all_back at (suc n) (labels_at q l.names) (labels_from (q + length (places_in s)) ls) out) (subst (ArePlain (suc n)) (drop_back (places_in s) (places_of ls) p m g) h) in
     cut_cons l ls (replaced_lines write (p - length (places_in s)) (suc n) is ls) (subst (λ j. IsCut ls (replaced_lines write j (suc n) is ls)) (let z : m ≡ p - length (places_in s) = omega arith in z) c)
 
-cut_step : (write : Instr → List ℕ) (at n q p : ℕ) (is : List Instr) (l : Line) (s : Statement) (ls : List Line) → length is ≤ n → AreTwos is → l.statement ≡ s → CutRec write at n is ls → at ≡ q + p
+cut_step : (write : Instr → List ℕ) (at n q p : ℕ) (is : List Instr) (l : Line) (s : Statement) (ls : List Line) → length is ≤ suc n → AreTwos is → l.statement ≡ s → CutRec write at n is ls → at ≡ q + p
     → AllOutside at (suc n) (labels_at q l.names ++ labels_from (q + length (places_in s)) ls) → ArePlain (suc n) (drop p (places_in s ++ places_of ls))
     → IsCut (l ∷ ls) (if is_op s && (p == 0) then labels_kept l l.names ++ (map (new_line write) is ++ without (suc n - 1) ls) else l ∷ replaced_lines write (p - length (places_in s)) (suc n) is ls)
 cut_step write at n q p is l (Words ws) ls short twos f rec e out h =
@@ -286,7 +286,7 @@ cut_step write at n q (suc p) is l (Runs i mention) ls short twos f rec e out h 
     (cut_behind write at n q (suc p) p is l (Runs i mention) ls rec e (omega arith) out h)
 cut_step write at n q p is l s ls short twos f rec e out h = cut_behind write at n q p p is l s ls rec e (omega arith) out h
 
-pub cut : (write : Instr → List ℕ) (at n : ℕ) (is : List Instr) → length is ≤ n → AreTwos is → (ls : List Line) → CutRec write at n is ls
+pub cut : (write : Instr → List ℕ) (at n : ℕ) (is : List Instr) → length is ≤ suc n → AreTwos is → (ls : List Line) → CutRec write at n is ls
 cut write at n is short twos [] q zero e out h = absurd h
 cut write at n is short twos [] q (suc p) e out h = absurd h
 cut write at n is short twos (l ∷ ls) q p e out h = cut_step write at n q p is l l.statement ls short twos refl (cut write at n is short twos ls) e out h

@@ -1,4 +1,4 @@
--- A steady listing can be laid out, and stays steady when instructions are replaced by shorter runs.
+-- A steady listing can be laid out, and stays steady when instructions are replaced by runs that are no longer.
 use Rattle.std.proofs.Common.{◌≡◌, ◌∙◌, ◌⊎◌, inl, inr, ℕ, zero, suc, ◌+◌, ◌%◌, ◌<◌, ◌≤◌, ◌&&◌, true, false, List, [], ◌∷◌, ◌++◌, length, take, drop, map, Option, Some, None, refl, sym, ap, subst, arith, if◌then◌else◌}
 use Rattle.std.specs.Prelude.{slice_get}
 use Rattle.std.proofs.lemmas.Bool.{cases_Bool, and_parts, and_from}
@@ -21,7 +21,7 @@ use Rattle.steady_layout.specs.Steady.{first, widest_end, label_start, steady_at
 use Rattle.steady_layout.proofs.Nearer.{IsWithin, IsTold, AreTold, address_of, aim_free}
 use Rattle.steady_layout.proofs.Padding.{some_bytes, size_most, ends_told}
 use Rattle.steady_layout.proofs.Walks.{after, look, ending, steady_by, AreLess, IsLater, ahead_earlier, Tails, no_tails, ahead, backs_later, Known, IsWalked, walk, ending_append, steady_append}
-use Rattle.steady_layout.proofs.Cuts.{most, IsShorter, ending_is, look_bare, steady_bare, ArePlain, AreTwos, IsCut, cut}
+use Rattle.steady_layout.proofs.Cuts.{most, IsNoLonger, ending_is, look_bare, steady_bare, ArePlain, AreTwos, IsCut, cut}
 
 -- ---- the definitions' layout is that of the greatest sizes ----
 
@@ -93,18 +93,18 @@ most_less = record { less = λ s a b. omega arith; some_old = λ i m a. some_byt
 same_tails : (ls : List Line) → Tails most most ls ls
 same_tails ls = subst (λ x. Tails most most x x) (append-nil ls) (ahead most most most_less [] [] (no_tails most most) ls)
 
-run_within : (old new : List Line) → IsShorter old new → (o n : Start) → IsWithin o n → IsWithin (ending most o old) (ending most n new)
+run_within : (old new : List Line) → IsNoLonger old new → (o n : Start) → IsWithin o n → IsWithin (ending most o old) (ending most n new)
 run_within old new r o n w = rw (ending_is o old, ending_is n new) (record { at = let b = r.bytes in let a = w.at in omega arith; aligned = r.aligned o.aligned n.aligned w.aligned })
 
-run_later : (old new : List Line) → IsShorter old new → (o n : Start) → IsLater o n (ending most o old) (ending most n new)
+run_later : (old new : List Line) → IsNoLonger old new → (o n : Start) → IsLater o n (ending most o old) (ending most n new)
 run_later old new r o n = rw (ending_is o old, ending_is n new) (record { old = omega arith; new = omega arith; nearer = let b = r.bytes in omega arith })
 
-run_tails : (old new back : List Line) → IsShorter old new → Tails most most (old ++ back) (new ++ back)
+run_tails : (old new back : List Line) → IsNoLonger old new → Tails most most (old ++ back) (new ++ back)
 run_tails old new back r name o n w =
     rw (look_bare name o old back r.bare_old, look_bare name n new back r.bare_new)
     (ahead_earlier o n (ending most o old) (ending most n new) _ _ (run_later old new r o n) (same_tails back name (ending most o old) (ending most n new) (run_within old new r o n w)))
 
-run_known : (old new back : List Line) → IsShorter old new → (lo ln : Name → Option Start) (o n : Start) → Known most most lo ln o n (old ++ back) (new ++ back) → Known most most lo ln (ending most o old) (ending most n new) back back
+run_known : (old new back : List Line) → IsNoLonger old new → (lo ln : Name → Option Start) (o n : Start) → Known most most lo ln o n (old ++ back) (new ++ back) → Known most most lo ln (ending most o old) (ending most n new) back back
 run_known old new back r lo ln o n k name = elim (k name) [
   | inl b ↦ inl (backs_later o n (ending most o old) (ending most n new) (lo name) (ln name) (run_later old new r o n) b)
   | inr e ↦ inr (e.0 ∙ look_bare name o old back r.bare_old, e.1 ∙ look_bare name n new back r.bare_new)
@@ -116,7 +116,7 @@ front_sets name (x ∷ xs) ys zs e = ap (set_in name x.statement) (front_sets na
 
 pub cut_stays : (base : ℕ) (ls news : List Line) → IsCut ls news → IsSteady base ls → IsSteady base news
 cut_stays base ls news c h =
-    let r = c.shorter in
+    let r = c.no_longer in
     let start : Start = first base in
     let lo : Name → Option Start = labels_in base ls in
     let ln : Name → Option Start = labels_in base news in

@@ -1,4 +1,4 @@
--- Listings whose mentions stay within reach, whichever of their instructions are replaced by shorter runs.
+-- Listings whose mentions stay within reach, whichever of their instructions are replaced by runs that are no longer.
 use Rattle.std.specs.Prelude.{◌≡◌, ℕ, ◌+◌, ◌-◌, ◌*◌, ◌%◌, ◌^◌, ◌≤◌, ◌==◌, ◌&&◌, nat_le, nat_lt, min, is_none, Bool, true, List, [], ◌∷◌, length, Option, Some, None, if◌then◌else◌}
 use Rattle.thumb_instr.specs.declared.instr.Instr.{Instr}
 use Rattle.thumb_instr.specs.declared.instr.Instr.TheVariants as instr
@@ -50,7 +50,7 @@ first base = record { at = base; aligned = true }
 abbrev pub reaches : ℕ → ℕ → Option ℕ → Bool
 reaches half at to = is_none (branch_fault half at to)
 
--- a branch to a label, which shorter runs bring nearer, or to an address that is set, which lies still while the branch comes nearer to the base
+-- a branch to a label, which such runs bring nearer, if they move it, or to an address that is set, which lies still while the branch comes nearer to the base
 abbrev pub steady_branch : ℕ → ℕ → Start → Option Start → Option ℕ → Bool
 steady_branch half base here (Some label) set = reaches half here.at (Some label.at)
 steady_branch half base here None set = reaches half base set && reaches half here.at set

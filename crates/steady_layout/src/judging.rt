@@ -22,7 +22,7 @@ fn all_steady(starts: &[Start], listing: &Listing, base: u32) -> bool
     true
 }
 
-/// Whether each mention of the listing, begun at the base, stays within reach whichever of its instructions are replaced by shorter runs.
+/// Whether each mention of the listing, begun at the base, stays within reach whichever of its instructions are replaced by runs that are no longer.
 ///
 /// Time is linear in the listing's length.
 pub fn is_steady(alloc: Global, listing: &Listing, base: u32) -> Result<bool, Memory>

@@ -1,4 +1,4 @@
-//! Listings whose mentions stay within reach, whichever of their instructions are replaced by shorter runs.
+//! Listings whose mentions stay within reach, whichever of their instructions are replaced by runs that are no longer.
 #![tactic(auto)]
 
 mod aims;

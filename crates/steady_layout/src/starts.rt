@@ -7,7 +7,7 @@ ghost use Rattle.steady_layout.specs.Steady.{most_of, aligns_surely as surely_al
 use label_layout::{CODE_END, instr_size};
 use listing_parser::Statement;
 
-/// Where a line begins, whichever instructions before it were replaced by shorter runs.
+/// Where a line begins, whichever instructions before it were replaced by runs that are no longer.
 #[derive(Clone, Copy, Debug, PartialEq, Eq)]
 pub struct Start {
     /// The greatest address that it may have.
