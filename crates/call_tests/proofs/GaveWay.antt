@@ -57,7 +57,8 @@ found_gave_way before place instr found lines e w = subst (λ (o : Option (List 
 gap_of_two : (before : List Line) (place : ℕ) (instr : Instr) (lines : List Line) → GaveWay before place instr lines → IsGap (places_of before) (labels_from 0 before) place 2 (instr ∷ [])
 gap_of_two before place instr lines g = record {
   within = window_within g.window 2 (places_of before) place g.two (omega arith) (ap (λ n. take n (drop place (places_of before))) (sym g.two) ∙ g.stood.stands);
-  shorter = omega arith;
+  some = omega arith;
+  no_longer = omega arith;
   first = first_op g.window 2 (places_of before) place g.two (omega arith) (ap (λ n. take n (drop place (places_of before))) (sym g.two) ∙ g.stood.stands);
   unlabelled = window_unlabelled before place g.window 2 g.two g.stood;
 }

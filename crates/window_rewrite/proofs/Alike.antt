@@ -1,5 +1,5 @@
--- Where a rule fits, so does one that is alike, and it does so with any scratch register: the layout sees only how many instructions come.
-use Rattle.std.proofs.Common.{◌≡◌, ℕ, ◌+◌, ◌-◌, ◌<◌, ◌≤◌, ◌&&◌, ◌==◌, Bool, true, false, List, [], ◌∷◌, ◌++◌, length, take, drop, map, Option, Some, None, refl, sym, ap, ◌∙◌, subst, ◌⊎◌, inl, inr, arith}
+-- Where a rule fits, so does one that is alike, and it does so with any scratch register: the lines and their layout see only how many instructions come.
+use Rattle.std.proofs.Common.{◌≡◌, ℕ, ◌+◌, ◌-◌, suc, max, ◌<◌, ◌≤◌, ◌&&◌, ◌==◌, Bool, true, false, List, [], ◌∷◌, ◌++◌, length, take, drop, map, Option, Some, None, refl, sym, ap, ◌∙◌, subst, ◌⊎◌, inl, inr, arith}
 use Rattle.std.specs.Prelude.{slice_get, if◌then◌else◌}
 use Rattle.std.specs.List.{list_all}
 use Rattle.std.proofs.lemmas.Bool.{and_parts, lt-ltb}
@@ -15,20 +15,22 @@ use Rattle.rule_model.specs.Rules.{Rule, rule_registers, Applies, IsSoundRule, a
 use Rattle.thumb_model.specs.Replaced.{moved}
 use Rattle.thumb_model.specs.Sides.{AreOver, register_count}
 use Rattle.thumb_model.proofs.Lists.{take_all}
-use Rattle.rule_model.specs.Rewriting.{Setting, Replacement, used_rule, lines_after_rule, left_length, left_length_of}
+use Rattle.rule_model.specs.Rewriting.{Setting, Replacement, used_rule, lines_after_rule, lines_after, left_length, left_length_of}
 use Rattle.rule_model.proofs.Alone.{alone_at}
-use Rattle.rule_model.proofs.Costs.{shorter_lowers}
 use Rattle.thumb_model.specs.ReplacedLines.{is_op, without, labels_kept, new_line, replaced_lines, are_joined_from}
+use Rattle.listing_parser.specs.Grammar.{most_lines}
 use Rattle.listing_parser.specs.Parsing.{own_line}
+use Rattle.seq_enum.specs.Costs.{weight_under}
 use Rattle.kept_layout.proofs.Cutting.{two_bytes}
 use Rattle.window_rewrite.specs.Settled.{IsSettled}
 use Rattle.window_rewrite.proofs.Settled.{left_places, IsGap, settled_stay, stay_settled}
 use Rattle.window_rewrite.proofs.RuleWindows.{applied_gap, applied_stay}
-use Rattle.window_rewrite.specs.Rewriting.{setting}
+use Rattle.window_rewrite.specs.Rewriting.{setting_by}
 use Rattle.window_rewrite.specs.Rules.{is_marked, AreAlike, AreFit, AreLed}
 use Rattle.window_rewrite.specs.Choices.{Meets}
-use Rattle.window_rewrite.proofs.Applied.{made, rule_there, fits_shorter, letters_all}
+use Rattle.window_rewrite.proofs.Applied.{made, rule_there, fits_lighter, letters_all, IsLeft}
 use Rattle.window_rewrite.proofs.Live.{Allowed}
+use Rattle.window_rewrite.proofs.Weights.{lighter_some, lighter_true, lowers_same}
 use Rattle.window_rewrite.proofs.Whole.{alike_registers, front_allowed, front_apart, front_matches}
 
 -- ---- the layout ----
@@ -73,6 +75,18 @@ faults_as lies other e n at (l ∷ ls) (m ∷ ms) h =
 layable_as : (base : ℕ) (ls ms : List Line) → AreLaidAs ls ms → Layable base ls → Layable base ms
 layable_as base ls ms h laid =
     sym (faults_as (lies_in base ls) (lies_in base ms) (λ name. ap (λ o. or_else o (cleared (set_address name ls))) (labels_as name base ls ms h) ∙ ap (λ o. or_else (label_address name base ms) (cleared o)) (sets_as name ls ms h)) 1 base ls ms h) ∙ laid
+
+long_as : (ls ms : List Line) → AreLaidAs ls ms → length ls ≡ length ms
+long_as [] [] h = refl
+long_as [] (m ∷ ms) h = absurd h
+long_as (l ∷ ls) [] h = absurd h
+long_as (l ∷ ls) (m ∷ ms) h = ap suc (long_as ls ms h.1)
+
+left_as : (base : ℕ) (lines ls ms : List Line) → AreLaidAs ls ms → IsLeft base lines ls → IsLeft base lines ms
+left_as base lines ls ms h left = record {
+  few = subst (λ n. n ≤ max (length lines) most_lines) (long_as ls ms h) left.few;
+  layable = layable_as base ls ms h left.layable;
+}
 
 same_fault : (lies other : Name → Option ℕ) → ((name : Name) → lies name ≡ other name) → (at : ℕ) (s : Statement) → fault_at lies at s ≡ fault_at other at s
 same_fault lies other e at Nothing = refl
@@ -125,8 +139,8 @@ settled_as code p count is js e (inl n) = inl (omega (arith, e, n))
 settled_as code p count is js e (inr h) = inr h
 
 -- a rule applies where one does that is alike and has as many registers or more, with the first of them
-applies_as : (a b : Rule) (registers : List Low) (code : Code) (p : ℕ) → IsSoundRule a → IsSoundRule b → AreAlike a b → length b.right < length b.left → Applies b registers code p → Applies a (take (rule_registers a) registers) code p
-applies_as a b registers code p sound also s shorter h =
+applies_as : (a b : Rule) (registers : List Low) (code : Code) (p : ℕ) → IsSoundRule a → IsSoundRule b → AreAlike a b → 0 < length b.left → Applies b registers code p → Applies a (take (rule_registers a) registers) code p
+applies_as a b registers code p sound also s some h =
     let first : List Low = take (rule_registers a) registers in
     let is : List Instr = map (renamed registers) b.right in
     let js : List Instr = map (renamed first) a.right in
@@ -138,9 +152,9 @@ applies_as a b registers code p sound also s shorter h =
     let m = length-map b.right (renamed registers) in
     let n = length-map a.right (renamed first) in
     let long = s.as_long in
-    let gap = applied_gap b registers code p shorter h in
+    let gap = applied_gap b registers code p also some h in
     let settled = stay_settled code.places code.labels p (length b.left) is gap (applied_stay b registers code p h) in
-    let other : IsGap code.places code.labels p (length b.left) js = record { within = gap.within; shorter = omega arith; first = gap.first; unlabelled = gap.unlabelled } in
+    let other : IsGap code.places code.labels p (length b.left) js = record { within = gap.within; some = gap.some; no_longer = (let no_longer = also.no_longer in omega arith); first = gap.first; unlabelled = gap.unlabelled } in
     let stay = settled_stay code.places code.labels p (length b.left) js other (settled_as code p (length b.left) is js (omega arith) settled) in
     record {
       as_many = take_all (rule_registers a) registers (omega arith);
@@ -156,11 +170,12 @@ applies_as a b registers code p sound also s shorter h =
           (subst (λ q. is_op_place (slice_get (left_places p (length b.left) js code.places) (moved p (length b.left - q) l.place)) ≡ true) n (stay k l e c));
     }
 
--- under another map a rule's right side leaves lines that can be laid out alike
-pub laid_under : (base place count k : ℕ) (f g : List Low) (right : List Instr) (lines : List Line) → AreOver k right → Layable base (replaced_lines own_line place count (map (renamed f) right) lines) → Layable base (replaced_lines own_line place count (map (renamed g) right) lines)
-laid_under base place count k f g right lines over laid =
-    layable_as base (replaced_lines own_line place count (map (renamed f) right) lines) (replaced_lines own_line place count (map (renamed g) right) lines)
-    (replaced_as own_line place count (map (renamed f) right) (map (renamed g) right) lines (length-map right (renamed f) ∙ sym (length-map right (renamed g))) (letters_all k f right over) (letters_all k g right over)) laid
+-- under another map a rule's right side leaves as many lines, which can be laid out alike
+pub left_under : (base place count k : ℕ) (f g : List Low) (right : List Instr) (lines : List Line) → AreOver k right → IsLeft base lines (replaced_lines own_line place count (map (renamed f) right) lines)
+    → IsLeft base lines (replaced_lines own_line place count (map (renamed g) right) lines)
+left_under base place count k f g right lines over left =
+    left_as base lines (replaced_lines own_line place count (map (renamed f) right) lines) (replaced_lines own_line place count (map (renamed g) right) lines)
+    (replaced_as own_line place count (map (renamed f) right) (map (renamed g) right) lines (length-map right (renamed f) ∙ sym (length-map right (renamed g))) (letters_all k f right over) (letters_all k g right over)) left
 
 -- and a place that is settled
 pub settled_under : (code : Code) (p count : ℕ) (f g : List Low) (right : List Instr) → IsSettled code.places code.labels p count (map (renamed f) right) → IsSettled code.places code.labels p count (map (renamed g) right)
@@ -177,14 +192,15 @@ pub record IsLedTo (asked : Bool) (s : Setting) (kept : List Bool) (o : Replacem
   pub meets : Meets asked s (made o.place leader registers) lines
   pub as_long : left_length s (made o.place leader registers) ≡ left_length s o
 
-pub led_to : (asked : Bool) (base longest : ℕ) (rules : List Rule) (kept : List Bool) (lines : List Line) (o : Replacement) → AreFit longest (alone rules) → AreLed rules kept (length rules) → Meets asked (setting base (alone rules)) o lines
-    → IsLedTo asked (setting base (alone rules)) kept o lines
-led_to asked base longest rules kept lines o fit led m =
-    let s : Setting = setting base (alone rules) in
+pub led_to : (asked : Bool) (costs : Option (List ℕ)) (base longest : ℕ) (rules : List Rule) (kept : List Bool) (lines : List Line) (o : Replacement) → AreFit longest (alone rules) → AreLed costs rules kept (length rules) → Meets asked (setting_by costs base (alone rules)) o lines
+    → IsLedTo asked (setting_by costs base (alone rules)) kept o lines
+led_to asked costs base longest rules kept lines o fit led m =
+    let s : Setting = setting_by costs base (alone rules) in
     let rule : Rule = m.0.rule in
-    let there = rule_there base rules o rule m.0.is_rule in
-    let shorter = fits_shorter base (alone rules) o lines m.0 in
-    let l = led o.entry rule (slice_get_within rules o.entry rule there) there (lt-ltb (length rule.right) (length rule.left) shorter) in
+    let there = rule_there costs base rules o rule m.0.is_rule in
+    let lighter = fits_lighter costs base (alone rules) o lines m.0 in
+    let some = lighter_some costs rule.left rule.right lighter in
+    let l = led o.entry rule (slice_get_within rules o.entry rule there) there (lt-ltb (weight_under costs rule.right) (weight_under costs rule.left) lighter) in
     let other : Rule = l.other in
     let as_long = l.alike.as_long in
     let rule_fit = fit o.entry o.instance rule m.0.is_rule in
@@ -204,17 +220,21 @@ led_to asked base longest rules kept lines o fit led m =
         record {
           rule = other;
           is_rule = used;
-          lowers = shorter_lowers (λ i. 1) (λ i. refl) other.left other.right (omega arith);
-          applies = applies_as other rule o.registers (code_of lines) o.place other_fit.sound rule_fit.sound l.alike shorter m.0.applies;
+          lowers = lowers_same costs other.left other.right (lighter_true costs other l.lighter);
+          applies = applies_as other rule o.registers (code_of lines) o.place other_fit.sound rule_fit.sound l.alike some m.0.applies;
           joined = subst (λ k. are_joined_from o.place k lines ≡ true) (sym count) m.0.joined;
         },
         λ e.
-            let laid : Layable base (replaced_lines own_line o.place (length rule.left) is lines) = subst (λ (r : Option Rule). Layable base (lines_after_rule s r o lines)) m.0.is_rule (m.1 e) in
-            let same : Layable base (replaced_lines own_line o.place (length rule.left) js lines) =
-            layable_as base (replaced_lines own_line o.place (length rule.left) is lines) (replaced_lines own_line o.place (length rule.left) js lines)
-            (replaced_as own_line o.place (length rule.left) is js lines as_many (letters_all (rule_registers rule) o.registers rule.right rule_fit.sound.right) (letters_all (rule_registers other) first other.right other_fit.sound.right)) laid in
-            subst (λ (r : Option Rule). Layable base (lines_after_rule s r (made o.place l.leader first) lines)) (sym used)
-            (subst (λ k. Layable base (replaced_lines own_line o.place k js lines)) (sym count) same),
+            let allowed = m.1 e in
+            let was : IsLeft base lines (lines_after s o lines) = record { few = allowed.few; layable = allowed.layable } in
+            let left : IsLeft base lines (replaced_lines own_line o.place (length rule.left) is lines) = subst (λ (r : Option Rule). IsLeft base lines (lines_after_rule s r o lines)) m.0.is_rule was in
+            let same : IsLeft base lines (replaced_lines own_line o.place (length rule.left) js lines) =
+            left_as base lines (replaced_lines own_line o.place (length rule.left) is lines) (replaced_lines own_line o.place (length rule.left) js lines)
+            (replaced_as own_line o.place (length rule.left) is js lines as_many (letters_all (rule_registers rule) o.registers rule.right rule_fit.sound.right) (letters_all (rule_registers other) first other.right other_fit.sound.right)) left in
+            let now : IsLeft base lines (lines_after_rule s (used_rule s (made o.place l.leader first)) (made o.place l.leader first) lines) =
+            subst (λ (r : Option Rule). IsLeft base lines (lines_after_rule s r (made o.place l.leader first) lines)) (sym used)
+            (subst (λ k. IsLeft base lines (replaced_lines own_line o.place k js lines)) (sym count) same) in
+            record { few = now.few; layable = now.layable },
       );
       as_long = ap left_length_of used ∙ count ∙ ap left_length_of (sym m.0.is_rule);
     }

@@ -26,13 +26,13 @@ use Rattle.window_runs.specs.Rows.{rows_from}
 use Rattle.window_runs.specs.Runs.{run}
 use Rattle.window_runs.proofs.Joined.{run_window, window_in_run}
 use Rattle.window_rewrite.specs.declared.choice.Choice.{Choice}
-use Rattle.window_rewrite.specs.Rewriting.{setting}
+use Rattle.window_rewrite.specs.Rewriting.{setting_by}
 use Rattle.table_audit.specs.Sides.{IsCanonicalSide}
 use Rattle.window_rewrite.specs.Rules.{rules_in, side_length, is_marked, AreFit, AreLed, first_with}
 use Rattle.window_rewrite.specs.Forms.{form_of}
-use Rattle.window_rewrite.specs.Fitting.{left_registers, NoneStands, Shortens, Stands, StandsThere}
+use Rattle.window_rewrite.specs.Fitting.{left_registers, NoneStands, Lightens, Stands, StandsThere}
 use Rattle.window_rewrite.specs.Choices.{Awaits, choice_of, FitsIn, IsChoice, IsLowest, Meets, NoneAt, NoneOf, IsBest, NoneBefore, IsFirstChoice, of_length, longer}
-use Rattle.window_rewrite.proofs.Applied.{made, rule_there, fits_shorter, back_shortens, meets, meets_less}
+use Rattle.window_rewrite.proofs.Applied.{made, rule_there, fits_some, back_lightens, meets, meets_less}
 use Rattle.window_rewrite.proofs.Keys.{awaited, none_awaited}
 use Rattle.window_rewrite.proofs.Alike.{led_to}
 
@@ -120,66 +120,66 @@ pub length_at : (rules : List Rule) (k : ℕ) (rule : Rule) → slice_get rules 
 length_at rules k rule e = ap left_length_of e
 
 -- a rule that fits is as long as that of its number
-fit_length : (base : ℕ) (rules : List Rule) (o : Replacement) (lines : List Line) → FitsIn (setting base (alone rules)) o lines → side_length rules o.entry ≡ left_length (setting base (alone rules)) o
-fit_length base rules o lines a = ap left_length_of (rule_there base rules o a.rule a.is_rule) ∙ sym (ap left_length_of a.is_rule)
+fit_length : (costs : Option (List ℕ)) (base : ℕ) (rules : List Rule) (o : Replacement) (lines : List Line) → FitsIn (setting_by costs base (alone rules)) o lines → side_length rules o.entry ≡ left_length (setting_by costs base (alone rules)) o
+fit_length costs base rules o lines a = ap left_length_of (rule_there costs base rules o a.rule a.is_rule) ∙ sym (ap left_length_of a.is_rule)
 
 -- the rule of a choice at the place by a left side of the window's length stands in the window
-pub record StandsIn (table : List (List Rule)) (window : List Instr) (o : Replacement) : Type 0 where
+pub record StandsIn (costs : Option (List ℕ)) (table : List (List Rule)) (window : List Instr) (o : Replacement) : Type 0 where
   pub rule : Rule
   pub at : rule_at table o.entry o.instance ≡ Some rule
   pub registers : List Low
-  pub shortens : Shortens rule registers window
+  pub lightens : Lightens costs rule registers window
 
-pub stands_in : (base longest : ℕ) (table : List (List Rule)) (lines : List Line) (place : ℕ) (window : List Instr) (o : Replacement) → AreFit longest table → IsWindow lines place window
-    → FitsIn (setting base table) o lines → o.place ≡ place → left_length (setting base table) o ≡ length window → StandsIn table window o
-stands_in base longest table lines place window o fit there a at long =
+pub stands_in : (costs : Option (List ℕ)) (base longest : ℕ) (table : List (List Rule)) (lines : List Line) (place : ℕ) (window : List Instr) (o : Replacement) → AreFit longest table → IsWindow lines place window
+    → FitsIn (setting_by costs base table) o lines → o.place ≡ place → left_length (setting_by costs base table) o ≡ length window → StandsIn costs table window o
+stands_in costs base longest table lines place window o fit there a at long =
     let here : IsWindow lines o.place window = subst (λ p. IsWindow lines p window) (sym at) there in
     let n : length a.rule.left ≡ length window = sym (ap left_length_of a.is_rule) ∙ long in
     record {
       rule = a.rule;
       at = a.is_rule;
       registers = left_registers a.rule o.registers;
-      shortens = back_shortens base table lines o a.rule window a.is_rule (fit o.entry o.instance a.rule a.is_rule).sound n here a;
+      lightens = back_lightens costs base table lines o a.rule window a.is_rule (fit o.entry o.instance a.rule a.is_rule).sound n here a;
     }
 
 -- the search through the rules that may stand in a window: those below k don't meet this
-pub record IsSearch (asked : Bool) (base : ℕ) (rules : List Rule) (kept : List Bool) (lines : List Line) (place : ℕ) (window : List Instr) (at : Option ℕ) (start steps : ℕ) : Type 0 where
+pub record IsSearch (asked : Bool) (costs : Option (List ℕ)) (base : ℕ) (rules : List Rule) (kept : List Bool) (lines : List Line) (place : ℕ) (window : List Instr) (at : Option ℕ) (start steps : ℕ) : Type 0 where
   pub longest : ℕ
   pub fit : AreFit longest (alone rules)
-  pub led : AreLed rules kept (length rules)
+  pub led : AreLed costs rules kept (length rules)
   pub k : ℕ
-  pub awaits : Awaits rules kept window k at
-  pub none : (o : Replacement) → Meets asked (setting base (alone rules)) o lines → o.place ≡ place → left_length (setting base (alone rules)) o ≡ length window → o.entry < k → ⊥
+  pub awaits : Awaits costs rules kept window k at
+  pub none : (o : Replacement) → Meets asked (setting_by costs base (alone rules)) o lines → o.place ≡ place → left_length (setting_by costs base (alone rules)) o ≡ length window → o.entry < k → ⊥
   pub cost : steps ≤ start + of_length (length window) (take k rules)
 
-pub search_begins : (asked : Bool) (base longest : ℕ) (rules : List Rule) (kept : List Bool) (lines : List Line) (place : ℕ) (window : List Instr) (at : Option ℕ) (start : ℕ) → AreFit longest (alone rules) → AreLed rules kept (length rules)
-    → Awaits rules kept window 0 at → IsSearch asked base rules kept lines place window at start start
-search_begins asked base longest rules kept lines place window at start fit led awaits = record { longest = longest; fit = fit; led = led; k = 0; awaits = awaits; none = λ o a e l h. absurd (omega arith); cost = omega arith }
+pub search_begins : (asked : Bool) (costs : Option (List ℕ)) (base longest : ℕ) (rules : List Rule) (kept : List Bool) (lines : List Line) (place : ℕ) (window : List Instr) (at : Option ℕ) (start : ℕ) → AreFit longest (alone rules) → AreLed costs rules kept (length rules)
+    → Awaits costs rules kept window 0 at → IsSearch asked costs base rules kept lines place window at start start
+search_begins asked costs base longest rules kept lines place window at start fit led awaits = record { longest = longest; fit = fit; led = led; k = 0; awaits = awaits; none = λ o a e l h. absurd (omega arith); cost = omega arith }
 
 -- none meets it below the next rule: else one that is kept would
-none_before : (asked : Bool) (base : ℕ) (rules : List Rule) (kept : List Bool) (lines : List Line) (place : ℕ) (window : List Instr) (n : ℕ) (at : Option ℕ) (start steps : ℕ) → IsWindow lines place window
-    → IsSearch asked base rules kept lines place window at start steps → at ≡ Some n
-    → (o : Replacement) → Meets asked (setting base (alone rules)) o lines → o.place ≡ place → left_length (setting base (alone rules)) o ≡ length window → o.entry < n → ⊥
-none_before asked base rules kept lines place window n at start steps there s is o a e l h =
-    let d = led_to asked base s.longest rules kept lines o s.fit s.led a in
+none_before : (asked : Bool) (costs : Option (List ℕ)) (base : ℕ) (rules : List Rule) (kept : List Bool) (lines : List Line) (place : ℕ) (window : List Instr) (n : ℕ) (at : Option ℕ) (start steps : ℕ) → IsWindow lines place window
+    → IsSearch asked costs base rules kept lines place window at start steps → at ≡ Some n
+    → (o : Replacement) → Meets asked (setting_by costs base (alone rules)) o lines → o.place ≡ place → left_length (setting_by costs base (alone rules)) o ≡ length window → o.entry < n → ⊥
+none_before asked costs base rules kept lines place window n at start steps there s is o a e l h =
+    let d = led_to asked costs base s.longest rules kept lines o s.fit s.led a in
     let no_later = d.no_later in
     elim (cases_lt d.leader s.k) [
       | inl b ↦ s.none (made o.place d.leader d.registers) d.meets e (d.as_long ∙ l) b
       | inr b ↦ (
-          let next = awaited rules kept window s.k n at s.awaits is in
+          let next = awaited costs rules kept window s.k n at s.awaits is in
           let u = made o.place d.leader d.registers in
-          let i = stands_in base s.longest (alone rules) lines place window u s.fit there d.meets.0 e (d.as_long ∙ l) in
-          next.none d.leader i.rule i.registers b (omega arith) (rule_there base rules u i.rule i.at) d.is_kept i.shortens
+          let i = stands_in costs base s.longest (alone rules) lines place window u s.fit there d.meets.0 e (d.as_long ∙ l) in
+          next.none d.leader i.rule i.registers b (omega arith) (rule_there costs base rules u i.rule i.at) d.is_kept i.lightens
           )
     ]
 
-pub search_next : (was asked : Bool) (base : ℕ) (rules : List Rule) (kept : List Bool) (lines : List Line) (place : ℕ) (window : List Instr) (n : ℕ) (at next : Option ℕ) (start steps after : ℕ) → IsWindow lines place window
-    → IsSearch was base rules kept lines place window at start steps → at ≡ Some n → (was ≡ true → asked ≡ true)
-    → (side_length rules n ≡ length window → (registers : List Low) → Meets asked (setting base (alone rules)) (made place n registers) lines → ⊥)
+pub search_next : (was asked : Bool) (costs : Option (List ℕ)) (base : ℕ) (rules : List Rule) (kept : List Bool) (lines : List Line) (place : ℕ) (window : List Instr) (n : ℕ) (at next : Option ℕ) (start steps after : ℕ) → IsWindow lines place window
+    → IsSearch was costs base rules kept lines place window at start steps → at ≡ Some n → (was ≡ true → asked ≡ true)
+    → (side_length rules n ≡ length window → (registers : List Low) → Meets asked (setting_by costs base (alone rules)) (made place n registers) lines → ⊥)
     → ((rule : Rule) → slice_get rules n ≡ Some rule → is_marked kept n ≡ true → next ≡ first_with kept (form_of rule.left) (n + 1) (drop (n + 1) rules)) → after ≤ steps + from_bool (side_length rules n == length window)
-    → IsSearch asked base rules kept lines place window next start after
-search_next was asked base rules kept lines place window n at next start steps after there s is stays none more cost =
-    let i = awaited rules kept window s.k n at s.awaits is in
+    → IsSearch asked costs base rules kept lines place window next start after
+search_next was asked costs base rules kept lines place window n at next start steps after there s is stays none more cost =
+    let i = awaited costs rules kept window s.k n at s.awaits is in
     let one : of_length (length window) (take n rules) + from_bool (length i.rule.left == length window) ≤ of_length (length window) (take (suc n) rules) = taken_one (length window) rules n i.rule i.at in
     let before : of_length (length window) (take s.k rules) ≤ of_length (length window) (take n rules) = taken_more (length window) rules s.k n i.from in
     let tried : from_bool (side_length rules n == length window) ≡ from_bool (length i.rule.left == length window) = ap (λ m. from_bool (m == length window)) (length_at rules n i.rule i.at) in
@@ -191,13 +191,13 @@ search_next was asked base rules kept lines place window n at next start steps a
       k = n + 1;
       awaits = i.more next (more i.rule i.at i.is_kept);
       none = λ o a e l h.
-          let d = led_to asked base s.longest rules kept lines o s.fit s.led a in
+          let d = led_to asked costs base s.longest rules kept lines o s.fit s.led a in
           let no_later = d.no_later in
           elim (cases_lt d.leader n) [
-            | inl b ↦ none_before was base rules kept lines place window n at start steps there s is (made o.place d.leader d.registers) (meets_less was asked (setting base (alone rules)) (made o.place d.leader d.registers) lines stays d.meets) e (d.as_long ∙ l) b
+            | inl b ↦ none_before was costs base rules kept lines place window n at start steps there s is (made o.place d.leader d.registers) (meets_less was asked (setting_by costs base (alone rules)) (made o.place d.leader d.registers) lines stays d.meets) e (d.as_long ∙ l) b
             | inr b ↦ (
                 let same : d.leader ≡ n = omega arith in
-                none (ap (side_length rules) (sym same) ∙ (fit_length base rules (made o.place d.leader d.registers) lines d.meets.0 ∙ (d.as_long ∙ l))) d.registers (subst (λ m. Meets asked (setting base (alone rules)) (made place m d.registers) lines) same (subst (λ p. Meets asked (setting base (alone rules)) (made p d.leader d.registers) lines) e d.meets))
+                none (ap (side_length rules) (sym same) ∙ (fit_length costs base rules (made o.place d.leader d.registers) lines d.meets.0 ∙ (d.as_long ∙ l))) d.registers (subst (λ m. Meets asked (setting_by costs base (alone rules)) (made place m d.registers) lines) same (subst (λ p. Meets asked (setting_by costs base (alone rules)) (made p d.leader d.registers) lines) e d.meets))
                 )
           ];
       cost = subst (λ m. after ≤ start + of_length (length window) (take m rules)) (let e : suc n ≡ n + 1 = omega arith in e) (omega (arith, one, before, tried, here, cost));
@@ -208,44 +208,44 @@ abbrev pub left_of : List Rule → Option ℕ → ℕ
 left_of rules None = 0
 left_of rules (Some n) = length rules - n
 
-pub search_smaller : (asked : Bool) (base : ℕ) (rules : List Rule) (kept : List Bool) (lines : List Line) (place : ℕ) (window : List Instr) (n : ℕ) (at next : Option ℕ) (start steps : ℕ)
-    → IsSearch asked base rules kept lines place window at start steps → at ≡ Some n → (k : ℕ) → n + 1 ≤ k → Awaits rules kept window k next → left_of rules next < left_of rules at
-search_smaller asked base rules kept lines place window n at next start steps s is k h a =
-    let i = awaited rules kept window s.k n at s.awaits is in
+pub search_smaller : (asked : Bool) (costs : Option (List ℕ)) (base : ℕ) (rules : List Rule) (kept : List Bool) (lines : List Line) (place : ℕ) (window : List Instr) (n : ℕ) (at next : Option ℕ) (start steps : ℕ)
+    → IsSearch asked costs base rules kept lines place window at start steps → at ≡ Some n → (k : ℕ) → n + 1 ≤ k → Awaits costs rules kept window k next → left_of rules next < left_of rules at
+search_smaller asked costs base rules kept lines place window n at next start steps s is k h a =
+    let i = awaited costs rules kept window s.k n at s.awaits is in
     let inside : n < length rules = slice_get_within rules n i.rule i.at in
     subst (λ o. left_of rules next < left_of rules o) (sym is) (by next refl inside)
   where
     by : (o : Option ℕ) → next ≡ o → n < length rules → left_of rules o < length rules - n
     by None e g = omega arith
     by (Some m) e g =
-        let j = awaited rules kept window k m next a e in
+        let j = awaited costs rules kept window k m next a e in
         let from = j.from in
         let inside : m < length rules = slice_get_within rules m j.rule j.at in
         omega arith
 
 -- an entry has one instance
-alone_first : (base : ℕ) (rules : List Rule) (o : Replacement) (rule : Rule) → used_rule (setting base (alone rules)) o ≡ Some rule → o.instance ≡ 0
-alone_first base rules o rule at = (alone_is rules o.entry o.instance rule at).1
+alone_first : (costs : Option (List ℕ)) (base : ℕ) (rules : List Rule) (o : Replacement) (rule : Rule) → used_rule (setting_by costs base (alone rules)) o ≡ Some rule → o.instance ≡ 0
+alone_first costs base rules o rule at = (alone_is rules o.entry o.instance rule at).1
 
-pub search_found : (asked : Bool) (base : ℕ) (rules : List Rule) (kept : List Bool) (lines : List Line) (place : ℕ) (window : List Instr) (n : ℕ) (at : Option ℕ) (start steps : ℕ) (c : Choice) → IsWindow lines place window
-    → IsSearch asked base rules kept lines place window at start steps → at ≡ Some n
-    → side_length rules n ≡ length window → IsChoice (setting base (alone rules)) lines c → (choice_of c).place ≡ place → (choice_of c).entry ≡ n → IsLowest (setting base (alone rules)) lines place (length window) c
-search_found asked base rules kept lines place window n at start steps c there s is long choice here entry =
+pub search_found : (asked : Bool) (costs : Option (List ℕ)) (base : ℕ) (rules : List Rule) (kept : List Bool) (lines : List Line) (place : ℕ) (window : List Instr) (n : ℕ) (at : Option ℕ) (start steps : ℕ) (c : Choice) → IsWindow lines place window
+    → IsSearch asked costs base rules kept lines place window at start steps → at ≡ Some n
+    → side_length rules n ≡ length window → IsChoice (setting_by costs base (alone rules)) lines c → (choice_of c).place ≡ place → (choice_of c).entry ≡ n → IsLowest (setting_by costs base (alone rules)) lines place (length window) c
+search_found asked costs base rules kept lines place window n at start steps c there s is long choice here entry =
     record {
       is = choice;
       at = here;
-      long = sym (fit_length base rules (choice_of c) lines (meets asked (setting base (alone rules)) (choice_of c) lines choice.applies).0) ∙ ap (side_length rules) entry ∙ long;
+      long = sym (fit_length costs base rules (choice_of c) lines (meets asked (setting_by costs base (alone rules)) (choice_of c) lines choice.applies).0) ∙ ap (side_length rules) entry ∙ long;
       lowest = λ o a e l. elim (cases_lt o.entry n) [
-        | inl b ↦ absurd (none_before asked base rules kept lines place window n at start steps there s is o (meets asked (setting base (alone rules)) o lines a) e l b)
+        | inl b ↦ absurd (none_before asked costs base rules kept lines place window n at start steps there s is o (meets asked (setting_by costs base (alone rules)) o lines a) e l b)
         | inr b ↦ omega arith
       ];
-      lowest_instance = λ o a e l f. let first = alone_first base rules (choice_of c) choice.applies.rule choice.applies.is_rule in omega arith;
+      lowest_instance = λ o a e l f. let first = alone_first costs base rules (choice_of c) choice.applies.rule choice.applies.is_rule in omega arith;
     }
 
-pub search_cost : (asked : Bool) (base : ℕ) (rules : List Rule) (kept : List Bool) (lines : List Line) (place : ℕ) (window : List Instr) (n : ℕ) (at : Option ℕ) (start steps after : ℕ) → IsSearch asked base rules kept lines place window at start steps → at ≡ Some n
+pub search_cost : (asked : Bool) (costs : Option (List ℕ)) (base : ℕ) (rules : List Rule) (kept : List Bool) (lines : List Line) (place : ℕ) (window : List Instr) (n : ℕ) (at : Option ℕ) (start steps after : ℕ) → IsSearch asked costs base rules kept lines place window at start steps → at ≡ Some n
     → after ≤ steps + from_bool (side_length rules n == length window) → after ≤ start + of_length (length window) rules
-search_cost asked base rules kept lines place window n at start steps after s is cost =
-    let i = awaited rules kept window s.k n at s.awaits is in
+search_cost asked costs base rules kept lines place window n at start steps after s is cost =
+    let i = awaited costs rules kept window s.k n at s.awaits is in
     let one : of_length (length window) (take n rules) + from_bool (length i.rule.left == length window) ≤ of_length (length window) (take (suc n) rules) = taken_one (length window) rules n i.rule i.at in
     let before : of_length (length window) (take s.k rules) ≤ of_length (length window) (take n rules) = taken_more (length window) rules s.k n i.from in
     let all : of_length (length window) (take (suc n) rules) ≤ of_length (length window) rules = taken_all (length window) rules (suc n) in
@@ -253,40 +253,40 @@ search_cost asked base rules kept lines place window n at start steps after s is
     let here = s.cost in
     omega (arith, one, before, all, tried, here, cost)
 
-pub search_none : (asked : Bool) (base : ℕ) (rules : List Rule) (kept : List Bool) (lines : List Line) (place : ℕ) (window : List Instr) (at : Option ℕ) (start steps : ℕ) → IsWindow lines place window
-    → IsSearch asked base rules kept lines place window at start steps → at ≡ None → NoneOf asked (setting base (alone rules)) lines place (length window)
-search_none asked base rules kept lines place window at start steps there s is o a e l =
-    let d = led_to asked base s.longest rules kept lines o s.fit s.led a in
+pub search_none : (asked : Bool) (costs : Option (List ℕ)) (base : ℕ) (rules : List Rule) (kept : List Bool) (lines : List Line) (place : ℕ) (window : List Instr) (at : Option ℕ) (start steps : ℕ) → IsWindow lines place window
+    → IsSearch asked costs base rules kept lines place window at start steps → at ≡ None → NoneOf asked (setting_by costs base (alone rules)) lines place (length window)
+search_none asked costs base rules kept lines place window at start steps there s is o a e l =
+    let d = led_to asked costs base s.longest rules kept lines o s.fit s.led a in
     elim (cases_lt d.leader s.k) [
       | inl b ↦ s.none (made o.place d.leader d.registers) d.meets e (d.as_long ∙ l) b
       | inr b ↦ (
           let u = made o.place d.leader d.registers in
-          let i = stands_in base s.longest (alone rules) lines place window u s.fit there d.meets.0 e (d.as_long ∙ l) in
-          none_awaited rules kept window s.k at s.awaits is d.leader i.rule i.registers b (rule_there base rules u i.rule i.at) d.is_kept i.shortens
+          let i = stands_in costs base s.longest (alone rules) lines place window u s.fit there d.meets.0 e (d.as_long ∙ l) in
+          none_awaited costs rules kept window s.k at s.awaits is d.leader i.rule i.registers b (rule_there costs base rules u i.rule i.at) d.is_kept i.lightens
           )
     ]
 
-pub none_cost : (asked : Bool) (base : ℕ) (rules : List Rule) (kept : List Bool) (lines : List Line) (place : ℕ) (window : List Instr) (at : Option ℕ) (start steps : ℕ) → IsSearch asked base rules kept lines place window at start steps → steps ≤ start + of_length (length window) rules
-none_cost asked base rules kept lines place window at start steps s = let c = s.cost in let all = taken_all (length window) rules s.k in omega arith
+pub none_cost : (asked : Bool) (costs : Option (List ℕ)) (base : ℕ) (rules : List Rule) (kept : List Bool) (lines : List Line) (place : ℕ) (window : List Instr) (at : Option ℕ) (start steps : ℕ) → IsSearch asked costs base rules kept lines place window at start steps → steps ≤ start + of_length (length window) rules
+none_cost asked costs base rules kept lines place window at start steps s = let c = s.cost in let all = taken_all (length window) rules s.k in omega arith
 
-pub next_within : (entries : List Entry) (kept : List Bool) (window : List Instr) (k n : ℕ) (o : Option ℕ) → Awaits (rules_in entries) kept window k o → o ≡ Some n → n < length entries
-next_within entries kept window k n o a e =
-    let i = awaited (rules_in entries) kept window k n o a e in
+pub next_within : (costs : Option (List ℕ)) (entries : List Entry) (kept : List Bool) (window : List Instr) (k n : ℕ) (o : Option ℕ) → Awaits costs (rules_in entries) kept window k o → o ≡ Some n → n < length entries
+next_within costs entries kept window k n o a e =
+    let i = awaited costs (rules_in entries) kept window k n o a e in
     omega (arith, slice_get_within (rules_in entries) n i.rule i.at, length_map rewriting_rule (map rule_of entries), length_map rule_of entries)
 
 -- where no rule stands in a window, none applies there
-pub none_in : (asked : Bool) (base longest : ℕ) (table : List (List Rule)) (lines : List Line) (place : ℕ) (window : List Instr) → AreFit longest table → IsWindow lines place window → NoneStands table window → NoneOf asked (setting base table) lines place (length window)
-none_in asked base longest table lines place window fit there none o a e l =
-    let i = stands_in base longest table lines place window o fit there a.0 e l in
-    none o.entry o.instance i.rule i.registers i.at i.shortens
+pub none_in : (asked : Bool) (costs : Option (List ℕ)) (base longest : ℕ) (table : List (List Rule)) (lines : List Line) (place : ℕ) (window : List Instr) → AreFit longest table → IsWindow lines place window → NoneStands costs table window → NoneOf asked (setting_by costs base table) lines place (length window)
+none_in asked costs base longest table lines place window fit there none o a e l =
+    let i = stands_in costs base longest table lines place window o fit there a.0 e l in
+    none o.entry o.instance i.rule i.registers i.at i.lightens
 
 -- nor in one that no left side has the form of
-pub none_formed : (asked : Bool) (base longest : ℕ) (table : List (List Rule)) (lines : List Line) (place : ℕ) (window : List Instr) → AreFit longest table → IsWindow lines place window
-    → ((rule : Rule) (registers : List Low) → IsSoundRule rule → IsCanonicalSide rule.left → Stands rule registers window → ⊥) → NoneOf asked (setting base table) lines place (length window)
-none_formed asked base longest table lines place window fit there none o a e l =
-    let i = stands_in base longest table lines place window o fit there a.0 e l in
+pub none_formed : (asked : Bool) (costs : Option (List ℕ)) (base longest : ℕ) (table : List (List Rule)) (lines : List Line) (place : ℕ) (window : List Instr) → AreFit longest table → IsWindow lines place window
+    → ((rule : Rule) (registers : List Low) → IsSoundRule rule → IsCanonicalSide rule.left → Stands rule registers window → ⊥) → NoneOf asked (setting_by costs base table) lines place (length window)
+none_formed asked costs base longest table lines place window fit there none o a e l =
+    let i = stands_in costs base longest table lines place window o fit there a.0 e l in
     let f = fit o.entry o.instance i.rule i.at in
-    none i.rule i.registers f.sound f.canonical i.shortens.stands
+    none i.rule i.registers f.sound f.canonical i.lightens.stands
 
 -- ---- the best entry of a place ----
 
@@ -295,24 +295,24 @@ straight_letters [] h = refl
 straight_letters (i ∷ is) h = rw (h.0) (straight_letters is h.1)
 
 -- where a rule fits stands a window as long as its left side, which is no longer than the longest
-pub record IsApplicable (lines : List Line) (base longest : ℕ) (table : List (List Rule)) (o : Replacement) : Type 0 where
+pub record IsApplicable (costs : Option (List ℕ)) (lines : List Line) (base longest : ℕ) (table : List (List Rule)) (o : Replacement) : Type 0 where
   pub window : List Instr
   pub is_window : IsWindow lines o.place window
-  pub long : left_length (setting base table) o ≡ length window
+  pub long : left_length (setting_by costs base table) o ≡ length window
   pub some : 1 ≤ length window
   pub few : length window ≤ longest
 
-pub applicable : (base longest : ℕ) (table : List (List Rule)) (lines : List Line) (o : Replacement) → AreFit longest table → FitsIn (setting base table) o lines → IsApplicable lines base longest table o
-applicable base longest table lines o fit a =
+pub applicable : (costs : Option (List ℕ)) (base longest : ℕ) (table : List (List Rule)) (lines : List Line) (o : Replacement) → AreFit longest table → FitsIn (setting_by costs base table) o lines → IsApplicable costs lines base longest table o
+applicable costs base longest table lines o fit a =
     let f = fit o.entry o.instance a.rule a.is_rule in
     let n : length a.applies.window ≡ length a.rule.left = window_length a.rule o.registers (code_of lines) o.place a.applies in
-    let shorter = fits_shorter base table o lines a in
+    let some = fits_some costs base table o lines a in
     let short = f.short in
     record {
       window = a.applies.window;
       is_window = record {
         stands = ap (λ k. take k (drop o.place (places_of lines))) n ∙ a.applies.stands;
-        letters = straight_letters a.applies.window (applies_sound a.rule o.registers (code_of lines) o.place f.sound (omega arith) a.applies).left_straight;
+        letters = straight_letters a.applies.window (applies_sound a.rule o.registers (code_of lines) o.place f.sound some a.applies).left_straight;
         unlabelled = subst (λ k. (j : ℕ) (l : Label) → slice_get (labels_from 0 lines) j ≡ Some l → (l.place ≤ o.place) ⊎ (o.place + k ≤ l.place)) (sym n) a.applies.unlabelled;
         joined = subst (λ k. are_joined_from o.place k lines ≡ true) (sym n) a.joined;
       };
@@ -322,9 +322,9 @@ applicable base longest table lines o fit a =
     }
 
 -- and it stands among the places
-pub place_within : (base longest : ℕ) (table : List (List Rule)) (lines : List Line) (o : Replacement) → AreFit longest table → FitsIn (setting base table) o lines → o.place < length (places_of lines)
-place_within base longest table lines o fit a =
-    let w = applicable base longest table lines o fit a in
+pub place_within : (costs : Option (List ℕ)) (base longest : ℕ) (table : List (List Rule)) (lines : List Line) (o : Replacement) → AreFit longest table → FitsIn (setting_by costs base table) o lines → o.place < length (places_of lines)
+place_within costs base longest table lines o fit a =
+    let w = applicable costs base longest table lines o fit a in
     let some = w.some in
     let k = length_map plain w.window in
     let e = ap (λ (ps : List Place). length ps) w.is_window.stands in
@@ -356,10 +356,10 @@ abbrev pub NoneLonger : Bool → Setting → List Line → ℕ → ℕ → Type 
 NoneLonger asked s lines place count = (o : Replacement) → Meets asked s o lines → o.place ≡ place → count < left_length s o → ⊥
 
 -- none has one that is longer than the run from there
-none_beyond : (asked : Bool) (base longest : ℕ) (table : List (List Rule)) (lines : List Line) (place : ℕ) (is : List Instr) → AreFit longest table → is ≡ run true longest (drop place (rows_from false lines))
-    → NoneLonger asked (setting base table) lines place (length is)
-none_beyond asked base longest table lines place is fit e o a at h =
-    let w = applicable base longest table lines o fit a.0 in
+none_beyond : (asked : Bool) (costs : Option (List ℕ)) (base longest : ℕ) (table : List (List Rule)) (lines : List Line) (place : ℕ) (is : List Instr) → AreFit longest table → is ≡ run true longest (drop place (rows_from false lines))
+    → NoneLonger asked (setting_by costs base table) lines place (length is)
+none_beyond asked costs base longest table lines place is fit e o a at h =
+    let w = applicable costs base longest table lines o fit a.0 in
     let long = w.long in
     let there : IsWindow lines place w.window = subst (λ p. IsWindow lines p w.window) at w.is_window in
     let within : length w.window ≤ length (run true longest (drop place (rows_from false lines))) = window_in_run lines place longest w.window w.some w.few there in
@@ -391,32 +391,32 @@ none_shorter asked s lines place (suc m) slice some few n h =
     subst (λ k. NoneLonger asked s lines place k) (let e : m ≡ suc m - 1 = omega arith in e) (none_longer asked s lines place m n (subst (λ k. NoneOf asked s lines place k) all h))
 
 -- where no left side of more than so many instructions stands first in the run from a place, none that applies there is longer
-pub none_reached : (asked : Bool) (base longest : ℕ) (table : List (List Rule)) (lines : List Line) (place count : ℕ) (is slice : List Instr) → AreFit longest table → is ≡ run true longest (drop place (rows_from false lines)) → slice ≡ is
-    → ((n k i : ℕ) (rule : Rule) (registers : List Low) → count < length rule.left → rule_at table k i ≡ Some rule → Shortens rule registers (take n slice) → ⊥) → NoneLonger asked (setting base table) lines place count
-none_reached asked base longest table lines place count is slice fit e f none o a at longer_left =
-    let w = applicable base longest table lines o fit a.0 in
+pub none_reached : (asked : Bool) (costs : Option (List ℕ)) (base longest : ℕ) (table : List (List Rule)) (lines : List Line) (place count : ℕ) (is slice : List Instr) → AreFit longest table → is ≡ run true longest (drop place (rows_from false lines)) → slice ≡ is
+    → ((n k i : ℕ) (rule : Rule) (registers : List Low) → count < length rule.left → rule_at table k i ≡ Some rule → Lightens costs rule registers (take n slice) → ⊥) → NoneLonger asked (setting_by costs base table) lines place count
+none_reached asked costs base longest table lines place count is slice fit e f none o a at longer_left =
+    let w = applicable costs base longest table lines o fit a.0 in
     let some = w.some in
     let long = w.long in
     let n : ℕ = length w.window in
     let same : slice ≡ run true longest (drop place (rows_from false lines)) = f ∙ e in
     let few : n ≤ length slice = elim (cases_lt (length slice) n) [
-      | inl h ↦ absurd (none_beyond asked base longest table lines place slice fit same o a at (omega arith))
+      | inl h ↦ absurd (none_beyond asked costs base longest table lines place slice fit same o a at (omega arith))
       | inr h ↦ omega arith
     ] in
     let there = front_window lines place longest n slice same (omega arith) few in
     let all : length (take n slice) ≡ n = take_all n slice few in
-    let s = stands_in base longest table lines place (take n slice) o fit there a.0 at (long ∙ sym all) in
+    let s = stands_in costs base longest table lines place (take n slice) o fit there a.0 at (long ∙ sym all) in
     let left = ap left_length_of s.at in
-    none n o.entry o.instance s.rule s.registers (omega (arith, left, longer_left)) s.at s.shortens
+    none n o.entry o.instance s.rule s.registers (omega (arith, left, longer_left)) s.at s.lightens
 
 -- and where none stands there at all, none applies
-pub none_there : (asked : Bool) (base longest : ℕ) (table : List (List Rule)) (lines : List Line) (place : ℕ) (is slice : List Instr) → AreFit longest table → is ≡ run true longest (drop place (rows_from false lines)) → slice ≡ is
-    → ((n k i : ℕ) (rule : Rule) (registers : List Low) → 0 < length rule.left → rule_at table k i ≡ Some rule → Shortens rule registers (take n slice) → ⊥) → NoneAt asked (setting base table) lines place
-none_there asked base longest table lines place is slice fit e f none o a at =
-    let w = applicable base longest table lines o fit a.0 in
+pub none_there : (asked : Bool) (costs : Option (List ℕ)) (base longest : ℕ) (table : List (List Rule)) (lines : List Line) (place : ℕ) (is slice : List Instr) → AreFit longest table → is ≡ run true longest (drop place (rows_from false lines)) → slice ≡ is
+    → ((n k i : ℕ) (rule : Rule) (registers : List Low) → 0 < length rule.left → rule_at table k i ≡ Some rule → Lightens costs rule registers (take n slice) → ⊥) → NoneAt asked (setting_by costs base table) lines place
+none_there asked costs base longest table lines place is slice fit e f none o a at =
+    let w = applicable costs base longest table lines o fit a.0 in
     let some = w.some in
     let long = w.long in
-    none_reached asked base longest table lines place 0 is slice fit e f none o a at (omega arith)
+    none_reached asked costs base longest table lines place 0 is slice fit e f none o a at (omega arith)
 
 -- ---- the least place ----
 
@@ -438,5 +438,5 @@ is_first asked s lines place c none b =
     }
 
 -- where none meets it before the end, none applies
-pub none_applies : (asked : Bool) (base longest : ℕ) (table : List (List Rule)) (lines : List Line) (place : ℕ) → AreFit longest table → length (places_of lines) ≤ place → NoneBefore asked (setting base table) lines place → NoneApplies (setting base table) lines
-none_applies asked base longest table lines place fit h none o a = let m = meets asked (setting base table) o lines a in let w = place_within base longest table lines o fit m.0 in none o m (omega arith)
+pub none_applies : (asked : Bool) (costs : Option (List ℕ)) (base longest : ℕ) (table : List (List Rule)) (lines : List Line) (place : ℕ) → AreFit longest table → length (places_of lines) ≤ place → NoneBefore asked (setting_by costs base table) lines place → NoneApplies (setting_by costs base table) lines
+none_applies asked costs base longest table lines place fit h none o a = let m = meets asked (setting_by costs base table) o lines a in let w = place_within costs base longest table lines o fit m.0 in none o m (omega arith)

@@ -13,9 +13,10 @@ use Rattle.thumb_model.specs.Replaced.{moved, replaced}
 use Rattle.thumb_model.specs.ReplacedLines.{are_joined_from, replaced_lines}
 use Rattle.thumb_model.specs.Cuts.{AreOps}
 use Rattle.thumb_model.proofs.Lists.{get_drop, get_take}
-use Rattle.thumb_model.proofs.LinesReplaced.{code_replaced, ops_of, outside_of}
+use Rattle.thumb_model.proofs.LinesReplaced.{ops_of, outside_of}
 use Rattle.thumb_model.proofs.Window.{AreStraight}
 use Rattle.rule_model.specs.Rules.{Rule, Applies, IsSoundRule}
+use Rattle.rule_model.proofs.AsMany.{code_replaced_by}
 use Rattle.rule_model.proofs.Table.{window_length, applies_sound}
 use Rattle.padded_code.specs.Padding.{IsPadded}
 use Rattle.padded_code.specs.Exchange.{marks_after, exchanged}
@@ -48,8 +49,8 @@ pub record GaveWay (write : Instr → List ℕ) (gone : List Bool) (padded : Cod
 
 -- the code of the lines that are left
 left_code : (write : Instr → List ℕ) (g n : ℕ) (is : List Instr) (lines : List Line) → IsGap (places_of lines) (labels_from 0 lines) g n is → AreOps n (drop g (places_of lines)) → code_of (replaced_lines write g n is lines) ≡ replaced (code_of lines) g n is
-left_code write g zero is lines gap ops = absurd (let s = gap.shorter in omega arith)
-left_code write g (suc n) is lines gap ops = code_replaced write g n is lines gap.shorter ops (outside_of g (suc n) (labels_from 0 lines) gap.unlabelled)
+left_code write g zero is lines gap ops = absurd (let s = gap.some in omega arith)
+left_code write g (suc n) is lines gap ops = code_replaced_by write g n is lines gap.no_longer ops (outside_of g (suc n) (labels_from 0 lines) gap.unlabelled)
 
 module _ (write : Instr → List ℕ) (gone : List Bool) (padded : Code) (lines : List Line) (g : ℕ) (ps : List ℕ) (is : List Instr) (w : GaveWay write gone padded lines g ps is) where
   abbrev new : List Line
@@ -62,7 +63,7 @@ module _ (write : Instr → List ℕ) (gone : List Bool) (padded : Code) (lines 
   code_is = left_code write g (length ps) is lines w.gap w.ops
 
   few : length is ≤ length ps
-  few = let s = w.gap.shorter in omega arith
+  few = w.gap.no_longer
 
   -- a place outside the window is kept, at the rank that comes of its old one
   pub rank_now : (q : ℕ) → (rank gone q ≤ g) ⊎ (g + length ps ≤ rank gone q) → rank after q ≡ moved g (length ps - length is) (rank gone q)
@@ -70,14 +71,16 @@ module _ (write : Instr → List ℕ) (gone : List Bool) (padded : Code) (lines 
 
   -- ---- alignment lines ----
 
-  joined_back : (c n r s : ℕ) → c ≡ length ps → 0 < n → s ≡ moved g (length ps - length is) r → (r + n ≤ g) ⊎ (g + length ps ≤ r) → AreOps c (drop g (places_of lines)) → AreOps n (drop r (places_of lines)) → length is < c
+  joined_back : (c n r s : ℕ) → c ≡ length ps → 0 < n → s ≡ moved g (length ps - length is) r → (r + n ≤ g) ⊎ (g + length ps ≤ r) → AreOps c (drop g (places_of lines)) → AreOps n (drop r (places_of lines)) → 0 < c
       → are_joined_from s n (replaced_lines write g c is lines) ≡ are_joined_from r n lines
-  joined_back zero n r s e some m o gs ops short = absurd (omega arith)
-  joined_back (suc c) zero r s e some m o gs ops short = absurd (omega arith)
-  joined_back (suc c) (suc n) r s e some m (inl h) gs ops short =
+  joined_back zero n r s e some m o gs ops there = absurd (omega arith)
+  joined_back (suc c) zero r s e some m o gs ops there = absurd (omega arith)
+  joined_back (suc c) (suc n) r s e some m (inl h) gs ops there =
       let same : s ≡ r = omega arith in
       ap (λ t. are_joined_from t (suc n) (replaced_lines write g (suc c) is lines)) same ∙ joined_before write g (suc c) is r n lines h ops
-  joined_back (suc c) (suc n) r s e some m (inr h) gs ops short = joined_behind write g c is r s (suc n) lines (omega arith) (omega arith) gs
+  joined_back (suc c) (suc n) r s e some m (inr h) gs ops there =
+      let few = w.gap.no_longer in
+      joined_behind write g c is r s (suc n) lines (omega arith) (omega arith) gs
 
   -- ---- the window ----
 
@@ -86,7 +89,7 @@ module _ (write : Instr → List ℕ) (gone : List Bool) (padded : Code) (lines 
       let same : r ≡ s = omega arith in
       subst (λ (c : Code). AreAlike (code_of lines) c r s n) (sym code_is) (subst (λ t. AreAlike (code_of lines) (replaced (code_of lines) g (length ps) is) r t n) same (alike_before (code_of lines) g (length ps) is r n w.gap some h))
   alike n r s some m (inr h) within =
-      let short = w.gap.shorter in
+      let few = w.gap.no_longer in
       let long : length (places_of new) ≡ length (replaced (code_of lines) g (length ps) is).places = ap (λ (c : Code). length c.places) code_is in
       let left = left_length g (length ps) is (places_of lines) w.gap.within in
       subst (λ (c : Code). AreAlike (code_of lines) c r s n) (sym code_is) (alike_behind (code_of lines) g (length ps) is r s n w.gap some h (omega arith) (omega arith))
@@ -101,7 +104,7 @@ module _ (write : Instr → List ℕ) (gone : List Bool) (padded : Code) (lines 
       let t = rank_taken gone padded (code_of lines) w.padded_is (r + n - 1) (omega arith) in
       let q : ℕ = t.0 in
       let at : rank gone q ≡ r + n - 1 = t.3 in
-      let short = w.gap.shorter in
+      let few = w.gap.no_longer in
       let out = outside gone g ps q w.ranked (elim o [ inl a ↦ inl (omega arith) | inr a ↦ inr (omega arith) ]) in
       let kept : is_gone after q ≡ false = marks_stay ps is gone q out ∙ t.2 in
       let here : slice_get padded.places q ≡ Some (plain i) = sym (kept_at gone padded.places q t.2) ∙ sym (ap (λ (xs : List Place). slice_get xs (rank gone q)) w.padded_is.places) ∙ ap (slice_get (places_of lines)) at ∙ stands in
@@ -119,12 +122,11 @@ module _ (write : Instr → List ℕ) (gone : List Bool) (padded : Code) (lines 
     pub applies : Applies rule registers (code_of lines) r
     pub joined : are_joined_from r (length rule.left) lines ≡ true
 
-  pub applied_at : (rule : Rule) (registers : List Low) (r s : ℕ) → IsSoundRule rule → length rule.right < length rule.left → s ≡ moved g (length ps - length is) r → (r + length rule.left ≤ g) ⊎ (g + length ps ≤ r)
+  pub applied_at : (rule : Rule) (registers : List Low) (r s : ℕ) → IsSoundRule rule → 0 < length rule.left → s ≡ moved g (length ps - length is) r → (r + length rule.left ≤ g) ⊎ (g + length ps ≤ r)
       → ((q x : ℕ) → is_gone after q ≡ false → suc (rank after q) ≡ s + length rule.left → Reads padded x (suc q) → Reads (exchanged ps is padded) x (suc q))
       → Applies rule registers (code_of new) s → are_joined_from s (length rule.left) new ≡ true → AppliedAt rule registers r
-  applied_at rule registers r s sound shorter m o still a joined =
+  applied_at rule registers r s sound some m o still a joined =
       let n : ℕ = length rule.left in
-      let some : 0 < n = omega arith in
       let long : length a.window ≡ n = window_length rule registers (code_of new) s a in
       let within = window_within a.window n (places_of new) s long some a.stands in
       let like = alike n r s some m o within in
@@ -133,6 +135,6 @@ module _ (write : Instr → List ℕ) (gone : List Bool) (padded : Code) (lines 
       let last = letter_at a.window straight (n - 1) (omega arith) in
       let at = stands_at a.window n r (n - 1) (r + n - 1) (places_of lines) last.0 stands (omega arith) (omega arith) last.1 in
       record {
-        applies = applies_alike rule registers (code_of lines) (code_of new) r s like shorter (live_still n r s last.0 some m o like.within at last.2 still) a;
-        joined = sym (joined_back (length ps) n r s refl some m o w.ops (ops_of a.window n (drop r (places_of lines)) (sym long) stands) w.gap.shorter) ∙ joined;
+        applies = applies_alike rule registers (code_of lines) (code_of new) r s sound like some (live_still n r s last.0 some m o like.within at last.2 still) a;
+        joined = sym (joined_back (length ps) n r s refl some m o w.ops (ops_of a.window n (drop r (places_of lines)) (sym long) stands) w.gap.some) ∙ joined;
       }

@@ -8,8 +8,7 @@ use Rattle.thumb_model.specs.Replaced.{moved}
 use Rattle.thumb_model.specs.ReplacedLines.{replaced_lines}
 use Rattle.rule_model.specs.Rules.{Rule, weight, IsSoundRule}
 use Rattle.rule_model.specs.Rewriting.{Setting, Replacement, used_rule, AppliesIn}
-use Rattle.rule_model.specs.Laws.{CostsOne}
-use Rattle.rule_model.proofs.LinesKept.{shorter_right}
+use Rattle.rule_model.proofs.LinesKept.{some_left}
 use Rattle.rule_model.proofs.Table.{window_length}
 use Rattle.padded_code.specs.Padding.{IsPadded}
 use Rattle.padded_code.specs.Exchange.{marks_after, exchanged}
@@ -19,11 +18,11 @@ use Rattle.window_rewrite.specs.Due.{Reaches}
 use Rattle.window_rewrite.proofs.DueFits.{applied_at, rank_now, GaveWay}
 use Rattle.window_rewrite.proofs.WindowPlaces.{window_within}
 
--- each rule of the table that may be used is sound, leaves fewer instructions, and has a left side of at most so many
+-- each rule of the table that may be used is sound, and its left side is some instructions, at most so many
 pub record IsShort (longest : ℕ) (rule : Rule) : Type 0 where
   pub sound : IsSoundRule rule
   pub short : length rule.left ≤ longest
-  pub shorter : length rule.right < length rule.left
+  pub some : 0 < length rule.left
 
 abbrev pub AreShort : Setting → ℕ → Type 0
 AreShort s longest = (o : Replacement) (rule : Rule) → used_rule s o ≡ Some rule → weight s.cost rule.right < weight s.cost rule.left → IsShort longest rule
@@ -52,12 +51,12 @@ still_none s longest gone padded lines g ps is short w p kept far lost none o m 
     let new : List Line = replaced_lines s.write g (length ps) is lines in
     let i = short o rule a.is_rule a.lowers in
     let near = i.short in
-    let fewer = i.shorter in
+    let some = i.some in
     let there : (r + n ≤ g) ⊎ (g + length ps ≤ r) = elim far [ inl h ↦ inl (omega arith) | inr h ↦ inr h ] in
     let now : rank after p ≡ moved g (length ps - length is) r = rank_now s.write gone padded lines g ps is w p (elim far [ inl h ↦ inl (omega arith) | inr h ↦ inr h ]) in
     let still : (q x : ℕ) → is_gone after q ≡ false → suc (rank after q) ≡ o.place + n → Reads padded x (suc q) → Reads (exchanged ps is padded) x (suc q) =
     λ q x k e h. lost q x k (record { kept = kept; up_to = omega arith; near = omega arith }) h in
-    let b = applied_at s.write gone padded lines g ps is w rule o.registers r o.place i.sound fewer (at ∙ now) there still a.applies a.joined in
+    let b = applied_at s.write gone padded lines g ps is w rule o.registers r o.place i.sound some (at ∙ now) there still a.applies a.joined in
     none (placed r o) (record { rule = rule; is_rule = a.is_rule; lowers = a.lowers; applies = b.applies; joined = b.joined }, λ e. absurd (true≢false (sym e))) refl
 
 -- the same of lines, marks and a padded code that are known to be so
@@ -74,13 +73,13 @@ none_still s longest gone after padded new_padded lines new g count ps is short 
 -- ---- where entries apply ----
 
 -- the place of an entry that applies
-pub applies_within : (s : Setting) (o : Replacement) (lines : List Line) → CostsOne s → AppliesIn s o lines → o.place < length (places_of lines)
-applies_within s o lines one a =
-    let shorter = shorter_right s o lines one a in
+pub applies_within : (s : Setting) (o : Replacement) (lines : List Line) → AppliesIn s o lines → o.place < length (places_of lines)
+applies_within s o lines a =
+    let some = some_left s o lines a in
     let n = window_length a.rule o.registers (code_of lines) o.place a.applies in
     let w = window_within a.applies.window (length a.rule.left) (places_of lines) o.place n (omega arith) a.applies.stands in
     omega arith
 
 -- is the rank of a kept one
-pub applies_at : (s : Setting) (o : Replacement) (gone : List Bool) (padded : Code) (lines : List Line) → CostsOne s → IsPadded gone padded (code_of lines) → AppliesIn s o lines → (p : ℕ) × (p < length padded.places) × (is_gone gone p ≡ false) × (rank gone p ≡ o.place)
-applies_at s o gone padded lines one is a = rank_taken gone padded (code_of lines) is o.place (applies_within s o lines one a)
+pub applies_at : (s : Setting) (o : Replacement) (gone : List Bool) (padded : Code) (lines : List Line) → IsPadded gone padded (code_of lines) → AppliesIn s o lines → (p : ℕ) × (p < length padded.places) × (is_gone gone p ≡ false) × (rank gone p ≡ o.place)
+applies_at s o gone padded lines is a = rank_taken gone padded (code_of lines) is o.place (applies_within s o lines a)

@@ -12,8 +12,7 @@ use Rattle.thumb_model.specs.ReplacedLines.{replaced_lines}
 use Rattle.thumb_model.proofs.Lists.{length_map, take_all}
 use Rattle.thumb_model.proofs.LinesReplaced.{ops_of}
 use Rattle.rule_model.specs.Rewriting.{Setting, Replacement, lines_after, left_length_of, AppliesIn, IsFirst, NoneApplies}
-use Rattle.rule_model.proofs.Costs.{weight_is_length}
-use Rattle.liveness.specs.Kept.{KeepsAt}
+use Rattle.rule_model.proofs.Costs.{lowers_some}
 use Rattle.liveness.specs.Live.{set_at}
 use Rattle.padded_code.specs.Padding.{IsPadded}
 use Rattle.padded_code.specs.Exchange.{marks_after, exchanged}
@@ -37,6 +36,7 @@ use Rattle.window_rewrite.proofs.DueMarks.{set_length, untaken, was_unmarked}
 use Rattle.window_rewrite.proofs.DueNone.{applies_at, none_still, AreShort, IsFar, NoneLost}
 use Rattle.window_rewrite.proofs.DuePlaces.{among, behind_by_rank, taken_ranked, was_kept}
 use Rattle.window_rewrite.proofs.Applied.{meets}
+use Rattle.window_rewrite.specs.Settled.{MayGiveWay}
 use Rattle.window_rewrite.proofs.Settled.{IsGap}
 use Rattle.window_rewrite.proofs.WindowPlaces.{first_op, window_within}
 
@@ -46,9 +46,7 @@ use Rattle.window_rewrite.proofs.WindowPlaces.{first_op, window_within}
 pub short_rules : (r : Rules) → AreReady r → AreShort (setting_of r) r.longest
 short_rules r ready o rule at lowers =
     let f = ready.fit o.entry o.instance rule at in
-    let left = weight_is_length (λ i. 1) (λ i. refl) rule.left in
-    let right = weight_is_length (λ i. 1) (λ i. refl) rule.right in
-    record { sound = f.sound; short = f.short; shorter = omega arith }
+    record { sound = f.sound; short = f.short; some = lowers_some (setting_of r).cost rule.left rule.right lowers }
 
 -- where none fits, none fits that the layout allows
 pub none_less : (asked : Bool) (s : Setting) (lines : List Line) (p : ℕ) → NoneAt false s lines p → NoneAt asked s lines p
@@ -68,7 +66,7 @@ marks_many e = length_map is_none e.stands
 
 stands_at : (r : Rules) (scene : Scene) (o : Replacement) → IsKept scene → AppliesIn (setting_of r) o (lines_of scene) → StandsAt scene o.place
 stands_at r scene o k a =
-    let t = applies_at (setting_of r) o (marks scene.listing) (padded scene.listing) (lines_of scene) (λ i. refl) k.is_padded a in
+    let t = applies_at (setting_of r) o (marks scene.listing) (padded scene.listing) (lines_of scene) k.is_padded a in
     record { place = t.0; within = omega (arith, t.1, k.as_many, marks_many scene.listing); kept = t.2; here = t.3 }
 
 -- none applies at a lesser place than the least one that is due
@@ -152,8 +150,8 @@ module _ (r : Rules) (old new : Scene) (t : Site) (c : Choice) (m : IsMadeAt r o
   count : length places ≡ length c.window
   count = take_all (length c.window) t.run.places.items m.within
 
-  keeps : KeepsAt (code_of (lines_of old)) t.number c.window c.new
-  keeps = subst (λ p. KeepsAt (code_of (lines_of old)) p c.window c.new) m.here m.is.keeps
+  gives_way : MayGiveWay (code_of (lines_of old)) t.number c.window c.new
+  gives_way = subst (λ p. MayGiveWay (code_of (lines_of old)) p c.window c.new) m.here m.is.gives_way
 
   ranked : AreRanked (marks old.listing) t.number places
   ranked = taken_ranked (marks old.listing) t.number (length c.window) t.run.places.items m.site.places
@@ -165,17 +163,18 @@ module _ (r : Rules) (old new : Scene) (t : Site) (c : Choice) (m : IsMadeAt r o
 
   gave_way : GaveWay (setting_of r).write (marks old.listing) (padded old.listing) (lines_of old) t.number places c.new
   gave_way =
-      let short = keeps.shorter in
+      let some = gives_way.some in
       record {
         padded_is = m.old_kept.is_padded;
         ranked = ranked;
         gap = subst (λ n. IsGap (places_of (lines_of old)) (labels_from 0 (lines_of old)) t.number n c.new) (sym count) (record {
-          within = window_within c.window (length c.window) (places_of (lines_of old)) t.number refl (omega arith) keeps.stands;
-          shorter = short;
-          first = first_op c.window (length c.window) (places_of (lines_of old)) t.number refl (omega arith) keeps.stands;
-          unlabelled = keeps.unlabelled;
+          within = window_within c.window (length c.window) (places_of (lines_of old)) t.number refl (omega arith) gives_way.stands;
+          some = some;
+          no_longer = gives_way.no_longer;
+          first = first_op c.window (length c.window) (places_of (lines_of old)) t.number refl (omega arith) gives_way.stands;
+          unlabelled = gives_way.unlabelled;
         });
-        ops = ops_of c.window (length places) (drop t.number (places_of (lines_of old))) count (ap (λ n. take n (drop t.number (places_of (lines_of old)))) count ∙ keeps.stands);
+        ops = ops_of c.window (length places) (drop t.number (places_of (lines_of old))) count (ap (λ n. take n (drop t.number (places_of (lines_of old)))) count ∙ gives_way.stands);
         new_padded =
             subst (λ (g : List Bool). IsPadded g (exchanged places c.new (padded old.listing)) (code_of (replaced_lines (setting_of r).write t.number (length places) c.new (lines_of old)))) m.gone
             (subst (λ (p : Code). IsPadded (marks new.listing) p (code_of (replaced_lines (setting_of r).write t.number (length places) c.new (lines_of old)))) m.is_padded
@@ -217,7 +216,7 @@ module _ (r : Rules) (old new : Scene) (t : Site) (c : Choice) (m : IsMadeAt r o
       at p h k u =
           let then : is_gone (marks old.listing) p ≡ false = kept_then p k in
           let many = m.many in
-          let short = keeps.shorter in
+          let some = gives_way.some in
           let long = count in
           let number = m.site.number in
           let other : p ≡ t.place → ⊥ = λ e. not_within p then u (let s = ap (rank (marks old.listing)) e in omega arith) (let s = ap (rank (marks old.listing)) e in omega arith) in
@@ -235,7 +234,7 @@ choice_within r scene t c ready site is here =
     let a = is.applies in
     let short = (short_rules r ready (choice_of c) a.rule a.is_rule a.lowers).short in
     let long : length c.window ≡ length a.rule.left = is.long ∙ ap left_length_of a.is_rule in
-    let some = is.keeps.shorter in
+    let some = is.gives_way.some in
     let w : IsWindow (lines_of scene) t.number c.window = subst (λ p. IsWindow (lines_of scene) p c.window) here is.is_window in
     let n = window_in_run (lines_of scene) t.number r.longest c.window (omega arith) (omega arith) w in
     omega (arith, n, ap (λ (is : List Instr). length is) site.letters)

@@ -10,7 +10,7 @@ use Rattle.thumb_model.specs.Listing.{plain, Label, Place, Code, is_code, is_op_
 use Rattle.thumb_model.specs.Flow.{LiveAfter}
 use Rattle.thumb_model.specs.Replaced.{moved, move_label, replaced}
 use Rattle.thumb_model.proofs.Lists.{get_drop, get_take, get_front, get_back, length_map, take_all, length_drop}
-use Rattle.rule_model.specs.Rules.{Rule, Applies}
+use Rattle.rule_model.specs.Rules.{Rule, IsSoundRule, Applies}
 use Rattle.rule_model.proofs.Table.{window_length}
 use Rattle.window_rewrite.proofs.Settled.{first_plain, IsGap}
 use Rattle.window_rewrite.proofs.WindowPlaces.{first_op}
@@ -77,9 +77,9 @@ pub record AreAlike (code new : Code) (p q n : ℕ) : Type 0 where
   pub op_behind : is_op_place (slice_get new.places (q + n)) ≡ true → is_op_place (slice_get code.places (p + n)) ≡ true
   pub labels : (k : ℕ) (l : Label) → slice_get code.labels k ≡ Some l → IsLabelThere new.labels q n p l
 
-pub applies_alike : (rule : Rule) (registers : List Low) (code new : Code) (p q : ℕ) → AreAlike code new p q (length rule.left) → length rule.right < length rule.left
+pub applies_alike : (rule : Rule) (registers : List Low) (code new : Code) (p q : ℕ) → IsSoundRule rule → AreAlike code new p q (length rule.left) → 0 < length rule.left
     → ((x : ℕ) → LiveAfter code (p + length rule.left - 1) x → LiveAfter new (q + length rule.left - 1) x) → Applies rule registers new q → Applies rule registers code p
-applies_alike rule registers code new p q s shorter live a = record {
+applies_alike rule registers code new p q sound s some live a = record {
   as_many = a.as_many;
   one_to_one = a.one_to_one;
   window = a.window;
@@ -94,6 +94,7 @@ applies_alike rule registers code new p q s shorter live a = record {
         )
     | inr b ↦ elim (cases_lt p l.place) [
       | inl c ↦ (
+          let no_longer = sound.no_longer in
           let far : p + n ≤ l.place = elim (unlabelled k l e) [ inl t ↦ absurd (omega arith) | inr t ↦ t ] in
           let at : moved p (n - length rule.right) l.place + n ≡ l.place + length is = omega (arith, m) in
           ap is_op_place (left_behind p n is code.places l.place (moved p (n - length rule.right) l.place) (omega (arith, s.within)) far at) ∙ h
@@ -124,6 +125,7 @@ applies_alike rule registers code new p q s shorter live a = record {
     at_first k l e here =
         let t = s.labels k l e in
         let there = t.here here in
+        let no_longer = sound.no_longer in
         let w = window_length rule registers new q a in
         let op : is_op_place (slice_get new.places q) ≡ true = first_op a.window (length rule.left) new.places q w (omega arith) a.stands in
         let code_there : is_code new.places t.label ≡ true = ap (λ j. is_op_place (slice_get new.places j)) there ∙ op in
@@ -152,7 +154,7 @@ left_length p count is places h =
 pub alike_before : (code : Code) (g count : ℕ) (is : List Instr) (p n : ℕ) → IsGap code.places code.labels g count is → 0 < n → p + n ≤ g → AreAlike code (replaced code g count is) p p n
 alike_before code g count is p n gap some h =
     let w = gap.within in
-    let s = gap.shorter in
+    let s = gap.no_longer in
     let long = left_length g count is code.places w in
     record {
       within = omega arith;
@@ -177,7 +179,7 @@ alike_before code g count is p n gap some h =
 pub alike_behind : (code : Code) (g count : ℕ) (is : List Instr) (p q n : ℕ) → IsGap code.places code.labels g count is → 0 < n → g + count ≤ p → q + count ≡ p + length is → p + n ≤ length code.places → AreAlike code (replaced code g count is) p q n
 alike_behind code g count is p q n gap some h e within =
     let w = gap.within in
-    let s = gap.shorter in
+    let s = gap.no_longer in
     let long = left_length g count is code.places w in
     record {
       within = within;

@@ -1,6 +1,6 @@
 -- What a left side shares with each window in which it stands.
 use Rattle.std.proofs.Common.{◌≡◌, ℕ, zero, suc, ◌+◌, ◌-◌, ◌*◌, ◌<◌, ◌≤◌, ◌%◌, ◌==◌, Bool, true, false, List, [], ◌∷◌, length, take, map, Option, Some, None, ◌⊎◌, refl, sym, ap, ◌∙◌, subst, arith, inl, inr}
-use Rattle.std.specs.Prelude.{slice_get, slice_set, if◌then◌else◌}
+use Rattle.std.specs.Prelude.{nat_lt, slice_get, slice_set, if◌then◌else◌}
 use Rattle.std.specs.Option.{option_map}
 use Rattle.std.proofs.lemmas.Bool.{cases_lt, lt-ltb, ltb-true}
 use Rattle.std.proofs.lemmas.Option.{same_Some, slice_get_within, slice_get-map}
@@ -10,18 +10,20 @@ use Rattle.thumb_instr.specs.Window.{normal_of}
 use Rattle.thumb_instr.specs.Renaming.{Low, renamed}
 use Rattle.rule_model.specs.Rules.{Rule, alone, rule_among, rule_at}
 use Rattle.rule_model.proofs.Alone.{alone_at, alone_is}
+use Rattle.seq_enum.specs.Costs.{weight_under}
 use Rattle.rule_table.specs.Table as tables
 use Rattle.bit_blast.specs.Slots.{Byte, filled, instance, slot}
 use Rattle.bit_blast.specs.declared.slots.Slot.TheVariants.{Plain, Hole}
-use Rattle.bit_blast.proofs.Holes.{by_test, side_length as length_raised}
+use Rattle.bit_blast.proofs.Holes.{by_test}
 use Rattle.table_audit.specs.Families.{entry_at, raised}
 use Rattle.table_audit.specs.Soundness.{instances_of, numbers_in, rewriting_rule}
 use Rattle.table_audit.proofs.Instances.{entries_length, instance_is, rule_at_before, rule_at_behind}
 use Rattle.thumb_model.proofs.Lists.{length_map}
-use Rattle.window_rewrite.specs.Rules.{families_in, is_marked, is_shorter, AreMany, AreMarked, AreNoted, IsIndex, IsNoted, StayNoted}
+use Rattle.window_rewrite.specs.Rules.{families_in, is_marked, is_lighter, AreMany, AreMarked, AreNoted, IsIndex, IsNoted, StayNoted}
+use Rattle.window_rewrite.proofs.Weights.{weight_raised}
 use Rattle.window_rewrite.specs.Shapes.{blind, head_number, next_shape, seen, shape_from, shape_of}
 use Rattle.window_rewrite.specs.declared.marks.Marks.{Marks}
-use Rattle.window_rewrite.specs.Fitting.{NoneBetween, NoneMarked, NoneReaches, NoneStands, Shortens}
+use Rattle.window_rewrite.specs.Fitting.{NoneBetween, NoneMarked, NoneReaches, NoneStands, Lightens}
 use Rattle.window_rewrite.specs.declared.index.Index.{Index}
 use Rattle.window_runs.specs.declared.rows.Row.{Row}
 use Rattle.window_runs.specs.Runs.{before, letter_at, run}
@@ -68,8 +70,8 @@ front_next shape (suc at) (x ∷ xs) i e = front_next (next_shape shape x) at xs
 pub front_more : (shape at : ℕ) (is : List Instr) (i : Instr) → slice_get is at ≡ Some i → shape ≡ shape_of (take at is) → next_shape shape i ≡ shape_of (take (at + 1) is)
 front_more shape at is i e s = ap (λ n. next_shape n i) s ∙ sym (front_next 0 at is i e) ∙ ap (λ n. shape_of (take n is)) (let one : suc at ≡ at + 1 = omega arith in one)
 
-pub shorter_is : (rule : Rule) (registers : List Low) (window : List Instr) → Shortens rule registers window → is_shorter rule ≡ true
-shorter_is rule registers window s = lt-ltb (length rule.right) (length rule.left) s.shorter
+pub lighter_is : (costs : Option (List ℕ)) (rule : Rule) (registers : List Low) (window : List Instr) → Lightens costs rule registers window → is_lighter costs rule ≡ true
+lighter_is costs rule registers window s = lt-ltb (weight_under costs rule.right) (weight_under costs rule.left) s.lighter
 
 -- ---- marks ----
 
@@ -108,13 +110,13 @@ pub stay_there : (marks : Marks) → StayNoted marks marks
 stay_there marks = record { wholes = λ q h. h; fronts = λ q h. h }
 
 -- no rules are marked
-pub none_noted : (side : Rule → List Instr) (table : List (List Rule)) (marks : Marks) → AreMany marks → AreNoted side table 0 marks
-none_noted side table marks many = record { many = many; noted = λ k i rule l at s. absurd (omega (arith, l)) }
+pub none_noted : (costs : Option (List ℕ)) (side : Rule → List Instr) (table : List (List Rule)) (marks : Marks) → AreMany marks → AreNoted costs side table 0 marks
+none_noted costs side table marks many = record { many = many; noted = λ k i rule l at s. absurd (omega (arith, l)) }
 
 -- with one number more of a table
-pub more_noted : (side : Rule → List Instr) (table : List (List Rule)) (n : ℕ) (rules : List Rule) (old new : Marks) → slice_get table n ≡ Some rules → AreNoted side table n old → AreMany new → StayNoted old new
-    → ((i : ℕ) (rule : Rule) → slice_get rules i ≡ Some rule → is_shorter rule ≡ true → IsNoted new (side rule)) → AreNoted side table (n + 1) new
-more_noted side table n rules old new at x many stay here = record {
+pub more_noted : (costs : Option (List ℕ)) (side : Rule → List Instr) (table : List (List Rule)) (n : ℕ) (rules : List Rule) (old new : Marks) → slice_get table n ≡ Some rules → AreNoted costs side table n old → AreMany new → StayNoted old new
+    → ((i : ℕ) (rule : Rule) → slice_get rules i ≡ Some rule → is_lighter costs rule ≡ true → IsNoted new (side rule)) → AreNoted costs side table (n + 1) new
+more_noted costs side table n rules old new at x many stay here = record {
   many = many;
   noted = λ k i rule l there s. elim (cases_lt k n) [
     | inl m ↦ still_noted old new (side rule) stay (x.noted k i rule m there s)
@@ -143,14 +145,13 @@ blind_instance n [] x = refl
 blind_instance n (i ∷ is) x = ap (λ j. j ∷ map blind (instance n is x)) (blind_slot n i x) ∙ ap (λ js. blind i ∷ js) (blind_instance n is x)
 
 -- the left sides of a family's instances differ in the number alone
-pub family_noted : (f : tables.Family) (o : Option tables.Rule) (marks : Marks) → ((e : tables.Rule) → o ≡ Some e → is_shorter (rewriting_rule e) ≡ true → IsNoted marks (map blind e.left))
-    → (i : ℕ) (rule : Rule) → slice_get (instances_of f o) i ≡ Some rule → is_shorter rule ≡ true → IsNoted marks (map blind rule.left)
-family_noted f o marks h i rule at s = instance_is f o i rule at (λ e x own value is.
-    let left = length_raised f.number e.left x in
-    let right = length_raised f.number e.right x in
-    let raised_shorter : is_shorter (rewriting_rule (raised f.number e x)) ≡ true = ap is_shorter is ∙ s in
-    let shorter : length e.right < length e.left = (let l = ltb-true (length (instance f.number e.right x)) (length (instance f.number e.left x)) raised_shorter in omega (arith, l, left, right)) in
-    let own_side = h e own (lt-ltb (length e.right) (length e.left) shorter) in
+pub family_noted : (costs : Option (List ℕ)) (f : tables.Family) (o : Option tables.Rule) (marks : Marks) → ((e : tables.Rule) → o ≡ Some e → is_lighter costs (rewriting_rule e) ≡ true → IsNoted marks (map blind e.left))
+    → (i : ℕ) (rule : Rule) → slice_get (instances_of f o) i ≡ Some rule → is_lighter costs rule ≡ true → IsNoted marks (map blind rule.left)
+family_noted costs f o marks h i rule at s = instance_is f o i rule at (λ e x own value is.
+    let raised_lighter : is_lighter costs (rewriting_rule (raised f.number e x)) ≡ true = ap (is_lighter costs) is ∙ s in
+    let lighter : is_lighter costs (rewriting_rule e) ≡ true =
+    ap (λ n. nat_lt n (weight_under costs e.left)) (sym (weight_raised costs f.number e.right x)) ∙ ap (nat_lt (weight_under costs (instance f.number e.right x))) (sym (weight_raised costs f.number e.left x)) ∙ raised_lighter in
+    let own_side = h e own lighter in
     subst (λ (r : Rule). IsNoted marks (map blind r.left)) is (subst (λ (l : List Instr). IsNoted marks l) (sym (blind_instance f.number e.left x)) own_side))
 
 -- ---- sides that stand first in a run ----
@@ -253,8 +254,8 @@ not_begun [] (suc most) e = refl
 not_begun (r ∷ rs) (suc most) e = ap (λ o. before o (run false most rs)) (sym e)
 
 -- where no run begins, no left side stands first in it
-pub none_without : (table : List (List Rule)) (rows : List Row) → None ≡ letter_at true rows → (most : ℕ) → NoneReaches table (run true most rows) 0
-none_without table rows e most n k i rule registers some is_rule s =
+pub none_without : (costs : Option (List ℕ)) (table : List (List Rule)) (rows : List Row) → None ≡ letter_at true rows → (most : ℕ) → NoneReaches costs table (run true most rows) 0
+none_without costs table rows e most n k i rule registers some is_rule s =
     let long = side_long false rule.left registers (take n (run true most rows)) s.stands.matches in
     absurd (omega (arith, long, front_long n (run true most rows), ap (λ (js : List Instr). length js) (not_begun rows most e), some))
 
@@ -274,8 +275,8 @@ none_begin marks hidden first rows missing e most n side registers some noted s 
 -- ---- rules of a table ----
 
 -- a rule that stands in a window does so blind
-blind_stands : (rule : Rule) (registers : List Low) (window : List Instr) → Shortens rule registers window → map (seen true) window ≡ map (renamed registers) (map blind rule.left)
-blind_stands rule registers window s = both window ∙ ap (map blind) s.stands.matches ∙ under rule.left
+blind_stands : (costs : Option (List ℕ)) (rule : Rule) (registers : List Low) (window : List Instr) → Lightens costs rule registers window → map (seen true) window ≡ map (renamed registers) (map blind rule.left)
+blind_stands costs rule registers window s = both window ∙ ap (map blind) s.stands.matches ∙ under rule.left
   where
     both : (is : List Instr) → map (seen true) is ≡ map blind (map normal_of is)
     both [] = refl
@@ -289,7 +290,7 @@ blind_stands rule registers window s = both window ∙ ap (map blind) s.stands.m
     under [] = refl
     under (i ∷ is) = ap (λ j. j ∷ map blind (map (renamed registers) is)) (one i) ∙ ap (λ js. renamed registers (blind i) ∷ js) (under is)
 
-module _ (es : List tables.Rule) (fs : List tables.Family) (index : Index) (are : IsIndex es fs index) where
+module _ (costs : Option (List ℕ)) (es : List tables.Rule) (fs : List tables.Family) (index : Index) (are : IsIndex costs es fs index) where
   -- the number of a family's instance among the families
   behind : (k i : ℕ) (rule : Rule) → rule_at (families_in es fs) k i ≡ Some rule → k < length fs
   behind k i rule at = by (slice_get (families_in es fs) k) refl at
@@ -311,45 +312,45 @@ module _ (es : List tables.Rule) (fs : List tables.Family) (index : Index) (are 
         )
   ]
 
-  entry_noted : (k : ℕ) (rule : Rule) → slice_get (map rewriting_rule es) k ≡ Some rule → is_shorter rule ≡ true → IsNoted index.marks rule.left
+  entry_noted : (k : ℕ) (rule : Rule) → slice_get (map rewriting_rule es) k ≡ Some rule → is_lighter costs rule ≡ true → IsNoted index.marks rule.left
   entry_noted k rule at s =
       let w = slice_get_within (map rewriting_rule es) k rule at in
       let m = length_map rewriting_rule es in
       are.marks.noted k 0 rule (omega (arith, w, m)) (alone_at (map rewriting_rule es) k rule at) s
 
-  hole_noted : (k i : ℕ) (rule : Rule) → rule_at (families_in es fs) k i ≡ Some rule → is_shorter rule ≡ true → IsNoted index.holes (map blind rule.left)
+  hole_noted : (k i : ℕ) (rule : Rule) → rule_at (families_in es fs) k i ≡ Some rule → is_lighter costs rule ≡ true → IsNoted index.holes (map blind rule.left)
   hole_noted k i rule at s = are.holes.noted k i rule (behind k i rule at) at s
 
   blind_long : (rule : Rule) → length (map blind rule.left) ≡ length rule.left
   blind_long rule = length_map blind rule.left
 
   -- no rule is longer where no marked side is
-  pub reached_both : (run : List Instr) (own raised count : ℕ) → NoneMarked index.marks false run own → NoneMarked index.holes true run raised → own ≤ count → raised ≤ count → NoneReaches (numbers_in es fs) run count
+  pub reached_both : (run : List Instr) (own raised count : ℕ) → NoneMarked index.marks false run own → NoneMarked index.holes true run raised → own ≤ count → raised ≤ count → NoneReaches costs (numbers_in es fs) run count
   reached_both run own raised count entries families a b n k i rule registers longer at s = split k i rule at
-      (λ there. entries n rule.left registers (omega (arith, a, longer)) (entry_noted k rule there (shorter_is rule registers (take n run) s)) s.stands.matches)
-      (λ j there. families n (map blind rule.left) registers (let m = blind_long rule in omega (arith, b, longer, m)) (hole_noted j i rule there (shorter_is rule registers (take n run) s)) (blind_stands rule registers (take n run) s))
+      (λ there. entries n rule.left registers (omega (arith, a, longer)) (entry_noted k rule there (lighter_is costs rule registers (take n run) s)) s.stands.matches)
+      (λ j there. families n (map blind rule.left) registers (let m = blind_long rule in omega (arith, b, longer, m)) (hole_noted j i rule there (lighter_is costs rule registers (take n run) s)) (blind_stands costs rule registers (take n run) s))
 
   -- nor where there are no families
-  pub reached_own : (run : List Instr) (own : ℕ) → length fs ≡ 0 → NoneMarked index.marks false run own → NoneReaches (numbers_in es fs) run own
+  pub reached_own : (run : List Instr) (own : ℕ) → length fs ≡ 0 → NoneMarked index.marks false run own → NoneReaches costs (numbers_in es fs) run own
   reached_own run own none entries n k i rule registers longer at s = split k i rule at
-      (λ there. entries n rule.left registers longer (entry_noted k rule there (shorter_is rule registers (take n run) s)) s.stands.matches)
+      (λ there. entries n rule.left registers longer (entry_noted k rule there (lighter_is costs rule registers (take n run) s)) s.stands.matches)
       (λ j there. absurd (let w = behind j i rule there in omega (arith, w, none)))
 
   -- no family's instance stands in a window whose number isn't marked
-  pub none_raised : (window : List Instr) (shape : ℕ) → shape ≡ shape_of (map (seen true) window) → is_marked index.holes.wholes.items shape ≡ false → NoneStands (families_in es fs) window
+  pub none_raised : (window : List Instr) (shape : ℕ) → shape ≡ shape_of (map (seen true) window) → is_marked index.holes.wholes.items shape ≡ false → NoneStands costs (families_in es fs) window
   none_raised window shape is missing k i rule registers at s =
-      let noted = hole_noted k i rule at (shorter_is rule registers window s) in
-      let bad : true ≡ false = sym noted.whole ∙ ap (is_marked index.holes.wholes.items) (side_shape true (map blind rule.left) registers window (blind_stands rule registers window s) ∙ sym is) ∙ missing in
+      let noted = hole_noted k i rule at (lighter_is costs rule registers window s) in
+      let bad : true ≡ false = sym noted.whole ∙ ap (is_marked index.holes.wholes.items) (side_shape true (map blind rule.left) registers window (blind_stands costs rule registers window s) ∙ sym is) ∙ missing in
       absurd (cc)
 
-  pub none_raised_empty : (window : List Instr) → length fs ≡ 0 → NoneStands (families_in es fs) window
+  pub none_raised_empty : (window : List Instr) → length fs ≡ 0 → NoneStands costs (families_in es fs) window
   none_raised_empty window none k i rule registers at s = absurd (let w = behind k i rule at in omega (arith, w, none))
 
   -- nor any rule where no entry's left side is marked either
-  pub none_standing : (window : List Instr) (shape : ℕ) → shape ≡ shape_of (map (seen false) window) → is_marked index.marks.wholes.items shape ≡ false → NoneStands (families_in es fs) window → NoneStands (numbers_in es fs) window
+  pub none_standing : (window : List Instr) (shape : ℕ) → shape ≡ shape_of (map (seen false) window) → is_marked index.marks.wholes.items shape ≡ false → NoneStands costs (families_in es fs) window → NoneStands costs (numbers_in es fs) window
   none_standing window shape is missing families k i rule registers at s = split k i rule at
       (λ there.
-      let noted = entry_noted k rule there (shorter_is rule registers window s) in
+      let noted = entry_noted k rule there (lighter_is costs rule registers window s) in
       let bad : true ≡ false = sym noted.whole ∙ ap (is_marked index.marks.wholes.items) (side_shape false rule.left registers window s.stands.matches ∙ sym is) ∙ missing in
       absurd (cc))
       (λ j there. families j i rule registers there s)

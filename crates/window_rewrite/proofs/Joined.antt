@@ -1,5 +1,5 @@
 -- A table's entries alone and with the families behind them: an entry's use is the same by both.
-use Rattle.std.proofs.Common.{◌≡◌, ℕ, ◌+◌, ◌-◌, ◌<◌, Bool, List, [], ◌∷◌, ◌++◌, length, map, Option, Some, sym, ap, ◌∙◌, subst, arith, inl, inr, length-append}
+use Rattle.std.proofs.Common.{◌≡◌, ℕ, ◌+◌, ◌-◌, ◌<◌, ◌≤◌, max, Bool, List, [], ◌∷◌, ◌++◌, length, map, Option, Some, sym, ap, ◌∙◌, subst, arith, inl, inr, length-append}
 use Rattle.std.specs.Prelude.{slice_get}
 use Rattle.std.proofs.lemmas.Bool.{cases_lt}
 use Rattle.std.proofs.lemmas.List.{length-map}
@@ -9,6 +9,7 @@ use Rattle.thumb_model.specs.Listing.{Line}
 use Rattle.rule_model.specs.Rules.{Rule, alone, rule_at}
 use Rattle.rule_model.specs.Rewriting.{Replacement, AppliesIn, used_rule, left_length_of, lines_after_rule}
 use Rattle.rule_model.proofs.Alone.{alone_at, alone_is}
+use Rattle.listing_parser.specs.Grammar.{most_lines}
 use Rattle.rule_table.specs.Table as tables
 use Rattle.rule_table.specs.Views.{family_of, rule_of}
 use Rattle.table_audit.specs.Families.{entry_at}
@@ -16,7 +17,7 @@ use Rattle.table_audit.specs.Soundness.{instances_of, numbers_in, rewriting_rule
 use Rattle.table_audit.proofs.Instances.{entries_length, number_is, rule_at_before}
 use Rattle.window_rewrite.specs.declared.choice.Choice.{Choice}
 use Rattle.window_rewrite.specs.declared.finding.Rules.{Rules}
-use Rattle.window_rewrite.specs.Rewriting.{setting}
+use Rattle.window_rewrite.specs.Rewriting.{setting_by}
 use Rattle.window_rewrite.specs.Rules.{families_in, raised_rule, raised_rules, AreFit}
 use Rattle.window_rewrite.specs.Choices.{choice_of, entries_setting, setting_of, table_in, of_length, IsChoice, IsLowest, Meets, NoneOf}
 use Rattle.window_rewrite.specs.Families.{IsLowestFamily, NoneOfFamilies}
@@ -25,29 +26,32 @@ use Rattle.window_rewrite.proofs.Applied.{meets}
 -- ---- one rule in two tables ----
 
 -- what a replacement does by a table is what it does by another in which it uses the same rule
-pub meets_too : (asked : Bool) (base : ℕ) (t u : List (List Rule)) (o : Replacement) (lines : List Line) → used_rule (setting base u) o ≡ used_rule (setting base t) o → Meets asked (setting base t) o lines → Meets asked (setting base u) o lines
-meets_too asked base t u o lines same m = (
+pub meets_too : (asked : Bool) (costs : Option (List ℕ)) (base : ℕ) (t u : List (List Rule)) (o : Replacement) (lines : List Line) → used_rule (setting_by costs base u) o ≡ used_rule (setting_by costs base t) o → Meets asked (setting_by costs base t) o lines → Meets asked (setting_by costs base u) o lines
+meets_too asked costs base t u o lines same m = (
   record { rule = m.0.rule; is_rule = same ∙ m.0.is_rule; lowers = m.0.lowers; applies = m.0.applies; joined = m.0.joined },
-  λ e. subst (λ (r : Option Rule). Layable base (lines_after_rule (setting base u) r o lines)) (sym same) (m.1 e),
+  λ e. record {
+    few = subst (λ (r : Option Rule). length (lines_after_rule (setting_by costs base u) r o lines) ≤ max (length lines) most_lines) (sym same) (m.1 e).few;
+    layable = subst (λ (r : Option Rule). Layable base (lines_after_rule (setting_by costs base u) r o lines)) (sym same) (m.1 e).layable;
+  },
 )
 
-pub applies_too : (base : ℕ) (t u : List (List Rule)) (o : Replacement) (lines : List Line) → used_rule (setting base u) o ≡ used_rule (setting base t) o → AppliesIn (setting base t) o lines → AppliesIn (setting base u) o lines
-applies_too base t u o lines same a = record { rule = a.rule; is_rule = same ∙ a.is_rule; lowers = a.lowers; applies = a.applies; least = a.least; joined = a.joined; few = a.few; layable = a.layable }
+pub applies_too : (costs : Option (List ℕ)) (base : ℕ) (t u : List (List Rule)) (o : Replacement) (lines : List Line) → used_rule (setting_by costs base u) o ≡ used_rule (setting_by costs base t) o → AppliesIn (setting_by costs base t) o lines → AppliesIn (setting_by costs base u) o lines
+applies_too costs base t u o lines same a = record { rule = a.rule; is_rule = same ∙ a.is_rule; lowers = a.lowers; applies = a.applies; least = a.least; joined = a.joined; few = a.few; layable = a.layable }
 
-choice_too : (base : ℕ) (t u : List (List Rule)) (lines : List Line) (c : Choice) → used_rule (setting base u) (choice_of c) ≡ used_rule (setting base t) (choice_of c) → IsChoice (setting base t) lines c → IsChoice (setting base u) lines c
-choice_too base t u lines c same a = record {
+choice_too : (costs : Option (List ℕ)) (base : ℕ) (t u : List (List Rule)) (lines : List Line) (c : Choice) → used_rule (setting_by costs base u) (choice_of c) ≡ used_rule (setting_by costs base t) (choice_of c) → IsChoice (setting_by costs base t) lines c → IsChoice (setting_by costs base u) lines c
+choice_too costs base t u lines c same a = record {
   whole = a.whole;
-  applies = applies_too base t u (choice_of c) lines same a.applies;
+  applies = applies_too costs base t u (choice_of c) lines same a.applies;
   is_window = a.is_window;
-  keeps = a.keeps;
-  leaves = a.leaves ∙ ap (λ (r : Option Rule). lines_after_rule (setting base t) r (choice_of c) lines) (sym same);
+  gives_way = a.gives_way;
+  leaves = a.leaves ∙ ap (λ (r : Option Rule). lines_after_rule (setting_by costs base t) r (choice_of c) lines) (sym same);
   long = a.long ∙ ap left_length_of (sym same);
 }
 
 -- ---- entries in the table ----
 
-own_rule : (es : List tables.Rule) (fs : List tables.Family) (base : ℕ) (o : Replacement) → o.entry < length es → used_rule (setting base (numbers_in es fs)) o ≡ used_rule (setting base (alone (map rewriting_rule es))) o
-own_rule es fs base o h = rule_at_before (alone (map rewriting_rule es)) (families_in es fs) o.entry o.instance (let n = entries_length es fs in omega (arith, n, h))
+own_rule : (es : List tables.Rule) (fs : List tables.Family) (costs : Option (List ℕ)) (base : ℕ) (o : Replacement) → o.entry < length es → used_rule (setting_by costs base (numbers_in es fs)) o ≡ used_rule (setting_by costs base (alone (map rewriting_rule es))) o
+own_rule es fs costs base o h = rule_at_before (alone (map rewriting_rule es)) (families_in es fs) o.entry o.instance (let n = entries_length es fs in omega (arith, n, h))
 
 -- an entry's rule in the table
 pub entry_used : (es : List tables.Rule) (fs : List tables.Family) (k : ℕ) (rule : Rule) → slice_get (map rewriting_rule es) k ≡ Some rule → rule_at (numbers_in es fs) k 0 ≡ Some rule
@@ -86,7 +90,7 @@ module _ (r : Rules) where
   many_families = length-map r.families.now family_of
 
   own : (o : Replacement) → o.entry < length r.entries.now → used_rule (setting_of r) o ≡ used_rule (entries_setting r) o
-  own o h = own_rule es fs r.base o (omega (arith, many, h))
+  own o h = own_rule es fs r.costs.now r.base o (omega (arith, many, h))
 
   -- the lowest entry is the lowest of all
   pub lowest_entry : (lines : List Line) (place count : ℕ) (c : Choice) → IsLowest (entries_setting r) lines place count c → IsLowest (setting_of r) lines place count c
@@ -96,11 +100,11 @@ module _ (r : Rules) where
       let within : (choice_of c).entry < length r.entries.now = omega (arith, slice_get_within (map rewriting_rule es) (choice_of c).entry a.rule alone_rule.0, length-map es rewriting_rule, many) in
       let same = own (choice_of c) within in
       record {
-        is = choice_too r.base (alone (map rewriting_rule es)) (table_in r) lines c same l.is;
+        is = choice_too r.costs.now r.base (alone (map rewriting_rule es)) (table_in r) lines c same l.is;
         at = l.at;
         long = ap left_length_of same ∙ l.long;
         lowest = λ o b e n. elim (cases_lt o.entry (length r.entries.now)) [
-          | inl h ↦ l.lowest o (applies_too r.base (table_in r) (alone (map rewriting_rule es)) o lines (sym (own o h)) b) e (ap left_length_of (sym (own o h)) ∙ n)
+          | inl h ↦ l.lowest o (applies_too r.costs.now r.base (table_in r) (alone (map rewriting_rule es)) o lines (sym (own o h)) b) e (ap left_length_of (sym (own o h)) ∙ n)
           | inr h ↦ omega (arith, within, h)
         ];
         lowest_instance = λ o b e n f. let first = alone_rule.1 in omega (arith, first);
@@ -113,7 +117,7 @@ module _ (r : Rules) where
     at = l.at;
     long = l.long;
     lowest = λ o b e n. elim (cases_lt o.entry (length r.entries.now)) [
-      | inl h ↦ absurd (none o (meets_too asked r.base (table_in r) (alone (map rewriting_rule es)) o lines (sym (own o h)) (meets asked (setting_of r) o lines b)) e (ap left_length_of (sym (own o h)) ∙ n))
+      | inl h ↦ absurd (none o (meets_too asked r.costs.now r.base (table_in r) (alone (map rewriting_rule es)) o lines (sym (own o h)) (meets asked (setting_of r) o lines b)) e (ap left_length_of (sym (own o h)) ∙ n))
       | inr h ↦ l.lowest o b e n h
     ];
     lowest_instance = l.lowest_instance;
@@ -122,7 +126,7 @@ module _ (r : Rules) where
   -- and where no family does either, none does
   pub none_of_both : (asked : Bool) (lines : List Line) (place count : ℕ) → NoneOf asked (entries_setting r) lines place count → NoneOfFamilies asked r lines place count (length r.families.now) → NoneOf asked (setting_of r) lines place count
   none_of_both asked lines place count none families o m e n = elim (cases_lt o.entry (length r.entries.now)) [
-    | inl h ↦ none o (meets_too asked r.base (table_in r) (alone (map rewriting_rule es)) o lines (sym (own o h)) m) e (ap left_length_of (sym (own o h)) ∙ n)
+    | inl h ↦ none o (meets_too asked r.costs.now r.base (table_in r) (alone (map rewriting_rule es)) o lines (sym (own o h)) m) e (ap left_length_of (sym (own o h)) ∙ n)
     | inr h ↦ families o m e n h (let w = number_in es fs o.entry o.instance m.0.rule m.0.is_rule in let within = w.within in omega (arith, within, many, many_families))
   ]
 

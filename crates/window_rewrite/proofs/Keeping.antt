@@ -1,12 +1,12 @@
 -- Which rules are kept, looked at one by one.
-use Rattle.std.proofs.Common.{◌≡◌, ℕ, zero, suc, ◌+◌, ◌<◌, Bool, true, List, [], ◌∷◌, length, Option, Some, None, refl, sym, ap, ◌∙◌, subst, arith, inl, inr}
+use Rattle.std.proofs.Common.{◌≡◌, ℕ, zero, suc, ◌+◌, ◌<◌, Bool, true, List, [], ◌∷◌, length, false, replicate, Option, Some, None, refl, sym, ap, ◌∙◌, subst, arith, inl, inr, true≢false}
 use Rattle.std.specs.Prelude.{slice_get, slice_set}
 use Rattle.std.proofs.lemmas.Bool.{cases_eq, cases_lt}
 use Rattle.std.proofs.lemmas.List.{length-set}
 use Rattle.std.proofs.lemmas.Option.{same_Some}
 use Rattle.rule_model.specs.Rules.{Rule}
 use Rattle.window_rewrite.specs.declared.shadows.Kept.{Kept}
-use Rattle.window_rewrite.specs.Rules.{is_marked, is_shorter, AreKept, IsLed}
+use Rattle.window_rewrite.specs.Rules.{is_marked, is_lighter, is_true, AreKept, IsLed}
 use Rattle.window_rewrite.proofs.Heads.{marked_here, marked_still}
 use Rattle.window_rewrite.proofs.Keys.{set_here, set_other, some_head}
 
@@ -15,40 +15,48 @@ abbrev pub up_to : Option ℕ → ℕ
 up_to None = 0
 up_to (Some n) = n + 1
 
+-- a list of nothing marks nothing
+pub none_marked : (n q : ℕ) → is_marked (replicate n false) q ≡ false
+none_marked zero q = refl
+none_marked (suc n) zero = refl
+none_marked (suc n) (suc q) = none_marked n q
+
 -- none is kept yet
-pub none_kept : (rules : List Rule) (k : Kept) → length k.kept.items ≡ length rules → length k.lasts.items ≡ length rules → length k.earlier.items ≡ length rules
-    → ((q : ℕ) (o : Option ℕ) → slice_get k.lasts.items q ≡ Some o → o ≡ None) → ((q : ℕ) (o : Option ℕ) → slice_get k.earlier.items q ≡ Some o → o ≡ None) → AreKept rules 0 k
-none_kept rules k many lasts earlier no_last no_earlier = record {
+pub none_kept : (costs : Option (List ℕ)) (rules : List Rule) (k : Kept) → length k.kept.items ≡ length rules → length k.lasts.items ≡ length rules → length k.earlier.items ≡ length rules
+    → ((q : ℕ) (o : Option ℕ) → slice_get k.lasts.items q ≡ Some o → o ≡ None) → ((q : ℕ) (o : Option ℕ) → slice_get k.earlier.items q ≡ Some o → o ≡ None) → ((q : ℕ) → is_marked k.kept.items q ≡ false) → AreKept costs rules 0 k
+none_kept costs rules k many lasts earlier no_last no_earlier none = record {
   many = many;
   many_lasts = lasts;
   many_earlier = earlier;
   lasts = λ q j e. absurd (let bad : Some j ≡ None = no_last q (Some j) e in cc);
   earlier = λ q j e. absurd (let bad : Some j ≡ None = no_earlier q (Some j) e in cc);
+  lighter = λ q own at h. absurd (true≢false (sym h ∙ none q));
   led = λ k own l at s. absurd (omega (arith, l));
 }
 
 -- a rule more that needn't be kept
-pub kept_so : (rules : List Rule) (n : ℕ) (rule : Rule) (k : Kept) → slice_get rules n ≡ Some rule → AreKept rules n k → (is_shorter rule ≡ true → IsLed rules k.kept.items n rule) → AreKept rules (n + 1) k
-kept_so rules n rule k at x here = record {
+pub kept_so : (costs : Option (List ℕ)) (rules : List Rule) (n : ℕ) (rule : Rule) (k : Kept) → slice_get rules n ≡ Some rule → AreKept costs rules n k → (is_lighter costs rule ≡ true → IsLed costs rules k.kept.items n rule) → AreKept costs rules (n + 1) k
+kept_so costs rules n rule k at x here = record {
   many = x.many;
   many_lasts = x.many_lasts;
   many_earlier = x.many_earlier;
   lasts = λ q j e. let w = x.lasts q j e in let l = w.0 in (omega arith, w.1);
   earlier = x.earlier;
+  lighter = x.lighter;
   led = λ i own l there s. elim (cases_lt i n) [
     | inl m ↦ x.led i own m there s
     | inr m ↦ (
         let same : i ≡ n = omega arith in
         let is : own ≡ rule = same_Some own rule (sym there ∙ ap (slice_get rules) same ∙ at) in
-        subst (λ j. IsLed rules k.kept.items j own) (sym same) (subst (λ (r : Rule). IsLed rules k.kept.items n r) (sym is) (here (ap is_shorter (sym is) ∙ s)))
+        subst (λ j. IsLed costs rules k.kept.items j own) (sym same) (subst (λ (r : Rule). IsLed costs rules k.kept.items n r) (sym is) (here (ap (is_lighter costs) (sym is) ∙ s)))
         )
   ];
 }
 
 -- a rule more that is kept
-pub more_kept : (rules : List Rule) (n shared : ℕ) (rule : Rule) (old new : Kept) (o : Option ℕ) → slice_get rules n ≡ Some rule → n < length rules → shared < length rules → AreKept rules n old → slice_get old.lasts.items shared ≡ Some o
-    → new.kept.items ≡ slice_set old.kept.items n true → new.lasts.items ≡ slice_set old.lasts.items shared (Some n) → new.earlier.items ≡ slice_set old.earlier.items n o → AreKept rules (n + 1) new
-more_kept rules n shared rule old new o at within small x was kept lasts earlier = record {
+pub more_kept : (costs : Option (List ℕ)) (rules : List Rule) (n shared : ℕ) (rule : Rule) (old new : Kept) (o : Option ℕ) → slice_get rules n ≡ Some rule → n < length rules → shared < length rules → is_lighter costs rule ≡ true → AreKept costs rules n old → slice_get old.lasts.items shared ≡ Some o
+    → new.kept.items ≡ slice_set old.kept.items n true → new.lasts.items ≡ slice_set old.lasts.items shared (Some n) → new.earlier.items ≡ slice_set old.earlier.items n o → AreKept costs rules (n + 1) new
+more_kept costs rules n shared rule old new o at within small light x was kept lasts earlier = record {
   many = ap (λ (l : List Bool). length l) kept ∙ length-set old.kept.items n true ∙ x.many;
   many_lasts = ap (λ (l : List (Option ℕ)). length l) lasts ∙ length-set old.lasts.items shared (Some n) ∙ x.many_lasts;
   many_earlier = ap (λ (l : List (Option ℕ)). length l) earlier ∙ length-set old.earlier.items n o ∙ x.many_earlier;
@@ -72,11 +80,15 @@ more_kept rules n shared rule old new o at within small x was kept lasts earlier
             )
         | inr other ↦ (let w = x.earlier q j (sym (set_other old.earlier.items n q o other) ∙ there) in (w.0, still j w.1))
       ];
+  lighter = λ q own there marked. elim (cases_eq n q) [
+    | inl same ↦ subst (λ (r : Rule). is_lighter costs r ≡ true) (same_Some rule own (sym at ∙ ap (slice_get rules) same ∙ there)) light
+    | inr other ↦ x.lighter q own there (marked_before q other ∙ marked)
+  ];
   led = λ i own l there s. elim (cases_lt i n) [
-    | inl m ↦ (let d = x.led i own m there s in record { leader = d.leader; no_later = d.no_later; is_kept = still d.leader d.is_kept; other = d.other; at = d.at; alike = d.alike })
+    | inl m ↦ (let d = x.led i own m there s in record { leader = d.leader; no_later = d.no_later; is_kept = still d.leader d.is_kept; other = d.other; at = d.at; lighter = d.lighter; alike = d.alike })
     | inr m ↦ (
         let same : i ≡ n = omega arith in
-        record { leader = i; no_later = omega arith; is_kept = ap (is_marked new.kept.items) same ∙ here; other = own; at = there; alike = record { left = refl; mask = refl; as_long = refl; no_more = λ h. h } }
+        record { leader = i; no_later = omega arith; is_kept = ap (is_marked new.kept.items) same ∙ here; other = own; at = there; lighter = s; alike = record { left = refl; mask = refl; as_long = refl; no_more = λ h. h } }
         )
   ];
 }
@@ -86,6 +98,9 @@ more_kept rules n shared rule old new o at within small x was kept lasts earlier
 
     still : (q : ℕ) → is_marked old.kept.items q ≡ true → is_marked new.kept.items q ≡ true
     still q h = ap (λ (l : List Bool). is_marked l q) kept ∙ marked_still old.kept.items n q h
+
+    marked_before : (q : ℕ) → (n ≡ q → ⊥) → is_marked old.kept.items q ≡ is_marked new.kept.items q
+    marked_before q other = ap is_true (sym (set_other old.kept.items n q true other)) ∙ ap (λ (l : List Bool). is_marked l q) (sym kept)
 
     here : is_marked new.kept.items n ≡ true
     here = ap (λ (l : List Bool). is_marked l n) kept ∙ marked_here old.kept.items n (omega (arith, within, x.many))

@@ -8,10 +8,10 @@ use Rattle.thumb_instr.specs.declared.instr.Instr.{Instr}
 use Rattle.thumb_instr.specs.Renaming.{Low}
 use Rattle.rule_model.specs.Rules.{Rule}
 use Rattle.thumb_model.proofs.Lists.{get_drop, length_drop}
-use Rattle.window_rewrite.specs.Rules.{is_marked, first_with, AreFirsts, AreNexts, AreLed, AreChains}
+use Rattle.window_rewrite.specs.Rules.{is_marked, first_with, AreFirsts, AreNexts, AreChains}
 use Rattle.window_rewrite.specs.Forms.{form_of}
 use Rattle.window_rewrite.specs.declared.chains.Chains.{Chains}
-use Rattle.window_rewrite.specs.Fitting.{Shortens}
+use Rattle.window_rewrite.specs.Fitting.{Lightens}
 use Rattle.window_rewrite.specs.Choices.{Awaits}
 
 -- ---- the rules with some number ----
@@ -202,10 +202,9 @@ nexts_more rules kept nexts more n rule o within at e is h k own next l f here g
 ]
 
 -- chains of no rules
-pub empty_chains : (rules : List Rule) (n : ℕ) (chains : Chains) → length rules ≤ n → AreLed rules chains.kept.items (length rules) → length chains.kept.items ≡ length rules → length chains.firsts.items ≡ 65536
+pub empty_chains : (rules : List Rule) (n : ℕ) (chains : Chains) → length rules ≤ n → length chains.kept.items ≡ length rules → length chains.firsts.items ≡ 65536
     → ((q : ℕ) (first : Option ℕ) → slice_get chains.firsts.items q ≡ Some first → first ≡ None) → length chains.nexts.items ≡ length rules → AreChains rules n chains
-empty_chains rules n chains h led many_kept many_firsts none many = record {
-  led = led;
+empty_chains rules n chains h many_kept many_firsts none many = record {
   many_kept = many_kept;
   many_firsts = many_firsts;
   firsts = λ form first at. none form first at ∙ sym (first_past rules chains.kept.items form n h);
@@ -216,7 +215,6 @@ empty_chains rules n chains h led many_kept many_firsts none many = record {
 -- with one more in front that isn't kept
 pub same_chains : (rules : List Rule) (n : ℕ) (rule : Rule) (chains : Chains) → slice_get rules n ≡ Some rule → is_marked chains.kept.items n ≡ false → AreChains rules (n + 1) chains → AreChains rules n chains
 same_chains rules n rule chains at f x = record {
-  led = x.led;
   many_kept = x.many_kept;
   many_firsts = x.many_firsts;
   firsts = λ form first g. x.firsts form first g ∙ sym (first_same rules chains.kept.items form n rule at f);
@@ -238,7 +236,6 @@ more_chains rules n rule old new o at here x small was kept firsts nexts =
     let within : n < length rules = slice_get_within rules n rule at in
     let room : form_of rule.left < length old.firsts.items = omega (arith, small, x.many_firsts) in
     record {
-      led = subst (λ (l : List Bool). AreLed rules l (length rules)) (sym kept) x.led;
       many_kept = ap (λ (l : List Bool). length l) kept ∙ x.many_kept;
       many_firsts = ap (λ (l : List (Option ℕ)). length l) firsts ∙ length-set old.firsts.items (form_of rule.left) (Some n) ∙ x.many_firsts;
       firsts = subst (λ (l : List Bool). AreFirsts rules l new.firsts.items n) (sym kept) (firsts_more rules old.kept.items n rule old.firsts.items new.firsts.items at here room firsts x.firsts);
@@ -249,16 +246,16 @@ more_chains rules n rule old new o at here x small was kept firsts nexts =
 -- ---- what is awaited ----
 
 -- the next rule, and that none before it stands that is kept
-pub record IsNext (rules : List Rule) (kept : List Bool) (window : List Instr) (k n : ℕ) : Type 0 where
+pub record IsNext (costs : Option (List ℕ)) (rules : List Rule) (kept : List Bool) (window : List Instr) (k n : ℕ) : Type 0 where
   pub from : k ≤ n
   pub rule : Rule
   pub at : slice_get rules n ≡ Some rule
   pub is_kept : is_marked kept n ≡ true
-  pub none : (j : ℕ) (other : Rule) (registers : List Low) → k ≤ j → j < n → slice_get rules j ≡ Some other → is_marked kept j ≡ true → Shortens other registers window → ⊥
-  pub more : (next : Option ℕ) → next ≡ first_with kept (form_of rule.left) (n + 1) (drop (n + 1) rules) → Awaits rules kept window (n + 1) next
+  pub none : (j : ℕ) (other : Rule) (registers : List Low) → k ≤ j → j < n → slice_get rules j ≡ Some other → is_marked kept j ≡ true → Lightens costs other registers window → ⊥
+  pub more : (next : Option ℕ) → next ≡ first_with kept (form_of rule.left) (n + 1) (drop (n + 1) rules) → Awaits costs rules kept window (n + 1) next
 
-pub awaited : (rules : List Rule) (kept : List Bool) (window : List Instr) (k n : ℕ) (o : Option ℕ) → Awaits rules kept window k o → o ≡ Some n → IsNext rules kept window k n
-awaited rules kept window k n o a e =
+pub awaited : (costs : Option (List ℕ)) (rules : List Rule) (kept : List Bool) (window : List Instr) (k n : ℕ) (o : Option ℕ) → Awaits costs rules kept window k o → o ≡ Some n → IsNext costs rules kept window k n
+awaited costs rules kept window k n o a e =
     let f = found rules kept a.form k n (sym a.is ∙ e) in
     record {
       from = f.from;
@@ -269,5 +266,5 @@ awaited rules kept window k n o a e =
       more = λ next is. record { form = a.form; have = a.have; is = is ∙ ap (λ m. first_with kept m (n + 1) (drop (n + 1) rules)) f.same };
     }
 
-pub none_awaited : (rules : List Rule) (kept : List Bool) (window : List Instr) (k : ℕ) (o : Option ℕ) → Awaits rules kept window k o → o ≡ None → (j : ℕ) (other : Rule) (registers : List Low) → k ≤ j → slice_get rules j ≡ Some other → is_marked kept j ≡ true → Shortens other registers window → ⊥
-none_awaited rules kept window k o a e j other registers h g c s = nothing rules kept a.form k (sym a.is ∙ e) j other h g c (a.have j other registers g s)
+pub none_awaited : (costs : Option (List ℕ)) (rules : List Rule) (kept : List Bool) (window : List Instr) (k : ℕ) (o : Option ℕ) → Awaits costs rules kept window k o → o ≡ None → (j : ℕ) (other : Rule) (registers : List Low) → k ≤ j → slice_get rules j ≡ Some other → is_marked kept j ≡ true → Lightens costs other registers window → ⊥
+none_awaited costs rules kept window k o a e j other registers h g c s = nothing rules kept a.form k (sym a.is ∙ e) j other h g c (a.have j other registers g s)

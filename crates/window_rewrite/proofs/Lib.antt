@@ -3,6 +3,8 @@ pub mod Maps
 pub mod Live
 pub mod Whole
 pub mod Settled
+pub mod Weights
+pub mod Unmoved
 pub mod WindowPlaces
 pub mod RuleWindows
 pub mod Applied

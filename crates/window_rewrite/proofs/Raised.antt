@@ -201,7 +201,7 @@ module _ (r : Rules) (n : ℕ) (f : tables.Family) (e : tables.Rule) (fam : IsFa
   here_is : (lines : List Line) (place : ℕ) (window : List Instr) (form : Form) (o : Replacement) → AreReady r → IsWindow lines place window → IsForm window form → FitsIn (setting_of r) o lines → o.place ≡ place
       → left_length (setting_of r) o ≡ length window → o.entry ≡ length r.entries.now + n → IsHere o form.side
   here_is lines place window form o ready there formed a here long is =
-      let s = stands_in r.base r.longest (table_in r) lines place window o ready.fit there a here long in
+      let s = stands_in r.costs.now r.base r.longest (table_in r) lines place window o ready.fit there a here long in
       let u = own o.entry o.instance s.rule is s.at in
       let fit = ready.fit o.entry o.instance s.rule s.at in
       let v = values_at f o.instance u.value u.at in
@@ -211,7 +211,7 @@ module _ (r : Rules) (n : ℕ) (f : tables.Family) (e : tables.Rule) (fam : IsFa
         family = u;
         among = v.1;
         number = v.0;
-        same = ap (λ (t : Rule). t.left) u.is ∙ formed.side s.rule s.registers fit.sound fit.canonical s.shortens.stands;
+        same = ap (λ (t : Rule). t.left) u.is ∙ formed.side s.rule s.registers fit.sound fit.canonical s.lightens.stands;
       }
 
   -- so where none does, none stands there
@@ -256,7 +256,7 @@ module _ (r : Rules) (n : ℕ) (f : tables.Family) (e : tables.Rule) (fam : IsFa
 
     -- what is found by it is the family's choice
     pub family_choice : (lines : List Line) (place : ℕ) (window : List Instr) (form : Form) (c : Choice) → AreReady r → IsWindow lines place window → IsForm window form → side ≡ form.side → length e.left ≡ length window
-        → IsChoiceBy r.base (entry_rule i.rule) lines place (length r.entries.now + n) i.number c → IsFamilyChoice r lines place (length window) n c
+        → IsChoiceBy r.costs.now r.base (entry_rule i.rule) lines place (length r.entries.now + n) i.number c → IsFamilyChoice r lines place (length window) n c
     family_choice lines place window form c ready there formed same long by =
         let used : used_rule (setting_of r) (choice_of c) ≡ Some (with_open (entry_rule i.rule) numbers) =
         ap (λ k. rule_at (table_in r) k (choice_of c).instance) by.entry_is ∙ ap (rule_at (table_in r) (length r.entries.now + n)) by.instance_is ∙ used_there in
@@ -277,7 +277,7 @@ module _ (r : Rules) (n : ℕ) (f : tables.Family) (e : tables.Rule) (fam : IsFa
         }
 
     -- and where it doesn't meet this, no instance does
-    pub none_tried : (asked : Bool) (lines : List Line) (place : ℕ) (window : List Instr) (form : Form) → AreReady r → IsWindow lines place window → IsForm window form → side ≡ form.side → NoneBy asked r.base (entry_rule i.rule) lines place
+    pub none_tried : (asked : Bool) (lines : List Line) (place : ℕ) (window : List Instr) (form : Form) → AreReady r → IsWindow lines place window → IsForm window form → side ≡ form.side → NoneBy asked r.costs.now r.base (entry_rule i.rule) lines place
         → NoneOfFamily asked r lines place (length window) n
     none_tried asked lines place window form ready there formed same none o m here long is =
         let h = here_is lines place window form o ready there formed m.0 here long is in
@@ -319,14 +319,14 @@ none_more was asked r lines place count n stays none one o m here long from belo
 ]
 
 -- where no family stands in a window, none meets this there
-pub none_behind : (asked : Bool) (r : Rules) (lines : List Line) (place : ℕ) (window : List Instr) (n : ℕ) → AreReady r → IsWindow lines place window → NoneStands (families_in (map rule_of r.entries.now) (map family_of r.families.now)) window
+pub none_behind : (asked : Bool) (r : Rules) (lines : List Line) (place : ℕ) (window : List Instr) (n : ℕ) → AreReady r → IsWindow lines place window → NoneStands r.costs.now (families_in (map rule_of r.entries.now) (map family_of r.families.now)) window
     → NoneOfFamilies asked r lines place (length window) n
 none_behind asked r lines place window n ready there none o m here long from below =
     let es : List tables.Rule = map rule_of r.entries.now in
     let fs : List tables.Family = map family_of r.families.now in
-    let s = stands_in r.base r.longest (table_in r) lines place window o ready.fit there m.0 here long in
+    let s = stands_in r.costs.now r.base r.longest (table_in r) lines place window o ready.fit there m.0 here long in
     let past : length (alone (map rewriting_rule es)) ≤ o.entry = (let n = entries_length es fs in let k = length-map r.entries.now rule_of in omega (arith, n, k, from)) in
-    none (o.entry - length (alone (map rewriting_rule es))) o.instance s.rule s.registers (sym (rule_at_behind (alone (map rewriting_rule es)) (families_in es fs) o.entry o.instance past) ∙ s.at) s.shortens
+    none (o.entry - length (alone (map rewriting_rule es))) o.instance s.rule s.registers (sym (rule_at_behind (alone (map rewriting_rule es)) (families_in es fs) o.entry o.instance past) ∙ s.at) s.lightens
 
 -- ---- what the tries cost ----
 

@@ -1,7 +1,9 @@
 -- One replacement more.
 use Rattle.std.proofs.Common.{◌≡◌, ℕ, ◌+◌, ◌-◌, ◌*◌, ◌<◌, ◌≤◌, List, [], ◌∷◌, ◌++◌, map, refl, sym, ap, ◌∙◌, subst, arith, append_assoc, append-nil, mul-le-mul_right}
 use Rattle.std.proofs.lemmas.List.{map-append}
-use Rattle.thumb_model.specs.Listing.{Line}
+use Rattle.thumb_model.specs.Listing.{Line, places_of}
+use Rattle.rule_model.specs.Laws.{instructions}
+use Rattle.rule_model.specs.Rules.{weight}
 use Rattle.rule_model.specs.Rewriting.{Setting, Replacement, IsFirst, NoneApplies, AreRewritten, lines_after}
 use Rattle.window_rewrite.specs.declared.choice.Replacement.{Replacement as Made}
 use Rattle.window_rewrite.specs.Rewriting.{replacement_of}
@@ -44,9 +46,13 @@ cost_ends start after n places entries passed count a e f =
 
 -- ---- what is left to do ----
 
--- with fewer places there is less, whatever is due
-pub fewer_left : (now was count here next : ℕ) → now < was → now * (count + 1) + (count - next) < was * (count + 1) + here
-fewer_left now was count here next h =
+-- what the instructions of lines cost
+abbrev pub paid : Setting → List Line → ℕ
+paid s lines = weight s.cost (instructions (places_of lines))
+
+-- where they cost less there is less, whatever is due
+pub less_paid : (now was count here next : ℕ) → now < was → now * (count + 1) + (count - next) < was * (count + 1) + here
+less_paid now was count here next h =
     let m : (now + 1) * (count + 1) ≤ was * (count + 1) = mul-le-mul_right (count + 1) (let l : now + 1 ≤ was = omega arith in l) in
     omega arith
 

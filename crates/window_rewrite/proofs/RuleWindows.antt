@@ -13,7 +13,7 @@ use Rattle.thumb_model.proofs.LinesReplaced.{outside_of, before}
 use Rattle.thumb_model.proofs.Window.{AreStraight}
 use Rattle.rule_model.specs.Rules.{Rule, IsSoundRule, Applies}
 use Rattle.rule_model.proofs.Table.{window_length, applies_sound}
-use Rattle.liveness.specs.Kept.{KeepsAt}
+use Rattle.window_rewrite.specs.Settled.{MayGiveWay}
 use Rattle.window_rewrite.proofs.Settled.{left_places, AreCodeStill, IsGap}
 use Rattle.window_rewrite.proofs.WindowPlaces.{first_op, window_within}
 use Rattle.steady_layout.specs.Steady.{IsSteady}
@@ -29,16 +29,18 @@ letters_of (i ∷ is) h = both (is_in_window i) _ h.0 (letters_of is h.1)
     both : (a b : Bool) → a ≡ true → b ≡ true → (a && b) ≡ true
     both a b e f = ap (λ c. c && b) e ∙ f
 
-pub applies_keeps : (rule : Rule) (registers : List Low) (code : Code) (p : ℕ) → IsSoundRule rule → length rule.right < length rule.left → (a : Applies rule registers code p) → KeepsAt code p a.window (map (renamed registers) rule.right)
-applies_keeps rule registers code p sound shorter a =
+pub applies_gives_way : (rule : Rule) (registers : List Low) (code : Code) (p : ℕ) → IsSoundRule rule → 0 < length rule.left → (a : Applies rule registers code p) → MayGiveWay code p a.window (map (renamed registers) rule.right)
+applies_gives_way rule registers code p sound some a =
     let n : length a.window ≡ length rule.left = window_length rule registers code p a in
-    let s = applies_sound rule registers code p sound (omega arith) a in
+    let s = applies_sound rule registers code p sound some a in
     let m = length_map (renamed registers) rule.right in
+    let no_longer = sound.no_longer in
     record {
       stands = ap (λ k. take k (drop p code.places)) n ∙ a.stands;
       letters = letters_of a.window s.left_straight;
       new_letters = letters_of (map (renamed registers) rule.right) s.right_straight;
-      shorter = omega arith;
+      some = omega arith;
+      no_longer = omega arith;
       unlabelled = λ k l e. subst (λ c. (l.place ≤ p) ⊎ (p + c ≤ l.place)) (sym n) (a.unlabelled k l e);
       labels_stay = λ k l e t.
           subst (λ c. is_code (replaced code p c (map (renamed registers) rule.right)).places (move_label p (c - length (map (renamed registers) rule.right)) l) ≡ true) (sym n)
@@ -48,13 +50,15 @@ applies_keeps rule registers code p sound shorter a =
 -- ---- the gap ----
 
 -- the gap of a rule that applies
-pub applied_gap : (rule : Rule) (registers : List Low) (code : Code) (p : ℕ) → length rule.right < length rule.left → Applies rule registers code p → IsGap code.places code.labels p (length rule.left) (map (renamed registers) rule.right)
-applied_gap rule registers code p shorter a =
+pub applied_gap : (rule : Rule) (registers : List Low) (code : Code) (p : ℕ) → IsSoundRule rule → 0 < length rule.left → Applies rule registers code p → IsGap code.places code.labels p (length rule.left) (map (renamed registers) rule.right)
+applied_gap rule registers code p sound some a =
     let n = window_length rule registers code p a in
     let m = length_map (renamed registers) rule.right in
+    let no_longer = sound.no_longer in
     record {
       within = window_within a.window (length rule.left) code.places p n (omega arith) a.stands;
-      shorter = omega arith;
+      some = some;
+      no_longer = omega arith;
       first = first_op a.window (length rule.left) code.places p n (omega arith) a.stands;
       unlabelled = a.unlabelled;
     }
@@ -67,12 +71,13 @@ applied_stay rule registers code p a k l e h =
 
 -- ---- steady listings ----
 
-pub steady_stays : (base : ℕ) (write : Instr → List ℕ) (rule : Rule) (registers : List Low) (place : ℕ) (ls : List Line) → IsSoundRule rule → length rule.right < length rule.left → Applies rule registers (code_of ls) place → IsSteady base ls
+pub steady_stays : (base : ℕ) (write : Instr → List ℕ) (rule : Rule) (registers : List Low) (place : ℕ) (ls : List Line) → IsSoundRule rule → 0 < length rule.left → Applies rule registers (code_of ls) place → IsSteady base ls
     → IsSteady base (replaced_lines write place (length rule.left) (map (renamed registers) rule.right) ls)
-steady_stays base write rule registers place ls sound shorter a h =
+steady_stays base write rule registers place ls sound some a h =
     let is : List Instr = map (renamed registers) rule.right in
     let m = length_map (renamed registers) rule.right in
-    let b = before (length rule.left) (omega arith) in
+    let no_longer = sound.no_longer in
+    let b = before (length rule.left) some in
     let n : ℕ = b.0 in
     let e : length rule.left ≡ suc n = b.1 in
     let k : length a.window ≡ length rule.left = window_length rule registers (code_of ls) place a in

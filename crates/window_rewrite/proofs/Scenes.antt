@@ -18,7 +18,6 @@ use Rattle.thumb_model.proofs.LinesReplaced.{before, outside_of}
 use Rattle.rule_model.specs.Rules.{Rule}
 use Rattle.rule_model.specs.Rewriting.{Setting, Replacement, AppliesIn, lines_after_rule, lines_after}
 use Rattle.listing_parser.specs.Parsing.{own_line}
-use Rattle.liveness.specs.Kept.{KeepsAt}
 use Rattle.liveness.specs.Live.{word_of, set_at}
 use Rattle.liveness.proofs.Paths.{has_zero}
 use Rattle.steady_layout.specs.Steady.{IsSteady}
@@ -47,7 +46,7 @@ use Rattle.window_rewrite.specs.declared.choice.Choice.{Choice}
 use Rattle.window_rewrite.specs.declared.finding.Rules.{Rules}
 use Rattle.window_rewrite.specs.declared.known_layout.KnownLayout.{KnownLayout}
 use Rattle.window_rewrite.specs.Choices.{setting_of, choice_of, IsChoice}
-use Rattle.window_rewrite.specs.Settled.{IsSettled}
+use Rattle.window_rewrite.specs.Settled.{IsSettled, MayGiveWay}
 use Rattle.window_rewrite.specs.Layouts.{is_steady, Allows, AreOver, HasLayout, IsSteadyIf, Moves, StandsNear}
 use Rattle.window_rewrite.proofs.ScenesWindows.{gives_way, many_marks, many_places, ranked_at, ranked_front, still_padded}
 
@@ -200,11 +199,11 @@ settled_whole vanishes places labels p count long (i ∷ is) h e none = absurd (
 -- ---- a window that gives way ----
 
 -- a choice may be made at its place, with its window and its new instructions as slices
-pub keeps_here : (s : Setting) (lines : List Line) (c : Choice) (place : ℕ) (window new : List Instr) → IsChoice s lines c → (choice_of c).place ≡ place → window ≡ c.window → new ≡ c.new → KeepsAt (code_of lines) place window new
+pub keeps_here : (s : Setting) (lines : List Line) (c : Choice) (place : ℕ) (window new : List Instr) → IsChoice s lines c → (choice_of c).place ≡ place → window ≡ c.window → new ≡ c.new → MayGiveWay (code_of lines) place window new
 keeps_here s lines c place window new is at e f =
-    let here : KeepsAt (code_of lines) place c.window c.new = subst (λ (p : ℕ). KeepsAt (code_of lines) p c.window c.new) at is.keeps in
-    let there : KeepsAt (code_of lines) place window c.new = subst (λ (w : List Instr). KeepsAt (code_of lines) place w c.new) (sym e) here in
-    subst (λ (n : List Instr). KeepsAt (code_of lines) place window n) (sym f) there
+    let here : MayGiveWay (code_of lines) place c.window c.new = subst (λ (p : ℕ). MayGiveWay (code_of lines) p c.window c.new) at is.gives_way in
+    let there : MayGiveWay (code_of lines) place window c.new = subst (λ (w : List Instr). MayGiveWay (code_of lines) place w c.new) (sym e) here in
+    subst (λ (n : List Instr). MayGiveWay (code_of lines) place window n) (sym f) there
 
 -- and leaves the lines after it
 pub leaves_here : (s : Setting) (lines now : List Line) (c : Choice) (place : ℕ) (window new : List Instr) → IsChoice s lines c → (choice_of c).place ≡ place → window ≡ c.window → new ≡ c.new
@@ -230,11 +229,11 @@ twos (i ∷ is) h =
     let p = and_parts (is_in_window i) (list_all is_in_window is) h in
     ((twos_of (i ∷ []) (p.0, tt)).0, twos is p.1)
 
--- steady lines stay steady where a window gives way to fewer instructions
-steady_left : (base : ℕ) (lines : List Line) (place : ℕ) (window new : List Instr) → IsWindow lines place window → list_all is_in_window new ≡ true → length new < length window → IsSteady base lines
+-- steady lines stay steady where a window gives way to no more instructions
+steady_left : (base : ℕ) (lines : List Line) (place : ℕ) (window new : List Instr) → IsWindow lines place window → list_all is_in_window new ≡ true → 0 < length window → length new ≤ length window → IsSteady base lines
     → IsSteady base (replaced_lines own_line place (length window) new lines)
-steady_left base lines place window new w letters shorter h =
-    let b = before (length window) (omega arith) in
+steady_left base lines place window new w letters some few h =
+    let b = before (length window) some in
     let n : ℕ = b.0 in
     let e : length window ≡ suc n = b.1 in
     let ops = plain_of window (suc n) (drop place (places_of lines)) (sym e) (ap (λ c. take c (drop place (places_of lines))) (sym e) ∙ w.stands) (twos window w.letters) in
@@ -258,7 +257,8 @@ allowed_here r g lines c place window new over near is at moves e f =
       near = near;
       is_window = window_here s lines c place window is at e;
       letters = keeps.new_letters;
-      fewer = keeps.shorter;
+      some = keeps.some;
+      no_longer = keeps.no_longer;
     }
 
 -- and leaves lines of which as much is known, where the layout has their layout
@@ -270,7 +270,7 @@ still_over r g h lines now c place window new is at e f left same layout over =
     record {
       layable = leaves_layable s (choice_of c) lines now is.applies (leaves_here s lines now c place window new is at e f left);
       aligned = λ q. over.aligned (sym same ∙ q);
-      steady = λ q. subst (IsSteady r.base) (sym left) (steady_left r.base lines place window new (window_here s lines c place window is at e) keeps.new_letters keeps.shorter (over.steady (sym same ∙ q)));
+      steady = λ q. subst (IsSteady r.base) (sym left) (steady_left r.base lines place window new (window_here s lines c place window is at e) keeps.new_letters keeps.some keeps.no_longer (over.steady (sym same ∙ q)));
       layout = subst (HasLayout r.base h) (sym left) layout;
     }
 
@@ -281,7 +281,7 @@ pub record IsMade (was now : Edited) (place : ℕ) (ps : List ℕ) (window new :
   pub lines : lines_now now ≡ replaced_lines own_line place (length window) new (lines_now was)
 
 pub made_padded : (was now : Edited) (place : ℕ) (ps : List ℕ) (window new : List Instr) → IsMade was now place ps window new → IsPadded (marks was) (padded was) (code_of (lines_now was)) → length (marks was) ≡ length (padded was).places
-    → AreRanked (marks was) place ps → length ps ≡ length window → KeepsAt (code_of (lines_now was)) place window new → IsPadded (marks now) (padded now) (code_of (lines_now now))
+    → AreRanked (marks was) place ps → length ps ≡ length window → MayGiveWay (code_of (lines_now was)) place window new → IsPadded (marks now) (padded now) (code_of (lines_now now))
 made_padded was now place ps window new m s many a n k =
     let after = still_padded (marks was) (padded was) (lines_now was) s many place ps window new a n k in
     let with_lines : IsPadded (marks_after ps new (marks was)) (exchanged ps new (padded was)) (code_of (lines_now now)) = subst (λ (ls : List Line). IsPadded (marks_after ps new (marks was)) (exchanged ps new (padded was)) (code_of ls)) (sym m.lines) after in
@@ -297,7 +297,7 @@ made_stands was now place ps window new m =
     sym (length_map is_none now.stands) ∙ ap (λ (g : List Bool). length g) m.gone ∙ many_marks ps new (marks was) ∙ length_map is_none was.stands
 
 pub made_live : (was now : Edited) (place : ℕ) (ps : List ℕ) (window new : List Instr) (k j : Parts) → IsMade was now place ps window new → IsPadded (marks was) (padded was) (code_of (lines_now was)) → length (marks was) ≡ length (padded was).places
-    → AreRanked (marks was) place ps → length ps ≡ length window → KeepsAt (code_of (lines_now was)) place window new
+    → AreRanked (marks was) place ps → length ps ≡ length window → MayGiveWay (code_of (lines_now was)) place window new
     → ((code code' : Code) (window : List Instr) → GivesWay code code' ps window new → IsKeptLive code k → IsKeptLive code' j) → IsKeptLive (padded was) k → IsKeptLive (padded now) j
 made_live was now place ps window new k j m s many a n keeps kept live =
     subst (λ (c : Code). IsKeptLive c j) (sym m.padded_now)

@@ -10,9 +10,10 @@ use Rattle.thumb_instr.specs.Window.{is_in_window}
 use Rattle.thumb_model.specs.Listing.{Place, plain, Label, Line, Code, is_code, is_op_place, code_of, places_of, labels_from}
 use Rattle.thumb_model.specs.Replaced.{move_label, replaced}
 use Rattle.thumb_model.specs.ReplacedLines.{replaced_lines}
-use Rattle.thumb_model.proofs.LinesReplaced.{code_replaced, ops_of, outside_of}
+use Rattle.thumb_model.proofs.LinesReplaced.{ops_of, outside_of}
+use Rattle.rule_model.proofs.AsMany.{code_replaced_by}
 use Rattle.listing_parser.specs.Parsing.{own_line}
-use Rattle.liveness.specs.Kept.{KeepsAt}
+use Rattle.window_rewrite.specs.Settled.{MayGiveWay}
 use Rattle.kept_places.specs.Marks.{is_gone, rank}
 use Rattle.kept_places.proofs.Ranks.{rank_kept, ranks_ascend, outside_by_rank}
 use Rattle.shrinking_sets.specs.Straight.{is_straight, IsUnlabelled}
@@ -89,25 +90,25 @@ many_places (p ∷ ps) (i ∷ is) places = many_places ps is (slice_set places p
 
 -- ---- the window ----
 
--- the code that is left where fewer instructions stand
-code_left : (lines : List Line) (r n : ℕ) (window new : List Instr) → KeepsAt (code_of lines) r window new → n ≡ length window → code_of (replaced_lines own_line r n new lines) ≡ replaced (code_of lines) r n new
-code_left lines r zero window new k e = let s = k.shorter in absurd (omega arith)
+-- the code that is left where no more instructions stand
+code_left : (lines : List Line) (r n : ℕ) (window new : List Instr) → MayGiveWay (code_of lines) r window new → n ≡ length window → code_of (replaced_lines own_line r n new lines) ≡ replaced (code_of lines) r n new
+code_left lines r zero window new k e = let s = k.some in absurd (omega arith)
 code_left lines r (suc n) window new k e =
-    let s = k.shorter in
-    code_replaced own_line r n new lines (omega arith)
+    let few = k.no_longer in
+    code_replaced_by own_line r n new lines (omega arith)
     (ops_of window (suc n) (drop r (places_of lines)) e (ap (λ c. take c (drop r (places_of lines))) e ∙ k.stands))
     (outside_of r (suc n) (labels_from 0 lines) (subst (λ c. (j : ℕ) (l : Label) → slice_get (labels_from 0 lines) j ≡ Some l → (l.place ≤ r) ⊎ (r + c ≤ l.place)) (sym e) k.unlabelled))
 
 -- what gives way stands at the kept places
-stands : (gone : List Bool) (padded code : Code) → IsPadded gone padded code → length gone ≡ length padded.places → (r : ℕ) (ps : List ℕ) (window new : List Instr) → AreRanked gone r ps → length ps ≡ length window → KeepsAt code r window new
+stands : (gone : List Bool) (padded code : Code) → IsPadded gone padded code → length gone ≡ length padded.places → (r : ℕ) (ps : List ℕ) (window new : List Instr) → AreRanked gone r ps → length ps ≡ length window → MayGiveWay code r window new
     → map (slice_get padded.places) ps ≡ map Some (map plain window)
 stands gone padded code s m r ps window new a n k = sym (windows_stand gone padded code s m r ps a) ∙ ap (λ c. map Some (take c (drop r code.places))) n ∙ ap (map Some) k.stands
 
 -- the code in which the kept places give way is that of the lines that are left
 pub still_padded : (gone : List Bool) (padded : Code) (lines : List Line) → IsPadded gone padded (code_of lines) → length gone ≡ length padded.places → (r : ℕ) (ps : List ℕ) (window new : List Instr) → AreRanked gone r ps → length ps ≡ length window
-    → KeepsAt (code_of lines) r window new → IsPadded (marks_after ps new gone) (exchanged ps new padded) (code_of (replaced_lines own_line r (length window) new lines))
+    → MayGiveWay (code_of lines) r window new → IsPadded (marks_after ps new gone) (exchanged ps new padded) (code_of (replaced_lines own_line r (length window) new lines))
 still_padded gone padded lines s m r ps window new a n k =
-    let shorter = k.shorter in
+    let few = k.no_longer in
     let code : Code = code_of lines in
     let gives : GivesWayPadded gone padded code r ps new = record {
       kept = kept_from gone padded.places r ps window a (stands gone padded code s m r ps window new a n k);
@@ -119,7 +120,7 @@ still_padded gone padded lines s m r ps window new a n k =
     subst (IsPadded (marks_after ps new gone) (exchanged ps new padded)) left (stays_padded gone padded code s r ps new gives)
 
 -- no label stands within the window, with the places that are gone
-unlabelled_within : (gone : List Bool) (padded code : Code) → IsPadded gone padded code → (r p : ℕ) (ps : List ℕ) (window new : List Instr) → AreRanked gone r (p ∷ ps) → length (p ∷ ps) ≡ length window → KeepsAt code r window new
+unlabelled_within : (gone : List Bool) (padded code : Code) → IsPadded gone padded code → (r p : ℕ) (ps : List ℕ) (window new : List Instr) → AreRanked gone r (p ∷ ps) → length (p ∷ ps) ≡ length window → MayGiveWay code r window new
     → IsUnlabelled padded p (length (spread p (p ∷ ps) window))
 unlabelled_within gone padded code s r p ps window new a n k = λ j l e.
     let q : ℕ = last_of p ps in
@@ -136,11 +137,11 @@ unlabelled_within gone padded code s r p ps window new a n k = λ j l e.
     ]
 
 -- and the sets of live items know how
-pub gives_way : (gone : List Bool) (padded code : Code) → IsPadded gone padded code → length gone ≡ length padded.places → (r : ℕ) (ps : List ℕ) (window new : List Instr) → AreRanked gone r ps → length ps ≡ length window → KeepsAt code r window new
+pub gives_way : (gone : List Bool) (padded code : Code) → IsPadded gone padded code → length gone ≡ length padded.places → (r : ℕ) (ps : List ℕ) (window new : List Instr) → AreRanked gone r ps → length ps ≡ length window → MayGiveWay code r window new
     → GivesWay padded (exchanged ps new padded) ps window new
-gives_way gone padded code s m r [] window new a n k = let shorter = k.shorter in absurd (omega arith)
+gives_way gone padded code s m r [] window new a n k = let some = k.some in absurd (omega arith)
 gives_way gone padded code s m r (p ∷ ps) window new a n k =
-    let shorter = k.shorter in
+    let few = k.no_longer in
     record {
       as_many = sym n;
       few = omega arith;

@@ -40,10 +40,11 @@ abbrev pub AreCodeStill : List Place → List Label → ℕ → ℕ → List Ins
 AreCodeStill places labels p count is =
     (k : ℕ) (l : Label) → slice_get labels k ≡ Some l → is_op_place (slice_get places l.place) ≡ true → is_op_place (slice_get (left_places p count is places) (moved p (count - length is) l.place)) ≡ true
 
--- what is asked of the window: it is among the places, begins with an instruction, is longer than what comes, and no label stands within
+-- what is asked of the window: it is among the places, begins with an instruction, no more instructions come, and no label stands within
 pub record IsGap (places : List Place) (labels : List Label) (p count : ℕ) (is : List Instr) : Type 0 where
   pub within : p + count ≤ length places
-  pub shorter : length is < count
+  pub some : 0 < count
+  pub no_longer : length is ≤ count
   pub first : is_op_place (slice_get places p) ≡ true
   pub unlabelled : (k : ℕ) (l : Label) → slice_get labels k ≡ Some l → (l.place ≤ p) ⊎ (p + count ≤ l.place)
 
@@ -54,7 +55,8 @@ first_plain (i ∷ is) h = refl
 pub settled_stay : (places : List Place) (labels : List Label) (p count : ℕ) (is : List Instr) → IsGap places labels p count is → IsSettled places labels p count is → AreCodeStill places labels p count is
 settled_stay places labels p count is g s k l e h =
     let within = g.within in
-    let shorter = g.shorter in
+    let some = g.some in
+    let no_longer = g.no_longer in
     elim (cases_lt l.place p) [
       | inl a ↦ (
           let same : moved p (count - length is) l.place ≡ l.place = omega arith in

@@ -1,10 +1,9 @@
 -- Replacements that can be made, and which of them comes first.
-use Rattle.std.specs.Prelude.{◌≡◌, ℕ, ◌+◌, ◌<◌, ◌≤◌, ◌==◌, nat_lt, Bool, true, List, [], ◌∷◌, ◌++◌, length, drop, map, slice_get, Option, Some}
+use Rattle.std.specs.Prelude.{◌≡◌, ℕ, ◌+◌, ◌<◌, ◌≤◌, ◌==◌, nat_lt, max, Bool, true, List, [], ◌∷◌, ◌++◌, length, drop, map, slice_get, Option, Some}
 use Rattle.std.specs.Int.{from_bool}
 use Rattle.thumb_instr.specs.declared.instr.Instr.{Instr}
 use Rattle.thumb_instr.specs.Renaming.{Low}
 use Rattle.thumb_model.specs.Listing.{Line, code_of}
-use Rattle.liveness.specs.Kept.{KeepsAt}
 use Rattle.thumb_model.specs.Layout.{Layable}
 use Rattle.rule_model.specs.Rules.{Rule, weight, alone, rule_at, Applies}
 use Rattle.rule_model.specs.Rewriting.{Setting, Replacement, used_rule, AppliesIn, IsFirst, lines_after, left_length}
@@ -12,23 +11,24 @@ use Rattle.thumb_model.specs.ReplacedLines.{are_joined_from, replaced_lines}
 use Rattle.window_runs.specs.Windows.{IsWindow}
 use Rattle.window_rewrite.specs.declared.choice.Choice.{Choice}
 use Rattle.window_rewrite.specs.declared.finding.Rules.{Rules}
-use Rattle.window_rewrite.specs.Rewriting.{setting, replacement_of, IsWhole}
+use Rattle.window_rewrite.specs.Rewriting.{setting_by, replacement_of, IsWhole}
 use Rattle.rule_table.specs.Views.{family_of, rule_of}
 use Rattle.table_audit.specs.Soundness.{numbers_in}
 use Rattle.window_rewrite.specs.Rules.{rules_in, raised_rules, first_with, with_open, AreFit, AreRaised, IsIndex}
 use Rattle.window_rewrite.specs.Forms.{form_of}
-use Rattle.window_rewrite.specs.Fitting.{Shortens}
+use Rattle.window_rewrite.specs.Fitting.{Lightens}
+use Rattle.window_rewrite.specs.Settled.{MayGiveWay}
 
 -- the table of a finder
 abbrev pub table_in : Rules → List (List Rule)
 table_in r = numbers_in (map rule_of r.entries.now) (map family_of r.families.now)
 
 abbrev pub setting_of : Rules → Setting
-setting_of r = setting r.base (table_in r)
+setting_of r = setting_by r.costs.now r.base (table_in r)
 
 -- its entries alone
 abbrev pub entries_setting : Rules → Setting
-entries_setting r = setting r.base (alone (rules_in r.entries.now))
+entries_setting r = setting_by r.costs.now r.base (alone (rules_in r.entries.now))
 
 -- rules with the left sides of its families, and with those of its entries too
 abbrev pub families_sides : Rules → List Rule
@@ -42,19 +42,19 @@ pub record AreReady (r : Rules) : Type 0 where
   pub few : r.longest ≤ 5
   pub fit : AreFit r.longest (table_in r)
   pub raised : AreRaised (map rule_of r.entries.now) (map family_of r.families.now)
-  pub index : IsIndex (map rule_of r.entries.now) (map family_of r.families.now) r.index.now
+  pub index : IsIndex r.costs.now (map rule_of r.entries.now) (map family_of r.families.now) r.index.now
 
 -- each left side that may give way in the window has this number
-abbrev pub HaveForm : List Rule → List Instr → ℕ → Type 0
-HaveForm rules window form = (k : ℕ) (rule : Rule) (registers : List Low) → slice_get rules k ≡ Some rule → Shortens rule registers window → form_of rule.left ≡ form
+abbrev pub HaveForm : Option (List ℕ) → List Rule → List Instr → ℕ → Type 0
+HaveForm costs rules window form = (k : ℕ) (rule : Rule) (registers : List Low) → slice_get rules k ≡ Some rule → Lightens costs rule registers window → form_of rule.left ≡ form
 
 -- of the rules from the k-th on, the next one that is kept and whose left side may stand in the window is this
-pub record Awaits (rules : List Rule) (kept : List Bool) (window : List Instr) (k : ℕ) (next : Option ℕ) : Type 0 where
+pub record Awaits (costs : Option (List ℕ)) (rules : List Rule) (kept : List Bool) (window : List Instr) (k : ℕ) (next : Option ℕ) : Type 0 where
   pub form : ℕ
-  pub have : HaveForm rules window form
+  pub have : HaveForm costs rules window form
   pub is : next ≡ first_with kept form k (drop k rules)
 
--- ---- with and without the layout ----
+-- ---- with and without a look at the lines that are left ----
 
 -- this entry of the table fits there, under this map: it applies with some free scratch register, if it needs one, and whatever the lines come to that it leaves
 pub record FitsIn (s : Setting) (o : Replacement) (lines : List Line) : Type 0 where
@@ -64,9 +64,14 @@ pub record FitsIn (s : Setting) (o : Replacement) (lines : List Line) : Type 0 w
   pub applies : Applies rule o.registers (code_of lines) o.place
   pub joined : are_joined_from o.place (length rule.left) lines ≡ true
 
--- it fits, and where the layout is asked too, the lines that it leaves can be laid out
+-- the lines that it leaves are not too many, and can be laid out
+pub record IsAllowed (s : Setting) (o : Replacement) (lines : List Line) : Type 0 where
+  pub few : length (lines_after s o lines) ≤ max (length lines) s.most_lines
+  pub layable : Layable s.base (lines_after s o lines)
+
+-- it fits, and where that is asked too, the lines that it leaves are allowed
 abbrev pub Meets : Bool → Setting → Replacement → List Line → Type 0
-Meets asked s o lines = FitsIn s o lines × (asked ≡ true → Layable s.base (lines_after s o lines))
+Meets asked s o lines = FitsIn s o lines × (asked ≡ true → IsAllowed s o lines)
 
 -- ---- choices ----
 
@@ -78,20 +83,20 @@ pub record IsChoice (s : Setting) (lines : List Line) (c : Choice) : Type 0 wher
   pub whole : IsWhole c.replacement
   pub applies : AppliesIn s (choice_of c) lines
   pub is_window : IsWindow lines (choice_of c).place c.window
-  pub keeps : KeepsAt (code_of lines) (choice_of c).place c.window c.new
+  pub gives_way : MayGiveWay (code_of lines) (choice_of c).place c.window c.new
   pub leaves : replaced_lines s.write (choice_of c).place (length c.window) c.new lines ≡ lines_after s (choice_of c) lines
   pub long : length c.window ≡ left_length s (choice_of c)
 
 -- a rule with these sides and this mask applies at the place as this number's instance
-pub record IsChoiceBy (base : ℕ) (rule : Rule) (lines : List Line) (place entry instance : ℕ) (c : Choice) : Type 0 where
-  pub is : (table : List (List Rule)) (numbers : List ℕ) → rule_at table entry instance ≡ Some (with_open rule numbers) → IsChoice (setting base table) lines c
+pub record IsChoiceBy (costs : Option (List ℕ)) (base : ℕ) (rule : Rule) (lines : List Line) (place entry instance : ℕ) (c : Choice) : Type 0 where
+  pub is : (table : List (List Rule)) (numbers : List ℕ) → rule_at table entry instance ≡ Some (with_open rule numbers) → IsChoice (setting_by costs base table) lines c
   pub at : (choice_of c).place ≡ place
   pub entry_is : (choice_of c).entry ≡ entry
   pub instance_is : (choice_of c).instance ≡ instance
 
 -- no rule with these sides and this mask meets this at the place
-abbrev pub NoneBy : Bool → ℕ → Rule → List Line → ℕ → Type 0
-NoneBy asked base rule lines place = (table : List (List Rule)) (numbers : List ℕ) (o : Replacement) → used_rule (setting base table) o ≡ Some (with_open rule numbers) → o.place ≡ place → Meets asked (setting base table) o lines → ⊥
+abbrev pub NoneBy : Bool → Option (List ℕ) → ℕ → Rule → List Line → ℕ → Type 0
+NoneBy asked costs base rule lines place = (table : List (List Rule)) (numbers : List ℕ) (o : Replacement) → used_rule (setting_by costs base table) o ≡ Some (with_open rule numbers) → o.place ≡ place → Meets asked (setting_by costs base table) o lines → ⊥
 
 -- of the choices at a place by left sides of so many instructions it has the lowest number
 pub record IsLowest (s : Setting) (lines : List Line) (place count : ℕ) (c : Choice) : Type 0 where

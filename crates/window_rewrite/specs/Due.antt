@@ -40,7 +40,7 @@ pub record AreMarks (scene : Scene) (d : Due) : Type 0 where
   pub lost_many : length d.lost ≡ length scene.listing.stands
   pub none_lost : (p : ℕ) → marked d.lost p ≡ false
 
--- no entry fits at the place, or only such as the layout refuses, where it is one of the refused
+-- no entry fits at the place, or only such as leave lines that aren't allowed, where it is one of the refused
 abbrev pub IsTried : Setting → Scene → Due → ℕ → Type 0
 IsTried s scene d p = NoneAt (marked d.refused p) s (lines_of scene) (rank (marks scene.listing) p)
 

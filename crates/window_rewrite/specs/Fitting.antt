@@ -1,5 +1,5 @@
 -- Whether a rule may be used on a window.
-use Rattle.std.specs.Prelude.{◌≡◌, ℕ, ◌+◌, ◌-◌, ◌<◌, ◌≤◌, ◌↔◌, ◌||◌, ◌&&◌, not, nat_lt, Bool, true, false, List, length, map, take, Some, slice_get, ◌⊎◌}
+use Rattle.std.specs.Prelude.{◌≡◌, ℕ, ◌+◌, ◌-◌, ◌<◌, ◌≤◌, ◌↔◌, ◌||◌, ◌&&◌, not, nat_lt, Bool, true, false, List, length, map, take, Option, Some, slice_get, ◌⊎◌}
 use Rattle.thumb_instr.specs.declared.instr.Instr.{Instr}
 use Rattle.thumb_instr.specs.Items.{has}
 use Rattle.thumb_instr.specs.Renaming.{Low, renamed, item_under}
@@ -7,6 +7,7 @@ use Rattle.thumb_model.specs.Flow.{LiveAfter}
 use Rattle.thumb_model.specs.Items.{one_of}
 use Rattle.thumb_model.specs.Listing.{Line, code_of}
 use Rattle.rule_model.specs.Rules.{Rule, rule_at, rule_registers, IsSoundRule}
+use Rattle.seq_enum.specs.Costs.{weight_under}
 use Rattle.thumb_model.specs.Sides.{IsOneToOne, register_count, normalised}
 use Rattle.table_audit.specs.Sides.{IsCanonicalSide}
 use Rattle.window_runs.specs.Windows.{IsWindow}
@@ -27,18 +28,18 @@ pub record Stands (rule : Rule) (registers : List Low) (window : List Instr) : T
   pub one_to_one : IsOneToOne registers
   pub matches : map normalised window ≡ map (renamed registers) rule.left
 
--- it stands there, and leaves fewer instructions
-pub record Shortens (rule : Rule) (registers : List Low) (window : List Instr) : Type 0 where
+-- it stands there, and its right side weighs less
+pub record Lightens (costs : Option (List ℕ)) (rule : Rule) (registers : List Low) (window : List Instr) : Type 0 where
   pub stands : Stands rule registers window
-  pub shorter : length rule.right < length rule.left
+  pub lighter : weight_under costs rule.right < weight_under costs rule.left
 
--- of the rules of the table none that leaves fewer instructions stands in the window
-abbrev pub NoneStands : List (List Rule) → List Instr → Type 0
-NoneStands table window = (k i : ℕ) (rule : Rule) (registers : List Low) → rule_at table k i ≡ Some rule → Shortens rule registers window → ⊥
+-- of the rules of the table none whose right side weighs less stands in the window
+abbrev pub NoneStands : Option (List ℕ) → List (List Rule) → List Instr → Type 0
+NoneStands costs table window = (k i : ℕ) (rule : Rule) (registers : List Low) → rule_at table k i ≡ Some rule → Lightens costs rule registers window → ⊥
 
 -- and none with a left side of more than so many instructions stands first in the run
-abbrev pub NoneReaches : List (List Rule) → List Instr → ℕ → Type 0
-NoneReaches table run count = (n k i : ℕ) (rule : Rule) (registers : List Low) → count < length rule.left → rule_at table k i ≡ Some rule → Shortens rule registers (take n run) → ⊥
+abbrev pub NoneReaches : Option (List ℕ) → List (List Rule) → List Instr → ℕ → Type 0
+NoneReaches costs table run count = (n k i : ℕ) (rule : Rule) (registers : List Low) → count < length rule.left → rule_at table k i ≡ Some rule → Lightens costs rule registers (take n run) → ⊥
 
 -- of the sides that are marked none stands first in the run, its instructions as they are or blind, that has more than so many instructions
 abbrev pub NoneMarked : Marks → Bool → List Instr → ℕ → Type 0
@@ -55,7 +56,6 @@ is_allowed mask registers x = one_of x (map (item_under registers) mask) || (nat
 -- as far as the window and the items that are live after it tell, the rule may be used, but for a scratch register
 pub record Fits (rule : Rule) (registers : List Low) (window : List Instr) (live : ℕ) : Type 0 where
   pub stands : Stands rule registers window
-  pub shorter : length rule.right < length rule.left
   pub allowed : (x : ℕ) → has live x ≡ true → is_allowed rule.mask registers x ≡ true
 
 -- ---- the scratch register ----

@@ -1,5 +1,5 @@
 -- What is known of the lines while they are rewritten, and of their layouts.
-use Rattle.std.specs.Prelude.{◌≡◌, ℕ, ◌-◌, ◌*◌, ◌%◌, ◌<◌, Bool, not, is_some, true, IfSome, List, length}
+use Rattle.std.specs.Prelude.{◌≡◌, ℕ, ◌-◌, ◌*◌, ◌%◌, ◌<◌, ◌≤◌, Bool, not, is_some, true, IfSome, List, length}
 use Rattle.std.specs.List.{list_all}
 use Rattle.thumb_instr.specs.declared.instr.Instr.{Instr}
 use Rattle.thumb_instr.specs.Window.{is_in_window}
@@ -27,11 +27,11 @@ HasLayout base g lines = IfSome g.kept (λ k. (k.base ≡ base) × Lays k lines)
 abbrev pub StandsNear : KnownLayout → ℕ → Type 0
 StandsNear g place = IfSome g.kept (λ k. IsNear k place)
 
--- so the layout moves, if one is kept, where a window at which it stands gives way to fewer instructions
+-- so the layout moves, if one is kept, where a window at which it stands gives way to fewer instructions; where it gives way to as many, nothing moves
 abbrev pub Moves : KnownLayout → List Instr → List Instr → Move → Type 0
-Moves g window new m = IfSome g.kept (λ k. IsMoved k (2 * (length window - length new)) m.at.items m.by)
+Moves g window new m = length new < length window → IfSome g.kept (λ k. IsMoved k (2 * (length window - length new)) m.at.items m.by)
 
--- a window at which the layout stands may give way to fewer instructions, which leave lines that can be laid out, where a layout is kept, which then moves so
+-- a window at which the layout stands may give way to no more instructions, which leave lines that can be laid out, where a layout is kept, which then moves so
 pub record Allows (g : KnownLayout) (window new : List Instr) (m : Move) : Type 0 where
   pub lines : List Line
   pub place : ℕ
@@ -40,7 +40,8 @@ pub record Allows (g : KnownLayout) (window new : List Instr) (m : Move) : Type 
   pub near : StandsNear g place
   pub is_window : IsWindow lines place window
   pub letters : list_all is_in_window new ≡ true
-  pub fewer : length new < length window
+  pub some : 0 < length window
+  pub no_longer : length new ≤ length window
 
 -- the lines can be laid out, and are steady, if the layout is; otherwise it has their layout
 pub record AreOver (r : Rules) (g : KnownLayout) (lines : List Line) : Type 0 where

@@ -4,6 +4,9 @@ use Rattle.thumb_instr.specs.Renaming.{Low}
 use Rattle.thumb_model.specs.Listing.{Line, places_of}
 use Rattle.rule_model.specs.Rules.{Rule}
 use Rattle.rule_model.specs.Rewriting.{Setting, Replacement}
+use Rattle.seq_enum.specs.Costs.{cost_under}
+use Rattle.rule_table.specs.Table.{Table}
+use Rattle.table_audit.specs.Soundness.{numbers_of}
 use Rattle.label_layout.specs.Refusals.{fault_of}
 use Rattle.label_layout.specs.Faults.{first_fault}
 use Rattle.listing_parser.specs.Grammar.{most_lines}
@@ -12,9 +15,13 @@ use Rattle.window_rewrite.specs.declared.choice.Replacement.{Replacement as Made
 use Rattle.window_rewrite.specs.declared.errors.RewriteError.{RewriteError}
 use Rattle.window_rewrite.specs.declared.errors.RewriteError.TheVariants as error
 
--- rewriting by a table, for an image that begins at the base: each instruction costs 1, a listing has as many lines as it may have at most, and a new instruction has a line of its own: a tab, its canonical text and a newline
-abbrev pub setting : ℕ → List (List Rule) → Setting
-setting base table = record { table = table; cost = λ i. 1; base = base; most_lines = most_lines; write = own_line }
+-- rewriting by these costs and by the rules of these numbers, for an image that begins at the base: a listing has as many lines as it may have at most, and a new instruction has a line of its own: a tab, its canonical text and a newline
+abbrev pub setting_by : Option (List ℕ) → ℕ → List (List Rule) → Setting
+setting_by costs base table = record { table = table; cost = cost_under costs; base = base; most_lines = most_lines; write = own_line }
+
+-- rewriting by a table
+abbrev pub setting : ℕ → Table → Setting
+setting base t = setting_by t.header.costs base (numbers_of t)
 
 -- the registers that a map has, in order
 abbrev pub registers_of : List (Option Low) → List Low

@@ -3,6 +3,7 @@ use Rattle.std.specs.Prelude.{◌≡◌, ℕ, suc, ◌+◌, ◌==◌, ◌<◌, �
 use Rattle.std.specs.List.{list_any}
 use Rattle.thumb_instr.specs.declared.instr.Instr.{Instr}
 use Rattle.rule_model.specs.Rules.{Rule, alone, rule_at, IsSoundRule}
+use Rattle.seq_enum.specs.Costs.{weight_under}
 use Rattle.rule_model.specs.Rewriting.{left_length_of}
 use Rattle.thumb_model.specs.Sides.{register_count}
 use Rattle.rule_table.specs.declared.table.Entry.{Entry}
@@ -75,9 +76,9 @@ raised_rules es fs = map (λ f. raised_rule (entry_at es f.entry)) fs
 abbrev pub side_length : List Rule → ℕ → ℕ
 side_length rules k = left_length_of (slice_get rules k)
 
--- it leaves fewer instructions
-abbrev pub is_shorter : Rule → Bool
-is_shorter r = nat_lt (length r.right) (length r.left)
+-- its right side weighs less than its left side
+abbrev pub is_lighter : Option (List ℕ) → Rule → Bool
+is_lighter costs r = nat_lt (weight_under costs r.right) (weight_under costs r.left)
 
 -- its right side names a register that its left side doesn't
 abbrev pub needs_scratch : Rule → Bool
@@ -118,10 +119,10 @@ left_side r = r.left
 abbrev pub blind_side : Rule → List Instr
 blind_side r = map blind r.left
 
--- such sides of the rules of the first n numbers of a table are marked that leave fewer instructions
-pub record AreNoted (side : Rule → List Instr) (table : List (List Rule)) (n : ℕ) (marks : Marks) : Type 0 where
+-- such sides of the rules of the first n numbers of a table are marked whose right sides weigh less
+pub record AreNoted (costs : Option (List ℕ)) (side : Rule → List Instr) (table : List (List Rule)) (n : ℕ) (marks : Marks) : Type 0 where
   pub many : AreMany marks
-  pub noted : (k i : ℕ) (rule : Rule) → k < n → rule_at table k i ≡ Some rule → is_shorter rule ≡ true → IsNoted marks (side rule)
+  pub noted : (k i : ℕ) (rule : Rule) → k < n → rule_at table k i ≡ Some rule → is_lighter costs rule ≡ true → IsNoted marks (side rule)
 
 -- ---- shadows ----
 
@@ -132,27 +133,29 @@ pub record AreAlike (a b : Rule) : Type 0 where
   pub as_long : length a.right ≡ length b.right
   pub no_more : needs_scratch a ≡ true → needs_scratch b ≡ true
 
--- a rule that is kept is alike and comes no later
-pub record IsLed (rules : List Rule) (kept : List Bool) (k : ℕ) (rule : Rule) : Type 0 where
+-- a rule that is kept is alike, its right side weighs less, and it comes no later
+pub record IsLed (costs : Option (List ℕ)) (rules : List Rule) (kept : List Bool) (k : ℕ) (rule : Rule) : Type 0 where
   pub leader : ℕ
   pub no_later : leader ≤ k
   pub is_kept : is_marked kept leader ≡ true
   pub other : Rule
   pub at : slice_get rules leader ≡ Some other
+  pub lighter : is_lighter costs other ≡ true
   pub alike : AreAlike other rule
 
--- so it is for each of the first n rules that leaves fewer instructions
-abbrev pub AreLed : List Rule → List Bool → ℕ → Type 0
-AreLed rules kept n = (k : ℕ) (rule : Rule) → k < n → slice_get rules k ≡ Some rule → is_shorter rule ≡ true → IsLed rules kept k rule
+-- so it is for each of the first n rules whose right side weighs less
+abbrev pub AreLed : Option (List ℕ) → List Rule → List Bool → ℕ → Type 0
+AreLed costs rules kept n = (k : ℕ) (rule : Rule) → k < n → slice_get rules k ≡ Some rule → is_lighter costs rule ≡ true → IsLed costs rules kept k rule
 
--- which of the first n rules are kept; from the last of them ways lead back through others
-pub record AreKept (rules : List Rule) (n : ℕ) (k : Kept) : Type 0 where
+-- which of the first n rules are kept: right sides of such weigh less; from the last of them ways lead back through others
+pub record AreKept (costs : Option (List ℕ)) (rules : List Rule) (n : ℕ) (k : Kept) : Type 0 where
   pub many : length k.kept.items ≡ length rules
   pub many_lasts : length k.lasts.items ≡ length rules
   pub many_earlier : length k.earlier.items ≡ length rules
   pub lasts : (q j : ℕ) → slice_get k.lasts.items q ≡ Some (Some j) → (j < n) × (is_marked k.kept.items j ≡ true)
   pub earlier : (q j : ℕ) → slice_get k.earlier.items q ≡ Some (Some j) → (j < q) × (is_marked k.kept.items j ≡ true)
-  pub led : AreLed rules k.kept.items n
+  pub lighter : (j : ℕ) (rule : Rule) → slice_get rules j ≡ Some rule → is_marked k.kept.items j ≡ true → is_lighter costs rule ≡ true
+  pub led : AreLed costs rules k.kept.items n
 
 -- ---- left sides by their numbers ----
 
@@ -170,15 +173,15 @@ AreNexts rules kept nexts n = (k : ℕ) (rule : Rule) (next : Option ℕ) → n 
 
 -- the chains of the rules from the n-th on
 pub record AreChains (rules : List Rule) (n : ℕ) (chains : Chains) : Type 0 where
-  pub led : AreLed rules chains.kept.items (length rules)
   pub many_kept : length chains.kept.items ≡ length rules
   pub many_firsts : length chains.firsts.items ≡ 65536
   pub firsts : AreFirsts rules chains.kept.items chains.firsts.items n
   pub as_many : length chains.nexts.items ≡ length rules
   pub nexts : AreNexts rules chains.kept.items chains.nexts.items n
 
-pub record IsIndex (entries : List tables.Rule) (families : List tables.Family) (index : Index) : Type 0 where
-  pub marks : AreNoted left_side (alone (map rewriting_rule entries)) (length entries) index.marks
-  pub holes : AreNoted blind_side (families_in entries families) (length families) index.holes
+pub record IsIndex (costs : Option (List ℕ)) (entries : List tables.Rule) (families : List tables.Family) (index : Index) : Type 0 where
+  pub marks : AreNoted costs left_side (alone (map rewriting_rule entries)) (length entries) index.marks
+  pub holes : AreNoted costs blind_side (families_in entries families) (length families) index.holes
+  pub led : AreLed costs (map rewriting_rule entries) index.chains.kept.items (length (map rewriting_rule entries))
   pub chains : AreChains (map rewriting_rule entries) 0 index.chains
   pub forms : index.forms.items ≡ raised_forms entries families

@@ -1,6 +1,11 @@
 -- A listing that is rewritten: what stands at its places, what is live before them and how it is laid out. Its places keep their numbers, and one that is left over is gone.
-use Rattle.std.specs.Prelude.{◌≡◌, ℕ, ◌<◌, ◌↔◌, true, false, List, [], length, drop}
+use Rattle.std.specs.Prelude.{◌≡◌, ℕ, ◌<◌, ◌≤◌, ◌↔◌, max, true, false, List, [], length, drop}
+use Rattle.thumb_instr.specs.declared.instr.Instr.{Instr}
+use Rattle.thumb_model.specs.Layout.{Layable}
 use Rattle.thumb_model.specs.Listing.{Line, code_of, labels_from, places_of}
+use Rattle.thumb_model.specs.ReplacedLines.{replaced_lines}
+use Rattle.listing_parser.specs.Grammar.{most_lines}
+use Rattle.listing_parser.specs.Parsing.{own_line}
 use Rattle.kept_places.specs.Marks.{is_gone, rank}
 use Rattle.padded_code.specs.Padding.{IsPadded}
 use Rattle.padded_code.specs.Windows.{AreRanked}
@@ -15,7 +20,7 @@ use Rattle.window_rewrite.specs.Choices.{AreReady}
 use Rattle.window_rewrite.specs.declared.scene.Scene.{Scene}
 use Rattle.window_rewrite.specs.declared.scene.Site.{Site}
 use Rattle.window_rewrite.specs.Settled.{IsSettled}
-use Rattle.window_rewrite.specs.Layouts.{AreOver, StandsNear}
+use Rattle.window_rewrite.specs.Layouts.{is_steady, AreOver, StandsNear}
 
 -- the lines now
 abbrev pub lines_of : Scene → List Line
@@ -66,3 +71,12 @@ pub record IsLook (l : Look) : Type 0 where
   pub over : IsOver l.rules.now l.scene.now
   pub site : IsSite l.rules.now.longest l.scene.now l.site.now
   pub near : IsNear l.scene.now l.site.now
+
+-- the lines that are left where a window there gives way
+abbrev pub lines_left : Look → List Instr → List Instr → List Line
+lines_left l window new = replaced_lines own_line (number_seen l) (length window) new (lines_seen l)
+
+-- they are not too many, and can be laid out, where that isn't sure
+pub record MayBeLeft (l : Look) (window new : List Instr) : Type 0 where
+  pub few : length (lines_left l window new) ≤ max (length (lines_seen l)) most_lines
+  pub layable : is_steady l.scene.now.layout ≡ false → Layable l.rules.now.base (lines_left l window new)

@@ -1,7 +1,7 @@
 //! The entries of a table by their left sides.
 ghost use Rattle.std.specs.Prelude.{◌≡◌, ◌+◌, ◌<◌, length, drop, slice_get, true, Some, IfOk};
 ghost use Rattle.rule_model.specs.Rules.{Rule};
-ghost use Rattle.window_rewrite.specs.Rules.{first_with, is_marked, rules_in, AreChains};
+ghost use Rattle.window_rewrite.specs.Rules.{first_with, is_marked, rules_in, AreChains, AreLed};
 ghost use Rattle.window_rewrite.specs.Forms.{form_of};
 
 use crate::forms::form_of;
@@ -9,6 +9,7 @@ use crate::shadows::kept_entries;
 use crate::shapes::SHAPES;
 use listing_parser::Memory;
 use rule_table::Entry;
+use seq_enum::Costs;
 use std::alloc::Global;
 
 /// The entries that are kept, by numbers of their left sides. Seldom have two left sides one number.
@@ -23,11 +24,16 @@ pub(crate) struct Chains {
 
 impl Chains {
     /// The chains of these entries.
-    pub(crate) fn of(alloc: Global, entries: &[Entry]) -> Result<Chains, Memory>
-        ensures { IfOk result (λ chains. AreChains (rules_in entries.now) 0 chains) }
+    pub(crate) fn of(
+        alloc: Global,
+        costs: &Option<Costs>,
+        entries: &[Entry],
+    ) -> Result<Chains, Memory>
+        ensures chains { IfOk result (λ chains. AreChains (rules_in entries.now) 0 chains) }
+        ensures led { IfOk result (λ chains. AreLed costs.now (rules_in entries.now) chains.kept.items (length (rules_in entries.now))) }
     {
         let mut chains = Chains {
-            kept: kept_entries(alloc, entries)?,
+            kept: kept_entries(alloc, costs, entries)?,
             firsts: vec![in alloc; None; SHAPES]?,
             nexts: vec![in alloc; None; entries.len()]?,
         };
@@ -46,7 +52,8 @@ impl Chains {
         requires number { number < length entries.now }
         requires kept { is_marked self.old.kept.items number ≡ true }
         requires chains { AreChains (rules_in entries.now) (number + 1) self.old }
-        ensures { AreChains (rules_in entries.now) number self.new }
+        ensures chains { AreChains (rules_in entries.now) number self.new }
+        ensures kept { self.new.kept ≡ self.old.kept }
     {
         let form = form_of(entries[number].left.as_slice());
         let next = self.firsts[form];

@@ -27,7 +27,7 @@ use step_ledger::{Ledger, Steps};
 pub(crate) struct Due {
     /// Those at which some entry may fit, for all that is known.
     pub(crate) due: PlaceSet,
-    /// Those at which each entry that fits was refused by the layout, which stands as it was.
+    /// Those at which each entry that fits was refused: the lines that it leaves, by which nothing changed since, are too many or can't be laid out.
     pub(crate) refused: PlaceSet,
     /// Those before which an item was live that isn't any more. Between replacements there is none.
     pub(crate) lost: PlaceSet,
@@ -100,7 +100,7 @@ impl Due {
         }
     }
 
-    /// Lets the places be due at which the layout refused what fits.
+    /// Lets the places be due at which what fits was refused.
     fn add_refused(&mut self)
         requires many { length self.old.refused ≡ length self.old.due }
         ensures due { StayMarked self.old.due self.new.due }
@@ -115,7 +115,7 @@ impl Due {
     }
 
     /// Makes a replacement that was chosen at a site, and lets the places be due at which others may be possible now: those whose windows reach into the site's
-    /// window, those whose windows end where items are live no more, and those at which the layout refused an entry.
+    /// window, those whose windows end where items are live no more, and those at which an entry was refused.
     fn make(
         &mut self,
         rules: &Rules<'_>,
@@ -160,7 +160,7 @@ impl Due {
         requires site { IsSite rules.now.longest scene.old site.now }
         requires near { IsNear scene.old site.now }
         requires reached { reached ≤ length site.now.run.letters }
-        requires none { NoneReaches (table_in rules.now) site.now.run.letters reached }
+        requires none { NoneReaches rules.now.costs.now (table_in rules.now) site.now.run.letters reached }
         requires tried { AreTriedBut (setting_of rules.now) scene.old self.old site.now.place }
         requires least { (q : ℕ) → q < site.now.place → marked self.old.due q ≡ false }
         ensures over { OnOk result (IsOver rules.now scene.new) }

@@ -129,7 +129,7 @@ fn hidden_of(rules: &Rules<'_>, number: usize) -> usize
 
 /// What the family of a number makes of a window at the place, of which this is told, where its entry's left side is as long. `hidden` is the number of the
 /// window's canonical form with 0 for 8-bit numbers, which is that of each left side that may stand there. `refused` comes to be true where an
-/// instance fits and the layout refuses it.
+/// instance fits and what it leaves is refused.
 fn try_family<L: Ledger>(
     alloc: Global,
     look: &Look<'_>,

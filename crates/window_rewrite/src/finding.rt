@@ -1,19 +1,17 @@
 //! The best replacement that can be made at a place.
-ghost use Rattle.std.specs.Prelude.{◌≡◌, ◌+◌, ◌-◌, ◌<◌, ◌≤◌, ◌↔◌, List, length, true, false, ◌==◌, is_some, IfOk, OnOk, IfSome, IfNone, OnSome};
+ghost use Rattle.std.specs.Prelude.{◌≡◌, ◌+◌, ◌-◌, ◌<◌, ◌≤◌, ◌↔◌, max, List, length, true, false, ◌==◌, is_some, IfOk, OnOk, IfSome, IfNone, OnSome};
 ghost use Rattle.std.specs.Int.{from_bool};
 ghost use Rattle.std.specs.List.{list_all};
 ghost use Rattle.thumb_instr.specs.Renaming.{Low};
 ghost use Rattle.thumb_instr.specs.Window.{is_in_window};
-ghost use Rattle.thumb_model.specs.Layout.{Layable};
-ghost use Rattle.thumb_model.specs.ReplacedLines.{replaced_lines};
-ghost use Rattle.listing_parser.specs.Parsing.{own_line};
+ghost use Rattle.listing_parser.specs.Grammar.{most_lines};
 ghost use Rattle.window_runs.specs.Windows.{IsWindow};
 ghost use Rattle.step_ledger.specs.Counts.{RisesByAtLeast};
 ghost use Rattle.window_rewrite.specs.Fitting.{IsForm, NoneReaches, StandsThere};
 ghost use Rattle.window_rewrite.specs.Rules.{entry_rule, rules_in, side_length, IsFit};
 ghost use Rattle.window_rewrite.specs.Choices.{entries_setting, setting_of, sides_of, table_in, choice_of, of_length, AreReady, Awaits, IsBest, IsChoice, IsChoiceBy, IsLowest, Meets, NoneAt, NoneBy, NoneOf};
-ghost use Rattle.window_rewrite.specs.Scenes.{lines_seen, number_seen, IsLook};
-ghost use Rattle.window_rewrite.specs.Layouts.{is_steady, Moves};
+ghost use Rattle.window_rewrite.specs.Scenes.{lines_left, lines_seen, number_seen, IsLook, MayBeLeft};
+ghost use Rattle.window_rewrite.specs.Layouts.{Moves};
 
 use crate::choice::{Choice, Replacement};
 use crate::families::lowest_family;
@@ -24,9 +22,11 @@ use crate::index::Index;
 use crate::items::registers_of;
 use crate::replacing::renamed_all;
 use crate::scene::{Scene, Site};
+use crate::shadows::is_lighter;
 use kept_layout::Move;
 use listing_parser::Memory;
 use rule_table::{Entry, Family};
+use seq_enum::Costs;
 use std::alloc::Global;
 use step_ledger::{Ledger, Steps};
 use thumb_instr::{Instr, Items, Seq};
@@ -37,6 +37,8 @@ pub(crate) struct Rules<'a> {
     pub(crate) entries: &'a [Entry],
     pub(crate) families: &'a [Family],
     pub(crate) index: &'a Index,
+    /// What instructions cost; where there are no costs, a side weighs as much as it is long.
+    pub(crate) costs: &'a Option<Costs>,
     /// How many instructions a left side has at most.
     pub(crate) longest: u8,
     /// Where the image begins.
@@ -51,8 +53,34 @@ pub(crate) struct Look<'a> {
     pub(crate) site: &'a Site,
 }
 
-/// How the layout moves where a window at the place gives way to fewer instructions: none where the lines can't be laid out then. Nothing moves where no layout
-/// is kept.
+/// How many lines a listing has at most.
+const MOST_LINES: usize = 262_144;
+
+/// Whether the lines that are left are not too many where a window at the place gives way to no more instructions. They are more than before where as many come,
+/// and labels stand on the line of the window's first instruction: these keep a line of their own.
+fn has_room(look: &Look<'_>, window: &[Instr], new: &[Instr]) -> bool
+    requires look { IsLook look.now }
+    requires window { IsWindow (lines_seen look.now) (number_seen look.now) window.now }
+    requires within { length window.now ≤ length look.now.site.now.run.letters }
+    requires some { 0 < length window.now }
+    requires no_longer { length new.now ≤ length window.now }
+    ensures { (result ≡ true) ↔ (length (lines_left look.now window.now new.now) ≤ max (length (lines_seen look.now)) most_lines) }
+{
+    let listing = &look.scene.listing;
+    let after = listing.lines_after(look.site.place, window.len() as u32, new.len());
+    after <= listing.line_count().max(MOST_LINES)
+}
+
+/// A layout that stays as it is.
+fn unmoved(alloc: Global) -> Move {
+    Move {
+        at: Vec::new(alloc),
+        by: 0,
+    }
+}
+
+/// How the layout moves where a window at the place gives way to no more instructions: none where the lines that are left are too many or can't be laid out.
+/// Nothing moves where as many come, nor where no layout is kept.
 fn moved_layout(
     alloc: Global,
     look: &Look<'_>,
@@ -61,16 +89,21 @@ fn moved_layout(
 ) -> Result<Option<Move>, Memory>
     requires look { IsLook look.now }
     requires window { IsWindow (lines_seen look.now) (number_seen look.now) window.now }
+    requires within { length window.now ≤ length look.now.site.now.run.letters }
     requires letters { list_all is_in_window new.now ≡ true }
-    requires fewer { length new.now < length window.now }
-    ensures layable { IfOk result (λ o. (is_some o ≡ true) ↔ (is_steady look.now.scene.now.layout ≡ false → Layable look.now.rules.now.base (replaced_lines own_line (number_seen look.now) (length window.now) new.now (lines_seen look.now)))) }
+    requires some { 0 < length window.now }
+    requires no_longer { length new.now ≤ length window.now }
+    ensures allowed { IfOk result (λ o. (is_some o ≡ true) ↔ MayBeLeft look.now window.now new.now) }
     ensures moved { IfOk result (λ o. IfSome o (Moves look.now.scene.now.layout window.now new.now)) }
 {
+    if !has_room(look, window, new) {
+        return Ok(None);
+    }
+    if new.len() == window.len() {
+        return Ok(Some(unmoved(alloc)));
+    }
     match &look.scene.layout.kept {
-        None => Ok(Some(Move {
-            at: Vec::new(alloc),
-            by: 0,
-        })),
+        None => Ok(Some(unmoved(alloc))),
         Some(kept) => kept.may_give_way(alloc, window, new),
     }
 }
@@ -88,7 +121,7 @@ fn copied(window: &[Instr]) -> Seq
 }
 
 /// What a rule makes of a window at the place, of which this is told and which is as long as the rule's left side. It is an entry, or an instance of a family with
-/// the sides and the mask of this one. `refused` comes to be true where the rule fits and the layout refuses it.
+/// the sides and the mask of this one. `refused` comes to be true where the rule fits and the lines that it leaves are too many or can't be laid out.
 pub(crate) fn try_rule<L: Ledger>(
     alloc: Global,
     look: &Look<'_>,
@@ -107,13 +140,16 @@ pub(crate) fn try_rule<L: Ledger>(
     requires fit { IsFit look.now.rules.now.longest (entry_rule rule.now) }
     requires long { length rule.now.left ≡ length window.now }
     requires counted { 1 ≤ entry }
-    ensures some { IfOk result (λ o. IfSome o (IsChoiceBy look.now.rules.now.base (entry_rule rule.now) (lines_seen look.now) (number_seen look.now) (entry - 1) instance)) }
+    ensures some { IfOk result (λ o. IfSome o (IsChoiceBy look.now.rules.now.costs.now look.now.rules.now.base (entry_rule rule.now) (lines_seen look.now) (number_seen look.now) (entry - 1) instance)) }
     ensures moved { IfOk result (λ o. IfSome o (λ c. Moves look.now.scene.now.layout c.window c.new c.moved)) }
-    ensures none { IfOk result (λ o. IfNone o (NoneBy refused.new look.now.rules.now.base (entry_rule rule.now) (lines_seen look.now) (number_seen look.now))) }
+    ensures none { IfOk result (λ o. IfNone o (NoneBy refused.new look.now.rules.now.costs.now look.now.rules.now.base (entry_rule rule.now) (lines_seen look.now) (number_seen look.now))) }
     ensures stays { OnOk result (refused.old ≡ true → refused.new ≡ true) }
     ensures cost { steps.new ≤ steps.old + 1 }
     ensures rises { IfOk result (λ o. RisesByAtLeast steps.old steps.new (from_bool (is_some o))) }
 {
+    if !is_lighter(look.rules.costs, rule) {
+        return Ok(None);
+    }
     if !form.may_fit(rule.mask) {
         return Ok(None);
     }
@@ -150,7 +186,7 @@ pub(crate) fn try_rule<L: Ledger>(
 }
 
 /// What the entry of a number makes of a window at the place, of which this is told, where its left side is as long. `refused` comes to be true where
-/// the entry fits and the layout refuses it.
+/// the entry fits and what it leaves is refused.
 fn try_entry<L: Ledger>(
     alloc: Global,
     look: &Look<'_>,
@@ -194,7 +230,7 @@ fn try_entry<L: Ledger>(
 fn first_number(rules: &Rules<'_>, _window: &[Instr], form: &Form) -> Option<usize>
     requires ready { AreReady rules.now }
     requires form { IsForm _window.now form.now }
-    ensures { Awaits (rules_in rules.now.entries.now) rules.now.index.now.chains.kept.items _window.now 0 result }
+    ensures { Awaits rules.now.costs.now (rules_in rules.now.entries.now) rules.now.index.now.chains.kept.items _window.now 0 result }
 {
     rules.index.chains.first(form.number, rules.entries)
 }
@@ -284,7 +320,7 @@ fn lowest<L: Ledger>(
 }
 
 /// The best entry or family at the place: of those that apply there the lowest with the longest left side. `reached` is how many instructions the longest left
-/// side may have that stands there. `refused` comes to be true where one fits and the layout refuses it.
+/// side may have that stands there. `refused` comes to be true where one fits and what it leaves is refused.
 pub(crate) fn best<L: Ledger>(
     alloc: Global,
     look: &Look<'_>,
@@ -294,7 +330,7 @@ pub(crate) fn best<L: Ledger>(
 ) -> Result<Option<Choice>, Memory>
     requires look { IsLook look.now }
     requires within { reached ≤ length look.now.site.now.run.letters }
-    requires none { NoneReaches (table_in look.now.rules.now) look.now.site.now.run.letters reached }
+    requires none { NoneReaches look.now.rules.now.costs.now (table_in look.now.rules.now) look.now.site.now.run.letters reached }
     ensures some { IfOk result (λ o. IfSome o (IsBest (setting_of look.now.rules.now) (lines_seen look.now) (number_seen look.now))) }
     ensures moved { IfOk result (λ o. IfSome o (λ c. Moves look.now.scene.now.layout c.window c.new c.moved)) }
     ensures none { IfOk result (λ o. IfNone o (NoneAt refused.new (setting_of look.now.rules.now) (lines_seen look.now) (number_seen look.now))) }

@@ -14,7 +14,7 @@ use crate::scratch::with_scratch;
 use rule_table::{Entry, Map, canonical, matches};
 use thumb_instr::{Instr, Items, Seq};
 
-/// The map under which an entry that leaves fewer instructions matches a window after which these items are live and may be: with the least scratch register that
+/// The map under which an entry matches a window after which these items are live and may be: with the least scratch register that
 /// is free, if the entry needs one. None where it matches with none.
 pub(crate) fn fitting(entry: &Entry, window: &[Instr], live: Items) -> Option<Map>
     requires sound { IsSoundRule (entry_rule entry.now) }
@@ -22,9 +22,6 @@ pub(crate) fn fitting(entry: &Entry, window: &[Instr], live: Items) -> Option<Ma
     requires windows { list_all is_in_window window.now ≡ true }
     ensures { MatchOption result ((registers : List Low) → FitsWhole (entry_rule entry.now) registers window.now live.bits → ⊥) (λ map. FitsWhole (entry_rule entry.now) (registers_of map) window.now live.bits × IsScratchLeast (entry_rule entry.now) (registers_of map) live.bits × (length map ≡ 8) × (map ≡ map_of 8 (registers_of map))) }
 {
-    if entry.left.len() <= entry.right.len() {
-        return None;
-    }
     match matches(entry, window) {
         None => None,
         Some(map) => {

@@ -21,11 +21,11 @@ fn may_begin_in(marks: &Marks, hidden: bool, first: Instr) -> bool
     marks.has_front(next_shape(0, &seen(hidden, first)))
 }
 
-/// Whether some left side may begin with an instruction that a run begins with, but for registers. Where there is none or none may, no rule that leaves fewer
-/// instructions stands first in the run.
+/// Whether some left side may begin with an instruction that a run begins with, but for registers. Where there is none or none may, no rule whose right side
+/// weighs less stands first in the run.
 pub(crate) fn may_begin(rules: &Rules<'_>, first: Option<Instr>) -> bool
     requires ready { AreReady rules.now }
-    ensures { result ≡ false → (rows : List Row) → first ≡ letter_at true rows → (most : ℕ) → NoneReaches (table_in rules.now) (run true most rows) 0 }
+    ensures { result ≡ false → (rows : List Row) → first ≡ letter_at true rows → (most : ℕ) → NoneReaches rules.now.costs.now (table_in rules.now) (run true most rows) 0 }
 {
     match first {
         None => false,
@@ -68,12 +68,12 @@ fn reach_in(marks: &Marks, hidden: bool, run: &[Instr]) -> usize
     reached
 }
 
-/// How many instructions the longest left side may have that stands first in a run, but for registers; 0 where there is none. No rule that leaves fewer
-/// instructions has a longer left side that stands first in the run.
+/// How many instructions the longest left side may have that stands first in a run, but for registers; 0 where there is none. No rule whose right side
+/// weighs less has a longer left side that stands first in the run.
 pub(crate) fn reach(rules: &Rules<'_>, run: &[Instr]) -> usize
     requires ready { AreReady rules.now }
     ensures within { result ≤ length run.now }
-    ensures none { NoneReaches (table_in rules.now) run.now result }
+    ensures none { NoneReaches rules.now.costs.now (table_in rules.now) run.now result }
 {
     let own = reach_in(&rules.index.marks, false, run);
     if rules.families.is_empty() {
@@ -86,7 +86,7 @@ pub(crate) fn reach(rules: &Rules<'_>, run: &[Instr]) -> usize
 /// Whether an instance of a family may stand in a window, but for registers and 8-bit numbers.
 pub(crate) fn may_raise(rules: &Rules<'_>, window: &[Instr]) -> bool
     requires ready { AreReady rules.now }
-    ensures { result ≡ false → NoneStands (families_in (map rule_of rules.now.entries.now) (map family_of rules.now.families.now)) window.now }
+    ensures { result ≡ false → NoneStands rules.now.costs.now (families_in (map rule_of rules.now.entries.now) (map family_of rules.now.families.now)) window.now }
 {
     if rules.families.is_empty() {
         return false;
@@ -97,7 +97,7 @@ pub(crate) fn may_raise(rules: &Rules<'_>, window: &[Instr]) -> bool
 /// Whether a rule may stand in a window, but for registers and, of families, 8-bit numbers.
 pub(crate) fn may_stand(rules: &Rules<'_>, window: &[Instr]) -> bool
     requires ready { AreReady rules.now }
-    ensures { result ≡ false → NoneStands (table_in rules.now) window.now }
+    ensures { result ≡ false → NoneStands rules.now.costs.now (table_in rules.now) window.now }
 {
     if rules.index.marks.has_whole(shape_of(false, window)) {
         return true;

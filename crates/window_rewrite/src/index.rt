@@ -8,9 +8,10 @@ use crate::forms::raised_forms;
 use crate::marks::Marks;
 use listing_parser::Memory;
 use rule_table::{Entry, Family};
+use seq_enum::Costs;
 use std::alloc::Global;
 
-/// The rules that leave fewer instructions: marks that reject most windows, and for the others the entries by their left sides.
+/// The rules whose right sides weigh less: marks that reject most windows, and for the others the entries by their left sides.
 #[derive(Drop)]
 pub(crate) struct Index {
     pub(crate) marks: Marks,
@@ -23,13 +24,18 @@ pub(crate) struct Index {
 
 impl Index {
     /// The index of these entries and families.
-    pub(crate) fn of(alloc: Global, entries: &[Entry], families: &[Family]) -> Result<Index, Memory>
-        ensures { IfOk result (IsIndex (map rule_of entries.now) (map family_of families.now)) }
+    pub(crate) fn of(
+        alloc: Global,
+        costs: &Option<Costs>,
+        entries: &[Entry],
+        families: &[Family],
+    ) -> Result<Index, Memory>
+        ensures { IfOk result (IsIndex costs.now (map rule_of entries.now) (map family_of families.now)) }
     {
         Ok(Index {
-            marks: Marks::of(alloc, entries)?,
-            holes: Marks::of_families(alloc, entries, families)?,
-            chains: Chains::of(alloc, entries)?,
+            marks: Marks::of(alloc, costs, entries)?,
+            holes: Marks::of_families(alloc, costs, entries, families)?,
+            chains: Chains::of(alloc, costs, entries)?,
             forms: raised_forms(alloc, entries, families)?,
         })
     }

@@ -53,7 +53,8 @@ impl KnownLayout {
         }
     }
 
-    /// Lets a window at which it stands give way to fewer instructions, by which the layout moves so, and which leaves lines that can be laid out.
+    /// Lets a window at which it stands give way to no more instructions, by which the layout moves so, and which leaves lines that can be laid out. Nothing moves
+    /// where as many come.
     pub(crate) fn give_way(
         &mut self,
         window: &[Instr],
@@ -64,6 +65,9 @@ impl KnownLayout {
         ensures steady { OnOk result (is_steady self.new ≡ is_steady self.old) }
         ensures layout { OnOk result ((base : ℕ) (lines : List Listed) (place : ℕ) → HasLayout base self.old lines → StandsNear self.old place → IsWindow lines place window.now → HasLayout base self.new (replaced_lines own_line place (length window.now) new.now lines)) }
     {
+        if new.len() == window.len() {
+            return Ok(());
+        }
         if let Some(kept) = &mut self.kept {
             kept.give_way(window, new, moved)?;
         }

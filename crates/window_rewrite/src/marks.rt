@@ -4,18 +4,19 @@ ghost use Rattle.rule_model.specs.Rules.{Rule, alone};
 ghost use Rattle.rule_table.specs.Views.{family_of, rule_of};
 ghost use Rattle.table_audit.specs.Families.{entry_at};
 ghost use Rattle.table_audit.specs.Soundness.{instances_of};
-ghost use Rattle.window_rewrite.specs.Rules.{blind_side, families_in, is_marked, is_shorter, left_side, rules_in, AreMany, AreMarked, AreNoted, IsNoted, StayNoted};
+ghost use Rattle.window_rewrite.specs.Rules.{blind_side, families_in, is_marked, is_lighter, left_side, rules_in, AreMany, AreMarked, AreNoted, IsNoted, StayNoted};
 ghost use Rattle.window_rewrite.specs.Shapes.{shape_of};
 
-use crate::shadows::is_shorter;
+use crate::shadows::is_lighter;
 use crate::shapes::{SHAPES, blind_all, next_shape};
 use listing_parser::Memory;
 use rule_table::{Entry, Family};
+use seq_enum::Costs;
 use std::alloc::Global;
 use table_audit::entry_at;
 use thumb_instr::Instr;
 
-/// Which numbers the left sides have of the rules that leave fewer instructions.
+/// Which numbers the left sides have of the rules whose right sides weigh less.
 #[derive(Drop)]
 pub(crate) struct Marks {
     /// Whether a left side may have a number.
@@ -64,12 +65,16 @@ impl Marks {
     }
 
     /// The marks of these entries.
-    pub(crate) fn of(alloc: Global, entries: &[Entry]) -> Result<Marks, Memory>
-        ensures { IfOk result (AreNoted left_side (alone (rules_in entries.now)) (length entries.now)) }
+    pub(crate) fn of(
+        alloc: Global,
+        costs: &Option<Costs>,
+        entries: &[Entry],
+    ) -> Result<Marks, Memory>
+        ensures { IfOk result (AreNoted costs.now left_side (alone (rules_in entries.now)) (length entries.now)) }
     {
         let mut marks = Marks::none(alloc)?;
         for number in 0..entries.len() {
-            marks.add(entries, number);
+            marks.add(costs, entries, number);
         }
         Ok(marks)
     }
@@ -77,14 +82,15 @@ impl Marks {
     /// The marks of these families, by left sides with 0 for 8-bit numbers.
     pub(crate) fn of_families(
         alloc: Global,
+        costs: &Option<Costs>,
         entries: &[Entry],
         families: &[Family],
     ) -> Result<Marks, Memory>
-        ensures { IfOk result (AreNoted blind_side (families_in (map rule_of entries.now) (map family_of families.now)) (length families.now)) }
+        ensures { IfOk result (AreNoted costs.now blind_side (families_in (map rule_of entries.now) (map family_of families.now)) (length families.now)) }
     {
         let mut marks = Marks::none(alloc)?;
         for number in 0..families.len() {
-            marks.add_family(entries, &families[number]);
+            marks.add_family(costs, entries, &families[number]);
         }
         Ok(marks)
     }
@@ -100,29 +106,29 @@ impl Marks {
         mark(&mut self.wholes, shape);
     }
 
-    /// Marks the left side of an entry, if it leaves fewer instructions.
-    fn add(&mut self, entries: &[Entry], number: usize)
+    /// Marks the left side of an entry, if its right side weighs less.
+    fn add(&mut self, costs: &Option<Costs>, entries: &[Entry], number: usize)
         requires number { number < length entries.now }
-        requires marks { AreNoted left_side (alone (rules_in entries.now)) number self.old }
-        ensures { AreNoted left_side (alone (rules_in entries.now)) (number + 1) self.new }
+        requires marks { AreNoted costs.now left_side (alone (rules_in entries.now)) number self.old }
+        ensures { AreNoted costs.now left_side (alone (rules_in entries.now)) (number + 1) self.new }
     {
-        if !is_shorter(&entries[number]) {
+        if !is_lighter(costs, &entries[number]) {
             return;
         }
         self.add_side(entries[number].left.as_slice());
     }
 
-    /// Marks the left side that a family's instances share but for the number, if they leave fewer instructions.
-    fn add_family(&mut self, entries: &[Entry], family: &Family)
+    /// Marks the left side that a family's instances share but for the number, if their right sides weigh less.
+    fn add_family(&mut self, costs: &Option<Costs>, entries: &[Entry], family: &Family)
         requires { AreMany self.old }
         ensures many { AreMany self.new }
         ensures stay { StayNoted self.old self.new }
-        ensures noted { (i : ℕ) (rule : Rule) → slice_get (instances_of (family_of family.now) (entry_at (map rule_of entries.now) family.now.entry)) i ≡ Some rule → is_shorter rule ≡ true → IsNoted self.new (blind_side rule) }
+        ensures noted { (i : ℕ) (rule : Rule) → slice_get (instances_of (family_of family.now) (entry_at (map rule_of entries.now) family.now.entry)) i ≡ Some rule → is_lighter costs.now rule ≡ true → IsNoted self.new (blind_side rule) }
     {
         match entry_at(entries, family.entry) {
             None => {}
             Some(entry) => {
-                if is_shorter(entry) {
+                if is_lighter(costs, entry) {
                     self.add_side(blind_all(entry.left.as_slice()).as_slice());
                 }
             }

@@ -59,7 +59,7 @@ pub fn rewrite<L: Ledger>(
     base: u32,
     steps: &mut Steps<L>,
 ) -> Result<Rewritten, RewriteError>
-    ensures rewritten { IfOk result (λ new. AreRewritten (setting base (numbers_of (table_of table.now))) listing (map replacement_of new.replacements.items) new.listing) }
+    ensures rewritten { IfOk result (λ new. AreRewritten (setting base (table_of table.now)) listing (map replacement_of new.replacements.items) new.listing) }
     ensures same { IfOk result (λ new. HasLiterals (code_of listing) → Same (code_of listing) (code_of new.listing)) }
     ensures whole { IfOk result (λ new. All IsWhole new.replacements.items) }
     ensures verdict { MatchResult result (λ _. Layable base listing) (IsRefusal base listing) }
@@ -70,11 +70,12 @@ pub fn rewrite<L: Ledger>(
     let accepted = table.table();
     let entries = accepted.entries.as_slice();
     let families = accepted.families.as_slice();
-    let index = Index::of(alloc, entries, families)?;
+    let index = Index::of(alloc, &accepted.costs, entries, families)?;
     let rules = Rules {
         entries,
         families,
         index: &index,
+        costs: &accepted.costs,
         longest: accepted.left,
         base,
     };

@@ -183,7 +183,7 @@ impl Scene {
         requires is { IsChoice (setting_of rules.now) (lines_of self.old) choice.now }
         requires here { (choice_of choice.now).place ≡ site.now.number }
         requires some { 0 < length choice.now.window }
-        requires fewer { length choice.now.new < length choice.now.window }
+        requires no_longer { length choice.now.new ≤ length choice.now.window }
         requires within { length choice.now.window ≤ length site.now.run.letters }
         requires moved { Moves self.old.layout choice.now.window choice.now.new choice.now.moved }
         requires room { length lost.old ≡ length self.old.listing.stands }

@@ -1,24 +1,25 @@
-//! Which entries of a table are looked for. One that has the left side and the mask of an earlier one and a right side as long is never the first that applies,
-//! unless the earlier one alone needs a scratch register: where it fits, so does the earlier one, and the layout sees only how many instructions go. It is shadowed.
+//! Which entries of a table are looked for: those whose right side weighs less than their left side. One that has the left side and the mask of an earlier one of
+//! these and a right side as long is never the first that applies, unless the earlier one alone needs a scratch register: where it fits, so does the earlier one,
+//! and the lines and their layout see only how many instructions go. It is shadowed.
 ghost use Rattle.std.specs.Prelude.{◌≡◌, ◌↔◌, ◌+◌, ◌*◌, ◌/◌, ◌%◌, ◌<◌, length, slice_get, Some, true, IfOk, IsTrue};
 ghost use Rattle.seq_enum.specs.Places.{rank};
 ghost use Rattle.rule_model.specs.Rules.{Rule};
 ghost use Rattle.window_rewrite.specs.Forms.{form_of};
-ghost use Rattle.window_rewrite.specs.Rules.{entry_rule, is_marked, is_shorter, rules_in, AreAlike, AreKept, AreLed, IsLed};
+ghost use Rattle.window_rewrite.specs.Rules.{entry_rule, is_marked, is_lighter, rules_in, AreAlike, AreKept, AreLed, IsLed};
 
 use crate::forms::form_of;
 use crate::scratch::needs_scratch;
 use listing_parser::Memory;
 use rule_table::Entry;
-use seq_enum::rank;
+use seq_enum::{Costs, rank, weight};
 use std::alloc::Global;
 use thumb_instr::{Instr, Kind, in_window, parts};
 
-/// Whether an entry leaves fewer instructions.
-pub(crate) fn is_shorter(entry: &Entry) -> bool
-    ensures { result ≡ is_shorter (entry_rule entry.now) }
+/// Whether an entry's right side weighs less than its left side.
+pub(crate) fn is_lighter(costs: &Option<Costs>, entry: &Entry) -> bool
+    ensures { result ≡ is_lighter costs.now (entry_rule entry.now) }
 {
-    entry.right.len() < entry.left.len()
+    weight(costs, &entry.right) < weight(costs, &entry.left)
 }
 
 /// Whether two kinds stand at one place among the mnemonics of windows.
@@ -116,10 +117,10 @@ impl Kept {
     }
 
     /// Whether an entry has a kept one before it that is alike.
-    fn has_leader(&self, entries: &[Entry], number: usize) -> bool
-        requires kept { AreKept (rules_in entries.now) number self.now }
+    fn has_leader(&self, costs: &Option<Costs>, entries: &[Entry], number: usize) -> bool
+        requires kept { AreKept costs.now (rules_in entries.now) number self.now }
         requires within { number < length entries.now }
-        ensures { result ≡ true → (rule : Rule) → slice_get (rules_in entries.now) number ≡ Some rule → IsLed (rules_in entries.now) self.now.kept.items number rule }
+        ensures { result ≡ true → (rule : Rule) → slice_get (rules_in entries.now) number ≡ Some rule → IsLed costs.now (rules_in entries.now) self.now.kept.items number rule }
     {
         let mut at = self.lasts[self.shared(&entries[number])];
         while let Some(earlier) = at {
@@ -131,11 +132,12 @@ impl Kept {
         false
     }
 
-    /// Keeps an entry.
-    fn keep(&mut self, entries: &[Entry], number: usize)
-        requires kept { AreKept (rules_in entries.now) number self.old }
+    /// Keeps an entry, whose right side weighs less.
+    fn keep(&mut self, costs: &Option<Costs>, entries: &[Entry], number: usize)
+        requires kept { AreKept costs.now (rules_in entries.now) number self.old }
+        requires lighter { (rule : Rule) → slice_get (rules_in entries.now) number ≡ Some rule → is_lighter costs.now rule ≡ true }
         requires within { number < length entries.now }
-        ensures { AreKept (rules_in entries.now) (number + 1) self.new }
+        ensures { AreKept costs.now (rules_in entries.now) (number + 1) self.new }
     {
         let shared = self.shared(&entries[number]);
         let before = self.lasts[shared];
@@ -145,24 +147,28 @@ impl Kept {
     }
 
     /// Looks at one entry more.
-    fn look(&mut self, entries: &[Entry], number: usize)
-        requires kept { AreKept (rules_in entries.now) number self.old }
+    fn look(&mut self, costs: &Option<Costs>, entries: &[Entry], number: usize)
+        requires kept { AreKept costs.now (rules_in entries.now) number self.old }
         requires within { number < length entries.now }
-        ensures { AreKept (rules_in entries.now) (number + 1) self.new }
+        ensures { AreKept costs.now (rules_in entries.now) (number + 1) self.new }
     {
-        if !is_shorter(&entries[number]) {
+        if !is_lighter(costs, &entries[number]) {
             return;
         }
-        if self.has_leader(entries, number) {
+        if self.has_leader(costs, entries, number) {
             return;
         }
-        self.keep(entries, number);
+        self.keep(costs, entries, number);
     }
 }
 
-/// Which entries are kept: of those that leave fewer instructions and are alike the first.
-pub(crate) fn kept_entries(alloc: Global, entries: &[Entry]) -> Result<Vec<bool>, Memory>
-    ensures led { IfOk result (λ kept. AreLed (rules_in entries.now) kept.items (length entries.now)) }
+/// Which entries are kept: of those that are alike and whose right sides weigh less the first.
+pub(crate) fn kept_entries(
+    alloc: Global,
+    costs: &Option<Costs>,
+    entries: &[Entry],
+) -> Result<Vec<bool>, Memory>
+    ensures led { IfOk result (λ kept. AreLed costs.now (rules_in entries.now) kept.items (length entries.now)) }
     ensures many { IfOk result (λ kept. length kept.items ≡ length entries.now) }
 {
     let mut all = Kept {
@@ -171,7 +177,7 @@ pub(crate) fn kept_entries(alloc: Global, entries: &[Entry]) -> Result<Vec<bool>
         earlier: vec![in alloc; None; entries.len()]?,
     };
     for number in 0..entries.len() {
-        all.look(entries, number);
+        all.look(costs, entries, number);
     }
     let Kept {
         kept,

@@ -5,8 +5,8 @@ use Rattle.std.specs.Option.{IfNone, IfSome}
 use Rattle.std.proofs.lemmas.List.Elements.{All-push}
 use Rattle.kept_places.proofs.Ranks.{marked_within}
 use Rattle.thumb_model.specs.Listing.{places_of}
-use Rattle.rule_model.specs.Rewriting.{lines_after, IsFirst}
-use Rattle.rule_model.proofs.LinesKept.{fewer_after}
+use Rattle.rule_model.specs.Rewriting.{lines_after, Setting, IsFirst}
+use Rattle.rule_model.proofs.LinesKept.{lower_after}
 use Rattle.step_ledger.specs.Counts.{RisesByAtLeast}
 use Rattle.step_ledger.proofs.Rises.{at_least-fewer, at_least-goes_on, at_least-stays}
 use Rattle.window_rewrite.specs.declared.choice.Replacement.{Replacement as Made}
@@ -16,7 +16,8 @@ use Rattle.window_rewrite.specs.Rewriting.{replacement_of, IsWhole}
 use Rattle.window_rewrite.specs.Scenes.{lines_of}
 use Rattle.window_rewrite.proofs.DueMarks.{least_is, least_on, none_marked}
 use Rattle.window_rewrite.proofs.DueScenes.{none_due_before, none_left, tried_at_first, tried_but, tried_gone, whole_many}
-use Rattle.window_rewrite.proofs.Rounds.{cost_ends, fewer_left, less_left, no_more, one_more, round_ends, round_goes}
+use Rattle.window_rewrite.proofs.Rounds.{cost_ends, less_left, less_paid, no_more, one_more, paid, round_ends, round_goes}
+use Rattle.window_rewrite.proofs.Weights.{costs_kept}
 use Rattle.window_rewrite.proofs.due.go_through.Goals as goal
 
 pub loop-place-init : goal.loop-place-init
@@ -41,7 +42,7 @@ pub loop-place-smaller-then-is_gone : goal.loop-place-smaller-then-is_gone
 loop-place-smaller-then-is_gone g c =
     let i = c.loop-place.invariant in
     let l = least_on c.loop-place.due.due c.take_least.new.self c.in-Some.place (length c.args.scene.now.listing.stands) c.in-Some.ensures.least c.in-Some.ensures.taken (i.tried.are.due_many ∙ i.many) in
-    less_left (length (places_of (lines_of c.loop-place.scene)) * (length c.args.scene.now.listing.stands + 1)) (length c.args.scene.now.listing.stands) (before_least c.loop-place.due.due) (before_least c.take_least.new.self) l.0 l.1
+    less_left (paid (setting_of c.args.rules.now) (lines_of c.loop-place.scene) * (length c.args.scene.now.listing.stands + 1)) (length c.args.scene.now.listing.stands) (before_least c.loop-place.due.due) (before_least c.take_least.new.self) l.0 l.1
 
 pub loop-place-preserved-then-is_gone : goal.loop-place-preserved-then-is_gone
 loop-place-preserved-then-is_gone g c =
@@ -76,9 +77,10 @@ pub loop-place-smaller-in-Continue-branch-4 : goal.loop-place-smaller-in-Continu
 loop-place-smaller-in-Continue-branch-4 g c =
     let first : IsWhole c.in-Some-2.replacement × IsFirst (setting_of c.args.rules.now) (replacement_of c.in-Some-2.replacement) (lines_of c.loop-place.scene) × (lines_of c.try_at.new.scene ≡ lines_after (setting_of c.args.rules.now) (replacement_of c.in-Some-2.replacement) (lines_of c.loop-place.scene)) =
     subst (λ o. IfSome o (λ r. IsWhole r × IsFirst (setting_of c.args.rules.now) (replacement_of r) (lines_of c.loop-place.scene) × (lines_of c.try_at.new.scene ≡ lines_after (setting_of c.args.rules.now) (replacement_of r) (lines_of c.loop-place.scene)))) c.in-Some-2.is c.in_ok-replacement.ensures.first in
-    let fewer = fewer_after (setting_of c.args.rules.now) (replacement_of c.in-Some-2.replacement) (lines_of c.loop-place.scene) (λ i. refl) first.1.applies in
-    let less : length (places_of (lines_of c.try_at.new.scene)) < length (places_of (lines_of c.loop-place.scene)) = omega (arith, fewer, ap (λ ls. length (places_of ls)) first.2) in
-    fewer_left (length (places_of (lines_of c.try_at.new.scene))) (length (places_of (lines_of c.loop-place.scene))) (length c.args.scene.now.listing.stands) _ (before_least c.try_at.new.self.due) less
+    let s : Setting = setting_of c.args.rules.now in
+    let lower = lower_after s (replacement_of c.in-Some-2.replacement) (lines_of c.loop-place.scene) (costs_kept c.args.rules.now.costs.now) (λ k i rule at. (c.requires.ready.fit k i rule at).sound) first.1.applies in
+    let less : paid s (lines_of c.try_at.new.scene) < paid s (lines_of c.loop-place.scene) = omega (arith, lower, ap (paid s) first.2) in
+    less_paid (paid s (lines_of c.try_at.new.scene)) (paid s (lines_of c.loop-place.scene)) (length c.args.scene.now.listing.stands) _ (before_least c.try_at.new.self.due) less
 
 pub loop-place-preserved-in-Continue-branch-4 : goal.loop-place-preserved-in-Continue-branch-4
 loop-place-preserved-in-Continue-branch-4 g c =
@@ -110,8 +112,8 @@ loop-place-smaller g c =
     let idle : (lines_of c.try_at.new.scene ≡ lines_of c.loop-place.scene) × (c.try_at.new.self.due ≡ c.take_least.new.self) =
     subst (λ o. IfNone o ((lines_of c.try_at.new.scene ≡ lines_of c.loop-place.scene) × (c.try_at.new.self.due ≡ c.take_least.new.self))) c.in_default-2.is c.in_ok-replacement.ensures.none in
     let next : before_least c.try_at.new.self.due ≡ before_least c.take_least.new.self = ap before_least idle.1 in
-    subst (λ ls. length (places_of ls) * (length c.args.scene.now.listing.stands + 1) + (length c.args.scene.now.listing.stands - before_least c.try_at.new.self.due) < length (places_of (lines_of c.loop-place.scene)) * (length c.args.scene.now.listing.stands + 1) + (length c.args.scene.now.listing.stands - before_least c.loop-place.due.due)) (sym idle.0)
-    (less_left (length (places_of (lines_of c.loop-place.scene)) * (length c.args.scene.now.listing.stands + 1)) (length c.args.scene.now.listing.stands) (before_least c.loop-place.due.due) (before_least c.try_at.new.self.due) (omega (arith, l.0, next)) (omega (arith, l.1, next)))
+    subst (λ ls. paid (setting_of c.args.rules.now) ls * (length c.args.scene.now.listing.stands + 1) + (length c.args.scene.now.listing.stands - before_least c.try_at.new.self.due) < paid (setting_of c.args.rules.now) (lines_of c.loop-place.scene) * (length c.args.scene.now.listing.stands + 1) + (length c.args.scene.now.listing.stands - before_least c.loop-place.due.due)) (sym idle.0)
+    (less_left (paid (setting_of c.args.rules.now) (lines_of c.loop-place.scene) * (length c.args.scene.now.listing.stands + 1)) (length c.args.scene.now.listing.stands) (before_least c.loop-place.due.due) (before_least c.try_at.new.self.due) (omega (arith, l.0, next)) (omega (arith, l.1, next)))
 
 pub loop-place-preserved : goal.loop-place-preserved
 loop-place-preserved g c =

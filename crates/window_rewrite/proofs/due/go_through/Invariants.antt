@@ -1,10 +1,10 @@
 use Rattle.std.proofs.Common.{◌≡◌, ◌+◌, ◌-◌, ◌*◌, ◌≤◌, All, length}
-use Rattle.thumb_model.specs.Listing.{places_of}
 use Rattle.step_ledger.specs.Counts.{RisesByAtLeast}
 use Rattle.window_rewrite.specs.Choices.{setting_of, sides_of}
 use Rattle.window_rewrite.specs.Due.{before_least, AreTried, Completes}
 use Rattle.window_rewrite.specs.Rewriting.{IsWhole}
 use Rattle.window_rewrite.specs.Scenes.{lines_of, IsOver}
+use Rattle.window_rewrite.proofs.Rounds.{paid}
 use Rattle.window_rewrite.proofs.due.go_through.Given as goal
 
 -- in each round places ascend up to the least one that is due
@@ -20,4 +20,4 @@ invariant-loop-place g l = record {
 }
 
 abbrev pub decreases-loop-place : goal.decreases-loop-place
-decreases-loop-place g l = length (places_of (lines_of l.scene)) * (length l.fn.scene.listing.stands + 1) + (length l.fn.scene.listing.stands - before_least l.due.due)
+decreases-loop-place g l = paid (setting_of l.rules) (lines_of l.scene) * (length l.fn.scene.listing.stands + 1) + (length l.fn.scene.listing.stands - before_least l.due.due)

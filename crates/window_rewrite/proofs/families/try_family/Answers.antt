@@ -64,7 +64,7 @@ returns-in-Some-clause-some g c =
     let entry : length c.args.look.now.rules.now.entries.now + c.args.number + 1 - 1 ≡ length c.args.look.now.rules.now.entries.now + c.args.number = omega arith in
     IfOk-weaker c.try_rule.result _ _ (λ o h. IfSome_then o h (λ x by.
     family_choice c.args.look.now.rules.now c.args.number (family_of (slice_index_or c.args.look.now.rules.now.families.now c.args.number c.index-look-number.result)) (rule_of c.entry_raised-entry.result.now) k c.as_slice.result.now c.in-Some.instance c.in-Some.ensures (lines_seen c.args.look.now) (number_seen c.args.look.now) c.args.window.now c.args.form.now x c.requires.look.ready c.requires.stands.is_window c.requires.form c.as_slice.ensures.value long
-    (subst (λ n. IsChoiceBy c.args.look.now.rules.now.base (entry_rule c.in-Some.instance.rule) (lines_seen c.args.look.now) (number_seen c.args.look.now) n c.in-Some.instance.number x) entry by))) c.try_rule.ensures.some
+    (subst (λ n. IsChoiceBy c.args.look.now.rules.now.costs.now c.args.look.now.rules.now.base (entry_rule c.in-Some.instance.rule) (lines_seen c.args.look.now) (number_seen c.args.look.now) n c.in-Some.instance.number x) entry by))) c.try_rule.ensures.some
 
 pub returns-in-Some-clause-none : goal.returns-in-Some-clause-none
 returns-in-Some-clause-none g c =

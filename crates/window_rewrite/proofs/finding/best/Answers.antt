@@ -11,7 +11,7 @@ pub loop-count-init : goal.loop-count-init
 loop-count-init g c = record {
   within = c.requires.within;
   none =
-      none_reached _ c.args.look.now.rules.now.base c.args.look.now.rules.now.longest (table_in c.args.look.now.rules.now) (lines_seen c.args.look.now) (number_seen c.args.look.now) c.args.reached
+      none_reached _ c.args.look.now.rules.now.costs.now c.args.look.now.rules.now.base c.args.look.now.rules.now.longest (table_in c.args.look.now.rules.now) (lines_seen c.args.look.now) (number_seen c.args.look.now) c.args.reached
       c.args.look.now.site.now.run.letters c.args.look.now.site.now.run.letters c.requires.look.ready.fit c.requires.look.site.letters refl c.requires.none;
   stays = λ e. e;
   rises = at_least-stays c.args.steps.now;

@@ -1,6 +1,7 @@
-use Rattle.std.proofs.Common.{◌≡◌, ◌∙◌, ℕ, ◌-◌, List, true, false, length, map, ap, arith, refl, sym, subst, true≢false}
+use Rattle.std.proofs.Common.{◌≡◌, ◌∙◌, ℕ, ◌-◌, ◌≤◌, max, Option, List, true, false, length, map, ap, arith, refl, sym, subst, true≢false}
 use Rattle.std.specs.Prelude.{is_some}
 use Rattle.std.specs.List.{list_all}
+use Rattle.std.proofs.lemmas.Bool.{lt-ltb}
 use Rattle.std.proofs.lemmas.List.{length-map}
 use Rattle.thumb_instr.specs.declared.instr.Instr.{Instr}
 use Rattle.thumb_instr.specs.Renaming.{Low, renamed}
@@ -11,23 +12,33 @@ use Rattle.thumb_model.specs.Listing.{Line, code_of, labels_from, places_of}
 use Rattle.rule_model.specs.Rules.{Rule, rule_registers}
 use Rattle.rule_model.specs.Rewriting.{Replacement}
 use Rattle.thumb_model.specs.ReplacedLines.{replaced_lines}
+use Rattle.listing_parser.specs.Grammar.{most_lines}
 use Rattle.listing_parser.specs.Parsing.{own_line}
+use Rattle.seq_enum.specs.Costs.{weight_under}
 use Rattle.table_audit.proofs.Names.{has_one}
 use Rattle.window_rewrite.specs.Settled.{IsSettled}
-use Rattle.window_rewrite.specs.Rewriting.{setting, registers_of}
+use Rattle.window_rewrite.specs.Rewriting.{registers_of, setting_by}
 use Rattle.window_rewrite.specs.Rules.{entry_rule, with_open}
 use Rattle.window_rewrite.specs.Fitting.{left_registers}
-use Rattle.window_rewrite.specs.Scenes.{lines_seen, number_seen}
-use Rattle.window_rewrite.proofs.Applied.{applied, laid, letters_all, IsMade}
-use Rattle.window_rewrite.proofs.Alike.{laid_under, settled_under}
+use Rattle.window_rewrite.specs.Scenes.{lines_left, lines_seen, number_seen, MayBeLeft}
+use Rattle.window_rewrite.proofs.Applied.{applied, laid, letters_all, used_lighter, IsLeft, IsMade}
+use Rattle.window_rewrite.proofs.Alike.{left_under, settled_under}
 use Rattle.window_rewrite.proofs.Opened.{fitted_by, laid_by, sound_open, whole_open}
 use Rattle.window_rewrite.specs.Layouts.{is_steady}
+use Rattle.window_rewrite.proofs.Weights.{lighter_some, lighter_true}
 use Rattle.window_rewrite.proofs.finding.try_rule.Goals as goal
+
+pub returns-then-not-is_lighter-clause-none : goal.returns-then-not-is_lighter-clause-none
+returns-then-not-is_lighter-clause-none g c = λ table numbers o used here m.
+    let rule : Rule = entry_rule c.args.rule.now in
+    let costs : Option (List ℕ) = c.args.look.now.rules.now.costs.now in
+    let lighter = used_lighter costs c.args.look.now.rules.now.base table (lines_seen c.args.look.now) o (with_open rule numbers) used m.0 in
+    absurd (true≢false (sym (lt-ltb (weight_under costs rule.right) (weight_under costs rule.left) lighter) ∙ sym c.is_lighter.ensures ∙ c.if-not-is_lighter.true))
 
 pub returns-then-not-may_fit-clause-none : goal.returns-then-not-may_fit-clause-none
 returns-then-not-may_fit-clause-none g c = λ table numbers o used here m.
     let rule : Rule = entry_rule c.args.rule.now in
-    let f = fitted_by _ c.args.look.now.rules.now.base c.args.look.now.rules.now.longest table numbers (lines_seen c.args.look.now) (number_seen c.args.look.now) o rule c.args.window.now c.args.form.now.live.bits used c.requires.fit c.requires.long c.requires.stands here m in
+    let f = fitted_by _ c.args.look.now.rules.now.costs.now c.args.look.now.rules.now.base c.args.look.now.rules.now.longest table numbers (lines_seen c.args.look.now) (number_seen c.args.look.now) o rule c.args.window.now c.args.form.now.live.bits used c.requires.fit c.requires.long c.requires.stands here m in
     let has_all : (x : ℕ) → has c.args.form.now.mask.items.bits x ≡ true → has c.args.rule.now.mask.items.bits x ≡ true = λ x h. (has_one c.args.rule.now.mask.items.bits x (c.requires.form.mask rule (left_registers rule o.registers) c.requires.fit.sound c.requires.fit.canonical f.fits.fits x h)).0 in
     absurd (true≢false (sym (c.may_fit.ensures has_all) ∙ c.if-not-may_fit.true))
 
@@ -40,7 +51,7 @@ fitting-requires-clause-canonical g c = c.requires.fit.canonical
 pub returns-in-None-clause-none : goal.returns-in-None-clause-none
 returns-in-None-clause-none g c = λ table numbers o used here m.
     let rule : Rule = entry_rule c.args.rule.now in
-    let f = fitted_by _ c.args.look.now.rules.now.base c.args.look.now.rules.now.longest table numbers (lines_seen c.args.look.now) (number_seen c.args.look.now) o rule c.args.window.now c.args.form.now.live.bits used c.requires.fit c.requires.long c.requires.stands here m in
+    let f = fitted_by _ c.args.look.now.rules.now.costs.now c.args.look.now.rules.now.base c.args.look.now.rules.now.longest table numbers (lines_seen c.args.look.now) (number_seen c.args.look.now) o rule c.args.window.now c.args.form.now.live.bits used c.requires.fit c.requires.long c.requires.stands here m in
     c.in-None.ensures o.registers f.fits
 
 pub returns-then-not-is_settled-clause-none : goal.returns-then-not-is_settled-clause-none
@@ -49,7 +60,7 @@ returns-then-not-is_settled-clause-none g c = λ table numbers o used here m.
     let registers : List Low = registers_of c.in-Some.map in
     let new : c.renamed_all-new.result ≡ map (renamed registers) rule.right =
     c.renamed_all-new.ensures ∙ ap (λ (rs : List Low). map (renamed rs) c.as_slice.result.now) (c.deref.ensures.0 ∙ c.registers_of.ensures) ∙ ap (map (renamed registers)) c.as_slice.ensures.value in
-    let f = fitted_by _ c.args.look.now.rules.now.base c.args.look.now.rules.now.longest table numbers (lines_seen c.args.look.now) (number_seen c.args.look.now) o rule c.args.window.now c.args.form.now.live.bits used c.requires.fit c.requires.long c.requires.stands here m in
+    let f = fitted_by _ c.args.look.now.rules.now.costs.now c.args.look.now.rules.now.base c.args.look.now.rules.now.longest table numbers (lines_seen c.args.look.now) (number_seen c.args.look.now) o rule c.args.window.now c.args.form.now.live.bits used c.requires.fit c.requires.long c.requires.stands here m in
     let also = settled_under (code_of (lines_seen c.args.look.now)) (number_seen c.args.look.now) (length c.args.window.now) o.registers registers rule.right f.settled in
     let settled = c.is_settled.ensures.1 (subst (λ (js : List Instr). IsSettled (places_of (lines_seen c.args.look.now)) (labels_from 0 (lines_seen c.args.look.now)) (number_seen c.args.look.now) (length c.args.window.now) js) (sym (c.as_slice-2.ensures.value ∙ new)) also) in
     let never : true ≡ false = sym settled ∙ c.if-not-is_settled.true in
@@ -63,9 +74,17 @@ moved_layout-requires-clause-letters g c =
     c.renamed_all-new.ensures ∙ ap (λ (rs : List Low). map (renamed rs) c.as_slice.result.now) (c.deref.ensures.0 ∙ c.registers_of.ensures) ∙ ap (map (renamed registers)) c.as_slice.ensures.value in
     subst (λ (is : List Instr). list_all is_in_window is ≡ true) (sym (c.as_slice-3.ensures.value ∙ new)) (letters_all (rule_registers rule) registers rule.right c.requires.fit.sound.right)
 
-pub moved_layout-requires-clause-fewer : goal.moved_layout-requires-clause-fewer
-moved_layout-requires-clause-fewer g c =
-    let shorter = c.in-Some.ensures.0.fits.shorter in
+pub moved_layout-requires-clause-some : goal.moved_layout-requires-clause-some
+moved_layout-requires-clause-some g c =
+    let rule : Rule = entry_rule c.args.rule.now in
+    let costs : Option (List ℕ) = c.args.look.now.rules.now.costs.now in
+    let some = lighter_some costs rule.left rule.right (lighter_true costs rule (sym c.is_lighter.ensures ∙ c.if-not-is_lighter.false)) in
+    let long = c.requires.long in
+    omega arith
+
+pub moved_layout-requires-clause-no_longer : goal.moved_layout-requires-clause-no_longer
+moved_layout-requires-clause-no_longer g c =
+    let no_longer = c.requires.fit.sound.no_longer in
     let rule : Rule = entry_rule c.args.rule.now in
     let registers : List Low = registers_of c.in-Some.map in
     let new : c.renamed_all-new.result ≡ map (renamed registers) rule.right =
@@ -73,7 +92,7 @@ moved_layout-requires-clause-fewer g c =
     let long = c.requires.long in
     let count = ap (λ (is : List Instr). length is) (c.as_slice-3.ensures.value ∙ new) in
     let as_many = length-map rule.right (renamed registers) in
-    omega (arith, shorter, long, count, as_many)
+    omega (arith, no_longer, long, count, as_many)
 
 pub returns-in-None-2-clause-none : goal.returns-in-None-2-clause-none
 returns-in-None-2-clause-none g c = λ table numbers o used here m.
@@ -81,9 +100,11 @@ returns-in-None-2-clause-none g c = λ table numbers o used here m.
     let registers : List Low = registers_of c.in-Some.map in
     let new : c.renamed_all-new.result ≡ map (renamed registers) rule.right =
     c.renamed_all-new.ensures ∙ ap (λ (rs : List Low). map (renamed rs) c.as_slice.result.now) (c.deref.ensures.0 ∙ c.registers_of.ensures) ∙ ap (map (renamed registers)) c.as_slice.ensures.value in
-    let laid = laid_by c.args.look.now.rules.now.base table numbers (lines_seen c.args.look.now) (number_seen c.args.look.now) o rule c.args.window.now used c.requires.long here m in
-    let also = laid_under c.args.look.now.rules.now.base (number_seen c.args.look.now) (length c.args.window.now) (rule_registers rule) o.registers registers rule.right (lines_seen c.args.look.now) c.requires.fit.sound.right laid in
-    let may = c.in_ok-moved_layout.ensures.layable.1 (λ _. subst (λ (js : List Instr). Layable c.args.look.now.rules.now.base (replaced_lines own_line (number_seen c.args.look.now) (length c.args.window.now) js (lines_seen c.args.look.now))) (sym (c.as_slice-3.ensures.value ∙ new)) also) in
+    let laid = laid_by c.args.look.now.rules.now.costs.now c.args.look.now.rules.now.base table numbers (lines_seen c.args.look.now) (number_seen c.args.look.now) o rule c.args.window.now used c.requires.long here m in
+    let also = left_under c.args.look.now.rules.now.base (number_seen c.args.look.now) (length c.args.window.now) (rule_registers rule) o.registers registers rule.right (lines_seen c.args.look.now) c.requires.fit.sound.right laid in
+    let left : IsLeft c.args.look.now.rules.now.base (lines_seen c.args.look.now) (lines_left c.args.look.now c.args.window.now c.as_slice-3.result.now) =
+    subst (λ (js : List Instr). IsLeft c.args.look.now.rules.now.base (lines_seen c.args.look.now) (lines_left c.args.look.now c.args.window.now js)) (sym (c.as_slice-3.ensures.value ∙ new)) also in
+    let may = c.in_ok-moved_layout.ensures.allowed.1 (record { few = left.few; layable = λ _. left.layable }) in
     let never : true ≡ false = sym may ∙ ap is_some c.in-None-2.is in
     absurd (true≢false never)
 
@@ -105,20 +126,27 @@ returns-clause-some g c =
     let count : length c.args.window.now ≡ length rule.left = sym c.requires.long in
     let settled : IsSettled (places_of lines) (labels_from 0 lines) place (length c.args.window.now) c.renamed_all-new.result =
     subst (λ (js : List Instr). IsSettled (places_of lines) (labels_from 0 lines) place (length c.args.window.now) js) c.as_slice-2.ensures.value (c.is_settled.ensures.0 c.if-not-is_settled.false) in
+    let allowed : MayBeLeft c.args.look.now c.args.window.now c.as_slice-3.result.now = c.in_ok-moved_layout.ensures.allowed.0 (ap is_some c.in-Some-2.is) in
     let asked : is_steady c.args.look.now.scene.now.layout ≡ false → Layable c.args.look.now.rules.now.base (replaced_lines own_line place (length c.args.window.now) (map (renamed registers) rule.right) lines) =
-    λ f. subst (λ (js : List Instr). Layable c.args.look.now.rules.now.base (replaced_lines own_line place (length c.args.window.now) js lines)) (c.as_slice-3.ensures.value ∙ new) (c.in_ok-moved_layout.ensures.layable.0 (ap is_some c.in-Some-2.is) f) in
+    λ f. subst (λ (js : List Instr). Layable c.args.look.now.rules.now.base (replaced_lines own_line place (length c.args.window.now) js lines)) (c.as_slice-3.ensures.value ∙ new) (allowed.layable f) in
+    let few : length (replaced_lines own_line place (length rule.left) (map (renamed registers) rule.right) lines) ≤ max (length lines) most_lines =
+    subst (λ n. length (replaced_lines own_line place n (map (renamed registers) rule.right) lines) ≤ max (length lines) most_lines) count
+    (subst (λ (js : List Instr). length (replaced_lines own_line place (length c.args.window.now) js lines) ≤ max (length lines) most_lines) (c.as_slice-3.ensures.value ∙ new) allowed.few) in
+    let costs : Option (List ℕ) = c.args.look.now.rules.now.costs.now in
+    let lighter = lighter_true costs rule (sym c.is_lighter.ensures ∙ c.if-not-is_lighter.false) in
+    let some = lighter_some costs rule.left rule.right lighter in
     let made : Replacement = record { place = place; entry = c.args.entry - 1; instance = c.args.instance; registers = registers } in
     record {
       is = λ table numbers used.
           let own : Rule = with_open rule numbers in
           let sound = sound_open rule numbers c.requires.fit.sound in
-          let m : IsMade (setting c.args.look.now.rules.now.base table) lines made c.args.window.now c.renamed_all-new.result =
-          applied c.args.look.now.rules.now.base table lines made own c.args.window.now c.args.form.now.live.bits c.renamed_all-new.result used sound c.requires.stands
-          (whole_open rule numbers registers c.args.window.now c.args.form.now.live.bits c.in-Some.ensures.0) c.in-Some.ensures.1 new settled
-          (laid c.args.look.now.rules.now c.args.look.now.scene.now.layout lines place own registers c.args.window.now c.requires.look.over.over sound c.in-Some.ensures.0.fits.shorter count asked) in
-          let made_at : IsMade (setting c.args.look.now.rules.now.base table) lines made c.copied.result c.renamed_all-new.result =
-          subst (λ (js : List Instr). IsMade (setting c.args.look.now.rules.now.base table) lines made js c.renamed_all-new.result) (sym c.copied.ensures) m in
-          record { whole = record { counted = c.requires.counted; in_place = c.in-Some.ensures.3 }; applies = made_at.applies; is_window = made_at.is_window; keeps = made_at.keeps; leaves = made_at.leaves; long = made_at.long };
+          let m : IsMade (setting_by c.args.look.now.rules.now.costs.now c.args.look.now.rules.now.base table) lines made c.args.window.now c.renamed_all-new.result =
+          applied c.args.look.now.rules.now.costs.now c.args.look.now.rules.now.base table lines made own c.args.window.now c.args.form.now.live.bits c.renamed_all-new.result used sound lighter c.requires.stands
+          (whole_open rule numbers registers c.args.window.now c.args.form.now.live.bits c.in-Some.ensures.0) c.in-Some.ensures.1 new settled few
+          (laid c.args.look.now.rules.now c.args.look.now.scene.now.layout lines place own registers c.args.window.now c.requires.look.over.over sound some count asked) in
+          let made_at : IsMade (setting_by c.args.look.now.rules.now.costs.now c.args.look.now.rules.now.base table) lines made c.copied.result c.renamed_all-new.result =
+          subst (λ (js : List Instr). IsMade (setting_by c.args.look.now.rules.now.costs.now c.args.look.now.rules.now.base table) lines made js c.renamed_all-new.result) (sym c.copied.ensures) m in
+          record { whole = record { counted = c.requires.counted; in_place = c.in-Some.ensures.3 }; applies = made_at.applies; is_window = made_at.is_window; gives_way = made_at.gives_way; leaves = made_at.leaves; long = made_at.long };
       at = refl;
       entry_is = refl;
       instance_is = refl;

@@ -35,7 +35,6 @@ returns-then-are_allowed c =
     let registers : c.deref.result.now ≡ own = c.deref.ensures.0 ∙ c.registers_of.ensures in
     let fits : Fits rule own c.args.window.now c.args.live.bits = record {
       stands = m.0;
-      shorter = omega (arith, c.if-len.false, c.len.ensures.value, c.len-2.ensures.value);
       allowed = λ x h. subst (λ (l : List Low). is_allowed (items_in c.args.entry.now.mask.items.bits) l x ≡ true) registers (c.are_allowed.ensures.0 c.if-are_allowed.true x h);
     } in
     matched c.with_scratch.result _ _ _ _

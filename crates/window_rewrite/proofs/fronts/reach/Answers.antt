@@ -10,9 +10,9 @@ returns-then-is_empty-clause-none c =
     let e = c.is_empty.ensures in
     let m = length-map c.args.rules.now.families.now family_of in
     let none : length (map family_of c.args.rules.now.families.now) ≡ 0 = m ∙ eqb-true (length c.args.rules.now.families.now) 0 (sym e ∙ c.if-is_empty.true) in
-    reached_own (map rule_of c.args.rules.now.entries.now) (map family_of c.args.rules.now.families.now) c.args.rules.now.index.now c.requires.ready.index c.args.run.now c.reach_in-own.result none c.reach_in-own.ensures.none
+    reached_own c.args.rules.now.costs.now (map rule_of c.args.rules.now.entries.now) (map family_of c.args.rules.now.families.now) c.args.rules.now.index.now c.requires.ready.index c.args.run.now c.reach_in-own.result none c.reach_in-own.ensures.none
 
 pub returns-clause-none : goal.returns-clause-none
 returns-clause-none c =
     let h = c.max.ensures in
-    reached_both (map rule_of c.args.rules.now.entries.now) (map family_of c.args.rules.now.families.now) c.args.rules.now.index.now c.requires.ready.index c.args.run.now c.reach_in-own.result c.reach_in-raised.result c.max.result c.reach_in-own.ensures.none c.reach_in-raised.ensures.none (omega arith) (omega arith)
+    reached_both c.args.rules.now.costs.now (map rule_of c.args.rules.now.entries.now) (map family_of c.args.rules.now.families.now) c.args.rules.now.index.now c.requires.ready.index c.args.run.now c.reach_in-own.result c.reach_in-raised.result c.max.result c.reach_in-own.ensures.none c.reach_in-raised.ensures.none (omega arith) (omega arith)

@@ -1,4 +1,4 @@
-use Rattle.std.proofs.Common.{◌≡◌, ◌∙◌, ◌≤◌, ◌+◌, List, length, map, ap, subst, sym}
+use Rattle.std.proofs.Common.{◌≡◌, ◌∙◌, ◌≤◌, ◌+◌, ℕ, Option, List, length, map, ap, subst, sym}
 use Rattle.rule_model.specs.Rules.{Rule}
 use Rattle.rule_model.specs.Rewriting.{AreRewritten}
 use Rattle.rule_model.proofs.LinesKept.{lines_same}
@@ -8,7 +8,7 @@ use Rattle.rule_table.specs.declared.table.Family.{Family}
 use Rattle.rule_table.specs.declared.table.Table.{Table}
 use Rattle.rule_table.specs.Views.{family_of, rule_of, table_of}
 use Rattle.table_audit.specs.Soundness.{numbers_in, numbers_of}
-use Rattle.window_rewrite.specs.Rewriting.{setting, replacement_of, rewriting_cost}
+use Rattle.window_rewrite.specs.Rewriting.{setting, setting_by, replacement_of, rewriting_cost}
 use Rattle.window_rewrite.specs.Rules.{AreFit, AreRaised}
 use Rattle.window_rewrite.proofs.Accepted.{are_fit, are_raised}
 use Rattle.window_rewrite.proofs.Joined.{sides_many}
@@ -45,7 +45,9 @@ returns-clause-rewritten g c =
     let es : c.as_slice-entries.result.now ≡ own.entries.items = c.as_slice-entries.ensures.value ∙ ap (λ (t : Table). t.entries.items) same in
     let fs : c.as_slice-families.result.now ≡ own.families.items = c.as_slice-families.ensures.value ∙ ap (λ (t : Table). t.families.items) same in
     let numbers = numbers_same own c.as_slice-entries.result.now c.as_slice-families.result.now es fs in
-    subst (λ (rs : List (List Rule)). AreRewritten (setting c.args.base rs) c.args.listing (map replacement_of c.in_ok-new.new.replacements.items) c.in_ok-new.new.listing) numbers c.in_ok-new.ensures.rewritten
+    let costs : c.table-accepted.result.now.costs ≡ own.costs = ap (λ (t : Table). t.costs) same in
+    subst (λ (cs : Option (List ℕ)). AreRewritten (setting_by cs c.args.base (numbers_of (table_of own))) c.args.listing (map replacement_of c.in_ok-new.new.replacements.items) c.in_ok-new.new.listing) costs
+    (subst (λ (rs : List (List Rule)). AreRewritten (setting_by c.table-accepted.result.now.costs c.args.base rs) c.args.listing (map replacement_of c.in_ok-new.new.replacements.items) c.in_ok-new.new.listing) numbers c.in_ok-new.ensures.rewritten)
 
 pub returns-clause-cost : goal.returns-clause-cost
 returns-clause-cost g c =
@@ -59,5 +61,5 @@ returns-clause-cost g c =
 
 pub returns-clause-same : goal.returns-clause-same
 returns-clause-same g c = λ literals.
-    lines_same (setting c.args.base (numbers_of (table_of c.args.table.now))) c.args.listing (map replacement_of c.in_ok-new.new.replacements.items) c.in_ok-new.new.listing
+    lines_same (setting c.args.base (table_of c.args.table.now)) c.args.listing (map replacement_of c.in_ok-new.new.replacements.items) c.in_ok-new.new.listing
     c.table-accepted.ensures.sound.sound literals (returns-clause-rewritten g c)

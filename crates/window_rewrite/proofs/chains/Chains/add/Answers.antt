@@ -8,8 +8,8 @@ use Rattle.window_rewrite.proofs.Accepted.{entry_at}
 use Rattle.window_rewrite.proofs.Keys.{more_chains}
 use Rattle.window_rewrite.proofs.chains.Chains.add.Goals as goal
 
-pub returns : goal.returns
-returns c =
+pub returns-clause-chains : goal.returns-clause-chains
+returns-clause-chains c =
     let n : ℕ = c.args.number in
     let e : Entry = slice_index_or c.args.entries.now n c.index-entries-number.result in
     let at : slice_get c.args.entries.now n ≡ Some e = slice_get_read c.args.entries.now _ _ c.index-entries-number.result refl c.requires.number c.index-entries-number.is ∙ ap Some c.index-entries-number.is in

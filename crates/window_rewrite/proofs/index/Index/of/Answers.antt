@@ -7,8 +7,9 @@ use Rattle.window_rewrite.proofs.index.Index.of.Goals as goal
 
 pub returns : goal.returns
 returns c = record {
-  marks = subst (λ n. AreNoted left_side (alone (rules_in c.args.entries.now)) n c.in_ok-of.field-0) (sym (length-map c.args.entries.now rule_of)) c.in_ok-of.ensures;
-  holes = subst (λ n. AreNoted blind_side (families_in (map rule_of c.args.entries.now) (map family_of c.args.families.now)) n c.in_ok-of_families.field-0) (sym (length-map c.args.families.now family_of)) c.in_ok-of_families.ensures;
-  chains = c.in_ok-of-2.ensures;
+  marks = subst (λ n. AreNoted c.args.costs.now left_side (alone (rules_in c.args.entries.now)) n c.in_ok-of.field-0) (sym (length-map c.args.entries.now rule_of)) c.in_ok-of.ensures;
+  holes = subst (λ n. AreNoted c.args.costs.now blind_side (families_in (map rule_of c.args.entries.now) (map family_of c.args.families.now)) n c.in_ok-of_families.field-0) (sym (length-map c.args.families.now family_of)) c.in_ok-of_families.ensures;
+  led = c.in_ok-of-2.ensures.led;
+  chains = c.in_ok-of-2.ensures.chains;
   forms = c.in_ok-raised_forms.ensures;
 }

@@ -12,7 +12,7 @@ use Rattle.window_rewrite.proofs.Heads.{more_noted, none_noted}
 use Rattle.window_rewrite.proofs.marks.Marks.of_families.Goals as goal
 
 pub loop-number-init : goal.loop-number-init
-loop-number-init c = none_noted blind_side (families_in (map rule_of c.args.entries.now) (map family_of c.args.families.now)) c.in_ok-marks.marks c.in_ok-marks.ensures
+loop-number-init c = none_noted c.args.costs.now blind_side (families_in (map rule_of c.args.entries.now) (map family_of c.args.families.now)) c.in_ok-marks.marks c.in_ok-marks.ensures
 
 pub loop-number-preserved : goal.loop-number-preserved
 loop-number-preserved c =
@@ -23,11 +23,11 @@ loop-number-preserved c =
     let there : slice_get (families_in es (map family_of c.args.families.now)) n ≡ Some (instances_of (family_of f) (entry_at es (family_of f).entry)) =
     slice_get-map (λ g. instances_of g (entry_at es g.entry)) (map family_of c.args.families.now) n
     ∙ ap (option_map (λ g. instances_of g (entry_at es g.entry))) (slice_get-map family_of c.args.families.now n ∙ ap (option_map family_of) at) in
-    more_noted blind_side (families_in es (map family_of c.args.families.now)) n (instances_of (family_of f) (entry_at es (family_of f).entry)) c.loop-number.marks c.add_family.new.self there c.loop-number.invariant c.add_family.ensures.many c.add_family.ensures.stay c.add_family.ensures.noted
+    more_noted c.args.costs.now blind_side (families_in es (map family_of c.args.families.now)) n (instances_of (family_of f) (entry_at es (family_of f).entry)) c.loop-number.marks c.add_family.new.self there c.loop-number.invariant c.add_family.ensures.many c.add_family.ensures.stay c.add_family.ensures.noted
 
 pub returns : goal.returns
 returns c =
     let end = c.loop-number-test.false in
     let within = c.loop-number.auto.number-end in
     let whole : c.loop-number.number ≡ length c.args.families.now = omega arith in
-    subst (λ n. AreNoted blind_side (families_in (map rule_of c.args.entries.now) (map family_of c.args.families.now)) n c.loop-number.marks) whole c.loop-number.invariant
+    subst (λ n. AreNoted c.args.costs.now blind_side (families_in (map rule_of c.args.entries.now) (map family_of c.args.families.now)) n c.loop-number.marks) whole c.loop-number.invariant

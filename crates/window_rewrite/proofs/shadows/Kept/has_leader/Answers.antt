@@ -21,7 +21,7 @@ returns-then-leads c = λ _ rule at.
     let many = rules_length c.args.entries.now in
     let within = c.requires.within in
     let there = is_there (rules_in c.args.entries.now) c.in-Some.earlier (omega arith) in
-    record { leader = c.in-Some.earlier; no_later = omega arith; is_kept = h.1; other = there.rule; at = there.at; alike = c.leads.ensures c.if-leads.true there.rule rule there.at at }
+    record { leader = c.in-Some.earlier; no_later = omega arith; is_kept = h.1; other = there.rule; at = there.at; lighter = c.requires.kept.lighter c.in-Some.earlier there.rule there.at h.1; alike = c.leads.ensures c.if-leads.true there.rule rule there.at at }
 
 pub index-at-requires-in-Some : goal.index-at-requires-in-Some
 index-at-requires-in-Some c =

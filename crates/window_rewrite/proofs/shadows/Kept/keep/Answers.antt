@@ -14,6 +14,7 @@ returns c =
     let within = c.requires.within in
     let e : Entry = slice_index_or c.args.entries.now n c.index-entries-number.result in
     let at : slice_get c.args.entries.now n ≡ Some e = slice_get_read c.args.entries.now _ _ c.index-entries-number.result refl within c.index-entries-number.is ∙ ap Some c.index-entries-number.is in
-    more_kept (rules_in c.args.entries.now) n c.shared-shared.result (entry_rule e) c.args.self.now _ c.index-before.result.now (entry_at c.args.entries.now n e at) (omega arith) (omega (arith, c.shared-shared.ensures, c.requires.kept.many_lasts)) c.requires.kept
+    let own = entry_at c.args.entries.now n e at in
+    more_kept c.args.costs.now (rules_in c.args.entries.now) n c.shared-shared.result (entry_rule e) c.args.self.now _ c.index-before.result.now own (omega arith) (omega (arith, c.shared-shared.ensures, c.requires.kept.many_lasts)) (c.requires.lighter (entry_rule e) own) c.requires.kept
     (slice_get_read c.args.self.now.lasts.items _ _ c.index-before.result.now refl c.shared-shared.ensures c.index-before.ensures)
     refl refl refl
