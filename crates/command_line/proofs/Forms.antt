@@ -4,7 +4,8 @@ use Rattle.std.specs.Prelude.{option_and_then}
 use Rattle.std.specs.List.{list_all}
 use Rattle.clap.specs.Words.{Row, fault_of, first_of, subcommand_of}
 use Rattle.command_line.specs.App.{asked, asked_by, form_of, peep_app, words_for}
-use Rattle.command_line.specs.CommandLine.{AskFor, Form, rewrites, audits, learns, exports, traces, demos, upgrades, trims, tidies, generalises, Given, IsCommand, Request, rewrite, learn, tidy, Text, all_given, base_of, settings_of, settings_by, number_from, pool_of, is_one_of, name_of, options_of, request_by, value_of}
+use Rattle.command_line.specs.CommandLine.{AskFor, Form, rewrites, audits, learns, exports, traces, demos, upgrades, trims, tidies, generalises, Given, IsCommand, Request, rewrite, learn, tidy, Text, all_given, base_of, settings_of, settings_by, version_by, number_from, pool_of, is_one_of, name_of, options_of, request_by, value_of}
+use Rattle.rule_table.specs.Header.{Header}
 use Rattle.command_line.proofs.Items.{is_name}
 use Rattle.command_line.proofs.Law.{rows}
 use Rattle.command_line.proofs.Views.{AreTexts}
@@ -50,7 +51,8 @@ same_settings f g e =
     let seed : f (codes "seed") ≡ g (codes "seed") = e (codes "seed") refl in
     let pool : f (codes "pool") ≡ g (codes "pool") = e (codes "pool") refl in
     let scratch : f (codes "scratch") ≡ g (codes "scratch") = e (codes "scratch") refl in
-    λ i. settings_by (number_from 1 4 3 (regs i)) (number_from 1 5 3 (left i)) (number_from 1 1000000 20000 (budget i)) (number_from 0 4294967295 42 (seed i)) (number_from 0 1 0 (scratch i)) (pool_of (pool i))
+    let costs : f (codes "costs") ≡ g (codes "costs") = e (codes "costs") refl in
+    λ i. settings_by (version_by (costs i)) (number_from 1 4 3 (regs i)) (number_from 1 5 3 (left i)) (number_from 1 1000000 20000 (budget i)) (number_from 0 4294967295 42 (seed i)) (number_from 0 1 0 (scratch i)) (pool_of (pool i))
 
 -- only the values of the options are looked at
 pub same_options : (form : Form) (ps : List Text) (f g : Text → Option Text) → ((n : Text) → is_one_of (options_of form) n ≡ true → f n ≡ g n)
@@ -59,7 +61,7 @@ same_options rewrites (t ∷ l ∷ o ∷ i ∷ []) f g e = ap (λ (v : Option Te
 same_options rewrites ps f g e = refl
 same_options audits (t ∷ []) f g e = refl
 same_options audits ps f g e = refl
-same_options learns (l ∷ o ∷ []) f g e = ap (option_map (λ settings. learn l o settings)) (same_settings f g e)
+same_options learns (l ∷ o ∷ []) f g e = ap₂ (λ (c : Option Text) (s : Option Header). option_map (λ settings. learn l o c settings) s) (e (codes "costs") refl) (same_settings f g e)
 same_options learns ps f g e = refl
 same_options exports (t ∷ n ∷ c ∷ l ∷ []) f g e = refl
 same_options exports ps f g e = refl

@@ -119,14 +119,19 @@ abbrev pub pool_of : Option Text → Option (List ℕ)
 pool_of None = Some (0 ∷ 1 ∷ 2 ∷ 4 ∷ 8 ∷ 16 ∷ 24 ∷ 31 ∷ 255 ∷ [])
 pool_of (Some v) = option_and_then (λ ns. if is_pool ns then Some ns else None) (all_given (map decimal (between_commas v)))
 
--- a learner's settings of these parts, which are the header of its table, of version 2, or none where one of them is none
-abbrev pub settings_by : (regs left budget seed scratch : Option ℕ) → Option (List ℕ) → Option Header
-settings_by regs left budget seed scratch pool = option_and_then (λ r. option_and_then (λ l. option_and_then (λ b. option_and_then (λ s. option_and_then (λ c.
-    option_map (λ p. record { version = 2; regs = r; left = l; budget = b; seed = s; pool = p; scratch = c }) pool) scratch) seed) budget) left) regs
+-- the version of a learner's table, by the name of a text of costs
+abbrev pub version_by : Option Text → ℕ
+version_by None = 2
+version_by (Some name) = 4
+
+-- a learner's settings of these parts, which are the header of its table before costs are read, or none where one of them is none
+abbrev pub settings_by : (version : ℕ) → (regs left budget seed scratch : Option ℕ) → Option (List ℕ) → Option Header
+settings_by version regs left budget seed scratch pool = option_and_then (λ r. option_and_then (λ l. option_and_then (λ b. option_and_then (λ s. option_and_then (λ c.
+    option_map (λ p. record { version = version; regs = r; left = l; budget = b; seed = s; pool = p; scratch = c; costs = None }) pool) scratch) seed) budget) left) regs
 
 -- the settings by the values of the options
 abbrev pub settings_of : (Text → Option Text) → Option Header
-settings_of value = settings_by
+settings_of value = settings_by (version_by (value (codes "costs")))
     (number_from 1 4 3 (value (codes "regs")))
     (number_from 1 5 3 (value (codes "left")))
     (number_from 1 1000000 20000 (value (codes "budget")))
@@ -138,7 +143,7 @@ settings_of value = settings_by
 pub data Request : Type 0 where
   rewrite : (table listing out image : Text) → ℕ → Request
   audit : (table : Text) → Request
-  learn : (listing out : Text) → Header → Request
+  learn : (listing out : Text) (cost_text : Option Text) → Header → Request
   export : (table : Text) (entry : ℕ) (cnf lrat : Text) → Request
   trace : (listing label : Text) → ℕ → Request
   demo : (windows : ℕ) → Request
@@ -175,7 +180,7 @@ name_of generalises = codes "generalise"
 
 abbrev pub options_of : Form → List Text
 options_of rewrites = codes "base" ∷ []
-options_of learns = codes "regs" ∷ codes "left" ∷ codes "budget" ∷ codes "seed" ∷ codes "pool" ∷ codes "scratch" ∷ []
+options_of learns = codes "regs" ∷ codes "left" ∷ codes "budget" ∷ codes "seed" ∷ codes "pool" ∷ codes "scratch" ∷ codes "costs" ∷ []
 options_of tidies = codes "base" ∷ []
 options_of form = []
 
@@ -183,7 +188,7 @@ options_of form = []
 abbrev pub request_by : Form → List Text → (Text → Option Text) → Option Request
 request_by rewrites (table ∷ listing ∷ out ∷ image ∷ []) value = option_map (λ base. rewrite table listing out image base) (base_of (value (codes "base")))
 request_by audits (table ∷ []) value = Some (audit table)
-request_by learns (listing ∷ out ∷ []) value = option_map (λ settings. learn listing out settings) (settings_of value)
+request_by learns (listing ∷ out ∷ []) value = option_map (λ settings. learn listing out (value (codes "costs")) settings) (settings_of value)
 request_by exports (table ∷ entry ∷ cnf ∷ lrat ∷ []) value = option_map (λ number. export table number cnf lrat) (numeral entry)
 request_by traces (listing ∷ label ∷ count ∷ []) value = option_map (λ steps. trace listing label steps) (steps_of count)
 request_by demos (count ∷ []) value = option_map (λ windows. demo windows) (windows_of count)

@@ -1,6 +1,6 @@
 -- What a command asks for, without its memory.
-use Rattle.std.specs.Prelude.{string_bytes}
-use Rattle.command_line.specs.CommandLine.{Request, rewrite, audit, learn, export, trace, demo, upgrade, trim, tidy, generalise}
+use Rattle.std.specs.Prelude.{None, option_map, string_bytes}
+use Rattle.command_line.specs.CommandLine.{Request, version_by, rewrite, audit, learn, export, trace, demo, upgrade, trim, tidy, generalise}
 use Rattle.command_line.specs.declared.command.Command.{Command}
 use Rattle.command_line.specs.declared.command.Command.TheVariants.{Rewrite, Audit, Learn, Export, Trace, Demo, Upgrade, Trim, Tidy, Generalise}
 
@@ -9,8 +9,10 @@ abbrev pub request_of : Command → Request
 request_of (Rewrite table listing out image base) =
     rewrite (string_bytes table) (string_bytes listing) (string_bytes out) (string_bytes image) base.address
 request_of (Audit table) = audit (string_bytes table)
-request_of (Learn listing out regs left budget seed scratch pool) =
-    learn (string_bytes listing) (string_bytes out) (record { version = 2; regs = regs.number; left = left.number; budget = budget.number; seed = seed; pool = pool; scratch = scratch.number })
+request_of (Learn listing out cost_text regs left budget seed scratch pool) =
+    let costs = option_map string_bytes cost_text in
+    learn (string_bytes listing) (string_bytes out) costs
+    (record { version = version_by costs; regs = regs.number; left = left.number; budget = budget.number; seed = seed; pool = pool; scratch = scratch.number; costs = None })
 request_of (Export table entry cnf lrat) = export (string_bytes table) entry (string_bytes cnf) (string_bytes lrat)
 request_of (Trace listing label steps) = trace (string_bytes listing) (string_bytes label) steps
 request_of (Demo windows) = demo windows.number

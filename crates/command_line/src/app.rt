@@ -57,7 +57,7 @@ fn audit<'a>(alloc: Global) -> Result<Command<'a>, AllocError>
     with_word(alloc, command, "table")
 }
 
-/// `learn LISTING OUT [--regs N] [--left N] [--budget N] [--seed N] [--pool LIST] [--scratch N]`
+/// `learn LISTING OUT [--regs N] [--left N] [--budget N] [--seed N] [--pool LIST] [--scratch N] [--costs NAME]`
 fn learn<'a>(alloc: Global) -> Result<Command<'a>, AllocError>
     ensures app { IfOk result (λ c. app_of c ≡ app_for learns) }
     ensures own { IfOk result (λ c. (fields_of c).has_globals ≡ false) }
@@ -70,7 +70,8 @@ fn learn<'a>(alloc: Global) -> Result<Command<'a>, AllocError>
     let command = with_option(alloc, command, "budget")?;
     let command = with_option(alloc, command, "seed")?;
     let command = with_option(alloc, command, "pool")?;
-    with_option(alloc, command, "scratch")
+    let command = with_option(alloc, command, "scratch")?;
+    with_option(alloc, command, "costs")
 }
 
 /// `export TABLE ENTRY CNF LRAT`

@@ -44,10 +44,12 @@ pub enum Command {
     Audit {
         table: String,
     },
-    /// Learn a table from the windows of the listing, and keep it as `out`.
+    /// Learn a table from the windows of the listing, and keep it as `out`: in version 4 by the costs of a text, where one is named, and else in version 2.
     Learn {
         listing: String,
         out: String,
+        /// The name of a text of costs.
+        cost_text: Option<String>,
         /// The most registers of a left side.
         regs: Within<1, 5>,
         /// The most instructions of a left side.

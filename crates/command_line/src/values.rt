@@ -146,6 +146,16 @@ fn pool(alloc: Global, given: Option<&str>) -> Result<Option<Pool>, AllocError>
     }
 }
 
+/// The name that the option has, where it is given.
+fn name(alloc: Global, given: Option<&str>) -> Result<Option<String>, AllocError>
+    ensures { IfOk result (λ o. option_map string_bytes o ≡ option_map (λ t. t.now) given.entry) }
+{
+    match given {
+        None => Ok(None),
+        Some(name) => Ok(Some(String::from_str(alloc, name)?)),
+    }
+}
+
 /// The values of `rewrite`.
 fn rewrite(alloc: Global, given: &ArgMatches<'_>) -> Result<Option<Command>, AllocError>
     ensures { IfOk result (λ o. option_map request_of o ≡ asked_by rewrites (first_value (found_of given.now))) }
@@ -209,6 +219,7 @@ fn learn(alloc: Global, given: &ArgMatches<'_>) -> Result<Option<Command>, Alloc
     Ok(Some(Command::Learn {
         listing: String::from_str(alloc, listing)?,
         out: String::from_str(alloc, out)?,
+        cost_text: name(alloc, given.get_str("costs"))?,
         regs,
         left,
         budget,

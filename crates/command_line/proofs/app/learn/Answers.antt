@@ -15,4 +15,5 @@ returns-clause-app c =
     let fifth = c.in_ok-command-5.ensures.app ∙ ap (λ (a : App). with_rule a (option (codes "budget"))) fourth in
     let sixth = c.in_ok-command-6.ensures.app ∙ ap (λ (a : App). with_rule a (option (codes "seed"))) fifth in
     let seventh = c.in_ok-command-7.ensures.app ∙ ap (λ (a : App). with_rule a (option (codes "pool"))) sixth in
-    subst (λ (a : App). IfOk c.with_option-6.result (λ k. app_of k ≡ with_rule a (option (codes "scratch")))) seventh c.with_option-6.ensures.app
+    let eighth = c.in_ok-command-8.ensures.app ∙ ap (λ (a : App). with_rule a (option (codes "scratch"))) seventh in
+    subst (λ (a : App). IfOk c.with_option-7.result (λ k. app_of k ≡ with_rule a (option (codes "costs")))) eighth c.with_option-7.ensures.app
