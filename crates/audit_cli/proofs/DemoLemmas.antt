@@ -12,12 +12,10 @@ use Rattle.rule_table.specs.Refused.{IsText}
 use Rattle.rule_table.proofs.Progress.{one_table, not_both}
 use Rattle.table_audit.specs.declared.errors.AuditError.{AuditError}
 use Rattle.table_audit.specs.declared.errors.AuditError.TheVariants as audit
-use Rattle.table_audit.specs.Acceptance.{TableVerdict, IsAccepted}
+use Rattle.table_audit.specs.Acceptance.{TableVerdict, IsAccepted, width_of}
 use Rattle.table_audit.specs.Shorter.{sequences_below}
-use Rattle.table_audit.specs.Soundness.{numbers_of}
 use Rattle.table_audit.proofs.Determined.{table_same}
 use Rattle.table_learn.specs.Given.{AreInLimits}
-use Rattle.table_learn.specs.Learnt.{width_of}
 use Rattle.window_rewrite.specs.Rewriting.{setting}
 use Rattle.thumb_assembler.specs.Refusals.{first_flaw}
 use Rattle.thumb_assembler.specs.Following.{IsAssembled}
@@ -75,7 +73,7 @@ made_mute lines (n, few, is) = subst AreMute (one_listing (demo_text n) (demo_li
 -- ---- what is told ----
 
 pub is_rewriting_told : (t : Table) (given lines : List Line) (rs : List Replacement) (bytes : List ℕ) (replaced before after size : ℕ) (told : List ℕ)
-    → AreRewritten (setting 0 (numbers_of t)) given rs lines → IsAssembled 0 lines bytes
+    → AreRewritten (setting 0 t) given rs lines → IsAssembled 0 lines bytes
     → replaced ≡ length rs → before ≡ instruction_count given → after ≡ instruction_count lines → size ≡ length bytes
     → told ≡ report_of replaced before after ++ image_line size → IsRewritingTold t given told
 is_rewriting_told t given lines rs bytes replaced before after size told rewritten image r b a s is = record {
@@ -114,4 +112,4 @@ is_shown n told o h is = subst (DemoComesTo n) (sym is) (shown told h)
 -- ---- settings ----
 
 pub demo_limits : AreInLimits demo_settings
-demo_limits = record { some_regs = omega arith; few_regs = omega arith; some_left = omega arith; few_left = omega arith; some_budget = omega arith; few_budget = omega arith; some_version = omega arith; few_version = omega arith; few_scratch = omega arith; first_version = λ e. refl }
+demo_limits = record { some_regs = omega arith; few_regs = omega arith; some_left = omega arith; few_left = omega arith; some_budget = omega arith; few_budget = omega arith; version = (omega arith, omega arith); few_scratch = omega arith; first_version = λ e. refl }

@@ -19,7 +19,6 @@ use Rattle.bit_blast.specs.Slots.{instance}
 use Rattle.bit_blast.specs.Exactness.{IsMask, SameOver, value_at}
 use Rattle.bit_blast.proofs.Families.{family_models_tell, family_models_give_states}
 use Rattle.lrat_check.specs.Content.{Content, content_of}
-use Rattle.rule_table.specs.declared.header.Field.TheVariants.{Version}
 use Rattle.rule_table.specs.declared.table.Family.{Family as Held}
 use Rattle.rule_table.specs.Table.{Rule, Family, Table}
 use Rattle.rule_table.specs.Views.{family_of}
@@ -40,7 +39,7 @@ use Rattle.table_learn.proofs.Asking.{state_words}
 use Rattle.table_learn.proofs.Certificates.{refutation_passes}
 use Rattle.audit_cli.specs.declared.refusal.Refusal.TheVariants as refusal
 use Rattle.audit_cli.specs.Generalise.{with_family, HasNone, IsUnraisable, IsRaisableFor, IsGeneralised, DifferAt, IsSpentOn, IsUnraised, differ, spent}
-use Rattle.audit_cli.proofs.VersionLemmas.{header_in_version, in_version, verdict}
+use Rattle.audit_cli.proofs.VersionLemmas.{header_raised, in_version, verdict}
 
 -- ---- the words of a state ----
 
@@ -133,7 +132,7 @@ accepted_with t f e proof accepted can refutes =
 
 table_with : (t : Table) (f : Family) → IsTable t → IsFamily f → IsTable (with_family t f)
 table_with t f valid one = record {
-  header = header_in_version (max 3 t.header.version) t.header (omega arith) (let b = valid.header.numbers Version in omega (arith, b.1)) valid.header;
+  header = header_raised 3 t.header (omega arith) (omega arith) valid.header;
   states = valid.states;
   rules = valid.rules;
   families = All-append IsFamily t.families (f ∷ []) valid.families (All-cons IsFamily f [] one (All-nil IsFamily));

@@ -8,6 +8,9 @@ use Rattle.thumb_instr.specs.declared.instr.Instr.{Instr}
 use Rattle.thumb_instr.specs.declared.items.Mask.{Mask}
 use Rattle.thumb_model.specs.Listing.{Line, places_of}
 use Rattle.seq_enum.specs.Lists.{numbers_from}
+use Rattle.seq_enum.specs.declared.cost_text.CostLine.{CostLine}
+use Rattle.seq_enum.specs.CostTexts.{IsCostText, IsRefusedCosts}
+use Rattle.seq_enum.specs.ReadingCosts.{ReadsCosts}
 use Rattle.seq_enum.specs.Alphabet.{IsOver}
 use Rattle.window_harvest.specs.Harvest.{Pair, Spot, pair_of, spot_of, spots_at, spots, IsPairAt, ArePairs, none, passed, given, AreFirsts, ended, known, new, AreHarvest}
 use Rattle.table_audit.specs.Canonical.{IsSideOf}
@@ -17,8 +20,9 @@ use Rattle.table_learn.specs.Settings.{Settings, Window}
 use Rattle.table_learn.specs.Given.{window_of, IsWindow, AreWindows}
 use Rattle.command_runs.specs.Plans.{Outcome, Refuses}
 use Rattle.audit_cli.specs.declared.refusal.Refusal.{Refusal}
+use Rattle.audit_cli.specs.declared.refusal.Refusal.TheVariants as refusal
 use Rattle.audit_cli.specs.Printed.{refusal_line}
-use Rattle.audit_cli.specs.Learn.{Lesson, limits_of, window_for, AreWindowsOf, kept_table, IsUnlearnt, IsLearnt, LinesLearn, unlearnt, learnt}
+use Rattle.audit_cli.specs.Learn.{Lesson, limits_of, window_for, AreWindowsOf, kept_table, IsUnlearnt, IsLearnt, LinesLearn, unlearnt, learnt, Learns, LearnsByCosts, unpriced, priced_so, priced}
 use Rattle.audit_cli.specs.Answers.{Teach}
 
 -- ---- windows ----
@@ -102,3 +106,14 @@ is_taught {A} view s lines x a h e = subst (λ (y : Result A Refusal). Teach s l
 
 pub not_taught : {A : Type 0} (view : A → Table) (s : Settings) (lines : List Line) (x : Result A Refusal) (r : Refusal) → Teach s lines (result_map_both view (λ e. e) x) → x ≡ Err r → IsUnlearnt s lines r
 not_taught {A} view s lines x r h e = subst (λ (y : Result A Refusal). Teach s lines (result_map_both view (λ q. q) y)) e h
+
+-- ---- what reading costs answered ----
+
+pub is_priced : (to : Lesson) (text bytes costs : List ℕ) (x : Result (List ℕ) CostLine) (o : Outcome) → ReadsCosts bytes x → x ≡ Ok costs → Learns (priced costs to) text o → LearnsByCosts to text bytes o
+is_priced to text bytes costs x o h e k = priced_so costs (let is : IsCostText bytes costs = subst (ReadsCosts bytes) e h in is) o k
+
+pub is_unpriced : (to : Lesson) (text bytes : List ℕ) (line : CostLine) (x : Result (List ℕ) CostLine) (o : Outcome) → ReadsCosts bytes x → x ≡ Err line → o ≡ Refuses (refusal_line (refusal.Costs line.number))
+    → LearnsByCosts to text bytes o
+is_unpriced to text bytes line x o h e is =
+    let refused : IsRefusedCosts bytes line.number = subst (ReadsCosts bytes) e h in
+    subst (LearnsByCosts to text bytes) (sym is) (unpriced line.number refused)

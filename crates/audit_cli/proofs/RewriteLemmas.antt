@@ -1,11 +1,13 @@
 -- Why what is kept of a rewritten listing is the headline's.
-use Rattle.std.proofs.Common.{◌≡◌, ℕ, List, [], ◌∷◌, ◌++◌, length, refl, sym, subst}
+use Rattle.std.proofs.Common.{◌≡◌, ℕ, List, [], ◌∷◌, ◌++◌, length, sym, ap, subst, Option, None}
 use Rattle.thumb_model.specs.Listing.{Line}
 use Rattle.thumb_model.specs.Layout.{Layable}
 use Rattle.rule_model.specs.Rewriting.{Replacement, AreRewritten}
+use Rattle.rule_model.specs.Laws.{CostsOne}
 use Rattle.rule_model.proofs.LinesKept.{lines_same, none_left, all_applied, no_more_lines, still_layable}
+use Rattle.seq_enum.specs.Costs.{cost_under}
 use Rattle.rule_table.specs.Table.{Table}
-use Rattle.table_audit.specs.Soundness.{IsSound, numbers_of}
+use Rattle.table_audit.specs.Soundness.{IsSound}
 use Rattle.listing_parser.specs.Parsing.{IsListing, text_of_lines}
 use Rattle.listing_parser.proofs.Literals.{literals_stand}
 use Rattle.window_rewrite.specs.Rewriting.{setting}
@@ -31,19 +33,23 @@ kept_pair to lines c bytes o some i e = subst (Leaves to lines c) (sym e) (pair 
 pub kept_none : (to : Destination) (lines : List Line) (c : Counts) (r : Refusal) (o : Outcome) → (WantsNone to → ⊥) → HasNoImage to.base lines r → o ≡ Refuses (refusal_line r) → Leaves to lines c o
 kept_none to lines c r o some h e = subst (Leaves to lines c) (sym e) (no_image some r h)
 
+-- by a table without costs each instruction costs 1
+costs_one : (base : ℕ) (t : Table) → t.header.costs ≡ None → CostsOne (setting base t)
+costs_one base t none i = ap (λ (costs : Option (List ℕ)). cost_under costs i) none
+
 -- rewriting by the definition is the headline
 pub is_rewriting : (to : Destination) (t : Table) (given lines : List Line) (replacements : List Replacement) (c : Counts) (o : Outcome) → IsSound t → IsListing (text_of_lines given) given → Layable to.base given
-    → AreRewritten (setting to.base (numbers_of t)) given replacements lines → c ≡ record { replaced = length replacements; before = instruction_count given; after = instruction_count lines } → Leaves to lines c o
+    → AreRewritten (setting to.base t) given replacements lines → c ≡ record { replaced = length replacements; before = instruction_count given; after = instruction_count lines } → Leaves to lines c o
     → IsRewriting to t given o
 is_rewriting to t given lines replacements c o sound is laid r e k =
-    let s = setting to.base (numbers_of t) in
+    let s = setting to.base t in
     let same = lines_same s given replacements lines sound.sound (literals_stand (text_of_lines given) given is) r in
     record {
       replacements = replacements;
       lines = lines;
       rewritten = r;
-      listed = still_reads to.base (numbers_of t) (text_of_lines given) given replacements lines sound.sound r is;
-      no_longer = no_more_lines s given replacements lines (λ i. refl) r;
+      listed = still_reads to.base t (text_of_lines given) given replacements lines sound.sound r is;
+      no_longer = λ none. no_more_lines s given replacements lines (costs_one to.base t none) r;
       layable = still_layable s given replacements lines laid r;
       same = same;
       runs = λ bytes assembled. record {

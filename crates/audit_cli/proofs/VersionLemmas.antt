@@ -1,9 +1,11 @@
 -- Tables in other versions: the audit has the same verdict on them.
-use Rattle.std.proofs.Common.{◌≡◌, ℕ, ◌+◌, ◌≤◌, List, [], ◌∷◌, Option, Some, None, false, inl, inr, arith, leb-false}
-use Rattle.std.specs.Prelude.{◌↔◌}
+use Rattle.std.proofs.Common.{◌≡◌, ℕ, ◌+◌, ◌≤◌, max, List, [], ◌∷◌, Option, Some, None, Bool, true, false, inl, inr, arith, leb-true, leb-false}
+use Rattle.std.specs.Prelude.{◌↔◌, IsSome}
+use Rattle.std.proofs.lemmas.Bool.{le-leb, lt-leb}
+use Rattle.thumb_instr.specs.declared.instr.Instr.{Instr}
 use Rattle.rule_table.specs.declared.header.Field.{Field}
 use Rattle.rule_table.specs.declared.header.Field.TheVariants.{Version, Regs, Left, Seed, Budget, Scratch}
-use Rattle.rule_table.specs.declared.header.Head.TheVariants.{Number}
+use Rattle.rule_table.specs.declared.header.Head.TheVariants.{Number, Costs}
 use Rattle.rule_table.specs.Header.{Header, IsHeader, IsWithin, number_in, has_line, since, blank}
 use Rattle.rule_table.specs.Table.{Opened, Rule, Table}
 use Rattle.proof_logs.specs.Verdicts.{Tests, Then, InTurn}
@@ -11,7 +13,8 @@ use Rattle.table_audit.specs.declared.errors.AuditError.{AuditError}
 use Rattle.table_audit.specs.declared.errors.AuditError.TheVariants as audit
 use Rattle.table_audit.specs.declared.errors.EntryFault.TheVariants as fault
 use Rattle.table_audit.specs.Sides.{SidesFit}
-use Rattle.table_audit.specs.Acceptance.{IsRightlyOpen, StatesVerdict, WideVerdict, SidesVerdict, EntryProofVerdict, ToldVerdict, OpensVerdict, OpenTest, EntryVerdict, EntriesVerdict, FamilyVerdict, FamiliesVerdict, TableVerdict}
+use Rattle.table_audit.specs.Shorter.{IsBelow}
+use Rattle.table_audit.specs.Acceptance.{IsUntold, IsFirstUntold, IsRightlyOpen, StatesVerdict, WideVerdict, SidesVerdict, EntryProofVerdict, ToldVerdict, OpensVerdict, OpenTest, EntryVerdict, EntriesVerdict, FamilyVerdict, FamiliesVerdict, TableVerdict}
 use Rattle.table_audit.proofs.Growing.{family_in_version}
 
 -- ---- verdicts ----
@@ -35,10 +38,27 @@ abbrev pub in_version : ℕ → Table → Table
 in_version v t = record t { header = record t.header { version = v } }
 
 fits : (v : ℕ) (t : Table) (e : Rule) → SidesFit t e → SidesFit (in_version v t) e
-fits v t e h = record { canonical = h.canonical; short = h.short; few = h.few; left = h.left; right = h.right; no_longer = h.no_longer; mask = h.mask }
+fits v t e h = record { canonical = h.canonical; short = h.short; few = h.few; left = h.left; right = h.right; no_longer = h.no_longer; no_dearer = h.no_dearer; mask = h.mask }
+
+stays_below : (v : ℕ) (t : Table) (left side : List Instr) (number : ℕ) (seq : List Instr) → IsBelow t.header left side number seq → IsBelow (in_version v t).header left side number seq
+stays_below v t left side number seq h = record { at = h.at; no_longer = h.no_longer; lighter = h.lighter }
 
 stays_open : (v : ℕ) (t : Table) (e : Rule) (o : Opened) → IsRightlyOpen t e o → IsRightlyOpen (in_version v t) e o
-stays_open v t e o h = record { seq = h.seq; below = record { at = h.below.at; no_longer = h.below.no_longer; lighter = h.below.lighter }; untold = h.untold; spent = h.spent }
+stays_open v t e o h = record { seq = h.seq; below = stays_below v t e.left e.right o.number h.seq h.below; untold = h.untold; spent = h.spent }
+
+stays_untold : (v : ℕ) (t : Table) (e : Rule) (q : ℕ) (seq : List Instr) → IsUntold t e q seq → IsUntold (in_version v t) e q seq
+stays_untold v t e q seq h = record { below = stays_below v t e.left e.right q seq h.below; unnamed = h.unnamed; untold = h.untold }
+
+-- what is untold in the table of this version is untold in the given one
+was_untold : (v : ℕ) (t : Table) (e : Rule) (q : ℕ) (seq : List Instr) → IsUntold (in_version v t) e q seq → IsUntold t e q seq
+was_untold v t = stays_untold t.header.version (in_version v t)
+
+stays_first : (v : ℕ) (t : Table) (e : Rule) (number : ℕ) → IsFirstUntold t e number → IsFirstUntold (in_version v t) e number
+stays_first v t e number h = record { seq = h.seq; is = stays_untold v t e number h.seq h.is; first = λ q other u. h.first q other (was_untold v t e q other u) }
+
+told : (v : ℕ) (t : Table) (n : ℕ) (e : Rule) (o : Option AuditError) → ToldVerdict t n e o → ToldVerdict (in_version v t) n e o
+told v t n e None h = λ q seq u. h q seq (was_untold v t e q seq u)
+told v t n e (Some fault) h = (h.0, (stays_first v t e h.0 h.1.0, h.1.1))
 
 entry : (v : ℕ) (t : Table) (n : ℕ) (e : Rule) (o : Option AuditError) → EntryVerdict t n e o → EntryVerdict (in_version v t) n e o
 unfolding EntryVerdict
@@ -47,7 +67,7 @@ entry v t n e =
     (SidesVerdict (in_version v t) n e) (Then (EntryProofVerdict (in_version v t) n e) (Then (ToldVerdict (in_version v t) n e) (OpensVerdict (in_version v t) n e)))
     (tests (SidesFit t e) (SidesFit (in_version v t) e) (audit.Entry n fault.Sides) (fits v t e, fits t.header.version (in_version v t) e))
     (then (EntryProofVerdict t n e) (Then (ToldVerdict t n e) (OpensVerdict t n e)) (EntryProofVerdict (in_version v t) n e) (Then (ToldVerdict (in_version v t) n e) (OpensVerdict (in_version v t) n e)) (λ o h. h)
-    (then (ToldVerdict t n e) (OpensVerdict t n e) (ToldVerdict (in_version v t) n e) (OpensVerdict (in_version v t) n e) (λ o h. h)
+    (then (ToldVerdict t n e) (OpensVerdict t n e) (ToldVerdict (in_version v t) n e) (OpensVerdict (in_version v t) n e) (told v t n e)
     (in_turn (OpenTest t n e) (OpenTest (in_version v t) n e) each 0 e.opens)))
   where
     each : (i : ℕ) (o : Opened) (f : Option AuditError) → OpenTest t n e i o f → OpenTest (in_version v t) n e i o f
@@ -73,16 +93,26 @@ since_two Seed = omega arith
 since_two Budget = omega arith
 since_two Scratch = omega arith
 
-pub header_in_version : (v : ℕ) (h : Header) → 2 ≤ v → v ≤ 3 → IsHeader h → IsHeader (record h { version = v })
-header_in_version v h two three is = record { numbers = each; pool = is.pool; unsaid = said }
+-- a header whose version is 2 or 3 at least: version 4 has its costs, and no other has any
+pub header_raised : (least : ℕ) (h : Header) → 2 ≤ least → least ≤ 3 → IsHeader h → IsHeader (record h { version = max least h.version })
+header_raised least h two three is = record { numbers = each; pool = is.pool; costs = is.costs; costed = costed; uncosted = uncosted; unsaid = said }
   where
+    v : ℕ
+    v = max least h.version
+
     each : (field : Field) → IsWithin field (number_in (record h { version = v }) field)
-    each Version = (omega (arith, two), three)
+    each Version = let b = is.numbers Version in (omega (arith, two), omega (arith, three, b.1))
     each Regs = is.numbers Regs
     each Left = is.numbers Left
     each Seed = is.numbers Seed
     each Budget = is.numbers Budget
     each Scratch = is.numbers Scratch
+
+    costed : has_line v Costs ≡ true → IsSome h.costs
+    costed has = let four = leb-true 4 v has in is.costed (le-leb 4 h.version (omega (arith, four, three)))
+
+    uncosted : has_line v Costs ≡ false → h.costs ≡ None
+    uncosted none = let few = leb-false 4 v none in is.uncosted (lt-leb 4 h.version (omega (arith, few)))
 
     said : (f : Field) → has_line v (Number f) ≡ false → number_in (record h { version = v }) f ≡ number_in blank f
     said f none = let first = since_two f in let late = leb-false (since (Number f)) v none in absurd (omega (arith, first, late, two))

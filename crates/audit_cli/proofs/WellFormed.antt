@@ -11,12 +11,14 @@ use Rattle.rule_model.specs.Rules.{Rule, Applies, AreSound}
 use Rattle.thumb_model.specs.Sides.{AreOver}
 use Rattle.rule_model.specs.Rewriting.{Replacement, AppliesIn, AreRewritten, lines_after, lines_after_rule}
 use Rattle.thumb_model.proofs.Lists.{get_drop, get_take}
-use Rattle.rule_model.proofs.LinesKept.{fewer_lines, one_line_keeps, some_left}
+use Rattle.rule_model.proofs.LinesKept.{few_after, one_line_keeps, some_left}
 use Rattle.rule_model.proofs.Table.{window_length}
 use Rattle.listing_parser.specs.Parsing.{IsListing, text_of_lines}
 use Rattle.listing_parser.specs.Replacing.{names_no_label}
 use Rattle.listing_parser.proofs.PrintLemmas.{prints_back}
 use Rattle.listing_parser.proofs.ReplacedLines.{replaced_reads_again}
+use Rattle.rule_table.specs.Table.{Table}
+use Rattle.table_audit.specs.Soundness.{numbers_of}
 use Rattle.window_rewrite.specs.Rewriting.{setting}
 use Rattle.thumb_assembler.proofs.Fairness.{few_lines}
 
@@ -48,14 +50,14 @@ stand_there rule r ls a k lt =
     sym (get_drop r.place (places_of ls) k (r.place + k) refl) ∙ sym (get_take (length rule.left) (drop r.place (places_of ls)) k lt) ∙ ap (λ (ps : List Place). slice_get ps k) a.stands in
     ap is_op_place there ∙ plain_at a.window k (omega arith)
 
-reads_after : (base : ℕ) (rules : List (List Rule)) (r : Replacement) (bytes : List ℕ) (ls : List Line) → AreSound rules → AppliesIn (setting base rules) r ls → IsListing bytes ls
-    → IsListing (text_of_lines (lines_after (setting base rules) r ls)) (lines_after (setting base rules) r ls)
-reads_after base rules r bytes ls sound a is =
-    let s = setting base rules in
+reads_after : (base : ℕ) (t : Table) (r : Replacement) (bytes : List ℕ) (ls : List Line) → AreSound (numbers_of t) → AppliesIn (setting base t) r ls → IsListing bytes ls
+    → IsListing (text_of_lines (lines_after (setting base t) r ls)) (lines_after (setting base t) r ls)
+reads_after base t r bytes ls sound a is =
+    let s = setting base t in
     let rule = a.rule in
     let instrs = map (renamed r.registers) rule.right in
     let keeps = one_line_keeps s r ls sound a in
-    let fewer = fewer_lines s r ls (λ i. refl) a in
+    let within = few_after s r ls a in
     let few = few_lines bytes ls is in
     replaced_reads_again bytes ls r.place (length rule.left) instrs (lines_after s r ls) is
     (record {
@@ -69,9 +71,9 @@ reads_after base rules r bytes ls sound a is =
 
 -- ---- all of them ----
 
-pub still_reads : (base : ℕ) (rules : List (List Rule)) (bytes : List ℕ) (given : List Line) (rs : List Replacement) (new : List Line) → AreSound rules → AreRewritten (setting base rules) given rs new → IsListing bytes given
+pub still_reads : (base : ℕ) (t : Table) (bytes : List ℕ) (given : List Line) (rs : List Replacement) (new : List Line) → AreSound (numbers_of t) → AreRewritten (setting base t) given rs new → IsListing bytes given
     → IsListing (text_of_lines new) new
-still_reads base rules bytes given [] new sound h is = subst (λ (ls : List Line). IsListing (text_of_lines ls) ls) (sym h.1) (subst (λ (bs : List ℕ). IsListing bs given) (sym (prints_back bytes given is)) is)
-still_reads base rules bytes given (r ∷ rs) new sound h is =
-    let next = lines_after (setting base rules) r given in
-    still_reads base rules (text_of_lines next) next rs new sound h.1 (reads_after base rules r bytes given sound h.0.applies is)
+still_reads base t bytes given [] new sound h is = subst (λ (ls : List Line). IsListing (text_of_lines ls) ls) (sym h.1) (subst (λ (bs : List ℕ). IsListing bs given) (sym (prints_back bytes given is)) is)
+still_reads base t bytes given (r ∷ rs) new sound h is =
+    let next = lines_after (setting base t) r given in
+    still_reads base t (text_of_lines next) next rs new sound h.1 (reads_after base t r bytes given sound h.0.applies is)

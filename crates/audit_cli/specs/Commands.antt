@@ -4,7 +4,9 @@ use Rattle.audit_cli.specs.declared.rewrite.Rewrite.{Rewrite}
 use Rattle.audit_cli.specs.Rewrite.{Counts, Destination}
 use Rattle.audit_cli.specs.declared.export.Export.{Export}
 use Rattle.audit_cli.specs.Tables.{Extract}
+use Rattle.std.specs.Prelude.{ℕ, List, Option, Some, None}
 use Rattle.audit_cli.specs.declared.learn.Learn.{Learn}
+use Rattle.audit_cli.specs.declared.learn.LearnByCosts.{LearnByCosts}
 use Rattle.table_learn.specs.Settings.{Settings}
 use Rattle.audit_cli.specs.Learn.{Lesson}
 use Rattle.audit_cli.specs.declared.trace.Trace.{Trace}
@@ -22,11 +24,20 @@ counts_of c = record { replaced = c.replaced; before = c.before; after = c.after
 abbrev pub extract_of : Export → Extract
 extract_of e = record { entry = e.entry; cnf = e.cnf.now; lrat = e.lrat.now }
 
+-- with costs a table has version 4
+abbrev pub version_with : Option (List ℕ) → ℕ
+version_with None = 2
+version_with (Some costs) = 4
+
 abbrev pub settings_for : Learn → Settings
-settings_for l = record { version = 2; regs = l.regs.number; left = l.left.number; budget = l.budget.number; seed = l.seed; pool = l.pool.now; scratch = l.scratch.number }
+settings_for l = record { version = version_with l.costs; regs = l.regs.number; left = l.left.number; budget = l.budget.number; seed = l.seed; pool = l.pool.now; scratch = l.scratch.number; costs = l.costs }
 
 abbrev pub lesson_of : Learn → Lesson
 lesson_of l = record { out = l.out.now; settings = settings_for l }
+
+-- before the costs are read the version alone says that there are some
+abbrev pub lesson_by_costs : LearnByCosts → Lesson
+lesson_by_costs l = record { out = l.learn.out.now; settings = record (settings_for l.learn) { version = 4 } }
 
 abbrev pub journey_of : Trace → Journey
 journey_of t = record { label = t.label.now; most = t.most }

@@ -1,11 +1,10 @@
 -- What `demo` comes to: a listing is made, a table learnt from its windows, the listing rewritten by that table, and its image made.
-use Rattle.std.specs.Prelude.{◌≡◌, ℕ, zero, suc, ◌%◌, ◌==◌, List, [], ◌∷◌, ◌++◌, length, codes, if◌then◌else◌}
+use Rattle.std.specs.Prelude.{◌≡◌, ℕ, zero, suc, ◌%◌, ◌==◌, List, [], ◌∷◌, ◌++◌, None, length, codes, if◌then◌else◌}
 use Rattle.std.specs.Fmt.{decimal}
 use Rattle.thumb_model.specs.Listing.{Line}
 use Rattle.rule_model.specs.Rewriting.{Replacement, AreRewritten}
 use Rattle.listing_parser.specs.Parsing.{IsListing}
 use Rattle.rule_table.specs.Table.{Table}
-use Rattle.table_audit.specs.Soundness.{numbers_of}
 use Rattle.table_learn.specs.Settings.{Settings, Window}
 use Rattle.table_learn.specs.Learnt.{IsFull}
 use Rattle.window_rewrite.specs.Rewriting.{setting}
@@ -50,13 +49,13 @@ demo_text n = codes "demo:" ++ 10 ∷ (windows_text n ++ own (codes "bx lr"))
 
 -- one register, two instructions, 20,000 clauses, the seed 42, and the numbers 1 and 24
 abbrev pub demo_settings : Settings
-demo_settings = record { version = 2; regs = 1; left = 2; budget = 20000; seed = 42; pool = 1 ∷ 24 ∷ []; scratch = 0 }
+demo_settings = record { version = 2; regs = 1; left = 2; budget = 20000; seed = 42; pool = 1 ∷ 24 ∷ []; scratch = 0; costs = None }
 
 -- lines are rewritten by a table, laid out from address 0 on, and made an image; what is told of that
 pub record IsRewritingTold (t : Table) (given : List Line) (told : List ℕ) : Type 0 where
   pub replacements : List Replacement
   pub lines : List Line
-  pub rewritten : AreRewritten (setting 0 (numbers_of t)) given replacements lines
+  pub rewritten : AreRewritten (setting 0 t) given replacements lines
   pub bytes : List ℕ
   pub image : IsAssembled 0 lines bytes
   pub are_told : told ≡ report_of (length replacements) (instruction_count given) (instruction_count lines) ++ image_line (length bytes)

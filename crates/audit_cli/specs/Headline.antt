@@ -9,7 +9,7 @@ use Rattle.listing_parser.specs.Parsing.{IsListing, text_of_lines}
 use Rattle.rule_table.specs.Table.{Table}
 use Rattle.rule_table.specs.Refused.{IsText as IsTableText}
 use Rattle.table_audit.specs.Acceptance.{IsAccepted}
-use Rattle.table_audit.specs.Soundness.{IsSound, numbers_of}
+use Rattle.table_audit.specs.Soundness.{IsSound}
 use Rattle.window_rewrite.specs.Rewriting.{setting}
 use Rattle.thumb_assembler.specs.Following.{IsAssembled}
 use Rattle.command_line.specs.CommandLine.{rewrite, AskFor}
@@ -55,17 +55,18 @@ pub record IsHeadline (table listing : List ℕ) (to : Destination) (old new : S
   -- lines are left: while some entry applies, it is replaced at the first place where one does, the longest left side first, then the lowest entry
   pub lines : List Line
   pub replacements : List Replacement
-  pub rewritten : AreRewritten (setting to.base (numbers_of rules)) given replacements lines
+  pub rewritten : AreRewritten (setting to.base rules) given replacements lines
   -- they have the same runs from every state, in no more steps
   pub same : Same (code_of given) (code_of lines)
   -- no entry applies to them any more
-  pub finished : NoneApplies (setting to.base (numbers_of rules)) lines
+  pub finished : NoneApplies (setting to.base rules) lines
   -- each replacement applied in the lines as they then were
-  pub applied : AllApplied (setting to.base (numbers_of rules)) given replacements
-  -- each leaves the same live registers and flags, and no shorter sequence of the entry's alphabet does, save those that the entry names open, each with its log
+  pub applied : AllApplied (setting to.base rules) given replacements
+  -- each leaves the same live registers and flags, and no shorter sequence of the entry's alphabet does, or where the table has costs no cheaper one that is as
+  -- short as the left side, save those that the entry names open, each with its log
   pub sound : IsSound rules
-  -- they are no more lines than were given, can be laid out, and are what their text is read as
-  pub no_longer : length lines ≤ length given
+  -- they can be laid out, are what their text is read as, and where the table has no costs no more lines than were given
+  pub no_longer : rules.header.costs ≡ None → length lines ≤ length given
   pub layable : Layable to.base lines
   pub read_again : IsListing (text_of_lines lines) lines
   -- where an image is asked for, it is theirs, and its run meets theirs and that of the given lines, wherever the laid naming fits

@@ -1,13 +1,15 @@
 -- What `learn` comes to.
-use Rattle.std.specs.Prelude.{◌≡◌, ◌<◌, ◌≤◌, ℕ, List, [], ◌∷◌, length, map}
+use Rattle.std.specs.Prelude.{◌≡◌, ◌<◌, ◌≤◌, ℕ, List, [], ◌∷◌, Some, length, map}
 use Rattle.thumb_model.specs.Listing.{Line}
 use Rattle.listing_parser.specs.Parsing.{IsListing}
+use Rattle.seq_enum.specs.CostTexts.{IsCostText, IsRefusedCosts}
 use Rattle.window_harvest.specs.Harvest.{Pair, Limits, AreHarvest}
 use Rattle.rule_table.specs.Table.{Table}
 use Rattle.rule_table.specs.Text.{text_of}
 use Rattle.rule_table.specs.Valid.{IsTable}
 use Rattle.table_learn.specs.Settings.{Settings, Window}
-use Rattle.table_learn.specs.Learnt.{Learnt, IsFull, text_length, text_limit, width_of}
+use Rattle.table_learn.specs.Learnt.{Learnt, IsFull, text_length, text_limit}
+use Rattle.table_audit.specs.Acceptance.{width_of}
 use Rattle.command_runs.specs.Plans.{Outcome, Refuses, Does}
 use Rattle.audit_cli.specs.declared.refusal.Refusal.{Refusal}
 use Rattle.audit_cli.specs.declared.refusal.Refusal.TheVariants as refusal
@@ -37,7 +39,7 @@ pub record AreWindowsOf (s : Settings) (lines : List Line) (windows : List Windo
 abbrev pub kept_table : List ℕ → Table → Outcome
 kept_table out t = Does ((out, text_of t) ∷ []) (learnt_line (length t.rules) (opens_of t) (length t.states))
 
--- nothing is learnt from lines: more than 5,000,000 sequences are shorter than the longest windows, or the table of the first windows has a text that is too long
+-- nothing is learnt from lines: more than 5,000,000 sequences may be below the longest windows, or the table of the first windows has a text that is too long
 pub data IsUnlearnt (s : Settings) (lines : List Line) : Refusal → Type 0 where
   too_wide : 5000000 < width_of s → IsUnlearnt s lines (refusal.Wide (width_of s))
   too_long : (windows : List Window) → AreWindowsOf s lines windows → (t : Table) (bytes : ℕ) → IsFull s windows t bytes → IsUnlearnt s lines (refusal.Full bytes)
@@ -63,3 +65,22 @@ pub data Learns (to : Lesson) (text : List ℕ) : Outcome → Type 0 where
 -- `learn` goes by one text
 abbrev pub LearnComesTo : Lesson → List (List ℕ) → Outcome → Type 0
 LearnComesTo to texts o = (text : List ℕ) × (texts ≡ text ∷ []) × Learns to text o
+
+-- ---- by costs ----
+
+-- by these costs, which a table of version 4 has
+abbrev pub priced : List ℕ → Lesson → Lesson
+priced costs to = record to { settings = record to.settings { version = 4; costs = Some costs } }
+
+-- a text of costs is refused at a line
+abbrev pub unpriced_at : ℕ → Outcome
+unpriced_at line = Refuses (refusal_line (refusal.Costs line))
+
+-- what the texts of a listing and of costs come to: the costs are refused at the least line such that so many first lines begin no such text, or a table is learnt from the listing's lines by them
+pub data LearnsByCosts (to : Lesson) (text costs : List ℕ) : Outcome → Type 0 where
+  unpriced : (line : ℕ) → IsRefusedCosts costs line → LearnsByCosts to text costs (unpriced_at line)
+  priced_so : (cs : List ℕ) → IsCostText costs cs → (o : Outcome) → Learns (priced cs to) text o → LearnsByCosts to text costs o
+
+-- `learn --costs` goes by two texts
+abbrev pub LearnByCostsComesTo : Lesson → List (List ℕ) → Outcome → Type 0
+LearnByCostsComesTo to texts o = (text : List ℕ) × (costs : List ℕ) × (texts ≡ text ∷ costs ∷ []) × LearnsByCosts to text costs o

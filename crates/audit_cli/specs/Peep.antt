@@ -1,5 +1,5 @@
 -- The whole contract of the top call: what the words ask for, and what the run of it has done.
-use Rattle.std.specs.Prelude.{◌≡◌, ℕ, ◌⊎◌, List, [], ◌∷◌}
+use Rattle.std.specs.Prelude.{◌≡◌, ℕ, ◌⊎◌, List, [], ◌∷◌, Some, None}
 use Rattle.command_line.specs.CommandLine.{Request, rewrite, audit, learn, export, trace, demo, upgrade, trim, tidy, generalise, AskFor}
 use Rattle.outer_store.specs.Outside.{Seen, SameHeld, Sunk, WroteNone}
 use Rattle.command_runs.specs.declared.status.Status.{Status}
@@ -8,7 +8,7 @@ use Rattle.command_runs.specs.Plans.{Plan}
 use Rattle.command_runs.specs.Runs.{Runs}
 use Rattle.audit_cli.specs.Rewrite.{RewriteComesTo}
 use Rattle.audit_cli.specs.Tables.{AuditComesTo, ExportComesTo}
-use Rattle.audit_cli.specs.Learn.{LearnComesTo}
+use Rattle.audit_cli.specs.Learn.{LearnComesTo, LearnByCostsComesTo}
 use Rattle.audit_cli.specs.Trace.{TraceComesTo}
 use Rattle.audit_cli.specs.Demo.{DemoComesTo}
 use Rattle.audit_cli.specs.Upgrade.{UpgradeComesTo}
@@ -20,7 +20,8 @@ use Rattle.audit_cli.specs.Generalise.{wanted, GeneraliseComesTo}
 abbrev pub plan_of : Request → Plan
 plan_of (rewrite table listing out image base) = record { names = table ∷ listing ∷ []; comes = RewriteComesTo (record { out = out; image = image; base = base }) }
 plan_of (audit table) = record { names = table ∷ []; comes = AuditComesTo }
-plan_of (learn listing out settings) = record { names = listing ∷ []; comes = LearnComesTo (record { out = out; settings = settings }) }
+plan_of (learn listing out None settings) = record { names = listing ∷ []; comes = LearnComesTo (record { out = out; settings = settings }) }
+plan_of (learn listing out (Some costs) settings) = record { names = listing ∷ costs ∷ []; comes = LearnByCostsComesTo (record { out = out; settings = settings }) }
 plan_of (export table entry cnf lrat) = record { names = table ∷ []; comes = ExportComesTo (record { entry = entry; cnf = cnf; lrat = lrat }) }
 plan_of (trace listing label steps) = record { names = listing ∷ []; comes = TraceComesTo (record { label = label; most = steps }) }
 plan_of (demo windows) = record { names = []; comes = λ texts. DemoComesTo windows }

@@ -83,7 +83,7 @@ family_words family.Unfinished = codes " 3"
 
 -- `refused table LINE`, `refused states PLACE`, `refused wide COUNT`, `refused entry NUMBER KIND ..`, `refused family NUMBER KIND ..`, `refused number`,
 -- `refused listing LINE KIND`, `refused listing LINE 4 DISTANCE`, `refused listing LINE 5 ADDRESS`, `refused label`, `refused address LINE`,
--- `refused inside LINE`, `refused full BYTES`, `refused symbol 1`, `refused symbol 2 VALUE` and `refused symbol 3 BUDGET`
+-- `refused inside LINE`, `refused full BYTES`, `refused costs LINE`, `refused symbol 1`, `refused symbol 2 VALUE` and `refused symbol 3 BUDGET`
 abbrev pub refusal_line : Refusal → List ℕ
 refusal_line (refusal.Table line) = printed (codes "refused table" ++ and_number line)
 refusal_line (refusal.States place) = printed (codes "refused states" ++ and_number place)
@@ -98,6 +98,7 @@ refusal_line refusal.Label = printed (codes "refused label")
 refusal_line (refusal.Address line) = printed (codes "refused address" ++ and_number line)
 refusal_line (refusal.Inside line) = printed (codes "refused inside" ++ and_number line)
 refusal_line (refusal.Full bytes) = printed (codes "refused full" ++ and_number bytes)
+refusal_line (refusal.Costs line) = printed (codes "refused costs" ++ and_number line)
 refusal_line refusal.Symbol = printed (codes "refused symbol 1")
 refusal_line (refusal.Differ value) = printed (codes "refused symbol 2" ++ and_number value)
 refusal_line (refusal.Spent budget) = printed (codes "refused symbol 3" ++ and_number budget)

@@ -1,5 +1,5 @@
 -- What the command `rewrite` comes to: the program's headline, but for its store and sink.
-use Rattle.std.specs.Prelude.{◌≡◌, ◌≤◌, ◌+◌, ℕ, List, [], ◌∷◌, ◌++◌, length, codes, if◌then◌else◌}
+use Rattle.std.specs.Prelude.{◌≡◌, ◌≤◌, ◌+◌, ℕ, List, [], ◌∷◌, ◌++◌, None, length, codes, if◌then◌else◌}
 use Rattle.thumb_model.specs.Listing.{Name, Line, code_of}
 use Rattle.thumb_model.specs.Layout.{Layable}
 use Rattle.thumb_model.specs.Naming.{Fits}
@@ -8,7 +8,7 @@ use Rattle.thumb_model.specs.Same.{Same}
 use Rattle.rule_model.specs.Rewriting.{Replacement, AreRewritten, AllApplied, NoneApplies}
 use Rattle.thumb_model.specs.ReplacedLines.{is_op}
 use Rattle.rule_table.specs.Table.{Table}
-use Rattle.table_audit.specs.Soundness.{IsSound, numbers_of}
+use Rattle.table_audit.specs.Soundness.{IsSound}
 use Rattle.listing_parser.specs.Parsing.{IsListing, text_of_lines}
 use Rattle.window_rewrite.specs.Rewriting.{setting}
 use Rattle.thumb_assembler.specs.Bytes.{IsSetBy}
@@ -62,18 +62,18 @@ pub record IsRewriting (to : Destination) (t : Table) (given : List Line) (o : O
   -- the one listing that is left: each replacement is the first that can be made
   pub replacements : List Replacement
   pub lines : List Line
-  pub rewritten : AreRewritten (setting to.base (numbers_of t)) given replacements lines
-  -- its text is read as these lines, which are no more than before, and can be laid out
+  pub rewritten : AreRewritten (setting to.base t) given replacements lines
+  -- its text is read as these lines, which can be laid out, and are no more than before where the table has no costs
   pub listed : IsListing (text_of_lines lines) lines
-  pub no_longer : length lines ≤ length given
+  pub no_longer : t.header.costs ≡ None → length lines ≤ length given
   pub layable : Layable to.base lines
   -- the same runs from every state, in no more steps
   pub same : Same (code_of given) (code_of lines)
   -- no entry applies any more
-  pub finished : NoneApplies (setting to.base (numbers_of t)) lines
-  -- each replacement applied in the listing as it then was, and leaves the same live registers and flags; no shorter sequence of the entry's alphabet
-  -- does, save those that it names open, each of which has its log
-  pub applied : AllApplied (setting to.base (numbers_of t)) given replacements
+  pub finished : NoneApplies (setting to.base t) lines
+  -- each replacement applied in the listing as it then was, and leaves the same live registers and flags; no shorter sequence of the entry's alphabet, or where the
+  -- table has costs no cheaper one that is as short as the left side, does, save those that it names open, each of which has its log
+  pub applied : AllApplied (setting to.base t) given replacements
   pub sound : IsSound t
   -- the run of each image of it meets both, wherever the laid naming fits
   pub runs : (bytes : List ℕ) → IsAssembled to.base lines bytes → RunsAsPromised to.base given lines bytes

@@ -101,6 +101,7 @@ fn settings() -> Settings
         seed: 42,
         pool,
         scratch: 0,
+        costs: None,
     }
 }
 

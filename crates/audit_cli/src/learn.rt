@@ -1,20 +1,20 @@
-//! The command `learn`: the table that is learnt from the windows of a listing.
+//! The command `learn`: the table that is learnt from the windows of a listing, by the costs of a second text where one is named.
 ghost use Rattle.std.specs.Prelude.{◌≡◌, ◌≤◌, IfOk};
 ghost use Rattle.command_runs.specs.Outcomes.{outcome_view};
 ghost use Rattle.rule_table.specs.Valid.{IsTable};
 ghost use Rattle.rule_table.specs.Views.{table_of};
 ghost use Rattle.table_learn.specs.Given.{settings_of, AreInLimits};
 ghost use Rattle.table_learn.specs.Learnt.{text_length, text_limit};
-ghost use Rattle.audit_cli.specs.Learn.{Learns, LinesLearn, kept_table};
-ghost use Rattle.audit_cli.specs.Commands.{lesson_of, settings_for};
+ghost use Rattle.audit_cli.specs.Learn.{Learns, LearnsByCosts, LinesLearn, kept_table, priced};
+ghost use Rattle.audit_cli.specs.Commands.{lesson_of, lesson_by_costs, settings_for};
 
 use crate::printing::keeps_text;
-use crate::refusal::refused;
+use crate::refusal::{Refusal, refused};
 use crate::steps::{learnt, read_listing, table_report};
 use command_runs::Outcome;
 use listing_parser::Listing;
 use rule_table::{Table, write_table};
-use seq_enum::Pool;
+use seq_enum::{CostLine, Costs, Pool, read_costs};
 use std::alloc::{AllocError, Global};
 use step_ledger::{Ledger, Steps};
 use table_learn::Settings;
@@ -30,6 +30,13 @@ pub(crate) struct Learn<'a> {
     pub(crate) seed: u32,
     pub(crate) scratch: Within<0, 2>,
     pub(crate) pool: &'a Pool,
+    pub(crate) costs: Option<Costs>,
+}
+
+/// The command `learn --costs`: the settings have no costs before the text of these is read.
+#[derive(Drop)]
+pub(crate) struct LearnByCosts<'a> {
+    pub(crate) learn: Learn<'a>,
 }
 
 /// The settings of the learner.
@@ -41,13 +48,14 @@ fn settings(learn: &Learn<'_>) -> Settings
         unreachable!();
     };
     Settings {
-        version: 2,
+        version: if learn.costs.is_some() { 4 } else { 2 },
         regs: learn.regs.number as u8,
         left: learn.left.number as u8,
         budget: learn.budget.number,
         seed: learn.seed,
         pool,
         scratch: learn.scratch.number as u8,
+        costs: learn.costs,
     }
 }
 
@@ -106,6 +114,39 @@ fn outcome<L: Ledger>(
     }
 }
 
+/// The command with these costs.
+fn with_costs<'a>(to: &LearnByCosts<'a>, costs: Costs) -> Learn<'a>
+    ensures { lesson_of result ≡ priced costs (lesson_by_costs to.now) }
+{
+    let learn = &to.learn;
+    Learn {
+        out: learn.out,
+        regs: learn.regs,
+        left: learn.left,
+        budget: learn.budget,
+        seed: learn.seed,
+        scratch: learn.scratch,
+        pool: learn.pool,
+        costs: Some(costs),
+    }
+}
+
+/// What the texts of a listing and of costs come to.
+fn outcome_by_costs<L: Ledger>(
+    alloc: Global,
+    to: &LearnByCosts<'_>,
+    text: &[u8],
+    costs: &[u8],
+    steps: &mut Steps<L>,
+) -> Result<Outcome, AllocError>
+    ensures { IfOk result (λ o. LearnsByCosts (lesson_by_costs to.now) text.now costs.now (outcome_view o)) }
+{
+    match read_costs(costs) {
+        Err(CostLine { number: line }) => refused(alloc, Refusal::Costs { line }),
+        Ok(costs) => outcome(alloc, &with_costs(to, costs), text, steps),
+    }
+}
+
 impl command_runs::Command for Learn<'_> {
     ghost use Rattle.audit_cli.specs.Learn.{LearnComesTo};
     ghost use Rattle.audit_cli.specs.Commands.{lesson_of};
@@ -123,6 +164,30 @@ impl command_runs::Command for Learn<'_> {
         match texts {
             [text] => {
                 let outcome = outcome(alloc, self, text, steps)?;
+                Ok(outcome)
+            }
+            _ => unreachable!(),
+        }
+    }
+}
+
+impl command_runs::Command for LearnByCosts<'_> {
+    ghost use Rattle.audit_cli.specs.Learn.{LearnByCostsComesTo};
+    ghost use Rattle.audit_cli.specs.Commands.{lesson_by_costs};
+
+    ghost takes = { 2 };
+
+    ghost comes = { λ l texts o. LearnByCostsComesTo (lesson_by_costs l) texts o };
+
+    fn compute<L: Ledger>(
+        &self,
+        alloc: Global,
+        texts: &[Vec<u8>],
+        steps: &mut Steps<L>,
+    ) -> Result<Outcome, AllocError> {
+        match texts {
+            [text, costs] => {
+                let outcome = outcome_by_costs(alloc, self, text, costs, steps)?;
                 Ok(outcome)
             }
             _ => unreachable!(),

@@ -16,7 +16,7 @@ pub(crate) enum Refusal {
     Table { line: u64 },
     /// The state at that place, from 1, is missing or isn't the seed's.
     States { place: u64 },
-    /// So many shorter sequences are too many.
+    /// So many sequences that an entry may have to be told from are too many.
     Wide { count: u64 },
     /// The entry, counted from 1, has this fault.
     Entry { number: u64, fault: EntryFault },
@@ -38,6 +38,8 @@ pub(crate) enum Refusal {
     Inside { line: u64 },
     /// The text of a table has so many bytes, which are too many.
     Full { bytes: u64 },
+    /// The line is the first that may not stand in a text of costs.
+    Costs { line: u64 },
     /// The number of an entry can't be raised.
     Symbol,
     /// The sides of an entry with this value aren't equal under the mask.
@@ -190,6 +192,14 @@ fn full_line(alloc: Global, bytes: u64) -> Result<Vec<u8>, AllocError>
     Ok(text.into_bytes())
 }
 
+/// `refused costs LINE`
+fn costs_line(alloc: Global, line: u64) -> Result<Vec<u8>, AllocError>
+    ensures { IfOk result (λ v. v.items ≡ refusal_line (Refusal.Costs line)) }
+{
+    let text = format!(in alloc; "refused costs {line}\n")?;
+    Ok(text.into_bytes())
+}
+
 /// `refused symbol 1`
 fn symbol_line(alloc: Global) -> Result<Vec<u8>, AllocError>
     ensures { IfOk result (λ v. v.items ≡ refusal_line Refusal.Symbol) }
@@ -231,6 +241,7 @@ fn refusal_line(alloc: Global, refusal: Refusal) -> Result<Vec<u8>, AllocError>
         Refusal::Address { line } => address_line(alloc, line),
         Refusal::Inside { line } => inside_line(alloc, line),
         Refusal::Full { bytes } => full_line(alloc, bytes),
+        Refusal::Costs { line } => costs_line(alloc, line),
         Refusal::Symbol => symbol_line(alloc),
         Refusal::Differ { value } => differ_line(alloc, value),
         Refusal::Spent { budget } => spent_line(alloc, budget),

@@ -9,7 +9,7 @@ use crate::audit::Audit;
 use crate::demo::Demo;
 use crate::export::Export;
 use crate::generalising::Generalise;
-use crate::learn::Learn;
+use crate::learn::{Learn, LearnByCosts};
 use crate::rewrite::Rewrite;
 use crate::tidy::Tidy;
 use crate::trace::Trace;
@@ -56,6 +56,7 @@ fn run_command<S: Store, O: Sink, L: Ledger>(
         Command::Learn {
             listing,
             out,
+            cost_text,
             regs,
             left,
             budget,
@@ -71,9 +72,19 @@ fn run_command<S: Store, O: Sink, L: Ledger>(
                 seed: *seed,
                 scratch: *scratch,
                 pool,
+                costs: None,
             };
-            let names = [listing.as_str()];
-            return run(alloc, &learn, &names, store, sink, steps);
+            match cost_text {
+                None => {
+                    let names = [listing.as_str()];
+                    return run(alloc, &learn, &names, store, sink, steps);
+                }
+                Some(cost_text) => {
+                    let learn = LearnByCosts { learn };
+                    let names = [listing.as_str(), cost_text.as_str()];
+                    return run(alloc, &learn, &names, store, sink, steps);
+                }
+            }
         }
         Command::Export {
             table,

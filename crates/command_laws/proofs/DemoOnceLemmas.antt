@@ -5,7 +5,7 @@ use Rattle.rule_model.specs.Rewriting.{Replacement}
 use Rattle.rule_model.proofs.Unique.{is_determined}
 use Rattle.listing_parser.proofs.MadeLemmas.{one_listing}
 use Rattle.rule_table.specs.Table.{Table}
-use Rattle.table_audit.specs.Soundness.{IsSound, numbers_of}
+use Rattle.table_audit.specs.Soundness.{IsSound}
 use Rattle.table_audit.proofs.Sound.{accepted_sound}
 use Rattle.window_rewrite.specs.Rewriting.{setting}
 use Rattle.thumb_assembler.specs.Following.{IsAssembled}
@@ -18,7 +18,7 @@ use Rattle.command_laws.proofs.ImageLemmas.{image_once}
 
 told_once : (t : Table) (given : List Line) (told other : List ℕ) → IsSound t → IsRewritingTold t given told → IsRewritingTold t given other → told ≡ other
 told_once t given told other sound h k =
-    let d = is_determined (setting 0 (numbers_of t)) given sound.sound h.replacements k.replacements h.lines k.lines h.rewritten k.rewritten in
+    let d = is_determined (setting 0 t) given sound.sound h.replacements k.replacements h.lines k.lines h.rewritten k.rewritten in
     let replacements : h.replacements ≡ k.replacements = d.0 in
     let lines : h.lines ≡ k.lines = d.1 in
     let image : IsAssembled 0 h.lines k.bytes = subst (λ (ls : List Line). IsAssembled 0 ls k.bytes) (sym lines) k.image in

@@ -5,13 +5,16 @@ use Rattle.thumb_model.specs.Listing.{Line, code_of, place_of}
 use Rattle.thumb_model.specs.Layout.{Layable}
 use Rattle.thumb_model.specs.Sides.{Equal}
 use Rattle.bit_blast.specs.Slots.{instance}
+use Rattle.listing_parser.specs.Parsing.{IsListing}
 use Rattle.listing_parser.proofs.MadeLemmas.{one_listing}
+use Rattle.seq_enum.proofs.CostReading as cost
 use Rattle.rule_table.specs.Table.{Rule, Family, Table}
 use Rattle.rule_table.proofs.Progress.{one_table}
 use Rattle.table_audit.specs.Sides.{SidesFit}
-use Rattle.table_audit.specs.Soundness.{items_in, numbers_of}
+use Rattle.table_audit.specs.Soundness.{items_in}
 use Rattle.table_learn.specs.Settings.{Settings}
-use Rattle.table_learn.specs.Learnt.{text_length, width_of}
+use Rattle.table_audit.specs.Acceptance.{width_of}
+use Rattle.table_learn.specs.Learnt.{text_length}
 use Rattle.window_rewrite.specs.Rewriting.{setting}
 use Rattle.thumb_assembler.specs.Refusals.{first_flaw}
 use Rattle.command_line.specs.CommandLine.{Request, rewrite, audit, learn, export, trace, demo, upgrade, trim, tidy, generalise}
@@ -37,7 +40,7 @@ use Rattle.audit_cli.proofs.GeneraliseLemmas.{not_none, not_unraisable, same_ent
 use Rattle.audit_cli.specs.Peep.{plan_of}
 use Rattle.command_laws.specs.Once.{AsksSolver}
 use Rattle.audit_cli.specs.Complete.{TellsFull}
-use Rattle.command_laws.specs.Fit.{HasFitEntry, HasFitFamily, FitRewriting, FitExport, FitTrace, FitTidying, FitLearning, FitUpgrade, FitGeneralising, AreFit}
+use Rattle.command_laws.specs.Fit.{HasFitEntry, HasFitFamily, FitRewriting, FitExport, FitTrace, FitTidying, FitLearningByCosts, FitUpgrade, FitGeneralising, AreFit}
 use Rattle.command_laws.proofs.AddressLemmas.{still_flawless}
 use Rattle.audit_cli.proofs.DemoLemmas.{never_unaudited, none_some, never_without_image}
 use Rattle.command_laws.proofs.OnceLemmas.{Cause, one_audited, never_unlisted, some_same, first_same, second_same, never_unread_listing, never_unlaid, apart, entry_moved, family_moved}
@@ -58,7 +61,7 @@ leaves_something to lines c _ none (no_image some cause h) r = never_without_ima
 lines_fit : (to : Destination) (t : Table) (given : List Line) (o : Outcome) → Layable to.base given → ((WantsNone to → ⊥) → first_flaw to.base given ≡ None) → LinesRewrite to t given o → IsRefusing o → ⊥
 lines_fit to t given _ laid none (rewriting.unlaid cause h) r = never_unlaid to.base given cause laid h
 lines_fit to t given _ laid none (rewriting.rewritten too o h) r =
-    leaves_something to h.lines _ o (λ some. still_flawless (setting to.base (numbers_of t)) given h.replacements h.lines h.sound.sound h.rewritten (none some)) h.left r
+    leaves_something to h.lines _ o (λ some. still_flawless (setting to.base t) given h.replacements h.lines h.sound.sound h.rewritten (none some)) h.left r
 
 module _ (to : Destination) (texts : List (List ℕ)) (fit : FitRewriting to.image to.base texts) where
   text_fit : (t : Table) (o : Outcome) → Rewrites to t fit.listing_text o → IsRefusing o → ⊥
@@ -169,7 +172,7 @@ module _ (base : ℕ) (out : List ℕ) (texts : List (List ℕ)) (fit : FitTidyi
 fit_unrefused : (r : Request) (texts : List (List ℕ)) (o : Outcome) → (AsksSolver r → ⊥) → AreFit r texts → (plan_of r).comes texts o → IsRefusing o → ⊥
 fit_unrefused (rewrite table listing out image base) texts o plain fit h = rewriting_fit (record { out = out; image = image; base = base }) texts fit o h
 fit_unrefused (audit table) texts o plain fit h = audits_fit fit.text fit.rules o (record { is = fit.is_table; accepted = fit.accepted }) (by_text tables.Audits texts fit.text o fit.is_text h)
-fit_unrefused (learn listing out settings) texts o plain fit h = absurd (plain tt)
+fit_unrefused (learn listing out costs settings) texts o plain fit h = absurd (plain tt)
 fit_unrefused (export table entry cnf lrat) texts o plain fit h =
     let to : Extract = record { entry = entry; cnf = cnf; lrat = lrat } in
     exports_fit to texts fit o (by_text (tables.Exports to) texts fit.text o fit.is_text h)
@@ -202,15 +205,29 @@ unlearnt_full : (s : Settings) (lines : List Line) (cause : Cause) → width_of 
 unlearnt_full s lines _ narrow (learning.too_wide wide) = absurd (omega (arith, narrow, wide))
 unlearnt_full s lines _ narrow (learning.too_long windows are t bytes full) = (bytes, refl)
 
-module _ (to : Lesson) (texts : List (List ℕ)) (fit : FitLearning to.settings texts) where
-  learns_lines : (o : Outcome) → learning.LinesLearn to fit.lines o → TellsFullIf o
+module _ (to : Lesson) (text : List ℕ) (given : List Line) (listing : IsListing text given) (narrow : width_of to.settings ≤ 5000000) where
+  learns_lines : (o : Outcome) → learning.LinesLearn to given o → TellsFullIf o
   unfolding TellsFullIf
-  learns_lines _ (learning.unlearnt cause h) = unlearnt_full to.settings fit.lines cause fit.narrow h
+  learns_lines _ (learning.unlearnt cause h) = unlearnt_full to.settings given cause narrow h
   learns_lines _ (learning.learnt t h) = tt
 
-  learns_fit : (o : Outcome) → learning.Learns to fit.text o → TellsFullIf o
-  learns_fit _ (learning.unread cause h) = absurd (never_unread_listing fit.text fit.lines cause fit.is_listing h)
-  learns_fit _ (learning.read lines is o h) = learns_lines o (subst (λ (ls : List Line). learning.LinesLearn to ls o) (one_listing fit.text lines fit.lines is fit.is_listing) h)
+  learns_fit : (o : Outcome) → learning.Learns to text o → TellsFullIf o
+  learns_fit _ (learning.unread cause h) = absurd (never_unread_listing text given cause listing h)
+  learns_fit _ (learning.read lines is o h) = learns_lines o (subst (λ (ls : List Line). learning.LinesLearn to ls o) (one_listing text lines given is listing) h)
+
+module _ (to : Lesson) (texts : List (List ℕ)) (fit : FitLearningByCosts to.settings texts) where
+  by_costs_fit : (o : Outcome) → learning.LearnsByCosts to fit.text fit.cost_text o → TellsFullIf o
+  by_costs_fit _ (learning.unpriced line h) = absurd (cost.not_both fit.cost_text fit.costs line fit.are_costs h)
+  by_costs_fit _ (learning.priced_so cs is o h) =
+      learns_fit (learning.priced fit.costs to) fit.text fit.lines fit.is_listing fit.narrow o
+      (subst (λ (xs : List ℕ). learning.Learns (learning.priced xs to) fit.text o) (cost.one_meaning fit.cost_text cs fit.costs is fit.are_costs) h)
+
+  both_fit : (o : Outcome) → learning.LearnByCostsComesTo to texts o → TellsFullIf o
+  both_fit o (text, costs, are, h) =
+      let e : (let l : List (List ℕ) = text ∷ costs ∷ [] in l) ≡ fit.text ∷ fit.cost_text ∷ [] = sym are ∙ fit.are in
+      let first : text ≡ fit.text = first_same text fit.text (costs ∷ []) (fit.cost_text ∷ []) e in
+      let second : costs ≡ fit.cost_text = second_same text costs fit.text fit.cost_text [] [] e in
+      by_costs_fit o (subst (λ (x : List ℕ × List ℕ). learning.LearnsByCosts to x.0 x.1 o) (λ i. (first i, second i)) h)
 
 shows_full : (n : ℕ) (o : Outcome) → showing.DemoComesTo n o → TellsFullIf o
 unfolding TellsFullIf
@@ -244,9 +261,10 @@ tells_full (rewrite table listing out image base) texts o fit h = none_so o (fit
 tells_full (audit table) texts o fit h = none_so o (fit_unrefused (audit table) texts o (λ x. x) fit h)
 tells_full (export table entry cnf lrat) texts o fit h = none_so o (fit_unrefused (export table entry cnf lrat) texts o (λ x. x) fit h)
 tells_full (trace listing label steps) texts o fit h = none_so o (fit_unrefused (trace listing label steps) texts o (λ x. x) fit h)
-tells_full (learn listing out s) texts o fit h =
+tells_full (learn listing out None s) texts o fit h =
     let to : Lesson = record { out = out; settings = s } in
-    learns_fit to texts fit o (by_text (learning.Learns to) texts fit.text o fit.is_text h)
+    learns_fit to fit.text fit.lines fit.is_listing fit.narrow o (by_text (learning.Learns to) texts fit.text o fit.is_text h)
+tells_full (learn listing out (Some costs) s) texts o fit h = both_fit (record { out = out; settings = s }) texts fit o h
 tells_full (demo windows) texts o fit h = shows_full windows o h
 tells_full (generalise table entry number low high out) texts o fit h =
     let f : Family = wanted entry number low high in

@@ -11,18 +11,20 @@ use Rattle.listing_parser.specs.Parsing.{IsListing, text_of_lines}
 use Rattle.listing_parser.proofs.MadeLemmas.{one_listing}
 use Rattle.listing_parser.proofs.VerdictLemmas.{one_verdict}
 use Rattle.label_layout.specs.Faults.{first_fault}
+use Rattle.seq_enum.specs.CostTexts.{IsCostText}
+use Rattle.seq_enum.proofs.CostReading.{one_meaning}
+use Rattle.seq_enum.proofs.CostReading as cost
 use Rattle.rule_table.specs.Table.{Rule, Family, Table}
 use Rattle.rule_table.specs.Refused.{IsText}
 use Rattle.rule_table.proofs.Progress.{one_table, refused_once, not_both}
 use Rattle.table_audit.specs.declared.errors.AuditError.{AuditError}
 use Rattle.table_audit.specs.declared.errors.AuditError.TheVariants as audit
-use Rattle.table_audit.specs.Acceptance.{TableVerdict}
+use Rattle.table_audit.specs.Acceptance.{TableVerdict, width_of}
 use Rattle.table_audit.specs.Sides.{SidesFit}
 use Rattle.table_audit.specs.Families.{entry_at, entry_of, family_at, raised_formula, IsRaisable}
-use Rattle.table_audit.specs.Soundness.{numbers_of}
 use Rattle.table_audit.proofs.Determined.{table_same}
 use Rattle.table_learn.specs.Settings.{Settings, Window}
-use Rattle.table_learn.specs.Learnt.{Learnt, width_of}
+use Rattle.table_learn.specs.Learnt.{Learnt}
 use Rattle.window_rewrite.specs.Rewriting.{setting}
 use Rattle.thumb_assembler.specs.Refusals.{first_flaw}
 use Rattle.command_runs.specs.Plans.{Outcome, Refuses, Does}
@@ -35,9 +37,9 @@ use Rattle.audit_cli.specs.Tables as tables
 use Rattle.audit_cli.specs.Upgrade as upgrading
 use Rattle.audit_cli.specs.Trim as trimming
 use Rattle.command_laws.proofs.TrimLemmas.{trimming_once}
-use Rattle.audit_cli.specs.Learn.{Lesson, IsUnlearnt, LinesLearn, Learns, LearnComesTo}
+use Rattle.audit_cli.specs.Learn.{Lesson, IsUnlearnt, LinesLearn, Learns, LearnsByCosts, priced, unpriced_at}
 use Rattle.audit_cli.specs.Learn as learning
-use Rattle.command_laws.specs.Once.{IsOne, AreOfOneListing, LearningIsOneButForTables}
+use Rattle.command_laws.specs.Once.{IsOne, AreOfOneListing, LearningIsOneButForTables, LearningByCostsIsOneButForTables}
 use Rattle.audit_cli.proofs.DemoLemmas.{never_unaudited, none_some, never_without_image}
 use Rattle.command_laws.proofs.ImageLemmas.{image_once}
 
@@ -140,7 +142,7 @@ leaves_once to lines c _ _ (no_image some r h) (no_image other s k) = refuses_sa
 
 rewriting_once : (to : Destination) (t : Table) (given : List Line) (o p : Outcome) → IsRewriting to t given o → IsRewriting to t given p → o ≡ p
 rewriting_once to t given o p h k =
-    let d = is_determined (setting to.base (numbers_of t)) given h.sound.sound h.replacements k.replacements h.lines k.lines h.rewritten k.rewritten in
+    let d = is_determined (setting to.base t) given h.sound.sound h.replacements k.replacements h.lines k.lines h.rewritten k.rewritten in
     let replacements : k.replacements ≡ h.replacements = sym d.0 in
     let lines : k.lines ≡ h.lines = sym d.1 in
     let left : Leaves to h.lines (record { replaced = length h.replacements; before = instruction_count given; after = instruction_count h.lines }) p =
@@ -330,21 +332,42 @@ wide to lines _ _ many (learning.unlearnt r h) (learning.unlearnt s k) = refuses
 wide to lines _ p many (learning.learnt t h) k = absurd (let few = narrow_learnt to.settings h.windows t h.learnt in omega (arith, few, many))
 wide to lines o _ many h (learning.learnt t k) = absurd (let few = narrow_learnt to.settings k.windows t k.learnt in omega (arith, few, many))
 
-lines_learn_once : (to : Lesson) (texts : List (List ℕ)) (text : List ℕ) (lines : List Line) (o p : Outcome) → texts ≡ text ∷ [] → IsListing text lines → LinesLearn to lines o → LinesLearn to lines p
-    → (o ≡ p) ⊎ AreOfOneListing to texts o p
-lines_learn_once to texts text lines o p are is h k = elim (cases_Bool (nat_le (width_of to.settings) 5000000)) [
-  | inl few ↦ inr (record { text = text; is_text = are; lines = lines; listing = is; narrow = leb-true (width_of to.settings) 5000000 few; first = h; second = k })
+lines_learn_once : (to : Lesson) (text : List ℕ) (lines : List Line) (o p : Outcome) → IsListing text lines → LinesLearn to lines o → LinesLearn to lines p → (o ≡ p) ⊎ AreOfOneListing to text o p
+lines_learn_once to text lines o p is h k = elim (cases_Bool (nat_le (width_of to.settings) 5000000)) [
+  | inl few ↦ inr (record { lines = lines; listing = is; narrow = leb-true (width_of to.settings) 5000000 few; first = h; second = k })
   | inr many ↦ inl (let w = leb-false (width_of to.settings) 5000000 many in wide to lines o p w h k)
 ]
 
-learns_once : (to : Lesson) (texts : List (List ℕ)) (text : List ℕ) (o p : Outcome) → texts ≡ text ∷ [] → Learns to text o → Learns to text p → (o ≡ p) ⊎ AreOfOneListing to texts o p
-learns_once to texts text _ _ are (learning.unread r h) (learning.unread s k) = inl (refuses_same r s (unread_once text r s h k))
-learns_once to texts text _ _ are (learning.unread r h) (learning.read lines is p k) = absurd (never_unread_listing text lines r is h)
-learns_once to texts text _ _ are (learning.read lines is o h) (learning.unread s k) = absurd (never_unread_listing text lines s is k)
-learns_once to texts text _ _ are (learning.read lines is o h) (learning.read others js p k) =
-    lines_learn_once to texts text lines o p are is h (subst (λ (ls : List Line). LinesLearn to ls p) (one_listing text others lines js is) k)
+learns_once : (to : Lesson) (text : List ℕ) (o p : Outcome) → Learns to text o → Learns to text p → (o ≡ p) ⊎ AreOfOneListing to text o p
+learns_once to text _ _ (learning.unread r h) (learning.unread s k) = inl (refuses_same r s (unread_once text r s h k))
+learns_once to text _ _ (learning.unread r h) (learning.read lines is p k) = absurd (never_unread_listing text lines r is h)
+learns_once to text _ _ (learning.read lines is o h) (learning.unread s k) = absurd (never_unread_listing text lines s is k)
+learns_once to text _ _ (learning.read lines is o h) (learning.read others js p k) =
+    lines_learn_once to text lines o p is h (subst (λ (ls : List Line). LinesLearn to ls p) (one_listing text others lines js is) k)
 
 pub learning_once : LearningIsOneButForTables
 learning_once to texts o p (text, is, h) (other, are, k) =
     let same : other ≡ text = first_same other text [] [] (sym are ∙ is) in
-    learns_once to texts text o p is h (subst (λ (t : List ℕ). Learns to t p) same k)
+    elim (learns_once to text o p h (subst (λ (t : List ℕ). Learns to t p) same k)) [
+      | inl one ↦ inl one
+      | inr tables ↦ inr (text, is, tables)
+    ]
+
+-- by costs: a text is one of costs and says what they are, or it is refused at one line
+by_costs_once : (to : Lesson) (texts : List (List ℕ)) (text costs : List ℕ) (o p : Outcome) → texts ≡ text ∷ costs ∷ [] → LearnsByCosts to text costs o → LearnsByCosts to text costs p
+    → (o ≡ p) ⊎ ((t bytes cs : List ℕ) × (texts ≡ t ∷ bytes ∷ []) × IsCostText bytes cs × AreOfOneListing (priced cs to) t o p)
+by_costs_once to texts text costs _ _ are (learning.unpriced n h) (learning.unpriced m k) = inl (ap unpriced_at (cost.refused_once costs n m h k))
+by_costs_once to texts text costs _ _ are (learning.unpriced n h) (learning.priced_so cs is p k) = absurd (cost.not_both costs cs n is h)
+by_costs_once to texts text costs _ _ are (learning.priced_so cs is o h) (learning.unpriced m k) = absurd (cost.not_both costs cs m is k)
+by_costs_once to texts text costs _ _ are (learning.priced_so cs is o h) (learning.priced_so ds js p k) =
+    elim (learns_once (priced cs to) text o p h (subst (λ (xs : List ℕ). Learns (priced xs to) text p) (one_meaning costs ds cs js is) k)) [
+      | inl one ↦ inl one
+      | inr tables ↦ inr (text, costs, cs, are, is, tables)
+    ]
+
+pub learning_by_costs_once : LearningByCostsIsOneButForTables
+learning_by_costs_once to texts o p (text, costs, is, h) (other, another, are, k) =
+    let e : (let l : List (List ℕ) = other ∷ another ∷ [] in l) ≡ text ∷ costs ∷ [] = sym are ∙ is in
+    let first : other ≡ text = first_same other text (another ∷ []) (costs ∷ []) e in
+    let second : another ≡ costs = second_same other another text costs [] [] e in
+    by_costs_once to texts text costs o p is h (subst (λ (x : List ℕ × List ℕ). LearnsByCosts to x.0 x.1 p) (λ i. (first i, second i)) k)

@@ -8,7 +8,7 @@ use Rattle.command_laws.proofs.TidyOnceLemmas.{tidy_once}
 pub come_to_one : TextsComeToOne
 come_to_one (rewrite table listing out image base) plain = rewrite_once (record { out = out; image = image; base = base })
 come_to_one (audit table) plain = audit_once
-come_to_one (learn listing out settings) plain = absurd (plain tt)
+come_to_one (learn listing out costs settings) plain = absurd (plain tt)
 come_to_one (export table entry cnf lrat) plain = export_once (record { entry = entry; cnf = cnf; lrat = lrat })
 come_to_one (trace listing label steps) plain = trace_once (record { label = label; most = steps })
 come_to_one (demo windows) plain = absurd (plain tt)

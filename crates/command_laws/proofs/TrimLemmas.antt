@@ -23,12 +23,12 @@ use Rattle.table_audit.specs.declared.errors.EntryFault.TheVariants as fault
 use Rattle.table_audit.specs.declared.errors.AuditError.TheVariants as audit
 use Rattle.table_audit.specs.Sides.{SidesFit, formula_of}
 use Rattle.table_audit.specs.declared.errors.FamilyKind.TheVariants as kind
-use Rattle.table_audit.specs.Acceptance.{IsRightlyOpen, OpenTest, EntryVerdict, RaisedVerdict, FamilyVerdict, IsAccepted}
+use Rattle.table_audit.specs.Acceptance.{IsUntold, IsRightlyOpen, OpenTest, EntryVerdict, RaisedVerdict, FamilyVerdict, IsAccepted}
 use Rattle.table_audit.specs.Families.{entry_at, entry_of, raised_formula, IsRaisable}
-use Rattle.table_audit.specs.Soundness.{rewriting_rule, instances_of}
+use Rattle.table_audit.specs.Soundness.{rewriting_rule, instances_of, numbers_of}
 use Rattle.table_learn.specs.Learnt.{text_length}
 use Rattle.rule_model.specs.Rules as model
-use Rattle.window_rewrite.specs.Rewriting.{setting}
+use Rattle.window_rewrite.specs.Rewriting.{setting_by}
 use Rattle.audit_cli.specs.Trim.{IsTrimmedRule, IsTrimmedFamily, IsTrimmedTable}
 use Rattle.audit_cli.proofs.Refutations.{passed_refutes, refutes_passed}
 use Rattle.audit_cli.proofs.DemoLemmas.{none_some}
@@ -55,10 +55,13 @@ its_own t u h = λ i. record { header = h.header i; states = h.states i; rules =
 
 module _ (t : Table) (rules : List Rule) (families : List Family) (e : Rule) (proof : List Content) where
   fits : SidesFit t e → SidesFit (holding t rules families) (proving e proof)
-  fits h = record { canonical = h.canonical; short = h.short; few = h.few; left = h.left; right = h.right; no_longer = h.no_longer; mask = h.mask }
+  fits h = record { canonical = h.canonical; short = h.short; few = h.few; left = h.left; right = h.right; no_longer = h.no_longer; no_dearer = h.no_dearer; mask = h.mask }
 
   stays_open : (o : Opened) → IsRightlyOpen t e o → IsRightlyOpen (holding t rules families) (proving e proof) o
   stays_open o h = record { seq = h.seq; below = record { at = h.below.at; no_longer = h.below.no_longer; lighter = h.below.lighter }; untold = h.untold; spent = h.spent }
+
+  stays_untold : (q : ℕ) (seq : List Instr) → IsUntold (holding t rules families) (proving e proof) q seq → IsUntold t e q seq
+  stays_untold q seq u = record { below = record { at = u.below.at; no_longer = u.below.no_longer; lighter = u.below.lighter }; unnamed = u.unnamed; untold = u.untold }
 
   opens : (n i : ℕ) (os : List Opened) → InTurn (OpenTest t n e) i os None → InTurn (OpenTest (holding t rules families) n (proving e proof)) i os None
   opens n i [] h = h
@@ -69,7 +72,7 @@ module _ (t : Table) (rules : List Rule) (families : List Family) (e : Rule) (pr
   still_accepted n trimmed v =
       let clauses = codes_of (formula_of t.header e).clauses in
       let refutes = trimmed_refutes clauses e.proof proof (entry_ready t n e v).refutes trimmed in
-      (fits v.0, (refutes_passed (λ line. audit.Entry n (fault.Proof line)) (audit.Entry n fault.Unfinished) clauses proof refutes, (v.1.1.0, opens n 0 e.opens v.1.1.1)))
+      (fits v.0, (refutes_passed (λ line. audit.Entry n (fault.Proof line)) (audit.Entry n fault.Unfinished) clauses proof refutes, ((λ q seq u. v.1.1.0 q seq (stays_untold q seq u)), opens n 0 e.opens v.1.1.1)))
 
 entries_accepted : (t : Table) (rules : List Rule) (families : List Family) (n : ℕ) (es fs : List Rule) → AllZip (IsTrimmedRule t.header) es fs → InTurn (EntryVerdict t) n es None → InTurn (EntryVerdict (holding t rules families)) n fs None
 entries_accepted t rules families n [] [] z h = h
@@ -394,4 +397,5 @@ families_alike t u h (f ∷ fs) (g ∷ gs) z = ap₂ (λ (is : List model.Rule) 
 
 pub trimmed_rewrite_alike : TrimmedTablesRewriteAlike
 trimmed_rewrite_alike t u base h =
-    ap₂ (λ (rules : List model.Rule) (instances : List (List model.Rule)). setting base (model.alone rules ++ instances)) (rewriting_alike t.header t.rules u.rules h.rules) (families_alike t u h t.families u.families h.families)
+    ap (λ (x : Header). setting_by x.costs base (numbers_of u)) h.header
+    ∙ ap₂ (λ (rules : List model.Rule) (instances : List (List model.Rule)). setting_by t.header.costs base (model.alone rules ++ instances)) (rewriting_alike t.header t.rules u.rules h.rules) (families_alike t u h t.families u.families h.families)

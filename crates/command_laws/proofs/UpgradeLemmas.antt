@@ -1,11 +1,10 @@
 -- Nothing that the audit says looks at a table's version.
 use Rattle.std.proofs.Common.{◌≡◌, ◌∙◌, inl, inr, ℕ, ◌≤◌, [], false, refl, ap, arith, max, leb-false}
 use Rattle.std.proofs.lemmas.Bool.{cases_Bool, leb-true}
-use Rattle.rule_table.specs.declared.header.Field.TheVariants.{Version}
 use Rattle.rule_table.specs.Header.{has_families}
 use Rattle.rule_table.specs.Text.{text_of}
 use Rattle.audit_cli.specs.Upgrade.{upgraded}
-use Rattle.audit_cli.proofs.VersionLemmas.{header_in_version, in_version, verdict}
+use Rattle.audit_cli.proofs.VersionLemmas.{header_raised, in_version, verdict}
 use Rattle.command_laws.specs.Upgrading.{UpgradesAreAuditedAlike, UpgradesAreTables, UpgradesRewriteAlike, LaterTablesAreKept}
 
 pub upgrades_audited_alike : UpgradesAreAuditedAlike
@@ -15,7 +14,7 @@ upgrades_audited_alike t o = (verdict (max 2 t.header.version) t o, verdict t.he
 
 pub upgrades_are_tables : UpgradesAreTables
 upgrades_are_tables t h = record {
-  header = header_in_version (max 2 t.header.version) t.header (omega arith) (let b = h.header.numbers Version in omega (arith, b.1)) h.header;
+  header = header_raised 2 t.header (omega arith) (omega arith) h.header;
   states = h.states;
   rules = h.rules;
   families = h.families;

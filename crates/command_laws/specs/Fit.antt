@@ -11,7 +11,9 @@ use Rattle.table_audit.specs.Acceptance.{IsAccepted}
 use Rattle.table_audit.specs.Sides.{SidesFit}
 use Rattle.table_audit.specs.Soundness.{items_in}
 use Rattle.table_learn.specs.Settings.{Settings}
-use Rattle.table_learn.specs.Learnt.{text_length, text_limit, width_of}
+use Rattle.table_learn.specs.Learnt.{text_length, text_limit}
+use Rattle.table_audit.specs.Acceptance.{width_of}
+use Rattle.seq_enum.specs.CostTexts.{IsCostText}
 use Rattle.thumb_assembler.specs.Refusals.{first_flaw}
 use Rattle.command_line.specs.CommandLine.{Request, rewrite, audit, learn, export, trace, demo, upgrade, trim, tidy, generalise, AskFor}
 use Rattle.outer_store.specs.Outside.{Event, Seen, Sunk}
@@ -97,13 +99,24 @@ pub record FitTidying (base : ℕ) (texts : List (List ℕ)) : Type 0 where
   pub is_listing : IsListing text lines
   pub layable : Layable base lines
 
--- a well-formed listing, and settings with at most 5,000,000 sequences that are shorter than the longest windows
+-- a well-formed listing, and settings with at most 5,000,000 sequences that may be below the longest windows
 pub record FitLearning (s : Settings) (texts : List (List ℕ)) : Type 0 where
   pub text : List ℕ
   pub is_text : texts ≡ text ∷ []
   pub lines : List Line
   pub is_listing : IsListing text lines
   pub narrow : width_of s ≤ 5000000
+
+-- a well-formed listing and a text of costs, with which the settings have no more such sequences
+pub record FitLearningByCosts (s : Settings) (texts : List (List ℕ)) : Type 0 where
+  pub text : List ℕ
+  pub cost_text : List ℕ
+  pub are : texts ≡ text ∷ cost_text ∷ []
+  pub lines : List Line
+  pub is_listing : IsListing text lines
+  pub costs : List ℕ
+  pub are_costs : IsCostText cost_text costs
+  pub narrow : width_of (record s { version = 4; costs = Some costs }) ≤ 5000000
 
 -- an accepted table with an entry whose number can be raised so, whose sides with each value are equal under the mask, and no log spends the budget on the family
 pub record FitGeneralising (f : Family) (texts : List (List ℕ)) : Type 0 where
@@ -121,7 +134,8 @@ pub record FitGeneralising (f : Family) (texts : List (List ℕ)) : Type 0 where
 abbrev pub AreFit : Request → List (List ℕ) → Type 0
 AreFit (rewrite table listing out image base) texts = FitRewriting image base texts
 AreFit (audit table) texts = FitAudit texts
-AreFit (learn listing out s) texts = FitLearning s texts
+AreFit (learn listing out None s) texts = FitLearning s texts
+AreFit (learn listing out (Some costs) s) texts = FitLearningByCosts s texts
 AreFit (export table entry cnf lrat) texts = FitExport entry texts
 AreFit (trace listing label steps) texts = FitTrace label texts
 AreFit (demo windows) texts = Unit {0}

@@ -3,10 +3,11 @@ use Rattle.std.specs.Prelude.{◌≡◌, ◌≤◌, ◌⊎◌, ℕ, List, [], �
 use Rattle.thumb_model.specs.Listing.{Line}
 use Rattle.listing_parser.specs.Parsing.{IsListing}
 use Rattle.rule_table.specs.Table.{Rule, Family, Table}
-use Rattle.table_learn.specs.Learnt.{width_of}
+use Rattle.seq_enum.specs.CostTexts.{IsCostText}
+use Rattle.table_audit.specs.Acceptance.{width_of}
 use Rattle.command_line.specs.CommandLine.{Request, rewrite, audit, learn, export, trace, demo, upgrade, trim, tidy, generalise}
 use Rattle.command_runs.specs.Plans.{Outcome}
-use Rattle.audit_cli.specs.Learn.{Lesson, LinesLearn, LearnComesTo}
+use Rattle.audit_cli.specs.Learn.{Lesson, LinesLearn, LearnComesTo, LearnByCostsComesTo, priced}
 use Rattle.audit_cli.specs.Demo.{IsDemo}
 use Rattle.audit_cli.specs.Steps.{IsAudited}
 use Rattle.audit_cli.specs.Generalise.{IsRaisableFor, Generalises, GeneraliseComesTo}
@@ -20,7 +21,7 @@ IsOne comes = (texts : List (List ℕ)) (o p : Outcome) → comes texts o → co
 abbrev pub AsksSolver : Request → Type 0
 AsksSolver (rewrite table listing out image base) = ⊥
 AsksSolver (audit table) = ⊥
-AsksSolver (learn listing out settings) = Unit {0}
+AsksSolver (learn listing out costs settings) = Unit {0}
 AsksSolver (export table entry cnf lrat) = ⊥
 AsksSolver (trace listing label steps) = ⊥
 AsksSolver (demo windows) = Unit {0}
@@ -34,9 +35,7 @@ abbrev pub TextsComeToOne : Type 0
 TextsComeToOne = (r : Request) → (AsksSolver r → ⊥) → IsOne (plan_of r).comes
 
 -- a table was learnt from the lines of the one listing, and kept, or its text is too long
-pub record AreOfOneListing (to : Lesson) (texts : List (List ℕ)) (o p : Outcome) : Type 0 where
-  pub text : List ℕ
-  pub is_text : texts ≡ text ∷ []
+pub record AreOfOneListing (to : Lesson) (text : List ℕ) (o p : Outcome) : Type 0 where
   pub lines : List Line
   pub listing : IsListing text lines
   pub narrow : width_of to.settings ≤ 5000000
@@ -45,7 +44,13 @@ pub record AreOfOneListing (to : Lesson) (texts : List (List ℕ)) (o p : Outcom
 
 -- and so with `learn`, but for which table that is
 abbrev pub LearningIsOneButForTables : Type 0
-LearningIsOneButForTables = (to : Lesson) (texts : List (List ℕ)) (o p : Outcome) → LearnComesTo to texts o → LearnComesTo to texts p → (o ≡ p) ⊎ AreOfOneListing to texts o p
+LearningIsOneButForTables = (to : Lesson) (texts : List (List ℕ)) (o p : Outcome) → LearnComesTo to texts o → LearnComesTo to texts p
+    → (o ≡ p) ⊎ ((text : List ℕ) × (texts ≡ text ∷ []) × AreOfOneListing to text o p)
+
+-- also by the one costs of a text
+abbrev pub LearningByCostsIsOneButForTables : Type 0
+LearningByCostsIsOneButForTables = (to : Lesson) (texts : List (List ℕ)) (o p : Outcome) → LearnByCostsComesTo to texts o → LearnByCostsComesTo to texts p
+    → (o ≡ p) ⊎ ((text costs cs : List ℕ) × (texts ≡ text ∷ costs ∷ []) × IsCostText costs cs × AreOfOneListing (priced cs to) text o p)
 
 -- and with `demo`: by one table so many windows come to one thing
 abbrev pub DemosOfOneTableAreOne : Type 0

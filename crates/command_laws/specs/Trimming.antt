@@ -3,7 +3,6 @@ use Rattle.std.specs.Prelude.{◌≡◌, ◌≤◌, ℕ}
 use Rattle.rule_table.specs.Table.{Table}
 use Rattle.rule_table.specs.Valid.{IsTable}
 use Rattle.table_audit.specs.Acceptance.{IsAccepted}
-use Rattle.table_audit.specs.Soundness.{numbers_of}
 use Rattle.table_learn.specs.Learnt.{text_length}
 use Rattle.window_rewrite.specs.Rewriting.{setting}
 use Rattle.audit_cli.specs.Trim.{IsTrimmedTable}
@@ -12,7 +11,7 @@ abbrev pub TrimmedTablesAreAccepted : Type 0
 TrimmedTablesAreAccepted = (t trimmed : Table) → IsTable t → IsAccepted t → IsTrimmedTable t trimmed → IsTable trimmed × IsAccepted trimmed
 
 abbrev pub TrimmedTablesRewriteAlike : Type 0
-TrimmedTablesRewriteAlike = (t trimmed : Table) (base : ℕ) → IsTrimmedTable t trimmed → setting base (numbers_of trimmed) ≡ setting base (numbers_of t)
+TrimmedTablesRewriteAlike = (t trimmed : Table) (base : ℕ) → IsTrimmedTable t trimmed → setting base trimmed ≡ setting base t
 
 abbrev pub TrimmedTextsAreNoLonger : Type 0
 TrimmedTextsAreNoLonger = (t trimmed : Table) → IsAccepted t → IsTrimmedTable t trimmed → text_length trimmed ≤ text_length t

@@ -6,7 +6,6 @@ use Rattle.rule_table.specs.Text.{text_of}
 use Rattle.rule_table.specs.Valid.{IsTable}
 use Rattle.table_audit.specs.declared.errors.AuditError.{AuditError}
 use Rattle.table_audit.specs.Acceptance.{TableVerdict}
-use Rattle.table_audit.specs.Soundness.{numbers_of}
 use Rattle.window_rewrite.specs.Rewriting.{setting}
 use Rattle.audit_cli.specs.Upgrade.{upgraded}
 
@@ -19,7 +18,7 @@ UpgradesAreAuditedAlike = (t : Table) (verdict : Option AuditError) → TableVer
 
 -- rewriting by the upgrade is rewriting by the table
 abbrev pub UpgradesRewriteAlike : Type 0
-UpgradesRewriteAlike = (t : Table) (base : ℕ) → setting base (numbers_of (upgraded t)) ≡ setting base (numbers_of t)
+UpgradesRewriteAlike = (t : Table) (base : ℕ) → setting base (upgraded t) ≡ setting base t
 
 -- a table of a later version is kept byte for byte
 abbrev pub LaterTablesAreKept : Type 0

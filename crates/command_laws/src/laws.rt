@@ -2,18 +2,19 @@
 
 ghost use Rattle.command_laws.specs.Fit.{FitTextsAreCarriedOut, FitTextsAreLearntFrom};
 ghost use Rattle.command_laws.specs.Images.{KeptImagesFollow};
-ghost use Rattle.command_laws.specs.Once.{DemosOfOneTableAreOne, GeneralisingIsOneButForSearches, LearningIsOneButForTables, TextsComeToOne};
+ghost use Rattle.command_laws.specs.Once.{DemosOfOneTableAreOne, GeneralisingIsOneButForSearches, LearningByCostsIsOneButForTables, LearningIsOneButForTables, TextsComeToOne};
 ghost use Rattle.command_laws.specs.Tidying.{TidiesAsPromised};
 ghost use Rattle.command_laws.specs.Trimming.{TrimmedTablesAreAccepted, TrimmedTablesRewriteAlike, TrimmedTablesStay, TrimmedTextsAreNoLonger, TrimmingIsOne};
 ghost use Rattle.command_laws.specs.Upgrading.{LaterTablesAreKept, UpgradesAreAuditedAlike, UpgradesAreTables, UpgradesRewriteAlike};
 
 /// The texts that `rewrite`, `audit`, `export`, `trace`, `upgrade`, `trim` or `tidy` reads come to one outcome: whether they are refused, by which line, and what is kept and printed are
-/// fixed. So it is with `learn`, but where a table is learnt from one listing's lines: it may be another, and its text may be too long. What `demo` tells is fixed by
+/// fixed. So it is with `learn`, also by the costs of a text, but where a table is learnt from one listing's lines: it may be another, and its text may be too long. What `demo` tells is fixed by
 /// the table that it learns. And so it is with `generalise`, but where the table is accepted and the entry's number can be raised: what the solver then finds may be
 /// another.
 pub fn texts_come_to_one_outcome()
     ensures one { TextsComeToOne }
     ensures learning { LearningIsOneButForTables }
+    ensures by_costs { LearningByCostsIsOneButForTables }
     ensures demo { DemosOfOneTableAreOne }
     ensures generalising { GeneralisingIsOneButForSearches }
 {}

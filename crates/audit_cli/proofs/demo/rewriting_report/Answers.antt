@@ -4,7 +4,6 @@ use Rattle.rule_model.proofs.LinesKept.{still_layable}
 use Rattle.label_layout.specs.Refusals.{fault_of}
 use Rattle.label_layout.specs.Faults.{first_fault}
 use Rattle.rule_table.specs.Views.{table_of}
-use Rattle.table_audit.specs.Soundness.{numbers_of}
 use Rattle.table_audit.proofs.Sound.{accepted_sound}
 use Rattle.window_rewrite.specs.Rewriting.{replacement_of, setting}
 use Rattle.audit_cli.specs.Demo.{demo_text}
@@ -21,12 +20,12 @@ unreachable-requires g c =
 
 pub image-requires : goal.image-requires
 image-requires g c =
-    let s = setting 0 (numbers_of (table_of c.args.table.now)) in
+    let s = setting 0 (table_of c.args.table.now) in
     let made = map replacement_of c.in-Ok.field-0.replacements.items in
     let mute = made_mute c.args.listing c.requires.made in
     let sound = accepted_sound (table_of c.args.table.now) c.requires.valid c.requires.accepted in
     record {
-      listed = still_reads 0 (numbers_of (table_of c.args.table.now)) (demo_text c.requires.made.0) c.args.listing made c.in-Ok.field-0.listing sound.sound c.in-Ok.ensures.rewritten c.requires.made.2;
+      listed = still_reads 0 (table_of c.args.table.now) (demo_text c.requires.made.0) c.args.listing made c.in-Ok.field-0.listing sound.sound c.in-Ok.ensures.rewritten c.requires.made.2;
       layable = still_layable s c.args.listing made c.in-Ok.field-0.listing (mute_layable 0 c.args.listing mute) c.in-Ok.ensures.rewritten;
       flawless = mute_flawless 0 c.in-Ok.field-0.listing (rewritten_mute s c.args.listing made c.in-Ok.field-0.listing c.in-Ok.ensures.rewritten mute);
     }

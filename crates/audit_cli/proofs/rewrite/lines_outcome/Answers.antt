@@ -6,7 +6,6 @@ use Rattle.label_layout.specs.Refusals.{fault_of}
 use Rattle.label_layout.specs.Faults.{first_fault}
 use Rattle.listing_parser.specs.Parsing.{text_of_lines}
 use Rattle.rule_table.specs.Views.{table_of}
-use Rattle.table_audit.specs.Soundness.{numbers_of}
 use Rattle.window_rewrite.specs.Rewriting.{replacement_of, setting}
 use Rattle.command_runs.specs.Outcomes.{outcome_view}
 use Rattle.audit_cli.specs.Commands.{destination_of}
@@ -18,12 +17,12 @@ use Rattle.audit_cli.proofs.rewrite.lines_outcome.Goals as goal
 
 pub left-requires-clause-listed : goal.left-requires-clause-listed
 left-requires-clause-listed g c =
-    still_reads c.args.to.now.base.address (numbers_of (table_of c.args.table.now)) (text_of_lines c.args.listing) c.args.listing (map replacement_of c.in-Ok.field-0.replacements.items) c.in-Ok.field-0.listing
+    still_reads c.args.to.now.base.address (table_of c.args.table.now) (text_of_lines c.args.listing) c.args.listing (map replacement_of c.in-Ok.field-0.replacements.items) c.in-Ok.field-0.listing
     c.requires.sound.sound c.in-Ok.ensures.rewritten c.requires.listed
 
 pub left-requires-clause-layable : goal.left-requires-clause-layable
 left-requires-clause-layable g c =
-    still_layable (setting c.args.to.now.base.address (numbers_of (table_of c.args.table.now))) c.args.listing (map replacement_of c.in-Ok.field-0.replacements.items) c.in-Ok.field-0.listing
+    still_layable (setting c.args.to.now.base.address (table_of c.args.table.now)) c.args.listing (map replacement_of c.in-Ok.field-0.replacements.items) c.in-Ok.field-0.listing
     c.in-Ok.ensures.verdict c.in-Ok.ensures.rewritten
 
 pub returns-in_ok-outcome-in-Err-Line : goal.returns-in_ok-outcome-in-Err-Line

@@ -1,4 +1,4 @@
-use Rattle.std.proofs.Common.{◌≡◌, ◌∙◌, [], ◌∷◌, ap, string_bytes, subst, sym}
+use Rattle.std.proofs.Common.{◌≡◌, ◌∙◌, [], ◌∷◌, Some, None, ap, string_bytes, subst, sym}
 use Rattle.command_line.specs.declared.command.Command.{Command}
 use Rattle.command_line.specs.declared.command.Command.TheVariants.{Rewrite, Audit, Learn, Export, Trace, Demo, Upgrade, Trim, Tidy, Generalise}
 use Rattle.command_line.specs.Request.{request_of}
@@ -8,7 +8,8 @@ use Rattle.command_runs.specs.Plans.{Plan}
 use Rattle.command_runs.specs.Runs.{Runs}
 use Rattle.audit_cli.specs.Rewrite.{RewriteComesTo}
 use Rattle.audit_cli.specs.Tables.{AuditComesTo, ExportComesTo}
-use Rattle.audit_cli.specs.Learn.{LearnComesTo}
+use Rattle.table_learn.specs.Settings.{Settings}
+use Rattle.audit_cli.specs.Learn.{LearnComesTo, LearnByCostsComesTo}
 use Rattle.audit_cli.specs.Trace.{TraceComesTo}
 use Rattle.audit_cli.specs.Demo.{DemoComesTo}
 use Rattle.audit_cli.specs.Upgrade.{UpgradeComesTo}
@@ -39,19 +40,30 @@ returns-in-Audit-clause-runs g c =
     (g.S.Store.seen c.args.store.now) (g.S.Store.seen c.run-in-Audit.new.store) (g.O.Sink.sunk c.args.sink.now) (g.O.Sink.sunk c.run-in-Audit.new.sink) c.run-in-Audit.result
     (λ i. record { names = table i ∷ []; comes = AuditComesTo }) c.in-Audit.is c.run-in-Audit.ensures.runs
 
-pub returns-in-Learn-clause-runs : goal.returns-in-Learn-clause-runs
-returns-in-Learn-clause-runs g c =
-    let out : c.as_str-in-Learn.result.now ≡ string_bytes c.in-Learn.out = c.as_str-in-Learn.ensures.value in
-    let listing : c.as_str-in-Learn-2.result.now ≡ string_bytes c.in-Learn.listing = c.as_str-in-Learn-2.ensures.value in
-    asked _ (Learn c.in-Learn.listing c.in-Learn.out c.in-Learn.regs c.in-Learn.left c.in-Learn.budget c.in-Learn.seed c.in-Learn.scratch c.in-Learn.pool) c.args.command.now
-    (g.S.Store.seen c.args.store.now) (g.S.Store.seen c.run-in-Learn.new.store) (g.O.Sink.sunk c.args.sink.now) (g.O.Sink.sunk c.run-in-Learn.new.sink) c.run-in-Learn.result
-    (λ i. record {
-      names = listing i ∷ [];
-      comes = LearnComesTo (record {
-        out = out i;
-        settings = record { version = 2; regs = c.in-Learn.regs.number; left = c.in-Learn.left.number; budget = c.in-Learn.budget.number; seed = c.in-Learn.seed; pool = c.in-Learn.pool; scratch = c.in-Learn.scratch.number };
-      });
-    }) c.in-Learn.is c.run-in-Learn.ensures.runs
+pub returns-in-None-clause-runs : goal.returns-in-None-clause-runs
+returns-in-None-clause-runs g c =
+    let k = c.in-Learn in
+    let settings : Settings =
+    record { version = 2; regs = k.regs.number; left = k.left.number; budget = k.budget.number; seed = k.seed; pool = k.pool; scratch = k.scratch.number; costs = None } in
+    let out : c.as_str-in-Learn.result.now ≡ string_bytes k.out = c.as_str-in-Learn.ensures.value in
+    let listing : c.as_str-in-None.result.now ≡ string_bytes k.listing = c.as_str-in-None.ensures.value in
+    let is = k.is ∙ ap (λ costs. Learn k.listing k.out costs k.regs k.left k.budget k.seed k.scratch k.pool) c.in-None.is in
+    asked _ (Learn k.listing k.out None k.regs k.left k.budget k.seed k.scratch k.pool) c.args.command.now
+    (g.S.Store.seen c.args.store.now) (g.S.Store.seen c.run-in-None.new.store) (g.O.Sink.sunk c.args.sink.now) (g.O.Sink.sunk c.run-in-None.new.sink) c.run-in-None.result
+    (λ i. record { names = listing i ∷ []; comes = LearnComesTo (record { out = out i; settings = settings }) }) is c.run-in-None.ensures.runs
+
+pub returns-in-Some-clause-runs : goal.returns-in-Some-clause-runs
+returns-in-Some-clause-runs g c =
+    let k = c.in-Learn in
+    let settings : Settings =
+    record { version = 4; regs = k.regs.number; left = k.left.number; budget = k.budget.number; seed = k.seed; pool = k.pool; scratch = k.scratch.number; costs = None } in
+    let out : c.as_str-in-Learn.result.now ≡ string_bytes k.out = c.as_str-in-Learn.ensures.value in
+    let listing : c.as_str-in-Some.result.now ≡ string_bytes k.listing = c.as_str-in-Some.ensures.value in
+    let cost_text : c.as_str-in-Some-2.result.now ≡ string_bytes c.in-Some.cost_text = c.as_str-in-Some-2.ensures.value in
+    let is = k.is ∙ ap (λ name. Learn k.listing k.out name k.regs k.left k.budget k.seed k.scratch k.pool) c.in-Some.is in
+    asked _ (Learn k.listing k.out (Some c.in-Some.cost_text) k.regs k.left k.budget k.seed k.scratch k.pool) c.args.command.now
+    (g.S.Store.seen c.args.store.now) (g.S.Store.seen c.run-in-Some.new.store) (g.O.Sink.sunk c.args.sink.now) (g.O.Sink.sunk c.run-in-Some.new.sink) c.run-in-Some.result
+    (λ i. record { names = listing i ∷ cost_text i ∷ []; comes = LearnByCostsComesTo (record { out = out i; settings = settings }) }) is c.run-in-Some.ensures.runs
 
 pub returns-in-Export-clause-runs : goal.returns-in-Export-clause-runs
 returns-in-Export-clause-runs g c =
