@@ -1,5 +1,5 @@
 //! The learner, over a window that is given.
-ghost use Rattle.std.specs.Prelude.{◌≤◌, ◌↔◌, IsTrue};
+ghost use Rattle.std.specs.Prelude.{◌≢◌, ◌↔◌, IsTrue};
 ghost use Rattle.rule_table.specs.Views.{table_of};
 ghost use Rattle.rule_table.specs.Valid.{IsTable};
 
@@ -12,11 +12,11 @@ use step_ledger::{Counted, Steps};
 use table_audit::sides_fit;
 use table_learn::{LearnError, learn};
 
-/// Whether tables of a version are learnt.
+/// Whether tables of a version are learnt, with costs in version 4 and without before version 3.
 fn is_learnt(version: u8) -> bool
-    ensures { IsTrue result ↔ (version ≤ 2) }
+    ensures { IsTrue result ↔ (version ≢ 3) }
 {
-    version <= 2
+    version != 3
 }
 
 /// What is learnt from the left side and the mask of a table's last entry, with the settings of its header, which is of a version that is learnt.

@@ -6,6 +6,7 @@
 
 mod arithmetic;
 mod codes;
+mod costs;
 mod escapes;
 mod formulas;
 mod learning;

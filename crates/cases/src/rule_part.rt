@@ -1,5 +1,5 @@
 //! What makes and checks rules: a line a case, about the formula and the text that those before it kept.
-use crate::{formulas, learning, proofs, tables, texts};
+use crate::{costs, formulas, learning, proofs, tables, texts};
 use cnf_gates::Formula;
 use std::alloc::Global;
 
@@ -32,6 +32,8 @@ fn answer(given: &mut Given, line: &str, out: &mut String) -> Option<()> {
         "show" => texts::show(given.text.as_str(), out),
         "read" => tables::judge(given.alloc, given.text.as_str(), out),
         "change" => tables::change(given, rest, out),
+        "costs" => costs::read(given.text.as_str(), out),
+        "cheaper" => costs::lighter(given, rest, out),
         "audit" => tables::audited(given, rest, out),
         "learn" => learning::learnt(given, rest, out),
         "entry" => formulas::entry(given, rest, out),

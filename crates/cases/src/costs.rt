@@ -1,0 +1,45 @@
+//! Costs: their text, and the sequences that cost less than a limit.
+use crate::reading::Arguments;
+use crate::rule_part::Given;
+use seq_enum::{Costs, Pool, cheaper, read_costs};
+use std::alloc::Global;
+use std::fmt::{Display, Write};
+
+/// Writes numbers on a line, parted by a blank.
+fn list<T: Copy + Display + Drop>(out: &mut String, numbers: &[T]) -> Option<()> {
+    for (place, number) in numbers.iter().enumerate() {
+        let blank = if place == 0 { "" } else { " " };
+        write!(out, "{blank}{number}").ok()?;
+    }
+    out.push('\n').ok()
+}
+
+/// Writes the numbers of the kept text of costs, or where it is refused.
+pub(crate) fn read(text: &str, out: &mut String) -> Option<()> {
+    match read_costs(text.as_bytes()) {
+        Ok(costs) => list(out, costs.numbers()),
+        Err(error) => writeln!(out, "{error:?}").ok(),
+    }
+}
+
+/// The pool of these numbers.
+fn pool(alloc: Global, arguments: &mut Arguments<'_>) -> Option<Pool> {
+    let mut numbers = Vec::new(alloc);
+    for number in &arguments.numbers(alloc)? {
+        numbers.push(u8::try_from(*number).ok()?).ok()?;
+    }
+    Pool::new(&numbers)
+}
+
+/// Writes the numbers of the sequences of at most so many instructions that cost less than a limit by the kept text: `cheaper REGISTERS POOL LONGEST LIMIT`.
+pub(crate) fn lighter(given: &Given, rest: &str, out: &mut String) -> Option<()> {
+    let mut arguments = Arguments::of(rest);
+    let (k, pool) = (arguments.byte()?, pool(given.alloc, &mut arguments)?);
+    let (longest, limit) = (arguments.byte()?, arguments.number()?);
+    let costs: Costs = read_costs(given.text.as_str().as_bytes()).ok()?;
+    if k == 0 || k > 4 || longest > 5 {
+        return None;
+    }
+    let numbers = cheaper(given.alloc, k, &pool, &costs, longest, limit).ok()?;
+    list(out, &numbers)
+}
